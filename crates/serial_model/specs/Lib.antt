@@ -1,0 +1,4 @@
+pub mod Keys
+pub mod State
+pub mod Step
+pub mod History

@@ -1,0 +1,24 @@
+//! What transactions do, one after another.
+//!
+//! Promises: `run_one` answers and leaves the state as the serial step of `specs/Step.antt` says
+//! (`step`), and after want of memory the state is as it was (`memory`); `fits` tells exactly which
+//! operations a list of declarations has room for.
+//! Terms: *state*, a finite map from keys to values; *verdict*, how a transaction ended.
+//! Design: docs/ARCHITECTURE.md. Every engine of this repository is compared with this one.
+#![tactic(auto)]
+
+mod decl;
+mod key;
+mod memory;
+mod number;
+mod op;
+mod reply;
+mod state;
+
+pub use decl::{Decl, Decls};
+pub use key::Key;
+pub use memory::{Memory, OrMemory};
+pub use number::{Change, Changes, Commit, Config, Number};
+pub use op::{Op, fits};
+pub use reply::{Replies, Reply, Rows, Verdict};
+pub use state::State;

@@ -1,4 +1,5 @@
 pub mod Keys
 pub mod State
 pub mod Step
+pub mod Draft
 pub mod History

@@ -1,5 +1,5 @@
 -- The contents of all storages.
-use Rattle.std.specs.Prelude.{ℕ, ◌==◌, ◌&&◌, Bool, List, Option, nat_le, unwrap_or, take, map, filter}
+use Rattle.std.specs.Prelude.{ℕ, ◌==◌, ◌&&◌, Bool, List, nat_le, unwrap_or, take, map, filter}
 use Rattle.std.specs.FinMap.{FinMap, entries, get}
 use Rattle.serial_model.specs.Keys.{key_cmp}
 use Rattle.serial_model.specs.declared.key.Key.{Key}

@@ -1,5 +1,5 @@
 -- What one transaction does, alone: its verdict, its replies and the state that it leaves.
-use Rattle.std.specs.Prelude.{◌≡◌, ℕ, ◌+◌, ◌-◌, ◌^◌, ◌++◌, Bool, true, false, List, [], ◌∷◌, Option, Some, None}
+use Rattle.std.specs.Prelude.{ℕ, ◌+◌, ◌-◌, ◌^◌, ◌++◌, Bool, true, false, List, [], ◌∷◌, Option, Some, None}
 use Rattle.std.specs.Prelude.{if◌then◌else◌, nat_lt, nat_le, option_to_list}
 use Rattle.std.specs.FinMap.{get, insert, remove}
 use Rattle.serial_model.specs.Keys.{is_tree}

@@ -8,11 +8,14 @@
 #![tactic(auto)]
 
 mod decl;
+mod draft;
 mod key;
 mod memory;
 mod number;
 mod op;
+mod plain;
 mod reply;
+mod rows;
 mod state;
 
 pub use decl::{Decl, Decls};
@@ -20,5 +23,10 @@ pub use key::Key;
 pub use memory::{Memory, OrMemory};
 pub use number::{Change, Changes, Commit, Config, Number};
 pub use op::{Op, fits};
-pub use reply::{Replies, Reply, Rows, Verdict};
+pub use plain::{Plain, run_one};
+pub use reply::{Replies, Reply, Verdict};
+pub use rows::Rows;
 pub use state::State;
+
+#[cfg(test)]
+mod tests;

@@ -1,5 +1,8 @@
 // Commit numbers, and what a commit changed.
 ghost use Rattle.std.specs.Prelude.{◌≡◌, ◌<◌, ◌≤◌, [], ◌∷◌, ◌++◌, length};
+ghost use Rattle.std.specs.Cmp.Lexicographic.{pointwise, lists_per, lists_equiv};
+ghost use Rattle.serial_model.specs.contracts.number.ChangePartialEq.TheImpl.Laws as change_equality;
+ghost use Rattle.serial_model.specs.contracts.number.ChangeEq.TheImpl.Laws as change_equivalence;
 
 use crate::Key;
 use arrayvec::ArrayVec;
@@ -32,7 +35,7 @@ pub struct Change {
 }
 
 /// Up to 16 changes.
-#[derive(Drop)]
+#[derive(Debug, Drop)]
 pub struct Changes {
     list: ArrayVec<Change, 16>,
 }
@@ -44,6 +47,20 @@ impl Model for Changes {
     ghost Value = { List Change };
 
     ghost view = { λ c. c.list.items };
+}
+
+impl PartialEq for Changes {
+    ghost eq = { pointwise ⟦<Change as PartialEq>⟧.eq };
+
+    ghost laws = { lists_per change_equality.laws-law };
+
+    fn eq(&self, other: &Self) -> bool {
+        self.as_slice() == other.as_slice()
+    }
+}
+
+impl Eq for Changes {
+    ghost laws = { lists_equiv change_equivalence.laws-law };
 }
 
 impl Changes {
@@ -71,7 +88,7 @@ impl Changes {
 }
 
 /// What a log keeps of a committed transaction: its number, and its changes in ascending order of key.
-#[derive(Drop)]
+#[derive(Debug, PartialEq, Eq, Drop)]
 pub struct Commit {
     pub number: Number,
     pub changes: Changes,

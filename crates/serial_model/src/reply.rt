@@ -1,8 +1,10 @@
 // What a transaction answers.
-ghost use Rattle.std.specs.Prelude.{◌≡◌, ◌<◌, ◌≤◌, [], ◌∷◌, ◌++◌, length, OnOk, OnErr};
+ghost use Rattle.std.specs.Prelude.{◌≡◌, [], ◌∷◌, ◌++◌, OnOk, OnErr};
+ghost use Rattle.std.specs.Cmp.Lexicographic.{pointwise, lists_per, lists_equiv};
+ghost use Rattle.serial_model.specs.contracts.reply.ReplyPartialEq.TheImpl.Laws as reply_equality;
+ghost use Rattle.serial_model.specs.contracts.reply.ReplyEq.TheImpl.Laws as reply_equivalence;
 
-use crate::Memory;
-use arrayvec::ArrayVec;
+use crate::{Memory, Rows};
 use std::alloc::Global;
 use std::marker::Model;
 
@@ -17,46 +19,8 @@ pub enum Verdict {
     Over,
 }
 
-/// Up to 16 pairs of a key and its value, ascending.
-#[derive(Drop)]
-pub struct Rows {
-    pairs: ArrayVec<(u64, u64), 16>,
-}
-
-impl Model for Rows {
-    ghost use Rattle.std.specs.Prelude.{ℕ, List};
-
-    ghost Value = { List (ℕ × ℕ) };
-
-    ghost view = { λ r. r.pairs.items };
-}
-
-impl Rows {
-    pub fn new() -> Self
-        ensures { result ≡ [] }
-    {
-        Rows {
-            pairs: ArrayVec::new(),
-        }
-    }
-
-    pub fn push(&mut self, key: u64, value: u64)
-        requires { length self.old < 16 }
-        ensures { self.new ≡ self.old ++ (key, value) ∷ [] }
-    {
-        self.pairs.push((key, value));
-    }
-
-    pub fn as_slice(&self) -> &[(u64, u64)]
-        ensures value { result.now ≡ self.now }
-        ensures bound { length self.now ≤ 16 }
-    {
-        self.pairs.as_slice()
-    }
-}
-
 /// The reply of an operation that has one.
-#[derive(Drop)]
+#[derive(Debug, PartialEq, Eq, Drop)]
 pub enum Reply {
     Value(u64),
     /// The key is not in the tree.
@@ -65,7 +29,7 @@ pub enum Reply {
 }
 
 /// A transaction's replies, in the order of its operations.
-#[derive(Drop)]
+#[derive(Debug, Drop)]
 pub struct Replies {
     list: Vec<Reply>,
 }
@@ -77,6 +41,20 @@ impl Model for Replies {
     ghost Value = { List Reply };
 
     ghost view = { λ r. r.list.items };
+}
+
+impl PartialEq for Replies {
+    ghost eq = { pointwise ⟦<Reply as PartialEq>⟧.eq };
+
+    ghost laws = { lists_per reply_equality.laws-law };
+
+    fn eq(&self, other: &Self) -> bool {
+        self.as_slice() == other.as_slice()
+    }
+}
+
+impl Eq for Replies {
+    ghost laws = { lists_equiv reply_equivalence.laws-law };
 }
 
 impl Replies {

@@ -1,0 +1,161 @@
+-- An attempt that was given up stays given up.
+use Rattle.std.proofs.Common.{◌≡◌, ℕ, false, not, eqb, inl, inr, List, [], ◌∷◌, ◌++◌, refl, sym, ap, ◌∙◌, subst, length, set, Option, Some, None}
+use Rattle.std.proofs.lemmas.Bool.{cond_both}
+use Rattle.std.specs.List.{Contains, slice_get, filter}
+use Rattle.std.specs.Option.{option_map_or}
+use Rattle.serial_model.specs.declared.key.Key.{Key}
+use Rattle.serial_model.specs.declared.number.Number.{Number}
+use Rattle.serial_model.specs.declared.number.Change.{Change}
+use Rattle.commit_core.specs.declared.place.Place.{Place}
+use Rattle.commit_core.specs.declared.attempt.Attempt.{Attempt}
+use Rattle.commit_core.specs.declared.seat.Stage.{Stage}
+use Rattle.commit_core.specs.declared.seat.Stage.TheVariants.{Idle, Trying, Ended, Decided}
+use Rattle.commit_core.specs.declared.seat.Seat.{Seat}
+use Rattle.commit_core.specs.declared.story.Story.{Story}
+use Rattle.commit_core.specs.Keys.{same_key, place_at}
+use Rattle.commit_core.specs.CoreState.{clock_of, is_decided, check_of, attempt_tried, settled, settled_at}
+use Rattle.commit_core.specs.Event.{Moved, moved, next_attempt, stays_as_seen, after_check, decided_stage, after_decide, effect}
+use Rattle.commit_core.specs.declared.event.Act.{Act}
+use Rattle.commit_core.specs.declared.event.Act.TheVariants.{See, Lock, Draw, Check as Look, Decide, Put, Open, Forget, Advance, Mark}
+use Rattle.commit_core.specs.declared.event.Event.{Event}
+use Rattle.commit_core.specs.CoreState.{CoreState}
+use Rattle.commit_core.specs.Event.{may_happen, with_moved, happened, next, run}
+use Rattle.commit_core.specs.Opening.{Grows}
+use Rattle.commit_core.specs.Sound.{IsSoundStory, IsSound}
+use Rattle.commit_core.proofs.Keys.{not_below_itself}
+use Rattle.commit_core.proofs.Lists.{at_in, at_push_new, at_set_same, at_set_other}
+use Rattle.commit_core.proofs.NumberLaws.{decided_other}
+use Rattle.commit_core.proofs.VersionLaws.{alone}
+use Rattle.commit_core.proofs.ReadLaws.{IsThere, same_at}
+use Rattle.commit_core.proofs.LockLaws.{stands_there}
+use Rattle.std.proofs.lemmas.List.Elements.{Contains-append_left}
+use Rattle.commit_core.specs.Law.{IsGivenUp}
+use Rattle.commit_core.proofs.Runs.{same_or_not, act_grows, next_sound}
+
+-- the attempt is not the one in progress at this stage
+abbrev IsNotTried : List Attempt → Attempt → Stage → Type 0
+IsNotTried h a stage = attempt_tried h stage ≡ Some a → ⊥
+
+-- an act of seat p leaves it given up: it does not decide it, and the stages after it are of other attempts
+record StaysOver (m : Story) (a : Attempt) (n : Moved) : Type 0 where
+  undecided : is_decided n.story.decided a.number ≡ false
+  own : IsNotTried n.story.history a n.seat.stage
+  others : (stage : Stage) → IsThere m.history stage → IsNotTried m.history a stage → IsNotTried n.story.history a stage
+
+-- the history, the decisions and the stage are as before
+stays_alike : (m : Story) (a : Attempt) (s : Seat) (n : Moved) → n.story.history ≡ m.history → n.story.decided ≡ m.decided → n.seat.stage ≡ s.stage
+    → is_decided m.decided a.number ≡ false → IsNotTried m.history a s.stage → StaysOver m a n
+stays_alike m a s n h d e undecided own = record {
+  undecided = ap (λ (x : List Number). is_decided x a.number) d ∙ undecided;
+  own = subst (λ (x : List Attempt). IsNotTried x a n.seat.stage) (sym h) (subst (λ (x : Stage). IsNotTried m.history a x) (sym e) own);
+  others = λ stage _ not_it. subst (λ (x : List Attempt). IsNotTried x a stage) (sym h) not_it;
+}
+
+settled_at_tried : (h : List Attempt) (a : Attempt) (s : Seat) (stage : Stage) → IsNotTried h a s.stage → IsNotTried h a (settled_at stage s).stage
+settled_at_tried h a s Idle not_it = not_it
+settled_at_tried h a s (Trying i) not_it = not_it
+settled_at_tried h a s Ended not_it = λ e. cc
+settled_at_tried h a s (Decided i) not_it = λ e. cc
+
+settled_tried : (h : List Attempt) (a : Attempt) (s : Seat) → IsNotTried h a s.stage → IsNotTried h a (settled s).stage
+settled_tried h a s not_it =
+    cond_both (eqb (length s.locks) 0) (settled_at s.stage s) s (λ (x : Seat). IsNotTried h a x.stage) (λ _. settled_at_tried h a s s.stage not_it) (λ _. not_it)
+
+not_tried_later : (h : List Attempt) (a b : Attempt) (stage : Stage) → IsThere h stage → IsNotTried h a stage → IsNotTried (h ++ b ∷ []) a stage
+not_tried_later h a b Idle there not_it = λ e. cc
+not_tried_later h a b (Trying i) there not_it = λ e. not_it (there.1 ∙ ap (λ (x : Attempt). Some x) (same_at h b i there.0 a there.1 e))
+not_tried_later h a b Ended there not_it = λ e. cc
+not_tried_later h a b (Decided i) there not_it = λ e. cc
+
+draw_over : (opening : List Place) (p : ℕ) (m : Story) (s : Seat) (writes : List Change) (a : Attempt) → IsSoundStory opening m → Contains m.history a
+    → is_decided m.decided a.number ≡ false → StaysOver m a (effect p m s (Draw writes))
+draw_over opening p m s writes a story drawn undecided =
+    let b = next_attempt p m s writes in record {
+      undecided = undecided;
+      own = λ e.
+          let both : Some b ≡ Some a = sym (at_push_new m.history b) ∙ e in
+          let same : a ≡ b = cc in
+          not_below_itself a.number (clock_of m.epoch m.history) (ap (λ (x : Attempt). x.number) same) (story.ordered_numbers.past a drawn);
+      others = λ stage there not_it. not_tried_later m.history a b stage there not_it;
+    }
+
+check_over : (p : ℕ) (k : Key) (m : Story) (s : Seat) (a : Attempt) (o : Option Attempt) → is_decided m.decided a.number ≡ false → IsNotTried m.history a s.stage
+    → StaysOver m a (after_check p k m s o)
+check_over p k m s a None undecided own = stays_alike m a s (moved m s) refl refl refl undecided own
+check_over p k m s a (Some b) undecided own =
+    let ended : Seat = record s { stage = Ended } in
+    cond_both (stays_as_seen p (place_at m.places k) k b) (moved (record m { checks = m.checks ++ check_of b.number k ∷ [] }) s) (moved m (settled ended)) (λ (n : Moved). StaysOver m a n)
+    (λ _. stays_alike m a s (moved (record m { checks = m.checks ++ check_of b.number k ∷ [] }) s) refl refl refl undecided own)
+    (λ _. record { undecided = undecided; own = settled_tried m.history a ended (λ e. cc); others = λ stage _ not_it. not_it })
+
+decided_not_tried : (h : List Attempt) (a : Attempt) (stage : Stage) → IsNotTried h a (decided_stage stage)
+decided_not_tried h a Idle = λ e. cc
+decided_not_tried h a (Trying i) = λ e. cc
+decided_not_tried h a Ended = λ e. cc
+decided_not_tried h a (Decided i) = λ e. cc
+
+tried_in : (h : List Attempt) (stage : Stage) (b : Attempt) → attempt_tried h stage ≡ Some b → Contains h b
+tried_in h Idle b e = cc
+tried_in h (Trying i) b e = at_in h i b e
+tried_in h Ended b e = cc
+tried_in h (Decided i) b e = cc
+
+decide_over : (opening : List Place) (m : Story) (s : Seat) (a : Attempt) (o : Option Attempt) → attempt_tried m.history s.stage ≡ o → IsSoundStory opening m → Contains m.history a
+    → is_decided m.decided a.number ≡ false → IsNotTried m.history a s.stage → StaysOver m a (after_decide m s o)
+decide_over opening m s a None at story drawn undecided own = stays_alike m a s (moved m s) refl refl refl undecided own
+decide_over opening m s a (Some b) at story drawn undecided own =
+    let only = alone opening m.history m.decided (clock_of m.epoch m.history) b story.ordered_numbers (tried_in m.history s.stage b at) in
+    record {
+      undecided = decided_other m.decided b.number a.number (λ e. own (at ∙ ap (λ (x : Attempt). Some x) (sym (only a drawn (sym e))))) ∙ undecided;
+      own = settled_tried m.history a (record s { put = []; stage = decided_stage s.stage }) (decided_not_tried m.history a s.stage);
+      others = λ stage _ not_it. not_it;
+    }
+
+act_over : (opening : List Place) (p : ℕ) (m : Story) (s : Seat) (act : Act) (a : Attempt) → IsSoundStory opening m → Contains m.history a
+    → is_decided m.decided a.number ≡ false → IsNotTried m.history a s.stage → StaysOver m a (effect p m s act)
+act_over opening p m s (See k) a story drawn undecided own = stays_alike m a s (effect p m s (See k)) refl refl refl undecided own
+act_over opening p m s (Lock k) a story drawn undecided own = stays_alike m a s (effect p m s (Lock k)) refl refl refl undecided own
+act_over opening p m s (Draw writes) a story drawn undecided own = draw_over opening p m s writes a story drawn undecided
+act_over opening p m s (Look k) a story drawn undecided own = check_over p k m s a (attempt_tried m.history s.stage) undecided own
+act_over opening p m s Decide a story drawn undecided own = decide_over opening m s a (attempt_tried m.history s.stage) refl story drawn undecided own
+act_over opening p m s (Put k) a story drawn undecided own = stays_alike m a s (effect p m s (Put k)) refl refl refl undecided own
+act_over opening p m s (Open k) a story drawn undecided own = record {
+  undecided = undecided;
+  own = settled_tried m.history a (record s { locks = filter (λ q. not (same_key q k)) s.locks }) own;
+  others = λ stage _ not_it. not_it;
+}
+act_over opening p m s Forget a story drawn undecided own = stays_alike m a s (effect p m s Forget) refl refl refl undecided own
+act_over opening p m s Advance a story drawn undecided own = stays_alike m a s (effect p m s Advance) refl refl refl undecided own
+act_over opening p m s (Mark e) a story drawn undecided own = stays_alike m a s (effect p m s (Mark e)) refl refl refl undecided own
+
+-- ---- the whole state
+
+moved_over : (c : CoreState) (p : ℕ) (s : Seat) (n : Moved) (a : Attempt) → slice_get c.seats p ≡ Some s → IsSound c → Grows c.story n.story → IsGivenUp c a → StaysOver c.story a n
+    → IsGivenUp (with_moved c p n) a
+moved_over c p s n a at sound grows given over = record {
+  drawn = subst (λ (l : List Attempt). Contains l a) grows.history.1 (Contains-append_left c.story.history grows.history.0 a given.drawn);
+  undecided = over.undecided;
+  ended = λ q t there. elim (same_or_not p q) [
+    | inl mine ↦
+        let now : slice_get (set c.seats p n.seat) q ≡ Some n.seat = subst (λ (x : ℕ). slice_get (set c.seats p n.seat) x ≡ Some n.seat) (sym mine) (at_set_same c.seats p s n.seat at) in
+        let both : Some n.seat ≡ Some t = sym now ∙ there in
+        let same : n.seat ≡ t = cc in
+        subst (λ (x : Seat). IsNotTried n.story.history a x.stage) same over.own
+    | inr other ↦
+        let was : slice_get c.seats q ≡ Some t = sym (at_set_other c.seats p q n.seat other) ∙ there in
+        over.others t.stage (stands_there c.story.history c.story.decided c.story.places t.put q t.stage (sound.seats q t was).attempt_stands) (given.ended q t was)
+  ];
+}
+
+happened_over : (c : CoreState) (p : ℕ) (act : Act) (o : Option Seat) (a : Attempt) → slice_get c.seats p ≡ o → IsSound c → IsGivenUp c a
+    → IsGivenUp (option_map_or (λ s. with_moved c p (effect p c.story s act)) o c) a
+happened_over c p act None a at sound given = given
+happened_over c p act (Some s) a at sound given =
+    moved_over c p s (effect p c.story s act) a at sound (act_grows p c.story s act) given
+    (act_over c.opening p c.story s act a sound.story given.drawn given.undecided (given.ended p s at))
+
+pub run_over : (events : List Event) (c : CoreState) (a : Attempt) → IsSound c → IsGivenUp c a → IsGivenUp (run events c) a
+run_over [] c a sound given = given
+run_over (e ∷ events) c a sound given =
+    run_over events (next c e) a (next_sound c e sound)
+    (cond_both (may_happen c e) (happened c e) c (λ (x : CoreState). IsGivenUp x a) (λ _. happened_over c e.seat e.act (slice_get c.seats e.seat) a refl sound given) (λ _. given))

@@ -1,0 +1,113 @@
+-- Numbers under a draw, a check, a decision and an advance.
+use Rattle.std.proofs.Common.{◌≡◌, ℕ, ◌+◌, ◌<◌, true, false, true≢false, ◌&&◌, ◌⊎◌, inl, inr, List, [], ◌∷◌, ◌++◌, refl, sym, ap, ◌∙◌, subst, arith, length, length-append}
+use Rattle.std.proofs.lemmas.Bool.{and_parts, or_left, or_right, false_from_ne_true}
+use Rattle.std.proofs.lemmas.Bool.Decides.{nat_tests}
+use Rattle.std.specs.List.{Contains}
+use Rattle.serial_model.specs.declared.key.Key.{Key}
+use Rattle.serial_model.specs.declared.number.Number.{Number}
+use Rattle.commit_core.specs.declared.place.Place.{Place}
+use Rattle.commit_core.specs.declared.attempt.Attempt.{Attempt}
+use Rattle.commit_core.specs.declared.attempt.Check.{Check}
+use Rattle.commit_core.specs.Keys.{same_key, same_number, IsBelow, content_at}
+use Rattle.commit_core.specs.CoreState.{clock_of, is_decided, is_checked, check_of}
+use Rattle.commit_core.proofs.Keys.{same_key-true, same_number-self, same_number-true, is_below-trans, not_below_itself}
+use Rattle.commit_core.proofs.Lists.{in_push_cases, in_push_old, any_push_cases, any_push_old, any_push_new, any_push-false}
+use Rattle.commit_core.proofs.States.{rises_push}
+use Rattle.commit_core.specs.Sound.Numbers.{EachOnce, OrderedNumbers, ChecksArePast}
+
+-- ---- the clock goes on
+
+pub clock_after_draw : (epoch : ℕ) (h : List Attempt) (a : Attempt) → IsBelow (clock_of epoch h) (clock_of epoch (h ++ a ∷ []))
+clock_after_draw epoch h a = let longer = length-append h (a ∷ []) in later epoch (length h + 1) (length (h ++ a ∷ []) + 1) (omega (arith, longer))
+  where
+    later : (e x y : ℕ) → x < y → IsBelow (record { epoch = e; draw = x }) (record { epoch = e; draw = y })
+    later e x y l = grind (arith, nat_tests)
+
+pub clock_after_advance : (epoch : ℕ) (h : List Attempt) → IsBelow (clock_of epoch h) (clock_of (epoch + 1) h)
+clock_after_advance epoch h = grind (arith, nat_tests)
+
+-- ---- one more decided number, one more check
+
+pub decided_cases : (decided : List Number) (m n : Number) → is_decided (decided ++ m ∷ []) n ≡ true → (is_decided decided n ≡ true) ⊎ (m ≡ n)
+decided_cases decided m n h =
+    elim (any_push_cases (λ x. same_number x n) decided m h) [ inl old ↦ inl old | inr new ↦ inr (same_number-true m n new) ]
+
+pub decided_old : (decided : List Number) (m n : Number) → is_decided decided n ≡ true → is_decided (decided ++ m ∷ []) n ≡ true
+decided_old decided m n h = any_push_old (λ x. same_number x n) decided m h
+
+pub decided_new : (decided : List Number) (m n : Number) → m ≡ n → is_decided (decided ++ m ∷ []) n ≡ true
+decided_new decided m n e = any_push_new (λ x. same_number x n) decided m (subst (λ (x : Number). same_number m x ≡ true) e (same_number-self m))
+
+pub decided_other : (decided : List Number) (m n : Number) → (m ≡ n → ⊥) → is_decided (decided ++ m ∷ []) n ≡ is_decided decided n
+decided_other decided m n other =
+    any_push-false (λ x. same_number x n) decided m (false_from_ne_true (same_number m n) (λ h. other (same_number-true m n h)))
+
+pub checked_cases : (checks : List Check) (n : Number) (k : Key) (m : Number) (q : Key) → is_checked (checks ++ check_of n k ∷ []) m q ≡ true
+    → (is_checked checks m q ≡ true) ⊎ ((n ≡ m) × (k ≡ q))
+checked_cases checks n k m q h =
+    elim (any_push_cases (λ c. same_number c.number m && same_key c.key q) checks (check_of n k) h) [
+      | inl old ↦ inl old
+      | inr new ↦ let parts = and_parts (same_number n m) (same_key k q) new in inr (same_number-true n m parts.0, same_key-true k q parts.1)
+    ]
+
+pub checked_old : (checks : List Check) (n : Number) (k : Key) (m : Number) (q : Key) → is_checked checks m q ≡ true → is_checked (checks ++ check_of n k ∷ []) m q ≡ true
+checked_old checks n k m q h = any_push_old (λ c. same_number c.number m && same_key c.key q) checks (check_of n k) h
+
+-- ---- ordered_numbers
+
+pub numbers_later : (opening : List Place) (h : List Attempt) (decided : List Number) (t u : Number) → IsBelow t u → OrderedNumbers opening h decided t → OrderedNumbers opening h decided u
+numbers_later opening h decided t u l o = record {
+  opening_past = λ k. is_below-trans (content_at opening k).number t u (o.opening_past k) l;
+  rising = o.rising;
+  past = λ a m. is_below-trans a.number t u (o.past a m) l;
+  decided_drawn = o.decided_drawn;
+  decided_once = o.decided_once;
+}
+
+-- the clock's number is not decided
+pub clock_undecided : (opening : List Place) (h : List Attempt) (decided : List Number) (t : Number) → OrderedNumbers opening h decided t → is_decided decided t ≡ false
+clock_undecided opening h decided t o =
+    false_from_ne_true (is_decided decided t) (λ e. let d = o.decided_drawn t e in not_below_itself d.0.number t d.2 (o.past d.0 d.1))
+
+pub numbers_drawn : (opening : List Place) (h : List Attempt) (decided : List Number) (t u : Number) (a : Attempt) → a.number ≡ t → IsBelow t u
+    → OrderedNumbers opening h decided t → OrderedNumbers opening (h ++ a ∷ []) decided u
+numbers_drawn opening h decided t u a e l o = record {
+  opening_past = λ k. is_below-trans (content_at opening k).number t u (o.opening_past k) l;
+  rising = λ k. rises_push (content_at opening k).number h a (o.rising k) (rw e (o.opening_past k)) (λ b m. rw e (o.past b m));
+  past = λ b m. elim (in_push_cases b a h m) [
+    | inl old ↦ is_below-trans b.number t u (o.past b old) l
+    | inr new ↦ subst (λ (n : Number). IsBelow n u) (sym e ∙ ap (λ (x : Attempt). x.number) new) l
+  ];
+  decided_drawn = λ n d. let r = o.decided_drawn n d in (r.0, in_push_old r.0 a h r.1, r.2);
+  decided_once = o.decided_once;
+}
+
+once_push : (decided : List Number) (m : Number) → EachOnce decided → is_decided decided m ≡ false → EachOnce (decided ++ m ∷ [])
+once_push [] m o e = (refl, tt)
+once_push (n ∷ decided) m o e = (
+  false_from_ne_true (is_decided (decided ++ m ∷ []) n) (λ h.
+      elim (decided_cases decided m n h) [
+        | inl old ↦ true≢false (sym old ∙ o.0)
+        | inr same ↦ true≢false (sym (or_left (same_number n m) (is_decided decided m) (subst (λ (x : Number). same_number n x ≡ true) (sym same) (same_number-self n))) ∙ e)
+      ]),
+  once_push decided m o.1 (false_from_ne_true (is_decided decided m) (λ h. true≢false (sym (or_right (same_number n m) (is_decided decided m) h) ∙ e))),
+)
+
+pub numbers_decided : (opening : List Place) (h : List Attempt) (decided : List Number) (t : Number) (a : Attempt) → Contains h a → is_decided decided a.number ≡ false
+    → OrderedNumbers opening h decided t → OrderedNumbers opening h (decided ++ a.number ∷ []) t
+numbers_decided opening h decided t a m e o = record {
+  opening_past = o.opening_past;
+  rising = o.rising;
+  past = o.past;
+  decided_drawn = λ n d. elim (decided_cases decided a.number n d) [ inl old ↦ o.decided_drawn n old | inr new ↦ (a, m, new) ];
+  decided_once = once_push decided a.number o.decided_once e;
+}
+
+-- ---- checks_are_past
+
+pub checks_later : (checks : List Check) (t u : Number) → IsBelow t u → ChecksArePast checks t → ChecksArePast checks u
+checks_later checks t u l past = λ n k h. is_below-trans n t u (past n k h) l
+
+pub checks_checked : (checks : List Check) (t n : Number) (k : Key) → IsBelow n t → ChecksArePast checks t → ChecksArePast (checks ++ check_of n k ∷ []) t
+checks_checked checks t n k l past = λ m q h.
+    elim (checked_cases checks n k m q h) [ inl old ↦ past m q old | inr new ↦ subst (λ (x : Number). IsBelow x t) new.0 l ]

@@ -1,0 +1,162 @@
+-- Lists of events: each keeps a sound state sound, and attempts, checks and decisions are only added.
+use Rattle.std.proofs.Common.{◌≡◌, ℕ, true, false, not, true≢false, eqb, ◌&&◌, ◌⊎◌, inl, inr, List, [], ◌∷◌, ◌++◌, refl, sym, ap, ◌∙◌, subst, length, set, length-set, append_assoc, Option, Some, None}
+use Rattle.std.proofs.lemmas.Bool.{and_parts, cases_Bool, cond_both, eq-eqb, eqb-true}
+use Rattle.std.specs.List.{slice_get}
+use Rattle.std.specs.Prelude.{is_some}
+use Rattle.std.specs.Option.{option_map_or}
+use Rattle.serial_model.specs.declared.key.Key.{Key}
+use Rattle.commit_core.specs.declared.place.Place.{Place}
+use Rattle.commit_core.specs.declared.attempt.Attempt.{Attempt}
+use Rattle.commit_core.specs.declared.seat.Stage.TheVariants.{Ended}
+use Rattle.commit_core.specs.declared.seat.Seat.{Seat}
+use Rattle.commit_core.specs.declared.story.Story.{Story}
+use Rattle.commit_core.specs.Keys.{has_key, place_at, writes_key}
+use Rattle.commit_core.specs.CoreState.{is_held_by, check_of, is_free, is_trying, can_begin, attempt_tried, attempt_decided, same_keys, settled}
+use Rattle.commit_core.specs.Event.{is_unchecked, can_mark, is_allowed, Moved, moved, next_attempt, stays_as_seen, locked, valued, opened, after_check, after_decide, value_to_put, effect}
+use Rattle.commit_core.specs.declared.event.Act.{Act}
+use Rattle.commit_core.specs.declared.event.Act.TheVariants.{See, Lock, Draw, Check as Look, Decide, Put, Open, Forget, Advance, Mark}
+use Rattle.commit_core.specs.declared.event.Event.{Event}
+use Rattle.commit_core.specs.CoreState.{CoreState}
+use Rattle.commit_core.specs.Event.{may_happen, with_moved, happened, next, run}
+use Rattle.commit_core.specs.Opening.{IsPrefix, Grows}
+use Rattle.commit_core.specs.Sound.{IsSoundStory, IsSoundSeat, IsSound}
+use Rattle.commit_core.proofs.Lists.{at_set_same, at_set_other, at_below}
+use Rattle.commit_core.proofs.Events.Keeps.{Keeps}
+use Rattle.commit_core.proofs.Events.Resting.{keeps_see, keeps_forget, keeps_mark}
+use Rattle.commit_core.proofs.Events.Places.{keeps_lock, keeps_put, keeps_open}
+use Rattle.commit_core.proofs.Events.Clock.{keeps_draw, keeps_advance}
+use Rattle.commit_core.proofs.Events.Checking.{keeps_check}
+use Rattle.commit_core.proofs.Events.Deciding.{keeps_decide}
+
+-- each act that is allowed keeps what is sound
+pub keeps_act : (opening : List Place) (p : ℕ) (m : Story) (s : Seat) (act : Act) → is_allowed p m s act ≡ true
+    → IsSoundStory opening m → IsSoundSeat opening m p s → Keeps opening p m (effect p m s act)
+keeps_act opening p m s (See k) may story own =
+    keeps_see opening p m s k (and_parts (not (is_trying s.stage)) (is_free (place_at m.places k)) may).1 story own
+keeps_act opening p m s (Lock k) may story own =
+    let c = and_parts (can_begin s.stage) (is_free (place_at m.places k)) may in keeps_lock opening p m s k c.0 c.1 story own
+keeps_act opening p m s (Draw writes) may story own =
+    let c = and_parts (can_begin s.stage) (same_keys s.locks writes) may in keeps_draw opening p m s writes c.0 c.1 story own
+keeps_act opening p m s (Look k) may story own =
+    keeps_check opening p m s k (and_parts (option_map_or (is_unchecked m.checks k) (attempt_tried m.history s.stage) false) (is_some (place_at m.places k)) may).0 story own
+keeps_act opening p m s Decide may story own = keeps_decide opening p m s may story own
+keeps_act opening p m s (Put k) may story own =
+    let c = and_parts (option_map_or (λ a. writes_key a.writes k) (attempt_decided m.history s.stage) false) (is_held_by p (place_at m.places k)) may in
+    keeps_put opening p m s k c.0 c.1 story own
+keeps_act opening p m s (Open k) may story own =
+    let held = is_held_by p (place_at m.places k) in
+    let in_put = option_map_or (λ _. has_key s.put k) (attempt_decided m.history s.stage) true in
+    let c = and_parts (not (is_trying s.stage)) (held && in_put) may in
+    let d = and_parts held in_put c.1 in
+    keeps_open opening p m s k c.0 d.0 d.1 story own
+keeps_act opening p m s Forget may story own = keeps_forget opening p m s story own
+keeps_act opening p m s Advance may story own = keeps_advance opening p m s story own
+keeps_act opening p m s (Mark e) may story own =
+    let c = and_parts (not (is_trying s.stage)) (can_mark m.epoch s.marks e) may in keeps_mark opening p m s e c.0 c.1 story own
+
+-- ---- the whole state
+
+pub same_or_not : (p q : ℕ) → (q ≡ p) ⊎ (q ≡ p → ⊥)
+same_or_not p q =
+    elim (cases_Bool (eqb q p)) [ inl hit ↦ inl (eqb-true q p hit) | inr miss ↦ inr (λ e. true≢false (sym (eq-eqb q p e) ∙ miss)) ]
+
+moved_sound : (c : CoreState) (p : ℕ) (s : Seat) (n : Moved) → slice_get c.seats p ≡ Some s → IsSound c → Keeps c.opening p c.story n → IsSound (with_moved c p n)
+moved_sound c p s n at sound keeps = record {
+  story = keeps.story;
+  seats = λ q t there. elim (same_or_not p q) [
+    | inl mine ↦
+        let now : slice_get (set c.seats p n.seat) q ≡ Some n.seat = subst (λ (x : ℕ). slice_get (set c.seats p n.seat) x ≡ Some n.seat) (sym mine) (at_set_same c.seats p s n.seat at) in
+        let both : Some n.seat ≡ Some t = sym now ∙ there in
+        let same : n.seat ≡ t = cc in
+        subst (λ (x : ℕ). IsSoundSeat c.opening n.story x t) (sym mine) (subst (λ (x : Seat). IsSoundSeat c.opening n.story p x) same keeps.own)
+    | inr other ↦ keeps.others q t other (sound.seats q t (sym (at_set_other c.seats p q n.seat other) ∙ there))
+  ];
+  holders_are_seats = rw (length-set c.seats p n.seat) (keeps.holders (length c.seats) (at_below c.seats p s at) sound.holders_are_seats);
+}
+
+-- with the seat that is there
+happens_at : (c : CoreState) (p : ℕ) (act : Act) (o : Option Seat) → slice_get c.seats p ≡ o → option_map_or (λ s. is_allowed p c.story s act) o false ≡ true → IsSound c
+    → IsSound (option_map_or (λ s. with_moved c p (effect p c.story s act)) o c)
+happens_at c p act None at may sound = sound
+happens_at c p act (Some s) at may sound = moved_sound c p s (effect p c.story s act) at sound (keeps_act c.opening p c.story s act may sound.story (sound.seats p s at))
+
+pub happened_sound : (c : CoreState) (e : Event) → may_happen c e ≡ true → IsSound c → IsSound (happened c e)
+happened_sound c e may sound = happens_at c e.seat e.act (slice_get c.seats e.seat) refl may sound
+
+pub next_sound : (c : CoreState) (e : Event) → IsSound c → IsSound (next c e)
+next_sound c e sound = cond_both (may_happen c e) (happened c e) c (λ (x : CoreState). IsSound x) (λ may. happened_sound c e may sound) (λ _. sound)
+
+pub run_sound : (events : List Event) (c : CoreState) → IsSound c → IsSound (run events c)
+run_sound [] c sound = sound
+run_sound (e ∷ events) c sound = run_sound events (next c e) (next_sound c e sound)
+
+-- ---- growth
+
+prefix_self : {A : Type 0} (xs : List A) → IsPrefix xs xs
+prefix_self [] = ([], refl)
+prefix_self {A} (x ∷ xs) = let r = prefix_self xs in (r.0, ap (λ (l : List A). x ∷ l) r.1)
+
+prefix_then : {A : Type 0} (xs ys zs : List A) → IsPrefix xs ys → IsPrefix ys zs → IsPrefix xs zs
+prefix_then {A} xs ys zs a b = (a.0 ++ b.0, sym (append_assoc xs a.0 b.0) ∙ ap (λ (l : List A). l ++ b.0) a.1 ∙ b.1)
+
+pub grows_self : (m : Story) → Grows m m
+grows_self m = record { history = prefix_self m.history; checks = prefix_self m.checks; decided = prefix_self m.decided }
+
+pub grows_then : (a b c : Story) → Grows a b → Grows b c → Grows a c
+grows_then a b c g h = record {
+  history = prefix_then a.history b.history c.history g.history h.history;
+  checks = prefix_then a.checks b.checks c.checks g.checks h.checks;
+  decided = prefix_then a.decided b.decided c.decided g.decided h.decided;
+}
+
+check_grows : (p : ℕ) (k : Key) (m : Story) (s : Seat) (o : Option Attempt) → Grows m (after_check p k m s o).story
+check_grows p k m s None = grows_self m
+check_grows p k m s (Some a) =
+    cond_both (stays_as_seen p (place_at m.places k) k a) (moved (record m { checks = m.checks ++ check_of a.number k ∷ [] }) s) (moved m (settled (record s { stage = Ended }))) (λ (n : Moved). Grows m n.story)
+    (λ _. record { history = prefix_self m.history; checks = (check_of a.number k ∷ [], refl); decided = prefix_self m.decided })
+    (λ _. grows_self m)
+
+decide_grows : (m : Story) (s : Seat) (o : Option Attempt) → Grows m (after_decide m s o).story
+decide_grows m s None = grows_self m
+decide_grows m s (Some a) = record { history = prefix_self m.history; checks = prefix_self m.checks; decided = (a.number ∷ [], refl) }
+
+same_lists : (m : Story) (places : List Place) → Grows m (record m { places = places })
+same_lists m places = record { history = prefix_self m.history; checks = prefix_self m.checks; decided = prefix_self m.decided }
+
+pub act_grows : (p : ℕ) (m : Story) (s : Seat) (act : Act) → Grows m (effect p m s act).story
+act_grows p m s (See k) = grows_self m
+act_grows p m s (Lock k) = same_lists m (locked p k m.places (place_at m.places k))
+act_grows p m s (Draw writes) = record { history = (next_attempt p m s writes ∷ [], refl); checks = prefix_self m.checks; decided = prefix_self m.decided }
+act_grows p m s (Look k) = check_grows p k m s (attempt_tried m.history s.stage)
+act_grows p m s Decide = decide_grows m s (attempt_tried m.history s.stage)
+act_grows p m s (Put k) = same_lists m (valued k (value_to_put k (attempt_decided m.history s.stage)) m.places (place_at m.places k))
+act_grows p m s (Open k) = same_lists m (opened k (attempt_decided m.history s.stage) m.places (place_at m.places k))
+act_grows p m s Forget = grows_self m
+act_grows p m s Advance = record { history = prefix_self m.history; checks = prefix_self m.checks; decided = prefix_self m.decided }
+act_grows p m s (Mark e) = grows_self m
+
+happened_grows : (c : CoreState) (p : ℕ) (act : Act) (o : Option Seat) → Grows c.story (option_map_or (λ s. with_moved c p (effect p c.story s act)) o c).story
+happened_grows c p act None = grows_self c.story
+happened_grows c p act (Some s) = act_grows p c.story s act
+
+pub next_grows : (c : CoreState) (e : Event) → Grows c.story (next c e).story
+next_grows c e =
+    cond_both (may_happen c e) (happened c e) c (λ (x : CoreState). Grows c.story x.story) (λ _. happened_grows c e.seat e.act (slice_get c.seats e.seat)) (λ _. grows_self c.story)
+
+pub run_grows : (events : List Event) (c : CoreState) → Grows c.story (run events c).story
+run_grows [] c = grows_self c.story
+run_grows (e ∷ events) c = grows_then c.story (next c e).story (run events (next c e)).story (next_grows c e) (run_grows events (next c e))
+
+-- the opening stays
+
+happened_opening : (c : CoreState) (p : ℕ) (act : Act) (o : Option Seat) → (option_map_or (λ s. with_moved c p (effect p c.story s act)) o c).opening ≡ c.opening
+happened_opening c p act None = refl
+happened_opening c p act (Some s) = refl
+
+next_opening : (c : CoreState) (e : Event) → (next c e).opening ≡ c.opening
+next_opening c e =
+    cond_both (may_happen c e) (happened c e) c (λ (x : CoreState). x.opening ≡ c.opening) (λ _. happened_opening c e.seat e.act (slice_get c.seats e.seat)) (λ _. refl)
+
+pub run_opening : (events : List Event) (c : CoreState) → (run events c).opening ≡ c.opening
+run_opening [] c = refl
+run_opening (e ∷ events) c = run_opening events (next c e) ∙ next_opening c e

@@ -1,0 +1,56 @@
+-- Tests on keys and numbers, and places by their keys.
+use Rattle.std.specs.Prelude.{◌≡◌, ℕ, ◌==◌, ◌&&◌, ◌||◌, Bool, true, List, map, Option, None, if◌then◌else◌, nat_lt, is_some}
+use Rattle.std.specs.List.{list_any, find}
+use Rattle.std.specs.Option.{option_map, option_map_or}
+use Rattle.serial_model.specs.declared.key.Key.{Key}
+use Rattle.serial_model.specs.declared.number.Number.{Number}
+use Rattle.serial_model.specs.declared.number.Change.{Change}
+use Rattle.commit_core.specs.declared.place.Content.{Content}
+use Rattle.commit_core.specs.declared.place.Place.{Place}
+
+abbrev pub same_key : Key → Key → Bool
+same_key a b = (a.storage == b.storage) && (a.key == b.key)
+
+abbrev pub same_number : Number → Number → Bool
+same_number a b = (a.epoch == b.epoch) && (a.draw == b.draw)
+
+-- numbers are compared by epoch, and then by draw
+abbrev pub is_below : Number → Number → Bool
+is_below a b = nat_lt a.epoch b.epoch || ((a.epoch == b.epoch) && nat_lt a.draw b.draw)
+
+abbrev pub IsBelow : Number → Number → Type 0
+IsBelow a b = is_below a b ≡ true
+
+-- the key is in the list
+abbrev pub has_key : List Key → Key → Bool
+has_key keys k = list_any (λ q. same_key q k) keys
+
+-- the place of a key, if it has one
+abbrev pub place_at : List Place → Key → Option Place
+place_at places k = find (λ p. same_key p.key k) places
+
+-- the places, where this one stands at its key
+abbrev pub placed : List Place → Place → List Place
+placed places new = map (λ p. if same_key p.key new.key then new else p) places
+
+abbrev pub content_of : Number → Option ℕ → Content
+content_of n value = record { number = n; value = value }
+
+-- the number of what stands somewhere from the start
+abbrev pub first_number : Number
+first_number = record { epoch = 0; draw = 0 }
+
+-- what stands at a key that nobody wrote
+abbrev pub nothing : Content
+nothing = content_of first_number None
+
+-- what stands at a key
+abbrev pub content_at : List Place → Key → Content
+content_at places k = option_map_or (λ p. p.content) (place_at places k) nothing
+
+-- the value that the writes give a key, where they write it
+abbrev pub written : Key → List Change → Option (Option ℕ)
+written k writes = option_map (λ w. w.value) (find (λ w. same_key w.key k) writes)
+
+abbrev pub writes_key : List Change → Key → Bool
+writes_key writes k = is_some (written k writes)

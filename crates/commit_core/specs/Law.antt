@@ -1,0 +1,60 @@
+-- What holds under every list of events.
+use Rattle.std.specs.Prelude.{◌≡◌, ℕ, ◌<◌, true, false, List, Contains, Some}
+use Rattle.serial_model.specs.declared.key.Key.{Key}
+use Rattle.commit_core.specs.declared.event.Event.{Event}
+use Rattle.commit_core.specs.declared.event.Act.{Act}
+use Rattle.commit_core.specs.declared.attempt.Attempt.{Attempt}
+use Rattle.commit_core.specs.declared.place.Place.{Place}
+use Rattle.commit_core.specs.declared.seat.Seat.{Seat}
+use Rattle.commit_core.specs.declared.story.Story.{Story}
+use Rattle.commit_core.specs.CoreState.{CoreState, is_decided, attempt_tried}
+use Rattle.commit_core.specs.Event.{Moved, is_allowed, effect, run}
+use Rattle.commit_core.specs.Opening.{opening_core, Grows}
+use Rattle.commit_core.specs.Serial.{state_below, committed, ReadsFrom, IsSerialRun}
+use Rattle.commit_core.specs.Sound.{IsSoundStory, IsSoundSeat, EachSeat, IsSound}
+use Rattle.commit_core.specs.Sound.Locks.{HoldersAreSeats}
+
+-- After an act of seat p the story is sound, and so are that seat and each other one, beside it; who holds a place is
+-- still one of the seats.
+pub record Keeps (opening : List Place) (p : ℕ) (m : Story) (n : Moved) : Type 0 where
+  pub story : IsSoundStory opening n.story
+  pub own : IsSoundSeat opening n.story p n.seat
+  pub others : (q : ℕ) (t : Seat) → (q ≡ p → ⊥) → IsSoundSeat opening m q t → IsSoundSeat opening n.story q t
+  pub holders : (seats : ℕ) → p < seats → HoldersAreSeats m.places seats → HoldersAreSeats n.story.places seats
+
+-- each act that is allowed keeps what is sound: of the story, of its seat and of every other one by itself
+abbrev pub EachActKeeps : Type 0
+EachActKeeps = (opening : List Place) (p : ℕ) (m : Story) (s : Seat) (act : Act) → is_allowed p m s act ≡ true
+    → IsSoundStory opening m → IsSoundSeat opening m p s → Keeps opening p m (effect p m s act)
+
+-- each machine starts sound
+abbrev pub StartsSound : Type 0
+StartsSound = (pairs : List (Key × ℕ)) (passes : ℕ) → IsSound (opening_core pairs passes)
+
+-- every list of events keeps it so
+abbrev pub StaysSound : Type 0
+StaysSound = (c : CoreState) (events : List Event) → IsSound c → IsSound (run events c)
+
+-- the opening stays, and what was drawn, checked or decided before a list of events is so after it
+abbrev pub OnlyGrows : Type 0
+OnlyGrows = (c : CoreState) (events : List Event) → ((run events c).opening ≡ c.opening) × Grows c.story (run events c).story
+
+-- the attempt is neither decided nor in progress: it failed a check
+pub record IsGivenUp (c : CoreState) (a : Attempt) : Type 0 where
+  pub drawn : Contains c.story.history a
+  pub undecided : is_decided c.story.decided a.number ≡ false
+  pub ended : EachSeat c.seats (λ _ s. attempt_tried c.story.history s.stage ≡ Some a → ⊥)
+
+-- it never counts, whatever happens
+abbrev pub StaysGivenUp : Type 0
+StaysGivenUp = (c : CoreState) (events : List Event) (a : Attempt) → IsSound c → IsGivenUp c a → IsGivenUp (run events c) a
+
+-- after a list of events, the decided attempts in order of number are a serial run from the opening, and each of them
+-- read exactly what the state below its number has
+pub record CommitsAreSerial (c : CoreState) : Type 0 where
+  pub run : IsSerialRun c.opening (committed c.story)
+  pub reads : (a : Attempt) → Contains c.story.history a → is_decided c.story.decided a.number ≡ true
+      → ReadsFrom (state_below c.opening c.story.history c.story.decided a.number) a
+
+abbrev pub IsSerial : Type 0
+IsSerial = (c : CoreState) (events : List Event) → IsSound c → CommitsAreSerial (run events c)

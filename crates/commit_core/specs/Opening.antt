@@ -1,0 +1,37 @@
+-- How a machine begins, and how it grows.
+use Rattle.std.specs.Prelude.{◌≡◌, ℕ, List, [], ◌∷◌, ◌++◌, map, replicate, Some, None}
+use Rattle.serial_model.specs.declared.key.Key.{Key}
+use Rattle.commit_core.specs.declared.place.Place.{Place}
+use Rattle.commit_core.specs.declared.seat.Stage.TheVariants.{Idle}
+use Rattle.commit_core.specs.declared.seat.Seat.{Seat}
+use Rattle.commit_core.specs.declared.story.Story.{Story}
+use Rattle.commit_core.specs.CoreState.{CoreState}
+use Rattle.commit_core.specs.Keys.{content_of, first_number}
+
+-- a key's value from the start
+abbrev pub opening_place : (Key × ℕ) → Place
+opening_place e = record { key = e.0; content = content_of first_number (Some e.1); holder = None }
+
+abbrev pub opening_places : List (Key × ℕ) → List Place
+opening_places pairs = map opening_place pairs
+
+-- a seat that has nothing. Its first mark is the first epoch less one
+abbrev pub fresh_seat : Seat
+fresh_seat = record { kept = []; locks = []; put = []; marks = Some 0 ∷ []; stage = Idle }
+
+-- epoch 1, and no attempt yet
+abbrev pub opening_story : List (Key × ℕ) → Story
+opening_story pairs = record { history = []; checks = []; decided = []; places = opening_places pairs; epoch = 1 }
+
+abbrev pub opening_core : List (Key × ℕ) → ℕ → CoreState
+opening_core pairs passes = record { opening = opening_places pairs; story = opening_story pairs; seats = replicate passes fresh_seat }
+
+-- the second list begins with the first
+abbrev pub IsPrefix : {A : Type 0} → List A → List A → Type 0
+IsPrefix {A} xs ys = (rest : List A) × (xs ++ rest ≡ ys)
+
+-- attempts, checks and decisions are only added
+pub record Grows (old new : Story) : Type 0 where
+  pub history : IsPrefix old.history new.history
+  pub checks : IsPrefix old.checks new.checks
+  pub decided : IsPrefix old.decided new.decided

@@ -1,0 +1,144 @@
+// What one seat has.
+ghost use Rattle.std.specs.Prelude.{◌≡◌, OnOk, OnErr, IfOk, not, filter};
+ghost use Rattle.commit_core.specs.Keys.{same_key, has_key, writes_key};
+ghost use Rattle.std.specs.List.{list_all};
+ghost use Rattle.commit_core.specs.CoreState.{is_trying, can_begin, with_part, same_keys, last_epoch, settled, settled_at};
+
+use crate::attempt::written;
+use crate::{Part, Sequence};
+use serial_model::{Change, Key, Memory};
+
+/// Where a seat stands with its attempt, which is named by its place in the history.
+#[derive(Clone, Copy, Debug, PartialEq, Eq)]
+pub enum Stage {
+    /// No attempt since the parts were last dropped.
+    Idle,
+    /// It has its number and is neither decided nor given up: it is in progress.
+    Trying(usize),
+    /// A check failed, and locks are left to open.
+    Ended,
+    /// It counts, and locks are left to open.
+    Decided(usize),
+}
+
+#[derive(Drop)]
+pub struct Seat {
+    /// What was read, and kept for the next attempt.
+    pub kept: Sequence<Part>,
+    /// The keys whose places this seat holds.
+    pub locks: Sequence<Key>,
+    /// The keys whose new values the decided attempt has put.
+    pub put: Sequence<Key>,
+    /// Each mark that was set, the latest last; `None` is idle.
+    pub marks: Sequence<Option<u32>>,
+    pub stage: Stage,
+}
+
+impl Stage {
+    pub fn is_trying(self) -> bool
+        ensures { result ≡ is_trying self }
+    {
+        matches!(self, Stage::Trying(_))
+    }
+
+    /// Whether no attempt is in progress, and none is decided with locks left to open.
+    pub fn can_begin(self) -> bool
+        ensures { result ≡ can_begin self }
+    {
+        matches!(self, Stage::Idle | Stage::Ended)
+    }
+}
+
+impl Seat {
+    /// Keeps the part in place of those at its key.
+    pub fn keep(&mut self, part: Part) -> Result<(), Memory>
+        ensures ok { OnOk result (self.new ≡ record self.old { kept = with_part self.old.kept part }) }
+        ensures memory { OnErr result (self.new ≡ self.old) }
+    {
+        let mut kept = parts_elsewhere(&self.kept, part.key)?;
+        kept.push(part)?;
+        self.kept = kept;
+        Ok(())
+    }
+
+    pub fn has_lock(&self, key: Key) -> bool
+        ensures { result ≡ has_key self.now.locks key }
+    {
+        self.locks.as_slice().iter().any(|lock| *lock == key)
+    }
+
+    pub fn has_put(&self, key: Key) -> bool
+        ensures { result ≡ has_key self.now.put key }
+    {
+        self.put.as_slice().iter().any(|q| *q == key)
+    }
+
+    /// Whether the locks are exactly the keys of the writes.
+    pub fn has_locked(&self, writes: &[Change]) -> bool
+        ensures { result ≡ same_keys self.now.locks writes.now }
+    {
+        are_written(self.locks.as_slice(), writes) && self.has_locks(writes)
+    }
+
+    /// Whether each key that is written is locked.
+    fn has_locks(&self, writes: &[Change]) -> bool
+        ensures { result ≡ list_all (λ w. has_key self.now.locks w.key) writes.now }
+    {
+        writes.iter().all(|change| self.has_lock(change.key))
+    }
+
+    /// The last epoch that a mark named, and 0 where none did.
+    pub fn last_epoch(&self) -> u32
+        ensures { result ≡ last_epoch self.now.marks }
+    {
+        self.marks
+            .as_slice()
+            .iter()
+            .fold(0, |low, mark| mark.unwrap_or(low))
+    }
+
+    /// Where the attempt is over and no lock is left, drops what was kept.
+    pub fn settle(&mut self)
+        ensures { self.new ≡ settled self.old }
+    {
+        if !self.locks.is_empty() {
+            return;
+        }
+        match self.stage {
+            Stage::Idle | Stage::Trying(_) => {}
+            Stage::Ended | Stage::Decided(_) => {
+                self.kept.clear();
+                self.stage = Stage::Idle;
+            }
+        }
+    }
+}
+
+/// The parts at other keys.
+fn parts_elsewhere(kept: &Sequence<Part>, key: Key) -> Result<Sequence<Part>, Memory>
+    ensures { IfOk result (λ s. s ≡ filter (λ q. not (same_key q.key key)) kept.now) }
+{
+    let parts = kept.as_slice().iter().copied();
+    match parts.filter(|q| q.key != key).collect(kept.alloc()) {
+        Ok(list) => Ok(Sequence::from_vec(list)),
+        Err(_) => Err(Memory),
+    }
+}
+
+/// The keys but for this one.
+pub fn keys_elsewhere(keys: &Sequence<Key>, key: Key) -> Result<Sequence<Key>, Memory>
+    ensures { IfOk result (λ s. s ≡ filter (λ q. not (same_key q key)) keys.now) }
+{
+    let all = keys.as_slice().iter().copied();
+    match all.filter(|q| *q != key).collect(keys.alloc()) {
+        Ok(list) => Ok(Sequence::from_vec(list)),
+        Err(_) => Err(Memory),
+    }
+}
+
+/// Whether each lock is at a key that is written.
+fn are_written(locks: &[Key], writes: &[Change]) -> bool
+    ensures { result ≡ list_all (λ k. writes_key writes.now k) locks.now }
+{
+    locks.iter().all(|lock| written(*lock, writes).is_some())
+}

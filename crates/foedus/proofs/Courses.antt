@@ -1,0 +1,130 @@
+-- How a call goes that runs nothing, or the rounds of one script.
+use Rattle.std.proofs.Common.{◌≡◌, ◌⊎◌, inl, inr, ◌∙◌, sym, ap, subst, refl, ◌+◌, List, [], ◌++◌, length, Option, Some, None, Result, Ok, Err, arith, length-append}
+use Rattle.std.specs.Io.KnownBytes.{Consumes, IsAtEnd}
+use Rattle.std.specs.Prelude.{MatchResult}
+use Rattle.std.proofs.lemmas.List.{append-nil}
+use Rattle.std.proofs.lemmas.List.Sorted.{IsPermutation-refl}
+use Rattle.std.specs.FinMap.{empty}
+use Rattle.tx_script.specs.Output.{Output, Adds, Breaks}
+use Rattle.tx_script.specs.Printed.{breaks_as}
+use Rattle.tx_script.specs.Run.{Ran}
+use Rattle.tx_script.specs.Text.{run_text}
+use Rattle.tx_script.specs.Script.{Bytes, Script, IsTextOf}
+use Rattle.tx_script.specs.declared.fault.ScriptFault.{ScriptFault}
+use Rattle.tx_script.specs.declared.fault.FaultKind.TheVariants.{Word}
+use Rattle.foedus.specs.declared.words.Command.TheVariants.{Run, Refused}
+use Rattle.foedus.specs.declared.ending.Ending.{Ending}
+use Rattle.foedus.specs.declared.ending.Ending.TheVariants.{Finished, NoScript, Usage, ReadFault, NoMemory}
+use Rattle.foedus.specs.Ending.{Comes, EndsRun, IsNoText, Reads, ReadsOut, fresh, most_read}
+use Rattle.foedus.specs.Main.{Adding, Breaking, Course, RunsScript}
+
+-- ---- nothing is run
+
+pub usage_course : (bytes : Bytes) (left : Option Bytes) → Course fresh Refused bytes left [] Usage
+usage_course bytes left = record { script = None; state = fresh.state; run = (refl, refl); comes = refl; reads = inl refl }
+
+pub read_fault_course : (bytes : Bytes) (left : Option Bytes) → Course fresh Run bytes left [] ReadFault
+read_fault_course bytes left = record { script = None; state = fresh.state; run = (refl, refl); comes = refl; reads = inl refl }
+
+pub memory_course : (bytes : Bytes) (left : Option Bytes) → Course fresh Run bytes left [] NoMemory
+memory_course bytes left = record { script = None; state = fresh.state; run = (refl, refl); comes = tt; reads = inl refl }
+
+-- ---- the bytes that were read, and all bytes of the source
+
+-- a front that is as long as no script is one of no script's text
+too_long : (bytes front rest : Bytes) → bytes ≡ front ++ rest → length front ≡ most_read → IsNoText bytes
+too_long bytes front rest is long = λ script text.
+    let h : length bytes ≡ length front + length rest = ap length is ∙ length-append front rest in
+    let size = text.size in
+    absurd (omega arith)
+
+-- what was read out is all of the source, or no script's text
+read_whole : (bytes front : Bytes) (left : Option Bytes) → Consumes (Some bytes) left front → IsAtEnd left ⊎ (length front ≡ most_read) → ((bytes ≡ front) × IsAtEnd left) ⊎ ((length front ≡ most_read) × IsNoText bytes)
+read_whole bytes front None consumed out = absurd consumed
+read_whole bytes front (Some rest) consumed (inl end) = inl (consumed ∙ ap (λ r. front ++ r) end ∙ append-nil front, end)
+read_whole bytes front (Some rest) consumed (inr long) = inr (long, too_long bytes front rest consumed long)
+
+pub text_of_all : (bytes front : Bytes) (left : Option Bytes) (script : Script) → Consumes (Some bytes) left front → IsAtEnd left ⊎ (length front ≡ most_read) → IsTextOf front script → IsTextOf bytes script × IsAtEnd left
+text_of_all bytes front left script consumed out text = elim (read_whole bytes front left consumed out) [
+  | inl whole ↦ (subst (λ b. IsTextOf b script) (sym whole.0) text, whole.1)
+  | inr long ↦ absurd (let size = text.size in let h = long.0 in omega arith)
+]
+
+no_text_of_all : (bytes front : Bytes) (left : Option Bytes) → Consumes (Some bytes) left front → IsAtEnd left ⊎ (length front ≡ most_read) → IsNoText front → IsNoText bytes
+no_text_of_all bytes front left consumed out none = elim (read_whole bytes front left consumed out) [
+  | inl whole ↦ subst IsNoText (sym whole.0) none
+  | inr long ↦ long.1
+]
+
+reads_out : (bytes front : Bytes) (left : Option Bytes) → Consumes (Some bytes) left front → IsAtEnd left ⊎ (length front ≡ most_read) → ReadsOut (Some bytes) left
+reads_out bytes front left consumed (inl end) = inl end
+reads_out bytes front left consumed (inr long) = inr (front, consumed, long)
+
+pub no_script_course : (bytes front : Bytes) (left : Option Bytes) (fault : ScriptFault) → Consumes (Some bytes) left front → IsAtEnd left ⊎ (length front ≡ most_read) → IsNoText front → fault ≡ record { line = 0; kind = Word }
+    → Course fresh Run bytes left [] (NoScript fault)
+no_script_course bytes front left fault consumed out none is = record {
+  script = None;
+  state = fresh.state;
+  run = (refl, refl);
+  comes = (refl, no_text_of_all bytes front left consumed out none, is);
+  reads = reads_out bytes front left consumed out;
+}
+
+-- ---- a script is run
+
+-- before its first round
+pub nothing_yet : (script : Script) → RunsScript script NoMemory []
+nothing_yet script = record {
+  state = empty;
+  run = record {
+    lines = tt;
+    workers = λ worker. tt;
+    clocks = tt;
+    ordered = [];
+    same = IsPermutation-refl [];
+    serial = record { rising = tt; epochs = tt; answers = tt };
+    draws = tt;
+    after = refl;
+  };
+  commits = tt;
+  ends = tt;
+}
+
+run_comes : (bytes : Bytes) (script : Script) (rans : List Ran) (ending : Ending) → EndsRun script rans ending → Comes Run bytes (Some script) rans ending
+run_comes bytes script rans Finished ends = ends
+run_comes bytes script rans (NoScript fault) ends = absurd ends
+run_comes bytes script rans Usage ends = absurd ends
+run_comes bytes script rans ReadFault ends = absurd ends
+run_comes bytes script rans NoMemory ends = tt
+
+run_reads : (bytes : Bytes) (left : Option Bytes) (script : Script) (rans : List Ran) (ending : Ending) → EndsRun script rans ending → IsAtEnd left → Reads ending rans (Some bytes) left
+run_reads bytes left script rans Finished ends end = inr end
+run_reads bytes left script rans (NoScript fault) ends end = absurd ends
+run_reads bytes left script rans Usage ends end = absurd ends
+run_reads bytes left script rans ReadFault ends end = absurd ends
+run_reads bytes left script rans NoMemory ends end = inr end
+
+script_course : (bytes : Bytes) (left : Option Bytes) (script : Script) (rans : List Ran) (ending : Ending) → IsTextOf bytes script → IsAtEnd left → RunsScript script ending rans → Course fresh Run bytes left rans ending
+script_course bytes left script rans ending text end runs = record {
+  script = Some script;
+  state = runs.state;
+  run = (text, runs.run, runs.commits);
+  comes = run_comes bytes script rans ending runs.ends;
+  reads = run_reads bytes left script rans ending runs.ends end;
+}
+
+-- the run of a script that was read out, and its text
+pub script_printed : {E : Type 0} (bytes : Bytes) (left : Option Bytes) (script : Script) (old new : Output) (r : Result Ending E) → IsTextOf bytes script × IsAtEnd left
+    → MatchResult r (λ ending. (rans : List Ran) × RunsScript script ending rans × Adds old new (run_text rans)) (λ _. (rans : List Ran) × RunsScript script Finished rans × Breaks old new (run_text rans))
+    → MatchResult r (λ ending. Adding Run bytes left old new ending) (λ _. Breaking Run bytes left old new)
+script_printed bytes left script old new (Ok ending) read ran = record {
+  rans = ran.0;
+  course = script_course bytes left script ran.0 ending read.0 read.1 ran.1;
+  adds = ran.2;
+}
+script_printed bytes left script old new (Err e) read ran = record {
+  rans = ran.0;
+  ending = Finished;
+  course = script_course bytes left script ran.0 Finished read.0 read.1 ran.1;
+  breaks = breaks_as (sym (append-nil (run_text ran.0))) ran.2;
+}

@@ -1,0 +1,4 @@
+pub mod Reading
+pub mod Courses
+pub mod OneRound
+pub mod Told

@@ -1,0 +1,74 @@
+// The script of a source.
+ghost use Rattle.std.specs.Prelude.{◌≡◌, ◌≢◌, ◌⊎◌, ℕ, ◌≤◌, List, [], Some, Err, length, IfOk, IfErr, OnErr, MatchResult};
+ghost use Rattle.std.specs.Io.KnownBytes.{Consumes, IsAtEnd};
+ghost use Rattle.outside.specs.Faults.{Rose};
+ghost use Rattle.serial_model.specs.declared.memory.OrMemory.{OrMemory};
+ghost use Rattle.tx_script.specs.Script.{IsScript, IsTextOf};
+ghost use Rattle.foedus.specs.Ending.{TakesAtMost, fresh, most_read};
+ghost use Rattle.foedus.specs.Main.{Course};
+
+use crate::ending::Ending;
+use crate::words::Command;
+use outside::{Failed, Source};
+use serial_model::OrMemory;
+use std::alloc::Global;
+use tx_script::{Script, read_script};
+
+/// The longest script, and one byte more.
+const MOST_READ: usize = 67_108_865;
+
+/// Bytes that are read at once.
+const CHUNK: usize = 65_536;
+
+/// The source's bytes up to its end, or the first ones up to one more than the longest script.
+pub(crate) fn read_bytes<S: Source>(
+    alloc: Global,
+    source: &mut S,
+) -> Result<Vec<u8>, OrMemory<Failed>>
+    ensures bytes { IfOk result (λ bytes. Consumes (S.left source.old) (S.left source.new) bytes.items) }
+    ensures most { IfOk result (λ bytes. length bytes.items ≤ most_read) }
+    ensures all { IfOk result (λ bytes. IsAtEnd (S.left source.new) ⊎ (length bytes.items ≡ most_read)) }
+    ensures taken { TakesAtMost (S.left source.old) (S.left source.new) }
+    ensures later { S.faults source.old ≤ S.faults source.new }
+    ensures cause { (fault : Failed) → result ≡ Err (OrMemory.Fault fault) → Rose (S.faults source.old) (S.faults source.new) }
+{
+    let mut bytes = Vec::new(alloc);
+    let mut chunk = [0; CHUNK];
+    while bytes.len() < MOST_READ {
+        let room = CHUNK.min(MOST_READ - bytes.len());
+        let Ok(count) = source.read(&mut chunk[..room]) else {
+            return Err(OrMemory::Fault(Failed));
+        };
+        if count == 0 {
+            break;
+        }
+        let Ok(()) = bytes.extend_from_slice(&chunk[..count]) else {
+            return Err(OrMemory::Memory);
+        };
+    }
+    Ok(bytes)
+}
+
+/// The script of a source, read out before anything is run; or how the call ends without one.
+pub(crate) fn read_text<S: Source>(alloc: Global, source: &mut S) -> Result<Script, Ending>
+    ensures told { (bytes : List ℕ) → S.left source.old ≡ Some bytes → MatchResult result
+        (λ script. IsTextOf bytes script × IsAtEnd (S.left source.new))
+        (λ ending. Course fresh Command.Run bytes (S.left source.new) [] ending) }
+    ensures rules { IfOk result IsScript }
+    ensures one_round { IfOk result (λ script. length script.rounds ≡ 1) }
+    ensures unlike { IfErr result (λ ending. ending ≢ Ending.Usage) }
+    ensures cause { result ≡ Err Ending.ReadFault → Rose (S.faults source.old) (S.faults source.new) }
+    ensures later { S.faults source.old ≤ S.faults source.new }
+    ensures taken { TakesAtMost (S.left source.old) (S.left source.new) }
+{
+    let bytes = match read_bytes(alloc, source) {
+        Ok(bytes) => bytes,
+        Err(OrMemory::Fault(_)) => return Err(Ending::ReadFault),
+        Err(OrMemory::Memory) => return Err(Ending::NoMemory),
+    };
+    match read_script(alloc, &bytes) {
+        Ok(script) => Ok(script),
+        Err(OrMemory::Fault(fault)) => Err(Ending::NoScript(fault)),
+        Err(OrMemory::Memory) => Err(Ending::NoMemory),
+    }
+}

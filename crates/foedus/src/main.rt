@@ -1,0 +1,93 @@
+//! The program `foedus`: reads a script, runs it and prints what came of each line.
+//!
+//! Promises: `top` states them, in the words of `specs/Main.antt`. The printed commits, in order of
+//! number, are one serial run of the script's transactions on an empty database, with every reply
+//! (`answer`); each status comes only for its cause (`statuses`, `usage`, `read`, `write`).
+//! Terms: *ending*, how a call ends; *course*, what was read and run until then.
+#![tactic(auto)]
+
+mod ending;
+mod files;
+mod input;
+mod program;
+mod run;
+mod words;
+
+pub use ending::Ending;
+use files::{NoVault, open_vault, tell_device};
+use outside::{Failed, OpenGate, Sink, StdSink, StdSource};
+pub use program::top;
+use std::alloc::AllocError;
+use std::env::{self, Env};
+use std::fs::{File, Files};
+use std::io::{ErrorKind, Input};
+use std::process::ExitCode;
+use std::sync::Wait;
+use std::thread::Threads;
+use tx_script::{Buffer, flush};
+pub use words::Command;
+
+#[cfg(test)]
+mod tests;
+
+/// Prints how a call ends that `top` doesn't see, and answers the status.
+fn tell<K: Sink>(sink: &mut K, ending: Ending) -> u8 {
+    let mut buffer = Buffer::new();
+    let Ok(()) = ending.put(sink, &mut buffer) else {
+        return 4;
+    };
+    match flush(sink, &mut buffer) {
+        Ok(()) => ending.status(),
+        Err(Failed) => 4,
+    }
+}
+
+/// The words of the command line. Words that aren't UTF-8 ask for nothing that the program does.
+fn read_args(rt: &(impl Env + AllocGlobal)) -> Result<Vec<String>, Ending> {
+    let words = match env::args(rt) {
+        Ok(words) => words,
+        Err(error) if error.kind() == ErrorKind::OutOfMemory => return Err(Ending::NoMemory),
+        Err(_) => return Err(Ending::Usage),
+    };
+    match words.collect(rt.alloc()) {
+        Ok(words) => Ok(words),
+        Err(AllocError) => Err(Ending::NoMemory),
+    }
+}
+
+/// Calls `top` over standard input and the database directory.
+fn call_top<R, K: Sink>(rt: &R, words: &[String], sink: &mut K) -> u8
+where
+    R: Threads + Wait + Sync + Files<File = File> + Input + AllocGlobal,
+{
+    let mut vault = match open_vault(rt, rt.alloc()) {
+        Ok(vault) => vault,
+        Err(NoVault::Device(device)) => return tell_device(sink, device),
+        Err(NoVault::Memory) => return tell(sink, Ending::NoMemory),
+    };
+    let mut texts = Vec::new(rt.alloc());
+    for word in words {
+        let Ok(()) = texts.push(word.as_str()) else {
+            return tell(sink, Ending::NoMemory);
+        };
+    }
+    let mut source = StdSource::new(rt);
+    top(
+        rt,
+        rt.alloc(),
+        &texts,
+        &mut source,
+        sink,
+        &mut vault,
+        &OpenGate,
+    )
+}
+
+fn main(rt: HostRuntime) -> ExitCode {
+    let mut sink = StdSink::new(&rt);
+    let status = match read_args(&rt) {
+        Ok(words) => call_top(&rt, &words, &mut sink),
+        Err(ending) => tell(&mut sink, ending),
+    };
+    ExitCode::from(status)
+}

@@ -1,0 +1,101 @@
+// The answers of whole calls. Texts, statuses and failing calls are those of the program's description.
+use crate::top;
+use outside::{MemDisk, MemSink, MemSource, OpenGate, SureSource, Vault};
+use std::alloc::Global;
+use std::test::Fail;
+
+const ROW: &[u8] = b"array 1 4\n0 w 1 2 7; r 1 2\n0 r 1 0\n";
+
+const ROW_TEXT: &[u8] = b"0.0 ok 1:1 7\n0.1 ok 1:2 0\n";
+
+fn fresh_vault(alloc: Global) -> Result<Vault<MemDisk>, Fail> {
+    Ok(Vault {
+        save: MemDisk::new(alloc, vec![in alloc; 0; 1024]?, Vec::new(alloc))?,
+        snaps: MemDisk::new(alloc, Vec::new(alloc), Vec::new(alloc))?,
+        even: Vec::new(alloc),
+        odd: Vec::new(alloc),
+        ties: Vec::new(alloc),
+        cuts: Vec::new(alloc),
+    })
+}
+
+// With ample memory the first script gives its lines; a body that always wants memory fails here.
+#[test]
+fn ample_memory_is_enough(rt: HostRuntime) -> Result<(), Fail> {
+    let alloc = rt.alloc();
+    let mut vault = fresh_vault(alloc)?;
+    let mut source = SureSource::new(ROW.to_vec(alloc)?);
+    let mut sink = MemSink::new(alloc, Vec::new(alloc));
+    let words = ["foedus", "run"];
+    let status = top(
+        &rt,
+        alloc,
+        &words,
+        &mut source,
+        &mut sink,
+        &mut vault,
+        &OpenGate,
+    );
+    assert_eq!(rt; status, 0);
+    assert_eq!(rt; sink.bytes(), ROW_TEXT);
+    Ok(())
+}
+
+// Each with its status and its text: the words, the source, and the numbers of the failing reads and writes.
+#[test]
+fn each_status_has_its_cause(rt: HostRuntime) -> Result<(), Fail> {
+    let alloc = rt.alloc();
+    let mut vault = fresh_vault(alloc)?;
+    let no_script = b"script 0 Word\n";
+    let cases: [(&str, &[u8], u64, u64, u8, &[u8]); 8] = [
+        ("run", ROW, 9, 9, 0, ROW_TEXT),
+        ("run", b"", 9, 9, 0, b""),
+        ("walk", ROW, 9, 9, 2, b"usage\n"),
+        ("run", b"array 1 4\n0  r 1 0\n", 9, 9, 1, no_script),
+        ("run", b"array 1 4\njoin\n", 9, 9, 1, no_script),
+        ("run", ROW, 0, 9, 3, b"read\n"),
+        ("run", ROW, 1, 9, 3, b"read\n"),
+        ("run", ROW, 9, 0, 4, b"0.0 ok 1:1 7\n"),
+    ];
+    for (word, bytes, failing_read, failing_write, status, text) in cases {
+        let mut source = MemSource::new(bytes.to_vec(alloc)?, vec![in alloc; failing_read]?);
+        let mut sink = MemSink::new(alloc, vec![in alloc; failing_write]?);
+        let words = ["foedus", word];
+        let got = top(
+            &rt,
+            alloc,
+            &words,
+            &mut source,
+            &mut sink,
+            &mut vault,
+            &OpenGate,
+        );
+        assert_eq!(rt; got, status, "{word} over {bytes:?}");
+        assert_eq!(rt; sink.bytes(), text, "{word} over {bytes:?}");
+    }
+    Ok(())
+}
+
+// Workers' lines stand worker by worker, with consecutive numbers.
+#[test]
+fn workers_stand_in_order(rt: HostRuntime) -> Result<(), Fail> {
+    let alloc = rt.alloc();
+    let mut vault = fresh_vault(alloc)?;
+    let bytes = b"array 9 2\n3 w 9 1 5\n0 r 9 1\n\n3 r 9 1; r 9 0";
+    let mut source = SureSource::new(bytes.to_vec(alloc)?);
+    let mut sink = MemSink::new(alloc, Vec::new(alloc));
+    let words = ["foedus", "run"];
+    let status = top(
+        &rt,
+        alloc,
+        &words,
+        &mut source,
+        &mut sink,
+        &mut vault,
+        &OpenGate,
+    );
+    assert_eq!(rt; status, 0);
+    let text = b"0.0 ok 1:1 0\n3.0 ok 1:2\n3.1 ok 1:3 5 0\n";
+    assert_eq!(rt; sink.bytes(), text.as_slice());
+    Ok(())
+}

@@ -1,0 +1,5 @@
+pub mod Disk
+pub mod Faults
+pub mod Listed
+pub mod Replay
+pub mod Stream

@@ -1,0 +1,71 @@
+// A device of bytes, as its users see it.
+ghost use Rattle.std.specs.Prelude.{◌≡◌, ◌≤◌, ◌-◌, ◌++◌, List, ℕ, Option, Some, is_some, length, take, drop, min, IfOk, OnOk, OnErr};
+ghost use Rattle.outside.specs.Disk.{IfTold, written, Torn, Shortened, Ticks};
+ghost use Rattle.outside.specs.Faults.{HasCause};
+
+use crate::Failed;
+
+/// Places and lengths are in bytes.
+pub trait Disk {
+    /// The bytes as reads give them, where the disk tells them.
+    ghost tells: { Self → Option (List ℕ) };
+
+    /// How many begins and ends of calls there were.
+    ghost clock: { Self → ℕ };
+
+    /// How often it has failed. The count never falls, and stays at its last value.
+    ghost faults: { Self → ℕ };
+
+    /// How many begins and ends of calls there were. A call that is made counts twice, whether it
+    /// answers `Ok` or not; one that is refused before it begins, as for want of memory, doesn't
+    /// count. Each call fails where the clock has no room for it.
+    fn clock(&self) -> u64
+        ensures { result ≡ clock self.now };
+
+    fn faults(&self) -> u64
+        ensures { result ≡ faults self.now };
+
+    fn len(&mut self) -> Result<u64, Failed>
+        ensures value { IfOk result (λ n. IfTold (tells self.old) (λ file. n ≡ length file)) }
+        ensures told { tells self.new ≡ tells self.old }
+        ensures ticks { Ticks (clock self.old) (clock self.new) result }
+        ensures cause { HasCause (faults self.old) (faults self.new) result };
+
+    /// Fills the front of the buffer with what lies from that place on, and answers how many bytes:
+    /// the lesser of the buffer and of what lies there.
+    fn read(&mut self, at: u64, buf: &mut [u8]) -> Result<usize, Failed>
+        ensures count { IfOk result (λ n. n ≤ length buf.old) }
+        ensures value { IfOk result (λ n. IfTold (tells self.old) (λ file.
+            (n ≡ min (length buf.old) (length file - at))
+            × (buf.new ≡ take n (drop at file) ++ drop n buf.old))) }
+        ensures told { tells self.new ≡ tells self.old }
+        ensures ticks { Ticks (clock self.old) (clock self.new) result }
+        ensures cause { HasCause (faults self.old) (faults self.new) result };
+
+    /// Writes over what is there, and past the end. One that failed may be done in part.
+    fn write(&mut self, at: u64, bytes: &[u8]) -> Result<(), Failed>
+        requires { IfTold (tells self.old) (λ file. at ≤ length file) }
+        ensures written { OnOk result (IfTold (tells self.old) (λ file.
+            tells self.new ≡ Some (written at bytes.now file))) }
+        ensures torn { OnErr result (IfTold (tells self.old) (λ file.
+            IfTold (tells self.new) (Torn at (length bytes.now) file))) }
+        ensures told { is_some (tells self.new) ≡ is_some (tells self.old) }
+        ensures ticks { Ticks (clock self.old) (clock self.new) result }
+        ensures cause { HasCause (faults self.old) (faults self.new) result };
+
+    /// Cuts to a length, and leaves a shorter file as it is. One that failed may be done in part.
+    fn cut(&mut self, len: u64) -> Result<(), Failed>
+        ensures cut { OnOk result (IfTold (tells self.old) (λ file.
+            tells self.new ≡ Some (take len file))) }
+        ensures torn { OnErr result (IfTold (tells self.old) (λ file.
+            IfTold (tells self.new) (Shortened len file))) }
+        ensures told { is_some (tells self.new) ≡ is_some (tells self.old) }
+        ensures ticks { Ticks (clock self.old) (clock self.new) result }
+        ensures cause { HasCause (faults self.old) (faults self.new) result };
+
+    /// Brings what was written to the device itself. One that failed settles nothing.
+    fn sync(&mut self) -> Result<(), Failed>
+        ensures told { tells self.new ≡ tells self.old }
+        ensures ticks { Ticks (clock self.old) (clock self.new) result }
+        ensures cause { HasCause (faults self.old) (faults self.new) result };
+}

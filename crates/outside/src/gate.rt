@@ -1,0 +1,19 @@
+// What is called round each line that a script runs, so that a test can hold a worker there.
+
+/// Called round each line that is run. Workers count from 0, and worker 255 is the maintenance
+/// thread; `line` is the line's number in the script.
+pub trait Gate {
+    fn before(&self, worker: u8, line: u32);
+
+    fn after(&self, worker: u8, line: u32);
+}
+
+/// A gate that holds nobody.
+#[derive(Clone, Copy, Debug, Default, PartialEq, Eq)]
+pub struct OpenGate;
+
+impl Gate for OpenGate {
+    fn before(&self, _worker: u8, _line: u32) {}
+
+    fn after(&self, _worker: u8, _line: u32) {}
+}

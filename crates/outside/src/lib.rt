@@ -1,0 +1,59 @@
+//! The outside of the engine: the devices that keep its bytes, the streams that it reads and writes,
+//! and the faults of both.
+//!
+//! Promises, each a clause of the trait that it is about:
+//!
+//! - A fault is answered only where the object's count of faults rose in the call, or stands at the
+//!   last value that a `u64` has; and no count falls (`cause`, by `HasCause` in `specs/Faults.antt`).
+//!   Generic code can't raise a count, so a caller that shows one shows that the outside failed.
+//! - A [`Source`] gives its bytes in order and loses none to a fault (`bytes`).
+//! - A [`Sink`] holds what it held, and then the bytes (`written`), or after a fault a prefix of
+//!   them (`prefix`).
+//! - A [`Disk`] reads as it was written (`value`, `written`, `cut`). A write or a cut that failed may
+//!   be done in part, and leaves the bytes outside of its range (`torn`). Its clock counts the begins
+//!   and ends of its calls (`ticks`).
+//!
+//! Terms: *told* bytes are those that an object is known to have. The objects in memory tell all of
+//! their bytes; those over the system tell none, and their calls promise no more than counts.
+//!
+//! The objects: [`SureSource`], [`MemSource`], [`MemSink`] and [`MemDisk`] in memory, of which all but
+//! the first fail at the calls of chosen numbers; [`FuseDisk`], which fails at each call after some;
+//! [`StdSource`], [`StdSink`] and [`FileDisk`] over the system. What a file or a terminal does is not
+//! proved, only that each of its errors is counted and answered.
+#![tactic(auto)]
+
+mod call;
+mod disk;
+mod fault;
+mod file_disk;
+mod fuse_disk;
+mod gate;
+mod memory_disk;
+mod memory_sink;
+mod memory_source;
+mod retry;
+mod sink;
+mod source;
+mod std_sink;
+mod std_source;
+mod sure_source;
+mod vault;
+
+pub use call::{Call, Made};
+pub use disk::Disk;
+pub use fault::Failed;
+pub use file_disk::FileDisk;
+pub use fuse_disk::FuseDisk;
+pub use gate::{Gate, OpenGate};
+pub use memory_disk::MemDisk;
+pub use memory_sink::MemSink;
+pub use memory_source::MemSource;
+pub use sink::Sink;
+pub use source::Source;
+pub use std_sink::StdSink;
+pub use std_source::StdSource;
+pub use sure_source::SureSource;
+pub use vault::{Cut, Device, Tie, Vault};
+
+#[cfg(test)]
+mod tests;

@@ -1,0 +1,179 @@
+// A disk in memory, some of whose calls fail. It records each call that was made, and so what it
+// tells can be had again from its first bytes.
+ghost use Rattle.std.specs.Prelude.{◌≡◌, ◌⊎◌, ◌*◌, ◌+◌, ◌-◌, ◌<◌, ◌≤◌, ◌^◌, [], ◌∷◌, ◌++◌, Some, IsErr, false, true, IfOk, OnOk, OnErr, MatchOption, length};
+ghost use Rattle.outside.specs.Disk.{written};
+ghost use Rattle.outside.specs.Faults.{Rose};
+ghost use Rattle.outside.specs.Listed.{is_listed};
+ghost use Rattle.outside.specs.Replay.{done, read_through};
+
+use crate::fault::count_fault;
+use crate::{Call, Disk, Failed, Made};
+use std::alloc::{AllocError, Global};
+
+// The clock counts two for each call, and has room for this many.
+const MAX_CALLS: u64 = (1 << 63) - 1;
+
+/// A disk whose calls of chosen numbers fail and do nothing, and each call for which there is no
+/// memory.
+#[derive(Drop)]
+pub struct MemDisk {
+    alloc: Global,
+    first: Vec<u8>,
+    bytes: Vec<u8>,
+    calls: Vec<Made>,
+    fails: Vec<u64>,
+    faults: u64,
+    ghost replayed: { bytes.items ≡ read_through calls.items first.items },
+    ghost counted: { 2 * length calls.items < 2 ^ 64 },
+}
+
+// The file with the bytes written over it.
+fn overwritten(alloc: Global, file: &[u8], at: usize, bytes: &[u8]) -> Result<Vec<u8>, AllocError>
+    requires { at ≤ length file.now }
+    ensures { IfOk result (λ next. next.items ≡ written at bytes.now file.now) }
+{
+    let mut next = file[..at].to_vec(alloc)?;
+    next.extend_from_slice(bytes)?;
+    if bytes.len() < file.len() - at {
+        next.extend_from_slice(&file[at + bytes.len()..])?;
+    }
+    Ok(next)
+}
+
+impl MemDisk {
+    /// A disk of these bytes. The calls that are made, of each kind, are counted from 0, and those of
+    /// the numbers in `fails` fail.
+    pub fn new(alloc: Global, bytes: Vec<u8>, fails: Vec<u64>) -> Result<Self, AllocError>
+        ensures tells { IfOk result (λ disk. ⟦<MemDisk as Disk>⟧.tells disk ≡ Some bytes.items) }
+        ensures clock { IfOk result (λ disk. ⟦<MemDisk as Disk>⟧.clock disk ≡ 0) }
+        ensures faults { IfOk result (λ disk. ⟦<MemDisk as Disk>⟧.faults disk ≡ 0) }
+        ensures fails { IfOk result (λ disk. disk.fails ≡ fails) }
+    {
+        let first = bytes.to_vec(alloc)?;
+        Ok(MemDisk {
+            alloc,
+            first,
+            bytes,
+            calls: Vec::new(alloc),
+            fails,
+            faults: 0,
+        })
+    }
+
+    /// The bytes as reads give them.
+    pub fn bytes(&self) -> &[u8]
+        ensures { ⟦<MemDisk as Disk>⟧.tells self.now ≡ Some result.now }
+    {
+        &self.bytes
+    }
+
+    /// The calls that were made, the oldest first.
+    pub fn calls(&self) -> &[Made]
+        ensures clock { ⟦<MemDisk as Disk>⟧.clock self.now ≡ 2 * length result.now }
+        ensures replayed { ⟦<MemDisk as Disk>⟧.tells self.now
+            ≡ Some (read_through result.now self.now.first.items) }
+    {
+        &self.calls
+    }
+
+    // Counts a fault, and changes nothing else.
+    fn refuse(&mut self) -> Failed
+        ensures first { self.new.first ≡ self.old.first }
+        ensures bytes { self.new.bytes ≡ self.old.bytes }
+        ensures calls { self.new.calls ≡ self.old.calls }
+        ensures later { self.old.faults ≤ self.new.faults }
+        ensures rose { Rose self.old.faults self.new.faults }
+    {
+        count_fault(&mut self.faults)
+    }
+
+    // Makes a call, unless there is no room to record it. It fails where its number is listed, and
+    // leaves the next bytes otherwise.
+    #[tactic(auto, using(crate::proofs::Replays::read_through_push))]
+    fn make(&mut self, call: Call, next: Option<Vec<u8>>) -> Result<(), Failed>
+        requires { MatchOption next (done call self.old.bytes.items ≡ self.old.bytes.items)
+            (λ bytes. bytes.items ≡ done call self.old.bytes.items) }
+        ensures first { self.new.first ≡ self.old.first }
+        ensures done { OnOk result (self.new.bytes.items ≡ done call self.old.bytes.items) }
+        ensures kept { OnErr result (self.new.bytes.items ≡ self.old.bytes.items) }
+        ensures recorded { OnOk result (self.new.calls.items
+            ≡ self.old.calls.items ++ record { call = call; failed = false } ∷ []) }
+        ensures recorded_err { OnErr result (
+            (self.new.calls.items ≡ self.old.calls.items ++ record { call = call; failed = true } ∷ [])
+            ⊎ (self.new.calls.items ≡ self.old.calls.items)) }
+        ensures listed { is_listed self.old.fails.items (length self.old.calls.items) ≡ true
+            → IsErr result }
+        ensures later { self.old.faults ≤ self.new.faults }
+        ensures cause { OnErr result (Rose self.old.faults self.new.faults) }
+    {
+        let number = self.calls.len() as u64;
+        if number >= MAX_CALLS {
+            return Err(self.refuse());
+        }
+        let failed = self.fails.contains(&number);
+        if self.calls.push(Made { call, failed }).is_err() {
+            return Err(self.refuse());
+        }
+        if failed {
+            return Err(self.refuse());
+        }
+        if let Some(next) = next {
+            self.bytes = next;
+        }
+        Ok(())
+    }
+}
+
+impl Disk for MemDisk {
+    ghost tells = { λ disk. Some disk.bytes.items };
+
+    ghost clock = { λ disk. 2 * length disk.calls.items };
+
+    ghost faults = { λ disk. disk.faults };
+
+    fn clock(&self) -> u64 {
+        2 * self.calls.len() as u64
+    }
+
+    fn faults(&self) -> u64 {
+        self.faults
+    }
+
+    fn len(&mut self) -> Result<u64, Failed> {
+        self.make(Call::Len, None)?;
+        Ok(self.bytes.len() as u64)
+    }
+
+    fn read(&mut self, at: u64, buf: &mut [u8]) -> Result<usize, Failed> {
+        self.make(Call::Read, None)?;
+        let at = at.min(self.bytes.len() as u64) as usize;
+        let rest = &self.bytes[at..];
+        let count = rest.len().min(buf.len());
+        buf[..count].copy_from_slice(&rest[..count]);
+        Ok(count)
+    }
+
+    #[tactic(auto, using(crate::proofs::Tears::torn_kept))]
+    fn write(&mut self, at: u64, bytes: &[u8]) -> Result<(), Failed> {
+        let Ok(kept) = bytes.to_vec(self.alloc) else {
+            return Err(self.refuse());
+        };
+        let Ok(next) = overwritten(self.alloc, &self.bytes, at as usize, bytes) else {
+            return Err(self.refuse());
+        };
+        self.make(Call::Write { at, bytes: kept }, Some(next))
+    }
+
+    #[tactic(auto, using(crate::proofs::Tears::shortened_kept))]
+    fn cut(&mut self, len: u64) -> Result<(), Failed> {
+        let keep = len.min(self.bytes.len() as u64) as usize;
+        let Ok(next) = self.bytes[..keep].to_vec(self.alloc) else {
+            return Err(self.refuse());
+        };
+        self.make(Call::Cut { len }, Some(next))
+    }
+
+    fn sync(&mut self) -> Result<(), Failed> {
+        self.make(Call::Sync, None)
+    }
+}

@@ -1,0 +1,4 @@
+pub mod SoFar
+pub mod Chains
+pub mod PlainRun
+pub mod Commits

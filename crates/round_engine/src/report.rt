@@ -1,0 +1,28 @@
+// What a round reports.
+
+use tx_script::RoundOutcomes;
+
+/// A limit of the engine.
+#[derive(Clone, Copy, Debug, PartialEq, Eq)]
+pub enum LimitName {
+    /// The clock gives no further numbers.
+    Draw,
+}
+
+/// Why a run ends after a round.
+#[derive(Clone, Copy, Debug, PartialEq, Eq)]
+pub enum End {
+    /// The limit, and the number that stands there.
+    Limit { name: LimitName, number: u64 },
+}
+
+/// What came of a round.
+#[derive(Drop)]
+pub struct Report {
+    /// An outcome for each line, by worker.
+    pub outcomes: RoundOutcomes,
+    /// The epoch that was made durable, once something is kept on disk.
+    pub durable: Option<u32>,
+    /// The round's first refusal that ends the run.
+    pub end: Option<End>,
+}

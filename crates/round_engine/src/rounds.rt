@@ -1,0 +1,150 @@
+// One round on the plain map.
+ghost use Rattle.std.specs.Prelude.{◌≡◌, ℕ, ◌+◌, ◌<◌, ◌≤◌, [], ◌∷◌, length, IsTrue, All, IfOk, OnErr, OnOk, flat_map};
+ghost use Rattle.std.specs.List.{list_any};
+ghost use Rattle.serial_model.specs.Keys.{fits};
+ghost use Rattle.tx_script.specs.Run.{CanRun, CommitsAll, IsRun, entries_of_round, lines_of_worker, worker_lines};
+ghost use Rattle.round_engine.specs.Limits.{draw_limit};
+ghost use Rattle.round_engine.specs.Plainly.{AreConsecutive, DrawsTo, end_of, is_limit, outcome_at, outcomes_at, outcomes_of};
+ghost use Rattle.round_engine.specs.Plainly.{place_after, place_after_all, place_after_workers, place_of, ran_of};
+
+use crate::{End, LimitName, Report, Runtime};
+use outside::Gate;
+use serial_model::{Memory, Op, run_one};
+use std::alloc::Global;
+use std::sync::Wait;
+use std::thread::Threads;
+use tx_script::{Outcome, Outcomes, Round, RoundOutcomes};
+
+/// From this draw on the clock gives no numbers: seats of 64 workers may each have one on the way.
+const DRAW_LIMIT: u64 = (1 << 40) - 64;
+
+/// Runs worker 0's lines, then worker 1's and on, each line between the gate's two calls.
+///
+/// After want of memory some of the lines have been run, and the runtime is not used again.
+pub fn round<R: Threads + Wait + Sync, G: Gate + Sync>(
+    rt: &R,
+    alloc: Global,
+    runtime: &mut Runtime,
+    round: &Round<'_>,
+    tries: u32,
+    gate: &G,
+) -> Result<Report, Memory>
+    requires lines { CanRun runtime.old.plain.decls round.now }
+    requires some_try { 1 ≤ tries }
+    requires most_tries { tries ≤ 1000000 }
+    ensures decls { runtime.new.plain.decls ≡ runtime.old.plain.decls }
+    // The commits, in order of number, are a serial run from the state before.
+    ensures run { IfOk result (λ report. (index : ℕ) → IsRun runtime.old.plain.decls index (round.now ∷ [])
+        runtime.old.plain.state runtime.old.clock (ran_of runtime.old.clock runtime.new.clock.draw report ∷ [])
+        runtime.new.plain.state) }
+    ensures consecutive { IfOk result (λ report. (index : ℕ) → AreConsecutive runtime.old.clock
+        (entries_of_round index (ran_of runtime.old.clock runtime.new.clock.draw report) round.now)) }
+    ensures commits { IfOk result (λ report. runtime.old.clock.draw + length round.now.lines ≤ draw_limit
+        → CommitsAll (ran_of runtime.old.clock runtime.new.clock.draw report)) }
+    ensures draws { IfOk result (λ report. DrawsTo runtime.old.clock.draw (flat_map (λ outcomes. outcomes) report.outcomes)
+        runtime.new.clock.draw) }
+    ensures epoch { OnOk result (runtime.new.clock.epoch ≡ runtime.old.clock.epoch) }
+    ensures end { IfOk result (λ report. report.end ≡ end_of report.outcomes runtime.new.clock.draw) }
+{
+    let _ = rt;
+    let _ = tries;
+    let outcomes = run_workers(alloc, runtime, round, gate)?;
+    let end = if has_limit(outcomes.as_slice()) {
+        Some(End::Limit {
+            name: LimitName::Draw,
+            number: runtime.clock.draw,
+        })
+    } else {
+        None
+    };
+    Ok(Report {
+        outcomes,
+        durable: None,
+        end,
+    })
+}
+
+fn has_limit(outcomes: &[Outcomes]) -> bool
+    ensures { result ≡ list_any (list_any is_limit) outcomes.now }
+{
+    outcomes
+        .iter()
+        .any(|of_worker| any_limit(of_worker.as_slice()))
+}
+
+fn any_limit(outcomes: &[Outcome]) -> bool
+    ensures { result ≡ list_any is_limit outcomes.now }
+{
+    outcomes
+        .iter()
+        .any(|outcome| matches!(outcome, Outcome::Limit))
+}
+
+fn run_workers<G: Gate>(
+    alloc: Global,
+    runtime: &mut Runtime,
+    round: &Round<'_>,
+    gate: &G,
+) -> Result<RoundOutcomes, Memory>
+    requires { CanRun runtime.old.plain.decls round.now }
+    ensures decls { runtime.new.plain.decls ≡ runtime.old.plain.decls }
+    ensures outcomes { IfOk result (λ outcomes. outcomes
+        ≡ outcomes_of runtime.old.plain.decls (worker_lines round.now) (place_of runtime.old)) }
+    ensures place { OnOk result (place_of runtime.new
+        ≡ place_after_workers runtime.old.plain.decls (worker_lines round.now) (place_of runtime.old)) }
+{
+    let mut outcomes = RoundOutcomes::new(alloc);
+    for worker in 0..8 {
+        let of_worker = run_worker(alloc, runtime, round, worker, gate)?;
+        outcomes.push(of_worker)?;
+    }
+    Ok(outcomes)
+}
+
+fn run_worker<G: Gate>(
+    alloc: Global,
+    runtime: &mut Runtime,
+    round: &Round<'_>,
+    worker: u8,
+    gate: &G,
+) -> Result<Outcomes, Memory>
+    requires { CanRun runtime.old.plain.decls round.now }
+    ensures decls { runtime.new.plain.decls ≡ runtime.old.plain.decls }
+    ensures outcomes { IfOk result (λ outcomes. outcomes
+        ≡ outcomes_at runtime.old.plain.decls (lines_of_worker round.now worker) (place_of runtime.old)) }
+    ensures place { OnOk result (place_of runtime.new
+        ≡ place_after_all runtime.old.plain.decls (lines_of_worker round.now worker) (place_of runtime.old)) }
+{
+    let mut outcomes = Outcomes::new(alloc);
+    let mut count = 0;
+    for index in 0..round.len() {
+        let line = round.line(index);
+        if line.worker == worker {
+            gate.before(worker, count);
+            let outcome = run_line(alloc, runtime, line.ops)?;
+            gate.after(worker, count);
+            outcomes.push(outcome)?;
+            count += 1;
+        }
+    }
+    Ok(outcomes)
+}
+
+fn run_line(alloc: Global, runtime: &mut Runtime, ops: &[Op]) -> Result<Outcome, Memory>
+    requires { All (λ op. IsTrue (fits runtime.old.plain.decls op)) ops.now }
+    ensures decls { runtime.new.plain.decls ≡ runtime.old.plain.decls }
+    ensures outcome { IfOk result (λ outcome. outcome ≡ outcome_at runtime.old.plain.decls (place_of runtime.old) ops.now) }
+    ensures place { OnOk result (place_of runtime.new ≡ place_after runtime.old.plain.decls (place_of runtime.old) ops.now) }
+{
+    if runtime.clock.draw >= DRAW_LIMIT {
+        return Ok(Outcome::Limit);
+    }
+    let (verdict, replies) = run_one(alloc, &mut runtime.plain, ops)?;
+    let number = runtime.clock;
+    runtime.clock.draw += 1;
+    Ok(Outcome::Committed {
+        verdict,
+        number,
+        replies,
+    })
+}

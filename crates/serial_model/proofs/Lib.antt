@@ -1,0 +1,7 @@
+pub mod KeyOrder
+pub mod FromEntries
+pub mod InOrder
+pub mod Working
+pub mod WayBack
+pub mod Told
+pub mod Scan

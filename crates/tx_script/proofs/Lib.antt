@@ -1,0 +1,15 @@
+pub mod FlatLines
+pub mod Digits
+pub mod MoreOps
+pub mod Steps
+pub mod Cutting
+pub mod Texts
+pub mod Numbers
+pub mod Ops
+pub mod LineTexts
+pub mod Rules
+pub mod StepTexts
+pub mod StepAgain
+pub mod DecimalDigits
+pub mod FlatTexts
+pub mod Rows

@@ -1,0 +1,88 @@
+-- The two laws of the reader: what is read has the text that was read, and what has that text is read.
+use Rattle.std.proofs.Common.{◌≡◌, ◌<◌, ltb, List, [], ◌∷◌, ◌++◌, length, Bool, true, false, cond, Option, Some, None, refl, sym, ap, subst, ◌∙◌, arith, map}
+use Rattle.std.specs.Prelude.{◌==◌, filter}
+use Rattle.std.specs.List.{AllByRecursion, slice_split}
+use Rattle.std.proofs.lemmas.Bool.{ltb-true, ltb-false, le-ltb}
+use Rattle.serial_model.specs.declared.decl.Decl.{Decl}
+use Rattle.tx_script.specs.Script.{Bytes, Line, Round, Script, IsTextOf, IsScript, joined_lines, last_round, lines_of, line_text, decl_text}
+use Rattle.tx_script.specs.Reading.{Parts, no_parts, steps, parts_of, script_from}
+use Rattle.tx_script.proofs.Numbers.{not_test_some}
+use Rattle.tx_script.proofs.Rules.{all_front, all_back}
+use Rattle.tx_script.proofs.StepTexts.{IsShort, is_some_line, nothing_sound, steps-filter, steps_take}
+use Rattle.tx_script.proofs.StepAgain.{decls_again, lines_again}
+
+-- ---- what is read has the text
+
+-- a line that is kept counts
+kept_some : (b : Bool) (line : Bytes) (lines : List Bytes) → is_some_line line ≡ b → AllByRecursion (λ l. 0 < length l) lines → AllByRecursion (λ l. 0 < length l) (cond b (line ∷ lines) lines)
+kept_some true line lines e all = (ltb-true 0 (length line) e, all)
+kept_some false line lines e all = all
+
+-- all lines that are kept count
+all_some : (lines : List Bytes) → AllByRecursion (λ l. 0 < length l) (filter is_some_line lines)
+all_some [] = tt
+all_some (line ∷ lines) = kept_some (is_some_line line) line (filter is_some_line lines) refl (all_some lines)
+
+-- what is read has the text
+pub text_from_parts : (bytes : Bytes) (p : Parts) → parts_of bytes ≡ Some p → IsTextOf bytes (script_from p)
+unfolding parts_of
+text_from_parts bytes p e =
+    let t = not_test_some (ltb 67108864 (length bytes)) (steps no_parts (slice_split (λ b. b == 10) bytes)) p e in
+    let read : steps no_parts (lines_of bytes) ≡ Some p = sym (steps-filter no_parts (slice_split (λ b. b == 10) bytes)) ∙ t.1 in
+    let taken = steps_take no_parts p (lines_of bytes) nothing_sound (all_some (slice_split (λ b. b == 10) bytes)) read in
+    record {
+      size = ltb-false _ _ t.0;
+      short = subst (AllByRecursion IsShort) taken.text taken.sound.short;
+      joined = [];
+      rest = p.lines;
+      rounds = refl;
+      lines = sym taken.text;
+      no_join = refl;
+      rules = record {
+        few_decls = taken.sound.few_decls;
+        decls = taken.sound.decls;
+        distinct = taken.sound.distinct;
+        rounds = (record { few_lines = taken.sound.few_lines; lines = taken.sound.lines }, tt);
+      };
+    }
+
+-- ---- what has the text is read
+
+-- the lines of a script by the rules are read as it
+parts_by_rules : (decls : List Decl) (lines : List Line) → IsScript (record { decls = decls; rounds = record { lines = lines } ∷ [] }) → AllByRecursion IsShort (map decl_text decls ++ map line_text lines)
+    → steps no_parts (map decl_text decls ++ map line_text lines) ≡ Some (record { decls = decls; lines = lines })
+parts_by_rules decls lines rules short =
+    let round = rules.rounds.0 in
+    let few_lines = round.few_lines in
+    let few_decls = rules.few_decls in
+    decls_again [] decls (map line_text lines) (omega arith) rules.decls rules.distinct (all_front IsShort (map decl_text decls) (map line_text lines) short)
+    ∙ lines_again decls [] lines (omega arith) rules.decls round.lines (all_back IsShort (map decl_text decls) (map line_text lines) short)
+
+-- a script with this text is read
+pub parts_from_text : (bytes : Bytes) (script : Script) → IsTextOf bytes script → (p : Parts) × (parts_of bytes ≡ Some p) × (script_from p ≡ script)
+unfolding parts_of
+parts_from_text bytes script is =
+    let round : Round = record { lines = is.rest } in
+    let rounds : script.rounds ≡ round ∷ [] = is.rounds ∙ ap (λ joined. joined ++ last_round joined is.rest) is.no_join in
+    let whole : script ≡ record { decls = script.decls; rounds = round ∷ [] } = ap (λ (rounds : List Round). let s : Script = record { decls = script.decls; rounds = rounds } in s) rounds in
+    let lines : lines_of bytes ≡ map decl_text script.decls ++ map line_text is.rest = is.lines ∙ ap (λ joined. map decl_text script.decls ++ (joined_lines joined ++ map line_text is.rest)) is.no_join in (
+      record { decls = script.decls; lines = is.rest },
+      rw (le-ltb 67108864 (length bytes) is.size)
+          (steps-filter no_parts (slice_split (λ b. b == 10) bytes) ∙ ap (steps no_parts) lines
+          ∙ parts_by_rules script.decls is.rest (subst IsScript whole is.rules) (subst (AllByRecursion IsShort) lines is.short)),
+      sym whole,
+    )
+
+-- one thing is found
+some_is : (p q : Parts) (found : Option Parts) → found ≡ Some p → found ≡ Some q → p ≡ q
+some_is p q found e f = cc
+
+-- what is read is the script with this text
+pub parts_are : (bytes : Bytes) (p : Parts) (script : Script) → parts_of bytes ≡ Some p → IsTextOf bytes script → script_from p ≡ script
+parts_are bytes p script e is =
+    let q = parts_from_text bytes script is in
+    ap script_from (some_is p q.0 (parts_of bytes) e q.1) ∙ q.2
+
+-- no script has a text that is refused
+pub not_refused : (bytes : Bytes) (script : Script) → parts_of bytes ≡ None → IsTextOf bytes script → ⊥
+not_refused bytes script e is = let q = parts_from_text bytes script is in let h = q.1 in cc

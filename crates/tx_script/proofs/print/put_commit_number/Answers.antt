@@ -1,0 +1,12 @@
+-- The epoch, a colon and the draw.
+use Rattle.tx_script.specs.Printed.{adds_then, breaks_then, breaks_within, prints_at_stop, prints_then}
+use Rattle.tx_script.proofs.print.put_commit_number.Goals as goal
+
+pub returns-in_err-put_number : goal.returns-in_err-put_number
+returns-in_err-put_number g c = prints_at_stop _ _ c.from_residual.ensures.1 (breaks_within _ (breaks_within _ c.in_err-put_number.ensures))
+
+pub returns-in_err-put : goal.returns-in_err-put
+returns-in_err-put g c = prints_at_stop _ _ c.from_residual-in_err-put.ensures.1 (breaks_within _ (breaks_then c.in_ok-put_number.ensures c.in_err-put.ensures))
+
+pub returns : goal.returns
+returns g c = prints_then _ _ _ (adds_then c.in_ok-put_number.ensures c.in_ok-put.ensures) c.put_number-2.ensures

@@ -1,0 +1,142 @@
+// What was read of a script so far, and one line more.
+ghost use Rattle.std.specs.Prelude.{◌≡◌, ◌==◌, IfOk};
+ghost use Rattle.std.specs.List.{list_any, list_all};
+ghost use Rattle.serial_model.specs.Keys.{id_of, fits};
+
+use crate::fault::FaultKind;
+use crate::lines::Lines;
+use crate::read_line::{decl_at, read_worker};
+use crate::script::Script;
+use serial_model::{Decl, Decls, Memory, Op, OrMemory, fits};
+use std::alloc::Global;
+use std::marker::Model;
+
+const MOST_STORAGES: usize = 16;
+
+const MOST_LINES: usize = 65_536;
+
+/// In bytes, without the newline.
+const LONGEST_LINE: usize = 1024;
+
+/// The declarations and the lines so far, and memory for the operations of a line.
+#[derive(Drop)]
+pub(crate) struct Reader {
+    decls: Vec<Decl>,
+    lines: Lines,
+    ops: Vec<Op>,
+}
+
+impl Model for Reader {
+    ghost use Rattle.tx_script.specs.Reading.{Parts};
+
+    ghost Value = { Parts };
+
+    ghost view = { λ r. record { decls = r.decls.items; lines = r.lines } };
+}
+
+fn id_of(decl: &Decl) -> u8
+    ensures { result ≡ id_of decl.now }
+{
+    match *decl {
+        Decl::Array { id, .. } | Decl::Tree { id } => id,
+    }
+}
+
+fn is_declared(decls: &[Decl], id: u8) -> bool
+    ensures { result ≡ list_any (λ e. id_of e == id) decls.now }
+{
+    decls.iter().any(|decl| id_of(decl) == id)
+}
+
+fn all_fit(decls: &[Decl], ops: &[Op]) -> bool
+    ensures { result ≡ list_all (fits decls.now) ops.now }
+{
+    ops.iter().all(|op| fits(decls, op))
+}
+
+impl Reader {
+    ghost use Rattle.std.specs.Prelude.{[], ◌∷◌};
+    ghost use Rattle.tx_script.specs.Reading.{no_parts, may_declare, may_run, with_decl, with_line, step, Reads};
+
+    pub(crate) fn new(alloc: Global) -> Self
+        ensures { result ≡ no_parts }
+    {
+        Reader {
+            decls: Vec::new(alloc),
+            lines: Lines::new(alloc),
+            ops: Vec::new(alloc),
+        }
+    }
+
+    /// No line came yet, and there is room for a storage with this id.
+    fn may_declare(&self, decl: &Decl) -> bool
+        ensures { result ≡ may_declare self.now decl.now }
+    {
+        let room = self.lines.len() == 0 && self.decls.len() < MOST_STORAGES;
+        room && !is_declared(&self.decls, id_of(decl))
+    }
+
+    /// One declaration more.
+    #[tactic(auto, unfolding(crate::specs::Reading::with_decl))]
+    fn add_decl(&mut self, line: &[u8]) -> Result<(), OrMemory<FaultKind>>
+        ensures { Reads result self.new (with_decl self.old line.now) }
+    {
+        let Some(decl) = decl_at(line) else {
+            return Err(OrMemory::Fault(FaultKind::Word));
+        };
+        if !self.may_declare(&decl) {
+            return Err(OrMemory::Fault(FaultKind::Word));
+        }
+        let Ok(()) = self.decls.push(decl) else {
+            return Err(OrMemory::Memory);
+        };
+        Ok(())
+    }
+
+    /// There is room for a line, and each of its operations fits a declared storage.
+    fn may_run(&self, ops: &[Op]) -> bool
+        ensures { result ≡ may_run self.now ops.now }
+    {
+        self.lines.len() < MOST_LINES && all_fit(&self.decls, ops)
+    }
+
+    /// One worker's line more.
+    #[tactic(auto, unfolding(crate::specs::Reading::with_line))]
+    fn add_line(&mut self, line: &[u8]) -> Result<(), OrMemory<FaultKind>>
+        ensures { Reads result self.new (with_line self.old line.now) }
+    {
+        let worker = read_worker(line, &mut self.ops)?;
+        if !self.may_run(&self.ops) {
+            return Err(OrMemory::Fault(FaultKind::Word));
+        }
+        let Ok(()) = self.lines.push(worker, &self.ops) else {
+            return Err(OrMemory::Memory);
+        };
+        Ok(())
+    }
+
+    /// One line more: a declaration begins with a letter, a worker's line with a digit. An empty one counts for nothing.
+    #[tactic(auto, unfolding(crate::specs::Reading::step))]
+    pub(crate) fn step(&mut self, line: &[u8]) -> Result<(), OrMemory<FaultKind>>
+        ensures { Reads result self.new (step self.old line.now) }
+    {
+        if line.is_empty() {
+            return Ok(());
+        }
+        if line.len() > LONGEST_LINE {
+            return Err(OrMemory::Fault(FaultKind::Word));
+        }
+        match line {
+            [b'a', ..] => self.add_decl(line),
+            _ => self.add_line(line),
+        }
+    }
+
+    /// The script that was read.
+    pub(crate) fn into_script(self, alloc: Global) -> Result<Script, Memory>
+        ensures { IfOk result (λ script. script ≡ record { decls = self.decls; rounds = record { lines = self.lines } ∷ [] }) }
+    {
+        let decls = Decls::new(alloc, &self.decls)?;
+        Ok(Script::new(decls, self.lines))
+    }
+}

@@ -1,0 +1,10 @@
+pub mod ByteLemmas
+pub mod ItemLemmas
+pub mod PageLemmas
+pub mod LineLemmas
+pub mod LineLaws
+pub mod SavepointLemmas
+pub mod FieldLemmas
+pub mod RangeLaws
+pub mod ContentLaws
+pub mod Worked

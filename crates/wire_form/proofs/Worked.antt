@@ -1,0 +1,49 @@
+-- The definitions on values that were worked by hand from the layouts.
+use Rattle.std.proofs.Common.{◌≡◌, [], ◌∷◌, ◌++◌, true, false, Some, refl, replicate}
+use Rattle.serial_model.specs.declared.number.Number.{Number}
+use Rattle.serial_model.specs.declared.number.Change.{Change}
+use Rattle.serial_model.specs.declared.number.Commit.{Commit}
+use Rattle.serial_model.specs.declared.decl.Decl.TheVariants.{Array}
+use Rattle.wire_form.specs.declared.page_words.SlotState.TheVariants.{Owned, Published, Retired}
+use Rattle.wire_form.specs.Words.{clock_word, record_word, pair_word, slot_word}
+use Rattle.wire_form.specs.Bytes.{bytes_of_word}
+use Rattle.wire_form.specs.LogLine.{line_bytes}
+use Rattle.wire_form.specs.Pages.{catalogue_words}
+
+abbrev first_number : Number
+first_number = record { epoch = 1; draw = 1 }
+
+first_clock : clock_word (record { draws = 1; epoch = 1 }) ≡ 1099511627777
+first_clock = refl
+
+locked_record : record_word (record { number = Some first_number; lock = true; absent = false }) ≡ 1152922604118474753
+locked_record = refl
+
+both_halves : pair_word (record { page = 2; slot = Some 0; shut = false }) ≡ 4294967298
+both_halves = refl
+
+published_slot : slot_word (record { passes = 1; state = Published; times = 1 }) ≡ 0x60001
+published_slot = refl
+
+retired_slot : slot_word (record { passes = 1; state = Retired; times = 1 }) ≡ 0x70001
+retired_slot = refl
+
+owned_slot : slot_word (record { passes = 0; state = Owned; times = 2 }) ≡ 0x90000
+owned_slot = refl
+
+-- 1:1 puts 7 at key 2 of storage 1
+abbrev first_change : Change
+first_change = record { key = record { storage = 1; key = 2 }; value = Some 7 }
+
+abbrev first_commit : Commit
+first_commit = record { number = first_number; changes = first_change ∷ [] }
+
+worked_line : line_bytes first_commit
+    ≡ 0 ∷ 0 ∷ 1 ∷ 0 ∷ 0 ∷ 0 ∷ 0 ∷ 1 ∷ 0 ∷ 0 ∷ 0 ∷ 0 ∷ 0 ∷ 0 ∷ 0 ∷ 1 ∷ 0 ∷ 0 ∷ 0 ∷ 0 ∷ 0 ∷ 0 ∷ 1 ∷ 1 ∷ 0 ∷ 0 ∷ 0 ∷ 0 ∷ 0 ∷ 0 ∷ 0 ∷ 2 ∷ 0 ∷ 0 ∷ 0 ∷ 0 ∷ 0 ∷ 0 ∷ 0 ∷ 7 ∷ []
+unfolding bytes_of_word
+worked_line = refl
+
+-- the first catalogue of an array of 4 with id 1
+first_catalogue : catalogue_words (record { epoch = 0; previous = 0; storages = record { decl = Array 1 4; root = 0 } ∷ [] })
+    ≡ 0x4341540000000001 ∷ (replicate 15 0 ++ 257 ∷ 4 ∷ replicate 46 0)
+first_catalogue = refl

@@ -1,0 +1,24 @@
+use Rattle.std.proofs.Common.{◌<◌, refl, subst, arith}
+use Rattle.wire_form.specs.Pages.{IsTreeRecord, tree_record_words, record_key}
+use Rattle.wire_form.proofs.ItemLemmas.{refused, instead}
+use Rattle.wire_form.proofs.PageLemmas.{tree_leaf_forth, tree_leaf_back}
+use Rattle.wire_form.proofs.leaf.is_tree_leaf.Goals as goal
+use Rattle.wire_form.specs.Parts.{HasItems}
+
+pub returns-in_default : goal.returns-in_default
+returns-in_default c =
+    refused (λ p. absurd (c.in_default.ensures p.0 p.1 p.2)) (tree_leaf_forth c.args.low c.args.high c.args.words.now _ _ c.told-words c.split_at.ensures.front c.split_at.ensures.back)
+
+pub returns-then-not-is_head : goal.returns-then-not-is_head
+returns-then-not-is_head c =
+    refused (λ p. c.if-not-is_head.ensures.1 p.3) (tree_leaf_forth c.args.low c.args.high c.args.words.now _ _ c.told-words c.split_at.ensures.front c.split_at.ensures.back)
+
+pub returns : goal.returns
+returns c =
+    let head = c.split_at.result.0.now in
+    let body = c.split_at.result.1.now in
+    let n = c.in-Some.count in
+    instead _ c.has_tree_records.ensures
+    (λ p. let q = tree_leaf_forth c.args.low c.args.high c.args.words.now head body c.told-words c.split_at.ensures.front c.split_at.ensures.back p in
+    subst (λ k. HasItems (IsTreeRecord c.args.low c.args.high) tree_record_words record_key ◌<◌ k body) (omega (arith, q.2, c.in-Some.ensures.1)) q.4)
+    (λ q. tree_leaf_back c.args.low c.args.high c.args.words.now head body c.told-words c.split_at.ensures.front c.split_at.ensures.back (n, c.in-Some.ensures.0, c.in-Some.ensures.1, c.if-not-is_head.ensures.0 refl, q))

@@ -1,0 +1,115 @@
+-- The words. Each is the sum of its fields, every field times two to the power of the bit at which it begins; a bit that no field has is zero, since nothing is added there.
+use Rattle.std.specs.Prelude.{◌≡◌, ◌⊎◌, ℕ, ◌+◌, ◌-◌, ◌*◌, ◌^◌, ◌<◌, ◌≤◌, Bool, true, false, Option, Some, None, IfSome, IfNone}
+use Rattle.serial_model.specs.declared.number.Number.{Number}
+use Rattle.wire_form.specs.declared.clock.Clock.{Clock}
+use Rattle.wire_form.specs.declared.clock.Mark.{Mark}
+use Rattle.wire_form.specs.declared.record_word.RecordWord.{RecordWord}
+use Rattle.wire_form.specs.declared.page_words.Header.{Header}
+use Rattle.wire_form.specs.declared.page_words.Pair.{Pair}
+use Rattle.wire_form.specs.declared.page_words.SlotWord.{SlotWord}
+use Rattle.wire_form.specs.declared.page_words.SlotState.{SlotState}
+use Rattle.wire_form.specs.declared.page_words.SlotState.TheVariants.{Free, Owned, Published, Retired}
+
+-- a field that begins at a bit
+abbrev pub at_bit : ℕ → ℕ → ℕ
+at_bit from field = field * 2 ^ from
+
+-- a flag as a field of one bit
+abbrev pub flag : Bool → ℕ
+flag true = 1
+flag false = 0
+
+-- a value is the only one that has the word
+pub record IsSpelled {V : Type 0} (Is : V → Type 0) (word_of : V → ℕ) (word : ℕ) (v : V) : Type 0 where
+  pub valid : Is v
+  pub spells : word_of v ≡ word
+  pub only : (u : V) → Is u → word_of u ≡ word → u ≡ v
+
+-- what reading a word gives: the value that has it, and nothing only where no value has it
+abbrev pub ReadsWord : {V : Type 0} → (V → Type 0) → (V → ℕ) → ℕ → Option V → Type 0
+ReadsWord {V} Is word_of word result =
+    IfSome result (IsSpelled Is word_of word) × IfNone result ((v : V) → Is v → word_of v ≡ word → ⊥)
+
+-- ---- clock and mark
+
+pub record IsClock (c : Clock) : Type 0 where
+  pub draws : c.draws < 2 ^ 40
+  pub epoch : c.epoch < 2 ^ 20
+
+abbrev pub clock_word : Clock → ℕ
+clock_word c = at_bit 0 c.draws + at_bit 40 c.epoch
+
+pub record IsMark (m : Mark) : Type 0 where
+  pub length : m.length < 2 ^ 40
+  pub epoch : IfSome m.epoch (λ e. e < 2 ^ 20 - 1)
+
+-- the greatest epoch field says idle
+abbrev pub mark_epoch : Option ℕ → ℕ
+mark_epoch None = 2 ^ 20 - 1
+mark_epoch (Some e) = e
+
+abbrev pub mark_word : Mark → ℕ
+mark_word m = at_bit 0 m.length + at_bit 40 (mark_epoch m.epoch)
+
+-- ---- numbers and records
+
+-- a commit's number: the clock word that its draw found, neither at the first epoch field nor at the last
+pub record IsNumber (n : Number) : Type 0 where
+  pub draw : n.draw < 2 ^ 40
+  pub drawn : 1 ≤ n.draw
+  pub epoch : n.epoch < 2 ^ 20 - 1
+  pub begun : 1 ≤ n.epoch
+
+abbrev pub number_word : Number → ℕ
+number_word n = at_bit 0 n.draw + at_bit 40 n.epoch
+
+-- no number is 0
+abbrev pub number_field : Option Number → ℕ
+number_field None = 0
+number_field (Some n) = number_word n
+
+pub record IsRecord (r : RecordWord) : Type 0 where
+  pub number : IfSome r.number IsNumber
+
+abbrev pub record_word : RecordWord → ℕ
+record_word r = number_field r.number + at_bit 60 (flag r.lock) + at_bit 61 (flag r.absent)
+
+-- ---- the words of tree pages, pointers and slots
+
+-- a leaf of 0 to 16 records, or an interior page of 2 to 30 children, which is never moved
+abbrev pub IsLeafHeader : Header → Type 0
+IsLeafHeader h = (h.kind ≡ 1) × (h.count ≤ 16)
+
+abbrev pub IsInnerHeader : Header → Type 0
+IsInnerHeader h = (h.kind ≡ 2) × (2 ≤ h.count) × (h.count ≤ 30) × (h.moved ≡ false)
+
+pub record IsHeader (h : Header) : Type 0 where
+  pub kinds : IsLeafHeader h ⊎ IsInnerHeader h
+
+abbrev pub header_word : Header → ℕ
+header_word h = at_bit 0 h.count + at_bit 8 h.kind + at_bit 60 (flag h.lock) + at_bit 62 (flag h.moved)
+
+pub record IsPair (p : Pair) : Type 0 where
+  pub page : p.page ≤ 65536
+  pub slot : IfSome p.slot (λ s. s < 4096)
+
+-- a slot's number plus 1, or 0 for none
+abbrev pub slot_field : Option ℕ → ℕ
+slot_field None = 0
+slot_field (Some s) = s + 1
+
+abbrev pub pair_word : Pair → ℕ
+pair_word p = at_bit 0 p.page + at_bit 32 (slot_field p.slot) + at_bit 60 (flag p.shut)
+
+abbrev pub state_field : SlotState → ℕ
+state_field Free = 0
+state_field Owned = 1
+state_field Published = 2
+state_field Retired = 3
+
+pub record IsSlot (s : SlotWord) : Type 0 where
+  pub passes : s.passes < 2 ^ 16
+  pub times : s.times < 2 ^ 46
+
+abbrev pub slot_word : SlotWord → ℕ
+slot_word s = at_bit 0 s.passes + at_bit 16 (state_field s.state) + at_bit 18 s.times

@@ -1,6 +1,6 @@
 -- An attempt that was given up stays given up.
 use Rattle.std.proofs.Common.{◌≡◌, ℕ, false, not, eqb, inl, inr, List, [], ◌∷◌, ◌++◌, refl, sym, ap, ◌∙◌, subst, length, set, Option, Some, None}
-use Rattle.std.proofs.lemmas.Bool.{cond_both}
+use Rattle.std.proofs.lemmas.Bool.{cond_both, cond-false}
 use Rattle.std.specs.List.{Contains, slice_get, filter}
 use Rattle.std.specs.Option.{option_map_or}
 use Rattle.serial_model.specs.declared.key.Key.{Key}
@@ -22,6 +22,7 @@ use Rattle.commit_core.specs.CoreState.{CoreState}
 use Rattle.commit_core.specs.Event.{may_happen, with_moved, happened, next, run}
 use Rattle.commit_core.specs.Opening.{Grows}
 use Rattle.commit_core.specs.Sound.{IsSoundStory, IsSound}
+use Rattle.commit_core.specs.Sound.Locks.{AttemptStands}
 use Rattle.commit_core.proofs.Keys.{not_below_itself}
 use Rattle.commit_core.proofs.Lists.{at_in, at_push_new, at_set_same, at_set_other}
 use Rattle.commit_core.proofs.NumberLaws.{decided_other}
@@ -159,3 +160,49 @@ run_over [] c a sound given = given
 run_over (e ∷ events) c a sound given =
     run_over events (next c e) a (next_sound c e sound)
     (cond_both (may_happen c e) (happened c e) c (λ (x : CoreState). IsGivenUp x a) (λ _. happened_over c e.seat e.act (slice_get c.seats e.seat) a refl sound given) (λ _. given))
+
+-- ---- a check that fails
+
+-- the attempt in progress is not decided, and it is the seat's own
+own_tried : (h : List Attempt) (decided : List Number) (places : List Place) (put : List Key) (p : ℕ) (a : Attempt) (stage : Stage)
+    → AttemptStands h decided places put p stage → attempt_tried h stage ≡ Some a → (is_decided decided a.number ≡ false) × (a.seat ≡ p)
+own_tried h decided places put p a Idle stands e = cc
+own_tried h decided places put p a (Trying i) stands e =
+    let both : Some stands.0 ≡ Some a = sym stands.1.at ∙ e in
+    let same : stands.0 ≡ a = cc in
+    (ap (λ (x : Attempt). is_decided decided x.number) (sym same) ∙ stands.1.undecided, ap (λ (x : Attempt). x.seat) (sym same) ∙ stands.1.own)
+own_tried h decided places put p a Ended stands e = cc
+own_tried h decided places put p a (Decided i) stands e = cc
+
+ended_gives_up : (c : CoreState) (p : ℕ) (s : Seat) (a : Attempt) → IsSound c → slice_get c.seats p ≡ Some s → attempt_tried c.story.history s.stage ≡ Some a
+    → IsGivenUp (with_moved c p (moved c.story (settled (record s { stage = Ended })))) a
+ended_gives_up c p s a sound at tried =
+    let m = c.story in
+    let ended : Seat = record s { stage = Ended } in
+    let over : Seat = settled ended in
+    let own = own_tried m.history m.decided m.places s.put p a s.stage (sound.seats p s at).attempt_stands tried in
+    record {
+      drawn = tried_in m.history s.stage a tried;
+      undecided = own.0;
+      ended = λ q t there. elim (same_or_not p q) [
+        | inl mine ↦
+            let now : slice_get (set c.seats p over) q ≡ Some over = subst (λ (x : ℕ). slice_get (set c.seats p over) x ≡ Some over) (sym mine) (at_set_same c.seats p s over at) in
+            let both : Some over ≡ Some t = sym now ∙ there in
+            let same : over ≡ t = cc in
+            subst (λ (x : Seat). IsNotTried m.history a x.stage) same (settled_tried m.history a ended (λ e. cc))
+        | inr other ↦ λ e.
+            let was : slice_get c.seats q ≡ Some t = sym (at_set_other c.seats p q over other) ∙ there in
+            other (sym (own_tried m.history m.decided m.places t.put q a t.stage (sound.seats q t was).attempt_stands e).1 ∙ own.1)
+      ];
+    }
+
+pub check_gives_up : (c : CoreState) (p : ℕ) (s : Seat) (k : Key) (a : Attempt) → IsSound c → slice_get c.seats p ≡ Some s → attempt_tried c.story.history s.stage ≡ Some a
+    → stays_as_seen p (place_at c.story.places k) k a ≡ false → IsGivenUp (happened c (record { seat = p; act = Look k })) a
+check_gives_up c p s k a sound at tried fails =
+    let m = c.story in
+    let made : Moved = moved (record m { checks = m.checks ++ check_of a.number k ∷ [] }) s in
+    let ended : Moved = moved m (settled (record s { stage = Ended })) in
+    let comes : after_check p k m s (Some a) ≡ ended = cond-false (stays_as_seen p (place_at m.places k) k a) made ended fails in
+    subst (λ (o : Option Seat). IsGivenUp (option_map_or (λ t. with_moved c p (effect p m t (Look k))) o c) a) (sym at)
+    (subst (λ (o : Option Attempt). IsGivenUp (with_moved c p (after_check p k m s o)) a) (sym tried)
+    (subst (λ (n : Moved). IsGivenUp (with_moved c p n) a) (sym comes) (ended_gives_up c p s a sound at tried)))

@@ -10,7 +10,7 @@ use Rattle.commit_core.specs.declared.attempt.Attempt.{Attempt}
 use Rattle.commit_core.specs.declared.seat.Stage.{Stage}
 use Rattle.commit_core.specs.declared.seat.Stage.TheVariants.{Idle, Trying, Ended, Decided}
 use Rattle.commit_core.specs.Keys.{same_key, is_below, IsBelow, has_key, place_at, placed, content_of, content_at, written, writes_key}
-use Rattle.commit_core.specs.CoreState.{holder_is, is_decided}
+use Rattle.commit_core.specs.CoreState.{is_free, holder_is, is_decided}
 use Rattle.commit_core.specs.Serial.{state_below, last_write}
 use Rattle.commit_core.specs.Sound.Numbers.{OrderedNumbers}
 use Rattle.commit_core.specs.Sound.Locks.{IsDecided}
@@ -33,17 +33,17 @@ abbrev pub IsUnwritten : List Attempt → Number → Key → Type 0
 IsUnwritten h m k = (b : Attempt) → Contains h b → b.number ≡ m → writes_key b.writes k ≡ true → ⊥
 
 pub homes_decided : (opening : List Place) (h : List Attempt) (decided : List Number) (m : Number) (places : List Place)
-    → ((k : Key) (q : Place) → place_at places k ≡ Some q → q.holder ≡ None → IsUnwritten h m k)
+    → ((k : Key) (q : Place) → place_at places k ≡ Some q → is_free (Some q) ≡ true → IsUnwritten h m k)
     → UnlockedHomes opening h decided places → UnlockedHomes opening h (decided ++ m ∷ []) places
 homes_decided opening h decided m places apart homes = λ k q at free.
     homes k q at free ∙ sym (content_after-decided opening h decided m (λ _. true) k (λ b n e w _. apart k q at free b n e w))
 
 pub homes_placed : (opening : List Place) (h : List Attempt) (decided : List Number) (places : List Place) (new old : Place) → place_at places new.key ≡ Some old
-    → (new.holder ≡ None → new.content ≡ last_write opening h decided new.key)
+    → (is_free (Some new) ≡ true → new.content ≡ last_write opening h decided new.key)
     → UnlockedHomes opening h decided places → UnlockedHomes opening h decided (placed places new)
 homes_placed opening h decided places new old was right homes = λ k q at free.
     elim (placed_cases places new old k q was at) [
-      | inl here ↦ ap (λ (x : Place). x.content) (sym here.1) ∙ right (ap (λ (x : Place). x.holder) here.1 ∙ free) ∙ ap (λ (x : Key). last_write opening h decided x) here.0
+      | inl here ↦ ap (λ (x : Place). x.content) (sym here.1) ∙ right (ap (λ (x : Place). is_free (Some x)) here.1 ∙ free) ∙ ap (λ (x : Key). last_write opening h decided x) here.0
       | inr there ↦ homes k q there.1 free
     ]
 
@@ -192,10 +192,10 @@ held_put_other opening h decided put key k c (Decided i) other held = λ b at.
     )
 
 -- the value that was put, with the attempt's number, is the last write
-pub held_opens : (opening : List Place) (h : List Attempt) (decided : List Number) (t : Number) (put : List Key) (k : Key) (c : Content) (p i : ℕ) (a : Attempt)
-    → OrderedNumbers opening h decided t → IsDecided h decided put p i a → has_key put k ≡ true
+pub held_opens : (opening : List Place) (h : List Attempt) (decided : List Number) (t : Number) (places : List Place) (put : List Key) (k : Key) (c : Content) (p i : ℕ) (a : Attempt)
+    → OrderedNumbers opening h decided t → IsDecided h decided places put p i a → has_key put k ≡ true
     → HomeHeld opening h decided put k c (Decided i) → content_of a.number c.value ≡ last_write opening h decided k
-held_opens opening h decided t put k c p i a o d in_put held =
+held_opens opening h decided t places put k c p i a o d in_put held =
     let v = writes-written k a (d.written k in_put) in
     let was = held a d.at in
     let value : c.value ≡ v.0 = put_value (has_key put k) (written k a.writes) v.0 c (state_below opening h decided a.number k) in_put v.1 was.0 in

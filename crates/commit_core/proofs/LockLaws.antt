@@ -121,11 +121,11 @@ locks_given places new old p locks was open_now owns = record {
 
 -- ---- holders_are_seats
 
-pub holders_placed : (places : List Place) (new old : Place) (seats : ℕ) → place_at places new.key ≡ Some old → ((p : ℕ) → new.holder ≡ Some p → p < seats)
+pub holders_placed : (places : List Place) (new old : Place) (seats : ℕ) → place_at places new.key ≡ Some old → ((p : ℕ) → holder_is p new.holder ≡ true → p < seats)
     → HoldersAreSeats places seats → HoldersAreSeats (placed places new) seats
 holders_placed places new old seats was seat holders = λ k q p at e.
     elim (placed_cases places new old k q was at) [
-      | inl here ↦ seat p (ap (λ (x : Place). x.holder) here.1 ∙ e)
+      | inl here ↦ seat p (ap (λ (x : Place). holder_is p x.holder) here.1 ∙ e)
       | inr there ↦ holders k q p there.1 e
     ]
 
@@ -144,7 +144,7 @@ stands_drawn h decided places put p a (Trying i) stands =
     let t = stands.1 in (stands.0, record { at = at_push_old h i stands.0 a t.at; own = t.own; undecided = t.undecided; holds = t.holds })
 stands_drawn h decided places put p a Ended stands = tt
 stands_drawn h decided places put p a (Decided i) stands =
-    let t = stands.1 in (stands.0, record { at = at_push_old h i stands.0 a t.at; own = t.own; counts = t.counts; written = t.written })
+    let t = stands.1 in (stands.0, record { at = at_push_old h i stands.0 a t.at; own = t.own; counts = t.counts; written = t.written; holds = t.holds })
 
 -- another seat's attempt is decided
 pub stands_decided : (h : List Attempt) (decided : List Number) (places : List Place) (put : List Key) (p : ℕ) (a : Attempt) (stage : Stage) → IsAlone h a → (a.seat ≡ p → ⊥)
@@ -163,7 +163,7 @@ stands_decided h decided places put p a (Trying i) only other stands =
 stands_decided h decided places put p a Ended only other stands = tt
 stands_decided h decided places put p a (Decided i) only other stands =
     let b = stands.0 in let t = stands.1 in
-    (b, record { at = t.at; own = t.own; counts = decided_old decided a.number b.number t.counts; written = t.written })
+    (b, record { at = t.at; own = t.own; counts = decided_old decided a.number b.number t.counts; written = t.written; holds = t.holds })
 
 -- a place changes that the seat does not lose
 pub stands_placed : (h : List Attempt) (decided : List Number) (places : List Place) (put : List Key) (p : ℕ) (new old : Place) (stage : Stage) → place_at places new.key ≡ Some old
@@ -173,4 +173,6 @@ stands_placed h decided places put p new old Idle was keeps stands = tt
 stands_placed h decided places put p new old (Trying i) was keeps stands =
     let t = stands.1 in (stands.0, record { at = t.at; own = t.own; undecided = t.undecided; holds = λ k w. held-placed places new old p k was keeps (t.holds k w) })
 stands_placed h decided places put p new old Ended was keeps stands = tt
-stands_placed h decided places put p new old (Decided i) was keeps stands = stands
+stands_placed h decided places put p new old (Decided i) was keeps stands =
+    let t = stands.1 in
+    (stands.0, record { at = t.at; own = t.own; counts = t.counts; written = t.written; holds = λ k w n. held-placed places new old p k was keeps (t.holds k w n) })

@@ -11,12 +11,12 @@ use Rattle.commit_core.specs.declared.attempt.Attempt.{Attempt}
 use Rattle.commit_core.specs.declared.attempt.Check.{Check}
 use Rattle.commit_core.specs.declared.seat.Stage.{Stage}
 use Rattle.commit_core.specs.declared.seat.Stage.TheVariants.{Idle, Trying, Ended, Decided}
-use Rattle.commit_core.specs.Keys.{same_key, is_below, IsBelow, writes_key}
+use Rattle.commit_core.specs.Keys.{same_key, is_below, IsBelow, writes_key, covers}
 use Rattle.commit_core.specs.CoreState.{is_decided, is_checked, check_of, with_part}
 use Rattle.commit_core.specs.Serial.{state_below, last_write}
 use Rattle.commit_core.specs.Sound.Numbers.{OrderedNumbers, ChecksArePast}
 use Rattle.commit_core.specs.Sound.Reads.{ReadsStayTrue, NoLowerWriter, CommitsAreChecked, IsPast, PartsArePast, KeptIsPast}
-use Rattle.commit_core.proofs.Keys.{is_below-trans, not_below_itself, not_both_below}
+use Rattle.commit_core.proofs.Keys.{same_key-self, same_key-true, is_below-trans, not_below_itself, not_both_below}
 use Rattle.commit_core.proofs.Lists.{in_none, in_push_cases, in_filter, at_push_old, at_push_new}
 use Rattle.commit_core.proofs.NumberLaws.{decided_cases, checked_cases, checked_old}
 use Rattle.commit_core.proofs.VersionLaws.{IsAlone, content_after-drawn, content_after-decided, version_drawn, last_version, version_same, last_is_below}
@@ -44,12 +44,13 @@ reads_drawn opening h checks decided t a o e past reads = λ b m part n c.
     ]
 
 pub reads_decided : (opening : List Place) (h : List Attempt) (checks : List Check) (decided : List Number) (a : Attempt) → IsAlone h a
-    → ((n : Number) (k : Key) → is_checked checks n k ≡ true → IsBelow a.number n → writes_key a.writes k ≡ false)
+    → ((b : Attempt) → Contains h b → IsBelow a.number b.number → (part : Part) → Contains b.parts part → is_checked checks b.number part.key ≡ true
+    → (k : Key) → covers part k ≡ true → writes_key a.writes k ≡ false)
     → ReadsStayTrue opening h checks decided → ReadsStayTrue opening h checks (decided ++ a.number ∷ [])
 reads_decided opening h checks decided a only lower reads = λ b m part n c.
     reads b m part n c
     ∙ sym (content_after-decided opening h decided a.number (λ x. is_below x b.number) part.key
-    (λ x mx ex w l. true≢false (sym w ∙ ap (λ (y : Attempt). writes_key y.writes part.key) (only x mx ex) ∙ lower b.number part.key c l)))
+    (λ x mx ex w l. true≢false (sym w ∙ ap (λ (y : Attempt). writes_key y.writes part.key) (only x mx ex) ∙ lower b m l part n c part.key (same_key-self part.key))))
 
 pub reads_checked : (opening : List Place) (h : List Attempt) (checks : List Check) (decided : List Number) (a : Attempt) (k : Key) → IsAlone h a
     → ((part : Part) → Contains a.parts part → part.key ≡ k → part.content ≡ state_below opening h decided a.number part.key)
@@ -76,27 +77,34 @@ IsThere h (Trying i) = (b : Attempt) × (slice_get h i ≡ Some b)
 IsThere h Ended = ⊤
 IsThere h (Decided i) = (b : Attempt) × (slice_get h i ≡ Some b)
 
-pub writer_drawn : (h : List Attempt) (checks : List Check) (a : Attempt) (stage : Stage) → IsThere h stage → NoLowerWriter h checks stage → NoLowerWriter (h ++ a ∷ []) checks stage
-writer_drawn h checks a Idle there w = tt
-writer_drawn h checks a (Trying i) there w = λ b at. w b (there.1 ∙ ap (λ (x : Attempt). Some x) (same_at h a i there.0 b there.1 at))
-writer_drawn h checks a Ended there w = tt
-writer_drawn h checks a (Decided i) there w = tt
+-- no part of a new attempt is checked
+pub writer_drawn : (h : List Attempt) (checks : List Check) (t : Number) (a : Attempt) (stage : Stage) → a.number ≡ t → ChecksArePast checks t → IsThere h stage
+    → NoLowerWriter h checks stage → NoLowerWriter (h ++ a ∷ []) checks stage
+writer_drawn h checks t a Idle e past there w = tt
+writer_drawn h checks t a (Trying i) e past there w = λ b at x m l part n c k v.
+    elim (in_push_cases x a h m) [
+      | inl old ↦ w b (there.1 ∙ ap (λ (y : Attempt). Some y) (same_at h a i there.0 b there.1 at)) x old l part n c k v
+      | inr new ↦ absurd (not_below_itself x.number t (sym (ap (λ (y : Attempt). y.number) new) ∙ e) (past x.number part.key c))
+    ]
+writer_drawn h checks t a Ended e past there w = tt
+writer_drawn h checks t a (Decided i) e past there w = tt
 
 -- a new attempt has the greatest number
 pub writer_draws : (h : List Attempt) (checks : List Check) (t : Number) (a : Attempt) → a.number ≡ t → ChecksArePast checks t → NoLowerWriter (h ++ a ∷ []) checks (Trying (length h))
-writer_draws h checks t a e past = λ b at n k c l.
+writer_draws h checks t a e past = λ b at x m l part n c k v.
     let both : Some a ≡ Some b = sym (at_push_new h a) ∙ at in
     let same : a ≡ b = cc in
-    absurd (not_both_below n t (past n k c) (subst (λ (x : Number). IsBelow x n) (ap (λ (x : Attempt). x.number) (sym same) ∙ e) l))
+    absurd (not_both_below x.number t (past x.number part.key c) (subst (λ (y : Number). IsBelow y x.number) (ap (λ (y : Attempt). y.number) (sym same) ∙ e) l))
 
 pub writer_checked : (h : List Attempt) (checks : List Check) (n : Number) (k : Key) (stage : Stage)
     → ((i : ℕ) (b : Attempt) → stage ≡ Trying i → slice_get h i ≡ Some b → IsBelow b.number n → writes_key b.writes k ≡ false)
     → NoLowerWriter h checks stage → NoLowerWriter h (checks ++ check_of n k ∷ []) stage
 writer_checked h checks n k Idle apart w = tt
-writer_checked h checks n k (Trying i) apart w = λ b at m q c l.
-    elim (checked_cases checks n k m q c) [
-      | inl old ↦ w b at m q old l
-      | inr new ↦ subst (λ (x : Key). writes_key b.writes x ≡ false) new.1 (apart i b refl at (subst (λ (x : Number). IsBelow b.number x) (sym new.0) l))
+writer_checked h checks n k (Trying i) apart w = λ b at x m l part d c q v.
+    elim (checked_cases checks n k x.number part.key c) [
+      | inl old ↦ w b at x m l part d old q v
+      | inr new ↦
+          subst (λ (y : Key). writes_key b.writes y ≡ false) (new.1 ∙ same_key-true part.key q v) (apart i b refl at (subst (λ (y : Number). IsBelow b.number y) (sym new.0) l))
     ]
 writer_checked h checks n k Ended apart w = tt
 writer_checked h checks n k (Decided i) apart w = tt

@@ -12,7 +12,7 @@ use Rattle.commit_core.specs.declared.place.Part.{Part}
 use Rattle.commit_core.specs.declared.attempt.Attempt.{Attempt}
 use Rattle.commit_core.specs.declared.seat.Seat.{Seat}
 use Rattle.commit_core.specs.declared.story.Story.{Story}
-use Rattle.commit_core.specs.Keys.{same_key, is_below, place_at, first_number, nothing, content_at}
+use Rattle.commit_core.specs.Keys.{same_key, is_below, place_at, opening_number, nothing, content_at}
 use Rattle.commit_core.specs.CoreState.{holder_is, is_held_by, clock_of, is_decided}
 use Rattle.commit_core.specs.Serial.{after_writes, after_all, state_below, RisesFrom}
 use Rattle.commit_core.specs.Serial.{committed, ReadsFrom, ReadsAlong, IsSerialRun}
@@ -91,11 +91,11 @@ committed_serial opening m sound = record {
 
 -- ---- the start
 
-opening_number : (pairs : List (Key × ℕ)) (k : Key) → (content_at (opening_places pairs) k).number ≡ first_number
-opening_number [] k = refl
-opening_number (e ∷ pairs) k =
-    cond_both (same_key e.0 k) (Some (opening_place e)) (place_at (opening_places pairs) k) (λ (o : Option Place). (option_map_or (λ p. p.content) o nothing).number ≡ first_number)
-    (λ _. refl) (λ _. opening_number pairs k)
+opening_numbered : (pairs : List (Key × ℕ)) (k : Key) → (content_at (opening_places pairs) k).number ≡ opening_number
+opening_numbered [] k = refl
+opening_numbered (e ∷ pairs) k =
+    cond_both (same_key e.0 k) (Some (opening_place e)) (place_at (opening_places pairs) k) (λ (o : Option Place). (option_map_or (λ p. p.content) o nothing).number ≡ opening_number)
+    (λ _. refl) (λ _. opening_numbered pairs k)
 
 opening_free : (pairs : List (Key × ℕ)) (k : Key) (q : Place) → place_at (opening_places pairs) k ≡ Some q → q.holder ≡ None
 opening_free [] k q at = cc
@@ -131,7 +131,7 @@ pub opening_sound : (pairs : List (Key × ℕ)) (passes : ℕ) → IsSound (open
 opening_sound pairs passes = record {
   story = record {
     ordered_numbers = record {
-      opening_past = λ k. ap (λ (n : Number). is_below n (clock_of 1 [])) (opening_number pairs k);
+      opening_past = λ k. ap (λ (n : Number). is_below n (clock_of 1 [])) (opening_numbered pairs k);
       rising = λ k. tt;
       past = λ a m. absurd (in_none a m);
       decided_drawn = λ n d. absurd (true≢false (sym d));
@@ -144,5 +144,5 @@ opening_sound pairs passes = record {
     checks_are_past = λ n k c. absurd (true≢false (sym c));
   };
   seats = λ p s at. subst (λ (x : Seat). IsSoundSeat (opening_places pairs) (opening_story pairs) p x) (at_replicate passes p fresh_seat s at) (fresh_sound pairs p);
-  holders_are_seats = λ k q p at e. let free = opening_free pairs k q at in cc;
+  holders_are_seats = λ k q p at e. absurd (true≢false (sym e ∙ ap (holder_is p) (opening_free pairs k q at)));
 }

@@ -12,7 +12,7 @@ use Rattle.commit_core.specs.declared.seat.Stage.{Stage}
 use Rattle.commit_core.specs.declared.seat.Stage.TheVariants.{Idle, Trying, Ended, Decided}
 use Rattle.commit_core.specs.declared.seat.Seat.{Seat}
 use Rattle.commit_core.specs.declared.story.Story.{Story}
-use Rattle.commit_core.specs.Keys.{same_key, same_number, has_key, writes_key}
+use Rattle.commit_core.specs.Keys.{same_key, same_number, has_key, writes_key, is_part_at}
 
 -- what the places held at the start, what all seats share, and what each seat has
 pub record CoreState : Type 0 where
@@ -85,9 +85,9 @@ attempt_decided history (Trying i) = None
 attempt_decided history Ended = None
 attempt_decided history (Decided i) = slice_get history i
 
--- what is kept, with a part that replaces those at its key
+-- what is kept, with a part that replaces those that its key names
 abbrev pub with_part : List Part → Part → List Part
-with_part kept part = filter (λ q. not (same_key q.key part.key)) kept ++ part ∷ []
+with_part kept part = filter (λ q. not (is_part_at part.key q)) kept ++ part ∷ []
 
 -- the locks are exactly the keys of the writes
 abbrev pub same_keys : List Key → List Change → Bool

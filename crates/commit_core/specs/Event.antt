@@ -20,14 +20,14 @@ use Rattle.commit_core.specs.declared.seat.Stage.TheVariants.{Idle, Trying, Ende
 use Rattle.commit_core.specs.declared.seat.Seat.{Seat}
 use Rattle.commit_core.specs.declared.story.Story.{Story}
 use Rattle.commit_core.specs.CoreState.{CoreState}
-use Rattle.commit_core.specs.Keys.{same_key, same_number, has_key, place_at, placed, content_at, content_of, written, writes_key}
+use Rattle.commit_core.specs.Keys.{same_key, same_number, has_key, place_at, placed, content_at, content_of, written, writes_key, is_part_at}
 use Rattle.commit_core.specs.CoreState.{is_free, is_held_by, is_open_to, clock_of, is_checked, check_of, is_trying, can_begin, attempt_tried, attempt_decided, with_part, same_keys, last_epoch, settled}
 
 -- ---- conditions
 
 -- a part at the key that is not checked yet
 abbrev pub is_unchecked : List Check → Key → Attempt → Bool
-is_unchecked checks k a = list_any (λ part. same_key part.key k) a.parts && not (is_checked checks a.number k)
+is_unchecked checks k a = list_any (is_part_at k) a.parts && not (is_checked checks a.number k)
 
 abbrev pub all_checked : List Check → Attempt → Bool
 all_checked checks a = list_all (λ part. is_checked checks a.number part.key) a.parts
@@ -76,7 +76,7 @@ is_as_seen p place seen =
 
 -- each part of the attempt at the key, of which there is one, is as seen
 abbrev pub stays_as_seen : ℕ → Option Place → Key → Attempt → Bool
-stays_as_seen p place k a = list_all (λ part. not (same_key part.key k) || is_as_seen p place part.content) a.parts
+stays_as_seen p place k a = list_all (λ part. not (is_part_at k part) || is_as_seen p place part.content) a.parts
 
 abbrev pub locked : ℕ → Key → List Place → Option Place → List Place
 locked p k places None = places

@@ -7,6 +7,7 @@ use Rattle.serial_model.specs.declared.number.Number.{Number}
 use Rattle.serial_model.specs.declared.number.Change.{Change}
 use Rattle.commit_core.specs.declared.place.Content.{Content}
 use Rattle.commit_core.specs.declared.place.Place.{Place}
+use Rattle.commit_core.specs.declared.place.Part.{Part}
 
 abbrev pub same_key : Key → Key → Bool
 same_key a b = (a.storage == b.storage) && (a.key == b.key)
@@ -37,12 +38,12 @@ abbrev pub content_of : Number → Option ℕ → Content
 content_of n value = record { number = n; value = value }
 
 -- the number of what stands somewhere from the start
-abbrev pub first_number : Number
-first_number = record { epoch = 0; draw = 0 }
+abbrev pub opening_number : Number
+opening_number = record { epoch = 0; draw = 0 }
 
 -- what stands at a key that nobody wrote
 abbrev pub nothing : Content
-nothing = content_of first_number None
+nothing = content_of opening_number None
 
 -- what stands at a key
 abbrev pub content_at : List Place → Key → Content
@@ -54,3 +55,17 @@ written k writes = option_map (λ w. w.value) (find (λ w. same_key w.key k) wri
 
 abbrev pub writes_key : List Change → Key → Bool
 writes_key writes k = is_some (written k writes)
+
+-- ---- parts. Each is of one key: by it a see and a check name the part, and it is all that the part vouches for
+
+-- the part is the one that a see or a check of this key names
+abbrev pub is_part_at : Key → Part → Bool
+is_part_at k part = same_key part.key k
+
+-- the part vouches for what stands at this key
+abbrev pub covers : Part → Key → Bool
+covers part k = same_key part.key k
+
+-- the state has what the part vouches for
+abbrev pub Vouches : (Key → Content) → Part → Type 0
+Vouches state part = part.content ≡ state part.key

@@ -1,14 +1,16 @@
 -- What holds under every list of events.
-use Rattle.std.specs.Prelude.{◌≡◌, ℕ, ◌<◌, true, false, List, Contains, Some}
+use Rattle.std.specs.Prelude.{◌≡◌, ℕ, ◌<◌, true, false, List, Contains, Some, slice_get}
 use Rattle.serial_model.specs.declared.key.Key.{Key}
 use Rattle.commit_core.specs.declared.event.Event.{Event}
 use Rattle.commit_core.specs.declared.event.Act.{Act}
+use Rattle.commit_core.specs.declared.event.Act.TheVariants.{Check as Look}
 use Rattle.commit_core.specs.declared.attempt.Attempt.{Attempt}
 use Rattle.commit_core.specs.declared.place.Place.{Place}
 use Rattle.commit_core.specs.declared.seat.Seat.{Seat}
 use Rattle.commit_core.specs.declared.story.Story.{Story}
+use Rattle.commit_core.specs.Keys.{place_at}
 use Rattle.commit_core.specs.CoreState.{CoreState, is_decided, attempt_tried}
-use Rattle.commit_core.specs.Event.{Moved, is_allowed, effect, run}
+use Rattle.commit_core.specs.Event.{Moved, is_allowed, effect, stays_as_seen, may_happen, happened, run}
 use Rattle.commit_core.specs.Opening.{opening_core, Grows}
 use Rattle.commit_core.specs.Serial.{state_below, committed, ReadsFrom, IsSerialRun}
 use Rattle.commit_core.specs.Sound.{IsSoundStory, IsSoundSeat, EachSeat, IsSound}
@@ -44,6 +46,12 @@ pub record IsGivenUp (c : CoreState) (a : Attempt) : Type 0 where
   pub drawn : Contains c.story.history a
   pub undecided : is_decided c.story.decided a.number ≡ false
   pub ended : EachSeat c.seats (λ _ s. attempt_tried c.story.history s.stage ≡ Some a → ⊥)
+
+-- a check that finds a part not as it was read gives the attempt up
+abbrev pub FailedCheckGivesUp : Type 0
+FailedCheckGivesUp = (c : CoreState) (p : ℕ) (s : Seat) (k : Key) (a : Attempt) → IsSound c → slice_get c.seats p ≡ Some s
+    → attempt_tried c.story.history s.stage ≡ Some a → may_happen c (record { seat = p; act = Look k }) ≡ true
+    → stays_as_seen p (place_at c.story.places k) k a ≡ false → IsGivenUp (happened c (record { seat = p; act = Look k })) a
 
 -- it never counts, whatever happens
 abbrev pub StaysGivenUp : Type 0

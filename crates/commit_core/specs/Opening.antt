@@ -6,11 +6,11 @@ use Rattle.commit_core.specs.declared.seat.Stage.TheVariants.{Idle}
 use Rattle.commit_core.specs.declared.seat.Seat.{Seat}
 use Rattle.commit_core.specs.declared.story.Story.{Story}
 use Rattle.commit_core.specs.CoreState.{CoreState}
-use Rattle.commit_core.specs.Keys.{content_of, first_number}
+use Rattle.commit_core.specs.Keys.{content_of, opening_number}
 
 -- a key's value from the start
 abbrev pub opening_place : (Key × ℕ) → Place
-opening_place e = record { key = e.0; content = content_of first_number (Some e.1); holder = None }
+opening_place e = record { key = e.0; content = content_of opening_number (Some e.1); holder = None }
 
 abbrev pub opening_places : List (Key × ℕ) → List Place
 opening_places pairs = map opening_place pairs

@@ -1,5 +1,5 @@
 -- States below a number, and serial runs.
-use Rattle.std.specs.Prelude.{◌≡◌, ◌&&◌, Bool, true, List, [], ◌∷◌, filter, if◌then◌else◌, ⊤, Contains}
+use Rattle.std.specs.Prelude.{◌&&◌, Bool, true, List, [], ◌∷◌, filter, if◌then◌else◌, ⊤, Contains}
 use Rattle.std.specs.Option.{option_map_or}
 use Rattle.serial_model.specs.declared.key.Key.{Key}
 use Rattle.serial_model.specs.declared.number.Number.{Number}
@@ -8,7 +8,7 @@ use Rattle.commit_core.specs.declared.place.Place.{Place}
 use Rattle.commit_core.specs.declared.place.Part.{Part}
 use Rattle.commit_core.specs.declared.attempt.Attempt.{Attempt}
 use Rattle.commit_core.specs.declared.story.Story.{Story}
-use Rattle.commit_core.specs.Keys.{is_below, IsBelow, content_at, content_of, written}
+use Rattle.commit_core.specs.Keys.{is_below, IsBelow, content_at, content_of, written, Vouches}
 use Rattle.commit_core.specs.CoreState.{is_decided}
 
 -- what stands at the key after an attempt's writes
@@ -46,7 +46,7 @@ RisesFrom low (a ∷ more) = IsBelow low a.number × RisesFrom a.number more
 
 -- the attempt read exactly what the state has
 abbrev pub ReadsFrom : (Key → Content) → Attempt → Type 0
-ReadsFrom state a = (part : Part) → Contains a.parts part → part.content ≡ state part.key
+ReadsFrom state a = (part : Part) → Contains a.parts part → Vouches state part
 
 -- each read exactly what those before it leave, the first one from the state
 abbrev pub ReadsAlong : (Key → Content) → List Attempt → Type 0

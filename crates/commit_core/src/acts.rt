@@ -89,7 +89,8 @@ pub fn check(id: u32, story: &mut Story, seat: &mut Seat, key: Key) -> Answer
     let Some(place) = story.place(key) else {
         return Err(OrMemory::Fault(Refused));
     };
-    let Some(attempt) = story.attempt_tried(seat.stage) else {
+    let tried = story.attempt_tried(seat.stage);
+    let Some(attempt) = tried else {
         return Err(OrMemory::Fault(Refused));
     };
     let check = Check {

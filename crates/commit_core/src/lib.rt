@@ -13,7 +13,7 @@
 //! where a key's value stands.
 //! Layout: `Event` says what may happen and `Sound` what holds, both in specs/; proofs/ has one file for the laws of
 //! each part, one in proofs/Events for the acts that change the same fields, and `Runs`, the induction over lists.
-//! Design: docs/COMMIT_PROTOCOL.md.
+//! Design: docs/COMMIT.md.
 #![tactic(auto)]
 
 mod acts;

@@ -6,16 +6,16 @@ use Rattle.std.proofs.lemmas.List.{append-nil}
 use Rattle.std.proofs.lemmas.List.Sorted.{IsPermutation-refl}
 use Rattle.std.specs.FinMap.{empty}
 use Rattle.tx_script.specs.Output.{Output, Adds, Breaks}
-use Rattle.tx_script.specs.Printed.{breaks_as}
-use Rattle.tx_script.specs.Run.{Ran}
+use Rattle.tx_script.specs.Printed.{breaks_within}
+use Rattle.tx_script.specs.Run.{IsScriptRun, Ran}
 use Rattle.tx_script.specs.Text.{run_text}
 use Rattle.tx_script.specs.Script.{Bytes, Script, IsTextOf}
 use Rattle.tx_script.specs.declared.fault.ScriptFault.{ScriptFault}
 use Rattle.tx_script.specs.declared.fault.FaultKind.TheVariants.{Word}
 use Rattle.foedus.specs.declared.words.Command.TheVariants.{Run, Refused}
 use Rattle.foedus.specs.declared.ending.Ending.{Ending}
-use Rattle.foedus.specs.declared.ending.Ending.TheVariants.{Finished, NoScript, Usage, ReadFault, NoMemory}
-use Rattle.foedus.specs.Ending.{Comes, EndsRun, IsNoText, Reads, ReadsOut, fresh, most_read}
+use Rattle.foedus.specs.declared.ending.Ending.TheVariants.{Finished, NoScript, Usage, ReadFault, AtLimit, NoMemory}
+use Rattle.foedus.specs.Ending.{Comes, EndsRun, IsNoText, Reads, ReadsOut, fresh, last_line, most_read}
 use Rattle.foedus.specs.Main.{Adding, Breaking, Course, RunsScript}
 
 -- ---- nothing is run
@@ -73,28 +73,27 @@ no_script_course bytes front left fault consumed out none is = record {
 -- ---- a script is run
 
 -- before its first round
-pub nothing_yet : (script : Script) → RunsScript script NoMemory []
-nothing_yet script = record {
-  state = empty;
-  run = record {
-    lines = tt;
-    workers = λ worker. tt;
-    clocks = tt;
-    ordered = [];
-    same = IsPermutation-refl [];
-    serial = record { rising = tt; epochs = tt; answers = tt };
-    draws = tt;
-    after = refl;
-  };
-  commits = tt;
-  ends = tt;
+pub no_run : (script : Script) → IsScriptRun script empty 0 [] empty
+no_run script = record {
+  lines = tt;
+  workers = λ worker. tt;
+  clocks = tt;
+  ordered = [];
+  same = IsPermutation-refl [];
+  serial = record { rising = tt; epochs = tt; answers = tt };
+  draws = tt;
+  after = refl;
 }
+
+pub nothing_yet : (script : Script) → RunsScript script NoMemory []
+nothing_yet script = record { state = empty; run = no_run script; commits = tt; ends = tt }
 
 run_comes : (bytes : Bytes) (script : Script) (rans : List Ran) (ending : Ending) → EndsRun script rans ending → Comes Run bytes (Some script) rans ending
 run_comes bytes script rans Finished ends = ends
 run_comes bytes script rans (NoScript fault) ends = absurd ends
 run_comes bytes script rans Usage ends = absurd ends
 run_comes bytes script rans ReadFault ends = absurd ends
+run_comes bytes script rans (AtLimit name) ends = ends
 run_comes bytes script rans NoMemory ends = tt
 
 run_reads : (bytes : Bytes) (left : Option Bytes) (script : Script) (rans : List Ran) (ending : Ending) → EndsRun script rans ending → IsAtEnd left → Reads ending rans (Some bytes) left
@@ -102,6 +101,7 @@ run_reads bytes left script rans Finished ends end = inr end
 run_reads bytes left script rans (NoScript fault) ends end = absurd ends
 run_reads bytes left script rans Usage ends end = absurd ends
 run_reads bytes left script rans ReadFault ends end = absurd ends
+run_reads bytes left script rans (AtLimit name) ends end = inr end
 run_reads bytes left script rans NoMemory ends end = inr end
 
 script_course : (bytes : Bytes) (left : Option Bytes) (script : Script) (rans : List Ran) (ending : Ending) → IsTextOf bytes script → IsAtEnd left → RunsScript script ending rans → Course fresh Run bytes left rans ending
@@ -115,7 +115,7 @@ script_course bytes left script rans ending text end runs = record {
 
 -- the run of a script that was read out, and its text
 pub script_printed : {E : Type 0} (bytes : Bytes) (left : Option Bytes) (script : Script) (old new : Output) (r : Result Ending E) → IsTextOf bytes script × IsAtEnd left
-    → MatchResult r (λ ending. (rans : List Ran) × RunsScript script ending rans × Adds old new (run_text rans)) (λ _. (rans : List Ran) × RunsScript script Finished rans × Breaks old new (run_text rans))
+    → MatchResult r (λ ending. (rans : List Ran) × RunsScript script ending rans × Adds old new (run_text rans)) (λ _. (rans : List Ran) × RunsScript script NoMemory rans × Breaks old new (run_text rans))
     → MatchResult r (λ ending. Adding Run bytes left old new ending) (λ _. Breaking Run bytes left old new)
 script_printed bytes left script old new (Ok ending) read ran = record {
   rans = ran.0;
@@ -124,7 +124,7 @@ script_printed bytes left script old new (Ok ending) read ran = record {
 }
 script_printed bytes left script old new (Err e) read ran = record {
   rans = ran.0;
-  ending = Finished;
-  course = script_course bytes left script ran.0 Finished read.0 read.1 ran.1;
-  breaks = breaks_as (sym (append-nil (run_text ran.0))) ran.2;
+  ending = NoMemory;
+  course = script_course bytes left script ran.0 NoMemory read.0 read.1 ran.1;
+  breaks = breaks_within (last_line NoMemory) ran.2;
 }

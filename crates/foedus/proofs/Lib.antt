@@ -1,4 +1,7 @@
 pub mod Reading
 pub mod Courses
-pub mod OneRound
 pub mod Told
+pub mod FewOutcomes
+pub mod Passing
+pub mod RoundsJoined
+pub mod SoFar

@@ -10,7 +10,7 @@ use Rattle.tx_script.specs.Text.{run_text}
 use Rattle.foedus.specs.Words.{command_of}
 use Rattle.foedus.specs.declared.words.Command.{Command}
 use Rattle.foedus.specs.declared.ending.Ending.{Ending}
-use Rattle.foedus.specs.declared.ending.Ending.TheVariants.{Finished, NoScript, Usage, ReadFault, NoMemory}
+use Rattle.foedus.specs.declared.ending.Ending.TheVariants.{Finished, NoScript, Usage, ReadFault, AtLimit, NoMemory}
 use Rattle.foedus.specs.Ending.{fresh, last_line, output_text, status_of}
 use Rattle.foedus.specs.Main.{Adding, Answers, Breaking, Course, Holds, Prints, Stops}
 
@@ -67,6 +67,7 @@ holds_all Finished before after text appends = appends
 holds_all (NoScript fault) before after text appends = appends
 holds_all Usage before after text appends = appends
 holds_all ReadFault before after text appends = appends
+holds_all (AtLimit name) before after text appends = appends
 holds_all NoMemory before after text appends = appends
 
 pub answers_printed : {command : Command} {bytes : Bytes} {left before after : Option Bytes} {ending : Ending} (words : List Bytes) (status : ℕ) → command ≡ command_of words → status ≡ status_of ending → Prints command bytes left before after ending

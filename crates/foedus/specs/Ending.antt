@@ -1,5 +1,5 @@
 -- How a call ends: its status, its last line, and what has to hold.
-use Rattle.std.specs.Prelude.{◌≡◌, ◌⊎◌, ℕ, ◌≤◌, List, [], ◌∷◌, ◌++◌, length, codes, decimal, Option, Some, None, ⊤}
+use Rattle.std.specs.Prelude.{◌≡◌, ◌⊎◌, ℕ, ◌<◌, ◌≤◌, List, [], ◌∷◌, ◌++◌, length, codes, decimal, Option, Some, None, ⊤}
 use Rattle.std.specs.List.{AllByRecursion}
 use Rattle.std.specs.FinMap.{empty}
 use Rattle.std.specs.Io.KnownBytes.{Consumes, IsAtEnd}
@@ -13,7 +13,12 @@ use Rattle.tx_script.specs.declared.fault.FaultKind.TheVariants.{Word, Number, R
 use Rattle.foedus.specs.declared.words.Command.{Command}
 use Rattle.foedus.specs.declared.words.Command.TheVariants.{Run, Refused}
 use Rattle.foedus.specs.declared.ending.Ending.{Ending}
-use Rattle.foedus.specs.declared.ending.Ending.TheVariants.{Finished, NoScript, Usage, ReadFault, NoMemory}
+use Rattle.round_engine.specs.Limits.{last_epoch}
+use Rattle.round_engine.specs.declared.report.End.{End}
+use Rattle.round_engine.specs.declared.report.End.TheVariants.{Limit}
+use Rattle.round_engine.specs.declared.report.LimitName.{LimitName}
+use Rattle.round_engine.specs.declared.report.LimitName.TheVariants.{Draw, Epoch}
+use Rattle.foedus.specs.declared.ending.Ending.TheVariants.{Finished, NoScript, Usage, ReadFault, AtLimit, NoMemory}
 
 -- ---- what is told
 
@@ -22,6 +27,7 @@ status_of Finished = 0
 status_of (NoScript fault) = 1
 status_of Usage = 2
 status_of ReadFault = 3
+status_of (AtLimit name) = 7
 status_of NoMemory = 8
 
 abbrev pub kind_text : FaultKind → Bytes
@@ -36,12 +42,22 @@ kind_text Range = codes "Range"
 abbrev pub fault_text : ScriptFault → Bytes
 fault_text fault = codes "script " ++ decimal fault.line ++ codes " " ++ kind_text fault.kind ++ 10 ∷ []
 
+abbrev pub limit_text : LimitName → Bytes
+limit_text Epoch = codes "limit epoch" ++ 10 ∷ []
+limit_text Draw = codes "limit draw" ++ 10 ∷ []
+
+-- the ending of a run that a round ends
+abbrev pub ending_of : Option End → Option Ending
+ending_of None = None
+ending_of (Some (Limit name number)) = Some (AtLimit name)
+
 -- the last line, if the ending has one
 abbrev pub last_line : Ending → Bytes
 last_line Finished = []
 last_line (NoScript fault) = fault_text fault
 last_line Usage = codes "usage" ++ 10 ∷ []
 last_line ReadFault = codes "read" ++ 10 ∷ []
+last_line (AtLimit name) = limit_text name
 last_line NoMemory = codes "memory" ++ 10 ∷ []
 
 -- what a call prints, by what it ran and how it ended
@@ -71,9 +87,25 @@ abbrev pub IsWhole : Option Script → List Ran → Type 0
 IsWhole None rans = ⊥
 IsWhole (Some script) rans = length rans ≡ length script.rounds
 
--- the run of a script ends with all of its rounds, or for want of memory
+-- each round's join advanced the epoch
+abbrev pub AllJoined : List Ran → Type 0
+AllJoined = AllByRecursion (λ ran. ran.end.epoch < last_epoch)
+
+-- the last of the rounds was run in the last epoch
+abbrev pub EndsInLast : List Ran → Type 0
+EndsInLast [] = ⊥
+EndsInLast (ran ∷ []) = ran.end.epoch ≡ last_epoch
+EndsInLast (ran ∷ other ∷ rans) = EndsInLast (other ∷ rans)
+
+-- the limit that stops a run: its draws can't be used up by the lines of a script
+abbrev pub EndsAt : LimitName → List Ran → Type 0
+EndsAt Epoch rans = EndsInLast rans
+EndsAt Draw rans = ⊥
+
+-- the run of a script ends with all of its rounds, at a limit, or for want of memory
 abbrev pub EndsRun : Script → List Ran → Ending → Type 0
-EndsRun script rans Finished = length rans ≡ length script.rounds
+EndsRun script rans Finished = (length rans ≡ length script.rounds) × AllJoined rans
+EndsRun script rans (AtLimit name) = EndsAt name rans
 EndsRun script rans NoMemory = ⊤
 EndsRun script rans _ = ⊥
 
@@ -88,10 +120,11 @@ IsNoText bytes = (script : Script) → IsTextOf bytes script → ⊥
 abbrev pub Comes : Command → Bytes → Option Script → List Ran → Ending → Type 0
 Comes Refused bytes script rans Usage = script ≡ None
 Comes Refused bytes script rans _ = ⊥
-Comes Run bytes script rans Finished = IsWhole script rans
+Comes Run bytes script rans Finished = IsWhole script rans × AllJoined rans
 Comes Run bytes script rans (NoScript fault) = (script ≡ None) × IsNoText bytes × (fault ≡ record { line = 0; kind = Word })
 Comes Run bytes script rans Usage = ⊥
 Comes Run bytes script rans ReadFault = script ≡ None
+Comes Run bytes script rans (AtLimit name) = EndsAt name rans
 Comes Run bytes script rans NoMemory = ⊤
 
 -- ---- what is read

@@ -1,16 +1,20 @@
 -- The main theorem: what a call with these words over a source with these bytes answers and writes.
-use Rattle.std.specs.Prelude.{◌≡◌, ◌⊎◌, ℕ, List, Option, Some, MatchBool, ◌==◌}
+use Rattle.std.specs.Prelude.{◌≡◌, ◌⊎◌, ℕ, ◌+◌, ◌<◌, ◌≤◌, length, List, [], ◌∷◌, Option, Some, None, MatchBool, ◌==◌}
 use Rattle.std.specs.List.{AllByRecursion}
 use Rattle.std.specs.Io.KnownBytes.{Appends}
 use Rattle.outside.specs.Stream.{TakesPrefix}
 use Rattle.serial_model.specs.State.{State}
-use Rattle.tx_script.specs.Script.{Bytes, Script}
-use Rattle.tx_script.specs.Run.{Ran, CommitsAll, IsScriptRun}
-use Rattle.tx_script.specs.Text.{run_text}
+use Rattle.tx_script.specs.Script.{Bytes, Round, Script}
+use Rattle.tx_script.specs.Run.{Ran, CommitsAll, IsRun, IsScriptRun, joined}
+use Rattle.tx_script.specs.Text.{round_text, run_text}
 use Rattle.tx_script.specs.Output.{Output, Adds, Breaks}
+use Rattle.round_engine.specs.Limits.{last_epoch}
+use Rattle.round_engine.specs.declared.report.LimitName.TheVariants.{Epoch}
+use Rattle.round_engine.specs.declared.runtime.Runtime.{Runtime}
 use Rattle.foedus.specs.Words.{command_of}
 use Rattle.foedus.specs.declared.words.Command.{Command}
 use Rattle.foedus.specs.declared.ending.Ending.{Ending}
+use Rattle.foedus.specs.declared.ending.Ending.TheVariants.{AtLimit, NoMemory}
 use Rattle.foedus.specs.Ending.{Opening, Comes, EndsRun, Reads, RunsOf, fresh, output_text, status_of}
 
 -- What a command came to over a source with these bytes, of which `left` are left: what was run of which script, and an
@@ -43,6 +47,23 @@ pub record RunsScript (script : Script) (ending : Ending) (rans : List Ran) : Ty
   pub run : IsScriptRun script fresh.state fresh.saved rans state
   pub commits : AllByRecursion CommitsAll rans
   pub ends : EndsRun script rans ending
+
+-- what a round came to on a runtime
+pub record RanRound (round : Round) (old new : Runtime) (ran : Ran) : Type 0 where
+  pub decls : new.plain.decls ≡ old.plain.decls
+  pub run : (index : ℕ) → IsRun old.plain.decls index (round ∷ []) old.plain.state old.clock (ran ∷ []) new.plain.state
+  pub commits : CommitsAll ran
+  pub few_draws : new.clock.draw ≤ old.clock.draw + length round.lines
+
+-- The text of a round was added and its join advanced the epoch, which the last one refuses; or nothing was added for
+-- want of memory.
+abbrev pub Passes : Round → Runtime → Runtime → Output → Output → Option Ending → Type 0
+Passes round r s old new None =
+    (ran : Ran) × RanRound round r s ran × Adds old new (round_text ran) × (ran.end.epoch < last_epoch) × (s.clock ≡ joined ran.end)
+Passes round r s old new (Some (AtLimit Epoch)) =
+    (ran : Ran) × RanRound round r s ran × Adds old new (round_text ran) × (ran.end.epoch ≡ last_epoch)
+Passes round r s old new (Some NoMemory) = Adds old new []
+Passes round r s old new _ = ⊥
 
 -- a command came to this ending, and the text of what was run was added; the last line wasn't
 pub record Adding (command : Command) (bytes : Bytes) (left : Option Bytes) (old new : Output) (ending : Ending) : Type 0 where

@@ -1,9 +1,10 @@
 // How a call ends.
 ghost use Rattle.std.specs.Prelude.{◌≡◌};
 ghost use Rattle.tx_script.specs.Output.{Prints};
-ghost use Rattle.foedus.specs.Ending.{fault_text, kind_text, last_line, status_of};
+ghost use Rattle.foedus.specs.Ending.{fault_text, kind_text, last_line, limit_text, status_of};
 
 use outside::{Failed, Sink};
+use round_engine::LimitName;
 use tx_script::{Buffer, FaultKind, ScriptFault, put, put_number};
 
 /// How a call ends, unless the sink fails.
@@ -17,6 +18,8 @@ pub enum Ending {
     Usage,
     /// The source failed.
     ReadFault,
+    /// The clock's draws or its epochs are used up.
+    AtLimit(LimitName),
     /// A growth was refused.
     NoMemory,
 }
@@ -31,6 +34,7 @@ impl Ending {
             Ending::NoScript(_) => 1,
             Ending::Usage => 2,
             Ending::ReadFault => 3,
+            Ending::AtLimit(_) => 7,
             Ending::NoMemory => 8,
         }
     }
@@ -46,6 +50,7 @@ impl Ending {
             Ending::NoScript(fault) => put_fault(sink, buffer, *fault),
             Ending::Usage => put(sink, buffer, b"usage\n"),
             Ending::ReadFault => put(sink, buffer, b"read\n"),
+            Ending::AtLimit(name) => put(sink, buffer, limit_text(*name)),
             Ending::NoMemory => put(sink, buffer, b"memory\n"),
         }
     }
@@ -74,5 +79,14 @@ fn kind_text(kind: FaultKind) -> &'static [u8]
         FaultKind::Declared => b"Declared",
         FaultKind::Kind => b"Kind",
         FaultKind::Range => b"Range",
+    }
+}
+
+fn limit_text(name: LimitName) -> &'static [u8]
+    ensures { result.now ≡ limit_text name }
+{
+    match name {
+        LimitName::Epoch => b"limit epoch\n",
+        LimitName::Draw => b"limit draw\n",
     }
 }

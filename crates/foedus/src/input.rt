@@ -55,7 +55,6 @@ pub(crate) fn read_text<S: Source>(alloc: Global, source: &mut S) -> Result<Scri
         (λ script. IsTextOf bytes script × IsAtEnd (S.left source.new))
         (λ ending. Course fresh Command.Run bytes (S.left source.new) [] ending) }
     ensures rules { IfOk result IsScript }
-    ensures one_round { IfOk result (λ script. length script.rounds ≡ 1) }
     ensures unlike { IfErr result (λ ending. ending ≢ Ending.Usage) }
     ensures cause { result ≡ Err Ending.ReadFault → Rose (S.faults source.old) (S.faults source.new) }
     ensures later { S.faults source.old ≤ S.faults source.new }

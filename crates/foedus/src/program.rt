@@ -16,7 +16,7 @@ use tx_script::{Buffer, flush};
 
 /// Does what the words ask for, and answers the program's status: 0 where all was done, 1 where the
 /// bytes are no script, 2 where the words ask for nothing, 3 where the source failed, 4 where the sink
-/// failed and 8 for want of memory.
+/// failed, 7 where the epochs are used up and 8 for want of memory.
 pub fn top<R: Threads + Wait + Sync, S: Source, K: Sink, D: Disk + Send + Drop, G: Gate + Sync>(
     rt: &R,
     alloc: Global,
@@ -30,7 +30,7 @@ pub fn top<R: Threads + Wait + Sync, S: Source, K: Sink, D: Disk + Send + Drop, 
     ensures answer { (bytes : List ℕ) → S.left source.old ≡ Some bytes → Answers fresh (map (λ word. word.now) words.now)
         bytes (S.left source.new) (K.held sink.old) (K.held sink.new) result }
     // No other status comes, and each only for its cause.
-    ensures statuses { (result ≤ 4) ⊎ (result ≡ 8) }
+    ensures statuses { (result ≤ 4) ⊎ (result ≡ 7) ⊎ (result ≡ 8) }
     ensures usage { result ≡ 2 → command_of (map (λ word. word.now) words.now) ≡ Command.Refused }
     ensures read { result ≡ 3 → Rose (S.faults source.old) (S.faults source.new) }
     ensures write { result ≡ 4 → Rose (K.faults sink.old) (K.faults sink.new) }

@@ -1,24 +1,24 @@
 // Runs of a script, printed round by round.
-ghost use Rattle.std.specs.Prelude.{◌≡◌, ℕ, ◌≤◌, List, Some, Ok, length, MatchResult, IfOk};
-ghost use Rattle.std.specs.List.{AllByRecursion};
+ghost use Rattle.std.specs.Prelude.{◌≡◌, ℕ, ◌+◌, ◌≤◌, List, Some, Ok, length, MatchResult};
 ghost use Rattle.outside.specs.Faults.{HasCause, Rose};
 ghost use Rattle.tx_script.specs.Script.{IsScript};
-ghost use Rattle.tx_script.specs.Run.{Ran};
-ghost use Rattle.tx_script.specs.Text.{run_text, workers_text};
+ghost use Rattle.tx_script.specs.Run.{CanRun, Ran};
+ghost use Rattle.tx_script.specs.Text.{round_text, run_text};
 ghost use Rattle.tx_script.specs.Output.{Adds, Breaks};
-ghost use Rattle.foedus.specs.Ending.{TakesAtMost};
-ghost use Rattle.foedus.specs.Main.{Adding, Breaking, RunsScript};
+ghost use Rattle.foedus.specs.Ending.{TakesAtMost, ending_of};
+ghost use Rattle.foedus.specs.Main.{Adding, Breaking, Passes, RanRound, RunsScript};
+ghost use Rattle.round_engine.specs.Limits.{draw_limit, last_epoch};
 
 use crate::ending::Ending;
 use crate::input::read_text;
 use crate::words::Command;
 use outside::{Failed, Gate, Sink, Source};
-use round_engine::{Runtime, round};
-use serial_model::{Config, Memory, Number};
+use round_engine::{End, Runtime, round};
+use serial_model::{Config, Number};
 use std::alloc::Global;
 use std::sync::Wait;
 use std::thread::Threads;
-use tx_script::{Buffer, RoundOutcomes, Script, put_round};
+use tx_script::{Buffer, Round, Script, put_round};
 
 /// How often a line is tried, unless the words say otherwise.
 const TRIES: u32 = 1000;
@@ -72,41 +72,62 @@ fn run_script<R: Threads + Wait + Sync, K: Sink, G: Gate + Sync>(
     buffer: &mut Buffer,
     gate: &G,
 ) -> Result<Ending, Failed>
-    requires rules { IsScript script.now }
-    requires one_round { length script.now.rounds ≡ 1 }
+    requires { IsScript script.now }
     ensures { MatchResult result
         (λ ending. (rans : List Ran) × RunsScript script.now ending rans × Adds
         (record { faults = K.faults sink.old; held = K.held sink.old; waiting = buffer.old })
         (record { faults = K.faults sink.new; held = K.held sink.new; waiting = buffer.new }) (run_text rans))
-        (λ _. (rans : List Ran) × RunsScript script.now Ending.Finished rans × Breaks
+        (λ _. (rans : List Ran) × RunsScript script.now Ending.NoMemory rans × Breaks
         (record { faults = K.faults sink.old; held = K.held sink.old; waiting = buffer.old })
         (record { faults = K.faults sink.new; held = K.held sink.new; waiting = buffer.new }) (run_text rans)) }
 {
-    match run_rounds(rt, alloc, script, gate) {
-        Ok(outcomes) => {
-            put_round(sink, buffer, outcomes.as_slice())?;
-            Ok(Ending::Finished)
+    let Ok(mut runtime) = Runtime::new(alloc, script.decls(), CONFIG) else {
+        return Ok(Ending::NoMemory);
+    };
+    for index in 0..script.rounds() {
+        let lines = script.round(index);
+        let passed = run_round(rt, alloc, &mut runtime, &lines, sink, buffer, gate)?;
+        if let Some(ending) = passed {
+            return Ok(ending);
         }
-        Err(Memory) => Ok(Ending::NoMemory),
     }
+    Ok(Ending::Finished)
 }
 
-/// The outcomes of the script's round on an empty database.
-fn run_rounds<R: Threads + Wait + Sync, G: Gate + Sync>(
+/// Runs a round and its join, and adds the round's text. Some ending is that of the run.
+fn run_round<R: Threads + Wait + Sync, K: Sink, G: Gate + Sync>(
     rt: &R,
     alloc: Global,
-    script: &Script,
+    runtime: &mut Runtime,
+    lines: &Round<'_>,
+    sink: &mut K,
+    buffer: &mut Buffer,
     gate: &G,
-) -> Result<RoundOutcomes, Memory>
-    requires rules { IsScript script.now }
-    requires one_round { length script.now.rounds ≡ 1 }
-    ensures ran { IfOk result (λ outcomes. (rans : List Ran) × RunsScript script.now Ending.Finished rans
-        × (run_text rans ≡ workers_text outcomes)) }
-    ensures few_workers { IfOk result (λ outcomes. length outcomes ≤ 256) }
-    ensures few_lines { IfOk result (λ outcomes. AllByRecursion (λ os. length os ≤ 65536) outcomes) }
+) -> Result<Option<Ending>, Failed>
+    requires lines { CanRun runtime.old.plain.decls lines.now }
+    requires epoch { runtime.old.clock.epoch ≤ last_epoch }
+    requires draws { runtime.old.clock.draw + length lines.now.lines ≤ draw_limit }
+    ensures { MatchResult result
+        (λ passed. Passes lines.now runtime.old runtime.new
+        (record { faults = K.faults sink.old; held = K.held sink.old; waiting = buffer.old })
+        (record { faults = K.faults sink.new; held = K.held sink.new; waiting = buffer.new }) passed)
+        (λ _. (ran : Ran) × RanRound lines.now runtime.old runtime.new ran × Breaks
+        (record { faults = K.faults sink.old; held = K.held sink.old; waiting = buffer.old })
+        (record { faults = K.faults sink.new; held = K.held sink.new; waiting = buffer.new }) (round_text ran)) }
 {
-    let mut runtime = Runtime::new(alloc, script.decls(), CONFIG)?;
-    let first = script.round(0);
-    let report = round(rt, alloc, &mut runtime, &first, TRIES, gate)?;
-    Ok(report.outcomes)
+    let Ok(report) = round(rt, alloc, runtime, lines, TRIES, gate) else {
+        return Ok(Some(Ending::NoMemory));
+    };
+    put_round(sink, buffer, report.outcomes.as_slice())?;
+    Ok(ending_of(report.end))
+}
+
+/// The ending of a run that a round ends.
+fn ending_of(end: Option<End>) -> Option<Ending>
+    ensures { result ≡ ending_of end }
+{
+    match end {
+        None => None,
+        Some(End::Limit { name, .. }) => Some(Ending::AtLimit(name)),
+    }
 }

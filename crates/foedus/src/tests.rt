@@ -8,6 +8,11 @@ const ROW: &[u8] = b"array 1 4\n0 w 1 2 7; r 1 2\n0 r 1 0\n";
 
 const ROW_TEXT: &[u8] = b"0.0 ok 1:1 7\n0.1 ok 1:2 0\n";
 
+const JOINED: &[u8] = b"array 1 4\n0 w 1 0 1\njoin\n0 r 1 0\n";
+
+// A join advances the epoch by one, and the draws go on.
+const JOINED_TEXT: &[u8] = b"0.0 ok 1:1\n0.0 ok 2:2 1\n";
+
 fn fresh_vault(alloc: Global) -> Result<Vault<MemDisk>, Fail> {
     Ok(Vault {
         save: MemDisk::new(alloc, vec![in alloc; 0; 1024]?, Vec::new(alloc))?,
@@ -47,12 +52,13 @@ fn each_status_has_its_cause(rt: HostRuntime) -> Result<(), Fail> {
     let alloc = rt.alloc();
     let mut vault = fresh_vault(alloc)?;
     let no_script = b"script 0 Word\n";
-    let cases: [(&str, &[u8], u64, u64, u8, &[u8]); 8] = [
+    let cases: [(&str, &[u8], u64, u64, u8, &[u8]); 9] = [
         ("run", ROW, 9, 9, 0, ROW_TEXT),
         ("run", b"", 9, 9, 0, b""),
         ("walk", ROW, 9, 9, 2, b"usage\n"),
         ("run", b"array 1 4\n0  r 1 0\n", 9, 9, 1, no_script),
-        ("run", b"array 1 4\njoin\n", 9, 9, 1, no_script),
+        ("run", JOINED, 9, 9, 0, JOINED_TEXT),
+        ("run", b"array 1 4\njoin\n\njoin", 9, 9, 0, b""),
         ("run", ROW, 0, 9, 3, b"read\n"),
         ("run", ROW, 1, 9, 3, b"read\n"),
         ("run", ROW, 9, 0, 4, b"0.0 ok 1:1 7\n"),

@@ -130,3 +130,22 @@ pub workers_draw : (decls : List Decl) (lines : List (List (List Op))) (p : Plac
 workers_draw decls [] p = refl
 workers_draw decls (mine ∷ more) p =
     draws_to-append (outcomes_at decls mine p) _ p.clock.draw (place_after_all decls mine p).clock.draw _ (lines_draw decls mine p) (workers_draw decls more (place_after_all decls mine p))
+
+-- a line draws at most once
+line_draws-le : (decls : List Decl) (ops : List Op) (p : Place) (b : Bool) → (cond b (record { state = (step decls p.state ops).state; clock = next_number p.clock }) p).clock.draw ≤ p.clock.draw + 1
+line_draws-le decls ops p true = omega arith
+line_draws-le decls ops p false = omega arith
+
+lines_draw-le : (decls : List Decl) (lines : List (List Op)) (p : Place) → (place_after_all decls lines p).clock.draw ≤ p.clock.draw + length lines
+lines_draw-le decls [] p = omega arith
+lines_draw-le decls (ops ∷ lines) p =
+    let one : (place_after decls p ops).clock.draw ≤ p.clock.draw + 1 = line_draws-le decls ops p (ltb p.clock.draw draw_limit) in
+    let rest = lines_draw-le decls lines (place_after decls p ops) in
+    omega arith
+
+pub workers_draw-le : (decls : List Decl) (lines : List (List (List Op))) (p : Place) → (place_after_workers decls lines p).clock.draw ≤ p.clock.draw + total lines
+workers_draw-le decls [] p = omega arith
+workers_draw-le decls (mine ∷ more) p =
+    let one = lines_draw-le decls mine p in
+    let rest = workers_draw-le decls more (place_after_all decls mine p) in
+    omega arith

@@ -7,10 +7,14 @@ use Rattle.serial_model.specs.declared.number.Number.{Number}
 abbrev pub draw_limit : ℕ
 draw_limit = 2 ^ 40 - 64
 
+-- the last epoch
+abbrev pub last_epoch : ℕ
+last_epoch = 2 ^ 20 - 2
+
 -- a commit number
 pub record IsNumber (n : Number) : Type 0 where
   pub some_epoch : 1 ≤ n.epoch
-  pub last_epoch : n.epoch ≤ 2 ^ 20 - 2
+  pub most_epoch : n.epoch ≤ last_epoch
   pub some_draw : 1 ≤ n.draw
   pub last_draw : n.draw < 2 ^ 40
 

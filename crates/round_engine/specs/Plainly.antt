@@ -10,11 +10,11 @@ use Rattle.serial_model.specs.declared.number.Number.{Number}
 use Rattle.tx_script.specs.declared.outcome.Outcome.{Outcome}
 use Rattle.tx_script.specs.declared.outcome.Outcome.TheVariants.{Committed, Limit}
 use Rattle.tx_script.specs.Run.{Ran}
-use Rattle.round_engine.specs.Limits.{draw_limit}
+use Rattle.round_engine.specs.Limits.{draw_limit, last_epoch}
 use Rattle.round_engine.specs.declared.report.Report.{Report}
 use Rattle.round_engine.specs.declared.report.End.{End}
 use Rattle.round_engine.specs.declared.report.End.TheVariants as ends
-use Rattle.round_engine.specs.declared.report.LimitName.TheVariants.{Draw}
+use Rattle.round_engine.specs.declared.report.LimitName.TheVariants.{Draw, Epoch}
 use Rattle.round_engine.specs.declared.runtime.Runtime.{Runtime}
 
 -- the number after this one
@@ -64,9 +64,15 @@ abbrev pub is_limit : Outcome → Bool
 is_limit Limit = true
 is_limit _ = false
 
--- the run ends where a line was refused a number
-abbrev pub end_of : List (List Outcome) → ℕ → Option End
-end_of outcomes draws = if list_any (list_any is_limit) outcomes then Some (ends.Limit Draw draws) else None
+-- the epoch after a join, which the last epoch refuses
+abbrev pub epoch_after : ℕ → ℕ
+epoch_after epoch = if nat_lt epoch last_epoch then epoch + 1 else epoch
+
+-- the run ends where the join can't advance the epoch, and where a line was refused a number
+abbrev pub end_of : List (List Outcome) → ℕ → ℕ → Option End
+end_of outcomes draws epoch = if nat_lt epoch last_epoch
+    then (if list_any (list_any is_limit) outcomes then Some (ends.Limit Draw draws) else None)
+    else Some (ends.Limit Epoch epoch)
 
 -- each number is the one after the last
 abbrev pub AreConsecutive : Number → List Entry → Type 0
@@ -80,11 +86,10 @@ DrawsTo n (Committed verdict number replies ∷ outcomes) m = (n < draw_limit) �
 DrawsTo n (Limit ∷ outcomes) m = (draw_limit ≤ n) × DrawsTo n outcomes m
 DrawsTo n (_ ∷ outcomes) m = ⊥
 
--- what came of a round, by the clock before it, the draws after it and its report
+-- what came of a round's lines, by the clock before them and the draws after them
+abbrev pub ran_with : Number → ℕ → List (List Outcome) → Ran
+ran_with begin draw outcomes = record { begin = begin; end = record begin { draw = draw }; outcomes = outcomes; durable = None }
+
+-- the same of a whole round, by its report
 abbrev pub ran_of : Number → ℕ → Report → Ran
-ran_of begin draw report = record {
-  begin = begin;
-  end = record begin { draw = draw };
-  outcomes = report.outcomes;
-  durable = report.durable;
-}
+ran_of begin draw report = record (ran_with begin draw report.outcomes) { durable = report.durable }

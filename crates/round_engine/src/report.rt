@@ -5,6 +5,8 @@ use tx_script::RoundOutcomes;
 /// A limit of the engine.
 #[derive(Clone, Copy, Debug, PartialEq, Eq)]
 pub enum LimitName {
+    /// The epoch can't be advanced: it is the last one.
+    Epoch,
     /// The clock gives no further numbers.
     Draw,
 }

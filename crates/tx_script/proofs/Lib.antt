@@ -1,4 +1,5 @@
 pub mod FlatLines
+pub mod FlatRounds
 pub mod Digits
 pub mod MoreOps
 pub mod Steps

@@ -7,7 +7,7 @@ use Rattle.serial_model.specs.declared.key.Key.{Key}
 use Rattle.serial_model.specs.declared.op.Op.{Op}
 use Rattle.serial_model.specs.declared.op.Op.TheVariants.{Read, Write, Remove, Add, Take, Scan}
 use Rattle.tx_script.specs.Script.{Bytes, key_text, op_text, more_ops_text, ops_text}
-use Rattle.tx_script.specs.Reading.{◌>>=◌, Front, char_at, byte_at, next_number_at, next_key_at, read_at, write_at, op_at, next_op_at, more_ops_at, ops_at}
+use Rattle.tx_script.specs.Reading.{◌>>=◌, Front, char_at, byte_at, next_number_at, next_key_at, read_at, change_at, op_at, next_op_at, more_ops_at, ops_at}
 use Rattle.tx_script.proofs.Digits.{EndsDigits}
 use Rattle.tx_script.proofs.Numbers.{bind_some, some_same, byte_takes, byte_again, char_takes, char_again, next_number_takes, next_number_again}
 
@@ -21,8 +21,8 @@ abbrev pub IsSpelled : Op → Type 0
 IsSpelled (Read k) = IsKey k
 IsSpelled (Write k v) = IsKey k × (v < 2 ^ 64)
 IsSpelled (Remove k) = ⊥
-IsSpelled (Add k v) = ⊥
-IsSpelled (Take k v) = ⊥
+IsSpelled (Add k v) = IsKey k × (v < 2 ^ 64)
+IsSpelled (Take k v) = IsKey k × (v < 2 ^ 64)
 IsSpelled (Scan storage low high) = ⊥
 
 -- ---- keys
@@ -68,50 +68,75 @@ read_takes bs op rest e =
     subst (λ (x : Front Op). (114 ∷ bs ≡ op_text x.0 ++ x.1) × IsSpelled x.0) (some_same (Read a.0.0, a.0.1) (op, rest) a.2)
     (ap (λ (r : Bytes). 114 ∷ r) t.0, t.1)
 
--- a write's text, grouped from the right
-write_text-append : (k : Key) (v : ℕ) (rest : Bytes) → op_text (Write k v) ++ rest ≡ 119 ∷ 32 ∷ (key_text k ++ (32 ∷ (decimal v ++ rest)))
-write_text-append k v rest =
-    ap (λ (r : Bytes). 119 ∷ 32 ∷ r) (append_assoc (key_text k ++ (32 ∷ [])) (decimal v) rest ∙ append_assoc (key_text k) (32 ∷ []) (decimal v ++ rest))
+-- the text of an operation with a value, grouped from the right
+change_text-append : (letter : ℕ) (k : Key) (v : ℕ) (rest : Bytes)
+    → ((((letter ∷ 32 ∷ []) ++ key_text k) ++ (32 ∷ [])) ++ decimal v) ++ rest ≡ letter ∷ 32 ∷ (key_text k ++ (32 ∷ (decimal v ++ rest)))
+change_text-append letter k v rest =
+    ap (λ (r : Bytes). letter ∷ 32 ∷ r) (append_assoc (key_text k ++ (32 ∷ [])) (decimal v) rest ∙ append_assoc (key_text k) (32 ∷ []) (decimal v ++ rest))
 
--- a write that is read is spelled so
-write_takes : (bs : Bytes) (op : Op) (rest : Bytes) → write_at bs ≡ Some (op, rest) → (119 ∷ bs ≡ op_text op ++ rest) × IsSpelled op
-unfolding write_at
-write_takes bs op rest e =
-    let a = bind_some (next_key_at bs) (λ k. next_number_at k.1 >>= λ v. Some (Write k.0 v.0, v.1)) (op, rest) e in
-    let b = bind_some (next_number_at a.0.1) (λ v. Some (Write a.0.0 v.0, v.1)) (op, rest) a.2 in
+-- an operation with a value that has a spelling, behind its letter
+record IsChange (letter : ℕ) (make : Key → ℕ → Op) : Type 0 where
+  text : (k : Key) (v : ℕ) → op_text (make k v) ≡ ((((letter ∷ 32 ∷ []) ++ key_text k) ++ (32 ∷ [])) ++ decimal v)
+  spelled : (k : Key) (v : ℕ) → IsKey k → v < 2 ^ 64 → IsSpelled (make k v)
+
+writes : IsChange 119 (λ k v. Write k v)
+writes = record { text = λ k v. refl; spelled = λ k v is lt. (is, lt) }
+
+adds : IsChange 97 (λ k v. Add k v)
+adds = record { text = λ k v. refl; spelled = λ k v is lt. (is, lt) }
+
+takes : IsChange 116 (λ k v. Take k v)
+takes = record { text = λ k v. refl; spelled = λ k v is lt. (is, lt) }
+
+-- an operation with a value that is read is spelled so
+change_takes : (letter : ℕ) (make : Key → ℕ → Op) (bs : Bytes) (op : Op) (rest : Bytes) → IsChange letter make → change_at make bs ≡ Some (op, rest)
+    → (letter ∷ bs ≡ op_text op ++ rest) × IsSpelled op
+unfolding change_at
+change_takes letter make bs op rest is e =
+    let a = bind_some (next_key_at bs) (λ k. next_number_at k.1 >>= λ v. Some (make k.0 v.0, v.1)) (op, rest) e in
+    let b = bind_some (next_number_at a.0.1) (λ v. Some (make a.0.0 v.0, v.1)) (op, rest) a.2 in
     let t0 = next_key_takes bs a.0.0 a.0.1 a.1 in
     let t1 = next_number_takes a.0.1 b.0.0 b.0.1 b.1 in
-    let whole : 119 ∷ bs ≡ op_text (Write a.0.0 b.0.0) ++ b.0.1 =
-    ap (λ (r : Bytes). 119 ∷ r) (t0.0 ∙ ap (λ (r : Bytes). 32 ∷ (key_text a.0.0 ++ r)) t1.0) ∙ sym (write_text-append a.0.0 b.0.0 b.0.1) in
-    subst (λ (x : Front Op). (119 ∷ bs ≡ op_text x.0 ++ x.1) × IsSpelled x.0) (some_same (Write a.0.0 b.0.0, b.0.1) (op, rest) b.2) (whole, (t0.1, t1.1))
+    let whole : letter ∷ bs ≡ op_text (make a.0.0 b.0.0) ++ b.0.1 =
+    ap (λ (r : Bytes). letter ∷ r) (t0.0 ∙ ap (λ (r : Bytes). 32 ∷ (key_text a.0.0 ++ r)) t1.0)
+    ∙ sym (change_text-append letter a.0.0 b.0.0 b.0.1) ∙ ap (λ (r : Bytes). r ++ b.0.1) (sym (is.text a.0.0 b.0.0)) in
+    subst (λ (x : Front Op). (letter ∷ bs ≡ op_text x.0 ++ x.1) × IsSpelled x.0) (some_same (make a.0.0 b.0.0, b.0.1) (op, rest) b.2)
+    (whole, is.spelled a.0.0 b.0.0 t0.1 t1.1)
+
+-- a spelled operation with a value is read again
+change_again : (make : Key → ℕ → Op) (k : Key) (v : ℕ) (rest : Bytes) → IsKey k → v < 2 ^ 64 → EndsDigits rest
+    → change_at make (32 ∷ (key_text k ++ (32 ∷ (decimal v ++ rest)))) ≡ Some (make k v, rest)
+unfolding change_at
+change_again make k v rest is lt ends = rw (next_key_again k (32 ∷ (decimal v ++ rest)) is refl, next_number_again v rest lt ends) refl
+
+-- the same letter
+with_letter : (b letter : ℕ) (bs : Bytes) (op : Op) (rest : Bytes) → eqb b letter ≡ true → (letter ∷ bs ≡ op_text op ++ rest) × IsSpelled op → (b ∷ bs ≡ op_text op ++ rest) × IsSpelled op
+with_letter b letter bs op rest e t = (ap (λ (c : ℕ). c ∷ bs) (eqb-true b letter e) ∙ t.0, t.1)
 
 -- by the first letter
-op_by_letter : (b : ℕ) (bs : Bytes) (op : Op) (rest : Bytes) (is_read is_write : Bool) → eqb b 114 ≡ is_read → eqb b 119 ≡ is_write
-    → cond is_read (read_at bs) (cond is_write (write_at bs) None) ≡ Some (op, rest) → (b ∷ bs ≡ op_text op ++ rest) × IsSpelled op
-op_by_letter b bs op rest true is_write e f found =
-    let t = read_takes bs op rest found in
-    (ap (λ (c : ℕ). c ∷ bs) (eqb-true b 114 e) ∙ t.0, t.1)
-op_by_letter b bs op rest false true e f found =
-    let t = write_takes bs op rest found in
-    (ap (λ (c : ℕ). c ∷ bs) (eqb-true b 119 f) ∙ t.0, t.1)
-op_by_letter b bs op rest false false e f found = absurd cc
+op_by_letter : (b : ℕ) (bs : Bytes) (op : Op) (rest : Bytes) (is_read is_write is_add is_take : Bool) → eqb b 114 ≡ is_read → eqb b 119 ≡ is_write → eqb b 97 ≡ is_add → eqb b 116 ≡ is_take
+    → cond is_read (read_at bs) (cond is_write (change_at (λ k v. Write k v) bs) (cond is_add (change_at (λ k v. Add k v) bs) (cond is_take (change_at (λ k v. Take k v) bs) None))) ≡ Some (op, rest)
+    → (b ∷ bs ≡ op_text op ++ rest) × IsSpelled op
+op_by_letter b bs op rest true is_write is_add is_take e f g h found = with_letter b 114 bs op rest e (read_takes bs op rest found)
+op_by_letter b bs op rest false true is_add is_take e f g h found = with_letter b 119 bs op rest f (change_takes 119 (λ k v. Write k v) bs op rest writes found)
+op_by_letter b bs op rest false false true is_take e f g h found = with_letter b 97 bs op rest g (change_takes 97 (λ k v. Add k v) bs op rest adds found)
+op_by_letter b bs op rest false false false true e f g h found = with_letter b 116 bs op rest h (change_takes 116 (λ k v. Take k v) bs op rest takes found)
+op_by_letter b bs op rest false false false false e f g h found = absurd cc
 
 -- an operation that is read is spelled so
 pub op_takes : (bs : Bytes) (op : Op) (rest : Bytes) → op_at bs ≡ Some (op, rest) → (bs ≡ op_text op ++ rest) × IsSpelled op
 unfolding op_at
 op_takes [] op rest e = absurd cc
-op_takes (b ∷ bs) op rest e = op_by_letter b bs op rest (eqb b 114) (eqb b 119) refl refl e
+op_takes (b ∷ bs) op rest e = op_by_letter b bs op rest (eqb b 114) (eqb b 119) (eqb b 97) (eqb b 116) refl refl refl refl e
 
 -- a spelled operation is read again
 pub op_again : (op : Op) (rest : Bytes) → IsSpelled op → EndsDigits rest → op_at (op_text op ++ rest) ≡ Some (op, rest)
-unfolding op_at read_at write_at
+unfolding op_at read_at
 op_again (Read k) rest is ends = rw (next_key_again k rest is ends) refl
-op_again (Write k v) rest is ends =
-    ap op_at (write_text-append k v rest)
-    ∙ rw (next_key_again k (32 ∷ (decimal v ++ rest)) is.0 refl, next_number_again v rest is.1 ends) refl
+op_again (Write k v) rest is ends = ap op_at (change_text-append 119 k v rest) ∙ change_again (λ k v. Write k v) k v rest is.0 is.1 ends
+op_again (Add k v) rest is ends = ap op_at (change_text-append 97 k v rest) ∙ change_again (λ k v. Add k v) k v rest is.0 is.1 ends
+op_again (Take k v) rest is ends = ap op_at (change_text-append 116 k v rest) ∙ change_again (λ k v. Take k v) k v rest is.0 is.1 ends
 op_again (Remove k) rest is ends = absurd is
-op_again (Add k v) rest is ends = absurd is
-op_again (Take k v) rest is ends = absurd is
 op_again (Scan storage low high) rest is ends = absurd is
 
 -- ---- operations up to the end

@@ -52,6 +52,5 @@ is_text = record {
   rest = record { worker = 0; ops = Write (at 1 2) 7 ∷ Read (at 1 2) ∷ [] } ∷ record { worker = 0; ops = Read (at 1 0) ∷ [] } ∷ [];
   rounds = refl;
   lines = refl;
-  no_join = refl;
   rules = script_by_rules;
 }

@@ -70,8 +70,8 @@ op_spelled : (decls : List Decl) (op : Op) → AllByRecursion IsDecl decls → I
 op_spelled decls (Read k) all is = has_key_below decls k all is.fitting
 op_spelled decls (Write k v) all is = (has_key_below decls k all is.fitting, is.value)
 op_spelled decls (Remove k) all is = absurd is.value
-op_spelled decls (Add k v) all is = absurd is.value
-op_spelled decls (Take k v) all is = absurd is.value
+op_spelled decls (Add k v) all is = (has_key_below decls k all is.fitting, is.value)
+op_spelled decls (Take k v) all is = (has_key_below decls k all is.fitting, is.value)
 op_spelled decls (Scan storage low high) all is = absurd is.value
 
 -- the same of all operations
@@ -100,8 +100,8 @@ op_by_rules : (decls : List Decl) (op : Op) → IsSpelled op → fits decls op �
 op_by_rules decls (Read k) is e = record { fitting = e; value = tt }
 op_by_rules decls (Write k v) is e = record { fitting = e; value = is.1 }
 op_by_rules decls (Remove k) is e = absurd is
-op_by_rules decls (Add k v) is e = absurd is
-op_by_rules decls (Take k v) is e = absurd is
+op_by_rules decls (Add k v) is e = record { fitting = e; value = is.1 }
+op_by_rules decls (Take k v) is e = record { fitting = e; value = is.1 }
 op_by_rules decls (Scan storage low high) is e = absurd is
 
 -- the same of all operations

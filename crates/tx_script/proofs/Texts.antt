@@ -1,15 +1,16 @@
 -- The two laws of the reader: what is read has the text that was read, and what has that text is read.
-use Rattle.std.proofs.Common.{◌≡◌, ◌<◌, ltb, List, [], ◌∷◌, ◌++◌, length, Bool, true, false, cond, Option, Some, None, refl, sym, ap, subst, ◌∙◌, arith, map}
+use Rattle.std.proofs.Common.{◌≡◌, ◌<◌, ◌≤◌, ltb, List, [], ◌∷◌, ◌++◌, length, Bool, true, false, cond, Option, Some, None, refl, sym, ap, subst, ◌∙◌, arith, map}
 use Rattle.std.specs.Prelude.{◌==◌, filter}
 use Rattle.std.specs.List.{AllByRecursion, slice_split}
 use Rattle.std.proofs.lemmas.Bool.{ltb-true, ltb-false, le-ltb}
+use Rattle.std.proofs.lemmas.List.{append-nil}
 use Rattle.serial_model.specs.declared.decl.Decl.{Decl}
-use Rattle.tx_script.specs.Script.{Bytes, Line, Round, Script, IsTextOf, IsScript, joined_lines, last_round, lines_of, line_text, decl_text}
+use Rattle.tx_script.specs.Script.{Bytes, Line, Round, Script, IsTextOf, IsScript, IsLine, IsRound, joined_lines, last_round, lines_of, line_text, decl_text}
 use Rattle.tx_script.specs.Reading.{Parts, no_parts, steps, parts_of, script_from}
 use Rattle.tx_script.proofs.Numbers.{not_test_some}
 use Rattle.tx_script.proofs.Rules.{all_front, all_back}
 use Rattle.tx_script.proofs.StepTexts.{IsShort, is_some_line, nothing_sound, steps-filter, steps_take}
-use Rattle.tx_script.proofs.StepAgain.{decls_again, lines_again}
+use Rattle.tx_script.proofs.StepAgain.{decls_again, lines_again, rounds_again}
 
 -- ---- what is read has the text
 
@@ -23,6 +24,22 @@ all_some : (lines : List Bytes) → AllByRecursion (λ l. 0 < length l) (filter 
 all_some [] = tt
 all_some (line ∷ lines) = kept_some (is_some_line line) line (filter is_some_line lines) refl (all_some lines)
 
+-- one list of all after another
+all_append : (decls : List Decl) (xs ys : List Round) → AllByRecursion (IsRound decls) xs → AllByRecursion (IsRound decls) ys → AllByRecursion (IsRound decls) (xs ++ ys)
+all_append decls [] ys front back = back
+all_append decls (x ∷ xs) ys front back = (front.0, all_append decls xs ys front.1 back)
+
+-- the last round of lines by the rules is by the rules
+last_by_rules : (decls : List Decl) (joined : List Round) (lines : List Line) → length lines ≤ 65536 → AllByRecursion (IsLine decls) lines → AllByRecursion (IsRound decls) (last_round joined lines)
+last_by_rules decls [] lines few are = (record { few_lines = few; lines = are }, tt)
+last_by_rules decls (round ∷ rounds) [] few are = tt
+last_by_rules decls (round ∷ rounds) (l ∷ ls) few are = (record { few_lines = few; lines = are }, tt)
+
+-- the same of all rounds
+rounds_by_rules : (decls : List Decl) (joined : List Round) (lines : List Line) → AllByRecursion (IsRound decls) joined → length lines ≤ 65536 → AllByRecursion (IsLine decls) lines
+    → AllByRecursion (IsRound decls) (joined ++ last_round joined lines)
+rounds_by_rules decls joined lines all few are = all_append decls joined (last_round joined lines) all (last_by_rules decls joined lines few are)
+
 -- what is read has the text
 pub text_from_parts : (bytes : Bytes) (p : Parts) → parts_of bytes ≡ Some p → IsTextOf bytes (script_from p)
 unfolding parts_of
@@ -33,43 +50,53 @@ text_from_parts bytes p e =
     record {
       size = ltb-false _ _ t.0;
       short = subst (AllByRecursion IsShort) taken.text taken.sound.short;
-      joined = [];
+      joined = p.joined;
       rest = p.lines;
       rounds = refl;
       lines = sym taken.text;
-      no_join = refl;
       rules = record {
         few_decls = taken.sound.few_decls;
         decls = taken.sound.decls;
         distinct = taken.sound.distinct;
-        rounds = (record { few_lines = taken.sound.few_lines; lines = taken.sound.lines }, tt);
+        rounds = rounds_by_rules p.decls p.joined p.lines taken.sound.joined taken.sound.few_lines taken.sound.lines;
       };
     }
 
 -- ---- what has the text is read
 
+-- the lines of a last round by the rules are by the rules
+rest_by_rules : (decls : List Decl) (joined : List Round) (rest : List Line) → AllByRecursion (IsRound decls) (last_round joined rest) → IsRound decls (record { lines = rest })
+rest_by_rules decls [] rest all = all.0
+rest_by_rules decls (round ∷ rounds) [] all = record { few_lines = omega arith; lines = tt }
+rest_by_rules decls (round ∷ rounds) (l ∷ ls) all = all.0
+
 -- the lines of a script by the rules are read as it
-parts_by_rules : (decls : List Decl) (lines : List Line) → IsScript (record { decls = decls; rounds = record { lines = lines } ∷ [] }) → AllByRecursion IsShort (map decl_text decls ++ map line_text lines)
-    → steps no_parts (map decl_text decls ++ map line_text lines) ≡ Some (record { decls = decls; lines = lines })
-parts_by_rules decls lines rules short =
-    let round = rules.rounds.0 in
-    let few_lines = round.few_lines in
+parts_by_rules : (decls : List Decl) (joined : List Round) (rest : List Line) → IsScript (record { decls = decls; rounds = joined ++ last_round joined rest })
+    → AllByRecursion IsShort (map decl_text decls ++ (joined_lines joined ++ map line_text rest))
+    → steps no_parts (map decl_text decls ++ (joined_lines joined ++ map line_text rest)) ≡ Some (record { decls = decls; joined = joined; lines = rest })
+unfolding steps
+parts_by_rules decls joined rest rules short =
+    let front = all_front (IsRound decls) joined (last_round joined rest) rules.rounds in
+    let last = rest_by_rules decls joined rest (all_back (IsRound decls) joined (last_round joined rest) rules.rounds) in
+    let few_lines = last.few_lines in
     let few_decls = rules.few_decls in
-    decls_again [] decls (map line_text lines) (omega arith) rules.decls rules.distinct (all_front IsShort (map decl_text decls) (map line_text lines) short)
-    ∙ lines_again decls [] lines (omega arith) rules.decls round.lines (all_back IsShort (map decl_text decls) (map line_text lines) short)
+    let lines_short = all_back IsShort (map decl_text decls) (joined_lines joined ++ map line_text rest) short in
+    let p : Parts = record { decls = decls; joined = joined; lines = [] } in
+    decls_again [] decls (joined_lines joined ++ map line_text rest) (omega arith) rules.decls rules.distinct (all_front IsShort (map decl_text decls) (joined_lines joined ++ map line_text rest) short)
+    ∙ rounds_again decls [] joined (map line_text rest) rules.decls front (all_front IsShort (joined_lines joined) (map line_text rest) lines_short)
+    ∙ ap (steps p) (sym (append-nil (map line_text rest)))
+    ∙ lines_again p rest [] (omega arith) rules.decls last.lines (all_back IsShort (joined_lines joined) (map line_text rest) lines_short)
 
 -- a script with this text is read
 pub parts_from_text : (bytes : Bytes) (script : Script) → IsTextOf bytes script → (p : Parts) × (parts_of bytes ≡ Some p) × (script_from p ≡ script)
 unfolding parts_of
 parts_from_text bytes script is =
-    let round : Round = record { lines = is.rest } in
-    let rounds : script.rounds ≡ round ∷ [] = is.rounds ∙ ap (λ joined. joined ++ last_round joined is.rest) is.no_join in
-    let whole : script ≡ record { decls = script.decls; rounds = round ∷ [] } = ap (λ (rounds : List Round). let s : Script = record { decls = script.decls; rounds = rounds } in s) rounds in
-    let lines : lines_of bytes ≡ map decl_text script.decls ++ map line_text is.rest = is.lines ∙ ap (λ joined. map decl_text script.decls ++ (joined_lines joined ++ map line_text is.rest)) is.no_join in (
-      record { decls = script.decls; lines = is.rest },
+    let whole : script ≡ record { decls = script.decls; rounds = is.joined ++ last_round is.joined is.rest } =
+    ap (λ (rounds : List Round). let s : Script = record { decls = script.decls; rounds = rounds } in s) is.rounds in (
+      record { decls = script.decls; joined = is.joined; lines = is.rest },
       rw (le-ltb 67108864 (length bytes) is.size)
-          (steps-filter no_parts (slice_split (λ b. b == 10) bytes) ∙ ap (steps no_parts) lines
-          ∙ parts_by_rules script.decls is.rest (subst IsScript whole is.rules) (subst (AllByRecursion IsShort) lines is.short)),
+          (steps-filter no_parts (slice_split (λ b. b == 10) bytes) ∙ ap (steps no_parts) is.lines
+          ∙ parts_by_rules script.decls is.joined is.rest (subst IsScript whole is.rules) (subst (AllByRecursion IsShort) is.lines is.short)),
       sym whole,
     )
 

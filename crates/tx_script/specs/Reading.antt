@@ -7,7 +7,7 @@ use Rattle.std.specs.Str.Parse.{digits_value}
 use Rattle.serial_model.specs.Keys.{fits, id_of}
 use Rattle.serial_model.specs.declared.key.Key.{Key}
 use Rattle.serial_model.specs.declared.op.Op.{Op}
-use Rattle.serial_model.specs.declared.op.Op.TheVariants.{Read, Write}
+use Rattle.serial_model.specs.declared.op.Op.TheVariants.{Read, Write, Add, Take}
 use Rattle.serial_model.specs.declared.decl.Decl.{Decl}
 use Rattle.serial_model.specs.declared.decl.Decl.TheVariants.{Array}
 use Rattle.serial_model.specs.declared.memory.OrMemory.{OrMemory}
@@ -15,7 +15,7 @@ use Rattle.serial_model.specs.declared.memory.OrMemory.TheVariants as errors
 use Rattle.tx_script.specs.declared.fault.ScriptFault.{ScriptFault}
 use Rattle.tx_script.specs.declared.fault.FaultKind.{FaultKind}
 use Rattle.tx_script.specs.declared.fault.FaultKind.TheVariants.{Word}
-use Rattle.tx_script.specs.Script.{Bytes, Line, Script}
+use Rattle.tx_script.specs.Script.{Bytes, Line, Round, Script, last_round}
 
 infixl 10 ◌>>=◌
 abbrev pub ◌>>=◌ : {A B : Type 0} → Option A → (A → Option B) → Option B
@@ -81,15 +81,20 @@ read_at bs = do
   k ← next_key_at bs
   Some (Read k.0, k.1)
 
-unfoldable pub write_at : Bytes → Option (Front Op)
-write_at bs = do
+-- an operation with a value
+unfoldable pub change_at : (Key → ℕ → Op) → Bytes → Option (Front Op)
+change_at make bs = do
   k ← next_key_at bs
   v ← next_number_at k.1
-  Some (Write k.0 v.0, v.1)
+  Some (make k.0 v.0, v.1)
 
 unfoldable pub op_at : Bytes → Option (Front Op)
 op_at [] = None
-op_at (b ∷ bs) = if b == 114 then read_at bs else (if b == 119 then write_at bs else None)
+op_at (b ∷ bs) =
+    if b == 114 then read_at bs
+    else (if b == 119 then change_at (λ k v. Write k v) bs
+    else (if b == 97 then change_at (λ k v. Add k v) bs
+    else (if b == 116 then change_at (λ k v. Take k v) bs else None)))
 
 -- a semicolon, a space and an operation
 unfoldable pub next_op_at : Bytes → Option (Front Op)
@@ -142,17 +147,22 @@ decl_at bs = do
 
 -- ---- scripts
 
--- what was read of a script so far
+-- what was read of a script so far: the declarations, the rounds that a join ended, and the lines after them
 pub record Parts : Type 0 where
   pub decls : List Decl
+  pub joined : List Round
   pub lines : List Line
 
 abbrev pub no_parts : Parts
-no_parts = record { decls = []; lines = [] }
+no_parts = record { decls = []; joined = []; lines = [] }
 
--- no line came yet, fewer than 16 storages are declared, and none with this id
+-- no other line came yet
+abbrev pub is_fresh : Parts → Bool
+is_fresh p = (length p.joined == 0) && (length p.lines == 0)
+
+-- no other line came yet, fewer than 16 storages are declared, and none with this id
 abbrev pub may_declare : Parts → Decl → Bool
-may_declare p d = (length p.lines == 0) && (nat_lt (length p.decls) 16 && not (list_any (λ e. id_of e == id_of d) p.decls))
+may_declare p d = is_fresh p && (nat_lt (length p.decls) 16 && not (list_any (λ e. id_of e == id_of d) p.decls))
 
 -- one more declaration
 unfoldable pub with_decl : Parts → Bytes → Option Parts
@@ -170,17 +180,29 @@ with_line p line = do
   l ← line_at line
   if may_run p l.ops then Some (record p { lines = p.lines ++ l ∷ [] }) else None
 
--- a declaration begins with a letter, a worker's line with a digit
+-- a join ends a round
+abbrev pub with_join : Parts → Parts
+with_join p = record { decls = p.decls; joined = p.joined ++ record { lines = p.lines } ∷ []; lines = [] }
+
+abbrev pub is_join : Bytes → Bool
+is_join line = pointwise (λ x y. x == y) line (codes "join")
+
+-- a declaration begins with a letter of its own
 abbrev pub begins_declaration : Bytes → Bool
 begins_declaration [] = false
 begins_declaration (b ∷ bs) = b == 97
+
+-- one line more, by its kind
+unfoldable pub with_some_line : Parts → Bytes → Option Parts
+with_some_line p line =
+    if is_join line then Some (with_join p)
+    else (if begins_declaration line then with_decl p line else with_line p line)
 
 -- what was read before, and one line more; an empty one counts for nothing
 unfoldable pub step : Parts → Bytes → Option Parts
 step p line =
     if length line == 0 then Some p
-    else (if nat_lt 1024 (length line) then None
-    else (if begins_declaration line then with_decl p line else with_line p line))
+    else (if nat_lt 1024 (length line) then None else with_some_line p line)
 
 unfoldable pub steps : Parts → List Bytes → Option Parts
 steps p [] = Some p
@@ -192,7 +214,7 @@ unfoldable pub parts_of : Bytes → Option Parts
 parts_of bytes = if nat_lt 67108864 (length bytes) then None else steps no_parts (slice_split (λ b. b == 10) bytes)
 
 abbrev pub script_from : Parts → Script
-script_from p = record { decls = p.decls; rounds = record { lines = p.lines } ∷ [] }
+script_from p = record { decls = p.decls; rounds = p.joined ++ last_round p.joined p.lines }
 
 -- ---- what the reader's functions return
 

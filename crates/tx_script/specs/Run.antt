@@ -1,5 +1,5 @@
 -- Runs of a script: the rounds that were run, with an outcome for each line, and the order in which their commits are serial.
-use Rattle.std.specs.Prelude.{◌≡◌, ℕ, ◌+◌, ◌<◌, ◌≤◌, ◌==◌, List, [], ◌∷◌, ◌++◌, length, map, filter, Option, None, ⊤, IsTrue, sum_by}
+use Rattle.std.specs.Prelude.{◌≡◌, ◌⊎◌, ℕ, ◌+◌, ◌<◌, ◌≤◌, ◌==◌, List, [], ◌∷◌, ◌++◌, length, map, filter, Option, Some, None, ⊤, IsTrue, sum_by}
 use Rattle.std.specs.List.{AllByRecursion}
 use Rattle.std.specs.List.Sorted.{IsPermutation}
 use Rattle.serial_model.specs.Keys.{fits}
@@ -10,7 +10,7 @@ use Rattle.serial_model.specs.declared.decl.Decl.{Decl}
 use Rattle.serial_model.specs.declared.number.Number.{Number}
 use Rattle.tx_script.specs.declared.outcome.Outcome.{Outcome}
 use Rattle.tx_script.specs.declared.outcome.Outcome.TheVariants.{Committed}
-use Rattle.tx_script.specs.Script.{Round, Script}
+use Rattle.tx_script.specs.Script.{Line, Round, Script}
 
 -- What came of a round: the number that the clock would give at its begin and at its end, each worker's outcomes in
 -- the order of its lines, for workers 0 to 7, and the epoch that was made durable.

@@ -79,9 +79,11 @@ IsDecl (Tree id) = ⊥
 abbrev pub HasValue : Op → Type 0
 HasValue (Read k) = ⊤
 HasValue (Write k v) = v < 2 ^ 64
+HasValue (Add k v) = v < 2 ^ 64
+HasValue (Take k v) = v < 2 ^ 64
 HasValue _ = ⊥
 
--- a read or a write of a declared storage's key
+-- a read or a change of a declared storage's key
 pub record IsOp (decls : List Decl) (op : Op) : Type 0 where
   pub fitting : IsTrue (fits decls op)
   pub value : HasValue op
@@ -125,6 +127,4 @@ pub record IsTextOf (bytes : Bytes) (script : Script) : Type 0 where
   pub rest : List Line
   pub rounds : script.rounds ≡ joined ++ last_round joined rest
   pub lines : lines_of bytes ≡ map decl_text script.decls ++ (joined_lines joined ++ map line_text rest)
-  -- no text has a join yet
-  pub no_join : joined ≡ []
   pub rules : IsScript script

@@ -19,6 +19,7 @@ mod read_line;
 mod read_number;
 mod read_op;
 mod reader;
+mod rounds;
 mod script;
 
 pub use buffer::{Buffer, flush, put};
@@ -27,4 +28,5 @@ pub use lines::Line;
 pub use outcome::{Outcome, Outcomes, RoundOutcomes};
 pub use print::{put_number, put_outcome, put_round, write_outcome};
 pub use read::read_script;
-pub use script::{Round, Script};
+pub use rounds::Round;
+pub use script::Script;

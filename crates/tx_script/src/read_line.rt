@@ -1,6 +1,6 @@
 // One line: a declaration, or a worker's line.
 ghost use Rattle.std.specs.Prelude.{◌≡◌, option_map};
-ghost use Rattle.tx_script.specs.Reading.{worker_at, line_at, word_at, decl_at, ReadsLine};
+ghost use Rattle.tx_script.specs.Reading.{worker_at, line_at, word_at, decl_at, is_join, ReadsLine};
 
 use crate::fault::FaultKind;
 use crate::read_number::{byte_at, char_at, next_number_at, number_at};
@@ -35,6 +35,13 @@ pub(crate) fn read_worker(line: &[u8], ops: &mut Vec<Op>) -> Result<u8, OrMemory
     };
     read_ops(rest, ops)?;
     Ok(worker)
+}
+
+/// The end of a round.
+pub(crate) fn is_join(line: &[u8]) -> bool
+    ensures { result ≡ is_join line.now }
+{
+    line == b"join".as_slice()
 }
 
 /// What follows the word at the front.

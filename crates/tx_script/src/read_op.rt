@@ -1,6 +1,6 @@
 // Operations, one after another up to the end of a line.
 ghost use Rattle.std.specs.Prelude.{◌≡◌, option_map};
-ghost use Rattle.tx_script.specs.Reading.{next_key_at, read_at, write_at, op_at, next_op_at, ops_at, Reads};
+ghost use Rattle.tx_script.specs.Reading.{next_key_at, read_at, change_at, op_at, next_op_at, ops_at, Reads};
 
 use crate::fault::FaultKind;
 use crate::read_number::{byte_at, char_at, next_number_at};
@@ -28,13 +28,33 @@ fn read_at(bytes: &[u8]) -> Option<(Op, &[u8])>
 }
 
 /// What follows the `w` of a write.
-#[tactic(auto, unfolding(crate::specs::Reading::write_at))]
+#[tactic(auto, unfolding(crate::specs::Reading::change_at))]
 fn write_at(bytes: &[u8]) -> Option<(Op, &[u8])>
-    ensures { option_map (λ x. (x.0, x.1.now)) result ≡ write_at bytes.now }
+    ensures { option_map (λ x. (x.0, x.1.now)) result ≡ change_at (λ k v. Op.Write k v) bytes.now }
 {
     let (key, rest) = next_key_at(bytes)?;
     let (value, rest) = next_number_at(rest)?;
     Some((Op::Write(key, value), rest))
+}
+
+/// What follows the `a` of an addition.
+#[tactic(auto, unfolding(crate::specs::Reading::change_at))]
+fn add_at(bytes: &[u8]) -> Option<(Op, &[u8])>
+    ensures { option_map (λ x. (x.0, x.1.now)) result ≡ change_at (λ k v. Op.Add k v) bytes.now }
+{
+    let (key, rest) = next_key_at(bytes)?;
+    let (value, rest) = next_number_at(rest)?;
+    Some((Op::Add(key, value), rest))
+}
+
+/// What follows the `t` of a taking.
+#[tactic(auto, unfolding(crate::specs::Reading::change_at))]
+fn take_at(bytes: &[u8]) -> Option<(Op, &[u8])>
+    ensures { option_map (λ x. (x.0, x.1.now)) result ≡ change_at (λ k v. Op.Take k v) bytes.now }
+{
+    let (key, rest) = next_key_at(bytes)?;
+    let (value, rest) = next_number_at(rest)?;
+    Some((Op::Take(key, value), rest))
 }
 
 /// The operation at the front.
@@ -45,6 +65,8 @@ fn op_at(bytes: &[u8]) -> Option<(Op, &[u8])>
     match bytes {
         [b'r', rest @ ..] => read_at(rest),
         [b'w', rest @ ..] => write_at(rest),
+        [b'a', rest @ ..] => add_at(rest),
+        [b't', rest @ ..] => take_at(rest),
         _ => None,
     }
 }

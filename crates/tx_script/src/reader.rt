@@ -1,11 +1,11 @@
 // What was read of a script so far, and one line more.
-ghost use Rattle.std.specs.Prelude.{◌≡◌, ◌==◌, IfOk};
+ghost use Rattle.std.specs.Prelude.{◌≡◌, ◌==◌, IfOk, Some};
 ghost use Rattle.std.specs.List.{list_any, list_all};
 ghost use Rattle.serial_model.specs.Keys.{id_of, fits};
 
 use crate::fault::FaultKind;
-use crate::lines::Lines;
-use crate::read_line::{decl_at, read_worker};
+use crate::read_line::{decl_at, is_join, read_worker};
+use crate::rounds::Rounds;
 use crate::script::Script;
 use serial_model::{Decl, Decls, Memory, Op, OrMemory, fits};
 use std::alloc::Global;
@@ -18,11 +18,11 @@ const MOST_LINES: usize = 65_536;
 /// In bytes, without the newline.
 const LONGEST_LINE: usize = 1024;
 
-/// The declarations and the lines so far, and memory for the operations of a line.
+/// The declarations and the rounds so far, and memory for the operations of a line.
 #[derive(Drop)]
 pub(crate) struct Reader {
     decls: Vec<Decl>,
-    lines: Lines,
+    rounds: Rounds,
     ops: Vec<Op>,
 }
 
@@ -31,7 +31,7 @@ impl Model for Reader {
 
     ghost Value = { Parts };
 
-    ghost view = { λ r. record { decls = r.decls.items; lines = r.lines } };
+    ghost view = { λ r. record { decls = r.decls.items; joined = r.rounds.joined; lines = r.rounds.rest } };
 }
 
 fn id_of(decl: &Decl) -> u8
@@ -56,23 +56,30 @@ fn all_fit(decls: &[Decl], ops: &[Op]) -> bool
 
 impl Reader {
     ghost use Rattle.std.specs.Prelude.{[], ◌∷◌};
-    ghost use Rattle.tx_script.specs.Reading.{no_parts, may_declare, may_run, with_decl, with_line, step, Reads};
+    ghost use Rattle.tx_script.specs.Reading.{no_parts, is_fresh, may_declare, may_run, with_decl, with_line, with_join, with_some_line, step, script_from, Reads};
 
     pub(crate) fn new(alloc: Global) -> Self
         ensures { result ≡ no_parts }
     {
         Reader {
             decls: Vec::new(alloc),
-            lines: Lines::new(alloc),
+            rounds: Rounds::new(alloc),
             ops: Vec::new(alloc),
         }
     }
 
-    /// No line came yet, and there is room for a storage with this id.
+    /// No other line than declarations came yet.
+    fn is_fresh(&self) -> bool
+        ensures { result ≡ is_fresh self.now }
+    {
+        self.rounds.len() == 0 && self.rounds.rest_len() == 0
+    }
+
+    /// No other line came yet, and there is room for a storage with this id.
     fn may_declare(&self, decl: &Decl) -> bool
         ensures { result ≡ may_declare self.now decl.now }
     {
-        let room = self.lines.len() == 0 && self.decls.len() < MOST_STORAGES;
+        let room = self.is_fresh() && self.decls.len() < MOST_STORAGES;
         room && !is_declared(&self.decls, id_of(decl))
     }
 
@@ -97,7 +104,7 @@ impl Reader {
     fn may_run(&self, ops: &[Op]) -> bool
         ensures { result ≡ may_run self.now ops.now }
     {
-        self.lines.len() < MOST_LINES && all_fit(&self.decls, ops)
+        self.rounds.rest_len() < MOST_LINES && all_fit(&self.decls, ops)
     }
 
     /// One worker's line more.
@@ -109,13 +116,37 @@ impl Reader {
         if !self.may_run(&self.ops) {
             return Err(OrMemory::Fault(FaultKind::Word));
         }
-        let Ok(()) = self.lines.push(worker, &self.ops) else {
+        let Ok(()) = self.rounds.push(worker, &self.ops) else {
             return Err(OrMemory::Memory);
         };
         Ok(())
     }
 
-    /// One line more: a declaration begins with a letter, a worker's line with a digit. An empty one counts for nothing.
+    /// A join ends the round.
+    fn add_join(&mut self) -> Result<(), OrMemory<FaultKind>>
+        ensures { Reads result self.new (Some (with_join self.old)) }
+    {
+        let Ok(()) = self.rounds.join() else {
+            return Err(OrMemory::Memory);
+        };
+        Ok(())
+    }
+
+    /// One line more: a join, a declaration, or else a worker's line.
+    #[tactic(auto, unfolding(crate::specs::Reading::with_some_line))]
+    fn add(&mut self, line: &[u8]) -> Result<(), OrMemory<FaultKind>>
+        ensures { Reads result self.new (with_some_line self.old line.now) }
+    {
+        if is_join(line) {
+            return self.add_join();
+        }
+        match line {
+            [b'a', ..] => self.add_decl(line),
+            _ => self.add_line(line),
+        }
+    }
+
+    /// One line more. An empty one counts for nothing.
     #[tactic(auto, unfolding(crate::specs::Reading::step))]
     pub(crate) fn step(&mut self, line: &[u8]) -> Result<(), OrMemory<FaultKind>>
         ensures { Reads result self.new (step self.old line.now) }
@@ -126,17 +157,20 @@ impl Reader {
         if line.len() > LONGEST_LINE {
             return Err(OrMemory::Fault(FaultKind::Word));
         }
-        match line {
-            [b'a', ..] => self.add_decl(line),
-            _ => self.add_line(line),
-        }
+        self.add(line)
     }
 
     /// The script that was read.
     pub(crate) fn into_script(self, alloc: Global) -> Result<Script, Memory>
-        ensures { IfOk result (λ script. script ≡ record { decls = self.decls; rounds = record { lines = self.lines } ∷ [] }) }
+        ensures { IfOk result (λ script. script ≡ script_from self) }
     {
-        let decls = Decls::new(alloc, &self.decls)?;
-        Ok(Script::new(decls, self.lines))
+        let Reader {
+            decls,
+            mut rounds,
+            ops: _,
+        } = self;
+        let decls = Decls::new(alloc, &decls)?;
+        rounds.finish()?;
+        Ok(Script::new(decls, rounds))
     }
 }

@@ -5,7 +5,7 @@ use Rattle.std.proofs.lemmas.Bool.{false≢true}
 use Rattle.std.specs.List.{flat_map, AllByRecursion}
 use Rattle.std.proofs.lemmas.List.{take_at, drop_at, take-append-drop, length-append, length-replicate, length-take-le, length-drop, append-nil}
 use Rattle.wire_form.specs.Bytes.{bytes_of, padded}
-use Rattle.wire_form.specs.Items.{RisesAfter, AreItems, AnyOrder, IsFollowed, IsWritten, Reads}
+use Rattle.wire_form.specs.Items.{RisesAfter, AreItems, AnyOrder, IsFollowed, IsSpelled, Reads}
 use Rattle.wire_form.proofs.ByteLemmas.{same_parts, same_words}
 use Rattle.wire_form.specs.Parts.{HasItems}
 
@@ -33,7 +33,7 @@ first_item Is spell key R here after some wide last rest (x ∷ tail) parts h =
 
 -- one item more was read
 pub Takes-more : {X K : Type 0} (Is : X → Type 0) (spell : X → List ℕ) (key : X → K) (R : K → K → Type 0) → (here after : List ℕ) → 0 < length here → ((x : X) → length (spell x) ≡ length here) → (whole : List ℕ) (front : List X) (last : Option K) (rest : List ℕ) (x : X) → rest ≡ here ++ after
-    → Takes Is spell key R whole front last rest → IsWritten Is spell here x → IfSome last (λ l. R l (key x)) → Takes Is spell key R whole (front ++ x ∷ []) (Some (key x)) after
+    → Takes Is spell key R whole front last rest → IsSpelled Is spell here x → IfSome last (λ l. R l (key x)) → Takes Is spell key R whole (front ++ x ∷ []) (Some (key x)) after
 Takes-more Is spell key R here after some wide whole front last rest x parts so_far found above =
     record {
       back = λ tail h.
@@ -58,7 +58,7 @@ no_item Is spell key R here after some wide whole front last rest parts so_far n
 
 -- so does a key that isn't above the last
 pub falls : {X K : Type 0} (Is : X → Type 0) (spell : X → List ℕ) (key : X → K) (R : K → K → Type 0) → (here after : List ℕ) → 0 < length here → ((x : X) → length (spell x) ≡ length here) → (whole : List ℕ) (front : List X) (last : Option K) (rest : List ℕ) (x : X) → rest ≡ here ++ after
-    → Takes Is spell key R whole front last rest → IsWritten Is spell here x → (IfSome last (λ l. R l (key x)) → ⊥) → (items : List X) → AreItems Is spell key R None whole items → ⊥
+    → Takes Is spell key R whole front last rest → IsSpelled Is spell here x → (IfSome last (λ l. R l (key x)) → ⊥) → (items : List X) → AreItems Is spell key R None whole items → ⊥
 falls Is spell key R here after some wide whole front last rest x parts so_far found not_above items h =
     let all = so_far.forth items h in
     let first = first_item Is spell key R here after some wide last rest all.0 parts all.2 in
@@ -82,7 +82,7 @@ pub read_as_bytes : {X : Type 0} (Is : X → Type 0) (spell : X → List ℕ) (w
 read_as_bytes Is spell words bytes None fit fits e h =
     (tt, λ x is written. h.1 x is (same_words (spell x) words (fits x is) fit (written ∙ sym e)))
 read_as_bytes Is spell words bytes (Some x) fit fits e h =
-    let found : IsWritten Is spell words x = h.0 in
+    let found : IsSpelled Is spell words x = h.0 in
     (record { valid = found.valid; spelled = ap bytes_of found.spelled ∙ e; only = λ y is written. found.only y is (same_words (spell y) words (fits y is) fit (written ∙ sym e)) }, tt)
 
 -- items with the same spelling are the same

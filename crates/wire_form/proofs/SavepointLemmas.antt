@@ -8,7 +8,7 @@ use borrow.Rule.Slice.PartMut.{put_mid}
 use Rattle.wire_form.specs.Bytes.{bytes_of_word, bytes_of, padded}
 use Rattle.wire_form.specs.declared.savepoint.Savepoint.{Savepoint}
 use Rattle.wire_form.specs.Savepoint.{IsSavepoint, StandsAt, IsSavepointOf, magic, body_words, place_bytes, open_gate}
-use Rattle.wire_form.specs.Items.{IsWritten}
+use Rattle.wire_form.specs.Items.{IsSpelled}
 use Rattle.wire_form.proofs.ByteLemmas.{head_and_rest, same_word, same_words, length-padded, all_padded, all_below}
 
 abbrev point_of : ℕ → ℕ → ℕ → ℕ → List ℕ → Savepoint
@@ -51,12 +51,12 @@ equal_to_itself [] = refl
 equal_to_itself (x ∷ xs) = rw (eq-eqb x x refl) (equal_to_itself xs)
 
 pub length-body : (s : Savepoint) → length s.lengths ≡ 16 → length (body_words s) ≡ 63
-length-body s banks = length-padded 63 (magic ∷ s.sequence ∷ s.epoch ∷ s.catalogue ∷ s.count ∷ s.lengths) (omega arith)
+length-body s banks = length-padded 63 (magic 1 ∷ s.sequence ∷ s.epoch ∷ s.catalogue ∷ s.count ∷ s.lengths) (omega arith)
 
 body_fits : (s : Savepoint) → IsSavepoint s → AllByRecursion (λ w. w < 2 ^ 64) (body_words s)
 body_fits s is =
     let lengths : AllByRecursion (λ w. w < 2 ^ 64) s.lengths = all_below (2 ^ 40) (2 ^ 64) (lit≤ tt) s.lengths is.lengths in
-    all_padded (λ w. w < 2 ^ 64) 63 (magic ∷ s.sequence ∷ s.epoch ∷ s.catalogue ∷ s.count ∷ s.lengths) (lit< tt)
+    all_padded (λ w. w < 2 ^ 64) 63 (magic 1 ∷ s.sequence ∷ s.epoch ∷ s.catalogue ∷ s.count ∷ s.lengths) (lit< tt)
     (lit< tt, (omega (arith, is.last), (omega (arith, is.epoch), (omega (arith, is.newest, is.count), (omega (arith, is.count), lengths)))))
 
 -- the first word of an open place
@@ -74,8 +74,8 @@ same_body u bytes words fits here is e =
     same_words (body_words u) words (body_fits u is) fits (sym (drop_at (padded 8 (open_gate ∷ [])) (bytes_of (body_words u)) 8 refl) ∙ ap (drop 8) e ∙ here)
 
 -- what was read is a place that is open
-pub place_read : (place : ℕ) (bytes words : List ℕ) (word : ℕ) (s : Savepoint) → AllByRecursion (λ w. w < 2 ^ 64) words → bytes_of_word word ≡ take 8 bytes → word ≡ 0xA500_0000_0000_0000 → drop 8 bytes ≡ bytes_of words → IsWritten IsSavepoint body_words words s → StandsAt place s
-    → IsWritten (IsSavepointOf place) place_bytes bytes s
+pub place_read : (place : ℕ) (bytes words : List ℕ) (word : ℕ) (s : Savepoint) → AllByRecursion (λ w. w < 2 ^ 64) words → bytes_of_word word ≡ take 8 bytes → word ≡ 0xA500_0000_0000_0000 → drop 8 bytes ≡ bytes_of words → IsSpelled IsSavepoint body_words words s → StandsAt place s
+    → IsSpelled (IsSavepointOf place) place_bytes bytes s
 place_read place bytes words word s fits first opened here found stands =
     let gate : padded 8 (open_gate ∷ []) ≡ take 8 bytes = sym open_word ∙ ap bytes_of_word (sym opened) ∙ first in
     record {

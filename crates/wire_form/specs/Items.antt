@@ -1,6 +1,19 @@
--- Lists of items of one form, written one after another.
+-- What reading gives, and lists of items of one form, written one after another.
 use Rattle.std.specs.Prelude.{◌≡◌, ℕ, List, [], ◌∷◌, Option, Some, None, IfSome, IfNone, map, ⊤}
 use Rattle.std.specs.List.{flat_map, AllByRecursion}
+
+-- a value is the only one that is spelled so: as a word, or as a list of words or bytes
+pub record IsSpelled {V W : Type 0} (Is : V → Type 0) (spell : V → W) (written : W) (v : V) : Type 0 where
+  pub valid : Is v
+  pub spelled : spell v ≡ written
+  pub only : (u : V) → Is u → spell u ≡ written → u ≡ v
+
+-- what reading gives: the value that is spelled so, and nothing only where none is
+abbrev pub Reads : {V W : Type 0} → (V → Type 0) → (V → W) → W → Option V → Type 0
+Reads {V} {W} Is spell written result =
+    IfSome result (IsSpelled Is spell written) × IfNone result ((v : V) → Is v → spell v ≡ written → ⊥)
+
+-- ---- lists of items
 
 -- an earlier key, if there is one, has R to the next
 abbrev pub IsFollowed : {K : Type 0} → (K → K → Type 0) → Option K → K → Type 0
@@ -24,13 +37,3 @@ pub record AreItems {X K : Type 0} (Is : X → Type 0) (spell : X → List ℕ) 
   pub each : AllByRecursion Is items
   pub rising : RisesAfter R last (map key items)
   pub spelled : written ≡ flat_map spell items
-
--- what reading an item gives: the only one that is written so, and nothing only where none is
-pub record IsWritten {X : Type 0} (Is : X → Type 0) (spell : X → List ℕ) (written : List ℕ) (x : X) : Type 0 where
-  pub valid : Is x
-  pub spelled : spell x ≡ written
-  pub only : (y : X) → Is y → spell y ≡ written → y ≡ x
-
-abbrev pub Reads : {X : Type 0} → (X → Type 0) → (X → List ℕ) → List ℕ → Option X → Type 0
-Reads {X} Is spell written result =
-    IfSome result (IsWritten Is spell written) × IfNone result ((x : X) → Is x → spell x ≡ written → ⊥)

@@ -10,7 +10,7 @@ use Rattle.wire_form.specs.declared.records.Stored.{Stored}
 use Rattle.wire_form.specs.declared.page.PageKind.{PageKind}
 use Rattle.wire_form.specs.declared.page.PageKind.TheVariants.{ArrayLeaf, ArrayInner, TreeLeaf, TreeInner, Catalogue}
 use Rattle.wire_form.specs.declared.page.Page.{Page}
-use Rattle.wire_form.specs.Words.{IsNumber, number_word, number_field, header_word}
+use Rattle.wire_form.specs.Words.{IsNumber, number_word, number_field, header_word, array_room, tree_room}
 use Rattle.wire_form.specs.Bytes.{bytes_of, padded}
 use Rattle.wire_form.specs.Items.{Rises}
 
@@ -38,7 +38,7 @@ array_record_words r = number_field r.number ∷ r.value ∷ []
 
 pub record IsArrayLeaf (used : ℕ) (records : List ArrayRecord) : Type 0 where
   pub some : 1 ≤ used
-  pub most : used ≤ 32
+  pub most : used ≤ array_room
   pub count : length records ≡ used
   pub each : AllByRecursion IsArrayRecord records
 
@@ -71,7 +71,7 @@ abbrev pub record_key : TreeRecord → ℕ
 record_key r = r.key
 
 pub record IsTreeLeaf (low high : ℕ) (records : List TreeRecord) : Type 0 where
-  pub most : length records ≤ 16
+  pub most : length records ≤ tree_room
   pub each : AllByRecursion (IsTreeRecord low high) records
   pub rising : Rises ◌<◌ (map record_key records)
 

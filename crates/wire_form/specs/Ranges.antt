@@ -1,7 +1,7 @@
 -- The ranges of keys that the children of a tree's interior page have.
 use Rattle.std.specs.Prelude.{ℕ, ◌+◌, ◌-◌, ◌&&◌, Bool, List, [], ◌∷◌, nat_le, if◌then◌else◌}
 
--- the first child begins at the low fence, each other at its separator, and each ends one below the next one's begin, the last at the high fence
+-- the range between the fences, cut just before each separator
 abbrev pub child_ranges : ℕ → ℕ → List ℕ → List (ℕ × ℕ)
 child_ranges low high [] = (low, high) ∷ []
 child_ranges low high (separator ∷ separators) = (low, separator - 1) ∷ child_ranges separator high separators

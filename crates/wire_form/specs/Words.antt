@@ -1,5 +1,5 @@
 -- The words. Each is the sum of its fields, every field times two to the power of the bit at which it begins; a bit that no field has is zero, since nothing is added there.
-use Rattle.std.specs.Prelude.{◌≡◌, ◌⊎◌, ℕ, ◌+◌, ◌-◌, ◌*◌, ◌^◌, ◌<◌, ◌≤◌, Bool, true, false, Option, Some, None, IfSome, IfNone}
+use Rattle.std.specs.Prelude.{◌≡◌, ◌⊎◌, ℕ, ◌+◌, ◌-◌, ◌*◌, ◌^◌, ◌<◌, ◌≤◌, Bool, true, false, Option, Some, None, IfSome}
 use Rattle.serial_model.specs.declared.number.Number.{Number}
 use Rattle.wire_form.specs.declared.clock.Clock.{Clock}
 use Rattle.wire_form.specs.declared.clock.Mark.{Mark}
@@ -18,17 +18,6 @@ at_bit from field = field * 2 ^ from
 abbrev pub flag : Bool → ℕ
 flag true = 1
 flag false = 0
-
--- a value is the only one that has the word
-pub record IsSpelled {V : Type 0} (Is : V → Type 0) (word_of : V → ℕ) (word : ℕ) (v : V) : Type 0 where
-  pub valid : Is v
-  pub spells : word_of v ≡ word
-  pub only : (u : V) → Is u → word_of u ≡ word → u ≡ v
-
--- what reading a word gives: the value that has it, and nothing only where no value has it
-abbrev pub ReadsWord : {V : Type 0} → (V → Type 0) → (V → ℕ) → ℕ → Option V → Type 0
-ReadsWord {V} Is word_of word result =
-    IfSome result (IsSpelled Is word_of word) × IfNone result ((v : V) → Is v → word_of v ≡ word → ⊥)
 
 -- ---- clock and mark
 
@@ -53,7 +42,7 @@ mark_word m = at_bit 0 m.length + at_bit 40 (mark_epoch m.epoch)
 
 -- ---- numbers and records
 
--- a commit's number: the clock word that its draw found, neither at the first epoch field nor at the last
+-- a commit's number: the clock word that its draw found, in neither epoch 0 nor the greatest
 pub record IsNumber (n : Number) : Type 0 where
   pub draw : n.draw < 2 ^ 40
   pub drawn : 1 ≤ n.draw
@@ -76,9 +65,16 @@ record_word r = number_field r.number + at_bit 60 (flag r.lock) + at_bit 61 (fla
 
 -- ---- the words of tree pages, pointers and slots
 
--- a leaf of 0 to 16 records, or an interior page of 2 to 30 children, which is never moved
+-- how many records a leaf of an array has room for, and a leaf of a tree
+abbrev pub array_room : ℕ
+array_room = 32
+
+abbrev pub tree_room : ℕ
+tree_room = 16
+
+-- a leaf of records that it has room for, or an interior page of 2 to 30 children, which is never moved
 abbrev pub IsLeafHeader : Header → Type 0
-IsLeafHeader h = (h.kind ≡ 1) × (h.count ≤ 16)
+IsLeafHeader h = (h.kind ≡ 1) × (h.count ≤ tree_room)
 
 abbrev pub IsInnerHeader : Header → Type 0
 IsInnerHeader h = (h.kind ≡ 2) × (2 ≤ h.count) × (h.count ≤ 30) × (h.moved ≡ false)

@@ -1,6 +1,7 @@
 // The words that tell the time: the clock and the marks.
 ghost use Rattle.std.specs.Prelude.{◌≡◌, ◌↔◌, IsTrue};
-ghost use Rattle.wire_form.specs.Words.{ReadsWord, IsClock, clock_word, IsMark, mark_word};
+ghost use Rattle.wire_form.specs.Items.{Reads};
+ghost use Rattle.wire_form.specs.Words.{IsClock, clock_word, IsMark, mark_word};
 
 use crate::bits::field;
 
@@ -31,7 +32,7 @@ impl Clock {
 
     /// The value that has the word, or `None` where none has.
     pub fn parts(word: u64) -> Option<Clock>
-        ensures { ReadsWord IsClock clock_word word result }
+        ensures { Reads IsClock clock_word word result }
     {
         let clock = Clock {
             draws: field(word, 0, 40),
@@ -81,7 +82,7 @@ impl Mark {
 
     /// The value that has the word, or `None` where none has.
     pub fn parts(word: u64) -> Option<Mark>
-        ensures { ReadsWord IsMark mark_word word result }
+        ensures { Reads IsMark mark_word word result }
     {
         let epoch = field(word, 40, 20) as u32;
         let mark = Mark {

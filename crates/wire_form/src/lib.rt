@@ -6,7 +6,7 @@
 //! Promises, each in both directions. A value is read where its spelling stands, and nothing is read
 //! elsewhere; a written value is the one spelling that it has.
 //! - Words (`Clock`, `Mark`, `RecordWord`, `Header`, `Pair`, `SlotWord`): the clauses of `pack` and
-//!   `parts`. Each is the other's inverse (`ReadsWord`), and `is_valid` tells the ranges.
+//!   `parts`. Each is the other's inverse (`Reads`), and `is_valid` tells the ranges.
 //! - Pages: `ok` and `err` of `read_page`, the clause of `write_page`, and `is_page` for words in memory.
 //!   What a page is stands in `HasKind`: the content, its rules, and its words as a function of it.
 //! - Log lines: `ok` and `err` of `read_log_line`, `written` of `write_log_line`, and `is_loggable`.

@@ -1,6 +1,7 @@
 // The words that hold pages together: headers, pointers and slots.
 ghost use Rattle.std.specs.Prelude.{◌≡◌, ◌<◌, ◌↔◌, IsTrue};
-ghost use Rattle.wire_form.specs.Words.{ReadsWord, IsHeader, header_word, IsPair, pair_word, IsSlot, slot_word, state_field};
+ghost use Rattle.wire_form.specs.Items.{Reads};
+ghost use Rattle.wire_form.specs.Words.{IsHeader, header_word, IsPair, pair_word, IsSlot, slot_word, state_field};
 
 use crate::bits::{field, flag, flag_at};
 
@@ -39,7 +40,7 @@ impl Header {
 
     /// The value that has the word, or `None` where none has.
     pub fn parts(word: u64) -> Option<Header>
-        ensures { ReadsWord IsHeader header_word word result }
+        ensures { Reads IsHeader header_word word result }
     {
         let header = Header {
             count: field(word, 0, 8) as u8,
@@ -91,7 +92,7 @@ impl Pair {
 
     /// The value that has the word, or `None` where none has.
     pub fn parts(word: u64) -> Option<Pair>
-        ensures { ReadsWord IsPair pair_word word result }
+        ensures { Reads IsPair pair_word word result }
     {
         let slot = field(word, 32, 16) as u32;
         let pair = Pair {
@@ -168,7 +169,7 @@ impl SlotWord {
 
     /// The value that has the word, or `None` where none has: each word has one.
     pub fn parts(word: u64) -> Option<SlotWord>
-        ensures { ReadsWord IsSlot slot_word word result }
+        ensures { Reads IsSlot slot_word word result }
     {
         Some(SlotWord {
             passes: field(word, 0, 16) as u16,

@@ -1,6 +1,7 @@
 // Commit numbers, and the words of records.
 ghost use Rattle.std.specs.Prelude.{◌≡◌, ◌↔◌, IsTrue};
-ghost use Rattle.wire_form.specs.Words.{ReadsWord, IsNumber, number_word, number_field, IsRecord, record_word};
+ghost use Rattle.wire_form.specs.Items.{Reads};
+ghost use Rattle.wire_form.specs.Words.{IsNumber, number_word, number_field, IsRecord, record_word};
 
 use crate::bits::{field, flag, flag_at};
 use serial_model::Number;
@@ -22,7 +23,7 @@ pub fn number_word(number: Number) -> u64
 
 /// The number that has the word, or `None` where none has.
 pub fn read_number(word: u64) -> Option<Number>
-    ensures { ReadsWord IsNumber number_word word result }
+    ensures { Reads IsNumber number_word word result }
 {
     let number = Number {
         draw: field(word, 0, 40),
@@ -69,7 +70,7 @@ impl RecordWord {
 
     /// The value that has the word, or `None` where none has.
     pub fn parts(word: u64) -> Option<RecordWord>
-        ensures { ReadsWord IsRecord record_word word result }
+        ensures { Reads IsRecord record_word word result }
     {
         let number = Number {
             draw: field(word, 0, 40),

@@ -18,7 +18,7 @@ use Rattle.commit_core.specs.declared.seat.Stage.TheVariants.{Trying, Ended}
 use Rattle.commit_core.specs.declared.seat.Seat.{Seat}
 use Rattle.commit_core.specs.declared.story.Story.{Story}
 use Rattle.commit_core.specs.Keys.{same_key, same_number, IsBelow, place_at, writes_key}
-use Rattle.commit_core.specs.CoreState.{holder_is, is_held_by, is_open_to, clock_of, is_checked, check_of, attempt_tried, settled}
+use Rattle.commit_core.specs.CoreState.{holder_is, is_free, is_held_by, is_open_to, clock_of, is_checked, check_of, attempt_tried, settled}
 use Rattle.commit_core.specs.Serial.{state_below, last_write}
 use Rattle.commit_core.specs.Event.{is_unchecked, Moved, moved, is_same_word, is_as_seen, stays_as_seen, after_check}
 use Rattle.commit_core.specs.Sound.{IsSoundStory, IsSoundSeat}
@@ -37,10 +37,10 @@ use Rattle.commit_core.proofs.Events.Keeps.{Keeps, seat_alone, unlocked_not, oth
 record Opens (p : ℕ) (place : Option Place) (seen : Content) : Type 0 where
   home : Place
   is : place ≡ Some home
-  open_to : (home.holder ≡ None) ⊎ (holder_is p home.holder ≡ true)
+  open_to : (is_free (Some home) ≡ true) ⊎ (holder_is p home.holder ≡ true)
   number : home.content.number ≡ seen.number
 
-open_holder : (p : ℕ) (o : Option ℕ) → cond (is_none o) true (holder_is p o) ≡ true → (o ≡ None) ⊎ (holder_is p o ≡ true)
+open_holder : (p : ℕ) (o : Option ℕ) → cond (is_none o) true (holder_is p o) ≡ true → (is_none o ≡ true) ⊎ (holder_is p o ≡ true)
 open_holder p None h = inl refl
 open_holder p (Some q) h = inr h
 
@@ -79,7 +79,7 @@ with_check m a k = record m { checks = m.checks ++ check_of a.number k ∷ [] }
 
 -- the content of the place is the last write
 home_is_last : (opening : List Place) (m : Story) (p : ℕ) (s : Seat) (i : ℕ) (k : Key) (q : Place) → s.stage ≡ Trying i → place_at m.places k ≡ Some q
-    → (q.holder ≡ None) ⊎ (holder_is p q.holder ≡ true) → IsSoundStory opening m → IsSoundSeat opening m p s → q.content ≡ last_write opening m.history m.decided k
+    → (is_free (Some q) ≡ true) ⊎ (holder_is p q.holder ≡ true) → IsSoundStory opening m → IsSoundSeat opening m p s → q.content ≡ last_write opening m.history m.decided k
 home_is_last opening m p s i k q stage at (inl free) story own = story.unlocked_homes k q at free
 home_is_last opening m p s i k q stage at (inr mine) story own =
     (subst (λ (x : Stage). HomeHeld opening m.history m.decided s.put k q.content x) stage (own.locked_homes k q at mine)).0
@@ -122,7 +122,7 @@ seat_checked opening m a k q t apart sound = record {
 }
 
 -- another seat's attempt in progress holds what it writes, and so does not write a key whose place is open to this seat
-other_writes_not : (opening : List Place) (m : Story) (p q : ℕ) (t : Seat) (k : Key) (home : Place) → place_at m.places k ≡ Some home → (home.holder ≡ None) ⊎ (holder_is p home.holder ≡ true)
+other_writes_not : (opening : List Place) (m : Story) (p q : ℕ) (t : Seat) (k : Key) (home : Place) → place_at m.places k ≡ Some home → (is_free (Some home) ≡ true) ⊎ (holder_is p home.holder ≡ true)
     → (q ≡ p → ⊥) → IsSoundSeat opening m q t → (i : ℕ) (b : Attempt) → t.stage ≡ Trying i → slice_get m.history i ≡ Some b → writes_key b.writes k ≡ false
 other_writes_not opening m p q t k home at open_to other sound i b stage there =
     let tried = tried_is m.history m.decided m.places t.put q t.stage i b stage there sound.attempt_stands in

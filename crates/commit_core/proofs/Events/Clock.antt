@@ -56,7 +56,7 @@ seat_drawn opening m a q t e story sound =
       attempt_stands = stands_drawn m.history m.decided m.places t.put q a t.stage sound.attempt_stands;
       locked_homes = locked_so opening opening m.history (m.history ++ a ∷ []) m.decided m.decided m.places t.put t.put q t.stage t.stage
           (λ k x at mine held. held_drawn opening m.history m.decided clock a t.put k x.content t.stage story.ordered_numbers e there held) sound.locked_homes;
-      no_lower_writer = writer_drawn m.history m.checks a t.stage there sound.no_lower_writer;
+      no_lower_writer = writer_drawn m.history m.checks clock a t.stage e story.checks_are_past there sound.no_lower_writer;
       marks_are_past = marks_drawn m.epoch m.history a t.marks t.stage there sound.marks_are_past;
       kept_is_past = kept_drawn opening m.history a clock (clock_of m.epoch (m.history ++ a ∷ [])) t.kept (clock_after_draw m.epoch m.history a) sound.kept_is_past;
     }

@@ -47,7 +47,7 @@ story_decided opening m p s i a stage at all story own =
       unlocked_homes = homes_decided opening m.history m.decided a.number m.places
           (λ k q there free. unwritten_elsewhere opening m p i a k q only tried there (unlocked_not p q.holder free)) story.unlocked_homes;
       reads_stay_true = reads_decided opening m.history m.checks m.decided a only
-          (λ n k c l. subst (λ (x : Stage). NoLowerWriter m.history m.checks x) stage own.no_lower_writer a at n k c l) story.reads_stay_true;
+          (subst (λ (x : Stage). NoLowerWriter m.history m.checks x) stage own.no_lower_writer a at) story.reads_stay_true;
       commits_are_checked = commits_decided m.history m.checks m.decided a only (λ part n. all_in (λ x. is_checked m.checks a.number x.key) a.parts all part n) story.commits_are_checked;
       parts_are_past = story.parts_are_past;
       checks_are_past = story.checks_are_past;
@@ -60,7 +60,7 @@ own_decided opening m p s i a stage at own =
     let tried = tried_is m.history m.decided m.places s.put p s.stage i a stage at own.attempt_stands in
     record {
       lock_owners = own.lock_owners;
-      attempt_stands = (a, record { at = at; own = tried.own; counts = decided_new m.decided a.number a.number refl; written = λ k h. absurd (true≢false (sym h)) });
+      attempt_stands = (a, record { at = at; own = tried.own; counts = decided_new m.decided a.number a.number refl; written = λ k h. absurd (true≢false (sym h)); holds = λ k w _. tried.holds k w });
       locked_homes = locked_so opening opening m.history m.history m.decided (m.decided ++ a.number ∷ []) m.places s.put [] p s.stage (Decided i)
           (λ k q there mine held. held_decides opening m.history m.decided k q.content i a s.put at tried.undecided
           (subst (λ (x : Stage). HomeHeld opening m.history m.decided s.put k q.content x) stage held))

@@ -1,5 +1,5 @@
 -- What an act keeps: the story, the seat that acts, and each other seat stay sound; and what holds of stages and places.
-use Rattle.std.proofs.Common.{◌≡◌, ℕ, ◌<◌, Bool, true, false, not, true≢false, eqb, List, [], ◌∷◌, refl, sym, ap, ◌∙◌, subst, arith, length, Option, Some, None}
+use Rattle.std.proofs.Common.{◌≡◌, ℕ, Bool, true, false, not, true≢false, eqb, List, [], ◌∷◌, refl, sym, ap, ◌∙◌, subst, arith, length, Option, Some, None}
 use Rattle.std.proofs.lemmas.Bool.{false_from_ne_true, cond_both, eqb-true}
 use Rattle.std.specs.List.{slice_get}
 use Rattle.std.specs.Prelude.{is_none}
@@ -16,10 +16,10 @@ use Rattle.commit_core.specs.declared.story.Story.{Story}
 use Rattle.commit_core.specs.Keys.{has_key, place_at, placed}
 use Rattle.commit_core.specs.CoreState.{holder_is, is_held_by, clock_of, is_free, is_trying, can_begin, attempt_tried, attempt_decided, settled, settled_at}
 use Rattle.commit_core.specs.Serial.{last_write}
-use Rattle.commit_core.specs.Event.{Moved, moved}
+use Rattle.commit_core.specs.Event.{moved}
 pub use Rattle.commit_core.specs.Law.{Keeps}
 use Rattle.commit_core.specs.Sound.{IsSoundStory, IsSoundSeat}
-use Rattle.commit_core.specs.Sound.Locks.{HoldersAreSeats, IsTried, IsDecided, AttemptStands}
+use Rattle.commit_core.specs.Sound.Locks.{IsTried, IsDecided, AttemptStands}
 use Rattle.commit_core.specs.Sound.Homes.{HomeHeld}
 use Rattle.commit_core.specs.Sound.Marks.{IsAboveMark}
 use Rattle.commit_core.proofs.ReadLaws.{kept_dropped}
@@ -35,7 +35,7 @@ abbrev pub with_place : Story → Place → Story
 with_place m new = record m { places = placed m.places new }
 
 pub story_placed : (opening : List Place) (m : Story) (new old : Place) → place_at m.places new.key ≡ Some old
-    → (new.holder ≡ None → new.content ≡ last_write opening m.history m.decided new.key)
+    → (is_free (Some new) ≡ true → new.content ≡ last_write opening m.history m.decided new.key)
     → IsSoundStory opening m → IsSoundStory opening (with_place m new)
 story_placed opening m new old was right sound = record {
   ordered_numbers = sound.ordered_numbers;
@@ -64,17 +64,14 @@ seat_placed opening m new old q t was before now sound =
 
 -- ---- places
 
-pub free_place : (place : Option Place) → is_free place ≡ true → (q : Place) × (place ≡ Some q) × (q.holder ≡ None)
+pub free_place : (place : Option Place) → is_free place ≡ true → (q : Place) × (place ≡ Some q) × (is_free (Some q) ≡ true)
 free_place None h = absurd (true≢false (sym h))
-free_place (Some q) h = (q, refl, unheld q.holder h)
-  where
-    unheld : (o : Option ℕ) → is_none o ≡ true → o ≡ None
-    unheld None e = refl
-    unheld (Some x) e = absurd (true≢false (sym e))
+free_place (Some q) h = (q, refl, h)
 
 -- who holds an unlocked place: nobody
-pub unlocked_not : (q : ℕ) (holder : Option ℕ) → holder ≡ None → holder_is q holder ≡ false
-unlocked_not q holder e = ap (holder_is q) e
+pub unlocked_not : (q : ℕ) (holder : Option ℕ) → is_none holder ≡ true → holder_is q holder ≡ false
+unlocked_not q None e = refl
+unlocked_not q (Some p) e = absurd (true≢false (sym e))
 
 -- another seat than the holder does not hold it
 pub other_not : (p q : ℕ) (holder : Option ℕ) → holder_is p holder ≡ true → (q ≡ p → ⊥) → holder_is q holder ≡ false
@@ -138,12 +135,12 @@ tried_is h decided places put p stage i a e at stands =
     subst (λ (x : Attempt). IsTried h decided places p i x) same t.1
 
 pub decided_is : (h : List Attempt) (decided : List Number) (places : List Place) (put : List Key) (p : ℕ) (stage : Stage) (i : ℕ) (a : Attempt) → stage ≡ Decided i → slice_get h i ≡ Some a
-    → AttemptStands h decided places put p stage → IsDecided h decided put p i a
+    → AttemptStands h decided places put p stage → IsDecided h decided places put p i a
 decided_is h decided places put p stage i a e at stands =
     let t = subst (λ (x : Stage). AttemptStands h decided places put p x) e stands in
     let both : Some t.0 ≡ Some a = sym t.1.at ∙ at in
     let same : t.0 ≡ a = cc in
-    subst (λ (x : Attempt). IsDecided h decided put p i x) same t.1
+    subst (λ (x : Attempt). IsDecided h decided places put p i x) same t.1
 
 -- ---- a seat whose attempt is over and that has no lock left
 

@@ -1,5 +1,6 @@
 -- Lock, Put and Open: they change one place.
 use Rattle.std.proofs.Common.{◌≡◌, ℕ, true, false, not, true≢false, inl, inr, List, [], ◌∷◌, ◌++◌, refl, sym, ap, ◌∙◌, subst, arith, Option, Some, None}
+use Rattle.std.proofs.lemmas.Bool.{false_from_ne_true, eqb-true}
 use Rattle.std.specs.List.{slice_get, filter}
 use Rattle.std.specs.Prelude.{unwrap_or}
 use Rattle.std.specs.Option.{option_map_or}
@@ -20,9 +21,9 @@ use Rattle.commit_core.specs.Sound.{IsSoundStory, IsSoundSeat}
 use Rattle.commit_core.specs.Sound.Locks.{IsDecided, AttemptStands}
 use Rattle.commit_core.specs.Sound.Homes.{HomeHeld}
 use Rattle.commit_core.proofs.Keys.{same_key-true}
-use Rattle.commit_core.proofs.Lists.{any_push_cases}
+use Rattle.commit_core.proofs.Lists.{any_push_cases, any_push_old}
 use Rattle.commit_core.proofs.States.{written-writes, writes-written}
-use Rattle.commit_core.proofs.LockLaws.{holder_is-self, holder_is-other, held_place, locks_placed, locks_taken, locks_given, holders_placed}
+use Rattle.commit_core.proofs.LockLaws.{held-placed_other, held-placed, holder_is-self, holder_is-other, held_place, locks_placed, locks_taken, locks_given, holders_placed}
 use Rattle.commit_core.proofs.HomeLaws.{held_puts, held_put_other, held_opens, locked_placed}
 use Rattle.commit_core.proofs.Events.Keeps.{Keeps, with_place, story_placed, seat_placed, free_place, unlocked_not, other_not, decided_passes, decided_is, settled_sound}
 
@@ -44,10 +45,10 @@ begin_home opening h decided put k c (Decided i) begins is = absurd (true≢fals
 abbrev taken : ℕ → Key → Place → Place
 taken p k q = record { key = k; content = q.content; holder = Some p }
 
-keeps_lock_at : (opening : List Place) (p : ℕ) (m : Story) (s : Seat) (k : Key) → can_begin s.stage ≡ true → (q : Place) → place_at m.places k ≡ Some q → q.holder ≡ None
+keeps_lock_at : (opening : List Place) (p : ℕ) (m : Story) (s : Seat) (k : Key) → can_begin s.stage ≡ true → (q : Place) → place_at m.places k ≡ Some q → is_free (Some q) ≡ true
     → IsSoundStory opening m → IsSoundSeat opening m p s → Keeps opening p m (moved (with_place m (taken p k q)) (record s { locks = s.locks ++ k ∷ [] }))
 keeps_lock_at opening p m s k begins q at free story own = record {
-  story = story_placed opening m (taken p k q) q at (λ e. cc) story;
+  story = story_placed opening m (taken p k q) q at (λ e. absurd (true≢false (sym e))) story;
   own = record {
     lock_owners = locks_taken m.places (taken p k q) q p s.locks at (holder_is-self p) own.lock_owners;
     attempt_stands = begin_stands m.history m.decided m.places (placed m.places (taken p k q)) s.put p s.stage begins;
@@ -58,7 +59,7 @@ keeps_lock_at opening p m s k begins q at free story own = record {
     kept_is_past = own.kept_is_past;
   };
   others = λ r t other sound. seat_placed opening m (taken p k q) q r t at (unlocked_not r q.holder free) (holder_is-other p r other) sound;
-  holders = λ seats l holders. holders_placed m.places (taken p k q) q seats at (λ r e. let same : p ≡ r = cc in omega arith) holders;
+  holders = λ seats l holders. holders_placed m.places (taken p k q) q seats at (λ r e. let same = eqb-true p r e in omega arith) holders;
 }
 
 pub keeps_lock : (opening : List Place) (p : ℕ) (m : Story) (s : Seat) (k : Key) → can_begin s.stage ≡ true → is_free (place_at m.places k) ≡ true
@@ -74,13 +75,10 @@ keeps_lock opening p m s k begins free story own =
 abbrev refilled : Key → Option ℕ → Place → Place
 refilled k v q = record { key = k; content = content_of q.content.number v; holder = q.holder }
 
--- a seat that holds a place is one of those there are, and the place's holder stays
-held_not_none : (p : ℕ) (holder : Option ℕ) → holder_is p holder ≡ true → holder ≡ None → ⊥
-held_not_none p holder mine e = true≢false (sym mine ∙ ap (holder_is p) e)
-
-stands_put : (h : List Attempt) (decided : List Number) (places : List Place) (put : List Key) (p i : ℕ) (a : Attempt) (k : Key) → writes_key a.writes k ≡ true
-    → IsDecided h decided put p i a → IsDecided h decided (put ++ k ∷ []) p i a
-stands_put h decided places put p i a k w d = record {
+stands_put : (h : List Attempt) (decided : List Number) (places places' : List Place) (put : List Key) (p i : ℕ) (a : Attempt) (k : Key) → writes_key a.writes k ≡ true
+    → ((x : Key) → is_held_by p (place_at places x) ≡ true → is_held_by p (place_at places' x) ≡ true)
+    → IsDecided h decided places put p i a → IsDecided h decided places' (put ++ k ∷ []) p i a
+stands_put h decided places places' put p i a k w keeps d = record {
   at = d.at;
   own = d.own;
   counts = d.counts;
@@ -88,17 +86,19 @@ stands_put h decided places put p i a k w d = record {
     | inl before ↦ d.written x before
     | inr now ↦ subst (λ (y : Key). writes_key a.writes y ≡ true) (same_key-true k x now) w
   ];
+  holds = λ x v n. keeps x (d.holds x v (false_from_ne_true (has_key put x) (λ h. true≢false (sym (any_push_old (λ q. same_key q x) put k h) ∙ n))));
 }
 
 keeps_put_at : (opening : List Place) (p : ℕ) (m : Story) (s : Seat) (k : Key) (i : ℕ) (a : Attempt) (v : Option ℕ) → s.stage ≡ Decided i → slice_get m.history i ≡ Some a → written k a.writes ≡ Some v
     → (q : Place) → place_at m.places k ≡ Some q → holder_is p q.holder ≡ true
     → IsSoundStory opening m → IsSoundSeat opening m p s → Keeps opening p m (moved (with_place m (refilled k v q)) (record s { put = s.put ++ k ∷ [] }))
 keeps_put_at opening p m s k i a v stage there w q at mine story own = record {
-  story = story_placed opening m (refilled k v q) q at (λ e. absurd (held_not_none p q.holder mine e)) story;
+  story = story_placed opening m (refilled k v q) q at (λ e. absurd (true≢false (sym mine ∙ unlocked_not p q.holder e))) story;
   own = record {
     lock_owners = locks_placed m.places (refilled k v q) q p s.locks at (λ h. h) (λ h. h) own.lock_owners;
     attempt_stands = subst (λ (x : Stage). AttemptStands m.history m.decided (placed m.places (refilled k v q)) (s.put ++ k ∷ []) p x) (sym stage)
-        (a, stands_put m.history m.decided m.places s.put p i a k (written-writes k a v w) (decided_is m.history m.decided m.places s.put p s.stage i a stage there own.attempt_stands));
+        (a, stands_put m.history m.decided m.places (placed m.places (refilled k v q)) s.put p i a k (written-writes k a v w)
+        (λ x. held-placed m.places (refilled k v q) q p x at (λ h. h)) (decided_is m.history m.decided m.places s.put p s.stage i a stage there own.attempt_stands));
     locked_homes = locked_placed opening m.history m.decided m.places s.put (s.put ++ k ∷ []) p s.stage (refilled k v q) q at
         (λ _. subst (λ (x : Stage). HomeHeld opening m.history m.decided (s.put ++ k ∷ []) k (content_of q.content.number v) x) (sym stage)
         (held_puts opening m.history m.decided s.put k q.content i a v there w
@@ -148,14 +148,28 @@ opens_right opening m p put k c (Decided i) rests in_put story stands held =
     let at : slice_get m.history i ≡ Some a = stands.1.at in
     let put_it : has_key put k ≡ true = sym (ap (λ (o : Option Attempt). option_map_or (λ _. has_key put k) o true) at) ∙ in_put in
     ap (λ (o : Option Attempt). content_of (number_at_open o c) c.value) at
-    ∙ held_opens opening m.history m.decided (clock_of m.epoch m.history) put k c p i a story.ordered_numbers stands.1 put_it held
+    ∙ held_opens opening m.history m.decided (clock_of m.epoch m.history) m.places put k c p i a story.ordered_numbers stands.1 put_it held
 
-rest_stands : (h : List Attempt) (decided : List Number) (places places' : List Place) (put : List Key) (p : ℕ) (stage : Stage) → not (is_trying stage) ≡ true
-    → AttemptStands h decided places put p stage → AttemptStands h decided places' put p stage
-rest_stands h decided places places' put p Idle rests stands = tt
-rest_stands h decided places places' put p (Trying i) rests stands = absurd (true≢false (sym rests))
-rest_stands h decided places places' put p Ended rests stands = tt
-rest_stands h decided places places' put p (Decided i) rests stands = stands
+-- where one place alone is not held any more, and its value was put
+rest_stands : (h : List Attempt) (decided : List Number) (places : List Place) (new : Place) (put : List Key) (p : ℕ) (stage : Stage) → not (is_trying stage) ≡ true
+    → option_map_or (λ _. has_key put new.key) (attempt_decided h stage) true ≡ true
+    → AttemptStands h decided places put p stage → AttemptStands h decided (placed places new) put p stage
+rest_stands h decided places new put p Idle rests in_put stands = tt
+rest_stands h decided places new put p (Trying i) rests in_put stands = absurd (true≢false (sym rests))
+rest_stands h decided places new put p Ended rests in_put stands = tt
+rest_stands h decided places new put p (Decided i) rests in_put stands =
+    let a = stands.0 in
+    let t = stands.1 in
+    let put_it : has_key put new.key ≡ true = sym (ap (λ (o : Option Attempt). option_map_or (λ _. has_key put new.key) o true) t.at) ∙ in_put in (
+      a,
+      record {
+        at = t.at;
+        own = t.own;
+        counts = t.counts;
+        written = t.written;
+        holds = λ k w n. held-placed_other places new p k (λ e. true≢false (sym (ap (has_key put) (sym e) ∙ put_it) ∙ n)) (t.holds k w n);
+      },
+    )
 
 abbrev reopened : Key → Option Attempt → Place → Place
 reopened k a q = record { key = k; content = content_of (option_map_or (λ b. b.number) a q.content.number) q.content.value; holder = None }
@@ -169,14 +183,14 @@ keeps_open_at opening p m s k rests in_put q at mine story own = let new : Place
   story = story_placed opening m new q at (λ _. opens_right opening m p s.put k q.content s.stage rests in_put story own.attempt_stands (own.locked_homes k q at mine)) story;
   own = settled_sound opening (with_place m new) p (record s { locks = filter (λ x. not (same_key x k)) s.locks }) (record {
     lock_owners = locks_given m.places new q p s.locks at refl own.lock_owners;
-    attempt_stands = rest_stands m.history m.decided m.places (placed m.places new) s.put p s.stage rests own.attempt_stands;
+    attempt_stands = rest_stands m.history m.decided m.places new s.put p s.stage rests in_put own.attempt_stands;
     locked_homes = locked_placed opening m.history m.decided m.places s.put s.put p s.stage new q at (λ h. absurd (true≢false (sym h))) (λ x c _ held. held) own.locked_homes;
     no_lower_writer = own.no_lower_writer;
     marks_are_past = own.marks_are_past;
     kept_is_past = own.kept_is_past;
   });
   others = λ r t other sound. seat_placed opening m new q r t at (other_not p r q.holder mine other) refl sound;
-  holders = λ seats l holders. holders_placed m.places new q seats at (λ r e. cc) holders;
+  holders = λ seats l holders. holders_placed m.places new q seats at (λ r e. absurd (true≢false (sym e))) holders;
 }
 
 pub keeps_open : (opening : List Place) (p : ℕ) (m : Story) (s : Seat) (k : Key) → not (is_trying s.stage) ≡ true → is_held_by p (place_at m.places k) ≡ true

@@ -8,13 +8,13 @@ use Rattle.commit_core.specs.declared.attempt.Attempt.{Attempt}
 use Rattle.commit_core.specs.declared.seat.Stage.{Stage}
 use Rattle.commit_core.specs.declared.seat.Stage.TheVariants.{Idle, Trying, Ended, Decided}
 use Rattle.commit_core.specs.Keys.{IsBelow, has_key, place_at, content_of, written, writes_key}
-use Rattle.commit_core.specs.CoreState.{holder_is, is_decided}
+use Rattle.commit_core.specs.CoreState.{is_free, holder_is, is_decided}
 use Rattle.commit_core.specs.Serial.{state_below, last_write}
 
 -- An unlocked place has the value and the number of the last decided write of its key, by number, or the opening's.
 abbrev pub UnlockedHomes : List Place → List Attempt → List Number → List Place → Type 0
 UnlockedHomes opening history decided places =
-    (k : Key) (q : Place) → place_at places k ≡ Some q → q.holder ≡ None → q.content ≡ last_write opening history decided k
+    (k : Key) (q : Place) → place_at places k ≡ Some q → is_free (Some q) ≡ true → q.content ≡ last_write opening history decided k
 
 -- The attempt's number is above the place's, and above that of every other decided write of the key.
 pub record IsAboveOthers (history : List Attempt) (decided : List Number) (k : Key) (content : Content) (a : Attempt) : Type 0 where

@@ -7,7 +7,7 @@ use Rattle.commit_core.specs.declared.attempt.Attempt.{Attempt}
 use Rattle.commit_core.specs.declared.seat.Stage.{Stage}
 use Rattle.commit_core.specs.declared.seat.Stage.TheVariants.{Idle, Trying, Ended, Decided}
 use Rattle.commit_core.specs.Keys.{has_key, place_at, writes_key}
-use Rattle.commit_core.specs.CoreState.{is_held_by, is_decided}
+use Rattle.commit_core.specs.CoreState.{holder_is, is_held_by, is_decided}
 
 -- The seat's locks are exactly the places that it holds.
 pub record LockOwners (places : List Place) (p : ℕ) (locks : List Key) : Type 0 where
@@ -16,7 +16,7 @@ pub record LockOwners (places : List Place) (p : ℕ) (locks : List Key) : Type 
 
 -- Who holds a place is one of the seats.
 abbrev pub HoldersAreSeats : List Place → ℕ → Type 0
-HoldersAreSeats places seats = (k : Key) (q : Place) (p : ℕ) → place_at places k ≡ Some q → q.holder ≡ Some p → p < seats
+HoldersAreSeats places seats = (k : Key) (q : Place) (p : ℕ) → place_at places k ≡ Some q → holder_is p q.holder ≡ true → p < seats
 
 -- The seat's attempt in progress is in the history, is not decided, and holds the place of each key that it writes.
 pub record IsTried (history : List Attempt) (decided : List Number) (places : List Place) (p i : ℕ) (a : Attempt) : Type 0 where
@@ -25,16 +25,17 @@ pub record IsTried (history : List Attempt) (decided : List Number) (places : Li
   pub undecided : is_decided decided a.number ≡ false
   pub holds : (k : Key) → writes_key a.writes k ≡ true → is_held_by p (place_at places k) ≡ true
 
--- The seat's decided attempt is in the history, and what was put are keys that it writes. Those that it
--- still holds are among the seat's locks.
-pub record IsDecided (history : List Attempt) (decided : List Number) (put : List Key) (p i : ℕ) (a : Attempt) : Type 0 where
+-- The seat's decided attempt is in the history, and what was put are keys that it writes. It holds the place of each key
+-- that it writes until the value is put; from then the place is among the seat's locks until it is opened.
+pub record IsDecided (history : List Attempt) (decided : List Number) (places : List Place) (put : List Key) (p i : ℕ) (a : Attempt) : Type 0 where
   pub at : slice_get history i ≡ Some a
   pub own : a.seat ≡ p
   pub counts : is_decided decided a.number ≡ true
   pub written : (k : Key) → has_key put k ≡ true → writes_key a.writes k ≡ true
+  pub holds : (k : Key) → writes_key a.writes k ≡ true → has_key put k ≡ false → is_held_by p (place_at places k) ≡ true
 
 abbrev pub AttemptStands : List Attempt → List Number → List Place → List Key → ℕ → Stage → Type 0
 AttemptStands history decided places put p Idle = ⊤
 AttemptStands history decided places put p (Trying i) = (a : Attempt) × IsTried history decided places p i a
 AttemptStands history decided places put p Ended = ⊤
-AttemptStands history decided places put p (Decided i) = (a : Attempt) × IsDecided history decided put p i a
+AttemptStands history decided places put p (Decided i) = (a : Attempt) × IsDecided history decided places put p i a

@@ -9,7 +9,7 @@ use Rattle.commit_core.specs.declared.attempt.Attempt.{Attempt}
 use Rattle.commit_core.specs.declared.attempt.Check.{Check}
 use Rattle.commit_core.specs.declared.seat.Stage.{Stage}
 use Rattle.commit_core.specs.declared.seat.Stage.TheVariants.{Idle, Trying, Ended, Decided}
-use Rattle.commit_core.specs.Keys.{IsBelow, content_at, written, writes_key}
+use Rattle.commit_core.specs.Keys.{IsBelow, content_at, written, writes_key, covers, Vouches}
 use Rattle.commit_core.specs.CoreState.{is_decided, is_checked}
 use Rattle.commit_core.specs.Serial.{state_below}
 
@@ -18,14 +18,16 @@ use Rattle.commit_core.specs.Serial.{state_below}
 abbrev pub ReadsStayTrue : List Place → List Attempt → List Check → List Number → Type 0
 ReadsStayTrue opening history checks decided =
     (a : Attempt) → Contains history a → (part : Part) → Contains a.parts part → is_checked checks a.number part.key ≡ true
-    → part.content ≡ state_below opening history decided a.number part.key
+    → Vouches (state_below opening history decided a.number) part
 
--- The other half of it, at the writer: no attempt in progress writes a key that one with a greater number has checked.
+-- The other half of it, at the writer: no attempt in progress writes a key of a part that one with a greater number has
+-- checked.
 abbrev pub NoLowerWriter : List Attempt → List Check → Stage → Type 0
 NoLowerWriter history checks Idle = ⊤
 NoLowerWriter history checks (Trying i) =
-    (a : Attempt) → slice_get history i ≡ Some a → (n : Number) (k : Key) → is_checked checks n k ≡ true → IsBelow a.number n
-    → writes_key a.writes k ≡ false
+    (a : Attempt) → slice_get history i ≡ Some a → (b : Attempt) → Contains history b → IsBelow a.number b.number
+    → (part : Part) → Contains b.parts part → is_checked checks b.number part.key ≡ true
+    → (k : Key) → covers part k ≡ true → writes_key a.writes k ≡ false
 NoLowerWriter history checks Ended = ⊤
 NoLowerWriter history checks (Decided i) = ⊤
 

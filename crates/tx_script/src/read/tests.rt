@@ -39,10 +39,7 @@ array 1 4\n0 w 1 0 \xff|\
 array 1 4\n0 r 1 0\narray 2 4|\
 array 1 4\narray 1 4|\
 array 1 4\n0 r 2 0|\
-array 1 4\n0 r 1 0\njoin\n0 r 1 0|\
 tree 2|\
-array 1 4\n0 a 1 0 1|\
-array 1 4\n0 t 1 0 1|\
 array 1 4\n0 d 1 0|\
 array 1 4\nk save|\
 array 1 4\n0 s 1 0 1";

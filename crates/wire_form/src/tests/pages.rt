@@ -163,7 +163,9 @@ fn tree_inner_pages(rt: HostRuntime) {
         (0, 0x103), // the header of a leaf
         (0, 0x202), // one child more than counted
         (0, 0x204), // one child less
+        (0, 0x21F), // 31 children
         (0, 0x203 + (1 << 60)), // a lock
+        (0, 0x203 + (1 << 62)), // a moved page
         (1, 9), // another low fence
         (2, 21), // another high fence
         (3, 1), // the zero word
@@ -178,6 +180,8 @@ fn tree_inner_pages(rt: HostRuntime) {
         (63, 1), // the last word
     ];
     assert!(rt; is_strict(kind, 5, inner, &others));
+    let one = words_of(&[(0, 0x201), (1, 10), (2, 20), (4, 1)]);
+    assert!(rt; !is_read(kind, 5, one), "one child");
 }
 
 #[test]

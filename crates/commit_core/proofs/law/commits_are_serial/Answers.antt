@@ -1,7 +1,7 @@
 -- The theorem, from its lemmas.
 use Rattle.commit_core.specs.Event.{run}
 use Rattle.commit_core.proofs.Runs.{keeps_act, run_sound, run_grows, run_opening}
-use Rattle.commit_core.proofs.GivenUp.{run_over}
+use Rattle.commit_core.proofs.GivenUp.{check_gives_up, run_over}
 use Rattle.commit_core.proofs.SerialLaws.{reads_below, committed_serial, opening_sound}
 use Rattle.commit_core.proofs.law.commits_are_serial.Goals as goal
 
@@ -11,6 +11,7 @@ returns c = record {
   starts = λ pairs passes. opening_sound pairs passes;
   stays = λ core events sound. run_sound events core sound;
   grows = λ core events. (run_opening events core, run_grows events core);
+  fails = λ core p s k a sound at tried _ fails. check_gives_up core p s k a sound at tried fails;
   given_up = λ core events a sound given. run_over events core a sound given;
   serial = λ core events sound.
       let after = run events core in

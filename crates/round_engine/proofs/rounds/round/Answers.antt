@@ -1,37 +1,13 @@
--- The plain run is a run of the round.
-use Rattle.std.proofs.Common.{◌∙◌, ap, subst, sym, refl, arith, ◌+◌, ◌≤◌, length}
-use Rattle.std.specs.List.{AllByRecursion, flat_map, sum_by}
-use Rattle.tx_script.specs.Run.{IsCommit, worker_lines}
-use Rattle.round_engine.specs.Limits.{draw_limit}
-use Rattle.round_engine.specs.Plainly.{DrawsTo, Place, outcomes_of, place_of}
-use Rattle.round_engine.proofs.PlainRun.{plain_consecutive, plain_epoch, plain_run}
-use Rattle.round_engine.proofs.Commits.{total, total-worker_lines, workers_commit, workers_draw}
+-- The join leaves what the lines did.
+use Rattle.std.proofs.Common.{[], ◌∷◌, subst, sym, ap}
+use Rattle.serial_model.specs.declared.plain.Plain.{Plain}
+use Rattle.tx_script.specs.Run.{IsRun}
+use Rattle.round_engine.specs.Plainly.{ran_with}
 use Rattle.round_engine.proofs.rounds.round.Goals as goal
 
 pub returns-clause-run : goal.returns-clause-run
-returns-clause-run g c = λ index. plain_run _ index _ _ _ _ _ c.in_ok-outcomes.ensures.outcomes c.in_ok-outcomes.ensures.place
-
-pub returns-clause-consecutive : goal.returns-clause-consecutive
-returns-clause-consecutive g c = λ index. plain_consecutive c.args.runtime.now.plain.decls index c.args.round.now (place_of c.args.runtime.now) (place_of c.run_workers.new.runtime) _ c.in_ok-outcomes.ensures.outcomes c.in_ok-outcomes.ensures.place
-
-pub returns-clause-commits : goal.returns-clause-commits
-returns-clause-commits g c = λ fits.
-    let lines = worker_lines c.args.round.now in
-    let decls = c.args.runtime.now.plain.decls in
-    let all : c.args.runtime.now.clock.draw + total lines ≤ draw_limit = omega (arith, total-worker_lines c.args.round.now) in
-    let one = workers_commit decls lines (place_of c.args.runtime.now) all in
-    let told = sym c.in_ok-outcomes.ensures.outcomes in
-    record {
-      commits = subst (AllByRecursion (AllByRecursion IsCommit)) told one.0;
-      draws = ap (λ (p : Place). p.clock.draw) c.in_ok-outcomes.ensures.place ∙ one.1 ∙ ap (λ outcomes. c.args.runtime.now.clock.draw + sum_by length outcomes) told;
-      durable = refl;
-    }
-
-pub returns-clause-draws : goal.returns-clause-draws
-returns-clause-draws g c =
-    subst (λ outcomes. DrawsTo c.args.runtime.now.clock.draw (flat_map (λ os. os) outcomes) c.run_workers.new.runtime.clock.draw) (sym c.in_ok-outcomes.ensures.outcomes)
-    (subst (λ (p : Place). DrawsTo c.args.runtime.now.clock.draw (flat_map (λ os. os) (outcomes_of c.args.runtime.now.plain.decls (worker_lines c.args.round.now) (place_of c.args.runtime.now))) p.clock.draw)
-    (sym c.in_ok-outcomes.ensures.place) (workers_draw c.args.runtime.now.plain.decls (worker_lines c.args.round.now) (place_of c.args.runtime.now)))
-
-pub returns-clause-epoch : goal.returns-clause-epoch
-returns-clause-epoch g c = plain_epoch c.args.runtime.now.plain.decls c.args.round.now (place_of c.args.runtime.now) (place_of c.run_workers.new.runtime) c.in_ok-outcomes.ensures.place
+returns-clause-run g c = λ index.
+    subst (λ draw. IsRun c.args.runtime.now.plain.decls index (c.args.round.now ∷ []) c.args.runtime.now.plain.state c.args.runtime.now.clock (ran_with c.args.runtime.now.clock draw c.in_ok-outcomes.outcomes ∷ []) c.advance-end.new.runtime.plain.state)
+    (sym c.advance-end.ensures.draw)
+    (subst (λ (plain : Plain). IsRun c.args.runtime.now.plain.decls index (c.args.round.now ∷ []) c.args.runtime.now.plain.state c.args.runtime.now.clock (ran_with c.args.runtime.now.clock c.run_lines.new.runtime.clock.draw c.in_ok-outcomes.outcomes ∷ []) plain.state)
+    (sym c.advance-end.ensures.plain) (c.in_ok-outcomes.ensures.run index))

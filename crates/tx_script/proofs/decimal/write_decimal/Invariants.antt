@@ -1,4 +1,5 @@
 -- The digits so far, and those of what is left.
+use Rattle.std.proofs.Common.{ℕ}
 use Rattle.tx_script.proofs.DecimalDigits.{DigitsSoFar}
 use Rattle.tx_script.proofs.decimal.write_decimal.Given as goal
 

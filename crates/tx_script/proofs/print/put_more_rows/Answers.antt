@@ -1,5 +1,5 @@
 -- Each turn adds a comma and a pair.
-use Rattle.std.proofs.Common.{get_or}
+use Rattle.std.proofs.Common.{get_or, refl}
 use Rattle.std.specs.Prelude.{codes}
 use Rattle.tx_script.specs.Text.{pair_text}
 use Rattle.tx_script.proofs.FlatTexts.{get_or-own, marked-more, marked-split}

@@ -1,4 +1,5 @@
 -- Each turn adds a space and a reply.
+use Rattle.std.proofs.Common.{get_or, refl}
 use Rattle.std.specs.Prelude.{codes}
 use Rattle.tx_script.specs.Text.{reply_text}
 use Rattle.tx_script.proofs.FlatTexts.{marked-more, marked-split}

@@ -17,7 +17,7 @@ returns-then-bytes-end-clause-err c commit rest line e =
 pub returns-in-Some-Some-clause-ok : goal.returns-in-Some-Some-clause-ok
 returns-in-Some-Some-clause-ok c =
     let number = c.in-Some-Some.ensures.0 in
-    is_line c.args.bytes.now (record { number = c.in-Some-Some.number; changes = c.in-Some-Some.changes }) c.word_at.result c.word_at-count.result _ number.valid number.spells c.word_at.ensures c.word_at-count.ensures (omega arith) (omega arith) (omega arith) (omega arith) c.in-Some-Some.ensures'.found
+    is_line c.args.bytes.now (record { number = c.in-Some-Some.number; changes = c.in-Some-Some.changes }) c.word_at.result c.word_at-count.result _ number.valid number.spelled c.word_at.ensures c.word_at-count.ensures (omega arith) (omega arith) (omega arith) (omega arith) c.in-Some-Some.ensures'.found
 
 pub returns-in_default-clause-err : goal.returns-in_default-clause-err
 returns-in_default-clause-err c commit rest line e =

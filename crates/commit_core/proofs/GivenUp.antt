@@ -76,7 +76,7 @@ draw_over opening p m s writes a story drawn undecided =
       own = λ e.
           let both : Some b ≡ Some a = sym (at_push_new m.history b) ∙ e in
           let same : a ≡ b = cc in
-          not_below_itself a.number (clock_of m.epoch m.history) (ap (λ (x : Attempt). x.number) same) (story.ordered_numbers.past a drawn);
+          not_below_itself a.number (clock_of m.first_draw m.epoch m.history) (ap (λ (x : Attempt). x.number) same) (story.ordered_numbers.past a drawn);
       others = λ stage there not_it. not_tried_later m.history a b stage there not_it;
     }
 
@@ -105,7 +105,7 @@ decide_over : (opening : List Place) (m : Story) (s : Seat) (a : Attempt) (o : O
     → is_decided m.decided a.number ≡ false → IsNotTried m.history a s.stage → StaysOver m a (after_decide m s o)
 decide_over opening m s a None at story drawn undecided own = stays_alike m a s (moved m s) refl refl refl undecided own
 decide_over opening m s a (Some b) at story drawn undecided own =
-    let only = alone opening m.history m.decided (clock_of m.epoch m.history) b story.ordered_numbers (tried_in m.history s.stage b at) in
+    let only = alone opening m.history m.decided (clock_of m.first_draw m.epoch m.history) b story.ordered_numbers (tried_in m.history s.stage b at) in
     record {
       undecided = decided_other m.decided b.number a.number (λ e. own (at ∙ ap (λ (x : Attempt). Some x) (sym (only a drawn (sym e))))) ∙ undecided;
       own = settled_tried m.history a (record s { put = []; stage = decided_stage s.stage }) (decided_not_tried m.history a s.stage);

@@ -17,14 +17,14 @@ use Rattle.commit_core.specs.Sound.Numbers.{EachOnce, OrderedNumbers, ChecksAreP
 
 -- ---- the clock goes on
 
-pub clock_after_draw : (epoch : ℕ) (h : List Attempt) (a : Attempt) → IsBelow (clock_of epoch h) (clock_of epoch (h ++ a ∷ []))
-clock_after_draw epoch h a = let longer = length-append h (a ∷ []) in later epoch (length h + 1) (length (h ++ a ∷ []) + 1) (omega (arith, longer))
+pub clock_after_draw : (first epoch : ℕ) (h : List Attempt) (a : Attempt) → IsBelow (clock_of first epoch h) (clock_of first epoch (h ++ a ∷ []))
+clock_after_draw first epoch h a = let longer = length-append h (a ∷ []) in later epoch (first + length h) (first + length (h ++ a ∷ [])) (omega (arith, longer))
   where
     later : (e x y : ℕ) → x < y → IsBelow (record { epoch = e; draw = x }) (record { epoch = e; draw = y })
     later e x y l = grind (arith, nat_tests)
 
-pub clock_after_advance : (epoch : ℕ) (h : List Attempt) → IsBelow (clock_of epoch h) (clock_of (epoch + 1) h)
-clock_after_advance epoch h = grind (arith, nat_tests)
+pub clock_after_advance : (first epoch : ℕ) (h : List Attempt) → IsBelow (clock_of first epoch h) (clock_of first (epoch + 1) h)
+clock_after_advance first epoch h = grind (arith, nat_tests)
 
 -- ---- one more decided number, one more check
 

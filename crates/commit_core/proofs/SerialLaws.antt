@@ -1,6 +1,7 @@
 -- The decided attempts, in order of number, are a serial run.
-use Rattle.std.proofs.Common.{◌≡◌, ℕ, zero, suc, Bool, true, false, true≢false, cond, ◌&&◌, inl, inr, List, [], ◌∷◌, refl, sym, ap, ◌∙◌, subst, arith, Option, Some, None}
+use Rattle.std.proofs.Common.{◌≡◌, ℕ, zero, suc, ◌-◌, ◌<◌, Bool, true, false, true≢false, cond, ◌&&◌, inl, inr, List, [], ◌∷◌, refl, sym, ap, ◌∙◌, subst, arith, Option, Some, None}
 use Rattle.std.proofs.lemmas.Bool.{and_parts, cases_Bool, cond-true, cond-false, cond_both}
+use Rattle.std.proofs.lemmas.Bool.Decides.{nat_tests}
 use Rattle.std.specs.List.{Contains, slice_get, filter}
 use Rattle.std.specs.Prelude.{replicate}
 use Rattle.std.specs.Option.{option_map_or}
@@ -12,7 +13,7 @@ use Rattle.commit_core.specs.declared.place.Part.{Part}
 use Rattle.commit_core.specs.declared.attempt.Attempt.{Attempt}
 use Rattle.commit_core.specs.declared.seat.Seat.{Seat}
 use Rattle.commit_core.specs.declared.story.Story.{Story}
-use Rattle.commit_core.specs.Keys.{same_key, is_below, place_at, opening_number, nothing, content_at}
+use Rattle.commit_core.specs.Keys.{same_key, is_below, IsBelow, place_at, opening_number, nothing, content_at}
 use Rattle.commit_core.specs.CoreState.{holder_is, is_held_by, clock_of, is_decided}
 use Rattle.commit_core.specs.Serial.{after_writes, after_all, state_below, RisesFrom}
 use Rattle.commit_core.specs.Serial.{committed, ReadsFrom, ReadsAlong, IsSerialRun}
@@ -117,21 +118,28 @@ at_replicate zero i x y e = cc
 at_replicate (suc n) zero x y e = cc
 at_replicate (suc n) (suc i) x y e = at_replicate n i x y e
 
-fresh_sound : (pairs : List (Key × ℕ)) (p : ℕ) → IsSoundSeat (opening_places pairs) (opening_story pairs) p fresh_seat
-fresh_sound pairs p = record {
+first_above : (e d : ℕ) → 0 < e → IsBelow opening_number (record { epoch = e; draw = d })
+first_above e d later = grind (arith, nat_tests)
+
+epoch_before : (n e : ℕ) → 0 < n → n - 1 ≡ e → e < n
+epoch_before n e later is = omega arith
+
+fresh_sound : (pairs : List (Key × ℕ)) (first : Number) (p : ℕ) → 0 < first.epoch → IsSoundSeat (opening_places pairs) (opening_story pairs first) p (fresh_seat first)
+fresh_sound pairs first p later = record {
   lock_owners = record { held = λ k h. absurd (true≢false (sym h)); listed = λ k h. absurd (opening_unheld pairs p k h) };
   attempt_stands = tt;
   locked_homes = λ k q at mine. absurd (true≢false (sym mine ∙ ap (holder_is p) (opening_free pairs k q at)));
   no_lower_writer = tt;
-  marks_are_past = λ e is. let same : 0 ≡ e = cc in (omega arith, tt);
-  kept_is_past = kept_dropped (opening_places pairs) [] (clock_of 1 []);
+  marks_are_past = λ e is. let same : first.epoch - 1 ≡ e = cc in (epoch_before first.epoch e later same, tt);
+  kept_is_past = kept_dropped (opening_places pairs) [] (clock_of first.draw first.epoch []);
 }
 
-pub opening_sound : (pairs : List (Key × ℕ)) (passes : ℕ) → IsSound (opening_core pairs passes)
-opening_sound pairs passes = record {
+pub opening_sound : (pairs : List (Key × ℕ)) (first : Number) (passes : ℕ) → 0 < first.epoch → IsSound (opening_core pairs first passes)
+opening_sound pairs first passes later = record {
   story = record {
     ordered_numbers = record {
-      opening_past = λ k. ap (λ (n : Number). is_below n (clock_of 1 [])) (opening_numbered pairs k);
+      opening_past = λ k. let clock = clock_of first.draw first.epoch [] in
+          ap (λ (n : Number). is_below n clock) (opening_numbered pairs k) ∙ first_above first.epoch clock.draw later;
       rising = λ k. tt;
       past = λ a m. absurd (in_none a m);
       decided_drawn = λ n d. absurd (true≢false (sym d));
@@ -143,6 +151,6 @@ opening_sound pairs passes = record {
     parts_are_past = λ a m. absurd (in_none a m);
     checks_are_past = λ n k c. absurd (true≢false (sym c));
   };
-  seats = λ p s at. subst (λ (x : Seat). IsSoundSeat (opening_places pairs) (opening_story pairs) p x) (at_replicate passes p fresh_seat s at) (fresh_sound pairs p);
+  seats = λ p s at. subst (λ (x : Seat). IsSoundSeat (opening_places pairs) (opening_story pairs first) p x) (at_replicate passes p (fresh_seat first) s at) (fresh_sound pairs first p later);
   holders_are_seats = λ k q p at e. absurd (true≢false (sym e ∙ ap (holder_is p) (opening_free pairs k q at)));
 }

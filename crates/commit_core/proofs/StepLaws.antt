@@ -1,5 +1,5 @@
 -- One step of the whole state, from what the act of its seat answers.
-use Rattle.std.proofs.Common.{◌≡◌, ℕ, zero, suc, false, List, [], ◌∷◌, refl, sym, ap, ◌∙◌, subst, set, IfOk, Option, Some, Result, Ok, Err}
+use Rattle.std.proofs.Common.{◌≡◌, ℕ, zero, suc, ◌<◌, arith, false, List, [], ◌∷◌, refl, sym, ap, ◌∙◌, subst, set, IfOk, Option, Some, Result, Ok, Err}
 use Rattle.std.specs.List.{slice_get}
 use Rattle.std.specs.Option.{option_map_or}
 use Rattle.serial_model.specs.declared.key.Key.{Key}
@@ -11,7 +11,7 @@ use Rattle.commit_core.specs.declared.event.Event.{Event}
 use Rattle.commit_core.specs.CoreState.{CoreState}
 use Rattle.commit_core.specs.Event.{with_moved}
 use Rattle.commit_core.specs.Serial.{committed, IsSerialRun}
-use Rattle.commit_core.specs.Opening.{opening_core}
+use Rattle.commit_core.specs.Opening.{first_number, opening_core}
 use Rattle.commit_core.specs.Sound.{IsSound}
 use Rattle.serial_model.specs.declared.memory.OrMemory.{OrMemory}
 use Rattle.serial_model.specs.declared.memory.OrMemory.TheVariants.{Fault, Memory}
@@ -53,8 +53,8 @@ answers_sound c e (Err Memory) d a sound = subst (λ (y : CoreState). IsSound y)
 
 -- the same at each answer of a call
 
-pub opened_sound : {E : Type 0} (pairs : List (Key × ℕ)) (passes : ℕ) (r : Result CoreState E) → IfOk r (λ c. c ≡ opening_core pairs passes) → IfOk r IsSound
-opened_sound pairs passes (Ok c) is = subst (λ (x : CoreState). IsSound x) (sym is) (opening_sound pairs passes)
+pub opened_sound : {E : Type 0} (pairs : List (Key × ℕ)) (passes : ℕ) (r : Result CoreState E) → IfOk r (λ c. c ≡ opening_core pairs first_number passes) → IfOk r IsSound
+opened_sound pairs passes (Ok c) is = let later : 0 < 1 = omega arith in subst (λ (x : CoreState). IsSound x) (sym is) (opening_sound pairs first_number passes later)
 opened_sound pairs passes (Err e) is = tt
 
 pub listed_serial : {E : Type 0} (c : CoreState) (r : Result (List Attempt) E) → IfOk r (λ attempts. attempts ≡ committed c.story) → IsSound c → IfOk r (IsSerialRun c.opening)

@@ -42,9 +42,9 @@ is_open_to p (Some place) = if is_none place.holder then true else holder_is p p
 
 -- ---- the story
 
--- the next number to be taken. The first one's draw is 1
-abbrev pub clock_of : ℕ → List Attempt → Number
-clock_of epoch history = record { epoch = epoch; draw = length history + 1 }
+-- the next number to be taken, where the first one had this draw
+abbrev pub clock_of : ℕ → ℕ → List Attempt → Number
+clock_of first epoch history = record { epoch = epoch; draw = first + length history }
 
 abbrev pub is_decided : List Number → Number → Bool
 is_decided decided n = list_any (λ m. same_number m n) decided

@@ -63,7 +63,7 @@ moved m s = record { story = m; seat = s }
 
 -- what the seat's next attempt will be
 abbrev pub next_attempt : ℕ → Story → Seat → List Change → Attempt
-next_attempt p m s writes = record { seat = p; number = clock_of m.epoch m.history; parts = s.kept; writes = writes }
+next_attempt p m s writes = record { seat = p; number = clock_of m.first_draw m.epoch m.history; parts = s.kept; writes = writes }
 
 -- the same number, and a value in both or in neither: what a place's word shows beside its lock
 abbrev pub is_same_word : Content → Content → Bool

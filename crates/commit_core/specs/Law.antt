@@ -1,6 +1,7 @@
 -- What holds under every list of events.
 use Rattle.std.specs.Prelude.{◌≡◌, ℕ, ◌<◌, true, false, List, Contains, Some, slice_get}
 use Rattle.serial_model.specs.declared.key.Key.{Key}
+use Rattle.serial_model.specs.declared.number.Number.{Number}
 use Rattle.commit_core.specs.declared.event.Event.{Event}
 use Rattle.commit_core.specs.declared.event.Act.{Act}
 use Rattle.commit_core.specs.declared.event.Act.TheVariants.{Check as Look}
@@ -29,9 +30,9 @@ abbrev pub EachActKeeps : Type 0
 EachActKeeps = (opening : List Place) (p : ℕ) (m : Story) (s : Seat) (act : Act) → is_allowed p m s act ≡ true
     → IsSoundStory opening m → IsSoundSeat opening m p s → Keeps opening p m (effect p m s act)
 
--- each machine starts sound
+-- each machine starts sound, whose first epoch isn't 0
 abbrev pub StartsSound : Type 0
-StartsSound = (pairs : List (Key × ℕ)) (passes : ℕ) → IsSound (opening_core pairs passes)
+StartsSound = (pairs : List (Key × ℕ)) (first : Number) (passes : ℕ) → 0 < first.epoch → IsSound (opening_core pairs first passes)
 
 -- every list of events keeps it so
 abbrev pub StaysSound : Type 0

@@ -1,6 +1,7 @@
 -- How a machine begins, and how it grows.
-use Rattle.std.specs.Prelude.{◌≡◌, ℕ, List, [], ◌∷◌, ◌++◌, map, replicate, Some, None}
+use Rattle.std.specs.Prelude.{◌≡◌, ℕ, ◌-◌, List, [], ◌∷◌, ◌++◌, map, replicate, Some, None}
 use Rattle.serial_model.specs.declared.key.Key.{Key}
+use Rattle.serial_model.specs.declared.number.Number.{Number}
 use Rattle.commit_core.specs.declared.place.Place.{Place}
 use Rattle.commit_core.specs.declared.seat.Stage.TheVariants.{Idle}
 use Rattle.commit_core.specs.declared.seat.Seat.{Seat}
@@ -15,16 +16,22 @@ opening_place e = record { key = e.0; content = content_of opening_number (Some 
 abbrev pub opening_places : List (Key × ℕ) → List Place
 opening_places pairs = map opening_place pairs
 
+-- the first number that a machine gives
+abbrev pub first_number : Number
+first_number = record { epoch = 1; draw = 1 }
+
 -- a seat that has nothing. Its first mark is the first epoch less one
-abbrev pub fresh_seat : Seat
-fresh_seat = record { kept = []; locks = []; put = []; marks = Some 0 ∷ []; stage = Idle }
+abbrev pub fresh_seat : Number → Seat
+fresh_seat first = record { kept = []; locks = []; put = []; marks = Some (first.epoch - 1) ∷ []; stage = Idle }
 
--- epoch 1, and no attempt yet
-abbrev pub opening_story : List (Key × ℕ) → Story
-opening_story pairs = record { history = []; checks = []; decided = []; places = opening_places pairs; epoch = 1 }
+-- no attempt yet, and this number is the next
+abbrev pub opening_story : List (Key × ℕ) → Number → Story
+opening_story pairs first =
+    record { history = []; checks = []; decided = []; places = opening_places pairs; first_draw = first.draw; epoch = first.epoch }
 
-abbrev pub opening_core : List (Key × ℕ) → ℕ → CoreState
-opening_core pairs passes = record { opening = opening_places pairs; story = opening_story pairs; seats = replicate passes fresh_seat }
+abbrev pub opening_core : List (Key × ℕ) → Number → ℕ → CoreState
+opening_core pairs first passes =
+    record { opening = opening_places pairs; story = opening_story pairs first; seats = replicate passes (fresh_seat first) }
 
 -- the second list begins with the first
 abbrev pub IsPrefix : {A : Type 0} → List A → List A → Type 0

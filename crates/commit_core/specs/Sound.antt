@@ -28,12 +28,12 @@ use Rattle.commit_core.specs.Sound.Reads.{ReadsStayTrue, NoLowerWriter, CommitsA
 use Rattle.commit_core.specs.Sound.Marks.{MarksArePast}
 
 pub record IsSoundStory (opening : List Place) (m : Story) : Type 0 where
-  pub ordered_numbers : OrderedNumbers opening m.history m.decided (clock_of m.epoch m.history)
+  pub ordered_numbers : OrderedNumbers opening m.history m.decided (clock_of m.first_draw m.epoch m.history)
   pub unlocked_homes : UnlockedHomes opening m.history m.decided m.places
   pub reads_stay_true : ReadsStayTrue opening m.history m.checks m.decided
   pub commits_are_checked : CommitsAreChecked m.history m.checks m.decided
   pub parts_are_past : PartsArePast opening m.history
-  pub checks_are_past : ChecksArePast m.checks (clock_of m.epoch m.history)
+  pub checks_are_past : ChecksArePast m.checks (clock_of m.first_draw m.epoch m.history)
 
 pub record IsSoundSeat (opening : List Place) (m : Story) (p : ℕ) (s : Seat) : Type 0 where
   pub lock_owners : LockOwners m.places p s.locks
@@ -41,7 +41,7 @@ pub record IsSoundSeat (opening : List Place) (m : Story) (p : ℕ) (s : Seat) :
   pub locked_homes : LockedHomes opening m.history m.decided m.places s.put p s.stage
   pub no_lower_writer : NoLowerWriter m.history m.checks s.stage
   pub marks_are_past : MarksArePast m.epoch m.history s.marks s.stage
-  pub kept_is_past : KeptIsPast opening m.history (clock_of m.epoch m.history) s.kept
+  pub kept_is_past : KeptIsPast opening m.history (clock_of m.first_draw m.epoch m.history) s.kept
 
 -- a fact of each seat
 abbrev pub EachSeat : List Seat → (ℕ → Seat → Type 0) → Type 0

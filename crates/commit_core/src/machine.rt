@@ -2,7 +2,7 @@
 ghost use Rattle.std.specs.Prelude.{◌≡◌, ℕ, List, IfOk, OnOk};
 ghost use Rattle.commit_core.specs.CoreState.{CoreState};
 ghost use Rattle.commit_core.specs.Event.{Answers, AnswersEvent};
-ghost use Rattle.commit_core.specs.Opening.{opening_core, opening_place, opening_places, fresh_seat};
+ghost use Rattle.commit_core.specs.Opening.{first_number, opening_core, opening_place, opening_places, fresh_seat};
 ghost use Rattle.commit_core.specs.Serial.{committed, IsSerialRun};
 ghost use Rattle.commit_core.specs.Sound.{IsSound};
 ghost use Rattle.std.specs.Prelude.{map, replicate};
@@ -33,7 +33,7 @@ impl Core {
     /// A machine with these values, unlocked, and with this many seats. Of equal keys the first counts. The first
     /// number is 1:1, and each seat's first mark is the epoch before.
     pub fn new(alloc: Global, pairs: &[(Key, u64)], passes: u32) -> Result<Self, Memory>
-        ensures opens { IfOk result (λ c. c ≡ opening_core pairs.now passes) }
+        ensures opens { IfOk result (λ c. c ≡ opening_core pairs.now first_number passes) }
         ensures sound { IfOk result IsSound }
     {
         opened(alloc, pairs, passes)
@@ -72,7 +72,7 @@ impl Core {
 }
 
 fn opened(alloc: Global, pairs: &[(Key, u64)], passes: u32) -> Result<Core, Memory>
-    ensures { IfOk result (λ c. c ≡ opening_core pairs.now passes) }
+    ensures { IfOk result (λ c. c ≡ opening_core pairs.now first_number passes) }
 {
     let opening = opening_places(alloc, pairs)?;
     let places = opening_places(alloc, pairs)?;
@@ -82,6 +82,7 @@ fn opened(alloc: Global, pairs: &[(Key, u64)], passes: u32) -> Result<Core, Memo
         checks: Sequence::new(alloc),
         decided: Sequence::new(alloc),
         places: Sequence::from_vec(places),
+        first_draw: 1,
         epoch: 1,
     };
     Ok(Core {
@@ -129,7 +130,7 @@ fn opening_places(alloc: Global, pairs: &[(Key, u64)]) -> Result<Vec<Place>, Mem
 
 /// Seats that have nothing.
 fn fresh_seats(alloc: Global, passes: u32) -> Result<Vec<Seat>, Memory>
-    ensures { IfOk result (λ v. v.items ≡ replicate passes fresh_seat) }
+    ensures { IfOk result (λ v. v.items ≡ replicate passes (fresh_seat first_number)) }
 {
     let mut seats = Vec::new(alloc);
     for _ in 0..passes {
@@ -142,7 +143,7 @@ fn fresh_seats(alloc: Global, passes: u32) -> Result<Vec<Seat>, Memory>
 }
 
 fn fresh_seat(alloc: Global) -> Result<Seat, Memory>
-    ensures { IfOk result (λ s. s ≡ fresh_seat) }
+    ensures { IfOk result (λ s. s ≡ fresh_seat first_number) }
 {
     let mut marks = Sequence::new(alloc);
     marks.push(Some(0))?;

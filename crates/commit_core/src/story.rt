@@ -22,18 +22,20 @@ pub struct Story {
     /// The numbers of the attempts that count, in the order in which that was decided.
     pub decided: Sequence<Number>,
     pub places: Sequence<Place>,
-    /// The clock's epoch. Its count of numbers taken is the length of the history.
+    /// The draw of the first number. Those of the others count on from it, so the clock's is this and the history's length.
+    pub first_draw: u32,
+    /// The clock's epoch.
     pub epoch: u32,
 }
 
 impl Story {
     /// The next number to be taken.
     pub fn clock(&self) -> Number
-        ensures { result ≡ clock_of self.now.epoch self.now.history }
+        ensures { result ≡ clock_of self.now.first_draw self.now.epoch self.now.history }
     {
         Number {
             epoch: self.epoch,
-            draw: self.history.len() as u64 + 1,
+            draw: self.first_draw as u64 + self.history.len() as u64,
         }
     }
 

@@ -64,8 +64,8 @@ passes_of round r s old new report ended epoch most ran adds =
     elim (eq-or-lt_of_le most) [
       | inl same ↦ subst (λ e. Passes round r s old new (ending_of e)) (sym (ended ∙ end_in_last report.outcomes s.clock.draw r.clock.epoch same)) (of, ran, adds, same)
       | inr less ↦
-        let next : s.clock.epoch ≡ r.clock.epoch + 1 = epoch ∙ after_before r.clock.epoch less in
-        let clock : s.clock ≡ joined of.end = clock_of s.clock (r.clock.epoch + 1) next in
-        subst (λ e. Passes round r s old new (ending_of e)) (sym (ended ∙ end_before report.outcomes s.clock.draw r.clock.epoch less (none_refused_of report.outcomes commits.commits)))
-        (of, ran, adds, less, clock)
+          let next : s.clock.epoch ≡ r.clock.epoch + 1 = epoch ∙ after_before r.clock.epoch less in
+          let clock : s.clock ≡ joined of.end = clock_of s.clock (r.clock.epoch + 1) next in
+          subst (λ e. Passes round r s old new (ending_of e)) (sym (ended ∙ end_before report.outcomes s.clock.draw r.clock.epoch less (none_refused_of report.outcomes commits.commits)))
+          (of, ran, adds, less, clock)
     ]

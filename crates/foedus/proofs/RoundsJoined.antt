@@ -154,8 +154,8 @@ run-push decls rounds s clock rans t u ran round at so begins one =
           subst (λ xs. Rises (of_worker worker xs)) (sym all)
           (subst Rises (sym (filter-append (λ (e : Entry). e.worker == worker) es fs))
           (in_order-append (λ e f. IsBelow e.number f.number) (IsPast c) (IsFrom c) (of_worker worker es) (of_worker worker fs) below
-            (all-kept (IsPast c) (λ e. e.worker == worker) es past) (all-kept (IsFrom c) (λ e. e.worker == worker) fs from)
-            (so.workers worker) (subst (λ xs. Rises (of_worker worker xs)) mine (one.workers worker))));
+          (all-kept (IsPast c) (λ e. e.worker == worker) es past) (all-kept (IsFrom c) (λ e. e.worker == worker) fs from)
+          (so.workers worker) (subst (λ xs. Rises (of_worker worker xs)) mine (one.workers worker))));
       clocks = runs_clocks-push 0 clock rans ran rounds round at so.clocks begins (subst (λ i. RunsClock i ran round) (sym counted) own);
       ordered = so.ordered ++ one.ordered;
       same = subst (λ xs. IsPermutation xs (so.ordered ++ one.ordered)) (sym all) (IsPermutation-append es so.ordered fs one.ordered so.same same_one);

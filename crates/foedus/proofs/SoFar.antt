@@ -165,13 +165,16 @@ stopped script r s count old mid new round (AtLimit Epoch) so at passes =
     let ran : Ran = passes.0 in
     let one = passes.1 in
     let run = one.run 0 in
-    let begins : ran.begin.epoch ≡ r.clock.epoch = ap (λ (n : Number). n.epoch) run.clocks.0 in
-    (so.rans ++ ran ∷ [], record {
-      state = s.plain.state;
-      run = pushed script r s count old mid round ran so at one;
-      commits = all_push CommitsAll so.rans ran so.commits one.commits;
-      ends = ends_in_last-push so.rans ran passes.3;
-    }, adds_as (run_text-push so.rans ran) (adds_then so.adds passes.2))
+    let begins : ran.begin.epoch ≡ r.clock.epoch = ap (λ (n : Number). n.epoch) run.clocks.0 in (
+      so.rans ++ ran ∷ [],
+      record {
+        state = s.plain.state;
+        run = pushed script r s count old mid round ran so at one;
+        commits = all_push CommitsAll so.rans ran so.commits one.commits;
+        ends = ends_in_last-push so.rans ran passes.3;
+      },
+      adds_as (run_text-push so.rans ran) (adds_then so.adds passes.2),
+    )
 stopped script r s count old mid new round NoMemory so at passes =
     (so.rans, record { state = r.plain.state; run = so.run; commits = so.commits; ends = tt }, adds_as (append-nil (run_text so.rans)) (adds_then so.adds passes))
 
@@ -182,10 +185,13 @@ stopped_by script r s count old mid new round passed ending so at came is = stop
 -- the sink failed within a round's text
 pub broke : (script : Script) (r s : Runtime) (count : ℕ) (old mid new : Output) (round : Round) (ran : Ran) → RanSoFar script r count old mid → slice_get script.rounds count ≡ Some round
     → RanRound round r s ran → Breaks mid new (round_text ran) → (rans : List Ran) × RunsScript script NoMemory rans × Breaks old new (run_text rans)
-broke script r s count old mid new round ran so at one breaks =
-    (so.rans ++ ran ∷ [], record {
-      state = s.plain.state;
-      run = pushed script r s count old mid round ran so at one;
-      commits = all_push CommitsAll so.rans ran so.commits one.commits;
-      ends = tt;
-    }, breaks_as (run_text-push so.rans ran) (breaks_then so.adds breaks))
+broke script r s count old mid new round ran so at one breaks = (
+  so.rans ++ ran ∷ [],
+  record {
+    state = s.plain.state;
+    run = pushed script r s count old mid round ran so at one;
+    commits = all_push CommitsAll so.rans ran so.commits one.commits;
+    ends = tt;
+  },
+  breaks_as (run_text-push so.rans ran) (breaks_then so.adds breaks),
+)

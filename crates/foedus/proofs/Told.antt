@@ -1,5 +1,5 @@
 -- From texts on their way to what the sink holds, and to the answer.
-use Rattle.std.proofs.Common.{◌≡◌, inl, inr, ◌∙◌, sym, ap, subst, refl, ℕ, List, [], ◌++◌, Option}
+use Rattle.std.proofs.Common.{◌≡◌, inl, inr, ◌∙◌, sym, ap, subst, refl, ℕ, List, [], ◌++◌, Option, Result, Ok, arith}
 use Rattle.std.specs.Io.KnownBytes.{Appends}
 use Rattle.outside.specs.Stream.{TakesPrefix}
 use Rattle.std.proofs.lemmas.List.{append-nil}
@@ -7,8 +7,10 @@ use Rattle.tx_script.specs.Script.{Bytes}
 use Rattle.tx_script.specs.Output.{Output, Adds, Breaks}
 use Rattle.tx_script.specs.Printed.{adds_as, adds_then, breaks_as, breaks_then}
 use Rattle.tx_script.specs.Text.{run_text}
-use Rattle.foedus.specs.Words.{command_of}
-use Rattle.foedus.specs.declared.words.Command.{Command}
+use Rattle.command_line.specs.Options.{command_of}
+use Rattle.command_line.specs.declared.command.Command.{Command}
+use Rattle.command_line.specs.declared.command.Command.TheVariants.{Run, Refused}
+use Rattle.command_line.specs.declared.command.RunOptions.{RunOptions}
 use Rattle.foedus.specs.declared.ending.Ending.{Ending}
 use Rattle.foedus.specs.declared.ending.Ending.TheVariants.{Finished, NoScript, Usage, ReadFault, AtLimit, NoMemory}
 use Rattle.foedus.specs.Ending.{fresh, last_line, output_text, status_of}
@@ -88,3 +90,23 @@ answers_stopped {bytes = bytes} {left = left} words asked stopped = record {
   told = inr refl;
   text = stopped.text;
 }
+
+-- ---- refused words
+
+-- an answer of this type
+abbrev the_ok : (E : Type 0) → Ending → Result Ending E
+the_ok E ending = Ok ending
+
+abbrev the_ok_command : (E : Type 0) → Command → Result Command E
+the_ok_command E command = Ok command
+
+pub usage_of_status : (ending : Ending) {E : Type 0} {status : ℕ} → status ≡ status_of ending → status ≡ 2 → the_ok E ending ≡ Ok Usage
+usage_of_status Finished is two = absurd (omega arith)
+usage_of_status (NoScript fault) is two = absurd (omega arith)
+usage_of_status Usage is two = refl
+usage_of_status ReadFault is two = absurd (omega arith)
+usage_of_status (AtLimit name) is two = absurd (omega arith)
+usage_of_status NoMemory is two = absurd (omega arith)
+
+pub run_is_not_refused : {E : Type 0} {command : Command} (options : RunOptions) → the_ok_command E command ≡ Ok (Run options) → command ≡ Refused → ⊥
+run_is_not_refused options ran refused = cc

@@ -1,17 +1,18 @@
 -- How a call ends: its status, its last line, and what has to hold.
-use Rattle.std.specs.Prelude.{◌≡◌, ◌⊎◌, ℕ, ◌<◌, ◌≤◌, List, [], ◌∷◌, ◌++◌, length, codes, decimal, Option, Some, None, ⊤}
+use Rattle.std.specs.Prelude.{◌≡◌, ◌⊎◌, ℕ, ◌<◌, ◌≤◌, List, [], ◌∷◌, ◌++◌, length, codes, decimal, Option, Some, None, Result, Ok, ⊤}
 use Rattle.std.specs.List.{AllByRecursion}
 use Rattle.std.specs.FinMap.{empty}
 use Rattle.std.specs.Io.KnownBytes.{Consumes, IsAtEnd}
 use Rattle.serial_model.specs.State.{State}
 use Rattle.tx_script.specs.Script.{Bytes, Script, IsTextOf}
+use Rattle.tx_script.specs.Faults.{IsFirstFault}
 use Rattle.tx_script.specs.Run.{Ran, IsScriptRun, CommitsAll}
 use Rattle.tx_script.specs.Text.{run_text}
 use Rattle.tx_script.specs.declared.fault.ScriptFault.{ScriptFault}
 use Rattle.tx_script.specs.declared.fault.FaultKind.{FaultKind}
 use Rattle.tx_script.specs.declared.fault.FaultKind.TheVariants.{Word, Number, Range, Kind, TooLong, TooMany, Declared}
-use Rattle.foedus.specs.declared.words.Command.{Command}
-use Rattle.foedus.specs.declared.words.Command.TheVariants.{Run, Refused}
+use Rattle.command_line.specs.declared.command.Command.{Command}
+use Rattle.command_line.specs.declared.command.Command.TheVariants.{Run, Refused}
 use Rattle.foedus.specs.declared.ending.Ending.{Ending}
 use Rattle.round_engine.specs.Limits.{last_epoch}
 use Rattle.round_engine.specs.declared.report.End.{End}
@@ -119,13 +120,18 @@ IsNoText bytes = (script : Script) → IsTextOf bytes script → ⊥
 -- sink failed are clauses of their own, and want of memory may come at any time.
 abbrev pub Comes : Command → Bytes → Option Script → List Ran → Ending → Type 0
 Comes Refused bytes script rans Usage = script ≡ None
+Comes Refused bytes script rans NoMemory = script ≡ None
 Comes Refused bytes script rans _ = ⊥
-Comes Run bytes script rans Finished = IsWhole script rans × AllJoined rans
-Comes Run bytes script rans (NoScript fault) = (script ≡ None) × IsNoText bytes × (fault ≡ record { line = 0; kind = Word })
-Comes Run bytes script rans Usage = ⊥
-Comes Run bytes script rans ReadFault = script ≡ None
-Comes Run bytes script rans (AtLimit name) = EndsAt name rans
-Comes Run bytes script rans NoMemory = ⊤
+Comes (Run options) bytes script rans Finished = IsWhole script rans × AllJoined rans
+Comes (Run options) bytes script rans (NoScript fault) = (script ≡ None) × IsNoText bytes × IsFirstFault bytes fault
+Comes (Run options) bytes script rans Usage = ⊥
+Comes (Run options) bytes script rans ReadFault = script ≡ None
+Comes (Run options) bytes script rans (AtLimit name) = EndsAt name rans
+Comes (Run options) bytes script rans NoMemory = ⊤
+
+-- how words end that are refused
+abbrev pub IsUsage : {E : Type 0} → Result Ending E → Type 0
+IsUsage result = (result ≡ Ok Usage) ⊎ (result ≡ Ok NoMemory)
 
 -- ---- what is read
 

@@ -11,8 +11,8 @@ use Rattle.tx_script.specs.Output.{Output, Adds, Breaks}
 use Rattle.round_engine.specs.Limits.{last_epoch}
 use Rattle.round_engine.specs.declared.report.LimitName.TheVariants.{Epoch}
 use Rattle.round_engine.specs.declared.runtime.Runtime.{Runtime}
-use Rattle.foedus.specs.Words.{command_of}
-use Rattle.foedus.specs.declared.words.Command.{Command}
+use Rattle.command_line.specs.Options.{command_of}
+use Rattle.command_line.specs.declared.command.Command.{Command}
 use Rattle.foedus.specs.declared.ending.Ending.{Ending}
 use Rattle.foedus.specs.declared.ending.Ending.TheVariants.{AtLimit, NoMemory}
 use Rattle.foedus.specs.Ending.{Opening, Comes, EndsRun, Reads, RunsOf, fresh, output_text, status_of}

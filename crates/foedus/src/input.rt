@@ -8,7 +8,7 @@ ghost use Rattle.foedus.specs.Ending.{TakesAtMost, fresh, most_read};
 ghost use Rattle.foedus.specs.Main.{Course};
 
 use crate::ending::Ending;
-use crate::words::Command;
+use command_line::{Command, RunOptions};
 use outside::{Failed, Source};
 use serial_model::OrMemory;
 use std::alloc::Global;
@@ -53,7 +53,7 @@ pub(crate) fn read_bytes<S: Source>(
 pub(crate) fn read_text<S: Source>(alloc: Global, source: &mut S) -> Result<Script, Ending>
     ensures told { (bytes : List ℕ) → S.left source.old ≡ Some bytes → MatchResult result
         (λ script. IsTextOf bytes script × IsAtEnd (S.left source.new))
-        (λ ending. Course fresh Command.Run bytes (S.left source.new) [] ending) }
+        (λ ending. (options : RunOptions) → Course fresh (Command.Run options) bytes (S.left source.new) [] ending) }
     ensures rules { IfOk result IsScript }
     ensures unlike { IfErr result (λ ending. ending ≢ Ending.Usage) }
     ensures cause { result ≡ Err Ending.ReadFault → Rose (S.faults source.old) (S.faults source.new) }

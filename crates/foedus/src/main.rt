@@ -11,7 +11,6 @@ mod files;
 mod input;
 mod program;
 mod run;
-mod words;
 
 pub use ending::Ending;
 use files::{NoVault, open_vault, tell_device};
@@ -25,10 +24,25 @@ use std::process::ExitCode;
 use std::sync::Wait;
 use std::thread::Threads;
 use tx_script::{Buffer, flush};
-pub use words::Command;
 
 #[cfg(test)]
 mod tests;
+
+/// What the program does, for a person whose words were refused.
+const USAGE: &str = "\
+foedus runs the transactions of a script, and prints a line for each.
+
+  foedus run [--tries N] [--slots N] [--snap N] < SCRIPT
+
+  run         reads the script from standard input and runs it on an empty database
+  --tries N   how often a transaction is tried: 1 to 1000000, 1000 if left out
+  --slots N   pages in memory that can change: 4 to 4096, 256 if left out
+  --snap N    snapshot pages in memory: 1 to 65536, 4096 if left out
+
+Options come in any order, each at most once. They are without effect for now.
+A script declares arrays (array ID SIZE), and then has a line for each transaction: the worker,
+and its operations, as in 0 w 1 2 7; r 1 2. A line join ends a round.
+";
 
 /// Prints how a call ends that `top` doesn't see, and answers the status.
 fn tell<K: Sink>(sink: &mut K, ending: Ending) -> u8 {
@@ -89,5 +103,9 @@ fn main(rt: HostRuntime) -> ExitCode {
         Ok(words) => call_top(&rt, &words, &mut sink),
         Err(ending) => tell(&mut sink, ending),
     };
+    if status == 2 {
+        // The answer stands on standard output: where this can't be written, nothing is missing.
+        let _ = eprint!(rt; "{USAGE}");
+    }
     ExitCode::from(status)
 }

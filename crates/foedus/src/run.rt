@@ -1,6 +1,7 @@
 // Runs of a script, printed round by round.
 ghost use Rattle.std.specs.Prelude.{◌≡◌, ℕ, ◌+◌, ◌≤◌, List, Some, Ok, length, MatchResult};
 ghost use Rattle.outside.specs.Faults.{HasCause, Rose};
+ghost use Rattle.command_line.specs.Options.{AreInRange};
 ghost use Rattle.tx_script.specs.Script.{IsScript};
 ghost use Rattle.tx_script.specs.Run.{CanRun, Ran};
 ghost use Rattle.tx_script.specs.Text.{round_text, run_text};
@@ -11,7 +12,7 @@ ghost use Rattle.round_engine.specs.Limits.{draw_limit, last_epoch};
 
 use crate::ending::Ending;
 use crate::input::read_text;
-use crate::words::Command;
+use command_line::{Command, RunOptions};
 use outside::{Failed, Gate, Sink, Source};
 use round_engine::{End, Runtime, round};
 use serial_model::{Config, Number};
@@ -20,15 +21,8 @@ use std::sync::Wait;
 use std::thread::Threads;
 use tx_script::{Buffer, Round, Script, put_round};
 
-/// How often a line is tried, unless the words say otherwise.
-const TRIES: u32 = 1000;
-
-/// What a run begins with, unless the words say otherwise: an empty database begins in epoch 1.
-const CONFIG: Config = Config {
-    slots: 256,
-    snap: 4096,
-    first: Number { epoch: 1, draw: 1 },
-};
+/// An empty database begins in epoch 1.
+const FIRST: Number = Number { epoch: 1, draw: 1 };
 
 /// Does what the command asks for, and adds the text of what was run.
 pub(crate) fn run<R: Threads + Wait + Sync, S: Source, K: Sink, G: Gate + Sync>(
@@ -40,6 +34,7 @@ pub(crate) fn run<R: Threads + Wait + Sync, S: Source, K: Sink, G: Gate + Sync>(
     buffer: &mut Buffer,
     gate: &G,
 ) -> Result<Ending, Failed>
+    requires ranges { (options : RunOptions) → command ≡ Command.Run options → AreInRange options }
     ensures told { (bytes : List ℕ) → S.left source.old ≡ Some bytes → MatchResult result
         (λ ending. Adding command bytes (S.left source.new)
         (record { faults = K.faults sink.old; held = K.held sink.old; waiting = buffer.old })
@@ -55,8 +50,8 @@ pub(crate) fn run<R: Threads + Wait + Sync, S: Source, K: Sink, G: Gate + Sync>(
     ensures taken { TakesAtMost (S.left source.old) (S.left source.new) }
 {
     match command {
-        Command::Run => match read_text(alloc, source) {
-            Ok(script) => run_script(rt, alloc, &script, sink, buffer, gate),
+        Command::Run(options) => match read_text(alloc, source) {
+            Ok(script) => run_script(rt, alloc, options, &script, sink, buffer, gate),
             Err(ending) => Ok(ending),
         },
         Command::Refused => Ok(Ending::Usage),
@@ -67,12 +62,14 @@ pub(crate) fn run<R: Threads + Wait + Sync, S: Source, K: Sink, G: Gate + Sync>(
 fn run_script<R: Threads + Wait + Sync, K: Sink, G: Gate + Sync>(
     rt: &R,
     alloc: Global,
+    options: RunOptions,
     script: &Script,
     sink: &mut K,
     buffer: &mut Buffer,
     gate: &G,
 ) -> Result<Ending, Failed>
-    requires { IsScript script.now }
+    requires rules { IsScript script.now }
+    requires ranges { AreInRange options }
     ensures { MatchResult result
         (λ ending. (rans : List Ran) × RunsScript script.now ending rans × Adds
         (record { faults = K.faults sink.old; held = K.held sink.old; waiting = buffer.old })
@@ -81,12 +78,18 @@ fn run_script<R: Threads + Wait + Sync, K: Sink, G: Gate + Sync>(
         (record { faults = K.faults sink.old; held = K.held sink.old; waiting = buffer.old })
         (record { faults = K.faults sink.new; held = K.held sink.new; waiting = buffer.new }) (run_text rans)) }
 {
-    let Ok(mut runtime) = Runtime::new(alloc, script.decls(), CONFIG) else {
+    let config = Config {
+        slots: options.slots,
+        snap: options.snap,
+        first: FIRST,
+    };
+    let tries = options.tries;
+    let Ok(mut runtime) = Runtime::new(alloc, script.decls(), config) else {
         return Ok(Ending::NoMemory);
     };
     for index in 0..script.rounds() {
         let lines = script.round(index);
-        let passed = run_round(rt, alloc, &mut runtime, &lines, sink, buffer, gate)?;
+        let passed = run_round(rt, alloc, &mut runtime, &lines, tries, sink, buffer, gate)?;
         if let Some(ending) = passed {
             return Ok(ending);
         }
@@ -100,11 +103,13 @@ fn run_round<R: Threads + Wait + Sync, K: Sink, G: Gate + Sync>(
     alloc: Global,
     runtime: &mut Runtime,
     lines: &Round<'_>,
+    tries: u32,
     sink: &mut K,
     buffer: &mut Buffer,
     gate: &G,
 ) -> Result<Option<Ending>, Failed>
     requires lines { CanRun runtime.old.plain.decls lines.now }
+    requires tries { (1 ≤ tries) × (tries ≤ 1000000) }
     requires epoch { runtime.old.clock.epoch ≤ last_epoch }
     requires draws { runtime.old.clock.draw + length lines.now.lines ≤ draw_limit }
     ensures { MatchResult result
@@ -115,7 +120,7 @@ fn run_round<R: Threads + Wait + Sync, K: Sink, G: Gate + Sync>(
         (record { faults = K.faults sink.old; held = K.held sink.old; waiting = buffer.old })
         (record { faults = K.faults sink.new; held = K.held sink.new; waiting = buffer.new }) (round_text ran)) }
 {
-    let Ok(report) = round(rt, alloc, runtime, lines, TRIES, gate) else {
+    let Ok(report) = round(rt, alloc, runtime, lines, tries, gate) else {
         return Ok(Some(Ending::NoMemory));
     };
     put_round(sink, buffer, report.outcomes.as_slice())?;

@@ -8,6 +8,8 @@ const ROW: &[u8] = b"array 1 4\n0 w 1 2 7; r 1 2\n0 r 1 0\n";
 
 const ROW_TEXT: &[u8] = b"0.0 ok 1:1 7\n0.1 ok 1:2 0\n";
 
+const OVER: &[u8] = b"array 1 4\n0 w 1 0 18446744073709551615; a 1 0 1\n0 r 1 0\n";
+
 const JOINED: &[u8] = b"array 1 4\n0 w 1 0 1\njoin\n0 r 1 0\n";
 
 // A join advances the epoch by one, and the draws go on.
@@ -46,27 +48,65 @@ fn ample_memory_is_enough(rt: HostRuntime) -> Result<(), Fail> {
     Ok(())
 }
 
-// Each with its status and its text: the words, the source, and the numbers of the failing reads and writes.
+// Each with its status and its text: the words after the name, the source, and the numbers of the failing reads and
+// writes.
 #[test]
 fn each_status_has_its_cause(rt: HostRuntime) -> Result<(), Fail> {
     let alloc = rt.alloc();
     let mut vault = fresh_vault(alloc)?;
-    let no_script = b"script 0 Word\n";
-    let cases: [(&str, &[u8], u64, u64, u8, &[u8]); 9] = [
-        ("run", ROW, 9, 9, 0, ROW_TEXT),
-        ("run", b"", 9, 9, 0, b""),
-        ("walk", ROW, 9, 9, 2, b"usage\n"),
-        ("run", b"array 1 4\n0  r 1 0\n", 9, 9, 1, no_script),
-        ("run", JOINED, 9, 9, 0, JOINED_TEXT),
-        ("run", b"array 1 4\njoin\n\njoin", 9, 9, 0, b""),
-        ("run", ROW, 0, 9, 3, b"read\n"),
-        ("run", ROW, 1, 9, 3, b"read\n"),
-        ("run", ROW, 9, 0, 4, b"0.0 ok 1:1 7\n"),
+    let cases: [(&[&str], &[u8], u64, u64, u8, &[u8]); 18] = [
+        (&["run"], ROW, 9, 9, 0, ROW_TEXT),
+        (&["run"], b"", 9, 9, 0, b""),
+        (
+            &["run"],
+            b"array 1 131072\n0 w 1 131071 5\n0 w 1 131072 5\n",
+            9,
+            9,
+            1,
+            b"script 3 Range\n",
+        ),
+        (
+            &["run"],
+            b"array 1 4\n0 t 1 0 5\n",
+            9,
+            9,
+            0,
+            b"0.0 short 1:1\n",
+        ),
+        (&["run"], OVER, 9, 9, 0, b"0.0 over 1:1\n0.1 ok 1:2 0\n"),
+        (&["run"], JOINED, 9, 9, 0, JOINED_TEXT),
+        (&["run"], b"array 1 4\njoin\n\njoin", 9, 9, 0, b""),
+        (
+            &["run"],
+            b"array 1 4\n0  r 1 0\n",
+            9,
+            9,
+            1,
+            b"script 2 Word\n",
+        ),
+        (
+            &["run", "--snap", "1", "--tries", "1000000"],
+            ROW,
+            9,
+            9,
+            0,
+            ROW_TEXT,
+        ),
+        (&["run", "--slots", "4096"], ROW, 9, 9, 0, ROW_TEXT),
+        (&["run", "--slots", "3"], ROW, 9, 9, 2, b"usage\n"),
+        (&["run", "--tries", "0"], ROW, 9, 9, 2, b"usage\n"),
+        (&["walk"], ROW, 9, 9, 2, b"usage\n"),
+        (&["--help"], ROW, 9, 9, 2, b"usage\n"),
+        (&[], ROW, 9, 9, 2, b"usage\n"),
+        (&["run"], ROW, 0, 9, 3, b"read\n"),
+        (&["run"], ROW, 1, 9, 3, b"read\n"),
+        (&["run"], ROW, 9, 0, 4, b"0.0 ok 1:1 7\n"),
     ];
-    for (word, bytes, failing_read, failing_write, status, text) in cases {
+    for (asked, bytes, failing_read, failing_write, status, text) in cases {
         let mut source = MemSource::new(bytes.to_vec(alloc)?, vec![in alloc; failing_read]?);
         let mut sink = MemSink::new(alloc, vec![in alloc; failing_write]?);
-        let words = ["foedus", word];
+        let mut words = vec![in alloc; "foedus"]?;
+        words.extend_from_slice(asked)?;
         let got = top(
             &rt,
             alloc,
@@ -76,8 +116,8 @@ fn each_status_has_its_cause(rt: HostRuntime) -> Result<(), Fail> {
             &mut vault,
             &OpenGate,
         );
-        assert_eq!(rt; got, status, "{word} over {bytes:?}");
-        assert_eq!(rt; sink.bytes(), text, "{word} over {bytes:?}");
+        assert_eq!(rt; got, status, "{asked:?} over {bytes:?}");
+        assert_eq!(rt; sink.bytes(), text, "{asked:?} over {bytes:?}");
     }
     Ok(())
 }

@@ -4,7 +4,8 @@ use Rattle.std.specs.Int.{IsInRange}
 use Rattle.std.specs.Char.{digit_value, is_ascii_digit}
 use Rattle.std.specs.Str.Parse.{AllDigits, digits_value}
 use Rattle.std.specs.Prelude.{⊤}
-use Rattle.std.proofs.lemmas.Bool.{le-ltb, lt-ltb}
+use Rattle.std.specs.List.{list_all}
+use Rattle.std.proofs.lemmas.Bool.{le-ltb, lt-ltb, and_parts, and_from}
 use Rattle.std.proofs.lemmas.Bool.Decides.{nat_tests}
 use Rattle.std.proofs.Math.Seq.{take-length}
 use Rattle.std.proofs.lemmas.Str.{digit_value_digit}
@@ -44,7 +45,7 @@ is_value ds i v all e lt =
 -- ---- the digits at the front
 
 -- a test passes or does not
-cases_on : (b : Bool) → (b ≡ true) ⊎ (b ≡ false)
+pub cases_on : (b : Bool) → (b ≡ true) ⊎ (b ≡ false)
 cases_on true = inl refl
 cases_on false = inr refl
 
@@ -53,7 +54,7 @@ digit_in : (b : ℕ) → is_ascii_digit b ≡ true → IsInRange 48 57 b
 digit_in b e = grind (arith, nat_tests)
 
 -- a byte with the value of a digit passes the test
-is_digit : (b : ℕ) → digit_value b < 10 → is_ascii_digit b ≡ true
+pub is_digit : (b : ℕ) → digit_value b < 10 → is_ascii_digit b ≡ true
 is_digit b lt = let h = digit_from_value b lt in grind (arith, nat_tests)
 
 -- a byte that passes the test has the value of a digit
@@ -118,3 +119,19 @@ behind_digits-append [] [] all ends = refl
 behind_digits-append [] (b ∷ rest) all ends = behind_digits-cons_no b rest ends
 behind_digits-append (d ∷ ds) rest all ends =
     behind_digits-cons_yes d (ds ++ rest) (is_digit d all.0) ∙ behind_digits-append ds rest all.1 ends
+
+-- bytes that all pass the test are their own front
+all_at : (ds : Bytes) → list_all is_ascii_digit ds ≡ true → digits_at ds ≡ ds
+all_at [] e = refl
+all_at (d ∷ ds) e =
+    let both = and_parts (is_ascii_digit d) (list_all is_ascii_digit ds) e in
+    digits_at-cons_yes d ds both.0 ∙ ap (λ (xs : Bytes). d ∷ xs) (all_at ds both.1)
+
+-- bytes that all pass the test are digits
+pub AllDigits-all : (ds : Bytes) → list_all is_ascii_digit ds ≡ true → AllDigits 10 ds
+AllDigits-all ds e = subst (AllDigits 10) (all_at ds e) (AllDigits-digits_at ds)
+
+-- digits all pass the test
+pub all_digits : (ds : Bytes) → AllDigits 10 ds → list_all is_ascii_digit ds ≡ true
+all_digits [] all = refl
+all_digits (d ∷ ds) all = and_from (is_ascii_digit d) (list_all is_ascii_digit ds) (is_digit d all.0) (all_digits ds all.1)

@@ -4,6 +4,8 @@ pub mod Digits
 pub mod MoreOps
 pub mod Steps
 pub mod Cutting
+pub mod WordCuts
+pub mod Parts
 pub mod Texts
 pub mod Numbers
 pub mod Ops
@@ -11,6 +13,11 @@ pub mod LineTexts
 pub mod Rules
 pub mod StepTexts
 pub mod StepAgain
+pub mod OpTests
+pub mod LineTests
+pub mod FirstFault
+pub mod GoodOps
+pub mod GoodLines
 pub mod DecimalDigits
 pub mod FlatTexts
 pub mod Rows

@@ -34,7 +34,7 @@ some_same x y e = cc
 -- ---- digits
 
 -- values are those of std
-own : IsNumeralModel (AllDigits 10) (digits_value 10)
+pub own : IsNumeralModel (AllDigits 10) (digits_value 10)
 own = numerals_by_value (AllDigits 10) tells_digits
 
 -- digits that are not misspelled are some, and a zero first is alone
@@ -63,7 +63,7 @@ value_of_takes ds n e =
     (ltb-true _ _ t.0, t.1)
 
 -- digits of a number are how it is written
-number_of_takes : (ds : Bytes) (n : ℕ) → AllDigits 10 ds → number_of ds ≡ Some n → (ds ≡ decimal n) × (n < 2 ^ 64)
+pub number_of_takes : (ds : Bytes) (n : ℕ) → AllDigits 10 ds → number_of ds ≡ Some n → (ds ≡ decimal n) × (n < 2 ^ 64)
 unfolding number_of
 number_of_takes ds n all e =
     let t = not_test_some (is_misspelled ds) (value_of ds) n e in
@@ -72,7 +72,7 @@ number_of_takes ds n all e =
     (sym (decimal-digits_value own ds all s.0 s.1 v.0) ∙ ap decimal v.1, omega (arith, v.0, v.1))
 
 -- a written number is found
-number_of_again : (n : ℕ) → n < 2 ^ 64 → number_of (decimal n) ≡ Some n
+pub number_of_again : (n : ℕ) → n < 2 ^ 64 → number_of (decimal n) ≡ Some n
 unfolding number_of value_of
 number_of_again n lt = rw (decimal_well_spelled n lt, digits_value-decimal own n lt, lt-ltb n (2 ^ 64) lt) refl
 

@@ -14,17 +14,17 @@ use Rattle.tx_script.proofs.Ops.{IsKey, IsSpelled}
 use Rattle.tx_script.proofs.LineTexts.{IsSpelledLine}
 
 -- neither of two
-or_parts : (x y : Bool) → (x || y) ≡ false → (x ≡ false) × (y ≡ false)
+pub or_parts : (x y : Bool) → (x || y) ≡ false → (x ≡ false) × (y ≡ false)
 or_parts true y e = absurd cc
 or_parts false y e = (refl, e)
 
 -- not one of two, where neither
-or_from : (x y : Bool) → x ≡ false → y ≡ false → (x || y) ≡ false
+pub or_from : (x y : Bool) → x ≡ false → y ≡ false → (x || y) ≡ false
 or_from true y e f = absurd cc
 or_from false y e f = f
 
 -- one of two
-or_cases : (x y : Bool) → (x || y) ≡ true → (x ≡ true) ⊎ (y ≡ true)
+pub or_cases : (x y : Bool) → (x || y) ≡ true → (x ≡ true) ⊎ (y ≡ true)
 or_cases true y e = inl refl
 or_cases false y e = inr e
 

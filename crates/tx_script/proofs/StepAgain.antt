@@ -10,7 +10,7 @@ use Rattle.serial_model.specs.declared.decl.Decl.{Decl}
 use Rattle.serial_model.specs.declared.decl.Decl.TheVariants.{Array, Tree}
 use Rattle.tx_script.specs.Script.{Bytes, Line, Round, ops_text, line_text, decl_text, joined_lines, IsDecl, IsLine, IsRound, AreDistinct}
 use Rattle.tx_script.specs.Reading.{Parts, may_declare, may_run, with_decl, with_line, with_join, with_some_line, is_join, begins_declaration, step, steps}
-use Rattle.tx_script.proofs.LineTexts.{decl_again, line_again}
+use Rattle.tx_script.proofs.LineTexts.{IsSpelledLine, decl_again, line_again}
 use Rattle.tx_script.proofs.Rules.{all_front, all_back, is_declared, line_spelled, line_fits, distinct_new}
 use Rattle.tx_script.proofs.StepTexts.{IsShort}
 
@@ -21,7 +21,7 @@ unfolding step with_some_line
 step_by_letter p line is_decl some short e f = rw (ne_eqb (length line) 0 (λ none. omega arith), le-ltb 1024 (length line) short, e, f) refl
 
 -- a join is a round more
-join_step : (p : Parts) → step p (codes "join") ≡ Some (with_join p)
+pub join_step : (p : Parts) → step p (codes "join") ≡ Some (with_join p)
 unfolding step with_some_line
 join_step p = refl
 
@@ -32,15 +32,20 @@ decl_begins : (d : Decl) → IsDecl d → (0 < length (decl_text d)) × (is_join
 decl_begins (Array id size) is = (omega arith, refl, refl)
 decl_begins (Tree id) is = absurd is
 
+-- a declaration that may come here is one declaration more
+pub decl_step_at : (p : Parts) (d : Decl) → IsDecl d → IsShort (decl_text d) → may_declare p d ≡ true → step p (decl_text d) ≡ Some (record p { decls = p.decls ++ d ∷ [] })
+unfolding with_decl
+decl_step_at p d is short test =
+    let begins = decl_begins d is in
+    step_by_letter p (decl_text d) true begins.0 short begins.1 begins.2 ∙ rw (decl_again d is, test) refl
+
 -- a declaration by the rules is one declaration more
 decl_step : (front : List Decl) (d : Decl) → IsDecl d → IsShort (decl_text d) → length front < 16 → is_declared d front ≡ false
     → step (record { decls = front; joined = []; lines = [] }) (decl_text d) ≡ Some (record { decls = front ++ d ∷ []; joined = []; lines = [] })
-unfolding with_decl
 decl_step front d is short room new =
     let p : Parts = record { decls = front; joined = []; lines = [] } in
-    let begins = decl_begins d is in
     let test : may_declare p d ≡ true = rw (lt-ltb (length front) 16 room, new) refl in
-    step_by_letter p (decl_text d) true begins.0 short begins.1 begins.2 ∙ rw (decl_again d is, test) refl
+    decl_step_at p d is short test
 
 -- declarations by the rules, one after the other
 pub decls_again : (front ds : List Decl) (rest : List Bytes) → length front + length ds ≤ 16 → AllByRecursion IsDecl ds → AreDistinct (map id_of (front ++ ds)) → AllByRecursion IsShort (map decl_text ds)
@@ -64,14 +69,19 @@ line_begins l below =
     subst (λ (t : Bytes). (0 < length t) × (is_join t ≡ false) × (begins_declaration t ≡ false)) (sym digit)
     (omega arith, rw (ne_eqb (48 + l.worker) 106 (λ same. omega arith)) refl, ne_eqb (48 + l.worker) 97 (λ same. omega arith))
 
+-- a worker's line that may come here is one line more
+pub line_step_at : (p : Parts) (l : Line) → IsSpelledLine l → IsShort (line_text l) → may_run p l.ops ≡ true → step p (line_text l) ≡ Some (record p { lines = p.lines ++ l ∷ [] })
+unfolding with_line
+line_step_at p l is short test =
+    let begins = line_begins l is.worker in
+    step_by_letter p (line_text l) false begins.0 short begins.1 begins.2 ∙ rw (line_again l is, test) refl
+
 -- a worker's line by the rules is one line more
 line_step : (p : Parts) (l : Line) → AllByRecursion IsDecl p.decls → IsLine p.decls l → IsShort (line_text l) → length p.lines < 65536
     → step p (line_text l) ≡ Some (record p { lines = p.lines ++ l ∷ [] })
-unfolding with_line
 line_step p l all is short room =
-    let begins = line_begins l is.worker in
     let test : may_run p l.ops ≡ true = and_from (nat_lt (length p.lines) 65536) (list_all (fits p.decls) l.ops) (lt-ltb (length p.lines) 65536 room) (line_fits p.decls l is) in
-    step_by_letter p (line_text l) false begins.0 short begins.1 begins.2 ∙ rw (line_again l (line_spelled p.decls l all is), test) refl
+    line_step_at p l (line_spelled p.decls l all is) short test
 
 -- workers' lines by the rules, one after the other
 pub lines_again : (p : Parts) (ls : List Line) (rest : List Bytes) → length p.lines + length ls ≤ 65536 → AllByRecursion IsDecl p.decls → AllByRecursion (IsLine p.decls) ls → AllByRecursion IsShort (map line_text ls)

@@ -40,7 +40,7 @@ pub record Grows (p : Parts) (line : Bytes) (q : Parts) : Type 0 where
   pub text : texts q ≡ texts p ++ line ∷ []
 
 -- what is denied is false
-not_false : (b : Bool) → not b ≡ true → b ≡ false
+pub not_false : (b : Bool) → not b ≡ true → b ≡ false
 not_false true e = absurd cc
 not_false false e = refl
 
@@ -176,7 +176,7 @@ step_takes p q b bs sound e =
     by_kind (is_join line) (begins_declaration line) p q line sound (ltb-false _ _ t.0) refl t.1
 
 -- an empty line changes nothing
-step-nil : (p : Parts) → step p [] ≡ Some p
+pub step-nil : (p : Parts) → step p [] ≡ Some p
 unfolding step
 step-nil p = refl
 

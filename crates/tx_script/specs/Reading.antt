@@ -13,8 +13,7 @@ use Rattle.serial_model.specs.declared.decl.Decl.TheVariants.{Array}
 use Rattle.serial_model.specs.declared.memory.OrMemory.{OrMemory}
 use Rattle.serial_model.specs.declared.memory.OrMemory.TheVariants as errors
 use Rattle.tx_script.specs.declared.fault.ScriptFault.{ScriptFault}
-use Rattle.tx_script.specs.declared.fault.FaultKind.{FaultKind}
-use Rattle.tx_script.specs.declared.fault.FaultKind.TheVariants.{Word}
+use Rattle.tx_script.specs.declared.fault.Refused.{Refused}
 use Rattle.tx_script.specs.Script.{Bytes, Line, Round, Script, last_round}
 
 infixl 10 ◌>>=◌
@@ -218,17 +217,17 @@ script_from p = record { decls = p.decls; rounds = p.joined ++ last_round p.join
 
 -- ---- what the reader's functions return
 
--- where memory suffices, what was found is y, or there is nothing and the fault says so
-abbrev pub Reads : {X Y : Type 0} → Result X (OrMemory FaultKind) → Y → Option Y → Type 0
+-- where memory suffices, what was found is y, or there is nothing and it is refused
+abbrev pub Reads : {X Y : Type 0} → Result X (OrMemory Refused) → Y → Option Y → Type 0
 Reads (Ok x) y found = found ≡ Some y
 Reads (Err errors.Memory) y found = ⊤
-Reads (Err (errors.Fault kind)) y found = (found ≡ None) × (kind ≡ Word)
+Reads (Err (errors.Fault refused)) y found = found ≡ None
 
 -- the same of a line, whose operations stand apart from its worker
-abbrev pub ReadsLine : Result ℕ (OrMemory FaultKind) → List Op → Option Line → Type 0
+abbrev pub ReadsLine : Result ℕ (OrMemory Refused) → List Op → Option Line → Type 0
 ReadsLine (Ok worker) ops found = found ≡ Some (record { worker = worker; ops = ops })
 ReadsLine (Err errors.Memory) ops found = ⊤
-ReadsLine (Err (errors.Fault kind)) ops found = (found ≡ None) × (kind ≡ Word)
+ReadsLine (Err (errors.Fault refused)) ops found = found ≡ None
 
 -- the script, unless memory ran out
 abbrev pub Gives : Script → Result Script (OrMemory ScriptFault) → Type 0

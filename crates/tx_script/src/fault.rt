@@ -25,3 +25,7 @@ pub struct ScriptFault {
     pub line: u32,
     pub kind: FaultKind,
 }
+
+/// A line that is no line of a script here; why is told by its tests.
+#[derive(Clone, Copy)]
+pub(crate) struct Refused;

@@ -1,17 +1,22 @@
 //! Scripts as bytes, and the lines that a run prints.
 //!
 //! Promises: `read_script` answers the script of exactly the bytes that are a text of one (`text`,
-//! `only`); `write_outcome` writes exactly a commit's line (`written`), or a beginning of it where the
+//! `only`), and otherwise exactly the first faulty line with its first kind of fault (`fault`);
+//! `write_outcome` writes exactly a commit's line (`written`), or a beginning of it where the
 //! sink failed (`prefix`).
 //! Terms: *round*, the lines up to a join; *outcome*, what came of a worker's line.
-//! Grammar: `specs/Script.antt`, by the spelling of a script. Runs: `specs/Run.antt`. Lines:
+//! Grammar: `specs/Script.antt`, by the spelling of a script; `specs/Faults.antt`, by the tests of a
+//! line, in order. Runs: `specs/Run.antt`. Lines:
 //! `specs/Text.antt`.
 #![tactic(auto)]
 
 mod buffer;
+mod cut;
 mod decimal;
 mod fault;
+mod faults;
 mod lines;
+mod op_faults;
 mod outcome;
 mod print;
 mod read;
@@ -21,6 +26,7 @@ mod read_op;
 mod reader;
 mod rounds;
 mod script;
+mod words;
 
 pub use buffer::{Buffer, flush, put};
 pub use fault::{FaultKind, ScriptFault};

@@ -2,14 +2,14 @@
 ghost use Rattle.std.specs.Prelude.{◌≡◌, option_map};
 ghost use Rattle.tx_script.specs.Reading.{worker_at, line_at, word_at, decl_at, is_join, ReadsLine};
 
-use crate::fault::FaultKind;
+use crate::fault::Refused;
 use crate::read_number::{byte_at, char_at, next_number_at, number_at};
 use crate::read_op::read_ops;
 use serial_model::{Decl, Op, OrMemory};
 
-const WORKERS: u64 = 8;
+pub(crate) const WORKERS: u64 = 8;
 
-const LARGEST_ARRAY: u64 = 131_072;
+pub(crate) const LARGEST_ARRAY: u64 = 131_072;
 
 /// The worker of a line, and what follows the space behind it.
 #[tactic(auto, unfolding(crate::specs::Reading::worker_at))]
@@ -27,11 +27,11 @@ fn worker_at(line: &[u8]) -> Option<(u8, &[u8])>
 
 /// A worker's line: the worker, and in `ops` the operations.
 #[tactic(auto, unfolding(crate::specs::Reading::line_at))]
-pub(crate) fn read_worker(line: &[u8], ops: &mut Vec<Op>) -> Result<u8, OrMemory<FaultKind>>
+pub(crate) fn read_worker(line: &[u8], ops: &mut Vec<Op>) -> Result<u8, OrMemory<Refused>>
     ensures { ReadsLine result ops.new.items (line_at line.now) }
 {
     let Some((worker, rest)) = worker_at(line) else {
-        return Err(OrMemory::Fault(FaultKind::Word));
+        return Err(OrMemory::Fault(Refused));
     };
     read_ops(rest, ops)?;
     Ok(worker)

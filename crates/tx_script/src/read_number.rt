@@ -29,7 +29,7 @@ fn value_of(digits: &[u8]) -> Option<u64>
 
 /// The number that the digits spell: none has a zero before other digits.
 #[tactic(auto, unfolding(crate::specs::Reading::number_of))]
-fn number_of(digits: &[u8]) -> Option<u64>
+pub(crate) fn number_of(digits: &[u8]) -> Option<u64>
     requires { AllDigits 10 digits.now }
     ensures { result ≡ number_of digits.now }
 {

@@ -2,11 +2,11 @@
 ghost use Rattle.std.specs.Prelude.{◌≡◌, option_map};
 ghost use Rattle.tx_script.specs.Reading.{next_key_at, read_at, change_at, op_at, next_op_at, ops_at, Reads};
 
-use crate::fault::FaultKind;
+use crate::fault::Refused;
 use crate::read_number::{byte_at, char_at, next_number_at};
 use serial_model::{Key, Op, OrMemory};
 
-const MOST_OPS: usize = 16;
+pub(crate) const MOST_OPS: usize = 16;
 
 /// A space, and the key behind it: a storage and a number.
 #[tactic(auto, unfolding(crate::specs::Reading::next_key_at))]
@@ -81,22 +81,22 @@ fn next_op_at(bytes: &[u8]) -> Option<(Op, &[u8])>
 
 /// All operations, 1 to 16, up to the end. They take the place of those in `ops`, which is memory that a reader uses
 /// again for each line.
-pub(crate) fn read_ops(bytes: &[u8], ops: &mut Vec<Op>) -> Result<(), OrMemory<FaultKind>>
+pub(crate) fn read_ops(bytes: &[u8], ops: &mut Vec<Op>) -> Result<(), OrMemory<Refused>>
     ensures { Reads result ops.new.items (ops_at bytes.now) }
 {
     ops.clear();
     let Some((op, mut rest)) = op_at(bytes) else {
-        return Err(OrMemory::Fault(FaultKind::Word));
+        return Err(OrMemory::Fault(Refused));
     };
     let Ok(()) = ops.push(op) else {
         return Err(OrMemory::Memory);
     };
     while !rest.is_empty() {
         if ops.len() == MOST_OPS {
-            return Err(OrMemory::Fault(FaultKind::Word));
+            return Err(OrMemory::Fault(Refused));
         }
         let Some((op, after)) = next_op_at(rest) else {
-            return Err(OrMemory::Fault(FaultKind::Word));
+            return Err(OrMemory::Fault(Refused));
         };
         let Ok(()) = ops.push(op) else {
             return Err(OrMemory::Memory);

@@ -1,9 +1,10 @@
 // What was read of a script so far, and one line more.
-ghost use Rattle.std.specs.Prelude.{◌≡◌, ◌==◌, IfOk, Some};
+ghost use Rattle.std.specs.Prelude.{◌≡◌, ◌==◌, IfOk, OnErr, Some, None};
 ghost use Rattle.std.specs.List.{list_any, list_all};
 ghost use Rattle.serial_model.specs.Keys.{id_of, fits};
 
-use crate::fault::FaultKind;
+use crate::fault::{FaultKind, Refused};
+use crate::faults::{Place, kind_of};
 use crate::read_line::{decl_at, is_join, read_worker};
 use crate::rounds::Rounds;
 use crate::script::Script;
@@ -11,12 +12,12 @@ use serial_model::{Decl, Decls, Memory, Op, OrMemory, fits};
 use std::alloc::Global;
 use std::marker::Model;
 
-const MOST_STORAGES: usize = 16;
+pub(crate) const MOST_STORAGES: usize = 16;
 
-const MOST_LINES: usize = 65_536;
+pub(crate) const MOST_LINES: usize = 65_536;
 
 /// In bytes, without the newline.
-const LONGEST_LINE: usize = 1024;
+pub(crate) const LONGEST_LINE: usize = 1024;
 
 /// The declarations and the rounds so far, and memory for the operations of a line.
 #[derive(Drop)]
@@ -57,6 +58,8 @@ fn all_fit(decls: &[Decl], ops: &[Op]) -> bool
 impl Reader {
     ghost use Rattle.std.specs.Prelude.{[], ◌∷◌};
     ghost use Rattle.tx_script.specs.Reading.{no_parts, is_fresh, may_declare, may_run, with_decl, with_line, with_join, with_some_line, step, script_from, Reads};
+    ghost use Rattle.tx_script.specs.Faults.{place_after, kind_of};
+    ghost use Rattle.tx_script.specs.Telling.{ReadsOrTells};
 
     pub(crate) fn new(alloc: Global) -> Self
         ensures { result ≡ no_parts }
@@ -85,14 +88,15 @@ impl Reader {
 
     /// One declaration more.
     #[tactic(auto, unfolding(crate::specs::Reading::with_decl))]
-    fn add_decl(&mut self, line: &[u8]) -> Result<(), OrMemory<FaultKind>>
-        ensures { Reads result self.new (with_decl self.old line.now) }
+    fn add_decl(&mut self, line: &[u8]) -> Result<(), OrMemory<Refused>>
+        ensures read { Reads result self.new (with_decl self.old line.now) }
+        ensures kept { OnErr result (self.new ≡ self.old) }
     {
         let Some(decl) = decl_at(line) else {
-            return Err(OrMemory::Fault(FaultKind::Word));
+            return Err(OrMemory::Fault(Refused));
         };
         if !self.may_declare(&decl) {
-            return Err(OrMemory::Fault(FaultKind::Word));
+            return Err(OrMemory::Fault(Refused));
         }
         let Ok(()) = self.decls.push(decl) else {
             return Err(OrMemory::Memory);
@@ -109,12 +113,13 @@ impl Reader {
 
     /// One worker's line more.
     #[tactic(auto, unfolding(crate::specs::Reading::with_line))]
-    fn add_line(&mut self, line: &[u8]) -> Result<(), OrMemory<FaultKind>>
-        ensures { Reads result self.new (with_line self.old line.now) }
+    fn add_line(&mut self, line: &[u8]) -> Result<(), OrMemory<Refused>>
+        ensures read { Reads result self.new (with_line self.old line.now) }
+        ensures kept { OnErr result (self.new ≡ self.old) }
     {
         let worker = read_worker(line, &mut self.ops)?;
         if !self.may_run(&self.ops) {
-            return Err(OrMemory::Fault(FaultKind::Word));
+            return Err(OrMemory::Fault(Refused));
         }
         let Ok(()) = self.rounds.push(worker, &self.ops) else {
             return Err(OrMemory::Memory);
@@ -123,8 +128,9 @@ impl Reader {
     }
 
     /// A join ends the round.
-    fn add_join(&mut self) -> Result<(), OrMemory<FaultKind>>
-        ensures { Reads result self.new (Some (with_join self.old)) }
+    fn add_join(&mut self) -> Result<(), OrMemory<Refused>>
+        ensures read { Reads result self.new (Some (with_join self.old)) }
+        ensures kept { OnErr result (self.new ≡ self.old) }
     {
         let Ok(()) = self.rounds.join() else {
             return Err(OrMemory::Memory);
@@ -134,8 +140,9 @@ impl Reader {
 
     /// One line more: a join, a declaration, or else a worker's line.
     #[tactic(auto, unfolding(crate::specs::Reading::with_some_line))]
-    fn add(&mut self, line: &[u8]) -> Result<(), OrMemory<FaultKind>>
-        ensures { Reads result self.new (with_some_line self.old line.now) }
+    fn add(&mut self, line: &[u8]) -> Result<(), OrMemory<Refused>>
+        ensures read { Reads result self.new (with_some_line self.old line.now) }
+        ensures kept { OnErr result (self.new ≡ self.old) }
     {
         if is_join(line) {
             return self.add_join();
@@ -148,16 +155,44 @@ impl Reader {
 
     /// One line more. An empty one counts for nothing.
     #[tactic(auto, unfolding(crate::specs::Reading::step))]
-    pub(crate) fn step(&mut self, line: &[u8]) -> Result<(), OrMemory<FaultKind>>
-        ensures { Reads result self.new (step self.old line.now) }
+    fn take(&mut self, line: &[u8]) -> Result<(), OrMemory<Refused>>
+        ensures read { Reads result self.new (step self.old line.now) }
+        ensures kept { OnErr result (self.new ≡ self.old) }
     {
         if line.is_empty() {
             return Ok(());
         }
         if line.len() > LONGEST_LINE {
-            return Err(OrMemory::Fault(FaultKind::Word));
+            return Err(OrMemory::Fault(Refused));
         }
         self.add(line)
+    }
+
+    /// The first kind of fault of a line that is refused.
+    fn kind_of(&self, line: &[u8]) -> FaultKind
+        requires { step self.now line.now ≡ None }
+        ensures { kind_of (place_after self.now) line.now ≡ Some result }
+    {
+        let place = Place {
+            decls: &self.decls,
+            begun: !self.is_fresh(),
+            lines: self.rounds.rest_len(),
+        };
+        match kind_of(&place, line) {
+            Some(kind) => kind,
+            None => unreachable!(),
+        }
+    }
+
+    /// One line more, or its first kind of fault.
+    pub(crate) fn step(&mut self, line: &[u8]) -> Result<(), OrMemory<FaultKind>>
+        ensures { ReadsOrTells result self.old line.now self.new }
+    {
+        match self.take(line) {
+            Ok(()) => Ok(()),
+            Err(OrMemory::Memory) => Err(OrMemory::Memory),
+            Err(OrMemory::Fault(Refused)) => Err(OrMemory::Fault(self.kind_of(line))),
+        }
     }
 
     /// The script that was read.

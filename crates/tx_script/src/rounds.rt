@@ -84,9 +84,10 @@ impl Rounds {
         self.lines.push(worker, ops)
     }
 
-    /// A join ends the round.
+    /// A join ends the round. After want of memory all is as it was.
     pub(crate) fn join(&mut self) -> Result<(), Memory>
-        ensures { OnOk result (self.new ≡ record { joined = self.old.joined ++ record { lines = self.old.rest } ∷ []; rest = [] }) }
+        ensures ok { OnOk result (self.new ≡ record { joined = self.old.joined ++ record { lines = self.old.rest } ∷ []; rest = [] }) }
+        ensures memory { OnErr result (self.new ≡ self.old) }
     {
         let end = self.lines.len();
         let stretch = Stretch {

@@ -90,14 +90,14 @@ checked_now : (opening : List Place) (m : Story) (p : ℕ) (s : Seat) (i : ℕ) 
 checked_now opening m p s i a k stage at stays story own part n e =
     let o = part_opens p m.places k a stays part n e in
     let last = home_is_last opening m p s i k o.home stage o.is o.open_to story own in
-    seen_is_below opening m.history m.decided (clock_of m.epoch m.history) a.number part o.home.content story.ordered_numbers
+    seen_is_below opening m.history m.decided (clock_of m.first_draw m.epoch m.history) a.number part o.home.content story.ordered_numbers
     (story.parts_are_past a (at_in m.history i a at) part n)
     (last ∙ ap (λ (x : Key). last_write opening m.history m.decided x) (sym e)) o.number
 
 story_checked : (opening : List Place) (m : Story) (p : ℕ) (s : Seat) (i : ℕ) (a : Attempt) (k : Key) → s.stage ≡ Trying i → slice_get m.history i ≡ Some a → stays_as_seen p (place_at m.places k) k a ≡ true
     → IsSoundStory opening m → IsSoundSeat opening m p s → IsSoundStory opening (with_check m a k)
 story_checked opening m p s i a k stage at stays story own =
-    let clock = clock_of m.epoch m.history in
+    let clock = clock_of m.first_draw m.epoch m.history in
     let inside = at_in m.history i a at in
     record {
       ordered_numbers = story.ordered_numbers;

@@ -31,25 +31,25 @@ use Rattle.commit_core.proofs.Events.Keeps.{Keeps, home_before}
 abbrev with_attempt : Story → Attempt → Story
 with_attempt m a = record m { history = m.history ++ a ∷ [] }
 
-story_drawn : (opening : List Place) (m : Story) (a : Attempt) → a.number ≡ clock_of m.epoch m.history → KeptIsPast opening m.history (clock_of m.epoch m.history) a.parts
+story_drawn : (opening : List Place) (m : Story) (a : Attempt) → a.number ≡ clock_of m.first_draw m.epoch m.history → KeptIsPast opening m.history (clock_of m.first_draw m.epoch m.history) a.parts
     → IsSoundStory opening m → IsSoundStory opening (with_attempt m a)
 story_drawn opening m a e kept story =
-    let t = clock_of m.epoch m.history in
-    let later = clock_after_draw m.epoch m.history a in
+    let t = clock_of m.first_draw m.epoch m.history in
+    let later = clock_after_draw m.first_draw m.epoch m.history a in
     let fresh : is_decided m.decided a.number ≡ false = rw e (clock_undecided opening m.history m.decided t story.ordered_numbers) in
     record {
-      ordered_numbers = numbers_drawn opening m.history m.decided t (clock_of m.epoch (m.history ++ a ∷ [])) a e later story.ordered_numbers;
+      ordered_numbers = numbers_drawn opening m.history m.decided t (clock_of m.first_draw m.epoch (m.history ++ a ∷ [])) a e later story.ordered_numbers;
       unlocked_homes = homes_drawn opening m.history m.decided t a m.places story.ordered_numbers e story.unlocked_homes;
       reads_stay_true = reads_drawn opening m.history m.checks m.decided t a story.ordered_numbers e story.checks_are_past story.reads_stay_true;
       commits_are_checked = commits_drawn m.history m.checks m.decided a fresh story.commits_are_checked;
       parts_are_past = parts_drawn opening m.history t a e kept story.parts_are_past;
-      checks_are_past = checks_later m.checks t (clock_of m.epoch (m.history ++ a ∷ [])) later story.checks_are_past;
+      checks_are_past = checks_later m.checks t (clock_of m.first_draw m.epoch (m.history ++ a ∷ [])) later story.checks_are_past;
     }
 
-seat_drawn : (opening : List Place) (m : Story) (a : Attempt) (q : ℕ) (t : Seat) → a.number ≡ clock_of m.epoch m.history → IsSoundStory opening m
+seat_drawn : (opening : List Place) (m : Story) (a : Attempt) (q : ℕ) (t : Seat) → a.number ≡ clock_of m.first_draw m.epoch m.history → IsSoundStory opening m
     → IsSoundSeat opening m q t → IsSoundSeat opening (with_attempt m a) q t
 seat_drawn opening m a q t e story sound =
-    let clock = clock_of m.epoch m.history in
+    let clock = clock_of m.first_draw m.epoch m.history in
     let there = stands_there m.history m.decided m.places t.put q t.stage sound.attempt_stands in
     record {
       lock_owners = sound.lock_owners;
@@ -58,7 +58,7 @@ seat_drawn opening m a q t e story sound =
           (λ k x at mine held. held_drawn opening m.history m.decided clock a t.put k x.content t.stage story.ordered_numbers e there held) sound.locked_homes;
       no_lower_writer = writer_drawn m.history m.checks clock a t.stage e story.checks_are_past there sound.no_lower_writer;
       marks_are_past = marks_drawn m.epoch m.history a t.marks t.stage there sound.marks_are_past;
-      kept_is_past = kept_drawn opening m.history a clock (clock_of m.epoch (m.history ++ a ∷ [])) t.kept (clock_after_draw m.epoch m.history a) sound.kept_is_past;
+      kept_is_past = kept_drawn opening m.history a clock (clock_of m.first_draw m.epoch (m.history ++ a ∷ [])) t.kept (clock_after_draw m.first_draw m.epoch m.history a) sound.kept_is_past;
     }
 
 -- every key that is written is locked
@@ -77,7 +77,7 @@ pub keeps_draw : (opening : List Place) (p : ℕ) (m : Story) (s : Seat) (writes
     → Keeps opening p m (moved (with_attempt m (next_attempt p m s writes)) (record s { stage = Trying (length m.history) }))
 keeps_draw opening p m s writes begins keys story own =
     let a : Attempt = next_attempt p m s writes in
-    let clock : Number = clock_of m.epoch m.history in record {
+    let clock : Number = clock_of m.first_draw m.epoch m.history in record {
       story = story_drawn opening m a refl own.kept_is_past story;
       own = record {
         lock_owners = own.lock_owners;
@@ -95,7 +95,7 @@ keeps_draw opening p m s writes begins keys story own =
             own.locked_homes;
         no_lower_writer = writer_draws m.history m.checks clock a refl story.checks_are_past;
         marks_are_past = marks_draw m.epoch m.history a s.marks s.stage refl own.marks_are_past;
-        kept_is_past = kept_drawn opening m.history a clock (clock_of m.epoch (m.history ++ a ∷ [])) s.kept (clock_after_draw m.epoch m.history a) own.kept_is_past;
+        kept_is_past = kept_drawn opening m.history a clock (clock_of m.first_draw m.epoch (m.history ++ a ∷ [])) s.kept (clock_after_draw m.first_draw m.epoch m.history a) own.kept_is_past;
       };
       others = λ q t other sound. seat_drawn opening m a q t refl story sound;
       holders = λ seats l holders. holders;
@@ -110,19 +110,19 @@ seat_advanced opening m q t sound = record {
   locked_homes = sound.locked_homes;
   no_lower_writer = sound.no_lower_writer;
   marks_are_past = marks_later m.epoch m.history t.marks t.stage sound.marks_are_past;
-  kept_is_past = kept_later opening m.history (clock_of m.epoch m.history) (clock_of (m.epoch + 1) m.history) t.kept (clock_after_advance m.epoch m.history) sound.kept_is_past;
+  kept_is_past = kept_later opening m.history (clock_of m.first_draw m.epoch m.history) (clock_of m.first_draw (m.epoch + 1) m.history) t.kept (clock_after_advance m.first_draw m.epoch m.history) sound.kept_is_past;
 }
 
 pub keeps_advance : (opening : List Place) (p : ℕ) (m : Story) (s : Seat) → IsSoundStory opening m → IsSoundSeat opening m p s → Keeps opening p m (moved (record m { epoch = m.epoch + 1 }) s)
 keeps_advance opening p m s story own =
-    let later = clock_after_advance m.epoch m.history in record {
+    let later = clock_after_advance m.first_draw m.epoch m.history in record {
       story = record {
-        ordered_numbers = numbers_later opening m.history m.decided (clock_of m.epoch m.history) (clock_of (m.epoch + 1) m.history) later story.ordered_numbers;
+        ordered_numbers = numbers_later opening m.history m.decided (clock_of m.first_draw m.epoch m.history) (clock_of m.first_draw (m.epoch + 1) m.history) later story.ordered_numbers;
         unlocked_homes = story.unlocked_homes;
         reads_stay_true = story.reads_stay_true;
         commits_are_checked = story.commits_are_checked;
         parts_are_past = story.parts_are_past;
-        checks_are_past = checks_later m.checks (clock_of m.epoch m.history) (clock_of (m.epoch + 1) m.history) later story.checks_are_past;
+        checks_are_past = checks_later m.checks (clock_of m.first_draw m.epoch m.history) (clock_of m.first_draw (m.epoch + 1) m.history) later story.checks_are_past;
       };
       own = seat_advanced opening m p s own;
       others = λ q t other sound. seat_advanced opening m q t sound;

@@ -38,7 +38,7 @@ unwritten_elsewhere opening m p i a k q only tried at not_mine = λ b n e w.
 story_decided : (opening : List Place) (m : Story) (p : ℕ) (s : Seat) (i : ℕ) (a : Attempt) → s.stage ≡ Trying i → slice_get m.history i ≡ Some a → all_checked m.checks a ≡ true
     → IsSoundStory opening m → IsSoundSeat opening m p s → IsSoundStory opening (with_decision m a)
 story_decided opening m p s i a stage at all story own =
-    let clock = clock_of m.epoch m.history in
+    let clock = clock_of m.first_draw m.epoch m.history in
     let inside = at_in m.history i a at in
     let only = alone opening m.history m.decided clock a story.ordered_numbers inside in
     let tried = tried_is m.history m.decided m.places s.put p s.stage i a stage at own.attempt_stands in
@@ -91,7 +91,7 @@ keeps_decide opening p m s all story own =
     let a = t.attempt in
     let now : attempt_tried m.history s.stage ≡ Some a = ap (λ (x : Stage). attempt_tried m.history x) t.stage_is ∙ t.at in
     let stage : decided_stage s.stage ≡ Decided t.index = ap decided_stage t.stage_is in
-    let only = alone opening m.history m.decided (clock_of m.epoch m.history) a story.ordered_numbers (at_in m.history t.index a t.at) in
+    let only = alone opening m.history m.decided (clock_of m.first_draw m.epoch m.history) a story.ordered_numbers (at_in m.history t.index a t.at) in
     let tried = tried_is m.history m.decided m.places s.put p s.stage t.index a t.stage_is t.at own.attempt_stands in
     subst (λ (o : Option Attempt). Keeps opening p m (after_decide m s o)) (sym now)
     (subst (λ (x : Stage). Keeps opening p m (moved (with_decision m a) (settled (record s { put = []; stage = x })))) (sym stage) (record {

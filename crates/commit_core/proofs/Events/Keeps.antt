@@ -157,7 +157,7 @@ rested opening m p s none sound = record {
       absurd (true≢false (sym listed ∙ ap (λ (l : List Key). has_key l k) none));
   no_lower_writer = tt;
   marks_are_past = λ e is. ((sound.marks_are_past e is).0, tt);
-  kept_is_past = kept_dropped opening m.history (clock_of m.epoch m.history);
+  kept_is_past = kept_dropped opening m.history (clock_of m.first_draw m.epoch m.history);
 }
 
 settled_at_sound : (opening : List Place) (m : Story) (p : ℕ) (s : Seat) (stage : Stage) → s.locks ≡ [] → IsSoundSeat opening m p s → IsSoundSeat opening m p (settled_at stage s)

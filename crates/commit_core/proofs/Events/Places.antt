@@ -96,9 +96,11 @@ keeps_put_at opening p m s k i a v stage there w q at mine story own = record {
   story = story_placed opening m (refilled k v q) q at (λ e. absurd (true≢false (sym mine ∙ unlocked_not p q.holder e))) story;
   own = record {
     lock_owners = locks_placed m.places (refilled k v q) q p s.locks at (λ h. h) (λ h. h) own.lock_owners;
-    attempt_stands = subst (λ (x : Stage). AttemptStands m.history m.decided (placed m.places (refilled k v q)) (s.put ++ k ∷ []) p x) (sym stage)
-        (a, stands_put m.history m.decided m.places (placed m.places (refilled k v q)) s.put p i a k (written-writes k a v w)
-        (λ x. held-placed m.places (refilled k v q) q p x at (λ h. h)) (decided_is m.history m.decided m.places s.put p s.stage i a stage there own.attempt_stands));
+    attempt_stands = subst (λ (x : Stage). AttemptStands m.history m.decided (placed m.places (refilled k v q)) (s.put ++ k ∷ []) p x) (sym stage) (
+      a,
+      stands_put m.history m.decided m.places (placed m.places (refilled k v q)) s.put p i a k (written-writes k a v w)
+          (λ x. held-placed m.places (refilled k v q) q p x at (λ h. h)) (decided_is m.history m.decided m.places s.put p s.stage i a stage there own.attempt_stands),
+    );
     locked_homes = locked_placed opening m.history m.decided m.places s.put (s.put ++ k ∷ []) p s.stage (refilled k v q) q at
         (λ _. subst (λ (x : Stage). HomeHeld opening m.history m.decided (s.put ++ k ∷ []) k (content_of q.content.number v) x) (sym stage)
         (held_puts opening m.history m.decided s.put k q.content i a v there w
@@ -148,7 +150,7 @@ opens_right opening m p put k c (Decided i) rests in_put story stands held =
     let at : slice_get m.history i ≡ Some a = stands.1.at in
     let put_it : has_key put k ≡ true = sym (ap (λ (o : Option Attempt). option_map_or (λ _. has_key put k) o true) at) ∙ in_put in
     ap (λ (o : Option Attempt). content_of (number_at_open o c) c.value) at
-    ∙ held_opens opening m.history m.decided (clock_of m.epoch m.history) m.places put k c p i a story.ordered_numbers stands.1 put_it held
+    ∙ held_opens opening m.history m.decided (clock_of m.first_draw m.epoch m.history) m.places put k c p i a story.ordered_numbers stands.1 put_it held
 
 -- where one place alone is not held any more, and its value was put
 rest_stands : (h : List Attempt) (decided : List Number) (places : List Place) (new : Place) (put : List Key) (p : ℕ) (stage : Stage) → not (is_trying stage) ≡ true

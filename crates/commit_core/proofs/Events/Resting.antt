@@ -27,7 +27,7 @@ keeps_see opening p m s k free story own =
       locked_homes = own.locked_homes;
       no_lower_writer = own.no_lower_writer;
       marks_are_past = own.marks_are_past;
-      kept_is_past = kept_seen opening m.history (clock_of m.epoch m.history) s.kept part past own.kept_is_past;
+      kept_is_past = kept_seen opening m.history (clock_of m.first_draw m.epoch m.history) s.kept part past own.kept_is_past;
     })
   where
     part : Part
@@ -37,9 +37,9 @@ keeps_see opening p m s k free story own =
     last = let q = free_place (place_at m.places k) free in
         ap (λ (o : Option Place). option_map_or (λ x. x.content) o nothing) q.1 ∙ story.unlocked_homes k q.0 q.1 q.2
 
-    past : IsPast opening m.history (clock_of m.epoch m.history) part
+    past : IsPast opening m.history (clock_of m.first_draw m.epoch m.history) part
     past = record {
-      number = rw last (version_past opening m.history m.decided (clock_of m.epoch m.history) k (last_write opening m.history m.decided k) story.ordered_numbers (last_version opening m.history m.decided k));
+      number = rw last (version_past opening m.history m.decided (clock_of m.first_draw m.epoch m.history) k (last_write opening m.history m.decided k) story.ordered_numbers (last_version opening m.history m.decided k));
       version = rw last (last_version opening m.history m.decided k);
     }
 
@@ -50,7 +50,7 @@ keeps_forget opening p m s story own = seat_alone opening p m (record s { kept =
   locked_homes = own.locked_homes;
   no_lower_writer = own.no_lower_writer;
   marks_are_past = own.marks_are_past;
-  kept_is_past = kept_dropped opening m.history (clock_of m.epoch m.history);
+  kept_is_past = kept_dropped opening m.history (clock_of m.first_draw m.epoch m.history);
 })
 
 marked_below : (epoch : ℕ) (marks : List (Option ℕ)) (mark : Option ℕ) → can_mark epoch marks mark ≡ true → (e : ℕ) → mark ≡ Some e → e < epoch

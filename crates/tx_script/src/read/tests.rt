@@ -1,72 +1,174 @@
 use super::*;
 use serial_model::{Decl, Key, Op};
+use std::process::Abort;
 use std::test::Fail;
 
-/// Texts with a bar between two; each breaks one rule.
-const REFUSED: &[u8] = b"\
-array 1 1\n0 r 1 0; r 1 0; r 1 0; r 1 0; r 1 0; r 1 0; r 1 0; r 1 0; r 1 0; r 1 0; r 1 0; r 1 0; r 1 0; r 1 0; r 1 0; r 1 0; r 1 0|\
-array 0 1\narray 1 1\narray 2 1\narray 3 1\narray 4 1\narray 5 1\narray 6 1\narray 7 1\narray 8 1\narray 9 1\narray 10 1\narray 11 1\narray 12 1\narray 13 1\narray 14 1\narray 15 1\narray 16 1\n|\
-array 1 4\n0 r 1  0|\
-array 1 4\n0  r 1 0|\
-\x20array 1 4|\
-array 1 4\n 0 r 1 0|\
-array 1 4 |\
-array 1 4\n0 r 1 0 |\
-array 1 4\n0 r 1 0;|\
-array 1 4\n0 r 1 0; |\
-array 1 4\n0 r 1 0;r 1 0|\
-array 1 4\n0 r 1 0 r 1 0|\
-array 1 4\n0|\
-array 1 4\n0 |\
-array 1 4\n0 r 1|\
-array 1 4\n0 w 1 0|\
-array 1|\
-array|\
-array 1 4\n0 w 1 0 18446744073709551616|\
-array 1 4\n0 w 1 0 100000000000000000000|\
-array 1 0|\
-array 1 131073|\
-array 256 4|\
-array 1 4\n0 r 1 4|\
-array 1 4\n8 r 1 0|\
-array 1 4\n0 r 1 00|\
-array 1 4\n00 r 1 0|\
-array 1 4\n0 w 1 0 +5|\
-array 1 4\n0 w 1 0 -5|\
-array 1 4\n0 r 1 \x00|\
-array 1 4\r\n0 r 1 0\r\n|\
-array 1 4\n0 w 1 0 \xff|\
-array 1 4\n0 r 1 0\narray 2 4|\
-array 1 4\narray 1 4|\
-array 1 4\n0 r 2 0|\
-tree 2|\
-array 1 4\n0 d 1 0|\
-array 1 4\nk save|\
-array 1 4\n0 s 1 0 1";
+// Rows with a bar between two: the number of the faulty line as a character from `0` on, a space, and the text.
 
-/// How many storages and lines a text has, where it is read.
-fn counts(alloc: Global, text: &[u8]) -> Option<(usize, usize)> {
+/// No line has such words.
+const WORD: &[u8] = b"\
+1 array|\
+1 array |\
+1 array 1|\
+1 array 1 2 3|\
+1 Array 1 4|\
+1 array\t1 4|\
+1 \x20array 1 4|\
+1 array 1 4 |\
+1 array  1 4|\
+1 tree 2|\
+1 k save|\
+1 joi|\
+1 join |\
+1 joins|\
+1 join\r|\
+1 \x00|\
+1 \xff|\
+3 \n\nw|\
+2 array 1 4\n0|\
+2 array 1 4\n0 |\
+2 array 1 4\n0 r 1|\
+2 array 1 4\n0 w 1 0|\
+2 array 1 4\n0 r 1 0; |\
+2 array 1 4\n0 r 1 0 r 1 0|\
+2 array 1 4\n0 r 1  0|\
+2 array 1 4\n0  r 1 0|\
+2 array 1 4\n 0 r 1 0|\
+2 array 1 4\n0 r 1 0 |\
+2 array 1 4\n-1 r 1 0|\
+2 array 1 4\n0 d 1 0|\
+2 array 1 4\n0 s 1 0 1|\
+2 array 1 4\n0 R 1 0|\
+2 array 1 4\n0 r 1 0;r 1 0|\
+2 array 1 4\n0 r 1 0;  r 1 0|\
+2 array 1 4\n0 a 1 0|\
+2 array 1 4\n0 t 1 0 1 1|\
+2 array 1 4\n8 r x|\
+4 array 1 4\njoin\njoin\n0 r";
+
+/// Something else stands for a number.
+const NUMBER: &[u8] = b"\
+1 array 1 4\r|\
+1 array  4|\
+1 array x 4|\
+1 array 1 +4|\
+1 array 01 4|\
+1 array 1 18446744073709551616|\
+1 array 300 x|\
+2 array 1 4\n0 r 1 0;|\
+2 array 1 4\n00 r 1 0|\
+2 array 1 4\n0 r 1 00|\
+2 array 1 4\n0 w 1 0 +5|\
+2 array 1 4\n0 w 1 0 -5|\
+2 array 1 4\n0 r 1 \x00|\
+2 array 1 4\n0 w 1 0 \xff|\
+2 array 1 4\n0 w 1 0 18446744073709551616|\
+2 array 1 4\n0 w 1 0 100000000000000000000|\
+2 array 1 4\n0 r 1 0\r|\
+2 array 1 4\n0x r 1 0|\
+2 array 1 4\n0; r 1 0|\
+2 array 1 4\n0 w 1  5|\
+2 array 1 4\n9 r 2 9; a 1 0 x|\
+3 array 1 4\n0 r 1 0\n0 t 1 0 x";
+
+/// One too many.
+const TOO_MANY: &[u8] = b"\
+2 array 1 4\n0 r 1 0; r 1 0; r 1 0; r 1 0; r 1 0; r 1 0; r 1 0; r 1 0; r 1 0; r 1 0; r 1 0; r 1 0; r 1 0; r 1 0; r 1 0; r 1 0; r 1 0|\
+A array 0 1\narray 1 1\narray 2 1\narray 3 1\narray 4 1\narray 5 1\narray 6 1\narray 7 1\narray 8 1\narray 9 1\narray 10 1\narray 11 1\narray 12 1\narray 13 1\narray 14 1\narray 15 1\narray 16 1\n|\
+3 array 1 4\njoin\n8 r 2 9; r 2 9; r 2 9; r 2 9; r 2 9; r 2 9; r 2 9; r 2 9; r 2 9; r 2 9; r 2 9; r 2 9; r 2 9; r 2 9; r 2 9; r 2 9; r 2 9";
+
+/// Declared late, again or not at all.
+const DECLARED: &[u8] = b"\
+2 array 1 4\narray 1 4|\
+2 array 1 4\narray 1 0|\
+3 array 1 4\n0 r 1 0\narray 2 4|\
+2 join\narray 1 4|\
+3 array 1 4\n\n0 r 2 0|\
+2 array 1 4\n0 r 256 0|\
+2 array 1 4\n0 r 18446744073709551615 0|\
+2 array 1 4\n8 r 1 0; w 2 9 1|\
+1 0 r 1 0";
+
+/// Out of range.
+const RANGE: &[u8] = b"\
+1 array 256 4|\
+1 array 1 0|\
+1 array 1 131073|\
+1 array 18446744073709551615 1|\
+2 array 1 4\n0 r 1 4|\
+2 array 1 4\n8 r 1 0|\
+2 array 1 4\n0 t 1 4 1|\
+2 array 1 4\n0 a 1 0 1; w 1 18446744073709551615 1|\
+5 \narray 1 4\n\njoin\n8 r 1 0";
+
+/// How many storages, rounds and lines a text has, where it is read.
+fn counts(alloc: Global, text: &[u8]) -> Option<(usize, usize, usize)> {
+    let script = read_script(alloc, text).ok()?;
+    let mut lines: usize = 0;
+    for index in 0..script.rounds() {
+        lines = lines.wrapping_add(script.round(index).len());
+    }
+    Some((script.decls().len(), script.rounds(), lines))
+}
+
+fn fault(alloc: Global, text: &[u8]) -> Option<(u32, FaultKind)> {
     match read_script(alloc, text) {
-        Ok(script) => Some((script.decls().len(), script.round(0).len())),
-        Err(_) => None,
+        Err(OrMemory::Fault(ScriptFault { line, kind })) => Some((line, kind)),
+        _ => None,
+    }
+}
+
+/// Each row has this kind of fault, in its line.
+fn tells(rt: &impl Abort, alloc: Global, kind: FaultKind, rows: &[u8]) {
+    for row in rows.split(|byte| *byte == b'|') {
+        match row {
+            [line, b' ', text @ ..] => {
+                let want = (u32::from(line.wrapping_sub(b'0')), kind);
+                assert_eq!(rt; fault(alloc, text), Some(want), "at {text:?}");
+            }
+            _ => assert!(rt; false, "no row: {row:?}"),
+        }
     }
 }
 
 #[test]
+fn tells_words(rt: HostRuntime) {
+    tells(&rt, rt.alloc(), FaultKind::Word, WORD);
+}
+
+#[test]
+fn tells_numbers(rt: HostRuntime) {
+    tells(&rt, rt.alloc(), FaultKind::Number, NUMBER);
+}
+
+#[test]
+fn tells_the_other_kinds(rt: HostRuntime) {
+    tells(&rt, rt.alloc(), FaultKind::TooMany, TOO_MANY);
+    tells(&rt, rt.alloc(), FaultKind::Declared, DECLARED);
+    tells(&rt, rt.alloc(), FaultKind::Range, RANGE);
+}
+
+#[test]
 fn reads_the_worked_rows(rt: HostRuntime) -> Result<(), Fail> {
-    let text = b"array 1 4\n0 w 1 2 7; r 1 2\n0 r 1 0\n";
+    let text = b"array 1 4\n0 w 1 2 7; r 1 2\njoin\n0 a 1 0 5; t 1 0 6\n";
     let script = read_script(rt.alloc(), text).ok().ok_or("it is a script")?;
     assert_eq!(rt; script.decls(), [Decl::Array { id: 1, size: 4 }].as_slice());
     let key = Key { storage: 1, key: 2 };
     let first = Key { storage: 1, key: 0 };
+    assert_eq!(rt; script.rounds(), 2);
     let round = script.round(0);
-    assert_eq!(rt; round.len(), 2);
+    assert_eq!(rt; round.len(), 1);
     assert_eq!(rt; round.line(0).worker, 0);
     assert_eq!(rt;
         round.line(0).ops,
         [Op::Write(key, 7), Op::Read(key)].as_slice()
     );
-    assert_eq!(rt; round.line(1).ops, [Op::Read(first)].as_slice());
+    let round = script.round(1);
+    assert_eq!(rt; round.len(), 1);
+    assert_eq!(rt;
+        round.line(0).ops,
+        [Op::Add(first, 5), Op::Take(first, 6)].as_slice()
+    );
     Ok(())
 }
 
@@ -76,19 +178,23 @@ fn accepts(rt: HostRuntime) {
         b"array 1 1\n7 r 1 0; r 1 0; r 1 0; r 1 0; r 1 0; r 1 0; r 1 0; r 1 0; r 1 0; r 1 0; r 1 0; r 1 0; r 1 0; r 1 0; r 1 0; r 1 0";
     let storages =
         b"array 0 1\narray 1 1\narray 2 1\narray 3 1\narray 4 1\narray 5 1\narray 6 1\narray 7 1\narray 8 1\narray 9 1\narray 10 1\narray 11 1\narray 12 1\narray 13 1\narray 14 1\narray 15 1\n";
-    let texts: [(&[u8], (usize, usize)); 9] = [
-        (b"", (0, 0)),
-        (b"\n\n", (0, 0)),
-        (b"array 1 4", (1, 0)),
-        (b"\narray 255 131072\n\n3 r 255 131071", (1, 1)),
+    let texts: [(&[u8], (usize, usize, usize)); 13] = [
+        (b"", (0, 1, 0)),
+        (b"\n\n", (0, 1, 0)),
+        (b"array 1 4", (1, 1, 0)),
+        (b"\narray 255 131072\n\n3 r 255 131071", (1, 1, 1)),
         (
             b"array 0 1\narray 9 2\n0 r 0 0\n0 r 9 1\n1 w 9 0 0\n",
-            (2, 3),
+            (2, 1, 3),
         ),
-        (b"array 1 4\n0 w 1 0 18446744073709551615\n", (1, 1)),
-        (b"array 1 4\n7 r 1 3\n", (1, 1)),
-        (sixteen, (1, 1)),
-        (storages, (16, 0)),
+        (b"array 1 4\n0 w 1 0 18446744073709551615\n", (1, 1, 1)),
+        (b"array 1 4\n7 r 1 3\n", (1, 1, 1)),
+        (sixteen, (1, 1, 1)),
+        (storages, (16, 1, 0)),
+        (b"join", (0, 1, 0)),
+        (b"join\njoin\n\n", (0, 2, 0)),
+        (b"array 1 4\n0 a 1 0 1\njoin\n\n0 t 1 0 1", (1, 2, 2)),
+        (b"array 1 4\njoin\njoin\n0 r 1 0\njoin\n", (1, 3, 1)),
     ];
     for (text, want) in texts {
         assert_eq!(rt; counts(rt.alloc(), text), Some(want), "at {text:?}");
@@ -96,22 +202,44 @@ fn accepts(rt: HostRuntime) {
 }
 
 #[test]
-fn refuses(rt: HostRuntime) {
-    for text in REFUSED.split(|byte| *byte == b'|') {
-        assert_eq!(rt; counts(rt.alloc(), text), None, "at {text:?}");
-    }
+fn bounds_a_line(rt: HostRuntime) -> Result<(), Fail> {
+    let mut text = vec![in rt.alloc(); b'0'; 1024]?;
+    assert_eq!(rt; fault(rt.alloc(), &text), Some((1, FaultKind::Word)));
+    text.push(b'0')?;
+    assert_eq!(rt; fault(rt.alloc(), &text), Some((1, FaultKind::TooLong)));
+    text.extend_from_slice(b"\n?\n")?;
+    assert_eq!(rt; fault(rt.alloc(), &text), Some((1, FaultKind::TooLong)));
+    let mut late = b"join\n\n".to_vec(rt.alloc())?;
+    late.extend_from_slice(&text)?;
+    assert_eq!(rt; fault(rt.alloc(), &late), Some((3, FaultKind::TooLong)));
+    Ok(())
 }
 
 #[test]
-fn bounds_a_line_and_a_round(rt: HostRuntime) -> Result<(), Fail> {
-    let long = vec![in rt.alloc(); b'0'; 1025]?;
-    assert_eq!(rt; counts(rt.alloc(), &long), None);
+fn bounds_a_round(rt: HostRuntime) -> Result<(), Fail> {
     let mut text = b"array 1 1\n".to_vec(rt.alloc())?;
     for _ in 0..65_536 {
         text.extend_from_slice(b"0 r 1 0\n")?;
     }
-    assert_eq!(rt; counts(rt.alloc(), &text), Some((1, 65_536)));
+    assert_eq!(rt; counts(rt.alloc(), &text), Some((1, 1, 65_536)));
+    let mut joined = text.clone()?;
+    joined.extend_from_slice(b"join\n0 r 1 0\n")?;
+    assert_eq!(rt; counts(rt.alloc(), &joined), Some((1, 2, 65_537)));
     text.extend_from_slice(b"0 r 1 0\n")?;
-    assert_eq!(rt; counts(rt.alloc(), &text), None);
+    assert_eq!(rt;
+        fault(rt.alloc(), &text),
+        Some((65_538, FaultKind::TooMany))
+    );
+    Ok(())
+}
+
+#[test]
+fn bounds_a_source(rt: HostRuntime) -> Result<(), Fail> {
+    let text = vec![in rt.alloc(); b'?'; 67_108_865]?;
+    assert_eq!(rt; fault(rt.alloc(), &text), Some((0, FaultKind::TooLong)));
+    assert_eq!(rt;
+        fault(rt.alloc(), &text[1..]),
+        Some((1, FaultKind::TooLong))
+    );
     Ok(())
 }

@@ -8,7 +8,7 @@ use Rattle.commit_core.proofs.law.commits_are_serial.Goals as goal
 pub returns : goal.returns
 returns c = record {
   each_act = keeps_act;
-  starts = λ pairs passes. opening_sound pairs passes;
+  starts = λ pairs first passes later. opening_sound pairs first passes later;
   stays = λ core events sound. run_sound events core sound;
   grows = λ core events. (run_opening events core, run_grows events core);
   fails = λ core p s k a sound at tried _ fails. check_gives_up core p s k a sound at tried fails;

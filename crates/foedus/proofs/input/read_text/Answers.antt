@@ -1,23 +1,24 @@
 -- What was read is all of the source, or no script.
 use Rattle.std.proofs.Common.{refl, subst, sym}
 use Rattle.std.specs.Io.KnownBytes.{Consumes}
+use Rattle.tx_script.specs.Faults.{IsFirstFault}
 use Rattle.tx_script.specs.Script.{IsTextOf}
 use Rattle.foedus.specs.Ending.{IsNoText}
 use Rattle.foedus.proofs.Courses.{memory_course, no_script_course, read_fault_course}
 use Rattle.foedus.proofs.input.read_text.Goals as goal
 
 pub returns-in-Err-Fault-clause-told : goal.returns-in-Err-Fault-clause-told
-returns-in-Err-Fault-clause-told g c = λ bytes told. read_fault_course bytes _
+returns-in-Err-Fault-clause-told g c = λ bytes told options. read_fault_course options bytes _
 
 pub returns-in-Err-Memory-clause-told : goal.returns-in-Err-Memory-clause-told
-returns-in-Err-Memory-clause-told g c = λ bytes told. memory_course bytes _
+returns-in-Err-Memory-clause-told g c = λ bytes told options. memory_course _ bytes _
 
 pub returns-in-Err-Fault-read_script-clause-told : goal.returns-in-Err-Fault-read_script-clause-told
-returns-in-Err-Fault-read_script-clause-told g c = λ bytes told.
+returns-in-Err-Fault-read_script-clause-told g c = λ bytes told options.
     let none : IsNoText c.in-Ok.bytes.items = λ script text.
     rw c.in-Err-Fault-read_script.field-0-is at (c.in-Err-Fault-read_script.ensures.only script (subst (λ b. IsTextOf b script) (sym c.deref.ensures.value) text)) in
-    no_script_course bytes c.in-Ok.bytes.items _ _ (subst (λ o. Consumes o (g.S.Source.left c.read_bytes.new.source) c.in-Ok.bytes.items) told c.in-Ok.ensures.bytes) c.in-Ok.ensures.all none
-    (c.in-Err-Fault-read_script.ensures.refused c.in-Err-Fault-read_script.fault (rw c.in-Err-Fault-read_script.field-0-is refl))
+    no_script_course options bytes c.in-Ok.bytes.items _ _ (subst (λ o. Consumes o (g.S.Source.left c.read_bytes.new.source) c.in-Ok.bytes.items) told c.in-Ok.ensures.bytes) c.in-Ok.ensures.all none
+    (subst (λ b. IsFirstFault b c.in-Err-Fault-read_script.fault) c.deref.ensures.value (c.in-Err-Fault-read_script.ensures.fault c.in-Err-Fault-read_script.fault (rw c.in-Err-Fault-read_script.field-0-is refl)))
 
 pub returns-clause-told : goal.returns-clause-told
-returns-clause-told g c = λ bytes told. memory_course bytes _
+returns-clause-told g c = λ bytes told options. memory_course _ bytes _

@@ -23,13 +23,16 @@ returns-in_err-put_round g c =
     let p = err_from_is_err_and c.from_residual.result c.from_residual.ensures.1 in
     let ran = ran_of c.args.runtime.now.clock c.round.new.runtime.clock.draw c.in-Ok.report in
     let commits = c.in-Ok.ensures.commits c.requires.draws in
-    rw p.1 (ran, record { decls = c.in-Ok.ensures.decls; run = c.in-Ok.ensures.run; commits = commits; few_draws = c.in-Ok.ensures.few_draws },
-        breaks_as (ap workers_text c.as_slice.ensures ∙ round_text_of ran commits.durable) c.in_err-put_round.ensures)
+    rw p.1 (
+      ran,
+      record { decls = c.in-Ok.ensures.decls; run = c.in-Ok.ensures.run; commits = commits; few_draws = c.in-Ok.ensures.few_draws },
+      breaks_as (ap workers_text c.as_slice.ensures ∙ round_text_of ran commits.durable) c.in_err-put_round.ensures,
+    )
 
 pub returns : goal.returns
 returns g c =
     let ran = ran_of c.args.runtime.now.clock c.round.new.runtime.clock.draw c.in-Ok.report in
     let commits = c.in-Ok.ensures.commits c.requires.draws in
     rw c.ending_of.ensures (passes_of c.args.lines.now c.args.runtime.now c.round.new.runtime _ _ c.in-Ok.report c.in-Ok.ensures.end c.in-Ok.ensures.join c.requires.epoch
-        (record { decls = c.in-Ok.ensures.decls; run = c.in-Ok.ensures.run; commits = commits; few_draws = c.in-Ok.ensures.few_draws })
-        (adds_as (ap workers_text c.as_slice.ensures ∙ round_text_of ran commits.durable) c.in_ok-put_round.ensures))
+    (record { decls = c.in-Ok.ensures.decls; run = c.in-Ok.ensures.run; commits = commits; few_draws = c.in-Ok.ensures.few_draws })
+    (adds_as (ap workers_text c.as_slice.ensures ∙ round_text_of ran commits.durable) c.in_ok-put_round.ensures))

@@ -21,18 +21,18 @@ loop-index-init g c = (
 pub run_round-requires-clause-lines : goal.run_round-requires-clause-lines
 run_round-requires-clause-lines g c κs within =
     let so = c.loop-index.invariant.0 in
-    subst (λ ds. CanRun ds c.round-lines.result) (sym so.decls) (can_run c.args.script.now c.loop-index.index c.round-lines.result c.requires c.round-lines.ensures)
+    subst (λ ds. CanRun ds c.round-lines.result) (sym so.decls) (can_run c.args.script.now c.loop-index.index c.round-lines.result c.requires.rules c.round-lines.ensures)
 
 pub run_round-requires-clause-draws : goal.run_round-requires-clause-draws
 run_round-requires-clause-draws g c κs within =
     fits c.args.script.now c.loop-index.runtime c.loop-index.index _ _ c.round-lines.result c.loop-index.invariant.0
-    (few_lines_at c.args.script.now c.loop-index.index c.round-lines.result c.requires c.round-lines.ensures)
+    (few_lines_at c.args.script.now c.loop-index.index c.round-lines.result c.requires.rules c.round-lines.ensures)
 
 pub returns-in_err-passed : goal.returns-in_err-passed
 returns-in_err-passed g c =
     let p = err_from_is_err_and c.from_residual.result c.from_residual.ensures.1 in
     rw p.1 (broke c.args.script.now c.loop-index.runtime c.run_round.new.runtime c.loop-index.index _ _ _ c.round-lines.result c.in_err-passed.ensures.0
-        c.loop-index.invariant.0 c.round-lines.ensures c.in_err-passed.ensures.1 c.in_err-passed.ensures.2)
+    c.loop-index.invariant.0 c.round-lines.ensures c.in_err-passed.ensures.1 c.in_err-passed.ensures.2)
 
 pub returns-in-Some : goal.returns-in-Some
 returns-in-Some g c = stopped_by c.args.script.now c.loop-index.runtime c.run_round.new.runtime c.loop-index.index _ _ _ c.round-lines.result c.in_ok-passed.passed c.in-Some.ending
@@ -41,7 +41,7 @@ returns-in-Some g c = stopped_by c.args.script.now c.loop-index.runtime c.run_ro
 pub loop-index-preserved : goal.loop-index-preserved
 loop-index-preserved g c = (
   one_more c.args.script.now c.loop-index.runtime c.run_round.new.runtime c.loop-index.index _ _ _ c.round-lines.result c.in_ok-passed.passed c.loop-index.invariant.0 c.round-lines.ensures
-      (few_lines_at c.args.script.now c.loop-index.index c.round-lines.result c.requires c.round-lines.ensures) c.in_ok-passed.ensures c.in_default-passed.is,
+      (few_lines_at c.args.script.now c.loop-index.index c.round-lines.result c.requires.rules c.round-lines.ensures) c.in_ok-passed.ensures c.in_default-passed.is,
   refl,
   c.rounds-index-end.ensures,
   omega (arith, c.loop-index-test.true),

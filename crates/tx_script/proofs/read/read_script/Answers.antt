@@ -1,6 +1,8 @@
 use Rattle.std.proofs.Common.{sym, subst, ◌∙◌}
+use Rattle.tx_script.specs.declared.script.Script.{Script}
 use Rattle.tx_script.specs.Script.{IsTextOf}
-use Rattle.tx_script.proofs.Texts.{text_from_parts, parts_are, not_refused}
+use Rattle.tx_script.proofs.Texts.{text_from_parts, parts_are}
+use Rattle.tx_script.proofs.FirstFault.{told_first, gives_none}
 use Rattle.tx_script.proofs.read.read_script.Goals as goal
 
 pub returns-in-Ok-into_script-clause-text : goal.returns-in-Ok-into_script-clause-text
@@ -10,7 +12,8 @@ returns-in-Ok-into_script-clause-text c =
 pub returns-in-Ok-into_script-clause-only : goal.returns-in-Ok-into_script-clause-only
 returns-in-Ok-into_script-clause-only c = λ script is. c.in-Ok-into_script.ensures ∙ parts_are c.args.bytes.now c.read_all.new.reader script c.in-Ok.ensures is
 
-pub returns-clause-only : goal.returns-clause-only
-returns-clause-only c =
-    let none = rw c.in-Err-Fault.field-0-is at c.in-Err-Fault.ensures in
-    λ script is. not_refused c.args.bytes.now script none.0 is
+pub returns-in-Err-clause-only : goal.returns-in-Err-clause-only
+returns-in-Err-clause-only c = λ script is. gives_none (Unit {0}) c.args.bytes.now c.in-Err.fault c.read_all.new.reader script c.in-Err.ensures is
+
+pub returns-in-Err-clause-fault : goal.returns-in-Err-clause-fault
+returns-in-Err-clause-fault c = λ fault e. told_first (Unit {0}) Script c.args.bytes.now c.in-Err.fault c.read_all.new.reader fault c.in-Err.ensures e

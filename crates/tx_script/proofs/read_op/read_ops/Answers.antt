@@ -1,10 +1,10 @@
-use Rattle.std.proofs.Common.{◌≡◌, ◌≢◌, ◌<◌, length, sym, refl, arith}
+use Rattle.std.proofs.Common.{◌≡◌, ◌≢◌, ◌<◌, length, sym, arith}
 use Rattle.std.proofs.lemmas.Bool.Decides.{nat_tests}
 use Rattle.tx_script.proofs.MoreOps.{has_no_first, begins, goes_on, has_none, has_too_many, is_done}
 use Rattle.tx_script.proofs.read_op.read_ops.Goals as goal
 
 pub returns-in_default : goal.returns-in_default
-returns-in_default c = (has_no_first c.args.bytes.now (sym c.in_default.ensures), refl)
+returns-in_default c = has_no_first c.args.bytes.now (sym c.in_default.ensures)
 
 pub loop-rest-init : goal.loop-rest-init
 loop-rest-init c =
@@ -13,13 +13,13 @@ loop-rest-init c =
 pub returns-then-len-eq-MOST_OPS : goal.returns-then-len-eq-MOST_OPS
 returns-then-len-eq-MOST_OPS c =
     let some : 0 < length c.loop-rest.rest.now = grind (arith, nat_tests, c.loop-rest-test.ensures) in
-    (has_too_many c.args.bytes.now c.loop-rest.ops.items c.loop-rest.rest.now some (omega arith) c.loop-rest.invariant, refl)
+    has_too_many c.args.bytes.now c.loop-rest.ops.items c.loop-rest.rest.now some (omega arith) c.loop-rest.invariant
 
 pub returns-in_default-next_op_at : goal.returns-in_default-next_op_at
 returns-in_default-next_op_at c =
     let some : 0 < length c.loop-rest.rest.now = grind (arith, nat_tests, c.loop-rest-test.ensures) in
     let room : length c.loop-rest.ops.items ≢ 16 = omega arith in
-    (has_none c.args.bytes.now c.loop-rest.ops.items c.loop-rest.rest.now some room (sym c.in_default-next_op_at.ensures) c.loop-rest.invariant, refl)
+    has_none c.args.bytes.now c.loop-rest.ops.items c.loop-rest.rest.now some room (sym c.in_default-next_op_at.ensures) c.loop-rest.invariant
 
 pub loop-rest-preserved : goal.loop-rest-preserved
 loop-rest-preserved c =

@@ -1,0 +1,5 @@
+pub mod Steps
+pub mod Numbers
+pub mod Runs
+pub mod Plain
+pub mod Rows

@@ -1,0 +1,247 @@
+-- Plain words ask for a run with their numbers, and what an answer of clap's says of the words.
+use Rattle.std.proofs.Common.{◌≡◌, ◌∙◌, refl, sym, ap, ap₂, subst, cond, nat_le, ◌&&◌, ℕ, ◌<◌, ◌≤◌, ◌^◌, Bool, true, false, List, [], ◌∷◌, ◌++◌, map, Option, Some, None, inl, inr, arith}
+use Rattle.std.specs.Prelude.{codes, decimal, ◌⊎◌, option_and_then, option_map, ⊤}
+use Rattle.std.specs.Str.{bytes_eq}
+use Rattle.std.proofs.lemmas.Bool.{leb-true}
+use Rattle.clap.specs.Kinds.{IsAmong, Kinds}
+use Rattle.clap.specs.Walk.{Row, Text, first_of, has_row}
+use Rattle.clap.specs.Simple.{App, HasMatchesOf, subcommand_of, subcommand_rows_of}
+use Rattle.clap.specs.Faults.{fault_of, is_simple_and_free}
+use Rattle.clap.specs.declared.error.kind.ErrorKind.{ErrorKind}
+use Rattle.clap.specs.declared.error.kind.ErrorKind.TheVariants.{OutOfMemory}
+use Rattle.clap.specs.declared.parser.matches.ArgMatches.{ArgMatches}
+use Rattle.clap.proofs.OnLiterals.{clap_on_literals}
+use Rattle.command_line.specs.Commands.{program}
+use Rattle.command_line.specs.Options.{AreInRange, IsWithin, Refuses, asked, number_of, within, command_of, number_in, options_of, run_with, slots_range, snap_range, tries_range, unless_fault}
+use Rattle.command_line.specs.Plain.{AsksForHelp, IsHelp, AreChoices, Choice, IsLeftOut, IsPlain, Setting, tries, slots, snap, is_same, number_chosen, options_chosen, range_of, words_of}
+use Rattle.command_line.specs.declared.command.Command.{Command}
+use Rattle.command_line.specs.declared.command.Command.TheVariants.{Run, Refused}
+use Rattle.command_line.specs.declared.command.RunOptions.{RunOptions}
+use Rattle.command_line.specs.declared.number.Range.{Range}
+use Rattle.command_line.proofs.Numbers.{number_in_range}
+use Rattle.command_line.proofs.Runs.{Fresh, leaf_fault, leaf_rows, program_fault, program_rows, row_at}
+use Rattle.command_line.proofs.Steps.{name_of}
+
+-- ---- choices are fresh
+
+names_differ : (a b : Setting) → is_same a b ≡ false → bytes_eq (name_of a) (name_of b) ≡ false
+names_differ tries tries h = h
+names_differ tries slots h = refl
+names_differ tries snap h = refl
+names_differ slots tries h = refl
+names_differ slots slots h = h
+names_differ slots snap h = refl
+names_differ snap tries h = refl
+names_differ snap slots h = refl
+names_differ snap snap h = h
+
+Absent : List Row → List Choice → Type 0
+Absent rows [] = ⊤
+Absent rows (c ∷ rest) = (has_row (name_of c.0) rows ≡ false) × Absent rows rest
+
+one_more_row : (id : Text) (r : Row) (rows : List Row) → has_row id rows ≡ false → bytes_eq r.id id ≡ false → has_row id (rows ++ r ∷ []) ≡ false
+one_more_row id r [] h e = rw e refl
+one_more_row id r (x ∷ rows) h e = go (bytes_eq x.id id) refl (one_more_row id r rows)
+  where
+    go : (b : Bool) → bytes_eq x.id id ≡ b → (has_row id rows ≡ false → bytes_eq r.id id ≡ false → has_row id (rows ++ r ∷ []) ≡ false)
+        → has_row id ((x ∷ rows) ++ r ∷ []) ≡ false
+    go true at next = let bad : true ≡ false = rw at at h in cc
+    go false at next = rw at (next (rw at at h) e)
+
+still_absent : (c : Choice) (rows : List Row) (rest : List Choice) → IsLeftOut c.0 rest → Absent rows rest → Absent (rows ++ row_at c ∷ []) rest
+unfolding Absent
+still_absent c rows [] out h = tt
+still_absent c rows (q ∷ rest) out h =
+    (one_more_row (name_of q.0) (row_at c) rows h.0 (names_differ c.0 q.0 out.0), still_absent c rows rest out.1 h.1)
+
+most_below : (s : Setting) → (range_of s).most < 2 ^ 64
+most_below tries = omega arith
+most_below slots = omega arith
+most_below snap = omega arith
+
+small : (s : Setting) (n : ℕ) → n ≤ (range_of s).most → n < 2 ^ 64
+small s n h = let most = most_below s in omega arith
+
+fresh_from : (rows : List Row) (choices : List Choice) → AreChoices choices → Absent rows choices → Fresh rows choices
+unfolding Absent
+fresh_from rows [] a h = tt
+fresh_from rows (c ∷ rest) a h =
+    (h.0, small c.0 c.1 a.1.1, fresh_from (rows ++ row_at c ∷ []) rest a.2 (still_absent c rows rest a.0 h.1))
+
+none_absent : (choices : List Choice) → Absent [] choices
+unfolding Absent
+none_absent [] = tt
+none_absent (c ∷ rest) = (refl, none_absent rest)
+
+fresh : (choices : List Choice) → AreChoices choices → Fresh [] choices
+fresh choices a = fresh_from [] choices a (none_absent choices)
+
+-- ---- the numbers of choices
+
+number_here : (s : Setting) (n : ℕ) → (range_of s).least ≤ n → n ≤ (range_of s).most → number_in (range_of s) (Some (decimal n)) ≡ Some n
+number_here s n low high = number_in_range (range_of s) n low high (small s n high)
+
+chosen : (s : Setting) (choices : List Choice) → AreChoices choices → number_in (range_of s) (first_of (name_of s) (map row_at choices)) ≡ Some (number_chosen s choices)
+chosen s [] a = refl
+chosen tries ((tries, n) ∷ rest) a = number_here tries n a.1.0 a.1.1
+chosen tries ((slots, n) ∷ rest) a = chosen tries rest a.2
+chosen tries ((snap, n) ∷ rest) a = chosen tries rest a.2
+chosen slots ((tries, n) ∷ rest) a = chosen slots rest a.2
+chosen slots ((slots, n) ∷ rest) a = number_here slots n a.1.0 a.1.1
+chosen slots ((snap, n) ∷ rest) a = chosen slots rest a.2
+chosen snap ((tries, n) ∷ rest) a = chosen snap rest a.2
+chosen snap ((slots, n) ∷ rest) a = chosen snap rest a.2
+chosen snap ((snap, n) ∷ rest) a = number_here snap n a.1.0 a.1.1
+
+options_from : (rows : List Row) (t s p : ℕ) → number_in tries_range (first_of (codes "tries") rows) ≡ Some t
+    → number_in slots_range (first_of (codes "slots") rows) ≡ Some s → number_in snap_range (first_of (codes "snap") rows) ≡ Some p
+    → options_of rows ≡ Some (record { tries = t; slots = s; snap = p })
+options_from rows t s p et es ep = rw (et, es, ep) refl
+
+-- ---- plain words
+
+choices_ask : (name : Text) (choices : List Choice) → AreChoices choices → command_of (name ∷ codes "run" ∷ words_of choices) ≡ Run (options_chosen choices)
+unfolding command_of
+choices_ask name choices a =
+    let rows = map row_at choices in
+    let held = program_rows name (words_of choices) ∙ ap (λ (rs : List Row). Some (codes "run", rs)) (leaf_rows choices (fresh choices a)) in
+    ap₂ unless_fault (program_fault name (words_of choices) ∙ leaf_fault choices (fresh choices a)) (ap asked held)
+    ∙ ap run_with (options_from rows (number_chosen tries choices) (number_chosen slots choices) (number_chosen snap choices)
+    (chosen tries choices a) (chosen slots choices a) (chosen snap choices a))
+
+pub plain_ask : (words : List Text) (options : RunOptions) → IsPlain words options → command_of words ≡ Run options
+plain_ask words options p = ap command_of p.words ∙ choices_ask p.name p.choices p.choices_are ∙ ap Run (sym p.options)
+
+-- ---- help
+
+refused_by : (words : List Text) (kind : ErrorKind) (more : Kinds) → fault_of program words ≡ kind ∷ more → command_of words ≡ Refused
+unfolding command_of
+refused_by words kind more e = ap (λ (k : Kinds). unless_fault k (asked (subcommand_of program words))) e
+
+first_help : (name word : Text) (rest : List Text) → IsHelp word → command_of (name ∷ word ∷ rest) ≡ Refused
+unfolding clap_on_literals
+first_help name word rest (inl e) = rw e (refused_by (name ∷ codes "help" ∷ rest) _ _ refl)
+first_help name word rest (inr (inl e)) = rw e (refused_by (name ∷ codes "--help" ∷ rest) _ _ refl)
+first_help name word rest (inr (inr e)) = rw e (refused_by (name ∷ codes "-h" ∷ rest) _ _ refl)
+
+run_help : (name next : Text) (rest : List Text) → IsHelp next → command_of (name ∷ codes "run" ∷ next ∷ rest) ≡ Refused
+unfolding clap_on_literals
+run_help name next rest (inl e) = rw e (refused_by (name ∷ codes "run" ∷ codes "help" ∷ rest) _ _ (program_fault name (codes "help" ∷ rest)))
+run_help name next rest (inr (inl e)) = rw e (refused_by (name ∷ codes "run" ∷ codes "--help" ∷ rest) _ _ (program_fault name (codes "--help" ∷ rest)))
+run_help name next rest (inr (inr e)) = rw e (refused_by (name ∷ codes "run" ∷ codes "-h" ∷ rest) _ _ (program_fault name (codes "-h" ∷ rest)))
+
+pub help_refused : (words : List Text) → AsksForHelp words → command_of words ≡ Refused
+help_refused [] h = absurd h
+help_refused (name ∷ []) h = absurd h
+help_refused (name ∷ word ∷ []) h = first_help name word [] h
+help_refused (name ∷ word ∷ next ∷ rest) (inl h) = first_help name word (next ∷ rest) h
+help_refused (name ∷ word ∷ next ∷ rest) (inr h) = rw h.0 (run_help name next rest h.1)
+
+-- ---- what clap's answer says
+
+simple : is_simple_and_free program ≡ true
+simple = refl
+
+pub taken : (a : App) (words : List Text) (m : ArgMatches) → a ≡ program → (is_simple_and_free a ≡ true → fault_of a words ≡ [])
+    → HasMatchesOf a words m → asked (subcommand_rows_of m) ≡ command_of words
+unfolding command_of
+taken a words m same none h =
+    let held : HasMatchesOf program words m = subst (λ (b : App). HasMatchesOf b words m) same h in
+    let no_fault : fault_of program words ≡ [] = ap (λ (b : App). fault_of b words) (sym same) ∙ none (ap is_simple_and_free same ∙ simple) in
+    ap asked (held refl).1 ∙ ap (λ (k : Kinds). unless_fault k (asked (subcommand_of program words))) (sym no_fault)
+
+pub fails : (words : List Text) (kind : ErrorKind) → IsAmong kind (fault_of program words) → Refused ≡ command_of words
+unfolding command_of
+fails words kind among = go (fault_of program words) among
+  where
+    go : (kinds : Kinds) → IsAmong kind kinds → Refused ≡ unless_fault kinds (asked (subcommand_of program words))
+    go [] h = absurd h
+    go (k ∷ ks) h = refl
+
+-- a kind of fault that clap gave, and that is not want of memory, is one of the definition's
+pub among : (a : App) (words : List Text) (kind : ErrorKind) → a ≡ program
+    → (is_simple_and_free a ≡ true → (kind ≡ OutOfMemory) ⊎ IsAmong kind (fault_of a words)) → (kind ≡ OutOfMemory → ⊥)
+    → IsAmong kind (fault_of program words)
+among a words kind same has other =
+    elim (has (ap is_simple_and_free same ∙ simple)) [
+      | inl e ↦ absurd (other e)
+      | inr is ↦ subst (λ (b : App). IsAmong kind (fault_of b words)) same is
+    ]
+
+-- ---- why words are refused
+
+no_options : (o : Option RunOptions) → run_with o ≡ Refused → o ≡ None
+no_options (Some options) h = absurd (cc)
+no_options None h = refl
+
+-- clap took the words, and the command is refused
+pub refused_numbers : (a : App) (words : List Text) (m : ArgMatches) → a ≡ program → HasMatchesOf a words m → asked (subcommand_rows_of m) ≡ Refused → Refuses words
+refused_numbers a words m same h e =
+    let held : HasMatchesOf program words m = subst (λ (b : App). HasMatchesOf b words m) same h in
+    inr (no_options (option_and_then (λ p. options_of p.1) (subcommand_of program words)) (ap asked (sym (held refl).1) ∙ e))
+
+-- ---- the numbers of a run are in their ranges
+
+within_is : (range : Range) (n m : ℕ) → within range n ≡ Some m → IsWithin range m
+within_is range n m h = go (nat_le range.least n) (nat_le n range.most) refl refl h
+  where
+    go : (a b : Bool) → nat_le range.least n ≡ a → nat_le n range.most ≡ b → cond (a && b) (Some n) None ≡ Some m → IsWithin range m
+    go true true low high e =
+        let same : n ≡ m = cc in
+        subst (IsWithin range) same (leb-true range.least n low, leb-true n range.most high)
+    go true false low high e = absurd (cc)
+    go false b low high e = absurd (cc)
+
+number_in_is : (range : Range) (text : Option Text) (n : ℕ) → IsWithin range range.usual → number_in range text ≡ Some n → IsWithin range n
+number_in_is range None n usual h = let same : range.usual ≡ n = cc in subst (IsWithin range) same usual
+number_in_is range (Some text) n usual h = go (number_of text) h
+  where
+    go : (o : Option ℕ) → option_and_then (within range) o ≡ Some n → IsWithin range n
+    go None e = absurd (cc)
+    go (Some m) e = within_is range m n e
+
+numbers_of : (a b c : Option ℕ) (options : RunOptions)
+    → option_and_then (λ t. option_and_then (λ s. option_map (λ p. record { tries = t; slots = s; snap = p }) c) b) a ≡ Some options
+    → (a ≡ Some options.tries) × (b ≡ Some options.slots) × (c ≡ Some options.snap)
+numbers_of None b c options h = absurd (cc)
+numbers_of (Some t) None c options h = absurd (cc)
+numbers_of (Some t) (Some s) None options h = absurd (cc)
+numbers_of (Some t) (Some s) (Some p) options h =
+    let made : RunOptions = record { tries = t; slots = s; snap = p } in
+    let same : made ≡ options = cc in
+    (ap (λ (o : RunOptions). Some o.tries) same, ap (λ (o : RunOptions). Some o.slots) same, ap (λ (o : RunOptions). Some o.snap) same)
+
+options_in_range : (rows : List Row) (options : RunOptions) → options_of rows ≡ Some options → AreInRange options
+options_in_range rows options h =
+    let p = numbers_of (number_in tries_range (first_of (codes "tries") rows)) (number_in slots_range (first_of (codes "slots") rows))
+    (number_in snap_range (first_of (codes "snap") rows)) options h in (
+      number_in_is tries_range (first_of (codes "tries") rows) options.tries (omega arith, omega arith) p.0,
+      number_in_is slots_range (first_of (codes "slots") rows) options.slots (omega arith, omega arith) p.1,
+      number_in_is snap_range (first_of (codes "snap") rows) options.snap (omega arith, omega arith) p.2,
+    )
+
+run_in_range : (words : List Text) (options : RunOptions) → command_of words ≡ Run options → AreInRange options
+unfolding command_of
+run_in_range words options h = go (fault_of program words) (subcommand_of program words) h
+  where
+    ran : (o : Option RunOptions) → run_with o ≡ Run options → o ≡ Some options
+    ran None e = absurd (cc)
+    ran (Some x) e = let same : x ≡ options = cc in ap (λ (y : RunOptions). Some y) same
+
+    go : (kinds : Kinds) (o : Option (Text × List Row)) → unless_fault kinds (asked o) ≡ Run options → AreInRange options
+    go (k ∷ ks) o e = absurd (cc)
+    go [] None e = absurd (cc)
+    go [] (Some p) e = options_in_range p.1 options (ran (options_of p.1) e)
+
+-- what an answer of the command says
+pub record Answer (words : List Text) (command : Command) : Type 0 where
+  pub plain : (options : RunOptions) → IsPlain words options → command ≡ Run options
+  pub ranges : (options : RunOptions) → command ≡ Run options → AreInRange options
+  pub help : AsksForHelp words → command ≡ Refused
+
+pub answer : (words : List Text) (command : Command) → command ≡ command_of words → Answer words command
+answer words command is = record {
+  plain = λ options p. is ∙ plain_ask words options p;
+  ranges = λ options e. run_in_range words options (sym is ∙ e);
+  help = λ h. is ∙ help_refused words h;
+}

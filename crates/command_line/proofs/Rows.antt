@@ -1,0 +1,38 @@
+-- Rows of what the words ask for, and that there are plain words.
+use Rattle.std.proofs.Common.{◌≡◌, refl, sym, ap₂, List, [], ◌∷◌, arith}
+use Rattle.std.specs.Prelude.{codes}
+use Rattle.std.proofs.lemmas.Fmt.{decimal_digit}
+use Rattle.clap.specs.Walk.{Text}
+use Rattle.command_line.specs.Options.{command_of}
+use Rattle.command_line.specs.Plain.{IsPlain, snap, tries}
+use Rattle.command_line.specs.declared.command.Command.TheVariants.{Run}
+use Rattle.command_line.specs.declared.command.RunOptions.{RunOptions}
+use Rattle.command_line.proofs.Plain.{plain_ask}
+
+abbrev usual : RunOptions
+usual = record { tries = 1000; slots = 256; snap = 4096 }
+
+run_alone : IsPlain (codes "foedus" ∷ codes "run" ∷ []) usual
+run_alone = record { name = codes "foedus"; choices = []; words = refl; choices_are = tt; options = refl }
+
+abbrev two : RunOptions
+two = record { tries = 7; slots = 256; snap = 9 }
+
+abbrev two_words : List Text
+two_words = codes "x" ∷ codes "run" ∷ codes "--snap" ∷ codes "9" ∷ codes "--tries" ∷ codes "7" ∷ []
+
+two_options : IsPlain two_words two
+two_options = record {
+  name = codes "x";
+  choices = (snap, 9) ∷ (tries, 7) ∷ [];
+  words = ap₂ (λ (a b : Text). codes "x" ∷ codes "run" ∷ codes "--snap" ∷ a ∷ codes "--tries" ∷ b ∷ [])
+      (sym (decimal_digit 9 (omega arith))) (sym (decimal_digit 7 (omega arith)));
+  choices_are = ((refl, tt), (omega arith, omega arith), (tt, (omega arith, omega arith), tt));
+  options = refl;
+}
+
+run_row : command_of (codes "foedus" ∷ codes "run" ∷ []) ≡ Run usual
+run_row = plain_ask (codes "foedus" ∷ codes "run" ∷ []) usual run_alone
+
+two_row : command_of two_words ≡ Run two
+two_row = plain_ask two_words two two_options

@@ -1,0 +1,94 @@
+-- What clap's walk does at the words of one option.
+use Rattle.std.proofs.Common.{◌≡◌, ◌∙◌, refl, ap, ℕ, Bool, true, false, ◌==◌, List, [], ◌∷◌, ◌++◌, Some, None, append-nil}
+use Rattle.std.specs.Prelude.{codes}
+use Rattle.std.specs.Str.{bytes_eq}
+use Rattle.clap.specs.Kinds.{or_else}
+use Rattle.clap.specs.Walk.{Held, Row, Text, Walk, option, at_row, has_row, more_values, with_values, without, settled, walk_from, walked, reading_by}
+use Rattle.clap.specs.Simple.{Shape, built, built_leaf, inherited}
+use Rattle.clap.specs.Faults.{settle_fault, turn_fault}
+use Rattle.clap.specs.declared.parser.matches.ValueSource.TheVariants.{CommandLine}
+use Rattle.clap.proofs.OnLiterals.{clap_on_literals}
+use Rattle.command_line.specs.Commands.{option_rule, program, run_shape}
+use Rattle.command_line.specs.Plain.{Setting, tries, slots, snap, flag_of}
+
+-- `run` as clap builds it
+abbrev pub ready : Shape
+ready = built_leaf (inherited (built program).top run_shape)
+
+subs_are : (built program).subs ≡ ready ∷ []
+subs_are = refl
+
+abbrev pub name_of : Setting → Text
+name_of tries = codes "tries"
+name_of slots = codes "slots"
+name_of snap = codes "snap"
+
+-- an option's word was read, and it waits for its value
+abbrev pub waiting_for : Setting → Held → Walk
+waiting_for q h = record (walk_from (record h { pending = Some (name_of q, []) })) { waiting = option (name_of q) }
+
+abbrev pub pending_at : Setting → Text → Held → Held
+pending_at q t h = record h { pending = Some (name_of q, t ∷ []) }
+
+pub flag_turn : (q : Setting) (h : Held) → turn_fault ready [] (walk_from h) (flag_of q) ≡ or_else (settle_fault ready.rules false h) []
+unfolding clap_on_literals
+flag_turn tries h = refl
+flag_turn slots h = refl
+flag_turn snap h = refl
+
+pub flag_walk : (q : Setting) (h : Held) → walked ready.rules [] (walk_from h) (flag_of q) ≡ waiting_for q (settled ready.rules h)
+unfolding clap_on_literals
+flag_walk tries h = refl
+flag_walk slots h = refl
+flag_walk snap h = refl
+
+pub text_turn : (q : Setting) (h : Held) (d : ℕ) (ds : Text) → (d == 45) ≡ false → turn_fault ready [] (waiting_for q h) (d ∷ ds) ≡ []
+unfolding clap_on_literals
+text_turn tries h d ds e = rw (e, e) refl
+text_turn slots h d ds e = rw (e, e) refl
+text_turn snap h d ds e = rw (e, e) refl
+
+pub text_walk : (q : Setting) (h : Held) (d : ℕ) (ds : Text) → (d == 45) ≡ false
+    → walked ready.rules [] (waiting_for q h) (d ∷ ds) ≡ walk_from (pending_at q (d ∷ ds) h)
+unfolding clap_on_literals
+text_walk tries h d ds e = rw (e, e) refl
+text_walk slots h d ds e = rw (e, e) refl
+text_walk snap h d ds e = rw (e, e) refl
+
+-- what clap keeps of an option
+abbrev pub row_of : Setting → Text → Row
+row_of q t = record {
+  id = name_of q;
+  values = t ∷ [];
+  count = None;
+  source = Some CommandLine;
+  reading = reading_by (option_rule (name_of q));
+}
+
+pub at_row_absent : (id : Text) (change : Row → List Row) (missing rows : List Row) → has_row id rows ≡ false → at_row id change missing rows ≡ rows ++ missing
+at_row_absent id change missing [] h = refl
+at_row_absent id change missing (r ∷ rs) h = go (bytes_eq r.id id) refl (at_row_absent id change missing rs)
+  where
+    go : (b : Bool) → bytes_eq r.id id ≡ b → (has_row id rs ≡ false → at_row id change missing rs ≡ rs ++ missing)
+        → at_row id change missing (r ∷ rs) ≡ (r ∷ rs) ++ missing
+    go true e next = let bad : true ≡ false = rw e at h in cc
+    go false e next = rw e (ap (λ (xs : List Row). r ∷ xs) (next (rw e at h)))
+
+used_row : (q : Setting) (t : Text) (rows : List Row) → has_row (name_of q) rows ≡ false
+    → with_values (name_of q) (reading_by (option_rule (name_of q))) CommandLine (t ∷ []) (without (name_of q) rows) ≡ rows ++ row_of q t ∷ []
+used_row q t rows h =
+    ap (with_values (name_of q) (reading_by (option_rule (name_of q))) CommandLine (t ∷ [])) (at_row_absent (name_of q) (λ _. []) [] rows h ∙ append-nil rows)
+    ∙ at_row_absent (name_of q) (more_values CommandLine (t ∷ [])) (row_of q t ∷ []) rows h
+
+pub used_absent : (q : Setting) (t : Text) (rows : List Row) → has_row (name_of q) rows ≡ false
+    → settled ready.rules (record { rows = rows; pending = Some (name_of q, t ∷ []); skip = 0 })
+    ≡ record { rows = rows ++ row_of q t ∷ []; pending = None; skip = 0 }
+used_absent tries t rows h = let f : List Row → Held = λ rs. record { rows = rs; pending = None; skip = 0 } in ap f (used_row tries t rows h)
+used_absent slots t rows h = let f : List Row → Held = λ rs. record { rows = rs; pending = None; skip = 0 } in ap f (used_row slots t rows h)
+used_absent snap t rows h = let f : List Row → Held = λ rs. record { rows = rs; pending = None; skip = 0 } in ap f (used_row snap t rows h)
+
+pub settle_absent : (q : Setting) (t : Text) (rows : List Row) → has_row (name_of q) rows ≡ false
+    → settle_fault ready.rules false (record { rows = rows; pending = Some (name_of q, t ∷ []); skip = 0 }) ≡ []
+settle_absent tries t rows h = rw h refl
+settle_absent slots t rows h = rw h refl
+settle_absent snap t rows h = rw h refl

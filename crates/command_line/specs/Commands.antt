@@ -1,0 +1,28 @@
+-- The program as clap's definition.
+use Rattle.std.specs.Prelude.{[], ◌∷◌, codes, true, false, Some}
+use Rattle.clap.specs.Walk.{Rule, Text}
+use Rattle.clap.specs.Simple.{App, Shape, new_rule, new_shape}
+use Rattle.clap.specs.declared.builder.action.ArgAction.TheVariants.{Set}
+
+-- an option with one value
+abbrev pub option_rule : Text → Rule
+option_rule name = record (new_rule name) { long = Some name; action = Some Set }
+
+-- `run`, which has three options and no flag for help
+abbrev pub run_shape : Shape
+run_shape = record (new_shape (codes "run")) {
+  disable_help_flag = true;
+  rules = option_rule (codes "tries") ∷ option_rule (codes "slots") ∷ option_rule (codes "snap") ∷ [];
+}
+
+-- the program, which has to be told a command, and has neither a flag nor a command for help
+abbrev pub program : App
+program = record {
+  top = record (new_shape (codes "foedus")) {
+    disable_help_flag = true;
+    disable_help_subcommand = true;
+    subcommand_required = true;
+    is_leaf = false;
+  };
+  subs = run_shape ∷ [];
+}

@@ -1,0 +1,21 @@
+// What a call may ask for.
+
+/// The numbers of a run.
+#[derive(Clone, Copy, Debug, PartialEq, Eq)]
+pub struct RunOptions {
+    /// How often a transaction is tried.
+    pub tries: u32,
+    /// How many slots there are.
+    pub slots: u32,
+    /// How many pages of snapshots stay in memory.
+    pub snap: u32,
+}
+
+/// What the words of a call ask for.
+#[derive(Clone, Copy, Debug, PartialEq, Eq)]
+pub enum Command {
+    /// To run the script.
+    Run(RunOptions),
+    /// Nothing that the program does, or help.
+    Refused,
+}

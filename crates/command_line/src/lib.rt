@@ -1,0 +1,30 @@
+//! What the words of a call ask for.
+//!
+//! The words are the program's name and then `run`, with `--tries`, `--slots` and `--snap` in any
+//! order, each at most once, its number the word after it. The crate `clap` parts the words by the
+//! definition of `specs/Commands.antt`; the numbers are read here, since they have neither a sign
+//! nor a leading zero.
+//!
+//! Promises of `read_words`, unless memory is refused:
+//!
+//! - it answers what the definitions say (`command`);
+//! - for plain words it answers a run, with their numbers and the usual ones (`plain`);
+//! - the numbers of a run are in their ranges (`ranges`);
+//! - words are refused only where the definition has a kind of fault for them that is not want of
+//!   memory, or a number is none or out of its range (`refused`);
+//! - calls for help are refused (`help`).
+//!
+//! A repeated option is refused. `--tries=5` is taken for `--tries 5`, and a last `--` for nothing,
+//! as clap does; neither is among the plain words.
+#![tactic(auto)]
+
+mod command;
+mod number;
+mod program;
+mod words;
+
+pub use command::{Command, RunOptions};
+pub use words::read_words;
+
+#[cfg(test)]
+mod tests;

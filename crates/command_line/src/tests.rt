@@ -1,0 +1,132 @@
+use crate::{Command, RunOptions, read_words};
+use serial_model::Memory;
+use std::test::Fail;
+
+fn run(tries: u32, slots: u32, snap: u32) -> Result<Command, Memory> {
+    Ok(Command::Run(RunOptions { tries, slots, snap }))
+}
+
+#[test]
+fn numbers_in_range(rt: HostRuntime) -> Result<(), Fail> {
+    let rows: [(&str, &str, Result<Command, Memory>); 6] = [
+        ("--tries", "1", run(1, 256, 4_096)),
+        ("--tries", "1000000", run(1_000_000, 256, 4_096)),
+        ("--slots", "4", run(1_000, 4, 4_096)),
+        ("--slots", "4096", run(1_000, 4_096, 4_096)),
+        ("--snap", "1", run(1_000, 256, 1)),
+        ("--snap", "65536", run(1_000, 256, 65_536)),
+    ];
+    for (option, number, asked) in rows {
+        let command = read_words(rt.alloc(), &["foedus", "run", option, number]);
+        assert!(rt; command == asked);
+    }
+    Ok(())
+}
+
+#[test]
+fn options_in_any_order(rt: HostRuntime) -> Result<(), Fail> {
+    let rows: [(&[&str], Result<Command, Memory>); 9] = [
+        (&[], run(1_000, 256, 4_096)),
+        (&["--tries", "7", "--slots", "8"], run(7, 8, 4_096)),
+        (&["--slots", "8", "--tries", "7"], run(7, 8, 4_096)),
+        (
+            &["--snap", "9", "--slots", "8", "--tries", "7"],
+            run(7, 8, 9),
+        ),
+        (
+            &["--slots", "8", "--snap", "9", "--tries", "7"],
+            run(7, 8, 9),
+        ),
+        (
+            &["--tries", "7", "--slots", "8", "--snap", "9"],
+            run(7, 8, 9),
+        ),
+        (&["--tries=5"], run(5, 256, 4_096)),
+        (&["--snap=9", "--tries", "5"], run(5, 256, 9)),
+        (&["--"], run(1_000, 256, 4_096)),
+    ];
+    for (options, asked) in rows {
+        let mut words = vec![in rt.alloc(); "any", "run"]?;
+        words.extend_from_slice(options)?;
+        assert!(rt; read_words(rt.alloc(), words.as_slice()) == asked);
+    }
+    Ok(())
+}
+
+#[test]
+fn numbers_out_of_range(rt: HostRuntime) -> Result<(), Fail> {
+    let rows: [(&str, &str); 8] = [
+        ("--tries", "0"),
+        ("--tries", "1000001"),
+        ("--slots", "3"),
+        ("--slots", "4097"),
+        ("--snap", "0"),
+        ("--snap", "65537"),
+        ("--tries", "18446744073709551617"),
+        ("--snap", "4294967297"),
+    ];
+    for (option, number) in rows {
+        let command = read_words(rt.alloc(), &["foedus", "run", option, number]);
+        assert!(rt; command == Ok(Command::Refused));
+    }
+    Ok(())
+}
+
+#[test]
+fn no_numbers(rt: HostRuntime) -> Result<(), Fail> {
+    let rows: [&str; 11] = [
+        "+5", "007", "05", "", "-5", "5x", " 5", "5.0", "0x5", "5_000", "five",
+    ];
+    for number in rows {
+        let command = read_words(rt.alloc(), &["foedus", "run", "--tries", number]);
+        assert!(rt; command == Ok(Command::Refused));
+    }
+    Ok(())
+}
+
+#[test]
+fn faulty_words(rt: HostRuntime) -> Result<(), Fail> {
+    let rows: [&[&str]; 17] = [
+        &[],
+        &["foedus"],
+        &["foedus", "walk"],
+        &["foedus", "run", "run"],
+        &["foedus", "Run"],
+        &["foedus", ""],
+        &["foedus", "--tries", "5", "run"],
+        &["foedus", "run", "--tries"],
+        &["foedus", "run", "--tries", "--slots", "5"],
+        &["foedus", "run", "--tries", "5", "6"],
+        &["foedus", "run", "--tries", "5", "--tries", "5"],
+        &[
+            "foedus", "run", "--tries", "5", "--snap", "6", "--tries", "7",
+        ],
+        &["foedus", "run", "--try", "5"],
+        &["foedus", "run", "-t", "5"],
+        &["foedus", "run", "--tries="],
+        &["foedus", "run", "--", "5"],
+        &["foedus", "--", "run"],
+    ];
+    for words in rows {
+        assert!(rt; read_words(rt.alloc(), words) == Ok(Command::Refused));
+    }
+    Ok(())
+}
+
+#[test]
+fn calls_for_help(rt: HostRuntime) -> Result<(), Fail> {
+    let rows: [&[&str]; 8] = [
+        &["foedus", "help"],
+        &["foedus", "--help"],
+        &["foedus", "-h"],
+        &["foedus", "help", "run"],
+        &["foedus", "run", "help"],
+        &["foedus", "run", "--help"],
+        &["foedus", "run", "-h"],
+        &["foedus", "run", "--tries", "5", "--help"],
+    ];
+    for words in rows {
+        assert!(rt; read_words(rt.alloc(), words) == Ok(Command::Refused));
+    }
+    Ok(())
+}

@@ -145,3 +145,61 @@ fn workers_stand_in_order(rt: HostRuntime) -> Result<(), Fail> {
     assert_eq!(rt; sink.bytes(), text.as_slice());
     Ok(())
 }
+
+const SEVENTEEN_OPERATIONS: &[u8] =
+    b"array 1 4\n0 r 1 0; r 1 0; r 1 0; r 1 0; r 1 0; r 1 0; r 1 0; r 1 0; \
+r 1 0; r 1 0; r 1 0; r 1 0; r 1 0; r 1 0; r 1 0; r 1 0; r 1 0";
+
+const SEVENTEEN_ARRAYS: &[u8] =
+    b"array 0 1\narray 1 1\narray 2 1\narray 3 1\narray 4 1\narray 5 1\n\
+array 6 1\narray 7 1\narray 8 1\narray 9 1\narray 10 1\narray 11 1\narray 12 1\narray 13 1\narray 14 1\n\
+array 15 1\narray 16 1\n";
+
+// The first faulty line, counted from 1, and its first kind of fault.
+#[test]
+fn faults_are_told_by_line_and_kind(rt: HostRuntime) -> Result<(), Fail> {
+    let alloc = rt.alloc();
+    let mut vault = fresh_vault(alloc)?;
+    let cases: [(&[u8], &[u8]); 20] = [
+        (&[b'0'; 1025], b"script 1 TooLong\n"),
+        (&[b'j'; 1025], b"script 1 TooLong\n"),
+        (&[b' '; 2000], b"script 1 TooLong\n"),
+        (&[b'0'; 1024], b"script 1 Word\n"),
+        (b"walk\n", b"script 1 Word\n"),
+        (b"\n\narray 1 4\r\n", b"script 3 Number\n"),
+        (b"array 1 4\n0 r 1 0 \n", b"script 2 Word\n"),
+        (b"array 1 04\n", b"script 1 Number\n"),
+        (
+            b"array 1 4\n0 w 1 0 18446744073709551616\n",
+            b"script 2 Number\n",
+        ),
+        (b"array 1 4\n0; r 1 0\n", b"script 2 Number\n"),
+        (SEVENTEEN_OPERATIONS, b"script 2 TooMany\n"),
+        (SEVENTEEN_ARRAYS, b"script 17 TooMany\n"),
+        (b"0 r 1 0\n", b"script 1 Declared\n"),
+        (b"array 1 4\narray 1 4\n", b"script 2 Declared\n"),
+        (b"array 1 4\njoin\narray 2 4\n", b"script 3 Declared\n"),
+        (b"array 1 4\n0 r 256 0\n", b"script 2 Declared\n"),
+        (b"array 1 131073\n", b"script 1 Range\n"),
+        (b"array 256 4\n", b"script 1 Range\n"),
+        (b"array 1 4\n8 r 1 0\n", b"script 2 Range\n"),
+        (b"array 1 4\n0 r 1 4\n", b"script 2 Range\n"),
+    ];
+    for (bytes, text) in cases {
+        let mut source = SureSource::new(bytes.to_vec(alloc)?);
+        let mut sink = MemSink::new(alloc, Vec::new(alloc));
+        let words = ["foedus", "run"];
+        let status = top(
+            &rt,
+            alloc,
+            &words,
+            &mut source,
+            &mut sink,
+            &mut vault,
+            &OpenGate,
+        );
+        assert_eq!(rt; status, 1, "{bytes:?}");
+        assert_eq!(rt; sink.bytes(), text, "{bytes:?}");
+    }
+    Ok(())
+}

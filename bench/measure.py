@@ -1,8 +1,9 @@
 #!/usr/bin/env python3
 """Measures what a run of a long script takes: seconds, and peak memory as a multiple of the script's size.
 
-The scripts have a quarter, a half and all of the 65,536 lines that a round may have, each line padded to 1,024 bytes by
-empty lines, which count for nothing. They are of 16 writes a line and of 16 reads a line.
+The scripts have a quarter, a half and all of 64 MiB. In those of 16 writes a line and of 16 reads a line each line is
+padded to 1,024 bytes by empty lines, which count for nothing. The others are of joins alone, of the shortest lines in full
+rounds, and of such lines with a join after each.
 Usage: bench/measure.py PROGRAM, where PROGRAM is `./foedus` or the built program.
 """
 import os
@@ -29,6 +30,17 @@ def script(lines, kind):
     return (heads + body)[: lines * BYTES]
 
 
+def repeated(block, size):
+    return (block * (size // len(block) + 1))[:size].rsplit("\n", 1)[0] + "\n"
+
+
+def short_script(kind, size):
+    head = "" if kind == "joins" else "array 1 4\n"
+    read = "0 r 1 0\n"
+    block = {"joins": "join\n", "shortest lines": read * LINES + "join\n", "rounds of a line": read + "join\n"}[kind]
+    return head + repeated(block, size - len(head))
+
+
 def run(program, path):
     with tempfile.TemporaryDirectory() as folder, open(path, "rb") as source, open(os.devnull, "wb") as sink:
         start = time.monotonic()
@@ -42,16 +54,22 @@ def run(program, path):
         return os.waitstatus_to_exitcode(status), time.monotonic() - start, usage.ru_maxrss * 1024
 
 
+def measure(program, name, text):
+    with tempfile.NamedTemporaryFile("w", suffix=".txt") as source:
+        source.write(text)
+        source.flush()
+        size = os.path.getsize(source.name)
+        status, seconds, peak = run(program, source.name)
+    print(f"{name}, {size:9} bytes: status {status}, {seconds:5.2f} s, peak {peak / size:4.1f} times the size")
+
+
 def main():
     program = os.path.abspath(sys.argv[1])
-    for kind in ("writes", "reads"):
-        for lines in (LINES // 4, LINES // 2, LINES):
-            with tempfile.NamedTemporaryFile("w", suffix=".txt") as source:
-                source.write(script(lines, kind))
-                source.flush()
-                size = os.path.getsize(source.name)
-                status, seconds, peak = run(program, source.name)
-            print(f"16 {kind} a line, {lines:6} lines, {size:9} bytes: status {status}, {seconds:5.2f} s, peak {peak / size:4.1f} times the size")
+    for lines in (LINES // 4, LINES // 2, LINES):
+        for kind in ("writes", "reads"):
+            measure(program, f"16 {kind} a line, {lines:6} lines", script(lines, kind))
+        for kind in ("joins", "shortest lines", "rounds of a line"):
+            measure(program, kind, short_script(kind, lines * BYTES))
 
 
 if __name__ == "__main__":

@@ -1,3 +1,4 @@
+pub mod MadeCalls
 pub mod Replays
 pub mod Streams
 pub mod Tears

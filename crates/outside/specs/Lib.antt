@@ -1,5 +1,10 @@
+pub mod Cuts
 pub mod Disk
 pub mod Faults
 pub mod Listed
+pub mod Moments
+pub mod Ranges
 pub mod Replay
+pub mod Replayed
 pub mod Stream
+pub mod Vault

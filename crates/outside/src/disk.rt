@@ -1,6 +1,6 @@
 // A device of bytes, as its users see it.
 ghost use Rattle.std.specs.Prelude.{◌≡◌, ◌≤◌, ◌-◌, ◌++◌, List, ℕ, Option, Some, is_some, length, take, drop, min, IfOk, OnOk, OnErr};
-ghost use Rattle.outside.specs.Disk.{IfTold, written, Torn, Shortened, Ticks};
+ghost use Rattle.outside.specs.Disk.{IfTold, written, Torn, Shortened, Same, Goes, LeavesEach, Only, Ticks};
 ghost use Rattle.outside.specs.Faults.{HasCause};
 
 use crate::Failed;
@@ -12,6 +12,9 @@ pub trait Disk {
 
     /// How many begins and ends of calls there were.
     ghost clock: { Self → ℕ };
+
+    /// The bytes that a stop at this moment of the clock may leave, for each moment up to now.
+    ghost image_at: { Self → ℕ → List ℕ → Type 0 };
 
     /// How often it has failed. The count never falls, and stays at its last value.
     ghost faults: { Self → ℕ };
@@ -28,6 +31,8 @@ pub trait Disk {
     fn len(&mut self) -> Result<u64, Failed>
         ensures value { IfOk result (λ n. IfTold (tells self.old) (λ file. n ≡ length file)) }
         ensures told { tells self.new ≡ tells self.old }
+        ensures moments { Goes clock image_at Same self.old self.new }
+        ensures each { LeavesEach clock image_at Same self.old self.new (clock self.new) }
         ensures ticks { Ticks (clock self.old) (clock self.new) result }
         ensures cause { HasCause (faults self.old) (faults self.new) result };
 
@@ -39,6 +44,8 @@ pub trait Disk {
             (n ≡ min (length buf.old) (length file - at))
             × (buf.new ≡ take n (drop at file) ++ drop n buf.old))) }
         ensures told { tells self.new ≡ tells self.old }
+        ensures moments { Goes clock image_at Same self.old self.new }
+        ensures each { LeavesEach clock image_at Same self.old self.new (clock self.new) }
         ensures ticks { Ticks (clock self.old) (clock self.new) result }
         ensures cause { HasCause (faults self.old) (faults self.new) result };
 
@@ -50,6 +57,8 @@ pub trait Disk {
         ensures torn { OnErr result (IfTold (tells self.old) (λ file.
             IfTold (tells self.new) (Torn at (length bytes.now) file))) }
         ensures told { is_some (tells self.new) ≡ is_some (tells self.old) }
+        ensures moments { Goes clock image_at (Torn at (length bytes.now)) self.old self.new }
+        ensures each { LeavesEach clock image_at (Torn at (length bytes.now)) self.old self.new (clock self.new) }
         ensures ticks { Ticks (clock self.old) (clock self.new) result }
         ensures cause { HasCause (faults self.old) (faults self.new) result };
 
@@ -60,12 +69,23 @@ pub trait Disk {
         ensures torn { OnErr result (IfTold (tells self.old) (λ file.
             IfTold (tells self.new) (Shortened len file))) }
         ensures told { is_some (tells self.new) ≡ is_some (tells self.old) }
+        ensures moments { Goes clock image_at (Shortened len) self.old self.new }
+        ensures each { LeavesEach clock image_at (Shortened len) self.old self.new (clock self.new) }
         ensures ticks { Ticks (clock self.old) (clock self.new) result }
         ensures cause { HasCause (faults self.old) (faults self.new) result };
 
-    /// Brings what was written to the device itself. One that failed settles nothing.
+    /// Brings what was written to the device itself: after it a stop leaves what reads give, and
+    /// nothing else. One that failed settles nothing.
     fn sync(&mut self) -> Result<(), Failed>
         ensures told { tells self.new ≡ tells self.old }
+        ensures durable { OnOk result (IfTold (tells self.old) (Only clock image_at self.new)) }
+        ensures moments { Goes clock image_at Same self.old self.new }
+        ensures each { LeavesEach clock image_at Same self.old self.new (clock self.new - 1) }
+        ensures unsettled { OnErr result (LeavesEach clock image_at Same self.old self.new (clock self.new)) }
         ensures ticks { Ticks (clock self.old) (clock self.new) result }
         ensures cause { HasCause (faults self.old) (faults self.new) result };
+
+    /// A disk as it reads is one of its images.
+    ghost reads: { (disk : Self) (file : List ℕ) → tells disk ≡ Some file
+        → image_at disk (clock disk) file };
 }

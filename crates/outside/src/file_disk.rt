@@ -1,4 +1,4 @@
-// A disk over a file of the system. It tells none of its bytes.
+// A disk over a file of the system. It tells none of its bytes, and a stop may leave anything.
 ghost use Rattle.std.specs.Prelude.{◌≡◌, ◌≤◌, ◌<◌, ◌+◌, ◌^◌, None, Ok, length, IfOk, OnOk, OnErr};
 ghost use Rattle.outside.specs.Faults.{Rose};
 
@@ -93,7 +93,11 @@ impl Disk for FileDisk {
 
     ghost clock = { λ disk. disk.clock };
 
+    ghost image_at = { λ _ _ _. Unit {0} };
+
     ghost faults = { λ disk. disk.faults };
+
+    ghost reads = { λ _ _ _. tt };
 
     fn clock(&self) -> u64 {
         self.clock

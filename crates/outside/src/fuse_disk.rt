@@ -1,5 +1,6 @@
 // A disk that passes some calls on, and then fails each.
 ghost use Rattle.std.specs.Prelude.{◌≡◌, ◌+◌, ◌-◌, ◌^◌, List, ℕ, min, OnOk, OnErr};
+ghost use Rattle.outside.specs.Disk.{IsSettled};
 
 use crate::fault::count_fault;
 use crate::{Disk, Failed};
@@ -14,9 +15,12 @@ pub struct FuseDisk<D: Disk> {
 }
 
 impl<D: Disk> FuseDisk<D> {
-    /// A disk that passes so many calls on.
+    /// A disk that passes so many calls on. It is settled where the other is.
     pub fn new(disk: D, passes: u64) -> Self
         ensures tells { ⟦<FuseDisk<D> as Disk>⟧.tells result ≡ D.tells disk }
+        ensures settled { (file : List ℕ) → IsSettled D.tells D.clock D.image_at disk file
+            → IsSettled ⟦<FuseDisk<D> as Disk>⟧.tells ⟦<FuseDisk<D> as Disk>⟧.clock
+            ⟦<FuseDisk<D> as Disk>⟧.image_at result file }
         ensures clock { ⟦<FuseDisk<D> as Disk>⟧.clock result ≡ D.clock disk }
         ensures faults { ⟦<FuseDisk<D> as Disk>⟧.faults result ≡ min (D.faults disk) (2 ^ 64 - 1) }
         ensures passes { result.passes ≡ passes }
@@ -50,7 +54,11 @@ impl<D: Disk> Disk for FuseDisk<D> {
 
     ghost clock = { λ fuse. D.clock fuse.disk };
 
+    ghost image_at = { λ fuse. D.image_at fuse.disk };
+
     ghost faults = { λ fuse. min (D.faults fuse.disk + fuse.faults) (2 ^ 64 - 1) };
+
+    ghost reads = { λ fuse. D.reads fuse.disk };
 
     fn clock(&self) -> u64 {
         self.disk.clock()

@@ -1,7 +1,7 @@
 // What is called round each line that a script runs, so that a test can hold a worker there.
 
 /// Called round each line that is run. Workers count from 0, and worker 255 is the maintenance
-/// thread; `line` is the line's number in the script.
+/// thread; `line` counts the lines of that worker in its round, from 0.
 pub trait Gate {
     fn before(&self, worker: u8, line: u32);
 

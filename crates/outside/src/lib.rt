@@ -12,14 +12,29 @@
 //! - A [`Disk`] reads as it was written (`value`, `written`, `cut`). A write or a cut that failed may
 //!   be done in part, and leaves the bytes outside of its range (`torn`). Its clock counts the begins
 //!   and ends of its calls (`ticks`).
+//! - A stop at any moment of a disk leaves one of the images of that moment. The moments before a call
+//!   keep their images. At those of the call a stop leaves what it could leave as the call began,
+//!   after a step of the call (`moments`), and each such step may be left (`each`). After a sync that
+//!   answered `Ok` a stop leaves what reads give (`durable`); one that failed settles nothing
+//!   (`unsettled`). A disk as it reads is always one of its images (`reads`).
+//! - [`Vault::cut_in`] cuts one device of a vault, of which the trait's clauses hold, and leaves the
+//!   others (`cut`, by `CutsIn` in `specs/Vault.antt`). It records just one cut, with the device's
+//!   clock as it began, whether the device did it or not (`recorded`).
+//!
+//! Laws for those who use a disk stand in `specs/Ranges.antt` (what a write leaves) and
+//! `specs/Moments.antt` (how images go on), those for a vault in `specs/Cuts.antt`.
 //!
 //! Terms: *told* bytes are those that an object is known to have. The objects in memory tell all of
-//! their bytes; those over the system tell none, and their calls promise no more than counts.
+//! their bytes; those over the system tell none, and their calls promise no more than counts. A
+//! *moment* is a value of a disk's clock, between two calls or within one. An *image* of a moment is
+//! what a stop then may leave on the device. A disk is *settled* where a stop now leaves what reads
+//! give, and nothing else.
 //!
 //! The objects: [`SureSource`], [`MemSource`], [`MemSink`] and [`MemDisk`] in memory, of which all but
 //! the first fail at the calls of chosen numbers; [`FuseDisk`], which fails at each call after some;
-//! [`StdSource`], [`StdSink`] and [`FileDisk`] over the system. What a file or a terminal does is not
-//! proved, only that each of its errors is counted and answered.
+//! [`StdSource`], [`StdSink`] and [`FileDisk`] over the system. The images of a `MemDisk` are had by
+//! going through its calls again (`specs/Replay.antt`), and those of a `FileDisk` are any bytes. What
+//! a file or a terminal does is not proved, only that each of its errors is counted and answered.
 #![tactic(auto)]
 
 mod call;

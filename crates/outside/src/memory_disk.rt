@@ -1,10 +1,11 @@
 // A disk in memory, some of whose calls fail. It records each call that was made, and so what it
 // tells can be had again from its first bytes.
-ghost use Rattle.std.specs.Prelude.{◌≡◌, ◌⊎◌, ◌*◌, ◌+◌, ◌-◌, ◌<◌, ◌≤◌, ◌^◌, [], ◌∷◌, ◌++◌, Some, IsErr, false, true, IfOk, OnOk, OnErr, MatchOption, length};
-ghost use Rattle.outside.specs.Disk.{written};
+ghost use Rattle.std.specs.Prelude.{◌≡◌, ◌⊎◌, ◌*◌, ◌+◌, ◌-◌, ◌<◌, ◌≤◌, ◌^◌, [], ◌∷◌, ◌++◌, Some, IsErr, false, true, IfOk, OnOk, OnErr, MatchOption, length, is_err};
+ghost use Rattle.outside.specs.Disk.{written, Goes, LeavesEach, IsSettled};
 ghost use Rattle.outside.specs.Faults.{Rose};
 ghost use Rattle.outside.specs.Listed.{is_listed};
-ghost use Rattle.outside.specs.Replay.{done, read_through};
+ghost use Rattle.outside.specs.Replay.{done, read_through, step_of, IsLoose, LeftAfter, LeavesLast, IsImage};
+ghost use Rattle.outside.specs.Replayed.{told_as_left};
 
 use crate::fault::count_fault;
 use crate::{Call, Disk, Failed, Made};
@@ -41,10 +42,12 @@ fn overwritten(alloc: Global, file: &[u8], at: usize, bytes: &[u8]) -> Result<Ve
 }
 
 impl MemDisk {
-    /// A disk of these bytes. The calls that are made, of each kind, are counted from 0, and those of
-    /// the numbers in `fails` fail.
+    /// A disk of these bytes, on which nothing is pending. The calls that are made, of each kind, are
+    /// counted from 0, and those of the numbers in `fails` fail.
     pub fn new(alloc: Global, bytes: Vec<u8>, fails: Vec<u64>) -> Result<Self, AllocError>
         ensures tells { IfOk result (λ disk. ⟦<MemDisk as Disk>⟧.tells disk ≡ Some bytes.items) }
+        ensures settled { IfOk result (λ disk. IsSettled ⟦<MemDisk as Disk>⟧.tells
+            ⟦<MemDisk as Disk>⟧.clock ⟦<MemDisk as Disk>⟧.image_at disk bytes.items) }
         ensures clock { IfOk result (λ disk. ⟦<MemDisk as Disk>⟧.clock disk ≡ 0) }
         ensures faults { IfOk result (λ disk. ⟦<MemDisk as Disk>⟧.faults disk ≡ 0) }
         ensures fails { IfOk result (λ disk. disk.fails ≡ fails) }
@@ -88,7 +91,8 @@ impl MemDisk {
     }
 
     // Makes a call, unless there is no room to record it. It fails where its number is listed, and
-    // leaves the next bytes otherwise.
+    // leaves the next bytes otherwise. The images go on by the step of the call: within it, and after
+    // it as well, but for a sync that was done, after which `last` says what is left.
     #[tactic(auto, using(crate::proofs::Replays::read_through_push))]
     fn make(&mut self, call: Call, next: Option<Vec<u8>>) -> Result<(), Failed>
         requires { MatchOption next (done call self.old.bytes.items ≡ self.old.bytes.items)
@@ -105,6 +109,15 @@ impl MemDisk {
             → IsErr result }
         ensures later { self.old.faults ≤ self.new.faults }
         ensures cause { OnErr result (Rose self.old.faults self.new.faults) }
+        ensures moments { Goes ⟦<MemDisk as Disk>⟧.clock ⟦<MemDisk as Disk>⟧.image_at (step_of call)
+            self.old self.new }
+        ensures within { LeavesEach ⟦<MemDisk as Disk>⟧.clock ⟦<MemDisk as Disk>⟧.image_at (step_of call)
+            self.old self.new (⟦<MemDisk as Disk>⟧.clock self.new - 1) }
+        ensures each { IsLoose call (is_err result)
+            → LeavesEach ⟦<MemDisk as Disk>⟧.clock ⟦<MemDisk as Disk>⟧.image_at (step_of call)
+            self.old self.new (⟦<MemDisk as Disk>⟧.clock self.new) }
+        ensures last { OnOk result (LeavesLast ⟦<MemDisk as Disk>⟧.clock ⟦<MemDisk as Disk>⟧.image_at
+            (LeftAfter call false self.old.bytes.items) self.old self.new) }
     {
         let number = self.calls.len() as u64;
         if number >= MAX_CALLS {
@@ -129,7 +142,11 @@ impl Disk for MemDisk {
 
     ghost clock = { λ disk. 2 * length disk.calls.items };
 
+    ghost image_at = { λ disk. IsImage disk.first.items disk.calls.items };
+
     ghost faults = { λ disk. disk.faults };
+
+    ghost reads = { λ disk file is. told_as_left disk.calls.items disk.first.items disk.bytes.items file disk.replayed is };
 
     fn clock(&self) -> u64 {
         2 * self.calls.len() as u64

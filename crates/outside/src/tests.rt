@@ -1,5 +1,6 @@
 // The objects at work: what they give, what they leave after a fault, and that a call can succeed.
-ghost use Rattle.std.specs.Prelude.{◌≤◌, length, IfOk};
+ghost use Rattle.std.specs.Prelude.{◌≡◌, ◌≢◌, ◌<◌, ◌≤◌, length, IfOk, IsSome, vec_len, vec_capacity};
+ghost use Rattle.outside.specs.Vault.{disk_in};
 
 use super::*;
 use std::alloc::{AllocError, Global};
@@ -239,24 +240,99 @@ fn an_open_gate_holds_nobody(_rt: HostRuntime) {
     pass_by(&OpenGate);
 }
 
-#[test]
-fn a_vault_is_let_go_with_its_devices(rt: HostRuntime) -> Result<(), Fail> {
-    let alloc = rt.alloc();
-    let mut vault = Vault {
-        save: mem_disk(alloc, &[])?,
-        snaps: mem_disk(alloc, &[])?,
-        even: Vec::new(alloc),
-        odd: Vec::new(alloc),
+// A disk that was asked for its length so many times.
+fn asked_disk(alloc: Global, times: u8) -> Result<MemDisk, AllocError> {
+    let mut disk = mem_disk(alloc, &[])?;
+    for _ in 0..times {
+        let _asked = disk.len();
+    }
+    Ok(disk)
+}
+
+// The devices of two workers, and room for one cut. Each disk's clock is another.
+fn two_workers(alloc: Global) -> Result<Vault<MemDisk>, AllocError>
+    ensures even { IfOk result (λ vault. length vault.even.items ≡ 2) }
+    ensures odd { IfOk result (λ vault. length vault.odd.items ≡ 2) }
+    ensures room { IfOk result (λ vault. vec_len vault.cuts < vec_capacity vault.cuts) }
+{
+    let mut even = Vec::new(alloc);
+    even.push(asked_disk(alloc, 2)?)?;
+    even.push(asked_disk(alloc, 4)?)?;
+    let mut odd = Vec::new(alloc);
+    odd.push(asked_disk(alloc, 3)?)?;
+    odd.push(asked_disk(alloc, 5)?)?;
+    Ok(Vault {
+        save: asked_disk(alloc, 0)?,
+        snaps: asked_disk(alloc, 1)?,
+        even,
+        odd,
         ties: Vec::new(alloc),
-        cuts: Vec::new(alloc),
-    };
-    vault.even.push(mem_disk(alloc, &[])?)?;
+        cuts: Vec::with_capacity(alloc, 1)?,
+    })
+}
+
+// The lengths of all devices: the save, the snapshots, and the banks 0, 2, 1 and 3.
+fn lengths(alloc: Global, vault: &Vault<MemDisk>) -> Result<Vec<usize>, AllocError> {
+    let mut lengths = Vec::new(alloc);
+    lengths.push(vault.save.bytes().len())?;
+    lengths.push(vault.snaps.bytes().len())?;
+    for disk in vault.even.iter() {
+        lengths.push(disk.bytes().len())?;
+    }
+    for disk in vault.odd.iter() {
+        lengths.push(disk.bytes().len())?;
+    }
+    Ok(lengths)
+}
+
+// Cuts a device, and says what was recorded, the device's next clock and all lengths.
+fn cut_once(
+    rt: &impl Abort,
+    alloc: Global,
+    vault: &mut Vault<MemDisk>,
+    device: Device,
+    at: u64,
+    left: [usize; 6],
+) -> Result<(), Fail>
+    requires room { vec_len vault.old.cuts < vec_capacity vault.old.cuts }
+    requires device { IsSome (disk_in vault.old device) }
+    requires not_save { device ≢ Device.Save }
+{
+    assert_eq!(rt; vault.cut_in(device, 7), Ok(()), "{device:?}");
     let cut = Cut {
-        device: Device::Bank(2),
-        at: vault.save.clock(),
-        after: 0,
+        device,
+        at,
+        after: 7,
     };
-    vault.cuts.push(cut)?;
     assert_eq!(rt; vault.cuts.as_slice(), [cut].as_slice());
+    let lengths = lengths(alloc, vault)?;
+    assert_eq!(rt; lengths.as_slice(), left.as_slice(), "{device:?}");
+    Ok(())
+}
+
+#[test]
+fn a_cut_of_a_device_is_recorded(rt: HostRuntime) -> Result<(), Fail> {
+    let alloc = rt.alloc();
+    let mut vault = two_workers(alloc)?;
+    cut_once(&rt, alloc, &mut vault, Device::Snaps, 2, [3, 0, 3, 3, 3, 3])?;
+    assert_eq!(rt; vault.snaps.clock(), 4);
+    let mut vault = two_workers(alloc)?;
+    cut_once(
+        &rt,
+        alloc,
+        &mut vault,
+        Device::Bank(0),
+        4,
+        [3, 3, 0, 3, 3, 3],
+    )?;
+    let mut vault = two_workers(alloc)?;
+    cut_once(
+        &rt,
+        alloc,
+        &mut vault,
+        Device::Bank(3),
+        10,
+        [3, 3, 3, 3, 3, 0],
+    )?;
     Ok(())
 }

@@ -1,4 +1,8 @@
 // The devices of one database, with what was recorded of their use.
+ghost use Rattle.std.specs.Prelude.{◌≡◌, ◌≢◌, ◌<◌, ℕ, [], ◌∷◌, ◌++◌, Some, IsSome, length, slice_get, vec_len, vec_capacity};
+ghost use Rattle.outside.specs.Vault.{disk_in, Cuts, CutsIn};
+
+use crate::{Disk, Failed};
 
 /// A device of the vault. Bank 2w is `even[w]`, and bank 2w + 1 is `odd[w]`.
 #[derive(Clone, Copy, Debug, PartialEq, Eq)]
@@ -42,4 +46,88 @@ pub struct Vault<D> {
     /// The stores of `save`, and the cuts, in the order in which they began.
     pub ties: Vec<Tie>,
     pub cuts: Vec<Cut>,
+}
+
+impl<D: Disk> Vault<D> {
+    /// Cuts a device to nothing, and records the cut. What is recorded stands whether the cut answers
+    /// `Ok` or not, since one that failed may be done in part. The save is never cut, and room for the
+    /// record is made before: a cut must not begin and then go unrecorded for want of memory.
+    pub fn cut_in(&mut self, device: Device, after: u64) -> Result<(), Failed>
+        requires room { vec_len self.old.cuts < vec_capacity self.old.cuts }
+        requires device { IsSome (disk_in self.old device) }
+        requires not_save { device ≢ Device.Save }
+        ensures cut { CutsIn D.tells D.clock D.image_at D.faults device self.old self.new result }
+        ensures recorded { (was : D) → disk_in self.old device ≡ Some was → self.new.cuts.items
+            ≡ self.old.cuts.items ++ record { device = device; at = D.clock was; after = after } ∷ [] }
+        ensures capacity { vec_capacity self.new.cuts ≡ vec_capacity self.old.cuts }
+        ensures save { self.new.save ≡ self.old.save }
+        ensures ties { self.new.ties ≡ self.old.ties }
+    {
+        let at = self.clock_of(device);
+        self.cuts.push_reserved(Cut { device, at, after });
+        self.cut_device(device)
+    }
+
+    fn clock_of(&self, device: Device) -> u64
+        requires { IsSome (disk_in self.now device) }
+        ensures { (disk : D) → disk_in self.now device ≡ Some disk → result ≡ D.clock disk }
+    {
+        match device {
+            Device::Save => self.save.clock(),
+            Device::Snaps => self.snaps.clock(),
+            Device::Bank(number) => self.clock_of_bank(number),
+        }
+    }
+
+    fn clock_of_bank(&self, number: u8) -> u64
+        requires { IsSome (disk_in self.now (Device.Bank number)) }
+        ensures { (disk : D) → disk_in self.now (Device.Bank number) ≡ Some disk
+            → result ≡ D.clock disk }
+    {
+        let worker = (number / 2) as usize;
+        if number % 2 == 0 {
+            return self.even[worker].clock();
+        }
+        self.odd[worker].clock()
+    }
+
+    // Cuts a device to nothing, and records nothing.
+    fn cut_device(&mut self, device: Device) -> Result<(), Failed>
+        requires { IsSome (disk_in self.old device) }
+        ensures cut { CutsIn D.tells D.clock D.image_at D.faults device self.old self.new result }
+        ensures ties { self.new.ties ≡ self.old.ties }
+        ensures cuts { self.new.cuts ≡ self.old.cuts }
+    {
+        match device {
+            Device::Save => self.save.cut(0),
+            Device::Snaps => self.snaps.cut(0),
+            Device::Bank(number) => self.cut_bank(number),
+        }
+    }
+
+    fn cut_bank(&mut self, number: u8) -> Result<(), Failed>
+        requires { IsSome (disk_in self.old (Device.Bank number)) }
+        ensures cut { CutsIn D.tells D.clock D.image_at D.faults (Device.Bank number)
+            self.old self.new result }
+        ensures ties { self.new.ties ≡ self.old.ties }
+        ensures cuts { self.new.cuts ≡ self.old.cuts }
+    {
+        let worker = (number / 2) as usize;
+        if number % 2 == 0 {
+            return cut_one(&mut self.even, worker);
+        }
+        cut_one(&mut self.odd, worker)
+    }
+}
+
+// Cuts one of some disks to nothing, and leaves the others.
+fn cut_one<D: Disk>(disks: &mut [D], at: usize) -> Result<(), Failed>
+    requires { at < length disks.old }
+    ensures cut { (was : D) → slice_get disks.old at ≡ Some was
+        → (now : D) × (slice_get disks.new at ≡ Some now)
+        × Cuts D.tells D.clock D.image_at D.faults 0 was now result }
+    ensures others { (other : ℕ) → other ≢ at → slice_get disks.new other ≡ slice_get disks.old other }
+    ensures len { length disks.new ≡ length disks.old }
+{
+    disks[at].cut(0)
 }

@@ -1,0 +1,11 @@
+use Rattle.std.proofs.Common.{length, arith}
+use Rattle.outside.specs.Ranges.{torn_same}
+use Rattle.outside.proofs.file_disk.FileDiskDisk.write.Goals as goal
+
+pub returns-clause-moments : goal.returns-clause-moments
+returns-clause-moments c = record {
+  later = omega (arith, c.in_ok-begin.ensures.ok, c.end.ensures.clock);
+  kept = λ m d le left. left;
+  told = λ m d le left. left;
+  from = λ m d gt le left. (d, left, torn_same c.args.at (length c.args.bytes.now) d);
+}

@@ -1,0 +1,64 @@
+-- What a cut of a device of a vault did, as laws for those who use one.
+use Rattle.std.specs.Prelude.{◌≡◌, ◌≢◌, ℕ, ◌+◌, ◌*◌, ◌/◌, ◌%◌, List, Option, Some, slice_get, Result, refl}
+use Rattle.std.proofs.Common.{sym, ◌∙◌, subst, arith}
+use Rattle.std.proofs.lemmas.Option.{same_Some}
+use Rattle.outside.specs.declared.vault.Device.{Device}
+use Rattle.outside.specs.declared.vault.Device.TheVariants.{Snaps, Bank}
+use Rattle.outside.specs.declared.vault.Vault.{Vault}
+use Rattle.outside.specs.Vault.{disk_in, Cuts, CutsIn}
+
+-- a worker's first bank
+pub disk_in-even : {D : Type 0} (vault : Vault D) (w : ℕ) → disk_in vault (Bank (2 * w)) ≡ slice_get vault.even.items w
+disk_in-even vault w =
+    let rest : (2 * w) % 2 ≡ 0 = omega arith in
+    let half : (2 * w) / 2 ≡ w = omega arith in
+    rw (rest, half) refl
+
+-- and its second
+pub disk_in-odd : {D : Type 0} (vault : Vault D) (w : ℕ) → disk_in vault (Bank (2 * w + 1)) ≡ slice_get vault.odd.items w
+disk_in-odd vault w =
+    let rest : (2 * w + 1) % 2 ≡ 1 = omega arith in
+    let half : (2 * w + 1) / 2 ≡ w = omega arith in
+    rw (rest, half) refl
+
+module _ {D T E : Type 0} {tells : D → Option (List ℕ)} {clock : D → ℕ} {image_at : D → ℕ → List ℕ → Type 0} {faults : D → ℕ} {device : Device} {old new : Vault D} {result : Result T E} where
+  -- the device's disk, known before and after, was cut
+  pub cuts_disk : {was now : D} → CutsIn tells clock image_at faults device old new result
+      → disk_in old device ≡ Some was → disk_in new device ≡ Some now
+      → Cuts tells clock image_at faults 0 was now result
+  cuts_disk {was = was} {now = now} cut before after =
+      let there = cut.cut was before in
+      subst (λ d. Cuts tells clock image_at faults 0 was d result) (same_Some _ _ (sym there.1 ∙ after)) there.2
+
+  -- another device's disk is the one that it was
+  pub keeps_disk : {was now : D} → CutsIn tells clock image_at faults device old new result
+      → (other : Device) → other ≢ device
+      → disk_in old other ≡ Some was → disk_in new other ≡ Some now → now ≡ was
+  keeps_disk cut other differs before after = same_Some _ _ (sym after ∙ cut.others other differs ∙ before)
+
+-- a bank is another device than the snapshots
+snaps_not_bank : (n : ℕ) → Snaps ≢ Bank n
+snaps_not_bank n same = cc
+
+-- the same, told of the bank
+bank_not_snaps : (n : ℕ) → Bank n ≢ Snaps
+bank_not_snaps n same = cc
+
+-- banks of two numbers are two
+banks_differ : (m n : ℕ) → m ≢ n → Bank m ≢ Bank n
+banks_differ m n differ same = differ cc
+
+module _ {D T E : Type 0} {tells : D → Option (List ℕ)} {clock : D → ℕ} {image_at : D → ℕ → List ℕ → Type 0} {faults : D → ℕ} {old new : Vault D} {result : Result T E} where
+  -- the snapshots stay where a bank is cut
+  pub bank_keeps_snaps : (n : ℕ) → CutsIn tells clock image_at faults (Bank n) old new result → new.snaps ≡ old.snaps
+  bank_keeps_snaps n cut = keeps_disk cut Snaps (snaps_not_bank n) refl refl
+
+  -- and each other bank
+  pub bank_keeps_bank : (m n : ℕ) → m ≢ n → CutsIn tells clock image_at faults (Bank n) old new result
+      → disk_in new (Bank m) ≡ disk_in old (Bank m)
+  bank_keeps_bank m n differ cut = cut.others (Bank m) (banks_differ m n differ)
+
+  -- each bank stays where the snapshots are cut
+  pub snaps_keep_bank : (m : ℕ) → CutsIn tells clock image_at faults Snaps old new result
+      → disk_in new (Bank m) ≡ disk_in old (Bank m)
+  snaps_keep_bank m cut = cut.others (Bank m) (bank_not_snaps m)

@@ -1,0 +1,5 @@
+mod Devices
+mod Flushes
+mod Places
+mod Stores
+mod Stages

@@ -1,0 +1,59 @@
+use Rattle.outside.specs.Moments.{runs_then}
+use Rattle.log_writer.proofs.Stores.{is_next, on_ok_both, was_told, same_told, first_within, second_within, third_within, stored_now, closing, filling, opening}
+use Rattle.log_writer.proofs.save.Save.write_next.Goals as goal
+
+pub close-requires : goal.close-requires
+close-requires g c = λ file told.
+    let next = is_next c.place_of-at.ensures.place c.requires.point c.requires.next c.write_savepoint.array_long c.write_savepoint.ensures in
+    first_within next file (c.requires.stored file told).names
+
+pub returns-in_err-close-clause-any_moment :
+    goal.returns-in_err-close-clause-any_moment
+returns-in_err-close-clause-any_moment g c = λ file told.
+    let next = is_next c.place_of-at.ensures.place c.requires.point c.requires.next c.write_savepoint.array_long c.write_savepoint.ensures in
+    let now = c.requires.stored file told in
+    closing next file now.names (c.close.ensures.any_moment file told now.only)
+
+pub write_and_sync-requires : goal.write_and_sync-requires
+write_and_sync-requires g c = λ bytes told.
+    let next = is_next c.place_of-at.ensures.place c.requires.point c.requires.next c.write_savepoint.array_long c.write_savepoint.ensures in
+    let was = was_told _ _ c.close.ensures.told bytes told in
+    let is = same_told told (c.in_ok-close.ensures.closed was.0 was.1) in
+    second_within next was.0 (c.requires.stored was.0 was.1).names bytes is
+
+pub returns-in_err-write_and_sync-clause-any_moment :
+    goal.returns-in_err-write_and_sync-clause-any_moment
+returns-in_err-write_and_sync-clause-any_moment g c = λ file told.
+    let next = is_next c.place_of-at.ensures.place c.requires.point c.requires.next c.write_savepoint.array_long c.write_savepoint.ensures in
+    let now = c.requires.stored file told in
+    runs_then
+    (closing next file now.names (c.close.ensures.any_moment file told now.only))
+    (filling next file now.names (c.in_ok-close.ensures.durable file told) c.write_and_sync.ensures.moments)
+
+pub write_and_sync-requires-2 : goal.write_and_sync-requires-2
+write_and_sync-requires-2 g c = λ bytes told.
+    let next = is_next c.place_of-at.ensures.place c.requires.point c.requires.next c.write_savepoint.array_long c.write_savepoint.ensures in
+    let mid = was_told _ _ c.write_and_sync.ensures.told bytes told in
+    let was = was_told _ _ c.close.ensures.told mid.0 mid.1 in
+    let is = same_told told (c.in_ok-write_and_sync.ensures.written _ (c.in_ok-close.ensures.closed was.0 was.1)) in
+    third_within next was.0 (c.requires.stored was.0 was.1).names bytes is
+
+pub returns-clause-any_moment : goal.returns-clause-any_moment
+returns-clause-any_moment g c = λ file told.
+    let next = is_next c.place_of-at.ensures.place c.requires.point c.requires.next c.write_savepoint.array_long c.write_savepoint.ensures in
+    let now = c.requires.stored file told in
+    let shut = c.in_ok-close.ensures.closed file told in
+    runs_then
+    (closing next file now.names (c.close.ensures.any_moment file told now.only))
+    (runs_then
+    (filling next file now.names (c.in_ok-close.ensures.durable file told) c.write_and_sync.ensures.moments)
+    (opening next file now.names (c.in_ok-write_and_sync.ensures.durable _ shut) c.write_and_sync-2.ensures.moments))
+
+pub returns-clause-stored : goal.returns-clause-stored
+returns-clause-stored g c = on_ok_both c.write_and_sync-2.result (λ written durable bytes told.
+    let next = is_next c.place_of-at.ensures.place c.requires.point c.requires.next c.write_savepoint.array_long c.write_savepoint.ensures in
+    let full = was_told _ _ c.write_and_sync-2.ensures.told bytes told in
+    let mid = was_told _ _ c.write_and_sync.ensures.told full.0 full.1 in
+    let was = was_told _ _ c.close.ensures.told mid.0 mid.1 in
+    let filled = c.in_ok-write_and_sync.ensures.written _ (c.in_ok-close.ensures.closed was.0 was.1) in
+    stored_now next was.0 (c.requires.stored was.0 was.1).names bytes (same_told told (written _ filled)) (durable _ filled)) c.write_and_sync-2.ensures.written c.write_and_sync-2.ensures.durable

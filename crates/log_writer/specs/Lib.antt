@@ -1,0 +1,4 @@
+pub mod Journal
+pub mod Points
+pub mod Prefixes
+pub mod Save

@@ -1,0 +1,109 @@
+// How a journal's lines get into its log file.
+ghost use Rattle.std.specs.Prelude.{◌≡◌, ◌≢◌, ◌⊎◌, ◌↔◌, ℕ, ◌+◌, ◌^◌, ◌<◌, ◌≤◌, List, [], Some, None, Err, is_some, length, IfOk, OnOk, OnErr};
+ghost use Rattle.outside.specs.Disk.{IfTold, written, Torn, Goes};
+ghost use Rattle.outside.specs.Faults.{HasCause, Rose};
+ghost use Rattle.log_writer.specs.Journal.{end_of, Reaches, KeepsSince, IsFlushed, IsKept, MadeDurable};
+
+use crate::line_buffer::{LONGEST, SIZE};
+use crate::turns::write_and_sync;
+use crate::{Journal, LogFault};
+use outside::{Disk, Failed};
+
+impl Journal {
+    // Writes the lines that wait behind what is durable, and syncs.
+    fn write_lines<D: Disk>(&mut self, bank: &mut D) -> Result<(), LogFault>
+        requires up { self.old.down ≡ None }
+        requires reaches { Reaches D.tells bank.old self.old }
+        ensures reaches { Reaches D.tells bank.new self.new }
+        ensures flushed { OnOk result (IsFlushed self.old self.new) }
+        ensures kept { OnErr result (IsKept self.old self.new) }
+        ensures goes_down { OnErr result ((result ≡ Err LogFault.Device) × (self.new.down ≡ Some (D.faults bank.new))) }
+        ensures durable { OnOk result (IfTold (D.tells bank.old) (λ _. (made : List ℕ) → length made ≡ self.old.durable
+            → KeepsSince D.clock D.image_at bank.old (D.clock bank.old) made
+            → MadeDurable D.clock D.image_at self.old self.new bank.new made)) }
+        ensures told { is_some (D.tells bank.new) ≡ is_some (D.tells bank.old) }
+        ensures moments { Goes D.clock D.image_at (Torn self.old.durable (length self.old.lines)) bank.old bank.new }
+        ensures cause { HasCause (D.faults bank.old) (D.faults bank.new) result }
+    {
+        match write_and_sync(bank, self.durable, self.lines.bytes()) {
+            Ok(()) => {
+                self.durable += self.lines.len() as u64;
+                self.lines.clear();
+                Ok(())
+            }
+            Err(Failed) => {
+                self.down = Some(bank.faults());
+                Err(LogFault::Device)
+            }
+        }
+    }
+
+    /// Makes the lines that wait durable, and gives the durable length of the log file in bytes.
+    /// Where none waits the log file isn't touched.
+    pub fn flush<D: Disk>(&mut self, bank: &mut D) -> Result<u64, LogFault>
+        requires reaches { Reaches D.tells bank.old self.old }
+        ensures reaches { Reaches D.tells bank.new self.new }
+        ensures length { IfOk result (λ length. length ≡ self.new.durable) }
+        ensures counted { IfOk result (λ length. length < 2 ^ 40) }
+        ensures flushed { OnOk result (IsFlushed self.old self.new) }
+        ensures kept { OnErr result (IsKept self.old self.new) }
+        ensures durable { OnOk result (IfTold (D.tells bank.old) (λ _. (made : List ℕ) → length made ≡ self.old.durable
+            → KeepsSince D.clock D.image_at bank.old (D.clock bank.old) made
+            → MadeDurable D.clock D.image_at self.old self.new bank.new made)) }
+        ensures stays { (since : ℕ) (made : List ℕ) → length made ≤ self.old.durable → since ≤ D.clock bank.old
+            → KeepsSince D.clock D.image_at bank.old since made → KeepsSince D.clock D.image_at bank.new since made }
+        ensures moments { Goes D.clock D.image_at (Torn self.old.durable (length self.old.lines)) bank.old bank.new }
+        ensures told { is_some (D.tells bank.new) ≡ is_some (D.tells bank.old) }
+        ensures nothing { self.old.lines ≡ [] → (self.new ≡ self.old) × (bank.new ≡ bank.old) }
+        ensures later { D.faults bank.old ≤ D.faults bank.new }
+        ensures device { result ≡ Err LogFault.Device → Rose (D.faults bank.old) (D.faults bank.new) × (self.new.down ≡ Some (D.faults bank.new)) }
+        ensures down { (faults : ℕ) → (result ≡ Err (LogFault.Down faults)) ↔ (self.old.down ≡ Some faults) }
+        ensures untouched { (faults : ℕ) → result ≡ Err (LogFault.Down faults) → (self.new ≡ self.old) × (bank.new ≡ bank.old) }
+        ensures limit { (length : ℕ) → result ≢ Err (LogFault.Limit length) }
+    {
+        if let Some(faults) = self.down {
+            return Err(LogFault::Down { faults });
+        }
+        if self.lines.len() > 0 {
+            self.write_lines(bank)?;
+        }
+        Ok(self.durable)
+    }
+
+    /// Makes room for one line more: after `Ok` the journal may `put` a commit. It flushes where
+    /// fewer than 400 bytes of the buffer are free.
+    pub fn room<D: Disk>(&mut self, bank: &mut D) -> Result<(), LogFault>
+        requires reaches { Reaches D.tells bank.old self.old }
+        ensures reaches { Reaches D.tells bank.new self.new }
+        ensures free { OnOk result (length self.new.lines + 400 ≤ 4096) }
+        ensures below { OnOk result (end_of self.new + 400 ≤ self.new.limit) }
+        ensures passed { OnOk result (IsFlushed self.old self.new ⊎ ((self.new ≡ self.old) × (bank.new ≡ bank.old))) }
+        ensures kept { OnErr result (IsKept self.old self.new) }
+        ensures durable { OnOk result (IfTold (D.tells bank.old) (λ _. (made : List ℕ) → length made ≡ self.old.durable
+            → KeepsSince D.clock D.image_at bank.old (D.clock bank.old) made
+            → MadeDurable D.clock D.image_at self.old self.new bank.new made)) }
+        ensures stays { (since : ℕ) (made : List ℕ) → length made ≤ self.old.durable → since ≤ D.clock bank.old
+            → KeepsSince D.clock D.image_at bank.old since made → KeepsSince D.clock D.image_at bank.new since made }
+        ensures moments { Goes D.clock D.image_at (Torn self.old.durable (length self.old.lines)) bank.old bank.new }
+        ensures told { is_some (D.tells bank.new) ≡ is_some (D.tells bank.old) }
+        ensures enough { length self.old.lines + 400 ≤ 4096 → (self.new ≡ self.old) × (bank.new ≡ bank.old) }
+        ensures later { D.faults bank.old ≤ D.faults bank.new }
+        ensures device { result ≡ Err LogFault.Device → Rose (D.faults bank.old) (D.faults bank.new) × (self.new.down ≡ Some (D.faults bank.new)) }
+        ensures down { (faults : ℕ) → (result ≡ Err (LogFault.Down faults)) ↔ (self.old.down ≡ Some faults) }
+        ensures limit { (length : ℕ) → (result ≡ Err (LogFault.Limit length))
+            ↔ ((self.old.down ≡ None) × (length ≡ end_of self.old) × (self.old.limit < end_of self.old + 400)) }
+        ensures untouched { result ≢ Err LogFault.Device → OnErr result ((self.new ≡ self.old) × (bank.new ≡ bank.old)) }
+    {
+        if let Some(faults) = self.down {
+            return Err(LogFault::Down { faults });
+        }
+        let length = self.durable + self.lines.len() as u64;
+        if length + LONGEST > self.limit {
+            return Err(LogFault::Limit { length });
+        }
+        if self.lines.len() as u64 + LONGEST > SIZE as u64 {
+            self.write_lines(bank)?;
+        }
+        Ok(())
+    }
+}

@@ -1,0 +1,37 @@
+//! The workers' log files, and the savepoint that says how much of each counts.
+//!
+//! Promises, over each disk that tells its bytes:
+//!
+//! - [`Save::store`]: every crash image of every moment since it began names the old savepoint or the
+//!   new one (`any_moment`), and after `Ok` only the new one (`stored`). [`Save::store_in`] does the
+//!   same, and records exactly one tie where the store was begun (`tied`, `begun`, `untouched`).
+//! - [`Save::load`] gives the savepoint that the device names (`names`), or the byte from which on it
+//!   names none (`damaged`).
+//! - [`Journal::flush`] and [`Journal::room`]: after `Ok` every crash image begins with all bytes that
+//!   were made durable (`durable`), and over later calls, whatever they answer, the images of every
+//!   moment keep beginning with them (`stays`), until the log file is cut.
+//!
+//! And over each disk: a fault is answered only where the disk's count of faults rose, and is final
+//! (`device`, `down`); the limits are exact (`limit`); a refusal leaves what counted (`kept`,
+//! `untouched`). No call takes memory but [`Journal::new`].
+//!
+//! Terms: a *line* is a commit as bytes. Bytes *wait* in the journal until they are written. A savepoint is
+//! *newest* if its place is open and has the greater sequence. A *tie* tells when a store was.
+//!
+//! Design: docs/DURABILITY.md. Bytes: docs/FORMATS.md. Epochs are made durable as in Silo.
+#![tactic(auto)]
+
+mod flush;
+mod journal;
+mod line_buffer;
+mod save;
+mod saved;
+mod store_in;
+mod turns;
+
+pub use journal::{Journal, LogFault};
+pub use save::{Save, SaveFault, SaveOpen};
+pub use saved::Saved;
+
+#[cfg(test)]
+mod tests;

@@ -1,0 +1,229 @@
+// The store of savepoints: two places, of which one is written while the other counts.
+ghost use Rattle.std.specs.Prelude.{◌≡◌, ◌≢◌, ◌↔◌, ℕ, ◌+◌, ◌-◌, ◌*◌, ◌%◌, ◌^◌, ◌<◌, ◌≤◌, Option, List, Ok, Some, None, Err, is_some, length, IfOk, IfSome, OnOk, OnErr};
+ghost use Rattle.std.specs.Option.{option_map};
+ghost use Rattle.wire_form.specs.declared.savepoint.Savepoint.{Savepoint};
+ghost use Rattle.outside.specs.Disk.{IfTold, Same, Goes, Only, Runs};
+ghost use Rattle.wire_form.specs.Savepoint.{IsSavepoint};
+ghost use Rattle.log_writer.specs.Points.{IsSaved, point_of, saved_of, sequence_of};
+ghost use Rattle.outside.specs.Faults.{HasCause, Rose};
+ghost use Rattle.log_writer.specs.Save.{place_in, Holds, newer, Names, IsBroken, IsDamaged, IsStored, NamesOldOrNew, closed, ClosedOrTorn};
+
+use crate::Saved;
+use crate::turns::write_and_sync;
+use outside::{Disk, Failed};
+use std::marker::Model;
+use wire_form::{NoSavepoint, Savepoint, read_savepoint, write_savepoint};
+
+/// The size of the save device, in bytes.
+const SIZE: u64 = 1024;
+
+/// The size of each of its two places.
+const PLACE: u64 = 512;
+
+/// The valid byte of an open place.
+const VALID: u8 = 0xA5;
+
+/// The last sequence.
+const LAST: u64 = (1 << 63) - 1;
+
+/// Why a save device can't be used.
+#[derive(Clone, Copy, Debug, PartialEq, Eq)]
+pub enum SaveOpen {
+    /// The device's count of faults rose.
+    Device,
+    /// What it holds is no savepoint, from this byte on: 0 for its length, else the begin of a place.
+    Damaged { at: u64 },
+}
+
+/// Why a savepoint wasn't stored.
+#[derive(Clone, Copy, Debug, PartialEq, Eq)]
+pub enum SaveFault {
+    /// The device's count of faults rose.
+    Device,
+    /// An earlier store answered `Device`, as the device's count of faults was this.
+    Down { faults: u64 },
+    /// This was the last sequence.
+    Limit { sequence: u64 },
+}
+
+/// The newest savepoint of a save device.
+#[derive(Drop)]
+pub struct Save {
+    newest: Option<Savepoint>,
+    down: Option<u64>,
+}
+
+impl Model for Save {
+    ghost use Rattle.std.specs.Prelude.{IfSome};
+    ghost use Rattle.wire_form.specs.Savepoint.{IsSavepoint};
+    ghost use Rattle.log_writer.specs.Points.{SaveState};
+
+    ghost Value = { SaveState };
+
+    ghost view = { λ s. record { newest = s.newest; down = s.down } };
+
+    ghost invariant = { λ s. IfSome s.newest IsSavepoint };
+}
+
+// The place that a sequence is stored in: 0 for an odd one, and 1 for an even one.
+fn place_of(sequence: u64) -> u64
+    ensures place { result + sequence % 2 ≡ 1 }
+{
+    1 - sequence % 2
+}
+
+// Reads a place of a device that has both.
+fn read_place<D: Disk>(disk: &mut D, place: u8) -> Result<Option<Savepoint>, SaveOpen>
+    requires { place ≤ 1 }
+    ensures holds { IfOk result (λ point. IfTold (D.tells disk.old) (λ file. length file ≡ 1024
+        → Holds place (place_in file place) point)) }
+    ensures point { IfOk result (λ point. IfSome point IsSavepoint) }
+    ensures broken { (at : ℕ) → result ≡ Err (SaveOpen.Damaged at) → IfTold (D.tells disk.old) (λ file. length file ≡ 1024
+        → IsBroken place (place_in file place) × (at ≡ 512 * place)) }
+    ensures told { D.tells disk.new ≡ D.tells disk.old }
+    ensures moments { Goes D.clock D.image_at Same disk.old disk.new }
+    ensures later { D.faults disk.old ≤ D.faults disk.new }
+    ensures device { result ≡ Err SaveOpen.Device → Rose (D.faults disk.old) (D.faults disk.new) }
+{
+    let at = PLACE * u64::from(place);
+    let mut bytes = [0; 512];
+    let Ok(_) = disk.read(at, &mut bytes) else {
+        return Err(SaveOpen::Device);
+    };
+    match read_savepoint(place, &bytes) {
+        Ok(point) => Ok(point),
+        Err(NoSavepoint) => Err(SaveOpen::Damaged { at }),
+    }
+}
+
+// Of two savepoints the one of greater sequence.
+fn newer_of(first: Option<Savepoint>, second: Option<Savepoint>) -> Option<Savepoint>
+    ensures { result ≡ newer first second }
+{
+    match (first, second) {
+        (Some(first), Some(second)) if first.sequence < second.sequence => Some(second),
+        (None, second) => second,
+        (first, _) => first,
+    }
+}
+
+// Closes the place that begins at this byte, where it is open. A closed one isn't written: a stop
+// within a write may leave any byte, and so an open place of what was there.
+fn close<D: Disk>(disk: &mut D, at: u64) -> Result<(), Failed>
+    requires { IfTold (D.tells disk.old) (λ file. at < length file) }
+    ensures closed { OnOk result (IfTold (D.tells disk.old) (λ file. D.tells disk.new ≡ Some (closed at file))) }
+    ensures durable { OnOk result (IfTold (D.tells disk.old) (λ file. Only D.clock D.image_at disk.new (closed at file))) }
+    ensures told { is_some (D.tells disk.new) ≡ is_some (D.tells disk.old) }
+    ensures any_moment { IfTold (D.tells disk.old) (λ file. Only D.clock D.image_at disk.old file
+        → Runs D.clock D.image_at disk.old disk.new (ClosedOrTorn at file)) }
+    ensures cause { HasCause (D.faults disk.old) (D.faults disk.new) result }
+{
+    let mut gate = [0];
+    disk.read(at, &mut gate)?;
+    if gate[0] == VALID {
+        write_and_sync(disk, at, &[0])
+    } else {
+        disk.sync()
+    }
+}
+
+impl Save {
+    /// The newest savepoint of a save device, and what it says; none where neither place is open.
+    /// The device is only read.
+    pub fn load<D: Disk>(disk: &mut D) -> Result<(Save, Option<Saved>), SaveOpen>
+        ensures names { IfOk result (λ found. IfTold (D.tells disk.old) (λ file. Names file found.0.newest)) }
+        ensures saved { IfOk result (λ found. found.1 ≡ option_map saved_of found.0.newest) }
+        ensures ranges { IfOk result (λ found. IfSome found.1 IsSaved) }
+        ensures up { IfOk result (λ found. found.0.down ≡ None) }
+        ensures damaged { (at : ℕ) → result ≡ Err (SaveOpen.Damaged at) → IfTold (D.tells disk.old) (λ file. IsDamaged file at) }
+        ensures stored { IfTold (D.tells disk.old) (Only D.clock D.image_at disk.old)
+            → IfOk result (λ found. IsStored D.tells D.clock D.image_at disk.new found.0.newest) }
+        ensures told { D.tells disk.new ≡ D.tells disk.old }
+        ensures moments { Goes D.clock D.image_at Same disk.old disk.new }
+        ensures later { D.faults disk.old ≤ D.faults disk.new }
+        ensures device { result ≡ Err SaveOpen.Device → Rose (D.faults disk.old) (D.faults disk.new) }
+    {
+        let Ok(len) = disk.len() else {
+            return Err(SaveOpen::Device);
+        };
+        if len != SIZE {
+            return Err(SaveOpen::Damaged { at: 0 });
+        }
+        let first = read_place(disk, 0)?;
+        let second = read_place(disk, 1)?;
+        let newest = newer_of(first, second);
+        let saved = newest.map(|point| Saved::of(&point));
+        Ok((Save { newest, down: None }, saved))
+    }
+
+    /// The sequence of the newest savepoint; it is 0 where there is none.
+    pub fn sequence(&self) -> u64
+        ensures newest { result ≡ sequence_of self.now.newest }
+        ensures counted { result < 2 ^ 63 }
+    {
+        match &self.newest {
+            Some(point) => point.sequence,
+            None => 0,
+        }
+    }
+
+    // Writes the next savepoint into its place. Each sync makes what is before it durable before what
+    // is after it is written: that the place is closed, what is in it, and that it is open.
+    fn write_next<D: Disk>(&self, disk: &mut D, point: &Savepoint) -> Result<(), Failed>
+        requires point { IsSavepoint point.now }
+        requires next { point.now.sequence ≡ sequence_of self.now.newest + 1 }
+        requires stored { IsStored D.tells D.clock D.image_at disk.old self.now.newest }
+        ensures stored { OnOk result (IsStored D.tells D.clock D.image_at disk.new (Some point.now)) }
+        ensures any_moment { IfTold (D.tells disk.old) (λ _. Runs D.clock D.image_at disk.old disk.new
+            (NamesOldOrNew self.now.newest point.now)) }
+        ensures told { is_some (D.tells disk.new) ≡ is_some (D.tells disk.old) }
+        ensures cause { HasCause (D.faults disk.old) (D.faults disk.new) result }
+    {
+        let mut place = [0; 512];
+        write_savepoint(point, &mut place);
+        let at = PLACE * place_of(point.sequence);
+        close(disk, at)?;
+        write_and_sync(disk, at + 1, &place[1..])?;
+        write_and_sync(disk, at, &[VALID])
+    }
+
+    /// Stores the next savepoint. A stop at any moment of it leaves the old one or the new one for the
+    /// newest, and after `Ok` the new one.
+    pub fn store<D: Disk>(&mut self, disk: &mut D, saved: Saved) -> Result<(), SaveFault>
+        requires saved { IsSaved saved }
+        requires stored { self.old.down ≡ None → IsStored D.tells D.clock D.image_at disk.old self.old.newest }
+        ensures newest { OnOk result (self.new.newest ≡ Some (point_of (sequence_of self.old.newest + 1) saved)) }
+        ensures stored { OnOk result (IsStored D.tells D.clock D.image_at disk.new self.new.newest) }
+        ensures up { OnOk result ((self.old.down ≡ None) × (self.new.down ≡ None)) }
+        ensures kept { OnErr result (self.new.newest ≡ self.old.newest) }
+        ensures any_moment { IfTold (D.tells disk.old) (λ _. Runs D.clock D.image_at disk.old disk.new
+            (NamesOldOrNew self.old.newest (point_of (sequence_of self.old.newest + 1) saved))) }
+        ensures told { is_some (D.tells disk.new) ≡ is_some (D.tells disk.old) }
+        ensures later { D.faults disk.old ≤ D.faults disk.new }
+        ensures device { result ≡ Err SaveFault.Device → Rose (D.faults disk.old) (D.faults disk.new)
+            × (self.new.down ≡ Some (D.faults disk.new)) }
+        ensures down { (faults : ℕ) → (result ≡ Err (SaveFault.Down faults)) ↔ (self.old.down ≡ Some faults) }
+        ensures limit { (sequence : ℕ) → (result ≡ Err (SaveFault.Limit sequence))
+            ↔ ((self.old.down ≡ None) × (sequence ≡ sequence_of self.old.newest) × (sequence ≡ 2 ^ 63 - 1)) }
+        ensures untouched { result ≢ Err SaveFault.Device → OnErr result ((self.new ≡ self.old) × (disk.new ≡ disk.old)) }
+    {
+        if let Some(faults) = self.down {
+            return Err(SaveFault::Down { faults });
+        }
+        let sequence = self.sequence();
+        if sequence == LAST {
+            return Err(SaveFault::Limit { sequence });
+        }
+        let point = saved.at(sequence + 1);
+        match self.write_next(disk, &point) {
+            Ok(()) => {
+                self.newest = Some(point);
+                Ok(())
+            }
+            Err(Failed) => {
+                self.down = Some(disk.faults());
+                Err(SaveFault::Device)
+            }
+        }
+    }
+}

@@ -1,0 +1,19 @@
+// Journals and savepoints at work, over disks in memory.
+ghost use Rattle.std.specs.Prelude.{IfOk};
+ghost use Rattle.outside.specs.Disk.{IfTold, Only};
+
+use outside::{Disk, MemDisk};
+use std::alloc::{AllocError, Global};
+
+mod journal;
+mod save;
+mod two_devices;
+
+// A disk of these bytes, whose calls of these numbers fail.
+#[tactic(auto, using(crate::proofs::Devices::only_told))]
+fn disk(alloc: Global, bytes: &[u8], fails: &[u64]) -> Result<MemDisk, AllocError>
+    ensures { IfOk result (λ disk. IfTold (⟦<MemDisk as Disk>⟧.tells disk)
+        (Only ⟦<MemDisk as Disk>⟧.clock ⟦<MemDisk as Disk>⟧.image_at disk)) }
+{
+    MemDisk::new(alloc, bytes.to_vec(alloc)?, fails.to_vec(alloc)?)
+}

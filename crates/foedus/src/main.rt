@@ -1,8 +1,8 @@
 //! The program `foedus`: reads a script, runs it and prints what came of each line.
 //!
-//! Promises: `top` states them, in the words of `specs/Main.antt`. The printed commits, in order of
-//! number, are one serial run of the script's transactions on an empty database, with every reply
-//! (`answer`); each status comes only for its cause (`statuses`, `usage`, `read`, `write`).
+//! Promises: `top` states them, in the words of `specs/Main.antt`. Ordered by their numbers, the commits
+//! that are printed are transactions of the script that ran one after another on an empty database, and
+//! each reply is what this gives (`answer`); each status comes only for its cause (`statuses`, `usage`, `read`, `write`).
 //! Terms: *ending*, how a call ends; *course*, what was read and run until then.
 #![tactic(auto)]
 

@@ -1,6 +1,5 @@
 -- What tests know of a disk that they made.
-use Rattle.std.specs.Prelude.{◌≡◌, ℕ, List, Option, Some}
-use Rattle.std.proofs.Common.{◌∙◌}
+use Rattle.std.specs.Prelude.{◌≡◌, ℕ, List, Option}
 use Rattle.outside.specs.Disk.{IfTold, Only, IsSettled}
 use Rattle.outside.specs.Moments.{told_is}
 

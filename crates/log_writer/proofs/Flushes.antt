@@ -1,8 +1,9 @@
 -- What a write and its sync leave of a log file.
-use Rattle.std.proofs.Common.{◌≡◌, ◌∙◌, sym, ap, subst, refl, ◌≤◌, ◌+◌, ℕ, List, [], ◌++◌, length, take, drop, true, is_some, Option, Some, None, Result, Ok, Err, OnErr, arith, length-append}
+use Rattle.std.proofs.Common.{◌≡◌, ◌∙◌, sym, ap, subst, refl, inl, inr, ◌<◌, ◌≤◌, ◌+◌, ℕ, List, [], ◌++◌, length, take, drop, true, is_some, Option, Some, None, Result, Ok, Err, OnErr, arith, length-append}
 use Rattle.std.proofs.lemmas.List.{append-nil, take_at}
 use Rattle.std.proofs.lemmas.Option.{same_Some}
-use Rattle.outside.specs.Disk.{IfTold, Only, written, Torn}
+use Rattle.std.proofs.lemmas.Bool.{cases_lt}
+use Rattle.outside.specs.Disk.{IfTold, Only, written, Torn, Same, Goes, LeavesEach}
 use Rattle.outside.specs.Ranges.{length-written, torn_written}
 use Rattle.log_writer.specs.Journal.{JournalState, KeepsSince, MadeDurable, end_of}
 
@@ -62,3 +63,13 @@ module _ {D : Type 0} {clock : D → ℕ} {image_at : D → ℕ → List ℕ →
   pub made_kept : {journal : JournalState} {disk : D} (made : List ℕ) → length made ≡ journal.durable
       → KeepsSince clock image_at disk (clock disk) made → MadeDurable clock image_at journal journal disk made
   made_kept made size keeps = record { now = made; size = size; whole = refl; images = keeps }
+
+-- each step of a call may be left through a call after it that changes nothing
+pub each_then : {D : Type 0} {clock : D → ℕ} {image_at : D → ℕ → List ℕ → Type 0} {step : List ℕ → List ℕ → Type 0} {old mid new : D} {end : ℕ} → clock old < clock mid → LeavesEach clock image_at step old mid (clock mid)
+    → Goes clock image_at Same mid new → LeavesEach clock image_at Same mid new end → LeavesEach clock image_at step old new end
+each_then {clock = clock} {mid = mid} made first goes next = record {
+  each = λ m d c from to was is. elim (cases_lt (clock mid) m) [
+    | inl past ↦ next.each m c c past to (first.each (clock mid) d c made (omega arith) was is) refl
+    | inr within ↦ goes.kept m c within (first.each m d c from within was is)
+  ];
+}

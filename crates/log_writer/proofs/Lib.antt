@@ -3,3 +3,4 @@ mod Flushes
 mod Places
 mod Stores
 mod Stages
+mod Unique

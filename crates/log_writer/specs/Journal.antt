@@ -1,6 +1,6 @@
 -- What a journal makes durable of its log file.
-use Rattle.std.specs.Prelude.{◌≡◌, ℕ, ◌+◌, ◌^◌, ◌<◌, ◌≤◌, List, [], ◌++◌, Option, None, length, take}
-use Rattle.outside.specs.Disk.{IfTold}
+use Rattle.std.specs.Prelude.{◌≡◌, ℕ, ◌+◌, ◌-◌, ◌^◌, ◌<◌, ◌≤◌, List, [], ◌++◌, Option, Some, None, length, take}
+use Rattle.outside.specs.Disk.{IfTold, written}
 
 -- a journal as its users see it
 pub record JournalState : Type 0 where
@@ -18,6 +18,10 @@ pub record IsWithin (limit durable : ℕ) (lines : List ℕ) : Type 0 where
   pub counted : limit < 2 ^ 40
   pub within : durable + length lines ≤ limit
   pub fits : length lines ≤ 4096
+
+-- how many bytes the buffer still takes
+abbrev pub free : JournalState → ℕ
+free journal = 4096 - length journal.lines
 
 -- how long the log file is once the lines that wait are durable
 abbrev pub end_of : JournalState → ℕ
@@ -52,3 +56,17 @@ pub record MadeDurable {D : Type 0} (clock : D → ℕ) (image_at : D → ℕ �
   pub size : length now ≡ new.durable
   pub whole : now ++ new.lines ≡ made ++ old.lines
   pub images : KeepsSince clock image_at bank (clock bank) now
+
+-- where the log file tells its bytes, what is durable of a journal is so of its log file afterwards
+abbrev pub MakesDurable : {D : Type 0} → (tells : D → Option (List ℕ)) → (clock : D → ℕ) → (image_at : D → ℕ → List ℕ → Type 0) → JournalState → JournalState → D → D → Type 0
+MakesDurable tells clock image_at old new before now = IfTold (tells before) (λ file. (made : List ℕ) → length made ≡ old.durable
+    → KeepsSince clock image_at before (clock before) made → MadeDurable clock image_at old new now made)
+
+-- whatever of the durable bytes every image since a moment begins with, every image does to this day
+abbrev pub Stays : {D : Type 0} → (clock : D → ℕ) → (image_at : D → ℕ → List ℕ → Type 0) → JournalState → D → D → Type 0
+Stays clock image_at journal before now = (since : ℕ) (made : List ℕ) → length made ≤ journal.durable → since ≤ clock before
+    → KeepsSince clock image_at before since made → KeepsSince clock image_at now since made
+
+-- the log file reads as before with the lines written behind what was durable
+abbrev pub Wrote : {D : Type 0} → (tells : D → Option (List ℕ)) → JournalState → D → D → Type 0
+Wrote tells journal before now = IfTold (tells before) (λ file. tells now ≡ Some (written journal.durable journal.lines file))

@@ -1,8 +1,8 @@
 // How a journal's lines get into its log file.
-ghost use Rattle.std.specs.Prelude.{◌≡◌, ◌≢◌, ◌⊎◌, ◌↔◌, ℕ, ◌+◌, ◌^◌, ◌<◌, ◌≤◌, List, [], Some, None, Err, is_some, length, IfOk, OnOk, OnErr};
-ghost use Rattle.outside.specs.Disk.{IfTold, written, Torn, Goes};
+ghost use Rattle.std.specs.Prelude.{◌≡◌, ◌≢◌, ◌⊎◌, ◌↔◌, ℕ, ◌+◌, ◌-◌, ◌^◌, ◌<◌, ◌≤◌, [], Some, None, Err, is_some, length, IfOk, OnOk, OnErr};
+ghost use Rattle.outside.specs.Disk.{Torn, Goes, LeavesEach};
 ghost use Rattle.outside.specs.Faults.{HasCause, Rose};
-ghost use Rattle.log_writer.specs.Journal.{end_of, Reaches, KeepsSince, IsFlushed, IsKept, MadeDurable};
+ghost use Rattle.log_writer.specs.Journal.{free, end_of, Reaches, IsFlushed, IsKept, MakesDurable, Stays, Wrote};
 
 use crate::line_buffer::{LONGEST, SIZE};
 use crate::turns::write_and_sync;
@@ -16,13 +16,16 @@ impl Journal {
         requires reaches { Reaches D.tells bank.old self.old }
         ensures reaches { Reaches D.tells bank.new self.new }
         ensures flushed { OnOk result (IsFlushed self.old self.new) }
+        ensures written { OnOk result (Wrote D.tells self.old bank.old bank.new) }
         ensures kept { OnErr result (IsKept self.old self.new) }
         ensures goes_down { OnErr result ((result ≡ Err LogFault.Device) × (self.new.down ≡ Some (D.faults bank.new))) }
-        ensures durable { OnOk result (IfTold (D.tells bank.old) (λ _. (made : List ℕ) → length made ≡ self.old.durable
-            → KeepsSince D.clock D.image_at bank.old (D.clock bank.old) made
-            → MadeDurable D.clock D.image_at self.old self.new bank.new made)) }
+        ensures durable { OnOk result (MakesDurable D.tells D.clock D.image_at self.old self.new bank.old bank.new) }
         ensures told { is_some (D.tells bank.new) ≡ is_some (D.tells bank.old) }
         ensures moments { Goes D.clock D.image_at (Torn self.old.durable (length self.old.lines)) bank.old bank.new }
+        ensures each { LeavesEach D.clock D.image_at (Torn self.old.durable (length self.old.lines))
+            bank.old bank.new (D.clock bank.new - 1) }
+        ensures unsettled { OnErr result (LeavesEach D.clock D.image_at (Torn self.old.durable (length self.old.lines))
+            bank.old bank.new (D.clock bank.new)) }
         ensures cause { HasCause (D.faults bank.old) (D.faults bank.new) result }
     {
         match write_and_sync(bank, self.durable, self.lines.bytes()) {
@@ -46,17 +49,20 @@ impl Journal {
         ensures length { IfOk result (λ length. length ≡ self.new.durable) }
         ensures counted { IfOk result (λ length. length < 2 ^ 40) }
         ensures flushed { OnOk result (IsFlushed self.old self.new) }
+        ensures written { OnOk result (Wrote D.tells self.old bank.old bank.new) }
         ensures kept { OnErr result (IsKept self.old self.new) }
-        ensures durable { OnOk result (IfTold (D.tells bank.old) (λ _. (made : List ℕ) → length made ≡ self.old.durable
-            → KeepsSince D.clock D.image_at bank.old (D.clock bank.old) made
-            → MadeDurable D.clock D.image_at self.old self.new bank.new made)) }
-        ensures stays { (since : ℕ) (made : List ℕ) → length made ≤ self.old.durable → since ≤ D.clock bank.old
-            → KeepsSince D.clock D.image_at bank.old since made → KeepsSince D.clock D.image_at bank.new since made }
+        ensures durable { OnOk result (MakesDurable D.tells D.clock D.image_at self.old self.new bank.old bank.new) }
+        ensures stays { Stays D.clock D.image_at self.old bank.old bank.new }
         ensures moments { Goes D.clock D.image_at (Torn self.old.durable (length self.old.lines)) bank.old bank.new }
+        ensures each { LeavesEach D.clock D.image_at (Torn self.old.durable (length self.old.lines))
+            bank.old bank.new (D.clock bank.new - 1) }
+        ensures unsettled { OnErr result (LeavesEach D.clock D.image_at (Torn self.old.durable (length self.old.lines))
+            bank.old bank.new (D.clock bank.new)) }
         ensures told { is_some (D.tells bank.new) ≡ is_some (D.tells bank.old) }
         ensures nothing { self.old.lines ≡ [] → (self.new ≡ self.old) × (bank.new ≡ bank.old) }
         ensures later { D.faults bank.old ≤ D.faults bank.new }
-        ensures device { result ≡ Err LogFault.Device → Rose (D.faults bank.old) (D.faults bank.new) × (self.new.down ≡ Some (D.faults bank.new)) }
+        ensures device { result ≡ Err LogFault.Device → Rose (D.faults bank.old) (D.faults bank.new) }
+        ensures goes_down { result ≡ Err LogFault.Device → self.new.down ≡ Some (D.faults bank.new) }
         ensures down { (faults : ℕ) → (result ≡ Err (LogFault.Down faults)) ↔ (self.old.down ≡ Some faults) }
         ensures untouched { (faults : ℕ) → result ≡ Err (LogFault.Down faults) → (self.new ≡ self.old) × (bank.new ≡ bank.old) }
         ensures limit { (length : ℕ) → result ≢ Err (LogFault.Limit length) }
@@ -75,20 +81,23 @@ impl Journal {
     pub fn room<D: Disk>(&mut self, bank: &mut D) -> Result<(), LogFault>
         requires reaches { Reaches D.tells bank.old self.old }
         ensures reaches { Reaches D.tells bank.new self.new }
-        ensures free { OnOk result (length self.new.lines + 400 ≤ 4096) }
+        ensures free { OnOk result (400 ≤ free self.new) }
         ensures below { OnOk result (end_of self.new + 400 ≤ self.new.limit) }
-        ensures passed { OnOk result (IsFlushed self.old self.new ⊎ ((self.new ≡ self.old) × (bank.new ≡ bank.old))) }
+        ensures passed { OnOk result ((IsFlushed self.old self.new × Wrote D.tells self.old bank.old bank.new)
+            ⊎ ((self.new ≡ self.old) × (bank.new ≡ bank.old))) }
         ensures kept { OnErr result (IsKept self.old self.new) }
-        ensures durable { OnOk result (IfTold (D.tells bank.old) (λ _. (made : List ℕ) → length made ≡ self.old.durable
-            → KeepsSince D.clock D.image_at bank.old (D.clock bank.old) made
-            → MadeDurable D.clock D.image_at self.old self.new bank.new made)) }
-        ensures stays { (since : ℕ) (made : List ℕ) → length made ≤ self.old.durable → since ≤ D.clock bank.old
-            → KeepsSince D.clock D.image_at bank.old since made → KeepsSince D.clock D.image_at bank.new since made }
+        ensures durable { OnOk result (MakesDurable D.tells D.clock D.image_at self.old self.new bank.old bank.new) }
+        ensures stays { Stays D.clock D.image_at self.old bank.old bank.new }
         ensures moments { Goes D.clock D.image_at (Torn self.old.durable (length self.old.lines)) bank.old bank.new }
+        ensures each { LeavesEach D.clock D.image_at (Torn self.old.durable (length self.old.lines))
+            bank.old bank.new (D.clock bank.new - 1) }
+        ensures unsettled { OnErr result (LeavesEach D.clock D.image_at (Torn self.old.durable (length self.old.lines))
+            bank.old bank.new (D.clock bank.new)) }
         ensures told { is_some (D.tells bank.new) ≡ is_some (D.tells bank.old) }
-        ensures enough { length self.old.lines + 400 ≤ 4096 → (self.new ≡ self.old) × (bank.new ≡ bank.old) }
+        ensures enough { 400 ≤ free self.old → (self.new ≡ self.old) × (bank.new ≡ bank.old) }
         ensures later { D.faults bank.old ≤ D.faults bank.new }
-        ensures device { result ≡ Err LogFault.Device → Rose (D.faults bank.old) (D.faults bank.new) × (self.new.down ≡ Some (D.faults bank.new)) }
+        ensures device { result ≡ Err LogFault.Device → Rose (D.faults bank.old) (D.faults bank.new) }
+        ensures goes_down { result ≡ Err LogFault.Device → self.new.down ≡ Some (D.faults bank.new) }
         ensures down { (faults : ℕ) → (result ≡ Err (LogFault.Down faults)) ↔ (self.old.down ≡ Some faults) }
         ensures limit { (length : ℕ) → (result ≡ Err (LogFault.Limit length))
             ↔ ((self.old.down ≡ None) × (length ≡ end_of self.old) × (self.old.limit < end_of self.old + 400)) }

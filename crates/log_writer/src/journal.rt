@@ -1,6 +1,7 @@
 // A worker's journal: the lines that wait, and how much of its log file is durable.
-ghost use Rattle.std.specs.Prelude.{◌≡◌, ◌+◌, ◌^◌, ◌<◌, ◌≤◌, [], ◌++◌, None, length, IfOk};
+ghost use Rattle.std.specs.Prelude.{◌≡◌, ◌↔◌, ◌+◌, ◌^◌, ◌<◌, ◌≤◌, [], ◌++◌, None, length, IfOk};
 ghost use Rattle.wire_form.specs.LogLine.{IsLoggable, line_bytes};
+ghost use Rattle.log_writer.specs.Journal.{free, end_of};
 
 use crate::line_buffer::LineBuffer;
 use serial_model::{Commit, Memory};
@@ -69,6 +70,7 @@ impl Journal {
     /// How many bytes wait to be written.
     pub fn waiting(&self) -> usize
         ensures waiting { result ≡ length self.now.lines }
+        ensures none { (result ≡ 0) ↔ (self.now.lines ≡ []) }
         ensures fits { result ≤ 4096 }
     {
         self.lines.len()
@@ -77,8 +79,8 @@ impl Journal {
     /// Adds a commit's log line to those that wait. `room` makes room for it.
     pub fn put(&mut self, commit: &Commit)
         requires loggable { IsLoggable commit.now }
-        requires free { length self.old.lines + 400 ≤ 4096 }
-        requires limit { self.old.durable + length self.old.lines + 400 ≤ self.old.limit }
+        requires free { 400 ≤ free self.old }
+        requires limit { end_of self.old + 400 ≤ self.old.limit }
         ensures lines { self.new.lines ≡ self.old.lines ++ line_bytes commit.now }
         ensures durable { self.new.durable ≡ self.old.durable }
         ensures limit { self.new.limit ≡ self.old.limit }

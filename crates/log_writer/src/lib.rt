@@ -2,27 +2,32 @@
 //!
 //! Promises, over each disk that tells its bytes:
 //!
-//! - [`Save::store`]: every crash image of every moment since it began names the old savepoint or the
-//!   new one (`any_moment`), and after `Ok` only the new one (`stored`). [`Save::store_in`] does the
-//!   same, and records exactly one tie where the store was begun (`tied`, `begun`, `untouched`).
+//! - [`Save::store`]: whatever a stop leaves since it began names the savepoint that was newest or the
+//!   one that is stored (`any_moment`), and after `Ok` the latter (`stored`). [`Save::store_in`] does
+//!   the same, and records exactly one tie where the store was begun (`tied`, `begun`, `untouched`).
 //! - [`Save::load`] gives the savepoint that the device names (`names`), or the byte from which on it
-//!   names none (`damaged`).
+//!   names none (`damaged`). A device names at most one ([`one_newest`]).
 //! - [`Journal::flush`] and [`Journal::room`]: after `Ok` every crash image begins with all bytes that
 //!   were made durable (`durable`), and over later calls, whatever they answer, the images of every
-//!   moment keep beginning with them (`stays`), until the log file is cut.
+//!   moment keep beginning with them (`stays`), until the log file is cut. What a call may leave is told
+//!   exactly (`moments`, `each`, `unsettled`, `written`).
 //!
 //! And over each disk: a fault is answered only where the disk's count of faults rose, and is final
-//! (`device`, `down`); the limits are exact (`limit`); a refusal leaves what counted (`kept`,
+//! (`device`, `goes_down`, `down`); the limits are exact (`limit`); a refusal leaves what counted (`kept`,
 //! `untouched`). No call takes memory but [`Journal::new`].
+//!
+//! Invariants: what is durable and what waits stay within the limit, and what waits within the buffer
+//! (`IsWithin`); while a place is written it is closed, and the other one has the newest savepoint.
 //!
 //! Terms: a *line* is a commit as bytes. Bytes *wait* in the journal until they are written. A savepoint is
 //! *newest* if its place is open and has the greater sequence. A *tie* tells when a store was.
 //!
-//! Design: docs/DURABILITY.md. Bytes: docs/FORMATS.md. Epochs are made durable as in Silo.
+//! Design: docs/DURABILITY.md. Bytes: docs/FORMATS.md. Workers' logs, each flushed by itself, are Silo's.
 #![tactic(auto)]
 
 mod flush;
 mod journal;
+mod laws;
 mod line_buffer;
 mod save;
 mod saved;
@@ -30,6 +35,7 @@ mod store_in;
 mod turns;
 
 pub use journal::{Journal, LogFault};
+pub use laws::one_newest;
 pub use save::{Save, SaveFault, SaveOpen};
 pub use saved::Saved;
 

@@ -1,5 +1,5 @@
 // The store of savepoints: two places, of which one is written while the other counts.
-ghost use Rattle.std.specs.Prelude.{◌≡◌, ◌≢◌, ◌↔◌, ℕ, ◌+◌, ◌-◌, ◌*◌, ◌%◌, ◌^◌, ◌<◌, ◌≤◌, Option, List, Ok, Some, None, Err, is_some, length, IfOk, IfSome, OnOk, OnErr};
+ghost use Rattle.std.specs.Prelude.{◌≡◌, ◌≢◌, ◌↔◌, ℕ, ◌+◌, ◌-◌, ◌*◌, ◌%◌, ◌^◌, ◌<◌, ◌≤◌, Option, Ok, Some, None, Err, is_some, length, IfOk, IfSome, OnOk, OnErr};
 ghost use Rattle.std.specs.Option.{option_map};
 ghost use Rattle.wire_form.specs.declared.savepoint.Savepoint.{Savepoint};
 ghost use Rattle.outside.specs.Disk.{IfTold, Same, Goes, Only, Runs};
@@ -200,8 +200,8 @@ impl Save {
             (NamesOldOrNew self.old.newest (point_of (sequence_of self.old.newest + 1) saved))) }
         ensures told { is_some (D.tells disk.new) ≡ is_some (D.tells disk.old) }
         ensures later { D.faults disk.old ≤ D.faults disk.new }
-        ensures device { result ≡ Err SaveFault.Device → Rose (D.faults disk.old) (D.faults disk.new)
-            × (self.new.down ≡ Some (D.faults disk.new)) }
+        ensures device { result ≡ Err SaveFault.Device → Rose (D.faults disk.old) (D.faults disk.new) }
+        ensures goes_down { result ≡ Err SaveFault.Device → self.new.down ≡ Some (D.faults disk.new) }
         ensures down { (faults : ℕ) → (result ≡ Err (SaveFault.Down faults)) ↔ (self.old.down ≡ Some faults) }
         ensures limit { (sequence : ℕ) → (result ≡ Err (SaveFault.Limit sequence))
             ↔ ((self.old.down ≡ None) × (sequence ≡ sequence_of self.old.newest) × (sequence ≡ 2 ^ 63 - 1)) }

@@ -1,5 +1,5 @@
 // A store into the save device of a database's devices, recorded beside them.
-ghost use Rattle.std.specs.Prelude.{◌≡◌, ◌≢◌, ◌↔◌, ℕ, ◌+◌, ◌-◌, ◌^◌, ◌<◌, ◌≤◌, List, [], ◌∷◌, ◌++◌, Some, None, Err, is_some, OnOk, OnErr, vec_len, vec_capacity};
+ghost use Rattle.std.specs.Prelude.{◌≡◌, ◌≢◌, ◌↔◌, ℕ, ◌+◌, ◌-◌, ◌^◌, ◌<◌, ◌≤◌, [], ◌∷◌, ◌++◌, Some, None, Err, is_some, OnOk, OnErr, vec_len, vec_capacity};
 ghost use Rattle.outside.specs.Disk.{IfTold, Runs};
 ghost use Rattle.outside.specs.Faults.{Rose};
 ghost use Rattle.log_writer.specs.Points.{IsSaved, point_of, sequence_of};
@@ -24,8 +24,8 @@ impl Save {
             (NamesOldOrNew self.old.newest (point_of (sequence_of self.old.newest + 1) saved))) }
         ensures told { is_some (D.tells vault.new.save) ≡ is_some (D.tells vault.old.save) }
         ensures later { D.faults vault.old.save ≤ D.faults vault.new.save }
-        ensures device { result ≡ Err SaveFault.Device → Rose (D.faults vault.old.save) (D.faults vault.new.save)
-            × (self.new.down ≡ Some (D.faults vault.new.save)) }
+        ensures device { result ≡ Err SaveFault.Device → Rose (D.faults vault.old.save) (D.faults vault.new.save) }
+        ensures goes_down { result ≡ Err SaveFault.Device → self.new.down ≡ Some (D.faults vault.new.save) }
         ensures down { (faults : ℕ) → (result ≡ Err (SaveFault.Down faults)) ↔ (self.old.down ≡ Some faults) }
         ensures limit { (sequence : ℕ) → (result ≡ Err (SaveFault.Limit sequence))
             ↔ ((self.old.down ≡ None) × (sequence ≡ sequence_of self.old.newest) × (sequence ≡ 2 ^ 63 - 1)) }

@@ -85,7 +85,7 @@ pub trait Disk {
         ensures ticks { Ticks (clock self.old) (clock self.new) result }
         ensures cause { HasCause (faults self.old) (faults self.new) result };
 
-    /// A disk as it reads is one of its images.
+    /// What reads give is always among the images of now.
     ghost reads: { (disk : Self) (file : List ℕ) → tells disk ≡ Some file
         → image_at disk (clock disk) file };
 }

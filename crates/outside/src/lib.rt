@@ -27,7 +27,7 @@
 //! Terms: *told* bytes are those that an object is known to have. The objects in memory tell all of
 //! their bytes; those over the system tell none, and their calls promise no more than counts. A
 //! *moment* is a value of a disk's clock, between two calls or within one. An *image* of a moment is
-//! what a stop then may leave on the device. A disk is *settled* where a stop now leaves what reads
+//! a content that the device may have after a stop at that moment. A disk is *settled* where a stop now leaves what reads
 //! give, and nothing else.
 //!
 //! The objects: [`SureSource`], [`MemSource`], [`MemSink`] and [`MemDisk`] in memory, of which all but
@@ -35,6 +35,8 @@
 //! [`StdSource`], [`StdSink`] and [`FileDisk`] over the system. The images of a `MemDisk` are had by
 //! going through its calls again (`specs/Replay.antt`), and those of a `FileDisk` are any bytes. What
 //! a file or a terminal does is not proved, only that each of its errors is counted and answered.
+//!
+//! Design: docs/DURABILITY.md.
 #![tactic(auto)]
 
 mod call;

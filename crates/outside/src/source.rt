@@ -16,8 +16,8 @@ pub trait Source {
     fn faults(&self) -> u64
         ensures { result ≡ faults self.now };
 
-    /// Fills the front of the buffer with bytes that come next, and answers how many. 0 for a buffer
-    /// that isn't empty is the end. A call that failed takes no byte.
+    /// Fills the front of the buffer with bytes that come next, and answers how many: 0 where the buffer
+    /// has no room, and else only at the end. A call that failed takes no byte.
     fn read(&mut self, buf: &mut [u8]) -> Result<usize, Failed>
         ensures bound { ReadsAtMost result buf.new }
         ensures bytes { ReadConsumes (left self.old) (left self.new) result buf.new }

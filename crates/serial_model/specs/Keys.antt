@@ -40,7 +40,7 @@ has_key decls k = list_any (has_key_of k) decls
 abbrev pub is_tree : List Decl → ℕ → Bool
 is_tree decls storage = list_any (is_tree_of storage) decls
 
--- the operation's storage is declared, its kind fits, and an array key is in range
+-- the declarations have its storage, of a kind that has this operation, and an array has the key
 abbrev pub fits : List Decl → Op → Bool
 fits decls (Read k) = has_key decls k
 fits decls (Write k v) = has_key decls k

@@ -21,7 +21,8 @@ pub enum Op {
     Scan { storage: u8, low: u64, high: u64 },
 }
 
-/// Whether the operation's storage is declared, its kind fits, and an array key is in range.
+/// Whether the declarations have the operation's storage, of a kind that has this operation, and with
+/// the key within its size where it is an array.
 pub fn fits(decls: &[Decl], op: &Op) -> bool
     ensures { result ≡ fits decls.now op.now }
 {

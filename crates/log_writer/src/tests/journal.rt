@@ -1,5 +1,5 @@
-ghost use Rattle.std.specs.Prelude.{◌≤◌, ℕ, List, length};
-ghost use Rattle.log_writer.specs.Journal.{Reaches, KeepsSince};
+ghost use Rattle.std.specs.Prelude.{◌≤◌};
+ghost use Rattle.log_writer.specs.Journal.{Reaches, Stays};
 
 use super::disk;
 use crate::{Journal, LogFault};
@@ -32,8 +32,7 @@ pub(super) fn put_line<D: Disk>(journal: &mut Journal, bank: &mut D) -> Result<(
     ensures reaches { Reaches D.tells bank.new journal.new }
     ensures later { journal.old.durable ≤ journal.new.durable }
     ensures onward { D.clock bank.old ≤ D.clock bank.new }
-    ensures stays { (since : ℕ) (made : List ℕ) → length made ≤ journal.old.durable → since ≤ D.clock bank.old
-        → KeepsSince D.clock D.image_at bank.old since made → KeepsSince D.clock D.image_at bank.new since made }
+    ensures stays { Stays D.clock D.image_at journal.old bank.old bank.new }
 {
     let line = commit();
     journal.room(bank)?;
@@ -119,5 +118,38 @@ fn a_journal_goes_down_at_a_fault(rt: HostRuntime) -> Result<(), Fail> {
         let room = journal.room(&mut bank).map(|()| 0);
         assert_eq!(rt; room, want, "at {number}");
     }
+    Ok(())
+}
+
+// The flush that makes room fails: the first call of the log file, once 93 lines wait.
+#[test]
+fn a_fault_in_making_room(rt: HostRuntime) -> Result<(), Fail> {
+    let alloc = rt.alloc();
+    let mut bank = disk(alloc, &[], &[0])?;
+    let mut journal = Journal::new(alloc, 1 << 20).expect(&rt, "memory");
+    assert_eq!(rt; put_lines(&mut journal, &mut bank, 93), Ok(()));
+    assert_eq!(rt; put_line(&mut journal, &mut bank), Err(LogFault::Device));
+    assert_eq!(rt; (journal.waiting(), journal.durable()), (3720, 0));
+    let down = LogFault::Down { faults: 1 };
+    assert_eq!(rt; put_line(&mut journal, &mut bank), Err(down));
+    Ok(())
+}
+
+// A log file is written, cut, and written anew.
+#[test]
+fn a_log_file_begins_anew(rt: HostRuntime) -> Result<(), Fail> {
+    let alloc = rt.alloc();
+    let mut bank = disk(alloc, &[], &[])?;
+    let mut journal = Journal::new(alloc, 1000).expect(&rt, "memory");
+    assert_eq!(rt; put_lines(&mut journal, &mut bank, 2), Ok(()));
+    assert_eq!(rt; journal.flush(&mut bank), Ok(80));
+    assert_eq!(rt; bank.cut(0), Ok(()));
+    if journal.waiting() == 0 {
+        journal.reset();
+        assert_eq!(rt; journal.durable(), 0);
+        assert_eq!(rt; put_line(&mut journal, &mut bank), Ok(()));
+        assert_eq!(rt; journal.flush(&mut bank), Ok(40));
+    }
+    assert_eq!(rt; bank.bytes(), LINE.as_slice());
     Ok(())
 }

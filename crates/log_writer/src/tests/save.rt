@@ -1,10 +1,10 @@
-ghost use Rattle.std.specs.Prelude.{◌≡◌, ◌<◌, None, IfOk, vec_len, vec_capacity};
+ghost use Rattle.std.specs.Prelude.{◌≡◌, ◌+◌, ◌<◌, None, IfOk, vec_len, vec_capacity};
 ghost use Rattle.outside.specs.Disk.{IfTold, Only};
 ghost use Rattle.log_writer.specs.Points.{IsSaved};
 ghost use Rattle.log_writer.specs.Save.{IsStored};
 
 use super::disk;
-use crate::{Save, SaveFault, SaveOpen, Saved};
+use crate::{Save, SaveFault, SaveOpen, Saved, one_newest};
 use outside::{Disk, MemDisk, Tie, Vault};
 use std::alloc::{AllocError, Global};
 use std::test::Fail;
@@ -62,6 +62,12 @@ fn which_place_counts(rt: HostRuntime) -> Result<(), Fail> {
         let (save, saved) = Save::load(&mut disk).expect(&rt, "no damage");
         assert_eq!(rt; (save.sequence(), saved), (sequence, found));
     }
+    Ok(())
+}
+
+#[test]
+fn an_open_place_without_a_savepoint(rt: HostRuntime) -> Result<(), Fail> {
+    let alloc = rt.alloc();
     for (sequences, gates, at) in [
         ([2, 2], [0xA5, 0xA5], 0),
         ([0, 2], [0xA5, 0xA5], 0),
@@ -72,6 +78,12 @@ fn which_place_counts(rt: HostRuntime) -> Result<(), Fail> {
         let mut disk = disk(alloc, &device(sequences, gates), &[])?;
         assert_eq!(rt; Save::load(&mut disk).err(), Some(SaveOpen::Damaged { at }));
     }
+    Ok(())
+}
+
+#[test]
+fn another_length(rt: HostRuntime) -> Result<(), Fail> {
+    let alloc = rt.alloc();
     for len in [0, 3, 512, 1023] {
         let mut disk = disk(alloc, &device([1, 2], [0xA5, 0xA5])[..len], &[])?;
         assert_eq!(rt;
@@ -86,7 +98,8 @@ fn which_place_counts(rt: HostRuntime) -> Result<(), Fail> {
 #[derive(Clone, Copy, Debug, PartialEq, Eq)]
 enum Came {
     Refused(SaveOpen),
-    Faulty(SaveFault),
+    // What the last store answered.
+    Faulty(Result<(), SaveFault>),
     Stored,
 }
 
@@ -100,10 +113,10 @@ pub(super) fn open<D: Disk>(disk: &mut D) -> Result<Save, SaveOpen>
     Ok(save)
 }
 
-// Loads and stores.
+// Loads and stores, and stores once more where the store is down.
 fn store_once<D: Disk>(vault: &mut Vault<D>, saved: Saved) -> Came
     requires settled { IfTold (D.tells vault.old.save) (Only D.clock D.image_at vault.old.save) }
-    requires room { vec_len vault.old.ties < vec_capacity vault.old.ties }
+    requires room { vec_len vault.old.ties + 1 < vec_capacity vault.old.ties }
 {
     let mut save = match open(&mut vault.save) {
         Ok(save) => save,
@@ -114,17 +127,18 @@ fn store_once<D: Disk>(vault: &mut Vault<D>, saved: Saved) -> Came
     }
     match save.store_in(vault, saved) {
         Ok(()) => Came::Stored,
-        Err(fault) => Came::Faulty(fault),
+        Err(SaveFault::Device) => Came::Faulty(save.store_in(vault, saved)),
+        Err(fault) => Came::Faulty(Err(fault)),
     }
 }
 
 fn vault(alloc: Global, bytes: &[u8], fails: &[u64]) -> Result<Vault<MemDisk>, AllocError>
     ensures settled { IfOk result (λ vault. IfTold (⟦<MemDisk as Disk>⟧.tells vault.save)
         (Only ⟦<MemDisk as Disk>⟧.clock ⟦<MemDisk as Disk>⟧.image_at vault.save)) }
-    ensures room { IfOk result (λ vault. vec_len vault.ties < vec_capacity vault.ties) }
+    ensures room { IfOk result (λ vault. vec_len vault.ties + 1 < vec_capacity vault.ties) }
 {
     let mut ties = Vec::new(alloc);
-    ties.reserve(1)?;
+    ties.reserve(2)?;
     Ok(Vault {
         save: disk(alloc, bytes, fails)?,
         snaps: disk(alloc, &[], &[])?,
@@ -140,7 +154,7 @@ fn vault(alloc: Global, bytes: &[u8], fails: &[u64]) -> Result<Vault<MemDisk>, A
 fn a_store_at_each_fault(rt: HostRuntime) -> Result<(), Fail> {
     let alloc = rt.alloc();
     let refused = Came::Refused(SaveOpen::Device);
-    let faulty = Came::Faulty(SaveFault::Device);
+    let faulty = Came::Faulty(Err(SaveFault::Down { faults: 1 }));
     for (number, came, sequence) in [
         (0, refused, 2),
         (1, refused, 2),
@@ -157,17 +171,17 @@ fn a_store_at_each_fault(rt: HostRuntime) -> Result<(), Fail> {
         let mut vault = vault(alloc, &device([1, 2], [0xA5, 0xA5]), &[number])?;
         assert_eq!(rt; store_once(&mut vault, saved(7, 80)), came, "at {number}");
         let ended = if came == Came::Stored { Some(20) } else { None };
-        for tie in &vault.ties {
-            assert_eq!(rt;
-                *tie,
-                Tie {
-                    sequence: 3,
-                    snaps: 0,
-                    ended
-                }
-            );
-        }
-        assert_eq!(rt; vault.ties.is_empty(), came == refused, "at {number}");
+        let tie = Tie {
+            sequence: 3,
+            snaps: 0,
+            ended,
+        };
+        assert!(rt; vault.ties.iter().all(|made| *made == tie), "at {number}");
+        assert_eq!(rt;
+            vault.ties.len(),
+            usize::from(came != refused),
+            "at {number}"
+        );
         let mut after = disk(alloc, vault.save.bytes(), &[])?;
         let (save, _) = Save::load(&mut after).expect(&rt, "no damage");
         assert_eq!(rt; save.sequence(), sequence, "at {number}");
@@ -182,7 +196,7 @@ fn the_last_sequence_is_a_limit(rt: HostRuntime) -> Result<(), Fail> {
     let mut vault = vault(rt.alloc(), &bytes, &[])?;
     assert_eq!(rt;
         store_once(&mut vault, saved(7, 80)),
-        Came::Faulty(SaveFault::Limit { sequence: last })
+        Came::Faulty(Err(SaveFault::Limit { sequence: last }))
     );
     assert!(rt; vault.ties.is_empty());
     assert_eq!(rt; vault.save.bytes(), bytes.as_slice());
@@ -208,6 +222,7 @@ fn store_both<D: Disk>(
 fn two_stores(rt: HostRuntime) -> Result<(), Fail> {
     let alloc = rt.alloc();
     let mut disk = disk(alloc, &[0; 1024], &[])?;
+    one_newest();
     let mut save = open(&mut disk).expect(&rt, "a fresh device");
     assert_eq!(rt; save.sequence(), 0);
     let (first, second) = (saved(0, 0), saved(1, 40));

@@ -1,9 +1,7 @@
 // A log file and the savepoint that counts it, on two devices: each call speaks of one of them, and
 // what a stop leaves of both is put together from a moment of each.
-ghost use Rattle.std.specs.Prelude.{◌≡◌, ℕ, ◌+◌, ◌<◌, ◌≤◌, List, Some, true, length, take};
-ghost use Rattle.std.specs.Prelude.{◌++◌, None};
+ghost use Rattle.std.specs.Prelude.{◌≡◌, ℕ, ◌+◌, ◌<◌, ◌≤◌, List, Some, true, length, take, ◌++◌, None};
 ghost use Rattle.outside.specs.Disk.{IfTold};
-ghost use Rattle.wire_form.specs.LogLine.{IsLoggable};
 ghost use Rattle.log_writer.specs.Journal.{Reaches, KeepsSince};
 ghost use Rattle.log_writer.specs.Points.{IsSaved, point_of, sequence_of};
 ghost use Rattle.log_writer.specs.Save.{IsStored, NamesOldOrNew};

@@ -1,4 +1,4 @@
-use Rattle.std.proofs.Common.{◌≡◌, ◌++◌, [], List, ap, sym, ◌∙◌, subst, length, take, arith, append-nil}
+use Rattle.std.proofs.Common.{◌≡◌, ◌++◌, List, ap, sym, ◌∙◌, subst, length, take, arith, append-nil}
 use Rattle.log_writer.proofs.tests.two_devices.save_between.Goals as goal
 
 pub returns : goal.returns

@@ -1,4 +1,3 @@
-mod Devices
 mod Flushes
 mod Places
 mod Stores

@@ -10,7 +10,7 @@ mod save;
 mod two_devices;
 
 // A disk of these bytes, whose calls of these numbers fail.
-#[tactic(auto, using(crate::proofs::Devices::only_told))]
+#[tactic(auto, using(outside::specs::Moments::only_told))]
 fn disk(alloc: Global, bytes: &[u8], fails: &[u64]) -> Result<MemDisk, AllocError>
     ensures { IfOk result (λ disk. IfTold (⟦<MemDisk as Disk>⟧.tells disk)
         (Only ⟦<MemDisk as Disk>⟧.clock ⟦<MemDisk as Disk>⟧.image_at disk)) }

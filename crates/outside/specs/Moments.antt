@@ -2,7 +2,7 @@
 use Rattle.std.specs.Prelude.{◌≡◌, ◌⊎◌, ℕ, List, Option, Some}
 use Rattle.std.proofs.Common.{inl, inr, ⊎_elim, sym, ◌∙◌, subst, arith}
 use Rattle.std.proofs.lemmas.Bool.{cases_lt}
-use Rattle.outside.specs.Disk.{Same, Goes, Only, IsSettled, Runs}
+use Rattle.outside.specs.Disk.{IfTold, Same, Goes, Only, IsSettled, Runs}
 
 module _ {D : Type 0} {clock : D → ℕ} {image_at : D → ℕ → List ℕ → Type 0} where
   -- no call
@@ -83,3 +83,9 @@ module _ {D : Type 0} {clock : D → ℕ} {image_at : D → ℕ → List ℕ →
   -- what is told of a settled disk
   pub told_is : {tells : D → Option (List ℕ)} {disk : D} {file bytes : List ℕ} → IsSettled tells clock image_at disk file → tells disk ≡ Some bytes → bytes ≡ file
   told_is settled told = let both = settled.told in cc
+
+  -- a settled disk leaves what it tells, and nothing else
+  pub only_told : {tells : D → Option (List ℕ)} {disk : D} {bytes : List ℕ} → IsSettled tells clock image_at disk bytes → IfTold (tells disk) (Only clock image_at disk)
+  only_told settled file told c left =
+      let is : file ≡ _ = told_is settled told in
+      let was = settled.only c left in cc

@@ -1,5 +1,5 @@
 // The devices of one database, with what was recorded of their use.
-ghost use Rattle.std.specs.Prelude.{◌≡◌, ◌≢◌, ◌<◌, ℕ, [], ◌∷◌, ◌++◌, Some, IsSome, length, slice_get, vec_len, vec_capacity};
+ghost use Rattle.std.specs.Prelude.{◌≡◌, ◌≢◌, ◌+◌, ◌<◌, ℕ, [], ◌∷◌, ◌++◌, Some, IsSome, length, slice_get, vec_len, vec_capacity};
 ghost use Rattle.outside.specs.Vault.{disk_in, Cuts, CutsIn};
 
 use crate::{Disk, Failed};
@@ -59,6 +59,7 @@ impl<D: Disk> Vault<D> {
         ensures cut { CutsIn D.tells D.clock D.image_at D.faults device self.old self.new result }
         ensures recorded { (was : D) → disk_in self.old device ≡ Some was → self.new.cuts.items
             ≡ self.old.cuts.items ++ record { device = device; at = D.clock was; after = after } ∷ [] }
+        ensures len { vec_len self.new.cuts ≡ vec_len self.old.cuts + 1 }
         ensures capacity { vec_capacity self.new.cuts ≡ vec_capacity self.old.cuts }
         ensures save { self.new.save ≡ self.old.save }
         ensures ties { self.new.ties ≡ self.old.ties }

@@ -5,8 +5,8 @@ use Rattle.std.proofs.lemmas.List.{take_at, drop_at, drop-drop, get_or-drop, get
 use Rattle.wire_form.specs.Bytes.{padded}
 use Rattle.wire_form.specs.Pages.{Children, tree_inner_words}
 use Rattle.wire_form.specs.Ranges.{child_ranges}
-use Rattle.wire_form.proofs.ByteLemmas.{length-padded}
 use Rattle.wire_form.specs.Items.{Reads}
+use Rattle.wire_form.specs.ByteLaws.{length-padded}
 
 -- the item at an index of a list of items, and its spelling
 pub item_at : {X : Type 0} (spell : X → List ℕ) (w : ℕ) → ((x : X) → length (spell x) ≡ w) → (xs : List X) (i : ℕ) (rest : List ℕ) → i < length xs → (x : X) × (slice_get xs i ≡ Some x) × (take w (drop (w * i) (flat_map spell xs ++ rest)) ≡ spell x)

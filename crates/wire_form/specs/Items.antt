@@ -37,3 +37,8 @@ pub record AreItems {X K : Type 0} (Is : X → Type 0) (spell : X → List ℕ) 
   pub each : AllByRecursion Is items
   pub rising : RisesAfter R last (map key items)
   pub spelled : written ≡ flat_map spell items
+
+-- the key of the last item, or an earlier key where there is no item
+abbrev pub last_key : {X K : Type 0} → (X → K) → Option K → List X → Option K
+last_key key last [] = last
+last_key key last (x ∷ xs) = last_key key (Some (key x)) xs

@@ -39,16 +39,18 @@ mod record_word;
 mod records;
 mod savepoint;
 
+pub use catalogue::catalogue_words;
 pub use clock::{Clock, Mark};
 pub use fields::{
     array_child, array_record, child, child_range, count, epoch_and_previous, fences, separator,
     storage, tree_record,
 };
 pub use laws::{
-    bytes_and_words, one_content, one_log_line, pointers_go_down, ranges_split, word_in_bytes,
+    bytes_and_words, line_length, one_content, one_list_of_lines, one_list_of_words, one_log_line,
+    pointers_go_down, ranges_split, word_in_bytes,
 };
 pub use log_line::{NoLine, is_loggable, read_log_line, write_log_line};
-pub use page::{NoPage, Page, PageKind, is_page, read_page, write_page};
+pub use page::{NoPage, Page, PageKind, is_page, read_page, words_of_page, write_page};
 pub use page_words::{Header, Pair, SlotState, SlotWord};
 pub use record_word::{RecordWord, is_number, number_word, read_number};
 pub use records::{ArrayRecord, Stored, TreeRecord};

@@ -3,7 +3,7 @@ ghost use Rattle.std.specs.Prelude.{◌≡◌, ◌≢◌, ◌<◌, ◌^◌, ◌�
 ghost use Rattle.std.specs.List.{AllByRecursion};
 ghost use Rattle.wire_form.specs.declared.savepoint.Savepoint.{Savepoint};
 ghost use Rattle.wire_form.specs.Items.{IsSpelled, Reads};
-ghost use Rattle.wire_form.specs.Savepoint.{IsSavepoint, IsSavepointOf, body_words, place_bytes, open_gate};
+ghost use Rattle.wire_form.specs.Savepoint.{IsSavepoint, IsSavepointOf, body_words, place_bytes, valid_byte};
 
 use crate::bits::field;
 use crate::bytes::{read_words, word_at, write_words};
@@ -90,7 +90,7 @@ fn savepoint_of(words: &[u64; 63]) -> Option<Savepoint>
 
 /// Reads a place of the save device, 0 or 1. `Ok(None)` says that it is closed.
 pub fn read_savepoint(place: u8, bytes: &[u8; 512]) -> Result<Option<Savepoint>, NoSavepoint>
-    ensures closed { (result ≡ Ok None) ↔ (slice_index bytes.now 0 ≢ open_gate) }
+    ensures closed { (result ≡ Ok None) ↔ (slice_index bytes.now 0 ≢ valid_byte) }
     ensures found { IfOk result (λ found. IfSome found (IsSpelled (IsSavepointOf place) place_bytes bytes.now)) }
     ensures err { OnErr result ((point : Savepoint) → IsSavepointOf place point
         → place_bytes point ≡ bytes.now → ⊥) }

@@ -1,5 +1,5 @@
 use Rattle.wire_form.specs.Pages.{IsPointer, IsChild, IsStored}
-use Rattle.wire_form.proofs.RangeLaws.{all_map}
+use Rattle.wire_form.specs.RangeLaws.{all_map}
 use Rattle.wire_form.proofs.laws.pointers_go_down.Goals as goal
 
 pub returns-clause-array : goal.returns-clause-array

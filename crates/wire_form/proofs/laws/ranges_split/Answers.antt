@@ -1,6 +1,6 @@
 use Rattle.std.proofs.Common.{◌<◌, ◌≤◌, ◌∙◌, arith}
 use Rattle.wire_form.specs.Pages.{IsSeparator}
-use Rattle.wire_form.proofs.RangeLaws.{none_below, none_above, one_between, from_low, all_map, length-child_ranges}
+use Rattle.wire_form.specs.RangeLaws.{none_below, none_above, one_between, from_low, all_map, length-child_ranges}
 use Rattle.wire_form.proofs.laws.ranges_split.Goals as goal
 
 pub returns-clause-each : goal.returns-clause-each

@@ -11,9 +11,9 @@ use Rattle.wire_form.specs.declared.records.Stored.{Stored}
 use Rattle.wire_form.specs.Words.{IsNumber, number_field}
 use Rattle.wire_form.specs.Bytes.{padded}
 use Rattle.wire_form.specs.Pages.{IsArrayRecord, array_record_words, IsArrayLeaf, array_leaf_words, IsArrayInner, array_inner_words, IsTreeRecord, tree_record_words, IsTreeLeaf, tree_leaf_words, Children, IsTreeInner, tree_inner_words, IsStorage, storage_head, storage_size, IsStored, stored_words, Contents, IsCatalogue, catalogue_words}
-use Rattle.wire_form.proofs.ByteLemmas.{same_parts, length-padded}
-use Rattle.wire_form.proofs.ItemLemmas.{same_items, length-items}
-use Rattle.wire_form.proofs.LineLaws.{same_number_word}
+use Rattle.wire_form.specs.ByteLaws.{same_parts, length-padded}
+use Rattle.wire_form.specs.ItemLaws.{same_items, length-items}
+use Rattle.wire_form.specs.LineLaws.{same_number_word}
 
 -- records from their parts
 abbrev array_record_of : Option Number → ℕ → ArrayRecord

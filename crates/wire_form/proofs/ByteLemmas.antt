@@ -1,15 +1,12 @@
 -- Words and their bytes.
-use Rattle.std.proofs.Common.{◌≡◌, ℕ, zero, suc, ◌+◌, ◌-◌, ◌*◌, ◌^◌, ◌<◌, ◌≤◌, List, [], ◌∷◌, ◌++◌, length, get_or, inl, inr, set, take, drop, replicate, refl, sym, ap, ◌∙◌, append_assoc, arith}
+use Rattle.std.proofs.Common.{◌≡◌, ℕ, ◌+◌, ◌-◌, ◌*◌, ◌<◌, ◌≤◌, List, [], ◌∷◌, ◌++◌, length, set, take, drop, replicate, sym, ap, ◌∙◌, append_assoc, arith}
 use Rattle.std.specs.List.{AllByRecursion}
-use Rattle.std.specs.Int.{w64, from_be_bytes}
-use Rattle.std.proofs.lemmas.Nat.{be_bytes_8, from_be_bytes-to_be_bytes_8}
-use Rattle.std.proofs.lemmas.Bool.{cases_lt}
-use Rattle.std.proofs.lemmas.List.{take_at, drop_at, drop_all, take-append-drop, nil_from_length, get_or-take, get_or-drop, get_or_past, length-drop, take_more_set, drop-drop, length-append, length-take, length-replicate, append-nil}
+use Rattle.std.proofs.lemmas.List.{take_at, drop_at, drop_all, take_more_set, drop-drop, append-nil}
 use Rattle.std.proofs.lemmas.List.Concat.{flat_map-append}
 use Rattle.std.proofs.Math.Seq.{take-add}
 use borrow.Rule.Slice.PartMut.{put_mid}
+use Rattle.lists.specs.Each.{all_append, all_replicate}
 use Rattle.wire_form.specs.Bytes.{bytes_of_word, bytes_of, padded}
-use Rattle.wire_form.specs.ItemLaws.{all_append}
 
 bytes_of-push : (words : List ℕ) (w : ℕ) → bytes_of (words ++ w ∷ []) ≡ bytes_of words ++ bytes_of_word w
 bytes_of-push words w =
@@ -37,15 +34,6 @@ head_and_rest to mid part rest head h k next len sum here there =
     rw (front, there, back, after) (sym (append_assoc head rest (drop next to)))
 
 -- ---- a fact on each element
-
-pub all_replicate : {X : Type 0} (P : X → Type 0) (n : ℕ) (x : X) → P x → AllByRecursion P (replicate n x)
-all_replicate P zero x p = tt
-all_replicate P (suc n) x p = (p, all_replicate P n x p)
-
--- a lower limit is kept under a higher one
-pub all_below : (m n : ℕ) → m ≤ n → (xs : List ℕ) → AllByRecursion (λ x. x < m) xs → AllByRecursion (λ x. x < n) xs
-all_below m n le [] p = tt
-all_below m n le (x ∷ xs) p = (omega (arith, p.0), all_below m n le xs p.1)
 
 pub all_padded : (P : ℕ → Type 0) (n : ℕ) (xs : List ℕ) → P 0 → AllByRecursion P xs → AllByRecursion P (padded n xs)
 all_padded P n xs none all = all_append P xs (replicate (n - length xs) 0) all (all_replicate P (n - length xs) 0 none)

@@ -2,11 +2,12 @@
 use Rattle.std.proofs.Common.{◌≡◌, ℕ, ◌+◌, ◌-◌, ◌*◌, ◌^◌, ◌<◌, ◌≤◌, List, [], ◌∷◌, ◌++◌, length, drop, replicate, refl, sym, ap, ◌∙◌, append-nil, arith}
 use Rattle.std.specs.List.{flat_map, AllByRecursion}
 use Rattle.std.proofs.lemmas.List.{drop-replicate}
+use Rattle.lists.specs.Each.{all_append}
 use Rattle.serial_model.specs.declared.decl.Decl.{Decl}
 use Rattle.serial_model.specs.declared.decl.Decl.TheVariants.{Array, Tree}
 use Rattle.wire_form.specs.declared.records.Stored.{Stored}
 use Rattle.wire_form.specs.Bytes.{padded}
-use Rattle.wire_form.specs.ItemLaws.{length-items, all_append}
+use Rattle.wire_form.specs.ItemLaws.{length-items}
 use Rattle.wire_form.specs.Pages.{IsStorage, storage_head, storage_size, IsStored, stored_words, Contents, IsCatalogue, catalogue_words}
 use Rattle.wire_form.proofs.ByteLemmas.{all_padded}
 

@@ -1,14 +1,15 @@
 -- Reading and writing a list of items from front to back.
-use Rattle.std.proofs.Common.{◌≡◌, ℕ, suc, ◌+◌, ◌*◌, ◌^◌, ◌<◌, List, [], ◌∷◌, ◌++◌, length, get_or, true, false, Bool, ◌-◌, ◌≤◌, replicate, take, drop, Option, Some, None, refl, sym, ap, subst, ◌∙◌, append_assoc, arith}
+use Rattle.std.proofs.Common.{◌≡◌, ℕ, ◌*◌, ◌^◌, ◌<◌, List, [], ◌∷◌, ◌++◌, length, get_or, true, false, Bool, ◌-◌, ◌≤◌, replicate, take, drop, Option, Some, None, refl, sym, ap, subst, ◌∙◌, append_assoc, arith}
 use Rattle.std.specs.Prelude.{IfSome, IsTrue, ◌↔◌}
 use Rattle.std.proofs.lemmas.Bool.{false≢true}
 use Rattle.std.specs.List.{flat_map, AllByRecursion}
 use Rattle.std.proofs.lemmas.List.{take_at, drop_at, take-append-drop, length-append, length-replicate, length-take-le, length-drop, append-nil}
+use Rattle.lists.specs.Fronts.{same_parts}
 use Rattle.wire_form.specs.Bytes.{bytes_of, padded}
 use Rattle.wire_form.specs.Items.{RisesAfter, AreItems, AnyOrder, IsFollowed, IsSpelled, Reads}
 use Rattle.wire_form.specs.ItemLaws.{length-items}
 use Rattle.wire_form.specs.Parts.{HasItems}
-use Rattle.wire_form.specs.ByteLaws.{same_parts, same_words}
+use Rattle.wire_form.specs.ByteLaws.{same_words}
 
 -- front was read from the whole: its items are front and then items of the rest, and whatever are items of the rest completes them
 pub record Takes {X K : Type 0} (Is : X → Type 0) (spell : X → List ℕ) (key : X → K) (R : K → K → Type 0) (whole : List ℕ) (front : List X) (last : Option K) (rest : List ℕ) : Type 0 where

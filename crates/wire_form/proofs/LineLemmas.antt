@@ -1,20 +1,17 @@
 -- Log lines and their parts.
-use Rattle.std.proofs.Common.{◌≡◌, ℕ, ◌+◌, ◌-◌, ◌*◌, ◌^◌, ◌<◌, ◌≤◌, List, [], ◌∷◌, ◌++◌, length, take, drop, Option, Some, None, refl, sym, ap, ◌∙◌, append_assoc, arith}
-use Rattle.std.specs.Prelude.{IfSome, unwrap_or}
-use Rattle.std.specs.List.{flat_map, AllByRecursion}
-use Rattle.std.proofs.lemmas.List.{take_at, drop_at, take-append-drop, take_all, drop-drop, length-append, length-take, length-drop, append-nil}
+use Rattle.std.proofs.Common.{◌≡◌, ℕ, ◌+◌, ◌-◌, ◌*◌, ◌^◌, ◌<◌, ◌≤◌, List, [], ◌∷◌, ◌++◌, length, take, drop, None, refl, sym, ap, ◌∙◌, append_assoc, arith}
+use Rattle.std.specs.List.{flat_map}
+use Rattle.std.proofs.lemmas.List.{take-append-drop, take_all, drop-drop, length-take, length-drop, append-nil}
 use Rattle.serial_model.specs.declared.number.Change.{Change}
 use Rattle.serial_model.specs.declared.number.Commit.{Commit}
-use Rattle.serial_model.specs.declared.number.Number.{Number}
-use Rattle.serial_model.specs.declared.key.Key.{Key}
 use Rattle.wire_form.specs.Words.{IsNumber, number_word}
 use Rattle.wire_form.specs.Items.{AreItems}
 use borrow.Rule.Slice.PartMut.{put_mid}
 use Rattle.wire_form.specs.Bytes.{bytes_of_word, bytes_of}
-use Rattle.wire_form.specs.LogLine.{IsKeyBelow, IsChange, key_of, put_mark, change_words, change_bytes, IsLogLine, line_bytes, BeginsWith}
-use Rattle.wire_form.specs.ByteLaws.{length-bytes_of_word, length-bytes_of, same_word}
+use Rattle.wire_form.specs.LogLine.{IsKeyBelow, IsChange, key_of, change_bytes, IsLogLine, line_bytes, BeginsWith}
+use Rattle.wire_form.specs.ByteLaws.{length-bytes_of, same_word}
 use Rattle.wire_form.specs.ItemLaws.{length-items}
-use Rattle.wire_form.specs.LineLaws.{LineParts, line_parts, change_fits, length-change_bytes, number_fits}
+use Rattle.wire_form.specs.LineLaws.{line_parts, length-change_bytes, number_fits}
 use Rattle.wire_form.proofs.ByteLemmas.{rest_alone, head_and_rest}
 use Rattle.wire_form.proofs.ItemLemmas.{rejoined}
 

@@ -5,12 +5,13 @@ use Rattle.std.proofs.lemmas.List.{take_at, take_all, length-drop, drop_at, drop
 use Rattle.std.proofs.lemmas.Bool.{eq-eqb}
 use lib.Pointwise.{pointwise}
 use borrow.Rule.Slice.PartMut.{put_mid}
+use Rattle.lists.specs.Each.{all_below}
 use Rattle.wire_form.specs.Bytes.{bytes_of_word, bytes_of, padded}
 use Rattle.wire_form.specs.declared.savepoint.Savepoint.{Savepoint}
 use Rattle.wire_form.specs.Savepoint.{IsSavepoint, StandsAt, IsSavepointOf, magic, body_words, place_bytes, valid_byte}
 use Rattle.wire_form.specs.Items.{IsSpelled}
 use Rattle.wire_form.specs.ByteLaws.{same_word, same_words, length-padded}
-use Rattle.wire_form.proofs.ByteLemmas.{head_and_rest, all_padded, all_below}
+use Rattle.wire_form.proofs.ByteLemmas.{head_and_rest, all_padded}
 
 abbrev point_of : ℕ → ℕ → ℕ → ℕ → List ℕ → Savepoint
 point_of s e c n ls = record { sequence = s; epoch = e; catalogue = c; count = n; lengths = ls }

@@ -4,7 +4,8 @@ use Rattle.std.specs.List.{AllByRecursion}
 use Rattle.std.specs.Int.{w64, from_be_bytes}
 use Rattle.std.proofs.lemmas.Nat.{be_bytes_8, from_be_bytes-to_be_bytes_8}
 use Rattle.std.proofs.lemmas.Bool.{cases_lt}
-use Rattle.std.proofs.lemmas.List.{take_at, drop_at, take-append-drop, nil_from_length, get_or-take, get_or-drop, get_or_past, length-drop, length-append, length-take, length-replicate}
+use Rattle.std.proofs.lemmas.List.{take-append-drop, nil_from_length, get_or-take, get_or-drop, get_or_past, length-drop, length-append, length-take, length-replicate}
+use Rattle.lists.specs.Fronts.{same_parts}
 use Rattle.wire_form.specs.Bytes.{bytes_of_word, bytes_of, padded}
 
 pub length-bytes_of_word : (word : ℕ) → length (bytes_of_word word) ≡ 8
@@ -21,13 +22,6 @@ pub length-bytes_of : (words : List ℕ) → length (bytes_of words) ≡ 8 * len
 length-bytes_of [] = refl
 length-bytes_of (w ∷ ws) =
     omega (arith, length-append (bytes_of_word w) (bytes_of ws), length-bytes_of_word w, length-bytes_of ws)
-
--- equal beginnings of one length leave equal rests
-pub same_parts : {X : Type 0} (a b x y : List X) → length a ≡ length b → a ++ x ≡ b ++ y → (a ≡ b) × (x ≡ y)
-same_parts a b x y n e =
-    let front : a ≡ b = sym (take_at a x (length a) refl) ∙ ap (take (length a)) e ∙ take_at b y (length a) (sym n) in
-    let rest : x ≡ y = sym (drop_at a x (length a) refl) ∙ ap (drop (length a)) e ∙ drop_at b y (length a) (sym n) in
-    (front, rest)
 
 -- two lists of words with the same bytes are one
 pub same_words : (xs ys : List ℕ) → AllByRecursion (λ w. w < 2 ^ 64) xs → AllByRecursion (λ w. w < 2 ^ 64) ys → bytes_of xs ≡ bytes_of ys → xs ≡ ys

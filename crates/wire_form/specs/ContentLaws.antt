@@ -2,6 +2,7 @@
 use Rattle.std.proofs.Common.{◌≡◌, ℕ, ◌-◌, List, length, get_or, drop, replicate, Option, Some, None, refl, sym, ap, ◌∙◌, arith, lit<}
 use Rattle.std.specs.Prelude.{IfSome}
 use Rattle.std.specs.List.{flat_map}
+use Rattle.lists.specs.Fronts.{same_parts}
 use Rattle.serial_model.specs.declared.decl.Decl.{Decl}
 use Rattle.serial_model.specs.declared.decl.Decl.TheVariants.{Array, Tree}
 use Rattle.serial_model.specs.declared.number.Number.{Number}
@@ -11,7 +12,7 @@ use Rattle.wire_form.specs.declared.records.Stored.{Stored}
 use Rattle.wire_form.specs.Words.{IsNumber, number_field}
 use Rattle.wire_form.specs.Bytes.{padded}
 use Rattle.wire_form.specs.Pages.{IsArrayRecord, array_record_words, IsArrayLeaf, array_leaf_words, IsArrayInner, array_inner_words, IsTreeRecord, tree_record_words, IsTreeLeaf, tree_leaf_words, Children, IsTreeInner, tree_inner_words, IsStorage, storage_head, storage_size, IsStored, stored_words, Contents, IsCatalogue, catalogue_words}
-use Rattle.wire_form.specs.ByteLaws.{same_parts, length-padded}
+use Rattle.wire_form.specs.ByteLaws.{length-padded}
 use Rattle.wire_form.specs.ItemLaws.{same_items, length-items}
 use Rattle.wire_form.specs.LineLaws.{same_number_word}
 

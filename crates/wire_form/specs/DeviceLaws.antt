@@ -1,9 +1,6 @@
 -- A device has one list of words at most as each page, and keeps it as the device grows.
-use Rattle.std.proofs.Common.{◌≡◌, ℕ, ◌+◌, ◌-◌, ◌*◌, ◌^◌, ◌<◌, ◌≤◌, List, ◌++◌, length, get_or, take, drop, refl, sym, ap, ◌∙◌, arith, inl, inr}
-use Rattle.std.specs.List.{AllByRecursion}
-use Rattle.std.proofs.lemmas.Bool.{cases_lt}
-use Rattle.std.proofs.lemmas.List.{length-append, length-take-le, length-drop, get_or-take, get_or-drop, get_or_past, take-append-le, drop-append-le}
-use Rattle.wire_form.specs.Bytes.{bytes_of}
+use Rattle.std.proofs.Common.{◌≡◌, ℕ, ◌+◌, ◌-◌, ◌*◌, ◌<◌, ◌≤◌, List, ◌++◌, length, get_or, take, drop, sym, ap, ◌∙◌, arith}
+use Rattle.std.proofs.lemmas.List.{length-append, length-take-le, length-drop, get_or-drop, take-append-le, drop-append-le}
 use Rattle.wire_form.specs.ByteLaws.{length-bytes_of, same_words, part_fits, words_of}
 use Rattle.wire_form.specs.Device.{page_bytes, HasWords}
 

@@ -1,9 +1,10 @@
 -- Lists of items of one form, as laws for those who use them.
-use Rattle.std.proofs.Common.{◌≡◌, ℕ, suc, ◌+◌, ◌*◌, ◌<◌, List, [], ◌∷◌, ◌++◌, length, Option, Some, None, map, refl, sym, ap, ap₂, ◌∙◌, arith}
+use Rattle.std.proofs.Common.{◌≡◌, ℕ, suc, ◌+◌, ◌*◌, ◌<◌, List, [], ◌∷◌, ◌++◌, length, Option, Some, map, refl, sym, ap, ap₂, ◌∙◌, arith}
 use Rattle.std.specs.List.{flat_map, AllByRecursion}
 use Rattle.std.proofs.lemmas.List.{length-append}
 use Rattle.std.proofs.lemmas.List.Concat.{flat_map-append}
-use Rattle.wire_form.specs.ByteLaws.{same_parts}
+use Rattle.lists.specs.Each.{all_append}
+use Rattle.lists.specs.Fronts.{same_parts}
 use Rattle.wire_form.specs.Items.{AreItems, RisesAfter, last_key}
 
 -- so many items of n words or bytes each are n times as many
@@ -24,11 +25,6 @@ same_items Is spell n some wide one (x ∷ xs) (y ∷ ys) p q e =
     let first : x ≡ y = one x y p.0 q.0 parts.0 in
     let rest : xs ≡ ys = same_items Is spell n some wide one xs ys p.1 q.1 parts.1 in
     cc
-
--- what holds of each of two lists holds of each of both together
-pub all_append : {X : Type 0} (P : X → Type 0) (xs ys : List X) → AllByRecursion P xs → AllByRecursion P ys → AllByRecursion P (xs ++ ys)
-all_append P [] ys p q = q
-all_append P (x ∷ xs) ys p q = (p.0, all_append P xs ys p.1 q)
 
 -- and what holds of each of both holds of each of the second
 pub all_behind : {X : Type 0} (P : X → Type 0) (xs ys : List X) → AllByRecursion P (xs ++ ys) → AllByRecursion P ys

@@ -3,6 +3,7 @@ use Rattle.std.proofs.Common.{◌≡◌, ℕ, ◌+◌, ◌*◌, ◌^◌, ◌<◌
 use Rattle.std.specs.Prelude.{IfSome, unwrap_or}
 use Rattle.std.specs.List.{flat_map, AllByRecursion}
 use Rattle.std.proofs.lemmas.List.{take_at, drop_at, drop-drop, length-append}
+use Rattle.lists.specs.Fronts.{same_parts}
 use Rattle.serial_model.specs.declared.number.Change.{Change}
 use Rattle.serial_model.specs.declared.number.Commit.{Commit}
 use Rattle.serial_model.specs.declared.number.Number.{Number}
@@ -10,7 +11,7 @@ use Rattle.serial_model.specs.declared.key.Key.{Key}
 use Rattle.wire_form.specs.Words.{IsNumber, number_word}
 use Rattle.wire_form.specs.Bytes.{bytes_of_word, bytes_of}
 use Rattle.wire_form.specs.LogLine.{IsChange, put_mark, change_words, change_bytes, IsLoggable, IsLogLine, line_bytes}
-use Rattle.wire_form.specs.ByteLaws.{length-bytes_of_word, length-bytes_of, same_word, same_words, same_parts}
+use Rattle.wire_form.specs.ByteLaws.{length-bytes_of_word, length-bytes_of, same_word, same_words}
 use Rattle.wire_form.specs.ItemLaws.{length-items, same_items}
 
 change_parts_fit : (k : Key) (v : Option ℕ) → k.storage < 256 → k.key < 2 ^ 64 → IfSome v (λ n. n < 2 ^ 64) → AllByRecursion (λ w. w < 2 ^ 64) ((k.storage + put_mark v) ∷ k.key ∷ unwrap_or v 0 ∷ [])

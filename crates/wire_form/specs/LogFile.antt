@@ -1,5 +1,5 @@
 -- The bytes of a log file that count: whole log lines one after another, with numbers that rise.
-use Rattle.std.specs.Prelude.{◌≡◌, ℕ, ◌≤◌, List, [], ◌∷◌, ◌++◌, Option, Some, None, IsTrue, Bool, length}
+use Rattle.std.specs.Prelude.{◌≡◌, ℕ, ◌≤◌, List, ◌++◌, Option, Some, None, IsTrue, Bool, length}
 use Rattle.std.specs.List.{flat_map, AllByRecursion}
 use Rattle.serial_model.specs.Keys.{has_key, is_tree}
 use Rattle.serial_model.specs.History.{IsBelow}

@@ -1,13 +1,12 @@
 -- A log file's bytes are one list of lines at most, or are damaged at one byte at most, and never both.
-use Rattle.std.proofs.Common.{◌≡◌, ℕ, ◌+◌, ◌*◌, ◌≤◌, List, [], ◌∷◌, ◌++◌, length, Option, Some, None, map, inl, inr, refl, sym, ap, subst, ◌∙◌, append_assoc, append-nil, arith}
-use Rattle.std.specs.Prelude.{◌⊎◌}
-use Rattle.std.specs.List.{flat_map, AllByRecursion}
+use Rattle.std.proofs.Common.{◌≡◌, ℕ, List, [], ◌∷◌, ◌++◌, length, Option, map, refl, sym, ap, subst, ◌∙◌, append_assoc, append-nil, arith}
+use Rattle.std.specs.List.{AllByRecursion}
 use Rattle.std.proofs.lemmas.List.{length-append}
 use Rattle.serial_model.specs.History.{IsBelow}
 use Rattle.serial_model.specs.declared.decl.Decl.{Decl}
 use Rattle.serial_model.specs.declared.number.Commit.{Commit}
 use Rattle.serial_model.specs.declared.number.Number.{Number}
-use Rattle.wire_form.specs.Items.{AreItems, IsFollowed, RisesAfter, last_key}
+use Rattle.wire_form.specs.Items.{RisesAfter, last_key}
 use Rattle.wire_form.specs.LogLine.{IsLogLine, line_bytes}
 use Rattle.wire_form.specs.LogFile.{commit_number, lines_bytes, AreLogLines, IsLineOf, AreLinesOf, IsDamagedAt}
 use Rattle.wire_form.specs.LineLaws.{length-line_bytes, one_line}

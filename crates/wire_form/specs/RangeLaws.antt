@@ -46,10 +46,6 @@ pub from_low : (low high : ℕ) (ss : List ℕ) → AllByRecursion (IsSeparator 
 from_low low high [] within rising = tt
 from_low low high (s ∷ ss) within rising = (within.0.0, rising.1)
 
-pub all_map : {X : Type 0} (P Q : X → Type 0) → ((x : X) → P x → Q x) → (xs : List X) → AllByRecursion P xs → AllByRecursion Q xs
-all_map P Q f [] all = tt
-all_map P Q f (x ∷ xs) all = (f x all.0, all_map P Q f xs all.1)
-
 pub length-child_ranges : (low high : ℕ) (ss : List ℕ) → length (child_ranges low high ss) ≡ length ss + 1
 length-child_ranges low high [] = refl
 length-child_ranges low high (s ∷ ss) = omega (arith, length-child_ranges s high ss)

@@ -1,4 +1,4 @@
-use Rattle.std.proofs.Common.{◌≡◌, ◌+◌, ◌^◌, ◌<◌, length, subst, sym}
+use Rattle.std.proofs.Common.{◌+◌, ◌^◌, ◌<◌, length, subst, sym}
 use Rattle.std.specs.List.{AllByRecursion}
 use Rattle.wire_form.specs.Pages.{Contents}
 use Rattle.wire_form.proofs.CatalogueLemmas.{catalogue_written, catalogue_fits}

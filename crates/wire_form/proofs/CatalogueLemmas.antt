@@ -8,7 +8,8 @@ use Rattle.serial_model.specs.declared.decl.Decl.TheVariants.{Array, Tree}
 use Rattle.wire_form.specs.declared.records.Stored.{Stored}
 use Rattle.wire_form.specs.Bytes.{padded}
 use Rattle.wire_form.specs.ItemLaws.{length-items}
-use Rattle.wire_form.specs.Pages.{IsStorage, storage_head, storage_size, IsStored, stored_words, Contents, IsCatalogue, catalogue_words}
+use Rattle.serial_model.specs.Decls.{IsDecl}
+use Rattle.wire_form.specs.Pages.{storage_head, storage_size, IsStored, stored_words, Contents, IsCatalogue, catalogue_words}
 use Rattle.wire_form.proofs.ByteLemmas.{all_padded}
 
 -- the head and then the storages are the catalogue, for what is written over zeros
@@ -21,14 +22,14 @@ catalogue_written h x y e p to storages xe yp few spelled =
     let body : to ++ [] ≡ padded 48 (flat_map stored_words storages) = append-nil to ∙ spelled ∙ ap (λ t. flat_map stored_words storages ++ t) zeros in
     ap (λ a. padded 16 (h ∷ a ∷ y ∷ []) ++ (to ++ [])) xe ∙ ap (λ b. padded 16 (h ∷ e ∷ b ∷ []) ++ (to ++ [])) yp ∙ ap (λ t. padded 16 (h ∷ e ∷ p ∷ []) ++ t) body
 
-decl_fits : (number : ℕ) (d : Decl) (root : ℕ) → number ≤ 65536 → IsStorage d → root < number → AllByRecursion (λ w. w < 2 ^ 64) (storage_head d ∷ storage_size d ∷ root ∷ [])
+decl_fits : (number : ℕ) (d : Decl) (root : ℕ) → number ≤ 65536 → IsDecl d → root < number → AllByRecursion (λ w. w < 2 ^ 64) (storage_head d ∷ storage_size d ∷ root ∷ [])
 decl_fits number (Array id size) root last is lt = (omega (arith, is.0), (omega (arith, is.2), (omega arith, tt)))
 decl_fits number (Tree id) root last is lt = (omega (arith, is), (omega arith, (omega arith, tt)))
 
 all_stored_fit : (number : ℕ) (storages : List Stored) → number ≤ 65536 → AllByRecursion (IsStored number) storages → AllByRecursion (λ w. w < 2 ^ 64) (flat_map stored_words storages)
 all_stored_fit number [] last all = tt
 all_stored_fit number (s ∷ ss) last all =
-    all_append (λ w. w < 2 ^ 64) (stored_words s) (flat_map stored_words ss) (decl_fits number s.decl s.root last all.0.storage all.0.root) (all_stored_fit number ss last all.1)
+    all_append (λ w. w < 2 ^ 64) (stored_words s) (flat_map stored_words ss) (decl_fits number s.decl s.root last all.0.decl all.0.root) (all_stored_fit number ss last all.1)
 
 -- the words of a catalogue fit
 pub catalogue_fits : (number : ℕ) (c : Contents) → number ≤ 65536 → IsCatalogue number c → AllByRecursion (λ w. w < 2 ^ 64) (catalogue_words c)

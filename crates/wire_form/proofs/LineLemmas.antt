@@ -4,11 +4,13 @@ use Rattle.std.specs.List.{flat_map}
 use Rattle.std.proofs.lemmas.List.{take-append-drop, take_all, drop-drop, length-take, length-drop, append-nil}
 use Rattle.serial_model.specs.declared.number.Change.{Change}
 use Rattle.serial_model.specs.declared.number.Commit.{Commit}
-use Rattle.wire_form.specs.Words.{IsNumber, number_word}
+use Rattle.serial_model.specs.Numbers.{IsNumber}
+use Rattle.wire_form.specs.Words.{number_word}
 use Rattle.wire_form.specs.Items.{AreItems}
 use borrow.Rule.Slice.PartMut.{put_mid}
 use Rattle.wire_form.specs.Bytes.{bytes_of_word, bytes_of}
-use Rattle.wire_form.specs.LogLine.{IsKeyBelow, IsChange, key_of, change_bytes, IsLogLine, line_bytes, BeginsWith}
+use Rattle.serial_model.specs.Keys.{IsKeyBelow}
+use Rattle.wire_form.specs.LogLine.{IsChange, key_of, change_bytes, IsLogLine, line_bytes, BeginsWith}
 use Rattle.wire_form.specs.ByteLaws.{length-bytes_of, same_word}
 use Rattle.wire_form.specs.ItemLaws.{length-items}
 use Rattle.wire_form.specs.LineLaws.{line_parts, length-change_bytes, number_fits}

@@ -3,7 +3,8 @@ use Rattle.std.proofs.Common.{◌≡◌, ℕ, ◌+◌, ◌-◌, ◌^◌, ◌<◌
 use Rattle.std.specs.Prelude.{IfSome}
 use Rattle.serial_model.specs.declared.number.Number.{Number}
 use Rattle.wire_form.specs.declared.records.ArrayRecord.{ArrayRecord}
-use Rattle.wire_form.specs.Words.{IsNumber, number_word, number_field}
+use Rattle.serial_model.specs.Numbers.{IsNumber}
+use Rattle.wire_form.specs.Words.{number_word, number_field}
 use Rattle.wire_form.specs.Pages.{IsArrayRecord, array_record_words, IsTreeRecord, tree_record_words, record_key, device_header, IsChild, IsSeparator, IsStored, stored_words, stored_id, HasKind}
 use Rattle.wire_form.specs.declared.page.PageKind.TheVariants.{ArrayLeaf, TreeLeaf, TreeInner, Catalogue}
 use Rattle.wire_form.specs.Bytes.{padded}

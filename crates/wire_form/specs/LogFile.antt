@@ -2,7 +2,7 @@
 use Rattle.std.specs.Prelude.{◌≡◌, ℕ, ◌≤◌, List, ◌++◌, Option, Some, None, IsTrue, Bool, length}
 use Rattle.std.specs.List.{flat_map, AllByRecursion}
 use Rattle.serial_model.specs.Keys.{has_key, is_tree}
-use Rattle.serial_model.specs.History.{IsBelow}
+use Rattle.serial_model.specs.Numbers.{IsBelow}
 use Rattle.serial_model.specs.declared.decl.Decl.{Decl}
 use Rattle.serial_model.specs.declared.key.Key.{Key}
 use Rattle.serial_model.specs.declared.number.Change.{Change}
@@ -50,5 +50,5 @@ pub record IsDamagedAt (decls : List Decl) (last : Option Number) (bytes : List 
   pub behind : at ≡ length (lines_bytes front)
   pub whole : bytes ≡ lines_bytes front ++ rest
   pub more : 1 ≤ length rest
-  pub none : (c : Commit) (after : List ℕ) → IsLineOf decls c → IsFollowed IsBelow (last_key commit_number last front) c.number
-      → rest ≡ line_bytes c ++ after → ⊥
+  pub none : (c : Commit) (after : List ℕ) → IsLineOf decls c
+      → IsFollowed IsBelow (last_key commit_number last front) c.number → rest ≡ line_bytes c ++ after → ⊥

@@ -1,16 +1,14 @@
 -- A log line: the number of a commit, the count of its changes, and each change as three words.
-use Rattle.std.specs.Prelude.{◌≡◌, ◌⊎◌, ℕ, ◌+◌, ◌*◌, ◌^◌, ◌<◌, ◌≤◌, List, [], ◌∷◌, ◌++◌, Option, Some, None, IfSome, length, drop, unwrap_or, map}
+use Rattle.std.specs.Prelude.{◌≡◌, ℕ, ◌+◌, ◌*◌, ◌^◌, ◌<◌, ◌≤◌, List, [], ◌∷◌, ◌++◌, Option, Some, None, IfSome, length, drop, unwrap_or, map}
 use Rattle.std.specs.List.{flat_map, AllByRecursion}
 use Rattle.serial_model.specs.declared.key.Key.{Key}
 use Rattle.serial_model.specs.declared.number.Change.{Change}
 use Rattle.serial_model.specs.declared.number.Commit.{Commit}
-use Rattle.wire_form.specs.Words.{IsNumber, number_word}
+use Rattle.serial_model.specs.Keys.{IsKeyBelow}
+use Rattle.serial_model.specs.Numbers.{IsNumber}
+use Rattle.wire_form.specs.Words.{number_word}
 use Rattle.wire_form.specs.Bytes.{bytes_of}
 use Rattle.wire_form.specs.Items.{Rises}
-
--- by storage, and then by key
-abbrev pub IsKeyBelow : Key → Key → Type 0
-IsKeyBelow a b = (a.storage < b.storage) ⊎ ((a.storage ≡ b.storage) × (a.key < b.key))
 
 -- the storage, the key and the value fit their words
 pub record IsChange (c : Change) : Type 0 where

@@ -1,16 +1,18 @@
 -- Pages of a snapshot: what each kind has in it, and its 64 words.
-use Rattle.std.specs.Prelude.{◌≡◌, ℕ, ◌+◌, ◌-◌, ◌^◌, ◌<◌, ◌≤◌, false, List, [], ◌∷◌, ◌++◌, IfSome, IfNone, length, map}
+use Rattle.std.specs.Prelude.{◌≡◌, ℕ, ◌+◌, ◌^◌, ◌<◌, ◌≤◌, false, List, [], ◌∷◌, ◌++◌, IfSome, IfNone, length, map}
 use Rattle.std.specs.List.{flat_map, AllByRecursion}
 use Rattle.serial_model.specs.declared.decl.Decl.{Decl}
 use Rattle.serial_model.specs.declared.decl.Decl.TheVariants.{Array, Tree}
+use Rattle.serial_model.specs.Decls.{IsDecl}
 use Rattle.serial_model.specs.Keys.{id_of}
+use Rattle.serial_model.specs.Numbers.{IsNumber, last_epoch}
 use Rattle.wire_form.specs.declared.records.ArrayRecord.{ArrayRecord}
 use Rattle.wire_form.specs.declared.records.TreeRecord.{TreeRecord}
 use Rattle.wire_form.specs.declared.records.Stored.{Stored}
 use Rattle.wire_form.specs.declared.page.PageKind.{PageKind}
 use Rattle.wire_form.specs.declared.page.PageKind.TheVariants.{ArrayLeaf, ArrayInner, TreeLeaf, TreeInner, Catalogue}
 use Rattle.wire_form.specs.declared.page.Page.{Page}
-use Rattle.wire_form.specs.Words.{IsNumber, number_word, number_field, header_word, array_room, tree_room}
+use Rattle.wire_form.specs.Words.{number_word, number_field, header_word, array_room, tree_room}
 use Rattle.wire_form.specs.Bytes.{bytes_of, padded}
 use Rattle.wire_form.specs.Items.{Rises}
 
@@ -111,18 +113,14 @@ pub record IsTreeInner (low high number : ℕ) (c : Children) : Type 0 where
 -- the words of a tree's interior page
 abbrev pub tree_inner_words : ℕ → ℕ → Children → List ℕ
 tree_inner_words low high c =
-    padded 4 (device_header 2 (length c.pointers) ∷ low ∷ high ∷ []) ++ (padded 30 c.pointers ++ padded 30 c.separators)
+    padded 4 (device_header 2 (length c.pointers) ∷ low ∷ high ∷ []) ++
+    (padded 30 c.pointers ++ padded 30 c.separators)
 
 -- ---- a catalogue
 
--- an id is below 256, and an array has 1 to 131,072 values
-abbrev pub IsStorage : Decl → Type 0
-IsStorage (Array id size) = (id < 256) × (1 ≤ size) × (size ≤ 131072)
-IsStorage (Tree id) = id < 256
-
 -- a storage, and its root's page number or 0, in the catalogue with this page number
 pub record IsStored (number : ℕ) (s : Stored) : Type 0 where
-  pub storage : IsStorage s.decl
+  pub decl : IsDecl s.decl
   pub root : IsPointer number s.root
 
 -- id + 256 for an array, id + 512 for a tree
@@ -143,6 +141,10 @@ stored_words s = storage_head s.decl ∷ storage_size s.decl ∷ s.root ∷ []
 abbrev pub stored_id : Stored → ℕ
 stored_id s = id_of s.decl
 
+-- a storage of a catalogue without its root
+abbrev pub stored_decl : Stored → Decl
+stored_decl s = s.decl
+
 -- what a catalogue says: its epoch, the page number of the one before it or 0, and the storages
 pub record Contents : Type 0 where
   pub epoch : ℕ
@@ -151,16 +153,21 @@ pub record Contents : Type 0 where
 
 -- at most 16 storages with ids that rise, an epoch that can be saved, and an earlier page or none
 pub record IsCatalogue (number : ℕ) (c : Contents) : Type 0 where
-  pub epoch : c.epoch < 2 ^ 20 - 2
+  pub epoch : c.epoch < last_epoch
   pub previous : IsPointer number c.previous
   pub most : length c.storages ≤ 16
   pub each : AllByRecursion (IsStored number) c.storages
   pub rising : Rises ◌<◌ (map stored_id c.storages)
 
+-- the storages that a catalogue declares
+abbrev pub decls_of : Contents → List Decl
+decls_of c = map stored_decl c.storages
+
 -- the words of a catalogue
 abbrev pub catalogue_words : Contents → List ℕ
 catalogue_words c =
-    padded 16 ((0x4341_5400_0000_0000 + length c.storages) ∷ c.epoch ∷ c.previous ∷ []) ++ padded 48 (flat_map stored_words c.storages)
+    padded 16 ((0x4341_5400_0000_0000 + length c.storages) ∷ c.epoch ∷ c.previous ∷ []) ++ padded 48
+    (flat_map stored_words c.storages)
 
 -- ---- all kinds
 

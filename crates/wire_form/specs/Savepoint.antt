@@ -1,6 +1,7 @@
 -- A savepoint in one of the two places of its device: the valid byte, seven zeros, and the words of the body.
-use Rattle.std.specs.Prelude.{◌≡◌, ℕ, ◌+◌, ◌-◌, ◌%◌, ◌^◌, ◌<◌, ◌≤◌, List, [], ◌∷◌, ◌++◌, length}
+use Rattle.std.specs.Prelude.{◌≡◌, ℕ, ◌+◌, ◌%◌, ◌^◌, ◌<◌, ◌≤◌, List, [], ◌∷◌, ◌++◌, length}
 use Rattle.std.specs.List.{AllByRecursion}
+use Rattle.serial_model.specs.Numbers.{last_epoch}
 use Rattle.wire_form.specs.Bytes.{bytes_of, padded}
 use Rattle.wire_form.specs.declared.savepoint.Savepoint.{Savepoint}
 
@@ -8,7 +9,7 @@ use Rattle.wire_form.specs.declared.savepoint.Savepoint.{Savepoint}
 pub record IsSavepointWith (files : ℕ) (s : Savepoint) : Type 0 where
   pub first : 1 ≤ s.sequence
   pub last : s.sequence < 2 ^ 63
-  pub epoch : s.epoch < 2 ^ 20 - 2
+  pub epoch : s.epoch < last_epoch
   pub catalogue : 1 ≤ s.catalogue
   pub newest : s.catalogue ≡ s.count
   pub count : s.count ≤ 65536

@@ -1,6 +1,8 @@
--- The words. Each is the sum of its fields, every field times two to the power of the bit at which it begins; a bit that no field has is zero, since nothing is added there.
-use Rattle.std.specs.Prelude.{◌≡◌, ◌⊎◌, ℕ, ◌+◌, ◌-◌, ◌*◌, ◌^◌, ◌<◌, ◌≤◌, Bool, true, false, Option, Some, None, IfSome}
+-- The words. Each is the sum of its fields, every field times two to the power of the bit at which it begins; a bit
+-- that no field has is zero, since nothing is added there.
+use Rattle.std.specs.Prelude.{◌≡◌, ◌⊎◌, ℕ, ◌+◌, ◌*◌, ◌^◌, ◌<◌, ◌≤◌, Bool, true, false, Option, Some, None, IfSome}
 use Rattle.serial_model.specs.declared.number.Number.{Number}
+use Rattle.serial_model.specs.Numbers.{IsNumber, last_epoch}
 use Rattle.wire_form.specs.declared.clock.Clock.{Clock}
 use Rattle.wire_form.specs.declared.clock.Mark.{Mark}
 use Rattle.wire_form.specs.declared.record_word.RecordWord.{RecordWord}
@@ -30,14 +32,14 @@ pub record IsClock (c : Clock) : Type 0 where
 abbrev pub clock_word : Clock → ℕ
 clock_word c = at_bit 0 c.draws + at_bit 40 c.epoch
 
--- the length fits its field, and so does the epoch, which is not the greatest
+-- the length fits its field, and the epoch is at most the last
 pub record IsMark (m : Mark) : Type 0 where
   pub length : m.length < 2 ^ 40
-  pub epoch : IfSome m.epoch (λ e. e < 2 ^ 20 - 1)
+  pub epoch : IfSome m.epoch (λ e. e ≤ last_epoch)
 
--- the greatest epoch field says idle
+-- the field behind the last epoch says idle
 abbrev pub mark_epoch : Option ℕ → ℕ
-mark_epoch None = 2 ^ 20 - 1
+mark_epoch None = last_epoch + 1
 mark_epoch (Some e) = e
 
 -- the word of a mark
@@ -46,14 +48,7 @@ mark_word m = at_bit 0 m.length + at_bit 40 (mark_epoch m.epoch)
 
 -- ---- numbers and records
 
--- a commit's number: the clock word that its draw found, in neither epoch 0 nor the greatest
-pub record IsNumber (n : Number) : Type 0 where
-  pub draw : n.draw < 2 ^ 40
-  pub drawn : 1 ≤ n.draw
-  pub epoch : n.epoch < 2 ^ 20 - 1
-  pub begun : 1 ≤ n.epoch
-
--- the word of a number
+-- the word of a commit's number, which is the clock word that its draw found
 abbrev pub number_word : Number → ℕ
 number_word n = at_bit 0 n.draw + at_bit 40 n.epoch
 

@@ -10,6 +10,7 @@ ghost use Rattle.wire_form.specs.Parts.{HasItems};
 use crate::bytes::are_zero;
 use crate::parts::{count_in, goes_on, is_head};
 use crate::records::Stored;
+use serial_model::LAST_EPOCH;
 
 /// The first word of a catalogue, without the count of its storages.
 const CATALOGUE: u64 = 0x4341_5400_0000_0000;
@@ -57,7 +58,7 @@ pub fn is_catalogue(number: u32, words: &[u64; 64]) -> bool
     let Some(count) = count_in(head[0], CATALOGUE, 16) else {
         return false;
     };
-    if head[1] >= (1 << 20) - 2 || head[2] >= u64::from(number) {
+    if head[1] >= u64::from(LAST_EPOCH) || head[2] >= u64::from(number) {
         return false;
     }
     if !is_head(head, head[0], head[1], head[2]) {

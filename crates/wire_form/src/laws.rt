@@ -1,6 +1,7 @@
 // Laws of the spellings, for callers: each holds of all values, so the calls have nothing to do.
 ghost use Rattle.std.specs.Prelude.{◌≡◌, ℕ, ◌+◌, ◌*◌, ◌^◌, ◌<◌, ◌≤◌, ◌++◌, List, Option, length, take, drop, slice_index};
 ghost use Rattle.std.specs.List.{AllByRecursion};
+ghost use Rattle.serial_model.specs.Decls.{AreDecls};
 ghost use Rattle.serial_model.specs.declared.decl.Decl.{Decl};
 ghost use Rattle.serial_model.specs.declared.number.Commit.{Commit};
 ghost use Rattle.serial_model.specs.declared.number.Number.{Number};
@@ -8,7 +9,7 @@ ghost use Rattle.wire_form.specs.Bytes.{bytes_of_word, bytes_of};
 ghost use Rattle.wire_form.specs.Device.{HasWords};
 ghost use Rattle.wire_form.specs.LogFile.{AreLinesOf, AreLogLines, IsDamagedAt};
 ghost use Rattle.wire_form.specs.LogLine.{IsLoggable, IsLogLine, line_bytes};
-ghost use Rattle.wire_form.specs.Pages.{IsPointer, IsArrayLeaf, array_leaf_words, IsArrayInner, array_inner_words, IsTreeLeaf, tree_leaf_words, Children, IsTreeInner, tree_inner_words, Contents, IsCatalogue, catalogue_words};
+ghost use Rattle.wire_form.specs.Pages.{IsPointer, IsArrayLeaf, array_leaf_words, IsArrayInner, array_inner_words, IsTreeLeaf, tree_leaf_words, Children, IsTreeInner, tree_inner_words, Contents, IsCatalogue, decls_of, catalogue_words};
 ghost use Rattle.wire_form.specs.declared.records.ArrayRecord.{ArrayRecord};
 ghost use Rattle.wire_form.specs.declared.records.TreeRecord.{TreeRecord};
 ghost use Rattle.wire_form.specs.Ranges.{child_ranges, ranges_with};
@@ -80,6 +81,12 @@ pub fn one_content()
         → tree_inner_words low high a ≡ tree_inner_words low high b → a ≡ b }
     ensures catalogue { (number : ℕ) (a b : Contents) → IsCatalogue number a
         → IsCatalogue number b → catalogue_words a ≡ catalogue_words b → a ≡ b }
+{}
+
+/// A catalogue declares the storages of a database: at most 16, with distinct ids.
+pub fn catalogue_declares()
+    ensures { (number : ℕ) (contents : Contents) → IsCatalogue number contents
+        → AreDecls (decls_of contents) }
 {}
 
 /// A pointer on a device names a page below its own, or none.

@@ -4,7 +4,8 @@ ghost use Rattle.std.specs.List.{flat_map, AllByRecursion};
 ghost use Rattle.serial_model.specs.declared.number.Change.{Change};
 ghost use Rattle.serial_model.specs.declared.number.Commit.{Commit};
 ghost use Rattle.wire_form.specs.Items.{AreItems, Reads, Rises};
-ghost use Rattle.wire_form.specs.LogLine.{IsKeyBelow, IsChange, change_words, change_bytes, key_of, IsLoggable, IsLogLine, line_bytes, BeginsWith};
+ghost use Rattle.serial_model.specs.Keys.{IsKeyBelow};
+ghost use Rattle.wire_form.specs.LogLine.{IsChange, change_words, change_bytes, key_of, IsLoggable, IsLogLine, line_bytes, BeginsWith};
 
 use crate::bytes::{word_at, write_words};
 use crate::record_word::{is_number, number_word, read_number};

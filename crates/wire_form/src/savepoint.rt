@@ -7,13 +7,14 @@ ghost use Rattle.wire_form.specs.Savepoint.{IsSavepoint, IsSavepointOf, body_wor
 
 use crate::bits::field;
 use crate::bytes::{read_words, word_at, write_words};
+use serial_model::LAST_EPOCH;
 
 /// What a database's devices count to, as one store of its save device says.
 #[derive(Clone, Copy, Debug, PartialEq, Eq)]
 pub struct Savepoint {
     /// Of the stores, from 1 below 2^63.
     pub sequence: u64,
-    /// The saved epoch, below 2^20 - 2.
+    /// The saved epoch, below the last.
     pub epoch: u32,
     /// The newest catalogue's page number, which is the count.
     pub catalogue: u32,
@@ -50,7 +51,7 @@ impl Savepoint {
     {
         let sequence = 1 <= self.sequence && self.sequence < 1 << 63;
         let newest = 1 <= self.catalogue && self.catalogue == self.count && self.count <= 65_536;
-        sequence && newest && self.epoch < (1 << 20) - 2 && are_lengths(&self.lengths)
+        sequence && newest && self.epoch < LAST_EPOCH && are_lengths(&self.lengths)
     }
 
     /// The words of the value.

@@ -11,7 +11,7 @@ use Rattle.commit_core.specs.declared.attempt.Attempt.{Attempt}
 use Rattle.commit_core.specs.declared.attempt.Check.{Check}
 use Rattle.commit_core.specs.declared.seat.Stage.{Stage}
 use Rattle.commit_core.specs.declared.seat.Stage.TheVariants.{Idle, Trying, Ended, Decided}
-use Rattle.commit_core.specs.Keys.{same_key, is_below, IsBelow, writes_key, covers}
+use Rattle.commit_core.specs.Keys.{same_key, is_below, IsBelow, writes_key, covers, Vouches}
 use Rattle.commit_core.specs.CoreState.{is_decided, is_checked, check_of, with_part}
 use Rattle.commit_core.specs.Serial.{state_below, last_write}
 use Rattle.commit_core.specs.Sound.Numbers.{OrderedNumbers, ChecksArePast}
@@ -39,7 +39,7 @@ pub reads_drawn : (opening : List Place) (h : List Attempt) (checks : List Check
     → ReadsStayTrue opening h checks decided → ReadsStayTrue opening (h ++ a ∷ []) checks decided
 reads_drawn opening h checks decided t a o e past reads = λ b m part n c.
     elim (in_push_cases b a h m) [
-      | inl old ↦ reads b old part n c ∙ sym (content_after-drawn opening h decided t a (λ x. is_below x b.number) part.key o e)
+      | inl old ↦ λ k v. reads b old part n c k v ∙ sym (content_after-drawn opening h decided t a (λ x. is_below x b.number) k o e)
       | inr new ↦ absurd (not_below_itself b.number t (sym (ap (λ (x : Attempt). x.number) new) ∙ e) (past b.number part.key c))
     ]
 
@@ -47,21 +47,21 @@ pub reads_decided : (opening : List Place) (h : List Attempt) (checks : List Che
     → ((b : Attempt) → Contains h b → IsBelow a.number b.number → (part : Part) → Contains b.parts part → is_checked checks b.number part.key ≡ true
     → (k : Key) → covers part k ≡ true → writes_key a.writes k ≡ false)
     → ReadsStayTrue opening h checks decided → ReadsStayTrue opening h checks (decided ++ a.number ∷ [])
-reads_decided opening h checks decided a only lower reads = λ b m part n c.
-    reads b m part n c
-    ∙ sym (content_after-decided opening h decided a.number (λ x. is_below x b.number) part.key
-    (λ x mx ex w l. true≢false (sym w ∙ ap (λ (y : Attempt). writes_key y.writes part.key) (only x mx ex) ∙ lower b m l part n c part.key (same_key-self part.key))))
+reads_decided opening h checks decided a only lower reads = λ b m part n c k v.
+    reads b m part n c k v
+    ∙ sym (content_after-decided opening h decided a.number (λ x. is_below x b.number) k
+    (λ x mx ex w l. true≢false (sym w ∙ ap (λ (y : Attempt). writes_key y.writes k) (only x mx ex) ∙ lower b m l part n c k v)))
 
 pub reads_checked : (opening : List Place) (h : List Attempt) (checks : List Check) (decided : List Number) (a : Attempt) (k : Key) → IsAlone h a
-    → ((part : Part) → Contains a.parts part → part.key ≡ k → part.content ≡ state_below opening h decided a.number part.key)
+    → ((part : Part) → Contains a.parts part → part.key ≡ k → Vouches (state_below opening h decided a.number) part)
     → ReadsStayTrue opening h checks decided → ReadsStayTrue opening h (checks ++ check_of a.number k ∷ []) decided
 reads_checked opening h checks decided a k only now reads = λ b m part n c.
     elim (checked_cases checks a.number k b.number part.key c) [
       | inl old ↦ reads b m part n old
       | inr new ↦
           let same = only b m (sym new.0) in
-          now part (subst (λ (x : Attempt). Contains x.parts part) same n) (sym new.1)
-          ∙ ap (λ (x : Attempt). state_below opening h decided x.number part.key) (sym same)
+          λ q v. now part (subst (λ (x : Attempt). Contains x.parts part) same n) (sym new.1) q v
+          ∙ ap (λ (x : Attempt). state_below opening h decided x.number q) (sym same)
     ]
 
 -- ---- no_lower_writer

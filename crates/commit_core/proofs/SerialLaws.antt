@@ -13,7 +13,7 @@ use Rattle.commit_core.specs.declared.place.Part.{Part}
 use Rattle.commit_core.specs.declared.attempt.Attempt.{Attempt}
 use Rattle.commit_core.specs.declared.seat.Seat.{Seat}
 use Rattle.commit_core.specs.declared.story.Story.{Story}
-use Rattle.commit_core.specs.Keys.{same_key, is_below, IsBelow, place_at, opening_number, nothing, content_at}
+use Rattle.commit_core.specs.Keys.{same_key, is_below, IsBelow, covers, place_at, opening_number, nothing, content_at}
 use Rattle.commit_core.specs.CoreState.{holder_is, is_held_by, clock_of, is_decided}
 use Rattle.commit_core.specs.Serial.{after_writes, after_all, state_below, RisesFrom}
 use Rattle.commit_core.specs.Serial.{committed, ReadsFrom, ReadsAlong, IsSerialRun}
@@ -36,14 +36,14 @@ rises_filter low f (a ∷ h) r =
 abbrev ReadsBelow : List Number → (Key → Content) → List Attempt → Type 0
 ReadsBelow decided state h =
     (a : Attempt) → Contains h a → is_decided decided a.number ≡ true → (part : Part) → Contains a.parts part
-    → part.content ≡ after_all (λ b. is_decided decided b.number && is_below b.number a.number) part.key h (state part.key)
+    → (k : Key) → covers part k ≡ true → part.content ≡ after_all (λ b. is_decided decided b.number && is_below b.number a.number) k h (state k)
 
 -- nothing in the list is below its first attempt
 first_reads : (decided : List Number) (state : Key → Content) (a : Attempt) (h : List Attempt) → RisesFrom a.number h → is_decided decided a.number ≡ true
     → ReadsBelow decided state (a ∷ h) → ReadsFrom state a
-first_reads decided state a h r d reads = λ part n.
-    reads a (in_head a h) d part n
-    ∙ after_all-none (λ b. is_decided decided b.number && is_below b.number a.number) part.key (a ∷ h) (state part.key)
+first_reads decided state a h r d reads = λ part n k v.
+    reads a (in_head a h) d part n k v
+    ∙ after_all-none (λ b. is_decided decided b.number && is_below b.number a.number) k (a ∷ h) (state k)
     (λ b m counts _.
     let below = (and_parts (is_decided decided b.number) (is_below b.number a.number) counts).1 in
     elim (in_cases b a h m) [
@@ -54,12 +54,12 @@ first_reads decided state a h r d reads = λ part n.
 -- behind a decided one the state has its writes, behind another it is the same
 rest_reads : (decided : List Number) (state : Key → Content) (a : Attempt) (h : List Attempt) → RisesFrom a.number h
     → ReadsBelow decided state (a ∷ h) → ReadsBelow decided (λ k. cond (is_decided decided a.number) (after_writes k a (state k)) (state k)) h
-rest_reads decided state a h r reads = λ b m d part n.
+rest_reads decided state a h r reads = λ b m d part n k v.
     let counts = is_decided decided a.number in
     let below = rises_low a.number h r b m in
     let same : (counts && is_below a.number b.number) ≡ counts = ap (λ (x : Bool). counts && x) below ∙ and_true counts in
-    reads b (in_tail b a h m) d part n
-    ∙ ap (λ (x : Bool). after_all (λ e. is_decided decided e.number && is_below e.number b.number) part.key h (cond x (after_writes part.key a (state part.key)) (state part.key))) same
+    reads b (in_tail b a h m) d part n k v
+    ∙ ap (λ (x : Bool). after_all (λ e. is_decided decided e.number && is_below e.number b.number) k h (cond x (after_writes k a (state k)) (state k))) same
   where
     and_true : (x : Bool) → (x && true) ≡ x
     and_true true = refl

@@ -157,14 +157,27 @@ run (e ∷ more) c = run more (next c e)
 
 -- ---- answers
 
+-- the act adds to a list, or builds one anew
+abbrev pub takes_memory : Act → Bool
+takes_memory (See k) = true
+takes_memory (Lock k) = true
+takes_memory (Draw writes) = true
+takes_memory (Look k) = true
+takes_memory Decide = true
+takes_memory (Put k) = true
+takes_memory (Open k) = true
+takes_memory Forget = false
+takes_memory Advance = false
+takes_memory (Mark e) = true
+
 -- what an act answers and leaves: it happens only where it is allowed, is refused only where it is not, and else changes nothing
 abbrev pub Answers : {X : Type 0} → ℕ → Act → Story → Seat → Result X (OrMemory Refused) → Story → Seat → Type 0
 Answers p act m s (Ok x) n t = (is_allowed p m s act ≡ true) × (n ≡ (effect p m s act).story) × (t ≡ (effect p m s act).seat)
 Answers p act m s (Err (Fault r)) n t = (is_allowed p m s act ≡ false) × (n ≡ m) × (t ≡ s)
-Answers p act m s (Err Memory) n t = (n ≡ m) × (t ≡ s)
+Answers p act m s (Err Memory) n t = (is_allowed p m s act ≡ true) × (takes_memory act ≡ true) × (n ≡ m) × (t ≡ s)
 
 -- the same of an event and the whole state
 abbrev pub AnswersEvent : {X : Type 0} → CoreState → Event → Result X (OrMemory Refused) → CoreState → Type 0
 AnswersEvent c e (Ok x) d = (may_happen c e ≡ true) × (d ≡ happened c e)
 AnswersEvent c e (Err (Fault r)) d = (may_happen c e ≡ false) × (d ≡ c)
-AnswersEvent c e (Err Memory) d = d ≡ c
+AnswersEvent c e (Err Memory) d = (may_happen c e ≡ true) × (takes_memory e.act ≡ true) × (d ≡ c)

@@ -68,4 +68,4 @@ covers part k = same_key part.key k
 
 -- the state has what the part vouches for
 abbrev pub Vouches : (Key → Content) → Part → Type 0
-Vouches state part = part.content ≡ state part.key
+Vouches state part = (k : Key) → covers part k ≡ true → part.content ≡ state k

@@ -12,3 +12,4 @@ pub mod Runs
 pub mod SerialLaws
 pub mod StepLaws
 pub mod GivenUp
+pub mod Leaves

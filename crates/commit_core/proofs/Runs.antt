@@ -92,7 +92,7 @@ run_sound (e ∷ events) c sound = run_sound events (next c e) (next_sound c e s
 
 -- ---- growth
 
-prefix_self : {A : Type 0} (xs : List A) → IsPrefix xs xs
+pub prefix_self : {A : Type 0} (xs : List A) → IsPrefix xs xs
 prefix_self [] = ([], refl)
 prefix_self {A} (x ∷ xs) = let r = prefix_self xs in (r.0, ap (λ (l : List A). x ∷ l) r.1)
 

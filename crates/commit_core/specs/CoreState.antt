@@ -105,8 +105,8 @@ last_epoch marks = fold (λ low m. unwrap_or m low) 0 marks
 abbrev pub settled_at : Stage → Seat → Seat
 settled_at Idle s = s
 settled_at (Trying i) s = s
-settled_at Ended s = record s { kept = []; stage = Idle }
-settled_at (Decided i) s = record s { kept = []; stage = Idle }
+settled_at Ended s = record s { kept = []; put = []; stage = Idle }
+settled_at (Decided i) s = record s { kept = []; put = []; stage = Idle }
 
 abbrev pub settled : Seat → Seat
 settled s = if length s.locks == 0 then settled_at s.stage s else s

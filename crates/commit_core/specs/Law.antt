@@ -13,6 +13,7 @@ use Rattle.commit_core.specs.Keys.{place_at}
 use Rattle.commit_core.specs.CoreState.{CoreState, is_decided, attempt_tried}
 use Rattle.commit_core.specs.Event.{Moved, is_allowed, effect, stays_as_seen, may_happen, happened, run}
 use Rattle.commit_core.specs.Opening.{opening_core, Grows}
+use Rattle.commit_core.specs.Leaves.{Leaves}
 use Rattle.commit_core.specs.Serial.{state_below, committed, ReadsFrom, IsSerialRun}
 use Rattle.commit_core.specs.Sound.{IsSoundStory, IsSoundSeat, EachSeat, IsSound}
 use Rattle.commit_core.specs.Sound.Locks.{HoldersAreSeats}
@@ -64,6 +65,15 @@ pub record CommitsAreSerial (c : CoreState) : Type 0 where
   pub run : IsSerialRun c.opening (committed c.story)
   pub reads : (a : Attempt) → Contains c.story.history a → is_decided c.story.decided a.number ≡ true
       → ReadsFrom (state_below c.opening c.story.history c.story.decided a.number) a
+
+-- the same of a sound story by itself
+abbrev pub SoundIsSerial : Type 0
+SoundIsSerial = (opening : List Place) (m : Story) → IsSoundStory opening m
+    → IsSerialRun opening (committed m) × ((a : Attempt) → Contains m.history a → is_decided m.decided a.number ≡ true → ReadsFrom (state_below opening m.history m.decided a.number) a)
+
+-- each act that is allowed leaves alone what other seats hold and have checked, and lets nothing fall
+abbrev pub EachActLeaves : Type 0
+EachActLeaves = (opening : List Place) (p : ℕ) (m : Story) (s : Seat) (act : Act) → is_allowed p m s act ≡ true → IsSoundStory opening m → IsSoundSeat opening m p s → Leaves p m (effect p m s act).story
 
 abbrev pub IsSerial : Type 0
 IsSerial = (c : CoreState) (events : List Event) → IsSound c → CommitsAreSerial (run events c)

@@ -4,4 +4,5 @@ pub mod Event
 pub mod Serial
 pub mod Sound
 pub mod Opening
+pub mod Leaves
 pub mod Law

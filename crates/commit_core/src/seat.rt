@@ -108,6 +108,7 @@ impl Seat {
             Stage::Idle | Stage::Trying(_) => {}
             Stage::Ended | Stage::Decided(_) => {
                 self.kept.clear();
+                self.put.clear();
                 self.stage = Stage::Idle;
             }
         }

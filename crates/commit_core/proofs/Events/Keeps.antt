@@ -148,7 +148,7 @@ no_locks : (locks : List Key) → eqb (length locks) 0 ≡ true → locks ≡ []
 no_locks [] e = refl
 no_locks (k ∷ locks) e = absurd (let n = eqb-true (length (k ∷ locks)) 0 e in omega arith)
 
-rested : (opening : List Place) (m : Story) (p : ℕ) (s : Seat) → s.locks ≡ [] → IsSoundSeat opening m p s → IsSoundSeat opening m p (record s { kept = []; stage = Idle })
+rested : (opening : List Place) (m : Story) (p : ℕ) (s : Seat) → s.locks ≡ [] → IsSoundSeat opening m p s → IsSoundSeat opening m p (record s { kept = []; put = []; stage = Idle })
 rested opening m p s none sound = record {
   lock_owners = sound.lock_owners;
   attempt_stands = tt;

@@ -3,6 +3,7 @@ use Rattle.commit_core.specs.Event.{run}
 use Rattle.commit_core.proofs.Runs.{keeps_act, run_sound, run_grows, run_opening}
 use Rattle.commit_core.proofs.GivenUp.{check_gives_up, run_over}
 use Rattle.commit_core.proofs.SerialLaws.{reads_below, committed_serial, opening_sound}
+use Rattle.commit_core.proofs.Leaves.{act_leaves}
 use Rattle.commit_core.proofs.law.commits_are_serial.Goals as goal
 
 pub returns : goal.returns
@@ -17,4 +18,6 @@ returns c = record {
       let after = run events core in
       let so = (run_sound events core sound).story in
       record { run = committed_serial after.opening after.story so; reads = reads_below after.opening after.story so };
+  sound_serial = λ opening m so. (committed_serial opening m so, reads_below opening m so);
+  each_act_leaves = act_leaves;
 }

@@ -9,6 +9,7 @@ pub mod HomeLaws
 pub mod MarkLaws
 pub mod Events
 pub mod Runs
+pub mod CountLaws
 pub mod SerialLaws
 pub mod StepLaws
 pub mod GivenUp

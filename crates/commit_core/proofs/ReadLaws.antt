@@ -16,7 +16,7 @@ use Rattle.commit_core.specs.CoreState.{is_decided, is_checked, check_of, with_p
 use Rattle.commit_core.specs.Serial.{state_below, last_write}
 use Rattle.commit_core.specs.Sound.Numbers.{OrderedNumbers, ChecksArePast}
 use Rattle.commit_core.specs.Sound.Reads.{ReadsStayTrue, NoLowerWriter, CommitsAreChecked, IsPast, PartsArePast, KeptIsPast}
-use Rattle.commit_core.proofs.Keys.{same_key-self, same_key-true, is_below-trans, not_below_itself, not_both_below}
+use Rattle.commit_core.proofs.Keys.{same_key-true, is_below-trans, not_below_itself, not_both_below}
 use Rattle.commit_core.proofs.Lists.{in_none, in_push_cases, in_filter, at_push_old, at_push_new}
 use Rattle.commit_core.proofs.NumberLaws.{decided_cases, checked_cases, checked_old}
 use Rattle.commit_core.proofs.VersionLaws.{IsAlone, content_after-drawn, content_after-decided, version_drawn, last_version, version_same, last_is_below}

@@ -16,9 +16,12 @@ use Rattle.commit_core.specs.declared.story.Story.{Story}
 use Rattle.commit_core.specs.Keys.{same_key, is_below, IsBelow, covers, place_at, opening_number, nothing, content_at}
 use Rattle.commit_core.specs.CoreState.{holder_is, is_held_by, clock_of, is_decided}
 use Rattle.commit_core.specs.Serial.{after_writes, after_all, state_below, RisesFrom}
-use Rattle.commit_core.specs.Serial.{committed, ReadsFrom, ReadsAlong, IsSerialRun}
+use Rattle.commit_core.specs.Serial.{committed, ReadsFrom, ReadsAlong, ReadsAreSerial}
 use Rattle.commit_core.specs.Opening.{opening_place, opening_places, fresh_seat, opening_story, opening_core}
 use Rattle.commit_core.specs.Sound.{IsSoundStory, IsSoundSeat, IsSound}
+use Rattle.commit_core.specs.Sound.Numbers.{EpochFits}
+use Rattle.commit_core.specs.Law.{CommitsAreSerial}
+use Rattle.commit_core.proofs.CountLaws.{count_committed}
 use Rattle.commit_core.proofs.Keys.{not_below_itself, not_both_below}
 use Rattle.commit_core.proofs.Lists.{in_none, in_head, in_tail, in_cases}
 use Rattle.commit_core.proofs.States.{rises_low, rises_lower, after_all-none}
@@ -83,11 +86,18 @@ pub reads_below : (opening : List Place) (m : Story) → IsSoundStory opening m 
     → ReadsFrom (state_below opening m.history m.decided a.number) a
 reads_below opening m sound a inside d = λ part n. sound.reads_stay_true a inside part n (sound.commits_are_checked a inside d part n)
 
-pub committed_serial : (opening : List Place) (m : Story) → IsSoundStory opening m → IsSerialRun opening (committed m)
+pub committed_serial : (opening : List Place) (m : Story) → IsSoundStory opening m → ReadsAreSerial opening (committed m)
 committed_serial opening m sound = record {
   rising = λ k. rises_filter (content_at opening k).number (λ a. is_decided m.decided a.number) m.history (sound.ordered_numbers.rising k);
   reads = reads_along m.decided (content_at opening) (content_at opening some_key).number m.history (sound.ordered_numbers.rising some_key)
       (λ a inside d part n. reads_below opening m sound a inside d part n);
+}
+
+pub commits_serial : (opening : List Place) (m : Story) → IsSoundStory opening m → CommitsAreSerial opening m
+commits_serial opening m sound = record {
+  run = committed_serial opening m sound;
+  count = count_committed opening m.history m.decided (clock_of m.first_draw m.epoch m.history) sound.ordered_numbers;
+  reads = reads_below opening m sound;
 }
 
 -- ---- the start
@@ -134,8 +144,8 @@ fresh_sound pairs first p later = record {
   kept_is_past = kept_dropped (opening_places pairs) [] (clock_of first.draw first.epoch []);
 }
 
-pub opening_sound : (pairs : List (Key × ℕ)) (first : Number) (passes : ℕ) → 0 < first.epoch → IsSound (opening_core pairs first passes)
-opening_sound pairs first passes later = record {
+pub opening_sound : (pairs : List (Key × ℕ)) (first : Number) (passes : ℕ) → 0 < first.epoch → EpochFits first.epoch → IsSound (opening_core pairs first passes)
+opening_sound pairs first passes later fits = record {
   story = record {
     ordered_numbers = record {
       opening_past = λ k. let clock = clock_of first.draw first.epoch [] in
@@ -150,6 +160,7 @@ opening_sound pairs first passes later = record {
     commits_are_checked = λ a m. absurd (in_none a m);
     parts_are_past = λ a m. absurd (in_none a m);
     checks_are_past = λ n k c. absurd (true≢false (sym c));
+    epoch_fits = fits;
   };
   seats = λ p s at. subst (λ (x : Seat). IsSoundSeat (opening_places pairs) (opening_story pairs first) p x) (at_replicate passes p (fresh_seat first) s at) (fresh_sound pairs first p later);
   holders_are_seats = λ k q p at e. absurd (true≢false (sym e ∙ ap (holder_is p) (opening_free pairs k q at)));

@@ -10,9 +10,10 @@ use Rattle.commit_core.specs.Event.{is_allowed, effect}
 use Rattle.commit_core.specs.declared.event.Event.{Event}
 use Rattle.commit_core.specs.CoreState.{CoreState}
 use Rattle.commit_core.specs.Event.{with_moved}
-use Rattle.commit_core.specs.Serial.{committed, IsSerialRun}
+use Rattle.commit_core.specs.Serial.{committed, ReadsAreSerial}
 use Rattle.commit_core.specs.Opening.{first_number, opening_core}
 use Rattle.commit_core.specs.Sound.{IsSound}
+use Rattle.commit_core.specs.Sound.Numbers.{EpochFits}
 use Rattle.serial_model.specs.declared.memory.OrMemory.{OrMemory}
 use Rattle.serial_model.specs.declared.memory.OrMemory.TheVariants.{Fault, Memory}
 use Rattle.commit_core.specs.declared.event.Refused.{Refused}
@@ -55,9 +56,9 @@ answers_sound c e (Err Memory) d a sound = subst (λ (y : CoreState). IsSound y)
 -- the same at each answer of a call
 
 pub opened_sound : {E : Type 0} (pairs : List (Key × ℕ)) (passes : ℕ) (r : Result CoreState E) → IfOk r (λ c. c ≡ opening_core pairs first_number passes) → IfOk r IsSound
-opened_sound pairs passes (Ok c) is = let later : 0 < 1 = omega arith in subst (λ (x : CoreState). IsSound x) (sym is) (opening_sound pairs first_number passes later)
+opened_sound pairs passes (Ok c) is = let later : 0 < 1 = omega arith in let fits : EpochFits 1 = omega arith in subst (λ (x : CoreState). IsSound x) (sym is) (opening_sound pairs first_number passes later fits)
 opened_sound pairs passes (Err e) is = tt
 
-pub listed_serial : {E : Type 0} (c : CoreState) (r : Result (List Attempt) E) → IfOk r (λ attempts. attempts ≡ committed c.story) → IsSound c → IfOk r (IsSerialRun c.opening)
-listed_serial c (Ok attempts) is sound = subst (λ (x : List Attempt). IsSerialRun c.opening x) (sym is) (committed_serial c.opening c.story sound.story)
+pub listed_serial : {E : Type 0} (c : CoreState) (r : Result (List Attempt) E) → IfOk r (λ attempts. attempts ≡ committed c.story) → IsSound c → IfOk r (ReadsAreSerial c.opening)
+listed_serial c (Ok attempts) is sound = subst (λ (x : List Attempt). ReadsAreSerial c.opening x) (sym is) (committed_serial c.opening c.story sound.story)
 listed_serial c (Err e) is sound = tt

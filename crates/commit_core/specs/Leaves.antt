@@ -1,5 +1,5 @@
 -- What an act of one seat leaves alone.
-use Rattle.std.specs.Prelude.{◌≡◌, ◌⊎◌, ℕ, ◌≤◌, true, List, Some, slice_get}
+use Rattle.std.specs.Prelude.{◌≡◌, ◌⊎◌, ℕ, true, List, Some, slice_get}
 use Rattle.serial_model.specs.declared.key.Key.{Key}
 use Rattle.serial_model.specs.declared.number.Number.{Number}
 use Rattle.commit_core.specs.declared.place.Place.{Place}
@@ -17,13 +17,15 @@ IsUpTo a b = (a ≡ b) ⊎ IsBelow a b
 abbrev pub Rises : List Place → List Place → Type 0
 Rises old new = (k : Key) (y : Place) → place_at new k ≡ Some y → (x : Place) × (place_at old k ≡ Some x) × IsUpTo x.content.number y.content.number
 
--- the epoch does not fall, and seat 0 alone lets it rise; places that others hold, and the checks of others' attempts, stay
+-- Seat 0 alone lets the epoch rise; places that others hold, and the checks of others' attempts, stay.
 pub record Only (p : ℕ) (m n : Story) : Type 0 where
-  pub low : m.epoch ≤ n.epoch
   pub epoch : (p ≡ 0 → ⊥) → n.epoch ≡ m.epoch
-  pub held : (k : Key) (q : Place) (o : ℕ) → place_at m.places k ≡ Some q → holder_is o q.holder ≡ true → (o ≡ p → ⊥) → place_at n.places k ≡ Some q
-  pub checks : (i : ℕ) (a : Attempt) → slice_get m.history i ≡ Some a → (a.seat ≡ p → ⊥) → (k : Key) → is_checked n.checks a.number k ≡ is_checked m.checks a.number k
+  pub held : (k : Key) (q : Place) (o : ℕ) → place_at m.places k ≡ Some q → holder_is o q.holder ≡ true → (o ≡ p → ⊥)
+      → place_at n.places k ≡ Some q
+  pub checks : (i : ℕ) (a : Attempt) → slice_get m.history i ≡ Some a → (a.seat ≡ p → ⊥)
+      → (k : Key) → is_checked n.checks a.number k ≡ is_checked m.checks a.number k
 
+-- the story grows, numbers of places never fall, and what is others' stays
 pub record Leaves (p : ℕ) (m n : Story) : Type 0 where
   pub grows : Grows m n
   pub rise : Rises m.places n.places

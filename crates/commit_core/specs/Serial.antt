@@ -33,7 +33,7 @@ state_below opening history decided n = content_after opening history decided (�
 abbrev pub last_write : List Place → List Attempt → List Number → Key → Content
 last_write opening history decided = content_after opening history decided (λ _. true)
 
--- ---- serial runs
+-- ---- serial reads
 
 -- the decided attempts, in order of number, which is the history's
 abbrev pub committed : Story → List Attempt
@@ -53,7 +53,8 @@ abbrev pub ReadsAlong : (Key → Content) → List Attempt → Type 0
 ReadsAlong state [] = ⊤
 ReadsAlong state (a ∷ more) = ReadsFrom state a × ReadsAlong (λ k. after_writes k a (state k)) more
 
--- the attempts are a serial run from the opening
-pub record IsSerialRun (opening : List Place) (attempts : List Attempt) : Type 0 where
+-- The attempts, in this order, read serially from the opening: their numbers rise strictly, and each read what those before it
+-- leave. Of replies it says nothing: what a transaction makes of its reads is its own.
+pub record ReadsAreSerial (opening : List Place) (attempts : List Attempt) : Type 0 where
   pub rising : (k : Key) → RisesFrom (content_at opening k).number attempts
   pub reads : ReadsAlong (content_at opening) attempts

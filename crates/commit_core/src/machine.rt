@@ -3,7 +3,7 @@ ghost use Rattle.std.specs.Prelude.{◌≡◌, ℕ, List, IfOk, OnOk};
 ghost use Rattle.commit_core.specs.CoreState.{CoreState};
 ghost use Rattle.commit_core.specs.Event.{Answers, AnswersEvent};
 ghost use Rattle.commit_core.specs.Opening.{first_number, opening_core, opening_place, opening_places, fresh_seat};
-ghost use Rattle.commit_core.specs.Serial.{committed, IsSerialRun};
+ghost use Rattle.commit_core.specs.Serial.{committed, ReadsAreSerial};
 ghost use Rattle.commit_core.specs.Sound.{IsSound};
 ghost use Rattle.std.specs.Prelude.{map, replicate};
 
@@ -53,7 +53,7 @@ impl Core {
     /// The decided attempts, in order of number.
     pub fn serial(&self, alloc: Global) -> Result<Sequence<Attempt>, Memory>
         ensures all { IfOk result (λ attempts. attempts ≡ committed self.now.story) }
-        ensures serial { IsSound self.now → IfOk result (IsSerialRun self.now.opening) }
+        ensures serial { IsSound self.now → IfOk result (ReadsAreSerial self.now.opening) }
     {
         self.story.committed(alloc)
     }

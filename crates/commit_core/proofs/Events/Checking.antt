@@ -108,6 +108,7 @@ story_checked opening m p s i a k stage at stays story own =
       commits_are_checked = commits_checked m.history m.checks m.decided a.number k story.commits_are_checked;
       parts_are_past = story.parts_are_past;
       checks_are_past = checks_checked m.checks clock a.number k (story.ordered_numbers.past a inside) story.checks_are_past;
+      epoch_fits = story.epoch_fits;
     }
 
 seat_checked : (opening : List Place) (m : Story) (a : Attempt) (k : Key) (q : ℕ) (t : Seat)

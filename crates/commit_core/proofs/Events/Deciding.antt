@@ -51,6 +51,7 @@ story_decided opening m p s i a stage at all story own =
       commits_are_checked = commits_decided m.history m.checks m.decided a only (λ part n. all_in (λ x. is_checked m.checks a.number x.key) a.parts all part n) story.commits_are_checked;
       parts_are_past = story.parts_are_past;
       checks_are_past = story.checks_are_past;
+      epoch_fits = story.epoch_fits;
     }
 
 -- the seat that decides, before it settles

@@ -44,6 +44,7 @@ story_placed opening m new old was right sound = record {
   commits_are_checked = sound.commits_are_checked;
   parts_are_past = sound.parts_are_past;
   checks_are_past = sound.checks_are_past;
+  epoch_fits = sound.epoch_fits;
 }
 
 -- a seat that held the place neither before nor holds it now

@@ -1,5 +1,5 @@
 -- Commit numbers.
-use Rattle.std.specs.Prelude.{◌≡◌, true, false, List, [], ◌∷◌, ⊤, Contains}
+use Rattle.std.specs.Prelude.{◌≡◌, ℕ, ◌-◌, ◌^◌, ◌≤◌, true, false, List, [], ◌∷◌, ⊤, Contains}
 use Rattle.serial_model.specs.declared.key.Key.{Key}
 use Rattle.serial_model.specs.declared.number.Number.{Number}
 use Rattle.commit_core.specs.declared.place.Place.{Place}
@@ -22,6 +22,10 @@ pub record OrderedNumbers (opening : List Place) (history : List Attempt) (decid
   pub past : (a : Attempt) → Contains history a → IsBelow a.number clock
   pub decided_drawn : (n : Number) → is_decided decided n ≡ true → (a : Attempt) × Contains history a × (a.number ≡ n)
   pub decided_once : EachOnce decided
+
+-- Own part: an epoch fits its bits in a word beside the mark that says idle, 2^20 - 1.
+abbrev pub EpochFits : ℕ → Type 0
+EpochFits epoch = epoch ≤ 2 ^ 20 - 2
 
 -- Own part: a check names a number that was taken, so that a new attempt has no checked part.
 abbrev pub ChecksArePast : List Check → Number → Type 0

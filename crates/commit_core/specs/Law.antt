@@ -53,21 +53,23 @@ pub record IsGivenUp (c : CoreState) (a : Attempt) : Type 0 where
 
 -- a check that finds a part not as it was read gives the attempt up
 abbrev pub FailedCheckGivesUp : Type 0
-FailedCheckGivesUp = (c : CoreState) (p : ℕ) (s : Seat) (k : Key) (a : Attempt) → IsSound c → slice_get c.seats p ≡ Some s
-    → attempt_tried c.story.history s.stage ≡ Some a → may_happen c (record { seat = p; act = Look k }) ≡ true
-    → stays_as_seen p (place_at c.story.places k) k a ≡ false → IsGivenUp (happened c (record { seat = p; act = Look k })) a
+FailedCheckGivesUp = (c : CoreState) (p : ℕ) (s : Seat) (k : Key) (a : Attempt)
+    → IsSound c → slice_get c.seats p ≡ Some s → attempt_tried c.story.history s.stage ≡ Some a
+    → may_happen c (record { seat = p; act = Look k }) ≡ true → stays_as_seen p (place_at c.story.places k) k a ≡ false
+    → IsGivenUp (happened c (record { seat = p; act = Look k })) a
 
 -- it never counts, whatever happens
 abbrev pub StaysGivenUp : Type 0
-StaysGivenUp = (c : CoreState) (events : List Event) (a : Attempt) → IsSound c → IsGivenUp c a → IsGivenUp (run events c) a
+StaysGivenUp = (c : CoreState) (events : List Event) (a : Attempt)
+    → IsSound c → IsGivenUp c a → IsGivenUp (run events c) a
 
 -- each act that is allowed leaves alone what other seats hold and have checked, and lets nothing fall
 abbrev pub EachActLeaves : Type 0
 EachActLeaves = (opening : List Place) (p : ℕ) (m : Story) (s : Seat) (act : Act) → is_allowed p m s act ≡ true
     → IsSoundStory opening m → IsSoundSeat opening m p s → Leaves p m (effect p m s act).story
 
--- The decided attempts in order of number, as many as were decided, read serially from the opening, and each of them read
--- exactly what the state below its number has.
+-- The decided attempts in order of number, as many as were decided, read serially from the opening, and each of them
+-- read exactly what the state below its number has.
 pub record CommitsAreSerial (opening : List Place) (m : Story) : Type 0 where
   pub run : ReadsAreSerial opening (committed m)
   pub count : length (committed m) ≡ length m.decided
@@ -80,4 +82,5 @@ SoundIsSerial = (opening : List Place) (m : Story) → IsSoundStory opening m �
 
 -- and so are those of each state that is reached from a sound one
 abbrev pub IsSerial : Type 0
-IsSerial = (c : CoreState) (events : List Event) → IsSound c → CommitsAreSerial (run events c).opening (run events c).story
+IsSerial = (c : CoreState) (events : List Event)
+    → IsSound c → CommitsAreSerial (run events c).opening (run events c).story

@@ -15,7 +15,8 @@ IsUpTo a b = (a ≡ b) ⊎ IsBelow a b
 
 -- each place stood there before, and its number has not fallen
 abbrev pub Rises : List Place → List Place → Type 0
-Rises old new = (k : Key) (y : Place) → place_at new k ≡ Some y → (x : Place) × (place_at old k ≡ Some x) × IsUpTo x.content.number y.content.number
+Rises old new = (k : Key) (y : Place) → place_at new k ≡ Some y
+    → (x : Place) × (place_at old k ≡ Some x) × IsUpTo x.content.number y.content.number
 
 -- Seat 0 alone lets the epoch rise; places that others hold, and the checks of others' attempts, stay.
 pub record Only (p : ℕ) (m n : Story) : Type 0 where

@@ -27,11 +27,15 @@ fresh_seat first = record { kept = []; locks = []; put = []; marks = Some (first
 -- no attempt yet, and this number is the next
 abbrev pub opening_story : List (Key × ℕ) → Number → Story
 opening_story pairs first =
-    record { history = []; checks = []; decided = []; places = opening_places pairs; first_draw = first.draw; epoch = first.epoch }
+    let places = opening_places pairs in
+    record { history = []; checks = []; decided = []; places = places; first_draw = first.draw; epoch = first.epoch }
 
 abbrev pub opening_core : List (Key × ℕ) → Number → ℕ → CoreState
-opening_core pairs first passes =
-    record { opening = opening_places pairs; story = opening_story pairs first; seats = replicate passes (fresh_seat first) }
+opening_core pairs first passes = record {
+  opening = opening_places pairs;
+  story = opening_story pairs first;
+  seats = replicate passes (fresh_seat first);
+}
 
 -- the second list begins with the first
 abbrev pub IsPrefix : {A : Type 0} → List A → List A → Type 0

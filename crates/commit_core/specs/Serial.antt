@@ -53,8 +53,8 @@ abbrev pub ReadsAlong : (Key → Content) → List Attempt → Type 0
 ReadsAlong state [] = ⊤
 ReadsAlong state (a ∷ more) = ReadsFrom state a × ReadsAlong (λ k. after_writes k a (state k)) more
 
--- The attempts, in this order, read serially from the opening: their numbers rise strictly, and each read what those before it
--- leave. Of replies it says nothing: what a transaction makes of its reads is its own.
+-- The attempts, in this order, read serially from the opening: their numbers rise strictly, and each read what those
+-- before it leave. Of replies it says nothing: what a transaction makes of its reads is its own.
 pub record ReadsAreSerial (opening : List Place) (attempts : List Attempt) : Type 0 where
   pub rising : (k : Key) → RisesFrom (content_at opening k).number attempts
   pub reads : ReadsAlong (content_at opening) attempts

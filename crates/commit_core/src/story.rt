@@ -22,7 +22,8 @@ pub struct Story {
     /// The numbers of the attempts that count, in the order in which that was decided.
     pub decided: Sequence<Number>,
     pub places: Sequence<Place>,
-    /// The draw of the first number. Those of the others count on from it, so the clock's is this and the history's length.
+    /// The draw of the first number. Those of the others count on from it, so the clock's is this and the history's
+    /// length.
     pub first_draw: u32,
     /// The clock's epoch.
     pub epoch: u32,

@@ -16,7 +16,9 @@ EachOnce (n ∷ more) = (is_decided more n ≡ false) × EachOnce more
 
 -- Numbers rise strictly along the history, and so epochs never fall; the opening's are below all of them, and all
 -- are below the clock. The decided numbers are those of attempts, each once.
-pub record OrderedNumbers (opening : List Place) (history : List Attempt) (decided : List Number) (clock : Number) : Type 0 where
+pub record OrderedNumbers
+    (opening : List Place) (history : List Attempt) (decided : List Number) (clock : Number)
+    : Type 0 where
   pub opening_past : (k : Key) → IsBelow (content_at opening k).number clock
   pub rising : (k : Key) → RisesFrom (content_at opening k).number history
   pub past : (a : Attempt) → Contains history a → IsBelow a.number clock

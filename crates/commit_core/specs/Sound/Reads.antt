@@ -17,8 +17,8 @@ use Rattle.commit_core.specs.Serial.{state_below}
 -- decided, and even of those given up.
 abbrev pub ReadsStayTrue : List Place → List Attempt → List Check → List Number → Type 0
 ReadsStayTrue opening history checks decided =
-    (a : Attempt) → Contains history a → (part : Part) → Contains a.parts part → is_checked checks a.number part.key ≡ true
-    → Vouches (state_below opening history decided a.number) part
+    (a : Attempt) → Contains history a → (part : Part) → Contains a.parts part
+    → is_checked checks a.number part.key ≡ true → Vouches (state_below opening history decided a.number) part
 
 -- The other half of it, at the writer: no attempt in progress writes a key of a part that one with a greater number has
 -- checked.
@@ -40,7 +40,8 @@ CommitsAreChecked history checks decided =
 -- the content stood at the key at the start, or an attempt wrote it
 abbrev pub IsVersion : List Place → List Attempt → Key → Content → Type 0
 IsVersion opening history k c =
-    (c ≡ content_at opening k) ⊎ ((a : Attempt) × Contains history a × (a.number ≡ c.number) × (written k a.writes ≡ Some c.value))
+    (c ≡ content_at opening k)
+    ⊎ ((a : Attempt) × Contains history a × (a.number ≡ c.number) × (written k a.writes ≡ Some c.value))
 
 -- the part was read before this number was taken
 pub record IsPast (opening : List Place) (history : List Attempt) (n : Number) (part : Part) : Type 0 where

@@ -3,16 +3,17 @@ use Rattle.std.proofs.Common.{◌≡◌, suc, ◌+◌, Bool, true, false, true�
 use Rattle.std.proofs.lemmas.Bool.{or_left, or_right, cond-true, cond-false, false_from_ne_true}
 use Rattle.std.specs.List.{Contains, filter}
 use Rattle.serial_model.specs.declared.number.Number.{Number}
+use Rattle.serial_model.specs.Numbers.{not_below_itself}
 use Rattle.commit_core.specs.declared.place.Place.{Place}
 use Rattle.commit_core.specs.declared.attempt.Attempt.{Attempt}
 use Rattle.commit_core.specs.Keys.{same_number, content_at}
 use Rattle.commit_core.specs.CoreState.{is_decided}
 use Rattle.commit_core.specs.Serial.{RisesFrom}
 use Rattle.commit_core.specs.Sound.Numbers.{EachOnce, OrderedNumbers}
-use Rattle.commit_core.proofs.Keys.{same_number-self, same_number-true, not_below_itself}
-use Rattle.commit_core.proofs.Lists.{in_none, in_head, in_tail, in_cases}
-use Rattle.commit_core.proofs.States.{rises_low}
-use Rattle.commit_core.proofs.VersionLaws.{some_key}
+use Rattle.commit_core.specs.Lemmas.Keys.{same_number-self, same_number-true}
+use Rattle.lists.specs.Elements.{in_none, in_head, in_tail, in_cases}
+use Rattle.commit_core.specs.Lemmas.States.{rises_low}
+use Rattle.commit_core.specs.Lemmas.Versions.{some_key}
 
 none_pass : (p : Attempt → Bool) (h : List Attempt) → ((a : Attempt) → Contains h a → p a ≡ false) → length (filter p h) ≡ 0
 none_pass p [] none = refl

@@ -7,6 +7,7 @@ use Rattle.std.proofs.lemmas.Bool.{and_parts, false_from_ne_true}
 use Rattle.std.proofs.lemmas.Bool.Decides.{nat_tests}
 use Rattle.serial_model.specs.declared.key.Key.{Key}
 use Rattle.serial_model.specs.declared.number.Number.{Number}
+use Rattle.serial_model.specs.Numbers.{below_then, IsBelow, not_below_itself, last_epoch}
 use Rattle.commit_core.specs.declared.place.Place.{Place}
 use Rattle.commit_core.specs.declared.attempt.Attempt.{Attempt}
 use Rattle.commit_core.specs.declared.event.Act.{Act}
@@ -15,17 +16,17 @@ use Rattle.commit_core.specs.declared.seat.Seat.{Seat}
 use Rattle.commit_core.specs.declared.seat.Stage.{Stage}
 use Rattle.commit_core.specs.declared.seat.Stage.TheVariants.{Idle, Trying, Ended, Decided}
 use Rattle.commit_core.specs.declared.story.Story.{Story}
-use Rattle.commit_core.specs.Keys.{IsBelow, same_key, same_number, place_at, placed, content_at, has_key, writes_key}
+use Rattle.commit_core.specs.Keys.{same_key, same_number, place_at, placed, content_at, has_key, writes_key, IsUpTo}
 use Rattle.commit_core.specs.CoreState.{holder_is, is_free, is_held_by, check_of, can_begin, is_trying, attempt_tried, attempt_decided, settled}
 use Rattle.commit_core.specs.Event.{moved, is_allowed, effect, stays_as_seen, after_check, after_decide, locked, valued, value_to_put, opened}
 use Rattle.commit_core.specs.Serial.{RisesFrom}
 use Rattle.commit_core.specs.Sound.{IsSoundStory, IsSoundSeat}
 use Rattle.commit_core.specs.Sound.Locks.{AttemptStands}
 use Rattle.commit_core.specs.Sound.Homes.{HomeHeld}
-use Rattle.commit_core.specs.Leaves.{IsUpTo, Rises, Only, Leaves}
+use Rattle.commit_core.specs.Leaves.{Rises, Only, Leaves}
 use Rattle.commit_core.proofs.Runs.{act_grows}
-use Rattle.commit_core.proofs.Lists.{any_push-false}
-use Rattle.commit_core.proofs.Keys.{is_below-trans, not_below_itself, same_number-true, place_at-placed_other, placed_cases}
+use Rattle.lists.specs.Elements.{any_push-false}
+use Rattle.commit_core.specs.Lemmas.Keys.{same_number-true, place_at-placed_other, placed_cases}
 
 pub rises_not : (places : List Place) → Rises places places
 rises_not places k y at = (y, at, inl refl)
@@ -66,7 +67,7 @@ one_holds p (Some x) mine o e = grind (arith, nat_tests)
 rises_above : (low : Number) (xs : List Attempt) (i : ℕ) (a : Attempt) → RisesFrom low xs → slice_get xs i ≡ Some a → IsBelow low a.number
 rises_above low [] i a r at = cc
 rises_above low (x ∷ xs) zero a r at = let is : x ≡ a = cc in subst (λ (y : Attempt). IsBelow low y.number) is r.0
-rises_above low (x ∷ xs) (suc i) a r at = is_below-trans low x.number a.number r.0 (rises_above x.number xs i a r.1 at)
+rises_above low (x ∷ xs) (suc i) a r at = below_then low x.number a.number r.0 (rises_above x.number xs i a r.1 at)
 
 one_number : (low : Number) (xs : List Attempt) (i j : ℕ) (a b : Attempt) → RisesFrom low xs → slice_get xs i ≡ Some a → slice_get xs j ≡ Some b → a.number ≡ b.number → a ≡ b
 one_number low [] i j a b r at at' e = cc
@@ -151,7 +152,7 @@ act_spares opening p m s (Open k) allowed story seat =
 act_spares opening p m s Forget allowed story seat = leaves_not p m
 act_spares opening p m s Advance allowed story seat = record {
   rise = rises_not m.places;
-  only = record { epoch = λ other. absurd (other (eqb-true p 0 (and_parts (eqb p 0) (nat_lt m.epoch 1048574) allowed).0)); held = λ k q o at holds other. at; checks = λ i b at other k. refl };
+  only = record { epoch = λ other. absurd (other (eqb-true p 0 (and_parts (eqb p 0) (nat_lt m.epoch last_epoch) allowed).0)); held = λ k q o at holds other. at; checks = λ i b at other k. refl };
 }
 act_spares opening p m s (Mark e) allowed story seat = leaves_not p m
 

@@ -1,8 +1,3 @@
-pub mod Keys
-pub mod Lists
-pub mod States
-pub mod NumberLaws
-pub mod VersionLaws
 pub mod ReadLaws
 pub mod LockLaws
 pub mod HomeLaws

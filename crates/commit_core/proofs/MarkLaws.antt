@@ -6,10 +6,10 @@ use Rattle.std.specs.Prelude.{fold, unwrap_or, nat_lt, nat_le}
 use Rattle.commit_core.specs.declared.attempt.Attempt.{Attempt}
 use Rattle.commit_core.specs.declared.seat.Stage.{Stage}
 use Rattle.commit_core.specs.declared.seat.Stage.TheVariants.{Idle, Trying, Ended, Decided}
-use Rattle.commit_core.specs.CoreState.{mark_of, last_epoch}
+use Rattle.commit_core.specs.CoreState.{mark_of, last_marked}
 use Rattle.commit_core.specs.Event.{can_mark}
 use Rattle.commit_core.specs.Sound.Marks.{IsAboveMark, MarksArePast}
-use Rattle.commit_core.proofs.Lists.{at_push_new}
+use Rattle.lists.specs.Elements.{at_push_new}
 use Rattle.commit_core.proofs.ReadLaws.{IsThere, same_at}
 
 pub marks_drawn : (epoch : ℕ) (h : List Attempt) (a : Attempt) (marks : List (Option ℕ)) (stage : Stage) → IsThere h stage → MarksArePast epoch h marks stage → MarksArePast epoch (h ++ a ∷ []) marks stage
@@ -48,16 +48,16 @@ pub marks_marked : (epoch : ℕ) (h : List Attempt) (marks : List (Option ℕ)) 
     → MarksArePast epoch h (marks ++ m ∷ []) stage
 marks_marked epoch h marks m stage below above = λ e is. (below e (sym (mark_of-push marks m) ∙ is), above e)
 
-last_epoch-pushed : (marks : List (Option ℕ)) (low : ℕ) (m : Option ℕ) → fold (λ low m. unwrap_or m low) low (marks ++ m ∷ []) ≡ unwrap_or m (fold (λ low m. unwrap_or m low) low marks)
-last_epoch-pushed [] low m = refl
-last_epoch-pushed (x ∷ marks) low m = last_epoch-pushed marks (unwrap_or x low) m
+last_marked-pushed : (marks : List (Option ℕ)) (low : ℕ) (m : Option ℕ) → fold (λ low m. unwrap_or m low) low (marks ++ m ∷ []) ≡ unwrap_or m (fold (λ low m. unwrap_or m low) low marks)
+last_marked-pushed [] low m = refl
+last_marked-pushed (x ∷ marks) low m = last_marked-pushed marks (unwrap_or x low) m
 
 -- a mark that may be set names no epoch below the last one
-pub last_epoch-push : (epoch : ℕ) (marks : List (Option ℕ)) (m : Option ℕ) → can_mark epoch marks m ≡ true → last_epoch marks ≤ last_epoch (marks ++ m ∷ [])
-last_epoch-push epoch marks None can = rw (last_epoch-pushed marks 0 None) (omega arith)
-last_epoch-push epoch marks (Some e) can =
-    let low = and_parts (nat_lt e epoch) (nat_le (last_epoch marks) e) can in
-    rw (last_epoch-pushed marks 0 (Some e)) (not_above (last_epoch marks) e low.1)
+pub last_marked-push : (epoch : ℕ) (marks : List (Option ℕ)) (m : Option ℕ) → can_mark epoch marks m ≡ true → last_marked marks ≤ last_marked (marks ++ m ∷ [])
+last_marked-push epoch marks None can = rw (last_marked-pushed marks 0 None) (omega arith)
+last_marked-push epoch marks (Some e) can =
+    let low = and_parts (nat_lt e epoch) (nat_le (last_marked marks) e) can in
+    rw (last_marked-pushed marks 0 (Some e)) (not_above (last_marked marks) e low.1)
   where
     not_above : (a b : ℕ) → nat_le a b ≡ true → a ≤ b
     not_above a b e = grind (arith, nat_tests)

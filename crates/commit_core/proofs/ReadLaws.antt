@@ -4,6 +4,7 @@ use Rattle.std.specs.List.{Contains, slice_get, filter}
 use Rattle.std.specs.Prelude.{⊤}
 use Rattle.serial_model.specs.declared.key.Key.{Key}
 use Rattle.serial_model.specs.declared.number.Number.{Number}
+use Rattle.serial_model.specs.Numbers.{below_then, is_below, IsBelow, not_below_itself, not_both_below, below_from_test}
 use Rattle.commit_core.specs.declared.place.Content.{Content}
 use Rattle.commit_core.specs.declared.place.Place.{Place}
 use Rattle.commit_core.specs.declared.place.Part.{Part}
@@ -11,15 +12,15 @@ use Rattle.commit_core.specs.declared.attempt.Attempt.{Attempt}
 use Rattle.commit_core.specs.declared.attempt.Check.{Check}
 use Rattle.commit_core.specs.declared.seat.Stage.{Stage}
 use Rattle.commit_core.specs.declared.seat.Stage.TheVariants.{Idle, Trying, Ended, Decided}
-use Rattle.commit_core.specs.Keys.{same_key, is_below, IsBelow, writes_key, covers, Vouches}
+use Rattle.commit_core.specs.Keys.{same_key, writes_key, covers, Vouches}
 use Rattle.commit_core.specs.CoreState.{is_decided, is_checked, check_of, with_part}
 use Rattle.commit_core.specs.Serial.{state_below, last_write}
 use Rattle.commit_core.specs.Sound.Numbers.{OrderedNumbers, ChecksArePast}
 use Rattle.commit_core.specs.Sound.Reads.{ReadsStayTrue, NoLowerWriter, CommitsAreChecked, IsPast, PartsArePast, KeptIsPast}
-use Rattle.commit_core.proofs.Keys.{same_key-true, is_below-trans, not_below_itself, not_both_below}
-use Rattle.commit_core.proofs.Lists.{in_none, in_push_cases, in_filter, at_push_old, at_push_new}
-use Rattle.commit_core.proofs.NumberLaws.{decided_cases, checked_cases, checked_old}
-use Rattle.commit_core.proofs.VersionLaws.{IsAlone, content_after-drawn, content_after-decided, version_drawn, last_version, version_same, last_is_below}
+use Rattle.commit_core.specs.Lemmas.Keys.{same_key-true}
+use Rattle.lists.specs.Elements.{in_none, in_push_cases, in_filter, at_push_old, at_push_new}
+use Rattle.commit_core.specs.Lemmas.Numbers.{decided_cases, checked_cases, checked_old}
+use Rattle.commit_core.specs.Lemmas.Versions.{IsAlone, content_after-drawn, content_after-decided, version_drawn, last_version, version_same, last_is_below}
 
 -- ---- a part is found as it was read: the place's content is the last write, and has the part's number
 
@@ -50,7 +51,7 @@ pub reads_decided : (opening : List Place) (h : List Attempt) (checks : List Che
 reads_decided opening h checks decided a only lower reads = λ b m part n c k v.
     reads b m part n c k v
     ∙ sym (content_after-decided opening h decided a.number (λ x. is_below x b.number) k
-    (λ x mx ex w l. true≢false (sym w ∙ ap (λ (y : Attempt). writes_key y.writes k) (only x mx ex) ∙ lower b m l part n c k v)))
+    (λ x mx ex w l. true≢false (sym w ∙ ap (λ (y : Attempt). writes_key y.writes k) (only x mx ex) ∙ lower b m (below_from_test a.number b.number l) part n c k v)))
 
 pub reads_checked : (opening : List Place) (h : List Attempt) (checks : List Check) (decided : List Number) (a : Attempt) (k : Key) → IsAlone h a
     → ((part : Part) → Contains a.parts part → part.key ≡ k → Vouches (state_below opening h decided a.number) part)
@@ -138,7 +139,7 @@ commits_decided h checks decided a only all commits = λ b m d part n.
 
 past_drawn : (opening : List Place) (h : List Attempt) (a : Attempt) (t u : Number) (part : Part) → IsBelow t u → IsPast opening h t part → IsPast opening (h ++ a ∷ []) u part
 past_drawn opening h a t u part l past = record {
-  number = is_below-trans part.content.number t u past.number l;
+  number = below_then part.content.number t u past.number l;
   version = version_drawn opening h a part.key part.content past.version;
 }
 
@@ -146,7 +147,7 @@ pub kept_drawn : (opening : List Place) (h : List Attempt) (a : Attempt) (t u : 
 kept_drawn opening h a t u kept l past = λ part m. past_drawn opening h a t u part l (past part m)
 
 pub kept_later : (opening : List Place) (h : List Attempt) (t u : Number) (kept : List Part) → IsBelow t u → KeptIsPast opening h t kept → KeptIsPast opening h u kept
-kept_later opening h t u kept l past = λ part m. record { number = is_below-trans part.content.number t u (past part m).number l; version = (past part m).version }
+kept_later opening h t u kept l past = λ part m. record { number = below_then part.content.number t u (past part m).number l; version = (past part m).version }
 
 pub kept_seen : (opening : List Place) (h : List Attempt) (t : Number) (kept : List Part) (part : Part) → IsPast opening h t part → KeptIsPast opening h t kept → KeptIsPast opening h t (with_part kept part)
 kept_seen opening h t kept part new past = λ q m.

@@ -1,10 +1,11 @@
 -- Lists of events: each keeps a sound state sound, and attempts, checks, decisions and marks are only added.
-use Rattle.std.proofs.Common.{◌≡◌, ℕ, true, false, not, true≢false, eqb, ◌&&◌, ◌⊎◌, inl, inr, List, [], ◌∷◌, ◌++◌, refl, sym, ap, ◌∙◌, subst, length, set, length-set, append_assoc, arith, ◌-◌, ◌^◌, Option, Some, None}
+use Rattle.std.proofs.Common.{◌≡◌, ℕ, true, false, not, true≢false, eqb, ◌&&◌, ◌⊎◌, inl, inr, List, [], ◌∷◌, ◌++◌, refl, sym, ap, ◌∙◌, subst, length, set, length-set, append_assoc, arith, Option, Some, None}
 use Rattle.std.proofs.lemmas.Bool.{and_parts, cases_Bool, cond_both, eq-eqb, eqb-true}
 use Rattle.std.specs.List.{slice_get}
 use Rattle.std.specs.Prelude.{is_some, nat_lt, filter}
 use Rattle.std.specs.Option.{option_map_or}
 use Rattle.serial_model.specs.declared.key.Key.{Key}
+use Rattle.serial_model.specs.Numbers.{last_epoch}
 use Rattle.commit_core.specs.declared.place.Place.{Place}
 use Rattle.commit_core.specs.declared.attempt.Attempt.{Attempt}
 use Rattle.commit_core.specs.declared.seat.Stage.{Stage}
@@ -21,8 +22,8 @@ use Rattle.commit_core.specs.CoreState.{CoreState}
 use Rattle.commit_core.specs.Event.{may_happen, with_moved, happened, next, run}
 use Rattle.commit_core.specs.Opening.{IsPrefix, Grows, MarksGrow, CoreGrows}
 use Rattle.commit_core.specs.Sound.{IsSoundStory, IsSoundSeat, IsSound}
-use Rattle.commit_core.proofs.Lists.{at_set_same, at_set_other, at_below}
-use Rattle.commit_core.proofs.MarkLaws.{last_epoch-push}
+use Rattle.lists.specs.Elements.{at_set_same, at_set_other, at_below}
+use Rattle.commit_core.proofs.MarkLaws.{last_marked-push}
 use Rattle.commit_core.proofs.Events.Keeps.{Keeps}
 use Rattle.commit_core.proofs.Events.Resting.{keeps_see, keeps_forget, keeps_mark}
 use Rattle.commit_core.proofs.Events.Places.{keeps_lock, keeps_put, keeps_open}
@@ -52,7 +53,7 @@ keeps_act opening p m s (Open k) may story own =
     let d = and_parts held in_put c.1 in
     keeps_open opening p m s k c.0 d.0 d.1 story own
 keeps_act opening p m s Forget may story own = keeps_forget opening p m s story own
-keeps_act opening p m s Advance may story own = keeps_advance opening p m s (and_parts (eqb p 0) (nat_lt m.epoch (2 ^ 20 - 2)) may).1 story own
+keeps_act opening p m s Advance may story own = keeps_advance opening p m s (and_parts (eqb p 0) (nat_lt m.epoch last_epoch) may).1 story own
 keeps_act opening p m s (Mark e) may story own =
     let c = and_parts (not (is_trying s.stage)) (can_mark m.epoch s.marks e) may in keeps_mark opening p m s e c.0 c.1 story own
 
@@ -178,7 +179,7 @@ act_marks p m s Forget may = same_marks s.marks s.marks refl
 act_marks p m s Advance may = same_marks s.marks s.marks refl
 act_marks p m s (Mark e) may = record {
   marks = (e ∷ [], refl);
-  rising = last_epoch-push m.epoch s.marks e (and_parts (not (is_trying s.stage)) (can_mark m.epoch s.marks e) may).1;
+  rising = last_marked-push m.epoch s.marks e (and_parts (not (is_trying s.stage)) (can_mark m.epoch s.marks e) may).1;
 }
 
 -- ---- growth of the whole state

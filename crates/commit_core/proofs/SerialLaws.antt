@@ -1,19 +1,19 @@
 -- The decided attempts, in order of number, are a serial run.
 use Rattle.std.proofs.Common.{◌≡◌, ℕ, zero, suc, ◌-◌, ◌<◌, Bool, true, false, true≢false, cond, ◌&&◌, inl, inr, List, [], ◌∷◌, refl, sym, ap, ◌∙◌, subst, arith, Option, Some, None}
 use Rattle.std.proofs.lemmas.Bool.{and_parts, cases_Bool, cond-true, cond-false, cond_both}
-use Rattle.std.proofs.lemmas.Bool.Decides.{nat_tests}
 use Rattle.std.specs.List.{Contains, slice_get, filter}
 use Rattle.std.specs.Prelude.{replicate}
 use Rattle.std.specs.Option.{option_map_or}
 use Rattle.serial_model.specs.declared.key.Key.{Key}
 use Rattle.serial_model.specs.declared.number.Number.{Number}
+use Rattle.serial_model.specs.Numbers.{is_below, IsBelow, not_below_itself, not_both_below, is_below-true, below_from_test}
 use Rattle.commit_core.specs.declared.place.Content.{Content}
 use Rattle.commit_core.specs.declared.place.Place.{Place}
 use Rattle.commit_core.specs.declared.place.Part.{Part}
 use Rattle.commit_core.specs.declared.attempt.Attempt.{Attempt}
 use Rattle.commit_core.specs.declared.seat.Seat.{Seat}
 use Rattle.commit_core.specs.declared.story.Story.{Story}
-use Rattle.commit_core.specs.Keys.{same_key, is_below, IsBelow, covers, place_at, opening_number, nothing, content_at}
+use Rattle.commit_core.specs.Keys.{same_key, covers, place_at, opening_number, nothing, content_at}
 use Rattle.commit_core.specs.CoreState.{holder_is, is_held_by, clock_of, is_decided}
 use Rattle.commit_core.specs.Serial.{after_writes, after_all, state_below, RisesFrom}
 use Rattle.commit_core.specs.Serial.{committed, ReadsFrom, ReadsAlong, ReadsAreSerial}
@@ -22,10 +22,9 @@ use Rattle.commit_core.specs.Sound.{IsSoundStory, IsSoundSeat, IsSound}
 use Rattle.commit_core.specs.Sound.Numbers.{EpochFits}
 use Rattle.commit_core.specs.Law.{CommitsAreSerial}
 use Rattle.commit_core.proofs.CountLaws.{count_committed}
-use Rattle.commit_core.proofs.Keys.{not_below_itself, not_both_below}
-use Rattle.commit_core.proofs.Lists.{in_none, in_head, in_tail, in_cases}
-use Rattle.commit_core.proofs.States.{rises_low, rises_lower, after_all-none}
-use Rattle.commit_core.proofs.VersionLaws.{some_key}
+use Rattle.lists.specs.Elements.{in_none, in_head, in_tail, in_cases}
+use Rattle.commit_core.specs.Lemmas.States.{rises_low, rises_lower, after_all-none}
+use Rattle.commit_core.specs.Lemmas.Versions.{some_key}
 use Rattle.commit_core.proofs.ReadLaws.{kept_dropped}
 use Rattle.commit_core.proofs.LockLaws.{held_place}
 
@@ -48,7 +47,7 @@ first_reads decided state a h r d reads = λ part n k v.
     reads a (in_head a h) d part n k v
     ∙ after_all-none (λ b. is_decided decided b.number && is_below b.number a.number) k (a ∷ h) (state k)
     (λ b m counts _.
-    let below = (and_parts (is_decided decided b.number) (is_below b.number a.number) counts).1 in
+    let below = below_from_test b.number a.number (and_parts (is_decided decided b.number) (is_below b.number a.number) counts).1 in
     elim (in_cases b a h m) [
       | inl same ↦ not_below_itself b.number a.number (ap (λ (x : Attempt). x.number) (sym same)) below
       | inr later ↦ not_both_below a.number b.number (rises_low a.number h r b later) below
@@ -59,7 +58,7 @@ rest_reads : (decided : List Number) (state : Key → Content) (a : Attempt) (h 
     → ReadsBelow decided state (a ∷ h) → ReadsBelow decided (λ k. cond (is_decided decided a.number) (after_writes k a (state k)) (state k)) h
 rest_reads decided state a h r reads = λ b m d part n k v.
     let counts = is_decided decided a.number in
-    let below = rises_low a.number h r b m in
+    let below = is_below-true a.number b.number (rises_low a.number h r b m) in
     let same : (counts && is_below a.number b.number) ≡ counts = ap (λ (x : Bool). counts && x) below ∙ and_true counts in
     reads b (in_tail b a h m) d part n k v
     ∙ ap (λ (x : Bool). after_all (λ e. is_decided decided e.number && is_below e.number b.number) k h (cond x (after_writes k a (state k)) (state k))) same
@@ -129,7 +128,7 @@ at_replicate (suc n) zero x y e = cc
 at_replicate (suc n) (suc i) x y e = at_replicate n i x y e
 
 first_above : (e d : ℕ) → 0 < e → IsBelow opening_number (record { epoch = e; draw = d })
-first_above e d later = grind (arith, nat_tests)
+first_above e d later = inl later
 
 epoch_before : (n e : ℕ) → 0 < n → n - 1 ≡ e → e < n
 epoch_before n e later is = omega arith
@@ -149,7 +148,7 @@ opening_sound pairs first passes later fits = record {
   story = record {
     ordered_numbers = record {
       opening_past = λ k. let clock = clock_of first.draw first.epoch [] in
-          ap (λ (n : Number). is_below n clock) (opening_numbered pairs k) ∙ first_above first.epoch clock.draw later;
+          subst (λ (n : Number). IsBelow n clock) (sym (opening_numbered pairs k)) (first_above first.epoch clock.draw later);
       rising = λ k. tt;
       past = λ a m. absurd (in_none a m);
       decided_drawn = λ n d. absurd (true≢false (sym d));

@@ -14,8 +14,8 @@ use Rattle.commit_core.specs.Serial.{committed, ReadsAreSerial}
 use Rattle.commit_core.specs.Opening.{first_number, opening_core}
 use Rattle.commit_core.specs.Sound.{IsSound}
 use Rattle.commit_core.specs.Sound.Numbers.{EpochFits}
-use Rattle.serial_model.specs.declared.memory.OrMemory.{OrMemory}
-use Rattle.serial_model.specs.declared.memory.OrMemory.TheVariants.{Fault, Memory}
+use Rattle.lists.specs.declared.memory.OrMemory.{OrMemory}
+use Rattle.lists.specs.declared.memory.OrMemory.TheVariants.{Fault, Memory}
 use Rattle.commit_core.specs.declared.event.Refused.{Refused}
 use Rattle.commit_core.specs.Event.{Answers, AnswersEvent}
 use Rattle.commit_core.proofs.Runs.{happened_sound}

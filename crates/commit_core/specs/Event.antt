@@ -1,12 +1,13 @@
 -- What may happen: the condition and the effect of each act of a seat, and lists of events.
-use Rattle.std.specs.Prelude.{◌≡◌, ℕ, ◌+◌, ◌-◌, ◌^◌, ◌==◌, ◌&&◌, ◌||◌, Bool, true, false, not, List, [], ◌∷◌, ◌++◌, filter, length, Option, Some, None, if◌then◌else◌, nat_lt, nat_le, is_some, slice_get, slice_set, unwrap_or, Result, Ok, Err}
+use Rattle.std.specs.Prelude.{◌≡◌, ℕ, ◌+◌, ◌==◌, ◌&&◌, ◌||◌, Bool, true, false, not, List, [], ◌∷◌, ◌++◌, filter, length, Option, Some, None, if◌then◌else◌, nat_lt, nat_le, is_some, slice_get, slice_set, unwrap_or, Result, Ok, Err}
 use Rattle.std.specs.List.{list_any, list_all}
 use mathlib.Core.Bool.{beq}
 use Rattle.std.specs.Option.{option_map_or}
 use Rattle.serial_model.specs.declared.key.Key.{Key}
 use Rattle.serial_model.specs.declared.number.Change.{Change}
-use Rattle.serial_model.specs.declared.memory.OrMemory.{OrMemory}
-use Rattle.serial_model.specs.declared.memory.OrMemory.TheVariants.{Fault, Memory}
+use Rattle.lists.specs.declared.memory.OrMemory.{OrMemory}
+use Rattle.lists.specs.declared.memory.OrMemory.TheVariants.{Fault, Memory}
+use Rattle.serial_model.specs.Numbers.{last_epoch}
 use Rattle.commit_core.specs.declared.event.Refused.{Refused}
 use Rattle.commit_core.specs.declared.place.Content.{Content}
 use Rattle.commit_core.specs.declared.place.Place.{Place}
@@ -21,7 +22,7 @@ use Rattle.commit_core.specs.declared.seat.Seat.{Seat}
 use Rattle.commit_core.specs.declared.story.Story.{Story}
 use Rattle.commit_core.specs.CoreState.{CoreState}
 use Rattle.commit_core.specs.Keys.{same_key, same_number, has_key, place_at, placed, content_at, content_of, written, writes_key, is_part_at}
-use Rattle.commit_core.specs.CoreState.{is_free, is_held_by, is_open_to, clock_of, is_checked, check_of, is_trying, can_begin, attempt_tried, attempt_decided, with_part, same_keys, last_epoch, settled}
+use Rattle.commit_core.specs.CoreState.{is_free, is_held_by, is_open_to, clock_of, is_checked, check_of, is_trying, can_begin, attempt_tried, attempt_decided, with_part, same_keys, last_marked, settled}
 
 -- ---- conditions
 
@@ -35,7 +36,7 @@ all_checked checks a = list_all (λ part. is_checked checks a.number part.key) a
 -- an epoch that a mark may name
 abbrev pub can_mark : ℕ → List (Option ℕ) → Option ℕ → Bool
 can_mark epoch marks None = true
-can_mark epoch marks (Some e) = nat_lt e epoch && nat_le (last_epoch marks) e
+can_mark epoch marks (Some e) = nat_lt e epoch && nat_le (last_marked marks) e
 
 -- seat p, which has s, may do this
 abbrev pub is_allowed : ℕ → Story → Seat → Act → Bool
@@ -53,7 +54,7 @@ is_allowed p m s (Open k) =
     && (is_held_by p (place_at m.places k)
     && option_map_or (λ _. has_key s.put k) (attempt_decided m.history s.stage) true)
 is_allowed p m s Forget = can_begin s.stage
-is_allowed p m s Advance = (p == 0) && nat_lt m.epoch (2 ^ 20 - 2)
+is_allowed p m s Advance = (p == 0) && nat_lt m.epoch last_epoch
 is_allowed p m s (Mark e) = not (is_trying s.stage) && can_mark m.epoch s.marks e
 
 -- ---- effects

@@ -1,17 +1,12 @@
 -- What an act of one seat leaves alone.
-use Rattle.std.specs.Prelude.{◌≡◌, ◌⊎◌, ℕ, true, List, Some, slice_get}
+use Rattle.std.specs.Prelude.{◌≡◌, ℕ, true, List, Some, slice_get}
 use Rattle.serial_model.specs.declared.key.Key.{Key}
-use Rattle.serial_model.specs.declared.number.Number.{Number}
 use Rattle.commit_core.specs.declared.place.Place.{Place}
 use Rattle.commit_core.specs.declared.attempt.Attempt.{Attempt}
 use Rattle.commit_core.specs.declared.story.Story.{Story}
-use Rattle.commit_core.specs.Keys.{IsBelow, place_at}
+use Rattle.commit_core.specs.Keys.{place_at, IsUpTo}
 use Rattle.commit_core.specs.CoreState.{holder_is, is_checked}
 use Rattle.commit_core.specs.Opening.{Grows}
-
--- equal to a number, or below it
-abbrev pub IsUpTo : Number → Number → Type 0
-IsUpTo a b = (a ≡ b) ⊎ IsBelow a b
 
 -- each place stood there before, and its number has not fallen
 abbrev pub Rises : List Place → List Place → Type 0

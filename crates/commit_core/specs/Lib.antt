@@ -6,3 +6,4 @@ pub mod Sound
 pub mod Opening
 pub mod Leaves
 pub mod Law
+pub mod Lemmas

@@ -6,7 +6,7 @@ use Rattle.commit_core.specs.declared.place.Place.{Place}
 use Rattle.commit_core.specs.declared.seat.Stage.TheVariants.{Idle}
 use Rattle.commit_core.specs.declared.seat.Seat.{Seat}
 use Rattle.commit_core.specs.declared.story.Story.{Story}
-use Rattle.commit_core.specs.CoreState.{CoreState, last_epoch}
+use Rattle.commit_core.specs.CoreState.{CoreState, last_marked}
 use Rattle.commit_core.specs.Keys.{content_of, opening_number}
 
 -- a key's value from the start
@@ -52,7 +52,7 @@ pub record Grows (old new : Story) : Type 0 where
 -- marks are only added, and none names an epoch below an earlier one's
 pub record MarksGrow (old new : List (Option ℕ)) : Type 0 where
   pub marks : IsPrefix old new
-  pub rising : last_epoch old ≤ last_epoch new
+  pub rising : last_marked old ≤ last_marked new
 
 -- The opening stays, the story grows, there are as many seats, and the marks of each of them grow.
 pub record CoreGrows (old new : CoreState) : Type 0 where

@@ -8,6 +8,7 @@ pub mod Marks
 use Rattle.std.specs.Prelude.{◌≡◌, ◌⊎◌, ℕ, ◌<◌, Bool, true, false, List, [], ◌∷◌, Option, Some, None, is_some, slice_get, length, ⊤, Contains, if◌then◌else◌}
 use Rattle.serial_model.specs.declared.key.Key.{Key}
 use Rattle.serial_model.specs.declared.number.Number.{Number}
+use Rattle.serial_model.specs.Numbers.{is_below, IsBelow}
 use Rattle.commit_core.specs.declared.place.Content.{Content}
 use Rattle.commit_core.specs.declared.place.Place.{Place}
 use Rattle.commit_core.specs.declared.place.Part.{Part}
@@ -18,7 +19,7 @@ use Rattle.commit_core.specs.declared.seat.Stage.TheVariants.{Idle, Trying, Ende
 use Rattle.commit_core.specs.declared.seat.Seat.{Seat}
 use Rattle.commit_core.specs.declared.story.Story.{Story}
 use Rattle.commit_core.specs.CoreState.{CoreState}
-use Rattle.commit_core.specs.Keys.{same_key, IsBelow, is_below, has_key, place_at, content_at, written, writes_key}
+use Rattle.commit_core.specs.Keys.{same_key, has_key, place_at, content_at, written, writes_key}
 use Rattle.commit_core.specs.CoreState.{is_held_by, holder_is, clock_of, is_decided, is_checked, mark_of}
 use Rattle.commit_core.specs.Serial.{state_below, last_write, RisesFrom}
 use Rattle.commit_core.specs.Sound.Numbers.{OrderedNumbers, EpochFits, ChecksArePast}

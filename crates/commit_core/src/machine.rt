@@ -7,7 +7,8 @@ ghost use Rattle.commit_core.specs.Serial.{committed, ReadsAreSerial};
 ghost use Rattle.commit_core.specs.Sound.{IsSound};
 ghost use Rattle.std.specs.Prelude.{map, replicate};
 
-use crate::{Act, Attempt, Content, Event, Place, Refused, Seat, Sequence, Stage, Story, acts};
+use crate::{Act, Attempt, Content, Event, Place, Refused, Seat, Stage, Story, acts};
+use lists::Sequence;
 use serial_model::{Key, Memory, Number, OrMemory};
 use std::alloc::Global;
 use std::marker::Model;
@@ -122,10 +123,7 @@ fn opening_places(alloc: Global, pairs: &[(Key, u64)]) -> Result<Vec<Place>, Mem
         },
         holder: None,
     });
-    match places.collect(alloc) {
-        Ok(places) => Ok(places),
-        Err(_) => Err(Memory),
-    }
+    Ok(places.collect(alloc)?)
 }
 
 /// Seats that have nothing.
@@ -134,10 +132,7 @@ fn fresh_seats(alloc: Global, passes: u32) -> Result<Vec<Seat>, Memory>
 {
     let mut seats = Vec::new(alloc);
     for _ in 0..passes {
-        match seats.push(fresh_seat(alloc)?) {
-            Ok(()) => {}
-            Err(_) => return Err(Memory),
-        }
+        seats.push(fresh_seat(alloc)?)?;
     }
     Ok(seats)
 }

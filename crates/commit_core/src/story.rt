@@ -8,9 +8,12 @@ ghost use Rattle.commit_core.specs.Event.{all_checked};
 ghost use Rattle.commit_core.specs.Serial.{committed};
 
 use crate::attempt::copy_attempt;
-use crate::{Attempt, Check, Place, Sequence, Stage};
+use crate::place::put_place;
+use crate::{Attempt, Check, Place, Stage};
+use lists::Sequence;
 use serial_model::{Key, Memory, Number};
 use std::alloc::Global;
+use std::mem;
 
 /// The shared state. All lists but `places` only grow.
 #[derive(Drop)]
@@ -93,7 +96,10 @@ impl Story {
     pub fn set_place(&mut self, new: Place)
         ensures { self.new ≡ record self.old { places = placed self.old.places new } }
     {
-        self.places.set_place(new);
+        let none = Sequence::new(self.places.alloc());
+        let mut places = mem::replace(&mut self.places, none).into_vec();
+        put_place(&mut places, new);
+        self.places = Sequence::from_vec(places);
     }
 
     /// The attempt in progress of a seat at this stage.

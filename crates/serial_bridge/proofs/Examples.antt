@@ -12,7 +12,8 @@ use Rattle.commit_core.specs.declared.place.Part.{Part}
 use Rattle.commit_core.specs.declared.attempt.Attempt.{Attempt}
 use Rattle.commit_core.specs.Keys.{same_key, written}
 use Rattle.serial_bridge.specs.Transaction.{Continues, Stops, Finished, finished, Runs, LeavesOut, IsAttemptOf}
-use Rattle.serial_bridge.specs.Laws.{same_key-true, written-wrote}
+use Rattle.commit_core.specs.Lemmas.Keys.{same_key-true}
+use Rattle.serial_bridge.specs.Laws.{written-wrote}
 
 abbrev storages : List Decl
 storages = Array 1 4 ∷ Tree 2 ∷ []

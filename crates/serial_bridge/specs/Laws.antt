@@ -1,6 +1,6 @@
 -- The bridge itself, as laws that proofs above can cite.
-use Rattle.std.proofs.Common.{◌≡◌, ℕ, suc, ◌+◌, ◌-◌, ◌^◌, ◌≤◌, Bool, true, false, true≢false, cond, eqb, eq-eqb, eqb-true, ◌⊎◌, inl, inr, List, [], ◌∷◌, ◌++◌, refl, sym, ap, ◌∙◌, subst, arith, Option, Some, None, IsSome}
-use Rattle.std.specs.Prelude.{◌&&◌, ◌||◌, ltb, nat_lt, nat_le, option_to_list, unwrap_or, Contains, find, filter, option_map}
+use Rattle.std.proofs.Common.{◌≡◌, ℕ, ◌+◌, ◌-◌, ◌^◌, ◌≤◌, Bool, true, false, true≢false, cond, ◌⊎◌, inl, inr, List, [], ◌∷◌, ◌++◌, refl, sym, ap, ◌∙◌, subst, arith, Option, Some, None, IsSome}
+use Rattle.std.specs.Prelude.{◌&&◌, nat_lt, nat_le, option_to_list, unwrap_or, Contains, find, filter, option_map}
 use Rattle.std.specs.Option.{option_or, option_map_or}
 use Rattle.std.specs.Cmp.{IsTotalOrder, nat_cmp_total, eq_by_cmp_equiv}
 use Rattle.std.specs.Ordering.{nat_cmp, eq_by_cmp, is_eq}
@@ -9,7 +9,7 @@ use Rattle.std.specs.declared.cmp.Ordering.TheVariants.{Less, Equal, Greater}
 use Rattle.std.specs.FinMap.{get, insert, remove, get-insert, get-remove, IsAntisymmetric}
 use Rattle.std.proofs.lemmas.Cmp.{on_total, then_total}
 use Rattle.std.proofs.lemmas.Map.Lookups.{exact_pairs, exact_unsigned}
-use Rattle.std.proofs.lemmas.Bool.{and_parts, and_from, cases_Bool, cond-true, cond-false, false_from_ne_true}
+use Rattle.std.proofs.lemmas.Bool.{cases_Bool, cond-true, cond-false, false_from_ne_true}
 use Rattle.std.proofs.lemmas.Bool.Decides.{nat_tests}
 use Rattle.serial_model.specs.declared.key.Key.{Key}
 use Rattle.serial_model.specs.declared.number.Number.{Number}
@@ -24,14 +24,15 @@ use Rattle.serial_model.specs.declared.reply.Verdict.TheVariants.{Short, Over}
 use Rattle.serial_model.specs.Keys.{key_cmp, is_tree, fits}
 use Rattle.serial_model.specs.State.{State, amount_at, is_within, rows_of}
 use Rattle.serial_model.specs.Step.{Goes, Ends, Ended, reply_of, move_of, after_move, step_from}
-use Rattle.serial_model.specs.History as history
 use Rattle.serial_model.specs.History.{Entry, Precedes, InOrder, AnswersAlong, state_after, state_after_all}
 use Rattle.commit_core.specs.declared.place.Content.{Content}
 use Rattle.commit_core.specs.declared.place.Part.{Part}
 use Rattle.commit_core.specs.declared.attempt.Attempt.{Attempt}
-use Rattle.commit_core.specs.Keys.{same_key, IsBelow, covers, Vouches, content_at, written}
+use Rattle.serial_model.specs.Numbers.{IsBelow, below_then}
+use Rattle.commit_core.specs.Keys.{same_key, IsUpTo, covers, Vouches, content_at, written}
+use Rattle.commit_core.specs.Lemmas.Keys.{same_key-self, same_key-true}
+use Rattle.lists.specs.Elements.{in_head, in_tail}
 use Rattle.commit_core.specs.CoreState.{is_decided}
-use Rattle.commit_core.specs.Leaves.{IsUpTo}
 use Rattle.commit_core.specs.Serial.{after_writes, after_all, committed, ReadsAlong, RisesFrom}
 use Rattle.commit_core.specs.Law.{SoundIsSerial}
 use Rattle.serial_bridge.specs.Transaction.{vouched, seen, wrote, Turn, Continues, Stops, added, taken, Turns, Finished, finished, FinishesBy, Runs, LeavesOut, AreAttemptsOf}
@@ -46,15 +47,6 @@ exact_keys : IsAntisymmetric key_cmp
 exact_keys a b h =
     ap (λ (p : ℕ × ℕ). record { storage = p.0; key = p.1 })
     (exact_pairs nat_cmp nat_cmp exact_unsigned exact_unsigned (a.storage, a.key) (b.storage, b.key) h)
-
-same_key-self : (k : Key) → same_key k k ≡ true
-same_key-self k = and_from (eqb k.storage k.storage) (eqb k.key k.key) (eq-eqb k.storage k.storage refl) (eq-eqb k.key k.key refl)
-
-pub same_key-true : (a b : Key) → same_key a b ≡ true → a ≡ b
-same_key-true a b e =
-    let parts = and_parts (eqb a.storage b.storage) (eqb a.key b.key) e in
-    ap (λ (s : ℕ). let k : Key = record { storage = s; key = a.key } in k) (eqb-true a.storage b.storage parts.0)
-    ∙ ap (λ (n : ℕ). let k : Key = record { storage = b.storage; key = n } in k) (eqb-true a.key b.key parts.1)
 
 is_equal : (r : Ordering) → is_eq r ≡ true → r ≡ Equal
 is_equal Less e = absurd (true≢false (sym e))
@@ -221,12 +213,6 @@ runs_end decls parts first (op ∷ ops) vouch = λ own w f is over.
 
 -- ---- an attempt
 
-in_head : (x : Part) (xs : List Part) → Contains (x ∷ xs) x
-in_head x xs = (0, omega arith, refl)
-
-in_tail : (x y : Part) (xs : List Part) → Contains xs x → Contains (y ∷ xs) x
-in_tail x y xs h = (suc h.0, omega (arith, h.1), h.2)
-
 -- the first part that covers a key has the contents' value there
 vouched_is : (contents : Key → Content) (parts : List Part) (k : Key) (value : Option ℕ) → ((part : Part) → Contains parts part → Vouches contents part)
     → vouched parts k ≡ Some value → (contents k).value ≡ value
@@ -275,20 +261,10 @@ attempt_steps decls s contents e a agrees reads is =
 
 -- ---- lists of attempts
 
--- a number below another, by the two ways of saying so
-below : (a b : Number) → IsBelow a b → history.IsBelow a b
-below a b e = by_cases (ltb a.epoch b.epoch) refl e
-  where
-    by_cases : (later : Bool) → ltb a.epoch b.epoch ≡ later → (later || (eqb a.epoch b.epoch && ltb a.draw b.draw)) ≡ true → history.IsBelow a b
-    by_cases true test e = inl (grind (arith, nat_tests))
-    by_cases false test e =
-        let parts = and_parts (eqb a.epoch b.epoch) (ltb a.draw b.draw) e in inr (eqb-true a.epoch b.epoch parts.0, grind (arith, nat_tests))
-
+-- epochs never fall
 epoch_low : (a b : Number) → IsBelow a b → a.epoch ≤ b.epoch
-epoch_low a b e = grind (arith, nat_tests)
-
-below-trans : (a b c : Number) → IsBelow a b → IsBelow b c → IsBelow a c
-below-trans a b c x y = grind (arith, nat_tests)
+epoch_low a b (inl later) = omega arith
+epoch_low a b (inr same) = let epoch = same.0 in omega arith
 
 -- what holds of numbers in order holds of an entry to all later ones
 precedes : (R : Number → Number → Type 0) → ((x y : Number) → IsBelow x y → R x y) → (decls : List Decl) (e : Entry) (low : Number) (entries : List Entry) (attempts : List Attempt)
@@ -304,7 +280,7 @@ precedes R imply decls e low (f ∷ entries) (a ∷ attempts) up rises are =
   where
     after : (x y z : Number) → IsUpTo x y → IsBelow y z → IsBelow x z
     after x y z (inl same) b = subst (λ (n : Number). IsBelow n z) (sym same) b
-    after x y z (inr a) b = below-trans x y z a b
+    after x y z (inr a) b = below_then x y z a b
 
 in_order : (R : Number → Number → Type 0) → ((x y : Number) → IsBelow x y → R x y) → (decls : List Decl) (low : Number) (entries : List Entry) (attempts : List Attempt)
     → RisesFrom low attempts → AreAttemptsOf decls entries attempts → InOrder (λ x y. R x.number y.number) entries
@@ -341,7 +317,7 @@ serial_reads_run decls s opening entries attempts agrees serial are =
     let rises = serial.rising (record { storage = 0; key = 0 }) in
     let along = answers_along decls s (content_at opening) entries attempts agrees serial.reads are in record {
       run = record {
-        rising = in_order (λ x y. history.IsBelow x y) below decls low entries attempts rises are;
+        rising = in_order (λ x y. IsBelow x y) (λ x y b. b) decls low entries attempts rises are;
         epochs = in_order (λ x y. x.epoch ≤ y.epoch) epoch_low decls low entries attempts rises are;
         answers = along.0;
       };

@@ -8,6 +8,7 @@ use Rattle.std.specs.List.{list_any}
 use mathlib.Core.Bool.{beq}
 use Rattle.serial_model.specs.declared.key.Key.{Key}
 use Rattle.serial_model.specs.declared.number.Number.{Number}
+use Rattle.serial_model.specs.Numbers.{IsBelow, not_below_itself}
 use Rattle.commit_core.specs.declared.place.Content.{Content}
 use Rattle.commit_core.specs.declared.place.Place.{Place}
 use Rattle.commit_core.specs.declared.place.Part.{Part}
@@ -17,16 +18,16 @@ use Rattle.commit_core.specs.declared.seat.Stage.{Stage}
 use Rattle.commit_core.specs.declared.seat.Stage.TheVariants.{Trying, Ended}
 use Rattle.commit_core.specs.declared.seat.Seat.{Seat}
 use Rattle.commit_core.specs.declared.story.Story.{Story}
-use Rattle.commit_core.specs.Keys.{same_key, same_number, IsBelow, place_at, writes_key, Vouches}
+use Rattle.commit_core.specs.Keys.{same_key, same_number, place_at, writes_key, Vouches}
 use Rattle.commit_core.specs.CoreState.{holder_is, is_free, is_held_by, is_open_to, clock_of, is_checked, check_of, attempt_tried, settled}
 use Rattle.commit_core.specs.Serial.{state_below, last_write}
 use Rattle.commit_core.specs.Event.{is_unchecked, Moved, moved, is_same_word, is_as_seen, stays_as_seen, after_check}
 use Rattle.commit_core.specs.Sound.{IsSoundStory, IsSoundSeat}
 use Rattle.commit_core.specs.Sound.Homes.{HomeHeld}
-use Rattle.commit_core.proofs.Keys.{same_key-self, same_key-true, same_number-true, not_below_itself}
-use Rattle.commit_core.proofs.Lists.{at_in, all_in, any_is}
-use Rattle.commit_core.proofs.NumberLaws.{checks_checked}
-use Rattle.commit_core.proofs.VersionLaws.{alone}
+use Rattle.commit_core.specs.Lemmas.Keys.{same_key-self, same_key-true, same_number-true}
+use Rattle.lists.specs.Elements.{at_in, all_in, any_is}
+use Rattle.commit_core.specs.Lemmas.Numbers.{checks_checked}
+use Rattle.commit_core.specs.Lemmas.Versions.{alone}
 use Rattle.commit_core.proofs.ReadLaws.{seen_is_below, reads_checked, writer_checked, commits_checked}
 use Rattle.commit_core.proofs.HomeLaws.{locked_so}
 use Rattle.commit_core.proofs.MarkLaws.{marks_rest}

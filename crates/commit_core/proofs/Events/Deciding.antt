@@ -16,9 +16,9 @@ use Rattle.commit_core.specs.Sound.{IsSoundStory, IsSoundSeat}
 use Rattle.commit_core.specs.Sound.Locks.{IsTried}
 use Rattle.commit_core.specs.Sound.Homes.{HomeHeld}
 use Rattle.commit_core.specs.Sound.Reads.{NoLowerWriter}
-use Rattle.commit_core.proofs.Lists.{at_in, all_in}
-use Rattle.commit_core.proofs.NumberLaws.{numbers_decided, decided_new}
-use Rattle.commit_core.proofs.VersionLaws.{IsAlone, alone}
+use Rattle.lists.specs.Elements.{at_in, all_in}
+use Rattle.commit_core.specs.Lemmas.Numbers.{numbers_decided, decided_new}
+use Rattle.commit_core.specs.Lemmas.Versions.{IsAlone, alone}
 use Rattle.commit_core.proofs.ReadLaws.{reads_decided, commits_decided}
 use Rattle.commit_core.proofs.LockLaws.{stands_decided}
 use Rattle.commit_core.proofs.HomeLaws.{IsUnwritten, homes_decided, held_decided, held_decides, locked_so}

@@ -2,12 +2,13 @@
 use Rattle.std.specs.Prelude.{◌≡◌, ◌⊎◌, ℕ, Bool, true, List, Option, Some, None, slice_get, Contains, if◌then◌else◌}
 use Rattle.serial_model.specs.declared.key.Key.{Key}
 use Rattle.serial_model.specs.declared.number.Number.{Number}
+use Rattle.serial_model.specs.Numbers.{IsBelow}
 use Rattle.commit_core.specs.declared.place.Content.{Content}
 use Rattle.commit_core.specs.declared.place.Place.{Place}
 use Rattle.commit_core.specs.declared.attempt.Attempt.{Attempt}
 use Rattle.commit_core.specs.declared.seat.Stage.{Stage}
 use Rattle.commit_core.specs.declared.seat.Stage.TheVariants.{Idle, Trying, Ended, Decided}
-use Rattle.commit_core.specs.Keys.{IsBelow, has_key, place_at, content_of, written, writes_key}
+use Rattle.commit_core.specs.Keys.{has_key, place_at, content_of, written, writes_key}
 use Rattle.commit_core.specs.CoreState.{is_free, holder_is, is_decided}
 use Rattle.commit_core.specs.Serial.{state_below, last_write}
 

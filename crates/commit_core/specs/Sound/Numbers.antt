@@ -1,11 +1,12 @@
 -- Commit numbers.
-use Rattle.std.specs.Prelude.{◌≡◌, ℕ, ◌-◌, ◌^◌, ◌≤◌, true, false, List, [], ◌∷◌, ⊤, Contains}
+use Rattle.std.specs.Prelude.{◌≡◌, ℕ, ◌≤◌, true, false, List, [], ◌∷◌, ⊤, Contains}
 use Rattle.serial_model.specs.declared.key.Key.{Key}
 use Rattle.serial_model.specs.declared.number.Number.{Number}
+use Rattle.serial_model.specs.Numbers.{IsBelow, last_epoch}
 use Rattle.commit_core.specs.declared.place.Place.{Place}
 use Rattle.commit_core.specs.declared.attempt.Attempt.{Attempt}
 use Rattle.commit_core.specs.declared.attempt.Check.{Check}
-use Rattle.commit_core.specs.Keys.{IsBelow, content_at}
+use Rattle.commit_core.specs.Keys.{content_at}
 use Rattle.commit_core.specs.CoreState.{is_decided, is_checked}
 use Rattle.commit_core.specs.Serial.{RisesFrom}
 
@@ -25,9 +26,9 @@ pub record OrderedNumbers
   pub decided_drawn : (n : Number) → is_decided decided n ≡ true → (a : Attempt) × Contains history a × (a.number ≡ n)
   pub decided_once : EachOnce decided
 
--- Own part: an epoch fits its bits in a word beside the mark that says idle, 2^20 - 1.
+-- Own part: the epoch is none above the last one.
 abbrev pub EpochFits : ℕ → Type 0
-EpochFits epoch = epoch ≤ 2 ^ 20 - 2
+EpochFits epoch = epoch ≤ last_epoch
 
 -- Own part: a check names a number that was taken, so that a new attempt has no checked part.
 abbrev pub ChecksArePast : List Check → Number → Type 0

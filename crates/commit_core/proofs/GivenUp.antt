@@ -6,6 +6,7 @@ use Rattle.std.specs.Option.{option_map_or}
 use Rattle.serial_model.specs.declared.key.Key.{Key}
 use Rattle.serial_model.specs.declared.number.Number.{Number}
 use Rattle.serial_model.specs.declared.number.Change.{Change}
+use Rattle.serial_model.specs.Numbers.{not_below_itself}
 use Rattle.commit_core.specs.declared.place.Place.{Place}
 use Rattle.commit_core.specs.declared.attempt.Attempt.{Attempt}
 use Rattle.commit_core.specs.declared.seat.Stage.{Stage}
@@ -23,10 +24,9 @@ use Rattle.commit_core.specs.Event.{may_happen, with_moved, happened, next, run}
 use Rattle.commit_core.specs.Opening.{Grows}
 use Rattle.commit_core.specs.Sound.{IsSoundStory, IsSound}
 use Rattle.commit_core.specs.Sound.Locks.{AttemptStands}
-use Rattle.commit_core.proofs.Keys.{not_below_itself}
-use Rattle.commit_core.proofs.Lists.{at_in, at_push_new, at_set_same, at_set_other}
-use Rattle.commit_core.proofs.NumberLaws.{decided_other}
-use Rattle.commit_core.proofs.VersionLaws.{alone}
+use Rattle.lists.specs.Elements.{at_in, at_push_new, at_set_same, at_set_other}
+use Rattle.commit_core.specs.Lemmas.Numbers.{decided_other}
+use Rattle.commit_core.specs.Lemmas.Versions.{alone}
 use Rattle.commit_core.proofs.ReadLaws.{IsThere, same_at}
 use Rattle.commit_core.proofs.LockLaws.{stands_there}
 use Rattle.std.proofs.lemmas.List.Elements.{Contains-append_left}

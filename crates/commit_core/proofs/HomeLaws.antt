@@ -4,22 +4,23 @@ use Rattle.std.proofs.lemmas.Bool.{and_parts, and_from, and_left, cases_Bool, fa
 use Rattle.std.specs.List.{Contains, slice_get}
 use Rattle.serial_model.specs.declared.key.Key.{Key}
 use Rattle.serial_model.specs.declared.number.Number.{Number}
+use Rattle.serial_model.specs.Numbers.{is_below, IsBelow, not_below_itself, is_below-true, below_from_test}
 use Rattle.commit_core.specs.declared.place.Content.{Content}
 use Rattle.commit_core.specs.declared.place.Place.{Place}
 use Rattle.commit_core.specs.declared.attempt.Attempt.{Attempt}
 use Rattle.commit_core.specs.declared.seat.Stage.{Stage}
 use Rattle.commit_core.specs.declared.seat.Stage.TheVariants.{Idle, Trying, Ended, Decided}
-use Rattle.commit_core.specs.Keys.{same_key, is_below, IsBelow, has_key, place_at, placed, content_of, content_at, written, writes_key}
+use Rattle.commit_core.specs.Keys.{same_key, has_key, place_at, placed, content_of, content_at, written, writes_key, IsUpTo}
 use Rattle.commit_core.specs.CoreState.{is_free, holder_is, is_decided}
 use Rattle.commit_core.specs.Serial.{state_below, last_write}
 use Rattle.commit_core.specs.Sound.Numbers.{OrderedNumbers}
 use Rattle.commit_core.specs.Sound.Locks.{IsDecided}
 use Rattle.commit_core.specs.Sound.Homes.{UnlockedHomes, IsAboveOthers, half_put, HomeHeld, LockedHomes}
-use Rattle.commit_core.proofs.Keys.{same_key-self, same_key-true, not_below_itself, placed_cases}
-use Rattle.commit_core.proofs.Lists.{in_push_cases, at_in, at_push_new, any_push_new, any_push-false}
-use Rattle.commit_core.proofs.States.{writes-written, after_all-agree, IsUpTo, after_all-last}
-use Rattle.commit_core.proofs.NumberLaws.{decided_cases, decided_old, clock_undecided}
-use Rattle.commit_core.proofs.VersionLaws.{content_after-drawn, content_after-decided, last_version, version_past}
+use Rattle.commit_core.specs.Lemmas.Keys.{same_key-self, same_key-true, placed_cases}
+use Rattle.lists.specs.Elements.{in_push_cases, at_in, at_push_new, any_push_new, any_push-false}
+use Rattle.commit_core.specs.Lemmas.States.{writes-written, after_all-agree, after_all-last}
+use Rattle.commit_core.specs.Lemmas.Numbers.{decided_cases, decided_old, clock_undecided}
+use Rattle.commit_core.specs.Lemmas.Versions.{content_after-drawn, content_after-decided, last_version, version_past}
 use Rattle.commit_core.proofs.ReadLaws.{IsThere, same_at}
 
 -- ---- unlocked_homes
@@ -125,14 +126,14 @@ held_decides opening h decided k c i a put at e held = λ b there.
           | inl hit ↦
               and_from (is_decided decided b.number) true hit refl
               ∙ sym (and_from (is_decided (decided ++ a.number ∷ []) b.number) (is_below b.number a.number) (decided_old decided a.number b.number hit)
-              (up_below decided a.number a.number b.number e hit (above.writes b m hit w)))
+              (is_below-true b.number a.number (up_below decided a.number a.number b.number e hit (above.writes b m hit w))))
           | inr miss ↦
               and_left (is_decided decided b.number) true miss
               ∙ sym (false_from_ne_true (is_decided (decided ++ a.number ∷ []) b.number && is_below b.number a.number) (λ t.
               let parts = and_parts (is_decided (decided ++ a.number ∷ []) b.number) (is_below b.number a.number) t in
               elim (decided_cases decided a.number b.number parts.0) [
                 | inl old ↦ true≢false (sym old ∙ miss)
-                | inr new ↦ not_below_itself b.number a.number (sym new) parts.1
+                | inr new ↦ not_below_itself b.number a.number (sym new) (below_from_test b.number a.number parts.1)
               ]))
         ])
 

@@ -1,14 +1,11 @@
-pub mod Keys
-pub mod Lists
-pub mod States
-pub mod NumberLaws
-pub mod VersionLaws
 pub mod ReadLaws
 pub mod LockLaws
 pub mod HomeLaws
 pub mod MarkLaws
 pub mod Events
 pub mod Runs
+pub mod CountLaws
 pub mod SerialLaws
 pub mod StepLaws
 pub mod GivenUp
+pub mod Leaves

@@ -11,10 +11,10 @@ use Rattle.commit_core.specs.declared.seat.Stage.TheVariants.{Idle, Trying, Ende
 use Rattle.commit_core.specs.Keys.{same_key, has_key, place_at, placed}
 use Rattle.commit_core.specs.CoreState.{holder_is, is_held_by}
 use Rattle.commit_core.specs.Sound.Locks.{LockOwners, HoldersAreSeats, AttemptStands}
-use Rattle.commit_core.proofs.Keys.{same_key-self, same_key-true, place_at-placed_other, place_at-placed_same, placed_cases}
-use Rattle.commit_core.proofs.Lists.{in_filter, in_filtered, filter_only, at_in, at_push_old, any_in, any_is, any_push_cases, any_push_old, any_push_new}
-use Rattle.commit_core.proofs.NumberLaws.{decided_old, decided_other}
-use Rattle.commit_core.proofs.VersionLaws.{IsAlone}
+use Rattle.commit_core.specs.Lemmas.Keys.{same_key-self, same_key-true, place_at-placed_other, place_at-placed_same, placed_cases}
+use Rattle.lists.specs.Elements.{in_filter, in_filtered, filter_only, at_in, at_push_old, any_in, any_is, any_push_cases, any_push_old, any_push_new}
+use Rattle.commit_core.specs.Lemmas.Numbers.{decided_old, decided_other}
+use Rattle.commit_core.specs.Lemmas.Versions.{IsAlone}
 use Rattle.commit_core.proofs.ReadLaws.{IsThere}
 
 -- ---- whom a place is held by

@@ -1,12 +1,15 @@
 -- Marks of a seat.
-use Rattle.std.proofs.Common.{◌≡◌, ℕ, ◌+◌, ◌<◌, List, [], ◌∷◌, ◌++◌, refl, sym, ap, ◌∙◌, subst, arith, length, Option, Some, None}
-use Rattle.std.specs.Prelude.{fold}
+use Rattle.std.proofs.Common.{◌≡◌, ℕ, ◌+◌, ◌<◌, ◌≤◌, true, List, [], ◌∷◌, ◌++◌, refl, sym, ap, ◌∙◌, subst, arith, length, Option, Some, None}
+use Rattle.std.proofs.lemmas.Bool.{and_parts}
+use Rattle.std.proofs.lemmas.Bool.Decides.{nat_tests}
+use Rattle.std.specs.Prelude.{fold, unwrap_or, nat_lt, nat_le}
 use Rattle.commit_core.specs.declared.attempt.Attempt.{Attempt}
 use Rattle.commit_core.specs.declared.seat.Stage.{Stage}
 use Rattle.commit_core.specs.declared.seat.Stage.TheVariants.{Idle, Trying, Ended, Decided}
-use Rattle.commit_core.specs.CoreState.{mark_of}
+use Rattle.commit_core.specs.CoreState.{mark_of, last_marked}
+use Rattle.commit_core.specs.Event.{can_mark}
 use Rattle.commit_core.specs.Sound.Marks.{IsAboveMark, MarksArePast}
-use Rattle.commit_core.proofs.Lists.{at_push_new}
+use Rattle.lists.specs.Elements.{at_push_new}
 use Rattle.commit_core.proofs.ReadLaws.{IsThere, same_at}
 
 pub marks_drawn : (epoch : ℕ) (h : List Attempt) (a : Attempt) (marks : List (Option ℕ)) (stage : Stage) → IsThere h stage → MarksArePast epoch h marks stage → MarksArePast epoch (h ++ a ∷ []) marks stage
@@ -44,3 +47,17 @@ mark_of-push marks m = pushed marks None m
 pub marks_marked : (epoch : ℕ) (h : List Attempt) (marks : List (Option ℕ)) (m : Option ℕ) (stage : Stage) → ((e : ℕ) → m ≡ Some e → e < epoch) → ((e : ℕ) → IsAboveMark h stage e)
     → MarksArePast epoch h (marks ++ m ∷ []) stage
 marks_marked epoch h marks m stage below above = λ e is. (below e (sym (mark_of-push marks m) ∙ is), above e)
+
+last_marked-pushed : (marks : List (Option ℕ)) (low : ℕ) (m : Option ℕ) → fold (λ low m. unwrap_or m low) low (marks ++ m ∷ []) ≡ unwrap_or m (fold (λ low m. unwrap_or m low) low marks)
+last_marked-pushed [] low m = refl
+last_marked-pushed (x ∷ marks) low m = last_marked-pushed marks (unwrap_or x low) m
+
+-- a mark that may be set names no epoch below the last one
+pub last_marked-push : (epoch : ℕ) (marks : List (Option ℕ)) (m : Option ℕ) → can_mark epoch marks m ≡ true → last_marked marks ≤ last_marked (marks ++ m ∷ [])
+last_marked-push epoch marks None can = rw (last_marked-pushed marks 0 None) (omega arith)
+last_marked-push epoch marks (Some e) can =
+    let low = and_parts (nat_lt e epoch) (nat_le (last_marked marks) e) can in
+    rw (last_marked-pushed marks 0 (Some e)) (not_above (last_marked marks) e low.1)
+  where
+    not_above : (a b : ℕ) → nat_le a b ≡ true → a ≤ b
+    not_above a b e = grind (arith, nat_tests)

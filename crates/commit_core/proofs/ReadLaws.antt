@@ -4,6 +4,7 @@ use Rattle.std.specs.List.{Contains, slice_get, filter}
 use Rattle.std.specs.Prelude.{⊤}
 use Rattle.serial_model.specs.declared.key.Key.{Key}
 use Rattle.serial_model.specs.declared.number.Number.{Number}
+use Rattle.serial_model.specs.Numbers.{below_then, is_below, IsBelow, not_below_itself, not_both_below, below_from_test}
 use Rattle.commit_core.specs.declared.place.Content.{Content}
 use Rattle.commit_core.specs.declared.place.Place.{Place}
 use Rattle.commit_core.specs.declared.place.Part.{Part}
@@ -11,15 +12,15 @@ use Rattle.commit_core.specs.declared.attempt.Attempt.{Attempt}
 use Rattle.commit_core.specs.declared.attempt.Check.{Check}
 use Rattle.commit_core.specs.declared.seat.Stage.{Stage}
 use Rattle.commit_core.specs.declared.seat.Stage.TheVariants.{Idle, Trying, Ended, Decided}
-use Rattle.commit_core.specs.Keys.{same_key, is_below, IsBelow, writes_key, covers}
+use Rattle.commit_core.specs.Keys.{same_key, writes_key, covers, Vouches}
 use Rattle.commit_core.specs.CoreState.{is_decided, is_checked, check_of, with_part}
 use Rattle.commit_core.specs.Serial.{state_below, last_write}
 use Rattle.commit_core.specs.Sound.Numbers.{OrderedNumbers, ChecksArePast}
 use Rattle.commit_core.specs.Sound.Reads.{ReadsStayTrue, NoLowerWriter, CommitsAreChecked, IsPast, PartsArePast, KeptIsPast}
-use Rattle.commit_core.proofs.Keys.{same_key-self, same_key-true, is_below-trans, not_below_itself, not_both_below}
-use Rattle.commit_core.proofs.Lists.{in_none, in_push_cases, in_filter, at_push_old, at_push_new}
-use Rattle.commit_core.proofs.NumberLaws.{decided_cases, checked_cases, checked_old}
-use Rattle.commit_core.proofs.VersionLaws.{IsAlone, content_after-drawn, content_after-decided, version_drawn, last_version, version_same, last_is_below}
+use Rattle.commit_core.specs.Lemmas.Keys.{same_key-true}
+use Rattle.lists.specs.Elements.{in_none, in_push_cases, in_filter, at_push_old, at_push_new}
+use Rattle.commit_core.specs.Lemmas.Numbers.{decided_cases, checked_cases, checked_old}
+use Rattle.commit_core.specs.Lemmas.Versions.{IsAlone, content_after-drawn, content_after-decided, version_drawn, last_version, version_same, last_is_below}
 
 -- ---- a part is found as it was read: the place's content is the last write, and has the part's number
 
@@ -39,7 +40,7 @@ pub reads_drawn : (opening : List Place) (h : List Attempt) (checks : List Check
     → ReadsStayTrue opening h checks decided → ReadsStayTrue opening (h ++ a ∷ []) checks decided
 reads_drawn opening h checks decided t a o e past reads = λ b m part n c.
     elim (in_push_cases b a h m) [
-      | inl old ↦ reads b old part n c ∙ sym (content_after-drawn opening h decided t a (λ x. is_below x b.number) part.key o e)
+      | inl old ↦ λ k v. reads b old part n c k v ∙ sym (content_after-drawn opening h decided t a (λ x. is_below x b.number) k o e)
       | inr new ↦ absurd (not_below_itself b.number t (sym (ap (λ (x : Attempt). x.number) new) ∙ e) (past b.number part.key c))
     ]
 
@@ -47,21 +48,21 @@ pub reads_decided : (opening : List Place) (h : List Attempt) (checks : List Che
     → ((b : Attempt) → Contains h b → IsBelow a.number b.number → (part : Part) → Contains b.parts part → is_checked checks b.number part.key ≡ true
     → (k : Key) → covers part k ≡ true → writes_key a.writes k ≡ false)
     → ReadsStayTrue opening h checks decided → ReadsStayTrue opening h checks (decided ++ a.number ∷ [])
-reads_decided opening h checks decided a only lower reads = λ b m part n c.
-    reads b m part n c
-    ∙ sym (content_after-decided opening h decided a.number (λ x. is_below x b.number) part.key
-    (λ x mx ex w l. true≢false (sym w ∙ ap (λ (y : Attempt). writes_key y.writes part.key) (only x mx ex) ∙ lower b m l part n c part.key (same_key-self part.key))))
+reads_decided opening h checks decided a only lower reads = λ b m part n c k v.
+    reads b m part n c k v
+    ∙ sym (content_after-decided opening h decided a.number (λ x. is_below x b.number) k
+    (λ x mx ex w l. true≢false (sym w ∙ ap (λ (y : Attempt). writes_key y.writes k) (only x mx ex) ∙ lower b m (below_from_test a.number b.number l) part n c k v)))
 
 pub reads_checked : (opening : List Place) (h : List Attempt) (checks : List Check) (decided : List Number) (a : Attempt) (k : Key) → IsAlone h a
-    → ((part : Part) → Contains a.parts part → part.key ≡ k → part.content ≡ state_below opening h decided a.number part.key)
+    → ((part : Part) → Contains a.parts part → part.key ≡ k → Vouches (state_below opening h decided a.number) part)
     → ReadsStayTrue opening h checks decided → ReadsStayTrue opening h (checks ++ check_of a.number k ∷ []) decided
 reads_checked opening h checks decided a k only now reads = λ b m part n c.
     elim (checked_cases checks a.number k b.number part.key c) [
       | inl old ↦ reads b m part n old
       | inr new ↦
           let same = only b m (sym new.0) in
-          now part (subst (λ (x : Attempt). Contains x.parts part) same n) (sym new.1)
-          ∙ ap (λ (x : Attempt). state_below opening h decided x.number part.key) (sym same)
+          λ q v. now part (subst (λ (x : Attempt). Contains x.parts part) same n) (sym new.1) q v
+          ∙ ap (λ (x : Attempt). state_below opening h decided x.number q) (sym same)
     ]
 
 -- ---- no_lower_writer
@@ -138,7 +139,7 @@ commits_decided h checks decided a only all commits = λ b m d part n.
 
 past_drawn : (opening : List Place) (h : List Attempt) (a : Attempt) (t u : Number) (part : Part) → IsBelow t u → IsPast opening h t part → IsPast opening (h ++ a ∷ []) u part
 past_drawn opening h a t u part l past = record {
-  number = is_below-trans part.content.number t u past.number l;
+  number = below_then part.content.number t u past.number l;
   version = version_drawn opening h a part.key part.content past.version;
 }
 
@@ -146,7 +147,7 @@ pub kept_drawn : (opening : List Place) (h : List Attempt) (a : Attempt) (t u : 
 kept_drawn opening h a t u kept l past = λ part m. past_drawn opening h a t u part l (past part m)
 
 pub kept_later : (opening : List Place) (h : List Attempt) (t u : Number) (kept : List Part) → IsBelow t u → KeptIsPast opening h t kept → KeptIsPast opening h u kept
-kept_later opening h t u kept l past = λ part m. record { number = is_below-trans part.content.number t u (past part m).number l; version = (past part m).version }
+kept_later opening h t u kept l past = λ part m. record { number = below_then part.content.number t u (past part m).number l; version = (past part m).version }
 
 pub kept_seen : (opening : List Place) (h : List Attempt) (t : Number) (kept : List Part) (part : Part) → IsPast opening h t part → KeptIsPast opening h t kept → KeptIsPast opening h t (with_part kept part)
 kept_seen opening h t kept part new past = λ q m.

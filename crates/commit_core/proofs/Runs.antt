@@ -1,26 +1,29 @@
--- Lists of events: each keeps a sound state sound, and attempts, checks and decisions are only added.
-use Rattle.std.proofs.Common.{◌≡◌, ℕ, true, false, not, true≢false, eqb, ◌&&◌, ◌⊎◌, inl, inr, List, [], ◌∷◌, ◌++◌, refl, sym, ap, ◌∙◌, subst, length, set, length-set, append_assoc, Option, Some, None}
+-- Lists of events: each keeps a sound state sound, and attempts, checks, decisions and marks are only added.
+use Rattle.std.proofs.Common.{◌≡◌, ℕ, true, false, not, true≢false, eqb, ◌&&◌, ◌⊎◌, inl, inr, List, [], ◌∷◌, ◌++◌, refl, sym, ap, ◌∙◌, subst, length, set, length-set, append_assoc, arith, Option, Some, None}
 use Rattle.std.proofs.lemmas.Bool.{and_parts, cases_Bool, cond_both, eq-eqb, eqb-true}
 use Rattle.std.specs.List.{slice_get}
-use Rattle.std.specs.Prelude.{is_some}
+use Rattle.std.specs.Prelude.{is_some, nat_lt, filter}
 use Rattle.std.specs.Option.{option_map_or}
 use Rattle.serial_model.specs.declared.key.Key.{Key}
+use Rattle.serial_model.specs.Numbers.{last_epoch}
 use Rattle.commit_core.specs.declared.place.Place.{Place}
 use Rattle.commit_core.specs.declared.attempt.Attempt.{Attempt}
-use Rattle.commit_core.specs.declared.seat.Stage.TheVariants.{Ended}
+use Rattle.commit_core.specs.declared.seat.Stage.{Stage}
+use Rattle.commit_core.specs.declared.seat.Stage.TheVariants.{Idle, Trying, Ended, Decided}
 use Rattle.commit_core.specs.declared.seat.Seat.{Seat}
 use Rattle.commit_core.specs.declared.story.Story.{Story}
-use Rattle.commit_core.specs.Keys.{has_key, place_at, writes_key}
-use Rattle.commit_core.specs.CoreState.{is_held_by, check_of, is_free, is_trying, can_begin, attempt_tried, attempt_decided, same_keys, settled}
-use Rattle.commit_core.specs.Event.{is_unchecked, can_mark, is_allowed, Moved, moved, next_attempt, stays_as_seen, locked, valued, opened, after_check, after_decide, value_to_put, effect}
+use Rattle.commit_core.specs.Keys.{same_key, has_key, place_at, writes_key}
+use Rattle.commit_core.specs.CoreState.{is_held_by, check_of, is_free, is_trying, can_begin, attempt_tried, attempt_decided, same_keys, settled, settled_at}
+use Rattle.commit_core.specs.Event.{is_unchecked, can_mark, is_allowed, Moved, moved, next_attempt, stays_as_seen, locked, valued, opened, after_check, after_decide, decided_stage, value_to_put, effect}
 use Rattle.commit_core.specs.declared.event.Act.{Act}
 use Rattle.commit_core.specs.declared.event.Act.TheVariants.{See, Lock, Draw, Check as Look, Decide, Put, Open, Forget, Advance, Mark}
 use Rattle.commit_core.specs.declared.event.Event.{Event}
 use Rattle.commit_core.specs.CoreState.{CoreState}
 use Rattle.commit_core.specs.Event.{may_happen, with_moved, happened, next, run}
-use Rattle.commit_core.specs.Opening.{IsPrefix, Grows}
+use Rattle.commit_core.specs.Opening.{IsPrefix, Grows, MarksGrow, CoreGrows}
 use Rattle.commit_core.specs.Sound.{IsSoundStory, IsSoundSeat, IsSound}
-use Rattle.commit_core.proofs.Lists.{at_set_same, at_set_other, at_below}
+use Rattle.lists.specs.Elements.{at_set_same, at_set_other, at_below}
+use Rattle.commit_core.proofs.MarkLaws.{last_marked-push}
 use Rattle.commit_core.proofs.Events.Keeps.{Keeps}
 use Rattle.commit_core.proofs.Events.Resting.{keeps_see, keeps_forget, keeps_mark}
 use Rattle.commit_core.proofs.Events.Places.{keeps_lock, keeps_put, keeps_open}
@@ -50,7 +53,7 @@ keeps_act opening p m s (Open k) may story own =
     let d = and_parts held in_put c.1 in
     keeps_open opening p m s k c.0 d.0 d.1 story own
 keeps_act opening p m s Forget may story own = keeps_forget opening p m s story own
-keeps_act opening p m s Advance may story own = keeps_advance opening p m s story own
+keeps_act opening p m s Advance may story own = keeps_advance opening p m s (and_parts (eqb p 0) (nat_lt m.epoch last_epoch) may).1 story own
 keeps_act opening p m s (Mark e) may story own =
     let c = and_parts (not (is_trying s.stage)) (can_mark m.epoch s.marks e) may in keeps_mark opening p m s e c.0 c.1 story own
 
@@ -92,7 +95,7 @@ run_sound (e ∷ events) c sound = run_sound events (next c e) (next_sound c e s
 
 -- ---- growth
 
-prefix_self : {A : Type 0} (xs : List A) → IsPrefix xs xs
+pub prefix_self : {A : Type 0} (xs : List A) → IsPrefix xs xs
 prefix_self [] = ([], refl)
 prefix_self {A} (x ∷ xs) = let r = prefix_self xs in (r.0, ap (λ (l : List A). x ∷ l) r.1)
 
@@ -100,63 +103,122 @@ prefix_then : {A : Type 0} (xs ys zs : List A) → IsPrefix xs ys → IsPrefix y
 prefix_then {A} xs ys zs a b = (a.0 ++ b.0, sym (append_assoc xs a.0 b.0) ∙ ap (λ (l : List A). l ++ b.0) a.1 ∙ b.1)
 
 pub grows_self : (m : Story) → Grows m m
-grows_self m = record { history = prefix_self m.history; checks = prefix_self m.checks; decided = prefix_self m.decided }
+grows_self m = record { history = prefix_self m.history; checks = prefix_self m.checks; decided = prefix_self m.decided; first_draw = refl; epoch = omega arith }
 
-pub grows_then : (a b c : Story) → Grows a b → Grows b c → Grows a c
+grows_then : (a b c : Story) → Grows a b → Grows b c → Grows a c
 grows_then a b c g h = record {
   history = prefix_then a.history b.history c.history g.history h.history;
   checks = prefix_then a.checks b.checks c.checks g.checks h.checks;
   decided = prefix_then a.decided b.decided c.decided g.decided h.decided;
+  first_draw = h.first_draw ∙ g.first_draw;
+  epoch = omega arith;
 }
 
 check_grows : (p : ℕ) (k : Key) (m : Story) (s : Seat) (o : Option Attempt) → Grows m (after_check p k m s o).story
 check_grows p k m s None = grows_self m
 check_grows p k m s (Some a) =
     cond_both (stays_as_seen p (place_at m.places k) k a) (moved (record m { checks = m.checks ++ check_of a.number k ∷ [] }) s) (moved m (settled (record s { stage = Ended }))) (λ (n : Moved). Grows m n.story)
-    (λ _. record { history = prefix_self m.history; checks = (check_of a.number k ∷ [], refl); decided = prefix_self m.decided })
+    (λ _. record { history = prefix_self m.history; checks = (check_of a.number k ∷ [], refl); decided = prefix_self m.decided; first_draw = refl; epoch = omega arith })
     (λ _. grows_self m)
 
 decide_grows : (m : Story) (s : Seat) (o : Option Attempt) → Grows m (after_decide m s o).story
 decide_grows m s None = grows_self m
-decide_grows m s (Some a) = record { history = prefix_self m.history; checks = prefix_self m.checks; decided = (a.number ∷ [], refl) }
+decide_grows m s (Some a) = record { history = prefix_self m.history; checks = prefix_self m.checks; decided = (a.number ∷ [], refl); first_draw = refl; epoch = omega arith }
 
 same_lists : (m : Story) (places : List Place) → Grows m (record m { places = places })
-same_lists m places = record { history = prefix_self m.history; checks = prefix_self m.checks; decided = prefix_self m.decided }
+same_lists m places = record { history = prefix_self m.history; checks = prefix_self m.checks; decided = prefix_self m.decided; first_draw = refl; epoch = omega arith }
 
 pub act_grows : (p : ℕ) (m : Story) (s : Seat) (act : Act) → Grows m (effect p m s act).story
 act_grows p m s (See k) = grows_self m
 act_grows p m s (Lock k) = same_lists m (locked p k m.places (place_at m.places k))
-act_grows p m s (Draw writes) = record { history = (next_attempt p m s writes ∷ [], refl); checks = prefix_self m.checks; decided = prefix_self m.decided }
+act_grows p m s (Draw writes) = record { history = (next_attempt p m s writes ∷ [], refl); checks = prefix_self m.checks; decided = prefix_self m.decided; first_draw = refl; epoch = omega arith }
 act_grows p m s (Look k) = check_grows p k m s (attempt_tried m.history s.stage)
 act_grows p m s Decide = decide_grows m s (attempt_tried m.history s.stage)
 act_grows p m s (Put k) = same_lists m (valued k (value_to_put k (attempt_decided m.history s.stage)) m.places (place_at m.places k))
 act_grows p m s (Open k) = same_lists m (opened k (attempt_decided m.history s.stage) m.places (place_at m.places k))
 act_grows p m s Forget = grows_self m
-act_grows p m s Advance = record { history = prefix_self m.history; checks = prefix_self m.checks; decided = prefix_self m.decided }
+act_grows p m s Advance = record { history = prefix_self m.history; checks = prefix_self m.checks; decided = prefix_self m.decided; first_draw = refl; epoch = omega arith }
 act_grows p m s (Mark e) = grows_self m
 
-happened_grows : (c : CoreState) (p : ℕ) (act : Act) (o : Option Seat) → Grows c.story (option_map_or (λ s. with_moved c p (effect p c.story s act)) o c).story
-happened_grows c p act None = grows_self c.story
-happened_grows c p act (Some s) = act_grows p c.story s act
+-- ---- growth of marks
 
-pub next_grows : (c : CoreState) (e : Event) → Grows c.story (next c e).story
+same_marks : (old new : List (Option ℕ)) → new ≡ old → MarksGrow old new
+same_marks old new e = subst (λ (l : List (Option ℕ)). MarksGrow old l) (sym e) (record { marks = prefix_self old; rising = omega arith })
+
+marks_then : (a b c : List (Option ℕ)) → MarksGrow a b → MarksGrow b c → MarksGrow a c
+marks_then a b c g h = record { marks = prefix_then a b c g.marks h.marks; rising = omega arith }
+
+settled_marks : (s : Seat) → (settled s).marks ≡ s.marks
+settled_marks s = cond_both (eqb (length s.locks) 0) (settled_at s.stage s) s (λ (x : Seat). x.marks ≡ s.marks) (λ _. by_stage s.stage) (λ _. refl)
+  where
+    by_stage : (stage : Stage) → (settled_at stage s).marks ≡ s.marks
+    by_stage Idle = refl
+    by_stage (Trying i) = refl
+    by_stage Ended = refl
+    by_stage (Decided i) = refl
+
+check_marks : (p : ℕ) (k : Key) (m : Story) (s : Seat) (o : Option Attempt) → (after_check p k m s o).seat.marks ≡ s.marks
+check_marks p k m s None = refl
+check_marks p k m s (Some a) =
+    cond_both (stays_as_seen p (place_at m.places k) k a) (moved (record m { checks = m.checks ++ check_of a.number k ∷ [] }) s) (moved m (settled (record s { stage = Ended }))) (λ (n : Moved). n.seat.marks ≡ s.marks)
+    (λ _. refl) (λ _. settled_marks (record s { stage = Ended }))
+
+decide_marks : (m : Story) (s : Seat) (o : Option Attempt) → (after_decide m s o).seat.marks ≡ s.marks
+decide_marks m s None = refl
+decide_marks m s (Some a) = settled_marks (record s { put = []; stage = decided_stage s.stage })
+
+act_marks : (p : ℕ) (m : Story) (s : Seat) (act : Act) → is_allowed p m s act ≡ true → MarksGrow s.marks (effect p m s act).seat.marks
+act_marks p m s (See k) may = same_marks s.marks s.marks refl
+act_marks p m s (Lock k) may = same_marks s.marks s.marks refl
+act_marks p m s (Draw writes) may = same_marks s.marks s.marks refl
+act_marks p m s (Look k) may = same_marks s.marks (effect p m s (Look k)).seat.marks (check_marks p k m s (attempt_tried m.history s.stage))
+act_marks p m s Decide may = same_marks s.marks (effect p m s Decide).seat.marks (decide_marks m s (attempt_tried m.history s.stage))
+act_marks p m s (Put k) may = same_marks s.marks s.marks refl
+act_marks p m s (Open k) may = same_marks s.marks (effect p m s (Open k)).seat.marks (settled_marks (record s { locks = filter (λ q. not (same_key q k)) s.locks }))
+act_marks p m s Forget may = same_marks s.marks s.marks refl
+act_marks p m s Advance may = same_marks s.marks s.marks refl
+act_marks p m s (Mark e) may = record {
+  marks = (e ∷ [], refl);
+  rising = last_marked-push m.epoch s.marks e (and_parts (not (is_trying s.stage)) (can_mark m.epoch s.marks e) may).1;
+}
+
+-- ---- growth of the whole state
+
+core_self : (c : CoreState) → CoreGrows c c
+core_self c = record { opening = refl; story = grows_self c.story; seats = refl; marks = λ p s at. (s, at, same_marks s.marks s.marks refl) }
+
+core_then : (a b c : CoreState) → CoreGrows a b → CoreGrows b c → CoreGrows a c
+core_then a b c g h = record {
+  opening = h.opening ∙ g.opening;
+  story = grows_then a.story b.story c.story g.story h.story;
+  seats = h.seats ∙ g.seats;
+  marks = λ p s at. let t = g.marks p s at in let u = h.marks p t.0 t.1 in (u.0, u.1, marks_then s.marks t.0.marks u.0.marks t.2 u.2);
+}
+
+happened_grows : (c : CoreState) (p : ℕ) (act : Act) (o : Option Seat) → slice_get c.seats p ≡ o → option_map_or (λ s. is_allowed p c.story s act) o false ≡ true
+    → CoreGrows c (option_map_or (λ s. with_moved c p (effect p c.story s act)) o c)
+happened_grows c p act None at may = core_self c
+happened_grows c p act (Some x) at may =
+    let n = effect p c.story x act in record {
+      opening = refl;
+      story = act_grows p c.story x act;
+      seats = length-set c.seats p n.seat;
+      marks = λ q s there. elim (same_or_not p q) [
+        | inl mine ↦
+            let both : Some x ≡ Some s = sym at ∙ subst (λ (i : ℕ). slice_get c.seats i ≡ Some s) mine there in
+            let same : x ≡ s = cc in (
+              n.seat,
+              subst (λ (i : ℕ). slice_get (set c.seats p n.seat) i ≡ Some n.seat) (sym mine) (at_set_same c.seats p x n.seat at),
+              subst (λ (y : Seat). MarksGrow y.marks n.seat.marks) same (act_marks p c.story x act may),
+            )
+        | inr other ↦ (s, at_set_other c.seats p q n.seat other ∙ there, same_marks s.marks s.marks refl)
+      ];
+    }
+
+next_grows : (c : CoreState) (e : Event) → CoreGrows c (next c e)
 next_grows c e =
-    cond_both (may_happen c e) (happened c e) c (λ (x : CoreState). Grows c.story x.story) (λ _. happened_grows c e.seat e.act (slice_get c.seats e.seat)) (λ _. grows_self c.story)
+    cond_both (may_happen c e) (happened c e) c (λ (x : CoreState). CoreGrows c x) (λ may. happened_grows c e.seat e.act (slice_get c.seats e.seat) refl may) (λ _. core_self c)
 
-pub run_grows : (events : List Event) (c : CoreState) → Grows c.story (run events c).story
-run_grows [] c = grows_self c.story
-run_grows (e ∷ events) c = grows_then c.story (next c e).story (run events (next c e)).story (next_grows c e) (run_grows events (next c e))
-
--- the opening stays
-
-happened_opening : (c : CoreState) (p : ℕ) (act : Act) (o : Option Seat) → (option_map_or (λ s. with_moved c p (effect p c.story s act)) o c).opening ≡ c.opening
-happened_opening c p act None = refl
-happened_opening c p act (Some s) = refl
-
-next_opening : (c : CoreState) (e : Event) → (next c e).opening ≡ c.opening
-next_opening c e =
-    cond_both (may_happen c e) (happened c e) c (λ (x : CoreState). x.opening ≡ c.opening) (λ _. happened_opening c e.seat e.act (slice_get c.seats e.seat)) (λ _. refl)
-
-pub run_opening : (events : List Event) (c : CoreState) → (run events c).opening ≡ c.opening
-run_opening [] c = refl
-run_opening (e ∷ events) c = run_opening events (next c e) ∙ next_opening c e
+pub run_grows : (events : List Event) (c : CoreState) → CoreGrows c (run events c)
+run_grows [] c = core_self c
+run_grows (e ∷ events) c = core_then c (next c e) (run events (next c e)) (next_grows c e) (run_grows events (next c e))

@@ -1,28 +1,30 @@
 -- The decided attempts, in order of number, are a serial run.
 use Rattle.std.proofs.Common.{◌≡◌, ℕ, zero, suc, ◌-◌, ◌<◌, Bool, true, false, true≢false, cond, ◌&&◌, inl, inr, List, [], ◌∷◌, refl, sym, ap, ◌∙◌, subst, arith, Option, Some, None}
 use Rattle.std.proofs.lemmas.Bool.{and_parts, cases_Bool, cond-true, cond-false, cond_both}
-use Rattle.std.proofs.lemmas.Bool.Decides.{nat_tests}
 use Rattle.std.specs.List.{Contains, slice_get, filter}
 use Rattle.std.specs.Prelude.{replicate}
 use Rattle.std.specs.Option.{option_map_or}
 use Rattle.serial_model.specs.declared.key.Key.{Key}
 use Rattle.serial_model.specs.declared.number.Number.{Number}
+use Rattle.serial_model.specs.Numbers.{is_below, IsBelow, not_below_itself, not_both_below, is_below-true, below_from_test}
 use Rattle.commit_core.specs.declared.place.Content.{Content}
 use Rattle.commit_core.specs.declared.place.Place.{Place}
 use Rattle.commit_core.specs.declared.place.Part.{Part}
 use Rattle.commit_core.specs.declared.attempt.Attempt.{Attempt}
 use Rattle.commit_core.specs.declared.seat.Seat.{Seat}
 use Rattle.commit_core.specs.declared.story.Story.{Story}
-use Rattle.commit_core.specs.Keys.{same_key, is_below, IsBelow, place_at, opening_number, nothing, content_at}
+use Rattle.commit_core.specs.Keys.{same_key, covers, place_at, opening_number, nothing, content_at}
 use Rattle.commit_core.specs.CoreState.{holder_is, is_held_by, clock_of, is_decided}
 use Rattle.commit_core.specs.Serial.{after_writes, after_all, state_below, RisesFrom}
-use Rattle.commit_core.specs.Serial.{committed, ReadsFrom, ReadsAlong, IsSerialRun}
+use Rattle.commit_core.specs.Serial.{committed, ReadsFrom, ReadsAlong, ReadsAreSerial}
 use Rattle.commit_core.specs.Opening.{opening_place, opening_places, fresh_seat, opening_story, opening_core}
 use Rattle.commit_core.specs.Sound.{IsSoundStory, IsSoundSeat, IsSound}
-use Rattle.commit_core.proofs.Keys.{not_below_itself, not_both_below}
-use Rattle.commit_core.proofs.Lists.{in_none, in_head, in_tail, in_cases}
-use Rattle.commit_core.proofs.States.{rises_low, rises_lower, after_all-none}
-use Rattle.commit_core.proofs.VersionLaws.{some_key}
+use Rattle.commit_core.specs.Sound.Numbers.{EpochFits}
+use Rattle.commit_core.specs.Law.{CommitsAreSerial}
+use Rattle.commit_core.proofs.CountLaws.{count_committed}
+use Rattle.lists.specs.Elements.{in_none, in_head, in_tail, in_cases}
+use Rattle.commit_core.specs.Lemmas.States.{rises_low, rises_lower, after_all-none}
+use Rattle.commit_core.specs.Lemmas.Versions.{some_key}
 use Rattle.commit_core.proofs.ReadLaws.{kept_dropped}
 use Rattle.commit_core.proofs.LockLaws.{held_place}
 
@@ -36,16 +38,16 @@ rises_filter low f (a ∷ h) r =
 abbrev ReadsBelow : List Number → (Key → Content) → List Attempt → Type 0
 ReadsBelow decided state h =
     (a : Attempt) → Contains h a → is_decided decided a.number ≡ true → (part : Part) → Contains a.parts part
-    → part.content ≡ after_all (λ b. is_decided decided b.number && is_below b.number a.number) part.key h (state part.key)
+    → (k : Key) → covers part k ≡ true → part.content ≡ after_all (λ b. is_decided decided b.number && is_below b.number a.number) k h (state k)
 
 -- nothing in the list is below its first attempt
 first_reads : (decided : List Number) (state : Key → Content) (a : Attempt) (h : List Attempt) → RisesFrom a.number h → is_decided decided a.number ≡ true
     → ReadsBelow decided state (a ∷ h) → ReadsFrom state a
-first_reads decided state a h r d reads = λ part n.
-    reads a (in_head a h) d part n
-    ∙ after_all-none (λ b. is_decided decided b.number && is_below b.number a.number) part.key (a ∷ h) (state part.key)
+first_reads decided state a h r d reads = λ part n k v.
+    reads a (in_head a h) d part n k v
+    ∙ after_all-none (λ b. is_decided decided b.number && is_below b.number a.number) k (a ∷ h) (state k)
     (λ b m counts _.
-    let below = (and_parts (is_decided decided b.number) (is_below b.number a.number) counts).1 in
+    let below = below_from_test b.number a.number (and_parts (is_decided decided b.number) (is_below b.number a.number) counts).1 in
     elim (in_cases b a h m) [
       | inl same ↦ not_below_itself b.number a.number (ap (λ (x : Attempt). x.number) (sym same)) below
       | inr later ↦ not_both_below a.number b.number (rises_low a.number h r b later) below
@@ -54,12 +56,12 @@ first_reads decided state a h r d reads = λ part n.
 -- behind a decided one the state has its writes, behind another it is the same
 rest_reads : (decided : List Number) (state : Key → Content) (a : Attempt) (h : List Attempt) → RisesFrom a.number h
     → ReadsBelow decided state (a ∷ h) → ReadsBelow decided (λ k. cond (is_decided decided a.number) (after_writes k a (state k)) (state k)) h
-rest_reads decided state a h r reads = λ b m d part n.
+rest_reads decided state a h r reads = λ b m d part n k v.
     let counts = is_decided decided a.number in
-    let below = rises_low a.number h r b m in
+    let below = is_below-true a.number b.number (rises_low a.number h r b m) in
     let same : (counts && is_below a.number b.number) ≡ counts = ap (λ (x : Bool). counts && x) below ∙ and_true counts in
-    reads b (in_tail b a h m) d part n
-    ∙ ap (λ (x : Bool). after_all (λ e. is_decided decided e.number && is_below e.number b.number) part.key h (cond x (after_writes part.key a (state part.key)) (state part.key))) same
+    reads b (in_tail b a h m) d part n k v
+    ∙ ap (λ (x : Bool). after_all (λ e. is_decided decided e.number && is_below e.number b.number) k h (cond x (after_writes k a (state k)) (state k))) same
   where
     and_true : (x : Bool) → (x && true) ≡ x
     and_true true = refl
@@ -83,11 +85,18 @@ pub reads_below : (opening : List Place) (m : Story) → IsSoundStory opening m 
     → ReadsFrom (state_below opening m.history m.decided a.number) a
 reads_below opening m sound a inside d = λ part n. sound.reads_stay_true a inside part n (sound.commits_are_checked a inside d part n)
 
-pub committed_serial : (opening : List Place) (m : Story) → IsSoundStory opening m → IsSerialRun opening (committed m)
+pub committed_serial : (opening : List Place) (m : Story) → IsSoundStory opening m → ReadsAreSerial opening (committed m)
 committed_serial opening m sound = record {
   rising = λ k. rises_filter (content_at opening k).number (λ a. is_decided m.decided a.number) m.history (sound.ordered_numbers.rising k);
   reads = reads_along m.decided (content_at opening) (content_at opening some_key).number m.history (sound.ordered_numbers.rising some_key)
       (λ a inside d part n. reads_below opening m sound a inside d part n);
+}
+
+pub commits_serial : (opening : List Place) (m : Story) → IsSoundStory opening m → CommitsAreSerial opening m
+commits_serial opening m sound = record {
+  run = committed_serial opening m sound;
+  count = count_committed opening m.history m.decided (clock_of m.first_draw m.epoch m.history) sound.ordered_numbers;
+  reads = reads_below opening m sound;
 }
 
 -- ---- the start
@@ -119,7 +128,7 @@ at_replicate (suc n) zero x y e = cc
 at_replicate (suc n) (suc i) x y e = at_replicate n i x y e
 
 first_above : (e d : ℕ) → 0 < e → IsBelow opening_number (record { epoch = e; draw = d })
-first_above e d later = grind (arith, nat_tests)
+first_above e d later = inl later
 
 epoch_before : (n e : ℕ) → 0 < n → n - 1 ≡ e → e < n
 epoch_before n e later is = omega arith
@@ -134,12 +143,12 @@ fresh_sound pairs first p later = record {
   kept_is_past = kept_dropped (opening_places pairs) [] (clock_of first.draw first.epoch []);
 }
 
-pub opening_sound : (pairs : List (Key × ℕ)) (first : Number) (passes : ℕ) → 0 < first.epoch → IsSound (opening_core pairs first passes)
-opening_sound pairs first passes later = record {
+pub opening_sound : (pairs : List (Key × ℕ)) (first : Number) (passes : ℕ) → 0 < first.epoch → EpochFits first.epoch → IsSound (opening_core pairs first passes)
+opening_sound pairs first passes later fits = record {
   story = record {
     ordered_numbers = record {
       opening_past = λ k. let clock = clock_of first.draw first.epoch [] in
-          ap (λ (n : Number). is_below n clock) (opening_numbered pairs k) ∙ first_above first.epoch clock.draw later;
+          subst (λ (n : Number). IsBelow n clock) (sym (opening_numbered pairs k)) (first_above first.epoch clock.draw later);
       rising = λ k. tt;
       past = λ a m. absurd (in_none a m);
       decided_drawn = λ n d. absurd (true≢false (sym d));
@@ -150,6 +159,7 @@ opening_sound pairs first passes later = record {
     commits_are_checked = λ a m. absurd (in_none a m);
     parts_are_past = λ a m. absurd (in_none a m);
     checks_are_past = λ n k c. absurd (true≢false (sym c));
+    epoch_fits = fits;
   };
   seats = λ p s at. subst (λ (x : Seat). IsSoundSeat (opening_places pairs) (opening_story pairs first) p x) (at_replicate passes p (fresh_seat first) s at) (fresh_sound pairs first p later);
   holders_are_seats = λ k q p at e. absurd (true≢false (sym e ∙ ap (holder_is p) (opening_free pairs k q at)));

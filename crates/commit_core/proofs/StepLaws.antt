@@ -10,11 +10,12 @@ use Rattle.commit_core.specs.Event.{is_allowed, effect}
 use Rattle.commit_core.specs.declared.event.Event.{Event}
 use Rattle.commit_core.specs.CoreState.{CoreState}
 use Rattle.commit_core.specs.Event.{with_moved}
-use Rattle.commit_core.specs.Serial.{committed, IsSerialRun}
+use Rattle.commit_core.specs.Serial.{committed, ReadsAreSerial}
 use Rattle.commit_core.specs.Opening.{first_number, opening_core}
 use Rattle.commit_core.specs.Sound.{IsSound}
-use Rattle.serial_model.specs.declared.memory.OrMemory.{OrMemory}
-use Rattle.serial_model.specs.declared.memory.OrMemory.TheVariants.{Fault, Memory}
+use Rattle.commit_core.specs.Sound.Numbers.{EpochFits}
+use Rattle.lists.specs.declared.memory.OrMemory.{OrMemory}
+use Rattle.lists.specs.declared.memory.OrMemory.TheVariants.{Fault, Memory}
 use Rattle.commit_core.specs.declared.event.Refused.{Refused}
 use Rattle.commit_core.specs.Event.{Answers, AnswersEvent}
 use Rattle.commit_core.proofs.Runs.{happened_sound}
@@ -44,19 +45,20 @@ answers_event c e s (Ok x) m t at a = (
 )
 answers_event c e s (Err (Fault f)) m t at a =
     (ap (λ (o : Option Seat). option_map_or (λ u. is_allowed e.seat c.story u e.act) o false) at ∙ a.0, same_state c e.seat s m t at a.1 a.2)
-answers_event c e s (Err Memory) m t at a = same_state c e.seat s m t at a.0 a.1
+answers_event c e s (Err Memory) m t at a =
+    (ap (λ (o : Option Seat). option_map_or (λ u. is_allowed e.seat c.story u e.act) o false) at ∙ a.0, a.1, same_state c e.seat s m t at a.2 a.3)
 
 pub answers_sound : {X : Type 0} (c : CoreState) (e : Event) (r : Result X (OrMemory Refused)) (d : CoreState) → AnswersEvent c e r d → IsSound c → IsSound d
 answers_sound c e (Ok x) d a sound = subst (λ (y : CoreState). IsSound y) (sym a.1) (happened_sound c e a.0 sound)
 answers_sound c e (Err (Fault f)) d a sound = subst (λ (y : CoreState). IsSound y) (sym a.1) sound
-answers_sound c e (Err Memory) d a sound = subst (λ (y : CoreState). IsSound y) (sym a) sound
+answers_sound c e (Err Memory) d a sound = subst (λ (y : CoreState). IsSound y) (sym a.2) sound
 
 -- the same at each answer of a call
 
 pub opened_sound : {E : Type 0} (pairs : List (Key × ℕ)) (passes : ℕ) (r : Result CoreState E) → IfOk r (λ c. c ≡ opening_core pairs first_number passes) → IfOk r IsSound
-opened_sound pairs passes (Ok c) is = let later : 0 < 1 = omega arith in subst (λ (x : CoreState). IsSound x) (sym is) (opening_sound pairs first_number passes later)
+opened_sound pairs passes (Ok c) is = let later : 0 < 1 = omega arith in let fits : EpochFits 1 = omega arith in subst (λ (x : CoreState). IsSound x) (sym is) (opening_sound pairs first_number passes later fits)
 opened_sound pairs passes (Err e) is = tt
 
-pub listed_serial : {E : Type 0} (c : CoreState) (r : Result (List Attempt) E) → IfOk r (λ attempts. attempts ≡ committed c.story) → IsSound c → IfOk r (IsSerialRun c.opening)
-listed_serial c (Ok attempts) is sound = subst (λ (x : List Attempt). IsSerialRun c.opening x) (sym is) (committed_serial c.opening c.story sound.story)
+pub listed_serial : {E : Type 0} (c : CoreState) (r : Result (List Attempt) E) → IfOk r (λ attempts. attempts ≡ committed c.story) → IsSound c → IfOk r (ReadsAreSerial c.opening)
+listed_serial c (Ok attempts) is sound = subst (λ (x : List Attempt). ReadsAreSerial c.opening x) (sym is) (committed_serial c.opening c.story sound.story)
 listed_serial c (Err e) is sound = tt

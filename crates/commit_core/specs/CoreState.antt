@@ -98,15 +98,15 @@ abbrev pub mark_of : List (Option ℕ) → Option ℕ
 mark_of marks = fold (λ _ m. m) None marks
 
 -- the last mark that was not idle, and 0 where there is none
-abbrev pub last_epoch : List (Option ℕ) → ℕ
-last_epoch marks = fold (λ low m. unwrap_or m low) 0 marks
+abbrev pub last_marked : List (Option ℕ) → ℕ
+last_marked marks = fold (λ low m. unwrap_or m low) 0 marks
 
 -- where an attempt is over and no lock is left, what was kept is dropped
 abbrev pub settled_at : Stage → Seat → Seat
 settled_at Idle s = s
 settled_at (Trying i) s = s
-settled_at Ended s = record s { kept = []; stage = Idle }
-settled_at (Decided i) s = record s { kept = []; stage = Idle }
+settled_at Ended s = record s { kept = []; put = []; stage = Idle }
+settled_at (Decided i) s = record s { kept = []; put = []; stage = Idle }
 
 abbrev pub settled : Seat → Seat
 settled s = if length s.locks == 0 then settled_at s.stage s else s

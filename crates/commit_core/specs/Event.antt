@@ -1,12 +1,13 @@
 -- What may happen: the condition and the effect of each act of a seat, and lists of events.
-use Rattle.std.specs.Prelude.{◌≡◌, ℕ, ◌+◌, ◌-◌, ◌^◌, ◌==◌, ◌&&◌, ◌||◌, Bool, true, false, not, List, [], ◌∷◌, ◌++◌, filter, length, Option, Some, None, if◌then◌else◌, nat_lt, nat_le, is_some, slice_get, slice_set, unwrap_or, Result, Ok, Err}
+use Rattle.std.specs.Prelude.{◌≡◌, ℕ, ◌+◌, ◌==◌, ◌&&◌, ◌||◌, Bool, true, false, not, List, [], ◌∷◌, ◌++◌, filter, length, Option, Some, None, if◌then◌else◌, nat_lt, nat_le, is_some, slice_get, slice_set, unwrap_or, Result, Ok, Err}
 use Rattle.std.specs.List.{list_any, list_all}
 use mathlib.Core.Bool.{beq}
 use Rattle.std.specs.Option.{option_map_or}
 use Rattle.serial_model.specs.declared.key.Key.{Key}
 use Rattle.serial_model.specs.declared.number.Change.{Change}
-use Rattle.serial_model.specs.declared.memory.OrMemory.{OrMemory}
-use Rattle.serial_model.specs.declared.memory.OrMemory.TheVariants.{Fault, Memory}
+use Rattle.lists.specs.declared.memory.OrMemory.{OrMemory}
+use Rattle.lists.specs.declared.memory.OrMemory.TheVariants.{Fault, Memory}
+use Rattle.serial_model.specs.Numbers.{last_epoch}
 use Rattle.commit_core.specs.declared.event.Refused.{Refused}
 use Rattle.commit_core.specs.declared.place.Content.{Content}
 use Rattle.commit_core.specs.declared.place.Place.{Place}
@@ -21,7 +22,7 @@ use Rattle.commit_core.specs.declared.seat.Seat.{Seat}
 use Rattle.commit_core.specs.declared.story.Story.{Story}
 use Rattle.commit_core.specs.CoreState.{CoreState}
 use Rattle.commit_core.specs.Keys.{same_key, same_number, has_key, place_at, placed, content_at, content_of, written, writes_key, is_part_at}
-use Rattle.commit_core.specs.CoreState.{is_free, is_held_by, is_open_to, clock_of, is_checked, check_of, is_trying, can_begin, attempt_tried, attempt_decided, with_part, same_keys, last_epoch, settled}
+use Rattle.commit_core.specs.CoreState.{is_free, is_held_by, is_open_to, clock_of, is_checked, check_of, is_trying, can_begin, attempt_tried, attempt_decided, with_part, same_keys, last_marked, settled}
 
 -- ---- conditions
 
@@ -35,20 +36,25 @@ all_checked checks a = list_all (λ part. is_checked checks a.number part.key) a
 -- an epoch that a mark may name
 abbrev pub can_mark : ℕ → List (Option ℕ) → Option ℕ → Bool
 can_mark epoch marks None = true
-can_mark epoch marks (Some e) = nat_lt e epoch && nat_le (last_epoch marks) e
+can_mark epoch marks (Some e) = nat_lt e epoch && nat_le (last_marked marks) e
 
 -- seat p, which has s, may do this
 abbrev pub is_allowed : ℕ → Story → Seat → Act → Bool
 is_allowed p m s (See k) = not (is_trying s.stage) && is_free (place_at m.places k)
 is_allowed p m s (Lock k) = can_begin s.stage && is_free (place_at m.places k)
 is_allowed p m s (Draw writes) = can_begin s.stage && same_keys s.locks writes
-is_allowed p m s (Look k) = option_map_or (is_unchecked m.checks k) (attempt_tried m.history s.stage) false && is_some (place_at m.places k)
+is_allowed p m s (Look k) =
+    option_map_or (is_unchecked m.checks k) (attempt_tried m.history s.stage) false && is_some (place_at m.places k)
 is_allowed p m s Decide = option_map_or (all_checked m.checks) (attempt_tried m.history s.stage) false
-is_allowed p m s (Put k) = option_map_or (λ a. writes_key a.writes k) (attempt_decided m.history s.stage) false && is_held_by p (place_at m.places k)
+is_allowed p m s (Put k) =
+    option_map_or (λ a. writes_key a.writes k) (attempt_decided m.history s.stage) false
+    && is_held_by p (place_at m.places k)
 is_allowed p m s (Open k) =
-    not (is_trying s.stage) && (is_held_by p (place_at m.places k) && option_map_or (λ _. has_key s.put k) (attempt_decided m.history s.stage) true)
+    not (is_trying s.stage)
+    && (is_held_by p (place_at m.places k)
+    && option_map_or (λ _. has_key s.put k) (attempt_decided m.history s.stage) true)
 is_allowed p m s Forget = can_begin s.stage
-is_allowed p m s Advance = (p == 0) && nat_lt m.epoch (2 ^ 20 - 2)
+is_allowed p m s Advance = (p == 0) && nat_lt m.epoch last_epoch
 is_allowed p m s (Mark e) = not (is_trying s.stage) && can_mark m.epoch s.marks e
 
 -- ---- effects
@@ -63,7 +69,8 @@ moved m s = record { story = m; seat = s }
 
 -- what the seat's next attempt will be
 abbrev pub next_attempt : ℕ → Story → Seat → List Change → Attempt
-next_attempt p m s writes = record { seat = p; number = clock_of m.first_draw m.epoch m.history; parts = s.kept; writes = writes }
+next_attempt p m s writes =
+    record { seat = p; number = clock_of m.first_draw m.epoch m.history; parts = s.kept; writes = writes }
 
 -- the same number, and a value in both or in neither: what a place's word shows beside its lock
 abbrev pub is_same_word : Content → Content → Bool
@@ -85,18 +92,21 @@ locked p k places (Some q) = placed places (record { key = k; content = q.conten
 -- the place of the key with a new value, and still its old number
 abbrev pub valued : Key → Option ℕ → List Place → Option Place → List Place
 valued k value places None = places
-valued k value places (Some q) = placed places (record { key = k; content = content_of q.content.number value; holder = q.holder })
+valued k value places (Some q) =
+    placed places (record { key = k; content = content_of q.content.number value; holder = q.holder })
 
 -- the place of the key unlocked, with the number of the attempt where one is decided
 abbrev pub opened : Key → Option Attempt → List Place → Option Place → List Place
 opened k a places None = places
 opened k a places (Some q) =
-    placed places (record { key = k; content = content_of (option_map_or (λ b. b.number) a q.content.number) q.content.value; holder = None })
+    let number = option_map_or (λ b. b.number) a q.content.number in
+    placed places (record { key = k; content = content_of number q.content.value; holder = None })
 
 abbrev pub after_check : ℕ → Key → Story → Seat → Option Attempt → Moved
 after_check p k m s None = moved m s
 after_check p k m s (Some a) =
-    if stays_as_seen p (place_at m.places k) k a then moved (record m { checks = m.checks ++ check_of a.number k ∷ [] }) s
+    if stays_as_seen p (place_at m.places k) k a
+    then moved (record m { checks = m.checks ++ check_of a.number k ∷ [] }) s
     else moved m (settled (record s { stage = Ended }))
 
 -- the stage of one whose attempt in progress is now decided
@@ -109,7 +119,8 @@ decided_stage (Decided i) = Decided i
 abbrev pub after_decide : Story → Seat → Option Attempt → Moved
 after_decide m s None = moved m s
 after_decide m s (Some a) =
-    moved (record m { decided = m.decided ++ a.number ∷ [] }) (settled (record s { put = []; stage = decided_stage s.stage }))
+    moved (record m { decided = m.decided ++ a.number ∷ [] })
+    (settled (record s { put = []; stage = decided_stage s.stage }))
 
 -- the value that the attempt writes
 abbrev pub value_to_put : Key → Option Attempt → Option ℕ
@@ -118,14 +129,19 @@ value_to_put k (Some a) = unwrap_or (written k a.writes) None
 
 -- what an act of seat p comes to
 abbrev pub effect : ℕ → Story → Seat → Act → Moved
-effect p m s (See k) = moved m (record s { kept = with_part s.kept (record { key = k; content = content_at m.places k }) })
-effect p m s (Lock k) = moved (record m { places = locked p k m.places (place_at m.places k) }) (record s { locks = s.locks ++ k ∷ [] })
+effect p m s (See k) =
+    moved m (record s { kept = with_part s.kept (record { key = k; content = content_at m.places k }) })
+effect p m s (Lock k) =
+    moved (record m { places = locked p k m.places (place_at m.places k) }) (record s { locks = s.locks ++ k ∷ [] })
 effect p m s (Draw writes) =
-    moved (record m { history = m.history ++ next_attempt p m s writes ∷ [] }) (record s { stage = Trying (length m.history) })
+    moved (record m { history = m.history ++ next_attempt p m s writes ∷ [] })
+    (record s { stage = Trying (length m.history) })
 effect p m s (Look k) = after_check p k m s (attempt_tried m.history s.stage)
 effect p m s Decide = after_decide m s (attempt_tried m.history s.stage)
 effect p m s (Put k) =
-    moved (record m { places = valued k (value_to_put k (attempt_decided m.history s.stage)) m.places (place_at m.places k) }) (record s { put = s.put ++ k ∷ [] })
+    moved
+    (record m { places = valued k (value_to_put k (attempt_decided m.history s.stage)) m.places (place_at m.places k) })
+    (record s { put = s.put ++ k ∷ [] })
 effect p m s (Open k) =
     moved (record m { places = opened k (attempt_decided m.history s.stage) m.places (place_at m.places k) })
     (settled (record s { locks = filter (λ q. not (same_key q k)) s.locks }))
@@ -157,14 +173,29 @@ run (e ∷ more) c = run more (next c e)
 
 -- ---- answers
 
--- what an act answers and leaves: it happens only where it is allowed, is refused only where it is not, and else changes nothing
+-- the act adds to a list, or builds one anew
+abbrev pub takes_memory : Act → Bool
+takes_memory (See k) = true
+takes_memory (Lock k) = true
+takes_memory (Draw writes) = true
+takes_memory (Look k) = true
+takes_memory Decide = true
+takes_memory (Put k) = true
+takes_memory (Open k) = true
+takes_memory Forget = false
+takes_memory Advance = false
+takes_memory (Mark e) = true
+
+-- What an act answers and leaves: it happens only where it is allowed, is refused only where it is not, and wants memory
+-- only where it is allowed and takes memory; after the last two nothing is changed.
 abbrev pub Answers : {X : Type 0} → ℕ → Act → Story → Seat → Result X (OrMemory Refused) → Story → Seat → Type 0
-Answers p act m s (Ok x) n t = (is_allowed p m s act ≡ true) × (n ≡ (effect p m s act).story) × (t ≡ (effect p m s act).seat)
+Answers p act m s (Ok x) n t =
+    (is_allowed p m s act ≡ true) × (n ≡ (effect p m s act).story) × (t ≡ (effect p m s act).seat)
 Answers p act m s (Err (Fault r)) n t = (is_allowed p m s act ≡ false) × (n ≡ m) × (t ≡ s)
-Answers p act m s (Err Memory) n t = (n ≡ m) × (t ≡ s)
+Answers p act m s (Err Memory) n t = (is_allowed p m s act ≡ true) × (takes_memory act ≡ true) × (n ≡ m) × (t ≡ s)
 
 -- the same of an event and the whole state
 abbrev pub AnswersEvent : {X : Type 0} → CoreState → Event → Result X (OrMemory Refused) → CoreState → Type 0
 AnswersEvent c e (Ok x) d = (may_happen c e ≡ true) × (d ≡ happened c e)
 AnswersEvent c e (Err (Fault r)) d = (may_happen c e ≡ false) × (d ≡ c)
-AnswersEvent c e (Err Memory) d = d ≡ c
+AnswersEvent c e (Err Memory) d = (may_happen c e ≡ true) × (takes_memory e.act ≡ true) × (d ≡ c)

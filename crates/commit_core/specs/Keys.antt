@@ -1,10 +1,11 @@
 -- Tests on keys and numbers, and places by their keys.
-use Rattle.std.specs.Prelude.{◌≡◌, ℕ, ◌==◌, ◌&&◌, ◌||◌, Bool, true, List, map, Option, None, if◌then◌else◌, nat_lt, is_some}
+use Rattle.std.specs.Prelude.{◌≡◌, ◌⊎◌, ℕ, ◌==◌, ◌&&◌, Bool, true, List, map, Option, None, if◌then◌else◌, is_some}
 use Rattle.std.specs.List.{list_any, find}
 use Rattle.std.specs.Option.{option_map, option_map_or}
 use Rattle.serial_model.specs.declared.key.Key.{Key}
 use Rattle.serial_model.specs.declared.number.Number.{Number}
 use Rattle.serial_model.specs.declared.number.Change.{Change}
+use Rattle.serial_model.specs.Numbers.{IsBelow}
 use Rattle.commit_core.specs.declared.place.Content.{Content}
 use Rattle.commit_core.specs.declared.place.Place.{Place}
 use Rattle.commit_core.specs.declared.place.Part.{Part}
@@ -15,12 +16,9 @@ same_key a b = (a.storage == b.storage) && (a.key == b.key)
 abbrev pub same_number : Number → Number → Bool
 same_number a b = (a.epoch == b.epoch) && (a.draw == b.draw)
 
--- numbers are compared by epoch, and then by draw
-abbrev pub is_below : Number → Number → Bool
-is_below a b = nat_lt a.epoch b.epoch || ((a.epoch == b.epoch) && nat_lt a.draw b.draw)
-
-abbrev pub IsBelow : Number → Number → Type 0
-IsBelow a b = is_below a b ≡ true
+-- equal to a number, or below it
+abbrev pub IsUpTo : Number → Number → Type 0
+IsUpTo a b = (a ≡ b) ⊎ IsBelow a b
 
 -- the key is in the list
 abbrev pub has_key : List Key → Key → Bool
@@ -68,4 +66,4 @@ covers part k = same_key part.key k
 
 -- the state has what the part vouches for
 abbrev pub Vouches : (Key → Content) → Part → Type 0
-Vouches state part = part.content ≡ state part.key
+Vouches state part = (k : Key) → covers part k ≡ true → part.content ≡ state k

@@ -1,5 +1,5 @@
 -- What holds under every list of events.
-use Rattle.std.specs.Prelude.{◌≡◌, ℕ, ◌<◌, true, false, List, Contains, Some, slice_get}
+use Rattle.std.specs.Prelude.{◌≡◌, ℕ, ◌<◌, true, false, List, length, Contains, Some, slice_get}
 use Rattle.serial_model.specs.declared.key.Key.{Key}
 use Rattle.serial_model.specs.declared.number.Number.{Number}
 use Rattle.commit_core.specs.declared.event.Event.{Event}
@@ -12,10 +12,12 @@ use Rattle.commit_core.specs.declared.story.Story.{Story}
 use Rattle.commit_core.specs.Keys.{place_at}
 use Rattle.commit_core.specs.CoreState.{CoreState, is_decided, attempt_tried}
 use Rattle.commit_core.specs.Event.{Moved, is_allowed, effect, stays_as_seen, may_happen, happened, run}
-use Rattle.commit_core.specs.Opening.{opening_core, Grows}
-use Rattle.commit_core.specs.Serial.{state_below, committed, ReadsFrom, IsSerialRun}
+use Rattle.commit_core.specs.Opening.{opening_core, CoreGrows}
+use Rattle.commit_core.specs.Leaves.{Leaves}
+use Rattle.commit_core.specs.Serial.{state_below, committed, ReadsFrom, ReadsAreSerial}
 use Rattle.commit_core.specs.Sound.{IsSoundStory, IsSoundSeat, EachSeat, IsSound}
 use Rattle.commit_core.specs.Sound.Locks.{HoldersAreSeats}
+use Rattle.commit_core.specs.Sound.Numbers.{EpochFits}
 
 -- After an act of seat p the story is sound, and so are that seat and each other one, beside it; who holds a place is
 -- still one of the seats.
@@ -30,17 +32,18 @@ abbrev pub EachActKeeps : Type 0
 EachActKeeps = (opening : List Place) (p : ℕ) (m : Story) (s : Seat) (act : Act) → is_allowed p m s act ≡ true
     → IsSoundStory opening m → IsSoundSeat opening m p s → Keeps opening p m (effect p m s act)
 
--- each machine starts sound, whose first epoch isn't 0
+-- each machine starts sound, whose first epoch isn't 0 and fits
 abbrev pub StartsSound : Type 0
-StartsSound = (pairs : List (Key × ℕ)) (first : Number) (passes : ℕ) → 0 < first.epoch → IsSound (opening_core pairs first passes)
+StartsSound = (pairs : List (Key × ℕ)) (first : Number) (passes : ℕ) → 0 < first.epoch → EpochFits first.epoch
+    → IsSound (opening_core pairs first passes)
 
 -- every list of events keeps it so
 abbrev pub StaysSound : Type 0
 StaysSound = (c : CoreState) (events : List Event) → IsSound c → IsSound (run events c)
 
--- the opening stays, and what was drawn, checked or decided before a list of events is so after it
+-- the opening stays over every list of events, and what was drawn, checked, decided or marked before it is so after it
 abbrev pub OnlyGrows : Type 0
-OnlyGrows = (c : CoreState) (events : List Event) → ((run events c).opening ≡ c.opening) × Grows c.story (run events c).story
+OnlyGrows = (c : CoreState) (events : List Event) → CoreGrows c (run events c)
 
 -- the attempt is neither decided nor in progress: it failed a check
 pub record IsGivenUp (c : CoreState) (a : Attempt) : Type 0 where
@@ -50,20 +53,34 @@ pub record IsGivenUp (c : CoreState) (a : Attempt) : Type 0 where
 
 -- a check that finds a part not as it was read gives the attempt up
 abbrev pub FailedCheckGivesUp : Type 0
-FailedCheckGivesUp = (c : CoreState) (p : ℕ) (s : Seat) (k : Key) (a : Attempt) → IsSound c → slice_get c.seats p ≡ Some s
-    → attempt_tried c.story.history s.stage ≡ Some a → may_happen c (record { seat = p; act = Look k }) ≡ true
-    → stays_as_seen p (place_at c.story.places k) k a ≡ false → IsGivenUp (happened c (record { seat = p; act = Look k })) a
+FailedCheckGivesUp = (c : CoreState) (p : ℕ) (s : Seat) (k : Key) (a : Attempt)
+    → IsSound c → slice_get c.seats p ≡ Some s → attempt_tried c.story.history s.stage ≡ Some a
+    → may_happen c (record { seat = p; act = Look k }) ≡ true → stays_as_seen p (place_at c.story.places k) k a ≡ false
+    → IsGivenUp (happened c (record { seat = p; act = Look k })) a
 
 -- it never counts, whatever happens
 abbrev pub StaysGivenUp : Type 0
-StaysGivenUp = (c : CoreState) (events : List Event) (a : Attempt) → IsSound c → IsGivenUp c a → IsGivenUp (run events c) a
+StaysGivenUp = (c : CoreState) (events : List Event) (a : Attempt)
+    → IsSound c → IsGivenUp c a → IsGivenUp (run events c) a
 
--- after a list of events, the decided attempts in order of number are a serial run from the opening, and each of them
--- read exactly what the state below its number has
-pub record CommitsAreSerial (c : CoreState) : Type 0 where
-  pub run : IsSerialRun c.opening (committed c.story)
-  pub reads : (a : Attempt) → Contains c.story.history a → is_decided c.story.decided a.number ≡ true
-      → ReadsFrom (state_below c.opening c.story.history c.story.decided a.number) a
+-- each act that is allowed leaves alone what other seats hold and have checked, and lets nothing fall
+abbrev pub EachActLeaves : Type 0
+EachActLeaves = (opening : List Place) (p : ℕ) (m : Story) (s : Seat) (act : Act) → is_allowed p m s act ≡ true
+    → IsSoundStory opening m → IsSoundSeat opening m p s → Leaves p m (effect p m s act).story
 
+-- The decided attempts in order of number, as many as were decided, read serially from the opening, and each of them
+-- read exactly what the state below its number has.
+pub record CommitsAreSerial (opening : List Place) (m : Story) : Type 0 where
+  pub run : ReadsAreSerial opening (committed m)
+  pub count : length (committed m) ≡ length m.decided
+  pub reads : (a : Attempt) → Contains m.history a → is_decided m.decided a.number ≡ true
+      → ReadsFrom (state_below opening m.history m.decided a.number) a
+
+-- the commits of a sound story are serial
+abbrev pub SoundIsSerial : Type 0
+SoundIsSerial = (opening : List Place) (m : Story) → IsSoundStory opening m → CommitsAreSerial opening m
+
+-- and so are those of each state that is reached from a sound one
 abbrev pub IsSerial : Type 0
-IsSerial = (c : CoreState) (events : List Event) → IsSound c → CommitsAreSerial (run events c)
+IsSerial = (c : CoreState) (events : List Event)
+    → IsSound c → CommitsAreSerial (run events c).opening (run events c).story

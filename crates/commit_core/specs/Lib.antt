@@ -4,4 +4,6 @@ pub mod Event
 pub mod Serial
 pub mod Sound
 pub mod Opening
+pub mod Leaves
 pub mod Law
+pub mod Lemmas

@@ -3,12 +3,13 @@ use Rattle.std.specs.Prelude.{◌&&◌, Bool, true, List, [], ◌∷◌, filter,
 use Rattle.std.specs.Option.{option_map_or}
 use Rattle.serial_model.specs.declared.key.Key.{Key}
 use Rattle.serial_model.specs.declared.number.Number.{Number}
+use Rattle.serial_model.specs.Numbers.{is_below, IsBelow}
 use Rattle.commit_core.specs.declared.place.Content.{Content}
 use Rattle.commit_core.specs.declared.place.Place.{Place}
 use Rattle.commit_core.specs.declared.place.Part.{Part}
 use Rattle.commit_core.specs.declared.attempt.Attempt.{Attempt}
 use Rattle.commit_core.specs.declared.story.Story.{Story}
-use Rattle.commit_core.specs.Keys.{is_below, IsBelow, content_at, content_of, written, Vouches}
+use Rattle.commit_core.specs.Keys.{content_at, content_of, written, Vouches}
 use Rattle.commit_core.specs.CoreState.{is_decided}
 
 -- what stands at the key after an attempt's writes
@@ -33,7 +34,7 @@ state_below opening history decided n = content_after opening history decided (�
 abbrev pub last_write : List Place → List Attempt → List Number → Key → Content
 last_write opening history decided = content_after opening history decided (λ _. true)
 
--- ---- serial runs
+-- ---- serial reads
 
 -- the decided attempts, in order of number, which is the history's
 abbrev pub committed : Story → List Attempt
@@ -53,7 +54,8 @@ abbrev pub ReadsAlong : (Key → Content) → List Attempt → Type 0
 ReadsAlong state [] = ⊤
 ReadsAlong state (a ∷ more) = ReadsFrom state a × ReadsAlong (λ k. after_writes k a (state k)) more
 
--- the attempts are a serial run from the opening
-pub record IsSerialRun (opening : List Place) (attempts : List Attempt) : Type 0 where
+-- The attempts, in this order, read serially from the opening: their numbers rise strictly, and each read what those
+-- before it leave. Of replies it says nothing: what a transaction makes of its reads is its own.
+pub record ReadsAreSerial (opening : List Place) (attempts : List Attempt) : Type 0 where
   pub rising : (k : Key) → RisesFrom (content_at opening k).number attempts
   pub reads : ReadsAlong (content_at opening) attempts

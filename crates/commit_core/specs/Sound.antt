@@ -8,6 +8,7 @@ pub mod Marks
 use Rattle.std.specs.Prelude.{◌≡◌, ◌⊎◌, ℕ, ◌<◌, Bool, true, false, List, [], ◌∷◌, Option, Some, None, is_some, slice_get, length, ⊤, Contains, if◌then◌else◌}
 use Rattle.serial_model.specs.declared.key.Key.{Key}
 use Rattle.serial_model.specs.declared.number.Number.{Number}
+use Rattle.serial_model.specs.Numbers.{is_below, IsBelow}
 use Rattle.commit_core.specs.declared.place.Content.{Content}
 use Rattle.commit_core.specs.declared.place.Place.{Place}
 use Rattle.commit_core.specs.declared.place.Part.{Part}
@@ -18,10 +19,10 @@ use Rattle.commit_core.specs.declared.seat.Stage.TheVariants.{Idle, Trying, Ende
 use Rattle.commit_core.specs.declared.seat.Seat.{Seat}
 use Rattle.commit_core.specs.declared.story.Story.{Story}
 use Rattle.commit_core.specs.CoreState.{CoreState}
-use Rattle.commit_core.specs.Keys.{same_key, IsBelow, is_below, has_key, place_at, content_at, written, writes_key}
+use Rattle.commit_core.specs.Keys.{same_key, has_key, place_at, content_at, written, writes_key}
 use Rattle.commit_core.specs.CoreState.{is_held_by, holder_is, clock_of, is_decided, is_checked, mark_of}
 use Rattle.commit_core.specs.Serial.{state_below, last_write, RisesFrom}
-use Rattle.commit_core.specs.Sound.Numbers.{OrderedNumbers, ChecksArePast}
+use Rattle.commit_core.specs.Sound.Numbers.{OrderedNumbers, EpochFits, ChecksArePast}
 use Rattle.commit_core.specs.Sound.Locks.{LockOwners, HoldersAreSeats, AttemptStands}
 use Rattle.commit_core.specs.Sound.Homes.{UnlockedHomes, LockedHomes}
 use Rattle.commit_core.specs.Sound.Reads.{ReadsStayTrue, NoLowerWriter, CommitsAreChecked, PartsArePast, KeptIsPast}
@@ -34,6 +35,7 @@ pub record IsSoundStory (opening : List Place) (m : Story) : Type 0 where
   pub commits_are_checked : CommitsAreChecked m.history m.checks m.decided
   pub parts_are_past : PartsArePast opening m.history
   pub checks_are_past : ChecksArePast m.checks (clock_of m.first_draw m.epoch m.history)
+  pub epoch_fits : EpochFits m.epoch
 
 pub record IsSoundSeat (opening : List Place) (m : Story) (p : ℕ) (s : Seat) : Type 0 where
   pub lock_owners : LockOwners m.places p s.locks

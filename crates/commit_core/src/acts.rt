@@ -6,7 +6,7 @@ ghost use Rattle.commit_core.specs.Event.{Answers};
 use crate::attempt::{copy_changes, copy_parts, written};
 use crate::seat::keys_elsewhere;
 use crate::{Act, Attempt, Check, Content, Part, Place, Refused, Seat, Stage, Story};
-use serial_model::{Changes, Key, Memory, OrMemory};
+use serial_model::{Changes, Key, LAST_EPOCH, OrMemory};
 
 /// What an act answers.
 pub type Answer = Result<(), OrMemory<Refused>>;
@@ -22,10 +22,8 @@ pub fn see(id: u32, story: &mut Story, seat: &mut Seat, key: Key) -> Answer
         return Err(OrMemory::Fault(Refused));
     }
     let content = place.content;
-    match seat.keep(Part { key, content }) {
-        Ok(()) => Ok(()),
-        Err(Memory) => Err(OrMemory::Memory),
-    }
+    seat.keep(Part { key, content })?;
+    Ok(())
 }
 
 /// Locks a key that is not locked.
@@ -38,19 +36,15 @@ pub fn lock(id: u32, story: &mut Story, seat: &mut Seat, key: Key) -> Answer
     if !seat.stage.can_begin() || place.holder.is_some() {
         return Err(OrMemory::Fault(Refused));
     }
-    match seat.locks.push(key) {
-        Ok(()) => {
-            let content = place.content;
-            let holder = Some(id);
-            story.set_place(Place {
-                key,
-                content,
-                holder,
-            });
-            Ok(())
-        }
-        Err(Memory) => Err(OrMemory::Memory),
-    }
+    seat.locks.push(key)?;
+    let content = place.content;
+    let holder = Some(id);
+    story.set_place(Place {
+        key,
+        content,
+        holder,
+    });
+    Ok(())
 }
 
 /// Takes a commit number for an attempt with these writes: its place in the order of all commits is fixed here,
@@ -63,22 +57,16 @@ pub fn draw(id: u32, story: &mut Story, seat: &mut Seat, writes: &Changes) -> An
     }
     let index = story.history.len();
     let number = story.clock();
-    let Ok(parts) = copy_parts(&seat.kept) else {
-        return Err(OrMemory::Memory);
-    };
+    let parts = copy_parts(&seat.kept)?;
     let writes = copy_changes(writes);
-    match story.history.push(Attempt {
+    story.history.push(Attempt {
         seat: id,
         number,
         parts,
         writes,
-    }) {
-        Ok(()) => {
-            seat.stage = Stage::Trying(index);
-            Ok(())
-        }
-        Err(Memory) => Err(OrMemory::Memory),
-    }
+    })?;
+    seat.stage = Stage::Trying(index);
+    Ok(())
 }
 
 /// Looks again at a key that was read. A place that another seat holds is not as it was read, even where its number
@@ -89,8 +77,7 @@ pub fn check(id: u32, story: &mut Story, seat: &mut Seat, key: Key) -> Answer
     let Some(place) = story.place(key) else {
         return Err(OrMemory::Fault(Refused));
     };
-    let tried = story.attempt_tried(seat.stage);
-    let Some(attempt) = tried else {
+    let Some(attempt) = story.attempt_tried(seat.stage) else {
         return Err(OrMemory::Fault(Refused));
     };
     let check = Check {
@@ -105,10 +92,8 @@ pub fn check(id: u32, story: &mut Story, seat: &mut Seat, key: Key) -> Answer
         seat.settle();
         return Ok(());
     }
-    match story.checks.push(check) {
-        Ok(()) => Ok(()),
-        Err(Memory) => Err(OrMemory::Memory),
-    }
+    story.checks.push(check)?;
+    Ok(())
 }
 
 /// Lets the attempt count, once all its parts are checked.
@@ -125,15 +110,11 @@ pub fn decide(id: u32, story: &mut Story, seat: &mut Seat) -> Answer
         return Err(OrMemory::Fault(Refused));
     }
     let number = attempt.number;
-    match story.decided.push(number) {
-        Ok(()) => {
-            seat.put.clear();
-            seat.stage = Stage::Decided(index);
-            seat.settle();
-            Ok(())
-        }
-        Err(Memory) => Err(OrMemory::Memory),
-    }
+    story.decided.push(number)?;
+    seat.put.clear();
+    seat.stage = Stage::Decided(index);
+    seat.settle();
+    Ok(())
 }
 
 /// Puts the new value of a key. The place keeps its old number, and its lock, until it is opened.
@@ -152,21 +133,17 @@ pub fn put(id: u32, story: &mut Story, seat: &mut Seat, key: Key) -> Answer
     if place.holder != Some(id) {
         return Err(OrMemory::Fault(Refused));
     }
-    match seat.put.push(key) {
-        Ok(()) => {
-            let content = Content {
-                number: place.content.number,
-                value,
-            };
-            story.set_place(Place {
-                key,
-                content,
-                holder: place.holder,
-            });
-            Ok(())
-        }
-        Err(Memory) => Err(OrMemory::Memory),
-    }
+    seat.put.push(key)?;
+    let content = Content {
+        number: place.content.number,
+        value,
+    };
+    story.set_place(Place {
+        key,
+        content,
+        holder: place.holder,
+    });
+    Ok(())
 }
 
 /// Unlocks a key: with the attempt's number if it is decided, else as it was.
@@ -188,9 +165,7 @@ pub fn open(id: u32, story: &mut Story, seat: &mut Seat, key: Key) -> Answer
             attempt.number
         }
     };
-    let Ok(locks) = keys_elsewhere(&seat.locks, key) else {
-        return Err(OrMemory::Memory);
-    };
+    let locks = keys_elsewhere(&seat.locks, key)?;
     seat.locks = locks;
     seat.settle();
     let content = Content {
@@ -220,7 +195,7 @@ pub fn forget(id: u32, story: &mut Story, seat: &mut Seat) -> Answer
 pub fn advance(id: u32, story: &mut Story, seat: &mut Seat) -> Answer
     ensures { Answers id Act.Advance story.old seat.old result story.new seat.new }
 {
-    if id != 0 || story.epoch >= (1 << 20) - 2 {
+    if id != 0 || story.epoch >= LAST_EPOCH {
         return Err(OrMemory::Fault(Refused));
     }
     story.epoch += 1;
@@ -233,13 +208,11 @@ pub fn mark(id: u32, story: &mut Story, seat: &mut Seat, mark: Option<u32>) -> A
 {
     let is_possible = match mark {
         None => true,
-        Some(epoch) => epoch < story.epoch && seat.last_epoch() <= epoch,
+        Some(epoch) => epoch < story.epoch && seat.last_marked() <= epoch,
     };
     if seat.stage.is_trying() || !is_possible {
         return Err(OrMemory::Fault(Refused));
     }
-    match seat.marks.push(mark) {
-        Ok(()) => Ok(()),
-        Err(Memory) => Err(OrMemory::Memory),
-    }
+    seat.marks.push(mark)?;
+    Ok(())
 }

@@ -4,7 +4,8 @@ ghost use Rattle.std.specs.List.{list_any};
 ghost use Rattle.commit_core.specs.Event.{stays_as_seen};
 ghost use Rattle.commit_core.specs.Keys.{same_key, written};
 
-use crate::{Part, Place, Sequence};
+use crate::{Part, Place};
+use lists::Sequence;
 use serial_model::{Change, Changes, Key, Memory, Number};
 
 /// An attempt as it was when it took its number. It never changes.
@@ -55,10 +56,7 @@ pub fn written(key: Key, writes: &[Change]) -> Option<Option<u64>>
 pub fn copy_parts(parts: &Sequence<Part>) -> Result<Sequence<Part>, Memory>
     ensures { IfOk result (λ s. s ≡ parts.now) }
 {
-    match parts.as_slice().to_vec(parts.alloc()) {
-        Ok(list) => Ok(Sequence::from_vec(list)),
-        Err(_) => Err(Memory),
-    }
+    Sequence::from_slice(parts.alloc(), parts.as_slice())
 }
 
 /// The same changes again.

@@ -1,5 +1,5 @@
 // What holds under every list of events.
-ghost use Rattle.commit_core.specs.Law.{EachActKeeps, StartsSound, StaysSound, OnlyGrows, FailedCheckGivesUp, StaysGivenUp, IsSerial};
+ghost use Rattle.commit_core.specs.Law.{EachActKeeps, StartsSound, StaysSound, OnlyGrows, FailedCheckGivesUp, StaysGivenUp, IsSerial, SoundIsSerial, EachActLeaves};
 
 /// The theorem, about the very condition and effect that `Core::step` follows. Each act keeps the story and every seat
 /// sound, one seat at a time, and the start is sound. So from a sound state every list of events, of any number of
@@ -15,4 +15,6 @@ pub fn commits_are_serial()
     ensures fails { FailedCheckGivesUp }
     ensures given_up { StaysGivenUp }
     ensures serial { IsSerial }
+    ensures sound_serial { SoundIsSerial }
+    ensures each_act_leaves { EachActLeaves }
 {}

@@ -23,7 +23,6 @@ mod law;
 mod machine;
 mod place;
 mod seat;
-mod sequence;
 mod story;
 #[cfg(test)]
 mod tests;
@@ -34,5 +33,4 @@ pub use law::commits_are_serial;
 pub use machine::Core;
 pub use place::{Content, Part, Place};
 pub use seat::{Seat, Stage};
-pub use sequence::Sequence;
 pub use story::Story;

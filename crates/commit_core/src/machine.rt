@@ -3,11 +3,12 @@ ghost use Rattle.std.specs.Prelude.{◌≡◌, ℕ, List, IfOk, OnOk};
 ghost use Rattle.commit_core.specs.CoreState.{CoreState};
 ghost use Rattle.commit_core.specs.Event.{Answers, AnswersEvent};
 ghost use Rattle.commit_core.specs.Opening.{first_number, opening_core, opening_place, opening_places, fresh_seat};
-ghost use Rattle.commit_core.specs.Serial.{committed, IsSerialRun};
+ghost use Rattle.commit_core.specs.Serial.{committed, ReadsAreSerial};
 ghost use Rattle.commit_core.specs.Sound.{IsSound};
 ghost use Rattle.std.specs.Prelude.{map, replicate};
 
-use crate::{Act, Attempt, Content, Event, Place, Refused, Seat, Sequence, Stage, Story, acts};
+use crate::{Act, Attempt, Content, Event, Place, Refused, Seat, Stage, Story, acts};
+use lists::Sequence;
 use serial_model::{Key, Memory, Number, OrMemory};
 use std::alloc::Global;
 use std::marker::Model;
@@ -53,7 +54,7 @@ impl Core {
     /// The decided attempts, in order of number.
     pub fn serial(&self, alloc: Global) -> Result<Sequence<Attempt>, Memory>
         ensures all { IfOk result (λ attempts. attempts ≡ committed self.now.story) }
-        ensures serial { IsSound self.now → IfOk result (IsSerialRun self.now.opening) }
+        ensures serial { IsSound self.now → IfOk result (ReadsAreSerial self.now.opening) }
     {
         self.story.committed(alloc)
     }
@@ -122,10 +123,7 @@ fn opening_places(alloc: Global, pairs: &[(Key, u64)]) -> Result<Vec<Place>, Mem
         },
         holder: None,
     });
-    match places.collect(alloc) {
-        Ok(places) => Ok(places),
-        Err(_) => Err(Memory),
-    }
+    Ok(places.collect(alloc)?)
 }
 
 /// Seats that have nothing.
@@ -134,10 +132,7 @@ fn fresh_seats(alloc: Global, passes: u32) -> Result<Vec<Seat>, Memory>
 {
     let mut seats = Vec::new(alloc);
     for _ in 0..passes {
-        match seats.push(fresh_seat(alloc)?) {
-            Ok(()) => {}
-            Err(_) => return Err(Memory),
-        }
+        seats.push(fresh_seat(alloc)?)?;
     }
     Ok(seats)
 }

@@ -1,5 +1,6 @@
 // What stands at keys, and what was read there.
-ghost use Rattle.std.specs.Prelude.{◌≡◌};
+ghost use Rattle.std.specs.Prelude.{◌≡◌, if◌then◌else◌};
+ghost use Rattle.commit_core.specs.Keys.{placed, same_key};
 ghost use Rattle.commit_core.specs.Event.{is_as_seen};
 
 use serial_model::{Key, Number};
@@ -42,4 +43,20 @@ impl Place {
             && self.content.number == seen.number
             && self.content.value.is_some() == seen.value.is_some()
     }
+}
+
+/// Puts the place wherever its key stands.
+pub fn put_place(places: &mut [Place], new: Place)
+    ensures { places.new ≡ placed places.old new }
+{
+    for place in places.iter_mut() {
+        *place = replaced(*place, new);
+    }
+}
+
+/// The new place, where it is at the same key.
+fn replaced(old: Place, new: Place) -> Place
+    ensures { result ≡ (if same_key old.key new.key then new else old) }
+{
+    if old.key == new.key { new } else { old }
 }

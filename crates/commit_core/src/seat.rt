@@ -2,10 +2,11 @@
 ghost use Rattle.std.specs.Prelude.{◌≡◌, OnOk, OnErr, IfOk, not, filter};
 ghost use Rattle.commit_core.specs.Keys.{same_key, has_key, writes_key};
 ghost use Rattle.std.specs.List.{list_all};
-ghost use Rattle.commit_core.specs.CoreState.{is_trying, can_begin, with_part, same_keys, last_epoch, settled, settled_at};
+ghost use Rattle.commit_core.specs.CoreState.{is_trying, can_begin, with_part, same_keys, last_marked, settled, settled_at};
 
+use crate::Part;
 use crate::attempt::written;
-use crate::{Part, Sequence};
+use lists::Sequence;
 use serial_model::{Change, Key, Memory};
 
 /// Where a seat stands with its attempt, which is named by its place in the history.
@@ -88,8 +89,8 @@ impl Seat {
     }
 
     /// The last epoch that a mark named, and 0 where none did.
-    pub fn last_epoch(&self) -> u32
-        ensures { result ≡ last_epoch self.now.marks }
+    pub fn last_marked(&self) -> u32
+        ensures { result ≡ last_marked self.now.marks }
     {
         self.marks
             .as_slice()
@@ -108,6 +109,7 @@ impl Seat {
             Stage::Idle | Stage::Trying(_) => {}
             Stage::Ended | Stage::Decided(_) => {
                 self.kept.clear();
+                self.put.clear();
                 self.stage = Stage::Idle;
             }
         }
@@ -119,10 +121,8 @@ fn parts_elsewhere(kept: &Sequence<Part>, key: Key) -> Result<Sequence<Part>, Me
     ensures { IfOk result (λ s. s ≡ filter (λ q. not (same_key q.key key)) kept.now) }
 {
     let parts = kept.as_slice().iter().copied();
-    match parts.filter(|q| q.key != key).collect(kept.alloc()) {
-        Ok(list) => Ok(Sequence::from_vec(list)),
-        Err(_) => Err(Memory),
-    }
+    let list = parts.filter(|q| q.key != key).collect(kept.alloc())?;
+    Ok(Sequence::from_vec(list))
 }
 
 /// The keys but for this one.
@@ -130,10 +130,8 @@ pub fn keys_elsewhere(keys: &Sequence<Key>, key: Key) -> Result<Sequence<Key>, M
     ensures { IfOk result (λ s. s ≡ filter (λ q. not (same_key q key)) keys.now) }
 {
     let all = keys.as_slice().iter().copied();
-    match all.filter(|q| *q != key).collect(keys.alloc()) {
-        Ok(list) => Ok(Sequence::from_vec(list)),
-        Err(_) => Err(Memory),
-    }
+    let list = all.filter(|q| *q != key).collect(keys.alloc())?;
+    Ok(Sequence::from_vec(list))
 }
 
 /// Whether each lock is at a key that is written.

@@ -8,9 +8,12 @@ ghost use Rattle.commit_core.specs.Event.{all_checked};
 ghost use Rattle.commit_core.specs.Serial.{committed};
 
 use crate::attempt::copy_attempt;
-use crate::{Attempt, Check, Place, Sequence, Stage};
+use crate::place::put_place;
+use crate::{Attempt, Check, Place, Stage};
+use lists::Sequence;
 use serial_model::{Key, Memory, Number};
 use std::alloc::Global;
+use std::mem;
 
 /// The shared state. All lists but `places` only grow.
 #[derive(Drop)]
@@ -22,7 +25,8 @@ pub struct Story {
     /// The numbers of the attempts that count, in the order in which that was decided.
     pub decided: Sequence<Number>,
     pub places: Sequence<Place>,
-    /// The draw of the first number. Those of the others count on from it, so the clock's is this and the history's length.
+    /// The draw of the first number. Those of the others count on from it, so the clock's is this and the history's
+    /// length.
     pub first_draw: u32,
     /// The clock's epoch.
     pub epoch: u32,
@@ -92,7 +96,10 @@ impl Story {
     pub fn set_place(&mut self, new: Place)
         ensures { self.new ≡ record self.old { places = placed self.old.places new } }
     {
-        self.places.set_place(new);
+        let none = Sequence::new(self.places.alloc());
+        let mut places = mem::replace(&mut self.places, none).into_vec();
+        put_place(&mut places, new);
+        self.places = Sequence::from_vec(places);
     }
 
     /// The attempt in progress of a seat at this stage.

@@ -178,6 +178,36 @@ fn refused_for_seats_and_locks(rt: HostRuntime) -> Result<(), Fail> {
     Ok(())
 }
 
+/// A read is checked after the number is taken, and once: a check before it is refused, and counts for nothing.
+#[test]
+fn no_check_before_the_number(rt: HostRuntime) -> Result<(), Fail> {
+    let mut core = start(rt.alloc(), 2)?;
+    step(&mut core, 0, Act::See(X))?;
+    step(&mut core, 0, Act::Lock(Y))?;
+    expect_refusal(&rt, &mut core, 0, Act::Check(X));
+    step(&mut core, 0, sets(Y, Some(1)))?;
+    expect_refusal(&rt, &mut core, 0, Act::Decide);
+    expect_refusal(&rt, &mut core, 0, Act::See(Z));
+    expect_refusal(&rt, &mut core, 0, Act::Forget);
+    step(&mut core, 0, Act::Check(X))?;
+    expect_refusal(&rt, &mut core, 0, Act::Check(X));
+    expect_refusal(&rt, &mut core, 0, Act::Put(Y));
+    Ok(())
+}
+
+/// What is forgotten is no part of the next attempt; a locked key is not locked again.
+#[test]
+fn a_forgotten_read(rt: HostRuntime) -> Result<(), Fail> {
+    let mut core = start(rt.alloc(), 2)?;
+    step(&mut core, 0, Act::See(X))?;
+    step(&mut core, 0, Act::Forget)?;
+    step(&mut core, 1, Act::Lock(X))?;
+    expect_refusal(&rt, &mut core, 0, Act::Lock(X));
+    step(&mut core, 0, Act::Draw(Changes::new()))?;
+    step(&mut core, 0, Act::Decide)?;
+    expect_serial(&rt, &core, rt.alloc(), &[at(1, 1)])
+}
+
 /// Seat 0 alone advances, and a mark is below the epoch and never goes back.
 #[test]
 fn refused_for_epochs(rt: HostRuntime) -> Result<(), Fail> {

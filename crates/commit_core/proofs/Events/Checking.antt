@@ -8,6 +8,7 @@ use Rattle.std.specs.List.{list_any}
 use mathlib.Core.Bool.{beq}
 use Rattle.serial_model.specs.declared.key.Key.{Key}
 use Rattle.serial_model.specs.declared.number.Number.{Number}
+use Rattle.serial_model.specs.Numbers.{IsBelow, not_below_itself}
 use Rattle.commit_core.specs.declared.place.Content.{Content}
 use Rattle.commit_core.specs.declared.place.Place.{Place}
 use Rattle.commit_core.specs.declared.place.Part.{Part}
@@ -17,16 +18,16 @@ use Rattle.commit_core.specs.declared.seat.Stage.{Stage}
 use Rattle.commit_core.specs.declared.seat.Stage.TheVariants.{Trying, Ended}
 use Rattle.commit_core.specs.declared.seat.Seat.{Seat}
 use Rattle.commit_core.specs.declared.story.Story.{Story}
-use Rattle.commit_core.specs.Keys.{same_key, same_number, IsBelow, place_at, writes_key}
+use Rattle.commit_core.specs.Keys.{same_key, same_number, place_at, writes_key, Vouches}
 use Rattle.commit_core.specs.CoreState.{holder_is, is_free, is_held_by, is_open_to, clock_of, is_checked, check_of, attempt_tried, settled}
 use Rattle.commit_core.specs.Serial.{state_below, last_write}
 use Rattle.commit_core.specs.Event.{is_unchecked, Moved, moved, is_same_word, is_as_seen, stays_as_seen, after_check}
 use Rattle.commit_core.specs.Sound.{IsSoundStory, IsSoundSeat}
 use Rattle.commit_core.specs.Sound.Homes.{HomeHeld}
-use Rattle.commit_core.proofs.Keys.{same_key-self, same_key-true, same_number-true, not_below_itself}
-use Rattle.commit_core.proofs.Lists.{at_in, all_in, any_is}
-use Rattle.commit_core.proofs.NumberLaws.{checks_checked}
-use Rattle.commit_core.proofs.VersionLaws.{alone}
+use Rattle.commit_core.specs.Lemmas.Keys.{same_key-self, same_key-true, same_number-true}
+use Rattle.lists.specs.Elements.{at_in, all_in, any_is}
+use Rattle.commit_core.specs.Lemmas.Numbers.{checks_checked}
+use Rattle.commit_core.specs.Lemmas.Versions.{alone}
 use Rattle.commit_core.proofs.ReadLaws.{seen_is_below, reads_checked, writer_checked, commits_checked}
 use Rattle.commit_core.proofs.HomeLaws.{locked_so}
 use Rattle.commit_core.proofs.MarkLaws.{marks_rest}
@@ -86,13 +87,14 @@ home_is_last opening m p s i k q stage at (inr mine) story own =
 
 checked_now : (opening : List Place) (m : Story) (p : ℕ) (s : Seat) (i : ℕ) (a : Attempt) (k : Key) → s.stage ≡ Trying i → slice_get m.history i ≡ Some a → stays_as_seen p (place_at m.places k) k a ≡ true
     → IsSoundStory opening m → IsSoundSeat opening m p s
-    → (part : Part) → Contains a.parts part → part.key ≡ k → part.content ≡ state_below opening m.history m.decided a.number part.key
-checked_now opening m p s i a k stage at stays story own part n e =
+    → (part : Part) → Contains a.parts part → part.key ≡ k → Vouches (state_below opening m.history m.decided a.number) part
+checked_now opening m p s i a k stage at stays story own part n e = λ x v.
     let o = part_opens p m.places k a stays part n e in
     let last = home_is_last opening m p s i k o.home stage o.is o.open_to story own in
     seen_is_below opening m.history m.decided (clock_of m.first_draw m.epoch m.history) a.number part o.home.content story.ordered_numbers
     (story.parts_are_past a (at_in m.history i a at) part n)
-    (last ∙ ap (λ (x : Key). last_write opening m.history m.decided x) (sym e)) o.number
+    (last ∙ ap (λ (y : Key). last_write opening m.history m.decided y) (sym e)) o.number
+    ∙ ap (λ (y : Key). state_below opening m.history m.decided a.number y) (same_key-true part.key x v)
 
 story_checked : (opening : List Place) (m : Story) (p : ℕ) (s : Seat) (i : ℕ) (a : Attempt) (k : Key) → s.stage ≡ Trying i → slice_get m.history i ≡ Some a → stays_as_seen p (place_at m.places k) k a ≡ true
     → IsSoundStory opening m → IsSoundSeat opening m p s → IsSoundStory opening (with_check m a k)
@@ -107,6 +109,7 @@ story_checked opening m p s i a k stage at stays story own =
       commits_are_checked = commits_checked m.history m.checks m.decided a.number k story.commits_are_checked;
       parts_are_past = story.parts_are_past;
       checks_are_past = checks_checked m.checks clock a.number k (story.ordered_numbers.past a inside) story.checks_are_past;
+      epoch_fits = story.epoch_fits;
     }
 
 seat_checked : (opening : List Place) (m : Story) (a : Attempt) (k : Key) (q : ℕ) (t : Seat)

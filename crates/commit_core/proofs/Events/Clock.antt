@@ -1,12 +1,14 @@
 -- Draw and Advance: they change the history or the epoch, and so the clock.
-use Rattle.std.proofs.Common.{◌≡◌, ℕ, ◌+◌, true, false, true≢false, inl, inr, List, [], ◌∷◌, ◌++◌, refl, sym, ap, ◌∙◌, subst, length, Option, Some}
+use Rattle.std.proofs.Common.{◌≡◌, ℕ, ◌+◌, arith, true, false, true≢false, inl, inr, List, [], ◌∷◌, ◌++◌, refl, sym, ap, ◌∙◌, subst, length, Option, Some}
 use Rattle.std.proofs.lemmas.Bool.{and_parts, cases_Bool, cond-false}
-use Rattle.std.specs.Prelude.{is_some}
+use Rattle.std.proofs.lemmas.Bool.Decides.{nat_tests}
+use Rattle.std.specs.Prelude.{is_some, nat_lt}
 use Rattle.std.specs.Option.{option_map}
 use Rattle.std.specs.List.{list_all, find}
 use Rattle.serial_model.specs.declared.key.Key.{Key}
 use Rattle.serial_model.specs.declared.number.Number.{Number}
 use Rattle.serial_model.specs.declared.number.Change.{Change}
+use Rattle.serial_model.specs.Numbers.{last_epoch}
 use Rattle.commit_core.specs.declared.place.Place.{Place}
 use Rattle.commit_core.specs.declared.attempt.Attempt.{Attempt}
 use Rattle.commit_core.specs.declared.seat.Stage.TheVariants.{Trying}
@@ -16,10 +18,11 @@ use Rattle.commit_core.specs.Keys.{same_key, has_key, writes_key}
 use Rattle.commit_core.specs.CoreState.{clock_of, is_decided, can_begin, same_keys}
 use Rattle.commit_core.specs.Event.{moved, next_attempt}
 use Rattle.commit_core.specs.Sound.{IsSoundStory, IsSoundSeat}
+use Rattle.commit_core.specs.Sound.Numbers.{EpochFits}
 use Rattle.commit_core.specs.Sound.Reads.{KeptIsPast}
-use Rattle.commit_core.proofs.Keys.{same_key-true}
-use Rattle.commit_core.proofs.Lists.{at_push_new}
-use Rattle.commit_core.proofs.NumberLaws.{clock_after_draw, clock_after_advance, numbers_later, numbers_drawn, checks_later, clock_undecided}
+use Rattle.commit_core.specs.Lemmas.Keys.{same_key-true}
+use Rattle.lists.specs.Elements.{at_push_new}
+use Rattle.commit_core.specs.Lemmas.Numbers.{clock_after_draw, clock_after_advance, numbers_later, numbers_drawn, checks_later, clock_undecided}
 use Rattle.commit_core.proofs.ReadLaws.{reads_drawn, writer_drawn, writer_draws, commits_drawn, kept_drawn, kept_later, parts_drawn}
 use Rattle.commit_core.proofs.LockLaws.{stands_there, stands_drawn}
 use Rattle.commit_core.proofs.HomeLaws.{homes_drawn, held_drawn, held_draws, locked_so}
@@ -44,6 +47,7 @@ story_drawn opening m a e kept story =
       commits_are_checked = commits_drawn m.history m.checks m.decided a fresh story.commits_are_checked;
       parts_are_past = parts_drawn opening m.history t a e kept story.parts_are_past;
       checks_are_past = checks_later m.checks t (clock_of m.first_draw m.epoch (m.history ++ a ∷ [])) later story.checks_are_past;
+      epoch_fits = story.epoch_fits;
     }
 
 seat_drawn : (opening : List Place) (m : Story) (a : Attempt) (q : ℕ) (t : Seat) → a.number ≡ clock_of m.first_draw m.epoch m.history → IsSoundStory opening m
@@ -113,8 +117,12 @@ seat_advanced opening m q t sound = record {
   kept_is_past = kept_later opening m.history (clock_of m.first_draw m.epoch m.history) (clock_of m.first_draw (m.epoch + 1) m.history) t.kept (clock_after_advance m.first_draw m.epoch m.history) sound.kept_is_past;
 }
 
-pub keeps_advance : (opening : List Place) (p : ℕ) (m : Story) (s : Seat) → IsSoundStory opening m → IsSoundSeat opening m p s → Keeps opening p m (moved (record m { epoch = m.epoch + 1 }) s)
-keeps_advance opening p m s story own =
+epoch_later : (epoch : ℕ) → nat_lt epoch last_epoch ≡ true → EpochFits (epoch + 1)
+epoch_later epoch below = grind (arith, nat_tests)
+
+pub keeps_advance : (opening : List Place) (p : ℕ) (m : Story) (s : Seat) → nat_lt m.epoch last_epoch ≡ true → IsSoundStory opening m → IsSoundSeat opening m p s
+    → Keeps opening p m (moved (record m { epoch = m.epoch + 1 }) s)
+keeps_advance opening p m s below story own =
     let later = clock_after_advance m.first_draw m.epoch m.history in record {
       story = record {
         ordered_numbers = numbers_later opening m.history m.decided (clock_of m.first_draw m.epoch m.history) (clock_of m.first_draw (m.epoch + 1) m.history) later story.ordered_numbers;
@@ -123,6 +131,7 @@ keeps_advance opening p m s story own =
         commits_are_checked = story.commits_are_checked;
         parts_are_past = story.parts_are_past;
         checks_are_past = checks_later m.checks (clock_of m.first_draw m.epoch m.history) (clock_of m.first_draw (m.epoch + 1) m.history) later story.checks_are_past;
+        epoch_fits = epoch_later m.epoch below;
       };
       own = seat_advanced opening m p s own;
       others = λ q t other sound. seat_advanced opening m q t sound;

@@ -16,9 +16,9 @@ use Rattle.commit_core.specs.Sound.{IsSoundStory, IsSoundSeat}
 use Rattle.commit_core.specs.Sound.Locks.{IsTried}
 use Rattle.commit_core.specs.Sound.Homes.{HomeHeld}
 use Rattle.commit_core.specs.Sound.Reads.{NoLowerWriter}
-use Rattle.commit_core.proofs.Lists.{at_in, all_in}
-use Rattle.commit_core.proofs.NumberLaws.{numbers_decided, decided_new}
-use Rattle.commit_core.proofs.VersionLaws.{IsAlone, alone}
+use Rattle.lists.specs.Elements.{at_in, all_in}
+use Rattle.commit_core.specs.Lemmas.Numbers.{numbers_decided, decided_new}
+use Rattle.commit_core.specs.Lemmas.Versions.{IsAlone, alone}
 use Rattle.commit_core.proofs.ReadLaws.{reads_decided, commits_decided}
 use Rattle.commit_core.proofs.LockLaws.{stands_decided}
 use Rattle.commit_core.proofs.HomeLaws.{IsUnwritten, homes_decided, held_decided, held_decides, locked_so}
@@ -51,6 +51,7 @@ story_decided opening m p s i a stage at all story own =
       commits_are_checked = commits_decided m.history m.checks m.decided a only (λ part n. all_in (λ x. is_checked m.checks a.number x.key) a.parts all part n) story.commits_are_checked;
       parts_are_past = story.parts_are_past;
       checks_are_past = story.checks_are_past;
+      epoch_fits = story.epoch_fits;
     }
 
 -- the seat that decides, before it settles

@@ -44,6 +44,7 @@ story_placed opening m new old was right sound = record {
   commits_are_checked = sound.commits_are_checked;
   parts_are_past = sound.parts_are_past;
   checks_are_past = sound.checks_are_past;
+  epoch_fits = sound.epoch_fits;
 }
 
 -- a seat that held the place neither before nor holds it now
@@ -148,7 +149,7 @@ no_locks : (locks : List Key) → eqb (length locks) 0 ≡ true → locks ≡ []
 no_locks [] e = refl
 no_locks (k ∷ locks) e = absurd (let n = eqb-true (length (k ∷ locks)) 0 e in omega arith)
 
-rested : (opening : List Place) (m : Story) (p : ℕ) (s : Seat) → s.locks ≡ [] → IsSoundSeat opening m p s → IsSoundSeat opening m p (record s { kept = []; stage = Idle })
+rested : (opening : List Place) (m : Story) (p : ℕ) (s : Seat) → s.locks ≡ [] → IsSoundSeat opening m p s → IsSoundSeat opening m p (record s { kept = []; put = []; stage = Idle })
 rested opening m p s none sound = record {
   lock_owners = sound.lock_owners;
   attempt_stands = tt;

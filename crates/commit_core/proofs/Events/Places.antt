@@ -20,9 +20,9 @@ use Rattle.commit_core.specs.Event.{moved, locked, valued, opened, value_to_put}
 use Rattle.commit_core.specs.Sound.{IsSoundStory, IsSoundSeat}
 use Rattle.commit_core.specs.Sound.Locks.{IsDecided, AttemptStands}
 use Rattle.commit_core.specs.Sound.Homes.{HomeHeld}
-use Rattle.commit_core.proofs.Keys.{same_key-true}
-use Rattle.commit_core.proofs.Lists.{any_push_cases, any_push_old}
-use Rattle.commit_core.proofs.States.{written-writes, writes-written}
+use Rattle.commit_core.specs.Lemmas.Keys.{same_key-true}
+use Rattle.lists.specs.Elements.{any_push_cases, any_push_old}
+use Rattle.commit_core.specs.Lemmas.States.{written-writes, writes-written}
 use Rattle.commit_core.proofs.LockLaws.{held-placed_other, held-placed, holder_is-self, holder_is-other, held_place, locks_placed, locks_taken, locks_given, holders_placed}
 use Rattle.commit_core.proofs.HomeLaws.{held_puts, held_put_other, held_opens, locked_placed}
 use Rattle.commit_core.proofs.Events.Keeps.{Keeps, with_place, story_placed, seat_placed, free_place, unlocked_not, other_not, decided_passes, decided_is, settled_sound}

@@ -8,12 +8,12 @@ use Rattle.commit_core.specs.declared.place.Part.{Part}
 use Rattle.commit_core.specs.declared.seat.Seat.{Seat}
 use Rattle.commit_core.specs.declared.story.Story.{Story}
 use Rattle.commit_core.specs.Keys.{place_at, nothing, content_at}
-use Rattle.commit_core.specs.CoreState.{clock_of, with_part, is_free, is_trying, last_epoch}
+use Rattle.commit_core.specs.CoreState.{clock_of, with_part, is_free, is_trying, last_marked}
 use Rattle.commit_core.specs.Serial.{last_write}
 use Rattle.commit_core.specs.Event.{can_mark, moved}
 use Rattle.commit_core.specs.Sound.{IsSoundStory, IsSoundSeat}
 use Rattle.commit_core.specs.Sound.Reads.{IsPast}
-use Rattle.commit_core.proofs.VersionLaws.{last_version, version_past}
+use Rattle.commit_core.specs.Lemmas.Versions.{last_version, version_past}
 use Rattle.commit_core.proofs.ReadLaws.{kept_seen, kept_dropped}
 use Rattle.commit_core.proofs.MarkLaws.{marks_marked}
 use Rattle.commit_core.proofs.Events.Keeps.{Keeps, seat_alone, free_place, above_at_rest}
@@ -57,7 +57,7 @@ marked_below : (epoch : ℕ) (marks : List (Option ℕ)) (mark : Option ℕ) →
 marked_below epoch marks None can e is = cc
 marked_below epoch marks (Some x) can e is =
     let same : x ≡ e = cc in
-    let l = ltb-true x epoch (and_parts (ltb x epoch) (leb (last_epoch marks) x) can).0 in omega arith
+    let l = ltb-true x epoch (and_parts (ltb x epoch) (leb (last_marked marks) x) can).0 in omega arith
 
 pub keeps_mark : (opening : List Place) (p : ℕ) (m : Story) (s : Seat) (mark : Option ℕ) → not (is_trying s.stage) ≡ true → can_mark m.epoch s.marks mark ≡ true
     → IsSoundStory opening m → IsSoundSeat opening m p s → Keeps opening p m (moved m (record s { marks = s.marks ++ mark ∷ [] }))

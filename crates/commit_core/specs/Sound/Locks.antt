@@ -16,18 +16,23 @@ pub record LockOwners (places : List Place) (p : ℕ) (locks : List Key) : Type 
 
 -- Who holds a place is one of the seats.
 abbrev pub HoldersAreSeats : List Place → ℕ → Type 0
-HoldersAreSeats places seats = (k : Key) (q : Place) (p : ℕ) → place_at places k ≡ Some q → holder_is p q.holder ≡ true → p < seats
+HoldersAreSeats places seats = (k : Key) (q : Place) (p : ℕ)
+    → place_at places k ≡ Some q → holder_is p q.holder ≡ true → p < seats
 
 -- The seat's attempt in progress is in the history, is not decided, and holds the place of each key that it writes.
-pub record IsTried (history : List Attempt) (decided : List Number) (places : List Place) (p i : ℕ) (a : Attempt) : Type 0 where
+pub record IsTried
+    (history : List Attempt) (decided : List Number) (places : List Place) (p i : ℕ) (a : Attempt)
+    : Type 0 where
   pub at : slice_get history i ≡ Some a
   pub own : a.seat ≡ p
   pub undecided : is_decided decided a.number ≡ false
   pub holds : (k : Key) → writes_key a.writes k ≡ true → is_held_by p (place_at places k) ≡ true
 
--- The seat's decided attempt is in the history, and what was put are keys that it writes. It holds the place of each key
--- that it writes until the value is put; from then the place is among the seat's locks until it is opened.
-pub record IsDecided (history : List Attempt) (decided : List Number) (places : List Place) (put : List Key) (p i : ℕ) (a : Attempt) : Type 0 where
+-- The seat's decided attempt is in the history, and what was put are keys that it writes. It holds the place of each
+-- key that it writes until the value is put; from then the place is among the seat's locks until it is opened.
+pub record IsDecided
+    (history : List Attempt) (decided : List Number) (places : List Place) (put : List Key) (p i : ℕ) (a : Attempt)
+    : Type 0 where
   pub at : slice_get history i ≡ Some a
   pub own : a.seat ≡ p
   pub counts : is_decided decided a.number ≡ true

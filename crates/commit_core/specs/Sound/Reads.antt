@@ -2,6 +2,7 @@
 use Rattle.std.specs.Prelude.{◌≡◌, ◌⊎◌, true, false, List, Some, slice_get, ⊤, Contains}
 use Rattle.serial_model.specs.declared.key.Key.{Key}
 use Rattle.serial_model.specs.declared.number.Number.{Number}
+use Rattle.serial_model.specs.Numbers.{IsBelow}
 use Rattle.commit_core.specs.declared.place.Content.{Content}
 use Rattle.commit_core.specs.declared.place.Place.{Place}
 use Rattle.commit_core.specs.declared.place.Part.{Part}
@@ -9,7 +10,7 @@ use Rattle.commit_core.specs.declared.attempt.Attempt.{Attempt}
 use Rattle.commit_core.specs.declared.attempt.Check.{Check}
 use Rattle.commit_core.specs.declared.seat.Stage.{Stage}
 use Rattle.commit_core.specs.declared.seat.Stage.TheVariants.{Idle, Trying, Ended, Decided}
-use Rattle.commit_core.specs.Keys.{IsBelow, content_at, written, writes_key, covers, Vouches}
+use Rattle.commit_core.specs.Keys.{content_at, written, writes_key, covers, Vouches}
 use Rattle.commit_core.specs.CoreState.{is_decided, is_checked}
 use Rattle.commit_core.specs.Serial.{state_below}
 
@@ -17,8 +18,8 @@ use Rattle.commit_core.specs.Serial.{state_below}
 -- decided, and even of those given up.
 abbrev pub ReadsStayTrue : List Place → List Attempt → List Check → List Number → Type 0
 ReadsStayTrue opening history checks decided =
-    (a : Attempt) → Contains history a → (part : Part) → Contains a.parts part → is_checked checks a.number part.key ≡ true
-    → Vouches (state_below opening history decided a.number) part
+    (a : Attempt) → Contains history a → (part : Part) → Contains a.parts part
+    → is_checked checks a.number part.key ≡ true → Vouches (state_below opening history decided a.number) part
 
 -- The other half of it, at the writer: no attempt in progress writes a key of a part that one with a greater number has
 -- checked.
@@ -40,7 +41,8 @@ CommitsAreChecked history checks decided =
 -- the content stood at the key at the start, or an attempt wrote it
 abbrev pub IsVersion : List Place → List Attempt → Key → Content → Type 0
 IsVersion opening history k c =
-    (c ≡ content_at opening k) ⊎ ((a : Attempt) × Contains history a × (a.number ≡ c.number) × (written k a.writes ≡ Some c.value))
+    (c ≡ content_at opening k)
+    ⊎ ((a : Attempt) × Contains history a × (a.number ≡ c.number) × (written k a.writes ≡ Some c.value))
 
 -- the part was read before this number was taken
 pub record IsPast (opening : List Place) (history : List Attempt) (n : Number) (part : Part) : Type 0 where

@@ -4,18 +4,19 @@ use Rattle.std.proofs.lemmas.Bool.{and_from, and_left, and_right, cases_Bool, fa
 use Rattle.std.specs.List.{Contains}
 use Rattle.serial_model.specs.declared.key.Key.{Key}
 use Rattle.serial_model.specs.declared.number.Number.{Number}
+use Rattle.serial_model.specs.Numbers.{below_then, is_below, IsBelow, not_below_itself, is_below-true}
 use Rattle.commit_core.specs.declared.place.Content.{Content}
 use Rattle.commit_core.specs.declared.place.Place.{Place}
 use Rattle.commit_core.specs.declared.attempt.Attempt.{Attempt}
-use Rattle.commit_core.specs.Keys.{same_number, is_below, IsBelow, content_of, content_at, written, writes_key}
+use Rattle.commit_core.specs.Keys.{same_number, content_of, content_at, written, writes_key, IsUpTo}
 use Rattle.commit_core.specs.CoreState.{is_decided}
 use Rattle.commit_core.specs.Serial.{content_after, state_below, last_write, RisesFrom}
 use Rattle.commit_core.specs.Sound.Numbers.{OrderedNumbers}
 use Rattle.commit_core.specs.Sound.Reads.{IsVersion}
-use Rattle.commit_core.proofs.Keys.{same_number-self, same_number-true, is_below-trans, not_below_itself}
-use Rattle.commit_core.proofs.Lists.{in_push_old}
-use Rattle.commit_core.proofs.States.{rises_low, one_of_a_number, after_all-push_not, after_all-agree, after_all-version, IsUpTo, after_all-greatest}
-use Rattle.commit_core.proofs.NumberLaws.{decided_other, clock_undecided}
+use Rattle.commit_core.specs.Lemmas.Keys.{same_number-self, same_number-true}
+use Rattle.lists.specs.Elements.{in_push_old}
+use Rattle.commit_core.specs.Lemmas.States.{rises_low, one_of_a_number, after_all-push_not, after_all-agree, after_all-version, after_all-greatest}
+use Rattle.commit_core.specs.Lemmas.Numbers.{decided_other, clock_undecided}
 
 -- an attempt is the only one of its number
 abbrev pub IsAlone : List Attempt → Attempt → Type 0
@@ -91,10 +92,10 @@ last_is_below opening h decided n k r l =
       | inl hit ↦
           let yes_it : (is_decided decided b.number && true) ≡ true = and_from (is_decided decided b.number) true hit refl in
           yes_it ∙ sym (and_from (is_decided decided b.number) (is_below b.number n) hit
-          (up_to b.number (last_write opening h decided k).number n (after_all-greatest counts k h (content_at opening k) r b m yes_it w) l))
+          (is_below-true b.number n (up_to b.number (last_write opening h decided k).number n (after_all-greatest counts k h (content_at opening k) r b m yes_it w) l)))
       | inr miss ↦ and_left (is_decided decided b.number) true miss ∙ sym (and_left (is_decided decided b.number) (is_below b.number n) miss)
     ])
   where
     up_to : (x y z : Number) → IsUpTo x y → IsBelow y z → IsBelow x z
     up_to x y z (inl e) l = subst (λ (w : Number). IsBelow w z) (sym e) l
-    up_to x y z (inr m) l = is_below-trans x y z m l
+    up_to x y z (inr m) l = below_then x y z m l

@@ -6,12 +6,12 @@ use Rattle.std.specs.Prelude.{is_some}
 use Rattle.std.specs.Option.{option_map_or}
 use Rattle.serial_model.specs.declared.key.Key.{Key}
 use Rattle.serial_model.specs.declared.number.Number.{Number}
+use Rattle.serial_model.specs.Numbers.{below_then, IsBelow, not_below_itself, not_both_below}
 use Rattle.commit_core.specs.declared.place.Content.{Content}
 use Rattle.commit_core.specs.declared.attempt.Attempt.{Attempt}
-use Rattle.commit_core.specs.Keys.{IsBelow, content_of, nothing, written, writes_key}
+use Rattle.commit_core.specs.Keys.{content_of, nothing, written, writes_key, IsUpTo}
 use Rattle.commit_core.specs.Serial.{after_writes, after_all, RisesFrom}
-use Rattle.commit_core.proofs.Keys.{is_below-trans, not_below_itself, not_both_below}
-use Rattle.commit_core.proofs.Lists.{in_none, in_head, in_tail, in_cases}
+use Rattle.lists.specs.Elements.{in_none, in_head, in_tail, in_cases}
 
 -- ---- numbers that rise
 
@@ -20,13 +20,13 @@ rises_low low [] r a m = absurd (in_none a m)
 rises_low low (b ∷ h) r a m =
     elim (in_cases a b h m) [
       | inl e ↦ subst (λ (x : Attempt). IsBelow low x.number) e r.0
-      | inr n ↦ is_below-trans low b.number a.number r.0 (rises_low b.number h r.1 a n)
+      | inr n ↦ below_then low b.number a.number r.0 (rises_low b.number h r.1 a n)
     ]
 
 -- what rises from a number rises from each lower one
 pub rises_lower : (low high : Number) (h : List Attempt) → IsBelow low high → RisesFrom high h → RisesFrom low h
 rises_lower low high [] l r = r
-rises_lower low high (a ∷ h) l r = (is_below-trans low high a.number l r.0, r.1)
+rises_lower low high (a ∷ h) l r = (below_then low high a.number l r.0, r.1)
 
 pub rises_push : (low : Number) (h : List Attempt) (a : Attempt) → RisesFrom low h → IsBelow low a.number
     → ((b : Attempt) → Contains h b → IsBelow b.number a.number) → RisesFrom low (h ++ a ∷ [])
@@ -144,10 +144,6 @@ after_all-version f k (a ∷ h) c =
       | inr later ↦ inr (later.0, in_tail later.0 a h later.1, later.2, later.3)
     ]
 
--- equal to a number, or below it
-abbrev pub IsUpTo : Number → Number → Type 0
-IsUpTo a b = (a ≡ b) ⊎ IsBelow a b
-
 rises_step : (b : Bool) (k : Key) (a : Attempt) (h : List Attempt) (c : Content) → RisesFrom c.number (a ∷ h) → RisesFrom (stepped b k a c).number h
 rises_step b k a h c r =
     elim (step_cases b k a c) [
@@ -166,7 +162,7 @@ after_all-at_least f k (a ∷ h) c r =
       | inr wrote ↦
           elim (subst (λ (d : Content). IsUpTo d.number end) wrote.is below) [
             | inl e ↦ inr (subst (λ (n : Number). IsBelow c.number n) e r.0)
-            | inr l ↦ inr (is_below-trans c.number a.number end r.0 l)
+            | inr l ↦ inr (below_then c.number a.number end r.0 l)
           ]
     ]
 

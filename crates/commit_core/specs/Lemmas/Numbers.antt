@@ -1,18 +1,18 @@
 -- Numbers under a draw, a check, a decision and an advance.
 use Rattle.std.proofs.Common.{◌≡◌, ℕ, ◌+◌, ◌<◌, true, false, true≢false, ◌&&◌, ◌⊎◌, inl, inr, List, [], ◌∷◌, ◌++◌, refl, sym, ap, ◌∙◌, subst, arith, length, length-append}
 use Rattle.std.proofs.lemmas.Bool.{and_parts, or_left, or_right, false_from_ne_true}
-use Rattle.std.proofs.lemmas.Bool.Decides.{nat_tests}
 use Rattle.std.specs.List.{Contains}
 use Rattle.serial_model.specs.declared.key.Key.{Key}
 use Rattle.serial_model.specs.declared.number.Number.{Number}
+use Rattle.serial_model.specs.Numbers.{below_then, IsBelow, not_below_itself}
 use Rattle.commit_core.specs.declared.place.Place.{Place}
 use Rattle.commit_core.specs.declared.attempt.Attempt.{Attempt}
 use Rattle.commit_core.specs.declared.attempt.Check.{Check}
-use Rattle.commit_core.specs.Keys.{same_key, same_number, IsBelow, content_at}
+use Rattle.commit_core.specs.Keys.{same_key, same_number, content_at}
 use Rattle.commit_core.specs.CoreState.{clock_of, is_decided, is_checked, check_of}
-use Rattle.commit_core.proofs.Keys.{same_key-true, same_number-self, same_number-true, is_below-trans, not_below_itself}
-use Rattle.commit_core.proofs.Lists.{in_push_cases, in_push_old, any_push_cases, any_push_old, any_push_new, any_push-false}
-use Rattle.commit_core.proofs.States.{rises_push}
+use Rattle.commit_core.specs.Lemmas.Keys.{same_key-true, same_number-self, same_number-true}
+use Rattle.lists.specs.Elements.{in_push_cases, in_push_old, any_push_cases, any_push_old, any_push_new, any_push-false}
+use Rattle.commit_core.specs.Lemmas.States.{rises_push}
 use Rattle.commit_core.specs.Sound.Numbers.{EachOnce, OrderedNumbers, ChecksArePast}
 
 -- ---- the clock goes on
@@ -21,10 +21,10 @@ pub clock_after_draw : (first epoch : ℕ) (h : List Attempt) (a : Attempt) → 
 clock_after_draw first epoch h a = let longer = length-append h (a ∷ []) in later epoch (first + length h) (first + length (h ++ a ∷ [])) (omega (arith, longer))
   where
     later : (e x y : ℕ) → x < y → IsBelow (record { epoch = e; draw = x }) (record { epoch = e; draw = y })
-    later e x y l = grind (arith, nat_tests)
+    later e x y l = inr (refl, l)
 
 pub clock_after_advance : (first epoch : ℕ) (h : List Attempt) → IsBelow (clock_of first epoch h) (clock_of first (epoch + 1) h)
-clock_after_advance first epoch h = grind (arith, nat_tests)
+clock_after_advance first epoch h = inl (omega arith)
 
 -- ---- one more decided number, one more check
 
@@ -57,9 +57,9 @@ checked_old checks n k m q h = any_push_old (λ c. same_number c.number m && sam
 
 pub numbers_later : (opening : List Place) (h : List Attempt) (decided : List Number) (t u : Number) → IsBelow t u → OrderedNumbers opening h decided t → OrderedNumbers opening h decided u
 numbers_later opening h decided t u l o = record {
-  opening_past = λ k. is_below-trans (content_at opening k).number t u (o.opening_past k) l;
+  opening_past = λ k. below_then (content_at opening k).number t u (o.opening_past k) l;
   rising = o.rising;
-  past = λ a m. is_below-trans a.number t u (o.past a m) l;
+  past = λ a m. below_then a.number t u (o.past a m) l;
   decided_drawn = o.decided_drawn;
   decided_once = o.decided_once;
 }
@@ -72,10 +72,10 @@ clock_undecided opening h decided t o =
 pub numbers_drawn : (opening : List Place) (h : List Attempt) (decided : List Number) (t u : Number) (a : Attempt) → a.number ≡ t → IsBelow t u
     → OrderedNumbers opening h decided t → OrderedNumbers opening (h ++ a ∷ []) decided u
 numbers_drawn opening h decided t u a e l o = record {
-  opening_past = λ k. is_below-trans (content_at opening k).number t u (o.opening_past k) l;
+  opening_past = λ k. below_then (content_at opening k).number t u (o.opening_past k) l;
   rising = λ k. rises_push (content_at opening k).number h a (o.rising k) (rw e (o.opening_past k)) (λ b m. rw e (o.past b m));
   past = λ b m. elim (in_push_cases b a h m) [
-    | inl old ↦ is_below-trans b.number t u (o.past b old) l
+    | inl old ↦ below_then b.number t u (o.past b old) l
     | inr new ↦ subst (λ (n : Number). IsBelow n u) (sym e ∙ ap (λ (x : Attempt). x.number) new) l
   ];
   decided_drawn = λ n d. let r = o.decided_drawn n d in (r.0, in_push_old r.0 a h r.1, r.2);
@@ -106,7 +106,7 @@ numbers_decided opening h decided t a m e o = record {
 -- ---- checks_are_past
 
 pub checks_later : (checks : List Check) (t u : Number) → IsBelow t u → ChecksArePast checks t → ChecksArePast checks u
-checks_later checks t u l past = λ n k h. is_below-trans n t u (past n k h) l
+checks_later checks t u l past = λ n k h. below_then n t u (past n k h) l
 
 pub checks_checked : (checks : List Check) (t n : Number) (k : Key) → IsBelow n t → ChecksArePast checks t → ChecksArePast (checks ++ check_of n k ∷ []) t
 checks_checked checks t n k l past = λ m q h.

@@ -5,7 +5,7 @@ use Rattle.std.proofs.lemmas.List.{get_or_default}
 use Rattle.std.proofs.lemmas.List.Edits.{map_over_more}
 use Rattle.commit_core.specs.declared.place.Place.{Place}
 use Rattle.commit_core.specs.Keys.{same_key, placed}
-use Rattle.commit_core.proofs.sequence.put_place.Goals as goal
+use Rattle.commit_core.proofs.place.put_place.Goals as goal
 
 place_more : (xs ys : List Place) (new d x : Place) (i : ℕ) → i < length xs → ys ≡ placed (take i xs) new ++ drop i xs
     → x ≡ cond (same_key (get_or ys i d).key new.key) new (get_or ys i d) → set ys i x ≡ placed (take (i + 1) xs) new ++ drop (i + 1) xs

@@ -1,0 +1,5 @@
+-- Laws of keys and places, of what stands at a key after attempts, of numbers, and of versions, which crates above cite too.
+pub mod Keys
+pub mod States
+pub mod Numbers
+pub mod Versions

@@ -1,0 +1,87 @@
+-- Attempts and their transactions, worked by hand: storage 1 is an array, storage 2 a tree.
+use Rattle.std.proofs.Common.{◌≡◌, ◌⊎◌, inl, inr, ℕ, Bool, true, false, cond, List, [], ◌∷◌, Option, Some, None, refl, sym, ap, ◌∙◌, subst}
+use Rattle.serial_model.specs.declared.key.Key.{Key}
+use Rattle.serial_model.specs.declared.number.Number.{Number}
+use Rattle.serial_model.specs.declared.number.Change.{Change}
+use Rattle.serial_model.specs.declared.decl.Decl.{Decl}
+use Rattle.serial_model.specs.declared.decl.Decl.TheVariants.{Array, Tree}
+use Rattle.serial_model.specs.declared.op.Op.TheVariants.{Read, Write, Remove, Add, Take}
+use Rattle.serial_model.specs.declared.reply.Reply.TheVariants.{Value, Absent}
+use Rattle.serial_model.specs.declared.reply.Verdict.TheVariants.{Done, Short}
+use Rattle.commit_core.specs.declared.place.Part.{Part}
+use Rattle.commit_core.specs.declared.attempt.Attempt.{Attempt}
+use Rattle.commit_core.specs.Keys.{same_key, written}
+use Rattle.serial_bridge.specs.Transaction.{Continues, Stops, Finished, finished, Runs, LeavesOut, IsAttemptOf}
+use Rattle.commit_core.specs.Lemmas.Keys.{same_key-true}
+use Rattle.serial_bridge.specs.Laws.{written-wrote}
+
+abbrev storages : List Decl
+storages = Array 1 4 ∷ Tree 2 ∷ []
+
+abbrev item : ℕ → Key
+item k = record { storage = 1; key = k }
+
+abbrev leaf : ℕ → Key
+leaf k = record { storage = 2; key = k }
+
+abbrev at : ℕ → ℕ → Number
+at e d = record { epoch = e; draw = d }
+
+abbrev part : Key → Option ℕ → Part
+part k value = record { key = k; content = record { number = at 1 1; value = value } }
+
+abbrev change : Key → Option ℕ → Change
+change k value = record { key = k; value = value }
+
+-- a read of an own write needs no part
+own_write : Runs storages [] (Write (item 0) 7 ∷ Read (item 0) ∷ []) [] (finished Done (Value 7 ∷ []) (change (item 0) (Some 7) ∷ []))
+own_write =
+    let own : List Change = change (item 0) (Some 7) ∷ [] in
+    let read : Runs storages [] (Read (item 0) ∷ []) own (finished Done (Value 7 ∷ []) own) = (refl, (Continues (Some (Value 7)) own, (Some 7, refl, refl), (finished Done [] own, refl, refl))) in
+    (refl, (Continues None own, refl, (finished Done (Value 7 ∷ []) own, read, refl)))
+
+-- 5 were read and 3 added: a read then gives 8
+sum_over_a_read : Runs storages (part (item 1) (Some 5) ∷ []) (Add (item 1) 3 ∷ Read (item 1) ∷ []) [] (finished Done (Value 8 ∷ []) (change (item 1) (Some 8) ∷ []))
+sum_over_a_read =
+    let own : List Change = change (item 1) (Some 8) ∷ [] in
+    let read : Runs storages (part (item 1) (Some 5) ∷ []) (Read (item 1) ∷ []) own (finished Done (Value 8 ∷ []) own) = (refl, (Continues (Some (Value 8)) own, (Some 8, refl, refl), (finished Done [] own, refl, refl))) in
+    (refl, (Continues None own, (Some 5, refl, refl), (finished Done (Value 8 ∷ []) own, read, refl)))
+
+-- 2 were read and 3 are taken: the write before it is dropped, the reply before it stays, and the operation after it does
+-- not run
+short : Runs storages (part (item 1) (Some 2) ∷ []) (Write (item 0) 7 ∷ Read (item 1) ∷ Take (item 1) 3 ∷ Read (item 0) ∷ []) [] (finished Short (Value 2 ∷ []) [])
+short =
+    let own : List Change = change (item 0) (Some 7) ∷ [] in
+    let take : Runs storages (part (item 1) (Some 2) ∷ []) (Take (item 1) 3 ∷ Read (item 0) ∷ []) own (finished Short [] []) = (refl, (Stops Short, (Some 2, refl, refl), refl)) in
+    let read : Runs storages (part (item 1) (Some 2) ∷ []) (Read (item 1) ∷ Take (item 1) 3 ∷ Read (item 0) ∷ []) own (finished Short (Value 2 ∷ []) []) = (refl, (Continues (Some (Value 2)) own, (Some 2, refl, refl), (finished Short [] [], take, refl))) in
+    (refl, (Continues None own, refl, (finished Short (Value 2 ∷ []) [], read, refl)))
+
+-- an array key without a value has 0
+array_without : Runs storages (part (item 3) None ∷ []) (Read (item 3) ∷ []) [] (finished Done (Value 0 ∷ []) [])
+array_without = (refl, (Continues (Some (Value 0)) [], (None, refl, refl), (finished Done [] [], refl, refl)))
+
+-- a read of a key that nothing vouches for is no transaction's
+unread : (f : Finished) → Runs storages [] (Read (item 0) ∷ []) [] f → ⊥
+unread f is = let none : None ≡ Some is.1.1.0 = is.1.1.1 in cc
+
+abbrev nothing_read : Attempt
+nothing_read = record { seat = 0; number = at 1 2; parts = part (leaf 9) None ∷ []; writes = [] }
+
+-- a key of a tree that was read as absent is removed: the attempt has the read and no write
+removal_of_nothing : IsAttemptOf storages
+    (record { round = 0; worker = 0; line = 0; ops = Read (leaf 9) ∷ Remove (leaf 9) ∷ []; verdict = Done; number = at 1 2; replies = Absent ∷ [] })
+    nothing_read
+removal_of_nothing =
+    let own : List Change = change (leaf 9) None ∷ [] in
+    let remove : Runs storages (part (leaf 9) None ∷ []) (Remove (leaf 9) ∷ []) [] (finished Done [] own) = (refl, (Continues None own, refl, (finished Done [] own, refl, refl))) in record {
+      number = refl;
+      own = own;
+      runs = (refl, (Continues (Some Absent) [], (None, refl, refl), (finished Done [] own, remove, refl)));
+      writes = λ k. by_test k (same_key (leaf 9) k) refl;
+    }
+  where
+    by_test : (k : Key) (b : Bool) → same_key (leaf 9) k ≡ b → (written k [] ≡ written k (change (leaf 9) None ∷ [])) ⊎ LeavesOut storages nothing_read (change (leaf 9) None ∷ []) k
+    by_test k true hit =
+        subst (λ (x : Key). (written x [] ≡ written x (change (leaf 9) None ∷ [])) ⊎ LeavesOut storages nothing_read (change (leaf 9) None ∷ []) x) (same_key-true (leaf 9) k hit)
+        (inr (record { tree = refl; removed = refl; absent = refl; unwritten = refl }))
+    by_test k false miss = inl (sym (written-wrote (leaf 9) k None [] ∙ ap (λ b. cond b (Some None) None) miss))

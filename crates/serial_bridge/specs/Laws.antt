@@ -1,0 +1,358 @@
+-- The bridge itself, as laws that proofs above can cite.
+use Rattle.std.proofs.Common.{◌≡◌, ℕ, ◌+◌, ◌-◌, ◌^◌, ◌≤◌, Bool, true, false, true≢false, cond, ◌⊎◌, inl, inr, List, [], ◌∷◌, ◌++◌, refl, sym, ap, ◌∙◌, subst, arith, Option, Some, None, IsSome}
+use Rattle.std.specs.Prelude.{◌&&◌, nat_lt, nat_le, option_to_list, unwrap_or, Contains, find, filter, option_map}
+use Rattle.std.specs.Option.{option_or, option_map_or}
+use Rattle.std.specs.Cmp.{IsTotalOrder, nat_cmp_total, eq_by_cmp_equiv}
+use Rattle.std.specs.Ordering.{nat_cmp, eq_by_cmp, is_eq}
+use Rattle.std.specs.declared.cmp.Ordering.{Ordering}
+use Rattle.std.specs.declared.cmp.Ordering.TheVariants.{Less, Equal, Greater}
+use Rattle.std.specs.FinMap.{get, insert, remove, get-insert, get-remove, IsAntisymmetric}
+use Rattle.std.proofs.lemmas.Cmp.{on_total, then_total}
+use Rattle.std.proofs.lemmas.Map.Lookups.{exact_pairs, exact_unsigned}
+use Rattle.std.proofs.lemmas.Bool.{cases_Bool, cond-true, cond-false, false_from_ne_true}
+use Rattle.std.proofs.lemmas.Bool.Decides.{nat_tests}
+use Rattle.serial_model.specs.declared.key.Key.{Key}
+use Rattle.serial_model.specs.declared.number.Number.{Number}
+use Rattle.serial_model.specs.declared.number.Change.{Change}
+use Rattle.serial_model.specs.declared.decl.Decl.{Decl}
+use Rattle.serial_model.specs.declared.op.Op.{Op}
+use Rattle.serial_model.specs.declared.op.Op.TheVariants.{Read, Write, Remove, Add, Take, Scan}
+use Rattle.serial_model.specs.declared.reply.Reply.{Reply}
+use Rattle.serial_model.specs.declared.reply.Reply.TheVariants.{Rows}
+use Rattle.serial_model.specs.declared.reply.Verdict.{Verdict}
+use Rattle.serial_model.specs.declared.reply.Verdict.TheVariants.{Short, Over}
+use Rattle.serial_model.specs.Keys.{key_cmp, is_tree, fits}
+use Rattle.serial_model.specs.State.{State, amount_at, is_within, rows_of}
+use Rattle.serial_model.specs.Step.{Goes, Ends, Ended, reply_of, move_of, after_move, step_from}
+use Rattle.serial_model.specs.History.{Entry, Precedes, InOrder, AnswersAlong, state_after, state_after_all}
+use Rattle.commit_core.specs.declared.place.Content.{Content}
+use Rattle.commit_core.specs.declared.place.Part.{Part}
+use Rattle.commit_core.specs.declared.attempt.Attempt.{Attempt}
+use Rattle.serial_model.specs.Numbers.{IsBelow, below_then}
+use Rattle.commit_core.specs.Keys.{same_key, IsUpTo, covers, Vouches, content_at, written}
+use Rattle.commit_core.specs.Lemmas.Keys.{same_key-self, same_key-true}
+use Rattle.lists.specs.Elements.{in_head, in_tail}
+use Rattle.commit_core.specs.CoreState.{is_decided}
+use Rattle.commit_core.specs.Serial.{after_writes, after_all, committed, ReadsAlong, RisesFrom}
+use Rattle.commit_core.specs.Law.{SoundIsSerial}
+use Rattle.serial_bridge.specs.Transaction.{vouched, seen, wrote, Turn, Continues, Stops, added, taken, Turns, Finished, finished, FinishesBy, Runs, LeavesOut, AreAttemptsOf}
+use Rattle.serial_bridge.specs.Bridge.{Agrees, AttemptsStep, after_attempts, last_written, SerialReadsRun, SoundStoryRuns}
+
+-- ---- keys
+
+keys_total : IsTotalOrder key_cmp
+keys_total = then_total (on_total (λ (k : Key). k.storage) nat_cmp_total) (on_total (λ (k : Key). k.key) nat_cmp_total)
+
+exact_keys : IsAntisymmetric key_cmp
+exact_keys a b h =
+    ap (λ (p : ℕ × ℕ). record { storage = p.0; key = p.1 })
+    (exact_pairs nat_cmp nat_cmp exact_unsigned exact_unsigned (a.storage, a.key) (b.storage, b.key) h)
+
+is_equal : (r : Ordering) → is_eq r ≡ true → r ≡ Equal
+is_equal Less e = absurd (true≢false (sym e))
+is_equal Equal e = refl
+is_equal Greater e = absurd (true≢false (sym e))
+
+-- the map's test of keys is that of equal keys
+key_test : (q k : Key) → eq_by_cmp key_cmp q k ≡ same_key k q
+key_test q k =
+    elim (cases_Bool (same_key k q)) [
+      | inl hit ↦ subst (λ (x : Key). eq_by_cmp key_cmp q x ≡ true) (sym (same_key-true k q hit)) ((eq_by_cmp_equiv keys_total).refl q) ∙ sym hit
+      | inr miss ↦ false_from_ne_true (eq_by_cmp key_cmp q k) (λ h.
+          true≢false (sym (subst (λ (x : Key). same_key k x ≡ true) (sym (exact_keys q k (is_equal (key_cmp q k) h))) (same_key-self k)) ∙ miss))
+          ∙ sym miss
+    ]
+
+-- ---- values
+
+-- what replies the same to a read is the same amount, and in a tree the same value or absence
+same_amount : (kind : Bool) (a b : Option ℕ) → reply_of kind a ≡ reply_of kind b → unwrap_or a 0 ≡ unwrap_or b 0
+same_amount kind (Some x) (Some y) e = cc
+same_amount true (Some x) None e = cc
+same_amount true None (Some y) e = cc
+same_amount true None None e = refl
+same_amount false (Some x) None e = cc
+same_amount false None (Some y) e = cc
+same_amount false None None e = refl
+
+same_in_tree : (a b : Option ℕ) → reply_of true a ≡ reply_of true b → a ≡ b
+same_in_tree (Some x) (Some y) e = cc
+same_in_tree (Some x) None e = cc
+same_in_tree None (Some y) e = cc
+same_in_tree None None e = refl
+
+-- ---- what a transaction sees
+
+-- the state has at each key what was written there, else what the first state has
+abbrev pub IsOver : State → List Change → State → Type 0
+IsOver first own w = (k : Key) → get w k ≡ unwrap_or (written k own) (get first k)
+
+-- a read of a key that a part has replies the same from the state
+abbrev pub AreVouched : List Decl → List Part → State → Type 0
+AreVouched decls parts s = (k : Key) (value : Option ℕ) → vouched parts k ≡ Some value
+    → reply_of (is_tree decls k.storage) (get s k) ≡ reply_of (is_tree decls k.storage) value
+
+-- a read of a key that is seen replies the same from the state with the writes
+seen_same : (decls : List Decl) (parts : List Part) (first : State) (own : List Change) (w : State) (k : Key) (value : Option ℕ)
+    → AreVouched decls parts first → IsOver first own w → seen parts own k ≡ Some value
+    → reply_of (is_tree decls k.storage) (get w k) ≡ reply_of (is_tree decls k.storage) value
+seen_same decls parts first own w k value vouch over is = by_written (written k own) (over k) is
+  where
+    by_written : (o : Option (Option ℕ)) → get w k ≡ unwrap_or o (get first k) → option_or o (vouched parts k) ≡ Some value
+        → reply_of (is_tree decls k.storage) (get w k) ≡ reply_of (is_tree decls k.storage) value
+    by_written None here is = ap (reply_of (is_tree decls k.storage)) here ∙ vouch k value is
+    by_written (Some x) here is = let same : x ≡ value = cc in ap (reply_of (is_tree decls k.storage)) (here ∙ same)
+
+-- ---- one write more
+
+pub written-wrote : (k q : Key) (value : Option ℕ) (own : List Change) → written q (wrote k value own) ≡ cond (same_key k q) (Some value) (written q own)
+written-wrote k q value own =
+    elim (same_key k q) as (λ b. option_map (λ (c : Change). c.value) (cond b (Some (record { key = k; value = value })) (find (λ (c : Change). same_key c.key q) own)) ≡ cond b (Some value) (written q own)) [
+      | true ↦ refl
+      | false ↦ refl
+    ]
+
+over_put : (first : State) (own : List Change) (w : State) (k : Key) (v : ℕ) → IsOver first own w → IsOver first (wrote k (Some v) own) (insert w k v)
+over_put first own w k v over = λ q.
+    get-insert keys_total w k v q ∙ ap (λ b. cond b (Some v) (get w q)) (key_test q k) ∙ by_test q (same_key k q)
+    ∙ ap (λ o. unwrap_or o (get first q)) (sym (written-wrote k q (Some v) own))
+  where
+    by_test : (q : Key) (b : Bool) → cond b (Some v) (get w q) ≡ unwrap_or (cond b (Some (Some v)) (written q own)) (get first q)
+    by_test q true = refl
+    by_test q false = over q
+
+over_removed : (first : State) (own : List Change) (w : State) (k : Key) → IsOver first own w → IsOver first (wrote k None own) (remove w k)
+over_removed first own w k over = λ q.
+    get-remove keys_total w k q ∙ ap (λ b. cond b None (get w q)) (key_test q k) ∙ by_test q (same_key k q)
+    ∙ ap (λ o. unwrap_or o (get first q)) (sym (written-wrote k q None own))
+  where
+    by_test : (q : Key) (b : Bool) → cond b None (get w q) ≡ unwrap_or (cond b (Some None) (written q own)) (get first q)
+    by_test q true = refl
+    by_test q false = over q
+
+-- ---- the operations
+
+-- the serial step ends as the transaction does
+pub record EndsAs (first : State) (e : Ended) (f : Finished) : Type 0 where
+  pub verdict : e.verdict ≡ f.verdict
+  pub replies : e.replies ≡ f.replies
+  pub state : IsOver first f.writes e.state
+
+-- how the rest ends, over these writes and the state with them
+abbrev pub RestEnds : List Decl → List Part → State → List Op → Type 0
+RestEnds decls parts first ops = (own : List Change) (w : State) (f : Finished)
+    → Runs decls parts ops own f → IsOver first own w → EndsAs first (step_from decls first ops w) f
+
+-- one operation that goes on, and then the rest
+goes_on : (decls : List Decl) (parts : List Part) (first : State) (ops : List Op) (own : List Change) (w : State) (reply : Option Reply) (f : Finished)
+    → RestEnds decls parts first ops → FinishesBy (Continues reply own) (Runs decls parts ops) f → IsOver first own w
+    → EndsAs first (after_move first (Goes reply w) (step_from decls first ops)) f
+goes_on decls parts first ops own w reply f rest by over =
+    let ends = rest own w by.0 by.1 over in record {
+      verdict = ends.verdict ∙ ap (λ (x : Finished). x.verdict) (sym by.2);
+      replies = ap (λ l. option_to_list reply ++ l) ends.replies ∙ ap (λ (x : Finished). x.replies) (sym by.2);
+      state = subst (λ (x : Finished). IsOver first x.writes (step_from decls first ops w).state) (sym by.2) ends.state;
+    }
+
+-- an addition or a subtraction, where the test says whether it goes on
+sum_ends : (decls : List Decl) (parts : List Part) (first : State) (ops : List Op) (own : List Change) (w : State) (k : Key) (fine : Bool) (n : ℕ) (verdict : Verdict) (f : Finished)
+    → RestEnds decls parts first ops → FinishesBy (cond fine (Continues None (wrote k (Some n) own)) (Stops verdict)) (Runs decls parts ops) f → IsOver first own w
+    → EndsAs first (after_move first (cond fine (Goes None (insert w k n)) (Ends verdict)) (step_from decls first ops)) f
+sum_ends decls parts first ops own w k true n verdict f rest by over =
+    goes_on decls parts first ops (wrote k (Some n) own) (insert w k n) None f rest by (over_put first own w k n over)
+sum_ends decls parts first ops own w k false n verdict f rest by over = record {
+  verdict = ap (λ (x : Finished). x.verdict) (sym by);
+  replies = ap (λ (x : Finished). x.replies) (sym by);
+  state = subst (λ (x : Finished). IsOver first x.writes first) (sym by) (λ q. refl);
+}
+
+-- each operation, and then the rest
+operation_ends : (decls : List Decl) (parts : List Part) (first : State) (op : Op) (ops : List Op) (own : List Change) (w : State) (turn : Turn) (f : Finished)
+    → AreVouched decls parts first → RestEnds decls parts first ops → fits decls op ≡ true → Turns decls parts own op turn → FinishesBy turn (Runs decls parts ops) f → IsOver first own w
+    → EndsAs first (after_move first (move_of decls w op) (step_from decls first ops)) f
+operation_ends decls parts first (Read k) ops own w turn f vouch rest fit is by over =
+    let same = seen_same decls parts first own w k is.0 vouch over is.1 in
+    let turn-is = is.2 ∙ ap (λ r. Continues (Some r) own) (sym same) in
+    goes_on decls parts first ops own w (Some (reply_of (is_tree decls k.storage) (get w k))) f rest (subst (λ t. FinishesBy t (Runs decls parts ops) f) turn-is by) over
+operation_ends decls parts first (Write k v) ops own w turn f vouch rest fit is by over =
+    goes_on decls parts first ops (wrote k (Some v) own) (insert w k v) None f rest (subst (λ t. FinishesBy t (Runs decls parts ops) f) is by) (over_put first own w k v over)
+operation_ends decls parts first (Remove k) ops own w turn f vouch rest fit is by over =
+    goes_on decls parts first ops (wrote k None own) (remove w k) None f rest (subst (λ t. FinishesBy t (Runs decls parts ops) f) is by) (over_removed first own w k over)
+operation_ends decls parts first (Add k v) ops own w turn f vouch rest fit is by over =
+    let same = same_amount (is_tree decls k.storage) (get w k) is.0 (seen_same decls parts first own w k is.0 vouch over is.1) in
+    let turn-is = is.2 ∙ ap (λ n. added k v n own) (sym same) in
+    sum_ends decls parts first ops own w k (nat_lt (amount_at w k + v) (2 ^ 64)) (amount_at w k + v) Over f rest (subst (λ t. FinishesBy t (Runs decls parts ops) f) turn-is by) over
+operation_ends decls parts first (Take k v) ops own w turn f vouch rest fit is by over =
+    let same = same_amount (is_tree decls k.storage) (get w k) is.0 (seen_same decls parts first own w k is.0 vouch over is.1) in
+    let turn-is = is.2 ∙ ap (λ n. taken k v n own) (sym same) in
+    sum_ends decls parts first ops own w k (nat_le v (amount_at w k)) (amount_at w k - v) Short f rest (subst (λ t. FinishesBy t (Runs decls parts ops) f) turn-is by) over
+operation_ends decls parts first (Scan storage low high) ops own w turn f vouch rest fit is by over =
+    let rows-is = is.1.given w (λ k inside. scanned k inside) in
+    let turn-is = is.2 ∙ ap (λ r. Continues (Some (Rows r)) own) rows-is in
+    goes_on decls parts first ops own w (Some (Rows (rows_of w storage low high))) f rest (subst (λ t. FinishesBy t (Runs decls parts ops) f) turn-is by) over
+  where
+    here : (k : Key) (o : Option (Option ℕ)) → seen parts own k ≡ o → IsSome o → is_tree decls k.storage ≡ true → o ≡ Some (get w k)
+    here k None e some tree = absurd (true≢false (sym some))
+    here k (Some value) e some tree =
+        ap Some (sym (same_in_tree (get w k) value (subst (λ t. reply_of t (get w k) ≡ reply_of t value) tree (seen_same decls parts first own w k value vouch over e))))
+
+    scanned : (k : Key) → is_within storage low high k ≡ true → seen parts own k ≡ Some (get w k)
+    scanned k inside =
+        let at : k.storage ≡ storage = grind (arith, nat_tests) in
+        here k (seen parts own k) refl (is.1.covered k inside) (ap (is_tree decls) at ∙ fit)
+
+-- the operations over what is seen end as the serial step does over the state
+pub runs_end : (decls : List Decl) (parts : List Part) (first : State) (ops : List Op) → AreVouched decls parts first → RestEnds decls parts first ops
+runs_end decls parts first [] vouch = λ own w f is over. record {
+  verdict = ap (λ (x : Finished). x.verdict) (sym is);
+  replies = ap (λ (x : Finished). x.replies) (sym is);
+  state = subst (λ (x : Finished). IsOver first x.writes w) (sym is) over;
+}
+runs_end decls parts first (op ∷ ops) vouch = λ own w f is over.
+    operation_ends decls parts first op ops own w is.1.0 f vouch (runs_end decls parts first ops vouch) is.0 is.1.1 is.1.2 over
+
+-- ---- an attempt
+
+-- the first part that covers a key has the contents' value there
+vouched_is : (contents : Key → Content) (parts : List Part) (k : Key) (value : Option ℕ) → ((part : Part) → Contains parts part → Vouches contents part)
+    → vouched parts k ≡ Some value → (contents k).value ≡ value
+vouched_is contents [] k value reads is = cc
+vouched_is contents (part ∷ parts) k value reads is =
+    elim (cases_Bool (covers part k)) [
+      | inl hit ↦
+          let first : Some part.content.value ≡ Some value = sym (ap (option_map (λ (p : Part). p.content.value)) (cond-true (covers part k) (Some part) (find (λ (p : Part). covers p k) parts) hit)) ∙ is in
+          let same : part.content.value ≡ value = cc in
+          ap (λ (c : Content). c.value) (sym (reads part (in_head part parts) k hit)) ∙ same
+      | inr miss ↦ vouched_is contents parts k value (λ p m. reads p (in_tail p part parts m))
+          (sym (ap (option_map (λ (p : Part). p.content.value)) (cond-false (covers part k) (Some part) (find (λ (p : Part). covers p k) parts) miss)) ∙ is)
+    ]
+
+-- the value after an attempt's writes
+after_writes-value : (k : Key) (a : Attempt) (c : Content) → (after_writes k a c).value ≡ unwrap_or (written k a.writes) c.value
+after_writes-value k a c = by_written (written k a.writes)
+  where
+    by_written : (o : Option (Option ℕ)) → (option_map_or (λ v. record { number = a.number; value = v }) o c).value ≡ unwrap_or o c.value
+    by_written None = refl
+    by_written (Some v) = refl
+
+-- an attempt that read what the contents have steps as its transaction on a state that agrees with them
+pub attempt_steps : AttemptsStep
+attempt_steps decls s contents e a agrees reads is =
+    let vouch : AreVouched decls a.parts s = λ k value there.
+    agrees k ∙ ap (reply_of (is_tree decls k.storage)) (vouched_is contents a.parts k value reads there) in
+    let ends = runs_end decls a.parts s e.ops vouch [] s (finished e.verdict e.replies is.own) is.runs (λ k. refl) in
+    let changes : (k : Key) → get (state_after decls s e) k ≡ unwrap_or (written k a.writes) (get s k) = λ k. ends.state k ∙ changed vouch k (is.writes k) in record {
+      answers = record { verdict = sym ends.verdict; replies = sym ends.replies };
+      changes = changes;
+      agrees = λ k. ap (reply_of (is_tree decls k.storage)) (changes k) ∙ by_written k (written k a.writes)
+          ∙ ap (reply_of (is_tree decls k.storage)) (sym (after_writes-value k a (contents k)));
+    }
+  where
+    changed : AreVouched decls a.parts s → (k : Key) → (written k a.writes ≡ written k is.own) ⊎ LeavesOut decls a is.own k
+        → unwrap_or (written k is.own) (get s k) ≡ unwrap_or (written k a.writes) (get s k)
+    changed vouch k (inl same) = ap (λ o. unwrap_or o (get s k)) (sym same)
+    changed vouch k (inr out) =
+        let absent : get s k ≡ None = same_in_tree (get s k) None (subst (λ t. reply_of t (get s k) ≡ reply_of t None) out.tree (vouch k None out.absent)) in
+        ap (λ o. unwrap_or o (get s k)) out.removed ∙ sym absent ∙ ap (λ o. unwrap_or o (get s k)) (sym out.unwritten)
+
+    by_written : (k : Key) (o : Option (Option ℕ)) → reply_of (is_tree decls k.storage) (unwrap_or o (get s k)) ≡ reply_of (is_tree decls k.storage) (unwrap_or o (contents k).value)
+    by_written k None = agrees k
+    by_written k (Some v) = refl
+
+-- ---- lists of attempts
+
+-- epochs never fall
+epoch_low : (a b : Number) → IsBelow a b → a.epoch ≤ b.epoch
+epoch_low a b (inl later) = omega arith
+epoch_low a b (inr same) = let epoch = same.0 in omega arith
+
+-- what holds of numbers in order holds of an entry to all later ones
+precedes : (R : Number → Number → Type 0) → ((x y : Number) → IsBelow x y → R x y) → (decls : List Decl) (e : Entry) (low : Number) (entries : List Entry) (attempts : List Attempt)
+    → IsUpTo e.number low → RisesFrom low attempts → AreAttemptsOf decls entries attempts → Precedes (λ x y. R x.number y.number) e entries
+precedes R imply decls e low [] [] up rises are = tt
+precedes R imply decls e low [] (a ∷ attempts) up rises are = absurd are
+precedes R imply decls e low (f ∷ entries) [] up rises are = absurd are
+precedes R imply decls e low (f ∷ entries) (a ∷ attempts) up rises are =
+    let above : IsBelow e.number a.number = after e.number low a.number up rises.0 in (
+      imply e.number f.number (subst (λ (n : Number). IsBelow e.number n) (sym are.0.number) above),
+      precedes R imply decls e a.number entries attempts (inr above) rises.1 are.1,
+    )
+  where
+    after : (x y z : Number) → IsUpTo x y → IsBelow y z → IsBelow x z
+    after x y z (inl same) b = subst (λ (n : Number). IsBelow n z) (sym same) b
+    after x y z (inr a) b = below_then x y z a b
+
+in_order : (R : Number → Number → Type 0) → ((x y : Number) → IsBelow x y → R x y) → (decls : List Decl) (low : Number) (entries : List Entry) (attempts : List Attempt)
+    → RisesFrom low attempts → AreAttemptsOf decls entries attempts → InOrder (λ x y. R x.number y.number) entries
+in_order R imply decls low [] [] rises are = tt
+in_order R imply decls low [] (a ∷ attempts) rises are = absurd are
+in_order R imply decls low (e ∷ entries) [] rises are = absurd are
+in_order R imply decls low (e ∷ entries) (a ∷ attempts) rises are = (
+  precedes R imply decls e a.number entries attempts (inl are.0.number) rises.1 are.1,
+  in_order R imply decls a.number entries attempts rises.1 are.1,
+)
+
+-- each transaction's answers are those on the state which the ones before it leave
+answers_along : (decls : List Decl) (s : State) (contents : Key → Content) (entries : List Entry) (attempts : List Attempt)
+    → Agrees decls s contents → ReadsAlong contents attempts → AreAttemptsOf decls entries attempts
+    → AnswersAlong decls entries s
+    × ((k : Key) → get (state_after_all decls s entries) k ≡ unwrap_or (last_written attempts k) (get s k))
+    × Agrees decls (state_after_all decls s entries) (after_attempts contents attempts)
+answers_along decls s contents [] [] agrees reads are = (tt, λ k. refl, agrees)
+answers_along decls s contents [] (a ∷ attempts) agrees reads are = absurd are
+answers_along decls s contents (e ∷ entries) [] agrees reads are = absurd are
+answers_along decls s contents (e ∷ entries) (a ∷ attempts) agrees reads are =
+    let steps = attempt_steps decls s contents e a agrees reads.0 are.0 in
+    let rest = answers_along decls (state_after decls s e) (λ k. after_writes k a (contents k)) entries attempts steps.agrees reads.1 are.1 in
+    ((steps.answers, rest.0), λ k. rest.1 k ∙ ap (unwrap_or (last_written attempts k)) (steps.changes k) ∙ earlier (last_written attempts k) (written k a.writes) (get s k), rest.2)
+  where
+    earlier : (late early : Option (Option ℕ)) (value : Option ℕ) → unwrap_or late (unwrap_or early value) ≡ unwrap_or (option_or late early) value
+    earlier None early value = refl
+    earlier (Some v) early value = refl
+
+-- attempts whose reads are serial, each of its transaction, are a serial run of these transactions
+pub serial_reads_run : SerialReadsRun
+serial_reads_run decls s opening entries attempts agrees serial are =
+    let low = (content_at opening (record { storage = 0; key = 0 })).number in
+    let rises = serial.rising (record { storage = 0; key = 0 }) in
+    let along = answers_along decls s (content_at opening) entries attempts agrees serial.reads are in record {
+      run = record {
+        rising = in_order (λ x y. IsBelow x y) (λ x y b. b) decls low entries attempts rises are;
+        epochs = in_order (λ x y. x.epoch ≤ y.epoch) epoch_low decls low entries attempts rises are;
+        answers = along.0;
+      };
+      changes = along.1;
+      leaves = along.2;
+    }
+
+-- ---- the whole story
+
+and_true : (x : Bool) → (x && true) ≡ x
+and_true true = refl
+and_true false = refl
+
+-- one attempt more, which is decided or not
+one_leaves : (decided : List Number) (k : Key) (a : Attempt) (h : List Attempt) (c : Key → Content)
+    → ((d : Key → Content) → after_attempts d (filter (λ x. is_decided decided x.number) h) k ≡ after_all (λ x. is_decided decided x.number && true) k h (d k))
+    → (b : Bool) → is_decided decided a.number ≡ b
+    → after_attempts c (cond b (a ∷ filter (λ x. is_decided decided x.number) h) (filter (λ x. is_decided decided x.number) h)) k
+    ≡ after_all (λ x. is_decided decided x.number && true) k h (cond (is_decided decided a.number && true) (after_writes k a (c k)) (c k))
+one_leaves decided k a h c rest true e =
+    rest (λ q. after_writes q a (c q)) ∙ ap (λ t. after_all (λ x. is_decided decided x.number && true) k h (cond t (after_writes k a (c k)) (c k))) (sym (and_true (is_decided decided a.number) ∙ e))
+one_leaves decided k a h c rest false e =
+    rest c ∙ ap (λ t. after_all (λ x. is_decided decided x.number && true) k h (cond t (after_writes k a (c k)) (c k))) (sym (and_true (is_decided decided a.number) ∙ e))
+
+-- what the decided attempts leave, one after another, is each key's last decided write
+decided_leave : (decided : List Number) (k : Key) (h : List Attempt) (c : Key → Content)
+    → after_attempts c (filter (λ x. is_decided decided x.number) h) k ≡ after_all (λ x. is_decided decided x.number && true) k h (c k)
+decided_leave decided k [] c = refl
+decided_leave decided k (a ∷ h) c = one_leaves decided k a h c (λ d. decided_leave decided k h d) (is_decided decided a.number) refl
+
+-- the decided attempts of a sound story are a serial run of their transactions
+pub story_runs : SoundIsSerial → SoundStoryRuns
+story_runs law decls s opening m entries sound agrees are =
+    let runs = serial_reads_run decls s opening entries (committed m) agrees (law opening m sound).run are in record {
+      run = runs.run;
+      changes = runs.changes;
+      leaves = λ k. runs.leaves k ∙ ap (λ (c : Content). reply_of (is_tree decls k.storage) c.value) (decided_leave m.decided k m.history (content_at opening));
+    }

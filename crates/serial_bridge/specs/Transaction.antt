@@ -1,0 +1,120 @@
+-- What it means that an attempt is a transaction's: the operations, in order, see what they wrote themselves, else what
+-- the attempt's parts have.
+use Rattle.std.specs.Prelude.{◌≡◌, ◌⊎◌, ℕ, ◌+◌, ◌-◌, ◌^◌, ◌++◌, true, List, [], ◌∷◌, Option, Some, None, IsSome, IsTrue, if◌then◌else◌, nat_lt, nat_le, find, option_map, option_to_list, unwrap_or, ⊤}
+use Rattle.std.specs.Option.{option_or}
+use Rattle.std.specs.FinMap.{get}
+use Rattle.serial_model.specs.declared.key.Key.{Key}
+use Rattle.serial_model.specs.declared.number.Change.{Change}
+use Rattle.serial_model.specs.declared.decl.Decl.{Decl}
+use Rattle.serial_model.specs.declared.op.Op.{Op}
+use Rattle.serial_model.specs.declared.op.Op.TheVariants.{Read, Write, Remove, Add, Take, Scan}
+use Rattle.serial_model.specs.declared.reply.Reply.{Reply}
+use Rattle.serial_model.specs.declared.reply.Reply.TheVariants.{Rows}
+use Rattle.serial_model.specs.declared.reply.Verdict.{Verdict}
+use Rattle.serial_model.specs.declared.reply.Verdict.TheVariants.{Done, Short, Over}
+use Rattle.serial_model.specs.Keys.{is_tree, fits}
+use Rattle.serial_model.specs.State.{State, is_within, rows_of}
+use Rattle.serial_model.specs.Step.{reply_of}
+use Rattle.serial_model.specs.History.{Entry}
+use Rattle.commit_core.specs.declared.place.Part.{Part}
+use Rattle.commit_core.specs.declared.attempt.Attempt.{Attempt}
+use Rattle.commit_core.specs.Keys.{covers, written}
+
+-- ---- what a transaction sees
+
+-- the value that a part has for the key, where one covers it
+abbrev pub vouched : List Part → Key → Option (Option ℕ)
+vouched parts k = option_map (λ part. part.content.value) (find (λ part. covers part k) parts)
+
+-- the value at a key that the transaction wrote last, else the one that a part has; none where there is neither
+abbrev pub seen : List Part → List Change → Key → Option (Option ℕ)
+seen parts own k = option_or (written k own) (vouched parts k)
+
+-- The rows of a scan: each key of the range is seen, and every state that has there what is seen gives these rows.
+pub record SeesRows (parts : List Part) (own : List Change) (storage low high : ℕ) (rows : List (ℕ × ℕ)) : Type 0 where
+  pub covered : (k : Key) → is_within storage low high k ≡ true → IsSome (seen parts own k)
+  pub given : (s : State) → ((k : Key) → is_within storage low high k ≡ true → seen parts own k ≡ Some (get s k))
+      → rows ≡ rows_of s storage low high
+
+-- ---- one operation
+
+-- what one operation comes to: the transaction goes on, with a reply or none and with its writes, or it ends
+pub data Turn : Type 0 where
+  Continues : Option Reply → List Change → Turn
+  Stops : Verdict → Turn
+
+-- one write more: of equal keys the first counts, so the newest stands first
+abbrev pub wrote : Key → Option ℕ → List Change → List Change
+wrote k value own = record { key = k; value = value } ∷ own
+
+-- what an addition comes to, where this was seen
+abbrev pub added : Key → ℕ → ℕ → List Change → Turn
+added k v before own =
+    if nat_lt (before + v) (2 ^ 64) then Continues None (wrote k (Some (before + v)) own) else Stops Over
+
+-- what a subtraction comes to, where this was seen
+abbrev pub taken : Key → ℕ → ℕ → List Change → Turn
+taken k v before own =
+    if nat_le v before then Continues None (wrote k (Some (before - v)) own) else Stops Short
+
+-- What an operation of a transaction with these parts and writes comes to. Reads, additions, subtractions and scans
+-- need that what they ask for is seen; writes and removals see nothing.
+abbrev pub Turns : List Decl → List Part → List Change → Op → Turn → Type 0
+Turns decls parts own (Read k) turn =
+    (value : Option ℕ) × (seen parts own k ≡ Some value)
+    × (turn ≡ Continues (Some (reply_of (is_tree decls k.storage) value)) own)
+Turns decls parts own (Write k v) turn = turn ≡ Continues None (wrote k (Some v) own)
+Turns decls parts own (Remove k) turn = turn ≡ Continues None (wrote k None own)
+Turns decls parts own (Add k v) turn =
+    (value : Option ℕ) × (seen parts own k ≡ Some value) × (turn ≡ added k v (unwrap_or value 0) own)
+Turns decls parts own (Take k v) turn =
+    (value : Option ℕ) × (seen parts own k ≡ Some value) × (turn ≡ taken k v (unwrap_or value 0) own)
+Turns decls parts own (Scan storage low high) turn =
+    (rows : List (ℕ × ℕ)) × SeesRows parts own storage low high rows × (turn ≡ Continues (Some (Rows rows)) own)
+
+-- ---- all operations
+
+-- how a transaction ends: with its replies and what it wrote
+pub record Finished : Type 0 where
+  pub verdict : Verdict
+  pub replies : List Reply
+  pub writes : List Change
+
+abbrev pub finished : Verdict → List Reply → List Change → Finished
+finished v rs own = record { verdict = v; replies = rs; writes = own }
+
+-- after one operation the rest runs over its writes; where the transaction ends, its writes are dropped
+abbrev pub FinishesBy : Turn → (List Change → Finished → Type 0) → Finished → Type 0
+FinishesBy (Continues reply own) rest f =
+    (g : Finished) × rest own g × (f ≡ finished g.verdict (option_to_list reply ++ g.replies) g.writes)
+FinishesBy (Stops verdict) rest f = f ≡ finished verdict [] []
+
+-- The operations, which fit the declarations, run in order over the parts and these writes to this end.
+abbrev pub Runs : List Decl → List Part → List Op → List Change → Finished → Type 0
+Runs decls parts [] own f = f ≡ finished Done [] own
+Runs decls parts (op ∷ ops) own f =
+    IsTrue (fits decls op) × ((turn : Turn) × Turns decls parts own op turn × FinishesBy turn (Runs decls parts ops) f)
+
+-- ---- attempts
+
+-- The transaction took the key of a tree out last, which a part says was absent: the attempt may leave that out.
+pub record LeavesOut (decls : List Decl) (a : Attempt) (own : List Change) (k : Key) : Type 0 where
+  pub tree : is_tree decls k.storage ≡ true
+  pub removed : written k own ≡ Some None
+  pub absent : vouched a.parts k ≡ Some None
+  pub unwritten : written k a.writes ≡ None
+
+-- The attempt is that of the entry's transaction: it has its number, the operations run over the attempt's parts to the
+-- entry's verdict and replies, and the attempt writes at each key what they wrote there last.
+pub record IsAttemptOf (decls : List Decl) (e : Entry) (a : Attempt) : Type 0 where
+  pub number : e.number ≡ a.number
+  pub own : List Change
+  pub runs : Runs decls a.parts e.ops [] (finished e.verdict e.replies own)
+  pub writes : (k : Key) → (written k a.writes ≡ written k own) ⊎ LeavesOut decls a own k
+
+-- the attempts are those of the entries, one for one
+abbrev pub AreAttemptsOf : List Decl → List Entry → List Attempt → Type 0
+AreAttemptsOf decls [] [] = ⊤
+AreAttemptsOf decls [] (a ∷ attempts) = ⊥
+AreAttemptsOf decls (e ∷ entries) [] = ⊥
+AreAttemptsOf decls (e ∷ entries) (a ∷ attempts) = IsAttemptOf decls e a × AreAttemptsOf decls entries attempts

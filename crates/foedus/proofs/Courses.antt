@@ -6,17 +6,17 @@ use Rattle.std.proofs.lemmas.Bool.{lt-ltb}
 use Rattle.std.proofs.lemmas.List.{append-nil}
 use Rattle.std.proofs.lemmas.List.Sorted.{IsPermutation-refl}
 use Rattle.std.specs.FinMap.{empty}
-use Rattle.tx_script.specs.Output.{Output, Adds, Breaks}
-use Rattle.tx_script.specs.Printed.{breaks_within}
+use Rattle.text_output.specs.Output.{Output, Adds, Breaks}
+use Rattle.text_output.specs.Printed.{breaks_within}
 use Rattle.tx_script.specs.Run.{IsScriptRun, Ran}
 use Rattle.tx_script.specs.Text.{run_text}
-use Rattle.tx_script.specs.Script.{Bytes, Script, IsTextOf}
-use Rattle.tx_script.specs.declared.fault.ScriptFault.{ScriptFault}
-use Rattle.tx_script.specs.declared.fault.FaultKind.TheVariants.{TooLong}
+use Rattle.script_grammar.specs.Script.{Bytes, Script, IsTextOf}
+use Rattle.script_grammar.specs.declared.fault.ScriptFault.{ScriptFault}
+use Rattle.script_grammar.specs.declared.fault.FaultKind.TheVariants.{TooLong}
 use Rattle.command_line.specs.declared.command.Command.{Command}
 use Rattle.command_line.specs.declared.command.Command.TheVariants.{Run, Refused}
 use Rattle.command_line.specs.declared.command.RunOptions.{RunOptions}
-use Rattle.tx_script.specs.Faults.{IsFirstFault, fault_of}
+use Rattle.script_grammar.specs.Faults.{IsFirstFault, fault_of}
 use Rattle.foedus.specs.declared.ending.Ending.{Ending}
 use Rattle.foedus.specs.declared.ending.Ending.TheVariants.{Finished, NoScript, Usage, ReadFault, AtLimit, NoMemory}
 use Rattle.foedus.specs.Ending.{Comes, EndsRun, IsNoText, Reads, ReadsOut, fresh, last_line, most_read}

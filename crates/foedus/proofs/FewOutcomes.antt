@@ -6,8 +6,8 @@ use Rattle.std.proofs.lemmas.List.{length-map}
 use Rattle.std.proofs.lemmas.List.Sums.{count_by-le-length, length-filter}
 use Rattle.serial_model.specs.declared.op.Op.{Op}
 use Rattle.tx_script.specs.declared.outcome.Outcome.{Outcome}
-use Rattle.tx_script.specs.Script.{Line, Round}
-use Rattle.tx_script.specs.Run.{OneForEach, lines_of_worker, worker_lines}
+use Rattle.script_grammar.specs.Script.{Line, Round, lines_of_worker, worker_lines}
+use Rattle.tx_script.specs.Run.{OneForEach}
 
 length-one_for_each : (lines : List (List (List Op))) (outcomes : List (List Outcome)) → OneForEach lines outcomes → length outcomes ≡ length lines
 length-one_for_each [] [] each = refl

@@ -5,9 +5,9 @@ use Rattle.std.proofs.lemmas.List.{append-nil}
 use Rattle.serial_model.specs.declared.number.Number.{Number}
 use Rattle.tx_script.specs.declared.outcome.Outcome.{Outcome}
 use Rattle.tx_script.specs.declared.outcome.Outcome.TheVariants.{Committed, Conflict, Full, Wide, Limit, Unrun}
-use Rattle.tx_script.specs.Output.{Output, Adds}
+use Rattle.text_output.specs.Output.{Output, Adds}
 use Rattle.tx_script.specs.Run.{IsCommit, Ran, joined}
-use Rattle.tx_script.specs.Script.{Round}
+use Rattle.script_grammar.specs.Script.{Round}
 use Rattle.tx_script.specs.Text.{durable_text, round_text, workers_text}
 use Rattle.round_engine.specs.Limits.{last_epoch}
 use Rattle.round_engine.specs.Plainly.{end_of, epoch_after, is_limit, ran_of}

@@ -10,8 +10,8 @@ use Rattle.serial_model.specs.State.{State}
 use Rattle.serial_model.specs.History.{AnswersAlong, Entry, InOrder, IsBelow, Precedes, Rises, state_after, state_after_all}
 use Rattle.serial_model.specs.declared.decl.Decl.{Decl}
 use Rattle.serial_model.specs.declared.number.Number.{Number}
-use Rattle.tx_script.specs.Script.{Round}
-use Rattle.tx_script.specs.Run.{AreOfFirst, IsBetween, IsRun, OneForEach, Ran, RunsClock, RunsClocks, entries_of, entries_of_round, joined, of_worker, worker_lines}
+use Rattle.script_grammar.specs.Script.{Round, worker_lines}
+use Rattle.tx_script.specs.Run.{AreOfFirst, IsBetween, IsRun, OneForEach, Ran, RunsClock, RunsClocks, entries_of, entries_of_round, joined, of_worker}
 
 -- ---- lists in order
 

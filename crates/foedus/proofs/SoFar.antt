@@ -4,10 +4,10 @@ use Rattle.std.specs.FinMap.{empty}
 use Rattle.std.specs.List.{AllByRecursion, slice_get}
 use Rattle.std.proofs.lemmas.List.{append-nil}
 use Rattle.serial_model.specs.declared.number.Number.{Number}
-use Rattle.tx_script.specs.Output.{Adds, Breaks, Output}
-use Rattle.tx_script.specs.Printed.{adds_as, adds_nothing, adds_then, breaks_as, breaks_then}
+use Rattle.text_output.specs.Output.{Adds, Breaks, Output}
+use Rattle.text_output.specs.Printed.{adds_as, adds_nothing, adds_then, breaks_as, breaks_then}
 use Rattle.tx_script.specs.Run.{CanRun, CommitsAll, IsRun, IsScriptRun, Ran, clock_after, joined}
-use Rattle.tx_script.specs.Script.{IsLine, IsOp, IsRound, IsScript, Round, Script}
+use Rattle.script_grammar.specs.Script.{IsLine, IsOp, IsRound, IsScript, Round, Script}
 use Rattle.tx_script.specs.Text.{round_text, run_text}
 use Rattle.round_engine.specs.Limits.{draw_limit, last_epoch}
 use Rattle.round_engine.specs.declared.report.LimitName.TheVariants.{Draw, Epoch}

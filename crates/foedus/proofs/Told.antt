@@ -3,9 +3,9 @@ use Rattle.std.proofs.Common.{◌≡◌, inl, inr, ◌∙◌, sym, ap, subst, re
 use Rattle.std.specs.Io.KnownBytes.{Appends}
 use Rattle.outside.specs.Stream.{TakesPrefix}
 use Rattle.std.proofs.lemmas.List.{append-nil}
-use Rattle.tx_script.specs.Script.{Bytes}
-use Rattle.tx_script.specs.Output.{Output, Adds, Breaks}
-use Rattle.tx_script.specs.Printed.{adds_as, adds_then, breaks_as, breaks_then}
+use Rattle.script_grammar.specs.Script.{Bytes}
+use Rattle.text_output.specs.Output.{Output, Adds, Breaks}
+use Rattle.text_output.specs.Printed.{adds_as, adds_then, breaks_as, breaks_then}
 use Rattle.tx_script.specs.Text.{run_text}
 use Rattle.command_line.specs.Options.{command_of}
 use Rattle.command_line.specs.declared.command.Command.{Command}

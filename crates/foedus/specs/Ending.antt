@@ -4,13 +4,13 @@ use Rattle.std.specs.List.{AllByRecursion}
 use Rattle.std.specs.FinMap.{empty}
 use Rattle.std.specs.Io.KnownBytes.{Consumes, IsAtEnd}
 use Rattle.serial_model.specs.State.{State}
-use Rattle.tx_script.specs.Script.{Bytes, Script, IsTextOf}
-use Rattle.tx_script.specs.Faults.{IsFirstFault}
+use Rattle.script_grammar.specs.Script.{Bytes, Script, IsTextOf}
+use Rattle.script_grammar.specs.Faults.{IsFirstFault}
 use Rattle.tx_script.specs.Run.{Ran, IsScriptRun, CommitsAll}
 use Rattle.tx_script.specs.Text.{run_text}
-use Rattle.tx_script.specs.declared.fault.ScriptFault.{ScriptFault}
-use Rattle.tx_script.specs.declared.fault.FaultKind.{FaultKind}
-use Rattle.tx_script.specs.declared.fault.FaultKind.TheVariants.{Word, Number, Range, Kind, TooLong, TooMany, Declared}
+use Rattle.script_grammar.specs.declared.fault.ScriptFault.{ScriptFault}
+use Rattle.script_grammar.specs.declared.fault.FaultKind.{FaultKind}
+use Rattle.script_grammar.specs.declared.fault.FaultKind.TheVariants.{Word, Number, Range, Kind, TooLong, TooMany, Declared}
 use Rattle.command_line.specs.declared.command.Command.{Command}
 use Rattle.command_line.specs.declared.command.Command.TheVariants.{Run, Refused}
 use Rattle.foedus.specs.declared.ending.Ending.{Ending}

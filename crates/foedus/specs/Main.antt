@@ -4,10 +4,10 @@ use Rattle.std.specs.List.{AllByRecursion}
 use Rattle.std.specs.Io.KnownBytes.{Appends}
 use Rattle.outside.specs.Stream.{TakesPrefix}
 use Rattle.serial_model.specs.State.{State}
-use Rattle.tx_script.specs.Script.{Bytes, Round, Script}
+use Rattle.script_grammar.specs.Script.{Bytes, Round, Script}
 use Rattle.tx_script.specs.Run.{Ran, CommitsAll, IsRun, IsScriptRun, joined}
 use Rattle.tx_script.specs.Text.{round_text, run_text}
-use Rattle.tx_script.specs.Output.{Output, Adds, Breaks}
+use Rattle.text_output.specs.Output.{Output, Adds, Breaks}
 use Rattle.round_engine.specs.Limits.{last_epoch}
 use Rattle.round_engine.specs.declared.report.LimitName.TheVariants.{Epoch}
 use Rattle.round_engine.specs.declared.runtime.Runtime.{Runtime}

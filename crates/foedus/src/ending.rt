@@ -1,6 +1,6 @@
 // How a call ends.
 ghost use Rattle.std.specs.Prelude.{◌≡◌};
-ghost use Rattle.tx_script.specs.Output.{Prints};
+ghost use Rattle.text_output.specs.Output.{Prints};
 ghost use Rattle.foedus.specs.Ending.{fault_text, kind_text, last_line, limit_text, status_of};
 
 use outside::{Failed, Sink};

@@ -3,7 +3,7 @@ ghost use Rattle.std.specs.Prelude.{◌≡◌, ◌≢◌, ◌⊎◌, ℕ, ◌≤
 ghost use Rattle.std.specs.Io.KnownBytes.{Consumes, IsAtEnd};
 ghost use Rattle.outside.specs.Faults.{Rose};
 ghost use Rattle.serial_model.specs.declared.memory.OrMemory.{OrMemory};
-ghost use Rattle.tx_script.specs.Script.{IsScript, IsTextOf};
+ghost use Rattle.script_grammar.specs.Script.{IsScript, IsTextOf};
 ghost use Rattle.foedus.specs.Ending.{TakesAtMost, fresh, most_read};
 ghost use Rattle.foedus.specs.Main.{Course};
 

@@ -2,10 +2,10 @@
 ghost use Rattle.std.specs.Prelude.{◌≡◌, ℕ, ◌+◌, ◌≤◌, List, Some, Ok, length, MatchResult};
 ghost use Rattle.outside.specs.Faults.{HasCause, Rose};
 ghost use Rattle.command_line.specs.Options.{AreInRange};
-ghost use Rattle.tx_script.specs.Script.{IsScript};
+ghost use Rattle.script_grammar.specs.Script.{IsScript};
 ghost use Rattle.tx_script.specs.Run.{CanRun, Ran};
 ghost use Rattle.tx_script.specs.Text.{round_text, run_text};
-ghost use Rattle.tx_script.specs.Output.{Adds, Breaks};
+ghost use Rattle.text_output.specs.Output.{Adds, Breaks};
 ghost use Rattle.foedus.specs.Ending.{TakesAtMost, ending_of};
 ghost use Rattle.foedus.specs.Main.{Adding, Breaking, Passes, RanRound, RunsScript};
 ghost use Rattle.round_engine.specs.Limits.{draw_limit, last_epoch};

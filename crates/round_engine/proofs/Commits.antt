@@ -7,10 +7,10 @@ use Rattle.std.proofs.lemmas.List.Sums.{sum_by-cons}
 use Rattle.serial_model.specs.Step.{step}
 use Rattle.serial_model.specs.declared.op.Op.{Op}
 use Rattle.serial_model.specs.declared.decl.Decl.{Decl}
-use Rattle.tx_script.specs.Script.{Line, Round}
+use Rattle.script_grammar.specs.Script.{Line, Round, worker_lines}
 use Rattle.tx_script.specs.declared.outcome.Outcome.{Outcome}
 use Rattle.tx_script.specs.declared.outcome.Outcome.TheVariants.{Committed, Limit}
-use Rattle.tx_script.specs.Run.{IsCommit, worker_lines}
+use Rattle.tx_script.specs.Run.{IsCommit}
 use Rattle.round_engine.specs.Limits.{draw_limit}
 use Rattle.round_engine.specs.Plainly.{DrawsTo, Place, committed, next_number, outcome_at, outcomes_at, outcomes_of, place_after, place_after_all, place_after_workers}
 use Rattle.round_engine.proofs.SoFar.{ops_of_worker}

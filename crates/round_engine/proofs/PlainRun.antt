@@ -6,9 +6,9 @@ use Rattle.std.proofs.lemmas.List.Sorted.{IsPermutation-refl}
 use Rattle.std.specs.List.Sorted.{IsPermutation}
 use Rattle.serial_model.specs.History.{Entry, Rises, IsBelow}
 use Rattle.serial_model.specs.declared.decl.Decl.{Decl}
-use Rattle.tx_script.specs.Script.{Round}
+use Rattle.script_grammar.specs.Script.{Round, worker_lines}
 use Rattle.tx_script.specs.declared.outcome.Outcome.{Outcome}
-use Rattle.tx_script.specs.Run.{IsRun, OneForEach, entries_of_workers, of_worker, worker_lines}
+use Rattle.tx_script.specs.Run.{IsRun, OneForEach, entries_of_workers, of_worker}
 use Rattle.round_engine.specs.Plainly.{AreConsecutive, Place, outcomes_of, place_after_workers}
 use Rattle.round_engine.proofs.Chains.{Chained, chained_answers, chained_clock, chained_consecutive, chained_state, consecutive_between, consecutive_rise, in_order-kept, one_for_each, workers_chained}
 

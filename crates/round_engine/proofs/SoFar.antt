@@ -6,8 +6,7 @@ use Rattle.std.proofs.lemmas.Option.{slice_get_within, get_or_from_slice_get}
 use Rattle.std.proofs.lemmas.Bool.Decides.{nat_tests}
 use Rattle.serial_model.specs.declared.op.Op.{Op}
 use Rattle.serial_model.specs.declared.decl.Decl.{Decl}
-use Rattle.tx_script.specs.Script.{Line, Round}
-use Rattle.tx_script.specs.Run.{lines_of_worker, worker_lines}
+use Rattle.script_grammar.specs.Script.{Line, Round, lines_of_worker, worker_lines}
 use Rattle.std.proofs.lemmas.List.{take_more}
 use Rattle.tx_script.specs.declared.outcome.Outcome.{Outcome}
 use Rattle.round_engine.specs.Plainly.{Place, outcome_at, outcomes_at, outcomes_of, place_after, place_after_all, place_after_workers}

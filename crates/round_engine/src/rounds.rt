@@ -2,7 +2,8 @@
 ghost use Rattle.std.specs.Prelude.{◌≡◌, ℕ, ◌+◌, ◌<◌, ◌≤◌, [], ◌∷◌, length, IsTrue, All, IfOk, OnErr, OnOk, Some, None, if◌then◌else◌, nat_lt, flat_map};
 ghost use Rattle.std.specs.List.{list_any};
 ghost use Rattle.serial_model.specs.Keys.{fits};
-ghost use Rattle.tx_script.specs.Run.{CanRun, CommitsAll, IsRun, entries_of_round, lines_of_worker, worker_lines};
+ghost use Rattle.script_grammar.specs.Script.{lines_of_worker, worker_lines};
+ghost use Rattle.tx_script.specs.Run.{CanRun, CommitsAll, IsRun, entries_of_round};
 ghost use Rattle.round_engine.specs.Limits.{draw_limit, last_epoch};
 ghost use Rattle.round_engine.specs.Plainly.{AreConsecutive, DrawsTo, end_of, epoch_after, ran_with, is_limit, outcome_at, outcomes_at, outcomes_of};
 ghost use Rattle.round_engine.specs.Plainly.{place_after, place_after_all, place_after_workers, place_of, ran_of};

@@ -1,9 +1,2 @@
-pub mod Script
-pub mod Reading
-pub mod Faults
-pub mod Telling
-pub mod Lines
 pub mod Run
 pub mod Text
-pub mod Output
-pub mod Printed

@@ -1,5 +1,5 @@
 -- Runs of a script: the rounds that were run, with an outcome for each line, and the order in which their commits are serial.
-use Rattle.std.specs.Prelude.{◌≡◌, ◌⊎◌, ℕ, ◌+◌, ◌<◌, ◌≤◌, ◌==◌, List, [], ◌∷◌, ◌++◌, length, map, filter, Option, Some, None, ⊤, IsTrue, sum_by}
+use Rattle.std.specs.Prelude.{◌≡◌, ℕ, ◌+◌, ◌<◌, ◌≤◌, ◌==◌, List, [], ◌∷◌, ◌++◌, length, filter, Option, None, ⊤, IsTrue, sum_by}
 use Rattle.std.specs.List.{AllByRecursion}
 use Rattle.std.specs.List.Sorted.{IsPermutation}
 use Rattle.serial_model.specs.Keys.{fits}
@@ -10,7 +10,7 @@ use Rattle.serial_model.specs.declared.decl.Decl.{Decl}
 use Rattle.serial_model.specs.declared.number.Number.{Number}
 use Rattle.tx_script.specs.declared.outcome.Outcome.{Outcome}
 use Rattle.tx_script.specs.declared.outcome.Outcome.TheVariants.{Committed}
-use Rattle.tx_script.specs.Script.{Line, Round, Script}
+use Rattle.script_grammar.specs.Script.{Round, Script, worker_lines}
 
 -- What came of a round: the number that the clock would give at its begin and at its end, each worker's outcomes in
 -- the order of its lines, for workers 0 to 7, and the epoch that was made durable.
@@ -19,13 +19,6 @@ pub record Ran : Type 0 where
   pub end : Number
   pub outcomes : List (List Outcome)
   pub durable : Option ℕ
-
--- the operations of a worker's lines, in their order
-abbrev pub lines_of_worker : Round → ℕ → List (List Op)
-lines_of_worker round worker = map (λ line. line.ops) (filter (λ line. line.worker == worker) round.lines)
-
-abbrev pub worker_lines : Round → List (List (List Op))
-worker_lines round = map (lines_of_worker round) (0 ∷ 1 ∷ 2 ∷ 3 ∷ 4 ∷ 5 ∷ 6 ∷ 7 ∷ [])
 
 -- for each list of lines one of outcomes, of the same length
 abbrev pub OneForEach : List (List (List Op)) → List (List Outcome) → Type 0

@@ -7,7 +7,7 @@ use Rattle.serial_model.specs.declared.reply.Verdict.{Verdict}
 use Rattle.serial_model.specs.declared.reply.Verdict.TheVariants.{Done, Short, Over}
 use Rattle.tx_script.specs.declared.outcome.Outcome.{Outcome}
 use Rattle.tx_script.specs.declared.outcome.Outcome.TheVariants.{Committed, Conflict, Full, Wide, Limit, Unrun}
-use Rattle.tx_script.specs.Script.{Bytes}
+use Rattle.script_grammar.specs.Script.{Bytes}
 use Rattle.tx_script.specs.Run.{Ran}
 
 abbrev pub pair_text : ℕ × ℕ → Bytes

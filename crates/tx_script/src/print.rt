@@ -4,14 +4,13 @@ ghost use Rattle.std.specs.Io.KnownBytes.{Appends};
 ghost use Rattle.std.specs.List.{AllByRecursion};
 ghost use Rattle.outside.specs.Faults.{HasCause};
 ghost use Rattle.outside.specs.Stream.{TakesPrefix};
-ghost use Rattle.tx_script.specs.Output.{Prints};
+ghost use Rattle.text_output.specs.Output.{Prints};
 ghost use Rattle.tx_script.specs.Text.{more_rows_text, number_text, outcome_line, outcome_text, pair_text, replies_text, reply_text, rows_text, verdict_text, worker_text, workers_text};
 
-use crate::buffer::{Buffer, flush, put};
-use crate::decimal::write_decimal;
 use crate::{Outcome, Outcomes};
 use outside::{Failed, Sink};
 use serial_model::{Number, Reply, Verdict};
+use text_output::{Buffer, flush, put, put_number};
 
 /// Writes the line of a worker's outcome in one write, unless its replies are longer than any line's.
 pub fn write_outcome<K: Sink>(
@@ -195,15 +194,4 @@ fn put_pair<K: Sink>(sink: &mut K, buffer: &mut Buffer, pair: (u64, u64)) -> Res
     put_number(sink, buffer, pair.0)?;
     put(sink, buffer, b"=")?;
     put_number(sink, buffer, pair.1)
-}
-
-/// Adds a number in decimal.
-pub fn put_number<K: Sink>(sink: &mut K, buffer: &mut Buffer, n: u64) -> Result<(), Failed>
-    ensures { Prints (record { faults = K.faults sink.old; held = K.held sink.old; waiting = buffer.old })
-        (record { faults = K.faults sink.new; held = K.held sink.new; waiting = buffer.new })
-        (decimal n) result }
-{
-    let mut digits = [0; 20];
-    let start = write_decimal(n, &mut digits);
-    put(sink, buffer, &digits[start..])
 }

@@ -2,7 +2,7 @@
 use Rattle.std.proofs.Common.{[], ◌∷◌}
 use Rattle.std.specs.Prelude.{codes, decimal}
 use Rattle.foedus.specs.Ending.{kind_text}
-use Rattle.tx_script.specs.Printed.{adds_as, adds_then, breaks_as, breaks_then, breaks_within, prints_at_stop, prints_then}
+use Rattle.text_output.specs.Printed.{adds_as, adds_then, breaks_as, breaks_then, breaks_within, prints_at_stop, prints_then}
 use Rattle.foedus.proofs.ending.put_fault.Goals as goal
 
 pub returns-in_err-put : goal.returns-in_err-put

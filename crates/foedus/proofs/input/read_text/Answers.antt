@@ -1,8 +1,8 @@
 -- What was read is all of the source, or no script.
 use Rattle.std.proofs.Common.{refl, subst, sym}
 use Rattle.std.specs.Io.KnownBytes.{Consumes}
-use Rattle.tx_script.specs.Faults.{IsFirstFault}
-use Rattle.tx_script.specs.Script.{IsTextOf}
+use Rattle.script_grammar.specs.Faults.{IsFirstFault}
+use Rattle.script_grammar.specs.Script.{IsTextOf}
 use Rattle.foedus.specs.Ending.{IsNoText}
 use Rattle.foedus.proofs.Courses.{memory_course, no_script_course, read_fault_course}
 use Rattle.foedus.proofs.input.read_text.Goals as goal

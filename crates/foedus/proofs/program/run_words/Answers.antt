@@ -1,6 +1,6 @@
 -- What the words ask for was run, or nothing for want of memory.
 use Rattle.std.proofs.Common.{[]}
-use Rattle.tx_script.specs.Printed.{adds_nothing}
+use Rattle.text_output.specs.Printed.{adds_nothing}
 use Rattle.foedus.proofs.Courses.{memory_course}
 use Rattle.foedus.proofs.Told.{run_is_not_refused}
 use Rattle.foedus.proofs.program.run_words.Goals as goal

@@ -1,6 +1,6 @@
 -- A script is run, or nothing is.
 use Rattle.std.proofs.Common.{[]}
-use Rattle.tx_script.specs.Printed.{adds_nothing}
+use Rattle.text_output.specs.Printed.{adds_nothing}
 use Rattle.foedus.proofs.Courses.{script_printed, usage_course}
 use Rattle.foedus.proofs.run.run.Goals as goal
 

@@ -3,7 +3,7 @@ use Rattle.std.proofs.Common.{◌∙◌, ◌≤◌, ap, length, subst, sym}
 use Rattle.std.specs.List.{AllByRecursion}
 use Rattle.std.proofs.lemmas.Result.{err_from_is_err_and}
 use Rattle.round_engine.specs.Plainly.{ran_of}
-use Rattle.tx_script.specs.Printed.{adds_as, breaks_as}
+use Rattle.text_output.specs.Printed.{adds_as, breaks_as}
 use Rattle.tx_script.specs.Text.{workers_text}
 use Rattle.foedus.proofs.FewOutcomes.{few_outcomes, few_workers}
 use Rattle.foedus.proofs.Passing.{passes_of, round_text_of}

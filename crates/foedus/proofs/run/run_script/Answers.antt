@@ -1,7 +1,7 @@
 -- Rounds are run until one ends the run.
 use Rattle.std.proofs.Common.{◌≡◌, ◌∙◌, [], length, refl, subst, sym, arith}
 use Rattle.std.proofs.lemmas.Result.{err_from_is_err_and}
-use Rattle.tx_script.specs.Printed.{adds_nothing}
+use Rattle.text_output.specs.Printed.{adds_nothing}
 use Rattle.tx_script.specs.Run.{CanRun}
 use Rattle.foedus.proofs.Courses.{nothing_yet}
 use Rattle.foedus.proofs.SoFar.{all_run, broke, can_run, fits, few_lines_at, none_so_far, one_more, stopped_by}

@@ -1,7 +1,8 @@
 -- The plain run is a run of the round.
 use Rattle.std.proofs.Common.{◌≡◌, ◌∙◌, ap, subst, sym, refl, arith, ◌+◌, ◌≤◌, length}
 use Rattle.std.specs.List.{AllByRecursion, flat_map, sum_by}
-use Rattle.tx_script.specs.Run.{IsCommit, worker_lines}
+use Rattle.script_grammar.specs.Script.{worker_lines}
+use Rattle.tx_script.specs.Run.{IsCommit}
 use Rattle.round_engine.specs.Limits.{draw_limit}
 use Rattle.round_engine.specs.Plainly.{DrawsTo, Place, outcomes_of, place_after_workers, place_of}
 use Rattle.round_engine.proofs.PlainRun.{plain_consecutive, plain_epoch, plain_run}

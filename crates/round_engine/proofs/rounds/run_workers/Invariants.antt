@@ -1,6 +1,6 @@
 -- The decls stay, and the first workers' lines have their outcomes.
 use Rattle.std.proofs.Common.{◌≡◌}
-use Rattle.tx_script.specs.Run.{worker_lines}
+use Rattle.script_grammar.specs.Script.{worker_lines}
 use Rattle.round_engine.specs.Plainly.{place_of}
 use Rattle.round_engine.proofs.SoFar.{WorkersSoFar}
 use Rattle.round_engine.proofs.rounds.run_workers.Given as goal

@@ -1,5 +1,5 @@
 -- The verdict, the number and the replies.
-use Rattle.tx_script.specs.Printed.{adds_then, breaks_then, breaks_within, prints_at_stop, prints_then}
+use Rattle.text_output.specs.Printed.{adds_then, breaks_then, breaks_within, prints_at_stop, prints_then}
 use Rattle.tx_script.proofs.print.put_answer.Goals as goal
 
 pub returns-in_err-put_verdict-in-Committed : goal.returns-in_err-put_verdict-in-Committed

@@ -1,9 +1,9 @@
 -- Each turn adds a comma and a pair.
-use Rattle.std.proofs.Common.{get_or, refl}
+use Rattle.std.proofs.Common.{get_or}
 use Rattle.std.specs.Prelude.{codes}
 use Rattle.tx_script.specs.Text.{pair_text}
 use Rattle.tx_script.proofs.FlatTexts.{get_or-own, marked-more, marked-split}
-use Rattle.tx_script.specs.Printed.{adds_as, adds_then, breaks_as, breaks_then, breaks_within, prints_at_stop}
+use Rattle.text_output.specs.Printed.{adds_as, adds_then, breaks_as, breaks_then, breaks_within, prints_at_stop}
 use Rattle.tx_script.proofs.print.put_more_rows.Goals as goal
 
 pub returns-in_err-put : goal.returns-in_err-put

@@ -1,9 +1,8 @@
 -- Each turn adds a space and a reply.
-use Rattle.std.proofs.Common.{get_or, refl}
 use Rattle.std.specs.Prelude.{codes}
 use Rattle.tx_script.specs.Text.{reply_text}
 use Rattle.tx_script.proofs.FlatTexts.{marked-more, marked-split}
-use Rattle.tx_script.specs.Printed.{adds_as, adds_then, breaks_as, breaks_then, breaks_within, prints_at_stop}
+use Rattle.text_output.specs.Printed.{adds_as, adds_then, breaks_as, breaks_then, breaks_within, prints_at_stop}
 use Rattle.tx_script.proofs.print.put_replies.Goals as goal
 
 pub returns-in_err-put : goal.returns-in_err-put

@@ -1,6 +1,6 @@
 -- The text of the items so far was added.
 use Rattle.std.proofs.Common.{take}
-use Rattle.tx_script.specs.Output.{Adds}
+use Rattle.text_output.specs.Output.{Adds}
 use Rattle.tx_script.specs.Text.{replies_text}
 use Rattle.tx_script.proofs.print.put_replies.Given as goal
 

@@ -2,7 +2,7 @@
 use Rattle.std.proofs.Common.{ap}
 use Rattle.tx_script.specs.Text.{worker_text}
 use Rattle.tx_script.proofs.FlatTexts.{texts_from-more, texts_from-split}
-use Rattle.tx_script.specs.Printed.{adds_as, adds_then, breaks_as, breaks_then, breaks_within, prints_at_stop}
+use Rattle.text_output.specs.Printed.{adds_as, adds_then, breaks_as, breaks_then, breaks_within, prints_at_stop}
 use Rattle.tx_script.proofs.print.put_round.Goals as goal
 
 pub returns-in_err-put_worker : goal.returns-in_err-put_worker

@@ -1,5 +1,5 @@
 -- The first pair, and the others.
-use Rattle.tx_script.specs.Printed.{breaks_within, prints_at_stop, prints_then}
+use Rattle.text_output.specs.Printed.{breaks_within, prints_at_stop, prints_then}
 use Rattle.tx_script.proofs.print.put_rows.Goals as goal
 
 pub returns-in_err-put_pair : goal.returns-in_err-put_pair

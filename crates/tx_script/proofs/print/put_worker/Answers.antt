@@ -1,7 +1,7 @@
 -- Each turn adds a line.
 use Rattle.tx_script.specs.Text.{outcome_line}
 use Rattle.tx_script.proofs.FlatTexts.{texts_from-more, texts_from-split}
-use Rattle.tx_script.specs.Printed.{adds_as, adds_then, breaks_as, breaks_then, breaks_within, prints_at_stop}
+use Rattle.text_output.specs.Printed.{adds_as, adds_then, breaks_as, breaks_then, breaks_within, prints_at_stop}
 use Rattle.tx_script.proofs.print.put_worker.Goals as goal
 
 pub returns-in_err-put_outcome : goal.returns-in_err-put_outcome

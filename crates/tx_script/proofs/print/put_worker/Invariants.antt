@@ -1,6 +1,6 @@
 -- The lines so far were added.
 use Rattle.std.proofs.Common.{take}
-use Rattle.tx_script.specs.Output.{Adds}
+use Rattle.text_output.specs.Output.{Adds}
 use Rattle.tx_script.specs.Text.{worker_text}
 use Rattle.tx_script.proofs.print.put_worker.Given as goal
 

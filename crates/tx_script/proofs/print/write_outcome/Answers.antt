@@ -1,5 +1,5 @@
 -- The line waits, and is then written.
-use Rattle.tx_script.specs.Printed.{prefix_of_flushed}
+use Rattle.text_output.specs.Printed.{prefix_of_flushed}
 use Rattle.tx_script.proofs.print.write_outcome.Goals as goal
 
 pub returns-clause-prefix : goal.returns-clause-prefix

@@ -1,0 +1,211 @@
+// What was read of a script so far, and one line more.
+ghost use Rattle.std.specs.Prelude.{◌≡◌, ◌==◌, IfOk, OnErr, Some, None};
+ghost use Rattle.std.specs.List.{list_any, list_all};
+ghost use Rattle.serial_model.specs.Keys.{id_of, fits};
+
+use crate::fault::{FaultKind, Refused};
+use crate::faults::{Place, kind_of};
+use crate::read_line::{decl_at, is_join, read_worker};
+use crate::rounds::Rounds;
+use crate::script::Script;
+use serial_model::{Decl, Decls, Memory, Op, OrMemory, fits};
+use std::alloc::Global;
+use std::marker::Model;
+
+pub(crate) const MOST_STORAGES: usize = 16;
+
+pub(crate) const MOST_LINES: usize = 65_536;
+
+/// In bytes, without the newline.
+pub(crate) const LONGEST_LINE: usize = 1024;
+
+/// The declarations and the rounds so far, and memory for the operations of a line.
+#[derive(Drop)]
+pub(crate) struct Reader {
+    decls: Vec<Decl>,
+    rounds: Rounds,
+    ops: Vec<Op>,
+}
+
+impl Model for Reader {
+    ghost use Rattle.script_grammar.specs.Reading.{Parts};
+
+    ghost Value = { Parts };
+
+    ghost view = { λ r. record { decls = r.decls.items; joined = r.rounds.joined; lines = r.rounds.rest } };
+}
+
+fn id_of(decl: &Decl) -> u8
+    ensures { result ≡ id_of decl.now }
+{
+    match *decl {
+        Decl::Array { id, .. } | Decl::Tree { id } => id,
+    }
+}
+
+fn is_declared(decls: &[Decl], id: u8) -> bool
+    ensures { result ≡ list_any (λ e. id_of e == id) decls.now }
+{
+    decls.iter().any(|decl| id_of(decl) == id)
+}
+
+fn all_fit(decls: &[Decl], ops: &[Op]) -> bool
+    ensures { result ≡ list_all (fits decls.now) ops.now }
+{
+    ops.iter().all(|op| fits(decls, op))
+}
+
+impl Reader {
+    ghost use Rattle.std.specs.Prelude.{[], ◌∷◌};
+    ghost use Rattle.script_grammar.specs.Reading.{no_parts, is_fresh, may_declare, may_run, with_decl, with_line, with_join, with_some_line, step, script_from, Reads};
+    ghost use Rattle.script_grammar.specs.Faults.{place_after, kind_of};
+    ghost use Rattle.script_grammar.specs.Telling.{ReadsOrTells};
+
+    pub(crate) fn new(alloc: Global) -> Self
+        ensures { result ≡ no_parts }
+    {
+        Reader {
+            decls: Vec::new(alloc),
+            rounds: Rounds::new(alloc),
+            ops: Vec::new(alloc),
+        }
+    }
+
+    /// No other line than declarations came yet.
+    fn is_fresh(&self) -> bool
+        ensures { result ≡ is_fresh self.now }
+    {
+        self.rounds.len() == 0 && self.rounds.rest_len() == 0
+    }
+
+    /// No other line came yet, and there is room for a storage with this id.
+    fn may_declare(&self, decl: &Decl) -> bool
+        ensures { result ≡ may_declare self.now decl.now }
+    {
+        let room = self.is_fresh() && self.decls.len() < MOST_STORAGES;
+        room && !is_declared(&self.decls, id_of(decl))
+    }
+
+    /// One declaration more.
+    #[tactic(auto, unfolding(crate::specs::Reading::with_decl))]
+    fn add_decl(&mut self, line: &[u8]) -> Result<(), OrMemory<Refused>>
+        ensures read { Reads result self.new (with_decl self.old line.now) }
+        ensures kept { OnErr result (self.new ≡ self.old) }
+    {
+        let Some(decl) = decl_at(line) else {
+            return Err(OrMemory::Fault(Refused));
+        };
+        if !self.may_declare(&decl) {
+            return Err(OrMemory::Fault(Refused));
+        }
+        let Ok(()) = self.decls.push(decl) else {
+            return Err(OrMemory::Memory);
+        };
+        Ok(())
+    }
+
+    /// There is room for a line, and each of its operations fits a declared storage.
+    fn may_run(&self, ops: &[Op]) -> bool
+        ensures { result ≡ may_run self.now ops.now }
+    {
+        self.rounds.rest_len() < MOST_LINES && all_fit(&self.decls, ops)
+    }
+
+    /// One worker's line more.
+    #[tactic(auto, unfolding(crate::specs::Reading::with_line))]
+    fn add_line(&mut self, line: &[u8]) -> Result<(), OrMemory<Refused>>
+        ensures read { Reads result self.new (with_line self.old line.now) }
+        ensures kept { OnErr result (self.new ≡ self.old) }
+    {
+        let worker = read_worker(line, &mut self.ops)?;
+        if !self.may_run(&self.ops) {
+            return Err(OrMemory::Fault(Refused));
+        }
+        let Ok(()) = self.rounds.push(worker, &self.ops) else {
+            return Err(OrMemory::Memory);
+        };
+        Ok(())
+    }
+
+    /// A join ends the round.
+    fn add_join(&mut self) -> Result<(), OrMemory<Refused>>
+        ensures read { Reads result self.new (Some (with_join self.old)) }
+        ensures kept { OnErr result (self.new ≡ self.old) }
+    {
+        let Ok(()) = self.rounds.join() else {
+            return Err(OrMemory::Memory);
+        };
+        Ok(())
+    }
+
+    /// One line more: a join, a declaration, or else a worker's line.
+    #[tactic(auto, unfolding(crate::specs::Reading::with_some_line))]
+    fn add(&mut self, line: &[u8]) -> Result<(), OrMemory<Refused>>
+        ensures read { Reads result self.new (with_some_line self.old line.now) }
+        ensures kept { OnErr result (self.new ≡ self.old) }
+    {
+        if is_join(line) {
+            return self.add_join();
+        }
+        match line {
+            [b'a', ..] => self.add_decl(line),
+            _ => self.add_line(line),
+        }
+    }
+
+    /// One line more. An empty one counts for nothing.
+    #[tactic(auto, unfolding(crate::specs::Reading::step))]
+    fn take(&mut self, line: &[u8]) -> Result<(), OrMemory<Refused>>
+        ensures read { Reads result self.new (step self.old line.now) }
+        ensures kept { OnErr result (self.new ≡ self.old) }
+    {
+        if line.is_empty() {
+            return Ok(());
+        }
+        if line.len() > LONGEST_LINE {
+            return Err(OrMemory::Fault(Refused));
+        }
+        self.add(line)
+    }
+
+    /// The first kind of fault of a line that is refused.
+    fn kind_of(&self, line: &[u8]) -> FaultKind
+        requires { step self.now line.now ≡ None }
+        ensures { kind_of (place_after self.now) line.now ≡ Some result }
+    {
+        let place = Place {
+            decls: &self.decls,
+            begun: !self.is_fresh(),
+            lines: self.rounds.rest_len(),
+        };
+        match kind_of(&place, line) {
+            Some(kind) => kind,
+            None => unreachable!(),
+        }
+    }
+
+    /// One line more, or its first kind of fault.
+    pub(crate) fn step(&mut self, line: &[u8]) -> Result<(), OrMemory<FaultKind>>
+        ensures { ReadsOrTells result self.old line.now self.new }
+    {
+        match self.take(line) {
+            Ok(()) => Ok(()),
+            Err(OrMemory::Memory) => Err(OrMemory::Memory),
+            Err(OrMemory::Fault(Refused)) => Err(OrMemory::Fault(self.kind_of(line))),
+        }
+    }
+
+    /// The script that was read.
+    pub(crate) fn into_script(self, alloc: Global) -> Result<Script, Memory>
+        ensures { IfOk result (λ script. script ≡ script_from self) }
+    {
+        let Reader {
+            decls,
+            mut rounds,
+            ops: _,
+        } = self;
+        let decls = Decls::new(alloc, &decls)?;
+        rounds.finish()?;
+        Ok(Script::new(decls, rounds))
+    }
+}

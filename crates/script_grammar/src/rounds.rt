@@ -1,0 +1,144 @@
+// Rounds in memory: the lines of all of them, and a stretch of these for each, so that a round takes no list of its own.
+ghost use Rattle.std.specs.Prelude.{◌≡◌, ◌<◌, [], ◌∷◌, ◌++◌, length, slice_get, Some, OnOk, OnErr};
+ghost use Rattle.script_grammar.specs.Script.{last_round};
+
+use crate::lines::{Line, Lines};
+use serial_model::{Memory, Op};
+use std::alloc::Global;
+use std::marker::Model;
+
+#[derive(Clone, Copy)]
+struct Stretch {
+    start: usize,
+    end: usize,
+}
+
+/// The rounds that a join ended, and the lines after the last one.
+#[derive(Drop)]
+pub(crate) struct Rounds {
+    lines: Lines,
+    joined: Vec<Stretch>,
+    start: usize,
+}
+
+impl Model for Rounds {
+    ghost use Rattle.std.specs.Prelude.{◌≤◌, length, drop};
+    ghost use Rattle.script_grammar.specs.Lines.{RoundsSoFar, rounds_in, AreRoundsWithin};
+
+    ghost Value = { RoundsSoFar };
+
+    ghost view = { λ r. record { joined = rounds_in r.lines r.joined.items; rest = drop r.start r.lines } };
+
+    ghost invariant = { λ r. AreRoundsWithin r.lines r.joined.items × (r.start ≤ length r.lines) };
+}
+
+/// The lines of a round.
+#[derive(Drop)]
+pub struct Round<'a> {
+    lines: &'a Lines,
+    start: usize,
+    end: usize,
+}
+
+impl<'a> Model for Round<'a> {
+    ghost use Rattle.std.specs.Prelude.{◌-◌, ◌≤◌, length, take, drop};
+    ghost use Rattle.script_grammar.specs.Script.{Round as Meaning};
+
+    ghost Value = { Meaning };
+
+    ghost view = { λ r. record { lines = take (r.end - r.start) (drop r.start r.lines.now) } };
+
+    ghost invariant = { λ r. (r.start ≤ r.end) × (r.end ≤ length r.lines.now) };
+}
+
+impl Rounds {
+    pub(crate) fn new(alloc: Global) -> Self
+        ensures { result ≡ record { joined = []; rest = [] } }
+    {
+        Rounds {
+            lines: Lines::new(alloc),
+            joined: Vec::new(alloc),
+            start: 0,
+        }
+    }
+
+    /// The number of rounds that a join ended.
+    pub(crate) fn len(&self) -> usize
+        ensures { result ≡ length self.now.joined }
+    {
+        self.joined.len()
+    }
+
+    /// The number of lines after the last join.
+    pub(crate) fn rest_len(&self) -> usize
+        ensures { result ≡ length self.now.rest }
+    {
+        self.lines.len() - self.start
+    }
+
+    /// One line more. After want of memory all is as it was.
+    pub(crate) fn push(&mut self, worker: u8, ops: &[Op]) -> Result<(), Memory>
+        ensures ok { OnOk result (self.new ≡ record { joined = self.old.joined; rest = self.old.rest ++ record { worker = worker; ops = ops.now } ∷ [] }) }
+        ensures memory { OnErr result (self.new ≡ self.old) }
+    {
+        self.lines.push(worker, ops)
+    }
+
+    /// A join ends the round. After want of memory all is as it was.
+    pub(crate) fn join(&mut self) -> Result<(), Memory>
+        ensures ok { OnOk result (self.new ≡ record { joined = self.old.joined ++ record { lines = self.old.rest } ∷ []; rest = [] }) }
+        ensures memory { OnErr result (self.new ≡ self.old) }
+    {
+        let end = self.lines.len();
+        let stretch = Stretch {
+            start: self.start,
+            end,
+        };
+        let Ok(()) = self.joined.push(stretch) else {
+            return Err(Memory);
+        };
+        self.start = end;
+        Ok(())
+    }
+
+    /// The end of the script ends a round, unless a join just did.
+    pub(crate) fn finish(&mut self) -> Result<(), Memory>
+        ensures { OnOk result (self.new.joined ≡ self.old.joined ++ last_round self.old.joined self.old.rest) }
+    {
+        if self.rest_len() == 0 && self.len() > 0 {
+            return Ok(());
+        }
+        self.join()
+    }
+
+    pub(crate) fn round(&self, index: usize) -> Round<'_>
+        requires { index < length self.now.joined }
+        ensures { slice_get self.now.joined index ≡ Some result }
+    {
+        let stretch = self.joined[index];
+        Round {
+            lines: &self.lines,
+            start: stretch.start,
+            end: stretch.end,
+        }
+    }
+}
+
+impl Round<'_> {
+    /// The number of lines.
+    pub fn len(&self) -> usize
+        ensures { result ≡ length self.now.lines }
+    {
+        self.end - self.start
+    }
+
+    /// The line of this index, from 0, in the order of the script.
+    pub fn line(&self, index: usize) -> Line<'_>
+        requires { index < length self.now.lines }
+        ensures { slice_get self.now.lines index
+            ≡ Some (record { worker = result.worker; ops = result.ops.now }) }
+    {
+        prove!(index < self.end - self.start);
+        self.lines.line(self.start + index)
+    }
+}

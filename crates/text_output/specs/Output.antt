@@ -1,0 +1,31 @@
+-- Text on its way to a sink: what the sink holds, and what waits to be written.
+use Rattle.std.specs.Prelude.{◌≡◌, ℕ, ◌≤◌, ◌++◌, List, Option, Result, MatchResult}
+use Rattle.std.specs.Io.KnownBytes.{Appends}
+use Rattle.outside.specs.Faults.{Rose}
+use Rattle.outside.specs.Stream.{TakesPrefix}
+
+abbrev pub Bytes : Type 0
+Bytes = List ℕ
+
+-- a sink's faults and the bytes that it holds, and the bytes that wait
+pub record Output : Type 0 where
+  pub faults : ℕ
+  pub held : Option Bytes
+  pub waiting : Bytes
+
+-- a text was added: the sink holds more of what waited and of the text, and the rest waits
+pub record Adds (old new : Output) (text : Bytes) : Type 0 where
+  pub faults : old.faults ≤ new.faults
+  pub out : Bytes
+  pub written : Appends old.held new.held out
+  pub whole : out ++ new.waiting ≡ old.waiting ++ text
+
+-- the sink failed, and holds a prefix of what waited and the text
+pub record Breaks (old new : Output) (text : Bytes) : Type 0 where
+  pub faults : Rose old.faults new.faults
+  pub later : old.faults ≤ new.faults
+  pub prefix : TakesPrefix old.held new.held (old.waiting ++ text)
+
+-- a text was added, or the sink failed
+abbrev pub Prints : {T E : Type 0} → Output → Output → Bytes → Result T E → Type 0
+Prints old new text result = MatchResult result (λ _. Adds old new text) (λ _. Breaks old new text)

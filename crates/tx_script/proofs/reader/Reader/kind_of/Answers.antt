@@ -1,9 +1,0 @@
-use Rattle.tx_script.specs.Reading.{Parts}
-use Rattle.tx_script.proofs.GoodLines.{not_untold}
-use Rattle.tx_script.proofs.reader.Reader.kind_of.Goals as goal
-
-pub unreachable-requires : goal.unreachable-requires
-unreachable-requires c =
-    let p : Parts = record { decls = c.self.inside.decls.items; joined = c.self.inside.rounds.joined; lines = c.self.inside.rounds.rest } in
-    not_untold p c.args.line.now c.deref.result.now c.is_fresh.result c.rest_len.result c.deref.ensures.value (rw (← c.self.view_is) at c.is_fresh.ensures) c.rest_len.ensures c.in-None.ensures
-    (rw (← c.self.view_is) at c.requires)

@@ -1,7 +1,0 @@
-use Rattle.std.proofs.Common.{◌≡◌, take, drop}
-use Rattle.tx_script.specs.Faults.{parts}
-use Rattle.tx_script.proofs.Parts.{with_front}
-use Rattle.tx_script.proofs.words.op_end.Given as goal
-
-abbrev pub invariant-loop-index : goal.invariant-loop-index
-invariant-loop-index l = parts l.ops ≡ with_front (take l.index l.ops) (parts (drop l.index l.ops))

@@ -1,7 +1,0 @@
-use Rattle.std.proofs.Common.{◌≡◌, ◌-◌}
-use Rattle.std.specs.Prelude.{slice_get}
-use Rattle.tx_script.specs.Faults.{words}
-use Rattle.tx_script.proofs.words.word.Given as goal
-
-abbrev pub invariant-loop : goal.invariant-loop
-invariant-loop l = slice_get (words l.rest) (l.index - l.counter) ≡ slice_get (words l.line) l.index

@@ -26,6 +26,7 @@ abbrev pub undone_to : Key → Option ℕ → State → State
 undone_to k (Some v) s = insert s k v
 undone_to k None s = remove s k
 
+-- the map with one change taken back
 abbrev pub undone : Undo → State → State
 undone u s = undone_to u.key u.value s
 

@@ -10,7 +10,6 @@
 mod decl;
 mod draft;
 mod key;
-mod memory;
 mod number;
 mod op;
 mod plain;
@@ -20,8 +19,8 @@ mod state;
 
 pub use decl::{Decl, Decls};
 pub use key::Key;
-pub use memory::{Memory, OrMemory};
-pub use number::{Change, Changes, Commit, Config, Number};
+pub use lists::{Memory, OrMemory};
+pub use number::{Change, Changes, Commit, Config, DRAW_LIMIT, LAST_EPOCH, Number};
 pub use op::{Op, fits};
 pub use plain::{Plain, run_one};
 pub use reply::{Replies, Reply, Verdict};

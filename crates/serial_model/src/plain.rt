@@ -34,7 +34,7 @@ impl Plain {
         ensures { IfOk result (λ p. (p.decls ≡ decls.now) × (p.state ≡ finite.empty)) }
     {
         Ok(Plain {
-            decls: Decls::new(alloc, decls)?,
+            decls: Decls::from_slice(alloc, decls)?,
             state: State::new(alloc),
         })
     }

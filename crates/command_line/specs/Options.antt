@@ -29,18 +29,23 @@ unfoldable pub number_of : Text → Option ℕ
 number_of text = if is_decimal text && nat_lt (digits_value 10 text) (2 ^ 64)
     then Some (digits_value 10 text) else None
 
+-- how often a transaction is tried
 abbrev pub tries_range : Range
 tries_range = record { least = 1; most = 1000000; usual = 1000 }
 
+-- how many slots there are
 abbrev pub slots_range : Range
 slots_range = record { least = 4; most = 4096; usual = 256 }
 
+-- how many pages of snapshots stay in memory
 abbrev pub snap_range : Range
 snap_range = record { least = 1; most = 65536; usual = 4096 }
 
+-- the number is in the range, whose ends count
 abbrev pub IsWithin : Range → ℕ → Type 0
 IsWithin range n = (range.least ≤ n) × (n ≤ range.most)
 
+-- the number, if it is in the range
 abbrev pub within : Range → ℕ → Option ℕ
 within range n = if nat_le range.least n && nat_le n range.most then Some n else None
 
@@ -61,10 +66,12 @@ options_of rows =
     (number_in slots_range (first_of (codes "slots") rows)))
     (number_in tries_range (first_of (codes "tries") rows))
 
+-- each number of a run is in its range
 abbrev pub AreInRange : RunOptions → Type 0
 AreInRange options = IsWithin tries_range options.tries × IsWithin slots_range options.slots
     × IsWithin snap_range options.snap
 
+-- a run with these numbers, if there are any
 abbrev pub run_with : Option RunOptions → Command
 run_with (Some options) = Run options
 run_with None = Refused
@@ -73,6 +80,7 @@ run_with None = Refused
 abbrev pub asked : Option (Text × List Row) → Command
 asked command = run_with (option_and_then (λ p. options_of p.1) command)
 
+-- the command, or refused where there is a kind of fault
 abbrev pub unless_fault : Kinds → Command → Command
 unless_fault [] command = command
 unless_fault (k ∷ ks) command = Refused

@@ -1,7 +1,8 @@
 // A write and the sync that makes it durable.
-ghost use Rattle.std.specs.Prelude.{◌≡◌, ◌≤◌, ◌-◌, is_some, length, Some, OnOk, OnErr};
-ghost use Rattle.outside.specs.Disk.{IfTold, written, Torn, Goes, LeavesEach, Only};
+ghost use Rattle.std.specs.Prelude.{◌≡◌, ◌≤◌, length, Some, OnOk, OnErr};
+ghost use Rattle.outside.specs.Disk.{IfTold, written, Torn, Only};
 ghost use Rattle.outside.specs.Faults.{HasCause};
+ghost use Rattle.log_writer.specs.Flushes.{WritesThrough};
 
 use outside::{Disk, Failed};
 
@@ -15,10 +16,8 @@ pub fn write_and_sync<D: Disk>(disk: &mut D, at: u64, bytes: &[u8]) -> Result<()
         IfTold (D.tells disk.new) (Torn at (length bytes.now) file))) }
     ensures durable { OnOk result (IfTold (D.tells disk.old) (λ file.
         Only D.clock D.image_at disk.new (written at bytes.now file))) }
-    ensures told { is_some (D.tells disk.new) ≡ is_some (D.tells disk.old) }
-    ensures moments { Goes D.clock D.image_at (Torn at (length bytes.now)) disk.old disk.new }
-    ensures each { LeavesEach D.clock D.image_at (Torn at (length bytes.now)) disk.old disk.new (D.clock disk.new - 1) }
-    ensures unsettled { OnErr result (LeavesEach D.clock D.image_at (Torn at (length bytes.now)) disk.old disk.new (D.clock disk.new)) }
+    ensures through { WritesThrough D.tells D.clock D.image_at at (length bytes.now)
+        disk.old disk.new result }
     ensures cause { HasCause (D.faults disk.old) (D.faults disk.new) result }
 {
     disk.write(at, bytes)?;

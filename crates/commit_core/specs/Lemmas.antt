@@ -1,4 +1,4 @@
--- Laws of keys and places, of what stands at a key after attempts, of numbers, versions and values at places, which crates
+-- Laws of keys and places, of what stands at a key after attempts, of numbers, versions and values at places, which
 -- crates above cite too.
 pub mod Keys
 pub mod States

@@ -68,7 +68,8 @@ up_to_epoch epoch attempts = filter (λ a. nat_le a.number.epoch epoch) attempts
 abbrev pub EpochsRun : Type 0
 EpochsRun = (decls : List Decl) (s : State) (opening : List Place) (entries : List Entry) (attempts : List Attempt)
     → Agrees decls s (content_at opening) → ReadsAreSerial opening attempts → AreAttemptsOf decls entries attempts
-    → (epoch : ℕ) (k : Key) → get (as_of decls s entries epoch) k ≡ unwrap_or (last_written (up_to_epoch epoch attempts) k) (get s k)
+    → (epoch : ℕ) (k : Key)
+    → get (as_of decls s entries epoch) k ≡ unwrap_or (last_written (up_to_epoch epoch attempts) k) (get s k)
 
 -- So are the decided attempts of every sound story, in order of number, and the run agrees then with each key's last
 -- decided write.

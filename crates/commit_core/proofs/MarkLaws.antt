@@ -4,15 +4,15 @@ use Rattle.std.proofs.lemmas.Bool.{and_parts}
 use Rattle.std.proofs.lemmas.Bool.Decides.{nat_tests}
 use Rattle.std.specs.Prelude.{fold, unwrap_or, nat_lt, nat_le}
 use Rattle.commit_core.specs.declared.attempt.Attempt.{Attempt}
+use Rattle.commit_core.specs.declared.seat.Mark.{Mark}
 use Rattle.commit_core.specs.declared.seat.Stage.{Stage}
 use Rattle.commit_core.specs.declared.seat.Stage.TheVariants.{Idle, Trying, Ended, Decided}
-use Rattle.commit_core.specs.CoreState.{mark_of, last_marked}
-use Rattle.commit_core.specs.Event.{can_mark}
+use Rattle.commit_core.specs.CoreState.{mark_of, last_marked, can_mark}
 use Rattle.commit_core.specs.Sound.Marks.{IsAboveMark, MarksArePast}
 use Rattle.lists.specs.Elements.{at_push_new}
 use Rattle.commit_core.proofs.ReadLaws.{IsThere, same_at}
 
-pub marks_drawn : (epoch : ℕ) (h : List Attempt) (a : Attempt) (marks : List (Option ℕ)) (stage : Stage) → IsThere h stage → MarksArePast epoch h marks stage → MarksArePast epoch (h ++ a ∷ []) marks stage
+pub marks_drawn : (epoch : ℕ) (h : List Attempt) (a : Attempt) (marks : List Mark) (stage : Stage) → IsThere h stage → MarksArePast epoch h marks stage → MarksArePast epoch (h ++ a ∷ []) marks stage
 marks_drawn epoch h a marks stage there past = λ e m. let was = past e m in (was.0, above e stage there was.1)
   where
     above : (e : ℕ) (stage : Stage) → IsThere h stage → IsAboveMark h stage e → IsAboveMark (h ++ a ∷ []) stage e
@@ -22,7 +22,7 @@ marks_drawn epoch h a marks stage there past = λ e m. let was = past e m in (wa
     above e (Decided i) there l = tt
 
 -- the own attempt is drawn, in the clock's epoch
-pub marks_draw : (epoch : ℕ) (h : List Attempt) (a : Attempt) (marks : List (Option ℕ)) (stage : Stage) → a.number.epoch ≡ epoch → MarksArePast epoch h marks stage
+pub marks_draw : (epoch : ℕ) (h : List Attempt) (a : Attempt) (marks : List Mark) (stage : Stage) → a.number.epoch ≡ epoch → MarksArePast epoch h marks stage
     → MarksArePast epoch (h ++ a ∷ []) marks (Trying (length h))
 marks_draw epoch h a marks stage e past = λ m is. (
   (past m is).0,
@@ -30,34 +30,35 @@ marks_draw epoch h a marks stage e past = λ m is. (
       let l = (past m is).0 in subst (λ (x : Attempt). m < x.number.epoch) same (rw e l),
 )
 
-pub marks_later : (epoch : ℕ) (h : List Attempt) (marks : List (Option ℕ)) (stage : Stage) → MarksArePast epoch h marks stage → MarksArePast (epoch + 1) h marks stage
+pub marks_later : (epoch : ℕ) (h : List Attempt) (marks : List Mark) (stage : Stage) → MarksArePast epoch h marks stage → MarksArePast (epoch + 1) h marks stage
 marks_later epoch h marks stage past = λ e m. let l = (past e m).0 in (omega arith, (past e m).1)
 
 -- where no attempt is in progress, the mark is below the clock and no more
-pub marks_rest : (epoch : ℕ) (h : List Attempt) (marks : List (Option ℕ)) (stage stage' : Stage) → ((e : ℕ) → IsAboveMark h stage' e) → MarksArePast epoch h marks stage → MarksArePast epoch h marks stage'
+pub marks_rest : (epoch : ℕ) (h : List Attempt) (marks : List Mark) (stage stage' : Stage) → ((e : ℕ) → IsAboveMark h stage' e) → MarksArePast epoch h marks stage → MarksArePast epoch h marks stage'
 marks_rest epoch h marks stage stage' above past = λ e m. ((past e m).0, above e)
 
-mark_of-push : (marks : List (Option ℕ)) (m : Option ℕ) → mark_of (marks ++ m ∷ []) ≡ m
-mark_of-push marks m = pushed marks None m
+mark_of-push : (marks : List Mark) (m : Mark) → mark_of (marks ++ m ∷ []) ≡ m.epoch
+mark_of-push marks m = pushed marks None
   where
-    pushed : (marks : List (Option ℕ)) (first m : Option ℕ) → fold (λ _ x. x) first (marks ++ m ∷ []) ≡ m
-    pushed [] first m = refl
-    pushed (x ∷ marks) first m = pushed marks x m
+    pushed : (before : List Mark) (first : Option ℕ) → fold (λ _ x. x.epoch) first (before ++ m ∷ []) ≡ m.epoch
+    pushed [] first = refl
+    pushed (x ∷ before) first = pushed before x.epoch
 
-pub marks_marked : (epoch : ℕ) (h : List Attempt) (marks : List (Option ℕ)) (m : Option ℕ) (stage : Stage) → ((e : ℕ) → m ≡ Some e → e < epoch) → ((e : ℕ) → IsAboveMark h stage e)
+pub marks_marked : (epoch : ℕ) (h : List Attempt) (marks : List Mark) (m : Mark) (stage : Stage) → ((e : ℕ) → m.epoch ≡ Some e → e < epoch) → ((e : ℕ) → IsAboveMark h stage e)
     → MarksArePast epoch h (marks ++ m ∷ []) stage
 marks_marked epoch h marks m stage below above = λ e is. (below e (sym (mark_of-push marks m) ∙ is), above e)
 
-last_marked-pushed : (marks : List (Option ℕ)) (low : ℕ) (m : Option ℕ) → fold (λ low m. unwrap_or m low) low (marks ++ m ∷ []) ≡ unwrap_or m (fold (λ low m. unwrap_or m low) low marks)
+last_marked-pushed : (marks : List Mark) (low : ℕ) (m : Mark) → fold (λ low x. unwrap_or x.epoch low) low (marks ++ m ∷ []) ≡ unwrap_or m.epoch (fold (λ low x. unwrap_or x.epoch low) low marks)
 last_marked-pushed [] low m = refl
-last_marked-pushed (x ∷ marks) low m = last_marked-pushed marks (unwrap_or x low) m
+last_marked-pushed (x ∷ marks) low m = last_marked-pushed marks (unwrap_or x.epoch low) m
 
 -- a mark that may be set names no epoch below the last one
-pub last_marked-push : (epoch : ℕ) (marks : List (Option ℕ)) (m : Option ℕ) → can_mark epoch marks m ≡ true → last_marked marks ≤ last_marked (marks ++ m ∷ [])
-last_marked-push epoch marks None can = rw (last_marked-pushed marks 0 None) (omega arith)
-last_marked-push epoch marks (Some e) can =
-    let low = and_parts (nat_lt e epoch) (nat_le (last_marked marks) e) can in
-    rw (last_marked-pushed marks 0 (Some e)) (not_above (last_marked marks) e low.1)
+pub last_marked-push : (epoch : ℕ) (marks : List Mark) (m : Mark) → can_mark epoch marks m.epoch ≡ true → last_marked marks ≤ last_marked (marks ++ m ∷ [])
+last_marked-push epoch marks m can = rw (last_marked-pushed marks 0 m) (not_below m.epoch can)
   where
     not_above : (a b : ℕ) → nat_le a b ≡ true → a ≤ b
     not_above a b e = grind (arith, nat_tests)
+
+    not_below : (o : Option ℕ) → can_mark epoch marks o ≡ true → last_marked marks ≤ unwrap_or o (last_marked marks)
+    not_below None can = omega arith
+    not_below (Some e) can = not_above (last_marked marks) e (and_parts (nat_lt e epoch) (nat_le (last_marked marks) e) can).1

@@ -8,13 +8,14 @@ use Rattle.serial_model.specs.declared.key.Key.{Key}
 use Rattle.serial_model.specs.Numbers.{last_epoch}
 use Rattle.commit_core.specs.declared.place.Place.{Place}
 use Rattle.commit_core.specs.declared.attempt.Attempt.{Attempt}
+use Rattle.commit_core.specs.declared.seat.Mark.{Mark as TheMark}
 use Rattle.commit_core.specs.declared.seat.Stage.{Stage}
 use Rattle.commit_core.specs.declared.seat.Stage.TheVariants.{Idle, Trying, Ended, Decided}
 use Rattle.commit_core.specs.declared.seat.Seat.{Seat}
 use Rattle.commit_core.specs.declared.story.Story.{Story}
 use Rattle.commit_core.specs.Keys.{same_key, has_key, place_at, writes_key}
-use Rattle.commit_core.specs.CoreState.{is_held_by, check_of, is_free, is_trying, can_begin, attempt_tried, attempt_decided, same_keys, settled, settled_at}
-use Rattle.commit_core.specs.Event.{is_unchecked, can_mark, is_allowed, Moved, moved, next_attempt, stays_as_seen, locked, valued, opened, after_check, after_decide, decided_stage, value_to_put, effect}
+use Rattle.commit_core.specs.CoreState.{is_held_by, check_of, is_free, is_trying, can_begin, attempt_tried, attempt_decided, same_keys, settled, settled_at, can_mark}
+use Rattle.commit_core.specs.Event.{is_unchecked, is_allowed, Moved, moved, next_attempt, stays_as_seen, locked, valued, opened, after_check, after_decide, decided_stage, value_to_put, effect}
 use Rattle.commit_core.specs.declared.event.Act.{Act}
 use Rattle.commit_core.specs.declared.event.Act.TheVariants.{See, Lock, Draw, Check as Look, Decide, Put, Open, Forget, Advance, Mark}
 use Rattle.commit_core.specs.declared.event.Event.{Event}
@@ -55,7 +56,7 @@ keeps_act opening p m s (Open k) may story own =
 keeps_act opening p m s Forget may story own = keeps_forget opening p m s story own
 keeps_act opening p m s Advance may story own = keeps_advance opening p m s (and_parts (eqb p 0) (nat_lt m.epoch last_epoch) may).1 story own
 keeps_act opening p m s (Mark e) may story own =
-    let c = and_parts (not (is_trying s.stage)) (can_mark m.epoch s.marks e) may in keeps_mark opening p m s e c.0 c.1 story own
+    let c = and_parts (not (is_trying s.stage)) (can_mark m.epoch s.marks e.epoch) may in keeps_mark opening p m s e c.0 c.1 story own
 
 -- ---- the whole state
 
@@ -142,10 +143,10 @@ act_grows p m s (Mark e) = grows_self m
 
 -- ---- growth of marks
 
-same_marks : (old new : List (Option ℕ)) → new ≡ old → MarksGrow old new
-same_marks old new e = subst (λ (l : List (Option ℕ)). MarksGrow old l) (sym e) (record { marks = prefix_self old; rising = omega arith })
+same_marks : (old new : List TheMark) → new ≡ old → MarksGrow old new
+same_marks old new e = subst (λ (l : List TheMark). MarksGrow old l) (sym e) (record { marks = prefix_self old; rising = omega arith })
 
-marks_then : (a b c : List (Option ℕ)) → MarksGrow a b → MarksGrow b c → MarksGrow a c
+marks_then : (a b c : List TheMark) → MarksGrow a b → MarksGrow b c → MarksGrow a c
 marks_then a b c g h = record { marks = prefix_then a b c g.marks h.marks; rising = omega arith }
 
 settled_marks : (s : Seat) → (settled s).marks ≡ s.marks
@@ -179,7 +180,7 @@ act_marks p m s Forget may = same_marks s.marks s.marks refl
 act_marks p m s Advance may = same_marks s.marks s.marks refl
 act_marks p m s (Mark e) may = record {
   marks = (e ∷ [], refl);
-  rising = last_marked-push m.epoch s.marks e (and_parts (not (is_trying s.stage)) (can_mark m.epoch s.marks e) may).1;
+  rising = last_marked-push m.epoch s.marks e (and_parts (not (is_trying s.stage)) (can_mark m.epoch s.marks e.epoch) may).1;
 }
 
 -- ---- growth of the whole state

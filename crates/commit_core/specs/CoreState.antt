@@ -1,5 +1,5 @@
 -- The state of the machine: words on the story and on one seat.
-use Rattle.std.specs.Prelude.{ℕ, ◌+◌, ◌==◌, ◌&&◌, Bool, true, false, not, List, [], ◌∷◌, ◌++◌, filter, length, fold, Option, Some, None, if◌then◌else◌, is_none, slice_get, unwrap_or}
+use Rattle.std.specs.Prelude.{ℕ, ◌+◌, ◌==◌, ◌&&◌, Bool, true, false, not, List, [], ◌∷◌, ◌++◌, filter, length, fold, Option, Some, None, if◌then◌else◌, is_none, slice_get, unwrap_or, nat_lt, nat_le}
 use Rattle.std.specs.List.{list_any, list_all}
 use Rattle.serial_model.specs.declared.key.Key.{Key}
 use Rattle.serial_model.specs.declared.number.Number.{Number}
@@ -8,6 +8,7 @@ use Rattle.commit_core.specs.declared.place.Place.{Place}
 use Rattle.commit_core.specs.declared.place.Part.{Part}
 use Rattle.commit_core.specs.declared.attempt.Attempt.{Attempt}
 use Rattle.commit_core.specs.declared.attempt.Check.{Check}
+use Rattle.commit_core.specs.declared.seat.Mark.{Mark}
 use Rattle.commit_core.specs.declared.seat.Stage.{Stage}
 use Rattle.commit_core.specs.declared.seat.Stage.TheVariants.{Idle, Trying, Ended, Decided}
 use Rattle.commit_core.specs.declared.seat.Seat.{Seat}
@@ -93,13 +94,18 @@ with_part kept part = filter (λ q. not (is_part_at part.key q)) kept ++ part �
 abbrev pub same_keys : List Key → List Change → Bool
 same_keys locks writes = list_all (λ k. writes_key writes k) locks && list_all (λ w. has_key locks w.key) writes
 
--- the last mark, where it is not idle
-abbrev pub mark_of : List (Option ℕ) → Option ℕ
-mark_of marks = fold (λ _ m. m) None marks
+-- the epoch of the last mark, where it is not idle
+abbrev pub mark_of : List Mark → Option ℕ
+mark_of marks = fold (λ _ m. m.epoch) None marks
 
--- the last mark that was not idle, and 0 where there is none
-abbrev pub last_marked : List (Option ℕ) → ℕ
-last_marked marks = fold (λ low m. unwrap_or m low) 0 marks
+-- the last epoch that a mark named, and 0 where none did
+abbrev pub last_marked : List Mark → ℕ
+last_marked marks = fold (λ low m. unwrap_or m.epoch low) 0 marks
+
+-- an epoch that a mark may name, or idle
+abbrev pub can_mark : ℕ → List Mark → Option ℕ → Bool
+can_mark epoch marks None = true
+can_mark epoch marks (Some e) = nat_lt e epoch && nat_le (last_marked marks) e
 
 -- where an attempt is over and no lock is left, what was kept is dropped
 abbrev pub settled_at : Stage → Seat → Seat

@@ -1,5 +1,5 @@
 -- What may happen: the condition and the effect of each act of a seat, and lists of events.
-use Rattle.std.specs.Prelude.{◌≡◌, ℕ, ◌+◌, ◌==◌, ◌&&◌, ◌||◌, Bool, true, false, not, List, [], ◌∷◌, ◌++◌, filter, length, Option, Some, None, if◌then◌else◌, nat_lt, nat_le, is_some, slice_get, slice_set, unwrap_or, Result, Ok, Err}
+use Rattle.std.specs.Prelude.{◌≡◌, ℕ, ◌+◌, ◌==◌, ◌&&◌, ◌||◌, Bool, true, false, not, List, [], ◌∷◌, ◌++◌, filter, length, Option, Some, None, if◌then◌else◌, nat_lt, is_some, slice_get, slice_set, unwrap_or, Result, Ok, Err}
 use Rattle.std.specs.List.{list_any, list_all}
 use mathlib.Core.Bool.{beq}
 use Rattle.std.specs.Option.{option_map_or}
@@ -22,7 +22,7 @@ use Rattle.commit_core.specs.declared.seat.Seat.{Seat}
 use Rattle.commit_core.specs.declared.story.Story.{Story}
 use Rattle.commit_core.specs.CoreState.{CoreState}
 use Rattle.commit_core.specs.Keys.{same_key, same_number, has_key, place_at, placed, content_at, content_of, written, writes_key, is_part_at}
-use Rattle.commit_core.specs.CoreState.{is_free, is_held_by, is_open_to, clock_of, is_checked, check_of, is_trying, can_begin, attempt_tried, attempt_decided, with_part, same_keys, last_marked, settled}
+use Rattle.commit_core.specs.CoreState.{is_free, is_held_by, is_open_to, clock_of, is_checked, check_of, is_trying, can_begin, attempt_tried, attempt_decided, with_part, same_keys, can_mark, settled}
 
 -- ---- conditions
 
@@ -32,11 +32,6 @@ is_unchecked checks k a = list_any (is_part_at k) a.parts && not (is_checked che
 
 abbrev pub all_checked : List Check → Attempt → Bool
 all_checked checks a = list_all (λ part. is_checked checks a.number part.key) a.parts
-
--- an epoch that a mark may name
-abbrev pub can_mark : ℕ → List (Option ℕ) → Option ℕ → Bool
-can_mark epoch marks None = true
-can_mark epoch marks (Some e) = nat_lt e epoch && nat_le (last_marked marks) e
 
 -- seat p, which has s, may do this
 abbrev pub is_allowed : ℕ → Story → Seat → Act → Bool
@@ -55,7 +50,7 @@ is_allowed p m s (Open k) =
     && option_map_or (λ _. has_key s.put k) (attempt_decided m.history s.stage) true)
 is_allowed p m s Forget = can_begin s.stage
 is_allowed p m s Advance = (p == 0) && nat_lt m.epoch last_epoch
-is_allowed p m s (Mark e) = not (is_trying s.stage) && can_mark m.epoch s.marks e
+is_allowed p m s (Mark mark) = not (is_trying s.stage) && can_mark m.epoch s.marks mark.epoch
 
 -- ---- effects
 
@@ -147,7 +142,7 @@ effect p m s (Open k) =
     (settled (record s { locks = filter (λ q. not (same_key q k)) s.locks }))
 effect p m s Forget = moved m (record s { kept = [] })
 effect p m s Advance = moved (record m { epoch = m.epoch + 1 }) s
-effect p m s (Mark e) = moved m (record s { marks = s.marks ++ e ∷ [] })
+effect p m s (Mark mark) = moved m (record s { marks = s.marks ++ mark ∷ [] })
 
 -- ---- events
 
@@ -184,10 +179,10 @@ takes_memory (Put k) = true
 takes_memory (Open k) = true
 takes_memory Forget = false
 takes_memory Advance = false
-takes_memory (Mark e) = true
+takes_memory (Mark mark) = true
 
--- What an act answers and leaves: it happens only where it is allowed, is refused only where it is not, and wants memory
--- only where it is allowed and takes memory; after the last two nothing is changed.
+-- What an act answers and leaves: it happens only where it is allowed, is refused only where it is not, and wants
+-- memory only where it is allowed and takes memory; after the last two nothing is changed.
 abbrev pub Answers : {X : Type 0} → ℕ → Act → Story → Seat → Result X (OrMemory Refused) → Story → Seat → Type 0
 Answers p act m s (Ok x) n t =
     (is_allowed p m s act ≡ true) × (n ≡ (effect p m s act).story) × (t ≡ (effect p m s act).seat)

@@ -1,9 +1,10 @@
 -- How a machine begins, and how it grows.
-use Rattle.std.specs.Prelude.{◌≡◌, ℕ, ◌-◌, ◌≤◌, List, [], ◌∷◌, ◌++◌, map, replicate, length, Option, Some, None, slice_get}
+use Rattle.std.specs.Prelude.{◌≡◌, ℕ, ◌-◌, ◌≤◌, List, [], ◌∷◌, ◌++◌, map, replicate, length, Some, None, slice_get}
 use Rattle.serial_model.specs.declared.key.Key.{Key}
 use Rattle.serial_model.specs.declared.number.Number.{Number}
 use Rattle.commit_core.specs.declared.place.Place.{Place}
 use Rattle.commit_core.specs.declared.seat.Stage.TheVariants.{Idle}
+use Rattle.commit_core.specs.declared.seat.Mark.{Mark}
 use Rattle.commit_core.specs.declared.seat.Seat.{Seat}
 use Rattle.commit_core.specs.declared.story.Story.{Story}
 use Rattle.commit_core.specs.CoreState.{CoreState, last_marked}
@@ -20,9 +21,11 @@ opening_places pairs = map opening_place pairs
 abbrev pub first_number : Number
 first_number = record { epoch = 1; draw = 1 }
 
--- a seat that has nothing. Its first mark is the first epoch less one
+-- a seat that has nothing. Its first mark is the first epoch less one, with length 0
 abbrev pub fresh_seat : Number → Seat
-fresh_seat first = record { kept = []; locks = []; put = []; marks = Some (first.epoch - 1) ∷ []; stage = Idle }
+fresh_seat first =
+    let mark : Mark = record { epoch = Some (first.epoch - 1); length = 0 } in
+    record { kept = []; locks = []; put = []; marks = mark ∷ []; stage = Idle }
 
 -- no attempt yet, and this number is the next
 abbrev pub opening_story : List (Key × ℕ) → Number → Story
@@ -50,7 +53,7 @@ pub record Grows (old new : Story) : Type 0 where
   pub epoch : old.epoch ≤ new.epoch
 
 -- marks are only added, and none names an epoch below an earlier one's
-pub record MarksGrow (old new : List (Option ℕ)) : Type 0 where
+pub record MarksGrow (old new : List Mark) : Type 0 where
   pub marks : IsPrefix old new
   pub rising : last_marked old ≤ last_marked new
 

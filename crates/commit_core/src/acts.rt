@@ -5,7 +5,7 @@ ghost use Rattle.commit_core.specs.Event.{Answers};
 
 use crate::attempt::{copy_changes, copy_parts, written};
 use crate::seat::keys_elsewhere;
-use crate::{Act, Attempt, Check, Content, Part, Place, Refused, Seat, Stage, Story};
+use crate::{Act, Attempt, Check, Content, Mark, Part, Place, Refused, Seat, Stage, Story};
 use serial_model::{Changes, Key, LAST_EPOCH, OrMemory};
 
 /// What an act answers.
@@ -203,10 +203,10 @@ pub fn advance(id: u32, story: &mut Story, seat: &mut Seat) -> Answer
 }
 
 /// Sets the seat's mark.
-pub fn mark(id: u32, story: &mut Story, seat: &mut Seat, mark: Option<u32>) -> Answer
+pub fn mark(id: u32, story: &mut Story, seat: &mut Seat, mark: Mark) -> Answer
     ensures { Answers id (Act.Mark mark) story.old seat.old result story.new seat.new }
 {
-    let is_possible = match mark {
+    let is_possible = match mark.epoch {
         None => true,
         Some(epoch) => epoch < story.epoch && seat.last_marked() <= epoch,
     };

@@ -1,4 +1,5 @@
 // What may happen.
+use crate::Mark;
 use serial_model::{Changes, Key};
 
 /// A seat does something.
@@ -29,8 +30,8 @@ pub enum Act {
     Forget,
     /// Go on to the next epoch.
     Advance,
-    /// Say up to which epoch this seat is done with everything, or that it is idle.
-    Mark(Option<u32>),
+    /// Say up to which epoch this seat is done with everything, and in how much of its log, or that it is idle.
+    Mark(Mark),
 }
 
 /// The event's condition fails, and nothing was changed.

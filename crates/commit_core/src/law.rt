@@ -2,11 +2,11 @@
 ghost use Rattle.commit_core.specs.Law.{EachActKeeps, StartsSound, StaysSound, OnlyGrows, FailedCheckGivesUp, StaysGivenUp, IsSerial, SoundIsSerial, EachActLeaves};
 
 /// The theorem, about the very condition and effect that `Core::step` follows. Each act keeps the story and every seat
-/// sound, one seat at a time, and the start is sound. So from a sound state every list of events, of any number of
-/// seats, leads to a sound state; what was drawn, checked and decided before still is; a check that fails gives its
-/// attempt up, and an attempt that was given up never counts; and the decided attempts, in order of number, are a
-/// serial run in which each read what it kept.
-/// Whatever happens, the commits are serial.
+/// sound, one seat at a time, and leaves alone what other seats hold and have checked; the start is sound. So from a
+/// sound state every list of events, of any number of seats, leads to a sound state; what was drawn, checked, decided
+/// and marked before still is, and neither epoch nor marks fall; a check that fails gives its attempt up, and an
+/// attempt that was given up never counts; and the decided attempts, in order of number and as many as were decided,
+/// read serially.
 pub fn commits_are_serial()
     ensures each_act { EachActKeeps }
     ensures starts { StartsSound }

@@ -2,17 +2,19 @@
 //!
 //! Promises: under every list of events, of any number of seats, the decided attempts are, in order of number, a
 //! serial run in which each read what it kept (`commits_are_serial`). `Core::step` follows the same condition and
-//! effect that the theorem speaks of: it refuses exactly where the condition fails, and after a refusal or want of
-//! memory nothing is changed (`event`). `Core::serial` gives that run (`all`, `serial`).
+//! effect that the theorem speaks of: it refuses exactly where the condition fails, wants memory only where the act is
+//! allowed and takes some, and after either nothing is changed (`event`). `Core::serial` gives that run (`all`,
+//! `serial`).
 //! Invariants: the sound state (`IsSound`): `ordered_numbers`, `lock_owners`, `unlocked_homes`, `locked_homes`,
 //! `reads_stay_true` with its other half `no_lower_writer`, `commits_are_checked` and `marks_are_past`, and, to make
-//! these hold by themselves, `attempt_stands`, `parts_are_past`, `kept_is_past`, `checks_are_past`,
+//! these hold by themselves, `attempt_stands`, `parts_are_past`, `kept_is_past`, `checks_are_past`, `epoch_fits`,
 //! `holders_are_seats`. Each is a fact of the story alone or of one seat beside it.
 //! Terms: *story*, what all seats share; *seat*, what one thread has; *attempt*, a transaction that took its number,
 //! with the parts that it read and what it writes; *part*, what was read and must stay valid; *home*, the place
 //! where a key's value stands.
-//! Layout: `Event` says what may happen and `Sound` what holds, both in specs/; proofs/ has one file for the laws of
-//! each part, one in proofs/Events for the acts that change the same fields, and `Runs`, the induction over lists.
+//! Layout: `Event` says what may happen, `Sound` what holds, `Law` the theorem and `Lemmas` what proofs above cite, all
+//! in specs/; proofs/ has one file for the laws of each part, one in proofs/Events for the acts that change the same
+//! fields, and `Runs`, the induction over lists.
 //! Design: docs/COMMIT.md.
 #![tactic(auto)]
 
@@ -32,5 +34,5 @@ pub use event::{Act, Event, Refused};
 pub use law::commits_are_serial;
 pub use machine::Core;
 pub use place::{Content, Part, Place};
-pub use seat::{Seat, Stage};
+pub use seat::{Mark, Seat, Stage};
 pub use story::Story;

@@ -7,7 +7,7 @@ ghost use Rattle.commit_core.specs.Serial.{committed, ReadsAreSerial};
 ghost use Rattle.commit_core.specs.Sound.{IsSound};
 ghost use Rattle.std.specs.Prelude.{map, replicate};
 
-use crate::{Act, Attempt, Content, Event, Place, Refused, Seat, Stage, Story, acts};
+use crate::{Act, Attempt, Content, Event, Mark, Place, Refused, Seat, Stage, Story, acts};
 use lists::Sequence;
 use serial_model::{Key, Memory, Number, OrMemory};
 use std::alloc::Global;
@@ -141,7 +141,10 @@ fn fresh_seat(alloc: Global) -> Result<Seat, Memory>
     ensures { IfOk result (λ s. s ≡ fresh_seat first_number) }
 {
     let mut marks = Sequence::new(alloc);
-    marks.push(Some(0))?;
+    marks.push(Mark {
+        epoch: Some(0),
+        length: 0,
+    })?;
     Ok(Seat {
         kept: Sequence::new(alloc),
         locks: Sequence::new(alloc),

@@ -22,6 +22,15 @@ pub enum Stage {
     Decided(usize),
 }
 
+/// What a seat says of its log: all its commits up to this epoch lie in this many first bytes.
+#[derive(Clone, Copy, Debug, PartialEq, Eq)]
+pub struct Mark {
+    /// Nothing where the seat is idle.
+    pub epoch: Option<u32>,
+    /// A count of bytes. The machine keeps it and asks nothing of it.
+    pub length: u64,
+}
+
 #[derive(Drop)]
 pub struct Seat {
     /// What was read, and kept for the next attempt.
@@ -30,8 +39,8 @@ pub struct Seat {
     pub locks: Sequence<Key>,
     /// The keys whose new values the decided attempt has put.
     pub put: Sequence<Key>,
-    /// Each mark that was set, the latest last; `None` is idle.
-    pub marks: Sequence<Option<u32>>,
+    /// Each mark that was set, the latest last.
+    pub marks: Sequence<Mark>,
     pub stage: Stage,
 }
 
@@ -95,7 +104,7 @@ impl Seat {
         self.marks
             .as_slice()
             .iter()
-            .fold(0, |low, mark| mark.unwrap_or(low))
+            .fold(0, |low, mark| mark.epoch.unwrap_or(low))
     }
 
     /// Where the attempt is over and no lock is left, drops what was kept.

@@ -38,6 +38,10 @@ fn sets(key: Key, value: Option<u64>) -> Act {
     Act::Draw(writes)
 }
 
+fn marks(epoch: Option<u32>) -> Act {
+    Act::Mark(Mark { epoch, length: 40 })
+}
+
 /// The act is refused.
 fn expect_refusal(rt: &impl Abort, core: &mut Core, seat: u32, act: Act) {
     assert_eq!(rt; answer(core, seat, act), Err(OrMemory::Fault(Refused)));
@@ -213,10 +217,10 @@ fn a_forgotten_read(rt: HostRuntime) -> Result<(), Fail> {
 fn refused_for_epochs(rt: HostRuntime) -> Result<(), Fail> {
     let mut core = start(rt.alloc(), 2)?;
     expect_refusal(&rt, &mut core, 1, Act::Advance);
-    expect_refusal(&rt, &mut core, 1, Act::Mark(Some(1)));
+    expect_refusal(&rt, &mut core, 1, marks(Some(1)));
     step(&mut core, 0, Act::Advance)?;
-    step(&mut core, 1, Act::Mark(Some(1)))?;
-    step(&mut core, 1, Act::Mark(None))?;
-    expect_refusal(&rt, &mut core, 1, Act::Mark(Some(0)));
+    step(&mut core, 1, marks(Some(1)))?;
+    step(&mut core, 1, marks(None))?;
+    expect_refusal(&rt, &mut core, 1, marks(Some(0)));
     Ok(())
 }

@@ -1,5 +1,5 @@
 -- How the serial run of the commit protocol gives that of transactions.
-use Rattle.std.specs.Prelude.{◌≡◌, ℕ, List, [], ◌∷◌, Option, None, unwrap_or}
+use Rattle.std.specs.Prelude.{◌≡◌, ℕ, List, [], ◌∷◌, Option, None, unwrap_or, filter, nat_le}
 use Rattle.std.specs.Option.{option_or}
 use Rattle.std.specs.FinMap.{get}
 use Rattle.serial_model.specs.declared.key.Key.{Key}
@@ -7,7 +7,7 @@ use Rattle.serial_model.specs.declared.decl.Decl.{Decl}
 use Rattle.serial_model.specs.Keys.{is_tree}
 use Rattle.serial_model.specs.State.{State}
 use Rattle.serial_model.specs.Step.{reply_of}
-use Rattle.serial_model.specs.History.{Entry, AnswersAt, state_after, IsSerialRun, state_after_all}
+use Rattle.serial_model.specs.History.{Entry, AnswersAt, state_after, IsSerialRun, state_after_all, as_of}
 use Rattle.commit_core.specs.declared.place.Content.{Content}
 use Rattle.commit_core.specs.declared.place.Place.{Place}
 use Rattle.commit_core.specs.declared.attempt.Attempt.{Attempt}
@@ -59,6 +59,17 @@ abbrev pub SerialReadsRun : Type 0
 SerialReadsRun = (decls : List Decl) (s : State) (opening : List Place) (entries : List Entry) (attempts : List Attempt)
     → Agrees decls s (content_at opening) → ReadsAreSerial opening attempts → AreAttemptsOf decls entries attempts
     → RunsSerially decls s entries attempts (after_attempts (content_at opening) attempts)
+
+-- the attempts with epochs up to this one
+abbrev pub up_to_epoch : ℕ → List Attempt → List Attempt
+up_to_epoch epoch attempts = filter (λ a. nat_le a.number.epoch epoch) attempts
+
+-- As of an epoch the run leaves at each key what the attempts with epochs up to it wrote there last.
+abbrev pub EpochsRun : Type 0
+EpochsRun = (decls : List Decl) (s : State) (opening : List Place) (entries : List Entry) (attempts : List Attempt)
+    → Agrees decls s (content_at opening) → ReadsAreSerial opening attempts → AreAttemptsOf decls entries attempts
+    → (epoch : ℕ) (k : Key)
+    → get (as_of decls s entries epoch) k ≡ unwrap_or (last_written (up_to_epoch epoch attempts) k) (get s k)
 
 -- So are the decided attempts of every sound story, in order of number, and the run agrees then with each key's last
 -- decided write.

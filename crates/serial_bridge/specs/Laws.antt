@@ -36,7 +36,7 @@ use Rattle.commit_core.specs.CoreState.{is_decided}
 use Rattle.commit_core.specs.Serial.{after_writes, after_all, committed, ReadsAlong, RisesFrom}
 use Rattle.commit_core.specs.Law.{SoundIsSerial}
 use Rattle.serial_bridge.specs.Transaction.{vouched, seen, wrote, Turn, Continues, Stops, added, taken, Turns, Finished, finished, FinishesBy, Runs, LeavesOut, AreAttemptsOf}
-use Rattle.serial_bridge.specs.Bridge.{Agrees, AttemptsStep, after_attempts, last_written, SerialReadsRun, SoundStoryRuns}
+use Rattle.serial_bridge.specs.Bridge.{Agrees, AttemptsStep, after_attempts, last_written, SerialReadsRun, up_to_epoch, EpochsRun, SoundStoryRuns}
 
 -- ---- keys
 
@@ -324,6 +324,64 @@ serial_reads_run decls s opening entries attempts agrees serial are =
       changes = along.1;
       leaves = along.2;
     }
+
+-- ---- up to an epoch
+
+-- behind an attempt of a later epoch there is none up to this one
+none_up_to : (epoch : ℕ) (low : Number) (attempts : List Attempt) → RisesFrom low attempts → nat_le low.epoch epoch ≡ false → up_to_epoch epoch attempts ≡ []
+none_up_to epoch low [] rises later = refl
+none_up_to epoch low (a ∷ attempts) rises later =
+    let out : nat_le a.number.epoch epoch ≡ false = still_later low.epoch a.number.epoch (epoch_low low a.number rises.0) later in
+    cond-false (nat_le a.number.epoch epoch) (a ∷ up_to_epoch epoch attempts) (up_to_epoch epoch attempts) out ∙ none_up_to epoch a.number attempts rises.1 out
+  where
+    still_later : (x y : ℕ) → x ≤ y → nat_le x epoch ≡ false → nat_le y epoch ≡ false
+    still_later x y up e = grind (arith, nat_tests)
+
+rises_up_to : (epoch : ℕ) (low : Number) (attempts : List Attempt) → RisesFrom low attempts → RisesFrom low (up_to_epoch epoch attempts)
+rises_up_to epoch low [] rises = tt
+rises_up_to epoch low (a ∷ attempts) rises =
+    elim (cases_Bool (nat_le a.number.epoch epoch)) [
+      | inl hit ↦ subst (λ (l : List Attempt). RisesFrom low l) (sym (cond-true (nat_le a.number.epoch epoch) (a ∷ up_to_epoch epoch attempts) (up_to_epoch epoch attempts) hit))
+          (rises.0, rises_up_to epoch a.number attempts rises.1)
+      | inr miss ↦ subst (λ (l : List Attempt). RisesFrom low l) (sym (cond-false (nat_le a.number.epoch epoch) (a ∷ up_to_epoch epoch attempts) (up_to_epoch epoch attempts) miss
+          ∙ none_up_to epoch a.number attempts rises.1 miss)) tt
+    ]
+
+reads_up_to : (epoch : ℕ) (low : Number) (contents : Key → Content) (attempts : List Attempt) → RisesFrom low attempts → ReadsAlong contents attempts → ReadsAlong contents (up_to_epoch epoch attempts)
+reads_up_to epoch low contents [] rises reads = tt
+reads_up_to epoch low contents (a ∷ attempts) rises reads =
+    elim (cases_Bool (nat_le a.number.epoch epoch)) [
+      | inl hit ↦ subst (λ (l : List Attempt). ReadsAlong contents l) (sym (cond-true (nat_le a.number.epoch epoch) (a ∷ up_to_epoch epoch attempts) (up_to_epoch epoch attempts) hit))
+          (reads.0, reads_up_to epoch a.number (λ k. after_writes k a (contents k)) attempts rises.1 reads.1)
+      | inr miss ↦ subst (λ (l : List Attempt). ReadsAlong contents l) (sym (cond-false (nat_le a.number.epoch epoch) (a ∷ up_to_epoch epoch attempts) (up_to_epoch epoch attempts) miss
+          ∙ none_up_to epoch a.number attempts rises.1 miss)) tt
+    ]
+
+attempts_up_to : (decls : List Decl) (epoch : ℕ) (entries : List Entry) (attempts : List Attempt) → AreAttemptsOf decls entries attempts
+    → AreAttemptsOf decls (filter (λ e. nat_le e.number.epoch epoch) entries) (up_to_epoch epoch attempts)
+attempts_up_to decls epoch [] [] are = tt
+attempts_up_to decls epoch [] (a ∷ attempts) are = absurd are
+attempts_up_to decls epoch (e ∷ entries) [] are = absurd are
+attempts_up_to decls epoch (e ∷ entries) (a ∷ attempts) are =
+    both (nat_le e.number.epoch epoch) (nat_le a.number.epoch epoch) (ap (λ (n : Number). nat_le n.epoch epoch) are.0.number)
+    (filter (λ x. nat_le x.number.epoch epoch) entries) (up_to_epoch epoch attempts) (attempts_up_to decls epoch entries attempts are.1)
+  where
+    both : (x y : Bool) → x ≡ y → (fs : List Entry) (bs : List Attempt) → AreAttemptsOf decls fs bs → AreAttemptsOf decls (cond x (e ∷ fs) fs) (cond y (a ∷ bs) bs)
+    both true true same fs bs rest = (are.0, rest)
+    both true false same fs bs rest = absurd (true≢false same)
+    both false true same fs bs rest = absurd (true≢false (sym same))
+    both false false same fs bs rest = rest
+
+-- the attempts up to an epoch are a run of their own
+pub epochs_run : EpochsRun
+epochs_run decls s opening entries attempts agrees serial are epoch =
+    let rises = serial.rising (record { storage = 0; key = 0 }) in
+    (serial_reads_run decls s opening (filter (λ e. nat_le e.number.epoch epoch) entries) (up_to_epoch epoch attempts) agrees
+    (record {
+      rising = λ k. rises_up_to epoch (content_at opening k).number attempts (serial.rising k);
+      reads = reads_up_to epoch (content_at opening (record { storage = 0; key = 0 })).number (content_at opening) attempts rises serial.reads;
+    })
+    (attempts_up_to decls epoch entries attempts are)).changes
 
 -- ---- the whole story
 

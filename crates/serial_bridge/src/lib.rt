@@ -2,8 +2,9 @@
 //!
 //! Promises: where the parts of an attempt are what the state below its number has, and its replies and writes are
 //! those of its transaction's operations over these parts, they are what the transaction does alone on that state
-//! (`step`). So attempts whose reads are serial are a serial run of their transactions (`run`), and the decided
-//! attempts of every sound story, in order of number, are one that leaves each key's last decided write (`story`).
+//! (`step`). So attempts whose reads are serial are a serial run of their transactions (`run`), those up to an epoch
+//! give the state as of it (`epochs`), and the decided attempts of every sound story, in order of number, are a run
+//! that leaves each key's last decided write (`story`).
 //! Terms: *part*, what an attempt read and must stay valid; an attempt *is* a transaction's (`IsAttemptOf`) where each
 //! operation sees what the transaction wrote before it, else what a part has.
 //! Layout: `Transaction` says what a transaction sees and does, `Bridge` what follows, `Laws` has the proofs in the
@@ -11,7 +12,7 @@
 //! Design: docs/COMMIT.md, "From reads to replies".
 #![tactic(auto)]
 
-ghost use Rattle.serial_bridge.specs.Bridge.{AttemptsStep, SerialReadsRun, SoundStoryRuns};
+ghost use Rattle.serial_bridge.specs.Bridge.{AttemptsStep, SerialReadsRun, EpochsRun, SoundStoryRuns};
 
 use commit_core::commits_are_serial;
 
@@ -19,6 +20,7 @@ use commit_core::commits_are_serial;
 pub fn commits_are_transactions()
     ensures step { AttemptsStep }
     ensures run { SerialReadsRun }
+    ensures epochs { EpochsRun }
     ensures story { SoundStoryRuns }
 {
     commits_are_serial();

@@ -144,6 +144,23 @@ after_all-version f k (a ∷ h) c =
       | inr later ↦ inr (later.0, in_tail later.0 a h later.1, later.2, later.3)
     ]
 
+-- what stands at a key is what was there, or what one wrote that counts
+pub after_all-counted : (f : Attempt → Bool) (k : Key) (h : List Attempt) (c : Content)
+    → (after_all f k h c ≡ c) ⊎ ((a : Attempt) × Contains h a × (f a ≡ true) × (a.number ≡ (after_all f k h c).number) × (written k a.writes ≡ Some (after_all f k h c).value))
+after_all-counted f k [] c = inl refl
+after_all-counted f k (a ∷ h) c =
+    elim (after_all-counted f k h (stepped (f a) k a c)) [
+      | inl stays ↦ elim (cases_Bool (f a)) [
+        | inl hit ↦ elim (step_cases (f a) k a c) [
+          | inl same ↦ inl (stays ∙ same)
+          | inr wrote ↦ let now = stays ∙ wrote.is in
+              inr (a, in_head a h, hit, sym (ap (λ (d : Content). d.number) now), wrote.written_is ∙ ap (λ (v : Option ℕ). Some v) (sym (ap (λ (d : Content). d.value) now)))
+        ]
+        | inr miss ↦ inl (stays ∙ ap (λ (b : Bool). stepped b k a c) miss)
+      ]
+      | inr later ↦ inr (later.0, in_tail later.0 a h later.1, later.2, later.3, later.4)
+    ]
+
 rises_step : (b : Bool) (k : Key) (a : Attempt) (h : List Attempt) (c : Content) → RisesFrom c.number (a ∷ h) → RisesFrom (stepped b k a c).number h
 rises_step b k a h c r =
     elim (step_cases b k a c) [

@@ -1,6 +1,7 @@
 -- Marks of one seat.
-use Rattle.std.specs.Prelude.{◌≡◌, ℕ, ◌<◌, List, Option, Some, slice_get, ⊤}
+use Rattle.std.specs.Prelude.{◌≡◌, ℕ, ◌<◌, List, Some, slice_get, ⊤}
 use Rattle.commit_core.specs.declared.attempt.Attempt.{Attempt}
+use Rattle.commit_core.specs.declared.seat.Mark.{Mark}
 use Rattle.commit_core.specs.declared.seat.Stage.{Stage}
 use Rattle.commit_core.specs.declared.seat.Stage.TheVariants.{Idle, Trying, Ended, Decided}
 use Rattle.commit_core.specs.CoreState.{mark_of}
@@ -13,5 +14,5 @@ IsAboveMark history Ended e = ⊤
 IsAboveMark history (Decided i) e = ⊤
 
 -- The seat's mark, where it is not idle, is below the clock's epoch and below that of the attempt in progress.
-abbrev pub MarksArePast : ℕ → List Attempt → List (Option ℕ) → Stage → Type 0
+abbrev pub MarksArePast : ℕ → List Attempt → List Mark → Stage → Type 0
 MarksArePast epoch history marks stage = (e : ℕ) → mark_of marks ≡ Some e → (e < epoch) × IsAboveMark history stage e

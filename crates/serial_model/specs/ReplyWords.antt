@@ -1,10 +1,9 @@
 -- Replies as words, one after another.
-use Rattle.std.specs.Prelude.{◌≡◌, ℕ, zero, suc, ◌+◌, ◌-◌, ◌*◌, ◌^◌, ◌<◌, ◌≤◌, Bool, true, false, List, [], ◌∷◌, ◌++◌, length, take, drop, slice_index, nat_lt, if◌then◌else◌}
+use Rattle.std.specs.Prelude.{◌≡◌, ℕ, zero, suc, ◌+◌, ◌-◌, ◌*◌, ◌^◌, ◌<◌, ◌≤◌, true, false, List, [], ◌∷◌, ◌++◌, length, take, drop, slice_index, nat_lt, if◌then◌else◌}
 use Rattle.std.specs.List.{flat_map}
-use Rattle.std.proofs.Common.{refl, sym, ap, ◌∙◌, arith, cond, inl, inr, length-append, append_assoc}
+use Rattle.std.proofs.Common.{refl, sym, ap, ◌∙◌, arith, inl, inr, length-append, append_assoc}
 use Rattle.std.proofs.lemmas.Bool.{cases_Bool, lt-ltb, le-ltb}
 use Rattle.std.proofs.lemmas.List.{take_at, drop_at, append-nil}
-use Rattle.lists.specs.Fronts.{same_parts}
 use Rattle.serial_model.specs.declared.reply.Reply.{Reply}
 use Rattle.serial_model.specs.declared.reply.Reply.TheVariants.{Value, Absent, Rows}
 
@@ -119,12 +118,20 @@ replies_words-append (x ∷ xs) ys =
 pub replies_words-push : (rs : List Reply) (r : Reply) → replies_words (rs ++ r ∷ []) ≡ replies_words rs ++ reply_words r
 replies_words-push rs r = replies_words-append rs (r ∷ []) ∙ ap (λ (l : List ℕ). replies_words rs ++ l) (append-nil (reply_words r))
 
-pub are_pushed : (words : List ℕ) (r : Reply) → AreReplyWords words → AreReplyWords (words ++ reply_words r) × (replies_of (words ++ reply_words r) ≡ replies_of words ++ r ∷ [])
-are_pushed words r are =
-    let spelled : words ++ reply_words r ≡ replies_words (replies_of words ++ r ∷ []) =
-    ap (λ (l : List ℕ). l ++ reply_words r) (sym are) ∙ sym (replies_words-push (replies_of words) r) in
-    let read : replies_of (words ++ reply_words r) ≡ replies_of words ++ r ∷ [] = ap replies_of spelled ∙ replies_of-words (replies_of words ++ r ∷ []) in
+-- words of replies, and those of more replies behind them
+pub are_appended : (words : List ℕ) (more : List Reply) → AreReplyWords words
+    → AreReplyWords (words ++ replies_words more) × (replies_of (words ++ replies_words more) ≡ replies_of words ++ more)
+are_appended words more are =
+    let spelled : words ++ replies_words more ≡ replies_words (replies_of words ++ more) =
+    ap (λ (l : List ℕ). l ++ replies_words more) (sym are) ∙ sym (replies_words-append (replies_of words) more) in
+    let read : replies_of (words ++ replies_words more) ≡ replies_of words ++ more = ap replies_of spelled ∙ replies_of-words (replies_of words ++ more) in
     (ap replies_words read ∙ sym spelled, read)
+
+-- no more replies than words
+pub few_replies : (replies : List Reply) → length replies ≤ length (replies_words replies)
+few_replies [] = omega arith
+few_replies (reply ∷ replies) =
+    omega (arith, few_replies replies, has_mark reply, length-append (reply_words reply) (replies_words replies))
 
 -- no words are no replies
 pub replies_of-none : replies_of [] ≡ []

@@ -1,5 +1,5 @@
 // What a transaction answers.
-ghost use Rattle.std.specs.Prelude.{◌≡◌, ◌≤◌, [], ◌∷◌, ◌++◌, OnOk, OnErr, length, nat_eq, take};
+ghost use Rattle.std.specs.Prelude.{◌≡◌, ◌≤◌, ◌==◌, [], ◌∷◌, ◌++◌, OnOk, OnErr, length, nat_eq, take};
 ghost use Rattle.std.specs.Ordering.{on};
 ghost use Rattle.std.specs.Cmp.{on_equiv, nat_eq_equiv, partial_equiv_from_equiv};
 ghost use Rattle.std.specs.Cmp.Lexicographic.{pointwise, lists_equiv};
@@ -108,12 +108,40 @@ impl Replies {
         self.push_words(&words[..count])
     }
 
+    /// Adds the other replies. After want of memory the list is as it was.
+    pub fn append(&mut self, other: &Replies) -> Result<(), Memory>
+        ensures ok { OnOk result (self.new ≡ self.old ++ other.now) }
+        ensures memory { OnErr result (self.new ≡ self.old) }
+    {
+        self.words.append(other.words())
+    }
+
     fn push_words(&mut self, words: &[u64]) -> Result<(), Memory>
         requires { (reply : TheReply) × (words.now ≡ reply_words reply) }
         ensures ok { OnOk result ((reply : TheReply) → words.now ≡ reply_words reply → self.new ≡ self.old ++ reply ∷ []) }
         ensures memory { OnErr result (self.new ≡ self.old) }
     {
         self.words.append(words)
+    }
+
+    /// How many there are.
+    pub fn len(&self) -> usize
+        ensures { result ≡ length self.now }
+    {
+        let most = self.words.len();
+        let mut rest = self.lent();
+        let mut count = 0;
+        while let Some((_, behind)) = rest.split_first() {
+            rest = behind;
+            count += 1;
+        }
+        count
+    }
+
+    pub fn is_empty(&self) -> bool
+        ensures { result ≡ (length self.now == 0) }
+    {
+        self.len() == 0
     }
 
     /// The words in which they lie.

@@ -46,7 +46,7 @@ fn scan(storage: u8, low: u64, high: u64) -> Op {
 fn rows_of(pairs: &[(u64, u64)]) -> Rows {
     let mut rows = Rows::new();
     for (key, value) in pairs {
-        if !rows.is_full() {
+        if rows.as_slice().len() < 16 {
             rows.push(*key, *value);
         }
     }
@@ -301,6 +301,7 @@ fn replies_are_read_where_they_lie(rt: HostRuntime) -> Result<(), Fail> {
         replies.words(),
         [3, MOST, 0, MOST - 2, 0, MOST, 2, 2, 1, 10, 2, MOST].as_slice()
     );
+    assert_eq!(rt; replies.len(), 5);
     let (zero, rest) = value_first(&replies.lent()).ok_or("a value")?;
     let (small, rest) = value_first(&rest).ok_or("a value")?;
     let (great, rest) = value_first(&rest).ok_or("a value")?;

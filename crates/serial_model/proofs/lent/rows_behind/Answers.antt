@@ -1,5 +1,5 @@
 -- The rows are there, since the words are those of replies.
-use Rattle.std.proofs.Common.{◌≡◌, ◌≤◌, ◌-◌, ◌*◌, ℕ, List, ◌∷◌, length, take, drop, sym, ap, ◌∙◌, subst, arith, rules, slice_index}
+use Rattle.std.proofs.Common.{◌≡◌, ◌-◌, ◌*◌, ℕ, List, ◌∷◌, length, take, drop, sym, ap, ◌∙◌, subst, arith, slice_index}
 use Rattle.std.proofs.lemmas.List.{take_rest, length-drop}
 use Rattle.serial_model.specs.ReplyWords.{AreRowWords, Begins, begins_rows, rows_in}
 use Rattle.serial_model.specs.declared.reply.Reply.TheVariants.{Rows}

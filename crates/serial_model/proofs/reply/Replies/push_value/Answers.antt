@@ -1,6 +1,6 @@
 -- A value in one word or in two.
-use Rattle.std.proofs.Common.{sym, ◌≡◌, ◌∷◌, [], ◌+◌, refl}
-use Rattle.serial_model.specs.ReplyWords.{reply_words, words_small, words_great}
+use Rattle.std.proofs.Common.{sym}
+use Rattle.serial_model.specs.ReplyWords.{words_small, words_great}
 use Rattle.serial_model.specs.declared.reply.Reply.TheVariants.{Value}
 use Rattle.serial_model.proofs.Pushed.{was_pushed}
 use Rattle.serial_model.proofs.reply.Replies.push_value.Goals as goal

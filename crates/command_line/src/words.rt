@@ -69,9 +69,7 @@ pub fn read_words(alloc: Global, words: &[&str]) -> Result<Command, Memory>
     ensures help { AsksForHelp (map (λ w. w.now) words.now)
         → OnOk result (result ≡ Ok Command.Refused) }
 {
-    let Ok(program) = program(alloc) else {
-        return Err(Memory);
-    };
+    let program = program(alloc)?;
     match program.try_get_matches_from(words) {
         Ok(matches) => Ok(asked(&matches)),
         Err(error) => match error.kind() {

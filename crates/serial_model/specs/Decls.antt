@@ -1,5 +1,5 @@
 -- Declared storages.
-use Rattle.std.specs.Prelude.{ℕ, ◌<◌, ◌≤◌, List, length, map}
+use Rattle.std.specs.Prelude.{◌<◌, ◌≤◌, List, length, map}
 use Rattle.std.specs.List.{AllByRecursion}
 use Rattle.lists.specs.Each.{AreDistinct}
 use Rattle.serial_model.specs.Keys.{id_of}

@@ -1,6 +1,6 @@
 -- Commit numbers: which there are, and their order.
-use Rattle.std.specs.Prelude.{◌≡◌, ◌⊎◌, ℕ, ◌-◌, ◌^◌, ◌<◌, ◌≤◌, ◌==◌, ◌&&◌, ◌||◌, Bool, true, false, nat_lt}
-use Rattle.std.proofs.Common.{inl, inr, refl, sym, ap, ◌∙◌, arith}
+use Rattle.std.specs.Prelude.{◌≡◌, ◌⊎◌, ℕ, ◌-◌, ◌^◌, ◌<◌, ◌≤◌, ◌==◌, ◌&&◌, ◌||◌, Bool, true, nat_lt}
+use Rattle.std.proofs.Common.{inl, inr, refl, ap, ◌∙◌, arith}
 use Rattle.std.proofs.lemmas.Bool.Decides.{nat_tests}
 use Rattle.serial_model.specs.declared.number.Config.{Config}
 use Rattle.serial_model.specs.declared.number.Number.{Number}

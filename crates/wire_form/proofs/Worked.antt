@@ -1,13 +1,17 @@
 -- The definitions on values that were worked by hand from the layouts.
-use Rattle.std.proofs.Common.{◌≡◌, [], ◌∷◌, ◌++◌, true, false, Some, refl, replicate}
+use Rattle.std.proofs.Common.{◌≡◌, List, [], ◌∷◌, ◌++◌, length, true, false, None, Some, refl, sym, ap, ◌∙◌, append-nil, replicate, arith}
+use Rattle.std.proofs.lemmas.List.{length-append}
 use Rattle.serial_model.specs.declared.number.Number.{Number}
 use Rattle.serial_model.specs.declared.number.Change.{Change}
 use Rattle.serial_model.specs.declared.number.Commit.{Commit}
+use Rattle.serial_model.specs.declared.decl.Decl.{Decl}
 use Rattle.serial_model.specs.declared.decl.Decl.TheVariants.{Array}
 use Rattle.wire_form.specs.declared.page_words.SlotState.TheVariants.{Owned, Published, Retired}
 use Rattle.wire_form.specs.Words.{clock_word, record_word, pair_word, slot_word}
 use Rattle.wire_form.specs.Bytes.{bytes_of_word}
 use Rattle.wire_form.specs.LogLine.{line_bytes}
+use Rattle.wire_form.specs.LogFile.{IsLineOf, IsDamagedAt}
+use Rattle.wire_form.specs.LineLaws.{length-line_bytes}
 use Rattle.wire_form.specs.Pages.{catalogue_words}
 
 abbrev first_number : Number
@@ -47,3 +51,34 @@ worked_line = refl
 first_catalogue : catalogue_words (record { epoch = 0; previous = 0; storages = record { decl = Array 1 4; root = 0 } ∷ [] })
     ≡ 0x4341540000000001 ∷ (replicate 15 0 ++ 257 ∷ 4 ∷ replicate 46 0)
 first_catalogue = refl
+
+-- ---- that line with a byte behind it
+
+abbrev one_array : List Decl
+one_array = Array 1 4 ∷ []
+
+first_line : IsLineOf one_array first_commit
+first_line = record {
+  line = record {
+    loggable = record {
+      number = record { some_epoch = omega arith; most_epoch = omega arith; some_draw = omega arith; most_draw = omega arith };
+      some = omega arith;
+      most = omega arith;
+      rising = (tt, tt);
+    };
+    each = (record { storage = omega arith; key = omega arith; value = omega arith }, tt);
+  };
+  each = (refl, tt);
+}
+
+-- it is damaged behind the line, where no line has a single byte
+damaged_behind : IsDamagedAt one_array None (line_bytes first_commit ++ 0 ∷ []) 40
+damaged_behind = record {
+  front = first_commit ∷ [];
+  rest = 0 ∷ [];
+  lines = record { each = (first_line, tt); rising = (tt, tt); spelled = refl };
+  behind = sym (ap length (append-nil (line_bytes first_commit)) ∙ length-line_bytes first_commit);
+  whole = ap (λ t. t ++ 0 ∷ []) (sym (append-nil (line_bytes first_commit)));
+  more = omega arith;
+  none = λ c after is follows e. omega (arith, ap length e, length-append (line_bytes c) after, length-line_bytes c);
+}

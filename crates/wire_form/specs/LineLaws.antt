@@ -84,8 +84,8 @@ line_parts bytes rest c e =
 -- ---- no line begins another
 
 -- a number from its parts
-abbrev number_of : ℕ → ℕ → Number
-number_of e d = record { epoch = e; draw = d }
+abbrev number_from : ℕ → ℕ → Number
+number_from e d = record { epoch = e; draw = d }
 
 -- a change from its parts
 abbrev change_of : ℕ → ℕ → Option ℕ → Change
@@ -100,7 +100,7 @@ pub same_number_word : (a b : Number) → IsNumber a → IsNumber b → number_w
 same_number_word a b p q e =
     let draw : a.draw ≡ b.draw = omega (arith, p.most_draw, q.most_draw) in
     let epoch : a.epoch ≡ b.epoch = omega (arith, p.most_draw, q.most_draw) in
-    ap (λ e. number_of e a.draw) epoch ∙ ap (number_of b.epoch) draw
+    ap (λ e. number_from e a.draw) epoch ∙ ap (number_from b.epoch) draw
 
 same_value : (s t : ℕ) (v w : Option ℕ) → s < 256 → t < 256 → s + put_mark v ≡ t + put_mark w
     → unwrap_or v 0 ≡ unwrap_or w 0 → (s ≡ t) × (v ≡ w)

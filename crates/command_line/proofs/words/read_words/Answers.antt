@@ -8,11 +8,11 @@ use Rattle.command_line.specs.declared.command.Command.TheVariants.{Refused}
 use Rattle.command_line.proofs.Plain.{among, answer, fails, refused_numbers, taken}
 use Rattle.command_line.proofs.words.read_words.Goals as goal
 
-pub returns-in-Ok-try_get_matches_from : goal.returns-in-Ok-try_get_matches_from
-returns-in-Ok-try_get_matches_from c =
+pub returns-in-Ok : goal.returns-in-Ok
+returns-in-Ok c =
     let words = map (λ (w : Bor (List ℕ)). w.now) c.args.words.now in
-    let e = c.in-Ok-try_get_matches_from.ensures in
-    let is = c.asked.ensures ∙ taken (app_of c.in-Ok.program) words c.in-Ok-try_get_matches_from.matches c.in-Ok.ensures e.kinds e.matches in
+    let e = c.in-Ok.ensures in
+    let is = c.asked.ensures ∙ taken (app_of c.in_ok-program.program) words c.in-Ok.matches c.in_ok-program.ensures e.kinds e.matches in
     let a = answer words c.asked.result is in
     record {
       command = is;
@@ -20,7 +20,7 @@ returns-in-Ok-try_get_matches_from c =
       ranges = λ options h. a.ranges options (cc);
       refused = λ h.
           let none : c.asked.result ≡ Refused = cc in
-          refused_numbers (app_of c.in-Ok.program) words c.in-Ok-try_get_matches_from.matches c.in-Ok.ensures e.matches (sym c.asked.ensures ∙ none);
+          refused_numbers (app_of c.in_ok-program.program) words c.in-Ok.matches c.in_ok-program.ensures e.matches (sym c.asked.ensures ∙ none);
       help = λ h. ap (λ (x : Command). Ok x) (a.help h);
     }
 
@@ -28,8 +28,8 @@ pub returns : goal.returns
 returns c =
     let words = map (λ (w : Bor (List ℕ)). w.now) c.args.words.now in
     let kind = kind_of c.in-Err.error in
-    let other = λ (e : kind ≡ OutOfMemory). c.in_default-kind.not-OutOfMemory (c.kind.ensures ∙ e) in
-    let is_among : IsAmong kind (fault_of program words) = among (app_of c.in-Ok.program) words kind c.in-Ok.ensures c.in-Err.ensures.kinds other in
+    let other = λ (e : kind ≡ OutOfMemory). c.in_default.not-OutOfMemory (c.kind.ensures ∙ e) in
+    let is_among : IsAmong kind (fault_of program words) = among (app_of c.in_ok-program.program) words kind c.in_ok-program.ensures c.in-Err.ensures.kinds other in
     let is : Refused ≡ command_of words = fails words kind is_among in
     let a = answer words Refused is in
     record {

@@ -1,4 +1,5 @@
 pub mod Flushes
+pub mod Growing
 pub mod Journal
 pub mod Newest
 pub mod Points

@@ -48,9 +48,7 @@ impl Journal {
         ensures empty { IfOk result (λ journal. journal.lines ≡ []) }
         ensures up { IfOk result (λ journal. journal.down ≡ None) }
     {
-        let Ok(lines) = LineBuffer::new(alloc) else {
-            return Err(Memory);
-        };
+        let lines = LineBuffer::new(alloc)?;
         Ok(Journal {
             limit,
             durable: 0,

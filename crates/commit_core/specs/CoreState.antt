@@ -23,10 +23,12 @@ pub record CoreState : Type 0 where
 
 -- ---- places
 
+-- that seat holds the lock
 abbrev pub holder_is : ℕ → Option ℕ → Bool
 holder_is p None = false
 holder_is p (Some q) = q == p
 
+-- there is such a place, and nobody holds its lock
 abbrev pub is_free : Option Place → Bool
 is_free None = false
 is_free (Some place) = is_none place.holder
@@ -47,6 +49,7 @@ is_open_to p (Some place) = if is_none place.holder then true else holder_is p p
 abbrev pub clock_of : ℕ → ℕ → List Attempt → Number
 clock_of first epoch history = record { epoch = epoch; draw = first + length history }
 
+-- the attempt with this number is decided
 abbrev pub is_decided : List Number → Number → Bool
 is_decided decided n = list_any (λ m. same_number m n) decided
 
@@ -54,11 +57,13 @@ is_decided decided n = list_any (λ m. same_number m n) decided
 abbrev pub is_checked : List Check → Number → Key → Bool
 is_checked checks n k = list_any (λ c. same_number c.number n && same_key c.key k) checks
 
+-- that the attempt with this number checked its part at this key
 abbrev pub check_of : Number → Key → Check
 check_of n k = record { number = n; key = k }
 
 -- ---- a seat
 
+-- the seat has an attempt in progress
 abbrev pub is_trying : Stage → Bool
 is_trying Idle = false
 is_trying (Trying i) = true
@@ -114,5 +119,6 @@ settled_at (Trying i) s = s
 settled_at Ended s = record s { kept = []; put = []; stage = Idle }
 settled_at (Decided i) s = record s { kept = []; put = []; stage = Idle }
 
+-- a seat without locks whose attempt is over comes to rest
 abbrev pub settled : Seat → Seat
 settled s = if length s.locks == 0 then settled_at s.stage s else s

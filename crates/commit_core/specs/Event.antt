@@ -30,6 +30,7 @@ use Rattle.commit_core.specs.CoreState.{is_free, is_held_by, is_open_to, clock_o
 abbrev pub is_unchecked : List Check → Key → Attempt → Bool
 is_unchecked checks k a = list_any (is_part_at k) a.parts && not (is_checked checks a.number k)
 
+-- the attempt has checked each of its parts
 abbrev pub all_checked : List Check → Attempt → Bool
 all_checked checks a = list_all (λ part. is_checked checks a.number part.key) a.parts
 
@@ -59,6 +60,7 @@ pub record Moved : Type 0 where
   pub story : Story
   pub seat : Seat
 
+-- the story and the seat that an act leaves
 abbrev pub moved : Story → Seat → Moved
 moved m s = record { story = m; seat = s }
 
@@ -80,6 +82,7 @@ is_as_seen p place seen =
 abbrev pub stays_as_seen : ℕ → Option Place → Key → Attempt → Bool
 stays_as_seen p place k a = list_all (λ part. not (is_part_at k part) || is_as_seen p place part.content) a.parts
 
+-- the places once the seat has locked that of the key
 abbrev pub locked : ℕ → Key → List Place → Option Place → List Place
 locked p k places None = places
 locked p k places (Some q) = placed places (record { key = k; content = q.content; holder = Some p })
@@ -97,6 +100,7 @@ opened k a places (Some q) =
     let number = option_map_or (λ b. b.number) a q.content.number in
     placed places (record { key = k; content = content_of number q.content.value; holder = None })
 
+-- what a check of the key by the attempt in progress leaves
 abbrev pub after_check : ℕ → Key → Story → Seat → Option Attempt → Moved
 after_check p k m s None = moved m s
 after_check p k m s (Some a) =
@@ -111,6 +115,7 @@ decided_stage (Trying i) = Decided i
 decided_stage Ended = Ended
 decided_stage (Decided i) = Decided i
 
+-- what the decision of the attempt in progress leaves
 abbrev pub after_decide : Story → Seat → Option Attempt → Moved
 after_decide m s None = moved m s
 after_decide m s (Some a) =
@@ -150,6 +155,7 @@ effect p m s (Mark mark) = moved m (record s { marks = s.marks ++ mark ∷ [] })
 abbrev pub may_happen : CoreState → Event → Bool
 may_happen c e = option_map_or (λ s. is_allowed e.seat c.story s e.act) (slice_get c.seats e.seat) false
 
+-- the state with what an act of this seat left
 abbrev pub with_moved : CoreState → ℕ → Moved → CoreState
 with_moved c p n = record c { story = n.story; seats = slice_set c.seats p n.seat }
 

@@ -10,9 +10,11 @@ use Rattle.commit_core.specs.declared.place.Content.{Content}
 use Rattle.commit_core.specs.declared.place.Place.{Place}
 use Rattle.commit_core.specs.declared.place.Part.{Part}
 
+-- the two are one key
 abbrev pub same_key : Key → Key → Bool
 same_key a b = (a.storage == b.storage) && (a.key == b.key)
 
+-- the two are one number
 abbrev pub same_number : Number → Number → Bool
 same_number a b = (a.epoch == b.epoch) && (a.draw == b.draw)
 
@@ -32,6 +34,7 @@ place_at places k = find (λ p. same_key p.key k) places
 abbrev pub placed : List Place → Place → List Place
 placed places new = map (λ p. if same_key p.key new.key then new else p) places
 
+-- what a write of this value by the attempt with this number leaves
 abbrev pub content_of : Number → Option ℕ → Content
 content_of n value = record { number = n; value = value }
 
@@ -51,6 +54,7 @@ content_at places k = option_map_or (λ p. p.content) (place_at places k) nothin
 abbrev pub written : Key → List Change → Option (Option ℕ)
 written k writes = option_map (λ w. w.value) (find (λ w. same_key w.key k) writes)
 
+-- the key is among those written
 abbrev pub writes_key : List Change → Key → Bool
 writes_key writes k = is_some (written k writes)
 

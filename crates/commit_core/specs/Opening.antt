@@ -14,6 +14,7 @@ use Rattle.commit_core.specs.Keys.{content_of, opening_number}
 abbrev pub opening_place : (Key × ℕ) → Place
 opening_place e = record { key = e.0; content = content_of opening_number (Some e.1); holder = None }
 
+-- the places of these keys with these values, unlocked
 abbrev pub opening_places : List (Key × ℕ) → List Place
 opening_places pairs = map opening_place pairs
 
@@ -33,6 +34,7 @@ opening_story pairs first =
     let places = opening_places pairs in
     record { history = []; checks = []; decided = []; places = places; first_draw = first.draw; epoch = first.epoch }
 
+-- how a machine over these keys begins, with its first number and this many seats
 abbrev pub opening_core : List (Key × ℕ) → Number → ℕ → CoreState
 opening_core pairs first passes = record {
   opening = opening_places pairs;

@@ -28,6 +28,7 @@ use Rattle.commit_core.specs.Sound.Homes.{UnlockedHomes, LockedHomes}
 use Rattle.commit_core.specs.Sound.Reads.{ReadsStayTrue, NoLowerWriter, CommitsAreChecked, PartsArePast, KeptIsPast}
 use Rattle.commit_core.specs.Sound.Marks.{MarksArePast}
 
+-- what holds of the story by itself
 pub record IsSoundStory (opening : List Place) (m : Story) : Type 0 where
   pub ordered_numbers : OrderedNumbers opening m.history m.decided (clock_of m.first_draw m.epoch m.history)
   pub unlocked_homes : UnlockedHomes opening m.history m.decided m.places
@@ -37,6 +38,7 @@ pub record IsSoundStory (opening : List Place) (m : Story) : Type 0 where
   pub checks_are_past : ChecksArePast m.checks (clock_of m.first_draw m.epoch m.history)
   pub epoch_fits : EpochFits m.epoch
 
+-- what holds of a seat beside the story
 pub record IsSoundSeat (opening : List Place) (m : Story) (p : ℕ) (s : Seat) : Type 0 where
   pub lock_owners : LockOwners m.places p s.locks
   pub attempt_stands : AttemptStands m.history m.decided m.places s.put p s.stage
@@ -49,6 +51,7 @@ pub record IsSoundSeat (opening : List Place) (m : Story) (p : ℕ) (s : Seat) :
 abbrev pub EachSeat : List Seat → (ℕ → Seat → Type 0) → Type 0
 EachSeat seats P = (p : ℕ) (s : Seat) → slice_get seats p ≡ Some s → P p s
 
+-- what holds of the machine after each act
 pub record IsSound (c : CoreState) : Type 0 where
   pub story : IsSoundStory c.opening c.story
   pub seats : EachSeat c.seats (IsSoundSeat c.opening c.story)

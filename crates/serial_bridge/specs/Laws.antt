@@ -105,6 +105,7 @@ seen_same decls parts first own w k value vouch over is = by_written (written k 
 
 -- ---- one write more
 
+-- what is written at a key once one write more is made
 pub written-wrote : (k q : Key) (value : Option ℕ) (own : List Change) → written q (wrote k value own) ≡ cond (same_key k q) (Some value) (written q own)
 written-wrote k q value own =
     elim (same_key k q) as (λ b. option_map (λ (c : Change). c.value) (cond b (Some (record { key = k; value = value })) (find (λ (c : Change). same_key c.key q) own)) ≡ cond b (Some value) (written q own)) [

@@ -80,6 +80,7 @@ pub record Finished : Type 0 where
   pub replies : List Reply
   pub writes : List Change
 
+-- a transaction that ends so, with these replies and writes
 abbrev pub finished : Verdict → List Reply → List Change → Finished
 finished v rs own = record { verdict = v; replies = rs; writes = own }
 

@@ -17,31 +17,38 @@ use Rattle.commit_core.specs.Sound.Numbers.{EachOnce, OrderedNumbers, ChecksAreP
 
 -- ---- the clock goes on
 
+-- a draw moves the clock up
 pub clock_after_draw : (first epoch : ℕ) (h : List Attempt) (a : Attempt) → IsBelow (clock_of first epoch h) (clock_of first epoch (h ++ a ∷ []))
 clock_after_draw first epoch h a = let longer = length-append h (a ∷ []) in later epoch (first + length h) (first + length (h ++ a ∷ [])) (omega (arith, longer))
   where
     later : (e x y : ℕ) → x < y → IsBelow (record { epoch = e; draw = x }) (record { epoch = e; draw = y })
     later e x y l = inr (refl, l)
 
+-- an advance of the epoch moves the clock up
 pub clock_after_advance : (first epoch : ℕ) (h : List Attempt) → IsBelow (clock_of first epoch h) (clock_of first (epoch + 1) h)
 clock_after_advance first epoch h = inl (omega arith)
 
 -- ---- one more decided number, one more check
 
+-- once one more is decided, a decided one was decided before, or is the new one
 pub decided_cases : (decided : List Number) (m n : Number) → is_decided (decided ++ m ∷ []) n ≡ true → (is_decided decided n ≡ true) ⊎ (m ≡ n)
 decided_cases decided m n h =
     elim (any_push_cases (λ x. same_number x n) decided m h) [ inl old ↦ inl old | inr new ↦ inr (same_number-true m n new) ]
 
+-- what was decided stays so
 pub decided_old : (decided : List Number) (m n : Number) → is_decided decided n ≡ true → is_decided (decided ++ m ∷ []) n ≡ true
 decided_old decided m n h = any_push_old (λ x. same_number x n) decided m h
 
+-- the new one is decided
 pub decided_new : (decided : List Number) (m n : Number) → m ≡ n → is_decided (decided ++ m ∷ []) n ≡ true
 decided_new decided m n e = any_push_new (λ x. same_number x n) decided m (subst (λ (x : Number). same_number m x ≡ true) e (same_number-self m))
 
+-- of another number the decision of one says nothing
 pub decided_other : (decided : List Number) (m n : Number) → (m ≡ n → ⊥) → is_decided (decided ++ m ∷ []) n ≡ is_decided decided n
 decided_other decided m n other =
     any_push-false (λ x. same_number x n) decided m (false_from_ne_true (same_number m n) (λ h. other (same_number-true m n h)))
 
+-- once one more part is checked, a checked one was checked before, or is the new one
 pub checked_cases : (checks : List Check) (n : Number) (k : Key) (m : Number) (q : Key) → is_checked (checks ++ check_of n k ∷ []) m q ≡ true
     → (is_checked checks m q ≡ true) ⊎ ((n ≡ m) × (k ≡ q))
 checked_cases checks n k m q h =
@@ -50,11 +57,13 @@ checked_cases checks n k m q h =
       | inr new ↦ let parts = and_parts (same_number n m) (same_key k q) new in inr (same_number-true n m parts.0, same_key-true k q parts.1)
     ]
 
+-- what was checked stays so
 pub checked_old : (checks : List Check) (n : Number) (k : Key) (m : Number) (q : Key) → is_checked checks m q ≡ true → is_checked (checks ++ check_of n k ∷ []) m q ≡ true
 checked_old checks n k m q h = any_push_old (λ c. same_number c.number m && same_key c.key q) checks (check_of n k) h
 
 -- ---- ordered_numbers
 
+-- ordered numbers stay ordered where the clock moves up
 pub numbers_later : (opening : List Place) (h : List Attempt) (decided : List Number) (t u : Number) → IsBelow t u → OrderedNumbers opening h decided t → OrderedNumbers opening h decided u
 numbers_later opening h decided t u l o = record {
   opening_past = λ k. below_then (content_at opening k).number t u (o.opening_past k) l;
@@ -69,6 +78,7 @@ pub clock_undecided : (opening : List Place) (h : List Attempt) (decided : List 
 clock_undecided opening h decided t o =
     false_from_ne_true (is_decided decided t) (λ e. let d = o.decided_drawn t e in not_below_itself d.0.number t d.2 (o.past d.0 d.1))
 
+-- ordered numbers stay ordered where an attempt takes the clock's number
 pub numbers_drawn : (opening : List Place) (h : List Attempt) (decided : List Number) (t u : Number) (a : Attempt) → a.number ≡ t → IsBelow t u
     → OrderedNumbers opening h decided t → OrderedNumbers opening (h ++ a ∷ []) decided u
 numbers_drawn opening h decided t u a e l o = record {
@@ -93,6 +103,7 @@ once_push (n ∷ decided) m o e = (
   once_push decided m o.1 (false_from_ne_true (is_decided decided m) (λ h. true≢false (sym (or_right (same_number n m) (is_decided decided m) h) ∙ e))),
 )
 
+-- ordered numbers stay ordered where an attempt of the history is decided
 pub numbers_decided : (opening : List Place) (h : List Attempt) (decided : List Number) (t : Number) (a : Attempt) → Contains h a → is_decided decided a.number ≡ false
     → OrderedNumbers opening h decided t → OrderedNumbers opening h (decided ++ a.number ∷ []) t
 numbers_decided opening h decided t a m e o = record {
@@ -105,9 +116,11 @@ numbers_decided opening h decided t a m e o = record {
 
 -- ---- checks_are_past
 
+-- checks lie below each later clock
 pub checks_later : (checks : List Check) (t u : Number) → IsBelow t u → ChecksArePast checks t → ChecksArePast checks u
 checks_later checks t u l past = λ n k h. below_then n t u (past n k h) l
 
+-- a check of an attempt below the clock lies below the clock
 pub checks_checked : (checks : List Check) (t n : Number) (k : Key) → IsBelow n t → ChecksArePast checks t → ChecksArePast (checks ++ check_of n k ∷ []) t
 checks_checked checks t n k l past = λ m q h.
     elim (checked_cases checks n k m q h) [ inl old ↦ past m q old | inr new ↦ subst (λ (x : Number). IsBelow x t) new.0 l ]

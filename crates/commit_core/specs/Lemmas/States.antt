@@ -15,6 +15,7 @@ use Rattle.lists.specs.Elements.{in_none, in_head, in_tail, in_cases}
 
 -- ---- numbers that rise
 
+-- each number of a history that rises from a number on is above it
 pub rises_low : (low : Number) (h : List Attempt) → RisesFrom low h → (a : Attempt) → Contains h a → IsBelow low a.number
 rises_low low [] r a m = absurd (in_none a m)
 rises_low low (b ∷ h) r a m =
@@ -28,6 +29,7 @@ pub rises_lower : (low high : Number) (h : List Attempt) → IsBelow low high �
 rises_lower low high [] l r = r
 rises_lower low high (a ∷ h) l r = (below_then low high a.number l r.0, r.1)
 
+-- a history rises on with an attempt above all of it
 pub rises_push : (low : Number) (h : List Attempt) (a : Attempt) → RisesFrom low h → IsBelow low a.number
     → ((b : Attempt) → Contains h b → IsBelow b.number a.number) → RisesFrom low (h ++ a ∷ [])
 rises_push low [] a r l past = (l, r)
@@ -62,6 +64,7 @@ is_written n (Some v) c = inr (v, refl, refl)
 pub written-writes : (k : Key) (a : Attempt) (v : Option ℕ) → written k a.writes ≡ Some v → writes_key a.writes k ≡ true
 written-writes k a v e = ap (λ (w : Option (Option ℕ)). is_some w) e
 
+-- a key among those written has a value that was written
 pub writes-written : (k : Key) (a : Attempt) → writes_key a.writes k ≡ true → (v : Option ℕ) × (written k a.writes ≡ Some v)
 writes-written k a e =
     elim (is_written a.number (written k a.writes) nothing) [
@@ -69,9 +72,11 @@ writes-written k a e =
       | inr some ↦ (some.0, some.1)
     ]
 
+-- an attempt that does not write the key leaves what stands there
 pub after_writes-not : (k : Key) (a : Attempt) (c : Content) → writes_key a.writes k ≡ false → after_writes k a c ≡ c
 after_writes-not k a c e = not_written a.number (written k a.writes) c e
 
+-- an attempt that writes the key leaves its value with its own number
 pub after_writes-value : (k : Key) (a : Attempt) (c : Content) (v : Option ℕ) → written k a.writes ≡ Some v → after_writes k a c ≡ content_of a.number v
 after_writes-value k a c v e = ap (λ (w : Option (Option ℕ)). option_map_or (λ u. content_of a.number u) w c) e
 
@@ -83,6 +88,7 @@ step_nothing : (b : Bool) (k : Key) (a : Attempt) (c : Content) → (b ≡ true 
 step_nothing true k a c h = after_writes-not k a c (false_from_ne_true (writes_key a.writes k) (h refl))
 step_nothing false k a c h = refl
 
+-- what an attempt that writes the key leaves there
 record Wrote (k : Key) (a : Attempt) (c : Content) : Type 0 where
   value : Option ℕ
   written_is : written k a.writes ≡ Some value
@@ -105,6 +111,7 @@ step_agrees x y k a c same =
 
 -- ---- a list of them
 
+-- one attempt more comes after the others, where it counts
 pub after_all-push : (f : Attempt → Bool) (k : Key) (h : List Attempt) (a : Attempt) (c : Content)
     → after_all f k (h ++ a ∷ []) c ≡ cond (f a) (after_writes k a (after_all f k h c)) (after_all f k h c)
 after_all-push f k [] a c = refl

@@ -22,14 +22,17 @@ use Rattle.commit_core.specs.Lemmas.Numbers.{decided_other, clock_undecided}
 abbrev pub IsAlone : List Attempt → Attempt → Type 0
 IsAlone h a = (b : Attempt) → Contains h b → b.number ≡ a.number → b ≡ a
 
+-- any one key, to speak of numbers that concern none
 pub some_key : Key
 some_key = record { storage = 0; key = 0 }
 
+-- a number of the history is that of one attempt
 pub alone : (opening : List Place) (h : List Attempt) (decided : List Number) (t : Number) (a : Attempt) → OrderedNumbers opening h decided t → Contains h a → IsAlone h a
 alone opening h decided t a o m = λ b n e. one_of_a_number (content_at opening some_key).number h (o.rising some_key) b a n m e
 
 -- ---- a new attempt, which is not decided
 
+-- an attempt that only took its number changes no content
 pub content_after-drawn : (opening : List Place) (h : List Attempt) (decided : List Number) (t : Number) (a : Attempt) (passes : Number → Bool) (k : Key)
     → OrderedNumbers opening h decided t → a.number ≡ t → content_after opening (h ++ a ∷ []) decided passes k ≡ content_after opening h decided passes k
 content_after-drawn opening h decided t a passes k o e =
@@ -38,6 +41,7 @@ content_after-drawn opening h decided t a passes k o e =
 
 -- ---- a decision, at a key that the decided attempt does not write, or where its number does not pass
 
+-- a decision changes no content of a key that its attempt does not write, or where it does not count
 pub content_after-decided : (opening : List Place) (h : List Attempt) (decided : List Number) (m : Number) (passes : Number → Bool) (k : Key)
     → ((b : Attempt) → Contains h b → b.number ≡ m → writes_key b.writes k ≡ true → passes m ≡ true → ⊥)
     → content_after opening h (decided ++ m ∷ []) passes k ≡ content_after opening h decided passes k
@@ -54,13 +58,16 @@ content_after-decided opening h decided m passes k none =
 
 -- ---- versions
 
+-- a version stays one where an attempt takes its number
 pub version_drawn : (opening : List Place) (h : List Attempt) (a : Attempt) (k : Key) (c : Content) → IsVersion opening h k c → IsVersion opening (h ++ a ∷ []) k c
 version_drawn opening h a k c (inl first) = inl first
 version_drawn opening h a k c (inr w) = inr (w.0, in_push_old w.0 a h w.1, w.2, w.3)
 
+-- the last decided write of a key is a version of it
 pub last_version : (opening : List Place) (h : List Attempt) (decided : List Number) (k : Key) → IsVersion opening h k (last_write opening h decided k)
 last_version opening h decided k = after_all-version (λ a. is_decided decided a.number && true) k h (content_at opening k)
 
+-- each version of a key is older than the clock
 pub version_past : (opening : List Place) (h : List Attempt) (decided : List Number) (t : Number) (k : Key) (c : Content)
     → OrderedNumbers opening h decided t → IsVersion opening h k c → IsBelow c.number t
 version_past opening h decided t k c o (inl first) = subst (λ (d : Content). IsBelow d.number t) (sym first) (o.opening_past k)

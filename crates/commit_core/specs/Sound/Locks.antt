@@ -39,6 +39,7 @@ pub record IsDecided
   pub written : (k : Key) → has_key put k ≡ true → writes_key a.writes k ≡ true
   pub holds : (k : Key) → writes_key a.writes k ≡ true → has_key put k ≡ false → is_held_by p (place_at places k) ≡ true
 
+-- a seat's attempt stands in the history as its stage says, with the locks that it needs
 abbrev pub AttemptStands : List Attempt → List Number → List Place → List Key → ℕ → Stage → Type 0
 AttemptStands history decided places put p Idle = ⊤
 AttemptStands history decided places put p (Trying i) = (a : Attempt) × IsTried history decided places p i a

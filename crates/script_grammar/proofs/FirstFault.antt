@@ -1,22 +1,19 @@
 -- Where the reader stops is the first faulty line.
-use Rattle.std.proofs.Common.{◌≡◌, inl, inr, ℕ, ◌+◌, Bool, true, false, cond, eqb, ltb, List, [], ◌∷◌, ◌++◌, length, Option, Some, None, Result, Err, refl, sym, ap, subst, ◌∙◌, arith, add-zero}
-use Rattle.std.specs.Prelude.{◌==◌, codes}
+use Rattle.std.proofs.Common.{◌≡◌, ℕ, ◌+◌, Bool, true, false, cond, eqb, ltb, List, [], ◌∷◌, ◌++◌, length, Option, Some, None, Result, Ok, Err, refl, sym, ap, subst, ◌∙◌, arith}
+use Rattle.std.specs.Prelude.{codes}
 use Rattle.std.specs.Cmp.Lexicographic.{same_text}
-use Rattle.std.specs.List.{slice_split}
-use Rattle.std.proofs.lemmas.Bool.{ltb-false, lt-ltb, le-ltb, ne_eqb}
+use Rattle.std.proofs.lemmas.Bool.{ltb-false, ne_eqb}
 use Rattle.lists.specs.declared.memory.OrMemory.{OrMemory}
 use Rattle.lists.specs.declared.memory.OrMemory.TheVariants as errors
 use Rattle.script_grammar.specs.declared.fault.ScriptFault.{ScriptFault}
 use Rattle.script_grammar.specs.declared.fault.FaultKind.{FaultKind}
 use Rattle.script_grammar.specs.Script.{Bytes, Script, IsTextOf}
 use Rattle.script_grammar.specs.Words.{is_join}
-use Rattle.script_grammar.specs.Reading.{Parts, no_parts, decl_at, line_at, may_declare, may_follow, with_decl, with_line, with_join, with_some_line, begins_declaration, step, steps, parts_of, Gives}
-use Rattle.script_grammar.specs.Faults.{Place, place_after, place_past, first_place, kind_of, first_fault, fault_of, IsFirstFault}
-use Rattle.script_grammar.specs.Telling.{StopsAt, Stops, ReadsSourceOrStops}
+use Rattle.script_grammar.specs.Reading.{Parts, no_parts, decl_at, line_at, may_declare, may_follow, with_decl, with_line, with_join, with_some_line, begins_declaration, step, steps, parts_of, FindsOrTells, Gives}
+use Rattle.script_grammar.specs.Faults.{Place, place_after, place_past, first_place, kind_of, fault_or, first_fault, fault_of, IsFirstFault}
 use Rattle.script_grammar.proofs.Found.{bind_some, test_some, not_test_some, some_same}
 use Rattle.script_grammar.proofs.LineTexts.{decl_takes, line_takes}
 use Rattle.script_grammar.proofs.StepTexts.{IsShort}
-use Rattle.script_grammar.proofs.Steps.{steps_None}
 use Rattle.script_grammar.proofs.Texts.{not_refused}
 use Rattle.script_grammar.proofs.LineTests.{Passes, passes_line, passes_decl, passes_join, passes_empty}
 
@@ -72,55 +69,75 @@ unfolding first_fault
 later_fault number place next line lines e f = rw (e, f) refl
 
 -- a line with a kind of fault is the first
-here_fault : (number : ℕ) (place : Place) (line : Bytes) (lines : List Bytes) (told : FaultKind) → kind_of place line ≡ Some told → first_fault number place (line ∷ lines) ≡ Some (record { line = number; kind = told })
-unfolding first_fault
-here_fault number place line lines told e = rw e refl
+here_fault : (kind : Option FaultKind) (number : ℕ) (later : Option ScriptFault) (fault : ScriptFault) → fault_or kind number None ≡ Some fault → fault_or kind number later ≡ Some fault
+here_fault (Some told) number later fault e = e
+here_fault None number later fault e = absurd cc
 
--- behind lines that are read the fault is a later one's
-behind_read : (number : ℕ) (p q : Parts) (before rest : List Bytes) → steps p before ≡ Some q → first_fault number (place_after p) (before ++ rest) ≡ first_fault (number + length before) (place_after q) rest
+-- the lines so far were read, and what comes of all comes of the others, of which the first has this number
+pub record AreReadSoFar (lines rest : List Bytes) (number : ℕ) (p : Parts) : Type 0 where
+  pub parts : steps no_parts lines ≡ steps p rest
+  pub fault : first_fault 1 first_place lines ≡ first_fault number (place_after p) rest
+
+-- at the start
+pub no_line_yet : (lines : List Bytes) → AreReadSoFar lines lines 1 no_parts
+no_line_yet lines = record { parts = refl; fault = refl }
+
+-- a line that is read leaves the others
+step_steps : (p q : Parts) (line : Bytes) (more : List Bytes) → step p line ≡ Some q → steps p (line ∷ more) ≡ steps q more
 unfolding steps
-behind_read number p q [] rest e =
-    let same : p ≡ q = some_same p q e in
-    ap (λ (r : Parts). first_fault number (place_after r) rest) same ∙ ap (λ (n : ℕ). first_fault n (place_after q) rest) (sym (add-zero number))
-behind_read number p q (line ∷ before) rest e =
-    let a = bind_some (step p line) (λ r. steps r before) q e in
-    let one = step_passes p a.0 line a.1 in
-    let count : (number + 1) + length before ≡ number + length (line ∷ before) = omega arith in
-    later_fault number (place_after p) (place_after a.0) line (before ++ rest) one.kind one.past ∙ behind_read (number + 1) a.0 q before rest a.2
-    ∙ ap (λ (n : ℕ). first_fault n (place_after q) rest) count
+step_steps p q line more e = rw e refl
 
--- where the reader stops is the first fault
-stop_first : (lines : List Bytes) (fault : ScriptFault) → StopsAt lines fault → first_fault 1 first_place lines ≡ Some fault
-stop_first lines fault at =
-    let number : 1 + length at.before ≡ fault.line = let n = at.number in omega arith in
-    ap (first_fault 1 first_place) at.lines_are ∙ behind_read 1 no_parts at.parts at.before (at.line ∷ at.after) at.read
-    ∙ here_fault (1 + length at.before) (place_after at.parts) at.line at.after fault.kind at.kind
-    ∙ ap (λ (n : ℕ). Some (let f : ScriptFault = record { line = n; kind = fault.kind } in f)) number
+-- a line that is refused refuses all
+step_none : (p : Parts) (line : Bytes) (more : List Bytes) → step p line ≡ None → steps p (line ∷ more) ≡ None
+unfolding steps
+step_none p line more e = rw e refl
 
-stops_first : (bytes : Bytes) (fault : ScriptFault) → Stops bytes fault → IsFirstFault bytes fault
-unfolding fault_of
-stops_first bytes fault (inl long) = rw (lt-ltb 67108864 (length bytes) long.0) (ap Some (sym long.1))
-stops_first bytes fault (inr at) = rw (le-ltb 67108864 (length bytes) at.0) (stop_first (slice_split (λ b. b == 10) bytes) fault at.1)
+-- after no line there is what was read
+steps_end : (p q : Parts) (line : Bytes) → step p line ≡ Some q → steps p (line ∷ []) ≡ Some q
+unfolding steps
+steps_end p q line e = rw e refl
 
--- where the reader stops there is no script
-stops_None : (bytes : Bytes) (fault : ScriptFault) → Stops bytes fault → parts_of bytes ≡ None
-unfolding parts_of
-stops_None bytes fault (inl long) = rw (lt-ltb 67108864 (length bytes) long.0) refl
-stops_None bytes fault (inr at) =
-    let stop = at.1 in
-    rw (le-ltb 67108864 (length bytes) at.0)
-    (ap (steps no_parts) stop.lines_are ∙ steps_None no_parts stop.parts stop.before stop.line stop.after stop.read stop.refused)
+-- one line more
+pub line_read : (lines rest : List Bytes) (number : ℕ) (p q : Parts) (line : Bytes) (more : List Bytes) → rest ≡ line ∷ more → step p line ≡ Some q → AreReadSoFar lines rest number p
+    → AreReadSoFar lines more (number + 1) q
+line_read lines rest number p q line more cut e so_far =
+    let passes = step_passes p q line e in
+    record {
+      parts = so_far.parts ∙ ap (steps p) cut ∙ step_steps p q line more e;
+      fault = so_far.fault ∙ ap (first_fault number (place_after p)) cut ∙ later_fault number (place_after p) (place_after q) line more passes.kind passes.past;
+    }
+
+-- the reader stops at this line
+pub stops : (X : Type 0) (answer : OrMemory ScriptFault) (lines rest : List Bytes) (number : ℕ) (p q r : Parts) (line : Bytes) (more : List Bytes) → rest ≡ line ∷ more
+    → FindsOrTells {X = X} (Err answer) (step p line) (fault_or (kind_of (place_after p) line) number None) q → AreReadSoFar lines rest number p
+    → FindsOrTells {X = X} (Err answer) (steps no_parts lines) (first_fault 1 first_place lines) r
+unfolding first_fault
+stops X errors.Memory lines rest number p q r line more cut told so_far = tt
+stops X (errors.Fault fault) lines rest number p q r line more cut told so_far = (
+  so_far.parts ∙ ap (steps p) cut ∙ step_none p line more told.0,
+  so_far.fault ∙ ap (first_fault number (place_after p)) cut
+      ∙ here_fault (kind_of (place_after p) line) number (first_fault (number + 1) (place_past (place_after p) line) more) fault told.1,
+)
+
+-- the last line decides
+pub last_line : {X : Type 0} (result : Result X (OrMemory ScriptFault)) (lines rest : List Bytes) (number : ℕ) (p q : Parts) (line : Bytes) → rest ≡ line ∷ []
+    → FindsOrTells result (step p line) (fault_or (kind_of (place_after p) line) number None) q → AreReadSoFar lines rest number p
+    → FindsOrTells result (steps no_parts lines) (first_fault 1 first_place lines) q
+last_line {X} (Ok x) lines rest number p q line cut read so_far = so_far.parts ∙ ap (steps p) cut ∙ steps_end p q line read
+last_line {X} (Err answer) lines rest number p q line cut told so_far = stops X answer lines rest number p q q line [] cut told so_far
 
 -- ---- what the reader answers
 
 -- the fault that is answered is the first
-pub told_first : (X Y : Type 0) (bytes : Bytes) (answer : OrMemory ScriptFault) (q : Parts) (fault : ScriptFault) → ReadsSourceOrStops {X = X} (Err answer) bytes q → ◌≡◌ {A = Result Y (OrMemory ScriptFault)} (Err answer) (Err (errors.Fault fault)) → IsFirstFault bytes fault
+pub told_first : (X Y : Type 0) (bytes : Bytes) (answer : OrMemory ScriptFault) (q : Parts) (fault : ScriptFault) → FindsOrTells {X = X} (Err answer) (parts_of bytes) (fault_of bytes) q
+    → ◌≡◌ {A = Result Y (OrMemory ScriptFault)} (Err answer) (Err (errors.Fault fault)) → IsFirstFault bytes fault
 told_first X Y bytes errors.Memory q fault told e = absurd cc
 told_first X Y bytes (errors.Fault f) q fault told e =
     let same : f ≡ fault = cc in
-    subst (IsFirstFault bytes) same (stops_first bytes f told)
+    told.1 ∙ ap Some same
 
 -- no script has the text of a source with a fault
-pub gives_none : (X : Type 0) (bytes : Bytes) (answer : OrMemory ScriptFault) (q : Parts) (script : Script) → ReadsSourceOrStops {X = X} (Err answer) bytes q → IsTextOf bytes script → Gives script (Err answer)
+pub gives_none : (X : Type 0) (bytes : Bytes) (answer : OrMemory ScriptFault) (q : Parts) (script : Script) → FindsOrTells {X = X} (Err answer) (parts_of bytes) (fault_of bytes) q → IsTextOf bytes script
+    → Gives script (Err answer)
 gives_none X bytes errors.Memory q script told is = tt
-gives_none X bytes (errors.Fault f) q script told is = not_refused bytes script (stops_None bytes f told) is
+gives_none X bytes (errors.Fault f) q script told is = not_refused bytes script told.0 is

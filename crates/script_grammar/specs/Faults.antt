@@ -43,7 +43,9 @@ is_undeclared decls storage = nat_le 256 storage || not (list_any (λ d. id_of d
 
 -- the declared storages have no such key
 abbrev pub lacks_key : List Decl → List Bytes → Bool
-lacks_key decls ws = passes (λ storage. passes (λ key. not (has_key decls (record { storage = storage; key = key }))) (number_in ws 2)) (number_in ws 1)
+lacks_key decls ws =
+    passes (λ storage. passes (λ key. not (has_key decls (record { storage = storage; key = key }))) (number_in ws 2))
+    (number_in ws 1)
 
 -- the operation is at fault in this way
 unfoldable pub op_is : FaultKind → List Decl → Bytes → Bool
@@ -91,7 +93,8 @@ is_too_many place line =
 unfoldable pub is_misdeclared : Place → Bytes → Bool
 is_misdeclared place line =
     if is_worker_line line then some_op_is Declared place.decls line
-    else (is_decl_shape line && (place.begun || passes (λ id. list_any (λ d. id_of d == id) place.decls) (number_in (words line) 1)))
+    else (is_decl_shape line
+    && (place.begun || passes (λ id. list_any (λ d. id_of d == id) place.decls) (number_in (words line) 1)))
 
 -- no storage has the operation of another kind: all that can be declared are arrays, and all operations are theirs
 abbrev pub is_of_other_kind : Place → Bytes → Bool
@@ -101,7 +104,8 @@ is_of_other_kind place line = false
 unfoldable pub is_out_of_range : Place → Bytes → Bool
 is_out_of_range place line =
     if is_worker_line line then passes (nat_le 8) (number_of (worker_word line)) || some_op_is Range place.decls line
-    else (is_decl_shape line && (passes (nat_le 256) (number_in (words line) 1) || passes (λ size. (size == 0) || nat_lt 131072 size) (number_in (words line) 2)))
+    else (is_decl_shape line && (passes (nat_le 256) (number_in (words line) 1)
+    || passes (λ size. (size == 0) || nat_lt 131072 size) (number_in (words line) 2)))
 
 -- ---- the fault of a line
 
@@ -157,7 +161,8 @@ fault_or None number later = later
 -- the first line for which a test holds, with the first such kind, of lines that are counted from this number on
 unfoldable pub first_fault : ℕ → Place → List Bytes → Option ScriptFault
 first_fault number place [] = None
-first_fault number place (line ∷ lines) = fault_or (kind_of place line) number (first_fault (number + 1) (place_past place line) lines)
+first_fault number place (line ∷ lines) =
+    fault_or (kind_of place line) number (first_fault (number + 1) (place_past place line) lines)
 
 -- the first faulty line of a source, with its first kind; line 0 stands for a source of more than 64 MiB
 unfoldable pub fault_of : Bytes → Option ScriptFault

@@ -1,5 +1,5 @@
--- How the lines of a script lie in memory: one list of operations, spans of it for the lines, and spans of the lines for
--- the rounds.
+-- How the lines of a script lie in memory: one list of operations, spans of it for the lines, and stretches of the
+-- lines for the rounds.
 use Rattle.std.specs.Prelude.{◌+◌, ◌-◌, ◌≤◌, List, map, take, drop, length}
 use Rattle.std.specs.List.{AllByRecursion}
 use Rattle.serial_model.specs.declared.op.Op.{Op}
@@ -39,9 +39,13 @@ round_in lines stretch = record { lines = take (stretch.end - stretch.start) (dr
 abbrev pub rounds_in : List Line → List Stretch → List Round
 rounds_in lines stretches = map (round_in lines) stretches
 
--- each stretch lies within the lines
+-- the stretch lies within the lines
+abbrev pub IsRoundWithin : List Line → Stretch → Type 0
+IsRoundWithin lines stretch = (stretch.start ≤ stretch.end) × (stretch.end ≤ length lines)
+
+-- the same of all stretches
 abbrev pub AreRoundsWithin : List Line → List Stretch → Type 0
-AreRoundsWithin lines stretches = AllByRecursion (λ stretch. (stretch.start ≤ stretch.end) × (stretch.end ≤ length lines)) stretches
+AreRoundsWithin lines stretches = AllByRecursion (IsRoundWithin lines) stretches
 
 -- the rounds that a join ended, and the lines after them
 pub record RoundsSoFar : Type 0 where

@@ -83,7 +83,8 @@ array_in id size = if nat_lt id 256 && (nat_lt 0 size && nat_le size 131072) the
 
 -- a declaration's three words
 abbrev pub decl_in : List Bytes → Option Decl
-decl_in (word ∷ id ∷ size ∷ []) = if is_word (codes "array") word then (number_of id >>= (λ i. number_of size >>= array_in i)) else None
+decl_in (word ∷ id ∷ size ∷ []) =
+    if is_word (codes "array") word then (number_of id >>= (λ i. number_of size >>= array_in i)) else None
 decl_in _ = None
 
 -- a declaration
@@ -174,6 +175,12 @@ abbrev pub Reads : {X Y : Type 0} → Result X (OrMemory Refused) → Y → Opti
 Reads (Ok x) y found = found ≡ Some y
 Reads (Err errors.Memory) y found = ⊤
 Reads (Err (errors.Fault refused)) y found = found ≡ None
+
+-- where memory suffices, what was found is q, or there is nothing, and this is the fault that is told
+abbrev pub FindsOrTells : {X : Type 0} → Result X (OrMemory ScriptFault) → Option Parts → Option ScriptFault → Parts → Type 0
+FindsOrTells (Ok x) found told q = found ≡ Some q
+FindsOrTells (Err errors.Memory) found told q = ⊤
+FindsOrTells (Err (errors.Fault fault)) found told q = (found ≡ None) × (told ≡ Some fault)
 
 -- the script, unless memory ran out
 abbrev pub Gives : Script → Result Script (OrMemory ScriptFault) → Type 0

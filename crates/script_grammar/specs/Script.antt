@@ -136,11 +136,11 @@ pub record IsOp (decls : List Decl) (op : Op) : Type 0 where
   pub value : HasValue op
 
 -- 1 to 16 operations of a worker from 0 to 7
-pub record IsTransaction (decls : List Decl) (w : ℕ) (os : List Op) : Type 0 where
-  pub worker : w < 8
-  pub some_op : 0 < length os
-  pub few_ops : length os ≤ 16
-  pub ops : AllByRecursion (IsOp decls) os
+pub record IsTransaction (decls : List Decl) (number : ℕ) (list : List Op) : Type 0 where
+  pub worker : number < 8
+  pub some_op : 0 < length list
+  pub few_ops : length list ≤ 16
+  pub ops : AllByRecursion (IsOp decls) list
 
 -- a line by the rules; those of the maintenance thread aren't read for now
 abbrev pub IsLine : List Decl → Line → Type 0

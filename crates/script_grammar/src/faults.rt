@@ -95,7 +95,8 @@ fn is_too_many(place: &Place, line: &[u8]) -> bool
 
 /// The declaration's id is declared before.
 fn is_declared_again(decls: &[Decl], line: &[u8]) -> bool
-    ensures { result ≡ passes (λ id. list_any (λ d. id_of d == id) decls.now) (number_in (words line.now) 1) }
+    ensures { result
+        ≡ passes (λ id. list_any (λ d. id_of d == id) decls.now) (number_in (words line.now) 1) }
 {
     match number_in(line, 1) {
         Some(id) => declares(decls, id),
@@ -133,7 +134,8 @@ fn is_no_id(line: &[u8]) -> bool
 }
 
 fn is_no_size(line: &[u8]) -> bool
-    ensures { result ≡ passes (λ size. (size == 0) || nat_lt 131072 size) (number_in (words line.now) 2) }
+    ensures { result
+        ≡ passes (λ size. (size == 0) || nat_lt 131072 size) (number_in (words line.now) 2) }
 {
     match number_in(line, 2) {
         Some(size) => size == 0 || size > LARGEST_ARRAY,

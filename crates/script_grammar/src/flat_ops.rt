@@ -1,6 +1,6 @@
 // Operations in memory: 20 bytes for each, where an `Op` takes 32, and room for those of a line as they are.
 ghost use Rattle.std.specs.Prelude.{◌≡◌, ℕ, ◌+◌, ◌<◌, ◌≤◌, [], ◌∷◌, ◌++◌, length, take, drop, OnOk, OnErr};
-ghost use Rattle.script_grammar.specs.FlatOps.{wide, op_of};
+ghost use Rattle.script_grammar.specs.FlatOps.{wide, op_of, op_of_kind};
 
 use lists::{Memory, Sequence};
 use serial_model::{Key, Op};
@@ -67,8 +67,9 @@ impl FlatOp {
         }
     }
 
+    /// The operation of a kind, with a key, and with a value or the highest key.
     fn of(kind: OpKind, key: Key, value: u64) -> Self
-        ensures { (result.kind ≡ kind) × (result.storage ≡ key.storage) × (wide result.key ≡ key.key) × (wide result.value ≡ value) }
+        ensures { op_of result ≡ op_of_kind kind key value }
     {
         FlatOp {
             key: Halves::new(key.key),

@@ -1,9 +1,11 @@
 //! Which bytes are a script, and the first fault of those that are none.
 //!
-//! Promises: `read_script` answers the script of exactly the bytes that are a text of one (`text`, `only`), and otherwise
+//! Promises: `read_script` answers the script of exactly the bytes that are a text of one (`text`, `only`), and else
 //! exactly the first faulty line with its first kind of fault (`fault`).
-//! Terms: *round*, the lines up to a join.
-//! Grammar: `specs/Script.antt`, by the spelling of a script; `specs/Faults.antt`, by the tests of a line, in order.
+//! Invariant: what lies flat in memory is the lines and rounds of the script (`specs/Lines.antt`, `specs/FlatOps.antt`).
+//! Terms: *round*, the lines up to a join; *part*, what stands between semicolons in a worker's line.
+//! Grammar: `specs/Script.antt`, by the spelling of a script; `specs/Faults.antt`, by the tests of a line, in order; both
+//! the reader and the tests find words, parts and numbers by `specs/Words.antt`.
 #![tactic(auto)]
 
 mod cut;

@@ -3,9 +3,8 @@ ghost use Rattle.std.specs.Prelude.{◌≡◌, ◌==◌, ◌≤◌, length, IfOk
 ghost use Rattle.std.specs.List.{slice_split};
 ghost use Rattle.lists.specs.declared.memory.OrMemory.{OrMemory};
 ghost use Rattle.script_grammar.specs.Script.{IsTextOf, Script as Meaning};
-ghost use Rattle.script_grammar.specs.Reading.{no_parts, Gives};
-ghost use Rattle.script_grammar.specs.Faults.{IsFirstFault};
-ghost use Rattle.script_grammar.specs.Telling.{ReadsOrTellsAt, ReadsAllOrStops, ReadsSourceOrStops};
+ghost use Rattle.script_grammar.specs.Reading.{FindsOrTells, Gives, no_parts, parts_of, steps};
+ghost use Rattle.script_grammar.specs.Faults.{IsFirstFault, fault_of, first_fault, first_place};
 
 use crate::cut::cut;
 use crate::fault::{FaultKind, ScriptFault};
@@ -17,37 +16,28 @@ use std::alloc::Global;
 /// In bytes.
 const LONGEST_SOURCE: usize = 67_108_864;
 
-/// One line more, or its fault with its number.
-fn read_line(reader: &mut Reader, number: u32, line: &[u8]) -> Result<(), OrMemory<ScriptFault>>
-    ensures { ReadsOrTellsAt result number reader.old line.now reader.new }
-{
-    match reader.step(line) {
-        Ok(()) => Ok(()),
-        Err(OrMemory::Memory) => Err(OrMemory::Memory),
-        Err(OrMemory::Fault(kind)) => Err(OrMemory::Fault(ScriptFault { line: number, kind })),
-    }
-}
-
 /// Reads the lines one after another.
 fn read_lines(reader: &mut Reader, bytes: &[u8]) -> Result<(), OrMemory<ScriptFault>>
     requires fresh { reader.old ≡ no_parts }
     requires size { length bytes.now ≤ 67108864 }
-    ensures { ReadsAllOrStops result (slice_split (λ b. b == 10) bytes.now) reader.new }
+    ensures { FindsOrTells result (steps no_parts (slice_split (λ b. b == 10) bytes.now))
+        (first_fault 1 first_place (slice_split (λ b. b == 10) bytes.now)) reader.new }
 {
     let mut rest = bytes;
     let mut number: u32 = 1;
     while let Some((line, after)) = cut(b'\n', rest) {
-        read_line(reader, number, line)?;
+        reader.step(number, line)?;
         rest = after;
         number += 1;
     }
-    read_line(reader, number, rest)
+    reader.step(number, rest)
 }
 
-#[tactic(auto, unfolding(crate::specs::Reading::parts_of))]
+/// Reads a source of at most 64 MiB.
+#[tactic(auto, unfolding(crate::specs::Reading::parts_of, crate::specs::Faults::fault_of))]
 fn read_all(reader: &mut Reader, bytes: &[u8]) -> Result<(), OrMemory<ScriptFault>>
     requires { reader.old ≡ no_parts }
-    ensures { ReadsSourceOrStops result bytes.now reader.new }
+    ensures { FindsOrTells result (parts_of bytes.now) (fault_of bytes.now) reader.new }
 {
     if bytes.len() > LONGEST_SOURCE {
         return Err(OrMemory::Fault(ScriptFault {
@@ -65,7 +55,8 @@ fn read_all(reader: &mut Reader, bytes: &[u8]) -> Result<(), OrMemory<ScriptFaul
 pub fn read_script(alloc: Global, bytes: &[u8]) -> Result<Script, OrMemory<ScriptFault>>
     ensures text { IfOk result (λ script. IsTextOf bytes.now script) }
     ensures only { (script : Meaning) → IsTextOf bytes.now script → Gives script result }
-    ensures fault { (fault : ScriptFault) → result ≡ Err (OrMemory.Fault fault) → IsFirstFault bytes.now fault }
+    ensures fault { (fault : ScriptFault) → result ≡ Err (OrMemory.Fault fault)
+        → IsFirstFault bytes.now fault }
 {
     let mut reader = Reader::new(alloc);
     match read_all(&mut reader, bytes) {

@@ -30,7 +30,8 @@ fn worker_in(word: &[u8]) -> Option<u8>
 /// A worker's line: the worker, and in the room the operations.
 #[tactic(auto, unfolding(crate::specs::Reading::line_at))]
 pub(crate) fn read_worker(line: &[u8], ops: &mut LineOps) -> Option<u8>
-    ensures { MatchOption result (line_at line.now ≡ None) (λ worker. line_at line.now ≡ Some (Worker worker ops.new)) }
+    ensures { MatchOption result (line_at line.now ≡ None)
+        (λ worker. line_at line.now ≡ Some (Worker worker ops.new)) }
 {
     let (word, rest) = cut_worker(line);
     let worker = worker_in(word)?;

@@ -3,7 +3,7 @@ ghost use Rattle.std.specs.Prelude.{◌≡◌, ◌==◌, IfOk, OnErr, Some, None
 ghost use Rattle.std.specs.List.{list_any, list_all};
 ghost use Rattle.serial_model.specs.Keys.{id_of, fits};
 
-use crate::fault::{FaultKind, Refused};
+use crate::fault::{FaultKind, Refused, ScriptFault};
 use crate::faults::{Place, kind_of};
 use crate::flat_ops::LineOps;
 use crate::read_line::{decl_at, is_join, read_worker};
@@ -59,9 +59,8 @@ fn all_fit(decls: &[Decl], ops: &[Op]) -> bool
 
 impl Reader {
     ghost use Rattle.std.specs.Prelude.{[], ◌∷◌};
-    ghost use Rattle.script_grammar.specs.Reading.{no_parts, is_fresh, may_declare, may_run, with_decl, with_line, with_join, with_some_line, step, script_from, Reads};
-    ghost use Rattle.script_grammar.specs.Faults.{place_after, kind_of};
-    ghost use Rattle.script_grammar.specs.Telling.{ReadsOrTells};
+    ghost use Rattle.script_grammar.specs.Reading.{no_parts, is_fresh, may_declare, may_run, with_decl, with_line, with_join, with_some_line, step, script_from, Reads, FindsOrTells};
+    ghost use Rattle.script_grammar.specs.Faults.{place_after, kind_of, fault_or};
 
     pub(crate) fn new(alloc: Global) -> Self
         ensures { result ≡ no_parts }
@@ -182,14 +181,18 @@ impl Reader {
         }
     }
 
-    /// One line more, or its first kind of fault.
-    pub(crate) fn step(&mut self, line: &[u8]) -> Result<(), OrMemory<FaultKind>>
-        ensures { ReadsOrTells result self.old line.now self.new }
+    /// One line more, or its first kind of fault, under this number.
+    pub(crate) fn step(&mut self, number: u32, line: &[u8]) -> Result<(), OrMemory<ScriptFault>>
+        ensures { FindsOrTells result (step self.old line.now) (fault_or (kind_of (place_after self.old) line.now) number None)
+            self.new }
     {
         match self.take(line) {
             Ok(()) => Ok(()),
             Err(OrMemory::Memory) => Err(OrMemory::Memory),
-            Err(OrMemory::Fault(Refused)) => Err(OrMemory::Fault(self.kind_of(line))),
+            Err(OrMemory::Fault(Refused)) => {
+                let kind = self.kind_of(line);
+                Err(OrMemory::Fault(ScriptFault { line: number, kind }))
+            }
         }
     }
 

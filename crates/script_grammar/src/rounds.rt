@@ -1,4 +1,4 @@
-// Rounds in memory: the lines of all of them, and a stretch of these for each, so that a round takes no list of its own.
+// Rounds in memory: all their lines, and a stretch of these for each, so that a round takes no list of its own.
 ghost use Rattle.std.specs.Prelude.{◌≡◌, ◌<◌, ◌≤◌, [], ◌∷◌, ◌++◌, length, slice_get, option_map, Some, OnOk, OnErr};
 ghost use Rattle.script_grammar.specs.Script.{Worker, last_round, worker_of};
 ghost use Rattle.script_grammar.specs.Lines.{line_lent};
@@ -83,7 +83,8 @@ impl Rounds {
     /// One line more. After want of memory all is as it was.
     pub(crate) fn push(&mut self, worker: u8, ops: &[Op]) -> Result<(), Memory>
         requires { length ops.now ≤ 16 }
-        ensures ok { OnOk result (self.new ≡ record self.old { rest = self.old.rest ++ Worker worker ops.now ∷ [] }) }
+        ensures ok { OnOk result (self.new
+            ≡ record self.old { rest = self.old.rest ++ Worker worker ops.now ∷ [] }) }
         ensures memory { OnErr result (self.new ≡ self.old) }
     {
         self.lines.push(worker, ops)
@@ -91,7 +92,8 @@ impl Rounds {
 
     /// A join ends the round. After want of memory all is as it was; more than 2^32 lines are one.
     pub(crate) fn join(&mut self) -> Result<(), Memory>
-        ensures ok { OnOk result (self.new ≡ record { joined = self.old.joined ++ record { lines = self.old.rest } ∷ []; rest = [] }) }
+        ensures ok { OnOk result (self.new
+            ≡ record { joined = self.old.joined ++ record { lines = self.old.rest } ∷ []; rest = [] }) }
         ensures memory { OnErr result (self.new ≡ self.old) }
     {
         let Ok(end) = u32::try_from(self.lines.len()) else {
@@ -108,7 +110,8 @@ impl Rounds {
 
     /// The end of the script ends a round, unless a join just did.
     pub(crate) fn finish(&mut self) -> Result<(), Memory>
-        ensures { OnOk result (self.new.joined ≡ self.old.joined ++ last_round self.old.joined self.old.rest) }
+        ensures { OnOk result (self.new.joined
+            ≡ self.old.joined ++ last_round self.old.joined self.old.rest) }
     {
         if self.rest_len() == 0 && self.len() > 0 {
             return Ok(());

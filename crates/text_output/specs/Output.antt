@@ -9,8 +9,8 @@ use base.Fml.{GName}
 abbrev pub Bytes : Type 0
 Bytes = List ℕ
 
--- What a printer stands for: how often its sink has failed, the bytes that the sink holds, where it knows them, the bytes
--- that wait, and which loan of a sink it is, so that who lent it knows that these are the faults and the bytes of their own.
+-- What a printer stands for: how often its sink has failed, the bytes that the sink holds, where it knows them, and the
+-- bytes that wait. The loan tells which sink it is, so that who lent it knows these for its own faults and bytes.
 pub record Output : Type 0 where
   pub faults : ℕ
   pub held : Option Bytes

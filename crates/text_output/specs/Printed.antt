@@ -7,18 +7,21 @@ use Rattle.std.specs.Prelude.{OnOk, OnErr, IsErrAnd}
 use Rattle.std.proofs.lemmas.List.{append-nil}
 use Rattle.text_output.specs.Output.{Bytes, Output, Adds, Breaks, Prints}
 
+-- known bytes grow by one text and then another
 appends_then : (a b c : Option Bytes) (x y : Bytes) → Appends a b x → Appends b c y → Appends a c (x ++ y)
 appends_then None b c x y first then = tt
 appends_then (Some xs) None c x y first then = absurd first
 appends_then (Some xs) (Some ys) None x y first then = absurd then
 appends_then (Some xs) (Some ys) (Some zs) x y first then = then ∙ ap (λ w. w ++ y) first ∙ append_assoc xs x y
 
+-- they are as they were where nothing is added
 appends_none : (a : Option Bytes) → Appends a a []
 appends_none None = tt
 appends_none (Some xs) = sym (append-nil xs)
 
 -- a text, and then another
-pub adds_then : {old mid new : Output} {first then : Bytes} → Adds old mid first → Adds mid new then → Adds old new (first ++ then)
+pub adds_then : {old mid new : Output} {first then : Bytes} → Adds old mid first → Adds mid new then
+    → Adds old new (first ++ then)
 adds_then {old = old} {mid = mid} {new = new} {first = first} {then = then} one two = record {
   same = two.same ∙ one.same;
   faults = two.faults ∙ one.faults;
@@ -29,7 +32,8 @@ adds_then {old = old} {mid = mid} {new = new} {first = first} {then = then} one 
 }
 
 -- a text, and then a fault within another
-pub breaks_then : {old mid new : Output} {first then : Bytes} → Adds old mid first → Breaks mid new then → Breaks old new (first ++ then)
+pub breaks_then : {old mid new : Output} {first then : Bytes} → Adds old mid first → Breaks mid new then
+    → Breaks old new (first ++ then)
 breaks_then {old = old} {mid = mid} {new = new} {first = first} {then = then} one two =
     let p = two.prefix in
     record {
@@ -46,7 +50,8 @@ breaks_then {old = old} {mid = mid} {new = new} {first = first} {then = then} on
     }
 
 -- a fault within a text is one within what begins with it
-pub breaks_within : {old new : Output} {first : Bytes} (then : Bytes) → Breaks old new first → Breaks old new (first ++ then)
+pub breaks_within : {old new : Output} {first : Bytes} (then : Bytes) → Breaks old new first
+    → Breaks old new (first ++ then)
 breaks_within {old = old} {first = first} then one =
     let p = one.prefix in
     record {
@@ -57,13 +62,15 @@ breaks_within {old = old} {first = first} then one =
     }
 
 -- a call that prints, after a text
-pub prints_then : {T E : Type 0} {old mid : Output} {first : Bytes} (new : Output) (then : Bytes) (r : Result T E) → Adds old mid first → Prints mid new then r → Prints old new (first ++ then) r
+pub prints_then : {T E : Type 0} {old mid : Output} {first : Bytes} (new : Output) (then : Bytes) (r : Result T E)
+    → Adds old mid first → Prints mid new then r → Prints old new (first ++ then) r
 prints_then new then (Ok x) one two = adds_then one two
 prints_then new then (Err e) one two = breaks_then one two
 
 -- a write while nothing waits
-pub prints_past : {T E : Type 0} (old new : Output) (text : Bytes) (r : Result T E) → new.sink ≡ old.sink → old.waiting ≡ [] → new.waiting ≡ []
-    → OnOk r (Appends old.held new.held text) → OnErr r (TakesPrefix old.held new.held text) → HasCause old.faults new.faults r → Prints old new text r
+pub prints_past : {T E : Type 0} (old new : Output) (text : Bytes) (r : Result T E) → new.sink ≡ old.sink → old.waiting ≡ []
+    → new.waiting ≡ [] → OnOk r (Appends old.held new.held text) → OnErr r (TakesPrefix old.held new.held text)
+    → HasCause old.faults new.faults r → Prints old new text r
 prints_past old new text (Ok x) same empty still ok err cause = record {
   same = same;
   faults = cause.quiet;
@@ -79,7 +86,8 @@ prints_past old new text (Err e) same empty still ok err cause = record {
 }
 
 -- the exit of a call that failed
-pub prints_at_stop : {T E : Type 0} {old new : Output} {text : Bytes} (Q : E → Type 0) (r : Result T E) → IsErrAnd r Q → Breaks old new text → Prints old new text r
+pub prints_at_stop : {T E : Type 0} {old new : Output} {text : Bytes} (Q : E → Type 0) (r : Result T E) → IsErrAnd r Q
+    → Breaks old new text → Prints old new text r
 prints_at_stop Q (Ok x) fails one = absurd fails
 prints_at_stop Q (Err e) fails one = one
 
@@ -97,16 +105,19 @@ adds_nothing at = record {
 pub adds_as : {old new : Output} {text other : Bytes} → text ≡ other → Adds old new text → Adds old new other
 adds_as {old = old} {new = new} same one = subst (λ t. Adds old new t) same one
 
+-- the same where the sink failed
 pub breaks_as : {old new : Output} {text other : Bytes} → text ≡ other → Breaks old new text → Breaks old new other
 breaks_as {old = old} {new = new} same one = subst (λ t. Breaks old new t) same one
 
 -- what a sink holds that failed while nothing waited before the text
-pub prefix_of_text : {T E : Type 0} (old new : Output) (text : Bytes) (r : Result T E) → old.waiting ≡ [] → Prints old new text r → OnErr r (TakesPrefix old.held new.held text)
+pub prefix_of_text : {T E : Type 0} (old new : Output) (text : Bytes) (r : Result T E) → old.waiting ≡ []
+    → Prints old new text r → OnErr r (TakesPrefix old.held new.held text)
 prefix_of_text old new text (Ok x) empty one = tt
 prefix_of_text old new text (Err e) empty one =
     let p = one.prefix in (p.0, p.1, ap (λ w. w ++ text) (sym empty) ∙ p.2, p.3)
 
 -- the same, where the text was added before and what waits is written
-pub prefix_of_flushed : {T E : Type 0} {old mid : Output} {text : Bytes} (new : Output) (r : Result T E) → old.waiting ≡ [] → Adds old mid text → Prints mid new [] r → OnErr r (TakesPrefix old.held new.held text)
+pub prefix_of_flushed : {T E : Type 0} {old mid : Output} {text : Bytes} (new : Output) (r : Result T E) → old.waiting ≡ []
+    → Adds old mid text → Prints mid new [] r → OnErr r (TakesPrefix old.held new.held text)
 prefix_of_flushed {old = old} {text = text} new r empty one two =
     subst (λ t. OnErr r (TakesPrefix old.held new.held t)) (append-nil text) (prefix_of_text old new (text ++ []) r empty (prints_then new [] r one two))

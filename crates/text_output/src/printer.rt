@@ -10,7 +10,7 @@ use std::marker::Model;
 /// In bytes. A line of 16 scans has at most 10,832 bytes.
 const CAPACITY: usize = 16384;
 
-/// A sink, and the bytes that wait to be written to it together. What waits when a printer is let go is lost: see `flush`.
+/// A sink, and the bytes that wait to be written to it together. Without a `flush` what waits is lost in the end.
 #[derive(Drop)]
 pub struct Printer<'a, K: Sink> {
     sink: &'a mut K,
@@ -46,7 +46,7 @@ impl<'a, K: Sink> Printer<'a, K> {
         }
     }
 
-    /// Adds bytes, and writes what waits where there is no room. Bytes that are longer than the buffer are written at once.
+    /// Adds bytes. What waits is written where there is no room for them, and they are then written by themselves.
     pub fn put(&mut self, bytes: &[u8]) -> Result<(), Failed>
         ensures { Prints self.old self.new bytes.now result }
     {

@@ -1,7 +1,7 @@
 use Rattle.std.proofs.Common.{◌+◌, ◌≤◌, length}
 use Rattle.std.specs.Prelude.{◌==◌}
 use Rattle.std.specs.List.{slice_split}
-use Rattle.script_grammar.proofs.Steps.{AreReadSoFar}
+use Rattle.script_grammar.proofs.FirstFault.{AreReadSoFar}
 use Rattle.script_grammar.proofs.read.read_lines.Given as goal
 
 abbrev pub invariant-loop-line : goal.invariant-loop-line

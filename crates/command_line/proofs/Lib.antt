@@ -1,5 +1,6 @@
 pub mod Steps
 pub mod Numbers
 pub mod Runs
+pub mod Help
 pub mod Plain
 pub mod Rows

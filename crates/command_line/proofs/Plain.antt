@@ -12,13 +12,15 @@ use Rattle.clap.specs.declared.error.kind.ErrorKind.TheVariants.{OutOfMemory}
 use Rattle.clap.specs.declared.parser.matches.ArgMatches.{ArgMatches}
 use Rattle.clap.proofs.OnLiterals.{clap_on_literals}
 use Rattle.command_line.specs.Commands.{program}
-use Rattle.command_line.specs.Options.{AreInRange, IsWithin, Refuses, asked, number_of, within, command_of, number_in, options_of, run_with, slots_range, snap_range, tries_range, unless_fault}
-use Rattle.command_line.specs.Plain.{AsksForHelp, IsHelp, AreChoices, Choice, IsLeftOut, IsPlain, Setting, tries, slots, snap, is_same, number_chosen, options_chosen, range_of, words_of}
+use Rattle.decimals.specs.Numbers.{number_of}
+use Rattle.command_line.specs.Options.{AreInRange, IsWithin, Refuses, asked, within, command_of, number_in, options_of, run_with, slots_range, snap_range, tries_range, unless_fault}
+use Rattle.command_line.specs.Plain.{AsksForHelp, IsHelp, RunAsksForHelp, AreChoices, Choice, IsLeftOut, IsPlain, Setting, tries, slots, snap, is_same, number_chosen, options_chosen, range_of, words_of}
 use Rattle.command_line.specs.declared.command.Command.{Command}
 use Rattle.command_line.specs.declared.command.Command.TheVariants.{Run, Refused}
 use Rattle.command_line.specs.declared.command.RunOptions.{RunOptions}
 use Rattle.command_line.specs.declared.number.Range.{Range}
 use Rattle.command_line.proofs.Numbers.{number_in_range}
+use Rattle.command_line.proofs.Help.{IsFaulty, flag_is_faulty}
 use Rattle.command_line.proofs.Runs.{Fresh, leaf_fault, leaf_rows, program_fault, program_rows, row_at}
 use Rattle.command_line.proofs.Steps.{name_of}
 
@@ -124,18 +126,27 @@ first_help name word rest (inl e) = rw e (refused_by (name ∷ codes "help" ∷ 
 first_help name word rest (inr (inl e)) = rw e (refused_by (name ∷ codes "--help" ∷ rest) _ _ refl)
 first_help name word rest (inr (inr e)) = rw e (refused_by (name ∷ codes "-h" ∷ rest) _ _ refl)
 
-run_help : (name next : Text) (rest : List Text) → IsHelp next → command_of (name ∷ codes "run" ∷ next ∷ rest) ≡ Refused
+-- words with a fault are refused
+refused_if : (words : List Text) → IsFaulty (fault_of program words) → command_of words ≡ Refused
+unfolding command_of
+refused_if words faulty = go (fault_of program words) faulty
+  where
+    go : (kinds : Kinds) → IsFaulty kinds → unless_fault kinds (asked (subcommand_of program words)) ≡ Refused
+    go [] h = absurd h
+    go (k ∷ ks) h = refl
+
+run_help : (name : Text) (rest : List Text) → RunAsksForHelp rest → command_of (name ∷ codes "run" ∷ rest) ≡ Refused
 unfolding clap_on_literals
-run_help name next rest (inl e) = rw e (refused_by (name ∷ codes "run" ∷ codes "help" ∷ rest) _ _ (program_fault name (codes "help" ∷ rest)))
-run_help name next rest (inr (inl e)) = rw e (refused_by (name ∷ codes "run" ∷ codes "--help" ∷ rest) _ _ (program_fault name (codes "--help" ∷ rest)))
-run_help name next rest (inr (inr e)) = rw e (refused_by (name ∷ codes "run" ∷ codes "-h" ∷ rest) _ _ (program_fault name (codes "-h" ∷ rest)))
+run_help name [] h = absurd h
+run_help name (word ∷ rest) (inl e) = rw e (refused_by (name ∷ codes "run" ∷ codes "help" ∷ rest) _ _ (program_fault name (codes "help" ∷ rest)))
+run_help name (word ∷ rest) (inr has) =
+    refused_if (name ∷ codes "run" ∷ word ∷ rest) (subst IsFaulty (sym (program_fault name (word ∷ rest))) (flag_is_faulty (word ∷ rest) has))
 
 pub help_refused : (words : List Text) → AsksForHelp words → command_of words ≡ Refused
 help_refused [] h = absurd h
 help_refused (name ∷ []) h = absurd h
-help_refused (name ∷ word ∷ []) h = first_help name word [] h
-help_refused (name ∷ word ∷ next ∷ rest) (inl h) = first_help name word (next ∷ rest) h
-help_refused (name ∷ word ∷ next ∷ rest) (inr h) = rw h.0 (run_help name next rest h.1)
+help_refused (name ∷ word ∷ rest) (inl h) = first_help name word rest h
+help_refused (name ∷ word ∷ rest) (inr h) = rw h.0 (run_help name rest h.1)
 
 -- ---- what clap's answer says
 

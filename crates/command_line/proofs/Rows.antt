@@ -1,10 +1,10 @@
--- Rows of what the words ask for, and that there are plain words.
-use Rattle.std.proofs.Common.{◌≡◌, refl, sym, ap₂, List, [], ◌∷◌, arith}
+-- Rows of what the words ask for, and that there are plain words and calls for help.
+use Rattle.std.proofs.Common.{◌≡◌, refl, sym, ap₂, List, [], ◌∷◌, inl, inr, arith}
 use Rattle.std.specs.Prelude.{codes}
 use Rattle.std.proofs.lemmas.Fmt.{decimal_digit}
 use Rattle.clap.specs.Walk.{Text}
 use Rattle.command_line.specs.Options.{command_of}
-use Rattle.command_line.specs.Plain.{IsPlain, snap, tries}
+use Rattle.command_line.specs.Plain.{AsksForHelp, IsPlain, snap, tries}
 use Rattle.command_line.specs.declared.command.Command.TheVariants.{Run}
 use Rattle.command_line.specs.declared.command.RunOptions.{RunOptions}
 use Rattle.command_line.proofs.Plain.{plain_ask}
@@ -36,3 +36,7 @@ run_row = plain_ask (codes "foedus" ∷ codes "run" ∷ []) usual run_alone
 
 two_row : command_of two_words ≡ Run two
 two_row = plain_ask two_words two two_options
+
+-- a call for help behind an option
+late_help : AsksForHelp (codes "foedus" ∷ codes "run" ∷ codes "--tries" ∷ codes "5" ∷ codes "--help" ∷ [])
+late_help = inr (refl, inr (inr (inr (inl (inl refl)))))

@@ -1,8 +1,6 @@
 -- The numbers of the options, and what the words ask for.
-use Rattle.std.specs.Prelude.{◌≡◌, ◌≢◌, ◌⊎◌, ℕ, ◌≤◌, ◌^◌, ◌&&◌, ◌==◌, Bool, not, List, [], ◌∷◌, length, slice_index, codes, Option, Some, None, nat_lt, nat_le, if◌then◌else◌, option_map, option_and_then}
-use Rattle.std.specs.List.{list_all}
-use Rattle.std.specs.Char.{is_ascii_digit}
-use Rattle.std.specs.Str.Parse.{digits_value}
+use Rattle.std.specs.Prelude.{◌≡◌, ◌≢◌, ◌⊎◌, ℕ, ◌≤◌, ◌&&◌, List, [], ◌∷◌, codes, Option, Some, None, nat_le, if◌then◌else◌, option_map, option_and_then}
+use Rattle.decimals.specs.Numbers.{number_of}
 use Rattle.clap.specs.Walk.{Row, Text, first_of}
 use Rattle.clap.specs.Kinds.{IsAmong, Kinds}
 use Rattle.clap.specs.Faults.{fault_of}
@@ -15,32 +13,23 @@ use Rattle.command_line.specs.declared.command.Command.TheVariants.{Run, Refused
 use Rattle.command_line.specs.declared.command.RunOptions.{RunOptions}
 use Rattle.command_line.specs.declared.number.Range.{Range}
 
--- a zero (48) before another byte
-abbrev pub has_leading_zero : Text → Bool
-has_leading_zero text = nat_lt 1 (length text) && slice_index text 0 == 48
-
--- decimal digits, at least one, and no zero before others
-abbrev pub is_decimal : Text → Bool
-is_decimal text =
-    nat_lt 0 (length text) && (not (has_leading_zero text) && list_all is_ascii_digit text)
-
--- the number, of at most 2^64 - 1, that the text spells
-unfoldable pub number_of : Text → Option ℕ
-number_of text = if is_decimal text && nat_lt (digits_value 10 text) (2 ^ 64)
-    then Some (digits_value 10 text) else None
-
+-- how often a transaction is tried
 abbrev pub tries_range : Range
 tries_range = record { least = 1; most = 1000000; usual = 1000 }
 
+-- how many slots there are
 abbrev pub slots_range : Range
 slots_range = record { least = 4; most = 4096; usual = 256 }
 
+-- how many pages of snapshots stay in memory
 abbrev pub snap_range : Range
 snap_range = record { least = 1; most = 65536; usual = 4096 }
 
+-- the number is in the range, whose ends count
 abbrev pub IsWithin : Range → ℕ → Type 0
 IsWithin range n = (range.least ≤ n) × (n ≤ range.most)
 
+-- the number, if it is in the range
 abbrev pub within : Range → ℕ → Option ℕ
 within range n = if nat_le range.least n && nat_le n range.most then Some n else None
 
@@ -61,10 +50,12 @@ options_of rows =
     (number_in slots_range (first_of (codes "slots") rows)))
     (number_in tries_range (first_of (codes "tries") rows))
 
+-- each number of a run is in its range
 abbrev pub AreInRange : RunOptions → Type 0
 AreInRange options = IsWithin tries_range options.tries × IsWithin slots_range options.slots
     × IsWithin snap_range options.snap
 
+-- a run with these numbers, if there are any
 abbrev pub run_with : Option RunOptions → Command
 run_with (Some options) = Run options
 run_with None = Refused
@@ -73,6 +64,7 @@ run_with None = Refused
 abbrev pub asked : Option (Text × List Row) → Command
 asked command = run_with (option_and_then (λ p. options_of p.1) command)
 
+-- the command, or refused where there is a kind of fault
 abbrev pub unless_fault : Kinds → Command → Command
 unless_fault [] command = command
 unless_fault (k ∷ ks) command = Refused

@@ -1,25 +1,29 @@
--- Plain words.
+-- Plain words, and calls for help.
 use Rattle.std.specs.Prelude.{◌≡◌, ◌⊎◌, ℕ, Bool, true, false, List, [], ◌∷◌, codes, decimal, if◌then◌else◌, ⊤}
 use Rattle.clap.specs.Walk.{Text}
 use Rattle.command_line.specs.Options.{IsWithin, slots_range, snap_range, tries_range}
 use Rattle.command_line.specs.declared.command.RunOptions.{RunOptions}
 use Rattle.command_line.specs.declared.number.Range.{Range}
 
+-- the options of `run`
 pub data Setting : Type 0 where
   tries : Setting
   slots : Setting
   snap : Setting
 
+-- the word that names an option
 abbrev pub flag_of : Setting → Text
 flag_of tries = codes "--tries"
 flag_of slots = codes "--slots"
 flag_of snap = codes "--snap"
 
+-- which numbers an option takes
 abbrev pub range_of : Setting → Range
 range_of tries = tries_range
 range_of slots = slots_range
 range_of snap = snap_range
 
+-- two options are one
 abbrev pub is_same : Setting → Setting → Bool
 is_same tries tries = true
 is_same slots slots = true
@@ -35,6 +39,7 @@ abbrev pub words_of : List Choice → List Text
 words_of [] = []
 words_of (c ∷ rest) = flag_of c.0 ∷ decimal c.1 ∷ words_of rest
 
+-- the option is none of these
 abbrev pub IsLeftOut : Setting → List Choice → Type 0
 IsLeftOut s [] = ⊤
 IsLeftOut s (c ∷ rest) = (is_same s c.0 ≡ false) × IsLeftOut s rest
@@ -49,6 +54,7 @@ abbrev pub number_chosen : Setting → List Choice → ℕ
 number_chosen s [] = (range_of s).usual
 number_chosen s (c ∷ rest) = if is_same s c.0 then c.1 else number_chosen s rest
 
+-- the numbers of a run with these options
 abbrev pub options_chosen : List Choice → RunOptions
 options_chosen choices = record {
   tries = number_chosen tries choices;
@@ -66,11 +72,25 @@ pub record IsPlain (call : List Text) (numbers : RunOptions) : Type 0 where
 
 -- ---- help
 
-abbrev pub IsHelp : Text → Type 0
-IsHelp word = (word ≡ codes "help") ⊎ ((word ≡ codes "--help") ⊎ (word ≡ codes "-h"))
+-- a flag for help
+abbrev pub IsHelpFlag : Text → Type 0
+IsHelpFlag word = (word ≡ codes "--help") ⊎ (word ≡ codes "-h")
 
--- the word after the name, or after `run`, is a call for help
+-- `help`, or a flag for it
+abbrev pub IsHelp : Text → Type 0
+IsHelp word = (word ≡ codes "help") ⊎ IsHelpFlag word
+
+-- a flag for help is among the words
+abbrev pub HasHelpFlag : List Text → Type 0
+HasHelpFlag [] = ⊥
+HasHelpFlag (word ∷ rest) = IsHelpFlag word ⊎ HasHelpFlag rest
+
+-- what follows `run` is `help`, or a flag for help comes at some place after it, as behind options
+abbrev pub RunAsksForHelp : List Text → Type 0
+RunAsksForHelp [] = ⊥
+RunAsksForHelp (word ∷ rest) = (word ≡ codes "help") ⊎ HasHelpFlag (word ∷ rest)
+
+-- the word after the name is a call for help, or it is `run`, and what follows calls for help
 abbrev pub AsksForHelp : List Text → Type 0
-AsksForHelp (name ∷ word ∷ []) = IsHelp word
-AsksForHelp (name ∷ word ∷ next ∷ rest) = IsHelp word ⊎ ((word ≡ codes "run") × IsHelp next)
+AsksForHelp (name ∷ word ∷ rest) = IsHelp word ⊎ ((word ≡ codes "run") × RunAsksForHelp rest)
 AsksForHelp _ = ⊥

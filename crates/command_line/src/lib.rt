@@ -12,18 +12,22 @@
 //! - the numbers of a run are in their ranges (`ranges`);
 //! - words are refused only where the definition has a kind of fault for them that is not want of
 //!   memory, or a number is none or out of its range (`refused`);
-//! - calls for help are refused (`help`).
+//! - calls for help are refused, also where they come after options (`help`).
+//!
+//! The law `plain_words_run` says of the definitions that plain words ask for a run.
 //!
 //! A repeated option is refused. `--tries=5` is taken for `--tries 5`, and a last `--` for nothing,
 //! as clap does; neither is among the plain words.
 #![tactic(auto)]
 
 mod command;
+mod law;
 mod number;
 mod program;
 mod words;
 
 pub use command::{Command, RunOptions};
+pub use law::plain_words_run;
 pub use words::read_words;
 
 #[cfg(test)]

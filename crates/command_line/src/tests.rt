@@ -112,21 +112,3 @@ fn faulty_words(rt: HostRuntime) -> Result<(), Fail> {
     }
     Ok(())
 }
-
-#[test]
-fn calls_for_help(rt: HostRuntime) -> Result<(), Fail> {
-    let rows: [&[&str]; 8] = [
-        &["foedus", "help"],
-        &["foedus", "--help"],
-        &["foedus", "-h"],
-        &["foedus", "help", "run"],
-        &["foedus", "run", "help"],
-        &["foedus", "run", "--help"],
-        &["foedus", "run", "-h"],
-        &["foedus", "run", "--tries", "5", "--help"],
-    ];
-    for words in rows {
-        assert!(rt; read_words(rt.alloc(), words) == Ok(Command::Refused));
-    }
-    Ok(())
-}

@@ -1,0 +1,13 @@
+// A law of plain words, for callers: it holds of all words, so the call has nothing to do.
+ghost use Rattle.std.specs.Prelude.{◌≡◌, ℕ, List};
+ghost use Rattle.command_line.specs.Options.{command_of};
+ghost use Rattle.command_line.specs.Plain.{IsPlain};
+ghost use Rattle.command_line.specs.declared.command.Command.TheVariants.{Run};
+ghost use Rattle.command_line.specs.declared.command.RunOptions.{RunOptions};
+
+/// Plain words ask for a run with their numbers: no fault is found in them, and no number is out of
+/// its range.
+pub fn plain_words_run()
+    ensures { (words : List (List ℕ)) (options : RunOptions) → IsPlain words options
+        → command_of words ≡ Run options }
+{}

@@ -93,6 +93,22 @@ module _ {D : Type 0} {clock : D → ℕ} {image_at : D → ℕ → List ℕ →
       let is : file ≡ _ = told_is settled told in
       let was = settled.only c left in cc
 
+  -- a call, and one after it that changes nothing
+  pub goes_then : {step : List ℕ → List ℕ → Type 0} {old mid new : D} → clock old < clock mid → Goes clock image_at step old mid
+      → Goes clock image_at Same mid new → Goes clock image_at step old new
+  goes_then {step = step} {mid = mid} made first next = record {
+    later = omega (arith, first.later, next.later);
+    kept = λ m c le left. next.kept m c (omega (arith, first.later)) (first.kept m c le left);
+    no_new = λ m c le left. first.no_new m c le (next.no_new m c (omega (arith, first.later)) left);
+    from = λ m c gt le left. elim (cases_lt (clock mid) m) [
+      | inl past ↦
+          let last = next.from m c past le left in
+          let was = first.from (clock mid) last.0 made (omega arith) last.1 in
+          (was.0, was.1, subst (step was.0) last.2 was.2)
+      | inr within ↦ first.from m c gt within (next.no_new m c within left)
+    ];
+  }
+
   -- each step of a call may be left through a call after it that changes nothing
   pub each_then : {step : List ℕ → List ℕ → Type 0} {old mid new : D} {end : ℕ} → clock old < clock mid → LeavesEach clock image_at step old mid (clock mid)
       → Goes clock image_at Same mid new → LeavesEach clock image_at Same mid new end → LeavesEach clock image_at step old new end

@@ -60,15 +60,18 @@ pub trait Disk {
         ensures torn { OnErr result (IfTold (tells self.old) (λ file.
             IfTold (tells self.new) (Shortened len file))) }
         ensures told { is_some (tells self.new) ≡ is_some (tells self.old) }
-        ensures goes { Calls clock image_at faults (Shortened len) (clock self.new) self.old self.new result };
+        ensures goes { Calls clock image_at faults (Shortened len) (clock self.new)
+            self.old self.new result };
 
     /// Brings what was written to the device itself: after it a stop leaves what reads give, and
     /// nothing else. One that failed settles nothing.
     fn sync(&mut self) -> Result<(), Failed>
         ensures told { tells self.new ≡ tells self.old }
         ensures durable { OnOk result (IfTold (tells self.old) (Only clock image_at self.new)) }
-        ensures goes { Calls clock image_at faults Same (clock self.new - 1) self.old self.new result }
-        ensures unsettled { OnErr result (LeavesEach clock image_at Same self.old self.new (clock self.new)) };
+        ensures goes { Calls clock image_at faults Same (clock self.new - 1)
+            self.old self.new result }
+        ensures unsettled { OnErr result (LeavesEach clock image_at Same
+            self.old self.new (clock self.new)) };
 
     /// What reads give is always among the images of now.
     ghost reads: { (disk : Self) (file : List ℕ) → tells disk ≡ Some file

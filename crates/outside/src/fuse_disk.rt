@@ -85,9 +85,11 @@ impl<D: Disk> Disk for FuseDisk<D> {
     }
 
     fn len(&mut self) -> Result<u64, Failed>
-        ensures value { IfOk result (λ n. IfTold (D.tells self.old.disk) (λ file. n ≡ length file)) }
+        ensures value { IfOk result (λ n. IfTold (D.tells self.old.disk) (λ file.
+            n ≡ length file)) }
         ensures told { D.tells self.new.disk ≡ D.tells self.old.disk }
-        ensures goes { Calls ⟦<FuseDisk<D> as Disk>⟧.clock ⟦<FuseDisk<D> as Disk>⟧.image_at ⟦<FuseDisk<D> as Disk>⟧.faults
+        ensures goes { Calls ⟦<FuseDisk<D> as Disk>⟧.clock
+            ⟦<FuseDisk<D> as Disk>⟧.image_at ⟦<FuseDisk<D> as Disk>⟧.faults
             Same (D.clock self.new.disk) self.old self.new result }
         ensures fused { IsFused D.faults self.old.passes self.new.passes
             self.old.faults self.new.faults self.old.disk self.new.disk result }
@@ -102,7 +104,8 @@ impl<D: Disk> Disk for FuseDisk<D> {
             (n ≡ min (length buf.old) (length file - at))
             × (buf.new ≡ take n (drop at file) ++ drop n buf.old))) }
         ensures told { D.tells self.new.disk ≡ D.tells self.old.disk }
-        ensures goes { Calls ⟦<FuseDisk<D> as Disk>⟧.clock ⟦<FuseDisk<D> as Disk>⟧.image_at ⟦<FuseDisk<D> as Disk>⟧.faults
+        ensures goes { Calls ⟦<FuseDisk<D> as Disk>⟧.clock
+            ⟦<FuseDisk<D> as Disk>⟧.image_at ⟦<FuseDisk<D> as Disk>⟧.faults
             Same (D.clock self.new.disk) self.old self.new result }
         ensures fused { IsFused D.faults self.old.passes self.new.passes
             self.old.faults self.new.faults self.old.disk self.new.disk result }
@@ -119,7 +122,8 @@ impl<D: Disk> Disk for FuseDisk<D> {
         ensures torn { OnErr result (IfTold (D.tells self.old.disk) (λ file.
             IfTold (D.tells self.new.disk) (Torn at (length bytes.now) file))) }
         ensures told { is_some (D.tells self.new.disk) ≡ is_some (D.tells self.old.disk) }
-        ensures goes { Calls ⟦<FuseDisk<D> as Disk>⟧.clock ⟦<FuseDisk<D> as Disk>⟧.image_at ⟦<FuseDisk<D> as Disk>⟧.faults
+        ensures goes { Calls ⟦<FuseDisk<D> as Disk>⟧.clock
+            ⟦<FuseDisk<D> as Disk>⟧.image_at ⟦<FuseDisk<D> as Disk>⟧.faults
             (Torn at (length bytes.now)) (D.clock self.new.disk) self.old self.new result }
         ensures fused { IsFused D.faults self.old.passes self.new.passes
             self.old.faults self.new.faults self.old.disk self.new.disk result }
@@ -135,7 +139,8 @@ impl<D: Disk> Disk for FuseDisk<D> {
         ensures torn { OnErr result (IfTold (D.tells self.old.disk) (λ file.
             IfTold (D.tells self.new.disk) (Shortened len file))) }
         ensures told { is_some (D.tells self.new.disk) ≡ is_some (D.tells self.old.disk) }
-        ensures goes { Calls ⟦<FuseDisk<D> as Disk>⟧.clock ⟦<FuseDisk<D> as Disk>⟧.image_at ⟦<FuseDisk<D> as Disk>⟧.faults
+        ensures goes { Calls ⟦<FuseDisk<D> as Disk>⟧.clock
+            ⟦<FuseDisk<D> as Disk>⟧.image_at ⟦<FuseDisk<D> as Disk>⟧.faults
             (Shortened len) (D.clock self.new.disk) self.old self.new result }
         ensures fused { IsFused D.faults self.old.passes self.new.passes
             self.old.faults self.new.faults self.old.disk self.new.disk result }
@@ -146,11 +151,13 @@ impl<D: Disk> Disk for FuseDisk<D> {
 
     fn sync(&mut self) -> Result<(), Failed>
         ensures told { D.tells self.new.disk ≡ D.tells self.old.disk }
-        ensures durable { OnOk result (IfTold (D.tells self.old.disk) (Only ⟦<FuseDisk<D> as Disk>⟧.clock ⟦<FuseDisk<D> as Disk>⟧.image_at self.new)) }
-        ensures goes { Calls ⟦<FuseDisk<D> as Disk>⟧.clock ⟦<FuseDisk<D> as Disk>⟧.image_at ⟦<FuseDisk<D> as Disk>⟧.faults
+        ensures durable { OnOk result (IfTold (D.tells self.old.disk)
+            (Only ⟦<FuseDisk<D> as Disk>⟧.clock ⟦<FuseDisk<D> as Disk>⟧.image_at self.new)) }
+        ensures goes { Calls ⟦<FuseDisk<D> as Disk>⟧.clock
+            ⟦<FuseDisk<D> as Disk>⟧.image_at ⟦<FuseDisk<D> as Disk>⟧.faults
             Same (D.clock self.new.disk - 1) self.old self.new result }
-        ensures unsettled { OnErr result (LeavesEach ⟦<FuseDisk<D> as Disk>⟧.clock ⟦<FuseDisk<D> as Disk>⟧.image_at Same
-            self.old self.new (D.clock self.new.disk)) }
+        ensures unsettled { OnErr result (LeavesEach ⟦<FuseDisk<D> as Disk>⟧.clock
+            ⟦<FuseDisk<D> as Disk>⟧.image_at Same self.old self.new (D.clock self.new.disk)) }
         ensures fused { IsFused D.faults self.old.passes self.new.passes
             self.old.faults self.new.faults self.old.disk self.new.disk result }
     {

@@ -241,10 +241,12 @@ impl Disk for MemDisk {
 
     fn sync(&mut self) -> Result<(), Failed>
         ensures told { tells_of self.new ≡ tells_of self.old }
-        ensures durable { OnOk result (IfTold (tells_of self.old) (Only clock_of image_of self.new)) }
+        ensures durable { OnOk result (IfTold (tells_of self.old)
+            (Only clock_of image_of self.new)) }
         ensures goes { Calls clock_of image_of faults_of
             Same (clock_of self.new - 1) self.old self.new result }
-        ensures unsettled { OnErr result (LeavesEach clock_of image_of Same self.old self.new (clock_of self.new)) }
+        ensures unsettled { OnErr result (LeavesEach clock_of image_of Same
+            self.old self.new (clock_of self.new)) }
         ensures recorded { IsRecorded (λ call. call ≡ Call.Sync) self.old.fails.items
             self.old.calls.items self.new.calls.items result }
         ensures stays { (self.new.first ≡ self.old.first) × (self.new.fails ≡ self.old.fails) }

@@ -66,8 +66,8 @@ impl Sink for MemSink {
             (⟦<MemSink as Sink>⟧.held self.new) bytes.now) }
         ensures cause { HasCause (⟦<MemSink as Sink>⟧.faults self.old)
             (⟦<MemSink as Sink>⟧.faults self.new) result }
-        ensures listed { is_listed self.old.fails.items self.old.calls ≡ true → IsErr result
-            × ((self.new.bytes.items ≡ self.old.bytes.items ++ take (length bytes.now / 2) bytes.now)
+        ensures listed { is_listed self.old.fails.items self.old.calls ≡ true → IsErr result × (
+            (self.new.bytes.items ≡ self.old.bytes.items ++ take (length bytes.now / 2) bytes.now)
             ⊎ (self.new.bytes.items ≡ self.old.bytes.items)) }
         ensures refused { is_listed self.old.fails.items self.old.calls ≡ false
             → OnErr result (self.new.bytes.items ≡ self.old.bytes.items) }

@@ -137,7 +137,8 @@ fn cut_one<D: Disk>(disks: &mut [D], at: usize) -> Result<(), Failed>
     ensures cut { (was : D) → slice_get disks.old at ≡ Some was
         → (now : D) × (slice_get disks.new at ≡ Some now)
         × Cuts D.tells D.clock D.image_at D.faults 0 was now result }
-    ensures others { (other : ℕ) → other ≢ at → slice_get disks.new other ≡ slice_get disks.old other }
+    ensures others { (other : ℕ) → other ≢ at
+        → slice_get disks.new other ≡ slice_get disks.old other }
     ensures len { length disks.new ≡ length disks.old }
 {
     disks[at].cut(0)

@@ -5,5 +5,6 @@ pub mod Working
 pub mod WayBack
 pub mod Told
 pub mod Pushed
+pub mod FirstReply
 pub mod RowsWritten
 pub mod Scan

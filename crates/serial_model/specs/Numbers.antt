@@ -38,22 +38,27 @@ is_below a b = nat_lt a.epoch b.epoch || ((a.epoch == b.epoch) && nat_lt a.draw 
 
 -- ---- laws
 
+-- the test holds of numbers in order
 pub is_below-true : (a b : Number) → IsBelow a b → is_below a b ≡ true
 is_below-true a b (inl earlier) = grind (arith, nat_tests)
 is_below-true a b (inr same) = let epoch = same.0 in let draw = same.1 in grind (arith, nat_tests)
 
+-- and of no others
 pub below_from_test : (a b : Number) → is_below a b ≡ true → IsBelow a b
 below_from_test a b test = grind (arith, nat_tests)
 
+-- the order goes on
 pub below_then : (a b c : Number) → IsBelow a b → IsBelow b c → IsBelow a c
 below_then a b c (inl e) (inl f) = inl (omega arith)
 below_then a b c (inl e) (inr f) = let same = f.0 in inl (omega arith)
 below_then a b c (inr e) (inl f) = let same = e.0 in inl (omega arith)
 below_then a b c (inr e) (inr f) = let less = e.1 in let more = f.1 in inr (e.0 ∙ f.0, omega arith)
 
+-- no number is below itself
 pub not_below_itself : (a b : Number) → a ≡ b → IsBelow a b → ⊥
 not_below_itself a b same (inl e) = let epoch = ap (λ (n : Number). n.epoch) same in omega arith
 not_below_itself a b same (inr e) = let draw = ap (λ (n : Number). n.draw) same in let less = e.1 in omega arith
 
+-- two numbers are in one order
 pub not_both_below : (a b : Number) → IsBelow a b → IsBelow b a → ⊥
 not_both_below a b up down = not_below_itself a a refl (below_then a b a up down)

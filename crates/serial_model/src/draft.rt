@@ -68,7 +68,8 @@ impl Draft {
 
     /// Sets the value that the transaction sees at a key.
     pub fn put(&mut self, state: &mut State, key: Key, value: u64) -> Result<(), Memory>
-        ensures ok { OnOk result (working state.new self.new.gone.keys ≡ finite.insert (working state.old self.old.gone.keys) key value) }
+        ensures ok { OnOk result (working state.new self.new.gone.keys
+            ≡ finite.insert (working state.old self.old.gone.keys) key value) }
         ensures back { KeepsWayBack self.old.undo.items state.old self.new.undo.items state.new }
     {
         let before = Undo {
@@ -83,7 +84,8 @@ impl Draft {
 
     /// Takes a key out of what the transaction sees.
     pub fn remove(&mut self, key: Key) -> Result<(), Memory>
-        ensures ok { OnOk result ((s : TheState) → working s self.new.gone.keys ≡ finite.remove (working s self.old.gone.keys) key) }
+        ensures ok { OnOk result ((s : TheState) →
+            working s self.new.gone.keys ≡ finite.remove (working s self.old.gone.keys) key) }
         ensures undo { self.new.undo.items ≡ self.old.undo.items }
     {
         self.gone.insert(key)?;

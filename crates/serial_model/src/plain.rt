@@ -35,7 +35,8 @@ impl Plain {
 /// state is as it was.
 pub fn run_one(alloc: Global, plain: &mut Plain, ops: &[Op]) -> Result<(Verdict, Replies), Memory>
     requires { All (λ op. IsTrue (fits plain.old.decls op)) ops.now }
-    ensures step { IfOk result (λ r. step plain.old.decls plain.old.state ops.now ≡ ended_of r.0 r.1 plain.new.state) }
+    ensures step { IfOk result (λ r.
+        step plain.old.decls plain.old.state ops.now ≡ ended_of r.0 r.1 plain.new.state) }
     ensures decls { plain.new.decls ≡ plain.old.decls }
     ensures memory { OnErr result (plain.new.state ≡ plain.old.state) }
 {
@@ -54,7 +55,8 @@ pub fn run_in(
     ops: &[Op],
 ) -> Result<Verdict, Memory>
     requires { All (λ op. IsTrue (fits plain.old.decls op)) ops.now }
-    ensures step { IfOk result (λ verdict. step plain.old.decls plain.old.state ops.now ≡ ended_of verdict replies.new plain.new.state) }
+    ensures step { IfOk result (λ verdict.
+        step plain.old.decls plain.old.state ops.now ≡ ended_of verdict replies.new plain.new.state) }
     ensures decls { plain.new.decls ≡ plain.old.decls }
     ensures memory { OnErr result (plain.new.state ≡ plain.old.state) }
 {
@@ -79,7 +81,8 @@ fn run_on(
     requires undo { draft.old.undo.items ≡ [] }
     requires gone { draft.old.gone.keys ≡ [] }
     requires replies { replies.old ≡ [] }
-    ensures step { IfOk result (λ verdict. step decls.now state.old ops.now ≡ ended_of verdict replies.new state.new) }
+    ensures step { IfOk result (λ verdict.
+        step decls.now state.old ops.now ≡ ended_of verdict replies.new state.new) }
     ensures memory { OnErr result (state.new ≡ state.old) }
 {
     let ended = run_ops(decls, state, draft, replies, ops);
@@ -101,7 +104,8 @@ fn run_ops(
     requires undo { draft.old.undo.items ≡ [] }
     requires gone { draft.old.gone.keys ≡ [] }
     requires replies { replies.old ≡ [] }
-    ensures step { IfOk result (λ v. step decls.now state.old ops.now ≡ ended_of v replies.new (state_at_end v state.old (working state.new draft.new.gone.keys))) }
+    ensures step { IfOk result (λ verdict. let seen = working state.new draft.new.gone.keys in
+        step decls.now state.old ops.now ≡ ended_of verdict replies.new (state_at_end verdict state.old seen)) }
     ensures back { GoesBack draft.new.undo.items state.new state.old }
 {
     for op in ops {
@@ -154,8 +158,8 @@ fn read(
     replies: &mut Replies,
     key: Key,
 ) -> Result<(), Memory>
-    ensures { OnOk result (replies.new ≡ replies.old
-        ++ reply_of (is_tree decls.now key.storage) (finite.get (working state.now draft.now.gone.keys) key) ∷ []) }
+    ensures { let value = finite.get (working state.now draft.now.gone.keys) key in
+        OnOk result (replies.new ≡ replies.old ++ reply_of (is_tree decls.now key.storage) value ∷ []) }
 {
     match draft.get(state, key) {
         Some(value) => replies.push_value(value),
@@ -171,7 +175,8 @@ fn add(
     value: u64,
 ) -> Result<Option<Verdict>, Memory>
     ensures moved { IfOk result (λ ended.
-        move_of [] (working state.old draft.old.gone.keys) (Op.Add key value) ≡ move_to ended (working state.new draft.new.gone.keys)) }
+        move_of [] (working state.old draft.old.gone.keys) (Op.Add key value)
+        ≡ move_to ended (working state.new draft.new.gone.keys)) }
     ensures back { KeepsWayBack draft.old.undo.items state.old draft.new.undo.items state.new }
 {
     match draft.amount(state, key).checked_add(value) {
@@ -190,7 +195,8 @@ fn take(
     value: u64,
 ) -> Result<Option<Verdict>, Memory>
     ensures moved { IfOk result (λ ended.
-        move_of [] (working state.old draft.old.gone.keys) (Op.Take key value) ≡ move_to ended (working state.new draft.new.gone.keys)) }
+        move_of [] (working state.old draft.old.gone.keys) (Op.Take key value)
+        ≡ move_to ended (working state.new draft.new.gone.keys)) }
     ensures back { KeepsWayBack draft.old.undo.items state.old draft.new.undo.items state.new }
 {
     match draft.amount(state, key).checked_sub(value) {

@@ -118,7 +118,8 @@ impl Replies {
 
     fn push_words(&mut self, words: &[u64]) -> Result<(), Memory>
         requires { (reply : TheReply) × (words.now ≡ reply_words reply) }
-        ensures ok { OnOk result ((reply : TheReply) → words.now ≡ reply_words reply → self.new ≡ self.old ++ reply ∷ []) }
+        ensures ok { OnOk result ((reply : TheReply) → words.now ≡ reply_words reply
+            → self.new ≡ self.old ++ reply ∷ []) }
         ensures memory { OnErr result (self.new ≡ self.old) }
     {
         self.words.append(words)

@@ -1,6 +1,7 @@
 -- A word above the marks is a value.
 use Rattle.std.proofs.Common.{◌≡◌, ◌<◌, ◌-◌, ℕ, List, ◌∷◌, sym, subst}
-use Rattle.serial_model.specs.ReplyWords.{AreReplyWords, Begins, begins_small}
+use Rattle.serial_model.specs.ReplyWords.{AreReplyWords, Begins}
+use Rattle.serial_model.proofs.FirstReply.{begins_small}
 use Rattle.serial_model.specs.declared.reply.Reply.TheVariants.{Value}
 use Rattle.serial_model.proofs.lent.first_reply.Goals as goal
 

@@ -1,7 +1,8 @@
 -- What stands behind each mark.
 use Rattle.std.proofs.Common.{◌≡◌, ◌<◌, ◌-◌, ℕ, List, ◌∷◌, length, take, drop, sym, subst, arith, slice_index}
 use Rattle.std.proofs.lemmas.List.{take_rest}
-use Rattle.serial_model.specs.ReplyWords.{AreReplyWords, Begins, begins_absent, begins_great}
+use Rattle.serial_model.specs.ReplyWords.{AreReplyWords, Begins}
+use Rattle.serial_model.proofs.FirstReply.{begins_absent, begins_great}
 use Rattle.serial_model.specs.declared.reply.Reply.TheVariants.{Value, Absent}
 use Rattle.serial_model.proofs.lent.marked_reply.Goals as goal
 

@@ -1,7 +1,8 @@
 -- The rows are there, since the words are those of replies.
 use Rattle.std.proofs.Common.{◌≡◌, ◌-◌, ◌*◌, ℕ, List, ◌∷◌, length, take, drop, sym, ap, ◌∙◌, subst, arith, slice_index}
 use Rattle.std.proofs.lemmas.List.{take_rest, length-drop}
-use Rattle.serial_model.specs.ReplyWords.{AreRowWords, Begins, begins_rows, rows_in}
+use Rattle.serial_model.specs.ReplyWords.{AreRowWords, Begins, rows_in}
+use Rattle.serial_model.proofs.FirstReply.{begins_rows}
 use Rattle.serial_model.specs.declared.reply.Reply.TheVariants.{Rows}
 use Rattle.serial_model.proofs.lent.rows_behind.Goals as goal
 

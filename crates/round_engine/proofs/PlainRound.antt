@@ -108,6 +108,7 @@ stops_in round old mid ran =
       run = λ index. subst (λ s. IsRun old.decls index (front ∷ []) old.state old.clock (one ∷ []) s) (sym (ap (λ (s : Standing). s.state) ran.standing)) (plain_run index front old ran.no_keeper);
       caused = caused.0;
       draws_once = caused.1;
+      durable = refl;
       clock = ap (λ (s : Standing). s.clock) ran.standing ∙ ap (λ e. let n : Number = record { epoch = e; draw = t.clock.draw } in n) (plain_kept front old).1;
       ended = refl;
     }

@@ -95,6 +95,7 @@ pub record StopsIn (round : Round) (old new : Standing) : Type 0 where
   pub run : (index : ℕ) → IsRun old.decls index (front ∷ []) old.state old.clock (ran ∷ []) new.state
   pub caused : AllCaused ran
   pub draws_once : DrawsOnce ran
+  pub durable : ran.durable ≡ None
   pub clock : new.clock ≡ ran.end
   pub ended : new.ended ≡ true
 

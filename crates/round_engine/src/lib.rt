@@ -17,3 +17,6 @@ mod runtime;
 pub use report::{End, LimitName, Report};
 pub use rounds::round;
 pub use runtime::Runtime;
+
+#[cfg(test)]
+mod tests;

@@ -14,7 +14,7 @@ use serial_model::{DRAW_LIMIT, Draft, LAST_EPOCH, Memory, Op, Replies, run_in};
 use std::alloc::Global;
 use std::sync::Wait;
 use std::thread::Threads;
-use tx_script::{Answers, Line, LineOps, Outcomes, Round, RoundOutcomes};
+use tx_script::{Answers, Line, LineOps, Outcomes, Refused, Round, RoundOutcomes};
 
 /// Runs worker 0's lines, then worker 1's and on, each line between the gate's two calls; then the join
 /// advances the epoch, unless it is the last.
@@ -199,7 +199,7 @@ fn run_line(
     ensures stops { OnErr result ((runtime.new ≡ runtime.old) ⊎ (runtime.new ≡ after_line runtime.old ops.now)) }
 {
     if runtime.clock.draw >= DRAW_LIMIT {
-        return outcomes.push_limit();
+        return outcomes.push_refused(Refused::Limit);
     }
     let verdict = run_in(&mut runtime.plain, &mut room.draft, &mut room.replies, ops)?;
     let number = runtime.clock;

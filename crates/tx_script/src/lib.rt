@@ -18,7 +18,7 @@ mod print;
 
 pub use answer::{Answer, Answers};
 pub use outcome::{LentOutcome, Outcome};
-pub use outcomes::{LentOutcomes, Outcomes, RoundOutcomes};
+pub use outcomes::{LentOutcomes, Outcomes, Refused, RoundOutcomes};
 pub use print::{put_round, write_keeper, write_outcome};
 pub use script_grammar::{
     FaultKind, KeeperLine, Line, LineOps, Round, Script, ScriptFault, read_script,

@@ -100,7 +100,8 @@ impl Outcomes {
         replies: &Replies,
     ) -> Result<(), Memory>
         requires { length (replies_words replies.now) < 65536 }
-        ensures ok { OnOk result (self.new ≡ self.old ++ outcomes.Committed verdict number replies.now ∷ []) }
+        ensures ok { OnOk result (self.new
+            ≡ self.old ++ outcomes.Committed verdict number replies.now ∷ []) }
         ensures memory { OnErr result (self.new ≡ self.old) }
     {
         let words = replies.words();

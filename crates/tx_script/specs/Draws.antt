@@ -65,6 +65,7 @@ commits_of-cons : (mine : List Outcome) (more : List (List Outcome))
     → commits_of (mine ∷ more) ≡ length (filter is_commit mine) + commits_of more
 commits_of-cons mine more = sum_by-cons (λ outcomes. length (filter is_commit outcomes)) mine more
 
+-- a round has no more commits than outcomes
 pub commits_of-le : (outcomes : List (List Outcome)) → commits_of outcomes ≤ sum_by length outcomes
 commits_of-le [] = omega arith
 commits_of-le (mine ∷ more) =

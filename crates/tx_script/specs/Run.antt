@@ -176,6 +176,7 @@ pub record CanRun (decls : List Decl) (round : Round) : Type 0 where
 
 -- ---- the rounds of a script can be run
 
+-- a line by the rules can be run
 can_run_line : (decls : List Decl) (line : Line) → IsLine decls line → CanRunLine decls line
 can_run_line decls (Worker worker ops) rules = record {
   worker = rules.worker;
@@ -184,6 +185,7 @@ can_run_line decls (Worker worker ops) rules = record {
 }
 can_run_line decls (Keeper line) rules = absurd rules
 
+-- a round of a script can be run over its declarations
 pub can_run : (script : Script) (index : ℕ) (round : Round) → IsScript script
     → slice_get script.rounds index ≡ Some round → CanRun script.decls round
 can_run script index round rules at =

@@ -12,7 +12,8 @@ use Rattle.clap.specs.declared.error.kind.ErrorKind.TheVariants.{OutOfMemory}
 use Rattle.clap.specs.declared.parser.matches.ArgMatches.{ArgMatches}
 use Rattle.clap.proofs.OnLiterals.{clap_on_literals}
 use Rattle.command_line.specs.Commands.{program}
-use Rattle.command_line.specs.Options.{AreInRange, IsWithin, Refuses, asked, number_of, within, command_of, number_in, options_of, run_with, slots_range, snap_range, tries_range, unless_fault}
+use Rattle.decimals.specs.Numbers.{number_of}
+use Rattle.command_line.specs.Options.{AreInRange, IsWithin, Refuses, asked, within, command_of, number_in, options_of, run_with, slots_range, snap_range, tries_range, unless_fault}
 use Rattle.command_line.specs.Plain.{AsksForHelp, IsHelp, RunAsksForHelp, AreChoices, Choice, IsLeftOut, IsPlain, Setting, tries, slots, snap, is_same, number_chosen, options_chosen, range_of, words_of}
 use Rattle.command_line.specs.declared.command.Command.{Command}
 use Rattle.command_line.specs.declared.command.Command.TheVariants.{Run, Refused}

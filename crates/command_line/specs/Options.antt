@@ -1,8 +1,6 @@
 -- The numbers of the options, and what the words ask for.
-use Rattle.std.specs.Prelude.{◌≡◌, ◌≢◌, ◌⊎◌, ℕ, ◌≤◌, ◌^◌, ◌&&◌, ◌==◌, Bool, not, List, [], ◌∷◌, length, slice_index, codes, Option, Some, None, nat_lt, nat_le, if◌then◌else◌, option_map, option_and_then}
-use Rattle.std.specs.List.{list_all}
-use Rattle.std.specs.Char.{is_ascii_digit}
-use Rattle.std.specs.Str.Parse.{digits_value}
+use Rattle.std.specs.Prelude.{◌≡◌, ◌≢◌, ◌⊎◌, ℕ, ◌≤◌, ◌&&◌, List, [], ◌∷◌, codes, Option, Some, None, nat_le, if◌then◌else◌, option_map, option_and_then}
+use Rattle.decimals.specs.Numbers.{number_of}
 use Rattle.clap.specs.Walk.{Row, Text, first_of}
 use Rattle.clap.specs.Kinds.{IsAmong, Kinds}
 use Rattle.clap.specs.Faults.{fault_of}
@@ -14,20 +12,6 @@ use Rattle.command_line.specs.declared.command.Command.{Command}
 use Rattle.command_line.specs.declared.command.Command.TheVariants.{Run, Refused}
 use Rattle.command_line.specs.declared.command.RunOptions.{RunOptions}
 use Rattle.command_line.specs.declared.number.Range.{Range}
-
--- a zero (48) before another byte
-abbrev pub has_leading_zero : Text → Bool
-has_leading_zero text = nat_lt 1 (length text) && slice_index text 0 == 48
-
--- decimal digits, at least one, and no zero before others
-abbrev pub is_decimal : Text → Bool
-is_decimal text =
-    nat_lt 0 (length text) && (not (has_leading_zero text) && list_all is_ascii_digit text)
-
--- the number, of at most 2^64 - 1, that the text spells
-unfoldable pub number_of : Text → Option ℕ
-number_of text = if is_decimal text && nat_lt (digits_value 10 text) (2 ^ 64)
-    then Some (digits_value 10 text) else None
 
 -- how often a transaction is tried
 abbrev pub tries_range : Range

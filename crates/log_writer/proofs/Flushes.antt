@@ -1,16 +1,27 @@
 -- What a write and its sync leave of a log file.
-use Rattle.std.proofs.Common.{◌≡◌, ◌∙◌, sym, ap, subst, refl, inl, inr, ◌<◌, ◌≤◌, ◌+◌, ℕ, List, [], ◌++◌, length, take, drop, true, is_some, Option, Some, None, Result, Ok, Err, OnErr, arith, length-append}
+use Rattle.std.specs.Prelude.{◌↔◌}
+use Rattle.std.proofs.Common.{◌≡◌, ◌∙◌, sym, ap, subst, refl, ◌≤◌, ◌+◌, ℕ, List, [], ◌++◌, length, take, drop, true, is_some, Option, Some, None, Result, Ok, Err, OnOk, OnErr, arith, length-append}
 use Rattle.std.proofs.lemmas.List.{append-nil, take_at}
 use Rattle.std.proofs.lemmas.Option.{same_Some}
-use Rattle.std.proofs.lemmas.Bool.{cases_lt}
-use Rattle.outside.specs.Disk.{IfTold, Only, written, Torn, Same, Goes, LeavesEach}
+use Rattle.lists.specs.Fronts.{IsFront}
+use Rattle.outside.specs.Disk.{IfTold, Only, written, Torn}
+use Rattle.outside.specs.Faults.{Rose}
 use Rattle.outside.specs.Ranges.{length-written, torn_written}
-use Rattle.log_writer.specs.Journal.{JournalState, KeepsSince, MadeDurable, end_of}
+use Rattle.outside.specs.Fronts.{keeps_torn}
+use Rattle.log_writer.specs.declared.journal.LogFault.{LogFault}
+use Rattle.log_writer.specs.declared.journal.LogFault.TheVariants.{Device, Down}
+use Rattle.log_writer.specs.Flushes.{WritesThrough, Flushes}
+use Rattle.log_writer.specs.Journal.{JournalState, end_of, Reaches, IsKept, DurableGrows}
 
 -- what holds whatever the answer is holds of a fault
 pub on_err : {A E : Type 0} (r : Result A E) {P : Type 0} → P → OnErr r P
 on_err (Ok done) p = tt
 on_err (Err failed) p = p
+
+-- and of an answer
+pub on_ok : {A E : Type 0} (r : Result A E) {P : Type 0} → P → OnOk r P
+on_ok (Ok done) p = p
+on_ok (Err failed) p = tt
 
 -- a file that reads as it was written is one that the write may leave
 pub torn_told : (told now : Option (List ℕ)) (at : ℕ) (bytes : List ℕ) → IfTold told (λ file. at ≤ length file)
@@ -39,37 +50,173 @@ reaches_torn told now at count same within torn left is =
     omega (arith, within was.0 was.1, (torn was.0 was.1 left is).no_shorter)
 
 -- a file that was written behind what it begins with begins with both
-pub begins_written : (made lines file : List ℕ) → take (length made) file ≡ made → take (length (made ++ lines)) (written (length made) lines file) ≡ made ++ lines
-begins_written made lines file begins =
-    ap (λ front. take (length (made ++ lines)) (front ++ lines ++ drop (length made + length lines) file)) begins
-    ∙ take_at (made ++ lines) (drop (length made + length lines) file) (length (made ++ lines)) refl
+pub begins_written : (was lines file : List ℕ) → IsFront was file → IsFront (was ++ lines) (written (length was) lines file)
+begins_written was lines file begins =
+    ap (λ front. take (length (was ++ lines)) (front ++ lines ++ drop (length was + length lines) file)) begins
+    ∙ take_at (was ++ lines) (drop (length was + length lines) file) (length (was ++ lines)) refl
 
-module _ {D : Type 0} {clock : D → ℕ} {image_at : D → ℕ → List ℕ → Type 0} where
+module _ {D : Type 0} {tells : D → Option (List ℕ)} {clock : D → ℕ} {image_at : D → ℕ → List ℕ → Type 0} where
   -- once a file has only what was written behind its durable bytes, both are durable
-  pub made_written : {old new : JournalState} {disk : D} (at : ℕ) (bytes made file : List ℕ) → at ≡ old.durable → bytes ≡ old.lines
-      → length made ≡ old.durable → take (length made) file ≡ made → Only clock image_at disk (written at bytes file)
-      → new.durable ≡ end_of old → new.lines ≡ [] → MadeDurable clock image_at old new disk made
-  made_written {old = old} {new = new} {disk = disk} at bytes made file place lines size begins only durable empty = record {
-    now = made ++ old.lines;
-    size = omega (arith, length-append made old.lines, size, durable);
-    whole = ap (λ rest. made ++ old.lines ++ rest) empty ∙ append-nil (made ++ old.lines);
-    images = λ m c from to left.
-        let is = only c (subst (λ k. image_at disk k c) (omega arith) left) in
-        let same = ap (λ k. written k bytes file) (place ∙ sym size) ∙ ap (λ b. written (length made) b file) lines in
-        ap (take (length (made ++ old.lines))) (is ∙ same) ∙ begins_written made old.lines file begins;
+  pub durable_written : {old new : JournalState} {before now : D} (at : ℕ) (bytes : List ℕ) → at ≡ old.durable → bytes ≡ old.lines
+      → new.durable ≡ end_of old → new.lines ≡ []
+      → ((disk : D) (file : List ℕ) → tells disk ≡ Some file → image_at disk (clock disk) file)
+      → IfTold (tells before) (λ file. Only clock image_at now (written at bytes file))
+      → DurableGrows tells clock image_at old new before now
+  durable_written {old = old} {before = before} at bytes from lines durable empty reads only file told was is = (
+    was ++ old.lines,
+    record {
+      size = omega (arith, length-append was old.lines, is.size, durable);
+      begins = λ c left.
+          let begins = is.begins file (reads before file told) in
+          let same = ap (λ k. written k bytes file) (from ∙ sym is.size) ∙ ap (λ b. written (length was) b file) lines in
+          ap (take (length (was ++ old.lines))) (only file told c left ∙ same) ∙ begins_written was old.lines file begins;
+    },
+    ap (λ rest. was ++ old.lines ++ rest) empty ∙ append-nil (was ++ old.lines),
+  )
+
+  -- what goes through at an offset goes through at the same one, told otherwise
+  through_moved : {T E : Type 0} {before now : D} {result : Result T E} (at from : ℕ) (bytes lines : List ℕ) → at ≡ from → bytes ≡ lines
+      → WritesThrough tells clock image_at at (length bytes) before now result → WritesThrough tells clock image_at from (length lines) before now result
+  through_moved {before = before} {now = now} {result = result} at from bytes lines place same through =
+      subst (λ (b : List ℕ). WritesThrough tells clock image_at from (length b) before now result) same
+      (subst (λ k. WritesThrough tells clock image_at k (length bytes) before now result) place through)
+
+module _ {D : Type 0} {tells : D → Option (List ℕ)} {clock : D → ℕ} {image_at : D → ℕ → List ℕ → Type 0} {faults : D → ℕ} where
+  -- A journal's write that was done.
+  pub flushes_done : {T U E : Type 0} {old new : JournalState} {before now : D} (value : T) (given : U) (at : ℕ) (bytes : List ℕ)
+      → at ≡ old.durable → bytes ≡ old.lines → old.down ≡ None
+      → new.durable ≡ end_of old → new.lines ≡ [] → faults now ≡ faults before
+      → Reaches tells before old
+      → ((disk : D) (file : List ℕ) → tells disk ≡ Some file → image_at disk (clock disk) file)
+      → IfTold (tells before) (λ file. tells now ≡ Some (written at bytes file))
+      → IfTold (tells before) (λ file. Only clock image_at now (written at bytes file))
+      → (let answer : Result T E = Ok value in WritesThrough tells clock image_at at (length bytes) before now answer)
+      → let result : Result U LogFault = Ok given in Flushes tells clock image_at faults old new before now result
+  flushes_done {U = U} {old = old} {new = new} {before = before} {now = now} value given at bytes from lines up durable empty quiet reaches reads wrote only through =
+      let result : Result U LogFault = Ok given in
+      let same : WritesThrough tells clock image_at at (length bytes) before now result = record { told = through.told; moments = through.moments; each = through.each; unsettled = tt } in
+      let moved = through_moved at old.durable bytes old.lines from lines same in
+      record {
+        reaches = λ file told. omega (
+          arith,
+          reaches_written (tells before) (tells now) at bytes through.told (λ file was. omega (arith, from, reaches file was)) wrote file told,
+          durable,
+          from,
+          ap length lines,
+        );
+        through = moved;
+        durable = durable_written at bytes from lines durable empty reads only;
+        stays = λ since is within begun keeps. keeps_torn within begun moved.moments keeps;
+        kept = tt;
+        refused = record {
+          later = omega (arith, quiet);
+          quiet = quiet;
+          device = λ none. absurd cc;
+          goes_down = λ none. absurd cc;
+          down = λ count. (λ none. absurd cc, λ is. absurd (let not : Some count ≡ None = sym is ∙ up in cc));
+          untouched = λ other. tt;
+        };
+      }
+
+  -- And one that failed.
+  pub flushes_failed : {T U E : Type 0} {old new : JournalState} {before now : D} (error : E) (at : ℕ) (bytes : List ℕ)
+      → at ≡ old.durable → bytes ≡ old.lines → old.down ≡ None
+      → IsKept old new → new.down ≡ Some (faults now) → faults before ≤ faults now → Rose (faults before) (faults now)
+      → Reaches tells before old
+      → IfTold (tells before) (λ file. IfTold (tells now) (Torn at (length bytes) file))
+      → (let answer : Result T E = Err error in WritesThrough tells clock image_at at (length bytes) before now answer)
+      → let result : Result U LogFault = Err Device in Flushes tells clock image_at faults old new before now result
+  flushes_failed {U = U} {old = old} {new = new} {before = before} {now = now} error at bytes from lines up kept down later rose reaches torn through =
+      let result : Result U LogFault = Err Device in
+      let same : WritesThrough tells clock image_at at (length bytes) before now result = record { told = through.told; moments = through.moments; each = through.each; unsettled = through.unsettled } in
+      let moved = through_moved at old.durable bytes old.lines from lines same in
+      record {
+        reaches = λ file told. omega (
+          arith,
+          reaches_torn (tells before) (tells now) at (length bytes) through.told (λ file was. omega (arith, from, reaches file was)) torn file told,
+          from,
+          kept.durable,
+        );
+        through = moved;
+        durable = tt;
+        stays = λ since is within begun keeps. keeps_torn within begun moved.moments keeps;
+        kept = kept;
+        refused = record {
+          later = later;
+          quiet = tt;
+          device = λ is. rose;
+          goes_down = λ is. down;
+          down = λ count. (λ is. absurd cc, λ is. absurd (let not : Some count ≡ None = sym is ∙ up in cc));
+          untouched = λ other. absurd (other refl);
+        };
+      }
+
+  -- A call that writes nothing.
+  pub flushes_nothing : {T : Type 0} {journal : JournalState} {bank : D} (result : Result T LogFault) → Reaches tells bank journal
+      → (result ≡ Err Device → ⊥) → ((count : ℕ) → (result ≡ Err (Down count)) ↔ (journal.down ≡ Some count))
+      → Flushes tells clock image_at faults journal journal bank bank result
+  flushes_nothing {journal = journal} {bank = bank} result reaches other down = record {
+    reaches = reaches;
+    through = record {
+      told = refl;
+      moments = record {
+        later = omega arith;
+        kept = λ m c within left. left;
+        no_new = λ m c within left. left;
+        from = λ m c after come left. absurd (omega arith);
+      };
+      each = record { each = λ m d c after come was step. absurd (omega arith) };
+      unsettled = on_err result (record { each = λ m d c after come was step. absurd (omega arith) });
+    };
+    durable = on_ok result (λ file told was is. (was, is, refl));
+    stays = λ since is within begun keeps. keeps;
+    kept = on_err result (record { limit = refl; durable = refl; lines = refl });
+    refused = record {
+      later = omega arith;
+      quiet = on_ok result refl;
+      device = λ is. absurd (other is);
+      goes_down = λ is. absurd (other is);
+      down = down;
+      untouched = λ same. on_err result (refl, refl);
+    };
   }
 
-  -- where nothing was written the durable bytes are as they were
-  pub made_kept : {journal : JournalState} {disk : D} (made : List ℕ) → length made ≡ journal.durable
-      → KeepsSince clock image_at disk (clock disk) made → MadeDurable clock image_at journal journal disk made
-  made_kept made size keeps = record { now = made; size = size; whole = refl; images = keeps }
+  -- What such a call does it does, whatever it gives where it answers `Ok`.
+  pub flushes_ok : {T U : Type 0} {old new : JournalState} {before now : D} (value : T) (given : U)
+      → (let answer : Result T LogFault = Ok value in Flushes tells clock image_at faults old new before now answer)
+      → let result : Result U LogFault = Ok given in Flushes tells clock image_at faults old new before now result
+  flushes_ok value given flushes = record {
+    reaches = flushes.reaches;
+    through = record { told = flushes.through.told; moments = flushes.through.moments; each = flushes.through.each; unsettled = tt };
+    durable = flushes.durable;
+    stays = flushes.stays;
+    kept = tt;
+    refused = record {
+      later = flushes.refused.later;
+      quiet = flushes.refused.quiet;
+      device = λ none. absurd cc;
+      goes_down = λ none. absurd cc;
+      down = λ count. (λ none. absurd cc, λ is. absurd (let not = (flushes.refused.down count).1 is in cc));
+      untouched = λ other. tt;
+    };
+  }
 
--- each step of a call may be left through a call after it that changes nothing
-pub each_then : {D : Type 0} {clock : D → ℕ} {image_at : D → ℕ → List ℕ → Type 0} {step : List ℕ → List ℕ → Type 0} {old mid new : D} {end : ℕ} → clock old < clock mid → LeavesEach clock image_at step old mid (clock mid)
-    → Goes clock image_at Same mid new → LeavesEach clock image_at Same mid new end → LeavesEach clock image_at step old new end
-each_then {clock = clock} {mid = mid} made first goes next = record {
-  each = λ m d c from to was is. elim (cases_lt (clock mid) m) [
-    | inl past ↦ next.each m c c past to (first.each (clock mid) d c made (omega arith) was is) refl
-    | inr within ↦ goes.kept m c within (first.each m d c from within was is)
-  ];
-}
+  -- And whatever it would have given.
+  pub flushes_err : {T U : Type 0} {old new : JournalState} {before now : D} (fault : LogFault)
+      → (let answer : Result T LogFault = Err fault in Flushes tells clock image_at faults old new before now answer)
+      → let result : Result U LogFault = Err fault in Flushes tells clock image_at faults old new before now result
+  flushes_err {T = T} fault flushes = record {
+    reaches = flushes.reaches;
+    through = record { told = flushes.through.told; moments = flushes.through.moments; each = flushes.through.each; unsettled = flushes.through.unsettled };
+    durable = tt;
+    stays = flushes.stays;
+    kept = flushes.kept;
+    refused = record {
+      later = flushes.refused.later;
+      quiet = tt;
+      device = λ is. flushes.refused.device (cc);
+      goes_down = λ is. flushes.refused.goes_down (cc);
+      down = λ count. (λ is. (flushes.refused.down count).0 (cc), λ is. let was = (flushes.refused.down count).1 is in cc);
+      untouched = λ other. flushes.refused.untouched (λ is. other (cc));
+    };
+  }

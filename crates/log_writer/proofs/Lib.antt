@@ -2,4 +2,3 @@ mod Flushes
 mod Places
 mod Stores
 mod Stages
-mod Unique

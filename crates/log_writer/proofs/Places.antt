@@ -6,9 +6,10 @@ use Rattle.std.proofs.lemmas.Bool.Decides.{nat_tests}
 use Rattle.wire_form.specs.declared.savepoint.Savepoint.{Savepoint}
 use Rattle.std.specs.Prelude.{IfSome}
 use Rattle.wire_form.specs.Items.{IsSpelled}
-use Rattle.wire_form.specs.Savepoint.{IsSavepointOf, place_bytes, open_gate}
+use Rattle.std.specs.Option.{option_map}
+use Rattle.wire_form.specs.Savepoint.{IsSavepoint, IsSavepointOf, place_bytes, valid_byte}
 use Rattle.outside.specs.Disk.{Torn}
-use Rattle.log_writer.specs.Points.{sequence_of}
+use Rattle.log_writer.specs.Points.{IsSaved, saved_of, point_saved, sequence_of}
 use Rattle.log_writer.specs.Save.{place_in, Holds, newer, Names}
 
 -- equal fronts have equal shorter fronts
@@ -35,16 +36,16 @@ pair place sequence stands = record {
 }
 
 -- what stands behind the valid byte of a place
-abbrev pub behind_gate : List ℕ → ℕ → List ℕ
-behind_gate file place = take 511 (drop (512 * place + 1) file)
+abbrev pub behind_valid : List ℕ → ℕ → List ℕ
+behind_valid file place = take 511 (drop (512 * place + 1) file)
 
 -- a place is its valid byte and what stands behind it
-pub place_parts : (file : List ℕ) (place : ℕ) → 512 * place < length file → place_in file place ≡ get_or file (512 * place) 0 ∷ behind_gate file place
+pub place_parts : (file : List ℕ) (place : ℕ) → 512 * place < length file → place_in file place ≡ get_or file (512 * place) 0 ∷ behind_valid file place
 place_parts file place lt = ap (λ (l : List ℕ). take 512 l) (drop_more file (512 * place) 0 lt)
 
 -- the first byte of a place is its valid byte
-pub place_gate : (file : List ℕ) (place : ℕ) → 512 * place < length file → get_or (place_in file place) 0 0 ≡ get_or file (512 * place) 0
-place_gate file place lt = ap (λ (l : List ℕ). get_or l 0 0) (place_parts file place lt)
+pub place_first : (file : List ℕ) (place : ℕ) → 512 * place < length file → get_or (place_in file place) 0 0 ≡ get_or file (512 * place) 0
+place_first file place lt = ap (λ (l : List ℕ). get_or l 0 0) (place_parts file place lt)
 
 -- what is written within a place leaves the other
 pub other_kept : {place other : ℕ} → Pair place other → (at count : ℕ) (file c : List ℕ) → 512 * place ≤ at → at + count ≤ 512 * place + 512 → Torn at count file c → place_in c other ≡ place_in file other
@@ -61,8 +62,8 @@ size_kept places at count file c size to torn = elim places.either [
 ]
 
 -- the valid byte of a place lies within the device
-pub gate_within : {place other : ℕ} → Pair place other → (file : List ℕ) → length file ≡ 1024 → 512 * place < length file
-gate_within places file size = elim places.either [ inl is ↦ omega (arith, is.0) | inr is ↦ omega (arith, is.0) ]
+pub place_within : {place other : ℕ} → Pair place other → (file : List ℕ) → length file ≡ 1024 → 512 * place < length file
+place_within places file size = elim places.either [ inl is ↦ omega (arith, is.0) | inr is ↦ omega (arith, is.0) ]
 
 -- a newest savepoint of even sequence is the one of the second place
 in_second_place : (first second : Option Savepoint) (x y : List ℕ) → Holds 0 x first → Holds 1 y second → sequence_of (newer first second) % 2 ≡ 0 → newer first second ≡ second
@@ -111,9 +112,9 @@ newer-greater None point lt = (refl, refl)
 newer-greater (Some a) point lt = (grind (arith, nat_tests), grind (arith, nat_tests))
 
 -- where one place is closed, the device has what the other holds
-pub closed_names : {place other : ℕ} → Pair place other → (c : List ℕ) (newest : Option Savepoint) → length c ≡ 1024 → get_or c (512 * place) 0 ≢ open_gate → Holds other (place_in c other) newest → Names c newest
+pub closed_names : {place other : ℕ} → Pair place other → (c : List ℕ) (newest : Option Savepoint) → length c ≡ 1024 → get_or c (512 * place) 0 ≢ valid_byte → Holds other (place_in c other) newest → Names c newest
 closed_names {place} {other} places c newest size shut holds =
-    let none : Holds place (place_in c place) None = λ is. shut (sym (place_gate c place (gate_within places c size)) ∙ is) in
+    let none : Holds place (place_in c place) None = λ is. shut (sym (place_first c place (place_within places c size)) ∙ is) in
     elim places.either [
       | inl is ↦ record {
         size = size;
@@ -182,7 +183,7 @@ place_read place at count file bytes within begins size counted is =
     is ∙ ap (λ n. take n (drop at file) ++ drop n (replicate 512 0)) whole ∙ append-nil (take 512 (drop at file)) ∙ ap (λ i. take 512 (drop i file)) begins
 
 -- what a place was read as, it holds
-pub place_holds : (place : ℕ) (bytes : List ℕ) (found : Option Savepoint) → ((found ≡ None) → slice_index bytes 0 ≢ open_gate) → IfSome found (IsSpelled (IsSavepointOf place) place_bytes bytes) → Holds place bytes found
+pub place_holds : (place : ℕ) (bytes : List ℕ) (found : Option Savepoint) → ((found ≡ None) → slice_index bytes 0 ≢ valid_byte) → IfSome found (IsSpelled (IsSavepointOf place) place_bytes bytes) → Holds place bytes found
 place_holds place bytes None shut spelled = shut refl
 place_holds place bytes (Some point) shut spelled = (spelled.valid, sym spelled.spelled)
 
@@ -198,3 +199,8 @@ newer_either P (Some a) (Some b) is_first is_second = elim (cases_lt a.sequence 
       let is : newer (Some a) (Some b) ≡ Some a = grind (arith, nat_tests) in
       subst (λ (found : Option Savepoint). IfSome found P) (sym is) is_first
 ]
+
+-- what the newest savepoint says is what a savepoint says
+pub newest_saved : (newest : Option Savepoint) → IfSome newest IsSavepoint → IfSome (option_map saved_of newest) IsSaved
+newest_saved None none = tt
+newest_saved (Some point) is = point_saved point is

@@ -2,12 +2,12 @@
 use Rattle.std.proofs.Common.{◌≡◌, inl, ℕ, ◌+◌, ◌*◌, ◌-◌, ◌<◌, ◌≤◌, List, [], ◌∷◌, Option, Some, None, Result, Ok, Err, OnOk, is_some, length, take, drop, refl, sym, ◌∙◌, ap, subst, arith}
 use Rattle.std.proofs.lemmas.List.{length-take, length-drop, take_all}
 use Rattle.wire_form.specs.declared.savepoint.Savepoint.{Savepoint}
-use Rattle.wire_form.specs.Savepoint.{IsSavepoint, IsSavepointOf, StandsAt, place_bytes, open_gate}
+use Rattle.wire_form.specs.Savepoint.{IsSavepoint, IsSavepointOf, StandsAt, place_bytes, valid_byte}
 use Rattle.outside.specs.Disk.{written, Torn, Goes, Only, Runs}
 use Rattle.outside.specs.Moments.{runs_weaker, runs_step}
 use Rattle.log_writer.specs.Points.{sequence_of}
-use Rattle.log_writer.specs.Save.{Holds, place_in, Names, NamesNow, NamesOldOrNew, closed, ClosedOrTorn}
-use Rattle.log_writer.proofs.Places.{Pair, pair, gate_within, newest_stands}
+use Rattle.log_writer.specs.Save.{Holds, place_in, Names, LeavesNewest, NamesOldOrNew, closed, ClosedOrTorn}
+use Rattle.log_writer.proofs.Places.{Pair, pair, place_within, newest_stands}
 use Rattle.log_writer.proofs.Stages.{Shut, Filled, close_stop, shut_closed, fill_stop, filled, open_stop, opened}
 
 -- what two outcomes give together
@@ -46,7 +46,7 @@ filled_up place bytes file = written (512 * place + 1) (rest bytes) (closed (512
 
 -- and then opened
 abbrev pub opened_up : ℕ → List ℕ → List ℕ → List ℕ
-opened_up place bytes file = written (512 * place) (open_gate ∷ []) (filled_up place bytes file)
+opened_up place bytes file = written (512 * place) (valid_byte ∷ []) (filled_up place bytes file)
 
 module _ {place : ℕ} {newest : Option Savepoint} {point : Savepoint} {bytes : List ℕ} (next : IsNext place newest point bytes) (file : List ℕ) (names : Names file newest) where
   places : Pair place (1 - place)
@@ -61,10 +61,10 @@ module _ {place : ℕ} {newest : Option Savepoint} {point : Savepoint} {bytes : 
   length-rest : length (rest bytes) ≡ 511
   length-rest = omega (arith, length-take 511 (drop 1 bytes), length-drop 1 bytes, next.long)
 
-  open_rest : open_gate ∷ rest bytes ≡ place_bytes point
+  open_rest : valid_byte ∷ rest bytes ≡ place_bytes point
   open_rest =
       let all : rest bytes ≡ drop 1 bytes = take_all 511 (drop 1 bytes) (omega (arith, length-drop 1 bytes, next.long)) in
-      ap (λ (l : List ℕ). open_gate ∷ l) (all ∙ ap (λ (l : List ℕ). drop 1 l) next.spelled)
+      ap (λ (l : List ℕ). valid_byte ∷ l) (all ∙ ap (λ (l : List ℕ). drop 1 l) next.spelled)
 
   shut : Shut place (1 - place) newest (closed (512 * place) file)
   shut = shut_closed place (1 - place) places newest file names.size other_holds
@@ -74,16 +74,16 @@ module _ {place : ℕ} {newest : Option Savepoint} {point : Savepoint} {bytes : 
 
   -- each of the three writes begins within the device
   pub first_within : 512 * place < length file
-  first_within = gate_within places file names.size
+  first_within = place_within places file names.size
 
   pub second_within : (now : List ℕ) → now ≡ closed (512 * place) file → 512 * place + 1 ≤ length now
-  second_within now is = omega (arith, gate_within places (closed (512 * place) file) shut.size, ap length is)
+  second_within now is = omega (arith, place_within places (closed (512 * place) file) shut.size, ap length is)
 
   pub third_within : (now : List ℕ) → now ≡ filled_up place bytes file → 512 * place ≤ length now
-  third_within now is = omega (arith, gate_within places (filled_up place bytes file) full.size, ap length is)
+  third_within now is = omega (arith, place_within places (filled_up place bytes file) full.size, ap length is)
 
   -- once the place is opened, the device has the next savepoint and nothing is pending
-  pub stored_now : {D : Type 0} {clock : D → ℕ} {image_at : D → ℕ → List ℕ → Type 0} {disk : D} (now : List ℕ) → now ≡ opened_up place bytes file → Only clock image_at disk (opened_up place bytes file) → NamesNow clock image_at disk (Some point) now
+  pub stored_now : {D : Type 0} {clock : D → ℕ} {image_at : D → ℕ → List ℕ → Type 0} {disk : D} (now : List ℕ) → now ≡ opened_up place bytes file → Only clock image_at disk (opened_up place bytes file) → LeavesNewest clock image_at disk (Some point) now
   stored_now now is only =
       let names_next = opened place (1 - place) places newest point placed next.sequence (filled_up place bytes file) full in
       record {

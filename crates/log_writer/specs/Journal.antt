@@ -1,6 +1,7 @@
--- What a journal makes durable of its log file.
-use Rattle.std.specs.Prelude.{◌≡◌, ℕ, ◌+◌, ◌-◌, ◌^◌, ◌<◌, ◌≤◌, List, [], ◌++◌, Option, Some, None, length, take}
+-- What a journal is, and what is durable of its log file.
+use Rattle.std.specs.Prelude.{◌≡◌, ℕ, ◌+◌, ◌-◌, ◌^◌, ◌<◌, ◌≤◌, List, [], ◌++◌, Option, Some, None, length}
 use Rattle.outside.specs.Disk.{IfTold, written}
+use Rattle.outside.specs.Fronts.{AllBegin, KeepsSince}
 
 -- a journal as its users see it
 pub record JournalState : Type 0 where
@@ -31,10 +32,6 @@ end_of journal = journal.durable + length journal.lines
 abbrev pub Reaches : {D : Type 0} → (tells : D → Option (List ℕ)) → D → JournalState → Type 0
 Reaches tells bank journal = IfTold (tells bank) (λ file. journal.durable ≤ length file)
 
--- every image since this moment begins with these bytes
-abbrev pub KeepsSince : {D : Type 0} → (clock : D → ℕ) → (image_at : D → ℕ → List ℕ → Type 0) → D → ℕ → List ℕ → Type 0
-KeepsSince clock image_at bank since made = (m : ℕ) (c : List ℕ) → since ≤ m → m ≤ clock bank → image_at bank m c → take (length made) c ≡ made
-
 -- the lines that waited are durable, and no line waits
 pub record IsFlushed (old new : JournalState) : Type 0 where
   pub was_up : old.down ≡ None
@@ -49,24 +46,23 @@ pub record IsKept (old new : JournalState) : Type 0 where
   pub durable : new.durable ≡ old.durable
   pub lines : new.lines ≡ old.lines
 
--- Every image now begins with what is durable. With the lines that wait it is what these bytes were
--- with the lines that waited then, so no byte is lost or moved between the two.
-pub record MadeDurable {D : Type 0} (clock : D → ℕ) (image_at : D → ℕ → List ℕ → Type 0) (old new : JournalState) (bank : D) (made : List ℕ) : Type 0 where
-  pub now : List ℕ
-  pub size : length now ≡ new.durable
-  pub whole : now ++ new.lines ≡ made ++ old.lines
-  pub images : KeepsSince clock image_at bank (clock bank) now
-
--- where the log file tells its bytes, what is durable of a journal is so of its log file afterwards
-abbrev pub MakesDurable : {D : Type 0} → (tells : D → Option (List ℕ)) → (clock : D → ℕ) → (image_at : D → ℕ → List ℕ → Type 0) → JournalState → JournalState → D → D → Type 0
-MakesDurable tells clock image_at old new before now = IfTold (tells before) (λ file. (made : List ℕ) → length made ≡ old.durable
-    → KeepsSince clock image_at before (clock before) made → MadeDurable clock image_at old new now made)
-
--- whatever of the durable bytes every image since a moment begins with, every image does to this day
-abbrev pub Stays : {D : Type 0} → (clock : D → ℕ) → (image_at : D → ℕ → List ℕ → Type 0) → JournalState → D → D → Type 0
-Stays clock image_at journal before now = (since : ℕ) (made : List ℕ) → length made ≤ journal.durable → since ≤ clock before
-    → KeepsSince clock image_at before since made → KeepsSince clock image_at now since made
-
 -- the log file reads as before with the lines written behind what was durable
 abbrev pub Wrote : {D : Type 0} → (tells : D → Option (List ℕ)) → JournalState → D → D → Type 0
 Wrote tells journal before now = IfTold (tells before) (λ file. tells now ≡ Some (written journal.durable journal.lines file))
+
+-- these bytes are durable: they are as many as the journal counts, and every image of now begins with them
+pub record IsDurable {D : Type 0} (clock : D → ℕ) (image_at : D → ℕ → List ℕ → Type 0) (journal : JournalState) (bank : D) (bytes : List ℕ) : Type 0 where
+  pub size : length bytes ≡ journal.durable
+  pub begins : AllBegin (image_at bank (clock bank)) bytes
+
+-- Where the log file tells its bytes, those that were durable are so still, with lines behind them that waited and now
+-- don't: what is durable and then what waits is the same list of bytes as before, so none is lost and none moved.
+abbrev pub DurableGrows : {D : Type 0} → (tells : D → Option (List ℕ)) → (clock : D → ℕ) → (image_at : D → ℕ → List ℕ → Type 0) → JournalState → JournalState → D → D → Type 0
+DurableGrows tells clock image_at old new before now = IfTold (tells before) (λ _. (was : List ℕ) → IsDurable clock image_at old before was
+    → (is : List ℕ) × IsDurable clock image_at new now is × (is ++ new.lines ≡ was ++ old.lines))
+
+-- of the bytes that were durable, whatever every image since a moment began with, every image since that moment begins
+-- with to this day
+abbrev pub DurableStays : {D : Type 0} → (clock : D → ℕ) → (image_at : D → ℕ → List ℕ → Type 0) → JournalState → D → D → Type 0
+DurableStays clock image_at journal before now = (since : ℕ) (bytes : List ℕ) → length bytes ≤ journal.durable → since ≤ clock before
+    → KeepsSince clock image_at before since bytes → KeepsSince clock image_at now since bytes

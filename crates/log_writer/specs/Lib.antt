@@ -1,4 +1,6 @@
+pub mod Flushes
 pub mod Journal
+pub mod Newest
 pub mod Points
-pub mod Prefixes
 pub mod Save
+pub mod Stores

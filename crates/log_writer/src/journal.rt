@@ -1,6 +1,6 @@
 // A worker's journal: the lines that wait, and how much of its log file is durable.
 ghost use Rattle.std.specs.Prelude.{◌≡◌, ◌↔◌, ◌+◌, ◌^◌, ◌<◌, ◌≤◌, [], ◌++◌, None, length, IfOk};
-ghost use Rattle.wire_form.specs.LogLine.{IsLoggable, line_bytes};
+ghost use Rattle.wire_form.specs.LogLine.{IsLoggable, IsLogLine, line_bytes};
 ghost use Rattle.log_writer.specs.Journal.{free, end_of};
 
 use crate::line_buffer::LineBuffer;
@@ -76,12 +76,15 @@ impl Journal {
         self.lines.len()
     }
 
-    /// Adds a commit's log line to those that wait. `room` makes room for it.
+    /// Adds a commit's log line to those that wait. `room` makes room for it. What is put is a whole line, of at most
+    /// 400 bytes, as one that reads the log file again looks for.
     pub fn put(&mut self, commit: &Commit)
         requires loggable { IsLoggable commit.now }
         requires free { 400 ≤ free self.old }
         requires limit { end_of self.old + 400 ≤ self.old.limit }
         ensures lines { self.new.lines ≡ self.old.lines ++ line_bytes commit.now }
+        ensures line { IsLogLine commit.now }
+        ensures short { length (line_bytes commit.now) ≤ 400 }
         ensures durable { self.new.durable ≡ self.old.durable }
         ensures limit { self.new.limit ≡ self.old.limit }
         ensures down { self.new.down ≡ self.old.down }

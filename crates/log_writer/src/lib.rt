@@ -1,26 +1,30 @@
-//! The workers' log files, and the savepoint that says how much of each counts.
+//! The workers' log files, and the savepoint that says how much of each counts: how commits become durable.
 //!
 //! Promises, over each disk that tells its bytes:
 //!
-//! - [`Save::store`]: whatever a stop leaves since it began names the savepoint that was newest or the
-//!   one that is stored (`any_moment`), and after `Ok` the latter (`stored`). [`Save::store_in`] does
-//!   the same, and records exactly one tie where the store was begun (`tied`, `begun`, `untouched`).
-//! - [`Save::load`] gives the savepoint that the device names (`names`), or the byte from which on it
-//!   names none (`damaged`). A device names at most one ([`one_newest`]).
-//! - [`Journal::flush`] and [`Journal::room`]: after `Ok` every crash image begins with all bytes that
-//!   were made durable (`durable`), and over later calls, whatever they answer, the images of every
-//!   moment keep beginning with them (`stays`), until the log file is cut. What a call may leave is told
-//!   exactly (`moments`, `each`, `unsettled`, `written`).
+//! - [`Save::store`]: whatever a stop leaves since it began names the savepoint that was newest or the one that
+//!   is stored (`any_moment` of the record `Stores`, in `specs/Stores.antt`), and after `Ok` the latter
+//!   (`stored`). [`Save::store_in`] does the same (`stores`), and records exactly one tie where the store was
+//!   begun (`tied`, `begun`, `untied`).
+//! - [`Save::load`] gives the savepoint that the device names (`found`, by `Finds`), or the byte from which on
+//!   it names none (`damaged`). A device names at most one ([`one_newest`]).
+//! - [`Journal::flush`] and [`Journal::room`]: after `Ok` every crash image begins with all bytes that were
+//!   made durable (`durable` of the record `Flushes`, in `specs/Flushes.antt`), and over later calls, whatever
+//!   they answer, the images of every moment keep beginning with them (`stays`), until the log file is cut.
+//!   What a call may leave is told exactly (`through`, `written`).
+//! - [`Journal::put`] adds one log line, of at most 400 bytes (`lines`, `line`, `short`).
 //!
-//! And over each disk: a fault is answered only where the disk's count of faults rose, and is final
-//! (`device`, `goes_down`, `down`); the limits are exact (`limit`); a refusal leaves what counted (`kept`,
+//! And over each disk: a fault is answered only where the disk's count of faults rose, and is final (`device`,
+//! `goes_down`, `down`); where a call answers `Ok` the count stands still (`quiet`), so that no sync that
+//! failed passes for one that was done; the limits are exact (`limit`); a refusal leaves what counted (`kept`,
 //! `untouched`). No call takes memory but [`Journal::new`].
 //!
 //! Invariants: what is durable and what waits stay within the limit, and what waits within the buffer
 //! (`IsWithin`); while a place is written it is closed, and the other one has the newest savepoint.
 //!
-//! Terms: a *line* is a commit as bytes. Bytes *wait* in the journal until they are written. A savepoint is
-//! *newest* if its place is open and has the greater sequence. A *tie* tells when a store was.
+//! Terms: a *line* is a commit as bytes. Bytes *wait* in the journal until they are written. The save device
+//! has two *places* for a savepoint; a place is open where its first byte, its *valid byte*, is 0xA5. A
+//! savepoint is *newest* if its place is open and has the greater sequence. A *tie* tells when a store was.
 //!
 //! Design: docs/DURABILITY.md. Bytes: docs/FORMATS.md. Workers' logs, each flushed by itself, are Silo's.
 #![tactic(auto)]
@@ -32,7 +36,7 @@ mod line_buffer;
 mod save;
 mod saved;
 mod store_in;
-mod turns;
+mod write_and_sync;
 
 pub use journal::{Journal, LogFault};
 pub use laws::one_newest;

@@ -1,6 +1,6 @@
 // The log lines that wait to be written.
 ghost use Rattle.std.specs.Prelude.{◌≡◌, ◌+◌, ◌≤◌, [], ◌++◌, length, IfOk};
-ghost use Rattle.wire_form.specs.LogLine.{IsLoggable, line_bytes};
+ghost use Rattle.wire_form.specs.LogLine.{IsLoggable, IsLogLine, line_bytes};
 
 use serial_model::Commit;
 use std::alloc::{AllocError, Global};
@@ -57,6 +57,7 @@ impl LineBuffer {
         requires loggable { IsLoggable commit.now }
         requires room { length self.old + 400 ≤ 4096 }
         ensures added { self.new ≡ self.old ++ line_bytes commit.now }
+        ensures line { IsLogLine commit.now }
         ensures short { length (line_bytes commit.now) ≤ 400 }
     {
         self.filled += write_log_line(commit, &mut self.bytes[self.filled..]);

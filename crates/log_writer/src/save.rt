@@ -1,15 +1,15 @@
 // The store of savepoints: two places, of which one is written while the other counts.
 ghost use Rattle.std.specs.Prelude.{◌≡◌, ◌≢◌, ◌↔◌, ℕ, ◌+◌, ◌-◌, ◌*◌, ◌%◌, ◌^◌, ◌<◌, ◌≤◌, Option, Ok, Some, None, Err, is_some, length, IfOk, IfSome, OnOk, OnErr};
-ghost use Rattle.std.specs.Option.{option_map};
 ghost use Rattle.wire_form.specs.declared.savepoint.Savepoint.{Savepoint};
 ghost use Rattle.outside.specs.Disk.{IfTold, Same, Goes, Only, Runs};
 ghost use Rattle.wire_form.specs.Savepoint.{IsSavepoint};
-ghost use Rattle.log_writer.specs.Points.{IsSaved, point_of, saved_of, sequence_of};
-ghost use Rattle.outside.specs.Faults.{HasCause, Rose};
-ghost use Rattle.log_writer.specs.Save.{place_in, Holds, newer, Names, IsBroken, IsDamaged, IsStored, NamesOldOrNew, closed, ClosedOrTorn};
+ghost use Rattle.log_writer.specs.Points.{IsSaved, sequence_of};
+ghost use Rattle.outside.specs.Faults.{HasCause};
+ghost use Rattle.log_writer.specs.Save.{place_in, Holds, newer, IsBroken, IsDamaged, IsStored, NamesOldOrNew, closed, ClosedOrTorn};
+ghost use Rattle.log_writer.specs.Stores.{Blames, Finds, Stores};
 
 use crate::Saved;
-use crate::turns::write_and_sync;
+use crate::write_and_sync::write_and_sync;
 use outside::{Disk, Failed};
 use std::marker::Model;
 use wire_form::{NoSavepoint, Savepoint, read_savepoint, write_savepoint};
@@ -78,18 +78,22 @@ fn read_place<D: Disk>(disk: &mut D, place: u8) -> Result<Option<Savepoint>, Sav
     ensures holds { IfOk result (λ point. IfTold (D.tells disk.old) (λ file. length file ≡ 1024
         → Holds place (place_in file place) point)) }
     ensures point { IfOk result (λ point. IfSome point IsSavepoint) }
-    ensures broken { (at : ℕ) → result ≡ Err (SaveOpen.Damaged at) → IfTold (D.tells disk.old) (λ file. length file ≡ 1024
+    ensures broken { (at : ℕ) → result ≡ Err (SaveOpen.Damaged at)
+        → IfTold (D.tells disk.old) (λ file. length file ≡ 1024
         → IsBroken place (place_in file place) × (at ≡ 512 * place)) }
     ensures told { D.tells disk.new ≡ D.tells disk.old }
     ensures moments { Goes D.clock D.image_at Same disk.old disk.new }
-    ensures later { D.faults disk.old ≤ D.faults disk.new }
-    ensures device { result ≡ Err SaveOpen.Device → Rose (D.faults disk.old) (D.faults disk.new) }
+    ensures faults { Blames D.faults disk.old disk.new result }
 {
     let at = PLACE * u64::from(place);
     let mut bytes = [0; 512];
-    let Ok(_) = disk.read(at, &mut bytes) else {
+    let Ok(count) = disk.read(at, &mut bytes) else {
         return Err(SaveOpen::Device);
     };
+    // The device got shorter since it told its length.
+    if count < 512 {
+        return Err(SaveOpen::Damaged { at });
+    }
     match read_savepoint(place, &bytes) {
         Ok(point) => Ok(point),
         Err(NoSavepoint) => Err(SaveOpen::Damaged { at }),
@@ -111,16 +115,18 @@ fn newer_of(first: Option<Savepoint>, second: Option<Savepoint>) -> Option<Savep
 // within a write may leave any byte, and so an open place of what was there.
 fn close<D: Disk>(disk: &mut D, at: u64) -> Result<(), Failed>
     requires { IfTold (D.tells disk.old) (λ file. at < length file) }
-    ensures closed { OnOk result (IfTold (D.tells disk.old) (λ file. D.tells disk.new ≡ Some (closed at file))) }
-    ensures durable { OnOk result (IfTold (D.tells disk.old) (λ file. Only D.clock D.image_at disk.new (closed at file))) }
+    ensures closed { OnOk result (IfTold (D.tells disk.old) (λ file.
+        D.tells disk.new ≡ Some (closed at file))) }
+    ensures durable { OnOk result (IfTold (D.tells disk.old) (λ file.
+        Only D.clock D.image_at disk.new (closed at file))) }
     ensures told { is_some (D.tells disk.new) ≡ is_some (D.tells disk.old) }
     ensures any_moment { IfTold (D.tells disk.old) (λ file. Only D.clock D.image_at disk.old file
         → Runs D.clock D.image_at disk.old disk.new (ClosedOrTorn at file)) }
     ensures cause { HasCause (D.faults disk.old) (D.faults disk.new) result }
 {
-    let mut gate = [0];
-    disk.read(at, &mut gate)?;
-    if gate[0] == VALID {
+    let mut valid = [0];
+    disk.read(at, &mut valid)?;
+    if valid[0] == VALID {
         write_and_sync(disk, at, &[0])
     } else {
         disk.sync()
@@ -131,17 +137,13 @@ impl Save {
     /// The newest savepoint of a save device, and what it says; none where neither place is open.
     /// The device is only read.
     pub fn load<D: Disk>(disk: &mut D) -> Result<(Save, Option<Saved>), SaveOpen>
-        ensures names { IfOk result (λ found. IfTold (D.tells disk.old) (λ file. Names file found.0.newest)) }
-        ensures saved { IfOk result (λ found. found.1 ≡ option_map saved_of found.0.newest) }
-        ensures ranges { IfOk result (λ found. IfSome found.1 IsSaved) }
-        ensures up { IfOk result (λ found. found.0.down ≡ None) }
-        ensures damaged { (at : ℕ) → result ≡ Err (SaveOpen.Damaged at) → IfTold (D.tells disk.old) (λ file. IsDamaged file at) }
-        ensures stored { IfTold (D.tells disk.old) (Only D.clock D.image_at disk.old)
-            → IfOk result (λ found. IsStored D.tells D.clock D.image_at disk.new found.0.newest) }
+        ensures found { IfOk result (λ found.
+            Finds D.tells D.clock D.image_at disk.old disk.new found.0 found.1) }
+        ensures damaged { (at : ℕ) → result ≡ Err (SaveOpen.Damaged at)
+            → IfTold (D.tells disk.old) (λ file. IsDamaged file at) }
         ensures told { D.tells disk.new ≡ D.tells disk.old }
         ensures moments { Goes D.clock D.image_at Same disk.old disk.new }
-        ensures later { D.faults disk.old ≤ D.faults disk.new }
-        ensures device { result ≡ Err SaveOpen.Device → Rose (D.faults disk.old) (D.faults disk.new) }
+        ensures faults { Blames D.faults disk.old disk.new result }
     {
         let Ok(len) = disk.len() else {
             return Err(SaveOpen::Device);
@@ -173,8 +175,10 @@ impl Save {
         requires point { IsSavepoint point.now }
         requires next { point.now.sequence ≡ sequence_of self.now.newest + 1 }
         requires stored { IsStored D.tells D.clock D.image_at disk.old self.now.newest }
-        ensures stored { OnOk result (IsStored D.tells D.clock D.image_at disk.new (Some point.now)) }
-        ensures any_moment { IfTold (D.tells disk.old) (λ _. Runs D.clock D.image_at disk.old disk.new
+        ensures stored { OnOk result
+            (IsStored D.tells D.clock D.image_at disk.new (Some point.now)) }
+        ensures any_moment { IfTold (D.tells disk.old) (λ _. Runs D.clock D.image_at
+            disk.old disk.new
             (NamesOldOrNew self.now.newest point.now)) }
         ensures told { is_some (D.tells disk.new) ≡ is_some (D.tells disk.old) }
         ensures cause { HasCause (D.faults disk.old) (D.faults disk.new) result }
@@ -191,21 +195,10 @@ impl Save {
     /// newest, and after `Ok` the new one.
     pub fn store<D: Disk>(&mut self, disk: &mut D, saved: Saved) -> Result<(), SaveFault>
         requires saved { IsSaved saved }
-        requires stored { self.old.down ≡ None → IsStored D.tells D.clock D.image_at disk.old self.old.newest }
-        ensures newest { OnOk result (self.new.newest ≡ Some (point_of (sequence_of self.old.newest + 1) saved)) }
-        ensures stored { OnOk result (IsStored D.tells D.clock D.image_at disk.new self.new.newest) }
-        ensures up { OnOk result ((self.old.down ≡ None) × (self.new.down ≡ None)) }
-        ensures kept { OnErr result (self.new.newest ≡ self.old.newest) }
-        ensures any_moment { IfTold (D.tells disk.old) (λ _. Runs D.clock D.image_at disk.old disk.new
-            (NamesOldOrNew self.old.newest (point_of (sequence_of self.old.newest + 1) saved))) }
-        ensures told { is_some (D.tells disk.new) ≡ is_some (D.tells disk.old) }
-        ensures later { D.faults disk.old ≤ D.faults disk.new }
-        ensures device { result ≡ Err SaveFault.Device → Rose (D.faults disk.old) (D.faults disk.new) }
-        ensures goes_down { result ≡ Err SaveFault.Device → self.new.down ≡ Some (D.faults disk.new) }
-        ensures down { (faults : ℕ) → (result ≡ Err (SaveFault.Down faults)) ↔ (self.old.down ≡ Some faults) }
-        ensures limit { (sequence : ℕ) → (result ≡ Err (SaveFault.Limit sequence))
-            ↔ ((self.old.down ≡ None) × (sequence ≡ sequence_of self.old.newest) × (sequence ≡ 2 ^ 63 - 1)) }
-        ensures untouched { result ≢ Err SaveFault.Device → OnErr result ((self.new ≡ self.old) × (disk.new ≡ disk.old)) }
+        requires stored { self.old.down ≡ None
+            → IsStored D.tells D.clock D.image_at disk.old self.old.newest }
+        ensures { Stores D.tells D.clock D.image_at D.faults saved
+            self.old self.new disk.old disk.new result }
     {
         if let Some(faults) = self.down {
             return Err(SaveFault::Down { faults });

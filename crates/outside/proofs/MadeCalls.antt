@@ -1,16 +1,14 @@
 -- How the crash images of a disk in memory go on at a call.
-use Rattle.std.proofs.Common.{◌≡◌, ℕ, ◌-◌, ◌*◌, ◌≤◌, Bool, List, [], ◌∷◌, ◌++◌, length, sym, ap, subst, arith}
+use Rattle.std.proofs.Common.{◌≡◌, inl, inr, ℕ, ◌+◌, ◌-◌, ◌*◌, ◌<◌, ◌≤◌, ◌^◌, Bool, true, false, List, [], ◌∷◌, ◌++◌, length, length-append, Result, Ok, Err, sym, ap, subst, arith}
 use Rattle.outside.specs.declared.call.Call.{Call}
+use Rattle.outside.specs.declared.call.Made.{Made}
 use Rattle.outside.specs.declared.memory_disk.MemDisk.{MemDisk}
-use Rattle.outside.specs.Disk.{Goes, LeavesEach}
+use Rattle.outside.specs.Disk.{Goes, LeavesEach, Calls}
+use Rattle.outside.specs.Faults.{Rose}
+use Rattle.outside.specs.Listed.{GrewBy, IsRecorded}
+use Rattle.outside.specs.MemoryDisk.{clock_of, image_of, faults_of}
 use Rattle.outside.specs.Replay.{step_of, IsLoose, read_through, LeftAfter, LeavesLast, IsImage, moments_of}
 use Rattle.outside.proofs.Replays.{turn, more, goes_more, each_within, each_more, left_last}
-
-abbrev pub clock_of : MemDisk → ℕ
-clock_of disk = 2 * length disk.calls.items
-
-abbrev pub image_of : MemDisk → ℕ → List ℕ → Type 0
-image_of disk m c = IsImage disk.first.items disk.calls.items m c
 
 -- a call that was refused before it began
 pub goes_none : (step : List ℕ → List ℕ → Type 0) (old new : MemDisk)
@@ -18,7 +16,7 @@ pub goes_none : (step : List ℕ → List ℕ → Type 0) (old new : MemDisk)
 goes_none step old new first calls = record {
   later = omega (arith, ap length calls);
   kept = λ m c le left. turn (λ i. IsImage (sym first i).items (sym calls i) m c) left;
-  told = λ m c le left. turn (λ i. IsImage (first i).items (calls i) m c) left;
+  no_new = λ m c le left. turn (λ i. IsImage (first i).items (calls i) m c) left;
   from = λ m c gt le left. absurd (omega (arith, ap length calls));
 }
 
@@ -28,6 +26,35 @@ pub each_none : (step : List ℕ → List ℕ → Type 0) (old new : MemDisk)
     → LeavesEach clock_of image_of step old new end
 each_none step old new calls end le = record {
   each = λ m d c gt to was step. absurd (omega (arith, ap length calls));
+}
+
+-- a record that grew by one call grew by one of a wider kind
+grew_by : (P Q : Call → Type 0) (failed : Bool) (old new : List Made) → ((call : Call) → P call → Q call) → GrewBy P failed old new → GrewBy Q failed old new
+grew_by P Q failed old new to grew = (grew.0, to grew.0 grew.1, grew.2)
+
+-- and so what is recorded of it
+pub recorded_by : {T E : Type 0} (P Q : Call → Type 0) (fails : List ℕ) (old new : List Made) (result : Result T E) → ((call : Call) → P call → Q call)
+    → IsRecorded P fails old new result → IsRecorded Q fails old new result
+recorded_by P Q fails old new (Ok done) to made =
+    record { done = (made.done.0, grew_by P Q false old new to made.done.1); failed = tt }
+recorded_by P Q fails old new (Err error) to made = record {
+  done = tt;
+  failed = elim made.failed [
+    | inl failed ↦ inl (failed.0, grew_by P Q true old new to failed.1)
+    | inr none ↦ inr none
+  ];
+}
+
+-- what such a call does
+pub calls_none : {T E : Type 0} (error : E) (step : List ℕ → List ℕ → Type 0) (old new : MemDisk) (end : ℕ)
+    → new.first ≡ old.first → new.calls.items ≡ old.calls.items → end ≤ clock_of new
+    → old.faults ≤ new.faults → Rose old.faults new.faults
+    → let answer : Result T E = Err error in Calls clock_of image_of faults_of step end old new answer
+calls_none error step old new end first calls le later rose = record {
+  moments = goes_none step old new first calls;
+  each = each_none step old new calls end le;
+  ticks = record { ok = tt; err = inr (ap (λ (l : List _). 2 * length l) calls); counted = tt };
+  cause = record { later = later; quiet = tt; failed = rose };
 }
 
 -- A call that was recorded.
@@ -47,7 +74,7 @@ module _ (call : Call) (failed : Bool) (old new : MemDisk) (first : new.first �
       record {
         later = omega (arith, ap length calls, goes.later);
         kept = λ m c le left. to_new m c (goes.kept m c le left);
-        told = λ m c le left. goes.told m c le (of_new m c left);
+        no_new = λ m c le left. goes.no_new m c le (of_new m c left);
         from = λ m c gt le left. goes.from m c gt (omega (arith, ap length calls)) (of_new m c left);
       }
 
@@ -72,4 +99,27 @@ module _ (call : Call) (failed : Bool) (old new : MemDisk) (first : new.first �
         let here = subst (λ k. recorded k c) (ap moments_of calls) (of_new (clock_of new) c left) in
         let was = left_last old.first.items old.calls.items call failed c here in
         subst (λ f. LeftAfter call failed f (image_of old (clock_of old)) c) (sym read) was;
+  }
+
+  two_more : clock_of new ≡ clock_of old + 2
+  two_more = omega (arith, ap length calls, length-append old.calls.items (record { call = call; failed = failed } ∷ []))
+
+  -- one that failed
+  pub calls_failed : {T E : Type 0} (error : E) (end : ℕ) → end ≡ clock_of new - 1 → old.faults ≤ new.faults → Rose old.faults new.faults
+      → let answer : Result T E = Err error in Calls clock_of image_of faults_of (step_of call) end old new answer
+  calls_failed error end last later rose = record {
+    moments = goes_made;
+    each = subst (λ k. LeavesEach clock_of image_of (step_of call) old new k) (sym last) each_in_made;
+    ticks = record { ok = tt; err = inl two_more; counted = tt };
+    cause = record { later = later; quiet = tt; failed = rose };
+  }
+
+  -- and one that was done
+  pub calls_done : {T E : Type 0} (value : T) (end : ℕ) → end ≡ clock_of new - 1 → new.faults ≡ old.faults → clock_of new < 2 ^ 64
+      → let answer : Result T E = Ok value in Calls clock_of image_of faults_of (step_of call) end old new answer
+  calls_done value end last quiet counted = record {
+    moments = goes_made;
+    each = subst (λ k. LeavesEach clock_of image_of (step_of call) old new k) (sym last) each_in_made;
+    ticks = record { ok = two_more; err = tt; counted = counted };
+    cause = record { later = omega arith; quiet = quiet; failed = tt };
   }

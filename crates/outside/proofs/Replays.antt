@@ -130,7 +130,7 @@ module _ (file : List ℕ) (calls : List Made) (call : Call) (failed : Bool) whe
   goes_more = record {
     later = omega (arith, moments_more);
     kept = λ m c le left. turn (earlier m calls (record { call = call; failed = failed }) file (λ b. b ≡ file) c le) left;
-    told = λ m c le left. turn (sym (earlier m calls (record { call = call; failed = failed }) file (λ b. b ≡ file) c le)) left;
+    no_new = λ m c le left. turn (sym (earlier m calls (record { call = call; failed = failed }) file (λ b. b ≡ file) c le)) left;
     from = λ m c gt le left. elim (which m gt le) [
       | inl is ↦ during_from call (IsImage file calls (moments_of calls)) c (turn (in_call c) (subst (λ k. IsImage file more k c) is left))
       | inr is ↦ after_from call failed (read_through calls file) (IsImage file calls (moments_of calls)) c (reads_as_left calls file) (turn (past_call c) (subst (λ k. IsImage file more k c) is left))

@@ -1,7 +1,11 @@
 pub mod Cuts
 pub mod Disk
 pub mod Faults
+pub mod Fronts
+pub mod Fuse
+pub mod Growth
 pub mod Listed
+pub mod MemoryDisk
 pub mod Moments
 pub mod Ranges
 pub mod Replay

@@ -4,6 +4,7 @@ use Rattle.std.proofs.Common.{arith, length-append, length-drop, append_assoc}
 use Rattle.std.proofs.lemmas.List.{take_at, drop_at, length-take-le, length-take, take-take}
 use Rattle.outside.specs.Disk.{written, Torn, Shortened}
 
+-- how long a file is once it was written
 pub length-written : (at : ℕ) (bytes file : List ℕ) → at ≤ length file
     → length (written at bytes file) ≡ at + length bytes + (length file - (at + length bytes))
 length-written at bytes file within = omega (
@@ -33,11 +34,13 @@ torn_same at count file = record {
   no_longer = omega arith;
 }
 
+-- a cut that was done is one of those that may be left of it
 pub shortened_cut : (len : ℕ) (file : List ℕ) → Shortened len file (take len file)
 shortened_cut len file = record {
   front = take-take len len file (omega arith);
   no_longer = omega (arith, length-take len file);
 }
 
+-- and so is one that was not done
 pub shortened_same : (len : ℕ) (file : List ℕ) → Shortened len file file
 shortened_same len file = record { front = refl; no_longer = omega arith }

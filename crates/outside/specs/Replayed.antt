@@ -43,6 +43,7 @@ reads_at (suc (suc m)) (made ∷ calls) file before at_end is =
     let step = reads_after made.call made.failed file before is in
     reads_at m calls (read_after made file) (LeftAfter made.call made.failed file before) (omega arith) step
 
+-- what reads give after all calls is an image of the last moment
 pub reads_as_left : (calls : List Made) (first : List ℕ)
     → IsImage first calls (moments_of calls) (read_through calls first)
 reads_as_left calls first = reads_at (2 * length calls) calls first (λ file. file ≡ first) refl refl

@@ -3,8 +3,7 @@ use Rattle.std.specs.Prelude.{◌≡◌, ◌≢◌, ℕ, ◌/◌, ◌%◌, ◌==
 use Rattle.outside.specs.declared.vault.Device.{Device}
 use Rattle.outside.specs.declared.vault.Device.TheVariants.{Save, Snaps, Bank}
 use Rattle.outside.specs.declared.vault.Vault.{Vault}
-use Rattle.outside.specs.Disk.{IfTold, Shortened, Goes, LeavesEach, Ticks}
-use Rattle.outside.specs.Faults.{HasCause}
+use Rattle.outside.specs.Disk.{IfTold, Shortened, Calls}
 
 -- the disk of a device, where the vault has that device
 abbrev pub disk_in : {D : Type 0} → Vault D → Device → Option D
@@ -12,15 +11,17 @@ disk_in vault Save = Some vault.save
 disk_in vault Snaps = Some vault.snaps
 disk_in vault (Bank number) = slice_get (if number % 2 == 0 then vault.even.items else vault.odd.items) (number / 2)
 
+-- the vault has two log files for each of eight workers
+pub record IsWhole {D : Type 0} (vault : Vault D) : Type 0 where
+  pub even : length vault.even.items ≡ 8
+  pub odd : length vault.odd.items ≡ 8
+
 -- a cut of a disk to a length: all that the call's clauses say
 pub record Cuts {D T E : Type 0} (tells : D → Option (List ℕ)) (clock : D → ℕ) (image_at : D → ℕ → List ℕ → Type 0) (faults : D → ℕ) (len : ℕ) (old new : D) (result : Result T E) : Type 0 where
   pub cut : OnOk result (IfTold (tells old) (λ file. tells new ≡ Some (take len file)))
   pub torn : OnErr result (IfTold (tells old) (λ file. IfTold (tells new) (Shortened len file)))
   pub told : is_some (tells new) ≡ is_some (tells old)
-  pub moments : Goes clock image_at (Shortened len) old new
-  pub each : LeavesEach clock image_at (Shortened len) old new (clock new)
-  pub ticks : Ticks (clock old) (clock new) result
-  pub cause : HasCause (faults old) (faults new) result
+  pub goes : Calls clock image_at faults (Shortened len) (clock new) old new result
 
 -- One device of a vault was cut to nothing, and the others stay.
 pub record CutsIn {D T E : Type 0} (tells : D → Option (List ℕ)) (clock : D → ℕ) (image_at : D → ℕ → List ℕ → Type 0) (faults : D → ℕ) (device : Device) (old new : Vault D) (result : Result T E) : Type 0 where

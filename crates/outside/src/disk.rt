@@ -1,11 +1,10 @@
 // A device of bytes, as its users see it.
 ghost use Rattle.std.specs.Prelude.{◌≡◌, ◌≤◌, ◌-◌, ◌++◌, List, ℕ, Option, Some, is_some, length, take, drop, min, IfOk, OnOk, OnErr};
-ghost use Rattle.outside.specs.Disk.{IfTold, written, Torn, Shortened, Same, Goes, LeavesEach, Only, Ticks};
-ghost use Rattle.outside.specs.Faults.{HasCause};
+ghost use Rattle.outside.specs.Disk.{IfTold, written, Torn, Shortened, Same, LeavesEach, Calls, Only};
 
 use crate::Failed;
 
-/// Places and lengths are in bytes.
+/// Offsets and lengths are in bytes.
 pub trait Disk {
     /// The bytes as reads give them, where the disk tells them.
     ghost tells: { Self → Option (List ℕ) };
@@ -31,12 +30,9 @@ pub trait Disk {
     fn len(&mut self) -> Result<u64, Failed>
         ensures value { IfOk result (λ n. IfTold (tells self.old) (λ file. n ≡ length file)) }
         ensures told { tells self.new ≡ tells self.old }
-        ensures moments { Goes clock image_at Same self.old self.new }
-        ensures each { LeavesEach clock image_at Same self.old self.new (clock self.new) }
-        ensures ticks { Ticks (clock self.old) (clock self.new) result }
-        ensures cause { HasCause (faults self.old) (faults self.new) result };
+        ensures goes { Calls clock image_at faults Same (clock self.new) self.old self.new result };
 
-    /// Fills the front of the buffer with what lies from that place on, and answers how many bytes:
+    /// Fills the front of the buffer with what lies from that offset on, and answers how many bytes:
     /// the lesser of the buffer and of what lies there.
     fn read(&mut self, at: u64, buf: &mut [u8]) -> Result<usize, Failed>
         ensures count { IfOk result (λ n. n ≤ length buf.old) }
@@ -44,10 +40,7 @@ pub trait Disk {
             (n ≡ min (length buf.old) (length file - at))
             × (buf.new ≡ take n (drop at file) ++ drop n buf.old))) }
         ensures told { tells self.new ≡ tells self.old }
-        ensures moments { Goes clock image_at Same self.old self.new }
-        ensures each { LeavesEach clock image_at Same self.old self.new (clock self.new) }
-        ensures ticks { Ticks (clock self.old) (clock self.new) result }
-        ensures cause { HasCause (faults self.old) (faults self.new) result };
+        ensures goes { Calls clock image_at faults Same (clock self.new) self.old self.new result };
 
     /// Writes over what is there, and past the end. One that failed may be done in part.
     fn write(&mut self, at: u64, bytes: &[u8]) -> Result<(), Failed>
@@ -57,10 +50,8 @@ pub trait Disk {
         ensures torn { OnErr result (IfTold (tells self.old) (λ file.
             IfTold (tells self.new) (Torn at (length bytes.now) file))) }
         ensures told { is_some (tells self.new) ≡ is_some (tells self.old) }
-        ensures moments { Goes clock image_at (Torn at (length bytes.now)) self.old self.new }
-        ensures each { LeavesEach clock image_at (Torn at (length bytes.now)) self.old self.new (clock self.new) }
-        ensures ticks { Ticks (clock self.old) (clock self.new) result }
-        ensures cause { HasCause (faults self.old) (faults self.new) result };
+        ensures goes { Calls clock image_at faults (Torn at (length bytes.now)) (clock self.new)
+            self.old self.new result };
 
     /// Cuts to a length, and leaves a shorter file as it is. One that failed may be done in part.
     fn cut(&mut self, len: u64) -> Result<(), Failed>
@@ -69,21 +60,18 @@ pub trait Disk {
         ensures torn { OnErr result (IfTold (tells self.old) (λ file.
             IfTold (tells self.new) (Shortened len file))) }
         ensures told { is_some (tells self.new) ≡ is_some (tells self.old) }
-        ensures moments { Goes clock image_at (Shortened len) self.old self.new }
-        ensures each { LeavesEach clock image_at (Shortened len) self.old self.new (clock self.new) }
-        ensures ticks { Ticks (clock self.old) (clock self.new) result }
-        ensures cause { HasCause (faults self.old) (faults self.new) result };
+        ensures goes { Calls clock image_at faults (Shortened len) (clock self.new)
+            self.old self.new result };
 
     /// Brings what was written to the device itself: after it a stop leaves what reads give, and
     /// nothing else. One that failed settles nothing.
     fn sync(&mut self) -> Result<(), Failed>
         ensures told { tells self.new ≡ tells self.old }
         ensures durable { OnOk result (IfTold (tells self.old) (Only clock image_at self.new)) }
-        ensures moments { Goes clock image_at Same self.old self.new }
-        ensures each { LeavesEach clock image_at Same self.old self.new (clock self.new - 1) }
-        ensures unsettled { OnErr result (LeavesEach clock image_at Same self.old self.new (clock self.new)) }
-        ensures ticks { Ticks (clock self.old) (clock self.new) result }
-        ensures cause { HasCause (faults self.old) (faults self.new) result };
+        ensures goes { Calls clock image_at faults Same (clock self.new - 1)
+            self.old self.new result }
+        ensures unsettled { OnErr result (LeavesEach clock image_at Same
+            self.old self.new (clock self.new)) };
 
     /// What reads give is always among the images of now.
     ghost reads: { (disk : Self) (file : List ℕ) → tells disk ≡ Some file

@@ -1,6 +1,6 @@
 // A disk over a file of the system. It tells none of its bytes, and a stop may leave anything.
 ghost use Rattle.std.specs.Prelude.{◌≡◌, ◌≤◌, ◌<◌, ◌+◌, ◌^◌, None, Ok, length, IfOk, OnOk, OnErr};
-ghost use Rattle.outside.specs.Faults.{Rose};
+ghost use Rattle.outside.specs.Faults.{HasCause};
 
 use crate::fault::count_fault;
 use crate::retry::read_some;
@@ -9,7 +9,7 @@ use std::fs::File;
 use std::io::{self, Seek, SeekFrom, Write};
 
 /// A disk over a file that was opened for reading and writing. Nobody else is to move the file's
-/// place while it is used. An error of the system is a fault, and what it was is not kept.
+/// position while it is used. An error of the system is a fault, and what it was is not kept.
 #[derive(Drop)]
 pub struct FileDisk {
     file: File,
@@ -34,9 +34,7 @@ impl FileDisk {
         ensures ok { OnOk result (self.new.clock ≡ self.old.clock + 2) }
         ensures counted { OnOk result (self.new.clock < 2 ^ 64) }
         ensures err { OnErr result (self.new.clock ≡ self.old.clock) }
-        ensures same { OnOk result (self.new.faults ≡ self.old.faults) }
-        ensures later { self.old.faults ≤ self.new.faults }
-        ensures rose { OnErr result (Rose self.old.faults self.new.faults) }
+        ensures cause { HasCause self.old.faults self.new.faults result }
     {
         if self.clock > u64::MAX - 2 {
             return Err(count_fault(&mut self.faults));
@@ -49,8 +47,7 @@ impl FileDisk {
     fn end<T: Drop>(&mut self, outcome: io::Result<T>) -> Result<T, Failed>
         ensures value { IfOk result (λ value. outcome ≡ Ok value) }
         ensures clock { self.new.clock ≡ self.old.clock }
-        ensures later { self.old.faults ≤ self.new.faults }
-        ensures rose { OnErr result (Rose self.old.faults self.new.faults) }
+        ensures cause { HasCause self.old.faults self.new.faults result }
     {
         match outcome {
             Ok(value) => Ok(value),

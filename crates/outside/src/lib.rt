@@ -1,40 +1,48 @@
-//! The outside of the engine: the devices that keep its bytes, the streams that it reads and writes,
-//! and the faults of both.
+//! The traits by which the engine meets the world outside: disks, with what a stop of the machine may leave of
+//! them, streams of bytes, and a gate that holds workers in tests; and the objects that have them.
 //!
 //! Promises, each a clause of the trait that it is about:
 //!
-//! - A fault is answered only where the object's count of faults rose in the call, or stands at the
-//!   last value that a `u64` has; and no count falls (`cause`, by `HasCause` in `specs/Faults.antt`).
-//!   Generic code can't raise a count, so a caller that shows one shows that the outside failed.
+//! - A fault is answered only where the object's count of faults rose in the call, or stands at the last value
+//!   that a `u64` has; where a call answers `Ok` the count stands still; and no count falls (`cause`, by
+//!   `HasCause` in `specs/Faults.antt`). Generic code can't raise a count, so a caller that shows one shows
+//!   that the outside failed, and a call that failed and was made again can't be passed off as one that was
+//!   done.
 //! - A [`Source`] gives its bytes in order and loses none to a fault (`bytes`).
-//! - A [`Sink`] holds what it held, and then the bytes (`written`), or after a fault a prefix of
-//!   them (`prefix`).
-//! - A [`Disk`] reads as it was written (`value`, `written`, `cut`). A write or a cut that failed may
-//!   be done in part, and leaves the bytes outside of its range (`torn`). Its clock counts the begins
-//!   and ends of its calls (`ticks`).
-//! - A stop at any moment of a disk leaves one of the images of that moment. The moments before a call
-//!   keep their images. At those of the call a stop leaves what it could leave as the call began,
-//!   after a step of the call (`moments`), and each such step may be left (`each`). After a sync that
-//!   answered `Ok` a stop leaves what reads give (`durable`); one that failed settles nothing
-//!   (`unsettled`). A disk as it reads is always one of its images (`reads`).
-//! - [`Vault::cut_in`] cuts one device of a vault, of which the trait's clauses hold, and leaves the
-//!   others (`cut`, by `CutsIn` in `specs/Vault.antt`). It records just one cut, with the device's
-//!   clock as it began, whether the device did it or not (`recorded`).
+//! - A [`Sink`] holds what it held, and then the bytes (`written`), or after a fault a prefix of them
+//!   (`prefix`).
+//! - A [`Disk`] reads as it was written (`value`, `written`, `cut`). A write or a cut that failed may be done
+//!   in part, and leaves the bytes outside of its range (`torn`). What each of its calls does to its clock, to
+//!   its count of faults and to what a stop may leave is one record (`goes`, by `Calls` in `specs/Disk.antt`):
+//!   the clock counts begins and ends of calls; the moments before a call keep their images; at those of the
+//!   call a stop leaves what it could leave as the call began, after a step of the call, and each such step may
+//!   be left. After a sync that answered `Ok` a stop leaves what reads give (`durable`); one that failed
+//!   settles nothing (`unsettled`). A disk as it reads is always one of its images (`reads`).
+//! - A [`MemDisk`] fails at a call that it was told to fail, else only where there is no room for the call, and
+//!   records each call that it made, in order, and no other (`recorded`, by `IsRecorded` in
+//!   `specs/Listed.antt`). A [`FuseDisk`] takes a pass for each call, and once none is left each call fails and
+//!   changes nothing (`fused`, by `IsFused` in `specs/Fuse.antt`). Tests of stops stand on both.
+//! - [`Vault::cut_in`] cuts one device of a vault, of which the trait's clauses hold, and leaves the others
+//!   (`cut`, by `CutsIn` in `specs/Vault.antt`). It records just one cut, with the device's clock as it began,
+//!   whether the device did it or not (`recorded`). [`Vault::is_whole`] tells a vault with two log files for
+//!   each of eight workers.
 //!
-//! Laws for those who use a disk stand in `specs/Ranges.antt` (what a write leaves) and
-//! `specs/Moments.antt` (how images go on), those for a vault in `specs/Cuts.antt`.
+//! Laws for those who use a disk stand in `specs/Ranges.antt` (what a write leaves), `specs/Moments.antt` (how
+//! images go on), `specs/Fronts.antt` (what all images begin with) and `specs/Growth.antt` (how a log file
+//! grows between two cuts), those for a vault in `specs/Cuts.antt`.
 //!
-//! Terms: *told* bytes are those that an object is known to have. The objects in memory tell all of
-//! their bytes; those over the system tell none, and their calls promise no more than counts. A
-//! *moment* is a value of a disk's clock, between two calls or within one. An *image* of a moment is
-//! a content that the device may have after a stop at that moment. A disk is *settled* where a stop now leaves what reads
-//! give, and nothing else.
+//! Terms: the bytes that a disk *tells* are those that reads give, where anything is known of them; the objects
+//! in memory tell theirs, and those over the system tell none, so that their calls promise no more than counts.
+//! A *moment* is a value of a disk's clock, between two calls or within one. An *image* of a moment is a
+//! content that the device may have after a stop at that moment. A disk is *settled* where a stop now leaves
+//! what reads give, and nothing else.
 //!
-//! The objects: [`SureSource`], [`MemSource`], [`MemSink`] and [`MemDisk`] in memory, of which all but
-//! the first fail at the calls of chosen numbers; [`FuseDisk`], which fails at each call after some;
-//! [`StdSource`], [`StdSink`] and [`FileDisk`] over the system. The images of a `MemDisk` are had by
-//! going through its calls again (`specs/Replay.antt`), and those of a `FileDisk` are any bytes. What
-//! a file or a terminal does is not proved, only that each of its errors is counted and answered.
+//! The objects: [`SureSource`], [`MemSource`], [`MemSink`] and [`MemDisk`] in memory, of which all but the
+//! first fail at the calls of chosen numbers; [`FuseDisk`], which fails at each call after some; [`StdSource`],
+//! [`StdSink`] and [`FileDisk`] over the system. The images of a `MemDisk` are had by going through its calls
+//! again (`specs/Replay.antt`), and those of a `FileDisk` are any bytes. Of files and terminals nothing is
+//! proved but that each fault which was answered was counted: an error of the system that is passed over in
+//! silence would be seen by tests alone.
 //!
 //! Design: docs/DURABILITY.md.
 #![tactic(auto)]

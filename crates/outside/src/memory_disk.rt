@@ -1,9 +1,9 @@
 // A disk in memory, some of whose calls fail. It records each call that was made, and so what it
 // tells can be had again from its first bytes.
-ghost use Rattle.std.specs.Prelude.{◌≡◌, ◌⊎◌, ◌*◌, ◌+◌, ◌-◌, ◌<◌, ◌≤◌, ◌^◌, [], ◌∷◌, ◌++◌, Some, IsErr, false, true, IfOk, OnOk, OnErr, MatchOption, length, is_err};
-ghost use Rattle.outside.specs.Disk.{written, Goes, LeavesEach, IsSettled};
+ghost use Rattle.std.specs.Prelude.{◌≡◌, ◌*◌, ◌+◌, ◌-◌, ◌<◌, ◌≤◌, ◌^◌, ◌++◌, Some, is_some, false, IfOk, OnOk, OnErr, MatchOption, length, take, drop, min, is_err};
+ghost use Rattle.outside.specs.Disk.{IfTold, written, Torn, Shortened, Same, Calls, LeavesEach, Only, IsSettled};
 ghost use Rattle.outside.specs.Faults.{Rose};
-ghost use Rattle.outside.specs.Listed.{is_listed};
+ghost use Rattle.outside.specs.Listed.{IsWrite, IsRecorded};
 ghost use Rattle.outside.specs.Replay.{done, read_through, step_of, IsLoose, LeftAfter, LeavesLast, IsImage};
 ghost use Rattle.outside.specs.Replayed.{told_as_left};
 
@@ -42,15 +42,18 @@ fn overwritten(alloc: Global, file: &[u8], at: usize, bytes: &[u8]) -> Result<Ve
 }
 
 impl MemDisk {
+    ghost use Rattle.outside.specs.MemoryDisk.{tells_of, clock_of, image_of, faults_of};
+
     /// A disk of these bytes, on which nothing is pending. The calls that are made, of each kind, are
     /// counted from 0, and those of the numbers in `fails` fail.
     pub fn new(alloc: Global, bytes: Vec<u8>, fails: Vec<u64>) -> Result<Self, AllocError>
-        ensures tells { IfOk result (λ disk. ⟦<MemDisk as Disk>⟧.tells disk ≡ Some bytes.items) }
-        ensures settled { IfOk result (λ disk. IsSettled ⟦<MemDisk as Disk>⟧.tells
-            ⟦<MemDisk as Disk>⟧.clock ⟦<MemDisk as Disk>⟧.image_at disk bytes.items) }
-        ensures clock { IfOk result (λ disk. ⟦<MemDisk as Disk>⟧.clock disk ≡ 0) }
-        ensures faults { IfOk result (λ disk. ⟦<MemDisk as Disk>⟧.faults disk ≡ 0) }
+        ensures tells { IfOk result (λ disk. tells_of disk ≡ Some bytes.items) }
+        ensures settled { IfOk result (λ disk. IsSettled tells_of
+            clock_of image_of disk bytes.items) }
+        ensures clock { IfOk result (λ disk. clock_of disk ≡ 0) }
+        ensures faults { IfOk result (λ disk. faults_of disk ≡ 0) }
         ensures fails { IfOk result (λ disk. disk.fails ≡ fails) }
+        ensures first { IfOk result (λ disk. disk.first.items ≡ bytes.items) }
     {
         let first = bytes.to_vec(alloc)?;
         Ok(MemDisk {
@@ -65,23 +68,32 @@ impl MemDisk {
 
     /// The bytes as reads give them.
     pub fn bytes(&self) -> &[u8]
-        ensures { ⟦<MemDisk as Disk>⟧.tells self.now ≡ Some result.now }
+        ensures { tells_of self.now ≡ Some result.now }
     {
         &self.bytes
     }
 
     /// The calls that were made, the oldest first.
     pub fn calls(&self) -> &[Made]
-        ensures clock { ⟦<MemDisk as Disk>⟧.clock self.now ≡ 2 * length result.now }
-        ensures replayed { ⟦<MemDisk as Disk>⟧.tells self.now
+        ensures calls { result.now ≡ self.now.calls.items }
+        ensures clock { clock_of self.now ≡ 2 * length result.now }
+        ensures replayed { tells_of self.now
             ≡ Some (read_through result.now self.now.first.items) }
     {
         &self.calls
     }
 
+    /// The numbers of the calls that fail.
+    pub fn fails(&self) -> &[u64]
+        ensures { result.now ≡ self.now.fails.items }
+    {
+        &self.fails
+    }
+
     // Counts a fault, and changes nothing else.
     fn refuse(&mut self) -> Failed
         ensures first { self.new.first ≡ self.old.first }
+        ensures fails { self.new.fails ≡ self.old.fails }
         ensures bytes { self.new.bytes ≡ self.old.bytes }
         ensures calls { self.new.calls ≡ self.old.calls }
         ensures later { self.old.faults ≤ self.new.faults }
@@ -97,26 +109,17 @@ impl MemDisk {
     fn make(&mut self, call: Call, next: Option<Vec<u8>>) -> Result<(), Failed>
         requires { MatchOption next (done call self.old.bytes.items ≡ self.old.bytes.items)
             (λ bytes. bytes.items ≡ done call self.old.bytes.items) }
-        ensures first { self.new.first ≡ self.old.first }
+        ensures stays { (self.new.first ≡ self.old.first) × (self.new.fails ≡ self.old.fails) }
         ensures done { OnOk result (self.new.bytes.items ≡ done call self.old.bytes.items) }
         ensures kept { OnErr result (self.new.bytes.items ≡ self.old.bytes.items) }
-        ensures recorded { OnOk result (self.new.calls.items
-            ≡ self.old.calls.items ++ record { call = call; failed = false } ∷ []) }
-        ensures recorded_err { OnErr result (
-            (self.new.calls.items ≡ self.old.calls.items ++ record { call = call; failed = true } ∷ [])
-            ⊎ (self.new.calls.items ≡ self.old.calls.items)) }
-        ensures listed { is_listed self.old.fails.items (length self.old.calls.items) ≡ true
-            → IsErr result }
-        ensures later { self.old.faults ≤ self.new.faults }
-        ensures cause { OnErr result (Rose self.old.faults self.new.faults) }
-        ensures moments { Goes ⟦<MemDisk as Disk>⟧.clock ⟦<MemDisk as Disk>⟧.image_at (step_of call)
-            self.old self.new }
-        ensures within { LeavesEach ⟦<MemDisk as Disk>⟧.clock ⟦<MemDisk as Disk>⟧.image_at (step_of call)
-            self.old self.new (⟦<MemDisk as Disk>⟧.clock self.new - 1) }
+        ensures recorded { IsRecorded (λ made. made ≡ call) self.old.fails.items
+            self.old.calls.items self.new.calls.items result }
+        ensures goes { Calls clock_of image_of faults_of
+            (step_of call) (clock_of self.new - 1) self.old self.new result }
         ensures each { IsLoose call (is_err result)
-            → LeavesEach ⟦<MemDisk as Disk>⟧.clock ⟦<MemDisk as Disk>⟧.image_at (step_of call)
-            self.old self.new (⟦<MemDisk as Disk>⟧.clock self.new) }
-        ensures last { OnOk result (LeavesLast ⟦<MemDisk as Disk>⟧.clock ⟦<MemDisk as Disk>⟧.image_at
+            → LeavesEach clock_of image_of (step_of call)
+            self.old self.new (clock_of self.new) }
+        ensures last { OnOk result (LeavesLast clock_of image_of
             (LeftAfter call false self.old.bytes.items) self.old self.new) }
     {
         let number = self.calls.len() as u64;
@@ -138,6 +141,8 @@ impl MemDisk {
 }
 
 impl Disk for MemDisk {
+    ghost use Rattle.outside.specs.MemoryDisk.{tells_of, clock_of, image_of, faults_of};
+
     ghost tells = { λ disk. Some disk.bytes.items };
 
     ghost clock = { λ disk. 2 * length disk.calls.items };
@@ -156,12 +161,31 @@ impl Disk for MemDisk {
         self.faults
     }
 
-    fn len(&mut self) -> Result<u64, Failed> {
+    fn len(&mut self) -> Result<u64, Failed>
+        ensures value { IfOk result (λ n. IfTold (tells_of self.old) (λ file. n ≡ length file)) }
+        ensures told { tells_of self.new ≡ tells_of self.old }
+        ensures goes { Calls clock_of image_of faults_of
+            Same (clock_of self.new) self.old self.new result }
+        ensures recorded { IsRecorded (λ call. call ≡ Call.Len) self.old.fails.items
+            self.old.calls.items self.new.calls.items result }
+        ensures stays { (self.new.first ≡ self.old.first) × (self.new.fails ≡ self.old.fails) }
+    {
         self.make(Call::Len, None)?;
         Ok(self.bytes.len() as u64)
     }
 
-    fn read(&mut self, at: u64, buf: &mut [u8]) -> Result<usize, Failed> {
+    fn read(&mut self, at: u64, buf: &mut [u8]) -> Result<usize, Failed>
+        ensures count { IfOk result (λ n. n ≤ length buf.old) }
+        ensures value { IfOk result (λ n. IfTold (tells_of self.old) (λ file.
+            (n ≡ min (length buf.old) (length file - at))
+            × (buf.new ≡ take n (drop at file) ++ drop n buf.old))) }
+        ensures told { tells_of self.new ≡ tells_of self.old }
+        ensures goes { Calls clock_of image_of faults_of
+            Same (clock_of self.new) self.old self.new result }
+        ensures recorded { IsRecorded (λ call. call ≡ Call.Read) self.old.fails.items
+            self.old.calls.items self.new.calls.items result }
+        ensures stays { (self.new.first ≡ self.old.first) × (self.new.fails ≡ self.old.fails) }
+    {
         self.make(Call::Read, None)?;
         let at = at.min(self.bytes.len() as u64) as usize;
         let rest = &self.bytes[at..];
@@ -171,7 +195,20 @@ impl Disk for MemDisk {
     }
 
     #[tactic(auto, using(crate::proofs::Tears::torn_kept))]
-    fn write(&mut self, at: u64, bytes: &[u8]) -> Result<(), Failed> {
+    fn write(&mut self, at: u64, bytes: &[u8]) -> Result<(), Failed>
+        requires { IfTold (tells_of self.old) (λ file. at ≤ length file) }
+        ensures written { OnOk result (IfTold (tells_of self.old) (λ file.
+            tells_of self.new ≡ Some (written at bytes.now file))) }
+        ensures torn { OnErr result (IfTold (tells_of self.old) (λ file.
+            IfTold (tells_of self.new) (Torn at (length bytes.now) file))) }
+        ensures kept { OnErr result (tells_of self.new ≡ tells_of self.old) }
+        ensures told { is_some (tells_of self.new) ≡ is_some (tells_of self.old) }
+        ensures goes { Calls clock_of image_of faults_of
+            (Torn at (length bytes.now)) (clock_of self.new) self.old self.new result }
+        ensures recorded { IsRecorded (IsWrite at bytes.now) self.old.fails.items
+            self.old.calls.items self.new.calls.items result }
+        ensures stays { (self.new.first ≡ self.old.first) × (self.new.fails ≡ self.old.fails) }
+    {
         let Ok(kept) = bytes.to_vec(self.alloc) else {
             return Err(self.refuse());
         };
@@ -182,7 +219,19 @@ impl Disk for MemDisk {
     }
 
     #[tactic(auto, using(crate::proofs::Tears::shortened_kept))]
-    fn cut(&mut self, len: u64) -> Result<(), Failed> {
+    fn cut(&mut self, len: u64) -> Result<(), Failed>
+        ensures cut { OnOk result (IfTold (tells_of self.old) (λ file.
+            tells_of self.new ≡ Some (take len file))) }
+        ensures torn { OnErr result (IfTold (tells_of self.old) (λ file.
+            IfTold (tells_of self.new) (Shortened len file))) }
+        ensures kept { OnErr result (tells_of self.new ≡ tells_of self.old) }
+        ensures told { is_some (tells_of self.new) ≡ is_some (tells_of self.old) }
+        ensures goes { Calls clock_of image_of faults_of
+            (Shortened len) (clock_of self.new) self.old self.new result }
+        ensures recorded { IsRecorded (λ call. call ≡ Call.Cut len) self.old.fails.items
+            self.old.calls.items self.new.calls.items result }
+        ensures stays { (self.new.first ≡ self.old.first) × (self.new.fails ≡ self.old.fails) }
+    {
         let keep = len.min(self.bytes.len() as u64) as usize;
         let Ok(next) = self.bytes[..keep].to_vec(self.alloc) else {
             return Err(self.refuse());
@@ -190,7 +239,18 @@ impl Disk for MemDisk {
         self.make(Call::Cut { len }, Some(next))
     }
 
-    fn sync(&mut self) -> Result<(), Failed> {
+    fn sync(&mut self) -> Result<(), Failed>
+        ensures told { tells_of self.new ≡ tells_of self.old }
+        ensures durable { OnOk result (IfTold (tells_of self.old)
+            (Only clock_of image_of self.new)) }
+        ensures goes { Calls clock_of image_of faults_of
+            Same (clock_of self.new - 1) self.old self.new result }
+        ensures unsettled { OnErr result (LeavesEach clock_of image_of Same
+            self.old self.new (clock_of self.new)) }
+        ensures recorded { IsRecorded (λ call. call ≡ Call.Sync) self.old.fails.items
+            self.old.calls.items self.new.calls.items result }
+        ensures stays { (self.new.first ≡ self.old.first) × (self.new.fails ≡ self.old.fails) }
+    {
         self.make(Call::Sync, None)
     }
 }

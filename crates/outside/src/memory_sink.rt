@@ -1,8 +1,8 @@
 // A sink into memory, some of whose calls fail.
-ghost use Rattle.std.specs.Prelude.{◌≡◌, [], Some, IsErr, true, OnOk, OnErr};
+ghost use Rattle.std.specs.Prelude.{◌≡◌, ◌⊎◌, ◌/◌, ◌++◌, [], Some, IsErr, true, false, length, take, OnOk, OnErr};
 ghost use Rattle.std.specs.Io.KnownBytes.{Appends};
 ghost use Rattle.outside.specs.Faults.{HasCause};
-ghost use Rattle.outside.specs.Listed.{is_listed};
+ghost use Rattle.outside.specs.Listed.{is_listed, Counted};
 ghost use Rattle.outside.specs.Stream.{TakesPrefix};
 
 use crate::fault::count_fault;
@@ -35,6 +35,13 @@ impl MemSink {
         }
     }
 
+    /// How many calls of `write` there were.
+    pub fn calls(&self) -> u64
+        ensures { result ≡ self.now.calls }
+    {
+        self.calls
+    }
+
     /// The bytes that it holds.
     pub fn bytes(&self) -> &[u8]
         ensures { ⟦<MemSink as Sink>⟧.held self.now ≡ Some result.now }
@@ -59,7 +66,13 @@ impl Sink for MemSink {
             (⟦<MemSink as Sink>⟧.held self.new) bytes.now) }
         ensures cause { HasCause (⟦<MemSink as Sink>⟧.faults self.old)
             (⟦<MemSink as Sink>⟧.faults self.new) result }
-        ensures listed { is_listed self.old.fails.items self.old.calls ≡ true → IsErr result }
+        ensures listed { is_listed self.old.fails.items self.old.calls ≡ true → IsErr result × (
+            (self.new.bytes.items ≡ self.old.bytes.items ++ take (length bytes.now / 2) bytes.now)
+            ⊎ (self.new.bytes.items ≡ self.old.bytes.items)) }
+        ensures refused { is_listed self.old.fails.items self.old.calls ≡ false
+            → OnErr result (self.new.bytes.items ≡ self.old.bytes.items) }
+        ensures counted { Counted self.old.calls self.new.calls }
+        ensures stays { self.new.fails ≡ self.old.fails }
     {
         let number = self.calls;
         self.calls = number.saturating_add(1);

@@ -3,7 +3,7 @@ ghost use Rattle.std.specs.Prelude.{◌≡◌, Some, is_err};
 ghost use Rattle.std.specs.Io.{ReadsAtMost};
 ghost use Rattle.std.specs.Io.KnownBytes.{ReadConsumes};
 ghost use Rattle.outside.specs.Faults.{HasCause};
-ghost use Rattle.outside.specs.Listed.{is_listed};
+ghost use Rattle.outside.specs.Listed.{is_listed, Counted};
 
 use crate::fault::count_fault;
 use crate::{Failed, Source, SureSource};
@@ -33,6 +33,13 @@ impl MemSource {
             faults: 0,
         }
     }
+
+    /// How many calls of `read` there were.
+    pub fn calls(&self) -> u64
+        ensures { result ≡ self.now.calls }
+    {
+        self.calls
+    }
 }
 
 impl Source for MemSource {
@@ -51,6 +58,8 @@ impl Source for MemSource {
         ensures cause { HasCause (⟦<MemSource as Source>⟧.faults self.old)
             (⟦<MemSource as Source>⟧.faults self.new) result }
         ensures listed { is_listed self.old.fails.items self.old.calls ≡ is_err result }
+        ensures counted { Counted self.old.calls self.new.calls }
+        ensures stays { self.new.fails ≡ self.old.fails }
     {
         let number = self.calls;
         self.calls = number.saturating_add(1);

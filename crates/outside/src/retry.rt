@@ -22,7 +22,8 @@ pub(crate) fn read_some<R: Read>(input: &mut R, buf: &mut [u8]) -> io::Result<us
 
 // A writer may keep bytes back until it is flushed.
 pub(crate) fn write_out<W: Write>(output: &mut W, bytes: &[u8]) -> io::Result<()>
-    ensures written { OnOk result (Appends (W.contents output.old) (W.contents output.new) bytes.now) }
+    ensures written { OnOk result
+        (Appends (W.contents output.old) (W.contents output.new) bytes.now) }
     ensures prefix { TakesPrefix (W.contents output.old) (W.contents output.new) bytes.now }
 {
     let mut rest = bytes;

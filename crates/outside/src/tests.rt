@@ -46,6 +46,7 @@ fn a_memory_disk_fails_at_the_listed_call(rt: HostRuntime) -> Result<(), Fail> {
         assert_eq!(rt; write_and_read(&rt, &mut disk), Err(Failed), "at {number}");
         assert_eq!(rt; disk.faults(), 1, "at {number}");
         assert_eq!(rt; disk.clock(), 2 * (number + 1), "at {number}");
+        assert_eq!(rt; disk.fails(), [number].as_slice());
         assert_eq!(rt; disk.bytes(), bytes.as_bytes(), "at {number}");
         let last = disk.calls().last().ok_or("a call")?;
         assert!(rt; last.failed, "at {number}");
@@ -67,9 +68,9 @@ fn a_fuse_passes_so_many_calls(rt: HostRuntime) -> Result<(), Fail> {
             Err(Failed),
             "after {passes}"
         );
-        assert_eq!(rt; disk.clock(), 2 * passes);
+        assert_eq!(rt; (disk.clock(), disk.passes()), (2 * passes, 0));
         assert_eq!(rt; disk.sync(), Err(Failed), "after {passes}");
-        assert_eq!(rt; disk.faults(), 2);
+        assert_eq!(rt; (disk.faults(), disk.disk().faults()), (2, 0));
     }
     let mut disk = FuseDisk::new(mem_disk(rt.alloc(), &[])?, CALLS);
     assert_eq!(rt; write_and_read(&rt, &mut disk), Ok(()));
@@ -136,7 +137,7 @@ fn a_source_loses_nothing_to_a_fault(rt: HostRuntime) -> Result<(), Fail> {
         came.as_str(),
         "two ab failed .. two cd failed .. one e. end .. "
     );
-    assert_eq!(rt; source.faults(), 2);
+    assert_eq!(rt; (source.faults(), source.calls()), (2, 6));
     let mut source = SureSource::new(b"abc".to_vec(alloc)?);
     let came = pieces(alloc, &mut source, 3)?;
     assert_eq!(rt; came.as_str(), "two ab one c. end .. ");
@@ -157,6 +158,7 @@ fn a_sink_takes_half_at_a_fault(rt: HostRuntime) -> Result<(), Fail> {
     assert_eq!(rt; put(&mut sink, b"cdefg"), (Err(Failed), 1));
     assert_eq!(rt; put(&mut sink, b"h"), (Ok(()), 1));
     assert_eq!(rt; sink.bytes(), b"abcdh".as_slice());
+    assert_eq!(rt; sink.calls(), 3);
     Ok(())
 }
 
@@ -314,6 +316,7 @@ fn cut_once(
 fn a_cut_of_a_device_is_recorded(rt: HostRuntime) -> Result<(), Fail> {
     let alloc = rt.alloc();
     let mut vault = two_workers(alloc)?;
+    assert!(rt; !vault.is_whole());
     cut_once(&rt, alloc, &mut vault, Device::Snaps, 2, [3, 0, 3, 3, 3, 3])?;
     assert_eq!(rt; vault.snaps.clock(), 4);
     let mut vault = two_workers(alloc)?;
@@ -334,5 +337,31 @@ fn a_cut_of_a_device_is_recorded(rt: HostRuntime) -> Result<(), Fail> {
         10,
         [3, 3, 3, 3, 3, 0],
     )?;
+    Ok(())
+}
+
+// So many disks.
+fn disks(alloc: Global, count: u8) -> Result<Vec<MemDisk>, AllocError> {
+    let mut disks = Vec::new(alloc);
+    for _ in 0..count {
+        disks.push(mem_disk(alloc, &[])?)?;
+    }
+    Ok(disks)
+}
+
+#[test]
+fn a_whole_vault_has_sixteen_log_files(rt: HostRuntime) -> Result<(), Fail> {
+    let alloc = rt.alloc();
+    for (even, odd, whole) in [(8, 8, true), (7, 8, false), (8, 9, false)] {
+        let vault = Vault {
+            save: mem_disk(alloc, &[])?,
+            snaps: mem_disk(alloc, &[])?,
+            even: disks(alloc, even)?,
+            odd: disks(alloc, odd)?,
+            ties: Vec::new(alloc),
+            cuts: Vec::new(alloc),
+        };
+        assert_eq!(rt; vault.is_whole(), whole, "{even} and {odd}");
+    }
     Ok(())
 }

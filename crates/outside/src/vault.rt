@@ -1,8 +1,11 @@
 // The devices of one database, with what was recorded of their use.
-ghost use Rattle.std.specs.Prelude.{◌≡◌, ◌≢◌, ◌+◌, ◌<◌, ℕ, [], ◌∷◌, ◌++◌, Some, IsSome, length, slice_get, vec_len, vec_capacity};
-ghost use Rattle.outside.specs.Vault.{disk_in, Cuts, CutsIn};
+ghost use Rattle.std.specs.Prelude.{◌≡◌, ◌≢◌, ◌↔◌, ◌+◌, ◌<◌, ℕ, [], ◌∷◌, ◌++◌, Some, IsSome, IsTrue, length, slice_get, vec_len, vec_capacity};
+ghost use Rattle.outside.specs.Vault.{disk_in, Cuts, CutsIn, IsWhole};
 
 use crate::{Disk, Failed};
+
+// A vault has a pair of log files for each worker.
+const WORKERS: usize = 8;
 
 /// A device of the vault. Bank 2w is `even[w]`, and bank 2w + 1 is `odd[w]`.
 #[derive(Clone, Copy, Debug, PartialEq, Eq)]
@@ -49,6 +52,13 @@ pub struct Vault<D> {
 }
 
 impl<D: Disk> Vault<D> {
+    /// Whether it has two log files for each of eight workers.
+    pub fn is_whole(&self) -> bool
+        ensures { IsTrue result ↔ IsWhole self.now }
+    {
+        self.even.len() == WORKERS && self.odd.len() == WORKERS
+    }
+
     /// Cuts a device to nothing, and records the cut. What is recorded stands whether the cut answers
     /// `Ok` or not, since one that failed may be done in part. The save is never cut, and room for the
     /// record is made before: a cut must not begin and then go unrecorded for want of memory.
@@ -127,7 +137,8 @@ fn cut_one<D: Disk>(disks: &mut [D], at: usize) -> Result<(), Failed>
     ensures cut { (was : D) → slice_get disks.old at ≡ Some was
         → (now : D) × (slice_get disks.new at ≡ Some now)
         × Cuts D.tells D.clock D.image_at D.faults 0 was now result }
-    ensures others { (other : ℕ) → other ≢ at → slice_get disks.new other ≡ slice_get disks.old other }
+    ensures others { (other : ℕ) → other ≢ at
+        → slice_get disks.new other ≡ slice_get disks.old other }
     ensures len { length disks.new ≡ length disks.old }
 {
     disks[at].cut(0)

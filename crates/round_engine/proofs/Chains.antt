@@ -1,73 +1,78 @@
--- The commits of lines that are run one after another: each is answered where the one before it left the engine.
-use Rattle.std.proofs.Common.{◌≡◌, ◌∙◌, sym, ap, subst, refl, ℕ, suc, ◌+◌, ◌<◌, ◌≤◌, inr, Bool, true, false, cond, ltb, List, [], ◌∷◌, ◌++◌, length, filter, arith}
+-- The commits of lines that are run one after another: each is answered where the one before it left the runtime.
+use Rattle.std.proofs.Common.{◌≡◌, ◌∙◌, sym, ap, subst, refl, ℕ, suc, ◌+◌, ◌<◌, ◌≤◌, inr, Bool, true, false, cond, List, [], ◌∷◌, ◌++◌, length, filter, arith}
 use Rattle.std.specs.List.{AllByRecursion}
+use Rattle.serial_model.specs.Numbers.{IsBelow}
 use Rattle.serial_model.specs.Step.{step}
-use Rattle.serial_model.specs.History.{Entry, AnswersAt, AnswersAlong, EpochsNeverFall, InOrder, IsBelow, Precedes, Rises, state_after, state_after_all}
+use Rattle.serial_model.specs.History.{Entry, AnswersAt, AnswersAlong, EpochsNeverFall, InOrder, Precedes, Rises, state_after, state_after_all}
 use Rattle.serial_model.specs.declared.op.Op.{Op}
-use Rattle.serial_model.specs.declared.decl.Decl.{Decl}
 use Rattle.serial_model.specs.declared.number.Number.{Number}
 use Rattle.tx_script.specs.declared.outcome.Outcome.TheVariants.{Limit}
 use Rattle.tx_script.specs.Run.{IsBetween, OneForEach, entries_of_line, entries_of_worker, entries_of_workers}
-use Rattle.round_engine.specs.Limits.{draw_limit}
-use Rattle.round_engine.specs.Plainly.{AreConsecutive, Place, committed, next_number, outcome_at, outcomes_at, outcomes_of, place_after, place_after_all, place_after_workers}
+use Rattle.round_engine.specs.Standing.{Standing}
+use Rattle.round_engine.specs.Plainly.{AreConsecutive, after_line, after_lines, after_workers, committed, has_number, next_number, outcome_at, outcomes_at, outcomes_of}
 
--- the place after an entry
-abbrev pub after_entry : List Decl → Place → Entry → Place
-after_entry decls p e = record { state = state_after decls p.state e; clock = next_number p.clock }
+-- where an entry leaves the runtime
+abbrev pub after_entry : Standing → Entry → Standing
+after_entry s e = record s { state = state_after s.decls s.state e; clock = next_number s.clock }
 
--- the entries are answered one after another, with consecutive numbers, from p to q
-abbrev pub Chained : List Decl → List Entry → Place → Place → Type 0
-Chained decls [] p q = q ≡ p
-Chained decls (e ∷ es) p q = AnswersAt decls p.state e × (e.number ≡ p.clock) × Chained decls es (after_entry decls p e) q
+-- the entries are answered one after another, with consecutive numbers, from s to t
+abbrev pub Chained : List Entry → Standing → Standing → Type 0
+Chained [] s t = t ≡ s
+Chained (e ∷ es) s t = AnswersAt s.decls s.state e × (e.number ≡ s.clock) × Chained es (after_entry s e) t
 
-chained-append : (decls : List Decl) (es fs : List Entry) (p q r : Place) → Chained decls es p q → Chained decls fs q r → Chained decls (es ++ fs) p r
-chained-append decls [] fs p q r first then = subst (λ x. Chained decls fs x r) first then
-chained-append decls (e ∷ es) fs p q r first then = (first.0, first.1, chained-append decls es fs (after_entry decls p e) q r first.2 then)
+chained-append : (es fs : List Entry) (s t u : Standing) → Chained es s t → Chained fs t u → Chained (es ++ fs) s u
+chained-append [] fs s t u first then = subst (λ x. Chained fs x u) first then
+chained-append (e ∷ es) fs s t u first then = (first.0, first.1, chained-append es fs (after_entry s e) t u first.2 then)
 
 -- a line's commit, whether the clock gives a number or not
-line_chained : (decls : List Decl) (round worker line : ℕ) (ops : List Op) (p : Place) (b : Bool)
-    → Chained decls (entries_of_line round worker line ops (cond b (committed p.clock (step decls p.state ops)) Limit)) p
-    (cond b (record { state = (step decls p.state ops).state; clock = next_number p.clock }) p)
-line_chained decls round worker line ops p true = (record { verdict = refl; replies = refl }, refl, refl)
-line_chained decls round worker line ops p false = refl
+line_chained : (round worker line : ℕ) (ops : List Op) (s : Standing) (b : Bool)
+    → Chained (entries_of_line round worker line ops (cond b (committed s.clock (step s.decls s.state ops)) Limit)) s
+    (record s { state = cond b (step s.decls s.state ops).state s.state; clock = cond b (next_number s.clock) s.clock })
+line_chained round worker line ops s true = (record { verdict = refl; replies = refl }, refl, refl)
+line_chained round worker line ops s false = refl
 
-worker_chained : (decls : List Decl) (round worker line : ℕ) (lines : List (List Op)) (p : Place)
-    → Chained decls (entries_of_worker round worker line (outcomes_at decls lines p) lines) p (place_after_all decls lines p)
-worker_chained decls round worker line [] p = refl
-worker_chained decls round worker line (ops ∷ lines) p =
-    chained-append decls (entries_of_line round worker line ops (outcome_at decls p ops)) _ p (place_after decls p ops) _
-    (line_chained decls round worker line ops p (ltb p.clock.draw draw_limit))
-    (worker_chained decls round worker (line + 1) lines (place_after decls p ops))
+worker_chained : (round worker line : ℕ) (lines : List (List Op)) (s : Standing)
+    → Chained (entries_of_worker round worker line (outcomes_at s lines) lines) s (after_lines s lines)
+worker_chained round worker line [] s = refl
+worker_chained round worker line (ops ∷ lines) s =
+    chained-append (entries_of_line round worker line ops (outcome_at s ops)) _ s (after_line s ops) _
+    (line_chained round worker line ops s (has_number s))
+    (worker_chained round worker (line + 1) lines (after_line s ops))
 
-pub workers_chained : (decls : List Decl) (round worker : ℕ) (lines : List (List (List Op))) (p : Place)
-    → Chained decls (entries_of_workers round worker (outcomes_of decls lines p) lines) p (place_after_workers decls lines p)
-workers_chained decls round worker [] p = refl
-workers_chained decls round worker (mine ∷ more) p =
-    chained-append decls (entries_of_worker round worker 0 (outcomes_at decls mine p) mine) _ p (place_after_all decls mine p) _
-    (worker_chained decls round worker 0 mine p)
-    (workers_chained decls round (worker + 1) more (place_after_all decls mine p))
+pub workers_chained : (round worker : ℕ) (lines : List (List (List Op))) (s : Standing)
+    → Chained (entries_of_workers round worker (outcomes_of s lines) lines) s (after_workers s lines)
+workers_chained round worker [] s = refl
+workers_chained round worker (mine ∷ more) s =
+    chained-append (entries_of_worker round worker 0 (outcomes_at s mine) mine) _ s (after_lines s mine) _
+    (worker_chained round worker 0 mine s)
+    (workers_chained round (worker + 1) more (after_lines s mine))
 
 -- ---- what a chain has
 
-pub chained_answers : (decls : List Decl) (es : List Entry) (p q : Place) → Chained decls es p q → AnswersAlong decls es p.state
-chained_answers decls [] p q chain = tt
-chained_answers decls (e ∷ es) p q chain = (chain.0, chained_answers decls es (after_entry decls p e) q chain.2)
+pub chained_answers : (es : List Entry) (s t : Standing) → Chained es s t → AnswersAlong s.decls es s.state
+chained_answers [] s t chain = tt
+chained_answers (e ∷ es) s t chain = (chain.0, chained_answers es (after_entry s e) t chain.2)
 
-pub chained_state : (decls : List Decl) (es : List Entry) (p q : Place) → Chained decls es p q → q.state ≡ state_after_all decls p.state es
-chained_state decls [] p q chain = ap (λ (x : Place). x.state) chain
-chained_state decls (e ∷ es) p q chain = chained_state decls es (after_entry decls p e) q chain.2
+pub chained_state : (es : List Entry) (s t : Standing) → Chained es s t → t.state ≡ state_after_all s.decls s.state es
+chained_state [] s t chain = ap (λ (x : Standing). x.state) chain
+chained_state (e ∷ es) s t chain = chained_state es (after_entry s e) t chain.2
 
-pub chained_consecutive : (decls : List Decl) (es : List Entry) (p q : Place) → Chained decls es p q → AreConsecutive p.clock es
-chained_consecutive decls [] p q chain = tt
-chained_consecutive decls (e ∷ es) p q chain = (chain.1, chained_consecutive decls es (after_entry decls p e) q chain.2)
+pub chained_consecutive : (es : List Entry) (s t : Standing) → Chained es s t → AreConsecutive s.clock es
+chained_consecutive [] s t chain = tt
+chained_consecutive (e ∷ es) s t chain = (chain.1, chained_consecutive es (after_entry s e) t chain.2)
+
+-- the storages stay
+pub chained_decls : (es : List Entry) (s t : Standing) → Chained es s t → t.decls ≡ s.decls
+chained_decls [] s t chain = ap (λ (x : Standing). x.decls) chain
+chained_decls (e ∷ es) s t chain = chained_decls es (after_entry s e) t chain.2
 
 -- the epoch stays, and the draws go up by one for each entry
-pub chained_clock : (decls : List Decl) (es : List Entry) (p q : Place) → Chained decls es p q
-    → (q.clock.epoch ≡ p.clock.epoch) × (q.clock.draw ≡ p.clock.draw + length es)
-chained_clock decls [] p q chain = (ap (λ (x : Place). x.clock.epoch) chain, let e : q.clock.draw ≡ p.clock.draw = ap (λ (x : Place). x.clock.draw) chain in omega arith)
-chained_clock decls (e ∷ es) p q chain =
-    let rest = chained_clock decls es (after_entry decls p e) q chain.2 in
-    (rest.0, let draws : q.clock.draw ≡ (p.clock.draw + 1) + length es = rest.1 in omega arith)
+pub chained_clock : (es : List Entry) (s t : Standing) → Chained es s t
+    → (t.clock.epoch ≡ s.clock.epoch) × (t.clock.draw ≡ s.clock.draw + length es)
+chained_clock [] s t chain = (ap (λ (x : Standing). x.clock.epoch) chain, let e : t.clock.draw ≡ s.clock.draw = ap (λ (x : Standing). x.clock.draw) chain in omega arith)
+chained_clock (e ∷ es) s t chain =
+    let rest = chained_clock es (after_entry s e) t chain.2 in
+    (rest.0, let draws : t.clock.draw ≡ (s.clock.draw + 1) + length es = rest.1 in omega arith)
 
 -- ---- what consecutive numbers have
 
@@ -118,10 +123,10 @@ in_order-kept R p (e ∷ es) h = elim (p e) as (λ b. InOrder R (cond b (e ∷ f
 
 -- ---- one outcome for each line
 
-pub length-outcomes_at : (decls : List Decl) (lines : List (List Op)) (p : Place) → length (outcomes_at decls lines p) ≡ length lines
-length-outcomes_at decls [] p = refl
-length-outcomes_at decls (ops ∷ lines) p = ap suc (length-outcomes_at decls lines (place_after decls p ops))
+length-outcomes_at : (lines : List (List Op)) (s : Standing) → length (outcomes_at s lines) ≡ length lines
+length-outcomes_at [] s = refl
+length-outcomes_at (ops ∷ lines) s = ap suc (length-outcomes_at lines (after_line s ops))
 
-pub one_for_each : (decls : List Decl) (lines : List (List (List Op))) (p : Place) → OneForEach lines (outcomes_of decls lines p)
-one_for_each decls [] p = tt
-one_for_each decls (mine ∷ more) p = (length-outcomes_at decls mine p, one_for_each decls more (place_after_all decls mine p))
+pub one_for_each : (lines : List (List (List Op))) (s : Standing) → OneForEach lines (outcomes_of s lines)
+one_for_each [] s = tt
+one_for_each (mine ∷ more) s = (length-outcomes_at mine s, one_for_each more (after_lines s mine))

@@ -1,4 +1,7 @@
-pub mod SoFar
 pub mod Chains
+pub mod Drawn
 pub mod PlainRun
-pub mod Commits
+pub mod Fronts
+pub mod SoFar
+pub mod PlainRound
+pub mod FewWords

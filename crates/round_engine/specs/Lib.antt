@@ -1,2 +1,3 @@
-pub mod Limits
+pub mod Standing
+pub mod RanRound
 pub mod Plainly

@@ -1,78 +1,78 @@
 -- Runs of lines on the plain map: one after another, with consecutive numbers.
-use Rattle.std.specs.Prelude.{◌≡◌, ℕ, ◌+◌, List, [], ◌∷◌, nat_lt, if◌then◌else◌, ◌<◌, ◌≤◌, Bool, true, false, Option, Some, None, ⊤}
-use Rattle.std.specs.List.{list_any}
-use Rattle.serial_model.specs.State.{State}
+use Rattle.std.specs.Prelude.{◌≡◌, ℕ, ◌+◌, ◌<◌, ◌≤◌, Bool, List, [], ◌∷◌, nat_lt, if◌then◌else◌, ⊤}
+use Rattle.serial_model.specs.Numbers.{draw_limit}
 use Rattle.serial_model.specs.Step.{step, Ended}
 use Rattle.serial_model.specs.History.{Entry}
 use Rattle.serial_model.specs.declared.op.Op.{Op}
-use Rattle.serial_model.specs.declared.decl.Decl.{Decl}
 use Rattle.serial_model.specs.declared.number.Number.{Number}
+use Rattle.script_grammar.specs.Script.{Round, keeper_lines, worker_lines}
 use Rattle.tx_script.specs.declared.outcome.Outcome.{Outcome}
 use Rattle.tx_script.specs.declared.outcome.Outcome.TheVariants.{Committed, Limit}
-use Rattle.tx_script.specs.Run.{Ran}
-use Rattle.round_engine.specs.Limits.{draw_limit, last_epoch}
-use Rattle.round_engine.specs.declared.report.Report.{Report}
-use Rattle.round_engine.specs.declared.report.End.{End}
-use Rattle.round_engine.specs.declared.report.End.TheVariants as ends
-use Rattle.round_engine.specs.declared.report.LimitName.TheVariants.{Draw, Epoch}
-use Rattle.round_engine.specs.declared.runtime.Runtime.{Runtime}
+use Rattle.round_engine.specs.Standing.{Standing}
+use Rattle.round_engine.specs.RanRound.{IsFrontOf}
+
+-- ---- a line
 
 -- the number after this one
 abbrev pub next_number : Number → Number
 next_number n = record n { draw = n.draw + 1 }
 
--- a contents and the number that the clock gives next
-pub record Place : Type 0 where
-  pub state : State
-  pub clock : Number
+-- the clock has a number to give
+abbrev pub has_number : Standing → Bool
+has_number s = nat_lt s.clock.draw draw_limit
 
--- what comes of a line, and where it leaves the engine
+-- the outcome of a transaction that got this number
 abbrev pub committed : Number → Ended → Outcome
 committed n e = Committed e.verdict n e.replies
 
-abbrev pub outcome_at : List Decl → Place → List Op → Outcome
-outcome_at decls p ops = if nat_lt p.clock.draw draw_limit then committed p.clock (step decls p.state ops) else Limit
+-- what comes of a line
+abbrev pub outcome_at : Standing → List Op → Outcome
+outcome_at s ops = if has_number s then committed s.clock (step s.decls s.state ops) else Limit
 
-abbrev pub place_after : List Decl → Place → List Op → Place
-place_after decls p ops = if nat_lt p.clock.draw draw_limit
-    then record { state = (step decls p.state ops).state; clock = next_number p.clock } else p
+-- where a line leaves the runtime: it changes nothing without a number
+abbrev pub after_line : Standing → List Op → Standing
+after_line s ops = record s {
+  state = if has_number s then (step s.decls s.state ops).state else s.state;
+  clock = if has_number s then next_number s.clock else s.clock;
+}
 
--- the same of lines, one after another
-abbrev pub outcomes_at : List Decl → List (List Op) → Place → List Outcome
-outcomes_at decls [] p = []
-outcomes_at decls (ops ∷ lines) p = outcome_at decls p ops ∷ outcomes_at decls lines (place_after decls p ops)
+-- ---- lines, one after another
 
-abbrev pub place_after_all : List Decl → List (List Op) → Place → Place
-place_after_all decls [] p = p
-place_after_all decls (ops ∷ lines) p = place_after_all decls lines (place_after decls p ops)
+-- what comes of the lines
+abbrev pub outcomes_at : Standing → List (List Op) → List Outcome
+outcomes_at s [] = []
+outcomes_at s (ops ∷ lines) = outcome_at s ops ∷ outcomes_at (after_line s ops) lines
 
--- the same of each worker's lines, one worker after another
-abbrev pub outcomes_of : List Decl → List (List (List Op)) → Place → List (List Outcome)
-outcomes_of decls [] p = []
-outcomes_of decls (lines ∷ more) p = outcomes_at decls lines p ∷ outcomes_of decls more (place_after_all decls lines p)
+-- where they leave the runtime
+abbrev pub after_lines : Standing → List (List Op) → Standing
+after_lines s [] = s
+after_lines s (ops ∷ lines) = after_lines (after_line s ops) lines
 
-abbrev pub place_after_workers : List Decl → List (List (List Op)) → Place → Place
-place_after_workers decls [] p = p
-place_after_workers decls (lines ∷ more) p = place_after_workers decls more (place_after_all decls lines p)
+-- ---- each worker's lines, one worker after another
 
--- where an engine stands
-abbrev pub place_of : Runtime → Place
-place_of r = record { state = r.plain.state; clock = r.clock }
+-- what comes of the workers' lines
+abbrev pub outcomes_of : Standing → List (List (List Op)) → List (List Outcome)
+outcomes_of s [] = []
+outcomes_of s (lines ∷ more) = outcomes_at s lines ∷ outcomes_of (after_lines s lines) more
 
--- a line was refused a number
-abbrev pub is_limit : Outcome → Bool
-is_limit Limit = true
-is_limit _ = false
+-- where they leave the runtime
+abbrev pub after_workers : Standing → List (List (List Op)) → Standing
+after_workers s [] = s
+after_workers s (lines ∷ more) = after_workers (after_lines s lines) more
 
--- the epoch after a join, which the last epoch refuses
-abbrev pub epoch_after : ℕ → ℕ
-epoch_after epoch = if nat_lt epoch last_epoch then epoch + 1 else epoch
+-- all lines of the round were run
+pub record RanLines (round : Round) (old new : Standing) (outcomes : List (List Outcome)) : Type 0 where
+  pub told : outcomes ≡ outcomes_of old (worker_lines round)
+  pub standing : new ≡ after_workers old (worker_lines round)
 
--- the run ends where the join can't advance the epoch, and where a line was refused a number
-abbrev pub end_of : List (List Outcome) → ℕ → ℕ → Option End
-end_of outcomes draws epoch = if nat_lt epoch last_epoch
-    then (if list_any (list_any is_limit) outcomes then Some (ends.Limit Draw draws) else None)
-    else Some (ends.Limit Epoch epoch)
+-- a front of the round was run
+pub record RanFront (round : Round) (old new : Standing) : Type 0 where
+  pub front : Round
+  pub first : IsFrontOf front round
+  pub no_keeper : keeper_lines front ≡ []
+  pub standing : new ≡ after_workers old (worker_lines front)
+
+-- ---- what only the plain map gives
 
 -- each number is the one after the last
 abbrev pub AreConsecutive : Number → List Entry → Type 0
@@ -85,11 +85,3 @@ DrawsTo n [] m = m ≡ n
 DrawsTo n (Committed verdict number replies ∷ outcomes) m = (n < draw_limit) × DrawsTo (n + 1) outcomes m
 DrawsTo n (Limit ∷ outcomes) m = (draw_limit ≤ n) × DrawsTo n outcomes m
 DrawsTo n (_ ∷ outcomes) m = ⊥
-
--- what came of a round's lines, by the clock before them and the draws after them
-abbrev pub ran_with : Number → ℕ → List (List Outcome) → Ran
-ran_with begin draw outcomes = record { begin = begin; end = record begin { draw = draw }; outcomes = outcomes; durable = None }
-
--- the same of a whole round, by its report
-abbrev pub ran_of : Number → ℕ → Report → Ran
-ran_of begin draw report = record (ran_with begin draw report.outcomes) { durable = report.durable }

@@ -1,12 +1,13 @@
 //! Rounds of a script, run on an engine.
 //!
-//! Promises: `round` gives one outcome for each line, and its commits, in order of number, are a serial
-//! run from the state before to the state after (`run`); on the plain map their numbers are consecutive
-//! (`consecutive`), a line gets one exactly while the clock gives numbers (`draws`), and then is a commit
-//! (`commits`). Its join advances the epoch by one, or ends the run in the last one (`join`, `end`).
-//! Terms: *clock*, the number that the next commit gets.
-//! Design: docs/ARCHITECTURE.md. For now the engine is the plain map, and one worker's lines are run
-//! after another's.
+//! Promises: `round` answers an outcome for each line. Whichever the engine is, the commits, in order of number, are a
+//! serial run from the standing before to the one after, each outcome has its cause, and the join advances the epoch or
+//! ends the run (`rounds`, by `RanRound`); after want of memory a front of the round was run, and the run has ended
+//! (`rounds`, by `StopsIn`). The plain map gives besides that numbers follow one another (`consecutive`), and that a line
+//! gets one exactly while there are some (`draws`). A test shows that the gate is called round each line.
+//! Terms: *standing*, the storages, their contents, the clock, and whether the run has ended; *clock*, the number that
+//! the next commit gets; *front* of a round, the first lines of each worker.
+//! Design: docs/ARCHITECTURE.md. For now the engine is the plain map, and one worker's lines are run after another's.
 #![tactic(auto)]
 
 mod report;

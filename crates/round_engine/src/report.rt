@@ -1,6 +1,6 @@
 // What a round reports.
 
-use tx_script::RoundOutcomes;
+use tx_script::{Answers, RoundOutcomes};
 
 /// A limit of the engine.
 #[derive(Clone, Copy, Debug, PartialEq, Eq)]
@@ -21,8 +21,10 @@ pub enum End {
 /// What came of a round.
 #[derive(Drop)]
 pub struct Report {
-    /// An outcome for each line, by worker.
+    /// An outcome for each worker's line, by worker.
     pub outcomes: RoundOutcomes,
+    /// An answer for each keeper line.
+    pub keeper: Answers,
     /// The epoch that was made durable, once something is kept on disk.
     pub durable: Option<u32>,
     /// The round's first refusal that ends the run.

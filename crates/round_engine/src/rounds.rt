@@ -1,31 +1,25 @@
 // One round on the plain map.
-ghost use Rattle.std.specs.Prelude.{◌≡◌, ℕ, ◌+◌, ◌<◌, ◌≤◌, [], ◌∷◌, length, IsTrue, All, IfOk, OnErr, OnOk, Some, None, if◌then◌else◌, nat_lt, flat_map};
-ghost use Rattle.std.specs.List.{list_any};
+ghost use Rattle.std.specs.Prelude.{◌≡◌, ◌⊎◌, ℕ, ◌<◌, ◌≤◌, [], ◌∷◌, ◌++◌, false, IsTrue, IfOk, OnErr, OnOk, Some, None, flat_map, is_some, length, option_map, slice_get, take};
+ghost use Rattle.std.specs.List.{AllByRecursion, list_any};
+ghost use Rattle.std.specs.Option.{option_copied};
 ghost use Rattle.serial_model.specs.Keys.{fits};
-ghost use Rattle.script_grammar.specs.Script.{lines_of_worker, worker_lines};
-ghost use Rattle.tx_script.specs.Run.{CanRun, CommitsAll, IsRun, entries_of_round};
-ghost use Rattle.round_engine.specs.Limits.{draw_limit, last_epoch};
-ghost use Rattle.round_engine.specs.Plainly.{AreConsecutive, DrawsTo, end_of, epoch_after, ran_with, is_limit, outcome_at, outcomes_at, outcomes_of};
-ghost use Rattle.round_engine.specs.Plainly.{place_after, place_after_all, place_after_workers, place_of, ran_of};
+ghost use Rattle.script_grammar.specs.Script.{lines_of_worker, ops_of_worker};
+ghost use Rattle.tx_script.specs.Run.{CanRun, entries_of_round, is_limit};
+ghost use Rattle.round_engine.specs.RanRound.{Rounds, end_at, epoch_after, ran_of};
+ghost use Rattle.round_engine.specs.Plainly.{AreConsecutive, DrawsTo, RanFront, RanLines, after_line, after_lines, outcome_at, outcomes_at};
 
 use crate::{End, LimitName, Report, Runtime};
 use outside::Gate;
-use serial_model::{Memory, Op, run_one};
+use serial_model::{DRAW_LIMIT, Draft, LAST_EPOCH, Memory, Op, Replies, run_in};
 use std::alloc::Global;
 use std::sync::Wait;
 use std::thread::Threads;
-use tx_script::{Outcome, Outcomes, Round, RoundOutcomes};
-
-/// From this draw on the clock gives no numbers: seats of 64 workers may each have one on the way.
-const DRAW_LIMIT: u64 = (1 << 40) - 64;
-
-/// The last epoch. Its clock word is the greatest that names an epoch.
-const LAST_EPOCH: u32 = (1 << 20) - 2;
+use tx_script::{Answers, Line, LineOps, Outcomes, Round, RoundOutcomes};
 
 /// Runs worker 0's lines, then worker 1's and on, each line between the gate's two calls; then the join
 /// advances the epoch, unless it is the last.
 ///
-/// After want of memory some of the lines have been run, and the runtime is not used again.
+/// After want of memory a front of the round has been run, and no further round is.
 pub fn round<R: Threads + Wait + Sync, G: Gate + Sync>(
     rt: &R,
     alloc: Global,
@@ -34,121 +28,88 @@ pub fn round<R: Threads + Wait + Sync, G: Gate + Sync>(
     tries: u32,
     gate: &G,
 ) -> Result<Report, Memory>
-    requires lines { CanRun runtime.old.plain.decls round.now }
+    requires lines { CanRun runtime.old.decls round.now }
     requires some_try { 1 ≤ tries }
     requires most_tries { tries ≤ 1000000 }
-    ensures decls { runtime.new.plain.decls ≡ runtime.old.plain.decls }
-    // The commits, in order of number, are a serial run from the state before.
-    ensures run { IfOk result (λ report. (index : ℕ) → IsRun runtime.old.plain.decls index (round.now ∷ [])
-        runtime.old.plain.state runtime.old.clock (ran_of runtime.old.clock runtime.new.clock.draw report ∷ [])
-        runtime.new.plain.state) }
+    requires goes_on { runtime.old.ended ≡ false }
+    // Whichever the engine: the commits are a serial run, and what ends the run is told.
+    ensures rounds { Rounds round.now runtime.old runtime.new result }
+    ensures durable { IfOk result (λ report. report.durable ≡ None) }
+    // What the plain map gives besides: its numbers follow one another, and a line gets one while there are some.
     ensures consecutive { IfOk result (λ report. (index : ℕ) → AreConsecutive runtime.old.clock
-        (entries_of_round index (ran_of runtime.old.clock runtime.new.clock.draw report) round.now)) }
-    ensures commits { IfOk result (λ report. runtime.old.clock.draw + length round.now.lines ≤ draw_limit
-        → CommitsAll (ran_of runtime.old.clock runtime.new.clock.draw report)) }
+        (entries_of_round index (ran_of runtime.old runtime.new report) round.now)) }
     ensures draws { IfOk result (λ report. DrawsTo runtime.old.clock.draw (flat_map (λ outcomes. outcomes) report.outcomes)
         runtime.new.clock.draw) }
-    ensures few_draws { OnOk result (runtime.new.clock.draw ≤ runtime.old.clock.draw + length round.now.lines) }
-    ensures join { OnOk result (runtime.new.clock.epoch ≡ epoch_after runtime.old.clock.epoch) }
-    ensures end { IfOk result (λ report. report.end ≡ end_of report.outcomes runtime.new.clock.draw runtime.old.clock.epoch) }
 {
     let _ = rt;
     let _ = tries;
-    let outcomes = run_lines(alloc, runtime, round, gate)?;
-    let refused = refusal(outcomes.as_slice(), runtime.clock.draw);
-    let end = advance(runtime, refused);
+    let outcomes = match run_workers(alloc, runtime, round, gate) {
+        Ok(outcomes) => outcomes,
+        Err(Memory) => {
+            runtime.ended = true;
+            return Err(Memory);
+        }
+    };
+    let end = join(runtime, has_limit(outcomes.as_slice()));
     Ok(Report {
         outcomes,
+        keeper: Answers::new(alloc),
         durable: None,
         end,
     })
 }
 
-// What ends the run among the lines.
-fn refusal(outcomes: &[Outcomes], draws: u64) -> Option<End>
-    ensures { result ≡ (if list_any (list_any is_limit) outcomes.now then Some (End.Limit LimitName.Draw draws) else None) }
+// Advances the epoch, and answers the refusal that ends the run: the join's own, where the epoch is the last one, before
+// a line's.
+fn join(runtime: &mut Runtime, limited: bool) -> Option<End>
+    ensures runtime { runtime.new ≡ record runtime.old {
+      clock = record runtime.old.clock { epoch = epoch_after runtime.old.clock.epoch };
+      ended = is_some result;
+    } }
+    ensures end { result ≡ end_at runtime.old.clock limited }
 {
-    if has_limit(outcomes) {
-        Some(End::Limit {
-            name: LimitName::Draw,
-            number: draws,
-        })
-    } else {
-        None
-    }
-}
-
-// Advances the epoch. Where it can't be, that ends the run before another refusal does.
-fn advance(runtime: &mut Runtime, refused: Option<End>) -> Option<End>
-    ensures plain { runtime.new.plain ≡ runtime.old.plain }
-    ensures draw { runtime.new.clock.draw ≡ runtime.old.clock.draw }
-    ensures epoch { runtime.new.clock.epoch ≡ epoch_after runtime.old.clock.epoch }
-    ensures end { result ≡ (if nat_lt runtime.old.clock.epoch last_epoch then refused
-        else Some (End.Limit LimitName.Epoch runtime.old.clock.epoch)) }
-{
+    let end = refusal(runtime, limited);
     if runtime.clock.epoch < LAST_EPOCH {
         runtime.clock.epoch += 1;
-        refused
-    } else {
-        Some(End::Limit {
-            name: LimitName::Epoch,
-            number: u64::from(runtime.clock.epoch),
-        })
     }
+    runtime.ended = end.is_some();
+    end
 }
 
-// Runs all lines.
-fn run_lines<G: Gate>(
-    alloc: Global,
-    runtime: &mut Runtime,
-    round: &Round<'_>,
-    gate: &G,
-) -> Result<RoundOutcomes, Memory>
-    requires { CanRun runtime.old.plain.decls round.now }
-    ensures decls { runtime.new.plain.decls ≡ runtime.old.plain.decls }
-    ensures run { IfOk result (λ outcomes. (index : ℕ) → IsRun runtime.old.plain.decls index (round.now ∷ [])
-        runtime.old.plain.state runtime.old.clock (ran_with runtime.old.clock runtime.new.clock.draw outcomes ∷ [])
-        runtime.new.plain.state) }
-    ensures consecutive { IfOk result (λ outcomes. (index : ℕ) → AreConsecutive runtime.old.clock
-        (entries_of_round index (ran_with runtime.old.clock runtime.new.clock.draw outcomes) round.now)) }
-    ensures commits { IfOk result (λ outcomes. runtime.old.clock.draw + length round.now.lines ≤ draw_limit
-        → CommitsAll (ran_with runtime.old.clock runtime.new.clock.draw outcomes)) }
-    ensures draws { IfOk result (λ outcomes. DrawsTo runtime.old.clock.draw (flat_map (λ os. os) outcomes) runtime.new.clock.draw) }
-    ensures few_draws { OnOk result (runtime.new.clock.draw ≤ runtime.old.clock.draw + length round.now.lines) }
-    ensures epoch { OnOk result (runtime.new.clock.epoch ≡ runtime.old.clock.epoch) }
+fn refusal(runtime: &Runtime, limited: bool) -> Option<End>
+    ensures { result ≡ end_at runtime.now.clock limited }
 {
-    let outcomes = run_workers(alloc, runtime, round, gate)?;
-    Ok(outcomes)
+    if runtime.clock.epoch >= LAST_EPOCH {
+        return Some(End::Limit {
+            name: LimitName::Epoch,
+            number: u64::from(runtime.clock.epoch),
+        });
+    }
+    if limited {
+        return Some(End::Limit {
+            name: LimitName::Draw,
+            number: runtime.clock.draw,
+        });
+    }
+    None
 }
 
 fn has_limit(outcomes: &[Outcomes]) -> bool
     ensures { result ≡ list_any (list_any is_limit) outcomes.now }
 {
-    outcomes
-        .iter()
-        .any(|of_worker| any_limit(of_worker.as_slice()))
+    outcomes.iter().any(|of_worker| of_worker.has_limit())
 }
 
-fn any_limit(outcomes: &[Outcome]) -> bool
-    ensures { result ≡ list_any is_limit outcomes.now }
-{
-    outcomes
-        .iter()
-        .any(|outcome| matches!(outcome, Outcome::Limit))
-}
-
+// Runs all lines.
 fn run_workers<G: Gate>(
     alloc: Global,
     runtime: &mut Runtime,
     round: &Round<'_>,
     gate: &G,
 ) -> Result<RoundOutcomes, Memory>
-    requires { CanRun runtime.old.plain.decls round.now }
-    ensures decls { runtime.new.plain.decls ≡ runtime.old.plain.decls }
-    ensures outcomes { IfOk result (λ outcomes. outcomes
-        ≡ outcomes_of runtime.old.plain.decls (worker_lines round.now) (place_of runtime.old)) }
-    ensures place { OnOk result (place_of runtime.new
-        ≡ place_after_workers runtime.old.plain.decls (worker_lines round.now) (place_of runtime.old)) }
+    requires { CanRun runtime.old.decls round.now }
+    ensures ran { IfOk result (λ outcomes. RanLines round.now runtime.old runtime.new outcomes) }
+    ensures stops { OnErr result (RanFront round.now runtime.old runtime.new) }
 {
     let mut outcomes = RoundOutcomes::new(alloc);
     for worker in 0..8 {
@@ -158,6 +119,7 @@ fn run_workers<G: Gate>(
     Ok(outcomes)
 }
 
+// Runs a worker's lines.
 fn run_worker<G: Gate>(
     alloc: Global,
     runtime: &mut Runtime,
@@ -165,43 +127,82 @@ fn run_worker<G: Gate>(
     worker: u8,
     gate: &G,
 ) -> Result<Outcomes, Memory>
-    requires { CanRun runtime.old.plain.decls round.now }
-    ensures decls { runtime.new.plain.decls ≡ runtime.old.plain.decls }
-    ensures outcomes { IfOk result (λ outcomes. outcomes
-        ≡ outcomes_at runtime.old.plain.decls (lines_of_worker round.now worker) (place_of runtime.old)) }
-    ensures place { OnOk result (place_of runtime.new
-        ≡ place_after_all runtime.old.plain.decls (lines_of_worker round.now worker) (place_of runtime.old)) }
+    requires { CanRun runtime.old.decls round.now }
+    ensures outcomes { IfOk result (λ outcomes. outcomes ≡ outcomes_at runtime.old (lines_of_worker round.now worker)) }
+    ensures standing { OnOk result (runtime.new ≡ after_lines runtime.old (lines_of_worker round.now worker)) }
+    // The lines up to this index were run.
+    ensures stops { OnErr result ((index : ℕ) × (runtime.new
+        ≡ after_lines runtime.old (lines_of_worker (record { lines = take index round.now.lines }) worker))) }
 {
     let mut outcomes = Outcomes::new(alloc);
+    let mut room = Room::new(alloc);
+    let mut line_ops = LineOps::new();
     let mut count = 0;
     for index in 0..round.len() {
-        let line = round.line(index);
-        if line.worker == worker {
+        if let Some(ops) = ops_of(round, index, worker, &mut line_ops) {
             gate.before(worker, count);
-            let outcome = run_line(alloc, runtime, line.ops)?;
+            run_line(runtime, &mut room, ops, &mut outcomes)?;
             gate.after(worker, count);
-            outcomes.push(outcome)?;
             count += 1;
         }
     }
     Ok(outcomes)
 }
 
-fn run_line(alloc: Global, runtime: &mut Runtime, ops: &[Op]) -> Result<Outcome, Memory>
-    requires { All (λ op. IsTrue (fits runtime.old.plain.decls op)) ops.now }
-    ensures decls { runtime.new.plain.decls ≡ runtime.old.plain.decls }
-    ensures outcome { IfOk result (λ outcome. outcome ≡ outcome_at runtime.old.plain.decls (place_of runtime.old) ops.now) }
-    ensures place { OnOk result (place_of runtime.new ≡ place_after runtime.old.plain.decls (place_of runtime.old) ops.now) }
+// The operations of the line, where it is the worker's.
+fn ops_of<'b>(
+    round: &Round<'_>,
+    index: usize,
+    worker: u8,
+    line_ops: &'b mut LineOps,
+) -> Option<&'b [Op]>
+    requires { index < length round.now.lines }
+    ensures { option_map (ops_of_worker worker) (slice_get round.now.lines index) ≡ Some (option_copied result) }
+{
+    let owner = round.worker(index)?;
+    if owner != worker {
+        return None;
+    }
+    match round.line(index, line_ops) {
+        Line::Worker { worker: _, ops } => Some(ops),
+        Line::Keeper(_) => None,
+    }
+}
+
+// Room for a transaction, used again for the next.
+#[derive(Drop)]
+struct Room {
+    draft: Draft,
+    replies: Replies,
+}
+
+impl Room {
+    fn new(alloc: Global) -> Self {
+        Room {
+            draft: Draft::new(alloc),
+            replies: Replies::new(alloc),
+        }
+    }
+}
+
+// Runs a line, and keeps its outcome. After want of memory it was run or not.
+fn run_line(
+    runtime: &mut Runtime,
+    room: &mut Room,
+    ops: &[Op],
+    outcomes: &mut Outcomes,
+) -> Result<(), Memory>
+    requires few { length ops.now ≤ 16 }
+    requires fits { AllByRecursion (λ op. IsTrue (fits runtime.old.decls op)) ops.now }
+    ensures outcome { OnOk result (outcomes.new ≡ outcomes.old ++ outcome_at runtime.old ops.now ∷ []) }
+    ensures standing { OnOk result (runtime.new ≡ after_line runtime.old ops.now) }
+    ensures stops { OnErr result ((runtime.new ≡ runtime.old) ⊎ (runtime.new ≡ after_line runtime.old ops.now)) }
 {
     if runtime.clock.draw >= DRAW_LIMIT {
-        return Ok(Outcome::Limit);
+        return outcomes.push_limit();
     }
-    let (verdict, replies) = run_one(alloc, &mut runtime.plain, ops)?;
+    let verdict = run_in(&mut runtime.plain, &mut room.draft, &mut room.replies, ops)?;
     let number = runtime.clock;
     runtime.clock.draw += 1;
-    Ok(Outcome::Committed {
-        verdict,
-        number,
-        replies,
-    })
+    outcomes.push_commit(verdict, number, &room.replies)
 }

@@ -1,10 +1,9 @@
 -- Cutting a text at the first byte of a kind.
 use Rattle.std.proofs.Common.{◌≡◌, ℕ, ◌+◌, ◌-◌, ◌≤◌, Bool, true, false, cond, ltb, [], ◌∷◌, length, take, drop, Some, None, refl, ap, ◌∙◌, arith, length-drop}
 use Rattle.std.specs.Prelude.{◌==◌}
-use Rattle.std.specs.List.{slice_split, position, position_or_len, before_first, after_first, All}
+use Rattle.std.specs.List.{slice_split, position, position_or_len, All}
 use Rattle.std.proofs.Math.Seq.{take-length}
 use Rattle.std.proofs.lemmas.Bool.{ltb-true, ltb-false}
-use Rattle.std.proofs.lemmas.List.{take_all, drop_all}
 use Rattle.std.proofs.lemmas.List.Splits.{slice_split_first, slice_split_none}
 use Rattle.std.proofs.lemmas.List.Sums.{fails_before_first}
 use Rattle.script_grammar.specs.Script.{Bytes}
@@ -32,12 +31,6 @@ cut_at c bs end e =
     let at = chosen_Some (ltb (position_or_len (λ b. b == c) bs) (length bs)) (position_or_len (λ b. b == c) bs) end e in
     slice_split_first (λ b. b == c) bs 0 (ltb-true _ _ at.0) ∙ rw (at.1, behind bs end) refl
 
--- the first such byte is at the end of what is before it
-pub place_of : (c : ℕ) (bs : Bytes) (end : ℕ) → position (λ b. b == c) bs ≡ Some end → (take end bs ≡ before_first (λ b. b == c) bs) × (take (length bs - (end + 1)) (drop (end + 1) bs) ≡ after_first (λ b. b == c) bs)
-place_of c bs end e =
-    let at = chosen_Some (ltb (position_or_len (λ b. b == c) bs) (length bs)) (position_or_len (λ b. b == c) bs) end e in
-    (rw (← at.1) refl, behind bs end ∙ rw (← at.1) refl)
-
 -- without such a byte its place is past the end
 past : (c : ℕ) (bs : Bytes) → position (λ b. b == c) bs ≡ None → length bs ≤ position_or_len (λ b. b == c) bs
 past c bs e = ltb-false _ _ (chosen_None (ltb (position_or_len (λ b. b == c) bs) (length bs)) (position_or_len (λ b. b == c) bs) e)
@@ -48,7 +41,3 @@ uncut c bs e =
     let far = past c bs e in
     let none : All (λ b. (b == c) ≡ false) bs = λ k d lt. fails_before_first (λ b. b == c) bs k d (omega arith) in
     slice_split_none (λ b. b == c) bs none
-
--- without such a byte all is before it, and nothing behind it
-pub no_place : (c : ℕ) (bs : Bytes) → position (λ b. b == c) bs ≡ None → (before_first (λ b. b == c) bs ≡ bs) × (after_first (λ b. b == c) bs ≡ [])
-no_place c bs e = let far = past c bs e in (take_all (position_or_len (λ b. b == c) bs) bs far, drop_all (position_or_len (λ b. b == c) bs + 1) bs (omega arith))

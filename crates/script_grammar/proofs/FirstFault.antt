@@ -4,15 +4,16 @@ use Rattle.std.specs.Prelude.{◌==◌, codes}
 use Rattle.std.specs.Cmp.Lexicographic.{same_text}
 use Rattle.std.specs.List.{slice_split}
 use Rattle.std.proofs.lemmas.Bool.{ltb-false, lt-ltb, le-ltb, ne_eqb}
-use Rattle.serial_model.specs.declared.memory.OrMemory.{OrMemory}
-use Rattle.serial_model.specs.declared.memory.OrMemory.TheVariants as errors
+use Rattle.lists.specs.declared.memory.OrMemory.{OrMemory}
+use Rattle.lists.specs.declared.memory.OrMemory.TheVariants as errors
 use Rattle.script_grammar.specs.declared.fault.ScriptFault.{ScriptFault}
 use Rattle.script_grammar.specs.declared.fault.FaultKind.{FaultKind}
 use Rattle.script_grammar.specs.Script.{Bytes, Script, IsTextOf}
-use Rattle.script_grammar.specs.Reading.{Parts, no_parts, decl_at, line_at, may_declare, may_run, with_decl, with_line, with_join, with_some_line, is_join, begins_declaration, step, steps, parts_of, Gives}
+use Rattle.script_grammar.specs.Words.{is_join}
+use Rattle.script_grammar.specs.Reading.{Parts, no_parts, decl_at, line_at, may_declare, may_follow, with_decl, with_line, with_join, with_some_line, begins_declaration, step, steps, parts_of, Gives}
 use Rattle.script_grammar.specs.Faults.{Place, place_after, place_past, first_place, kind_of, first_fault, fault_of, IsFirstFault}
 use Rattle.script_grammar.specs.Telling.{StopsAt, Stops, ReadsSourceOrStops}
-use Rattle.script_grammar.proofs.Numbers.{bind_some, test_some, not_test_some, some_same}
+use Rattle.script_grammar.proofs.Found.{bind_some, test_some, not_test_some, some_same}
 use Rattle.script_grammar.proofs.LineTexts.{decl_takes, line_takes}
 use Rattle.script_grammar.proofs.StepTexts.{IsShort}
 use Rattle.script_grammar.proofs.Steps.{steps_None}
@@ -34,9 +35,9 @@ decl_passes p q line short e =
 line_passes : (p q : Parts) (line : Bytes) → IsShort line → with_line p line ≡ Some q → Passes p line q
 unfolding with_line
 line_passes p q line short e =
-    let a = bind_some (line_at line) (λ l. cond (may_run p l.ops) (Some (record p { lines = p.lines ++ l ∷ [] })) None) q e in
+    let a = bind_some (line_at line) (λ l. cond (may_follow p l) (Some (record p { lines = p.lines ++ l ∷ [] })) None) q e in
     let l = a.0 in
-    let t = test_some (may_run p l.ops) (record p { lines = p.lines ++ l ∷ [] }) q a.2 in
+    let t = test_some (may_follow p l) (record p { lines = p.lines ++ l ∷ [] }) q a.2 in
     let taken = line_takes line l a.1 in
     subst (Passes p line) t.1
     (subst (λ (text : Bytes). Passes p text (record p { lines = p.lines ++ l ∷ [] })) (sym taken.0) (passes_line p l taken.1 (subst IsShort taken.0 short) t.0))

@@ -1,6 +1,6 @@
 -- Rounds keep what they are as lines are added behind them.
 use Rattle.std.proofs.Common.{◌≡◌, ℕ, ◌+◌, ◌-◌, ◌<◌, ◌≤◌, List, [], ◌∷◌, ◌++◌, length, take, drop, Some, refl, sym, ap, ◌∙◌, arith, length-drop, length-take}
-use Rattle.std.specs.Prelude.{slice_get, OnOk, Result, Ok, Err}
+use Rattle.std.specs.Prelude.{slice_get, OnOk, OnErr, Result, Ok, Err}
 use Rattle.std.proofs.lemmas.List.{take-append-le, drop-append-le, get_or-drop, get_or-take}
 use Rattle.std.proofs.lemmas.Option.{slice_get-get_or}
 use Rattle.script_grammar.specs.Script.{Line, Round}
@@ -46,3 +46,8 @@ line_of_stretch lines start end index line order within below e =
 pub on_ok : {X E : Type 0} (r : Result X E) (P Q : Type 0) → OnOk r P → (P → Q) → OnOk r Q
 on_ok (Ok x) P Q p f = f p
 on_ok (Err e) P Q p f = tt
+
+-- what holds holds of a refusal
+pub on_err : {X E : Type 0} (r : Result X E) (P : Type 0) → P → OnErr r P
+on_err (Ok x) P p = tt
+on_err (Err e) P p = p

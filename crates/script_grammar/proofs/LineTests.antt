@@ -1,29 +1,27 @@
 -- In the text of a line of a script no test finds a fault, and the next line stands behind it.
-use Rattle.std.proofs.Common.{◌≡◌, ℕ, ◌+◌, ◌<◌, ◌^◌, Bool, true, false, cond, eqb, List, [], ◌∷◌, ◌++◌, length, map, Some, None, refl, sym, ap, subst, ◌∙◌, append_assoc, arith, length-append}
+use Rattle.std.proofs.Common.{◌≡◌, ℕ, ◌<◌, ◌^◌, Bool, true, false, cond, List, [], ◌∷◌, ◌++◌, length, map, None, refl, sym, ap, subst, ◌∙◌, arith, length-append}
 use Rattle.std.specs.Prelude.{◌==◌, ◌&&◌, ◌||◌, not, nat_le, nat_lt, codes}
 use Rattle.std.specs.Fmt.{decimal}
-use Rattle.std.specs.Char.{is_ascii_digit}
-use Rattle.std.specs.List.{AllByRecursion, list_all, list_any, position_or_len}
-use Rattle.std.specs.Str.Parse.{AllDigits}
+use Rattle.std.specs.List.{AllByRecursion, list_all, list_any}
 use Rattle.std.proofs.lemmas.Bool.{ne_eqb, lt-leb, le-ltb, ltb-true, and_parts}
-use Rattle.std.proofs.lemmas.Fmt.{decimal_digit}
 use Rattle.std.proofs.lemmas.List.{length-map}
+use Rattle.decimals.specs.Laws.{number_of_again}
 use Rattle.serial_model.specs.Keys.{fits, id_of}
 use Rattle.serial_model.specs.declared.decl.Decl.{Decl}
 use Rattle.serial_model.specs.declared.decl.Decl.TheVariants.{Array, Tree}
 use Rattle.serial_model.specs.declared.op.Op.{Op}
 use Rattle.script_grammar.specs.declared.fault.FaultKind.TheVariants.{Word, Number, Declared, Range}
-use Rattle.script_grammar.specs.Script.{Bytes, Line, Round, op_text, ops_text, line_text, decl_text, IsDecl}
-use Rattle.script_grammar.specs.Reading.{Parts, is_fresh, is_join, may_declare, may_run, with_join}
-use Rattle.script_grammar.specs.Faults.{Place, place_after, place_past, words, number, is_space, ops_of, worker_of, is_worker_line, is_decl_shape, op_is, some_op_is, is_too_long, has_no_shape, lacks_number, is_too_many, is_misdeclared, is_out_of_range, kind_of}
-use Rattle.script_grammar.proofs.Digits.{is_digit}
-use Rattle.script_grammar.proofs.Ops.{IsSpelled}
-use Rattle.script_grammar.proofs.LineTexts.{IsSpelledLine}
-use Rattle.script_grammar.proofs.Rules.{or_from}
-use Rattle.script_grammar.proofs.StepTexts.{IsShort, not_false}
+use Rattle.script_grammar.specs.Script.{Bytes, Line, Worker, Keeper, Round, op_text, line_text, decl_text}
+use Rattle.script_grammar.specs.Words.{words, is_join, is_worker_line, op_parts}
+use Rattle.script_grammar.specs.Reading.{Parts, is_fresh, may_declare, may_run, may_follow, with_join}
+use Rattle.script_grammar.specs.Faults.{Place, place_after, place_past, is_decl_shape, op_is, some_op_is, is_too_long, has_no_shape, lacks_number, is_too_many, is_misdeclared, is_out_of_range, kind_of}
+use Rattle.script_grammar.proofs.Found.{or_from, not_false}
+use Rattle.script_grammar.proofs.OpTexts.{IsSpelled}
+use Rattle.script_grammar.proofs.LineTexts.{AreSpelled, IsSpelledLine, IsNamed, BeginsLine, line_begins_so, words_decl}
+use Rattle.script_grammar.proofs.StepTexts.{IsShort}
 use Rattle.script_grammar.proofs.GoodOps.{HasNoFault}
 use Rattle.script_grammar.proofs.GoodLines.{IsFaultless, HaveNoFault}
-use Rattle.script_grammar.proofs.OpTests.{digits_of, number_again, words_two, no_fault_op, parts_texts}
+use Rattle.script_grammar.proofs.OpTests.{no_fault_op}
 
 -- where no test finds a fault, the line has no kind of fault
 no_kind : (place : Place) (line : Bytes) → IsFaultless place line → kind_of place line ≡ None
@@ -75,58 +73,28 @@ no_fault_ops decls (op ∷ ops) are e =
       range = or_from (op_is Range decls (op_text op)) (list_any (op_is Range decls) (map op_text ops)) first.range others.range;
     }
 
-ops_parts : (ops : List Op) → 0 < length ops → AllByRecursion IsSpelled ops → ops_of (0 ∷ 32 ∷ ops_text ops) ≡ map op_text ops
-ops_parts [] some are = absurd (omega arith)
-ops_parts (op ∷ ops) some are = parts_texts op ops are.0 are.1
-
--- what a worker's line begins with
-record BeginsLine (line : Bytes) (worker : ℕ) (ops : List Op) : Type 0 where
-  worker_line : is_worker_line line ≡ true
-  number_is : number (worker_of line) ≡ Some worker
-  ops_are : ops_of line ≡ map op_text ops
-
-begins_line : (b : ℕ) (rest : Bytes) (worker : ℕ) (ops : List Op) → eqb b 32 ≡ false → is_ascii_digit b ≡ true → number (b ∷ []) ≡ Some worker → ops_of (0 ∷ 32 ∷ rest) ≡ map op_text ops
-    → BeginsLine (b ∷ 32 ∷ rest) worker ops
-begins_line b rest worker ops no_space digit n are =
-    let at : position_or_len is_space (b ∷ 32 ∷ rest) ≡ 1 = rw no_space (omega arith) in
-    record {
-      worker_line = digit;
-      number_is = rw at n;
-      ops_are = rw at are;
-    }
-
-line_begins_so : (l : Line) → IsSpelledLine l → BeginsLine (line_text l) l.worker l.ops
-line_begins_so l is =
-    let below = is.worker in
-    let one : decimal l.worker ≡ (48 + l.worker) ∷ [] = decimal_digit l.worker (omega arith) in
-    let digit : line_text l ≡ (48 + l.worker) ∷ 32 ∷ ops_text l.ops = rw one refl in
-    let all = subst (AllDigits 10) one (digits_of l.worker (omega arith)) in
-    subst (λ (t : Bytes). BeginsLine t l.worker l.ops) (sym digit)
-    (begins_line (48 + l.worker) (ops_text l.ops) l.worker l.ops (ne_eqb (48 + l.worker) 32 (λ same. omega arith)) (is_digit (48 + l.worker) all.0)
-    (ap number (sym one) ∙ number_again l.worker (omega arith)) (ops_parts l.ops is.ops.some is.ops.spelled))
-
 -- no test finds a fault in a worker's line that may come here
-faultless_line : (p : Parts) (line : Bytes) (l : Line) → IsSpelledLine l → IsShort line → may_run p l.ops ≡ true → BeginsLine line l.worker l.ops → IsFaultless (place_after p) line
+faultless_line : (p : Parts) (line : Bytes) (worker : ℕ) (ops : List Op) → worker < 8 → AreSpelled ops → IsShort line → may_run p ops ≡ true → BeginsLine line worker ops → IsFaultless (place_after p) line
 unfolding is_too_long has_no_shape lacks_number is_too_many is_misdeclared is_out_of_range some_op_is
-faultless_line p line l is short test begins =
-    let both = and_parts (nat_lt (length p.lines) 65536) (list_all (fits p.decls) l.ops) test in
-    let worker = is.worker in
-    let few = is.ops.few in
-    let none : HaveNoFault p.decls (ops_of line) = subst (HaveNoFault p.decls) (sym begins.ops_are) (no_fault_ops p.decls l.ops is.ops.spelled both.1) in
-    let count : length (ops_of line) ≡ length l.ops = ap (λ (ps : List Bytes). length ps) begins.ops_are ∙ length-map l.ops op_text in
+faultless_line p line worker ops below are short test begins =
+    let both = and_parts (nat_lt (length p.lines) 65536) (list_all (fits p.decls) ops) test in
+    let few = are.few in
+    let none : HaveNoFault p.decls (op_parts line) = subst (HaveNoFault p.decls) (sym begins.ops_are) (no_fault_ops p.decls ops are.each both.1) in
+    let count : length (op_parts line) ≡ length ops = ap (λ (ps : List Bytes). length ps) begins.ops_are ∙ length-map ops op_text in
     record {
       short = le-ltb 1024 (length line) short;
       shape = at_first (is_worker_line line) _ _ begins.worker_line none.shape;
       numbers = at_first (is_worker_line line) _ _ begins.worker_line (rw begins.number_is none.numbers);
-      few = at_first (is_worker_line line) _ _ begins.worker_line (or_from (nat_lt 16 (length (ops_of line))) _ (le-ltb 16 (length (ops_of line)) (omega arith)) (lt-leb 65536 (length p.lines) (ltb-true _ _ both.0)));
+      few = at_first (is_worker_line line) _ _ begins.worker_line (or_from (nat_lt 16 (length (op_parts line))) _ (le-ltb 16 (length (op_parts line)) (omega arith)) (lt-leb 65536 (length p.lines) (ltb-true _ _ both.0)));
       declared = at_first (is_worker_line line) _ _ begins.worker_line none.declared;
-      range = at_first (is_worker_line line) _ _ begins.worker_line (rw begins.number_is (or_from (nat_le 8 l.worker) _ (lt-leb 8 l.worker is.worker) none.range));
+      range = at_first (is_worker_line line) _ _ begins.worker_line (rw begins.number_is (or_from (nat_le 8 worker) _ (lt-leb 8 worker below) none.range));
     }
 
 -- a list with one more at its end isn't empty
 not_empty : {X : Type 0} (xs : List X) (x : X) → (length (xs ++ x ∷ []) == 0) ≡ false
 not_empty xs x = ne_eqb (length (xs ++ x ∷ [])) 0 (λ none. omega (arith, length-append xs (x ∷ [])))
 
+-- where a line stands
 abbrev stands : List Decl → Bool → ℕ → Place
 stands decls begun lines = record { decls = decls; begun = begun; lines = lines }
 
@@ -137,26 +105,25 @@ past_line p line l worker =
     rw worker
     (ap (λ (n : ℕ). stands p.decls true n) (sym (length-append p.lines (l ∷ []))) ∙ ap (λ (b : Bool). stands p.decls (not b) (length (p.lines ++ l ∷ []))) (sym begun))
 
-pub passes_line : (p : Parts) (l : Line) → IsSpelledLine l → IsShort (line_text l) → may_run p l.ops ≡ true → Passes p (line_text l) (record p { lines = p.lines ++ l ∷ [] })
-passes_line p l is short test =
-    let begins = line_begins_so l is in
+-- behind a worker's line that may come here stands the next one
+pub passes_line : (p : Parts) (l : Line) → IsSpelledLine l → IsShort (line_text l) → may_follow p l ≡ true → Passes p (line_text l) (record p { lines = p.lines ++ l ∷ [] })
+passes_line p (Worker worker ops) is short test =
+    let begins = line_begins_so worker ops is.0 is.1 in
+    let line : Bytes = line_text (Worker worker ops) in
     record {
-      kind = no_kind (place_after p) (line_text l) (faultless_line p (line_text l) l is short test begins);
-      past = past_line p (line_text l) l begins.worker_line;
+      kind = no_kind (place_after p) line (faultless_line p line worker ops is.0 is.1 short test begins);
+      past = past_line p line (Worker worker ops) begins.worker_line;
     }
+passes_line p (Keeper line) is short test = absurd is
 
 -- ---- declarations
-
-words_decl : (id size : ℕ) → id < 2 ^ 64 → size < 2 ^ 64 → words (decl_text (Array id size)) ≡ codes "array" ∷ decimal id ∷ decimal size ∷ []
-words_decl id size lt small =
-    ap (λ (r : Bytes). words (codes "array " ++ r)) (append_assoc (decimal id) (32 ∷ []) (decimal size)) ∙ rw (words_two id size lt small) refl
 
 decl_shape : (line id size : Bytes) → words line ≡ codes "array" ∷ id ∷ size ∷ [] → is_decl_shape line ≡ true
 unfolding is_decl_shape
 decl_shape line id size e = rw e refl
 
 -- no test finds a fault in a declaration that may come here
-faultless_decl : (p : Parts) (line : Bytes) (id size : ℕ) → IsDecl (Array id size) → IsShort line → may_declare p (Array id size) ≡ true → is_worker_line line ≡ false
+faultless_decl : (p : Parts) (line : Bytes) (id size : ℕ) → IsNamed (Array id size) → IsShort line → may_declare p (Array id size) ≡ true → is_worker_line line ≡ false
     → words line ≡ codes "array" ∷ decimal id ∷ decimal size ∷ [] → IsFaultless (place_after p) line
 unfolding is_too_long has_no_shape lacks_number is_too_many is_misdeclared is_out_of_range
 faultless_decl p line id size is short test other ws =
@@ -166,8 +133,8 @@ faultless_decl p line id size is short test other ws =
     let new : list_any (λ d. id_of d == id) p.decls ≡ false = not_false _ second.1 in
     let limit = is.2 in
     let below = is.0 in
-    let n = number_again id (omega arith) in
-    let m = number_again size (omega arith) in
+    let n = number_of_again id (omega arith) in
+    let m = number_of_again size (omega arith) in
     let shape = decl_shape line (decimal id) (decimal size) ws in
     let some : (size == 0) ≡ false = let positive = is.1 in ne_eqb size 0 (λ none. omega arith) in
     record {
@@ -184,12 +151,12 @@ past_decl : (p : Parts) (line : Bytes) (id size : ℕ) → is_worker_line line �
     → words line ≡ codes "array" ∷ decimal id ∷ decimal size ∷ [] → place_past (place_after p) line ≡ place_after (record p { decls = p.decls ++ Array id size ∷ [] })
 unfolding place_past
 past_decl p line id size other no_join lt small ws =
-    let n = number_again id lt in
-    let m = number_again size small in
+    let n = number_of_again id lt in
+    let m = number_of_again size small in
     let shape = decl_shape line (decimal id) (decimal size) ws in
     rw (other, no_join, shape, ws, n, m) refl
 
-pub passes_decl : (p : Parts) (d : Decl) → IsDecl d → IsShort (decl_text d) → may_declare p d ≡ true → Passes p (decl_text d) (record p { decls = p.decls ++ d ∷ [] })
+pub passes_decl : (p : Parts) (d : Decl) → IsNamed d → IsShort (decl_text d) → may_declare p d ≡ true → Passes p (decl_text d) (record p { decls = p.decls ++ d ∷ [] })
 passes_decl p (Tree id) is short test = absurd is
 passes_decl p (Array id size) is short test =
     let below = is.0 in

@@ -1,117 +1,195 @@
 -- A line that is read is spelled so, and what is spelled so is read.
-use Rattle.std.proofs.Common.{◌≡◌, ℕ, ◌<◌, true, cond, ltb, eqb, [], ◌∷◌, ◌++◌, length, take, drop, Some, None, refl, sym, ap, subst, ◌∙◌, append_assoc, arith}
-use Rattle.std.specs.Prelude.{◌==◌, ◌&&◌, codes, nat_lt, nat_le}
-use Rattle.std.specs.Cmp.Lexicographic.{pointwise, same_text}
+use Rattle.std.proofs.Common.{◌≡◌, inl, inr, ℕ, ◌+◌, ◌<◌, ◌≤◌, ◌^◌, true, false, cond, ltb, leb, eqb, List, [], ◌∷◌, ◌++◌, length, map, get_or, Some, None, refl, sym, ap, subst, ◌∙◌, append_assoc, arith}
+use Rattle.std.specs.Prelude.{◌&&◌, codes, nat_lt, nat_le}
+use Rattle.std.specs.Char.{is_ascii_digit}
+use Rattle.std.specs.Cmp.Lexicographic.{same_text}
 use Rattle.std.specs.Fmt.{decimal}
-use Rattle.std.proofs.lemmas.Bool.{ltb-true, lt-ltb, leb-true, le-leb, eqb-true, eq-eqb, and_parts, and_from}
-use Rattle.std.proofs.lemmas.List.{take_at, drop_at, take-append-drop, append-nil, nil_from_length}
+use Rattle.std.specs.List.{AllByRecursion, after_first, join_with_byte, position_or_len}
+use Rattle.std.specs.Str.Parse.{AllDigits}
+use Rattle.std.proofs.lemmas.Bool.{ltb-true, ltb-false, lt-ltb, leb-true, le-leb, eqb-true, ne_eqb, and_parts}
+use Rattle.std.proofs.lemmas.Fmt.{decimal_digit}
+use Rattle.std.proofs.lemmas.List.{drop_all}
+use Rattle.std.proofs.lemmas.List.Sums.{split_at_first, passes_at_first}
+use Rattle.decimals.specs.Numbers.{number_of}
+use Rattle.decimals.specs.Digits.{cases_on, is_digit}
+use Rattle.decimals.specs.Laws.{number_of_takes, number_of_again}
+use Rattle.serial_model.specs.Decls.{IsDecl}
 use Rattle.serial_model.specs.declared.decl.Decl.{Decl}
 use Rattle.serial_model.specs.declared.decl.Decl.TheVariants.{Array, Tree}
-use Rattle.script_grammar.specs.Script.{Bytes, Line, ops_text, line_text, decl_text, IsDecl}
-use Rattle.script_grammar.specs.Reading.{◌>>=◌, Front, number_at, byte_at, char_at, next_number_at, ops_at, worker_at, line_at, word_at, decl_at}
-use Rattle.script_grammar.proofs.Numbers.{bind_some, test_some, some_same, number_takes, number_again, byte_takes, byte_again, char_takes, char_again, next_number_takes, next_number_again}
-use Rattle.script_grammar.proofs.Ops.{AreOps, ops_take, ops_again}
+use Rattle.serial_model.specs.declared.op.Op.{Op}
+use Rattle.script_grammar.specs.Script.{Bytes, Line, Worker, Keeper, op_text, ops_text, line_text, decl_text}
+use Rattle.script_grammar.specs.Words.{◌>>=◌, words, parts, is_word, is_space, is_worker_line, worker_word, op_parts}
+use Rattle.script_grammar.specs.Reading.{ops_in, few_of, few_ops_in, worker_in, line_at, array_in, decl_in, decl_at}
+use Rattle.script_grammar.proofs.Found.{bind_some, test_some, chosen, some_same}
+use Rattle.script_grammar.proofs.Parts.{parts_cons}
+use Rattle.script_grammar.proofs.WordTexts.{digits_of, words_join, words_two}
+use Rattle.script_grammar.proofs.OpTexts.{IsSpelled, ops_take, ops_again}
+use Rattle.script_grammar.proofs.PartTexts.{joined_ops, joined_parts, joined_texts, parts_texts}
 
 -- ---- workers' lines
 
--- a worker that is read is spelled so, with a space
-worker_takes : (bs : Bytes) (w : ℕ) (rest : Bytes) → worker_at bs ≡ Some (w, rest) → (bs ≡ decimal w ++ (32 ∷ rest)) × (w < 8)
-unfolding worker_at
-worker_takes bs w rest e =
-    let a = bind_some (number_at bs) (λ n. char_at 32 n.1 >>= λ r. cond (ltb n.0 8) (Some (n.0, r)) None) (w, rest) e in
-    let b = bind_some (char_at 32 a.0.1) (λ r. cond (ltb a.0.0 8) (Some (a.0.0, r)) None) (w, rest) a.2 in
-    let t = test_some (ltb a.0.0 8) (a.0.0, b.0) (w, rest) b.2 in
-    let n = number_takes bs a.0.0 a.0.1 a.1 in
-    subst (λ (x : Front ℕ). (bs ≡ decimal x.0 ++ (32 ∷ x.1)) × (x.0 < 8)) t.1
-    (n.0 ∙ ap (λ (r : Bytes). decimal a.0.0 ++ r) (char_takes 32 a.0.1 b.0 b.1), ltb-true _ _ t.0)
-
--- a spelled worker is read again
-worker_again : (w : ℕ) (rest : Bytes) → w < 8 → worker_at (decimal w ++ (32 ∷ rest)) ≡ Some (w, rest)
-unfolding worker_at
-worker_again w rest lt = rw (number_again w (32 ∷ rest) (omega arith) refl, char_again 32 rest, lt-ltb w 8 lt) refl
+-- 1 to 16 operations that have a spelling
+pub record AreSpelled (ops : List Op) : Type 0 where
+  pub some : 0 < length ops
+  pub few : length ops ≤ 16
+  pub each : AllByRecursion IsSpelled ops
 
 -- a line of a worker from 0 to 7 whose operations have a spelling
-pub record IsSpelledLine (l : Line) : Type 0 where
-  pub worker : l.worker < 8
-  pub ops : AreOps l.ops
+abbrev pub IsSpelledLine : Line → Type 0
+IsSpelledLine (Worker worker ops) = (worker < 8) × AreSpelled ops
+IsSpelledLine (Keeper line) = ⊥
+
+-- a worker that is read is spelled so
+worker_takes : (word : Bytes) (w : ℕ) → worker_in word ≡ Some w → (word ≡ decimal w) × (w < 8)
+worker_takes word w e =
+    let a = bind_some (number_of word) (λ n. cond (ltb n 8) (Some n) None) w e in
+    let t = test_some (ltb a.0 8) a.0 w a.2 in
+    subst (λ (n : ℕ). (word ≡ decimal n) × (n < 8)) t.1 ((number_of_takes word a.0 a.1).0, ltb-true _ _ t.0)
+
+-- at most 16 are few
+few_takes : (ops few : List Op) → few_of ops ≡ Some few → (ops ≡ few) × (length few ≤ 16)
+few_takes ops few e =
+    let t = test_some (leb (length ops) 16) ops few e in
+    (t.1, subst (λ (os : List Op). length os ≤ 16) t.1 (leb-true _ _ t.0))
+
+-- without a byte there is no operation
+no_op : (rest : Bytes) (ops : List Op) → rest ≡ [] → ops_in (parts rest) ≡ Some ops → ⊥
+no_op rest ops none e = let h = rw none at e in cc
+
+-- there is some part
+some_ops : (rest : Bytes) (ops : List Op) → parts rest ≡ map op_text ops → 0 < length ops
+some_ops rest [] e = let first = parts_cons rest in let h = sym first.2 ∙ e in absurd cc
+some_ops rest (op ∷ ops) e = omega arith
+
+-- a line is cut at its first space, where there are operations
+cut_at_space : (line : Bytes) (ops : List Op) → ops_in (op_parts line) ≡ Some ops → line ≡ worker_word line ++ (32 ∷ after_first is_space line)
+cut_at_space line ops e =
+    let pos : ℕ = position_or_len is_space line in
+    elim (cases_on (ltb pos (length line))) [
+      | inl here ↦
+          let within : pos < length line = ltb-true pos (length line) here in
+          let space : get_or line pos 0 ≡ 32 = eqb-true (get_or line pos 0) 32 (passes_at_first is_space line 0 within) in
+          split_at_first is_space line 0 within ∙ ap (λ (k : ℕ). worker_word line ++ (k ∷ after_first is_space line)) space
+      | inr past ↦
+          let far : length line ≤ pos = ltb-false pos (length line) past in
+          absurd (no_op (after_first is_space line) ops (drop_all (pos + 1) line (omega arith)) e)
+    ]
 
 -- a worker's line that is read is spelled so
 pub line_takes : (bs : Bytes) (l : Line) → line_at bs ≡ Some l → (bs ≡ line_text l) × IsSpelledLine l
 unfolding line_at
 line_takes bs l e =
-    let a = bind_some (worker_at bs) (λ w. ops_at w.1 >>= λ ops. Some (record { worker = w.0; ops = ops })) l e in
-    let b = bind_some (ops_at a.0.1) (λ ops. Some (record { worker = a.0.0; ops = ops })) l a.2 in
-    let w = worker_takes bs a.0.0 a.0.1 a.1 in
-    let o = ops_take a.0.1 b.0 b.1 in
-    let found : Line = record { worker = a.0.0; ops = b.0 } in
-    subst (λ (x : Line). (bs ≡ line_text x) × IsSpelledLine x) (some_same found l b.2)
-    (w.0 ∙ ap (λ (r : Bytes). decimal a.0.0 ++ (32 ∷ r)) o.0 ∙ sym (append_assoc (decimal a.0.0) (32 ∷ []) (ops_text b.0)), record { worker = w.1; ops = o.1 })
+    let a = bind_some (worker_in (worker_word bs)) (λ w. few_ops_in (op_parts bs) >>= (λ ops. Some (Worker w ops))) l e in
+    let b = bind_some (few_ops_in (op_parts bs)) (λ ops. Some (Worker a.0 ops)) l a.2 in
+    let d = bind_some (ops_in (op_parts bs)) few_of b.0 b.1 in
+    let few = few_takes d.0 b.0 d.2 in
+    let found : ops_in (op_parts bs) ≡ Some b.0 = d.1 ∙ ap Some few.0 in
+    let w = worker_takes (worker_word bs) a.0 a.1 in
+    let o = ops_take (op_parts bs) b.0 found in
+    let rest : after_first is_space bs ≡ ops_text b.0 = sym (joined_parts (after_first is_space bs)) ∙ ap joined_ops o.0 ∙ joined_texts b.0 in
+    subst (λ (x : Line). (bs ≡ line_text x) × IsSpelledLine x) (some_same (Worker a.0 b.0) l b.2) (
+      cut_at_space bs b.0 found ∙ ap (λ (t : Bytes). t ++ (32 ∷ after_first is_space bs)) w.0 ∙ ap (λ (t : Bytes). decimal a.0 ++ (32 ∷ t)) rest
+          ∙ sym (append_assoc (decimal a.0) (32 ∷ []) (ops_text b.0)),
+      (w.1, record { some = some_ops (after_first is_space bs) b.0 o.0; few = few.1; each = o.1 }),
+    )
+
+-- what a worker's line begins with
+pub record BeginsLine (line : Bytes) (worker : ℕ) (ops : List Op) : Type 0 where
+  pub worker_line : is_worker_line line ≡ true
+  pub number_is : number_of (worker_word line) ≡ Some worker
+  pub ops_are : op_parts line ≡ map op_text ops
+
+begins_line : (b : ℕ) (rest : Bytes) (worker : ℕ) (ops : List Op) → eqb b 32 ≡ false → is_ascii_digit b ≡ true → number_of (b ∷ []) ≡ Some worker → parts rest ≡ map op_text ops
+    → BeginsLine (b ∷ 32 ∷ rest) worker ops
+begins_line b rest worker ops no_space digit n are =
+    let at : position_or_len is_space (b ∷ 32 ∷ rest) ≡ 1 = rw no_space (omega arith) in
+    record {
+      worker_line = digit;
+      number_is = rw at n;
+      ops_are = rw at are;
+    }
+
+ops_parts : (ops : List Op) → AreSpelled ops → parts (ops_text ops) ≡ map op_text ops
+ops_parts [] are = let some = are.some in absurd (omega arith)
+ops_parts (op ∷ ops) are = parts_texts op ops are.each.0 are.each.1
+
+-- the text of a line of a worker begins so
+pub line_begins_so : (worker : ℕ) (ops : List Op) → worker < 8 → AreSpelled ops → BeginsLine (line_text (Worker worker ops)) worker ops
+line_begins_so worker ops below are =
+    let one : decimal worker ≡ (48 + worker) ∷ [] = decimal_digit worker (omega arith) in
+    let digit : line_text (Worker worker ops) ≡ (48 + worker) ∷ 32 ∷ ops_text ops = rw one refl in
+    let all = subst (AllDigits 10) one (digits_of worker (omega arith)) in
+    subst (λ (t : Bytes). BeginsLine t worker ops) (sym digit)
+    (begins_line (48 + worker) (ops_text ops) worker ops (ne_eqb (48 + worker) 32 (λ same. omega arith)) (is_digit (48 + worker) all.0)
+    (ap number_of (sym one) ∙ number_of_again worker (omega arith)) (ops_parts ops are))
+
+-- a line that begins so is read
+pub line_found : (line : Bytes) (worker : ℕ) (ops : List Op) → number_of (worker_word line) ≡ Some worker → worker < 8 → ops_in (op_parts line) ≡ Some ops → length ops ≤ 16
+    → line_at line ≡ Some (Worker worker ops)
+unfolding line_at
+line_found line worker ops number_is below found few = rw (number_is, lt-ltb worker 8 below, found, le-leb (length ops) 16 few) refl
 
 -- a spelled worker's line is read again
 pub line_again : (l : Line) → IsSpelledLine l → line_at (line_text l) ≡ Some l
-unfolding line_at
-line_again l is =
-    ap line_at (append_assoc (decimal l.worker) (32 ∷ []) (ops_text l.ops))
-    ∙ rw (worker_again l.worker (ops_text l.ops) is.worker, ops_again l.ops is.ops) refl
-
--- ---- words
-
--- a text is equal to itself, byte for byte
-pointwise-same : (xs : Bytes) → pointwise (λ x y. x == y) xs xs ≡ true
-pointwise-same [] = refl
-pointwise-same (x ∷ xs) = and_from (eqb x x) (pointwise (λ x y. x == y) xs xs) (eq-eqb x x refl) (pointwise-same xs)
-
--- a word that is read is at the front
-word_takes : (word bs rest : Bytes) → word_at word bs ≡ Some rest → bs ≡ word ++ rest
-unfolding word_at
-word_takes word bs rest e =
-    let t = test_some (pointwise (λ x y. x == y) (take (length word) bs) word) (drop (length word) bs) rest e in
-    let front : take (length word) bs ≡ word = same_text (take (length word) bs) word (sym t.0) in
-    sym (take-append-drop (length word) bs) ∙ ap (λ (r : Bytes). r ++ drop (length word) bs) front ∙ ap (λ (r : Bytes). word ++ r) t.1
-
--- a word at the front is read
-word_again : (word rest : Bytes) → word_at word (word ++ rest) ≡ Some rest
-unfolding word_at
-word_again word rest = rw (take_at word rest (length word) refl, drop_at word rest (length word) refl, pointwise-same word) refl
+line_again (Worker worker ops) is =
+    let begins = line_begins_so worker ops is.0 is.1 in
+    line_found (line_text (Worker worker ops)) worker ops begins.number_is is.0 (ap ops_in begins.ops_are ∙ ops_again ops is.1.each) is.1.few
+line_again (Keeper line) is = absurd is
 
 -- ---- declarations
 
--- a declaration's text, grouped from the right
-decl_text-append : (id size : ℕ) → decl_text (Array id size) ≡ codes "array " ++ (decimal id ++ (32 ∷ (decimal size ++ [])))
-decl_text-append id size =
-    append_assoc (codes "array " ++ decimal id) (32 ∷ []) (decimal size)
-    ∙ append_assoc (codes "array ") (decimal id) (32 ∷ decimal size)
-    ∙ ap (λ (r : Bytes). codes "array " ++ (decimal id ++ (32 ∷ r))) (sym (append-nil (decimal size)))
+-- a declaration that scripts can name so far
+abbrev pub IsNamed : Decl → Type 0
+IsNamed (Array id size) = IsDecl (Array id size)
+IsNamed (Tree id) = ⊥
+
+-- the text of a declaration's words
+decl_joined : (word id size : Bytes) (i n : ℕ) → word ≡ codes "array" → id ≡ decimal i → size ≡ decimal n → join_with_byte 32 (word ∷ id ∷ size ∷ []) ≡ decl_text (Array i n)
+decl_joined word id size i n e f g = rw (e, f, g) (ap (λ (r : Bytes). codes "array " ++ r) (sym (append_assoc (decimal i) (32 ∷ []) (decimal n))))
+
+-- a declaration's words that are read are spelled so
+decl_words_take : (ws : List Bytes) (d : Decl) → decl_in ws ≡ Some d → (join_with_byte 32 ws ≡ decl_text d) × IsNamed d
+decl_words_take [] d e = absurd cc
+decl_words_take (word ∷ []) d e = absurd cc
+decl_words_take (word ∷ id ∷ []) d e = absurd cc
+decl_words_take (word ∷ id ∷ size ∷ []) d e =
+    let c = chosen (is_word (codes "array") word) (number_of id >>= (λ i. number_of size >>= array_in i)) d e in
+    let a = bind_some (number_of id) (λ i. number_of size >>= array_in i) d c.1 in
+    let b = bind_some (number_of size) (array_in a.0) d a.2 in
+    let t = test_some (nat_lt a.0 256 && (nat_lt 0 b.0 && nat_le b.0 131072)) (Array a.0 b.0) d b.2 in
+    let first = and_parts (nat_lt a.0 256) (nat_lt 0 b.0 && nat_le b.0 131072) t.0 in
+    let second = and_parts (nat_lt 0 b.0) (nat_le b.0 131072) first.1 in
+    let some : 0 < b.0 = ltb-true _ _ second.0 in
+    let same : word ≡ codes "array" = same_text word (codes "array") (sym c.0) in
+    subst (λ (x : Decl). (join_with_byte 32 (word ∷ id ∷ size ∷ []) ≡ decl_text x) × IsNamed x) t.1 (
+      decl_joined word id size a.0 b.0 same (number_of_takes id a.0 a.1).0 (number_of_takes size b.0 b.1).0,
+      (ltb-true _ _ first.0, omega arith, leb-true _ _ second.1),
+    )
+decl_words_take (word ∷ id ∷ size ∷ more ∷ ws) d e = absurd cc
 
 -- a declaration that is read is spelled so
-pub decl_takes : (bs : Bytes) (d : Decl) → decl_at bs ≡ Some d → (bs ≡ decl_text d) × IsDecl d
+pub decl_takes : (bs : Bytes) (d : Decl) → decl_at bs ≡ Some d → (bs ≡ decl_text d) × IsNamed d
 unfolding decl_at
-decl_takes bs d e =
-    let a = bind_some (word_at (codes "array ") bs) (λ r. byte_at r >>= λ id. next_number_at id.1 >>= λ n. cond ((length n.1 == 0) && (nat_lt 0 n.0 && nat_le n.0 131072)) (Some (Array id.0 n.0)) None) d e in
-    let b = bind_some (byte_at a.0) (λ id. next_number_at id.1 >>= λ n. cond ((length n.1 == 0) && (nat_lt 0 n.0 && nat_le n.0 131072)) (Some (Array id.0 n.0)) None) d a.2 in
-    let g = bind_some (next_number_at b.0.1) (λ n. cond ((length n.1 == 0) && (nat_lt 0 n.0 && nat_le n.0 131072)) (Some (Array b.0.0 n.0)) None) d b.2 in
-    let t = test_some ((length g.0.1 == 0) && (nat_lt 0 g.0.0 && nat_le g.0.0 131072)) (Array b.0.0 g.0.0) d g.2 in
-    let ended = and_parts (length g.0.1 == 0) (nat_lt 0 g.0.0 && nat_le g.0.0 131072) t.0 in
-    let ranged = and_parts (nat_lt 0 g.0.0) (nat_le g.0.0 131072) ended.1 in
-    let nothing : g.0.1 ≡ [] = nil_from_length g.0.1 (eqb-true _ _ ended.0) in
-    let id = byte_takes a.0 b.0.0 b.0.1 b.1 in
-    let size = next_number_takes b.0.1 g.0.0 g.0.1 g.1 in
-    let whole : bs ≡ decl_text (Array b.0.0 g.0.0) =
-    word_takes (codes "array ") bs a.0 a.1
-    ∙ ap (λ (r : Bytes). codes "array " ++ r) (id.0 ∙ ap (λ (r : Bytes). decimal b.0.0 ++ r) (size.0 ∙ ap (λ (r : Bytes). 32 ∷ (decimal g.0.0 ++ r)) nothing))
-    ∙ sym (decl_text-append b.0.0 g.0.0) in
-    subst (λ (x : Decl). (bs ≡ decl_text x) × IsDecl x) t.1 (whole, (id.1, ltb-true _ _ ranged.0, leb-true _ _ ranged.1))
+decl_takes bs d e = let t = decl_words_take (words bs) d e in (words_join bs (words bs) refl ∙ t.0, t.1)
+
+-- a declaration's words
+pub words_decl : (id size : ℕ) → id < 2 ^ 64 → size < 2 ^ 64 → words (decl_text (Array id size)) ≡ codes "array" ∷ decimal id ∷ decimal size ∷ []
+words_decl id size lt small =
+    ap (λ (r : Bytes). words (codes "array " ++ r)) (append_assoc (decimal id) (32 ∷ []) (decimal size)) ∙ rw (words_two id size lt small) refl
 
 -- a spelled declaration is read again
-pub decl_again : (d : Decl) → IsDecl d → decl_at (decl_text d) ≡ Some d
+pub decl_again : (d : Decl) → IsNamed d → decl_at (decl_text d) ≡ Some d
 unfolding decl_at
 decl_again (Array id size) is =
-    ap decl_at (decl_text-append id size)
-    ∙ rw (
-      word_again (codes "array ") (decimal id ++ (32 ∷ (decimal size ++ []))),
-      byte_again id (32 ∷ (decimal size ++ [])) is.0 refl,
-      next_number_again size [] (omega (arith, is.2)) tt,
-      lt-ltb 0 size is.1,
+    let below = is.0 in
+    let limit = is.2 in
+    let some : 0 < size = let one = is.1 in omega arith in
+    rw (
+      words_decl id size (omega arith) (omega arith),
+      number_of_again id (omega arith),
+      number_of_again size (omega arith),
+      lt-ltb id 256 is.0,
+      lt-ltb 0 size some,
       le-leb size 131072 is.2,
     ) refl
 decl_again (Tree id) is = absurd is

@@ -1,9 +1,9 @@
 -- The operations of a line, as a loop finds their ends.
 use Rattle.std.proofs.Common.{◌≡◌, ℕ, ◌+◌, ◌<◌, Bool, true, false, eqb, List, [], ◌∷◌, ◌++◌, length, take, drop, get_or, refl, sym, ap, ◌∙◌, append_assoc, add-one, arith, drop-cons, length-drop}
 use Rattle.std.proofs.lemmas.Bool.{eqb-true, and_parts}
-use Rattle.std.proofs.lemmas.List.{append-nil, take_more, take_all, drop_all, drop-drop}
+use Rattle.std.proofs.lemmas.List.{append-nil, take_more, drop-drop}
 use Rattle.script_grammar.specs.Script.{Bytes}
-use Rattle.script_grammar.specs.Faults.{begins_space, begins_separator, before_parts, parts}
+use Rattle.script_grammar.specs.Words.{begins_space, begins_separator, before_parts, parts}
 
 -- bytes before the first part
 abbrev pub with_front : Bytes → List Bytes → List Bytes
@@ -66,8 +66,3 @@ op_found ops i here so_far =
       so_far ∙ ap (with_front (take i ops)) t.0 ∙ ap (λ (r : Bytes). r ∷ parts (drop 2 (drop i ops))) (append-nil (take i ops))
           ∙ ap (λ (r : Bytes). take i ops ∷ parts r) (drop-drop 2 i ops),
     )
-
--- no operation ends before the end
-pub op_last : (ops : Bytes) (i : ℕ) → i ≡ length ops → parts ops ≡ with_front (take i ops) (parts (drop i ops)) → parts ops ≡ ops ∷ []
-op_last ops i all so_far =
-    so_far ∙ rw (take_all i ops (omega arith), drop_all i ops (omega arith)) (ap (λ (r : Bytes). r ∷ []) (append-nil ops))

@@ -6,9 +6,9 @@ use Rattle.serial_model.specs.declared.key.Key.{Key}
 use Rattle.serial_model.specs.declared.op.Op.TheVariants.{Read, Write}
 use Rattle.serial_model.specs.declared.decl.Decl.TheVariants.{Array}
 use Rattle.script_grammar.specs.declared.fault.FaultKind.TheVariants.{Word, Number, Declared, Range}
-use Rattle.script_grammar.specs.Reading.{number_of, value_of}
-use Rattle.script_grammar.specs.Faults.{number, op_is, some_op_is, is_decl_shape, is_too_long, has_no_shape, lacks_number, is_too_many, is_misdeclared, is_out_of_range, kind_of, place_past, first_fault, fault_of}
-use Rattle.script_grammar.specs.Script.{Script, IsTextOf, lines_of, IsScript}
+use Rattle.decimals.specs.Numbers.{number_of, digits_number, value_of}
+use Rattle.script_grammar.specs.Faults.{op_is, some_op_is, is_decl_shape, is_too_long, has_no_shape, lacks_number, is_too_many, is_misdeclared, is_out_of_range, kind_of, place_past, first_fault, fault_of}
+use Rattle.script_grammar.specs.Script.{Script, Worker, IsTextOf, lines_of, IsScript}
 
 abbrev at : ℕ → ℕ → Key
 at storage key = record { storage = storage; key = key }
@@ -17,7 +17,7 @@ abbrev script : Script
 script = record {
   decls = Array 1 4 ∷ [];
   rounds = record {
-    lines = record { worker = 0; ops = Write (at 1 2) 7 ∷ Read (at 1 2) ∷ [] } ∷ record { worker = 0; ops = Read (at 1 0) ∷ [] } ∷ [];
+    lines = Worker 0 (Write (at 1 2) 7 ∷ Read (at 1 2) ∷ []) ∷ Worker 0 (Read (at 1 0) ∷ []) ∷ [];
   } ∷ [];
 }
 
@@ -26,9 +26,8 @@ lines_of_text = refl
 
 script_by_rules : IsScript script
 script_by_rules = record {
-  few_decls = omega arith;
-  decls = ((omega arith, omega arith, omega arith), tt);
-  distinct = (tt, tt);
+  decls = record { few = omega arith; each = ((omega arith, omega arith, omega arith), tt); distinct = (tt, tt) };
+  arrays = (tt, tt);
   rounds = (
     record {
       few_lines = omega arith;
@@ -52,7 +51,7 @@ is_text = record {
   size = omega arith;
   short = (omega arith, (omega arith, (omega arith, tt)));
   joined = [];
-  rest = record { worker = 0; ops = Write (at 1 2) 7 ∷ Read (at 1 2) ∷ [] } ∷ record { worker = 0; ops = Read (at 1 0) ∷ [] } ∷ [];
+  rest = Worker 0 (Write (at 1 2) 7 ∷ Read (at 1 2) ∷ []) ∷ Worker 0 (Read (at 1 0) ∷ []) ∷ [];
   rounds = refl;
   lines = refl;
   rules = script_by_rules;
@@ -61,21 +60,21 @@ is_text = record {
 -- ---- worked faults, computed
 
 number_told : fault_of (codes "array 1 4\n0 r 1 0;") ≡ Some (record { line = 2; kind = Number })
-unfolding fault_of first_fault place_past kind_of is_too_long has_no_shape lacks_number is_too_many is_misdeclared is_out_of_range is_decl_shape some_op_is op_is number number_of value_of
+unfolding fault_of first_fault place_past kind_of is_too_long has_no_shape lacks_number is_too_many is_misdeclared is_out_of_range is_decl_shape some_op_is op_is number_of digits_number value_of
 number_told = refl
 
 word_told : fault_of (codes "array 1 4\n\n0 r 1 0; ") ≡ Some (record { line = 3; kind = Word })
-unfolding fault_of first_fault place_past kind_of is_too_long has_no_shape lacks_number is_too_many is_misdeclared is_out_of_range is_decl_shape some_op_is op_is number number_of value_of
+unfolding fault_of first_fault place_past kind_of is_too_long has_no_shape lacks_number is_too_many is_misdeclared is_out_of_range is_decl_shape some_op_is op_is number_of digits_number value_of
 word_told = refl
 
 declared_told : fault_of (codes "join\narray 300 0") ≡ Some (record { line = 2; kind = Declared })
-unfolding fault_of first_fault place_past kind_of is_too_long has_no_shape lacks_number is_too_many is_misdeclared is_out_of_range is_decl_shape some_op_is op_is number number_of value_of
+unfolding fault_of first_fault place_past kind_of is_too_long has_no_shape lacks_number is_too_many is_misdeclared is_out_of_range is_decl_shape some_op_is op_is number_of digits_number value_of
 declared_told = refl
 
 range_told : fault_of (codes "array 1 4\n8 r 1 0") ≡ Some (record { line = 2; kind = Range })
-unfolding fault_of first_fault place_past kind_of is_too_long has_no_shape lacks_number is_too_many is_misdeclared is_out_of_range is_decl_shape some_op_is op_is number number_of value_of
+unfolding fault_of first_fault place_past kind_of is_too_long has_no_shape lacks_number is_too_many is_misdeclared is_out_of_range is_decl_shape some_op_is op_is number_of digits_number value_of
 range_told = refl
 
 nothing_told : fault_of (codes "array 1 4\n0 a 1 3 7; r 1 3\njoin\n7 t 1 0 1\n") ≡ None
-unfolding fault_of first_fault place_past kind_of is_too_long has_no_shape lacks_number is_too_many is_misdeclared is_out_of_range is_decl_shape some_op_is op_is number number_of value_of
+unfolding fault_of first_fault place_past kind_of is_too_long has_no_shape lacks_number is_too_many is_misdeclared is_out_of_range is_decl_shape some_op_is op_is number_of digits_number value_of
 nothing_told = refl

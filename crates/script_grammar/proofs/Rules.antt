@@ -1,39 +1,23 @@
 -- What the reader tests of operations and of declarations, and the rules of a script.
-use Rattle.std.proofs.Common.{◌≡◌, ◌≢◌, ◌⊎◌, inl, inr, ℕ, ◌<◌, Bool, true, false, eqb, List, [], ◌∷◌, ◌++◌, refl, subst, arith, map}
-use Rattle.std.specs.Prelude.{◌==◌, ◌||◌, nat_lt}
+use Rattle.std.proofs.Common.{◌≡◌, ◌≢◌, inl, inr, ℕ, ◌<◌, Bool, true, false, eqb, List, [], ◌∷◌, ◌++◌, refl, subst, arith, map}
+use Rattle.std.specs.Prelude.{◌==◌, nat_lt}
 use Rattle.std.specs.List.{AllByRecursion, list_any, list_all}
 use Rattle.std.proofs.lemmas.Bool.{ltb-true, eqb-true, eqb-false, ne_eqb, and_parts, and_from}
+use Rattle.lists.specs.Each.{AreDistinct}
 use Rattle.serial_model.specs.Keys.{id_of, fits, has_key, has_key_of}
+use Rattle.serial_model.specs.Decls.{IsDecl}
 use Rattle.serial_model.specs.declared.key.Key.{Key}
 use Rattle.serial_model.specs.declared.op.Op.{Op}
 use Rattle.serial_model.specs.declared.op.Op.TheVariants.{Read, Write, Remove, Add, Take, Scan}
 use Rattle.serial_model.specs.declared.decl.Decl.{Decl}
 use Rattle.serial_model.specs.declared.decl.Decl.TheVariants.{Array, Tree}
-use Rattle.script_grammar.specs.Script.{Line, IsDecl, IsOp, IsLine, AreDistinct}
-use Rattle.script_grammar.proofs.Ops.{IsKey, IsSpelled}
-use Rattle.script_grammar.proofs.LineTexts.{IsSpelledLine}
-
--- neither of two
-pub or_parts : (x y : Bool) → (x || y) ≡ false → (x ≡ false) × (y ≡ false)
-or_parts true y e = absurd cc
-or_parts false y e = (refl, e)
-
--- not one of two, where neither
-pub or_from : (x y : Bool) → x ≡ false → y ≡ false → (x || y) ≡ false
-or_from true y e f = absurd cc
-or_from false y e f = f
-
--- one of two
-pub or_cases : (x y : Bool) → (x || y) ≡ true → (x ≡ true) ⊎ (y ≡ true)
-or_cases true y e = inl refl
-or_cases false y e = inr e
+use Rattle.script_grammar.specs.Script.{Line, Worker, Keeper, IsArray, IsOp, IsLine}
+use Rattle.script_grammar.proofs.Found.{or_parts, or_from, or_cases}
+use Rattle.script_grammar.proofs.WordTexts.{IsKey}
+use Rattle.script_grammar.proofs.OpTexts.{IsSpelled}
+use Rattle.script_grammar.proofs.LineTexts.{IsSpelledLine, IsNamed}
 
 -- ---- lists
-
--- one more at the end
-pub all_push : {X : Type 0} (P : X → Type 0) (xs : List X) (y : X) → AllByRecursion P xs → P y → AllByRecursion P (xs ++ y ∷ [])
-all_push P [] y all last = (last, tt)
-all_push P (x ∷ xs) y all last = (all.0, all_push P xs y all.1 last)
 
 -- of a list with all, the front
 pub all_front : {X : Type 0} (P : X → Type 0) (xs ys : List X) → AllByRecursion P (xs ++ ys) → AllByRecursion P xs
@@ -45,10 +29,24 @@ pub all_back : {X : Type 0} (P : X → Type 0) (xs ys : List X) → AllByRecursi
 all_back P [] ys all = all
 all_back P (x ∷ xs) ys all = all_back P xs ys all.1
 
+-- ---- declarations that scripts can name
+
+-- a declaration by the rules of which only arrays are named is one that scripts can name
+pub are_named : (ds : List Decl) → AllByRecursion IsDecl ds → AllByRecursion IsArray ds → AllByRecursion IsNamed ds
+are_named [] all arrays = tt
+are_named (Array id size ∷ ds) all arrays = (all.0, are_named ds all.1 arrays.1)
+are_named (Tree id ∷ ds) all arrays = absurd arrays.0
+
+-- and the other way
+pub named_are : (ds : List Decl) → AllByRecursion IsNamed ds → AllByRecursion IsDecl ds × AllByRecursion IsArray ds
+named_are [] all = (tt, tt)
+named_are (Array id size ∷ ds) all = let more = named_are ds all.1 in ((all.0, more.0), (tt, more.1))
+named_are (Tree id ∷ ds) all = absurd all.0
+
 -- ---- operations that fit a declared storage
 
 -- a key below an array's size has a spelling
-key_below : (id size : ℕ) (k : Key) → IsDecl (Array id size) → has_key_of k (Array id size) ≡ true → IsKey k
+key_below : (id size : ℕ) (k : Key) → IsNamed (Array id size) → has_key_of k (Array id size) ≡ true → IsKey k
 key_below id size k is e =
     let parts = and_parts (eqb id k.storage) (nat_lt k.key size) e in
     let same : id ≡ k.storage = eqb-true id k.storage parts.0 in
@@ -56,7 +54,7 @@ key_below id size k is e =
     record { storage = subst (λ (s : ℕ). s < 256) same is.0; key = let limit = is.2 in omega arith }
 
 -- a key of a declared storage has a spelling
-has_key_below : (decls : List Decl) (k : Key) → AllByRecursion IsDecl decls → has_key decls k ≡ true → IsKey k
+has_key_below : (decls : List Decl) (k : Key) → AllByRecursion IsNamed decls → has_key decls k ≡ true → IsKey k
 has_key_below [] k all e = absurd cc
 has_key_below (Tree id ∷ decls) k all e = absurd all.0
 has_key_below (Array id size ∷ decls) k all e =
@@ -66,7 +64,7 @@ has_key_below (Array id size ∷ decls) k all e =
     ]
 
 -- an operation by the rules has a spelling
-op_spelled : (decls : List Decl) (op : Op) → AllByRecursion IsDecl decls → IsOp decls op → IsSpelled op
+op_spelled : (decls : List Decl) (op : Op) → AllByRecursion IsNamed decls → IsOp decls op → IsSpelled op
 op_spelled decls (Read k) all is = has_key_below decls k all is.fitting
 op_spelled decls (Write k v) all is = (has_key_below decls k all is.fitting, is.value)
 op_spelled decls (Remove k) all is = absurd is.value
@@ -75,25 +73,19 @@ op_spelled decls (Take k v) all is = (has_key_below decls k all is.fitting, is.v
 op_spelled decls (Scan storage low high) all is = absurd is.value
 
 -- the same of all operations
-ops_spelled : (decls : List Decl) (ops : List Op) → AllByRecursion IsDecl decls → AllByRecursion (IsOp decls) ops → AllByRecursion IsSpelled ops
+ops_spelled : (decls : List Decl) (ops : List Op) → AllByRecursion IsNamed decls → AllByRecursion (IsOp decls) ops → AllByRecursion IsSpelled ops
 ops_spelled decls [] all are = tt
 ops_spelled decls (op ∷ ops) all are = (op_spelled decls op all are.0, ops_spelled decls ops all are.1)
 
--- a line by the rules has a spelling, and its operations pass the test
-pub line_spelled : (decls : List Decl) (l : Line) → AllByRecursion IsDecl decls → IsLine decls l → IsSpelledLine l
-line_spelled decls l all is = record {
-  worker = is.worker;
-  ops = record { some = is.some_op; few = is.few_ops; spelled = ops_spelled decls l.ops all is.ops };
-}
+-- a line by the rules has a spelling
+pub line_spelled : (decls : List Decl) (l : Line) → AllByRecursion IsNamed decls → IsLine decls l → IsSpelledLine l
+line_spelled decls (Worker worker ops) all is = (is.worker, record { some = is.some_op; few = is.few_ops; each = ops_spelled decls ops all is.ops })
+line_spelled decls (Keeper line) all is = absurd is
 
 -- operations by the rules pass the test
-ops_fit : (decls : List Decl) (ops : List Op) → AllByRecursion (IsOp decls) ops → list_all (fits decls) ops ≡ true
+pub ops_fit : (decls : List Decl) (ops : List Op) → AllByRecursion (IsOp decls) ops → list_all (fits decls) ops ≡ true
 ops_fit decls [] are = refl
 ops_fit decls (op ∷ ops) are = and_from (fits decls op) (list_all (fits decls) ops) are.0.fitting (ops_fit decls ops are.1)
-
--- the operations of a line by the rules pass the test
-pub line_fits : (decls : List Decl) (l : Line) → IsLine decls l → list_all (fits decls) l.ops ≡ true
-line_fits decls l is = ops_fit decls l.ops is.ops
 
 -- an operation with a spelling that passes the test is one by the rules
 op_by_rules : (decls : List Decl) (op : Op) → IsSpelled op → fits decls op ≡ true → IsOp decls op
@@ -112,12 +104,12 @@ ops_by_rules decls (op ∷ ops) are e =
     (op_by_rules decls op are.0 parts.0, ops_by_rules decls ops are.1 parts.1)
 
 -- a line with a spelling whose operations pass the test is one by the rules
-pub line_by_rules : (decls : List Decl) (l : Line) → IsSpelledLine l → list_all (fits decls) l.ops ≡ true → IsLine decls l
-line_by_rules decls l is e = record {
-  worker = is.worker;
-  some_op = is.ops.some;
-  few_ops = is.ops.few;
-  ops = ops_by_rules decls l.ops is.ops.spelled e;
+pub line_by_rules : (decls : List Decl) (worker : ℕ) (ops : List Op) → IsSpelledLine (Worker worker ops) → list_all (fits decls) ops ≡ true → IsLine decls (Worker worker ops)
+line_by_rules decls worker ops is e = record {
+  worker = is.0;
+  some_op = is.1.some;
+  few_ops = is.1.few;
+  ops = ops_by_rules decls ops is.1.each e;
 }
 
 -- ---- distinct declarations

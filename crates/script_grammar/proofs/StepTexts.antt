@@ -5,13 +5,15 @@ use Rattle.std.specs.List.{AllByRecursion, list_all}
 use Rattle.std.specs.Cmp.Lexicographic.{same_text}
 use Rattle.std.proofs.lemmas.Bool.{ltb-true, ltb-false, lt-ltb, eqb-true, ne_eqb, and_parts}
 use Rattle.std.proofs.lemmas.List.{append-nil, map_push, nil_from_length}
+use Rattle.lists.specs.Each.{AreDistinct, all_push}
 use Rattle.serial_model.specs.Keys.{id_of, fits}
 use Rattle.serial_model.specs.declared.decl.Decl.{Decl}
-use Rattle.script_grammar.specs.Script.{Bytes, Line, Round, line_text, decl_text, joined_lines, IsDecl, IsLine, IsRound, AreDistinct}
-use Rattle.script_grammar.specs.Reading.{◌>>=◌, Parts, no_parts, decl_at, line_at, may_declare, may_run, with_decl, with_line, with_join, with_some_line, is_fresh, is_join, begins_declaration, step, steps}
-use Rattle.script_grammar.proofs.Numbers.{bind_some, test_some, not_test_some, some_same}
-use Rattle.script_grammar.proofs.LineTexts.{decl_takes, line_takes}
-use Rattle.script_grammar.proofs.Rules.{is_declared, all_push, line_by_rules, distinct_push}
+use Rattle.script_grammar.specs.Script.{Bytes, Line, Worker, Keeper, Round, line_text, decl_text, joined_lines, IsLine, IsRound}
+use Rattle.script_grammar.specs.Words.{◌>>=◌, is_join}
+use Rattle.script_grammar.specs.Reading.{Parts, no_parts, decl_at, line_at, may_declare, may_follow, with_decl, with_line, with_join, with_some_line, is_fresh, begins_declaration, step, steps}
+use Rattle.script_grammar.proofs.Found.{bind_some, test_some, not_test_some, some_same, not_false}
+use Rattle.script_grammar.proofs.LineTexts.{IsSpelledLine, IsNamed, decl_takes, line_takes}
+use Rattle.script_grammar.proofs.Rules.{is_declared, line_by_rules, distinct_push}
 
 -- the lines of what was read
 abbrev pub texts : Parts → List Bytes
@@ -23,7 +25,7 @@ IsShort line = length line ≤ 1024
 -- what was read keeps the rules of a script
 pub record IsSound (p : Parts) : Type 0 where
   pub few_decls : length p.decls ≤ 16
-  pub decls : AllByRecursion IsDecl p.decls
+  pub decls : AllByRecursion IsNamed p.decls
   pub distinct : AreDistinct (map id_of p.decls)
   pub joined : AllByRecursion (IsRound p.decls) p.joined
   pub few_lines : length p.lines ≤ 65536
@@ -39,13 +41,8 @@ pub record Grows (p : Parts) (line : Bytes) (q : Parts) : Type 0 where
   pub sound : IsSound q
   pub text : texts q ≡ texts p ++ line ∷ []
 
--- what is denied is false
-pub not_false : (b : Bool) → not b ≡ true → b ≡ false
-not_false true e = absurd cc
-not_false false e = refl
-
 -- a new declaration keeps the rules
-with_decl-grows : (decls : List Decl) (d : Decl) (line : Bytes) → IsSound (record { decls = decls; joined = []; lines = [] }) → length line ≤ 1024 → line ≡ decl_text d → IsDecl d
+with_decl-grows : (decls : List Decl) (d : Decl) (line : Bytes) → IsSound (record { decls = decls; joined = []; lines = [] }) → length line ≤ 1024 → line ≡ decl_text d → IsNamed d
     → length decls < 16 → is_declared d decls ≡ false → Grows (record { decls = decls; joined = []; lines = [] }) line (record { decls = decls ++ d ∷ []; joined = []; lines = [] })
 with_decl-grows decls d line sound short e is room new =
     let before : Parts = record { decls = decls; joined = []; lines = [] } in
@@ -57,7 +54,7 @@ with_decl-grows decls d line sound short e is room new =
     record {
       sound = record {
         few_decls = omega (arith, length-append decls (d ∷ []));
-        decls = all_push IsDecl decls d sound.decls is;
+        decls = all_push IsNamed decls d sound.decls is;
         distinct = distinct_push decls d sound.distinct new;
         joined = tt;
         few_lines = omega arith;
@@ -98,17 +95,24 @@ with_decl_takes p q line sound short e =
 regroup_texts : (xs ys zs more : List Bytes) → xs ++ (ys ++ (zs ++ more)) ≡ (xs ++ (ys ++ zs)) ++ more
 regroup_texts xs ys zs more = sym (append_assoc xs (ys ++ zs) more ∙ ap (λ (ts : List Bytes). xs ++ ts) (append_assoc ys zs more))
 
+-- a line that may come here is one by the rules
+line_follows : (p : Parts) (l : Line) → IsSpelledLine l → may_follow p l ≡ true → (length p.lines < 65536) × IsLine p.decls l
+line_follows p (Worker worker ops) is test =
+    let tests = and_parts (nat_lt (length p.lines) 65536) (list_all (fits p.decls) ops) test in
+    (ltb-true _ _ tests.0, line_by_rules p.decls worker ops is tests.1)
+line_follows p (Keeper line) is test = absurd is
+
 -- a worker's line that is taken is one more line of the text
 with_line_takes : (p q : Parts) (line : Bytes) → IsSound p → length line ≤ 1024 → with_line p line ≡ Some q → Grows p line q
 unfolding with_line
 with_line_takes p q line sound short e =
-    let a = bind_some (line_at line) (λ l. cond (may_run p l.ops) (Some (record p { lines = p.lines ++ l ∷ [] })) None) q e in
+    let a = bind_some (line_at line) (λ l. cond (may_follow p l) (Some (record p { lines = p.lines ++ l ∷ [] })) None) q e in
     let l = a.0 in
     let after : Parts = record p { lines = p.lines ++ l ∷ [] } in
-    let t = test_some (may_run p l.ops) after q a.2 in
-    let tests = and_parts (nat_lt (length p.lines) 65536) (list_all (fits p.decls) l.ops) t.0 in
-    let room : length p.lines < 65536 = ltb-true _ _ tests.0 in
+    let t = test_some (may_follow p l) after q a.2 in
     let taken = line_takes line l a.1 in
+    let follows = line_follows p l taken.1 t.0 in
+    let room = follows.0 in
     let grown : texts after ≡ texts p ++ line ∷ [] =
     ap (λ (ts : List Bytes). map decl_text p.decls ++ (joined_lines p.joined ++ ts)) (map_push line_text p.lines l ∙ ap (λ (x : Bytes). map line_text p.lines ++ x ∷ []) (sym taken.0))
     ∙ regroup_texts (map decl_text p.decls) (joined_lines p.joined) (map line_text p.lines) (line ∷ []) in
@@ -119,7 +123,7 @@ with_line_takes p q line sound short e =
         distinct = sound.distinct;
         joined = sound.joined;
         few_lines = omega (arith, length-append p.lines (l ∷ []));
-        lines = all_push (IsLine p.decls) p.lines l sound.lines (line_by_rules p.decls l taken.1 tests.1);
+        lines = all_push (IsLine p.decls) p.lines l sound.lines follows.1;
         short = subst (AllByRecursion IsShort) (sym grown) (all_push IsShort (texts p) line sound.short short);
       };
       text = grown;

@@ -1,27 +1,33 @@
 -- One line more, by cases on what was found in it.
-use Rattle.std.proofs.Common.{◌≡◌, ℕ, ◌+◌, Bool, true, false, List, [], ◌∷◌, ◌++◌, length, Some, None, Result, Ok, Err, refl, sym, ap, ◌∙◌, append_assoc, length-append, arith}
+use Rattle.std.proofs.Common.{◌≡◌, ℕ, ◌+◌, ◌≤◌, Bool, true, false, List, [], ◌∷◌, ◌++◌, length, Some, None, Result, Ok, Err, refl, sym, ap, ◌∙◌, append_assoc, length-append, arith}
 use Rattle.serial_model.specs.declared.op.Op.{Op}
-use Rattle.serial_model.specs.declared.memory.OrMemory.{OrMemory}
-use Rattle.serial_model.specs.declared.memory.OrMemory.TheVariants as errors
+use Rattle.lists.specs.declared.memory.OrMemory.{OrMemory}
+use Rattle.lists.specs.declared.memory.OrMemory.TheVariants as errors
 use Rattle.script_grammar.specs.declared.fault.ScriptFault.{ScriptFault}
-use Rattle.script_grammar.specs.Script.{Bytes, Line}
+use Rattle.script_grammar.specs.Script.{Bytes, Worker}
 use Rattle.script_grammar.specs.Reading.{Parts, no_parts, line_at, may_run, with_line, step, steps}
 use Rattle.script_grammar.specs.Telling.{ReadsOrTellsAt, ReadsAllOrStops}
-use Rattle.script_grammar.proofs.Numbers.{bind_some, some_same}
+use Rattle.script_grammar.proofs.Found.{bind_some, some_same}
+use Rattle.script_grammar.proofs.LineTexts.{line_takes}
 
 -- a line that may not run is refused
-pub with_line-None : (p : Parts) (line : Bytes) (l : Line) → line_at line ≡ Some l → may_run p l.ops ≡ false → with_line p line ≡ None
+pub with_line-None : (p : Parts) (line : Bytes) (worker : ℕ) (ops : List Op) → line_at line ≡ Some (Worker worker ops) → may_run p ops ≡ false → with_line p line ≡ None
 unfolding with_line
-with_line-None p line l e test = rw (e, test) refl
+with_line-None p line worker ops e test = rw (e, test) refl
 
 -- a test of operations is one of the same operations elsewhere
 pub may_run_at : (p : Parts) (passed : Bool) (ops others : List Op) → passed ≡ may_run p others → others ≡ ops → passed ≡ true → may_run p ops ≡ true
 may_run_at p passed ops others e f g = cc
 
 -- a line that may run is one more
-pub with_line-Some : (p : Parts) (line : Bytes) (l : Line) → line_at line ≡ Some l → may_run p l.ops ≡ true → with_line p line ≡ Some (record p { lines = p.lines ++ l ∷ [] })
+pub with_line-Some : (p : Parts) (line : Bytes) (worker : ℕ) (ops : List Op) → line_at line ≡ Some (Worker worker ops) → may_run p ops ≡ true
+    → with_line p line ≡ Some (record p { lines = p.lines ++ Worker worker ops ∷ [] })
 unfolding with_line
-with_line-Some p line l e test = rw (e, test) refl
+with_line-Some p line worker ops e test = rw (e, test) refl
+
+-- operations that are read are at most 16
+pub few_ops : (line : Bytes) (worker : ℕ) (ops : List Op) → line_at line ≡ Some (Worker worker ops) → length ops ≤ 16
+few_ops line worker ops e = let t = line_takes line (Worker worker ops) e in t.1.1.few
 
 -- ---- line after line, as a loop goes
 

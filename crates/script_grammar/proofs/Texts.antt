@@ -4,11 +4,12 @@ use Rattle.std.specs.Prelude.{◌==◌, filter}
 use Rattle.std.specs.List.{AllByRecursion, slice_split}
 use Rattle.std.proofs.lemmas.Bool.{ltb-true, ltb-false, le-ltb}
 use Rattle.std.proofs.lemmas.List.{append-nil}
+use Rattle.lists.specs.Each.{all_append}
 use Rattle.serial_model.specs.declared.decl.Decl.{Decl}
 use Rattle.script_grammar.specs.Script.{Bytes, Line, Round, Script, IsTextOf, IsScript, IsLine, IsRound, joined_lines, last_round, lines_of, line_text, decl_text}
 use Rattle.script_grammar.specs.Reading.{Parts, no_parts, steps, parts_of, script_from}
-use Rattle.script_grammar.proofs.Numbers.{not_test_some}
-use Rattle.script_grammar.proofs.Rules.{all_front, all_back}
+use Rattle.script_grammar.proofs.Found.{not_test_some}
+use Rattle.script_grammar.proofs.Rules.{all_front, all_back, are_named, named_are}
 use Rattle.script_grammar.proofs.StepTexts.{IsShort, is_some_line, nothing_sound, steps-filter, steps_take}
 use Rattle.script_grammar.proofs.StepAgain.{decls_again, lines_again, rounds_again}
 
@@ -24,11 +25,6 @@ all_some : (lines : List Bytes) → AllByRecursion (λ l. 0 < length l) (filter 
 all_some [] = tt
 all_some (line ∷ lines) = kept_some (is_some_line line) line (filter is_some_line lines) refl (all_some lines)
 
--- one list of all after another
-all_append : (decls : List Decl) (xs ys : List Round) → AllByRecursion (IsRound decls) xs → AllByRecursion (IsRound decls) ys → AllByRecursion (IsRound decls) (xs ++ ys)
-all_append decls [] ys front back = back
-all_append decls (x ∷ xs) ys front back = (front.0, all_append decls xs ys front.1 back)
-
 -- the last round of lines by the rules is by the rules
 last_by_rules : (decls : List Decl) (joined : List Round) (lines : List Line) → length lines ≤ 65536 → AllByRecursion (IsLine decls) lines → AllByRecursion (IsRound decls) (last_round joined lines)
 last_by_rules decls [] lines few are = (record { few_lines = few; lines = are }, tt)
@@ -38,7 +34,7 @@ last_by_rules decls (round ∷ rounds) (l ∷ ls) few are = (record { few_lines 
 -- the same of all rounds
 rounds_by_rules : (decls : List Decl) (joined : List Round) (lines : List Line) → AllByRecursion (IsRound decls) joined → length lines ≤ 65536 → AllByRecursion (IsLine decls) lines
     → AllByRecursion (IsRound decls) (joined ++ last_round joined lines)
-rounds_by_rules decls joined lines all few are = all_append decls joined (last_round joined lines) all (last_by_rules decls joined lines few are)
+rounds_by_rules decls joined lines all few are = all_append (IsRound decls) joined (last_round joined lines) all (last_by_rules decls joined lines few are)
 
 -- what is read has the text
 pub text_from_parts : (bytes : Bytes) (p : Parts) → parts_of bytes ≡ Some p → IsTextOf bytes (script_from p)
@@ -47,6 +43,7 @@ text_from_parts bytes p e =
     let t = not_test_some (ltb 67108864 (length bytes)) (steps no_parts (slice_split (λ b. b == 10) bytes)) p e in
     let read : steps no_parts (lines_of bytes) ≡ Some p = sym (steps-filter no_parts (slice_split (λ b. b == 10) bytes)) ∙ t.1 in
     let taken = steps_take no_parts p (lines_of bytes) nothing_sound (all_some (slice_split (λ b. b == 10) bytes)) read in
+    let named = named_are p.decls taken.sound.decls in
     record {
       size = ltb-false _ _ t.0;
       short = subst (AllByRecursion IsShort) taken.text taken.sound.short;
@@ -55,9 +52,8 @@ text_from_parts bytes p e =
       rounds = refl;
       lines = sym taken.text;
       rules = record {
-        few_decls = taken.sound.few_decls;
-        decls = taken.sound.decls;
-        distinct = taken.sound.distinct;
+        decls = record { few = taken.sound.few_decls; each = named.0; distinct = taken.sound.distinct };
+        arrays = named.1;
         rounds = rounds_by_rules p.decls p.joined p.lines taken.sound.joined taken.sound.few_lines taken.sound.lines;
       };
     }
@@ -79,13 +75,14 @@ parts_by_rules decls joined rest rules short =
     let front = all_front (IsRound decls) joined (last_round joined rest) rules.rounds in
     let last = rest_by_rules decls joined rest (all_back (IsRound decls) joined (last_round joined rest) rules.rounds) in
     let few_lines = last.few_lines in
-    let few_decls = rules.few_decls in
+    let few_decls = rules.decls.few in
+    let named = are_named decls rules.decls.each rules.arrays in
     let lines_short = all_back IsShort (map decl_text decls) (joined_lines joined ++ map line_text rest) short in
     let p : Parts = record { decls = decls; joined = joined; lines = [] } in
-    decls_again [] decls (joined_lines joined ++ map line_text rest) (omega arith) rules.decls rules.distinct (all_front IsShort (map decl_text decls) (joined_lines joined ++ map line_text rest) short)
-    ∙ rounds_again decls [] joined (map line_text rest) rules.decls front (all_front IsShort (joined_lines joined) (map line_text rest) lines_short)
+    decls_again [] decls (joined_lines joined ++ map line_text rest) (omega arith) named rules.decls.distinct (all_front IsShort (map decl_text decls) (joined_lines joined ++ map line_text rest) short)
+    ∙ rounds_again decls [] joined (map line_text rest) named front (all_front IsShort (joined_lines joined) (map line_text rest) lines_short)
     ∙ ap (steps p) (sym (append-nil (map line_text rest)))
-    ∙ lines_again p rest [] (omega arith) rules.decls last.lines (all_back IsShort (joined_lines joined) (map line_text rest) lines_short)
+    ∙ lines_again p rest [] (omega arith) named last.lines (all_back IsShort (joined_lines joined) (map line_text rest) lines_short)
 
 -- a script with this text is read
 pub parts_from_text : (bytes : Bytes) (script : Script) → IsTextOf bytes script → (p : Parts) × (parts_of bytes ≡ Some p) × (script_from p ≡ script)

@@ -1,22 +1,27 @@
 -- Words by their index, as a loop goes over them.
-use Rattle.std.proofs.Common.{◌≡◌, ℕ, suc, ◌+◌, ◌-◌, ◌<◌, List, [], ◌∷◌, Option, Some, None, refl, sym, ◌∙◌, arith}
-use Rattle.std.specs.Prelude.{slice_get}
+use Rattle.std.proofs.Common.{◌≡◌, ℕ, Bool, true, false, cond, List, [], ◌∷◌, None, refl}
+use Rattle.std.specs.Prelude.{◌==◌}
+use Rattle.std.specs.List.{onto_first}
 use Rattle.script_grammar.specs.Script.{Bytes}
+use Rattle.script_grammar.specs.Words.{words}
+use Rattle.script_grammar.specs.Reading.{op_in, decl_at}
 
--- past the last word there is none
-pub no_more_words : (ws : List Bytes) (w : Bytes) (i index : ℕ) (found : Option Bytes) → ws ≡ w ∷ [] → i < index → slice_get ws (index - i) ≡ found → None ≡ found
-no_more_words ws w i index found e lt so_far =
-    let k : index - i ≡ suc (index - i - 1) = omega arith in
-    sym (rw (e, k) refl) ∙ so_far
+-- a byte before words begins a word or ends one
+before_words : (space : Bool) (b : ℕ) (ws : List Bytes) → (first : Bytes) × (others : List Bytes) × (cond space ([] ∷ ws) (onto_first b ws) ≡ first ∷ others)
+before_words true b ws = ([], ws, refl)
+before_words false b [] = (b ∷ [], [], refl)
+before_words false b (w ∷ ws) = (b ∷ w, ws, refl)
 
--- one word further
-pub next_word : (ws : List Bytes) (w : Bytes) (more : List Bytes) (i index : ℕ) (found : Option Bytes) → ws ≡ w ∷ more → i < index → slice_get ws (index - i) ≡ found → slice_get more (index - (i + 1)) ≡ found
-next_word ws w more i index found e lt so_far =
-    let k : index - i ≡ suc (index - (i + 1)) = omega arith in
-    sym (rw (e, k) refl) ∙ so_far
+-- there is some word
+some_word : (bs : Bytes) → (first : Bytes) × (others : List Bytes) × (words bs ≡ first ∷ others)
+some_word [] = ([], [], refl)
+some_word (b ∷ bs) = before_words (b == 32) b (words bs)
 
--- the word that was looked for
-pub this_word : (ws : List Bytes) (w : Bytes) (more : List Bytes) (i index : ℕ) (found : Option Bytes) → ws ≡ w ∷ more → i ≡ index → slice_get ws (index - i) ≡ found → Some w ≡ found
-this_word ws w more i index found e same so_far =
-    let k : index - i ≡ 0 = omega arith in
-    sym (rw (e, k) refl) ∙ so_far
+-- a declaration has no fourth word
+pub no_fourth : (line a b c rest : Bytes) → words line ≡ a ∷ b ∷ c ∷ words rest → decl_at line ≡ None
+unfolding decl_at
+no_fourth line a b c rest e = let more = some_word rest in rw (e, more.2) refl
+
+-- an operation has no fifth word
+pub no_fifth : (part a b c d rest : Bytes) → words part ≡ a ∷ b ∷ c ∷ d ∷ words rest → op_in (words part) ≡ None
+no_fifth part a b c d rest e = let more = some_word rest in rw (e, more.2) refl

@@ -1,8 +1,7 @@
 -- Which line of a source is faulty first, and how: by what the line has or lacks where it stands.
-use Rattle.std.specs.Prelude.{◌≡◌, ℕ, ◌+◌, ◌==◌, ◌&&◌, ◌||◌, Bool, true, false, List, [], ◌∷◌, ◌++◌, length, drop, codes, nat_lt, nat_le, not, if◌then◌else◌, slice_get, Option, Some, None, is_none}
-use Rattle.std.specs.Char.{is_ascii_digit}
-use Rattle.std.specs.List.{list_all, list_any, slice_split, before_first, after_first}
-use Rattle.std.specs.Cmp.Lexicographic.{pointwise}
+use Rattle.std.specs.Prelude.{◌≡◌, ℕ, ◌+◌, ◌==◌, ◌&&◌, ◌||◌, Bool, true, false, List, [], ◌∷◌, ◌++◌, length, codes, nat_lt, nat_le, not, if◌then◌else◌, slice_get, Option, Some, None, is_none}
+use Rattle.std.specs.List.{list_any, slice_split}
+use Rattle.decimals.specs.Numbers.{number_of}
 use Rattle.serial_model.specs.Keys.{has_key, id_of}
 use Rattle.serial_model.specs.declared.decl.Decl.{Decl}
 use Rattle.serial_model.specs.declared.decl.Decl.TheVariants.{Array}
@@ -10,7 +9,8 @@ use Rattle.script_grammar.specs.declared.fault.ScriptFault.{ScriptFault}
 use Rattle.script_grammar.specs.declared.fault.FaultKind.{FaultKind}
 use Rattle.script_grammar.specs.declared.fault.FaultKind.TheVariants.{TooLong, Word, Number, TooMany, Declared, Kind, Range}
 use Rattle.script_grammar.specs.Script.{Bytes}
-use Rattle.script_grammar.specs.Reading.{◌>>=◌, Parts, number_of, is_fresh, is_join}
+use Rattle.script_grammar.specs.Words.{passes, words, number_in, is_no_number, is_word, is_letter, is_worker_line, worker_word, op_parts, is_join}
+use Rattle.script_grammar.specs.Reading.{Parts, is_fresh}
 
 -- where a line stands: the storages declared before it, whether a line of another kind came before it, and how many
 -- workers' lines its round has before it
@@ -23,70 +23,9 @@ pub record Place : Type 0 where
 abbrev pub place_after : Parts → Place
 place_after p = record { decls = p.decls; begun = not (is_fresh p); lines = length p.lines }
 
--- what is found passes the test; where nothing is found, nothing does
-abbrev pub passes : {A : Type 0} → (A → Bool) → Option A → Bool
-passes test None = false
-passes test (Some x) = test x
-
--- ---- words, numbers and operations
-
-abbrev pub is_space : ℕ → Bool
-is_space b = b == 32
-
--- the words between single spaces; two spaces in a row have an empty one between them
-abbrev pub words : Bytes → List Bytes
-words bytes = slice_split (λ b. b == 32) bytes
-
--- the number that the word is, if it is one: digits, no zero before others, at most 2 ^ 64 - 1
-unfoldable pub number : Bytes → Option ℕ
-number word = if list_all is_ascii_digit word then number_of word else None
-
-abbrev pub number_in : List Bytes → ℕ → Option ℕ
-number_in ws index = slice_get ws index >>= number
-
--- the word of this index is there, and no number
-abbrev pub is_no_number : List Bytes → ℕ → Bool
-is_no_number ws index = passes (λ word. is_none (number word)) (slice_get ws index)
-
-abbrev pub begins_space : Bytes → Bool
-begins_space [] = false
-begins_space (b ∷ bytes) = b == 32
-
--- a semicolon and a space
-abbrev pub begins_separator : Bytes → Bool
-begins_separator [] = false
-begins_separator (b ∷ bytes) = (b == 59) && begins_space bytes
-
--- a byte before parts that begin a text, or a semicolon that parts it, before a space
-abbrev pub before_parts : Bool → ℕ → List Bytes → List Bytes
-before_parts is_separator b [] = (b ∷ []) ∷ []
-before_parts true b (part ∷ parts) = [] ∷ drop 1 part ∷ parts
-before_parts false b (part ∷ parts) = (b ∷ part) ∷ parts
-
--- the parts between semicolons that a space follows
-abbrev pub parts : Bytes → List Bytes
-parts [] = [] ∷ []
-parts (b ∷ bytes) = before_parts (begins_separator (b ∷ bytes)) b (parts bytes)
-
-abbrev pub is_worker_line : Bytes → Bool
-is_worker_line [] = false
-is_worker_line (b ∷ bytes) = is_ascii_digit b
-
--- the worker of a worker's line, and behind a space its operations
-abbrev pub worker_of : Bytes → Bytes
-worker_of line = before_first is_space line
-
-abbrev pub ops_of : Bytes → List Bytes
-ops_of line = parts (after_first is_space line)
-
 -- ---- what an operation lacks
 
--- the word is one of the letters
-abbrev pub is_letter : Bytes → Bytes → Bool
-is_letter letters [] = false
-is_letter letters (b ∷ []) = list_any (λ c. c == b) letters
-is_letter letters (b ∷ c ∷ bytes) = false
-
+-- the first word is one of the letters
 abbrev pub has_letter : Bytes → List Bytes → Bool
 has_letter letters ws = passes (is_letter letters) (slice_get ws 0)
 
@@ -94,6 +33,7 @@ has_letter letters ws = passes (is_letter letters) (slice_get ws 0)
 abbrev pub is_op_shape : List Bytes → Bool
 is_op_shape ws = ((length ws == 3) && has_letter (codes "r") ws) || ((length ws == 4) && has_letter (codes "wat") ws)
 
+-- a number's place has something else
 abbrev pub lacks_op_number : List Bytes → Bool
 lacks_op_number ws = is_no_number ws 1 || (is_no_number ws 2 || is_no_number ws 3)
 
@@ -115,35 +55,39 @@ op_is TooLong decls op = false
 op_is TooMany decls op = false
 op_is Kind decls op = false
 
+-- some operation of the line is at fault in this way
 unfoldable pub some_op_is : FaultKind → List Decl → Bytes → Bool
-some_op_is kind decls line = list_any (op_is kind decls) (ops_of line)
+some_op_is kind decls line = list_any (op_is kind decls) (op_parts line)
 
 -- ---- what a line lacks
 
-abbrev pub is_word : Bytes → Bytes → Bool
-is_word word w = pointwise (λ x y. x == y) w word
-
+-- three words, the first of them that of a declaration
 unfoldable pub is_decl_shape : Bytes → Bool
 is_decl_shape line = (length (words line) == 3) && passes (is_word (codes "array")) (slice_get (words line) 0)
 
+-- more than 1,024 bytes
 unfoldable pub is_too_long : Place → Bytes → Bool
 is_too_long place line = nat_lt 1024 (length line)
 
+-- no line has these words
 unfoldable pub has_no_shape : Place → Bytes → Bool
 has_no_shape place line =
     if is_worker_line line then some_op_is Word place.decls line
     else not ((length line == 0) || (is_join line || is_decl_shape line))
 
+-- a number's place has something else
 unfoldable pub lacks_number : Place → Bytes → Bool
 lacks_number place line =
-    if is_worker_line line then is_none (number (worker_of line)) || some_op_is Number place.decls line
+    if is_worker_line line then is_none (number_of (worker_word line)) || some_op_is Number place.decls line
     else (is_no_number (words line) 1 || is_no_number (words line) 2)
 
+-- too many operations, the 65,537th line of its round, or the 17th declaration
 unfoldable pub is_too_many : Place → Bytes → Bool
 is_too_many place line =
-    if is_worker_line line then nat_lt 16 (length (ops_of line)) || nat_le 65536 place.lines
+    if is_worker_line line then nat_lt 16 (length (op_parts line)) || nat_le 65536 place.lines
     else (is_decl_shape line && nat_le 16 (length place.decls))
 
+-- an operation's storage isn't declared, or a declaration comes late or again
 unfoldable pub is_misdeclared : Place → Bytes → Bool
 is_misdeclared place line =
     if is_worker_line line then some_op_is Declared place.decls line
@@ -153,9 +97,10 @@ is_misdeclared place line =
 abbrev pub is_of_other_kind : Place → Bytes → Bool
 is_of_other_kind place line = false
 
+-- a number is out of its range
 unfoldable pub is_out_of_range : Place → Bytes → Bool
 is_out_of_range place line =
-    if is_worker_line line then passes (nat_le 8) (number (worker_of line)) || some_op_is Range place.decls line
+    if is_worker_line line then passes (nat_le 8) (number_of (worker_word line)) || some_op_is Range place.decls line
     else (is_decl_shape line && (passes (nat_le 256) (number_in (words line) 1) || passes (λ size. (size == 0) || nat_lt 131072 size) (number_in (words line) 2)))
 
 -- ---- the fault of a line
@@ -172,10 +117,12 @@ tests =
     ∷ (Range, is_out_of_range)
     ∷ []
 
+-- the kind whose test is the first that holds
 abbrev pub first_kind : List (FaultKind × (Place → Bytes → Bool)) → Place → Bytes → Option FaultKind
 first_kind [] place line = None
 first_kind (test ∷ tests) place line = if test.1 place line then Some test.0 else first_kind tests place line
 
+-- the first kind of fault that the line has
 unfoldable pub kind_of : Place → Bytes → Option FaultKind
 kind_of place line = first_kind tests place line
 
@@ -198,6 +145,7 @@ place_past place line =
     }
     else place))
 
+-- where the first line stands
 abbrev pub first_place : Place
 first_place = record { decls = []; begun = false; lines = 0 }
 
@@ -211,7 +159,7 @@ unfoldable pub first_fault : ℕ → Place → List Bytes → Option ScriptFault
 first_fault number place [] = None
 first_fault number place (line ∷ lines) = fault_or (kind_of place line) number (first_fault (number + 1) (place_past place line) lines)
 
--- line 0 stands for a source of more than 64 MiB
+-- the first faulty line of a source, with its first kind; line 0 stands for a source of more than 64 MiB
 unfoldable pub fault_of : Bytes → Option ScriptFault
 fault_of bytes =
     if nat_lt 67108864 (length bytes) then Some (record { line = 0; kind = TooLong })

@@ -1,148 +1,94 @@
--- Reading a script from left to right: what each step of the reader finds at the front, and what is left behind it.
-use Rattle.std.specs.Prelude.{◌≡◌, ℕ, zero, suc, ◌^◌, ◌==◌, ◌&&◌, Bool, true, false, List, [], ◌∷◌, ◌++◌, length, take, drop, codes, nat_lt, nat_le, not, if◌then◌else◌, Option, Some, None, Result, Ok, Err, ⊤}
-use Rattle.std.specs.Char.{is_ascii_digit}
-use Rattle.std.specs.List.{prefix_len, list_all, list_any, slice_split}
-use Rattle.std.specs.Cmp.Lexicographic.{pointwise}
-use Rattle.std.specs.Str.Parse.{digits_value}
+-- Reading a script: what each line adds to what was read before it, word by word.
+use Rattle.std.specs.Prelude.{◌≡◌, ℕ, ◌==◌, ◌&&◌, Bool, false, List, [], ◌∷◌, ◌++◌, length, codes, nat_lt, nat_le, not, if◌then◌else◌, Option, Some, None, Result, Ok, Err, ⊤}
+use Rattle.std.specs.List.{list_all, list_any, slice_split}
+use Rattle.decimals.specs.Numbers.{number_of}
+use Rattle.lists.specs.declared.memory.OrMemory.{OrMemory}
+use Rattle.lists.specs.declared.memory.OrMemory.TheVariants as errors
 use Rattle.serial_model.specs.Keys.{fits, id_of}
 use Rattle.serial_model.specs.declared.key.Key.{Key}
 use Rattle.serial_model.specs.declared.op.Op.{Op}
 use Rattle.serial_model.specs.declared.op.Op.TheVariants.{Read, Write, Add, Take}
 use Rattle.serial_model.specs.declared.decl.Decl.{Decl}
 use Rattle.serial_model.specs.declared.decl.Decl.TheVariants.{Array}
-use Rattle.serial_model.specs.declared.memory.OrMemory.{OrMemory}
-use Rattle.serial_model.specs.declared.memory.OrMemory.TheVariants as errors
 use Rattle.script_grammar.specs.declared.fault.ScriptFault.{ScriptFault}
 use Rattle.script_grammar.specs.declared.fault.Refused.{Refused}
-use Rattle.script_grammar.specs.Script.{Bytes, Line, Round, Script, last_round}
-
-infixl 10 ◌>>=◌
-abbrev pub ◌>>=◌ : {A B : Type 0} → Option A → (A → Option B) → Option B
-(Some x) >>= f = f x
-None >>= f = None
-
--- a value at the front, and the bytes behind it
-abbrev pub Front : Type 0 → Type 0
-Front A = A × Bytes
-
--- ---- numbers
-
-abbrev pub digits_len : Bytes → ℕ
-digits_len = prefix_len is_ascii_digit
-
--- no digit at all, or a zero before others
-abbrev pub is_misspelled : Bytes → Bool
-is_misspelled [] = true
-is_misspelled (b ∷ []) = false
-is_misspelled (b ∷ c ∷ bs) = b == 48
-
-unfoldable pub value_of : Bytes → Option ℕ
-value_of ds = if nat_lt (digits_value 10 ds) (2 ^ 64) then Some (digits_value 10 ds) else None
-
--- the number that the digits spell
-unfoldable pub number_of : Bytes → Option ℕ
-number_of ds = if is_misspelled ds then None else value_of ds
-
-unfoldable pub number_at : Bytes → Option (Front ℕ)
-number_at bs = do
-  n ← number_of (take (digits_len bs) bs)
-  Some (n, drop (digits_len bs) bs)
-
-unfoldable pub byte_at : Bytes → Option (Front ℕ)
-byte_at bs = do
-  n ← number_at bs
-  if nat_lt n.0 256 then Some n else None
-
--- ---- words
-
-unfoldable pub char_at : ℕ → Bytes → Option Bytes
-char_at c [] = None
-char_at c (b ∷ bs) = if b == c then Some bs else None
-
--- a space and a number
-unfoldable pub next_number_at : Bytes → Option (Front ℕ)
-next_number_at bs = do
-  r ← char_at 32 bs
-  number_at r
+use Rattle.script_grammar.specs.Script.{Bytes, Line, Worker, Keeper, Round, Script, last_round}
+use Rattle.script_grammar.specs.Words.{◌>>=◌, words, is_word, worker_word, op_parts, is_join}
 
 -- ---- operations
 
--- a space and a key
-unfoldable pub next_key_at : Bytes → Option (Front Key)
-next_key_at bs = do
-  r ← char_at 32 bs
-  s ← byte_at r
-  k ← next_number_at s.1
-  Some (record { storage = s.0; key = k.0 }, k.1)
+-- the key of a storage's id and a number
+abbrev pub key_in : Bytes → Bytes → Option Key
+key_in storage key = do
+  s ← number_of storage
+  k ← number_of key
+  if nat_lt s 256 then Some (record { storage = s; key = k }) else None
 
-unfoldable pub read_at : Bytes → Option (Front Op)
-read_at bs = do
-  k ← next_key_at bs
-  Some (Read k.0, k.1)
+-- a word of one letter
+abbrev pub letter_in : Bytes → Option ℕ
+letter_in (letter ∷ []) = Some letter
+letter_in _ = None
 
--- an operation with a value
-unfoldable pub change_at : (Key → ℕ → Op) → Bytes → Option (Front Op)
-change_at make bs = do
-  k ← next_key_at bs
-  v ← next_number_at k.1
-  Some (make k.0 v.0, v.1)
+-- a read, by its letter r
+abbrev pub read_by : ℕ → Key → Option Op
+read_by letter key = if letter == 114 then Some (Read key) else None
 
-unfoldable pub op_at : Bytes → Option (Front Op)
-op_at [] = None
-op_at (b ∷ bs) =
-    if b == 114 then read_at bs
-    else (if b == 119 then change_at (λ k v. Write k v) bs
-    else (if b == 97 then change_at (λ k v. Add k v) bs
-    else (if b == 116 then change_at (λ k v. Take k v) bs else None)))
+-- a change, by its letter w, a or t
+abbrev pub change_by : ℕ → Key → ℕ → Option Op
+change_by letter key value =
+    if letter == 119 then Some (Write key value)
+    else (if letter == 97 then Some (Add key value)
+    else (if letter == 116 then Some (Take key value) else None))
 
--- a semicolon, a space and an operation
-unfoldable pub next_op_at : Bytes → Option (Front Op)
-next_op_at bs = do
-  r ← char_at 59 bs
-  q ← char_at 32 r
-  op_at q
+-- the operation of the words: a letter, a storage and a key, and where it is no read a value
+abbrev pub op_in : List Bytes → Option Op
+op_in (word ∷ storage ∷ key ∷ []) = letter_in word >>= (λ letter. key_in storage key >>= read_by letter)
+op_in (word ∷ storage ∷ key ∷ value ∷ []) =
+    letter_in word >>= (λ letter. key_in storage key >>= (λ k. number_of value >>= change_by letter k))
+op_in _ = None
 
--- at most this many further operations, up to the end
-unfoldable pub more_ops_at : ℕ → Bytes → Option (List Op)
-more_ops_at room [] = Some []
-more_ops_at zero (b ∷ bs) = None
-more_ops_at (suc room) (b ∷ bs) = do
-  op ← next_op_at (b ∷ bs)
-  ops ← more_ops_at room op.1
-  Some (op.0 ∷ ops)
+-- an operation before others
+abbrev pub before_ops : Option Op → Option (List Op) → Option (List Op)
+before_ops op ops = op >>= (λ o. ops >>= (λ os. Some (o ∷ os)))
 
--- 1 to 16 operations, up to the end
-unfoldable pub ops_at : Bytes → Option (List Op)
-ops_at bs = do
-  op ← op_at bs
-  ops ← more_ops_at 15 op.1
-  Some (op.0 ∷ ops)
+-- the operations of the parts of a line
+abbrev pub ops_in : List Bytes → Option (List Op)
+ops_in [] = Some []
+ops_in (part ∷ parts) = before_ops (op_in (words part)) (ops_in parts)
+
+-- the operations where they are at most 16
+abbrev pub few_of : List Op → Option (List Op)
+few_of ops = if nat_le (length ops) 16 then Some ops else None
+
+-- the operations of the parts, at most 16
+abbrev pub few_ops_in : List Bytes → Option (List Op)
+few_ops_in parts = ops_in parts >>= few_of
 
 -- ---- lines
 
--- a worker and a space
-unfoldable pub worker_at : Bytes → Option (Front ℕ)
-worker_at bs = do
-  w ← number_at bs
-  r ← char_at 32 w.1
-  if nat_lt w.0 8 then Some (w.0, r) else None
+-- the worker is one of 0 to 7
+abbrev pub worker_in : Bytes → Option ℕ
+worker_in word = number_of word >>= (λ worker. if nat_lt worker 8 then Some worker else None)
 
+-- a worker's line: the worker before the first space, and its operations behind it
 unfoldable pub line_at : Bytes → Option Line
-line_at bs = do
-  w ← worker_at bs
-  ops ← ops_at w.1
-  Some (record { worker = w.0; ops = ops })
+line_at line = do
+  worker ← worker_in (worker_word line)
+  ops ← few_ops_in (op_parts line)
+  Some (Worker worker ops)
 
-unfoldable pub word_at : Bytes → Bytes → Option Bytes
-word_at word bs = if pointwise (λ x y. x == y) (take (length word) bs) word then Some (drop (length word) bs) else None
+-- an array with its id and its size
+abbrev pub array_in : ℕ → ℕ → Option Decl
+array_in id size = if nat_lt id 256 && (nat_lt 0 size && nat_le size 131072) then Some (Array id size) else None
 
--- an array's declaration, up to the end
+-- a declaration's three words
+abbrev pub decl_in : List Bytes → Option Decl
+decl_in (word ∷ id ∷ size ∷ []) = if is_word (codes "array") word then (number_of id >>= (λ i. number_of size >>= array_in i)) else None
+decl_in _ = None
+
+-- a declaration
 unfoldable pub decl_at : Bytes → Option Decl
-decl_at bs = do
-  r ← word_at (codes "array ") bs
-  id ← byte_at r
-  n ← next_number_at id.1
-  if (length n.1 == 0) && (nat_lt 0 n.0 && nat_le n.0 131072) then Some (Array id.0 n.0) else None
+decl_at line = decl_in (words line)
 
 -- ---- scripts
 
@@ -152,6 +98,7 @@ pub record Parts : Type 0 where
   pub joined : List Round
   pub lines : List Line
 
+-- before the first line
 abbrev pub no_parts : Parts
 no_parts = record { decls = []; joined = []; lines = [] }
 
@@ -173,18 +120,20 @@ with_decl p line = do
 abbrev pub may_run : Parts → List Op → Bool
 may_run p ops = nat_lt (length p.lines) 65536 && list_all (fits p.decls) ops
 
+-- the same for a line; those of the maintenance thread aren't read
+abbrev pub may_follow : Parts → Line → Bool
+may_follow p (Worker worker ops) = may_run p ops
+may_follow p (Keeper line) = false
+
 -- one more worker's line
 unfoldable pub with_line : Parts → Bytes → Option Parts
 with_line p line = do
   l ← line_at line
-  if may_run p l.ops then Some (record p { lines = p.lines ++ l ∷ [] }) else None
+  if may_follow p l then Some (record p { lines = p.lines ++ l ∷ [] }) else None
 
 -- a join ends a round
 abbrev pub with_join : Parts → Parts
 with_join p = record { decls = p.decls; joined = p.joined ++ record { lines = p.lines } ∷ []; lines = [] }
-
-abbrev pub is_join : Bytes → Bool
-is_join line = pointwise (λ x y. x == y) line (codes "join")
 
 -- a declaration begins with a letter of its own
 abbrev pub begins_declaration : Bytes → Bool
@@ -203,15 +152,18 @@ step p line =
     if length line == 0 then Some p
     else (if nat_lt 1024 (length line) then None else with_some_line p line)
 
+-- the same of lines, one after another
 unfoldable pub steps : Parts → List Bytes → Option Parts
 steps p [] = Some p
 steps p (line ∷ lines) = do
   q ← step p line
   steps q lines
 
+-- what is read of a source of at most 64 MiB
 unfoldable pub parts_of : Bytes → Option Parts
 parts_of bytes = if nat_lt 67108864 (length bytes) then None else steps no_parts (slice_split (λ b. b == 10) bytes)
 
+-- the script of what was read, whose end ends the last round
 abbrev pub script_from : Parts → Script
 script_from p = record { decls = p.decls; rounds = p.joined ++ last_round p.joined p.lines }
 
@@ -222,12 +174,6 @@ abbrev pub Reads : {X Y : Type 0} → Result X (OrMemory Refused) → Y → Opti
 Reads (Ok x) y found = found ≡ Some y
 Reads (Err errors.Memory) y found = ⊤
 Reads (Err (errors.Fault refused)) y found = found ≡ None
-
--- the same of a line, whose operations stand apart from its worker
-abbrev pub ReadsLine : Result ℕ (OrMemory Refused) → List Op → Option Line → Type 0
-ReadsLine (Ok worker) ops found = found ≡ Some (record { worker = worker; ops = ops })
-ReadsLine (Err errors.Memory) ops found = ⊤
-ReadsLine (Err (errors.Fault refused)) ops found = found ≡ None
 
 -- the script, unless memory ran out
 abbrev pub Gives : Script → Result Script (OrMemory ScriptFault) → Type 0

@@ -1,45 +1,72 @@
 -- Scripts, and which bytes are the text of one.
-use Rattle.std.specs.Prelude.{◌≡◌, ◌≢◌, ℕ, ◌<◌, ◌≤◌, ◌^◌, ◌==◌, IsTrue, List, [], ◌∷◌, ◌++◌, length, map, filter, codes, decimal, nat_lt, ⊤}
-use Rattle.std.specs.List.{AllByRecursion, slice_split}
-use Rattle.serial_model.specs.Keys.{fits, id_of}
+use Rattle.std.specs.Prelude.{◌≡◌, ℕ, ◌<◌, ◌≤◌, ◌^◌, ◌==◌, IsTrue, List, [], ◌∷◌, ◌++◌, length, map, filter, codes, decimal, nat_lt, if◌then◌else◌, Option, Some, None, ⊤}
+use Rattle.std.specs.List.{AllByRecursion, filter_map, slice_split}
+use Rattle.serial_model.specs.Keys.{fits}
+use Rattle.serial_model.specs.Decls.{AreDecls}
 use Rattle.serial_model.specs.declared.key.Key.{Key}
 use Rattle.serial_model.specs.declared.op.Op.{Op}
 use Rattle.serial_model.specs.declared.op.Op.TheVariants.{Read, Write, Remove, Add, Take, Scan}
 use Rattle.serial_model.specs.declared.decl.Decl.{Decl}
 use Rattle.serial_model.specs.declared.decl.Decl.TheVariants.{Array, Tree}
+use Rattle.script_grammar.specs.declared.lines.KeeperLine.{KeeperLine}
+use Rattle.script_grammar.specs.declared.lines.KeeperLine.TheVariants.{Epoch, Save, Glean, Drop}
 
+-- a text is a list of bytes
 abbrev pub Bytes : Type 0
 Bytes = List ℕ
 
 -- ---- what a script is
 
--- a worker's line: one transaction
-pub record Line : Type 0 where
-  pub worker : ℕ
-  pub ops : List Op
+-- a line of a worker, which is one transaction, or of the maintenance thread
+pub data Line : Type 0 where
+  Worker : ℕ → List Op → Line
+  Keeper : KeeperLine → Line
 
 -- the lines up to a join, in the order of the script
 pub record Round : Type 0 where
   pub lines : List Line
 
+-- the storages that it declares, and its rounds
 pub record Script : Type 0 where
   pub decls : List Decl
   pub rounds : List Round
 
--- ---- the lines of a worker
+-- ---- whose a line is
 
--- the operations of a worker's lines, in their order
+-- the worker whose line it is, if it is one's
+abbrev pub worker_of : Line → Option ℕ
+worker_of (Worker worker ops) = Some worker
+worker_of (Keeper line) = None
+
+-- the operations of the line where it is this worker's
+abbrev pub ops_of_worker : ℕ → Line → Option (List Op)
+ops_of_worker worker (Worker other ops) = if other == worker then Some ops else None
+ops_of_worker worker (Keeper line) = None
+
+-- what the line asks for where it is the maintenance thread's
+abbrev pub keeper_line_of : Line → Option KeeperLine
+keeper_line_of (Worker worker ops) = None
+keeper_line_of (Keeper line) = Some line
+
+-- the operations of a worker's lines, in the order of the text
 abbrev pub lines_of_worker : Round → ℕ → List (List Op)
-lines_of_worker round worker = map (λ line. line.ops) (filter (λ line. line.worker == worker) round.lines)
+lines_of_worker round worker = filter_map (ops_of_worker worker) round.lines
 
+-- the same for each of the workers 0 to 7
 abbrev pub worker_lines : Round → List (List (List Op))
 worker_lines round = map (lines_of_worker round) (0 ∷ 1 ∷ 2 ∷ 3 ∷ 4 ∷ 5 ∷ 6 ∷ 7 ∷ [])
 
+-- the lines of the maintenance thread, in the order of the text
+abbrev pub keeper_lines : Round → List KeeperLine
+keeper_lines round = filter_map keeper_line_of round.lines
+
 -- ---- its spelling: one space between words, numbers in decimal without leading zeros
 
+-- a storage and a key
 abbrev pub key_text : Key → Bytes
 key_text k = decimal k.storage ++ codes " " ++ decimal k.key
 
+-- an operation's letter, its key, and its value or its range
 abbrev pub op_text : Op → Bytes
 op_text (Read k) = codes "r " ++ key_text k
 op_text (Write k v) = codes "w " ++ key_text k ++ codes " " ++ decimal v
@@ -49,18 +76,29 @@ op_text (Take k v) = codes "t " ++ key_text k ++ codes " " ++ decimal v
 op_text (Scan storage low high) =
     codes "s " ++ decimal storage ++ codes " " ++ decimal low ++ codes " " ++ decimal high
 
--- operations are parted by a semicolon and a space
+-- further operations, each behind a semicolon and a space
 abbrev pub more_ops_text : List Op → Bytes
 more_ops_text [] = []
 more_ops_text (op ∷ ops) = codes "; " ++ op_text op ++ more_ops_text ops
 
+-- all operations of a line
 abbrev pub ops_text : List Op → Bytes
 ops_text [] = []
 ops_text (op ∷ ops) = op_text op ++ more_ops_text ops
 
-abbrev pub line_text : Line → Bytes
-line_text line = decimal line.worker ++ codes " " ++ ops_text line.ops
+-- what the maintenance thread is asked for
+abbrev pub keeper_text : KeeperLine → Bytes
+keeper_text Epoch = codes "k epoch"
+keeper_text Save = codes "k save"
+keeper_text Glean = codes "k glean"
+keeper_text Drop = codes "k drop"
 
+-- a worker with its operations, or what the maintenance thread is asked for
+abbrev pub line_text : Line → Bytes
+line_text (Worker worker ops) = decimal worker ++ codes " " ++ ops_text ops
+line_text (Keeper line) = keeper_text line
+
+-- a storage's declaration
 abbrev pub decl_text : Decl → Bytes
 decl_text (Array id size) = codes "array " ++ decimal id ++ codes " " ++ decimal size
 decl_text (Tree id) = codes "tree " ++ decimal id
@@ -79,12 +117,12 @@ last_round (round ∷ rounds) (line ∷ rest) = record { lines = line ∷ rest }
 
 -- ---- what holds of the lines of a script
 
--- an array of 1 to 131,072 values, with an id from 0 to 255
-abbrev pub IsDecl : Decl → Type 0
-IsDecl (Array id size) = (id < 256) × (0 < size) × (size ≤ 131072)
-IsDecl (Tree id) = ⊥
+-- arrays alone are declared for now
+abbrev pub IsArray : Decl → Type 0
+IsArray (Array id size) = ⊤
+IsArray (Tree id) = ⊥
 
--- the value that an operation names
+-- the operation is a read, or a change by a value that a u64 has; no others are named for now
 abbrev pub HasValue : Op → Type 0
 HasValue (Read k) = ⊤
 HasValue (Write k v) = v < 2 ^ 64
@@ -98,27 +136,26 @@ pub record IsOp (decls : List Decl) (op : Op) : Type 0 where
   pub value : HasValue op
 
 -- 1 to 16 operations of a worker from 0 to 7
-pub record IsLine (decls : List Decl) (line : Line) : Type 0 where
-  pub worker : line.worker < 8
-  pub some_op : 0 < length line.ops
-  pub few_ops : length line.ops ≤ 16
-  pub ops : AllByRecursion (IsOp decls) line.ops
+pub record IsTransaction (decls : List Decl) (w : ℕ) (os : List Op) : Type 0 where
+  pub worker : w < 8
+  pub some_op : 0 < length os
+  pub few_ops : length os ≤ 16
+  pub ops : AllByRecursion (IsOp decls) os
+
+-- a line by the rules; those of the maintenance thread aren't read for now
+abbrev pub IsLine : List Decl → Line → Type 0
+IsLine decls (Worker worker ops) = IsTransaction decls worker ops
+IsLine decls (Keeper line) = ⊥
 
 -- at most 65,536 lines
 pub record IsRound (decls : List Decl) (round : Round) : Type 0 where
   pub few_lines : length round.lines ≤ 65536
   pub lines : AllByRecursion (IsLine decls) round.lines
 
--- no two are alike
-abbrev pub AreDistinct : List ℕ → Type 0
-AreDistinct [] = ⊤
-AreDistinct (x ∷ xs) = AllByRecursion (λ y. x ≢ y) xs × AreDistinct xs
-
--- at most 16 declared storages, each id once
+-- the declarations and the rounds are by the rules
 pub record IsScript (script : Script) : Type 0 where
-  pub few_decls : length script.decls ≤ 16
-  pub decls : AllByRecursion IsDecl script.decls
-  pub distinct : AreDistinct (map id_of script.decls)
+  pub decls : AreDecls script.decls
+  pub arrays : AllByRecursion IsArray script.decls
   pub rounds : AllByRecursion (IsRound script.decls) script.rounds
 
 -- ---- the text of a script

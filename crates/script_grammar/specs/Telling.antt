@@ -1,8 +1,8 @@
 -- What the reader's functions return: what was read, or the fault where it stopped.
 use Rattle.std.specs.Prelude.{◌≡◌, ◌⊎◌, ℕ, ◌+◌, ◌<◌, ◌≤◌, ◌==◌, List, ◌∷◌, ◌++◌, length, Some, None, Result, Ok, Err, ⊤}
 use Rattle.std.specs.List.{slice_split}
-use Rattle.serial_model.specs.declared.memory.OrMemory.{OrMemory}
-use Rattle.serial_model.specs.declared.memory.OrMemory.TheVariants as errors
+use Rattle.lists.specs.declared.memory.OrMemory.{OrMemory}
+use Rattle.lists.specs.declared.memory.OrMemory.TheVariants as errors
 use Rattle.script_grammar.specs.declared.fault.ScriptFault.{ScriptFault}
 use Rattle.script_grammar.specs.declared.fault.FaultKind.{FaultKind}
 use Rattle.script_grammar.specs.declared.fault.FaultKind.TheVariants.{TooLong}

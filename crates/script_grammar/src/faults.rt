@@ -2,14 +2,17 @@
 ghost use Rattle.std.specs.Prelude.{◌≡◌, ◌==◌, ◌||◌, codes, nat_le, nat_lt, slice_get};
 ghost use Rattle.std.specs.List.{list_any};
 ghost use Rattle.serial_model.specs.Keys.{id_of};
-ghost use Rattle.script_grammar.specs.Faults.{passes, words, number, number_in, is_word, is_worker_line, is_decl_shape, has_no_shape, lacks_number, is_too_many, is_misdeclared, is_out_of_range, kind_of};
+ghost use Rattle.decimals.specs.Numbers.{number_of};
+ghost use Rattle.script_grammar.specs.Words.{passes, words, number_in, is_word, is_worker_line};
+ghost use Rattle.script_grammar.specs.Faults.{is_decl_shape, has_no_shape, lacks_number, is_too_many, is_misdeclared, is_out_of_range, kind_of};
 
 use crate::fault::FaultKind;
-use crate::op_faults::{IDS, declares, op_count, some_op_is};
+use crate::op_faults::{declares, op_count, some_op_is};
 use crate::read_line::{LARGEST_ARRAY, WORKERS, is_join};
-use crate::read_op::MOST_OPS;
+use crate::read_op::{IDS, MOST_OPS};
 use crate::reader::{LONGEST_LINE, MOST_LINES, MOST_STORAGES};
-use crate::words::{cut_worker, is_no_number, number, number_in, word, word_count};
+use crate::words::{cut_worker, is_no_number, number_in, word, word_count};
+use decimals::number_of;
 use serial_model::Decl;
 use std::marker::Model;
 
@@ -73,7 +76,7 @@ fn lacks_number(place: &Place, line: &[u8]) -> bool
     ensures { result ≡ lacks_number place.now line.now }
 {
     if is_worker_line(line) {
-        number(cut_worker(line).0).is_none() || some_op_is(FaultKind::Number, place.decls, line)
+        number_of(cut_worker(line).0).is_none() || some_op_is(FaultKind::Number, place.decls, line)
     } else {
         is_no_number(line, 1) || is_no_number(line, 2)
     }
@@ -112,9 +115,9 @@ fn is_misdeclared(place: &Place, line: &[u8]) -> bool
 }
 
 fn is_no_worker(word: &[u8]) -> bool
-    ensures { result ≡ passes (nat_le 8) (number word.now) }
+    ensures { result ≡ passes (nat_le 8) (number_of word.now) }
 {
-    match number(word) {
+    match number_of(word) {
         Some(worker) => worker >= WORKERS,
         None => false,
     }

@@ -9,11 +9,11 @@
 mod cut;
 mod fault;
 mod faults;
+mod flat_ops;
 mod lines;
 mod op_faults;
 mod read;
 mod read_line;
-mod read_number;
 mod read_op;
 mod reader;
 mod rounds;
@@ -21,7 +21,8 @@ mod script;
 mod words;
 
 pub use fault::{FaultKind, ScriptFault};
-pub use lines::Line;
+pub use flat_ops::LineOps;
+pub use lines::{KeeperLine, Line};
 pub use read::read_script;
 pub use rounds::Round;
 pub use script::Script;

@@ -1,31 +1,47 @@
-// Workers' lines in memory: one list of operations for all, and a span of it for each, so that a line takes no list of
-// its own.
-ghost use Rattle.std.specs.Prelude.{◌≡◌, ◌<◌, ◌≤◌, [], ◌∷◌, ◌++◌, length, slice_get, Some, OnOk, OnErr};
+// Lines in memory: one list of operations for all, and a span of it for each, so that a line takes no list of its own.
+ghost use Rattle.std.specs.Prelude.{◌≡◌, ◌<◌, ◌≤◌, [], ◌∷◌, ◌++◌, length, slice_get, Some, OnOk, OnErr, option_map};
+ghost use Rattle.script_grammar.specs.Script.{Worker, worker_of};
+ghost use Rattle.script_grammar.specs.Lines.{line_lent};
 
-use serial_model::{Memory, Op};
+use crate::flat_ops::{FlatOps, LineOps};
+use lists::{Memory, Sequence};
+use serial_model::Op;
 use std::alloc::Global;
 use std::marker::Model;
 
+/// Where a worker's line lies: its operations, so many from the first one on.
 #[derive(Clone, Copy)]
 struct Span {
+    start: u32,
+    count: u8,
     worker: u8,
-    count: usize,
-    start: usize,
 }
 
-/// A worker's line: one transaction.
+/// What a line of the maintenance thread asks for.
+#[derive(Clone, Copy, Debug, PartialEq, Eq)]
+pub enum KeeperLine {
+    /// The next epoch.
+    Epoch,
+    /// A savepoint.
+    Save,
+    /// A snapshot from the logs.
+    Glean,
+    /// The pages that equal the snapshot's given up.
+    Drop,
+}
+
+/// A line of a round.
 #[derive(Clone, Copy, Debug)]
-pub struct Line<'a> {
-    /// 0 to 7.
-    pub worker: u8,
-    /// 1 to 16.
-    pub ops: &'a [Op],
+pub enum Line<'a> {
+    /// One transaction: a worker, 0 to 7, and 1 to 16 operations.
+    Worker { worker: u8, ops: &'a [Op] },
+    Keeper(KeeperLine),
 }
 
 #[derive(Drop)]
 pub(crate) struct Lines {
-    ops: Vec<Op>,
-    spans: Vec<Span>,
+    ops: FlatOps,
+    spans: Sequence<Span>,
 }
 
 impl Model for Lines {
@@ -35,9 +51,9 @@ impl Model for Lines {
 
     ghost Value = { List Line };
 
-    ghost view = { λ l. lines_in l.ops.items l.spans.items };
+    ghost view = { λ l. lines_in l.ops l.spans };
 
-    ghost invariant = { λ l. AreWithin l.ops.items l.spans.items };
+    ghost invariant = { λ l. AreWithin l.ops l.spans };
 }
 
 impl Lines {
@@ -45,8 +61,8 @@ impl Lines {
         ensures { result ≡ [] }
     {
         Lines {
-            ops: Vec::new(alloc),
-            spans: Vec::new(alloc),
+            ops: FlatOps::new(alloc),
+            spans: Sequence::new(alloc),
         }
     }
 
@@ -56,33 +72,44 @@ impl Lines {
         self.spans.len()
     }
 
-    /// After want of memory the lines are as they were.
+    /// A worker's line more. After want of memory the lines are as they were; more than 2^32 operations are one.
     pub(crate) fn push(&mut self, worker: u8, ops: &[Op]) -> Result<(), Memory>
-        ensures ok { OnOk result (self.new ≡ self.old ++ record { worker = worker; ops = ops.now } ∷ []) }
+        requires { length ops.now ≤ 16 }
+        ensures ok { OnOk result (self.new ≡ self.old ++ Worker worker ops.now ∷ []) }
         ensures memory { OnErr result (self.new ≡ self.old) }
     {
+        let Ok(start) = u32::try_from(self.ops.len()) else {
+            return Err(Memory);
+        };
         let span = Span {
+            start,
+            count: ops.len() as u8,
             worker,
-            count: ops.len(),
-            start: self.ops.len(),
         };
-        let Ok(()) = self.ops.extend_from_slice(ops) else {
-            return Err(Memory);
-        };
-        let Ok(()) = self.spans.push(span) else {
-            return Err(Memory);
-        };
+        self.ops.append(ops)?;
+        self.spans.push(span)?;
         Ok(())
     }
 
-    pub(crate) fn line(&self, index: usize) -> Line<'_>
+    /// The worker whose line it is, if it is one's.
+    pub(crate) fn worker(&self, index: usize) -> Option<u8>
         requires { index < length self.now }
-        ensures { slice_get self.now index ≡ Some (record { worker = result.worker; ops = result.ops.now }) }
+        ensures { option_map worker_of (slice_get self.now index) ≡ Some result }
     {
-        let span = self.spans[index];
-        Line {
+        Some(self.spans.as_slice()[index].worker)
+    }
+
+    /// The line, with its operations in the room.
+    pub(crate) fn line<'b>(&self, index: usize, room: &'b mut LineOps) -> Line<'b>
+        requires { index < length self.now }
+        ensures { slice_get self.now index ≡ Some (line_lent result) }
+    {
+        let span = self.spans.as_slice()[index];
+        self.ops
+            .fill(span.start as usize, usize::from(span.count), room);
+        Line::Worker {
             worker: span.worker,
-            ops: &self.ops[span.start..span.start + span.count],
+            ops: room.as_slice(),
         }
     }
 }

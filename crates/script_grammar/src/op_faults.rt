@@ -2,14 +2,13 @@
 ghost use Rattle.std.specs.Prelude.{◌≡◌, ◌==◌, length};
 ghost use Rattle.std.specs.List.{list_any};
 ghost use Rattle.serial_model.specs.Keys.{id_of, has_key_of, has_key};
-ghost use Rattle.script_grammar.specs.Faults.{words, number_in, parts, is_letter, has_letter, is_op_shape, lacks_op_number, is_undeclared, lacks_key, op_is, some_op_is, ops_of};
+ghost use Rattle.script_grammar.specs.Words.{words, number_in, parts, is_letter, op_parts};
+ghost use Rattle.script_grammar.specs.Faults.{has_letter, is_op_shape, lacks_op_number, is_undeclared, lacks_key, op_is, some_op_is};
 
 use crate::fault::FaultKind;
+use crate::read_op::IDS;
 use crate::words::{cut_op, cut_worker, is_no_number, number_in, word, word_count};
 use serial_model::Decl;
-
-/// Ids are below.
-pub(crate) const IDS: u64 = 256;
 
 fn is_letter(letters: &[u8], word: &[u8]) -> bool
     ensures { result ≡ is_letter letters.now word.now }
@@ -130,7 +129,7 @@ pub(crate) fn some_op_is(kind: FaultKind, decls: &[Decl], line: &[u8]) -> bool
 }
 
 pub(crate) fn op_count(line: &[u8]) -> usize
-    ensures { result ≡ length (ops_of line.now) }
+    ensures { result ≡ length (op_parts line.now) }
 {
     let (_, mut rest) = cut_worker(line);
     let mut count = 1;

@@ -1,7 +1,7 @@
 // Scripts from bytes.
 ghost use Rattle.std.specs.Prelude.{◌≡◌, ◌==◌, ◌≤◌, length, IfOk, Err};
 ghost use Rattle.std.specs.List.{slice_split};
-ghost use Rattle.serial_model.specs.declared.memory.OrMemory.{OrMemory};
+ghost use Rattle.lists.specs.declared.memory.OrMemory.{OrMemory};
 ghost use Rattle.script_grammar.specs.Script.{IsTextOf, Script as Meaning};
 ghost use Rattle.script_grammar.specs.Reading.{no_parts, Gives};
 ghost use Rattle.script_grammar.specs.Faults.{IsFirstFault};
@@ -11,7 +11,7 @@ use crate::cut::cut;
 use crate::fault::{FaultKind, ScriptFault};
 use crate::reader::Reader;
 use crate::script::Script;
-use serial_model::OrMemory;
+use lists::OrMemory;
 use std::alloc::Global;
 
 /// In bytes.
@@ -69,7 +69,7 @@ pub fn read_script(alloc: Global, bytes: &[u8]) -> Result<Script, OrMemory<Scrip
 {
     let mut reader = Reader::new(alloc);
     match read_all(&mut reader, bytes) {
-        Ok(()) => match reader.into_script(alloc) {
+        Ok(()) => match reader.into_script() {
             Ok(script) => Ok(script),
             Err(_) => Err(OrMemory::Memory),
         },

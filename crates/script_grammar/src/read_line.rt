@@ -1,40 +1,41 @@
 // One line: a declaration, or a worker's line.
-ghost use Rattle.std.specs.Prelude.{◌≡◌, option_map};
-ghost use Rattle.script_grammar.specs.Reading.{worker_at, line_at, word_at, decl_at, is_join, ReadsLine};
+ghost use Rattle.std.specs.Prelude.{◌≡◌, [], ◌∷◌, None, Some, MatchOption};
+ghost use Rattle.script_grammar.specs.Script.{Worker};
+ghost use Rattle.script_grammar.specs.Words.{is_join};
+ghost use Rattle.script_grammar.specs.Reading.{array_in, decl_at, decl_in, line_at, worker_in};
 
-use crate::fault::Refused;
-use crate::read_number::{byte_at, char_at, next_number_at, number_at};
-use crate::read_op::read_ops;
-use serial_model::{Decl, Op, OrMemory};
+use crate::cut::cut;
+use crate::flat_ops::LineOps;
+use crate::read_op::{IDS, read_ops};
+use crate::words::cut_worker;
+use decimals::number_of;
+use serial_model::Decl;
 
 pub(crate) const WORKERS: u64 = 8;
 
 pub(crate) const LARGEST_ARRAY: u64 = 131_072;
 
-/// The worker of a line, and what follows the space behind it.
-#[tactic(auto, unfolding(crate::specs::Reading::worker_at))]
-fn worker_at(line: &[u8]) -> Option<(u8, &[u8])>
-    ensures { option_map (λ x. (x.0, x.1.now)) result ≡ worker_at line.now }
+/// A worker, 0 to 7.
+fn worker_in(word: &[u8]) -> Option<u8>
+    ensures { result ≡ worker_in word.now }
 {
-    let (worker, rest) = number_at(line)?;
-    let rest = char_at(b' ', rest)?;
+    let worker = number_of(word)?;
     if worker < WORKERS {
-        Some((worker as u8, rest))
+        Some(worker as u8)
     } else {
         None
     }
 }
 
-/// A worker's line: the worker, and in `ops` the operations.
+/// A worker's line: the worker, and in the room the operations.
 #[tactic(auto, unfolding(crate::specs::Reading::line_at))]
-pub(crate) fn read_worker(line: &[u8], ops: &mut Vec<Op>) -> Result<u8, OrMemory<Refused>>
-    ensures { ReadsLine result ops.new.items (line_at line.now) }
+pub(crate) fn read_worker(line: &[u8], ops: &mut LineOps) -> Option<u8>
+    ensures { MatchOption result (line_at line.now ≡ None) (λ worker. line_at line.now ≡ Some (Worker worker ops.new)) }
 {
-    let Some((worker, rest)) = worker_at(line) else {
-        return Err(OrMemory::Fault(Refused));
-    };
+    let (word, rest) = cut_worker(line);
+    let worker = worker_in(word)?;
     read_ops(rest, ops)?;
-    Ok(worker)
+    Some(worker)
 }
 
 /// The end of a round.
@@ -44,27 +45,41 @@ pub(crate) fn is_join(line: &[u8]) -> bool
     line == b"join".as_slice()
 }
 
-/// What follows the word at the front.
-#[tactic(auto, unfolding(crate::specs::Reading::word_at))]
-fn word_at<'a>(word: &[u8], bytes: &'a [u8]) -> Option<&'a [u8]>
-    ensures { option_map (λ x. x.now) result ≡ word_at word.now bytes.now }
+/// An array with its id and its size.
+fn array_in(id: u64, size: u64) -> Option<Decl>
+    ensures { result ≡ array_in id size }
 {
-    bytes.strip_prefix(word)
-}
-
-/// An array's declaration, all of the line.
-#[tactic(auto, unfolding(crate::specs::Reading::decl_at))]
-pub(crate) fn decl_at(line: &[u8]) -> Option<Decl>
-    ensures { result ≡ decl_at line.now }
-{
-    let (id, rest) = byte_at(word_at(b"array ", line)?)?;
-    let (size, rest) = next_number_at(rest)?;
-    if rest.is_empty() && 0 < size && size <= LARGEST_ARRAY {
+    if id < IDS && 0 < size && size <= LARGEST_ARRAY {
         Some(Decl::Array {
-            id,
+            id: id as u8,
             size: size as u32,
         })
     } else {
         None
+    }
+}
+
+/// A declaration of three words.
+fn decl_in(word: &[u8], id: &[u8], size: &[u8]) -> Option<Decl>
+    ensures { result ≡ decl_in (word.now ∷ id.now ∷ size.now ∷ []) }
+{
+    if word != b"array".as_slice() {
+        return None;
+    }
+    let id = number_of(id)?;
+    let size = number_of(size)?;
+    array_in(id, size)
+}
+
+/// An array's declaration.
+#[tactic(auto, unfolding(crate::specs::Reading::decl_at))]
+pub(crate) fn decl_at(line: &[u8]) -> Option<Decl>
+    ensures { result ≡ decl_at line.now }
+{
+    let (word, rest) = cut(b' ', line)?;
+    let (id, size) = cut(b' ', rest)?;
+    match cut(b' ', size) {
+        Some(_) => None,
+        None => decl_in(word, id, size),
     }
 }

@@ -1,107 +1,112 @@
 // Operations, one after another up to the end of a line.
-ghost use Rattle.std.specs.Prelude.{◌≡◌, option_map};
-ghost use Rattle.script_grammar.specs.Reading.{next_key_at, read_at, change_at, op_at, next_op_at, ops_at, Reads};
+ghost use Rattle.std.specs.Prelude.{◌≡◌, [], ◌∷◌, None, Some, MatchOption};
+ghost use Rattle.script_grammar.specs.Words.{words, parts};
+ghost use Rattle.script_grammar.specs.Reading.{change_by, few_ops_in, key_in, letter_in, op_in};
 
-use crate::fault::Refused;
-use crate::read_number::{byte_at, char_at, next_number_at};
-use serial_model::{Key, Op, OrMemory};
+use crate::cut::cut;
+use crate::flat_ops::LineOps;
+use crate::words::cut_op;
+use decimals::number_of;
+use serial_model::{Key, Op};
 
 pub(crate) const MOST_OPS: usize = 16;
 
-/// A space, and the key behind it: a storage and a number.
-#[tactic(auto, unfolding(crate::specs::Reading::next_key_at))]
-fn next_key_at(bytes: &[u8]) -> Option<(Key, &[u8])>
-    ensures { option_map (λ x. (x.0, x.1.now)) result ≡ next_key_at bytes.now }
+/// Ids are below.
+pub(crate) const IDS: u64 = 256;
+
+/// The key of a storage's id and a number.
+fn key_in(storage: &[u8], key: &[u8]) -> Option<Key>
+    ensures { result ≡ key_in storage.now key.now }
 {
-    let (storage, rest) = byte_at(char_at(b' ', bytes)?)?;
-    let (key, rest) = next_number_at(rest)?;
-    Some((Key { storage, key }, rest))
+    let storage = number_of(storage)?;
+    let key = number_of(key)?;
+    if storage < IDS {
+        Some(Key {
+            storage: storage as u8,
+            key,
+        })
+    } else {
+        None
+    }
 }
 
-/// What follows the `r` of a read.
-#[tactic(auto, unfolding(crate::specs::Reading::read_at))]
-fn read_at(bytes: &[u8]) -> Option<(Op, &[u8])>
-    ensures { option_map (λ x. (x.0, x.1.now)) result ≡ read_at bytes.now }
+/// A word of one letter.
+fn letter_in(word: &[u8]) -> Option<u8>
+    ensures { result ≡ letter_in word.now }
 {
-    let (key, rest) = next_key_at(bytes)?;
-    Some((Op::Read(key), rest))
-}
-
-/// What follows the `w` of a write.
-#[tactic(auto, unfolding(crate::specs::Reading::change_at))]
-fn write_at(bytes: &[u8]) -> Option<(Op, &[u8])>
-    ensures { option_map (λ x. (x.0, x.1.now)) result ≡ change_at (λ k v. Op.Write k v) bytes.now }
-{
-    let (key, rest) = next_key_at(bytes)?;
-    let (value, rest) = next_number_at(rest)?;
-    Some((Op::Write(key, value), rest))
-}
-
-/// What follows the `a` of an addition.
-#[tactic(auto, unfolding(crate::specs::Reading::change_at))]
-fn add_at(bytes: &[u8]) -> Option<(Op, &[u8])>
-    ensures { option_map (λ x. (x.0, x.1.now)) result ≡ change_at (λ k v. Op.Add k v) bytes.now }
-{
-    let (key, rest) = next_key_at(bytes)?;
-    let (value, rest) = next_number_at(rest)?;
-    Some((Op::Add(key, value), rest))
-}
-
-/// What follows the `t` of a taking.
-#[tactic(auto, unfolding(crate::specs::Reading::change_at))]
-fn take_at(bytes: &[u8]) -> Option<(Op, &[u8])>
-    ensures { option_map (λ x. (x.0, x.1.now)) result ≡ change_at (λ k v. Op.Take k v) bytes.now }
-{
-    let (key, rest) = next_key_at(bytes)?;
-    let (value, rest) = next_number_at(rest)?;
-    Some((Op::Take(key, value), rest))
-}
-
-/// The operation at the front.
-#[tactic(auto, unfolding(crate::specs::Reading::op_at))]
-fn op_at(bytes: &[u8]) -> Option<(Op, &[u8])>
-    ensures { option_map (λ x. (x.0, x.1.now)) result ≡ op_at bytes.now }
-{
-    match bytes {
-        [b'r', rest @ ..] => read_at(rest),
-        [b'w', rest @ ..] => write_at(rest),
-        [b'a', rest @ ..] => add_at(rest),
-        [b't', rest @ ..] => take_at(rest),
+    match word {
+        [letter] => Some(*letter),
         _ => None,
     }
 }
 
-/// A semicolon and a space, and the operation behind them.
-#[tactic(auto, unfolding(crate::specs::Reading::next_op_at))]
-fn next_op_at(bytes: &[u8]) -> Option<(Op, &[u8])>
-    ensures { option_map (λ x. (x.0, x.1.now)) result ≡ next_op_at bytes.now }
+/// A change, by its letter.
+fn change_by(letter: u8, key: Key, value: u64) -> Option<Op>
+    ensures { result ≡ change_by letter key value }
 {
-    op_at(char_at(b' ', char_at(b';', bytes)?)?)
+    match letter {
+        b'w' => Some(Op::Write(key, value)),
+        b'a' => Some(Op::Add(key, value)),
+        b't' => Some(Op::Take(key, value)),
+        _ => None,
+    }
 }
 
-/// All operations, 1 to 16, up to the end. They take the place of those in `ops`, which is memory that a reader uses
-/// again for each line.
-pub(crate) fn read_ops(bytes: &[u8], ops: &mut Vec<Op>) -> Result<(), OrMemory<Refused>>
-    ensures { Reads result ops.new.items (ops_at bytes.now) }
+/// A read of three words.
+fn read_in(word: &[u8], storage: &[u8], key: &[u8]) -> Option<Op>
+    ensures { result ≡ op_in (word.now ∷ storage.now ∷ key.now ∷ []) }
+{
+    let letter = letter_in(word)?;
+    let key = key_in(storage, key)?;
+    if letter == b'r' {
+        Some(Op::Read(key))
+    } else {
+        None
+    }
+}
+
+/// A change of four words.
+fn change_in(word: &[u8], storage: &[u8], key: &[u8], value: &[u8]) -> Option<Op>
+    ensures { result ≡ op_in (word.now ∷ storage.now ∷ key.now ∷ value.now ∷ []) }
+{
+    let letter = letter_in(word)?;
+    let key = key_in(storage, key)?;
+    let value = number_of(value)?;
+    change_by(letter, key, value)
+}
+
+/// The operation of a part.
+fn op_in(part: &[u8]) -> Option<Op>
+    ensures { result ≡ op_in (words part.now) }
+{
+    let (word, rest) = cut(b' ', part)?;
+    let (storage, rest) = cut(b' ', rest)?;
+    let Some((key, value)) = cut(b' ', rest) else {
+        return read_in(word, storage, rest);
+    };
+    match cut(b' ', value) {
+        Some(_) => None,
+        None => change_in(word, storage, key, value),
+    }
+}
+
+/// All operations of a line, 1 to 16. They take the place of those in the room.
+pub(crate) fn read_ops(bytes: &[u8], ops: &mut LineOps) -> Option<()>
+    ensures { MatchOption result (few_ops_in (parts bytes.now) ≡ None)
+        (λ _. few_ops_in (parts bytes.now) ≡ Some ops.new) }
 {
     ops.clear();
-    let Some((op, mut rest)) = op_at(bytes) else {
-        return Err(OrMemory::Fault(Refused));
-    };
-    let Ok(()) = ops.push(op) else {
-        return Err(OrMemory::Memory);
-    };
-    while !rest.is_empty() {
+    let mut rest = bytes;
+    while let Some((part, after)) = cut_op(rest) {
         if ops.len() == MOST_OPS {
-            return Err(OrMemory::Fault(Refused));
+            return None;
         }
-        let Some((op, after)) = next_op_at(rest) else {
-            return Err(OrMemory::Fault(Refused));
-        };
-        let Ok(()) = ops.push(op) else {
-            return Err(OrMemory::Memory);
-        };
+        ops.push(op_in(part)?);
         rest = after;
     }
-    Ok(())
+    if ops.len() == MOST_OPS {
+        return None;
+    }
+    ops.push(op_in(rest)?);
+    Some(())
 }

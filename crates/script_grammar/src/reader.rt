@@ -5,10 +5,12 @@ ghost use Rattle.serial_model.specs.Keys.{id_of, fits};
 
 use crate::fault::{FaultKind, Refused};
 use crate::faults::{Place, kind_of};
+use crate::flat_ops::LineOps;
 use crate::read_line::{decl_at, is_join, read_worker};
 use crate::rounds::Rounds;
 use crate::script::Script;
-use serial_model::{Decl, Decls, Memory, Op, OrMemory, fits};
+use lists::{Memory, OrMemory};
+use serial_model::{Decl, Decls, Op, fits};
 use std::alloc::Global;
 use std::marker::Model;
 
@@ -22,9 +24,9 @@ pub(crate) const LONGEST_LINE: usize = 1024;
 /// The declarations and the rounds so far, and memory for the operations of a line.
 #[derive(Drop)]
 pub(crate) struct Reader {
-    decls: Vec<Decl>,
+    decls: Decls,
     rounds: Rounds,
-    ops: Vec<Op>,
+    ops: LineOps,
 }
 
 impl Model for Reader {
@@ -32,7 +34,7 @@ impl Model for Reader {
 
     ghost Value = { Parts };
 
-    ghost view = { λ r. record { decls = r.decls.items; joined = r.rounds.joined; lines = r.rounds.rest } };
+    ghost view = { λ r. record { decls = r.decls; joined = r.rounds.joined; lines = r.rounds.rest } };
 }
 
 fn id_of(decl: &Decl) -> u8
@@ -65,9 +67,9 @@ impl Reader {
         ensures { result ≡ no_parts }
     {
         Reader {
-            decls: Vec::new(alloc),
+            decls: Decls::new(alloc),
             rounds: Rounds::new(alloc),
-            ops: Vec::new(alloc),
+            ops: LineOps::new(),
         }
     }
 
@@ -83,7 +85,7 @@ impl Reader {
         ensures { result ≡ may_declare self.now decl.now }
     {
         let room = self.is_fresh() && self.decls.len() < MOST_STORAGES;
-        room && !is_declared(&self.decls, id_of(decl))
+        room && !is_declared(self.decls.as_slice(), id_of(decl))
     }
 
     /// One declaration more.
@@ -98,9 +100,7 @@ impl Reader {
         if !self.may_declare(&decl) {
             return Err(OrMemory::Fault(Refused));
         }
-        let Ok(()) = self.decls.push(decl) else {
-            return Err(OrMemory::Memory);
-        };
+        self.decls.push(decl)?;
         Ok(())
     }
 
@@ -108,7 +108,7 @@ impl Reader {
     fn may_run(&self, ops: &[Op]) -> bool
         ensures { result ≡ may_run self.now ops.now }
     {
-        self.rounds.rest_len() < MOST_LINES && all_fit(&self.decls, ops)
+        self.rounds.rest_len() < MOST_LINES && all_fit(self.decls.as_slice(), ops)
     }
 
     /// One worker's line more.
@@ -117,13 +117,13 @@ impl Reader {
         ensures read { Reads result self.new (with_line self.old line.now) }
         ensures kept { OnErr result (self.new ≡ self.old) }
     {
-        let worker = read_worker(line, &mut self.ops)?;
-        if !self.may_run(&self.ops) {
+        let Some(worker) = read_worker(line, &mut self.ops) else {
+            return Err(OrMemory::Fault(Refused));
+        };
+        if !self.may_run(self.ops.as_slice()) {
             return Err(OrMemory::Fault(Refused));
         }
-        let Ok(()) = self.rounds.push(worker, &self.ops) else {
-            return Err(OrMemory::Memory);
-        };
+        self.rounds.push(worker, self.ops.as_slice())?;
         Ok(())
     }
 
@@ -132,9 +132,7 @@ impl Reader {
         ensures read { Reads result self.new (Some (with_join self.old)) }
         ensures kept { OnErr result (self.new ≡ self.old) }
     {
-        let Ok(()) = self.rounds.join() else {
-            return Err(OrMemory::Memory);
-        };
+        self.rounds.join()?;
         Ok(())
     }
 
@@ -174,7 +172,7 @@ impl Reader {
         ensures { kind_of (place_after self.now) line.now ≡ Some result }
     {
         let place = Place {
-            decls: &self.decls,
+            decls: self.decls.as_slice(),
             begun: !self.is_fresh(),
             lines: self.rounds.rest_len(),
         };
@@ -196,7 +194,7 @@ impl Reader {
     }
 
     /// The script that was read.
-    pub(crate) fn into_script(self, alloc: Global) -> Result<Script, Memory>
+    pub(crate) fn into_script(self) -> Result<Script, Memory>
         ensures { IfOk result (λ script. script ≡ script_from self) }
     {
         let Reader {
@@ -204,7 +202,6 @@ impl Reader {
             mut rounds,
             ops: _,
         } = self;
-        let decls = Decls::new(alloc, &decls)?;
         rounds.finish()?;
         Ok(Script::new(decls, rounds))
     }

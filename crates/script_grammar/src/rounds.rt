@@ -1,24 +1,28 @@
 // Rounds in memory: the lines of all of them, and a stretch of these for each, so that a round takes no list of its own.
-ghost use Rattle.std.specs.Prelude.{◌≡◌, ◌<◌, [], ◌∷◌, ◌++◌, length, slice_get, Some, OnOk, OnErr};
-ghost use Rattle.script_grammar.specs.Script.{last_round};
+ghost use Rattle.std.specs.Prelude.{◌≡◌, ◌<◌, ◌≤◌, [], ◌∷◌, ◌++◌, length, slice_get, option_map, Some, OnOk, OnErr};
+ghost use Rattle.script_grammar.specs.Script.{Worker, last_round, worker_of};
+ghost use Rattle.script_grammar.specs.Lines.{line_lent};
 
+use crate::flat_ops::LineOps;
 use crate::lines::{Line, Lines};
-use serial_model::{Memory, Op};
+use lists::{Memory, Sequence};
+use serial_model::Op;
 use std::alloc::Global;
 use std::marker::Model;
 
+/// Where a round's lines lie.
 #[derive(Clone, Copy)]
 struct Stretch {
-    start: usize,
-    end: usize,
+    start: u32,
+    end: u32,
 }
 
 /// The rounds that a join ended, and the lines after the last one.
 #[derive(Drop)]
 pub(crate) struct Rounds {
     lines: Lines,
-    joined: Vec<Stretch>,
-    start: usize,
+    joined: Sequence<Stretch>,
+    start: u32,
 }
 
 impl Model for Rounds {
@@ -27,9 +31,9 @@ impl Model for Rounds {
 
     ghost Value = { RoundsSoFar };
 
-    ghost view = { λ r. record { joined = rounds_in r.lines r.joined.items; rest = drop r.start r.lines } };
+    ghost view = { λ r. record { joined = rounds_in r.lines r.joined; rest = drop r.start r.lines } };
 
-    ghost invariant = { λ r. AreRoundsWithin r.lines r.joined.items × (r.start ≤ length r.lines) };
+    ghost invariant = { λ r. AreRoundsWithin r.lines r.joined × (r.start ≤ length r.lines) };
 }
 
 /// The lines of a round.
@@ -57,7 +61,7 @@ impl Rounds {
     {
         Rounds {
             lines: Lines::new(alloc),
-            joined: Vec::new(alloc),
+            joined: Sequence::new(alloc),
             start: 0,
         }
     }
@@ -73,30 +77,31 @@ impl Rounds {
     pub(crate) fn rest_len(&self) -> usize
         ensures { result ≡ length self.now.rest }
     {
-        self.lines.len() - self.start
+        self.lines.len() - self.start as usize
     }
 
     /// One line more. After want of memory all is as it was.
     pub(crate) fn push(&mut self, worker: u8, ops: &[Op]) -> Result<(), Memory>
-        ensures ok { OnOk result (self.new ≡ record { joined = self.old.joined; rest = self.old.rest ++ record { worker = worker; ops = ops.now } ∷ [] }) }
+        requires { length ops.now ≤ 16 }
+        ensures ok { OnOk result (self.new ≡ record self.old { rest = self.old.rest ++ Worker worker ops.now ∷ [] }) }
         ensures memory { OnErr result (self.new ≡ self.old) }
     {
         self.lines.push(worker, ops)
     }
 
-    /// A join ends the round. After want of memory all is as it was.
+    /// A join ends the round. After want of memory all is as it was; more than 2^32 lines are one.
     pub(crate) fn join(&mut self) -> Result<(), Memory>
         ensures ok { OnOk result (self.new ≡ record { joined = self.old.joined ++ record { lines = self.old.rest } ∷ []; rest = [] }) }
         ensures memory { OnErr result (self.new ≡ self.old) }
     {
-        let end = self.lines.len();
+        let Ok(end) = u32::try_from(self.lines.len()) else {
+            return Err(Memory);
+        };
         let stretch = Stretch {
             start: self.start,
             end,
         };
-        let Ok(()) = self.joined.push(stretch) else {
-            return Err(Memory);
-        };
+        self.joined.push(stretch)?;
         self.start = end;
         Ok(())
     }
@@ -115,11 +120,11 @@ impl Rounds {
         requires { index < length self.now.joined }
         ensures { slice_get self.now.joined index ≡ Some result }
     {
-        let stretch = self.joined[index];
+        let stretch = self.joined.as_slice()[index];
         Round {
             lines: &self.lines,
-            start: stretch.start,
-            end: stretch.end,
+            start: stretch.start as usize,
+            end: stretch.end as usize,
         }
     }
 }
@@ -132,13 +137,21 @@ impl Round<'_> {
         self.end - self.start
     }
 
-    /// The line of this index, from 0, in the order of the script.
-    pub fn line(&self, index: usize) -> Line<'_>
+    /// The worker whose line this is, by its index from 0 in the order of the script, if it is one's.
+    pub fn worker(&self, index: usize) -> Option<u8>
         requires { index < length self.now.lines }
-        ensures { slice_get self.now.lines index
-            ≡ Some (record { worker = result.worker; ops = result.ops.now }) }
+        ensures { option_map worker_of (slice_get self.now.lines index) ≡ Some result }
     {
         prove!(index < self.end - self.start);
-        self.lines.line(self.start + index)
+        self.lines.worker(self.start + index)
+    }
+
+    /// The line of this index, from 0, in the order of the script. Its operations take the place of those in the room.
+    pub fn line<'b>(&self, index: usize, room: &'b mut LineOps) -> Line<'b>
+        requires { index < length self.now.lines }
+        ensures { slice_get self.now.lines index ≡ Some (line_lent result) }
+    {
+        prove!(index < self.end - self.start);
+        self.lines.line(self.start + index, room)
     }
 }

@@ -1,11 +1,10 @@
 // The words of a line, the numbers among them, and the operations of a worker's line.
 ghost use Rattle.std.specs.Prelude.{◌≡◌, ◌+◌, ◌<◌, take, drop, [], ◌∷◌, length, slice_get, option_map, MatchOption, IfSome};
-ghost use Rattle.std.specs.List.{before_first, after_first, list_all};
-ghost use Rattle.std.specs.Char.{is_ascii_digit};
-ghost use Rattle.script_grammar.specs.Faults.{words, number, number_in, is_no_number, begins_space, begins_separator, parts, is_space};
+ghost use Rattle.std.specs.List.{before_first, after_first};
+ghost use Rattle.script_grammar.specs.Words.{words, number_in, is_no_number, begins_space, begins_separator, parts, is_space};
 
 use crate::cut::{cut, position_of};
-use crate::read_number::number_of;
+use decimals::number_of;
 
 /// The word of this index, from 0.
 pub(crate) fn word(line: &[u8], index: usize) -> Option<&[u8]>
@@ -22,6 +21,7 @@ pub(crate) fn word(line: &[u8], index: usize) -> Option<&[u8]>
     }
 }
 
+/// How many words there are.
 pub(crate) fn word_count(line: &[u8]) -> usize
     ensures { result ≡ length (words line.now) }
 {
@@ -34,28 +34,11 @@ pub(crate) fn word_count(line: &[u8]) -> usize
     count
 }
 
-fn are_digits(word: &[u8]) -> bool
-    ensures { result ≡ list_all is_ascii_digit word.now }
-{
-    word.iter().all(|byte| byte.is_ascii_digit())
-}
-
-/// The number that the word is.
-#[tactic(auto, unfolding(crate::specs::Faults::number))]
-pub(crate) fn number(word: &[u8]) -> Option<u64>
-    ensures { result ≡ number word.now }
-{
-    if are_digits(word) {
-        number_of(word)
-    } else {
-        None
-    }
-}
-
+/// The number that the word of this index is.
 pub(crate) fn number_in(line: &[u8], index: usize) -> Option<u64>
     ensures { result ≡ number_in (words line.now) index }
 {
-    number(word(line, index)?)
+    number_of(word(line, index)?)
 }
 
 /// The word of this index is there, and no number.
@@ -63,7 +46,7 @@ pub(crate) fn is_no_number(line: &[u8], index: usize) -> bool
     ensures { result ≡ is_no_number (words line.now) index }
 {
     match word(line, index) {
-        Some(word) => number(word).is_none(),
+        Some(word) => number_of(word).is_none(),
         None => false,
     }
 }
@@ -79,6 +62,7 @@ pub(crate) fn cut_worker(line: &[u8]) -> (&[u8], &[u8])
     }
 }
 
+/// A space stands at the front.
 fn begins_space(bytes: &[u8]) -> bool
     ensures { result ≡ begins_space bytes.now }
 {

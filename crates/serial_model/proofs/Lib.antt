@@ -4,4 +4,6 @@ pub mod InOrder
 pub mod Working
 pub mod WayBack
 pub mod Told
+pub mod Pushed
+pub mod RowsWritten
 pub mod Scan

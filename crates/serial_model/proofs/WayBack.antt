@@ -12,7 +12,7 @@ use Rattle.serial_model.specs.State.{State}
 use Rattle.serial_model.specs.Draft.{GoesBack, NeedsNoMemory, KeepsWayBack, undone, undone_to}
 use Rattle.serial_model.specs.declared.key.Key.{Key}
 use Rattle.serial_model.specs.declared.draft.Undo.{Undo}
-use Rattle.serial_model.specs.declared.memory.Memory.{Memory}
+use Rattle.lists.specs.declared.memory.Memory.{Memory}
 
 -- one more change, that can be undone
 pub GoesBack-push : (us : List Undo) (u : Undo) (s first : State)

@@ -1,5 +1,5 @@
 -- A transaction's own changes, before it ends: written values stand in the map, with a way back, and removed keys stand aside.
-use Rattle.std.specs.Prelude.{◌≡◌, ℕ, Bool, not, List, [], ◌∷◌, Option, Some, None, IsSome}
+use Rattle.std.specs.Prelude.{◌≡◌, ℕ, Bool, not, List, [], ◌∷◌, ◌++◌, Option, Some, None, IsSome, option_to_list}
 use Rattle.std.specs.Ordering.{eq_by_cmp}
 use Rattle.std.specs.List.{list_any}
 use Rattle.std.specs.FinMap.{get, insert, remove, retain_keys}
@@ -8,8 +8,7 @@ use Rattle.serial_model.specs.State.{State}
 use Rattle.serial_model.specs.Step.{Move, Goes, Ends}
 use Rattle.serial_model.specs.declared.key.Key.{Key}
 use Rattle.serial_model.specs.declared.draft.Undo.{Undo}
-use Rattle.serial_model.specs.declared.plain.Moved.{Moved}
-use Rattle.serial_model.specs.declared.plain.Moved.TheVariants as moved
+use Rattle.serial_model.specs.declared.reply.Reply.{Reply}
 use Rattle.serial_model.specs.declared.reply.Verdict.{Verdict}
 use Rattle.serial_model.specs.declared.reply.Verdict.TheVariants.{Done, Short, Over}
 
@@ -26,6 +25,7 @@ abbrev pub undone_to : Key → Option ℕ → State → State
 undone_to k (Some v) s = insert s k v
 undone_to k None s = remove s k
 
+-- the map with one change taken back
 abbrev pub undone : Undo → State → State
 undone u s = undone_to u.key u.value s
 
@@ -42,10 +42,17 @@ GoesBack (u ∷ us) s first = (t : State) × GoesBack us s t × NeedsNoMemory u 
 abbrev pub KeepsWayBack : List Undo → State → List Undo → State → Type 0
 KeepsWayBack us s vs t = (first : State) → GoesBack us s first → GoesBack vs t first
 
--- what an operation came to, with the state that it left
-abbrev pub move_to : Moved → State → Move
-move_to (moved.Goes reply) s = Goes reply s
-move_to (moved.Ends verdict) s = Ends verdict
+-- an operation that replies nothing came to this, with the state that it left
+abbrev pub move_to : Option Verdict → State → Move
+move_to None s = Goes None s
+move_to (Some verdict) s = Ends verdict
+
+-- an operation came to this: where the transaction goes on, its reply stands behind those before it
+abbrev pub Moves : Move → List Reply → List Reply → State → Option Verdict → Type 0
+Moves (Goes reply s) before after now None = (after ≡ before ++ option_to_list reply) × (now ≡ s)
+Moves (Goes reply s) before after now (Some verdict) = ⊥
+Moves (Ends v) before after now None = ⊥
+Moves (Ends v) before after now (Some verdict) = (after ≡ before) × (verdict ≡ v)
 
 -- the state at a transaction's end: only a transaction that is done keeps its changes
 abbrev pub state_at_end : Verdict → State → State → State

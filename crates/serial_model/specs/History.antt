@@ -1,5 +1,6 @@
 -- Histories: committed transactions, and when a list of them is a serial run.
-use Rattle.std.specs.Prelude.{◌≡◌, ◌⊎◌, ℕ, ◌<◌, ◌≤◌, List, [], ◌∷◌, fold, filter, nat_le, ⊤}
+use Rattle.std.specs.Prelude.{◌≡◌, ℕ, ◌≤◌, List, [], ◌∷◌, fold, filter, nat_le, ⊤}
+use Rattle.serial_model.specs.Numbers.{IsBelow}
 use Rattle.serial_model.specs.State.{State}
 use Rattle.serial_model.specs.Step.{step}
 use Rattle.serial_model.specs.declared.decl.Decl.{Decl}
@@ -18,15 +19,12 @@ pub record Entry : Type 0 where
   pub number : Number
   pub replies : List Reply
 
--- numbers are compared by epoch, and then by draw
-abbrev pub IsBelow : Number → Number → Type 0
-IsBelow a b = (a.epoch < b.epoch) ⊎ ((a.epoch ≡ b.epoch) × (a.draw < b.draw))
-
--- each entry has R to all that come after it
+-- the entry has R to each of these
 abbrev pub Precedes : (Entry → Entry → Type 0) → Entry → List Entry → Type 0
 Precedes R e [] = ⊤
 Precedes R e (f ∷ fs) = R e f × Precedes R e fs
 
+-- each entry has R to all that come after it, along the list
 abbrev pub InOrder : (Entry → Entry → Type 0) → List Entry → Type 0
 InOrder R [] = ⊤
 InOrder R (e ∷ es) = Precedes R e es × InOrder R es
@@ -44,6 +42,7 @@ pub record AnswersAt (decls : List Decl) (s : State) (e : Entry) : Type 0 where
   pub verdict : e.verdict ≡ (step decls s e.ops).verdict
   pub replies : e.replies ≡ (step decls s e.ops).replies
 
+-- the state that an entry's transaction leaves
 abbrev pub state_after : List Decl → State → Entry → State
 state_after decls s e = (step decls s e.ops).state
 

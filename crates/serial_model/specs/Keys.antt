@@ -1,5 +1,5 @@
 -- Keys and their order, and the storages that have them.
-use Rattle.std.specs.Prelude.{ℕ, ◌==◌, ◌&&◌, Bool, false, List, nat_lt, refl}
+use Rattle.std.specs.Prelude.{◌≡◌, ◌⊎◌, ℕ, ◌<◌, ◌==◌, ◌&&◌, Bool, false, List, nat_lt, refl}
 use Rattle.std.specs.declared.cmp.Ordering.{Ordering}
 use Rattle.std.specs.Ordering.{nat_cmp, ordering_then}
 use Rattle.std.specs.Coded.{Coded, code_by, coded×, coded_ℕ}
@@ -13,6 +13,10 @@ use Rattle.serial_model.specs.declared.op.Op.TheVariants.{Read, Write, Remove, A
 -- by storage, and then by key
 abbrev pub key_cmp : Key → Key → Ordering
 key_cmp a b = ordering_then (nat_cmp a.storage b.storage) (nat_cmp a.key b.key)
+
+-- the same order as a relation
+abbrev pub IsKeyBelow : Key → Key → Type 0
+IsKeyBelow a b = (a.storage < b.storage) ⊎ ((a.storage ≡ b.storage) × (a.key < b.key))
 
 -- a key as a pair of numbers
 abbrev pub coded_key : Coded Key
@@ -34,9 +38,11 @@ abbrev pub is_tree_of : ℕ → Decl → Bool
 is_tree_of storage (Array id size) = false
 is_tree_of storage (Tree id) = id == storage
 
+-- some declared storage has this key
 abbrev pub has_key : List Decl → Key → Bool
 has_key decls k = list_any (has_key_of k) decls
 
+-- a tree with this id is declared
 abbrev pub is_tree : List Decl → ℕ → Bool
 is_tree decls storage = list_any (is_tree_of storage) decls
 

@@ -1,5 +1,9 @@
+pub mod Numbers
 pub mod Keys
+pub mod Decls
 pub mod State
 pub mod Step
+pub mod ReplyWords
+pub mod Lent
 pub mod Draft
 pub mod History

@@ -12,6 +12,7 @@ State = FinMap key_cmp ℕ
 abbrev pub amount_at : State → Key → ℕ
 amount_at s k = unwrap_or (get s k) 0
 
+-- a key of this storage, from low to high
 abbrev pub is_within : ℕ → ℕ → ℕ → Key → Bool
 is_within storage low high k = (k.storage == storage) && (nat_le low k.key && nat_le k.key high)
 

@@ -40,9 +40,11 @@ pub record Ended : Type 0 where
   pub replies : List Reply
   pub state : State
 
+-- an ending by its parts
 abbrev pub ended_of : Verdict → List Reply → State → Ended
 ended_of v rs s = record { verdict = v; replies = rs; state = s }
 
+-- an ending with one reply more at the front, or none
 abbrev pub with_reply : Option Reply → Ended → Ended
 with_reply r e = record e { replies = option_to_list r ++ e.replies }
 

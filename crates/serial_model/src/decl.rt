@@ -1,9 +1,6 @@
 // The storages of a database.
-ghost use Rattle.std.specs.Prelude.{◌≡◌, IfOk};
 
-use crate::Memory;
-use std::alloc::Global;
-use std::marker::Model;
+use lists::Sequence;
 
 /// A declared storage.
 #[derive(Clone, Copy, Debug, PartialEq, Eq)]
@@ -15,34 +12,4 @@ pub enum Decl {
 }
 
 /// Declared storages, in the order in which they were declared.
-#[derive(Debug, Drop)]
-pub struct Decls {
-    list: Vec<Decl>,
-}
-
-impl Model for Decls {
-    ghost use Rattle.std.specs.Prelude.{List};
-    ghost use Rattle.serial_model.specs.declared.decl.Decl.{Decl};
-
-    ghost Value = { List Decl };
-
-    ghost view = { λ d. d.list.items };
-}
-
-impl Decls {
-    /// The same list, in memory of its own.
-    pub fn new(alloc: Global, decls: &[Decl]) -> Result<Self, Memory>
-        ensures { IfOk result (λ d. d ≡ decls.now) }
-    {
-        match decls.to_vec(alloc) {
-            Ok(list) => Ok(Decls { list }),
-            Err(_) => Err(Memory),
-        }
-    }
-
-    pub fn as_slice(&self) -> &[Decl]
-        ensures { result.now ≡ self.now }
-    {
-        &self.list
-    }
-}
+pub type Decls = Sequence<Decl>;

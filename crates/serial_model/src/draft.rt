@@ -19,7 +19,7 @@ pub struct Undo {
     pub value: Option<u64>,
 }
 
-/// The changes so far.
+/// Room for a transaction's own changes, used again by one transaction after another.
 #[derive(Drop)]
 pub struct Draft {
     /// Oldest first.
@@ -37,6 +37,15 @@ impl Draft {
             undo: Vec::new(alloc),
             gone: BTreeSet::new(alloc),
         }
+    }
+
+    /// No changes.
+    pub fn clear(&mut self)
+        ensures undo { self.new.undo.items ≡ [] }
+        ensures gone { self.new.gone.keys ≡ [] }
+    {
+        self.undo.clear();
+        self.gone.clear();
     }
 
     /// The value that the transaction sees at a key.
@@ -66,16 +75,10 @@ impl Draft {
             key,
             value: state.get(key),
         };
-        if self.undo.push(before).is_err() {
-            return Err(Memory);
-        }
-        match state.insert(key, value) {
-            Ok(_) => {
-                self.gone.remove(&key);
-                Ok(())
-            }
-            Err(Memory) => Err(Memory),
-        }
+        self.undo.push(before)?;
+        state.insert(key, value)?;
+        self.gone.remove(&key);
+        Ok(())
     }
 
     /// Takes a key out of what the transaction sees.
@@ -83,15 +86,13 @@ impl Draft {
         ensures ok { OnOk result ((s : TheState) → working s self.new.gone.keys ≡ finite.remove (working s self.old.gone.keys) key) }
         ensures undo { self.new.undo.items ≡ self.old.undo.items }
     {
-        match self.gone.insert(key) {
-            Ok(_) => Ok(()),
-            Err(_) => Err(Memory),
-        }
+        self.gone.insert(key)?;
+        Ok(())
     }
 
     /// Leaves in the state what the transaction sees.
-    pub fn keep(mut self, state: &mut State)
-        ensures { state.new ≡ working state.old self.gone.keys }
+    pub fn keep(&mut self, state: &mut State)
+        ensures { state.new ≡ working state.old self.old.gone.keys }
     {
         while let Some(key) = self.gone.pop_first() {
             state.remove(key);
@@ -99,8 +100,8 @@ impl Draft {
     }
 
     /// Takes all changes back.
-    pub fn take_back(mut self, state: &mut State)
-        ensures { (first : TheState) → GoesBack self.undo.items state.old first → state.new ≡ first }
+    pub fn take_back(&mut self, state: &mut State)
+        ensures { (first : TheState) → GoesBack self.old.undo.items state.old first → state.new ≡ first }
     {
         while let Some(undo) = self.undo.pop() {
             match undo.value {

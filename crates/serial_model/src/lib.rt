@@ -10,7 +10,7 @@
 mod decl;
 mod draft;
 mod key;
-mod memory;
+mod lent;
 mod number;
 mod op;
 mod plain;
@@ -19,11 +19,13 @@ mod rows;
 mod state;
 
 pub use decl::{Decl, Decls};
+pub use draft::Draft;
 pub use key::Key;
-pub use memory::{Memory, OrMemory};
-pub use number::{Change, Changes, Commit, Config, Number};
+pub use lent::{LentReplies, LentReply, LentRows};
+pub use lists::{Memory, OrMemory};
+pub use number::{Change, Changes, Commit, Config, DRAW_LIMIT, LAST_EPOCH, Number};
 pub use op::{Op, fits};
-pub use plain::{Plain, run_one};
+pub use plain::{Plain, run_in, run_one};
 pub use reply::{Replies, Reply, Verdict};
 pub use rows::Rows;
 pub use state::State;

@@ -16,6 +16,12 @@ pub struct Number {
     pub draw: u64,
 }
 
+/// The last epoch: its clock word is the greatest that names an epoch.
+pub const LAST_EPOCH: u32 = (1 << 20) - 2;
+
+/// From this draw on the clock gives no numbers: seats of 64 workers may each have one on the way.
+pub const DRAW_LIMIT: u64 = (1 << 40) - 64;
+
 /// What a run begins with.
 #[derive(Clone, Copy, Debug, PartialEq, Eq)]
 pub struct Config {

@@ -76,10 +76,7 @@ impl State {
         ensures memory { OnErr result (self.new ≡ self.old) }
         ensures absent { OnErr result (finite.get self.old key ≡ None) }
     {
-        match self.map.insert(key, value) {
-            Ok(before) => Ok(before),
-            Err(_) => Err(Memory),
-        }
+        Ok(self.map.insert(key, value)?)
     }
 
     /// Takes a key out, and answers the value that it had.

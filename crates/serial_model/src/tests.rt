@@ -42,13 +42,28 @@ fn scan(storage: u8, low: u64, high: u64) -> Op {
     Op::Scan { storage, low, high }
 }
 
-fn is_wanted(reply: &Reply, want: &Want) -> bool {
-    match (reply, want) {
-        (Reply::Value(found), Want::Value(value)) => *found == *value,
-        (Reply::Absent, Want::Absent) => true,
-        (Reply::Rows(found), Want::Rows(rows)) => found.as_slice() == *rows,
-        _ => false,
+/// The first 16 pairs.
+fn rows_of(pairs: &[(u64, u64)]) -> Rows {
+    let mut rows = Rows::new();
+    for (key, value) in pairs {
+        if !rows.is_full() {
+            rows.push(*key, *value);
+        }
     }
+    rows
+}
+
+/// The replies as a table writes them.
+fn wanted(alloc: Global, wants: &[Want]) -> Result<Replies, Memory> {
+    let mut replies = Replies::new(alloc);
+    for want in wants {
+        match *want {
+            Want::Value(value) => replies.push(Reply::Value(value))?,
+            Want::Absent => replies.push(Reply::Absent)?,
+            Want::Rows(pairs) => replies.push(Reply::Rows(rows_of(pairs)))?,
+        }
+    }
+    Ok(replies)
 }
 
 /// Runs the operations, and compares the answers. A try that wants memory leaves no trace, so it is
@@ -70,14 +85,8 @@ fn run(
         Err(Memory) => run_one(alloc, plain, ops)?,
     };
     assert_eq!(rt; ended, verdict, "the verdict of {ops:?}");
-    assert_eq!(rt;
-        replies.as_slice().len(),
-        wants.len(),
-        "the replies of {ops:?}"
-    );
-    for (reply, want) in replies.as_slice().iter().zip(wants) {
-        assert!(rt; is_wanted(reply, want), "{reply:?} of {ops:?}");
-    }
+    let wants = wanted(alloc, wants)?;
+    assert!(rt; replies == wants, "the replies of {ops:?}");
     Ok(())
 }
 
@@ -255,6 +264,49 @@ fn a_state_is_a_map(rt: HostRuntime) -> Result<(), Fail> {
     assert_eq!(rt; pairs.next(), Some((&key(1, 9), &90)));
     assert_eq!(rt; pairs.next(), Some((&key(2, 5), &51)));
     assert_eq!(rt; pairs.next(), None);
+    Ok(())
+}
+
+/// The value that is read first, and the replies behind it.
+fn value_first<'a>(replies: &LentReplies<'a>) -> Option<(u64, LentReplies<'a>)> {
+    match replies.split_first() {
+        Some((LentReply::Value(value), rest)) => Some((value, rest)),
+        _ => None,
+    }
+}
+
+/// The second row of the reply that is read first.
+fn second_row(replies: &LentReplies<'_>) -> Option<(u64, u64)> {
+    match replies.split_first() {
+        Some((LentReply::Rows(rows), _)) => {
+            let (_, rest) = rows.split_first()?;
+            let (row, _) = rest.split_first()?;
+            Some(row)
+        }
+        _ => None,
+    }
+}
+
+#[test]
+fn replies_are_read_where_they_lie(rt: HostRuntime) -> Result<(), Fail> {
+    let mut replies = Replies::new(rt.alloc());
+    for value in [0, MOST - 3, MOST - 2, MOST] {
+        replies.push_value(value)?;
+    }
+    let mut rows = Rows::new();
+    rows.push(1, 10);
+    rows.push(2, MOST);
+    replies.push_rows(&rows)?;
+    assert_eq!(rt;
+        replies.words(),
+        [3, MOST, 0, MOST - 2, 0, MOST, 2, 2, 1, 10, 2, MOST].as_slice()
+    );
+    let (zero, rest) = value_first(&replies.lent()).ok_or("a value")?;
+    let (small, rest) = value_first(&rest).ok_or("a value")?;
+    let (great, rest) = value_first(&rest).ok_or("a value")?;
+    let (most, rest) = value_first(&rest).ok_or("a value")?;
+    assert_eq!(rt; [zero, small, great, most], [0, MOST - 3, MOST - 2, MOST]);
+    assert_eq!(rt; second_row(&rest), Some((2, MOST)));
     Ok(())
 }
 

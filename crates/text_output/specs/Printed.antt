@@ -1,5 +1,5 @@
 -- One text printed after another.
-use Rattle.std.proofs.Common.{◌≡◌, ◌∙◌, sym, ap, subst, [], ◌++◌, Option, Some, None, Result, Ok, Err, arith, append_assoc}
+use Rattle.std.proofs.Common.{◌≡◌, ◌∙◌, sym, ap, subst, refl, [], ◌++◌, Option, Some, None, Result, Ok, Err, arith, append_assoc}
 use Rattle.std.specs.Io.KnownBytes.{Appends}
 use Rattle.outside.specs.Faults.{HasCause}
 use Rattle.outside.specs.Stream.{TakesPrefix}
@@ -20,7 +20,8 @@ appends_none (Some xs) = sym (append-nil xs)
 -- a text, and then another
 pub adds_then : {old mid new : Output} {first then : Bytes} → Adds old mid first → Adds mid new then → Adds old new (first ++ then)
 adds_then {old = old} {mid = mid} {new = new} {first = first} {then = then} one two = record {
-  faults = omega (arith, one.faults, two.faults);
+  same = two.same ∙ one.same;
+  faults = two.faults ∙ one.faults;
   out = one.out ++ two.out;
   written = appends_then old.held mid.held new.held one.out two.out one.written two.written;
   whole = append_assoc one.out two.out new.waiting ∙ ap (λ w. one.out ++ w) two.whole ∙ sym (append_assoc one.out mid.waiting then)
@@ -32,6 +33,7 @@ pub breaks_then : {old mid new : Output} {first then : Bytes} → Adds old mid f
 breaks_then {old = old} {mid = mid} {new = new} {first = first} {then = then} one two =
     let p = two.prefix in
     record {
+      same = two.same ∙ one.same;
       faults = omega (arith, one.faults, two.faults);
       later = omega (arith, one.faults, two.later);
       prefix = (
@@ -48,6 +50,7 @@ pub breaks_within : {old new : Output} {first : Bytes} (then : Bytes) → Breaks
 breaks_within {old = old} {first = first} then one =
     let p = one.prefix in
     record {
+      same = one.same;
       faults = one.faults;
       later = one.later;
       prefix = (p.0, p.1 ++ then, sym (append_assoc old.waiting first then) ∙ ap (λ w. w ++ then) p.2 ∙ append_assoc p.0 p.1 then, p.3);
@@ -59,15 +62,17 @@ prints_then new then (Ok x) one two = adds_then one two
 prints_then new then (Err e) one two = breaks_then one two
 
 -- a write while nothing waits
-pub prints_past : {T E : Type 0} (old new : Output) (text : Bytes) (r : Result T E) → old.waiting ≡ [] → new.waiting ≡ []
+pub prints_past : {T E : Type 0} (old new : Output) (text : Bytes) (r : Result T E) → new.sink ≡ old.sink → old.waiting ≡ [] → new.waiting ≡ []
     → OnOk r (Appends old.held new.held text) → OnErr r (TakesPrefix old.held new.held text) → HasCause old.faults new.faults r → Prints old new text r
-prints_past old new text (Ok x) empty still ok err cause = record {
-  faults = cause.later;
+prints_past old new text (Ok x) same empty still ok err cause = record {
+  same = same;
+  faults = cause.quiet;
   out = text;
   written = ok;
   whole = ap (λ w. text ++ w) still ∙ append-nil text ∙ ap (λ w. w ++ text) (sym empty);
 }
-prints_past old new text (Err e) empty still ok err cause = record {
+prints_past old new text (Err e) same empty still ok err cause = record {
+  same = same;
   faults = cause.failed;
   later = cause.later;
   prefix = (err.0, err.1, ap (λ w. w ++ text) empty ∙ err.2, err.3);
@@ -81,7 +86,8 @@ prints_at_stop Q (Err e) fails one = one
 -- nothing printed
 pub adds_nothing : (at : Output) → Adds at at []
 adds_nothing at = record {
-  faults = omega arith;
+  same = refl;
+  faults = refl;
   out = [];
   written = appends_none at.held;
   whole = sym (append-nil at.waiting);

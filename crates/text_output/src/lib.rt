@@ -1,13 +1,14 @@
 //! Text on its way to a sink, gathered into whole writes.
 //!
-//! Promises: `put` and `put_number` add a text behind all that was added before, and `flush` leaves nothing that waits; at
-//! every moment the sink holds a beginning of the added text and the buffer the rest, and where the sink fails it holds a
-//! prefix of what was added (`Prints`).
+//! Promises: `put` and `put_number` add a text behind all that was added before, and `flush` leaves nothing that waits; the
+//! sink holds a beginning of what was added and the buffer the rest, or the sink failed and holds a prefix (`Prints`).
 //! Terms: *waiting*, added and not yet written.
-//! What is printed: `specs/Output.antt`; one text after another: `specs/Printed.antt`.
+//! What it means to print: `specs/Output.antt`; one text after another: `specs/Printed.antt`.
 #![tactic(auto)]
 
-mod buffer;
-mod decimal;
+mod printer;
 
-pub use buffer::{Buffer, flush, put, put_number};
+pub use printer::Printer;
+
+#[cfg(test)]
+mod tests;

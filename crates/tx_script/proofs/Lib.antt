@@ -1,1 +1,3 @@
-pub mod FlatTexts
+mod WorkedRows
+pub mod TextSoFar
+pub mod FlatOutcomes

@@ -1,2 +1,6 @@
 pub mod Run
+pub mod Causes
+pub mod Counts
+pub mod Draws
 pub mod Text
+pub mod Flat

@@ -1,23 +1,28 @@
--- Runs of a script: the rounds that were run, with an outcome for each line, and the order in which their commits are serial.
-use Rattle.std.specs.Prelude.{◌≡◌, ℕ, ◌+◌, ◌<◌, ◌≤◌, ◌==◌, List, [], ◌∷◌, ◌++◌, length, filter, Option, None, ⊤, IsTrue, sum_by}
+-- Runs of a script: the rounds that were run, with what came of each line, and the order in which their commits are serial.
+use Rattle.std.specs.Prelude.{◌≡◌, ℕ, ◌+◌, ◌<◌, ◌≤◌, ◌==◌, Bool, true, false, List, [], ◌∷◌, ◌++◌, length, filter, Option, Some, slice_get, ⊤, IsTrue}
 use Rattle.std.specs.List.{AllByRecursion}
 use Rattle.std.specs.List.Sorted.{IsPermutation}
+use Rattle.lists.specs.Each.{all_at, all_weaker}
 use Rattle.serial_model.specs.Keys.{fits}
 use Rattle.serial_model.specs.State.{State}
 use Rattle.serial_model.specs.History.{Entry, InOrder, Rises, IsSerialRun, state_after_all}
 use Rattle.serial_model.specs.declared.op.Op.{Op}
 use Rattle.serial_model.specs.declared.decl.Decl.{Decl}
 use Rattle.serial_model.specs.declared.number.Number.{Number}
+use Rattle.script_grammar.specs.Script.{Line, Worker, Keeper, Round, Script, IsLine, IsOp, IsRound, IsScript, keeper_lines, worker_lines}
+use Rattle.tx_script.specs.declared.answer.Answer.{Answer}
+use Rattle.tx_script.specs.declared.answer.Answer.TheVariants as answers
 use Rattle.tx_script.specs.declared.outcome.Outcome.{Outcome}
-use Rattle.tx_script.specs.declared.outcome.Outcome.TheVariants.{Committed}
-use Rattle.script_grammar.specs.Script.{Round, Script, worker_lines}
+use Rattle.tx_script.specs.declared.outcome.Outcome.TheVariants.{Committed, Limit}
 
 -- What came of a round: the number that the clock would give at its begin and at its end, each worker's outcomes in
--- the order of its lines, for workers 0 to 7, and the epoch that was made durable.
+-- the order of its lines, for workers 0 to 7, the answers to its keeper lines in their order, and the epoch that was
+-- made durable.
 pub record Ran : Type 0 where
   pub begin : Number
   pub end : Number
   pub outcomes : List (List Outcome)
+  pub answers : List Answer
   pub durable : Option ℕ
 
 -- for each list of lines one of outcomes, of the same length
@@ -27,11 +32,28 @@ OneForEach (lines ∷ more) (outcomes ∷ others) = (length outcomes ≡ length 
 OneForEach [] (outcomes ∷ others) = ⊥
 OneForEach (lines ∷ more) [] = ⊥
 
--- the rounds that were run are the first ones, and each of their lines has one outcome
+-- each worker's line of the round has an outcome, and each keeper line an answer
+pub record IsOfRound (ran : Ran) (round : Round) : Type 0 where
+  pub outcomes : OneForEach (worker_lines round) ran.outcomes
+  pub answers : length ran.answers ≡ length (keeper_lines round)
+
+-- the rounds that were run are the first ones
 abbrev pub AreOfFirst : List Ran → List Round → Type 0
 AreOfFirst [] rounds = ⊤
-AreOfFirst (ran ∷ rans) (round ∷ rounds) = OneForEach (worker_lines round) ran.outcomes × AreOfFirst rans rounds
+AreOfFirst (ran ∷ rans) (round ∷ rounds) = IsOfRound ran round × AreOfFirst rans rounds
 AreOfFirst (ran ∷ rans) [] = ⊥
+
+-- ---- outcomes
+
+-- the outcome is a commit
+abbrev pub is_commit : Outcome → Bool
+is_commit (Committed verdict number replies) = true
+is_commit _ = false
+
+-- the line was refused a number
+abbrev pub is_limit : Outcome → Bool
+is_limit Limit = true
+is_limit _ = false
 
 -- ---- commits
 
@@ -55,12 +77,14 @@ entries_of_worker round worker line (outcome ∷ outcomes) [] = []
 entries_of_worker round worker line (outcome ∷ outcomes) (ops ∷ lines) =
     entries_of_line round worker line ops outcome ++ entries_of_worker round worker (line + 1) outcomes lines
 
+-- the commits of the workers from this one on, one worker after another
 abbrev pub entries_of_workers : ℕ → ℕ → List (List Outcome) → List (List (List Op)) → List Entry
 entries_of_workers round worker [] lines = []
 entries_of_workers round worker (outcomes ∷ others) [] = []
 entries_of_workers round worker (outcomes ∷ others) (lines ∷ more) =
     entries_of_worker round worker 0 outcomes lines ++ entries_of_workers round (worker + 1) others more
 
+-- the commits of a round as they are printed
 abbrev pub entries_of_round : ℕ → Ran → Round → List Entry
 entries_of_round index ran round = entries_of_workers index 0 ran.outcomes (worker_lines round)
 
@@ -70,6 +94,7 @@ entries_of index [] rounds = []
 entries_of index (ran ∷ rans) [] = []
 entries_of index (ran ∷ rans) (round ∷ rounds) = entries_of_round index ran round ++ entries_of (index + 1) rans rounds
 
+-- the commits of a worker
 abbrev pub of_worker : ℕ → List Entry → List Entry
 of_worker worker = filter (λ e. e.worker == worker)
 
@@ -82,13 +107,15 @@ pub record IsBetween (begin end n : Number) : Type 0 where
   pub draw_from : begin.draw ≤ n.draw
   pub draw_before : n.draw < end.draw
 
--- how often lines of the round advanced the epoch; no line does so yet
-abbrev pub advances : Ran → ℕ
-advances ran = 0
+-- the epoch rises from the first to the last by one with each answer that names an epoch, which is the new one
+abbrev pub AdvancesTo : ℕ → List Answer → ℕ → Type 0
+AdvancesTo first [] last = last ≡ first
+AdvancesTo first (answers.Epoch epoch ∷ more) last = (epoch ≡ first + 1) × AdvancesTo epoch more last
+AdvancesTo first (_ ∷ more) last = AdvancesTo first more last
 
--- the epoch rises by its advances alone, and the numbers of the round's commits lie between its begin and its end
+-- the epoch rises with the round's answers alone, and the numbers of its commits lie between its begin and its end
 pub record RunsClock (index : ℕ) (ran : Ran) (round : Round) : Type 0 where
-  pub epoch : ran.end.epoch ≡ ran.begin.epoch + advances ran
+  pub epoch : AdvancesTo ran.begin.epoch ran.answers ran.end.epoch
   pub draw : ran.begin.draw ≤ ran.end.draw
   pub numbers : AllByRecursion (λ e. IsBetween ran.begin ran.end e.number) (entries_of_round index ran round)
 
@@ -105,8 +132,8 @@ RunsClocks index clock (ran ∷ rans) (round ∷ rounds) =
 
 -- ---- runs
 
--- What was run of rounds, counted from index on, from the state s and the clock to the state t: one outcome for each
--- line, commits whose numbers rise for each worker, and an order of all of them in which they are one serial run.
+-- What was run of rounds, counted from index on, from the state s and the clock to the state t: one outcome or answer for
+-- each line, commits whose numbers rise for each worker, and an order of all of them in which they are one serial run.
 pub record IsRun (decls : List Decl) (index : ℕ) (rounds : List Round) (s : State) (clock : Number) (rans : List Ran) (t : State) : Type 0 where
   pub lines : AreOfFirst rans rounds
   pub workers : (worker : ℕ) → Rises (of_worker worker (entries_of index rans rounds))
@@ -125,21 +152,35 @@ clock_after saved = record { epoch = saved + 1; draw = 1 }
 abbrev pub IsScriptRun : Script → State → ℕ → List Ran → State → Type 0
 IsScriptRun script s saved rans t = IsRun script.decls 0 script.rounds s (clock_after saved) rans t
 
--- ---- what of it holds while each line is run once, and nothing is kept on disk
+-- ---- what can be run
 
-abbrev pub IsCommit : Outcome → Type 0
-IsCommit (Committed verdict number replies) = ⊤
-IsCommit _ = ⊥
+-- a transaction of a worker from 0 to 7 whose operations fit
+pub record CanRunOps (decls : List Decl) (w : ℕ) (os : List Op) : Type 0 where
+  pub worker : w < 8
+  pub few : length os ≤ 16
+  pub fitting : AllByRecursion (λ op. IsTrue (fits decls op)) os
 
--- each line is committed with the one number that it draws, and no epoch is made durable
-pub record CommitsAll (ran : Ran) : Type 0 where
-  pub commits : AllByRecursion (AllByRecursion IsCommit) ran.outcomes
-  pub draws : ran.end.draw ≡ ran.begin.draw + sum_by length ran.outcomes
-  pub durable : ran.durable ≡ None
+-- a line that can be run; those of the maintenance thread can't be yet
+abbrev pub CanRunLine : List Decl → Line → Type 0
+CanRunLine decls (Worker worker ops) = CanRunOps decls worker ops
+CanRunLine decls (Keeper line) = ⊥
 
--- a round whose lines a runtime with these storages can run: workers from 0 to 7, and operations that fit
+-- a round that a runtime with these storages can run
 pub record CanRun (decls : List Decl) (round : Round) : Type 0 where
   pub few_lines : length round.lines ≤ 65536
-  pub workers : AllByRecursion (λ line. line.worker < 8) round.lines
-  pub few_ops : AllByRecursion (λ line. length line.ops ≤ 16) round.lines
-  pub fitting : AllByRecursion (λ line. AllByRecursion (λ op. IsTrue (fits decls op)) line.ops) round.lines
+  pub lines : AllByRecursion (CanRunLine decls) round.lines
+
+-- ---- the rounds of a script can be run
+
+can_run_line : (decls : List Decl) (line : Line) → IsLine decls line → CanRunLine decls line
+can_run_line decls (Worker worker ops) rules = record {
+  worker = rules.worker;
+  few = rules.few_ops;
+  fitting = all_weaker (IsOp decls) (λ op. IsTrue (fits decls op)) (λ op r. r.fitting) ops rules.ops;
+}
+can_run_line decls (Keeper line) rules = absurd rules
+
+pub can_run : (script : Script) (index : ℕ) (round : Round) → IsScript script → slice_get script.rounds index ≡ Some round → CanRun script.decls round
+can_run script index round rules at =
+    let r : IsRound script.decls round = all_at (IsRound script.decls) script.rounds index round rules.rounds at in
+    record { few_lines = r.few_lines; lines = all_weaker (IsLine script.decls) (CanRunLine script.decls) (can_run_line script.decls) round.lines r.lines }

@@ -1,15 +1,26 @@
 //! Runs of a script, and the lines that they print.
 //!
-//! Promises: `write_outcome` writes exactly a commit's line (`written`), or a beginning of it where the
-//! sink failed (`prefix`).
-//! Terms: *round*, the lines up to a join; *outcome*, what came of a worker's line.
-//! Runs: `specs/Run.antt`. Lines: `specs/Text.antt`. What a script is: `script_grammar`.
+//! Promises: `write_outcome` and `write_keeper` write exactly the line of an outcome or of an answer (`written`), or a
+//! beginning of it where the sink failed (`prefix`); `put_round` adds exactly the lines of a round. `Outcomes` are seen
+//! as a list, and take a head of 16 bytes and the words of their replies each.
+//! Laws: a round of a script can be run (`can_run`); an engine that draws for commits alone meets no limit
+//! (`each_committed`).
+//! Terms: *round*, the lines up to a join; *outcome*, what came of a worker's line; *answer*, what came of a line of the
+//! maintenance thread (a keeper line).
+//! Runs: `specs/Run.antt`. What must have happened for each outcome: `specs/Causes.antt`. Lines: `specs/Text.antt`. What a
+//! script is: `script_grammar`.
 #![tactic(auto)]
 
+mod answer;
 mod outcome;
+mod outcomes;
 mod print;
 
-pub use outcome::{Outcome, Outcomes, RoundOutcomes};
-pub use print::{put_outcome, put_round, write_outcome};
-pub use script_grammar::{FaultKind, Line, Round, Script, ScriptFault, read_script};
-pub use text_output::{Buffer, flush, put, put_number};
+pub use answer::{Answer, Answers};
+pub use outcome::{LentOutcome, Outcome};
+pub use outcomes::{LentOutcomes, Outcomes, RoundOutcomes};
+pub use print::{put_round, write_keeper, write_outcome};
+pub use script_grammar::{
+    FaultKind, KeeperLine, Line, LineOps, Round, Script, ScriptFault, read_script,
+};
+pub use text_output::Printer;

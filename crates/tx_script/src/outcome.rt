@@ -1,9 +1,8 @@
-// What came of the lines of a round.
-ghost use Rattle.std.specs.Prelude.{◌≡◌, [], ◌∷◌, ◌++◌, OnOk, OnErr};
+// What came of a worker's line.
+ghost use Rattle.std.specs.Prelude.{◌≡◌};
+ghost use Rattle.tx_script.specs.Flat.{outcome_lent};
 
-use serial_model::{Memory, Number, Replies, Verdict};
-use std::alloc::Global;
-use std::marker::Model;
+use serial_model::{LentReplies, Number, Replies, Verdict};
 
 /// What came of a worker's line.
 #[derive(Drop)]
@@ -25,86 +24,41 @@ pub enum Outcome {
     Unrun,
 }
 
-/// The outcomes of one worker's lines, in their order.
+/// An outcome as it is read where it lies.
 #[derive(Drop)]
-pub struct Outcomes {
-    list: Vec<Outcome>,
+pub enum LentOutcome<'a> {
+    Committed {
+        verdict: Verdict,
+        number: Number,
+        replies: LentReplies<'a>,
+    },
+    Conflict,
+    Full,
+    Wide,
+    Limit,
+    Unrun,
 }
 
-impl Model for Outcomes {
-    ghost use Rattle.std.specs.Prelude.{List};
-    ghost use Rattle.tx_script.specs.declared.outcome.Outcome.{Outcome};
-
-    ghost Value = { List Outcome };
-
-    ghost view = { λ o. o.list.items };
-}
-
-impl Outcomes {
-    pub fn new(alloc: Global) -> Self
-        ensures { result ≡ [] }
+impl Outcome {
+    /// To read it.
+    pub fn lent(&self) -> LentOutcome<'_>
+        ensures { outcome_lent result ≡ self.now }
     {
-        Outcomes {
-            list: Vec::new(alloc),
+        match self {
+            Outcome::Committed {
+                verdict,
+                number,
+                replies,
+            } => LentOutcome::Committed {
+                verdict: *verdict,
+                number: *number,
+                replies: replies.lent(),
+            },
+            Outcome::Conflict => LentOutcome::Conflict,
+            Outcome::Full => LentOutcome::Full,
+            Outcome::Wide => LentOutcome::Wide,
+            Outcome::Limit => LentOutcome::Limit,
+            Outcome::Unrun => LentOutcome::Unrun,
         }
-    }
-
-    /// After want of memory the list is as it was.
-    pub fn push(&mut self, outcome: Outcome) -> Result<(), Memory>
-        ensures ok { OnOk result (self.new ≡ self.old ++ outcome ∷ []) }
-        ensures memory { OnErr result (self.new ≡ self.old) }
-    {
-        match self.list.push(outcome) {
-            Ok(()) => Ok(()),
-            Err(_) => Err(Memory),
-        }
-    }
-
-    pub fn as_slice(&self) -> &[Outcome]
-        ensures { result.now ≡ self.now }
-    {
-        &self.list
-    }
-}
-
-/// The outcomes of a round, a list for each worker.
-#[derive(Drop)]
-pub struct RoundOutcomes {
-    workers: Vec<Outcomes>,
-}
-
-impl Model for RoundOutcomes {
-    ghost use Rattle.std.specs.Prelude.{List};
-    ghost use Rattle.tx_script.specs.declared.outcome.Outcome.{Outcome};
-
-    ghost Value = { List (List Outcome) };
-
-    ghost view = { λ o. o.workers.items };
-}
-
-impl RoundOutcomes {
-    pub fn new(alloc: Global) -> Self
-        ensures { result ≡ [] }
-    {
-        RoundOutcomes {
-            workers: Vec::new(alloc),
-        }
-    }
-
-    /// Adds the next worker's outcomes. After want of memory the lists are as they were.
-    pub fn push(&mut self, outcomes: Outcomes) -> Result<(), Memory>
-        ensures ok { OnOk result (self.new ≡ self.old ++ outcomes ∷ []) }
-        ensures memory { OnErr result (self.new ≡ self.old) }
-    {
-        match self.workers.push(outcomes) {
-            Ok(()) => Ok(()),
-            Err(_) => Err(Memory),
-        }
-    }
-
-    pub fn as_slice(&self) -> &[Outcomes]
-        ensures { result.now ≡ self.now }
-    {
-        &self.workers
     }
 }

@@ -1,16 +1,18 @@
 // The lines that a run prints.
-ghost use Rattle.std.specs.Prelude.{◌≤◌, ◌++◌, decimal, length, OnOk, OnErr};
+ghost use Rattle.std.specs.Prelude.{◌≡◌, ◌++◌, [], codes, decimal, OnErr, OnOk};
 ghost use Rattle.std.specs.Io.KnownBytes.{Appends};
-ghost use Rattle.std.specs.List.{AllByRecursion};
 ghost use Rattle.outside.specs.Faults.{HasCause};
 ghost use Rattle.outside.specs.Stream.{TakesPrefix};
+ghost use Rattle.serial_model.specs.Lent.{reply_lent};
 ghost use Rattle.text_output.specs.Output.{Prints};
-ghost use Rattle.tx_script.specs.Text.{more_rows_text, number_text, outcome_line, outcome_text, pair_text, replies_text, reply_text, rows_text, verdict_text, worker_text, workers_text};
+ghost use Rattle.tx_script.specs.Flat.{outcome_lent};
+ghost use Rattle.tx_script.specs.Text.{answer_line, answer_text, answers_text, durable_text, lines_text, outcome_line, outcome_text};
+ghost use Rattle.tx_script.specs.Text.{more_rows_text, number_text, pair_text, replies_text, reply_text, rows_text, verdict_text, worker_text, workers_text};
 
-use crate::{Outcome, Outcomes};
+use crate::{Answer, Answers, LentOutcome, LentOutcomes, Outcome, Outcomes, RoundOutcomes};
 use outside::{Failed, Sink};
-use serial_model::{Number, Reply, Verdict};
-use text_output::{Buffer, flush, put, put_number};
+use serial_model::{LentReplies, LentReply, LentRows, Number, Verdict};
+use text_output::Printer;
 
 /// Writes the line of a worker's outcome in one write, unless its replies are longer than any line's.
 pub fn write_outcome<K: Sink>(
@@ -23,175 +25,283 @@ pub fn write_outcome<K: Sink>(
     ensures prefix { OnErr result (TakesPrefix (K.held sink.old) (K.held sink.new) (outcome_line worker line outcome.now)) }
     ensures cause { HasCause (K.faults sink.old) (K.faults sink.new) result }
 {
-    let mut buffer = Buffer::new();
-    put_outcome(sink, &mut buffer, worker, line, outcome)?;
-    flush(sink, &mut buffer)
+    let mut printer = Printer::new(sink);
+    let result = print_outcome(&mut printer, worker, line, outcome);
+    let _ = printer.into_sink();
+    result
 }
 
-/// Adds the lines of a round, worker 0's first.
+/// Writes the line of an answer to a keeper line in one write.
+pub fn write_keeper<K: Sink>(sink: &mut K, line: u32, answer: &Answer) -> Result<(), Failed>
+    ensures written { OnOk result (Appends (K.held sink.old) (K.held sink.new) (answer_line line answer.now)) }
+    ensures prefix { OnErr result (TakesPrefix (K.held sink.old) (K.held sink.new) (answer_line line answer.now)) }
+    ensures cause { HasCause (K.faults sink.old) (K.faults sink.new) result }
+{
+    let mut printer = Printer::new(sink);
+    let result = print_answer(&mut printer, line, *answer);
+    let _ = printer.into_sink();
+    result
+}
+
+/// Adds the lines of a round: worker 0's first, then the keeper's, then the epoch that was made durable.
 pub fn put_round<K: Sink>(
-    sink: &mut K,
-    buffer: &mut Buffer,
-    workers: &[Outcomes],
+    printer: &mut Printer<'_, K>,
+    outcomes: &RoundOutcomes,
+    answers: &Answers,
+    durable: Option<u32>,
 ) -> Result<(), Failed>
-    requires few_workers { length workers.now ≤ 256 }
-    requires few_lines { AllByRecursion (λ outcomes. length outcomes ≤ 65536) workers.now }
-    ensures { Prints (record { faults = K.faults sink.old; held = K.held sink.old; waiting = buffer.old })
-        (record { faults = K.faults sink.new; held = K.held sink.new; waiting = buffer.new })
-        (workers_text workers.now) result }
+    ensures { Prints printer.old printer.new (lines_text outcomes.now answers.now durable) result }
+{
+    put_workers(printer, outcomes.as_slice())?;
+    put_answers(printer, answers.as_slice())?;
+    put_durable(printer, durable)
+}
+
+fn print_outcome<K: Sink>(
+    printer: &mut Printer<'_, K>,
+    worker: u8,
+    line: u32,
+    outcome: &Outcome,
+) -> Result<(), Failed>
+    ensures prints { Prints printer.old printer.new (outcome_line worker line outcome.now) result }
+    ensures empty { OnOk result (printer.new.waiting ≡ []) }
+{
+    put_outcome_line(printer, worker as u64, line as u64, outcome.lent())?;
+    printer.flush()
+}
+
+fn print_answer<K: Sink>(
+    printer: &mut Printer<'_, K>,
+    line: u32,
+    answer: Answer,
+) -> Result<(), Failed>
+    ensures prints { Prints printer.old printer.new (answer_line line answer) result }
+    ensures empty { OnOk result (printer.new.waiting ≡ []) }
+{
+    put_answer_line(printer, line as u64, answer)?;
+    printer.flush()
+}
+
+fn put_workers<K: Sink>(printer: &mut Printer<'_, K>, workers: &[Outcomes]) -> Result<(), Failed>
+    ensures { Prints printer.old printer.new (workers_text workers.now) result }
 {
     for (worker, outcomes) in workers.iter().enumerate() {
-        put_worker(sink, buffer, worker as u8, outcomes.as_slice())?;
+        put_worker(printer, worker as u64, outcomes.lent())?;
     }
     Ok(())
 }
 
 fn put_worker<K: Sink>(
-    sink: &mut K,
-    buffer: &mut Buffer,
-    worker: u8,
-    outcomes: &[Outcome],
+    printer: &mut Printer<'_, K>,
+    worker: u64,
+    outcomes: LentOutcomes<'_>,
 ) -> Result<(), Failed>
-    requires { length outcomes.now ≤ 65536 }
-    ensures { Prints (record { faults = K.faults sink.old; held = K.held sink.old; waiting = buffer.old })
-        (record { faults = K.faults sink.new; held = K.held sink.new; waiting = buffer.new })
-        (worker_text worker outcomes.now) result }
+    ensures { Prints printer.old printer.new (worker_text worker outcomes.entry) result }
 {
-    for (line, outcome) in outcomes.iter().enumerate() {
-        put_outcome(sink, buffer, worker, line as u32, outcome)?;
+    let mut left = outcomes;
+    for line in 0..left.len() {
+        let Some((outcome, rest)) = left.split_first() else {
+            unreachable!();
+        };
+        put_outcome_line(printer, worker, line as u64, outcome)?;
+        left = rest;
     }
     Ok(())
 }
 
-/// Adds the line of a worker's outcome.
-pub fn put_outcome<K: Sink>(
-    sink: &mut K,
-    buffer: &mut Buffer,
-    worker: u8,
-    line: u32,
-    outcome: &Outcome,
+fn put_outcome_line<K: Sink>(
+    printer: &mut Printer<'_, K>,
+    worker: u64,
+    line: u64,
+    outcome: LentOutcome<'_>,
 ) -> Result<(), Failed>
-    ensures { Prints (record { faults = K.faults sink.old; held = K.held sink.old; waiting = buffer.old })
-        (record { faults = K.faults sink.new; held = K.held sink.new; waiting = buffer.new })
-        (outcome_line worker line outcome.now) result }
+    ensures { Prints printer.old printer.new (outcome_line worker line (outcome_lent outcome.entry)) result }
 {
-    put_number(sink, buffer, worker as u64)?;
-    put(sink, buffer, b".")?;
-    put_number(sink, buffer, line as u64)?;
-    put(sink, buffer, b" ")?;
-    put_answer(sink, buffer, outcome)?;
-    put(sink, buffer, b"\n")
+    printer.put_number(worker)?;
+    printer.put(b".")?;
+    printer.put_number(line)?;
+    printer.put(b" ")?;
+    put_outcome(printer, outcome)?;
+    printer.put(b"\n")
 }
 
-fn put_answer<K: Sink>(sink: &mut K, buffer: &mut Buffer, outcome: &Outcome) -> Result<(), Failed>
-    ensures { Prints (record { faults = K.faults sink.old; held = K.held sink.old; waiting = buffer.old })
-        (record { faults = K.faults sink.new; held = K.held sink.new; waiting = buffer.new })
-        (outcome_text outcome.now) result }
+fn put_outcome<K: Sink>(
+    printer: &mut Printer<'_, K>,
+    outcome: LentOutcome<'_>,
+) -> Result<(), Failed>
+    ensures { Prints printer.old printer.new (outcome_text (outcome_lent outcome.entry)) result }
 {
     match outcome {
-        Outcome::Committed {
+        LentOutcome::Committed {
             verdict,
             number,
             replies,
-        } => {
-            put_verdict(sink, buffer, *verdict)?;
-            put(sink, buffer, b" ")?;
-            put_commit_number(sink, buffer, *number)?;
-            put_replies(sink, buffer, replies.as_slice())
-        }
-        Outcome::Conflict => put(sink, buffer, b"conflict"),
-        Outcome::Full => put(sink, buffer, b"full"),
-        Outcome::Wide => put(sink, buffer, b"wide"),
-        Outcome::Limit => put(sink, buffer, b"limit"),
-        Outcome::Unrun => put(sink, buffer, b"unrun"),
+        } => put_commit(printer, verdict, number, replies),
+        LentOutcome::Conflict => printer.put(b"conflict"),
+        LentOutcome::Full => printer.put(b"full"),
+        LentOutcome::Wide => printer.put(b"wide"),
+        LentOutcome::Limit => printer.put(b"limit"),
+        LentOutcome::Unrun => printer.put(b"unrun"),
     }
 }
 
-fn put_verdict<K: Sink>(sink: &mut K, buffer: &mut Buffer, verdict: Verdict) -> Result<(), Failed>
-    ensures { Prints (record { faults = K.faults sink.old; held = K.held sink.old; waiting = buffer.old })
-        (record { faults = K.faults sink.new; held = K.held sink.new; waiting = buffer.new })
-        (verdict_text verdict) result }
+fn put_commit<K: Sink>(
+    printer: &mut Printer<'_, K>,
+    verdict: Verdict,
+    number: Number,
+    replies: LentReplies<'_>,
+) -> Result<(), Failed>
+    ensures { Prints printer.old printer.new (verdict_text verdict ++ codes " " ++ number_text number ++ replies_text replies.entry) result }
+{
+    put_verdict(printer, verdict)?;
+    printer.put(b" ")?;
+    put_commit_number(printer, number)?;
+    put_replies(printer, replies)
+}
+
+fn put_verdict<K: Sink>(printer: &mut Printer<'_, K>, verdict: Verdict) -> Result<(), Failed>
+    ensures { Prints printer.old printer.new (verdict_text verdict) result }
 {
     match verdict {
-        Verdict::Done => put(sink, buffer, b"ok"),
-        Verdict::Short => put(sink, buffer, b"short"),
-        Verdict::Over => put(sink, buffer, b"over"),
+        Verdict::Done => printer.put(b"ok"),
+        Verdict::Short => printer.put(b"short"),
+        Verdict::Over => printer.put(b"over"),
     }
 }
 
-fn put_commit_number<K: Sink>(
-    sink: &mut K,
-    buffer: &mut Buffer,
-    number: Number,
-) -> Result<(), Failed>
-    ensures { Prints (record { faults = K.faults sink.old; held = K.held sink.old; waiting = buffer.old })
-        (record { faults = K.faults sink.new; held = K.held sink.new; waiting = buffer.new })
-        (number_text number) result }
+fn put_commit_number<K: Sink>(printer: &mut Printer<'_, K>, number: Number) -> Result<(), Failed>
+    ensures { Prints printer.old printer.new (number_text number) result }
 {
-    put_number(sink, buffer, number.epoch as u64)?;
-    put(sink, buffer, b":")?;
-    put_number(sink, buffer, number.draw)
+    printer.put_number(number.epoch as u64)?;
+    printer.put(b":")?;
+    printer.put_number(number.draw)
 }
 
-fn put_replies<K: Sink>(sink: &mut K, buffer: &mut Buffer, replies: &[Reply]) -> Result<(), Failed>
-    ensures { Prints (record { faults = K.faults sink.old; held = K.held sink.old; waiting = buffer.old })
-        (record { faults = K.faults sink.new; held = K.held sink.new; waiting = buffer.new })
-        (replies_text replies.now) result }
+fn put_replies<K: Sink>(
+    printer: &mut Printer<'_, K>,
+    replies: LentReplies<'_>,
+) -> Result<(), Failed>
+    ensures { Prints printer.old printer.new (replies_text replies.entry) result }
 {
-    for reply in replies {
-        put(sink, buffer, b" ")?;
-        put_reply(sink, buffer, reply)?;
+    let mut left = replies;
+    while let Some((reply, rest)) = left.split_first() {
+        printer.put(b" ")?;
+        put_reply(printer, reply)?;
+        left = rest;
     }
     Ok(())
 }
 
-fn put_reply<K: Sink>(sink: &mut K, buffer: &mut Buffer, reply: &Reply) -> Result<(), Failed>
-    ensures { Prints (record { faults = K.faults sink.old; held = K.held sink.old; waiting = buffer.old })
-        (record { faults = K.faults sink.new; held = K.held sink.new; waiting = buffer.new })
-        (reply_text reply.now) result }
+fn put_reply<K: Sink>(printer: &mut Printer<'_, K>, reply: LentReply<'_>) -> Result<(), Failed>
+    ensures { Prints printer.old printer.new (reply_text (reply_lent reply.entry)) result }
 {
     match reply {
-        Reply::Value(value) => put_number(sink, buffer, *value),
-        Reply::Absent => put(sink, buffer, b"-"),
-        Reply::Rows(rows) => put_rows(sink, buffer, rows.as_slice()),
+        LentReply::Value(value) => printer.put_number(value),
+        LentReply::Absent => printer.put(b"-"),
+        LentReply::Rows(rows) => put_rows(printer, rows),
     }
 }
 
-fn put_rows<K: Sink>(sink: &mut K, buffer: &mut Buffer, rows: &[(u64, u64)]) -> Result<(), Failed>
-    ensures { Prints (record { faults = K.faults sink.old; held = K.held sink.old; waiting = buffer.old })
-        (record { faults = K.faults sink.new; held = K.held sink.new; waiting = buffer.new })
-        (rows_text rows.now) result }
+fn put_rows<K: Sink>(printer: &mut Printer<'_, K>, rows: LentRows<'_>) -> Result<(), Failed>
+    ensures { Prints printer.old printer.new (rows_text rows.entry) result }
 {
     let Some((first, others)) = rows.split_first() else {
-        return put(sink, buffer, b".");
+        return printer.put(b".");
     };
-    put_pair(sink, buffer, *first)?;
-    put_more_rows(sink, buffer, others)
+    put_pair(printer, first)?;
+    put_more_rows(printer, others)
 }
 
 // Each pair behind a comma.
-fn put_more_rows<K: Sink>(
-    sink: &mut K,
-    buffer: &mut Buffer,
-    rows: &[(u64, u64)],
-) -> Result<(), Failed>
-    ensures { Prints (record { faults = K.faults sink.old; held = K.held sink.old; waiting = buffer.old })
-        (record { faults = K.faults sink.new; held = K.held sink.new; waiting = buffer.new })
-        (more_rows_text rows.now) result }
+fn put_more_rows<K: Sink>(printer: &mut Printer<'_, K>, rows: LentRows<'_>) -> Result<(), Failed>
+    ensures { Prints printer.old printer.new (more_rows_text rows.entry) result }
 {
-    for pair in rows {
-        put(sink, buffer, b",")?;
-        put_pair(sink, buffer, *pair)?;
+    let mut left = rows;
+    while let Some((pair, rest)) = left.split_first() {
+        printer.put(b",")?;
+        put_pair(printer, pair)?;
+        left = rest;
     }
     Ok(())
 }
 
-fn put_pair<K: Sink>(sink: &mut K, buffer: &mut Buffer, pair: (u64, u64)) -> Result<(), Failed>
-    ensures { Prints (record { faults = K.faults sink.old; held = K.held sink.old; waiting = buffer.old })
-        (record { faults = K.faults sink.new; held = K.held sink.new; waiting = buffer.new })
-        (pair_text pair) result }
+fn put_pair<K: Sink>(printer: &mut Printer<'_, K>, pair: (u64, u64)) -> Result<(), Failed>
+    ensures { Prints printer.old printer.new (pair_text pair) result }
 {
-    put_number(sink, buffer, pair.0)?;
-    put(sink, buffer, b"=")?;
-    put_number(sink, buffer, pair.1)
+    printer.put_number(pair.0)?;
+    printer.put(b"=")?;
+    printer.put_number(pair.1)
+}
+
+fn put_answers<K: Sink>(printer: &mut Printer<'_, K>, answers: &[Answer]) -> Result<(), Failed>
+    ensures { Prints printer.old printer.new (answers_text answers.now) result }
+{
+    for (line, answer) in answers.iter().enumerate() {
+        put_answer_line(printer, line as u64, *answer)?;
+    }
+    Ok(())
+}
+
+fn put_answer_line<K: Sink>(
+    printer: &mut Printer<'_, K>,
+    line: u64,
+    answer: Answer,
+) -> Result<(), Failed>
+    ensures { Prints printer.old printer.new (answer_line line answer) result }
+{
+    put_word(printer, b"k.", line)?;
+    printer.put(b" ")?;
+    put_answer(printer, answer)?;
+    printer.put(b"\n")
+}
+
+fn put_answer<K: Sink>(printer: &mut Printer<'_, K>, answer: Answer) -> Result<(), Failed>
+    ensures { Prints printer.old printer.new (answer_text answer) result }
+{
+    match answer {
+        Answer::Epoch { epoch } => put_word(printer, b"epoch ", epoch as u64),
+        Answer::Save { epoch } => put_word(printer, b"save ", epoch as u64),
+        Answer::Snap { epoch, new } => put_words(printer, b"snap ", epoch, b" new ", new),
+        Answer::Empty => printer.put(b"none"),
+        Answer::SnapFull => printer.put(b"snap-full"),
+        Answer::Deep => printer.put(b"deep"),
+        Answer::Drop { dropped, kept } => put_words(printer, b"drop ", dropped, b" kept ", kept),
+        Answer::Limit => printer.put(b"limit"),
+        Answer::Device => printer.put(b"device"),
+        Answer::Damaged => printer.put(b"damaged"),
+        Answer::Memory => printer.put(b"memory"),
+        Answer::Unrun => printer.put(b"unrun"),
+    }
+}
+
+fn put_durable<K: Sink>(printer: &mut Printer<'_, K>, durable: Option<u32>) -> Result<(), Failed>
+    ensures { Prints printer.old printer.new (durable_text durable) result }
+{
+    let Some(epoch) = durable else {
+        return Ok(());
+    };
+    put_word(printer, b"durable ", epoch as u64)?;
+    printer.put(b"\n")
+}
+
+// A word and a number.
+fn put_word<K: Sink>(printer: &mut Printer<'_, K>, word: &[u8], number: u64) -> Result<(), Failed>
+    ensures { Prints printer.old printer.new (word.now ++ decimal number) result }
+{
+    printer.put(word)?;
+    printer.put_number(number)
+}
+
+// A word and a number, and others behind them.
+fn put_words<K: Sink>(
+    printer: &mut Printer<'_, K>,
+    word: &[u8],
+    number: u32,
+    other: &[u8],
+    more: u32,
+) -> Result<(), Failed>
+    ensures { Prints printer.old printer.new (word.now ++ decimal number ++ other.now ++ decimal more) result }
+{
+    put_word(printer, word, number as u64)?;
+    put_word(printer, other, more as u64)
 }

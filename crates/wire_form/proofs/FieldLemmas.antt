@@ -1,12 +1,13 @@
 -- What is read at an index of a page.
-use Rattle.std.proofs.Common.{◌≡◌, ℕ, zero, suc, ◌+◌, ◌-◌, ◌*◌, ◌<◌, ◌≤◌, List, [], ◌∷◌, ◌++◌, length, get_or, take, drop, replicate, Option, Some, None, refl, sym, ap, subst, ◌∙◌, append_assoc, arith}
+use Rattle.std.proofs.Common.{◌≡◌, ℕ, zero, suc, ◌+◌, ◌-◌, ◌*◌, ◌<◌, ◌≤◌, List, [], ◌∷◌, ◌++◌, length, get_or, take, drop, replicate, Option, Some, None, refl, sym, ap, ◌∙◌, append_assoc, arith}
 use Rattle.std.specs.List.{flat_map, AllByRecursion, slice_get}
 use Rattle.std.proofs.lemmas.List.{take_at, drop_at, drop-drop, get_or-drop, get_or_append_left}
+use Rattle.lists.specs.Each.{all_at}
 use Rattle.wire_form.specs.Bytes.{padded}
 use Rattle.wire_form.specs.Pages.{Children, tree_inner_words}
 use Rattle.wire_form.specs.Ranges.{child_ranges}
-use Rattle.wire_form.proofs.ByteLemmas.{length-padded}
 use Rattle.wire_form.specs.Items.{Reads}
+use Rattle.wire_form.specs.ByteLaws.{length-padded}
 
 -- the item at an index of a list of items, and its spelling
 pub item_at : {X : Type 0} (spell : X → List ℕ) (w : ℕ) → ((x : X) → length (spell x) ≡ w) → (xs : List X) (i : ℕ) (rest : List ℕ) → i < length xs → (x : X) × (slice_get xs i ≡ Some x) × (take w (drop (w * i) (flat_map spell xs ++ rest)) ≡ spell x)
@@ -20,11 +21,6 @@ item_at spell w wide (x ∷ xs) (suc i) rest lt =
     let step : w * suc i ≡ w + w * i = omega arith in
     let past : drop w all ≡ flat_map spell xs ++ rest = ap (drop w) (append_assoc (spell x) (flat_map spell xs) rest) ∙ drop_at (spell x) (flat_map spell xs ++ rest) w (wide x) in
     (next.0, next.1, ap (λ n. take w (drop n all)) step ∙ ap (take w) (sym (drop-drop (w * i) w all)) ∙ ap (λ t. take w (drop (w * i) t)) past ∙ next.2)
-
-pub all_at : {X : Type 0} (P : X → Type 0) (xs : List X) (i : ℕ) (x : X) → AllByRecursion P xs → slice_get xs i ≡ Some x → P x
-all_at P [] i x all e = absurd cc
-all_at P (y ∷ ys) zero x all e = let same : y ≡ x = cc in subst P same all.0
-all_at P (y ∷ ys) (suc i) x all e = all_at P ys i x all.1 e
 
 -- what spells an item is read as it
 pub reads_it : {X : Type 0} (Is : X → Type 0) (spell : X → List ℕ) (written : List ℕ) (x : X) (r : Option X) → Is x → spell x ≡ written → Reads Is spell written r → r ≡ Some x

@@ -1,13 +1,15 @@
 -- Reading and writing a list of items from front to back.
-use Rattle.std.proofs.Common.{◌≡◌, ℕ, suc, ◌+◌, ◌*◌, ◌^◌, ◌<◌, List, [], ◌∷◌, ◌++◌, length, get_or, true, false, Bool, ◌-◌, ◌≤◌, replicate, take, drop, Option, Some, None, refl, sym, ap, subst, ◌∙◌, append_assoc, arith}
+use Rattle.std.proofs.Common.{◌≡◌, ℕ, ◌*◌, ◌^◌, ◌<◌, List, [], ◌∷◌, ◌++◌, length, get_or, true, false, Bool, ◌-◌, ◌≤◌, replicate, take, drop, Option, Some, None, refl, sym, ap, subst, ◌∙◌, append_assoc, arith}
 use Rattle.std.specs.Prelude.{IfSome, IsTrue, ◌↔◌}
 use Rattle.std.proofs.lemmas.Bool.{false≢true}
 use Rattle.std.specs.List.{flat_map, AllByRecursion}
 use Rattle.std.proofs.lemmas.List.{take_at, drop_at, take-append-drop, length-append, length-replicate, length-take-le, length-drop, append-nil}
+use Rattle.lists.specs.Fronts.{same_parts}
 use Rattle.wire_form.specs.Bytes.{bytes_of, padded}
 use Rattle.wire_form.specs.Items.{RisesAfter, AreItems, AnyOrder, IsFollowed, IsSpelled, Reads}
-use Rattle.wire_form.proofs.ByteLemmas.{same_parts, same_words}
+use Rattle.wire_form.specs.ItemLaws.{length-items}
 use Rattle.wire_form.specs.Parts.{HasItems}
+use Rattle.wire_form.specs.ByteLaws.{same_words}
 
 -- front was read from the whole: its items are front and then items of the rest, and whatever are items of the rest completes them
 pub record Takes {X K : Type 0} (Is : X → Type 0) (spell : X → List ℕ) (key : X → K) (R : K → K → Type 0) (whole : List ℕ) (front : List X) (last : Option K) (rest : List ℕ) : Type 0 where
@@ -70,12 +72,6 @@ all_read Is spell key R whole front last [] empty so_far =
     subst (AreItems Is spell key R None whole) (append-nil front) (so_far.back [] (record { each = tt; rising = tt; spelled = refl }))
 all_read Is spell key R whole front last (w ∷ rest) empty so_far = absurd (omega arith)
 
-pub length-items : {X : Type 0} (spell : X → List ℕ) (n : ℕ) → ((x : X) → length (spell x) ≡ n) → (xs : List X) → length (flat_map spell xs) ≡ n * length xs
-length-items spell n wide [] = omega arith
-length-items spell n wide (x ∷ xs) =
-    let one : n * suc (length xs) ≡ n + n * length xs = omega arith in
-    omega (arith, one, length-append (spell x) (flat_map spell xs), wide x, length-items spell n wide xs)
-
 -- an item that is read as words is read as their bytes
 pub read_as_bytes : {X : Type 0} (Is : X → Type 0) (spell : X → List ℕ) (words bytes : List ℕ) (r : Option X) → AllByRecursion (λ w. w < 2 ^ 64) words → ((x : X) → Is x → AllByRecursion (λ w. w < 2 ^ 64) (spell x)) → bytes_of words ≡ bytes
     → Reads Is spell words r → Reads Is (λ x. bytes_of (spell x)) bytes r
@@ -84,18 +80,6 @@ read_as_bytes Is spell words bytes None fit fits e h =
 read_as_bytes Is spell words bytes (Some x) fit fits e h =
     let found : IsSpelled Is spell words x = h.0 in
     (record { valid = found.valid; spelled = ap bytes_of found.spelled ∙ e; only = λ y is written. found.only y is (same_words (spell y) words (fits y is) fit (written ∙ sym e)) }, tt)
-
--- items with the same spelling are the same
-pub same_items : {X : Type 0} (Is : X → Type 0) (spell : X → List ℕ) (n : ℕ) → 0 < n → ((x : X) → length (spell x) ≡ n) → ((x y : X) → Is x → Is y → spell x ≡ spell y → x ≡ y)
-    → (xs ys : List X) → AllByRecursion Is xs → AllByRecursion Is ys → flat_map spell xs ≡ flat_map spell ys → xs ≡ ys
-same_items Is spell n some wide one [] [] p q e = refl
-same_items Is spell n some wide one [] (y ∷ ys) p q e = absurd (omega (arith, ap length e, length-append (spell y) (flat_map spell ys), wide y))
-same_items Is spell n some wide one (x ∷ xs) [] p q e = absurd (omega (arith, ap length e, length-append (spell x) (flat_map spell xs), wide x))
-same_items Is spell n some wide one (x ∷ xs) (y ∷ ys) p q e =
-    let parts = same_parts (spell x) (spell y) (flat_map spell xs) (flat_map spell ys) (wide x ∙ sym (wide y)) e in
-    let first : x ≡ y = one x y p.0 q.0 parts.0 in
-    let rest : xs ≡ ys = same_items Is spell n some wide one xs ys p.1 q.1 parts.1 in
-    cc
 
 -- ---- whether there are such items
 

@@ -1,10 +1,8 @@
 pub mod ByteLemmas
 pub mod ItemLemmas
 pub mod PageLemmas
+pub mod CatalogueLemmas
 pub mod LineLemmas
-pub mod LineLaws
 pub mod SavepointLemmas
 pub mod FieldLemmas
-pub mod RangeLaws
-pub mod ContentLaws
 pub mod Worked

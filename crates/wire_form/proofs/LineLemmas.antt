@@ -1,27 +1,21 @@
 -- Log lines and their parts.
-use Rattle.std.proofs.Common.{◌≡◌, ℕ, ◌+◌, ◌-◌, ◌*◌, ◌^◌, ◌<◌, ◌≤◌, List, [], ◌∷◌, ◌++◌, length, take, drop, Option, Some, None, refl, sym, ap, ◌∙◌, append_assoc, arith}
-use Rattle.std.specs.Prelude.{IfSome, unwrap_or}
-use Rattle.std.specs.List.{flat_map, AllByRecursion}
-use Rattle.std.proofs.lemmas.List.{take_at, drop_at, take-append-drop, take_all, drop-drop, length-append, length-take, length-drop, append-nil}
+use Rattle.std.proofs.Common.{◌≡◌, ℕ, ◌+◌, ◌-◌, ◌*◌, ◌^◌, ◌<◌, ◌≤◌, List, [], ◌∷◌, ◌++◌, length, take, drop, None, refl, sym, ap, ◌∙◌, append_assoc, arith}
+use Rattle.std.specs.List.{flat_map}
+use Rattle.std.proofs.lemmas.List.{take-append-drop, take_all, drop-drop, length-take, length-drop, append-nil}
 use Rattle.serial_model.specs.declared.number.Change.{Change}
 use Rattle.serial_model.specs.declared.number.Commit.{Commit}
-use Rattle.serial_model.specs.declared.number.Number.{Number}
-use Rattle.serial_model.specs.declared.key.Key.{Key}
-use Rattle.wire_form.specs.Words.{IsNumber, number_word}
+use Rattle.serial_model.specs.Numbers.{IsNumber}
+use Rattle.wire_form.specs.Words.{number_word}
 use Rattle.wire_form.specs.Items.{AreItems}
 use borrow.Rule.Slice.PartMut.{put_mid}
 use Rattle.wire_form.specs.Bytes.{bytes_of_word, bytes_of}
-use Rattle.wire_form.specs.LogLine.{IsKeyBelow, IsChange, key_of, put_mark, change_words, change_bytes, IsLine, line_bytes, BeginsWith}
-use Rattle.wire_form.proofs.ByteLemmas.{rest_alone, head_and_rest, length-bytes_of_word, length-bytes_of, same_word}
-use Rattle.wire_form.proofs.ItemLemmas.{rejoined, length-items}
-
-change_parts_fit : (k : Key) (v : Option ℕ) → k.storage < 256 → k.key < 2 ^ 64 → IfSome v (λ n. n < 2 ^ 64) → AllByRecursion (λ w. w < 2 ^ 64) ((k.storage + put_mark v) ∷ k.key ∷ unwrap_or v 0 ∷ [])
-change_parts_fit k None s n v = (omega arith, (n, (omega arith, tt)))
-change_parts_fit k (Some x) s n v = (omega arith, (n, (v, tt)))
-
--- the words of a change fit
-pub change_fits : (c : Change) → IsChange c → AllByRecursion (λ w. w < 2 ^ 64) (change_words c)
-change_fits c is = change_parts_fit c.key c.value is.storage is.key is.value
+use Rattle.serial_model.specs.Keys.{IsKeyBelow}
+use Rattle.wire_form.specs.LogLine.{IsChange, key_of, change_bytes, IsLogLine, line_bytes, BeginsWith}
+use Rattle.wire_form.specs.ByteLaws.{length-bytes_of, same_word}
+use Rattle.wire_form.specs.ItemLaws.{length-items}
+use Rattle.wire_form.specs.LineLaws.{line_parts, length-change_bytes, number_fits}
+use Rattle.wire_form.proofs.ByteLemmas.{rest_alone, head_and_rest}
+use Rattle.wire_form.proofs.ItemLemmas.{rejoined}
 
 -- three words' bytes, one after another
 pub three_parts : (bytes x y z : List ℕ) → length bytes ≡ 24 → x ≡ take 8 bytes → y ≡ take 8 (drop 8 bytes) → z ≡ take (length bytes - 16) (drop 16 bytes) → x ++ (y ++ (z ++ [])) ≡ bytes
@@ -29,53 +23,22 @@ three_parts bytes x y z len ex ey ez =
     let ez' : z ≡ drop 8 (drop 8 bytes) = ez ∙ take_all (length bytes - 16) (drop 16 bytes) (omega (arith, length-drop 16 bytes)) ∙ sym (drop-drop 8 8 bytes) in
     rw (append-nil, ex, ey, ez', take-append-drop, take-append-drop) refl
 
-pub length-change_bytes : (c : Change) → length (change_bytes c) ≡ 24
-length-change_bytes c = length-bytes_of (change_words c)
-
 -- a change is as long as what was cut off
 pub as_long : (here : List ℕ) → length here ≡ 24 → (c : Change) → length (change_bytes c) ≡ length here
 as_long here len c = length-change_bytes c ∙ sym len
 
--- what stands where in bytes that begin with a commit's log line
-pub record LineParts (bytes : List ℕ) (c : Commit) : Type 0 where
-  pub room : 16 + 24 * length c.changes ≤ length bytes
-  pub number : take 8 bytes ≡ bytes_of_word (number_word c.number)
-  pub count : take 8 (drop 8 bytes) ≡ bytes_of_word (length c.changes)
-  pub changes : take (24 * length c.changes) (drop 16 bytes) ≡ flat_map change_bytes c.changes
-
-pub number_fits : (n : Number) → IsNumber n → number_word n < 2 ^ 64
-number_fits n is = omega (arith, is.draw, is.epoch)
-
-pub line_parts : (bytes rest : List ℕ) (c : Commit) → bytes ≡ line_bytes c ++ rest → LineParts bytes c
-line_parts bytes rest c e =
-    let b : List ℕ = bytes_of_word (number_word c.number) in
-    let n : List ℕ = bytes_of_word (length c.changes) in
-    let f : List ℕ = flat_map change_bytes c.changes in
-    let lb : length b ≡ 8 = length-bytes_of_word (number_word c.number) in
-    let ln : length n ≡ 8 = length-bytes_of_word (length c.changes) in
-    let lf : length f ≡ 24 * length c.changes = length-items change_bytes 24 length-change_bytes c.changes in
-    let split : bytes ≡ b ++ (n ++ (f ++ rest)) = e ∙ simp append_assoc in
-    let past8 : drop 8 bytes ≡ n ++ (f ++ rest) = ap (drop 8) split ∙ drop_at b (n ++ (f ++ rest)) 8 lb in
-    let past16 : drop 16 bytes ≡ f ++ rest = sym (drop-drop 8 8 bytes) ∙ ap (drop 8) past8 ∙ drop_at n (f ++ rest) 8 ln in
-    record {
-      room = omega (arith, ap length split, length-append b (n ++ (f ++ rest)), length-append n (f ++ rest), length-append f rest);
-      number = ap (take 8) split ∙ take_at b (n ++ (f ++ rest)) 8 lb;
-      count = ap (take 8) past8 ∙ take_at n (f ++ rest) 8 ln;
-      changes = ap (take (24 * length c.changes)) past16 ∙ take_at f rest (24 * length c.changes) lf;
-    }
-
 -- the count that was read is that of the line
-pub same_count : (bytes rest : List ℕ) (c : Commit) (count : ℕ) → count < 2 ^ 64 → bytes_of_word count ≡ take 8 (drop 8 bytes) → IsLine c → bytes ≡ line_bytes c ++ rest → count ≡ length c.changes
+pub same_count : (bytes rest : List ℕ) (c : Commit) (count : ℕ) → count < 2 ^ 64 → bytes_of_word count ≡ take 8 (drop 8 bytes) → IsLogLine c → bytes ≡ line_bytes c ++ rest → count ≡ length c.changes
 same_count bytes rest c count fits here line e =
     same_word count (length c.changes) fits (omega (arith, line.loggable.most)) (here ∙ (line_parts bytes rest c e).count)
 
 -- so is the number's word
-pub same_number : (bytes rest : List ℕ) (c : Commit) (word : ℕ) → word < 2 ^ 64 → bytes_of_word word ≡ take 8 bytes → IsLine c → bytes ≡ line_bytes c ++ rest → number_word c.number ≡ word
+pub same_number : (bytes rest : List ℕ) (c : Commit) (word : ℕ) → word < 2 ^ 64 → bytes_of_word word ≡ take 8 bytes → IsLogLine c → bytes ≡ line_bytes c ++ rest → number_word c.number ≡ word
 same_number bytes rest c word fits here line e =
     sym (same_word word (number_word c.number) fits (number_fits c.number line.loggable.number) (here ∙ (line_parts bytes rest c e).number))
 
 -- and the line's changes are items of the bytes after those
-pub changes_are_items : (bytes rest : List ℕ) (c : Commit) (k count : ℕ) → count ≡ length c.changes → k ≡ 24 * count → IsLine c → bytes ≡ line_bytes c ++ rest → AreItems IsChange change_bytes key_of IsKeyBelow None (take k (drop 16 bytes)) c.changes
+pub changes_are_items : (bytes rest : List ℕ) (c : Commit) (k count : ℕ) → count ≡ length c.changes → k ≡ 24 * count → IsLogLine c → bytes ≡ line_bytes c ++ rest → AreItems IsChange change_bytes key_of IsKeyBelow None (take k (drop 16 bytes)) c.changes
 changes_are_items bytes rest c k count same long line e =
     record { each = line.each; rising = line.loggable.rising; spelled = ap (λ j. take j (drop 16 bytes)) (long ∙ ap (λ j. 24 * j) same) ∙ (line_parts bytes rest c e).changes }
 

@@ -3,16 +3,17 @@ use Rattle.std.proofs.Common.{◌≡◌, ℕ, ◌+◌, ◌-◌, ◌^◌, ◌<◌
 use Rattle.std.specs.Prelude.{IfSome}
 use Rattle.serial_model.specs.declared.number.Number.{Number}
 use Rattle.wire_form.specs.declared.records.ArrayRecord.{ArrayRecord}
-use Rattle.wire_form.specs.Words.{IsNumber, number_word, number_field}
+use Rattle.serial_model.specs.Numbers.{IsNumber}
+use Rattle.wire_form.specs.Words.{number_word, number_field}
 use Rattle.wire_form.specs.Pages.{IsArrayRecord, array_record_words, IsTreeRecord, tree_record_words, record_key, device_header, IsChild, IsSeparator, IsStored, stored_words, stored_id, HasKind}
 use Rattle.wire_form.specs.declared.page.PageKind.TheVariants.{ArrayLeaf, TreeLeaf, TreeInner, Catalogue}
 use Rattle.wire_form.specs.Bytes.{padded}
 use Rattle.wire_form.specs.Items.{AnyOrder, Rises}
-use Rattle.wire_form.proofs.ByteLemmas.{length-padded}
 use Rattle.wire_form.proofs.ItemLemmas.{any_rises, rejoined}
 use Rattle.std.specs.List.{flat_map, AllByRecursion}
 use Rattle.std.proofs.lemmas.List.{take_at, drop_at, length-take, length-drop}
 use Rattle.wire_form.specs.Parts.{itself, IsPaddedList, HasChildren, HasItems}
+use Rattle.wire_form.specs.ByteLaws.{length-padded}
 
 -- where a word is neither 0 nor a number's, no record of an array has it
 no_number : (o : Option Number) (word : ℕ) → word ≢ 0 → ((n : Number) → IsNumber n → number_word n ≡ word → ⊥) → IfSome o IsNumber → number_field o ≡ word → ⊥

@@ -5,11 +5,13 @@ use Rattle.std.proofs.lemmas.List.{take_at, take_all, length-drop, drop_at, drop
 use Rattle.std.proofs.lemmas.Bool.{eq-eqb}
 use lib.Pointwise.{pointwise}
 use borrow.Rule.Slice.PartMut.{put_mid}
+use Rattle.lists.specs.Each.{all_below}
 use Rattle.wire_form.specs.Bytes.{bytes_of_word, bytes_of, padded}
 use Rattle.wire_form.specs.declared.savepoint.Savepoint.{Savepoint}
-use Rattle.wire_form.specs.Savepoint.{IsSavepoint, StandsAt, IsSavepointOf, magic, body_words, place_bytes, open_gate}
+use Rattle.wire_form.specs.Savepoint.{IsSavepoint, StandsAt, IsSavepointOf, magic, body_words, place_bytes, valid_byte}
 use Rattle.wire_form.specs.Items.{IsSpelled}
-use Rattle.wire_form.proofs.ByteLemmas.{head_and_rest, same_word, same_words, length-padded, all_padded, all_below}
+use Rattle.wire_form.specs.ByteLaws.{same_word, same_words, length-padded}
+use Rattle.wire_form.proofs.ByteLemmas.{head_and_rest, all_padded}
 
 abbrev point_of : ℕ → ℕ → ℕ → ℕ → List ℕ → Savepoint
 point_of s e c n ls = record { sequence = s; epoch = e; catalogue = c; count = n; lengths = ls }
@@ -33,17 +35,17 @@ same_point u words s e c n ls is h ps pe pc pn pl =
     ∙ ap (λ x. point_of s e x u.count u.lengths) ec ∙ ap (λ x. point_of s e c x u.lengths) en ∙ ap (point_of s e c n) el
 
 -- the word of an open place is its valid byte and seven zeros
-pub open_word : bytes_of_word 0xA500_0000_0000_0000 ≡ padded 8 (open_gate ∷ [])
+pub open_word : bytes_of_word 0xA500_0000_0000_0000 ≡ padded 8 (valid_byte ∷ [])
 unfolding bytes_of_word
 open_word = refl
 
 -- an open place is that word, and then the body
-pub place_written : (to mid part body : List ℕ) → length to ≡ 512 → mid ≡ bytes_of (0xA500_0000_0000_0000 ∷ []) ++ drop 8 to → part ≡ bytes_of body → put_mid 8 504 mid part ≡ padded 8 (open_gate ∷ []) ++ bytes_of body
+pub place_written : (to mid part body : List ℕ) → length to ≡ 512 → mid ≡ bytes_of (0xA500_0000_0000_0000 ∷ []) ++ drop 8 to → part ≡ bytes_of body → put_mid 8 504 mid part ≡ padded 8 (valid_byte ∷ []) ++ bytes_of body
 place_written to mid part body long here there =
-    let head : bytes_of (0xA500_0000_0000_0000 ∷ []) ≡ padded 8 (open_gate ∷ []) = append-nil (bytes_of_word 0xA500_0000_0000_0000) ∙ open_word in
+    let head : bytes_of (0xA500_0000_0000_0000 ∷ []) ≡ padded 8 (valid_byte ∷ []) = append-nil (bytes_of_word 0xA500_0000_0000_0000) ∙ open_word in
     let nothing : drop 512 to ≡ [] = drop_all 512 to (omega arith) in
-    head_and_rest to mid part (bytes_of body) (padded 8 (open_gate ∷ [])) 8 504 512 refl refl (here ∙ ap (λ t. t ++ drop 8 to) head) there
-    ∙ ap (λ t. (padded 8 (open_gate ∷ []) ++ bytes_of body) ++ t) nothing ∙ append-nil (padded 8 (open_gate ∷ []) ++ bytes_of body)
+    head_and_rest to mid part (bytes_of body) (padded 8 (valid_byte ∷ [])) 8 504 512 refl refl (here ∙ ap (λ t. t ++ drop 8 to) head) there
+    ∙ ap (λ t. (padded 8 (valid_byte ∷ []) ++ bytes_of body) ++ t) nothing ∙ append-nil (padded 8 (valid_byte ∷ []) ++ bytes_of body)
 
 -- equal lists pass the test
 pub equal_to_itself : (xs : List ℕ) → pointwise eqb xs xs ≡ true
@@ -62,7 +64,7 @@ body_fits s is =
 -- the first word of an open place
 pub same_gate : (u : Savepoint) (bytes : List ℕ) (word : ℕ) → word < 2 ^ 64 → bytes_of_word word ≡ take 8 bytes → place_bytes u ≡ bytes → word ≡ 0xA500_0000_0000_0000
 same_gate u bytes word fits here e =
-    same_word word 0xA500_0000_0000_0000 fits (lit< tt) (here ∙ ap (take 8) (sym e) ∙ take_at (padded 8 (open_gate ∷ [])) (bytes_of (body_words u)) 8 refl ∙ sym open_word)
+    same_word word 0xA500_0000_0000_0000 fits (lit< tt) (here ∙ ap (take 8) (sym e) ∙ take_at (padded 8 (valid_byte ∷ [])) (bytes_of (body_words u)) 8 refl ∙ sym open_word)
 
 -- all that stands behind it
 pub behind_gate : (bytes words : List ℕ) → length bytes ≡ 512 → take 504 (drop 8 bytes) ≡ bytes_of words → drop 8 bytes ≡ bytes_of words
@@ -71,15 +73,15 @@ behind_gate bytes words long e = sym (take_all 504 (drop 8 bytes) (omega (arith,
 -- the words behind it are the body
 pub same_body : (u : Savepoint) (bytes words : List ℕ) → AllByRecursion (λ w. w < 2 ^ 64) words → drop 8 bytes ≡ bytes_of words → IsSavepoint u → place_bytes u ≡ bytes → body_words u ≡ words
 same_body u bytes words fits here is e =
-    same_words (body_words u) words (body_fits u is) fits (sym (drop_at (padded 8 (open_gate ∷ [])) (bytes_of (body_words u)) 8 refl) ∙ ap (drop 8) e ∙ here)
+    same_words (body_words u) words (body_fits u is) fits (sym (drop_at (padded 8 (valid_byte ∷ [])) (bytes_of (body_words u)) 8 refl) ∙ ap (drop 8) e ∙ here)
 
 -- what was read is a place that is open
 pub place_read : (place : ℕ) (bytes words : List ℕ) (word : ℕ) (s : Savepoint) → AllByRecursion (λ w. w < 2 ^ 64) words → bytes_of_word word ≡ take 8 bytes → word ≡ 0xA500_0000_0000_0000 → drop 8 bytes ≡ bytes_of words → IsSpelled IsSavepoint body_words words s → StandsAt place s
     → IsSpelled (IsSavepointOf place) place_bytes bytes s
 place_read place bytes words word s fits first opened here found stands =
-    let gate : padded 8 (open_gate ∷ []) ≡ take 8 bytes = sym open_word ∙ ap bytes_of_word (sym opened) ∙ first in
+    let gate : padded 8 (valid_byte ∷ []) ≡ take 8 bytes = sym open_word ∙ ap bytes_of_word (sym opened) ∙ first in
     record {
       valid = record { point = found.valid; stands = stands };
-      spelled = ap (λ t. padded 8 (open_gate ∷ []) ++ bytes_of t) found.spelled ∙ ap (λ t. t ++ bytes_of words) gate ∙ ap (λ t. take 8 bytes ++ t) (sym here) ∙ take-append-drop 8 bytes;
+      spelled = ap (λ t. padded 8 (valid_byte ∷ []) ++ bytes_of t) found.spelled ∙ ap (λ t. t ++ bytes_of words) gate ∙ ap (λ t. take 8 bytes ++ t) (sym here) ∙ take-append-drop 8 bytes;
       only = λ u is e. found.only u is.point (same_body u bytes words fits here is.point e);
     }

@@ -33,7 +33,13 @@ abbrev pub AnyOrder : {K : Type 0} → K → K → Type 0
 AnyOrder a b = ⊤
 
 -- each item is one, their keys rise after an earlier key, and what is written is the items' spellings
-pub record AreItems {X K : Type 0} (Is : X → Type 0) (spell : X → List ℕ) (key : X → K) (R : K → K → Type 0) (last : Option K) (written : List ℕ) (items : List X) : Type 0 where
+pub record AreItems {X K : Type 0} (Is : X → Type 0) (spell : X → List ℕ) (key : X → K) (R : K → K → Type 0)
+    (last : Option K) (written : List ℕ) (items : List X) : Type 0 where
   pub each : AllByRecursion Is items
   pub rising : RisesAfter R last (map key items)
   pub spelled : written ≡ flat_map spell items
+
+-- the key of the last item, or an earlier key where there is no item
+abbrev pub last_key : {X K : Type 0} → (X → K) → Option K → List X → Option K
+last_key key last [] = last
+last_key key last (x ∷ xs) = last_key key (Some (key x)) xs

@@ -1,8 +1,17 @@
 pub mod Words
 pub mod Bytes
+pub mod ByteLaws
 pub mod Items
+pub mod ItemLaws
 pub mod LogLine
+pub mod LineLaws
+pub mod LogFile
+pub mod LogFileLaws
 pub mod Savepoint
 pub mod Pages
+pub mod ContentLaws
 pub mod Parts
 pub mod Ranges
+pub mod RangeLaws
+pub mod Device
+pub mod DeviceLaws

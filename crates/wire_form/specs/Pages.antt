@@ -1,16 +1,18 @@
 -- Pages of a snapshot: what each kind has in it, and its 64 words.
-use Rattle.std.specs.Prelude.{◌≡◌, ℕ, ◌+◌, ◌-◌, ◌^◌, ◌<◌, ◌≤◌, false, List, [], ◌∷◌, ◌++◌, IfSome, IfNone, length, map}
+use Rattle.std.specs.Prelude.{◌≡◌, ℕ, ◌+◌, ◌^◌, ◌<◌, ◌≤◌, false, List, [], ◌∷◌, ◌++◌, IfSome, IfNone, length, map}
 use Rattle.std.specs.List.{flat_map, AllByRecursion}
 use Rattle.serial_model.specs.declared.decl.Decl.{Decl}
 use Rattle.serial_model.specs.declared.decl.Decl.TheVariants.{Array, Tree}
+use Rattle.serial_model.specs.Decls.{IsDecl}
 use Rattle.serial_model.specs.Keys.{id_of}
+use Rattle.serial_model.specs.Numbers.{IsNumber, last_epoch}
 use Rattle.wire_form.specs.declared.records.ArrayRecord.{ArrayRecord}
 use Rattle.wire_form.specs.declared.records.TreeRecord.{TreeRecord}
 use Rattle.wire_form.specs.declared.records.Stored.{Stored}
 use Rattle.wire_form.specs.declared.page.PageKind.{PageKind}
 use Rattle.wire_form.specs.declared.page.PageKind.TheVariants.{ArrayLeaf, ArrayInner, TreeLeaf, TreeInner, Catalogue}
 use Rattle.wire_form.specs.declared.page.Page.{Page}
-use Rattle.wire_form.specs.Words.{IsNumber, number_word, number_field, header_word, array_room, tree_room}
+use Rattle.wire_form.specs.Words.{number_word, number_field, header_word, array_room, tree_room}
 use Rattle.wire_form.specs.Bytes.{bytes_of, padded}
 use Rattle.wire_form.specs.Items.{Rises}
 
@@ -33,26 +35,31 @@ pub record IsArrayRecord (r : ArrayRecord) : Type 0 where
   pub number : IfSome r.number IsNumber
   pub never : IfNone r.number (r.value ≡ 0)
 
+-- the words of an array's record
 abbrev pub array_record_words : ArrayRecord → List ℕ
 array_record_words r = number_field r.number ∷ r.value ∷ []
 
+-- 1 to 32 records, as many as are used
 pub record IsArrayLeaf (used : ℕ) (records : List ArrayRecord) : Type 0 where
   pub some : 1 ≤ used
   pub most : used ≤ array_room
   pub count : length records ≡ used
   pub each : AllByRecursion IsArrayRecord records
 
+-- the words of an array's leaf
 abbrev pub array_leaf_words : List ArrayRecord → List ℕ
 array_leaf_words records = padded 64 (flat_map array_record_words records)
 
 -- ---- an interior page of an array
 
+-- 1 to 64 pointers, as many as are used
 pub record IsArrayInner (used number : ℕ) (pointers : List ℕ) : Type 0 where
   pub some : 1 ≤ used
   pub most : used ≤ 64
   pub count : length pointers ≡ used
   pub each : AllByRecursion (IsChild 0 number) pointers
 
+-- the words of an array's interior page
 abbrev pub array_inner_words : List ℕ → List ℕ
 array_inner_words pointers = padded 64 pointers
 
@@ -64,12 +71,15 @@ pub record IsTreeRecord (low high : ℕ) (r : TreeRecord) : Type 0 where
   pub from_low : low ≤ r.key
   pub to_high : r.key ≤ high
 
+-- the words of a tree's record
 abbrev pub tree_record_words : TreeRecord → List ℕ
 tree_record_words r = r.key ∷ number_word r.number ∷ r.value ∷ []
 
+-- the key of a tree's record
 abbrev pub record_key : TreeRecord → ℕ
 record_key r = r.key
 
+-- at most 16 records between the fences, with keys that rise
 pub record IsTreeLeaf (low high : ℕ) (records : List TreeRecord) : Type 0 where
   pub most : length records ≤ tree_room
   pub each : AllByRecursion (IsTreeRecord low high) records
@@ -79,16 +89,19 @@ pub record IsTreeLeaf (low high : ℕ) (records : List TreeRecord) : Type 0 wher
 abbrev pub device_header : ℕ → ℕ → ℕ
 device_header kind count = header_word (record { count = count; kind = kind; lock = false; moved = false })
 
+-- the words of a tree's leaf
 abbrev pub tree_leaf_words : ℕ → ℕ → List TreeRecord → List ℕ
 tree_leaf_words low high records =
     padded 16 (device_header 1 (length records) ∷ low ∷ high ∷ []) ++ padded 48 (flat_map tree_record_words records)
 
 -- ---- an interior page of a tree
 
+-- the pointers to the children of a tree's interior page, and the separators between them
 pub record Children : Type 0 where
   pub pointers : List ℕ
   pub separators : List ℕ
 
+-- 2 to 30 children, and separators between the fences that rise
 pub record IsTreeInner (low high number : ℕ) (c : Children) : Type 0 where
   pub some : 2 ≤ length c.pointers
   pub most : length c.pointers ≤ 30
@@ -97,18 +110,17 @@ pub record IsTreeInner (low high number : ℕ) (c : Children) : Type 0 where
   pub within : AllByRecursion (IsSeparator low high) c.separators
   pub rising : Rises ◌<◌ c.separators
 
+-- the words of a tree's interior page
 abbrev pub tree_inner_words : ℕ → ℕ → Children → List ℕ
 tree_inner_words low high c =
-    padded 4 (device_header 2 (length c.pointers) ∷ low ∷ high ∷ []) ++ (padded 30 c.pointers ++ padded 30 c.separators)
+    padded 4 (device_header 2 (length c.pointers) ∷ low ∷ high ∷ []) ++
+    (padded 30 c.pointers ++ padded 30 c.separators)
 
 -- ---- a catalogue
 
-abbrev pub IsStorage : Decl → Type 0
-IsStorage (Array id size) = (id < 256) × (1 ≤ size) × (size ≤ 131072)
-IsStorage (Tree id) = id < 256
-
+-- a storage, and its root's page number or 0, in the catalogue with this page number
 pub record IsStored (number : ℕ) (s : Stored) : Type 0 where
-  pub storage : IsStorage s.decl
+  pub decl : IsDecl s.decl
   pub root : IsPointer number s.root
 
 -- id + 256 for an array, id + 512 for a tree
@@ -121,27 +133,41 @@ abbrev pub storage_size : Decl → ℕ
 storage_size (Array id size) = size
 storage_size (Tree id) = 0
 
+-- the words of a storage in a catalogue
 abbrev pub stored_words : Stored → List ℕ
 stored_words s = storage_head s.decl ∷ storage_size s.decl ∷ s.root ∷ []
 
+-- the id of a storage in a catalogue
 abbrev pub stored_id : Stored → ℕ
 stored_id s = id_of s.decl
 
+-- a storage of a catalogue without its root
+abbrev pub stored_decl : Stored → Decl
+stored_decl s = s.decl
+
+-- what a catalogue says: its epoch, the page number of the one before it or 0, and the storages
 pub record Contents : Type 0 where
   pub epoch : ℕ
   pub previous : ℕ
   pub storages : List Stored
 
+-- at most 16 storages with ids that rise, an epoch that can be saved, and an earlier page or none
 pub record IsCatalogue (number : ℕ) (c : Contents) : Type 0 where
-  pub epoch : c.epoch < 2 ^ 20 - 2
+  pub epoch : c.epoch < last_epoch
   pub previous : IsPointer number c.previous
   pub most : length c.storages ≤ 16
   pub each : AllByRecursion (IsStored number) c.storages
   pub rising : Rises ◌<◌ (map stored_id c.storages)
 
+-- the storages that a catalogue declares
+abbrev pub decls_of : Contents → List Decl
+decls_of c = map stored_decl c.storages
+
+-- the words of a catalogue
 abbrev pub catalogue_words : Contents → List ℕ
 catalogue_words c =
-    padded 16 ((0x4341_5400_0000_0000 + length c.storages) ∷ c.epoch ∷ c.previous ∷ []) ++ padded 48 (flat_map stored_words c.storages)
+    padded 16 ((0x4341_5400_0000_0000 + length c.storages) ∷ c.epoch ∷ c.previous ∷ []) ++ padded 48
+    (flat_map stored_words c.storages)
 
 -- ---- all kinds
 

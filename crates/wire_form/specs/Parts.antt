@@ -13,7 +13,8 @@ IsPaddedList P count words = (xs : List ℕ) × (length xs ≡ count) × P xs ×
 -- the words are so many items with keys that rise, and then zeros
 abbrev pub HasItems : {X K : Type 0} → (X → Type 0) → (X → List ℕ) → (X → K) → (K → K → Type 0) → ℕ → List ℕ → Type 0
 HasItems {X} {K} Is spell key R count words =
-    (items : List X) × (length items ≡ count) × AllByRecursion Is items × Rises R (map key items) × (words ≡ padded (length words) (flat_map spell items))
+    (items : List X) × (length items ≡ count) × AllByRecursion Is items × Rises R (map key items) ×
+    (words ≡ padded (length words) (flat_map spell items))
 
 -- records of arrays have no order
 abbrev pub itself : ArrayRecord → ArrayRecord
@@ -22,5 +23,6 @@ itself r = r
 -- so many children, the separators between them, and zeros after each of the two lists
 abbrev pub HasChildren : ℕ → ℕ → ℕ → ℕ → List ℕ → Type 0
 HasChildren low high number count words =
-    (c : Children) × (length c.pointers ≡ count) × (length c.separators + 1 ≡ count) × AllByRecursion (IsChild 1 number) c.pointers × AllByRecursion (IsSeparator low high) c.separators × Rises ◌<◌ c.separators
+    (c : Children) × (length c.pointers ≡ count) × (length c.separators + 1 ≡ count) × AllByRecursion
+    (IsChild 1 number) c.pointers × AllByRecursion (IsSeparator low high) c.separators × Rises ◌<◌ c.separators
     × (words ≡ padded 30 c.pointers ++ padded 30 c.separators)

@@ -6,6 +6,7 @@ abbrev pub child_ranges : ℕ → ℕ → List ℕ → List (ℕ × ℕ)
 child_ranges low high [] = (low, high) ∷ []
 child_ranges low high (separator ∷ separators) = (low, separator - 1) ∷ child_ranges separator high separators
 
+-- the key is in the range, whose ends count
 abbrev pub is_in : ℕ → ℕ × ℕ → Bool
 is_in key range = nat_le range.0 key && nat_le key range.1
 

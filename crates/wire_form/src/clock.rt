@@ -4,6 +4,7 @@ ghost use Rattle.wire_form.specs.Items.{Reads};
 ghost use Rattle.wire_form.specs.Words.{IsClock, clock_word, IsMark, mark_word};
 
 use crate::bits::field;
+use serial_model::LAST_EPOCH;
 
 /// The clock word: how many numbers were drawn, and the epoch.
 #[derive(Clone, Copy, Debug, PartialEq, Eq)]
@@ -52,12 +53,12 @@ impl Clock {
 pub struct Mark {
     /// In bytes, below 2^40.
     pub length: u64,
-    /// At most 2^20 - 2; `None` says that the worker is idle.
+    /// At most the last; `None` says that the worker is idle.
     pub epoch: Option<u32>,
 }
 
 /// The epoch field of an idle worker's mark.
-const IDLE: u32 = 1_048_575;
+const IDLE: u32 = LAST_EPOCH + 1;
 
 impl Mark {
     /// Whether the fields are in their ranges.
@@ -65,7 +66,7 @@ impl Mark {
         ensures { IsTrue result ↔ IsMark self }
     {
         let epoch = match self.epoch {
-            Some(epoch) => epoch < IDLE,
+            Some(epoch) => epoch <= LAST_EPOCH,
             None => true,
         };
         self.length < 1 << 40 && epoch

@@ -1,18 +1,55 @@
 // Laws of the spellings, for callers: each holds of all values, so the calls have nothing to do.
-ghost use Rattle.std.specs.Prelude.{◌≡◌, ℕ, ◌+◌, ◌*◌, ◌^◌, ◌<◌, ◌≤◌, ◌++◌, List, length, take, drop, slice_index};
+ghost use Rattle.std.specs.Prelude.{◌≡◌, ℕ, ◌+◌, ◌*◌, ◌^◌, ◌<◌, ◌≤◌, ◌++◌, List, Option, length, take, drop, slice_index};
 ghost use Rattle.std.specs.List.{AllByRecursion};
+ghost use Rattle.serial_model.specs.Decls.{AreDecls};
+ghost use Rattle.serial_model.specs.declared.decl.Decl.{Decl};
 ghost use Rattle.serial_model.specs.declared.number.Commit.{Commit};
+ghost use Rattle.serial_model.specs.declared.number.Number.{Number};
 ghost use Rattle.wire_form.specs.Bytes.{bytes_of_word, bytes_of};
-ghost use Rattle.wire_form.specs.LogLine.{IsLine, line_bytes};
-ghost use Rattle.wire_form.specs.Pages.{IsPointer, IsArrayLeaf, array_leaf_words, IsArrayInner, array_inner_words, IsTreeLeaf, tree_leaf_words, Children, IsTreeInner, tree_inner_words, Contents, IsCatalogue, catalogue_words};
+ghost use Rattle.wire_form.specs.Device.{HasWords};
+ghost use Rattle.wire_form.specs.LogFile.{AreLinesOf, AreLogLines, IsDamagedAt};
+ghost use Rattle.wire_form.specs.LogLine.{IsLoggable, IsLogLine, line_bytes};
+ghost use Rattle.wire_form.specs.Pages.{IsPointer, IsArrayLeaf, array_leaf_words, IsArrayInner, array_inner_words, IsTreeLeaf, tree_leaf_words, Children, IsTreeInner, tree_inner_words, Contents, IsCatalogue, decls_of, catalogue_words};
 ghost use Rattle.wire_form.specs.declared.records.ArrayRecord.{ArrayRecord};
 ghost use Rattle.wire_form.specs.declared.records.TreeRecord.{TreeRecord};
 ghost use Rattle.wire_form.specs.Ranges.{child_ranges, ranges_with};
 
 /// No log line begins another, so a line that was written is read again, whatever follows it.
 pub fn one_log_line()
-    ensures { (a b : Commit) (x y : List ℕ) → IsLine a → IsLine b
+    ensures { (a b : Commit) (x y : List ℕ) → IsLogLine a → IsLogLine b
         → line_bytes a ++ x ≡ line_bytes b ++ y → (a ≡ b) × (x ≡ y) }
+{}
+
+/// A log line has 16 bytes and 24 for each change: at least 40 and at most 400.
+pub fn line_length()
+    ensures exact { (c : Commit) → length (line_bytes c) ≡ 16 + 24 * length c.changes }
+    ensures least { (c : Commit) → IsLoggable c → 40 ≤ length (line_bytes c) }
+    ensures most { (c : Commit) → IsLoggable c → length (line_bytes c) ≤ 400 }
+{}
+
+/// Bytes of a log file are the lines of one list of commits at most, or damaged at one byte at most,
+/// and never both.
+pub fn one_list_of_lines()
+    ensures one { (last : Option Number) (bytes : List ℕ) (a b : List Commit)
+        → AreLogLines last bytes a → AreLogLines last bytes b → a ≡ b }
+    ensures once { (decls : List Decl) (last : Option Number) (bytes : List ℕ) (at other : ℕ)
+        → IsDamagedAt decls last bytes at → IsDamagedAt decls last bytes other → at ≡ other }
+    ensures apart { (decls : List Decl) (last : Option Number) (bytes : List ℕ) (at : ℕ)
+        (commits : List Commit) → IsDamagedAt decls last bytes at
+        → AreLinesOf decls last bytes commits → ⊥ }
+{}
+
+/// A device has one list of words at most as each page, 64 of them, and more bytes behind its pages
+/// leave them as they are.
+pub fn one_list_of_words()
+    ensures one { (device : List ℕ) (number : ℕ) (a b : List ℕ) → HasWords device number a
+        → HasWords device number b → a ≡ b }
+    ensures whole { (device : List ℕ) (number : ℕ) (words : List ℕ)
+        → HasWords device number words → length words ≡ 64 }
+    ensures some { (device : List ℕ) (number : ℕ) → 1 ≤ number → 512 * number ≤ length device
+        → ((i : ℕ) → slice_index device i < 256) → (words : List ℕ) × HasWords device number words }
+    ensures stays { (device more : List ℕ) (number : ℕ) (words : List ℕ)
+        → HasWords device number words → HasWords (device ++ more) number words }
 {}
 
 /// The bytes of a page are those of 64 words, and of no others.
@@ -44,6 +81,12 @@ pub fn one_content()
         → tree_inner_words low high a ≡ tree_inner_words low high b → a ≡ b }
     ensures catalogue { (number : ℕ) (a b : Contents) → IsCatalogue number a
         → IsCatalogue number b → catalogue_words a ≡ catalogue_words b → a ≡ b }
+{}
+
+/// A catalogue declares the storages of a database: at most 16, with distinct ids.
+pub fn catalogue_declares()
+    ensures { (number : ℕ) (contents : Contents) → IsCatalogue number contents
+        → AreDecls (decls_of contents) }
 {}
 
 /// A pointer on a device names a page below its own, or none.

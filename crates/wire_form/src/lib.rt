@@ -9,12 +9,15 @@
 //!   `parts`. Each is the other's inverse (`Reads`), and `is_valid` tells the ranges.
 //! - Pages: `ok` and `err` of `read_page`, the clause of `write_page`, and `is_page` for words in memory.
 //!   What a page is stands in `HasKind`: the content, its rules, and its words as a function of it.
+//!   `words_of_page` gives the words of any page as they stand, `catalogue_words` those of a catalogue.
 //! - Log lines: `ok` and `err` of `read_log_line`, `written` of `write_log_line`, and `is_loggable`.
+//!   What the counted bytes of a log file are stands in `AreLinesOf` and `IsDamagedAt`.
 //! - Savepoints: `closed`, `found` and `err` of `read_savepoint`, and the clause of `write_savepoint`.
 //! - Fields of pages (`array_record`, `tree_record`, `child`, `child_range`, `storage` and more): each
 //!   clause speaks of the content whose words they are.
-//! - Laws, as calls with nothing to do: `one_log_line`, `one_content`, `bytes_and_words`,
-//!   `word_in_bytes`, `pointers_go_down`, `ranges_split`.
+//! - Laws, as calls with nothing to do: `one_log_line`, `line_length`, `one_list_of_lines`,
+//!   `one_content`, `one_list_of_words`, `bytes_and_words`, `word_in_bytes`, `catalogue_declares`,
+//!   `pointers_go_down`, `ranges_split`. For proofs above they stand in specs/, in the files of laws.
 //!
 //! Terms: *spelling*, the one word or the bytes of a value; *padded*, with zeros up to the end of the
 //! part, which is the one rule of reserved words; *fences*, the least and the greatest key of a tree's
@@ -39,16 +42,18 @@ mod record_word;
 mod records;
 mod savepoint;
 
+pub use catalogue::catalogue_words;
 pub use clock::{Clock, Mark};
 pub use fields::{
     array_child, array_record, child, child_range, count, epoch_and_previous, fences, separator,
     storage, tree_record,
 };
 pub use laws::{
-    bytes_and_words, one_content, one_log_line, pointers_go_down, ranges_split, word_in_bytes,
+    bytes_and_words, catalogue_declares, line_length, one_content, one_list_of_lines,
+    one_list_of_words, one_log_line, pointers_go_down, ranges_split, word_in_bytes,
 };
 pub use log_line::{NoLine, is_loggable, read_log_line, write_log_line};
-pub use page::{NoPage, Page, PageKind, is_page, read_page, write_page};
+pub use page::{NoPage, Page, PageKind, is_page, read_page, words_of_page, write_page};
 pub use page_words::{Header, Pair, SlotState, SlotWord};
 pub use record_word::{RecordWord, is_number, number_word, read_number};
 pub use records::{ArrayRecord, Stored, TreeRecord};

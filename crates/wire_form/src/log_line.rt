@@ -4,7 +4,8 @@ ghost use Rattle.std.specs.List.{flat_map, AllByRecursion};
 ghost use Rattle.serial_model.specs.declared.number.Change.{Change};
 ghost use Rattle.serial_model.specs.declared.number.Commit.{Commit};
 ghost use Rattle.wire_form.specs.Items.{AreItems, Reads, Rises};
-ghost use Rattle.wire_form.specs.LogLine.{IsKeyBelow, IsChange, change_words, change_bytes, key_of, IsLoggable, IsLine, line_bytes, BeginsWith};
+ghost use Rattle.serial_model.specs.Keys.{IsKeyBelow};
+ghost use Rattle.wire_form.specs.LogLine.{IsChange, change_words, change_bytes, key_of, IsLoggable, IsLogLine, line_bytes, BeginsWith};
 
 use crate::bytes::{word_at, write_words};
 use crate::record_word::{is_number, number_word, read_number};
@@ -101,7 +102,7 @@ fn read_changes(count: usize, bytes: &[u8]) -> Option<Changes>
 /// The log line that begins the bytes, and its length in bytes. More may follow it.
 pub fn read_log_line(bytes: &[u8]) -> Result<(Commit, usize), NoLine>
     ensures ok { IfOk result (λ found. BeginsWith bytes.now found.0 found.1) }
-    ensures err { OnErr result ((commit : Commit) (rest : List ℕ) → IsLine commit
+    ensures err { OnErr result ((commit : Commit) (rest : List ℕ) → IsLogLine commit
         → bytes.now ≡ line_bytes commit ++ rest → ⊥) }
 {
     if bytes.len() < 16 {
@@ -151,7 +152,7 @@ fn write_changes(changes: &[Change], to: &mut [u8])
 pub fn write_log_line(line: &Commit, to: &mut [u8]) -> usize
     requires loggable { IsLoggable line.now }
     requires room { 16 + 24 * length line.now.changes ≤ length to.old }
-    ensures line { IsLine line.now }
+    ensures line { IsLogLine line.now }
     ensures length { result ≡ 16 + 24 * length line.now.changes }
     ensures written { to.new ≡ line_bytes line.now ++ drop result to.old }
 {

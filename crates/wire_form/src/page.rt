@@ -1,5 +1,6 @@
 // Pages of a snapshot: whether words are a page, and pages as bytes.
-ghost use Rattle.std.specs.Prelude.{◌≡◌, ℕ, List, IsTrue, ◌↔◌, IfOk, OnErr};
+ghost use Rattle.std.specs.Prelude.{◌≡◌, ℕ, ◌^◌, ◌<◌, List, IsTrue, ◌↔◌, IfOk, OnErr};
+ghost use Rattle.std.specs.List.{AllByRecursion};
 ghost use Rattle.wire_form.specs.Bytes.{bytes_of};
 ghost use Rattle.wire_form.specs.Pages.{HasKind, IsPage, IsPageOf};
 
@@ -59,14 +60,23 @@ fn has_kind(kind: PageKind, number: u32, words: &[u64; 64]) -> bool
     }
 }
 
+/// The words of a page as they stand, whatever kind of page they are, or none.
+pub fn words_of_page(bytes: &[u8; 512]) -> [u64; 64]
+    ensures spelled { bytes.now ≡ bytes_of result }
+    ensures fit { AllByRecursion (λ w. w < 2 ^ 64) result }
+{
+    let mut words = [0; 64];
+    read_words(bytes, &mut words);
+    words
+}
+
 /// The page that the bytes spell, where it is one of the kind and number.
 pub fn read_page(kind: PageKind, number: u32, bytes: &[u8; 512]) -> Result<Page, NoPage>
     ensures ok { IfOk result (IsPageOf kind number bytes.now) }
     ensures err { OnErr result ((words : List ℕ) → IsPage kind number words
         → bytes.now ≡ bytes_of words → ⊥) }
 {
-    let mut words = [0; 64];
-    read_words(bytes, &mut words);
+    let words = words_of_page(bytes);
     if !is_page(kind, number, &words) {
         return Err(NoPage);
     }

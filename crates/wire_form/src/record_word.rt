@@ -1,16 +1,18 @@
 // Commit numbers, and the words of records.
 ghost use Rattle.std.specs.Prelude.{◌≡◌, ◌↔◌, IsTrue};
 ghost use Rattle.wire_form.specs.Items.{Reads};
-ghost use Rattle.wire_form.specs.Words.{IsNumber, number_word, number_field, IsRecord, record_word};
+ghost use Rattle.serial_model.specs.Numbers.{IsNumber};
+ghost use Rattle.wire_form.specs.Words.{number_word, number_field, IsRecord, record_word};
 
 use crate::bits::{field, flag, flag_at};
-use serial_model::Number;
+use serial_model::{LAST_EPOCH, Number};
 
-/// Whether it can be the number of a commit: a draw from 1 below 2^40, an epoch from 1 to 2^20 - 2.
+/// Whether it can be the number of a commit: an epoch from 1 to the last, a draw from 1 below 2^40.
 pub fn is_number(number: Number) -> bool
     ensures { IsTrue result ↔ IsNumber number }
 {
-    number.draw < 1 << 40 && number.draw >= 1 && number.epoch < (1 << 20) - 1 && number.epoch >= 1
+    let epoch = 1 <= number.epoch && number.epoch <= LAST_EPOCH;
+    epoch && 1 <= number.draw && number.draw < 1 << 40
 }
 
 /// The word of a number.

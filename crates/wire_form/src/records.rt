@@ -73,6 +73,17 @@ impl Stored {
         }
     }
 
+    /// The three words of the storage.
+    pub fn words(&self) -> [u64; 3]
+        ensures { result ≡ stored_words self.now }
+    {
+        let root = u64::from(self.root);
+        match self.decl {
+            Decl::Array { id, size } => [u64::from(id) + 256, u64::from(size), root],
+            Decl::Tree { id } => [u64::from(id) + 512, 0, root],
+        }
+    }
+
     /// The storage of three words in a catalogue with this page number.
     pub fn of_words(page: u32, head: u64, size: u64, root: u64) -> Option<Stored>
         ensures { Reads (IsStored page) stored_words (head ∷ size ∷ root ∷ []) result }

@@ -3,17 +3,18 @@ ghost use Rattle.std.specs.Prelude.{◌≡◌, ◌≢◌, ◌<◌, ◌^◌, ◌�
 ghost use Rattle.std.specs.List.{AllByRecursion};
 ghost use Rattle.wire_form.specs.declared.savepoint.Savepoint.{Savepoint};
 ghost use Rattle.wire_form.specs.Items.{IsSpelled, Reads};
-ghost use Rattle.wire_form.specs.Savepoint.{IsSavepoint, IsSavepointOf, body_words, place_bytes, open_gate};
+ghost use Rattle.wire_form.specs.Savepoint.{IsSavepoint, IsSavepointOf, body_words, place_bytes, valid_byte};
 
 use crate::bits::field;
 use crate::bytes::{read_words, word_at, write_words};
+use serial_model::LAST_EPOCH;
 
 /// What a database's devices count to, as one store of its save device says.
 #[derive(Clone, Copy, Debug, PartialEq, Eq)]
 pub struct Savepoint {
     /// Of the stores, from 1 below 2^63.
     pub sequence: u64,
-    /// The saved epoch, below 2^20 - 2.
+    /// The saved epoch, below the last.
     pub epoch: u32,
     /// The newest catalogue's page number, which is the count.
     pub catalogue: u32,
@@ -50,7 +51,7 @@ impl Savepoint {
     {
         let sequence = 1 <= self.sequence && self.sequence < 1 << 63;
         let newest = 1 <= self.catalogue && self.catalogue == self.count && self.count <= 65_536;
-        sequence && newest && self.epoch < (1 << 20) - 2 && are_lengths(&self.lengths)
+        sequence && newest && self.epoch < LAST_EPOCH && are_lengths(&self.lengths)
     }
 
     /// The words of the value.
@@ -90,7 +91,7 @@ fn savepoint_of(words: &[u64; 63]) -> Option<Savepoint>
 
 /// Reads a place of the save device, 0 or 1. `Ok(None)` says that it is closed.
 pub fn read_savepoint(place: u8, bytes: &[u8; 512]) -> Result<Option<Savepoint>, NoSavepoint>
-    ensures closed { (result ≡ Ok None) ↔ (slice_index bytes.now 0 ≢ open_gate) }
+    ensures closed { (result ≡ Ok None) ↔ (slice_index bytes.now 0 ≢ valid_byte) }
     ensures found { IfOk result (λ found. IfSome found (IsSpelled (IsSavepointOf place) place_bytes bytes.now)) }
     ensures err { OnErr result ((point : Savepoint) → IsSavepointOf place point
         → place_bytes point ≡ bytes.now → ⊥) }

@@ -1,5 +1,5 @@
 ghost use Rattle.std.specs.Prelude.{◌≤◌};
-ghost use Rattle.log_writer.specs.Journal.{Reaches, Stays};
+ghost use Rattle.log_writer.specs.Journal.{Reaches, DurableStays};
 
 use super::disk;
 use crate::{Journal, LogFault};
@@ -32,7 +32,7 @@ pub(super) fn put_line<D: Disk>(journal: &mut Journal, bank: &mut D) -> Result<(
     ensures reaches { Reaches D.tells bank.new journal.new }
     ensures later { journal.old.durable ≤ journal.new.durable }
     ensures onward { D.clock bank.old ≤ D.clock bank.new }
-    ensures stays { Stays D.clock D.image_at journal.old bank.old bank.new }
+    ensures stays { DurableStays D.clock D.image_at journal.old bank.old bank.new }
 {
     let line = commit();
     journal.room(bank)?;

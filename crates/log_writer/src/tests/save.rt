@@ -23,7 +23,7 @@ pub(super) fn saved(epoch: u32, length: u64) -> Saved {
 }
 
 // The device after its first two stores, and with other sequences and first bytes in its places.
-fn device(sequences: [u64; 2], gates: [u8; 2]) -> [u8; 1024] {
+fn device(sequences: [u64; 2], valid: [u8; 2]) -> [u8; 1024] {
     let mut bytes = [0; 1024];
     for i in 0..2 {
         let mut lengths = [0; 16];
@@ -39,7 +39,7 @@ fn device(sequences: [u64; 2], gates: [u8; 2]) -> [u8; 1024] {
         if point.is_valid() {
             write_savepoint(&point, &mut place);
         }
-        place[0] = gates[i];
+        place[0] = valid[i];
         bytes[512 * i..512 * i + 512].copy_from_slice(&place);
     }
     bytes
@@ -49,7 +49,7 @@ fn device(sequences: [u64; 2], gates: [u8; 2]) -> [u8; 1024] {
 fn which_place_counts(rt: HostRuntime) -> Result<(), Fail> {
     let alloc = rt.alloc();
     let last = (1 << 63) - 1;
-    for (sequences, gates, sequence, found) in [
+    for (sequences, valid, sequence, found) in [
         ([1, 2], [0, 0], 0, None),
         ([1, 2], [0xA5, 0], 1, Some(saved(0, 0))),
         ([1, 2], [0, 0xA5], 2, Some(saved(1, 40))),
@@ -58,7 +58,7 @@ fn which_place_counts(rt: HostRuntime) -> Result<(), Fail> {
         ([3, 2], [0xA4, 0xA5], 2, Some(saved(1, 40))),
         ([last, 2], [0xA5, 0xA5], last, Some(saved(0, 0))),
     ] {
-        let mut disk = disk(alloc, &device(sequences, gates), &[])?;
+        let mut disk = disk(alloc, &device(sequences, valid), &[])?;
         let (save, saved) = Save::load(&mut disk).expect(&rt, "no damage");
         assert_eq!(rt; (save.sequence(), saved), (sequence, found));
     }
@@ -68,14 +68,14 @@ fn which_place_counts(rt: HostRuntime) -> Result<(), Fail> {
 #[test]
 fn an_open_place_without_a_savepoint(rt: HostRuntime) -> Result<(), Fail> {
     let alloc = rt.alloc();
-    for (sequences, gates, at) in [
+    for (sequences, valid, at) in [
         ([2, 2], [0xA5, 0xA5], 0),
         ([0, 2], [0xA5, 0xA5], 0),
         ([1, 3], [0xA5, 0xA5], 512),
         ([1, 0], [0, 0xA5], 512),
         ([2, 1], [0xA5, 0xA5], 0),
     ] {
-        let mut disk = disk(alloc, &device(sequences, gates), &[])?;
+        let mut disk = disk(alloc, &device(sequences, valid), &[])?;
         assert_eq!(rt; Save::load(&mut disk).err(), Some(SaveOpen::Damaged { at }));
     }
     Ok(())

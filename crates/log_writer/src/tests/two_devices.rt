@@ -2,7 +2,7 @@
 // what a stop leaves of both is put together from a moment of each.
 ghost use Rattle.std.specs.Prelude.{◌≡◌, ℕ, ◌+◌, ◌<◌, ◌≤◌, List, Some, true, length, take, ◌++◌, None};
 ghost use Rattle.outside.specs.Disk.{IfTold};
-ghost use Rattle.log_writer.specs.Journal.{Reaches, KeepsSince};
+ghost use Rattle.log_writer.specs.Journal.{Reaches, IsDurable};
 ghost use Rattle.log_writer.specs.Points.{IsSaved, point_of, sequence_of};
 ghost use Rattle.log_writer.specs.Save.{IsStored, NamesOldOrNew};
 
@@ -27,7 +27,7 @@ fn save_between<D: Disk>(
     requires saved { IsSaved saved }
     requires stored { save.old.down ≡ None → IsStored D.tells D.clock D.image_at device.old save.old.newest }
     ensures both { (file : List ℕ) (made : List ℕ) → result ≡ true → D.tells bank.old ≡ Some file
-        → length made ≡ journal.old.durable → KeepsSince D.clock D.image_at bank.old (D.clock bank.old) made
+        → IsDurable D.clock D.image_at journal.old bank.old made
         → (flushed : ℕ) × (flushed ≤ D.clock bank.new) × ((at_save at_bank : ℕ) (s b : List ℕ)
         → D.clock device.old < at_save → at_save ≤ D.clock device.new → D.image_at device.new at_save s
         → flushed ≤ at_bank → at_bank ≤ D.clock bank.new → D.image_at bank.new at_bank b

@@ -1,4 +1,5 @@
 use crate::*;
+use serial_model::Decl;
 
 const CATALOGUE: u64 = 0x4341_5400_0000_0000;
 // Epoch 1, draw 1.
@@ -22,7 +23,7 @@ fn is_read(kind: PageKind, number: u32, words: [u64; 64]) -> bool {
         words,
     };
     write_page(&page, &mut bytes);
-    read_page(kind, number, &bytes) == Ok(page)
+    words_of_page(&bytes) == words && read_page(kind, number, &bytes) == Ok(page)
 }
 
 // Whether the page is read, but with none of the other words at those places.
@@ -43,6 +44,11 @@ fn is_strict(kind: PageKind, number: u32, good: [u64; 64], others: &[(usize, u64
 fn first_catalogue(rt: HostRuntime) {
     let mut words = words_of(&[(0, 0x4341_5400_0000_0001), (16, 257), (17, 4)]);
     assert!(rt; is_read(PageKind::Catalogue, 1, words));
+    let array = Stored {
+        decl: Decl::Array { id: 1, size: 4 },
+        root: 0,
+    };
+    assert_eq!(rt; catalogue_words(0, 0, &[array]), words);
     words[18] = 1;
     assert!(rt; !is_read(PageKind::Catalogue, 1, words));
 }

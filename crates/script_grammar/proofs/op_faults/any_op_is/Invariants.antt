@@ -1,6 +1,7 @@
 use Rattle.std.proofs.Common.{◌≡◌, length}
 use Rattle.std.specs.List.{list_any}
-use Rattle.script_grammar.specs.Faults.{parts, op_is}
+use Rattle.script_grammar.specs.Words.{parts}
+use Rattle.script_grammar.specs.Faults.{op_is}
 use Rattle.script_grammar.proofs.op_faults.any_op_is.Given as goal
 
 abbrev pub invariant-loop-op : goal.invariant-loop-op

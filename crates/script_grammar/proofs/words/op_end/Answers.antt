@@ -1,6 +1,6 @@
 use Rattle.std.proofs.Common.{◌≡◌, true, false, drop}
 use Rattle.std.proofs.lemmas.List.{take_rest}
-use Rattle.script_grammar.specs.Faults.{begins_separator}
+use Rattle.script_grammar.specs.Words.{begins_separator}
 use Rattle.script_grammar.proofs.Parts.{front_none, op_more, op_found}
 use Rattle.script_grammar.proofs.words.op_end.Goals as goal
 

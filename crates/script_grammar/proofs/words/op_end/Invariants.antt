@@ -1,5 +1,5 @@
 use Rattle.std.proofs.Common.{◌≡◌, take, drop}
-use Rattle.script_grammar.specs.Faults.{parts}
+use Rattle.script_grammar.specs.Words.{parts}
 use Rattle.script_grammar.proofs.Parts.{with_front}
 use Rattle.script_grammar.proofs.words.op_end.Given as goal
 

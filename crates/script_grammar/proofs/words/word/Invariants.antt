@@ -1,6 +1,6 @@
 use Rattle.std.proofs.Common.{◌≡◌, ◌-◌}
 use Rattle.std.specs.Prelude.{slice_get}
-use Rattle.script_grammar.specs.Faults.{words}
+use Rattle.script_grammar.specs.Words.{words}
 use Rattle.script_grammar.proofs.words.word.Given as goal
 
 abbrev pub invariant-loop : goal.invariant-loop

@@ -1,5 +1,5 @@
 use Rattle.std.proofs.Common.{◌≡◌, ◌+◌, ◌≤◌, length}
-use Rattle.script_grammar.specs.Faults.{words}
+use Rattle.script_grammar.specs.Words.{words}
 use Rattle.script_grammar.proofs.words.word_count.Given as goal
 
 abbrev pub invariant-loop-after : goal.invariant-loop-after

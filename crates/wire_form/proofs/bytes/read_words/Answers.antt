@@ -1,6 +1,7 @@
 use Rattle.std.proofs.Common.{arith, ◌<◌, ◌^◌}
 use Rattle.std.proofs.lemmas.List.{take_more_set}
-use Rattle.wire_form.proofs.ByteLemmas.{one_more_read, all_append}
+use Rattle.lists.specs.Each.{all_append}
+use Rattle.wire_form.proofs.ByteLemmas.{one_more_read}
 use Rattle.wire_form.proofs.bytes.read_words.Goals as goal
 
 pub loop-i-preserved : goal.loop-i-preserved

@@ -1,4 +1,4 @@
-use Rattle.wire_form.proofs.ByteLemmas.{same_words, words_of}
+use Rattle.wire_form.specs.ByteLaws.{same_words, words_of}
 use Rattle.wire_form.proofs.laws.bytes_and_words.Goals as goal
 
 pub returns-clause-some : goal.returns-clause-some

@@ -1,4 +1,4 @@
-use Rattle.wire_form.proofs.ContentLaws.{one_array_leaf, one_array_inner, one_tree_leaf, one_tree_inner, one_catalogue}
+use Rattle.wire_form.specs.ContentLaws.{one_array_leaf, one_array_inner, one_tree_leaf, one_tree_inner, one_catalogue}
 use Rattle.wire_form.proofs.laws.one_content.Goals as goal
 
 pub returns-clause-array_leaf : goal.returns-clause-array_leaf

@@ -1,4 +1,4 @@
-use Rattle.wire_form.proofs.LineLaws.{one_line}
+use Rattle.wire_form.specs.LineLaws.{one_line}
 use Rattle.wire_form.proofs.laws.one_log_line.Goals as goal
 
 pub returns : goal.returns

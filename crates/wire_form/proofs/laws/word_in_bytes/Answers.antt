@@ -2,7 +2,7 @@ use Rattle.std.proofs.Common.{◌*◌, [], take, drop, sym, ap, ◌∙◌}
 use Rattle.std.proofs.lemmas.List.{append-nil}
 use Rattle.std.proofs.lemmas.Option.{get_or_from_slice_get}
 use Rattle.wire_form.specs.Bytes.{bytes_of_word, bytes_of}
-use Rattle.wire_form.proofs.ByteLemmas.{length-bytes_of_word}
+use Rattle.wire_form.specs.ByteLaws.{length-bytes_of_word}
 use Rattle.wire_form.proofs.FieldLemmas.{item_at}
 use Rattle.wire_form.proofs.laws.word_in_bytes.Goals as goal
 

@@ -1,6 +1,7 @@
 use Rattle.wire_form.specs.LogLine.{IsChange, change_words}
+use Rattle.wire_form.specs.LineLaws.{change_fits}
 use Rattle.wire_form.proofs.ItemLemmas.{read_as_bytes}
-use Rattle.wire_form.proofs.LineLemmas.{change_fits, three_parts}
+use Rattle.wire_form.proofs.LineLemmas.{three_parts}
 use Rattle.wire_form.proofs.log_line.read_change.Goals as goal
 
 pub returns : goal.returns

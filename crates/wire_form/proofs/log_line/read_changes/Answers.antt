@@ -1,7 +1,8 @@
 use Rattle.std.proofs.Common.{length-append, refl, arith}
 use Rattle.std.proofs.lemmas.Bool.{false≢true}
 use Rattle.serial_model.specs.declared.number.Change.{Change}
-use Rattle.wire_form.specs.LogLine.{IsKeyBelow, IsChange, change_bytes, key_of}
+use Rattle.serial_model.specs.Keys.{IsKeyBelow}
+use Rattle.wire_form.specs.LogLine.{IsChange, change_bytes, key_of}
 use Rattle.wire_form.proofs.ItemLemmas.{rejoined, Takes-more, no_item, falls, all_read}
 use Rattle.wire_form.proofs.LineLemmas.{as_long}
 use Rattle.wire_form.proofs.log_line.read_changes.Goals as goal

@@ -1,5 +1,6 @@
 use Rattle.std.proofs.Common.{◌≡◌, ◌-◌, ◌*◌, length}
-use Rattle.wire_form.specs.LogLine.{IsKeyBelow, IsChange, change_bytes, key_of}
+use Rattle.serial_model.specs.Keys.{IsKeyBelow}
+use Rattle.wire_form.specs.LogLine.{IsChange, change_bytes, key_of}
 use Rattle.wire_form.proofs.ItemLemmas.{Takes}
 use Rattle.wire_form.proofs.log_line.read_changes.Given as goal
 

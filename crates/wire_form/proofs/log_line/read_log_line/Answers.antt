@@ -1,7 +1,8 @@
 use Rattle.std.proofs.Common.{arith}
-use Rattle.wire_form.proofs.LineLemmas.{line_parts, same_count, same_number, changes_are_items, is_line}
+use Rattle.wire_form.proofs.LineLemmas.{same_count, same_number, changes_are_items, is_line}
 use Rattle.wire_form.proofs.log_line.read_log_line.Goals.{in_default-via-in-Some+in_default, in_default-via-in_default}
 use Rattle.wire_form.proofs.log_line.read_log_line.Goals as goal
+use Rattle.wire_form.specs.LineLaws.{line_parts}
 
 pub returns-then-bytes-lt16-clause-err : goal.returns-then-bytes-lt16-clause-err
 returns-then-bytes-lt16-clause-err c commit rest line e = omega (arith, (line_parts _ rest commit e).room)

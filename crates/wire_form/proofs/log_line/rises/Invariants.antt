@@ -1,6 +1,7 @@
 use Rattle.std.proofs.Common.{◌↔◌, drop, map}
 use Rattle.wire_form.specs.Items.{Rises, RisesAfter}
-use Rattle.wire_form.specs.LogLine.{IsKeyBelow, key_of}
+use Rattle.serial_model.specs.Keys.{IsKeyBelow}
+use Rattle.wire_form.specs.LogLine.{key_of}
 use Rattle.wire_form.proofs.log_line.rises.Given as goal
 
 -- all keys rise exactly if those that are left rise after the last one

@@ -1,9 +1,15 @@
-use Rattle.std.proofs.Common.{◌≡◌, ap, sym, ◌∙◌, inl, inr, length, Err}
+use Rattle.std.proofs.Common.{◌≡◌, Option, ap, refl, sym, subst, ◌∙◌, inl, inr, length, Err, rules}
 use Rattle.std.proofs.lemmas.Result.{err_from_is_err_and}
 use Rattle.wire_form.specs.Savepoint.{IsSavepoint}
+use Rattle.std.specs.Prelude.{IfSome}
+use Rattle.std.specs.Option.{option_map}
+use Rattle.log_writer.specs.declared.saved.Saved.{Saved}
+use Rattle.log_writer.specs.Points.{IsSaved, saved_of}
+use Rattle.outside.specs.Disk.{IfTold}
 use Rattle.outside.specs.Moments.{only_same}
 use Rattle.log_writer.specs.declared.save.SaveOpen.TheVariants.{Damaged}
-use Rattle.log_writer.proofs.Places.{newer_either}
+use Rattle.log_writer.specs.Save.{Names}
+use Rattle.log_writer.proofs.Places.{newer_either, newest_saved}
 use Rattle.log_writer.proofs.save.Save.load.Goals as goal
 
 pub returns-in_err-first-clause-damaged : goal.returns-in_err-first-clause-damaged
@@ -28,8 +34,9 @@ pub invariant_of-result : goal.invariant_of-result
 invariant_of-result g c =
     rw c.newer_of-newest.ensures (newer_either IsSavepoint c.in_ok-first.first c.in_ok-second.second c.in_ok-first.ensures.point c.in_ok-second.ensures.point)
 
-pub returns-clause-names : goal.returns-clause-names
-returns-clause-names g c = λ file told.
+pub returns-clause-found : goal.returns-clause-found
+returns-clause-found g c =
+    let names : IfTold (g.D.Disk.tells c.args.disk.now) (λ file. Names file c.newer_of-newest.result) = λ file told.
     let size : length file ≡ 1024 = sym (c.in-Ok.ensures.value file told) ∙ c.if-len-ne-SIZE.false in
     let now = c.len.ensures.told ∙ told in
     record {
@@ -39,12 +46,18 @@ returns-clause-names g c = λ file told.
       in_first = c.in_ok-first.ensures.holds file now size;
       in_second = c.in_ok-second.ensures.holds file (c.read_place.ensures.told ∙ now) size;
       counts = c.newer_of-newest.ensures;
-    }
-
-pub returns-clause-stored : goal.returns-clause-stored
-returns-clause-stored g c = λ only file told.
-    let was = sym (c.read_place-2.ensures.told ∙ c.read_place.ensures.told ∙ c.len.ensures.told) ∙ told in
+    } in
+    let says : c.map-saved.result ≡ option_map saved_of c.newer_of-newest.result = search rules in
+    let newest : IfSome c.newer_of-newest.result IsSavepoint = invariant_of-result g c in
     record {
-      only = only_same c.read_place-2.ensures.moments (only_same c.read_place.ensures.moments (only_same c.len.ensures.moments (only file was)));
-      names = returns-clause-names g c file was;
+      names = names;
+      says = says;
+      ranges = subst (λ (o : Option Saved). IfSome o IsSaved) (sym says) (newest_saved c.newer_of-newest.result newest);
+      up = refl;
+      stored = λ only file told.
+          let was = sym (c.read_place-2.ensures.told ∙ c.read_place.ensures.told ∙ c.len.ensures.told) ∙ told in
+          record {
+            only = only_same c.read_place-2.ensures.moments (only_same c.read_place.ensures.moments (only_same c.len.ensures.goes.moments (only file was)));
+            names = names file was;
+          };
     }

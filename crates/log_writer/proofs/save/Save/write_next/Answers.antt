@@ -28,12 +28,12 @@ returns-in_err-write_and_sync-clause-any_moment g c = λ file told.
     let now = c.requires.stored file told in
     runs_then
     (closing next file now.names (c.close.ensures.any_moment file told now.only))
-    (filling next file now.names (c.in_ok-close.ensures.durable file told) c.write_and_sync.ensures.moments)
+    (filling next file now.names (c.in_ok-close.ensures.durable file told) c.write_and_sync.ensures.through.moments)
 
 pub write_and_sync-requires-2 : goal.write_and_sync-requires-2
 write_and_sync-requires-2 g c = λ bytes told.
     let next = is_next c.place_of-at.ensures.place c.requires.point c.requires.next c.write_savepoint.array_long c.write_savepoint.ensures in
-    let mid = was_told _ _ c.write_and_sync.ensures.told bytes told in
+    let mid = was_told _ _ c.write_and_sync.ensures.through.told bytes told in
     let was = was_told _ _ c.close.ensures.told mid.0 mid.1 in
     let is = same_told told (c.in_ok-write_and_sync.ensures.written _ (c.in_ok-close.ensures.closed was.0 was.1)) in
     third_within next was.0 (c.requires.stored was.0 was.1).names bytes is
@@ -46,14 +46,14 @@ returns-clause-any_moment g c = λ file told.
     runs_then
     (closing next file now.names (c.close.ensures.any_moment file told now.only))
     (runs_then
-    (filling next file now.names (c.in_ok-close.ensures.durable file told) c.write_and_sync.ensures.moments)
-    (opening next file now.names (c.in_ok-write_and_sync.ensures.durable _ shut) c.write_and_sync-2.ensures.moments))
+    (filling next file now.names (c.in_ok-close.ensures.durable file told) c.write_and_sync.ensures.through.moments)
+    (opening next file now.names (c.in_ok-write_and_sync.ensures.durable _ shut) c.write_and_sync-2.ensures.through.moments))
 
 pub returns-clause-stored : goal.returns-clause-stored
 returns-clause-stored g c = on_ok_both c.write_and_sync-2.result (λ written durable bytes told.
     let next = is_next c.place_of-at.ensures.place c.requires.point c.requires.next c.write_savepoint.array_long c.write_savepoint.ensures in
-    let full = was_told _ _ c.write_and_sync-2.ensures.told bytes told in
-    let mid = was_told _ _ c.write_and_sync.ensures.told full.0 full.1 in
+    let full = was_told _ _ c.write_and_sync-2.ensures.through.told bytes told in
+    let mid = was_told _ _ c.write_and_sync.ensures.through.told full.0 full.1 in
     let was = was_told _ _ c.close.ensures.told mid.0 mid.1 in
     let filled = c.in_ok-write_and_sync.ensures.written _ (c.in_ok-close.ensures.closed was.0 was.1) in
     stored_now next was.0 (c.requires.stored was.0 was.1).names bytes (same_told told (written _ filled)) (durable _ filled)) c.write_and_sync-2.ensures.written c.write_and_sync-2.ensures.durable

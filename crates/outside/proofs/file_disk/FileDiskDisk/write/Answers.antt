@@ -1,11 +1,16 @@
-use Rattle.std.proofs.Common.{length, arith}
+use Rattle.std.proofs.Common.{length, arith, rules}
 use Rattle.outside.specs.Ranges.{torn_same}
 use Rattle.outside.proofs.file_disk.FileDiskDisk.write.Goals as goal
 
-pub returns-clause-moments : goal.returns-clause-moments
-returns-clause-moments c = record {
-  later = omega (arith, c.in_ok-begin.ensures.ok, c.end.ensures.clock);
-  kept = λ m d le left. left;
-  told = λ m d le left. left;
-  from = λ m d gt le left. (d, left, torn_same c.args.at (length c.args.bytes.now) d);
+pub returns-clause-goes : goal.returns-clause-goes
+returns-clause-goes c = record {
+  moments = record {
+    later = omega (arith, c.in_ok-begin.ensures.ok, c.end.ensures.clock);
+    kept = λ m d le left. left;
+    no_new = λ m d le left. left;
+    from = λ m d gt le left. (d, left, torn_same c.args.at (length c.args.bytes.now) d);
+  };
+  each = record { each = λ m d e gt le was step. tt };
+  ticks = search rules;
+  cause = search rules;
 }

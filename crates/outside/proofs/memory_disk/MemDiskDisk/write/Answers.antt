@@ -1,11 +1,12 @@
-use Rattle.std.proofs.Common.{rules}
-use Rattle.outside.proofs.MadeCalls.{goes_none}
+use Rattle.std.proofs.Common.{rules, arith}
+use Rattle.outside.proofs.MadeCalls.{calls_none}
 use Rattle.outside.proofs.memory_disk.MemDiskDisk.write.Goals as goal
 
-pub returns-in_default-clause-moments : goal.returns-in_default-clause-moments
-returns-in_default-clause-moments c = goes_none _ _ _ c.refuse.ensures.first (search rules)
+pub returns-in_default-clause-goes : goal.returns-in_default-clause-goes
+returns-in_default-clause-goes c =
+    calls_none _ _ _ _ _ c.refuse.ensures.first (search rules) (omega arith) c.refuse.ensures.later c.refuse.ensures.rose
 
-pub returns-in_default-overwritten-clause-moments :
-    goal.returns-in_default-overwritten-clause-moments
-returns-in_default-overwritten-clause-moments c =
-    goes_none _ _ _ c.refuse-in_default-overwritten.ensures.first (search rules)
+pub returns-in_default-overwritten-clause-goes :
+    goal.returns-in_default-overwritten-clause-goes
+returns-in_default-overwritten-clause-goes c =
+    calls_none _ _ _ _ _ c.refuse-in_default-overwritten.ensures.first (search rules) (omega arith) c.refuse-in_default-overwritten.ensures.later c.refuse-in_default-overwritten.ensures.rose

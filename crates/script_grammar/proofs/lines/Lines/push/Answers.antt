@@ -1,19 +1,24 @@
-use Rattle.std.proofs.Common.{◌≡◌, ◌∙◌, arith, length-append, length}
-use Rattle.script_grammar.proofs.FlatLines.{lines_in-append, lines_in-push, AreWithin-append, AreWithin-push}
+use Rattle.std.proofs.Common.{take, refl, ◌∙◌}
+use Rattle.script_grammar.proofs.FlatLines.{lines_in-append, lines_in-push, AreWithin-push}
+use Rattle.script_grammar.proofs.FlatRounds.{on_err}
 use Rattle.script_grammar.proofs.lines.Lines.push.Goals as goal
 
-pub returns-in_default-push-clause-memory : goal.returns-in_default-push-clause-memory
-returns-in_default-push-clause-memory c =
-    rw (c.in-Ok.ensures.items, c.in_default-push.ensures.items)
-    (lines_in-append c.self.inside.ops.items c.args.ops.now c.self.inside.spans.items c.self.invariant ∙ c.self.view_is)
+pub returns-in_err-append-clause-memory : goal.returns-in_err-append-clause-memory
+returns-in_err-append-clause-memory c =
+    let m = c.in_err-append.ensures.memory in
+    on_err c.from_residual.result _ (rw (m.1, ← c.self.view_is) (lines_in-append c.self.inside.ops (take m.0 c.args.ops.now) c.self.inside.spans c.self.invariant))
+
+pub returns-in_err-push-clause-memory : goal.returns-in_err-push-clause-memory
+returns-in_err-push-clause-memory c =
+    on_err c.from_residual-in_err-push.result _ (rw (c.in_err-push.ensures.memory, c.in_ok-append.ensures.ok, ← c.self.view_is)
+    (lines_in-append c.self.inside.ops c.args.ops.now c.self.inside.spans c.self.invariant))
 
 pub invariant_of-self-2 : goal.invariant_of-self-2
 invariant_of-self-2 c =
-    rw (c.in-Ok.ensures.items, c.in-Ok-push.ensures.items)
-    (AreWithin-push _ _ _ (AreWithin-append _ _ _ c.self.invariant) (omega (arith, length-append c.self.inside.ops.items c.args.ops.now)))
+    rw (c.in_ok-append.ensures.ok, c.in_ok-push.ensures.ok)
+    (AreWithin-push c.self.inside.ops c.args.ops.now c.self.inside.spans _ refl (c.in-Ok.ensures.1 ∙ c.len.ensures) c.requires c.self.invariant)
 
 pub returns-clause-ok : goal.returns-clause-ok
 returns-clause-ok c =
-    let start : c.len.result ≡ length c.self.inside.ops.items = omega arith in
-    rw (c.in-Ok.ensures.items, c.in-Ok-push.ensures.items, start, ← c.self.view_is)
-    (lines_in-push c.self.inside.ops.items c.args.ops.now c.self.inside.spans.items c.args.worker c.self.invariant)
+    rw (c.in_ok-append.ensures.ok, c.in_ok-push.ensures.ok, ← c.self.view_is)
+    (lines_in-push c.self.inside.ops c.args.ops.now c.self.inside.spans _ refl (c.in-Ok.ensures.1 ∙ c.len.ensures) c.self.invariant)

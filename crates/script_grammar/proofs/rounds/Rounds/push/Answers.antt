@@ -1,8 +1,9 @@
 use Rattle.std.proofs.Common.{[], ◌∷◌}
+use Rattle.script_grammar.specs.Script.{Worker}
 use Rattle.script_grammar.proofs.FlatRounds.{rounds_more, on_ok}
 use Rattle.script_grammar.proofs.rounds.Rounds.push.Goals as goal
 
 pub returns-clause-ok : goal.returns-clause-ok
 returns-clause-ok c =
     on_ok c.push.result _ _ c.push.ensures.ok (λ e. rw (e, ← c.self.view_is)
-    (rounds_more c.self.inside.lines (record { worker = c.args.worker; ops = c.args.ops.now } ∷ []) c.self.inside.joined.items c.self.inside.start c.self.invariant.0 c.self.invariant.1))
+    (rounds_more c.self.inside.lines (Worker c.args.worker c.args.ops.now ∷ []) c.self.inside.joined c.self.inside.start c.self.invariant.0 c.self.invariant.1))

@@ -1,0 +1,3 @@
+pub mod Fronts
+pub mod Each
+pub mod Elements

@@ -1,0 +1,12 @@
+-- Where a runtime stands before and after a round.
+use Rattle.std.specs.Prelude.{Bool, List}
+use Rattle.serial_model.specs.State.{State}
+use Rattle.serial_model.specs.declared.decl.Decl.{Decl}
+use Rattle.serial_model.specs.declared.number.Number.{Number}
+
+-- the storages and their contents, the number that the next commit gets, and whether a round ended the run
+pub record Standing : Type 0 where
+  pub decls : List Decl
+  pub state : State
+  pub clock : Number
+  pub ended : Bool

@@ -1,7 +1,7 @@
 pub mod Reading
 pub mod Courses
-pub mod Told
-pub mod FewOutcomes
-pub mod Passing
 pub mod RoundsJoined
+pub mod Limits
 pub mod SoFar
+pub mod Statuses
+pub mod Told

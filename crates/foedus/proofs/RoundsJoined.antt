@@ -6,12 +6,16 @@ use Rattle.std.specs.Prelude.{◌==◌}
 use Rattle.std.proofs.lemmas.List.{append-nil}
 use Rattle.std.proofs.lemmas.List.Elements.{All-from_recursion, filter-append, recursion_from_All}
 use Rattle.std.proofs.lemmas.List.Sorted.{All-permutation, IsPermutation-append}
+use Rattle.lists.specs.Each.{all_append}
 use Rattle.serial_model.specs.State.{State}
-use Rattle.serial_model.specs.History.{AnswersAlong, Entry, InOrder, IsBelow, Precedes, Rises, state_after, state_after_all}
+use Rattle.serial_model.specs.History.{AnswersAlong, Entry, InOrder, Precedes, Rises, state_after, state_after_all}
+use Rattle.serial_model.specs.Numbers.{IsBelow}
 use Rattle.serial_model.specs.declared.decl.Decl.{Decl}
 use Rattle.serial_model.specs.declared.number.Number.{Number}
-use Rattle.script_grammar.specs.Script.{Round, worker_lines}
-use Rattle.tx_script.specs.Run.{AreOfFirst, IsBetween, IsRun, OneForEach, Ran, RunsClock, RunsClocks, entries_of, entries_of_round, joined, of_worker}
+use Rattle.script_grammar.specs.Script.{Round}
+use Rattle.tx_script.specs.Run.{AdvancesTo, AreOfFirst, IsBetween, IsOfRound, IsRun, Ran, RunsClock, RunsClocks, entries_of, entries_of_round, joined, of_worker}
+use Rattle.tx_script.specs.declared.answer.Answer.{Answer}
+use Rattle.tx_script.specs.declared.answer.Answer.TheVariants as answers
 
 -- ---- lists in order
 
@@ -20,15 +24,18 @@ precedes-append : (R : Entry → Entry → Type 0) (e : Entry) (xs ys : List Ent
 precedes-append R e [] ys first then = then
 precedes-append R e (x ∷ xs) ys first then = (first.0, precedes-append R e xs ys first.1 then)
 
+-- an entry with R to all that have P precedes those
 precedes_all : (R : Entry → Entry → Type 0) (P : Entry → Type 0) (e : Entry) (ys : List Entry) → ((y : Entry) → P y → R e y) → AllByRecursion P ys → Precedes R e ys
 precedes_all R P e [] has all = tt
 precedes_all R P e (y ∷ ys) has all = (has y all.0, precedes_all R P e ys has all.1)
 
+-- two lists in order, where all of the first have R to all of the second
 in_order-append : (R : Entry → Entry → Type 0) (P Q : Entry → Type 0) (xs ys : List Entry) → ((x y : Entry) → P x → Q y → R x y) → AllByRecursion P xs → AllByRecursion Q ys → InOrder R xs → InOrder R ys → InOrder R (xs ++ ys)
 in_order-append R P Q [] ys has before after first then = then
 in_order-append R P Q (x ∷ xs) ys has before after first then =
     (precedes-append R x xs ys first.0 (precedes_all R Q x ys (λ y. has x y before.0) after), in_order-append R P Q xs ys has before.1 after first.1 then)
 
+-- what holds of all entries holds of those that are kept
 all-kept : (P : Entry → Type 0) (p : Entry → Bool) (xs : List Entry) → AllByRecursion P xs → AllByRecursion P (filter p xs)
 all-kept P p [] all = tt
 all-kept P p (x ∷ xs) all = elim (p x) as (λ b. AllByRecursion P (cond b (x ∷ filter p xs) (filter p xs))) [
@@ -36,6 +43,7 @@ all-kept P p (x ∷ xs) all = elim (p x) as (λ b. AllByRecursion P (cond b (x �
   | false ↦ all-kept P p xs all.1
 ]
 
+-- what holds of all entries holds of them in another order
 all-reordered : (P : Entry → Type 0) (xs ys : List Entry) → IsPermutation xs ys → AllByRecursion P xs → AllByRecursion P ys
 all-reordered P xs ys same all = recursion_from_All P ys (All-permutation P xs ys same (All-from_recursion P xs all))
 
@@ -46,12 +54,21 @@ abbrev pub clock_from : Number → List Ran → Number
 clock_from clock [] = clock
 clock_from clock (ran ∷ rans) = clock_from (joined ran.end) rans
 
+-- the entry has a number below the clock, in an epoch that is over
 abbrev pub IsPast : Number → Entry → Type 0
 IsPast clock e = (e.number.epoch < clock.epoch) × (e.number.draw < clock.draw)
 
+-- the entry has a number from the clock on
 abbrev pub IsFrom : Number → Entry → Type 0
 IsFrom clock e = (clock.epoch ≤ e.number.epoch) × (clock.draw ≤ e.number.draw)
 
+-- answers never take an epoch back
+advances_later : (first : ℕ) (answers : List Answer) (last : ℕ) → AdvancesTo first answers last → first ≤ last
+advances_later first [] last same = omega arith
+advances_later first (answers.Epoch epoch ∷ more) last up = let next = up.0 in let rest = advances_later epoch more last up.1 in omega arith
+advances_later first (_ ∷ more) last up = advances_later first more last up
+
+-- the clock never falls along the rounds
 clock_from-later : (index : ℕ) (clock : Number) (rans : List Ran) (rounds : List Round) → RunsClocks index clock rans rounds
     → (clock.epoch ≤ (clock_from clock rans).epoch) × (clock.draw ≤ (clock_from clock rans).draw)
 clock_from-later index clock [] rounds runs = (omega arith, omega arith)
@@ -61,20 +78,18 @@ clock_from-later index clock (ran ∷ rans) (round ∷ rounds) runs =
     let epoch : ran.begin.epoch ≡ clock.epoch = ap (λ (n : Number). n.epoch) runs.0 in
     let draw : ran.begin.draw ≡ clock.draw = ap (λ (n : Number). n.draw) runs.0 in
     let own = runs.1 in
-    (omega (arith, rest.0, own.epoch), omega (arith, rest.1, own.draw))
+    (omega (arith, rest.0, advances_later ran.begin.epoch ran.answers ran.end.epoch own.epoch), omega (arith, rest.1, own.draw))
 
+-- the commits of a round are past once its join has advanced the epoch
 past_of_round : (clock : Number) (ran : Ran) (es : List Entry) → ran.end.epoch < clock.epoch → ran.end.draw ≤ clock.draw → AllByRecursion (λ e. IsBetween ran.begin ran.end e.number) es → AllByRecursion (IsPast clock) es
 past_of_round clock ran [] epoch draw all = tt
 past_of_round clock ran (e ∷ es) epoch draw all =
     let own = all.0 in ((omega (arith, own.epoch_to), omega (arith, own.draw_before)), past_of_round clock ran es epoch draw all.1)
 
+-- the commits of a round have numbers from its begin on
 from_of_round : (ran : Ran) (es : List Entry) → AllByRecursion (λ e. IsBetween ran.begin ran.end e.number) es → AllByRecursion (IsFrom ran.begin) es
 from_of_round ran [] all = tt
 from_of_round ran (e ∷ es) all = let own = all.0 in ((own.epoch_from, own.draw_from), from_of_round ran es all.1)
-
-all-append : (P : Entry → Type 0) (xs ys : List Entry) → AllByRecursion P xs → AllByRecursion P ys → AllByRecursion P (xs ++ ys)
-all-append P [] ys first then = then
-all-append P (x ∷ xs) ys first then = (first.0, all-append P xs ys first.1 then)
 
 -- all commits so far are before the clock
 past_so_far : (index : ℕ) (clock : Number) (rans : List Ran) (rounds : List Round) → RunsClocks index clock rans rounds → AllByRecursion (IsPast (clock_from clock rans)) (entries_of index rans rounds)
@@ -83,12 +98,13 @@ past_so_far index clock (ran ∷ rans) [] runs = absurd runs
 past_so_far index clock (ran ∷ rans) (round ∷ rounds) runs =
     let later = clock_from-later (index + 1) (joined ran.end) rans rounds runs.2 in
     let own = runs.1 in
-    all-append (IsPast (clock_from (joined ran.end) rans)) (entries_of_round index ran round) (entries_of (index + 1) rans rounds)
+    all_append (IsPast (clock_from (joined ran.end) rans)) (entries_of_round index ran round) (entries_of (index + 1) rans rounds)
     (past_of_round (clock_from (joined ran.end) rans) ran (entries_of_round index ran round) (omega (arith, later.0)) (omega (arith, later.1)) own.numbers)
     (past_so_far (index + 1) (joined ran.end) rans rounds runs.2)
 
 -- ---- one more round
 
+-- the commits of one round more stand behind those of the rounds before it
 entries_of-push : (index : ℕ) (rans : List Ran) (ran : Ran) (rounds : List Round) (round : Round) → slice_get rounds (length rans) ≡ Some round → AreOfFirst rans rounds
     → entries_of index (rans ++ ran ∷ []) rounds ≡ entries_of index rans rounds ++ entries_of_round (index + length rans) ran round
 entries_of-push index [] ran [] round at first = cc
@@ -101,12 +117,14 @@ entries_of-push index (q ∷ rans) ran (r ∷ rounds) round at first =
     ap (λ es. entries_of_round index q r ++ es) (entries_of-push (index + 1) rans ran rounds round at first.1 ∙ ap (λ i. entries_of (index + 1) rans rounds ++ entries_of_round i ran round) later)
     ∙ sym (append_assoc (entries_of_round index q r) (entries_of (index + 1) rans rounds) (entries_of_round (index + length (q ∷ rans)) ran round))
 
-are_of_first-push : (rans : List Ran) (ran : Ran) (rounds : List Round) (round : Round) → slice_get rounds (length rans) ≡ Some round → AreOfFirst rans rounds → OneForEach (worker_lines round) ran.outcomes → AreOfFirst (rans ++ ran ∷ []) rounds
+-- the rounds that were run are the first ones, with one more too
+are_of_first-push : (rans : List Ran) (ran : Ran) (rounds : List Round) (round : Round) → slice_get rounds (length rans) ≡ Some round → AreOfFirst rans rounds → IsOfRound ran round → AreOfFirst (rans ++ ran ∷ []) rounds
 are_of_first-push [] ran [] round at first each = cc
-are_of_first-push [] ran (r ∷ rounds) round at first each = let same : r ≡ round = cc in (subst (λ x. OneForEach (worker_lines x) ran.outcomes) (sym same) each, tt)
+are_of_first-push [] ran (r ∷ rounds) round at first each = let same : r ≡ round = cc in (subst (λ x. IsOfRound ran x) (sym same) each, tt)
 are_of_first-push (q ∷ rans) ran [] round at first each = absurd first
 are_of_first-push (q ∷ rans) ran (r ∷ rounds) round at first each = (first.0, are_of_first-push rans ran rounds round at first.1 each)
 
+-- the clocks run on through one round more
 runs_clocks-push : (index : ℕ) (clock : Number) (rans : List Ran) (ran : Ran) (rounds : List Round) (round : Round) → slice_get rounds (length rans) ≡ Some round
     → RunsClocks index clock rans rounds → ran.begin ≡ clock_from clock rans → RunsClock (index + length rans) ran round → RunsClocks index clock (rans ++ ran ∷ []) rounds
 runs_clocks-push index clock [] ran [] round at runs begins own = cc
@@ -120,10 +138,12 @@ runs_clocks-push index clock (q ∷ rans) ran (r ∷ rounds) round at runs begin
 
 -- ---- serial runs in a row
 
+-- the state after two runs in a row
 state_after_all-append : (decls : List Decl) (s : State) (xs ys : List Entry) → state_after_all decls s (xs ++ ys) ≡ state_after_all decls (state_after_all decls s xs) ys
 state_after_all-append decls s [] ys = refl
 state_after_all-append decls s (x ∷ xs) ys = state_after_all-append decls (state_after decls s x) xs ys
 
+-- two serial runs in a row answer as one
 answers-append : (decls : List Decl) (s : State) (xs ys : List Entry) → AnswersAlong decls xs s → AnswersAlong decls ys (state_after_all decls s xs) → AnswersAlong decls (xs ++ ys) s
 answers-append decls s [] ys first then = then
 answers-append decls s (x ∷ xs) ys first then = (first.0, answers-append decls (state_after decls s x) xs ys first.1 then)

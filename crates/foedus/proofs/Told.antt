@@ -1,112 +1,116 @@
 -- From texts on their way to what the sink holds, and to the answer.
-use Rattle.std.proofs.Common.{◌≡◌, inl, inr, ◌∙◌, sym, ap, subst, refl, ℕ, List, [], ◌++◌, Option, Result, Ok, arith}
+use Rattle.std.proofs.Common.{◌≡◌, inl, inr, ◌∙◌, sym, ap, subst, refl, ℕ, ◌≤◌, List, [], ◌∷◌, ◌++◌, Option, Some, None, Result, Ok, Err, arith}
+use Rattle.std.specs.Prelude.{IfOk, OnOk}
+use Rattle.std.specs.List.{AllByRecursion}
 use Rattle.std.specs.Io.KnownBytes.{Appends}
 use Rattle.outside.specs.Stream.{TakesPrefix}
+use Rattle.outside.specs.declared.fault.Failed.{Failed}
+use Rattle.outside.specs.declared.vault.Vault.{Vault}
 use Rattle.std.proofs.lemmas.List.{append-nil}
-use Rattle.script_grammar.specs.Script.{Bytes}
-use Rattle.text_output.specs.Output.{Output, Adds, Breaks}
-use Rattle.text_output.specs.Printed.{adds_as, adds_then, breaks_as, breaks_then}
+use Rattle.text_output.specs.Output.{Bytes, Output, Adds, Breaks, Prints}
+use Rattle.text_output.specs.Printed.{adds_as, adds_then, breaks_then}
+use Rattle.tx_script.specs.Causes.{AllCaused}
+use Rattle.tx_script.specs.Run.{Ran}
 use Rattle.tx_script.specs.Text.{run_text}
 use Rattle.command_line.specs.Options.{command_of}
 use Rattle.command_line.specs.declared.command.Command.{Command}
-use Rattle.command_line.specs.declared.command.Command.TheVariants.{Run, Refused}
-use Rattle.command_line.specs.declared.command.RunOptions.{RunOptions}
 use Rattle.foedus.specs.declared.ending.Ending.{Ending}
-use Rattle.foedus.specs.declared.ending.Ending.TheVariants.{Finished, NoScript, Usage, ReadFault, AtLimit, NoMemory}
-use Rattle.foedus.specs.Ending.{fresh, last_line, output_text, status_of}
-use Rattle.foedus.specs.Main.{Adding, Answers, Breaking, Course, Holds, Prints, Stops}
+use Rattle.foedus.specs.declared.ending.Ending.TheVariants.{Finished, NoScript, Usage, ReadFault, NoDevice, AtLimit, NoMemory}
+use Rattle.foedus.specs.Ending.{last_line, output_text, status_of}
+use Rattle.foedus.specs.Main.{Answers, Came, Holds, IsNoSave, IsNoSnap, IsNotDurable, SavesNothing, Shown, Snapshots, Streams, fresh}
+use Rattle.foedus.specs.OnTheWay.{AddsRun, Takes, status_told}
+use Rattle.foedus.proofs.Courses.{shown_as}
+use Rattle.foedus.proofs.Limits.{no_answers}
 
 -- ---- what the sink holds
 
-prefix_from : (old new : Output) (text : Bytes) → old.waiting ≡ [] → Breaks old new text → TakesPrefix old.held new.held text
+-- a fault within a text, while nothing waited before it
+pub prefix_from : (old new : Output) (text : Bytes) → old.waiting ≡ [] → Breaks old new text → TakesPrefix old.held new.held text
 prefix_from old new text empty breaks = let p = breaks.prefix in (p.0, p.1, ap (λ w. w ++ text) (sym empty) ∙ p.2, p.3)
 
--- a fault within the run's text, within the last line, and within the last write
-pub stops_in_run : {command : Command} {bytes : Bytes} {left : Option Bytes} {old new : Output} → old.waiting ≡ [] → Breaking command bytes left old new → Stops command bytes left old.held new.held
-stops_in_run {command = command} {old = old} {new = new} empty broke = record {
-  rans = broke.rans;
-  ending = broke.ending;
-  course = broke.course;
-  text = prefix_from old new (output_text command broke.rans broke.ending) empty broke.breaks;
-}
-
-pub stops_in_last_line : {command : Command} {bytes : Bytes} {left : Option Bytes} {old mid new : Output} {ending : Ending} → old.waiting ≡ [] → Adding command bytes left old mid ending → Breaks mid new (last_line ending)
-    → Stops command bytes left old.held new.held
-stops_in_last_line {old = old} {new = new} {ending = ending} empty added breaks = record {
-  rans = added.rans;
-  ending = ending;
-  course = added.course;
-  text = prefix_from old new (run_text added.rans ++ last_line ending) empty (breaks_then added.adds breaks);
-}
-
-pub stops_in_flush : {command : Command} {bytes : Bytes} {left : Option Bytes} {old mid last new : Output} {ending : Ending} → old.waiting ≡ [] → Adding command bytes left old mid ending → Adds mid last (last_line ending) → Breaks last new []
-    → Stops command bytes left old.held new.held
-stops_in_flush {old = old} {new = new} {ending = ending} empty added line breaks = record {
-  rans = added.rans;
-  ending = ending;
-  course = added.course;
-  text = prefix_from old new (run_text added.rans ++ last_line ending) empty (breaks_as (append-nil (run_text added.rans ++ last_line ending)) (breaks_then (adds_then added.adds line) breaks));
-}
-
-appends_from : (old new : Output) (text : Bytes) → old.waiting ≡ [] → new.waiting ≡ [] → Adds old new text → Appends old.held new.held text
+-- a whole text, where nothing waited before it and nothing does after it
+pub appends_from : (old new : Output) (text : Bytes) → old.waiting ≡ [] → new.waiting ≡ [] → Adds old new text → Appends old.held new.held text
 appends_from old new text empty still adds =
     let all : adds.out ≡ text = sym (append-nil adds.out) ∙ ap (λ w. adds.out ++ w) (sym still) ∙ adds.whole ∙ ap (λ w. w ++ text) empty in
     subst (λ t. Appends old.held new.held t) all adds.written
 
--- all of the text was written
-pub prints_all : {command : Command} {bytes : Bytes} {left : Option Bytes} {old mid last new : Output} {ending : Ending} → old.waiting ≡ [] → new.waiting ≡ [] → Adding command bytes left old mid ending → Adds mid last (last_line ending) → Adds last new []
-    → Prints command bytes left old.held new.held ending
-prints_all {old = old} {new = new} {ending = ending} empty still added line written = record {
-  rans = added.rans;
-  course = added.course;
-  text = appends_from old new (run_text added.rans ++ last_line ending) empty still (adds_as (append-nil (run_text added.rans ++ last_line ending)) (adds_then (adds_then added.adds line) written));
-}
+-- a fault within the run's text
+pub came_broken : {bytes : Bytes} {left : Option Bytes} (command : Command) (old new : Output) (e f : Failed) → old.waiting ≡ [] → Came fresh command bytes left (AddsRun command old new (Err e))
+    → Came fresh command bytes left (Takes command old.held new.held (Err f))
+came_broken command old new e f empty = shown_as (λ rans ending broke. (broke.0, prefix_from old new (output_text command rans ending) empty broke.1))
+
+-- the run's text, and then the last line with all that waits, or a fault within these
+pub came_finished : {bytes : Bytes} {left : Option Bytes} (command : Command) (old mid new : Output) (ending : Ending) (r : Result Ending Failed) → old.waiting ≡ []
+    → Prints mid new (last_line ending) r → OnOk r (new.waiting ≡ []) → IfOk r (λ it. it ≡ ending)
+    → Came fresh command bytes left (AddsRun command old mid (Ok ending)) → Came fresh command bytes left (Takes command old.held new.held r)
+came_finished command old mid new ending (Ok it) empty line still same = shown_as (λ rans e added.
+    let whole : Adds old new (output_text command rans e) = adds_then added.2 (adds_as (ap last_line (sym added.1)) line) in
+    (added.0, added.1 ∙ sym same, appends_from old new (output_text command rans e) empty still whole))
+came_finished command old mid new ending (Err f) empty line still same = shown_as (λ rans e added.
+    let whole : Breaks old new (run_text rans ++ last_line ending) = breaks_then added.2 line in
+    (added.0, subst (λ (x : Ending). TakesPrefix old.held new.held (run_text rans ++ last_line x)) (sym added.1) (prefix_from old new (run_text rans ++ last_line ending) empty whole)))
+
+-- ---- nothing is saved
+
+-- no round saves anything
+all_save_nothing : (rans : List Ran) → AllByRecursion AllCaused rans → AllByRecursion IsNotDurable rans → AllByRecursion SavesNothing rans
+all_save_nothing [] caused durable = tt
+all_save_nothing (ran ∷ rans) caused durable =
+    (record { by_join = durable.0; by_keeper = subst (AllByRecursion IsNoSave) (sym (no_answers ran caused.0)) tt }, all_save_nothing rans caused.1 durable.1)
+
+-- no round makes a snapshot
+no_snapshots : (rans : List Ran) → AllByRecursion AllCaused rans → Snapshots rans
+no_snapshots [] caused = tt
+no_snapshots (ran ∷ rans) caused = (subst (AllByRecursion IsNoSnap) (sym (no_answers ran caused.0)) tt, no_snapshots rans caused.1)
 
 -- ---- the answer
 
-holds_all : (ending : Ending) (before after : Option Bytes) (text : Bytes) → Appends before after text → Holds (status_of ending) before after text
+-- a whole text, at the status of an ending, which is never 4
+pub holds_all : (ending : Ending) (before after : Option Bytes) (text : Bytes) → Appends before after text → Holds (status_of ending) before after text
 holds_all Finished before after text appends = appends
 holds_all (NoScript fault) before after text appends = appends
 holds_all Usage before after text appends = appends
 holds_all ReadFault before after text appends = appends
+holds_all (NoDevice device) before after text appends = appends
 holds_all (AtLimit name) before after text appends = appends
 holds_all NoMemory before after text appends = appends
 
-pub answers_printed : {command : Command} {bytes : Bytes} {left before after : Option Bytes} {ending : Ending} (words : List Bytes) (status : ℕ) → command ≡ command_of words → status ≡ status_of ending → Prints command bytes left before after ending
-    → Answers fresh words bytes left before after status
-answers_printed {bytes = bytes} {left = left} {before = before} {after = after} {ending = ending} words status asked is printed = record {
-  rans = printed.rans;
-  ending = ending;
-  course = subst (λ c. Course fresh c bytes left printed.rans ending) asked printed.course;
-  told = inl is;
-  text = subst (λ s. Holds s before after (output_text (command_of words) printed.rans ending)) (sym is) (holds_all ending before after (run_text printed.rans ++ last_line ending) printed.text);
+-- what the sink took shows the status and the text
+shows : (command : Command) (streams : Streams) (r : Result Ending Failed) (rans : List Ran) (ending : Ending)
+    → Takes command streams.held streams.holds r rans ending → Shown command streams (status_told r) rans ending
+shows command streams (Ok came) rans ending takes = record {
+  status_is = inl (ap status_of (sym takes.1));
+  text = subst (λ (e : Ending). Holds (status_of e) streams.held streams.holds (output_text command rans ending)) takes.1 (holds_all ending streams.held streams.holds (output_text command rans ending) takes.2);
+}
+shows command streams (Err failed) rans ending takes = record { status_is = inr refl; text = takes.1 }
+
+-- no join made an epoch durable
+durable_of : (command : Command) (held holds : Option Bytes) (r : Result Ending Failed) (rans : List Ran) (ending : Ending) → Takes command held holds r rans ending → AllByRecursion IsNotDurable rans
+durable_of command held holds (Ok came) rans ending takes = takes.0
+durable_of command held holds (Err failed) rans ending takes = takes.0
+
+-- what the call came to is the answer
+pub answers_of : {D : Type 0} (words : List Bytes) (streams : Streams) (vault : Vault D) (r : Result Ending Failed)
+    → Came fresh (command_of words) streams.bytes streams.left (Takes (command_of words) streams.held streams.holds r) → Answers fresh words streams vault vault (status_told r)
+answers_of words streams vault r came = record {
+  came = shown_as (shows (command_of words) streams r) came;
+  kept = record {
+    saves = all_save_nothing came.rans came.caused (durable_of (command_of words) streams.held streams.holds r came.rans came.ending came.shown);
+    vault = refl;
+  };
+  snapshots = no_snapshots came.rans came.caused;
+  stops = refl;
 }
 
-pub answers_stopped : {command : Command} {bytes : Bytes} {left before after : Option Bytes} (words : List Bytes) → command ≡ command_of words → Stops command bytes left before after → Answers fresh words bytes left before after 4
-answers_stopped {bytes = bytes} {left = left} words asked stopped = record {
-  rans = stopped.rans;
-  ending = stopped.ending;
-  course = subst (λ c. Course fresh c bytes left stopped.rans stopped.ending) asked stopped.course;
-  told = inr refl;
-  text = stopped.text;
-}
+-- a text is printed to the same sink
+pub same_printed : {T E : Type 0} (old new : Output) (text : Bytes) (r : Result T E) → Prints old new text r → new.sink ≡ old.sink
+same_printed old new text (Ok x) prints = prints.same
+same_printed old new text (Err e) prints = prints.same
 
--- ---- refused words
-
--- an answer of this type
-abbrev the_ok : (E : Type 0) → Ending → Result Ending E
-the_ok E ending = Ok ending
-
-abbrev the_ok_command : (E : Type 0) → Command → Result Command E
-the_ok_command E command = Ok command
-
-pub usage_of_status : (ending : Ending) {E : Type 0} {status : ℕ} → status ≡ status_of ending → status ≡ 2 → the_ok E ending ≡ Ok Usage
-usage_of_status Finished is two = absurd (omega arith)
-usage_of_status (NoScript fault) is two = absurd (omega arith)
-usage_of_status Usage is two = refl
-usage_of_status ReadFault is two = absurd (omega arith)
-usage_of_status (AtLimit name) is two = absurd (omega arith)
-usage_of_status NoMemory is two = absurd (omega arith)
-
-pub run_is_not_refused : {E : Type 0} {command : Command} (options : RunOptions) → the_ok_command E command ≡ Ok (Run options) → command ≡ Refused → ⊥
-run_is_not_refused options ran refused = cc
+-- the answer, where the printer stood over the sink of the streams
+pub answers_over : {D : Type 0} (words : List Bytes) (streams : Streams) (vault : Vault D) (r : Result Ending Failed) (status : ℕ) (old new : Output) → status ≡ status_told r → old.held ≡ streams.held → new.held ≡ streams.holds
+    → Came fresh (command_of words) streams.bytes streams.left (Takes (command_of words) old.held new.held r) → Answers fresh words streams vault vault status
+answers_over words streams vault r status old new is held holds came =
+    subst (λ s. Answers fresh words streams vault vault s) (sym is) (answers_of words streams vault r
+    (subst (λ h. Came fresh (command_of words) streams.bytes streams.left (Takes (command_of words) h streams.holds r)) held
+    (subst (λ h. Came fresh (command_of words) streams.bytes streams.left (Takes (command_of words) old.held h r)) holds came)))

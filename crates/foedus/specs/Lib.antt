@@ -1,2 +1,6 @@
-pub mod Ending
 pub mod Main
+pub mod Ending
+pub mod Causes
+pub mod Devices
+pub mod OnTheWay
+pub mod Laws

@@ -1,11 +1,16 @@
 // How a call ends.
-ghost use Rattle.std.specs.Prelude.{◌≡◌};
+ghost use Rattle.std.specs.Prelude.{◌≡◌, [], IfOk, OnOk};
 ghost use Rattle.text_output.specs.Output.{Prints};
+ghost use Rattle.foedus.specs.Devices.{device_name, device_text};
 ghost use Rattle.foedus.specs.Ending.{fault_text, kind_text, last_line, limit_text, status_of};
+ghost use Rattle.foedus.specs.OnTheWay.{ending_of, status_told};
+ghost use Rattle.foedus.specs.declared.ending.Ending.TheVariants as endings;
 
-use outside::{Failed, Sink};
-use round_engine::LimitName;
-use tx_script::{Buffer, FaultKind, ScriptFault, put, put_number};
+use outside::{Device, Failed, Sink};
+use round_engine::{End, LimitName};
+use std::alloc::{AllocError, AllocFailed};
+use text_output::Printer;
+use tx_script::{FaultKind, ScriptFault};
 
 /// How a call ends, unless the sink fails.
 #[derive(Clone, Copy, Debug, PartialEq, Eq)]
@@ -18,6 +23,8 @@ pub enum Ending {
     Usage,
     /// The source failed.
     ReadFault,
+    /// This device can't be had.
+    NoDevice(Device),
     /// The clock's draws or its epochs are used up.
     AtLimit(LimitName),
     /// A growth was refused.
@@ -34,38 +41,106 @@ impl Ending {
             Ending::NoScript(_) => 1,
             Ending::Usage => 2,
             Ending::ReadFault => 3,
+            Ending::NoDevice(_) => 5,
             Ending::AtLimit(_) => 7,
             Ending::NoMemory => 8,
         }
     }
 
     /// Adds the last line, if there is one.
-    pub(crate) fn put<K: Sink>(&self, sink: &mut K, buffer: &mut Buffer) -> Result<(), Failed>
-        ensures { Prints (record { faults = K.faults sink.old; held = K.held sink.old; waiting = buffer.old })
-            (record { faults = K.faults sink.new; held = K.held sink.new; waiting = buffer.new })
-            (last_line self.now) result }
+    pub(crate) fn put<K: Sink>(&self, printer: &mut Printer<'_, K>) -> Result<(), Failed>
+        ensures { Prints printer.old printer.new (last_line self.now) result }
     {
         match self {
-            Ending::Finished => Ok(()),
-            Ending::NoScript(fault) => put_fault(sink, buffer, *fault),
-            Ending::Usage => put(sink, buffer, b"usage\n"),
-            Ending::ReadFault => put(sink, buffer, b"read\n"),
-            Ending::AtLimit(name) => put(sink, buffer, limit_text(*name)),
-            Ending::NoMemory => put(sink, buffer, b"memory\n"),
+            Ending::Finished => printer.put(b""),
+            Ending::NoScript(fault) => put_fault(printer, *fault),
+            Ending::Usage => printer.put(b"usage\n"),
+            Ending::ReadFault => printer.put(b"read\n"),
+            Ending::NoDevice(device) => put_device(printer, *device),
+            Ending::AtLimit(name) => printer.put(limit_text(*name)),
+            Ending::NoMemory => printer.put(b"memory\n"),
         }
     }
 }
 
-fn put_fault<K: Sink>(sink: &mut K, buffer: &mut Buffer, fault: ScriptFault) -> Result<(), Failed>
-    ensures { Prints (record { faults = K.faults sink.old; held = K.held sink.old; waiting = buffer.old })
-        (record { faults = K.faults sink.new; held = K.held sink.new; waiting = buffer.new })
-        (fault_text fault) result }
+impl From<AllocError> for Ending {
+    ghost from_gives = { λ _ ending. ending ≡ endings.NoMemory };
+
+    fn from(_error: AllocError) -> Ending {
+        Ending::NoMemory
+    }
+}
+
+impl<T: Drop> From<AllocFailed<T>> for Ending {
+    ghost from_gives = { λ _ ending. ending ≡ endings.NoMemory };
+
+    fn from(_error: AllocFailed<T>) -> Ending {
+        Ending::NoMemory
+    }
+}
+
+/// Prints the last line, and all that waits.
+pub(crate) fn finish<K: Sink>(
+    printer: &mut Printer<'_, K>,
+    ending: Ending,
+) -> Result<Ending, Failed>
+    ensures prints { Prints printer.old printer.new (last_line ending) result }
+    ensures empty { OnOk result (printer.new.waiting ≡ []) }
+    ensures same { IfOk result (λ it. it ≡ ending) }
 {
-    put(sink, buffer, b"script ")?;
-    put_number(sink, buffer, fault.line as u64)?;
-    put(sink, buffer, b" ")?;
-    put(sink, buffer, kind_text(fault.kind))?;
-    put(sink, buffer, b"\n")
+    ending.put(printer)?;
+    printer.flush()?;
+    Ok(ending)
+}
+
+/// How a run ends that a round ends.
+pub(crate) fn ending_of(end: End) -> Ending
+    ensures { result ≡ ending_of end }
+{
+    match end {
+        End::Limit { name, .. } => Ending::AtLimit(name),
+    }
+}
+
+/// The program's status after a call: that of its ending, or 4 where the sink failed.
+pub(crate) fn status_told(outcome: Result<Ending, Failed>) -> u8
+    ensures { result ≡ status_told outcome }
+{
+    match outcome {
+        Ok(ending) => ending.status(),
+        Err(Failed) => 4,
+    }
+}
+
+fn put_fault<K: Sink>(printer: &mut Printer<'_, K>, fault: ScriptFault) -> Result<(), Failed>
+    ensures { Prints printer.old printer.new (fault_text fault) result }
+{
+    printer.put(b"script ")?;
+    printer.put_number(fault.line as u64)?;
+    printer.put(b" ")?;
+    printer.put(kind_text(fault.kind))?;
+    printer.put(b"\n")
+}
+
+fn put_device<K: Sink>(printer: &mut Printer<'_, K>, device: Device) -> Result<(), Failed>
+    ensures { Prints printer.old printer.new (device_text device) result }
+{
+    printer.put(b"device ")?;
+    put_name(printer, device)?;
+    printer.put(b"\n")
+}
+
+fn put_name<K: Sink>(printer: &mut Printer<'_, K>, device: Device) -> Result<(), Failed>
+    ensures { Prints printer.old printer.new (device_name device) result }
+{
+    match device {
+        Device::Save => printer.put(b"save"),
+        Device::Snaps => printer.put(b"snaps"),
+        Device::Bank(number) => {
+            printer.put(b"bank")?;
+            printer.put_number(number as u64)
+        }
+    }
 }
 
 fn kind_text(kind: FaultKind) -> &'static [u8]

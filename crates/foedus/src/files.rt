@@ -1,49 +1,44 @@
-// The database directory: the folder `vault` with a file for each device.
-use outside::{Device, Failed, FileDisk, Sink, Vault};
+// The database directory: a folder with a file for each device.
+ghost use Rattle.std.specs.Prelude.{◌≡◌, ◌++◌, codes, IfErr, IfOk, length};
+ghost use Rattle.std.specs.String.{string_bytes};
+ghost use Rattle.outside.specs.Vault.{IsWhole};
+ghost use Rattle.foedus.specs.OnTheWay.{IsEarly, IsWithout};
+ghost use Rattle.foedus.specs.Devices.{device_name};
+
+use crate::ending::Ending;
+use outside::{Device, FileDisk, Vault};
 use std::alloc::{AllocError, Global};
 use std::fs::{self, File, Files, OpenOptions};
 use std::io::{self, ErrorKind, Write};
-use tx_script::{Buffer, flush, put, put_number};
 
 /// Log files of even and of odd number.
 const BANKS: u8 = 8;
 
-/// Why the database directory can't be had.
-#[derive(Clone, Copy, Debug, PartialEq, Eq)]
-pub(crate) enum NoVault {
-    /// The first file that can't be had.
-    Device(Device),
-    /// A growth was refused.
-    Memory,
-}
+/// The savepoint's file as it is made: two places, of which none counts.
+const NO_SAVEPOINT: [u8; 1024] = [0; 1024];
 
-impl From<AllocError> for NoVault {
-    fn from(_error: AllocError) -> NoVault {
-        NoVault::Memory
-    }
-}
-
-/// Opens the files of the folder `vault`, which is made where it is missing, as are the files: the
-/// savepoint's with 1,024 zero bytes, the others empty.
+/// Opens the files of a folder, which is made where it is missing, as are the files: the savepoint's
+/// with 1,024 zero bytes, the others empty. Of the files that can't be had the first one is answered, in
+/// the order save, snaps, bank0, bank1 and on.
 pub(crate) fn open_vault<R: Files<File = File>>(
     rt: &R,
     alloc: Global,
-) -> Result<Vault<FileDisk>, NoVault> {
+    folder: &str,
+) -> Result<Vault<FileDisk>, Ending>
+    ensures whole { IfOk result IsWhole }
+    ensures early { IfErr result IsEarly }
+{
     // Where the folder can't be made, its first file can't be opened.
-    let _made = fs::create_dir(rt, "vault");
-    let save = open_device(rt, alloc, Device::Save)?;
-    let snaps = open_device(rt, alloc, Device::Snaps)?;
+    let _made = fs::create_dir(rt, folder);
+    let save = open_device(rt, alloc, folder, Device::Save)?;
+    let snaps = open_device(rt, alloc, folder, Device::Snaps)?;
     let mut even = Vec::new(alloc);
     let mut odd = Vec::new(alloc);
     for worker in 0..BANKS {
-        let first = open_device(rt, alloc, Device::Bank(2 * worker))?;
-        let second = open_device(rt, alloc, Device::Bank(2 * worker + 1))?;
-        let Ok(()) = even.push(first) else {
-            return Err(NoVault::Memory);
-        };
-        let Ok(()) = odd.push(second) else {
-            return Err(NoVault::Memory);
-        };
+        let first = open_device(rt, alloc, folder, Device::Bank(2 * worker))?;
+        let second = open_device(rt, alloc, folder, Device::Bank(2 * worker + 1))?;
+        even.push(first)?;
+        odd.push(second)?;
     }
     Ok(Vault {
         save,
@@ -55,23 +50,43 @@ pub(crate) fn open_vault<R: Files<File = File>>(
     })
 }
 
+// Opens a device's file.
 fn open_device<R: Files<File = File>>(
     rt: &R,
     alloc: Global,
+    folder: &str,
     device: Device,
-) -> Result<FileDisk, NoVault> {
-    let path = match device {
-        Device::Save => String::from_str(alloc, "vault/save")?,
-        Device::Snaps => String::from_str(alloc, "vault/snaps")?,
-        Device::Bank(bank) => format!(in alloc; "vault/bank{bank}")?,
-    };
-    let zeros: &[u8] = match device {
-        Device::Save => &[0; 1024],
+) -> Result<FileDisk, Ending>
+    ensures { IfErr result (IsWithout device) }
+{
+    let path = device_path(alloc, folder, device)?;
+    let first: &[u8] = match device {
+        Device::Save => &NO_SAVEPOINT,
         _ => &[],
     };
-    match open_file(rt, path.as_str(), zeros) {
+    match open_file(rt, path.as_str(), first) {
         Ok(file) => Ok(FileDisk::new(file)),
-        Err(_) => Err(NoVault::Device(device)),
+        Err(_) => Err(Ending::NoDevice(device)),
+    }
+}
+
+// The file of a device in a folder.
+fn device_path(alloc: Global, folder: &str, device: Device) -> Result<String, AllocError>
+    ensures { IfOk result (λ path. string_bytes path
+        ≡ folder.now ++ codes "/" ++ device_name device) }
+{
+    let name = device_name(alloc, device)?;
+    format!(in alloc; "{folder}/{name}")
+}
+
+// The name of a device, as it is told where it can't be had.
+fn device_name(alloc: Global, device: Device) -> Result<String, AllocError>
+    ensures { IfOk result (λ name. string_bytes name ≡ device_name device) }
+{
+    match device {
+        Device::Save => String::from_str(alloc, "save"),
+        Device::Snaps => String::from_str(alloc, "snaps"),
+        Device::Bank(number) => format!(in alloc; "bank{number}"),
     }
 }
 
@@ -92,27 +107,4 @@ fn open_file<R: Files<File = File>>(rt: &R, path: &str, first: &[u8]) -> io::Res
             Ok(file)
         }
     }
-}
-
-/// Prints which device can't be had, and answers the status.
-pub(crate) fn tell_device<K: Sink>(sink: &mut K, device: Device) -> u8 {
-    let mut buffer = Buffer::new();
-    match put_device(sink, &mut buffer, device) {
-        Ok(()) => 5,
-        Err(Failed) => 4,
-    }
-}
-
-fn put_device<K: Sink>(sink: &mut K, buffer: &mut Buffer, device: Device) -> Result<(), Failed> {
-    put(sink, buffer, b"device ")?;
-    match device {
-        Device::Save => put(sink, buffer, b"save")?,
-        Device::Snaps => put(sink, buffer, b"snaps")?,
-        Device::Bank(bank) => {
-            put(sink, buffer, b"bank")?;
-            put_number(sink, buffer, bank as u64)?;
-        }
-    }
-    put(sink, buffer, b"\n")?;
-    flush(sink, buffer)
 }

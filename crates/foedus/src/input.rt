@@ -1,11 +1,10 @@
 // The script of a source.
-ghost use Rattle.std.specs.Prelude.{◌≡◌, ◌≢◌, ◌⊎◌, ℕ, ◌≤◌, List, [], Some, Err, length, IfOk, IfErr, OnErr, MatchResult};
+ghost use Rattle.std.specs.Prelude.{◌≡◌, ◌⊎◌, ℕ, ◌≤◌, List, [], Some, length, IfOk, IfErr, MatchResult};
 ghost use Rattle.std.specs.Io.KnownBytes.{Consumes, IsAtEnd};
-ghost use Rattle.outside.specs.Faults.{Rose};
-ghost use Rattle.serial_model.specs.declared.memory.OrMemory.{OrMemory};
 ghost use Rattle.script_grammar.specs.Script.{IsScript, IsTextOf};
-ghost use Rattle.foedus.specs.Ending.{TakesAtMost, fresh, most_read};
-ghost use Rattle.foedus.specs.Main.{Course};
+ghost use Rattle.foedus.specs.OnTheWay.{EndsWithCause, IsUnread, ReadsWithCause};
+ghost use Rattle.foedus.specs.Ending.{TakesAtMost, most_read};
+ghost use Rattle.foedus.specs.Main.{Course, fresh};
 
 use crate::ending::Ending;
 use command_line::{Command, RunOptions};
@@ -25,12 +24,13 @@ pub(crate) fn read_bytes<S: Source>(
     alloc: Global,
     source: &mut S,
 ) -> Result<Vec<u8>, OrMemory<Failed>>
-    ensures bytes { IfOk result (λ bytes. Consumes (S.left source.old) (S.left source.new) bytes.items) }
+    ensures bytes { IfOk result
+        (λ bytes. Consumes (S.left source.old) (S.left source.new) bytes.items) }
     ensures most { IfOk result (λ bytes. length bytes.items ≤ most_read) }
-    ensures all { IfOk result (λ bytes. IsAtEnd (S.left source.new) ⊎ (length bytes.items ≡ most_read)) }
+    ensures all { IfOk result
+        (λ bytes. IsAtEnd (S.left source.new) ⊎ (length bytes.items ≡ most_read)) }
     ensures taken { TakesAtMost (S.left source.old) (S.left source.new) }
-    ensures later { S.faults source.old ≤ S.faults source.new }
-    ensures cause { (fault : Failed) → result ≡ Err (OrMemory.Fault fault) → Rose (S.faults source.old) (S.faults source.new) }
+    ensures cause { ReadsWithCause (S.faults source.old) (S.faults source.new) result }
 {
     let mut bytes = Vec::new(alloc);
     let mut chunk = [0; CHUNK];
@@ -42,22 +42,21 @@ pub(crate) fn read_bytes<S: Source>(
         if count == 0 {
             break;
         }
-        let Ok(()) = bytes.extend_from_slice(&chunk[..count]) else {
-            return Err(OrMemory::Memory);
-        };
+        bytes.extend_from_slice(&chunk[..count])?;
     }
     Ok(bytes)
 }
 
 /// The script of a source, read out before anything is run; or how the call ends without one.
 pub(crate) fn read_text<S: Source>(alloc: Global, source: &mut S) -> Result<Script, Ending>
-    ensures told { (bytes : List ℕ) → S.left source.old ≡ Some bytes → MatchResult result
+    ensures read { (bytes : List ℕ) → S.left source.old ≡ Some bytes → MatchResult result
         (λ script. IsTextOf bytes script × IsAtEnd (S.left source.new))
-        (λ ending. (options : RunOptions) → Course fresh (Command.Run options) bytes (S.left source.new) [] ending) }
+        (λ ending. (options : RunOptions)
+        → Course fresh (Command.Run options) bytes (S.left source.new) [] ending) }
     ensures rules { IfOk result IsScript }
-    ensures unlike { IfErr result (λ ending. ending ≢ Ending.Usage) }
-    ensures cause { result ≡ Err Ending.ReadFault → Rose (S.faults source.old) (S.faults source.new) }
-    ensures later { S.faults source.old ≤ S.faults source.new }
+    ensures unread { IfErr result IsUnread }
+    ensures cause { MatchResult result (λ _. S.faults source.new ≡ S.faults source.old)
+        (EndsWithCause (S.faults source.old) (S.faults source.new)) }
     ensures taken { TakesAtMost (S.left source.old) (S.left source.new) }
 {
     let bytes = match read_bytes(alloc, source) {

@@ -1,20 +1,20 @@
 // One call of the program.
-ghost use Rattle.std.specs.Prelude.{◌≡◌, ◌≢◌, ◌⊎◌, ℕ, ◌≤◌, List, Some, Ok, map, MatchResult, OnOk};
-ghost use Rattle.outside.specs.Faults.{HasCause, Rose};
-ghost use Rattle.command_line.specs.Options.{Refuses, command_of};
-ghost use Rattle.command_line.specs.Plain.{AsksForHelp, IsPlain};
-ghost use Rattle.foedus.specs.Ending.{IsUsage, TakesAtMost, fresh};
-ghost use Rattle.foedus.specs.Main.{Adding, Answers, Breaking, Prints, Stops};
+ghost use Rattle.std.specs.Prelude.{◌≡◌, ℕ, List, [], Some, Ok, map};
+ghost use Rattle.command_line.specs.Options.{command_of};
+ghost use Rattle.foedus.specs.Causes.{AnswersFaults, AnswersWords, IsStatus};
+ghost use Rattle.foedus.specs.Ending.{TakesAtMost};
+ghost use Rattle.foedus.specs.Main.{Answers, Came, Streams, fresh};
+ghost use Rattle.foedus.specs.OnTheWay.{AddsRun, Takes, status_told};
 
-use crate::ending::Ending;
+use crate::ending::{Ending, finish, status_told};
 use crate::run::run;
-use command_line::{Command, RunOptions, read_words};
+use command_line::{Command, read_words};
 use outside::{Disk, Failed, Gate, Sink, Source, Vault};
 use serial_model::Memory;
 use std::alloc::Global;
 use std::sync::Wait;
 use std::thread::Threads;
-use tx_script::{Buffer, flush};
+use text_output::Printer;
 
 /// Does what the words ask for, and answers the program's status: 0 where all was done, 1 where the
 /// bytes are no script, 2 where the words ask for nothing, 3 where the source failed, 4 where the sink
@@ -28,56 +28,60 @@ pub fn top<R: Threads + Wait + Sync, S: Source, K: Sink, D: Disk + Send + Drop, 
     vault: &mut Vault<D>,
     gate: &G,
 ) -> u8
-    // What was run and printed, and how the call ended.
-    ensures answer { (bytes : List ℕ) → S.left source.old ≡ Some bytes → Answers fresh (map (λ word. word.now) words.now)
-        bytes (S.left source.new) (K.held sink.old) (K.held sink.new) result }
-    // No other status comes, and each only for its cause.
-    ensures statuses { (result ≤ 4) ⊎ (result ≡ 7) ⊎ (result ≡ 8) }
-    ensures usage { result ≡ 2 → Refuses (map (λ word. word.now) words.now) }
-    ensures plain { (options : RunOptions) → IsPlain (map (λ word. word.now) words.now) options → result ≢ 2 }
-    ensures read { result ≡ 3 → Rose (S.faults source.old) (S.faults source.new) }
-    ensures write { result ≡ 4 → Rose (K.faults sink.old) (K.faults sink.new) }
-    ensures later { (S.faults source.old ≤ S.faults source.new) × (K.faults sink.old ≤ K.faults sink.new) }
+    // What was run, printed and kept, and how the call ended: the main theorem.
+    ensures answer { (bytes : List ℕ) → S.left source.old ≡ Some bytes
+        → let streams : Streams = record {
+          bytes = bytes;
+          left = S.left source.new;
+          held = K.held sink.old;
+          holds = K.held sink.new;
+        } in
+        Answers fresh (map (λ word. word.now) words.now) streams vault.old vault.new result }
+    // No other status comes, and each only for its cause, whatever the streams tell.
+    ensures statuses { IsStatus result }
+    ensures asked { AnswersWords (map (λ word. word.now) words.now) result }
+    ensures faults { AnswersFaults
+        (record { before = S.faults source.old; after = S.faults source.new })
+        (record { before = K.faults sink.old; after = K.faults sink.new }) result }
     // What is left alone.
-    ensures refused { command_of (map (λ word. word.now) words.now) ≡ Command.Refused
-        → ((result ≡ 2) ⊎ ((result ≡ 4) ⊎ (result ≡ 8))) × (source.new ≡ source.old) }
-    ensures help { AsksForHelp (map (λ word. word.now) words.now) → (result ≡ 2) ⊎ ((result ≡ 4) ⊎ (result ≡ 8)) }
+    ensures spared { command_of (map (λ word. word.now) words.now) ≡ Command.Refused
+        → source.new ≡ source.old }
     ensures taken { TakesAtMost (S.left source.old) (S.left source.new) }
     ensures untouched { vault.new ≡ vault.old }
 {
     let _vault = &vault.ties;
-    match call(rt, alloc, words, source, sink, gate) {
-        Ok(ending) => ending.status(),
-        Err(Failed) => 4,
-    }
+    let mut printer = Printer::new(sink);
+    let outcome = call(rt, alloc, words, source, &mut printer, gate);
+    let _ = printer.into_sink();
+    status_told(outcome)
 }
 
-// Does what the words ask for and prints all of its text. Nothing waits before it.
+// Does what the words ask for, and prints all of its text.
 fn call<R: Threads + Wait + Sync, S: Source, K: Sink, G: Gate + Sync>(
     rt: &R,
     alloc: Global,
     words: &[&str],
     source: &mut S,
-    sink: &mut K,
+    printer: &mut Printer<'_, K>,
     gate: &G,
 ) -> Result<Ending, Failed>
-    ensures told { (bytes : List ℕ) → S.left source.old ≡ Some bytes → MatchResult result
-        (λ ending. Prints (command_of (map (λ word. word.now) words.now)) bytes (S.left source.new) (K.held sink.old) (K.held sink.new) ending)
-        (λ _. Stops (command_of (map (λ word. word.now) words.now)) bytes (S.left source.new) (K.held sink.old) (K.held sink.new)) }
-    ensures read { result ≡ Ok Ending.ReadFault → Rose (S.faults source.old) (S.faults source.new) }
-    ensures usage { result ≡ Ok Ending.Usage → Refuses (map (λ word. word.now) words.now) }
-    ensures plain { (options : RunOptions) → IsPlain (map (λ word. word.now) words.now) options → result ≢ Ok Ending.Usage }
-    ensures refused { command_of (map (λ word. word.now) words.now) ≡ Command.Refused → OnOk result (IsUsage result) × (source.new ≡ source.old) }
-    ensures help { AsksForHelp (map (λ word. word.now) words.now) → OnOk result (IsUsage result) }
-    ensures cause { HasCause (K.faults sink.old) (K.faults sink.new) result }
-    ensures later { S.faults source.old ≤ S.faults source.new }
+    requires { printer.old.waiting ≡ [] }
+    ensures came { (bytes : List ℕ) → S.left source.old ≡ Some bytes
+        → let command = command_of (map (λ word. word.now) words.now) in
+        Came fresh command bytes (S.left source.new)
+        (Takes command printer.old.held printer.new.held result) }
+    ensures asked { AnswersWords (map (λ word. word.now) words.now) (status_told result) }
+    ensures faults { AnswersFaults
+        (record { before = S.faults source.old; after = S.faults source.new })
+        (record { before = printer.old.faults; after = printer.new.faults }) (status_told result) }
+    ensures spared { command_of (map (λ word. word.now) words.now) ≡ Command.Refused
+        → source.new ≡ source.old }
     ensures taken { TakesAtMost (S.left source.old) (S.left source.new) }
+    ensures statuses { IsStatus (status_told result) }
+    ensures same { printer.new.sink ≡ printer.old.sink }
 {
-    let mut buffer = Buffer::new();
-    let ending = run_words(rt, alloc, words, source, sink, &mut buffer, gate)?;
-    ending.put(sink, &mut buffer)?;
-    flush(sink, &mut buffer)?;
-    Ok(ending)
+    let ending = run_words(rt, alloc, words, source, printer, gate)?;
+    finish(printer, ending)
 }
 
 // Does what the words ask for, and adds the text of what was run.
@@ -86,28 +90,25 @@ fn run_words<R: Threads + Wait + Sync, S: Source, K: Sink, G: Gate + Sync>(
     alloc: Global,
     words: &[&str],
     source: &mut S,
-    sink: &mut K,
-    buffer: &mut Buffer,
+    printer: &mut Printer<'_, K>,
     gate: &G,
 ) -> Result<Ending, Failed>
-    ensures told { (bytes : List ℕ) → S.left source.old ≡ Some bytes → MatchResult result
-        (λ ending. Adding (command_of (map (λ word. word.now) words.now)) bytes (S.left source.new)
-        (record { faults = K.faults sink.old; held = K.held sink.old; waiting = buffer.old })
-        (record { faults = K.faults sink.new; held = K.held sink.new; waiting = buffer.new }) ending)
-        (λ _. Breaking (command_of (map (λ word. word.now) words.now)) bytes (S.left source.new)
-        (record { faults = K.faults sink.old; held = K.held sink.old; waiting = buffer.old })
-        (record { faults = K.faults sink.new; held = K.held sink.new; waiting = buffer.new })) }
-    ensures read { result ≡ Ok Ending.ReadFault → Rose (S.faults source.old) (S.faults source.new) }
-    ensures usage { result ≡ Ok Ending.Usage → Refuses (map (λ word. word.now) words.now) }
-    ensures plain { (options : RunOptions) → IsPlain (map (λ word. word.now) words.now) options → result ≢ Ok Ending.Usage }
-    ensures refused { command_of (map (λ word. word.now) words.now) ≡ Command.Refused → (IsUsage result) × (source.new ≡ source.old) }
-    ensures help { AsksForHelp (map (λ word. word.now) words.now) → IsUsage result }
-    ensures cause { HasCause (K.faults sink.old) (K.faults sink.new) result }
-    ensures later { S.faults source.old ≤ S.faults source.new }
+    ensures came { (bytes : List ℕ) → S.left source.old ≡ Some bytes
+        → let command = command_of (map (λ word. word.now) words.now) in
+        Came fresh command bytes (S.left source.new)
+        (AddsRun command printer.old printer.new result) }
+    ensures asked { AnswersWords (map (λ word. word.now) words.now) (status_told result) }
+    ensures faults { AnswersFaults
+        (record { before = S.faults source.old; after = S.faults source.new })
+        (record { before = printer.old.faults; after = printer.new.faults }) (status_told result) }
+    ensures spared { command_of (map (λ word. word.now) words.now) ≡ Command.Refused
+        → source.new ≡ source.old }
     ensures taken { TakesAtMost (S.left source.old) (S.left source.new) }
+    ensures statuses { IsStatus (status_told result) }
+    ensures same { printer.new.sink ≡ printer.old.sink }
 {
     match read_words(alloc, words) {
-        Ok(command) => run(rt, alloc, command, source, sink, buffer, gate),
+        Ok(command) => run(rt, alloc, command, source, printer, gate),
         Err(Memory) => Ok(Ending::NoMemory),
     }
 }

@@ -3,8 +3,10 @@ use Rattle.std.proofs.Common.{◌-◌, length}
 use Rattle.foedus.proofs.Reading.{ReadSoFar}
 use Rattle.foedus.proofs.input.read_bytes.Given as goal
 
+-- the source gave up these bytes, and hasn't failed
 abbrev pub invariant-loop-chunk : goal.invariant-loop-chunk
 invariant-loop-chunk g l = ReadSoFar (g.S.Source.left l.fn.source) (g.S.Source.left l.source) (g.S.Source.faults l.fn.source) (g.S.Source.faults l.source) l.bytes.items
 
+-- what may still be read
 abbrev pub decreases-loop-chunk : goal.decreases-loop-chunk
 decreases-loop-chunk g l = 67108865 - length l.bytes.items

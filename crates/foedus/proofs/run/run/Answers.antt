@@ -1,14 +1,34 @@
 -- A script is run, or nothing is.
-use Rattle.std.proofs.Common.{[]}
+use Rattle.std.proofs.Common.{[], refl, sym}
 use Rattle.text_output.specs.Printed.{adds_nothing}
-use Rattle.foedus.proofs.Courses.{script_printed, usage_course}
+use Rattle.foedus.specs.declared.ending.Ending.TheVariants.{Usage}
+use Rattle.foedus.proofs.Courses.{nothing_run, script_came, usage_course}
+use Rattle.foedus.proofs.Statuses.{faults_ran, faults_unread, same_ran, status_ran, status_unread, usage_not_ran}
 use Rattle.foedus.proofs.run.run.Goals as goal
 
-pub returns-in-Ok-clause-told : goal.returns-in-Ok-clause-told
-returns-in-Ok-clause-told g c = λ bytes told. rw c.in-Run.is (script_printed c.in-Run.options bytes _ c.in-Ok.script _ _ _ (c.in-Ok.ensures.told bytes told) c.run_script.ensures)
+pub returns-in-Ok-clause-came : goal.returns-in-Ok-clause-came
+returns-in-Ok-clause-came g c = λ bytes told. rw c.in-Run.is (script_came c.in-Run.options bytes _ c.in-Ok.script (c.in-Ok.ensures.read bytes told) c.run_script.ensures)
 
-pub returns-in-Err-clause-told : goal.returns-in-Err-clause-told
-returns-in-Err-clause-told g c = λ bytes told. rw c.in-Run.is (record { rans = []; course = c.in-Err.ensures.told bytes told c.in-Run.options; adds = adds_nothing _ })
+pub returns-in-Ok-clause-usage : goal.returns-in-Ok-clause-usage
+returns-in-Ok-clause-usage g c = λ usage. absurd (usage_not_ran _ _ c.in-Run.options _ _ c.run_script.ensures usage)
 
-pub returns-in-Refused-clause-told : goal.returns-in-Refused-clause-told
-returns-in-Refused-clause-told g c = λ bytes told. rw c.in-Refused.is (record { rans = []; course = usage_course bytes _; adds = adds_nothing _ })
+pub returns-in-Ok-clause-faults : goal.returns-in-Ok-clause-faults
+returns-in-Ok-clause-faults g c = faults_ran _ _ _ c.in-Run.options _ _ c.run_script.ensures c.in-Ok.ensures.cause
+
+pub returns-in-Ok-clause-statuses : goal.returns-in-Ok-clause-statuses
+returns-in-Ok-clause-statuses g c = status_ran _ _ c.in-Run.options _ _ c.run_script.ensures
+
+pub returns-in-Ok-clause-same : goal.returns-in-Ok-clause-same
+returns-in-Ok-clause-same g c = same_ran _ _ c.in-Run.options _ _ c.run_script.ensures
+
+pub returns-in-Err-clause-came : goal.returns-in-Err-clause-came
+returns-in-Err-clause-came g c = λ bytes told. rw c.in-Run.is (nothing_run c.in-Err.ending (c.in-Err.ensures.read bytes told c.in-Run.options) (tt, refl, adds_nothing _))
+
+pub returns-in-Err-clause-faults : goal.returns-in-Err-clause-faults
+returns-in-Err-clause-faults g c = faults_unread _ _ c.in-Err.ending c.in-Err.ensures.cause refl
+
+pub returns-in-Err-clause-statuses : goal.returns-in-Err-clause-statuses
+returns-in-Err-clause-statuses g c = status_unread c.in-Err.ending c.in-Err.ensures.unread
+
+pub returns-in-Refused-clause-came : goal.returns-in-Refused-clause-came
+returns-in-Refused-clause-came g c = λ bytes told. rw c.in-Refused.is (nothing_run Usage (usage_course bytes _) (tt, refl, adds_nothing _))

@@ -13,7 +13,7 @@ use Rattle.round_engine.specs.Standing.{Standing}
 use Rattle.round_engine.specs.declared.report.Report.{Report}
 use Rattle.round_engine.specs.declared.report.End.{End}
 use Rattle.round_engine.specs.RanRound.{RanRound, StopsIn, end_at, end_of, epoch_after, epoch_told, ran_of}
-use Rattle.round_engine.specs.Plainly.{AreConsecutive, DrawsTo, RanFront, RanLines, after_workers, outcomes_of}
+use Rattle.round_engine.specs.Plainly.{AreConsecutive, DrawsFew, DrawsTo, RanFront, RanLines, after_workers, outcomes_of}
 use Rattle.round_engine.proofs.Drawn.{workers_draw}
 use Rattle.round_engine.proofs.PlainRun.{plain_caused, plain_consecutive, plain_few, plain_kept, plain_ran, plain_run}
 
@@ -66,18 +66,24 @@ ran_round round old mid new report j =
     let clock : mid.clock ≡ record { epoch = old.clock.epoch; draw = t.clock.draw } = mid_clock round old mid new report j in
     let state : new.state ≡ t.state = ap (λ (s : Standing). s.state) j.join ∙ ap (λ (s : Standing). s.state) j.lines.standing in
     let caused = plain_caused round old in
-    let draw : new.clock.draw ≡ t.clock.draw = ap (λ (s : Standing). s.clock.draw) j.join ∙ ap (λ (s : Standing). s.clock.draw) j.lines.standing in
     record {
       decls = ap (λ (s : Standing). s.decls) j.join ∙ ap (λ (s : Standing). s.decls) j.lines.standing ∙ (plain_kept round old).0;
       run = λ index. subst (λ (r : Ran). IsRun old.decls index (round ∷ []) old.state old.clock (r ∷ []) new.state) (sym same)
           (subst (λ s. IsRun old.decls index (round ∷ []) old.state old.clock (plain_ran old t (outcomes_of old (worker_lines round)) ∷ []) s) (sym state) (plain_run index round old j.none));
       caused = subst AllCaused (sym same) caused.0;
-      draws_once = subst DrawsOnce (sym same) caused.1;
-      few_draws = omega (arith, draw, plain_few round old j.none);
       join = ap (λ (s : Standing). s.clock.epoch) j.join ∙ ap (λ (n : Number). epoch_after n.epoch) clock ∙ ap (λ (r : Ran). epoch_after r.end.epoch) (sym same);
       end = j.end ∙ ap (λ n. end_at n (list_any (list_any is_limit) report.outcomes)) clock
           ∙ ap (λ o. end_at (record { epoch = old.clock.epoch; draw = t.clock.draw }) (list_any (list_any is_limit) o)) j.lines.told ∙ ap end_of (sym same);
       ended = ap (λ (s : Standing). s.ended) j.join;
+    }
+
+pub round_draws_few : (round : Round) (old mid new : Standing) (report : Report) → Joins round old mid new report → DrawsFew round old new report
+round_draws_few round old mid new report j =
+    let t : Standing = after_workers old (worker_lines round) in
+    let draw : new.clock.draw ≡ t.clock.draw = ap (λ (s : Standing). s.clock.draw) j.join ∙ ap (λ (s : Standing). s.clock.draw) j.lines.standing in
+    record {
+      once = subst DrawsOnce (sym (same_ran round old mid new report j)) (plain_caused round old).1;
+      few = omega (arith, draw, plain_few round old j.none);
     }
 
 pub round_consecutive : (round : Round) (old mid new : Standing) (report : Report) → Joins round old mid new report
@@ -107,7 +113,7 @@ stops_in round old mid ran =
       ran = one;
       run = λ index. subst (λ s. IsRun old.decls index (front ∷ []) old.state old.clock (one ∷ []) s) (sym (ap (λ (s : Standing). s.state) ran.standing)) (plain_run index front old ran.no_keeper);
       caused = caused.0;
-      draws_once = caused.1;
+      durable = refl;
       clock = ap (λ (s : Standing). s.clock) ran.standing ∙ ap (λ e. let n : Number = record { epoch = e; draw = t.clock.draw } in n) (plain_kept front old).1;
       ended = refl;
     }

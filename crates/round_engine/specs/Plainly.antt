@@ -1,5 +1,5 @@
 -- Runs of lines on the plain map: one after another, with consecutive numbers.
-use Rattle.std.specs.Prelude.{◌≡◌, ℕ, ◌+◌, ◌<◌, ◌≤◌, Bool, List, [], ◌∷◌, nat_lt, if◌then◌else◌, ⊤}
+use Rattle.std.specs.Prelude.{◌≡◌, ℕ, ◌+◌, ◌<◌, ◌≤◌, Bool, List, [], ◌∷◌, length, nat_lt, if◌then◌else◌, ⊤}
 use Rattle.serial_model.specs.Numbers.{draw_limit}
 use Rattle.serial_model.specs.Step.{step, Ended}
 use Rattle.serial_model.specs.History.{Entry}
@@ -9,7 +9,9 @@ use Rattle.script_grammar.specs.Script.{Round, keeper_lines, worker_lines}
 use Rattle.tx_script.specs.declared.outcome.Outcome.{Outcome}
 use Rattle.tx_script.specs.declared.outcome.Outcome.TheVariants.{Committed, Limit}
 use Rattle.round_engine.specs.Standing.{Standing}
-use Rattle.round_engine.specs.RanRound.{IsFrontOf}
+use Rattle.round_engine.specs.RanRound.{IsFrontOf, ran_of}
+use Rattle.round_engine.specs.declared.report.Report.{Report}
+use Rattle.tx_script.specs.Draws.{DrawsOnce}
 
 -- ---- a line
 
@@ -85,3 +87,8 @@ DrawsTo n [] m = m ≡ n
 DrawsTo n (Committed verdict number replies ∷ outcomes) m = (n < draw_limit) × DrawsTo (n + 1) outcomes m
 DrawsTo n (Limit ∷ outcomes) m = (draw_limit ≤ n) × DrawsTo n outcomes m
 DrawsTo n (_ ∷ outcomes) m = ⊥
+
+-- The round drew a number for each of its commits, and none besides: no more numbers than it has lines.
+pub record DrawsFew (round : Round) (old new : Standing) (report : Report) : Type 0 where
+  pub once : DrawsOnce (ran_of old new report)
+  pub few : new.clock.draw ≤ old.clock.draw + length round.lines

@@ -1,5 +1,6 @@
 -- What a round comes to on a runtime, whichever its engine is.
-use Rattle.std.specs.Prelude.{◌≡◌, ℕ, ◌+◌, ◌≤◌, List, [], ◌∷◌, Bool, true, length, nat_lt, if◌then◌else◌, Option, Some, None, is_some, Result, Ok, Err}
+use Rattle.std.specs.Prelude.{◌≡◌, ℕ, ◌+◌, List, [], ◌∷◌, Bool, true, nat_lt, if◌then◌else◌}
+use Rattle.std.specs.Prelude.{Option, Some, None, is_some, Result, Ok, Err}
 use Rattle.std.specs.List.{list_any}
 use Rattle.std.proofs.Common.{refl, ap, ◌∙◌, cond, false}
 use Rattle.lists.specs.Fronts.{IsFront}
@@ -11,7 +12,6 @@ use Rattle.tx_script.specs.declared.answer.Answer.{Answer}
 use Rattle.tx_script.specs.declared.answer.Answer.TheVariants as answers
 use Rattle.tx_script.specs.Run.{Ran, IsRun, is_limit, joined}
 use Rattle.tx_script.specs.Causes.{AllCaused}
-use Rattle.tx_script.specs.Draws.{DrawsOnce}
 use Rattle.round_engine.specs.Standing.{Standing}
 use Rattle.round_engine.specs.declared.report.Report.{Report}
 use Rattle.round_engine.specs.declared.report.End.{End}
@@ -26,8 +26,8 @@ epoch_told epoch [] = epoch
 epoch_told epoch (answers.Epoch new ∷ more) = epoch_told new more
 epoch_told epoch (_ ∷ more) = epoch_told epoch more
 
--- What was run of a round, by its report: from the clock before it to the epoch that its answers told last and the draws
--- after it.
+-- What was run of a round, by its report: from the clock before it to the epoch that its answers told last and the
+-- draws after it.
 abbrev pub ran_of : Standing → Standing → Report → Ran
 ran_of old new report = record {
   begin = old.clock;
@@ -43,7 +43,7 @@ ran_of old new report = record {
 abbrev pub epoch_after : ℕ → ℕ
 epoch_after epoch = if nat_lt epoch last_epoch then epoch + 1 else epoch
 
--- the refusal that ends a run at this clock: the join's in the last epoch, else a line's to which the clock gave no number
+-- the refusal that ends a run at this clock: the join's in the last epoch, else a line's that got no number
 abbrev pub end_at : Number → Bool → Option End
 end_at clock limited = if nat_lt clock.epoch last_epoch
     then (if limited then Some (ends.Limit Draw clock.draw) else None)
@@ -55,14 +55,12 @@ end_of ran = end_at ran.end (list_any (list_any is_limit) ran.outcomes)
 
 -- ---- a round
 
--- A round was run: its commits are a serial run from the old contents to the new, each outcome has its cause, each line
--- drew at most one number, and then the join advanced the epoch, unless it was the last one.
+-- A round was run: its commits are a serial run from the old contents to the new, each outcome has its cause, and then
+-- the join advanced the epoch, unless it was the last one.
 pub record RanRound (round : Round) (old new : Standing) (report : Report) : Type 0 where
   pub decls : new.decls ≡ old.decls
   pub run : (index : ℕ) → IsRun old.decls index (round ∷ []) old.state old.clock (ran_of old new report ∷ []) new.state
   pub caused : AllCaused (ran_of old new report)
-  pub draws_once : DrawsOnce (ran_of old new report)
-  pub few_draws : new.clock.draw ≤ old.clock.draw + length round.lines
   pub join : new.clock.epoch ≡ epoch_after (ran_of old new report).end.epoch
   pub end : report.end ≡ end_of (ran_of old new report)
   pub ended : new.ended ≡ is_some report.end
@@ -85,8 +83,8 @@ pub record IsFrontOf (front round : Round) : Type 0 where
   pub workers : (worker : ℕ) → IsFront (lines_of_worker front worker) (lines_of_worker round worker)
   pub keeper : IsFront (keeper_lines front) (keeper_lines round)
 
--- A round stopped for want of memory: a front of it was run, and there the contents and the clock stand. What its lines
--- came to is lost, and with it the run.
+-- A round stopped for want of memory: a front of it was run, and there the contents and the clock stand. What its
+-- lines came to is lost, and with it the run.
 pub record StopsIn (round : Round) (old new : Standing) : Type 0 where
   pub decls : new.decls ≡ old.decls
   pub front : Round
@@ -94,7 +92,7 @@ pub record StopsIn (round : Round) (old new : Standing) : Type 0 where
   pub ran : Ran
   pub run : (index : ℕ) → IsRun old.decls index (front ∷ []) old.state old.clock (ran ∷ []) new.state
   pub caused : AllCaused ran
-  pub draws_once : DrawsOnce ran
+  pub durable : ran.durable ≡ None
   pub clock : new.clock ≡ ran.end
   pub ended : new.ended ≡ true
 

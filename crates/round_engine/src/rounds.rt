@@ -1,12 +1,14 @@
 // One round on the plain map.
-ghost use Rattle.std.specs.Prelude.{◌≡◌, ◌⊎◌, ℕ, ◌<◌, ◌≤◌, [], ◌∷◌, ◌++◌, false, IsTrue, IfOk, OnErr, OnOk, Some, None, flat_map, is_some, length, option_map, slice_get, take};
+ghost use Rattle.std.specs.Prelude.{◌≡◌, ◌⊎◌, ℕ, ◌<◌, ◌≤◌, [], ◌∷◌, ◌++◌, false, IsTrue};
+ghost use Rattle.std.specs.Prelude.{IfOk, OnErr, OnOk, Some, None, flat_map, is_some, length, option_map, slice_get, take};
 ghost use Rattle.std.specs.List.{AllByRecursion, list_any};
 ghost use Rattle.std.specs.Option.{option_copied};
 ghost use Rattle.serial_model.specs.Keys.{fits};
 ghost use Rattle.script_grammar.specs.Script.{lines_of_worker, ops_of_worker};
 ghost use Rattle.tx_script.specs.Run.{CanRun, entries_of_round, is_limit};
 ghost use Rattle.round_engine.specs.RanRound.{Rounds, end_at, epoch_after, ran_of};
-ghost use Rattle.round_engine.specs.Plainly.{AreConsecutive, DrawsTo, RanFront, RanLines, after_line, after_lines, outcome_at, outcomes_at};
+ghost use Rattle.round_engine.specs.Plainly.{AreConsecutive, DrawsFew, DrawsTo, RanFront, RanLines};
+ghost use Rattle.round_engine.specs.Plainly.{after_line, after_lines, outcome_at, outcomes_at};
 
 use crate::{End, LimitName, Report, Runtime};
 use outside::Gate;
@@ -14,7 +16,7 @@ use serial_model::{DRAW_LIMIT, Draft, LAST_EPOCH, Memory, Op, Replies, run_in};
 use std::alloc::Global;
 use std::sync::Wait;
 use std::thread::Threads;
-use tx_script::{Answers, Line, LineOps, Outcomes, Round, RoundOutcomes};
+use tx_script::{Answers, Line, LineOps, Outcomes, Refused, Round, RoundOutcomes};
 
 /// Runs worker 0's lines, then worker 1's and on, each line between the gate's two calls; then the join
 /// advances the epoch, unless it is the last.
@@ -35,11 +37,13 @@ pub fn round<R: Threads + Wait + Sync, G: Gate + Sync>(
     // Whichever the engine: the commits are a serial run, and what ends the run is told.
     ensures rounds { Rounds round.now runtime.old runtime.new result }
     ensures durable { IfOk result (λ report. report.durable ≡ None) }
-    // What the plain map gives besides: its numbers follow one another, and a line gets one while there are some.
+    // What the plain map gives besides: its numbers follow one another, a line gets one while there are some, and none
+    // is drawn but for a commit.
     ensures consecutive { IfOk result (λ report. (index : ℕ) → AreConsecutive runtime.old.clock
         (entries_of_round index (ran_of runtime.old runtime.new report) round.now)) }
-    ensures draws { IfOk result (λ report. DrawsTo runtime.old.clock.draw (flat_map (λ outcomes. outcomes) report.outcomes)
-        runtime.new.clock.draw) }
+    ensures draws { IfOk result (λ report. DrawsTo runtime.old.clock.draw
+        (flat_map (λ outcomes. outcomes) report.outcomes) runtime.new.clock.draw) }
+    ensures draws_few { IfOk result (λ report. DrawsFew round.now runtime.old runtime.new report) }
 {
     let _ = rt;
     let _ = tries;
@@ -59,8 +63,8 @@ pub fn round<R: Threads + Wait + Sync, G: Gate + Sync>(
     })
 }
 
-// Advances the epoch, and answers the refusal that ends the run: the join's own, where the epoch is the last one, before
-// a line's.
+// Advances the epoch, and answers the refusal that ends the run: the join's own, where the epoch is the last one,
+// before a line's.
 fn join(runtime: &mut Runtime, limited: bool) -> Option<End>
     ensures runtime { runtime.new ≡ record runtime.old {
       clock = record runtime.old.clock { epoch = epoch_after runtime.old.clock.epoch };
@@ -128,11 +132,14 @@ fn run_worker<G: Gate>(
     gate: &G,
 ) -> Result<Outcomes, Memory>
     requires { CanRun runtime.old.decls round.now }
-    ensures outcomes { IfOk result (λ outcomes. outcomes ≡ outcomes_at runtime.old (lines_of_worker round.now worker)) }
-    ensures standing { OnOk result (runtime.new ≡ after_lines runtime.old (lines_of_worker round.now worker)) }
+    ensures outcomes { IfOk result (λ outcomes. outcomes
+        ≡ outcomes_at runtime.old (lines_of_worker round.now worker)) }
+    ensures standing { OnOk result (runtime.new
+        ≡ after_lines runtime.old (lines_of_worker round.now worker)) }
     // The lines up to this index were run.
     ensures stops { OnErr result ((index : ℕ) × (runtime.new
-        ≡ after_lines runtime.old (lines_of_worker (record { lines = take index round.now.lines }) worker))) }
+        ≡ after_lines runtime.old
+        (lines_of_worker (record { lines = take index round.now.lines }) worker))) }
 {
     let mut outcomes = Outcomes::new(alloc);
     let mut room = Room::new(alloc);
@@ -157,7 +164,8 @@ fn ops_of<'b>(
     line_ops: &'b mut LineOps,
 ) -> Option<&'b [Op]>
     requires { index < length round.now.lines }
-    ensures { option_map (ops_of_worker worker) (slice_get round.now.lines index) ≡ Some (option_copied result) }
+    ensures { option_map (ops_of_worker worker) (slice_get round.now.lines index)
+        ≡ Some (option_copied result) }
 {
     let owner = round.worker(index)?;
     if owner != worker {
@@ -194,12 +202,14 @@ fn run_line(
 ) -> Result<(), Memory>
     requires few { length ops.now ≤ 16 }
     requires fits { AllByRecursion (λ op. IsTrue (fits runtime.old.decls op)) ops.now }
-    ensures outcome { OnOk result (outcomes.new ≡ outcomes.old ++ outcome_at runtime.old ops.now ∷ []) }
+    ensures outcome { OnOk result (outcomes.new
+        ≡ outcomes.old ++ outcome_at runtime.old ops.now ∷ []) }
     ensures standing { OnOk result (runtime.new ≡ after_line runtime.old ops.now) }
-    ensures stops { OnErr result ((runtime.new ≡ runtime.old) ⊎ (runtime.new ≡ after_line runtime.old ops.now)) }
+    ensures stops { OnErr result ((runtime.new ≡ runtime.old)
+        ⊎ (runtime.new ≡ after_line runtime.old ops.now)) }
 {
     if runtime.clock.draw >= DRAW_LIMIT {
-        return outcomes.push_limit();
+        return outcomes.push_refused(Refused::Limit);
     }
     let verdict = run_in(&mut runtime.plain, &mut room.draft, &mut room.replies, ops)?;
     let number = runtime.clock;

@@ -8,11 +8,12 @@ use Rattle.serial_model.specs.declared.reply.Reply.{Reply}
 use Rattle.serial_model.specs.declared.reply.Verdict.{Verdict}
 use Rattle.tx_script.specs.declared.outcome.Outcome.{Outcome}
 use Rattle.tx_script.specs.declared.outcome.Outcome.TheVariants as outcome
-use Rattle.tx_script.specs.declared.outcome.Outcome.TheVariants.{Committed}
 use Rattle.tx_script.specs.declared.outcomes.Head.{Head}
 use Rattle.tx_script.specs.declared.outcomes.Kind.{Kind}
-use Rattle.tx_script.specs.declared.outcomes.Kind.TheVariants.{Done, Short, Over, Limit}
-use Rattle.tx_script.specs.Flat.{AreOutcomeWords, is_refused, outcome_in, outcome_of, outcomes_in}
+use Rattle.tx_script.specs.declared.outcomes.Kind.TheVariants.{Committed}
+use Rattle.tx_script.specs.declared.outcomes.Kind.TheVariants as kinds
+use Rattle.tx_script.specs.declared.outcomes.Refused as why
+use Rattle.tx_script.specs.Flat.{AreOutcomeWords, is_refused, outcome_in, outcome_of, outcome_refused, outcomes_in}
 use Rattle.tx_script.specs.Run.{is_limit}
 
 taken_push : (head : Head) (words more : List ℕ) → words ≡ [] → length more ≡ head.count → take head.count (words ++ more) ≡ more
@@ -45,10 +46,8 @@ pushed_are (first ∷ heads) words more head are same replies =
     )
 
 same_test : (head : Head) (words : List ℕ) (kind : Kind) → head.kind ≡ kind → is_limit (outcome_in head words) ≡ is_refused head
-same_test head words Done is = rw is refl
-same_test head words Short is = rw is refl
-same_test head words Over is = rw is refl
-same_test head words Limit is = rw is refl
+same_test head words (Committed verdict) is = rw is refl
+same_test head words (kinds.Refused refused) is = rw is refl
 
 pub any_limit_in : (heads : List Head) (words : List ℕ) → list_any is_limit (outcomes_in heads words) ≡ list_any is_refused heads
 any_limit_in [] words = refl
@@ -60,27 +59,28 @@ pub length-outcomes_in : (heads : List Head) (words : List ℕ) → length (outc
 length-outcomes_in [] words = refl
 length-outcomes_in (head ∷ heads) words = ap suc (length-outcomes_in heads (drop head.count words))
 
--- ---- a commit, and a line that was refused a number
+-- ---- a commit, and a line that was not committed
 
 pub commit_in : (heads : List Head) (words more : List ℕ) (head : Head) (old : List Outcome) (verdict : Verdict) (replies : List Reply)
-    → AreOutcomeWords heads words → length more ≡ head.count → more ≡ replies_words replies
-    → ((n : Number) (rs : List Reply) → outcome_of head.kind n rs ≡ Committed verdict n rs) → outcomes_in heads words ≡ old
-    → outcomes_in (heads ++ head ∷ []) (words ++ more) ≡ old ++ Committed verdict (record { epoch = head.epoch; draw = head.draw }) replies ∷ []
+    → AreOutcomeWords heads words → length more ≡ head.count → more ≡ replies_words replies → head.kind ≡ Committed verdict → outcomes_in heads words ≡ old
+    → outcomes_in (heads ++ head ∷ []) (words ++ more) ≡ old ++ outcome.Committed verdict (record { epoch = head.epoch; draw = head.draw }) replies ∷ []
 commit_in heads words more head old verdict replies are same is kind before =
     let number : Number = record { epoch = head.epoch; draw = head.draw } in
     pushed_in heads words more head are same ∙ ap (λ o. o ++ outcome_in head more ∷ []) before
-    ∙ ap (λ o. old ++ o ∷ []) (kind number (replies_of more) ∙ ap (Committed verdict number) (ap replies_of is ∙ replies_of-words replies))
+    ∙ ap (λ k. old ++ outcome_of k number (replies_of more) ∷ []) kind
+    ∙ ap (λ rs. old ++ outcome.Committed verdict number rs ∷ []) (ap replies_of is ∙ replies_of-words replies)
 
 pub commit_are : (heads : List Head) (words more : List ℕ) (head : Head) (replies : List Reply) → AreOutcomeWords heads words → length more ≡ head.count → more ≡ replies_words replies
     → AreOutcomeWords (heads ++ head ∷ []) (words ++ more)
 commit_are heads words more head replies are same is = pushed_are heads words more head are same (subst AreReplyWords (sym is) (are_words replies))
 
-pub limit_in : (heads : List Head) (words : List ℕ) (head : Head) (old : List Outcome) → AreOutcomeWords heads words → head.count ≡ 0 → outcome_in head [] ≡ outcome.Limit
-    → outcomes_in heads words ≡ old → outcomes_in (heads ++ head ∷ []) words ≡ old ++ outcome.Limit ∷ []
-limit_in heads words head old are none is before =
+pub refused_in : (heads : List Head) (words : List ℕ) (head : Head) (old : List Outcome) (refused : why.Refused) → AreOutcomeWords heads words → head.count ≡ 0
+    → head.kind ≡ kinds.Refused refused → outcomes_in heads words ≡ old → outcomes_in (heads ++ head ∷ []) words ≡ old ++ outcome_refused refused ∷ []
+refused_in heads words head old refused are none kind before =
+    let number : Number = record { epoch = head.epoch; draw = head.draw } in
     ap (outcomes_in (heads ++ head ∷ [])) (sym (append-nil words)) ∙ pushed_in heads words [] head are (sym none)
-    ∙ ap (λ o. o ++ outcome_in head [] ∷ []) before ∙ ap (λ o. old ++ o ∷ []) is
+    ∙ ap (λ o. o ++ outcome_in head [] ∷ []) before ∙ ap (λ k. old ++ outcome_of k number (replies_of []) ∷ []) kind
 
-pub limit_are : (heads : List Head) (words : List ℕ) (head : Head) → AreOutcomeWords heads words → head.count ≡ 0 → AreOutcomeWords (heads ++ head ∷ []) words
-limit_are heads words head are none =
+pub refused_are : (heads : List Head) (words : List ℕ) (head : Head) → AreOutcomeWords heads words → head.count ≡ 0 → AreOutcomeWords (heads ++ head ∷ []) words
+refused_are heads words head are none =
     subst (AreOutcomeWords (heads ++ head ∷ [])) (append-nil words) (pushed_are heads words [] head are (sym none) (are_words []))

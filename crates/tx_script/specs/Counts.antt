@@ -1,5 +1,6 @@
 -- How many lines the workers of a round have together: no more than the round.
-use Rattle.std.proofs.Common.{◌≡◌, refl, ℕ, ◌+◌, ◌≤◌, Bool, true, false, cond, eqb, ltb, List, [], ◌∷◌, length, inl, inr, arith}
+use Rattle.std.proofs.Common.{◌≡◌, refl, ℕ, ◌+◌, ◌≤◌, Bool, true, false, cond, eqb, ltb}
+use Rattle.std.proofs.Common.{List, [], ◌∷◌, length, inl, inr, arith}
 use Rattle.std.specs.List.{filter_map}
 use Rattle.std.proofs.lemmas.Bool.{cases_Bool}
 use Rattle.std.proofs.lemmas.Bool.Decides.{nat_tests}
@@ -25,15 +26,19 @@ abbrev count_below : ℕ → List Line → ℕ
 count_below k [] = 0
 count_below k (line ∷ lines) = cond (is_below k line) 1 0 + count_below k lines
 
-mine_counted : (k w : ℕ) (ops : List Op) (lines : List Line) → length (ops_of k (Worker w ops ∷ lines)) ≡ cond (eqb w k) 1 0 + length (ops_of k lines)
-mine_counted k w ops lines = elim (cases_Bool (eqb w k)) [ inl same ↦ rw same (omega arith) | inr other ↦ rw other (omega arith) ]
+mine_counted : (k w : ℕ) (ops : List Op) (lines : List Line)
+    → length (ops_of k (Worker w ops ∷ lines)) ≡ cond (eqb w k) 1 0 + length (ops_of k lines)
+mine_counted k w ops lines =
+    elim (cases_Bool (eqb w k)) [ inl same ↦ rw same (omega arith) | inr other ↦ rw other (omega arith) ]
 
 one_more_worker : (w k : ℕ) → ◌≡◌ {A = ℕ} (cond (ltb w (k + 1)) 1 0) (cond (eqb w k) 1 0 + cond (ltb w k) 1 0)
 one_more_worker w k = grind (arith, nat_tests)
 
-count_below-more : (k : ℕ) (lines : List Line) → count_below (k + 1) lines ≡ length (ops_of k lines) + count_below k lines
+count_below-more : (k : ℕ) (lines : List Line)
+    → count_below (k + 1) lines ≡ length (ops_of k lines) + count_below k lines
 count_below-more k [] = refl
-count_below-more k (Worker w ops ∷ lines) = omega (arith, mine_counted k w ops lines, one_more_worker w k, count_below-more k lines)
+count_below-more k (Worker w ops ∷ lines) =
+    omega (arith, mine_counted k w ops lines, one_more_worker w k, count_below-more k lines)
 count_below-more k (Keeper line ∷ lines) = omega (arith, count_below-more k lines)
 
 none_below : (w : ℕ) → ◌≡◌ {A = ℕ} (cond (ltb w 0) 1 0) 0

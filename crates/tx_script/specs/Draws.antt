@@ -1,5 +1,7 @@
--- Numbers drawn by an engine that draws for commits alone, and what follows: in a script's rounds no line meets the limit.
-use Rattle.std.specs.Prelude.{◌≡◌, ◌⊎◌, ◌≤◌, ◌+◌, ◌==◌, ℕ, Bool, IsTrue, List, [], ◌∷◌, ◌++◌, length, map, filter, sum_by, codes, nat_lt}
+-- Numbers drawn for commits alone, by an engine without second tries, and the law that follows: no line of a script meets
+-- the limit.
+use Rattle.std.specs.Prelude.{◌≡◌, ◌⊎◌, ◌≤◌, ◌+◌, ◌==◌, ℕ, Bool, IsTrue}
+use Rattle.std.specs.Prelude.{List, [], ◌∷◌, ◌++◌, length, map, filter, sum_by, codes, nat_lt}
 use Rattle.std.specs.List.{AllByRecursion, slice_split}
 use Rattle.std.proofs.Common.{refl, ap, ◌∙◌, inl, inr, arith, length-append}
 use Rattle.std.proofs.lemmas.List.{length-map}
@@ -8,13 +10,15 @@ use Rattle.std.proofs.lemmas.List.Splits.{length-slice_split}
 use Rattle.serial_model.specs.State.{State}
 use Rattle.serial_model.specs.declared.number.Number.{Number}
 use Rattle.serial_model.specs.declared.op.Op.{Op}
-use Rattle.script_grammar.specs.Script.{Bytes, IsTextOf, Line, Round, Script, decl_text, joined_lines, last_round, line_text, lines_of, worker_lines}
+use Rattle.script_grammar.specs.Script.{Bytes, IsTextOf, Line, Round, Script, worker_lines}
+use Rattle.script_grammar.specs.Script.{decl_text, joined_lines, last_round, line_text, lines_of}
 use Rattle.serial_model.specs.Numbers.{draw_limit}
 use Rattle.tx_script.specs.declared.outcome.Outcome.{Outcome}
 use Rattle.tx_script.specs.declared.outcome.Outcome.TheVariants.{Committed, Conflict, Full, Wide, Limit, Unrun}
 use Rattle.tx_script.specs.Causes.{AllCaused, OutcomeCause}
 use Rattle.tx_script.specs.Counts.{total, total-worker_lines}
-use Rattle.tx_script.specs.Run.{Ran, AreOfFirst, IsOfRound, IsScriptRun, OneForEach, RunsClocks, clock_after, is_commit, joined}
+use Rattle.tx_script.specs.Run.{Ran, AreOfFirst, IsOfRound, IsScriptRun, OneForEach, RunsClocks}
+use Rattle.tx_script.specs.Run.{clock_after, is_commit, joined}
 
 -- how many of the outcomes are commits
 abbrev pub commits_of : List (List Outcome) → ℕ
@@ -33,7 +37,8 @@ pub record CommitsEach (ran : Ran) : Type 0 where
 
 -- all of a worker's lines are commits
 abbrev AreCommits : List Outcome → Type 0
-AreCommits outcomes = AllByRecursion (λ outcome. IsTrue (is_commit outcome)) outcomes × (length (filter is_commit outcomes) ≡ length outcomes)
+AreCommits outcomes =
+    AllByRecursion (λ outcome. IsTrue (is_commit outcome)) outcomes × (length (filter is_commit outcomes) ≡ length outcomes)
 
 -- a line met the limit, and so there are fewer commits than lines
 abbrev MeetsLimit : Ran → ℕ → ℕ → Type 0
@@ -45,28 +50,34 @@ commits-le outcomes = omega (arith, length-filter is_commit outcomes, count_by-l
 of_worker_cases : (ran : Ran) (outcomes : List Outcome) → AllByRecursion (OutcomeCause ran) outcomes
     → AreCommits outcomes ⊎ MeetsLimit ran (length (filter is_commit outcomes)) (length outcomes)
 of_worker_cases ran [] caused = inl (tt, refl)
-of_worker_cases ran (Committed verdict number replies ∷ outcomes) caused = elim (of_worker_cases ran outcomes caused.1) [
-  | inl all ↦ inl ((refl, all.0), omega (arith, all.1))
-  | inr one ↦ inr (one.0, omega (arith, one.1))
-]
+of_worker_cases ran (Committed verdict number replies ∷ outcomes) caused =
+    elim (of_worker_cases ran outcomes caused.1) [
+      | inl all ↦ inl ((refl, all.0), omega (arith, all.1))
+      | inr one ↦ inr (one.0, omega (arith, one.1))
+    ]
 of_worker_cases ran (Limit ∷ outcomes) caused = inr (caused.0, omega (arith, commits-le outcomes))
 of_worker_cases ran (Conflict ∷ outcomes) caused = absurd caused.0
 of_worker_cases ran (Full ∷ outcomes) caused = absurd caused.0
 of_worker_cases ran (Wide ∷ outcomes) caused = absurd caused.0
 of_worker_cases ran (Unrun ∷ outcomes) caused = absurd caused.0
 
-commits_of-cons : (mine : List Outcome) (more : List (List Outcome)) → commits_of (mine ∷ more) ≡ length (filter is_commit mine) + commits_of more
+commits_of-cons : (mine : List Outcome) (more : List (List Outcome))
+    → commits_of (mine ∷ more) ≡ length (filter is_commit mine) + commits_of more
 commits_of-cons mine more = sum_by-cons (λ outcomes. length (filter is_commit outcomes)) mine more
 
 pub commits_of-le : (outcomes : List (List Outcome)) → commits_of outcomes ≤ sum_by length outcomes
 commits_of-le [] = omega arith
-commits_of-le (mine ∷ more) = omega (arith, commits_of-cons mine more, sum_by-cons length mine more, commits-le mine, commits_of-le more)
+commits_of-le (mine ∷ more) =
+    omega (arith, commits_of-cons mine more, sum_by-cons length mine more, commits-le mine, commits_of-le more)
 
 -- all of a round's lines are commits
 abbrev AreAllCommits : List (List Outcome) → Type 0
-AreAllCommits outcomes = AllByRecursion (AllByRecursion (λ outcome. IsTrue (is_commit outcome))) outcomes × (commits_of outcomes ≡ sum_by length outcomes)
+AreAllCommits outcomes =
+    AllByRecursion (AllByRecursion (λ outcome. IsTrue (is_commit outcome))) outcomes
+    × (commits_of outcomes ≡ sum_by length outcomes)
 
-of_round_cases : (ran : Ran) (outcomes : List (List Outcome)) → AllByRecursion (AllByRecursion (OutcomeCause ran)) outcomes
+of_round_cases : (ran : Ran) (outcomes : List (List Outcome))
+    → AllByRecursion (AllByRecursion (OutcomeCause ran)) outcomes
     → AreAllCommits outcomes ⊎ MeetsLimit ran (commits_of outcomes) (sum_by length outcomes)
 of_round_cases ran [] caused = inl (tt, refl)
 of_round_cases ran (mine ∷ more) caused =
@@ -80,18 +91,22 @@ of_round_cases ran (mine ∷ more) caused =
       ]
     ]
 
-total-one_for_each : (lines : List (List (List Op))) (outcomes : List (List Outcome)) → OneForEach lines outcomes → sum_by length outcomes ≡ total lines
+total-one_for_each : (lines : List (List (List Op))) (outcomes : List (List Outcome))
+    → OneForEach lines outcomes → sum_by length outcomes ≡ total lines
 total-one_for_each [] [] each = refl
 total-one_for_each [] (os ∷ more) each = absurd each
 total-one_for_each (ls ∷ lines) [] each = absurd each
-total-one_for_each (ls ∷ lines) (os ∷ more) each = omega (arith, each.0, sum_by-cons length os more, total-one_for_each lines more each.1)
+total-one_for_each (ls ∷ lines) (os ∷ more) each =
+    omega (arith, each.0, sum_by-cons length os more, total-one_for_each lines more each.1)
 
 -- a round has no more outcomes than lines
 pub few_outcomes : (ran : Ran) (round : Round) → IsOfRound ran round → sum_by length ran.outcomes ≤ length round.lines
-few_outcomes ran round of = omega (arith, total-one_for_each (worker_lines round) ran.outcomes of.outcomes, total-worker_lines round)
+few_outcomes ran round of =
+    omega (arith, total-one_for_each (worker_lines round) ran.outcomes of.outcomes, total-worker_lines round)
 
 -- while there are numbers left for all of its lines, each line of a round is committed
-pub round_committed : (ran : Ran) (round : Round) → IsOfRound ran round → AllCaused ran → DrawsOnce ran → ran.begin.draw + length round.lines ≤ draw_limit → CommitsEach ran
+pub round_committed : (ran : Ran) (round : Round) → IsOfRound ran round → AllCaused ran → DrawsOnce ran
+    → ran.begin.draw + length round.lines ≤ draw_limit → CommitsEach ran
 round_committed ran round of caused once room = elim (of_round_cases ran ran.outcomes caused.outcomes) [
   | inl all ↦ record { commits = all.0; draws = once ∙ ap (λ n. ran.begin.draw + n) all.1 }
   | inr one ↦ absurd (omega (arith, one.0, one.1, once, few_outcomes ran round of))
@@ -104,15 +119,18 @@ abbrev lines_in : List Round → ℕ
 lines_in [] = 0
 lines_in (round ∷ rounds) = length round.lines + lines_in rounds
 
-rounds_committed : (index : ℕ) (clock : Number) (rans : List Ran) (rounds : List Round) → AreOfFirst rans rounds → RunsClocks index clock rans rounds
-    → AllByRecursion AllCaused rans → AllByRecursion DrawsOnce rans → clock.draw + lines_in rounds ≤ draw_limit → AllByRecursion CommitsEach rans
+rounds_committed : (index : ℕ) (clock : Number) (rans : List Ran) (rounds : List Round)
+    → AreOfFirst rans rounds → RunsClocks index clock rans rounds → AllByRecursion AllCaused rans → AllByRecursion DrawsOnce rans
+    → clock.draw + lines_in rounds ≤ draw_limit → AllByRecursion CommitsEach rans
 rounds_committed index clock [] rounds of clocks caused once room = tt
 rounds_committed index clock (ran ∷ rans) [] of clocks caused once room = absurd of
 rounds_committed index clock (ran ∷ rans) (round ∷ rounds) of clocks caused once room =
     let begin : ran.begin.draw ≡ clock.draw = ap (λ (n : Number). n.draw) clocks.0 in
-    let few : ran.end.draw ≤ clock.draw + length round.lines = omega (arith, begin, once.0, commits_of-le ran.outcomes, few_outcomes ran round of.0) in (
+    let few : ran.end.draw ≤ clock.draw + length round.lines =
+    omega (arith, begin, once.0, commits_of-le ran.outcomes, few_outcomes ran round of.0) in (
       round_committed ran round of.0 caused.0 once.0 (omega (arith, begin, room)),
-      rounds_committed (index + 1) (joined ran.end) rans rounds of.1 clocks.2 caused.1 once.1 (omega (arith, few, room)),
+      rounds_committed (index + 1) (joined ran.end) rans rounds of.1 clocks.2 caused.1 once.1
+          (omega (arith, few, room)),
     )
 
 -- ---- a text has no more lines than bytes, and one
@@ -124,7 +142,9 @@ lines_in-append (round ∷ rounds) more = omega (arith, lines_in-append rounds m
 lines_in-joined : (joined : List Round) → lines_in joined ≤ length (joined_lines joined)
 lines_in-joined [] = omega arith
 lines_in-joined (round ∷ rounds) =
-    omega (arith, length-append (map line_text round.lines) (codes "join" ∷ joined_lines rounds), length-map round.lines line_text, lines_in-joined rounds)
+    let joins : length (joined_lines (round ∷ rounds)) ≡ length (map line_text round.lines) + length (codes "join" ∷ joined_lines rounds) =
+    length-append (map line_text round.lines) (codes "join" ∷ joined_lines rounds) in
+    omega (arith, length-map round.lines line_text, lines_in-joined rounds)
 
 lines_in-last : (joined : List Round) (rest : List Line) → lines_in (last_round joined rest) ≤ length rest
 lines_in-last [] rest = omega arith
@@ -161,9 +181,11 @@ few_lines bytes script text =
       lines_in-last text.joined text.rest,
     )
 
--- In the rounds of a script, from the first draw on, each line is committed with the one number that it draws: an engine
--- that draws for commits alone meets no limit.
-pub each_committed : (bytes : Bytes) (script : Script) (s : State) (saved : ℕ) (rans : List Ran) (t : State) → IsTextOf bytes script
-    → IsScriptRun script s saved rans t → AllByRecursion AllCaused rans → AllByRecursion DrawsOnce rans → AllByRecursion CommitsEach rans
+-- In the rounds of a script, from the first draw on, each line is committed with the one number that it draws: an
+-- engine that draws for commits alone meets no limit.
+pub each_committed : (bytes : Bytes) (script : Script) (s : State) (saved : ℕ) (rans : List Ran) (t : State)
+    → IsTextOf bytes script → IsScriptRun script s saved rans t → AllByRecursion AllCaused rans → AllByRecursion DrawsOnce rans
+    → AllByRecursion CommitsEach rans
 each_committed bytes script s saved rans t text run caused once =
-    rounds_committed 0 (clock_after saved) rans script.rounds run.lines run.clocks caused once (omega (arith, few_lines bytes script text))
+    rounds_committed 0 (clock_after saved) rans script.rounds run.lines run.clocks caused once
+    (omega (arith, few_lines bytes script text))

@@ -3,7 +3,6 @@ use Rattle.std.specs.Prelude.{◌≡◌, ℕ, ◌≤◌, Bool, List, [], ◌∷�
 use Rattle.serial_model.specs.ReplyWords.{AreReplyWords, replies_of}
 use Rattle.serial_model.specs.declared.number.Number.{Number}
 use Rattle.serial_model.specs.declared.reply.Reply.{Reply}
-use Rattle.serial_model.specs.declared.reply.Verdict.TheVariants as verdicts
 use Rattle.tx_script.specs.declared.outcome.Outcome.{Outcome}
 use Rattle.tx_script.specs.declared.outcome.Outcome.TheVariants.{Committed, Conflict, Full, Wide, Limit, Unrun}
 use Rattle.tx_script.specs.declared.outcome.LentOutcome.{LentOutcome}
@@ -11,6 +10,8 @@ use Rattle.tx_script.specs.declared.outcome.LentOutcome.TheVariants as lent
 use Rattle.tx_script.specs.declared.outcomes.Head.{Head}
 use Rattle.tx_script.specs.declared.outcomes.Kind.{Kind}
 use Rattle.tx_script.specs.declared.outcomes.Kind.TheVariants as kinds
+use Rattle.tx_script.specs.declared.outcomes.Refused.{Refused}
+use Rattle.tx_script.specs.declared.outcomes.Refused.TheVariants as refusals
 use Rattle.tx_script.specs.Run.{is_limit}
 
 -- the outcome that is read
@@ -22,12 +23,18 @@ outcome_lent lent.Wide = Wide
 outcome_lent lent.Limit = Limit
 outcome_lent lent.Unrun = Unrun
 
+-- the outcome of a line that was not committed
+abbrev pub outcome_refused : Refused → Outcome
+outcome_refused refusals.Conflict = Conflict
+outcome_refused refusals.Full = Full
+outcome_refused refusals.Wide = Wide
+outcome_refused refusals.Limit = Limit
+outcome_refused refusals.Unrun = Unrun
+
 -- the outcome of this kind
 abbrev pub outcome_of : Kind → Number → List Reply → Outcome
-outcome_of kinds.Done number replies = Committed verdicts.Done number replies
-outcome_of kinds.Short number replies = Committed verdicts.Short number replies
-outcome_of kinds.Over number replies = Committed verdicts.Over number replies
-outcome_of kinds.Limit number replies = Limit
+outcome_of (kinds.Committed verdict) number replies = Committed verdict number replies
+outcome_of (kinds.Refused refused) number replies = outcome_refused refused
 
 -- the outcome of a head whose replies lie in these words
 abbrev pub outcome_in : Head → List ℕ → Outcome

@@ -1,5 +1,7 @@
--- Runs of a script: the rounds that were run, with what came of each line, and the order in which their commits are serial.
-use Rattle.std.specs.Prelude.{◌≡◌, ℕ, ◌+◌, ◌<◌, ◌≤◌, ◌==◌, Bool, true, false, List, [], ◌∷◌, ◌++◌, length, filter, Option, Some, slice_get, ⊤, IsTrue}
+-- Runs of a script: the rounds that were run, with what came of each line, and the order in which their commits are
+-- serial.
+use Rattle.std.specs.Prelude.{◌≡◌, ℕ, ◌+◌, ◌<◌, ◌≤◌, ◌==◌, Bool, true, false, Option, Some, ⊤, IsTrue}
+use Rattle.std.specs.Prelude.{List, [], ◌∷◌, ◌++◌, length, filter, slice_get}
 use Rattle.std.specs.List.{AllByRecursion}
 use Rattle.std.specs.List.Sorted.{IsPermutation}
 use Rattle.lists.specs.Each.{all_at, all_weaker}
@@ -9,7 +11,8 @@ use Rattle.serial_model.specs.History.{Entry, InOrder, Rises, IsSerialRun, state
 use Rattle.serial_model.specs.declared.op.Op.{Op}
 use Rattle.serial_model.specs.declared.decl.Decl.{Decl}
 use Rattle.serial_model.specs.declared.number.Number.{Number}
-use Rattle.script_grammar.specs.Script.{Line, Worker, Keeper, Round, Script, IsLine, IsOp, IsRound, IsScript, keeper_lines, worker_lines}
+use Rattle.script_grammar.specs.Script.{Line, Worker, Keeper, Round, Script, keeper_lines, worker_lines}
+use Rattle.script_grammar.specs.Script.{IsLine, IsOp, IsRound, IsScript}
 use Rattle.tx_script.specs.declared.answer.Answer.{Answer}
 use Rattle.tx_script.specs.declared.answer.Answer.TheVariants as answers
 use Rattle.tx_script.specs.declared.outcome.Outcome.{Outcome}
@@ -132,9 +135,10 @@ RunsClocks index clock (ran ∷ rans) (round ∷ rounds) =
 
 -- ---- runs
 
--- What was run of rounds, counted from index on, from the state s and the clock to the state t: one outcome or answer for
--- each line, commits whose numbers rise for each worker, and an order of all of them in which they are one serial run.
-pub record IsRun (decls : List Decl) (index : ℕ) (rounds : List Round) (s : State) (clock : Number) (rans : List Ran) (t : State) : Type 0 where
+-- What was run of rounds, counted from index on, from the state s and the clock to the state t: one outcome or answer
+-- for each line, commits whose numbers rise for each worker, and an order of all of them in which they are one serial run.
+pub record IsRun (decls : List Decl) (index : ℕ) (rounds : List Round) (s : State) (clock : Number)
+    (rans : List Ran) (t : State) : Type 0 where
   pub lines : AreOfFirst rans rounds
   pub workers : (worker : ℕ) → Rises (of_worker worker (entries_of index rans rounds))
   pub clocks : RunsClocks index clock rans rounds
@@ -180,7 +184,11 @@ can_run_line decls (Worker worker ops) rules = record {
 }
 can_run_line decls (Keeper line) rules = absurd rules
 
-pub can_run : (script : Script) (index : ℕ) (round : Round) → IsScript script → slice_get script.rounds index ≡ Some round → CanRun script.decls round
+pub can_run : (script : Script) (index : ℕ) (round : Round) → IsScript script
+    → slice_get script.rounds index ≡ Some round → CanRun script.decls round
 can_run script index round rules at =
     let r : IsRound script.decls round = all_at (IsRound script.decls) script.rounds index round rules.rounds at in
-    record { few_lines = r.few_lines; lines = all_weaker (IsLine script.decls) (CanRunLine script.decls) (can_run_line script.decls) round.lines r.lines }
+    record {
+      few_lines = r.few_lines;
+      lines = all_weaker (IsLine script.decls) (CanRunLine script.decls) (can_run_line script.decls) round.lines r.lines;
+    }

@@ -1,10 +1,8 @@
 // The outcomes of a round's lines, flat: a head for each, and the words of all replies in one list.
-ghost use Rattle.std.specs.Prelude.{◌≡◌, ◌<◌, ℕ, List, [], ◌∷◌, ◌++◌, length, MatchOption, OnOk, OnErr};
+ghost use Rattle.std.specs.Prelude.{◌≡◌, ◌<◌, [], ◌∷◌, ◌++◌, length, MatchOption, OnOk, OnErr};
 ghost use Rattle.std.specs.List.{list_any};
 ghost use Rattle.serial_model.specs.ReplyWords.{AreReplyWords, replies_words};
-ghost use Rattle.serial_model.specs.declared.number.Number.{Number as TheNumber};
-ghost use Rattle.serial_model.specs.declared.reply.Reply.{Reply};
-ghost use Rattle.tx_script.specs.Flat.{is_refused, outcome_in, outcome_lent, outcome_of};
+ghost use Rattle.tx_script.specs.Flat.{is_refused, outcome_in, outcome_lent, outcome_refused};
 ghost use Rattle.tx_script.specs.Run.{is_limit};
 ghost use Rattle.tx_script.specs.declared.outcome.Outcome.TheVariants as outcomes;
 
@@ -14,13 +12,21 @@ use serial_model::{LentReplies, Number, Replies, Verdict};
 use std::alloc::Global;
 use std::marker::Model;
 
+/// Why a line was not committed.
+#[derive(Clone, Copy, Debug, PartialEq, Eq)]
+pub enum Refused {
+    Conflict,
+    Full,
+    Wide,
+    Limit,
+    Unrun,
+}
+
 /// What an outcome is, but for its number and its replies.
 #[derive(Clone, Copy)]
 enum Kind {
-    Done,
-    Short,
-    Over,
-    Limit,
+    Committed(Verdict),
+    Refused(Refused),
 }
 
 /// An outcome, but for its replies.
@@ -94,12 +100,13 @@ impl Outcomes {
         replies: &Replies,
     ) -> Result<(), Memory>
         requires { length (replies_words replies.now) < 65536 }
-        ensures ok { OnOk result (self.new ≡ self.old ++ outcomes.Committed verdict number replies.now ∷ []) }
+        ensures ok { OnOk result (self.new
+            ≡ self.old ++ outcomes.Committed verdict number replies.now ∷ []) }
         ensures memory { OnErr result (self.new ≡ self.old) }
     {
         let words = replies.words();
         let head = Head {
-            kind: kind_of(verdict),
+            kind: Kind::Committed(verdict),
             count: words.len() as u16,
             epoch: number.epoch,
             draw: number.draw,
@@ -115,13 +122,13 @@ impl Outcomes {
         }
     }
 
-    /// A line that was refused a number. After want of memory the list is as it was.
-    pub fn push_limit(&mut self) -> Result<(), Memory>
-        ensures ok { OnOk result (self.new ≡ self.old ++ outcomes.Limit ∷ []) }
+    /// A line that was not committed. After want of memory the list is as it was.
+    pub fn push_refused(&mut self, refused: Refused) -> Result<(), Memory>
+        ensures ok { OnOk result (self.new ≡ self.old ++ outcome_refused refused ∷ []) }
         ensures memory { OnErr result (self.new ≡ self.old) }
     {
         self.heads.push(Head {
-            kind: Kind::Limit,
+            kind: Kind::Refused(refused),
             count: 0,
             epoch: 0,
             draw: 0,
@@ -165,21 +172,12 @@ impl<'a> LentOutcomes<'a> {
     }
 }
 
-// The kind of a commit.
-fn kind_of(verdict: Verdict) -> Kind
-    ensures { (number : TheNumber) (replies : List Reply) → outcome_of result number replies ≡ outcomes.Committed verdict number replies }
-{
-    match verdict {
-        Verdict::Done => Kind::Done,
-        Verdict::Short => Kind::Short,
-        Verdict::Over => Kind::Over,
-    }
-}
-
 fn any_limit(heads: &[Head]) -> bool
     ensures { result ≡ list_any is_refused heads.now }
 {
-    heads.iter().any(|head| matches!(head.kind, Kind::Limit))
+    heads
+        .iter()
+        .any(|head| matches!(head.kind, Kind::Refused(Refused::Limit)))
 }
 
 // The outcome of a head whose replies lie in these words.
@@ -187,18 +185,27 @@ fn outcome_at(head: Head, words: &[u64]) -> LentOutcome<'_>
     requires { AreReplyWords words.now }
     ensures { outcome_lent result ≡ outcome_in head words.now }
 {
-    let verdict = match head.kind {
-        Kind::Done => Verdict::Done,
-        Kind::Short => Verdict::Short,
-        Kind::Over => Verdict::Over,
-        Kind::Limit => return LentOutcome::Limit,
-    };
-    LentOutcome::Committed {
-        verdict,
-        number: Number {
-            epoch: head.epoch,
-            draw: head.draw,
+    match head.kind {
+        Kind::Committed(verdict) => LentOutcome::Committed {
+            verdict,
+            number: Number {
+                epoch: head.epoch,
+                draw: head.draw,
+            },
+            replies: LentReplies::new(words),
         },
-        replies: LentReplies::new(words),
+        Kind::Refused(refused) => lent_refused(refused),
+    }
+}
+
+fn lent_refused<'a>(refused: Refused) -> LentOutcome<'a>
+    ensures { outcome_lent result ≡ outcome_refused refused }
+{
+    match refused {
+        Refused::Conflict => LentOutcome::Conflict,
+        Refused::Full => LentOutcome::Full,
+        Refused::Wide => LentOutcome::Wide,
+        Refused::Limit => LentOutcome::Limit,
+        Refused::Unrun => LentOutcome::Unrun,
     }
 }

@@ -6,8 +6,9 @@ ghost use Rattle.outside.specs.Stream.{TakesPrefix};
 ghost use Rattle.serial_model.specs.Lent.{reply_lent};
 ghost use Rattle.text_output.specs.Output.{Prints};
 ghost use Rattle.tx_script.specs.Flat.{outcome_lent};
-ghost use Rattle.tx_script.specs.Text.{answer_line, answer_text, answers_text, durable_text, lines_text, outcome_line, outcome_text};
-ghost use Rattle.tx_script.specs.Text.{more_rows_text, number_text, pair_text, replies_text, reply_text, rows_text, verdict_text, worker_text, workers_text};
+ghost use Rattle.tx_script.specs.Text.{answer_line, answer_text, answers_text, durable_text, lines_text};
+ghost use Rattle.tx_script.specs.Text.{more_rows_text, number_text, outcome_line, outcome_text, pair_text, replies_text};
+ghost use Rattle.tx_script.specs.Text.{reply_text, rows_text, verdict_text, worker_text, workers_text};
 
 use crate::{Answer, Answers, LentOutcome, LentOutcomes, Outcome, Outcomes, RoundOutcomes};
 use outside::{Failed, Sink};
@@ -21,8 +22,10 @@ pub fn write_outcome<K: Sink>(
     line: u32,
     outcome: &Outcome,
 ) -> Result<(), Failed>
-    ensures written { OnOk result (Appends (K.held sink.old) (K.held sink.new) (outcome_line worker line outcome.now)) }
-    ensures prefix { OnErr result (TakesPrefix (K.held sink.old) (K.held sink.new) (outcome_line worker line outcome.now)) }
+    ensures written { OnOk result (Appends (K.held sink.old) (K.held sink.new)
+        (outcome_line worker line outcome.now)) }
+    ensures prefix { OnErr result (TakesPrefix (K.held sink.old) (K.held sink.new)
+        (outcome_line worker line outcome.now)) }
     ensures cause { HasCause (K.faults sink.old) (K.faults sink.new) result }
 {
     let mut printer = Printer::new(sink);
@@ -33,8 +36,10 @@ pub fn write_outcome<K: Sink>(
 
 /// Writes the line of an answer to a keeper line in one write.
 pub fn write_keeper<K: Sink>(sink: &mut K, line: u32, answer: &Answer) -> Result<(), Failed>
-    ensures written { OnOk result (Appends (K.held sink.old) (K.held sink.new) (answer_line line answer.now)) }
-    ensures prefix { OnErr result (TakesPrefix (K.held sink.old) (K.held sink.new) (answer_line line answer.now)) }
+    ensures written { OnOk result (Appends (K.held sink.old) (K.held sink.new)
+        (answer_line line answer.now)) }
+    ensures prefix { OnErr result (TakesPrefix (K.held sink.old) (K.held sink.new)
+        (answer_line line answer.now)) }
     ensures cause { HasCause (K.faults sink.old) (K.faults sink.new) result }
 {
     let mut printer = Printer::new(sink);
@@ -115,7 +120,8 @@ fn put_outcome_line<K: Sink>(
     line: u64,
     outcome: LentOutcome<'_>,
 ) -> Result<(), Failed>
-    ensures { Prints printer.old printer.new (outcome_line worker line (outcome_lent outcome.entry)) result }
+    ensures { Prints printer.old printer.new
+        (outcome_line worker line (outcome_lent outcome.entry)) result }
 {
     printer.put_number(worker)?;
     printer.put(b".")?;
@@ -151,7 +157,8 @@ fn put_commit<K: Sink>(
     number: Number,
     replies: LentReplies<'_>,
 ) -> Result<(), Failed>
-    ensures { Prints printer.old printer.new (verdict_text verdict ++ codes " " ++ number_text number ++ replies_text replies.entry) result }
+    ensures { Prints printer.old printer.new
+        (verdict_text verdict ++ codes " " ++ number_text number ++ replies_text replies.entry) result }
 {
     put_verdict(printer, verdict)?;
     printer.put(b" ")?;
@@ -300,7 +307,8 @@ fn put_words<K: Sink>(
     other: &[u8],
     more: u32,
 ) -> Result<(), Failed>
-    ensures { Prints printer.old printer.new (word.now ++ decimal number ++ other.now ++ decimal more) result }
+    ensures { Prints printer.old printer.new
+        (word.now ++ decimal number ++ other.now ++ decimal more) result }
 {
     put_word(printer, word, number as u64)?;
     put_word(printer, other, more as u64)

@@ -7,7 +7,7 @@ use Rattle.round_engine.specs.RanRound.{end_at}
 use Rattle.round_engine.specs.Standing.{Standing}
 use Rattle.round_engine.specs.declared.report.Report.{Report}
 use Rattle.round_engine.proofs.Fronts.{no_keeper_lines}
-use Rattle.round_engine.proofs.PlainRound.{ran_round, round_consecutive, round_draws, stops_in}
+use Rattle.round_engine.proofs.PlainRound.{ran_round, round_consecutive, round_draws, round_draws_few, stops_in}
 use Rattle.round_engine.proofs.rounds.round.Goals as goal
 
 pub returns-in-Err-clause-rounds : goal.returns-in-Err-clause-rounds
@@ -47,6 +47,18 @@ pub returns-clause-draws : goal.returns-clause-draws
 returns-clause-draws g c =
     let report : Report = record { outcomes = c.in-Ok.outcomes; keeper = c.new.result; durable = None; end = c.join-end.result } in
     round_draws c.args.round.now c.args.runtime.now c.run_workers.new.runtime c.join-end.new.runtime report (record {
+      none = no_keeper_lines c.args.runtime.now.decls c.args.round.now c.requires.lines;
+      lines = c.in-Ok.ensures.ran;
+      keeper = c.new.ensures;
+      durable = refl;
+      join = c.join-end.ensures.runtime;
+      end = c.join-end.ensures.end ∙ ap (end_at c.run_workers.new.runtime.clock) (c.has_limit.ensures ∙ ap (list_any (list_any is_limit)) c.as_slice.ensures);
+    })
+
+pub returns-clause-draws_few : goal.returns-clause-draws_few
+returns-clause-draws_few g c =
+    let report : Report = record { outcomes = c.in-Ok.outcomes; keeper = c.new.result; durable = None; end = c.join-end.result } in
+    round_draws_few c.args.round.now c.args.runtime.now c.run_workers.new.runtime c.join-end.new.runtime report (record {
       none = no_keeper_lines c.args.runtime.now.decls c.args.round.now c.requires.lines;
       lines = c.in-Ok.ensures.ran;
       keeper = c.new.ensures;

@@ -8,4 +8,4 @@ invariant_of-self-in-Ok c = rw (c.in-Ok.ensures.ok, c.in_ok-append.ensures.ok) (
 
 pub returns-in-Ok-clause-ok : goal.returns-in-Ok-clause-ok
 returns-in-Ok-clause-ok c =
-    rw (c.in-Ok.ensures.ok, c.in_ok-append.ensures.ok) (commit_in _ _ _ _ _ c.args.verdict c.args.replies.now c.self.invariant refl c.words-words.ensures c.kind_of.ensures c.self.view_is)
+    rw (c.in-Ok.ensures.ok, c.in_ok-append.ensures.ok) (commit_in _ _ _ _ _ c.args.verdict c.args.replies.now c.self.invariant refl c.words-words.ensures refl c.self.view_is)

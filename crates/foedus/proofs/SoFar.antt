@@ -111,8 +111,8 @@ pushed script r s count old new round report so at one =
 
 -- a round that goes on, with its text
 pub one_more : (script : Script) (r s : Standing) (count : ℕ) (old mid new : Output) (round : Round) (report : Report) → RanSoFar script r count old mid → slice_get script.rounds count ≡ Some round
-    → RanRound round r s report → report.durable ≡ None → Adds mid new (round_text (ran_of r s report)) → report.end ≡ None → RanSoFar script s (count + 1) old new
-one_more script r s count old mid new round report so at one kept adds none =
+    → RanRound round r s report → DrawsOnce (ran_of r s report) → report.durable ≡ None → Adds mid new (round_text (ran_of r s report)) → report.end ≡ None → RanSoFar script s (count + 1) old new
+one_more script r s count old mid new round report so at one once kept adds none =
     let ran : Ran = ran_of r s report in
     let goes : GoesOn ran = goes_on_of round r s report one none in
     let clock = goes_on round r s report one goes in
@@ -125,7 +125,7 @@ one_more script r s count old mid new round report so at one kept adds none =
       decls = one.decls ∙ so.decls;
       run = pushed script r s count old mid round report so at one;
       caused = all_push AllCaused so.rans ran so.caused one.caused;
-      draws_once = all_push DrawsOnce so.rans ran so.draws_once one.draws_once;
+      draws_once = all_push DrawsOnce so.rans ran so.draws_once once;
       durable = all_push IsNotDurable so.rans ran so.durable kept;
       went_on = all_push GoesOn so.rans ran so.went_on goes;
       clock = clock ∙ sym (clock_from-push (clock_after 0) so.rans ran);
@@ -174,16 +174,16 @@ all_run options script r count old new so all =
 
 -- a round more, and this ending after it
 with_round : {Shows : List Ran → Ending → Type 0} (script : Script) (r s : Standing) (count : ℕ) (old mid : Output) (round : Round) (report : Report) (so : RanSoFar script r count old mid) → slice_get script.rounds count ≡ Some round
-    → RanRound round r s report → (ending : Ending) → ((options : RunOptions) (bytes : Bytes) → Comes (Run options) bytes (Some script) (so.rans ++ ran_of r s report ∷ []) ending)
+    → RanRound round r s report → DrawsOnce (ran_of r s report) → (ending : Ending) → ((options : RunOptions) (bytes : Bytes) → Comes (Run options) bytes (Some script) (so.rans ++ ran_of r s report ∷ []) ending)
     → Shows (so.rans ++ ran_of r s report ∷ []) ending → RunsScript fresh script Shows
-with_round script r s count old mid round report so at one ending comes shown = record {
+with_round script r s count old mid round report so at one once ending comes shown = record {
   rans = so.rans ++ ran_of r s report ∷ [];
   ending = ending;
   state = s.state;
   run = pushed script r s count old mid round report so at one;
   comes = comes;
   caused = all_push AllCaused so.rans (ran_of r s report) so.caused one.caused;
-  draws_once = all_push DrawsOnce so.rans (ran_of r s report) so.draws_once one.draws_once;
+  draws_once = all_push DrawsOnce so.rans (ran_of r s report) so.draws_once once;
   shown = shown;
 }
 
@@ -202,10 +202,10 @@ comes_at script rans ran (Limit name number) went is most caused =
 
 -- a round ended the run
 pub stopped : (options : RunOptions) (script : Script) (r s : Standing) (count : ℕ) (old mid new : Output) (round : Round) (report : Report) (end : End) → RanSoFar script r count old mid → slice_get script.rounds count ≡ Some round
-    → RanRound round r s report → report.durable ≡ None → Adds mid new (round_text (ran_of r s report)) → report.end ≡ Some end → RunsScript fresh script (AddsRun (Run options) old new (Ok (ending_of end)))
-stopped options script r s count old mid new round report end so at one kept adds is =
+    → RanRound round r s report → DrawsOnce (ran_of r s report) → report.durable ≡ None → Adds mid new (round_text (ran_of r s report)) → report.end ≡ Some end → RunsScript fresh script (AddsRun (Run options) old new (Ok (ending_of end)))
+stopped options script r s count old mid new round report end so at one once kept adds is =
     let ran : Ran = ran_of r s report in
-    with_round script r s count old mid round report so at one (ending_of end) (comes_at script so.rans ran end so.went_on (sym one.end ∙ is) (epoch-end round r s report one so.most) one.caused)
+    with_round script r s count old mid round report so at one once (ending_of end) (comes_at script so.rans ran end so.went_on (sym one.end ∙ is) (epoch-end round r s report one so.most) one.caused)
     (all_push IsNotDurable so.rans ran so.durable kept, refl, adds_as (run_text-push so.rans ran) (adds_then so.adds adds))
 
 -- how the run would have ended after a round within whose text the sink failed
@@ -221,9 +221,9 @@ comes_after script rans ran (Some end) went is most caused = comes_at script ran
 
 -- the sink failed within a round's text
 pub broke : (failed : Failed) (options : RunOptions) (script : Script) (r s : Standing) (count : ℕ) (old mid new : Output) (round : Round) (report : Report) → RanSoFar script r count old mid → slice_get script.rounds count ≡ Some round
-    → RanRound round r s report → report.durable ≡ None → Breaks mid new (round_text (ran_of r s report)) → RunsScript fresh script (AddsRun (Run options) old new (Err failed))
-broke failed options script r s count old mid new round report so at one kept breaks =
+    → RanRound round r s report → DrawsOnce (ran_of r s report) → report.durable ≡ None → Breaks mid new (round_text (ran_of r s report)) → RunsScript fresh script (AddsRun (Run options) old new (Err failed))
+broke failed options script r s count old mid new round report so at one once kept breaks =
     let ran : Ran = ran_of r s report in
     let ending : Ending = ending_after report.end in
-    with_round script r s count old mid round report so at one ending (comes_after script so.rans ran report.end so.went_on (sym one.end) (epoch-end round r s report one so.most) one.caused)
+    with_round script r s count old mid round report so at one once ending (comes_after script so.rans ran report.end so.went_on (sym one.end) (epoch-end round r s report one so.most) one.caused)
     (all_push IsNotDurable so.rans ran so.durable kept, breaks_within (last_line ending) (breaks_as (run_text-push so.rans ran) (breaks_then so.adds breaks)))

@@ -22,15 +22,15 @@ returns-in_default-round g c = at_memory c.args.options _ _ _ _ _ c.loop-index.i
 pub returns-in_err-put_round : goal.returns-in_err-put_round
 returns-in_err-put_round g c =
     let p = err_from_is_err_and c.from_residual.result c.from_residual.ensures.1 in
-    rw p.1 (broke _ c.args.options _ _ _ _ _ _ _ _ _ c.loop-index.invariant.0 c.round-lines.ensures c.in-Ok-round.ensures.rounds c.in-Ok-round.ensures.durable c.in_err-put_round.ensures)
+    rw p.1 (broke _ c.args.options _ _ _ _ _ _ _ _ _ c.loop-index.invariant.0 c.round-lines.ensures c.in-Ok-round.ensures.rounds c.in-Ok-round.ensures.draws_few.once c.in-Ok-round.ensures.durable c.in_err-put_round.ensures)
 
 pub returns-in-Some : goal.returns-in-Some
 returns-in-Some g c = rw c.ending_of.ensures
-    (stopped c.args.options _ _ _ _ _ _ _ _ _ c.in-Some.end c.loop-index.invariant.0 c.round-lines.ensures c.in-Ok-round.ensures.rounds c.in-Ok-round.ensures.durable c.in_ok-put_round.ensures c.in-Some.is)
+    (stopped c.args.options _ _ _ _ _ _ _ _ _ c.in-Some.end c.loop-index.invariant.0 c.round-lines.ensures c.in-Ok-round.ensures.rounds c.in-Ok-round.ensures.draws_few.once c.in-Ok-round.ensures.durable c.in_ok-put_round.ensures c.in-Some.is)
 
 pub loop-index-preserved : goal.loop-index-preserved
 loop-index-preserved g c = (
-  one_more _ _ _ _ _ _ _ _ _ c.loop-index.invariant.0 c.round-lines.ensures c.in-Ok-round.ensures.rounds c.in-Ok-round.ensures.durable c.in_ok-put_round.ensures c.in_default-end.is,
+  one_more _ _ _ _ _ _ _ _ _ c.loop-index.invariant.0 c.round-lines.ensures c.in-Ok-round.ensures.rounds c.in-Ok-round.ensures.draws_few.once c.in-Ok-round.ensures.durable c.in_ok-put_round.ensures c.in_default-end.is,
   refl,
   c.rounds-index-end.ensures,
   omega (arith, c.loop-index-test.true),

@@ -8,6 +8,7 @@ pub mod Listed
 pub mod MemoryDisk
 pub mod Moments
 pub mod Ranges
+pub mod Reads
 pub mod Replay
 pub mod Replayed
 pub mod Stream

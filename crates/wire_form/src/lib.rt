@@ -27,6 +27,7 @@
 #![tactic(auto)]
 
 mod bits;
+mod bucket;
 mod bytes;
 mod catalogue;
 mod clock;
@@ -42,6 +43,7 @@ mod record_word;
 mod records;
 mod savepoint;
 
+pub use bucket::{Bucket, Entry, Run};
 pub use catalogue::catalogue_words;
 pub use clock::{Clock, Mark};
 pub use fields::{

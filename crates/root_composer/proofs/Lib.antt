@@ -1,0 +1,13 @@
+pub mod OverlayLemmas
+pub mod MadeLemmas
+pub mod ComposeLaw
+pub mod ArrayLaw
+pub mod ArrayCode
+pub mod PageLemmas
+pub mod ContentLaw
+pub mod StoragesLaw
+pub mod RunLemmas
+pub mod ReadyLemmas
+pub mod Compositions
+pub mod StorageSteps
+pub mod ComposeSteps

@@ -1,0 +1,16 @@
+use Rattle.std.proofs.Common.{◌≡◌, ◌<◌, ◌++◌, ◌∷◌, [], length, sym, ap, ◌∙◌, take_all, arith}
+use Rattle.root_composer.proofs.PageLemmas.{take_get}
+use Rattle.root_composer.proofs.storages.storages_of.Goals as goal
+
+pub loop-i-preserved : goal.loop-i-preserved
+loop-i-preserved c contents is words =
+    let size : c.count.result ≡ length contents.storages = c.count.ensures.catalogue c.args.number contents is words in
+    let here : c.loop-i.i < length contents.storages = omega (arith, size, c.min-i-end.ensures) in
+    c.in_ok-push.ensures.items
+    ∙ ap (λ l. l ++ c.in-Some.stored ∷ []) (c.loop-i.invariant contents is words)
+    ∙ sym (take_get contents.storages c.loop-i.i c.in-Some.stored (sym (c.in-Some.ensures.entry contents is words here)))
+
+pub returns : goal.returns
+returns c contents is words =
+    let size : c.count.result ≡ length contents.storages = c.count.ensures.catalogue c.args.number contents is words in
+    c.loop-i.invariant contents is words ∙ take_all c.loop-i.i contents.storages (omega (arith, size, c.min-i-end.ensures, is.most))

@@ -1,0 +1,106 @@
+-- All storages of a snapshot, composed in the order of their ids.
+use Rattle.std.specs.Prelude.{◌≡◌, ℕ, ◌+◌, ◌≤◌, ◌==◌, Bool, false, true, List, [], ◌∷◌, Option, Some, None, cond, length, if◌then◌else◌, ⊤}
+use Rattle.std.specs.List.{AllByRecursion, flat_map}
+use Rattle.std.specs.Ordering.{eq_by_cmp}
+use Rattle.serial_model.specs.Keys.{key_cmp, id_of}
+use Rattle.serial_model.specs.declared.key.Key.{Key}
+use Rattle.serial_model.specs.declared.decl.Decl.{Decl}
+use Rattle.serial_model.specs.declared.decl.Decl.TheVariants.{Array, Tree}
+use Rattle.wire_form.specs.declared.bucket.Entry.{Entry}
+use Rattle.wire_form.specs.declared.records.Stored.{Stored}
+use Rattle.wire_form.specs.Words.{number_word}
+use Rattle.snapshot_store.specs.Places.{Found, newer}
+use Rattle.snapshot_store.specs.Content.{deepest, root_place, format_of, IsPageOf, RootStands}
+use Rattle.root_composer.specs.declared.last.Last.{Last}
+use Rattle.root_composer.specs.Overlaid.{entry_for, overlaid}
+use Rattle.root_composer.specs.Composed.{Replaces}
+use Rattle.root_composer.specs.Composer.{Made, AllMade, with_one}
+use Rattle.root_composer.specs.ArrayWriter.{IsPut}
+use Rattle.root_composer.specs.ArrayCode.{array_one}
+
+-- an entry, as one of its storage
+abbrev pub last_of : Entry → Last
+last_of e = record { key = e.key.key; number = number_word e.number; value = e.value }
+
+-- the entries of one storage
+abbrev pub part_of : ℕ → List Entry → List Last
+part_of id [] = []
+part_of id (e ∷ es) = if e.key.storage == id then (last_of e ∷ part_of id es) else part_of id es
+
+-- the entry of a key, where the run has one
+abbrev pub change_for : List Entry → Key → Option Entry
+change_for [] key = None
+change_for (e ∷ es) key = if eq_by_cmp key_cmp key e.key then Some e else change_for es key
+
+-- whether a storage has an id
+abbrev pub has_id : List Stored → ℕ → Bool
+has_id [] id = false
+has_id (s ∷ ss) id = cond (id_of s.decl == id) true (has_id ss id)
+
+-- each storage stays what it is, with each record under the entry of its key
+abbrev pub EachOverlaid : List Entry → (Stored → ℕ → Option Found) → (Stored → ℕ → Option Found) → List Stored → List Stored → Type 0
+EachOverlaid run old new [] [] = ⊤
+EachOverlaid run old new [] (t ∷ ts) = ⊥
+EachOverlaid run old new (s ∷ ss) [] = ⊥
+EachOverlaid run old new (s ∷ ss) (t ∷ ts) =
+    (id_of s.decl ≡ id_of t.decl) × ((key : ℕ) → new t key ≡ overlaid (old s key) (entry_for (part_of (id_of s.decl) run) key)) × EachOverlaid run old new ss ts
+
+-- a storage of the new snapshot: its root stands for the old one's range, over pages that are new where there are entries and the old ones elsewhere
+pub record IsStorageComposed (run : List Last) (old new : List (List ℕ)) (s t : Stored) : Type 0 where
+  pub same : t.decl ≡ s.decl
+  pub replaces : Replaces (format_of s.decl) (IsPageOf s.decl) run old new deepest deepest (root_place s.decl s.root) t.root
+
+-- each storage has its new one, in the same order
+abbrev pub AreComposed : List Entry → List (List ℕ) → List (List ℕ) → List Stored → List Stored → Type 0
+AreComposed run old new [] [] = ⊤
+AreComposed run old new [] (t ∷ ts) = ⊥
+AreComposed run old new (s ∷ ss) [] = ⊥
+AreComposed run old new (s ∷ ss) (t ∷ ts) = IsStorageComposed (part_of (id_of s.decl) run) old new s t × AreComposed run old new ss ts
+
+-- the pages with numbers above this one that a storage's root leads to
+abbrev pub newer_in : List (List ℕ) → ℕ → Stored → List ℕ
+newer_in new have t = newer (format_of t.decl) new have deepest (root_place t.decl t.root)
+
+-- the same of all storages, one after another
+abbrev pub newer_of : List (List ℕ) → ℕ → List Stored → List ℕ
+newer_of new have ts = flat_map (newer_in new have) ts
+
+-- ---- what the composer makes
+
+-- an array's declaration
+abbrev pub IsArray : Decl → Type 0
+IsArray (Array id size) = ⊤
+IsArray (Tree id) = ⊥
+
+-- the size of an array
+abbrev pub size_of : Decl → ℕ
+size_of (Array id size) = size
+size_of (Tree id) = 0
+
+-- an array can be composed: its root stands, and the run's entries of it are puts at its keys
+pub record IsReady (run : List Entry) (old : List (List ℕ)) (s : Stored) : Type 0 where
+  pub array : IsArray s.decl
+  pub small : size_of s.decl ≤ 131072
+  pub stands : RootStands old s
+  pub puts : AllByRecursion (IsPut (size_of s.decl)) (part_of (id_of s.decl) run)
+
+-- what is made for one storage
+abbrev pub compose_one : List Entry → List (List ℕ) → Stored → ℕ → Made
+compose_one run old s before = array_one (part_of (id_of s.decl) run) old deepest (root_place s.decl s.root) before
+
+-- and for one after another
+abbrev pub compose_storages : List Entry → List (List ℕ) → List Stored → ℕ → AllMade
+compose_storages run old [] before = record { numbers = []; pages = []; levels = 0 }
+compose_storages run old (s ∷ ss) before =
+    with_one (compose_one run old s before) (compose_storages run old ss (before + length (compose_one run old s before).pages))
+
+-- the storages with their new roots
+abbrev pub with_roots : List Stored → List ℕ → List Stored
+with_roots [] ns = []
+with_roots (s ∷ ss) [] = []
+with_roots (s ∷ ss) (n ∷ ns) = record { decl = s.decl; root = n } ∷ with_roots ss ns
+
+-- the new roots and the pages of all storages
+pub record StoragesMade (run : List Entry) (old : List (List ℕ)) (ss : List Stored) (made : List (List ℕ)) (roots : List ℕ) : Type 0 where
+  pub numbers : roots ≡ (compose_storages run old ss (length old)).numbers
+  pub pages : made ≡ (compose_storages run old ss (length old)).pages

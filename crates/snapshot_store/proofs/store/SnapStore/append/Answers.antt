@@ -1,0 +1,46 @@
+use Rattle.std.proofs.Common.{◌≡◌, ◌≤◌, ◌+◌, ◌*◌, ℕ, List, length, ap, sym, subst, arith, length-append}
+use Rattle.wire_form.specs.declared.page.Page.{Page}
+use Rattle.outside.specs.Fronts.{keeps_torn}
+use Rattle.snapshot_store.specs.Store.{StoreState, NumberedFrom, Holds}
+use Rattle.snapshot_store.proofs.Pages.{numbered_append}
+use Rattle.snapshot_store.proofs.Writes.{holds_written, holds_torn}
+use Rattle.snapshot_store.proofs.store.SnapStore.append.Goals as goal
+
+pub invariant_of-self : goal.invariant_of-self
+invariant_of-self g c =
+    let there = c.self.inside.pages.items in
+    let viewed : there ≡ c.args.self.now.pages = ap (λ (s : StoreState). s.pages) c.self.view_is in
+    let more = subst (λ (l : List Page). NumberedFrom (length l + 1) c.args.pages.now) (sym viewed) c.requires.numbered in
+    let numbered = numbered_append 1 (length there + 1) there c.args.pages.now (omega arith) c.self.invariant.numbered more in
+    let is = c.in-Ok.ensures.pages in
+    record {
+      numbered = rw is numbered;
+      whole = c.in-Ok.ensures.whole;
+      few = rw is (omega (arith, length-append there c.args.pages.now, ap length viewed));
+    }
+
+pub returns-in-Ok-clause-holds : goal.returns-in-Ok-clause-holds
+returns-in-Ok-clause-holds g c =
+    let there = c.self.inside.pages.items in
+    let viewed : there ≡ c.args.self.now.pages = ap (λ (s : StoreState). s.pages) c.self.view_is in
+    let held : Holds g.D.Disk.tells c.args.disk.now there = subst (λ (l : List Page). Holds g.D.Disk.tells c.args.disk.now l) (sym viewed) c.requires.holds in
+    subst (λ (l : List Page). Holds g.D.Disk.tells c.add.new.disk l) (sym c.in-Ok.ensures.pages)
+    (holds_written there c.args.pages.now c.self.invariant.whole held c.in-Ok.ensures.writes)
+
+pub returns-in-Ok-clause-stays : goal.returns-in-Ok-clause-stays
+returns-in-Ok-clause-stays g c since front within begun keeps =
+    let viewed : c.self.inside.pages.items ≡ c.args.self.now.pages = ap (λ (s : StoreState). s.pages) c.self.view_is in
+    keeps_torn (subst (λ (l : List Page). length front ≤ 512 * length l) (sym viewed) within) begun c.in-Ok.ensures.writes.moments keeps
+
+pub returns-in-Err-Fault-clause-holds : goal.returns-in-Err-Fault-clause-holds
+returns-in-Err-Fault-clause-holds g c =
+    let there = c.self.inside.pages.items in
+    let viewed : there ≡ c.args.self.now.pages = ap (λ (s : StoreState). s.pages) c.self.view_is in
+    let held : Holds g.D.Disk.tells c.args.disk.now there = subst (λ (l : List Page). Holds g.D.Disk.tells c.args.disk.now l) (sym viewed) c.requires.holds in
+    subst (λ (l : List Page). Holds g.D.Disk.tells c.add.new.disk l) (sym c.in-Err-Fault.ensures.kept)
+    (holds_torn there _ c.self.invariant.whole held c.in-Err-Fault.ensures.writes)
+
+pub returns-in-Err-Fault-clause-stays : goal.returns-in-Err-Fault-clause-stays
+returns-in-Err-Fault-clause-stays g c since front within begun keeps =
+    let viewed : c.self.inside.pages.items ≡ c.args.self.now.pages = ap (λ (s : StoreState). s.pages) c.self.view_is in
+    keeps_torn (subst (λ (l : List Page). length front ≤ 512 * length l) (sym viewed) within) begun c.in-Err-Fault.ensures.writes.moments keeps

@@ -1,0 +1,143 @@
+// The pages of snapshots in memory, and their device.
+ghost use Rattle.std.specs.Prelude.{◌≡◌, ◌≢◌, ◌↔◌, ◌+◌, ◌-◌, ◌*◌, ◌<◌, ◌≤◌, ◌++◌, ℕ, List, Some, Err, true, false, IsTrue, is_some, length, is_ok, slice_get, IfOk, OnOk, OnErr};
+ghost use Rattle.outside.specs.Disk.{IfTold};
+ghost use Rattle.outside.specs.Faults.{Rose};
+ghost use Rattle.outside.specs.Fronts.{AllBegin, KeepsSince};
+ghost use Rattle.snapshot_store.specs.Store.{NumberedFrom, bytes_of_pages, IsWhole, Holds, WritesAt, Syncs};
+
+use crate::write::add;
+use lists::OrMemory;
+use outside::{Disk, Failed};
+use std::marker::Model;
+use wire_form::Page;
+
+/// The greatest page number.
+pub(crate) const MOST: u64 = 65_536;
+
+/// The size of a page on the device, in bytes.
+pub(crate) const SIZE: u64 = 512;
+
+/// Why pages can't be read or written.
+#[derive(Clone, Copy, Debug, PartialEq, Eq)]
+pub enum StoreFault {
+    /// The device's count of faults rose.
+    Device,
+    /// The device has fewer bytes than the pages: this many.
+    Short { at: u64 },
+    /// There would be so many pages, more than there are numbers for.
+    Limit { count: u64 },
+}
+
+/// The pages of all snapshots. A page that was read or added never changes.
+#[derive(Drop)]
+pub struct SnapStore {
+    pub(crate) pages: Vec<Page>,
+    pub(crate) sound: bool,
+}
+
+impl Model for SnapStore {
+    ghost use Rattle.snapshot_store.specs.Store.{StoreState, AreStored};
+
+    ghost Value = { StoreState };
+
+    ghost view = { λ s. record { pages = s.pages.items; sound = s.sound } };
+
+    ghost invariant = { λ s. AreStored s.pages.items };
+}
+
+impl SnapStore {
+    /// How many pages there are.
+    pub fn count(&self) -> u32
+        ensures count { result ≡ length self.now.pages }
+        ensures few { result ≤ 65536 }
+    {
+        self.pages.len() as u32
+    }
+
+    /// Whether no call answered that the device failed. After one that did the pages have to be
+    /// loaded again, since nobody knows what the device kept of them.
+    pub fn sound(&self) -> bool
+        ensures { result ≡ self.now.sound }
+    {
+        self.sound
+    }
+
+    /// The page of this number.
+    pub fn page(&self, number: u32) -> &Page
+        requires first { 1 ≤ number }
+        requires last { number ≤ length self.now.pages }
+        ensures page { slice_get self.now.pages (number - 1) ≡ Some result.now }
+        ensures number { result.now.number ≡ number }
+        ensures whole { IsWhole result.now }
+    {
+        &self.pages[number as usize - 1]
+    }
+
+    /// Adds pages behind the others, and gives the number of the first. They count once `sync` has
+    /// answered `Ok`; until then a stop may leave anything behind the pages that were there.
+    pub fn append<D: Disk>(
+        &mut self,
+        disk: &mut D,
+        pages: &[Page],
+    ) -> Result<u32, OrMemory<StoreFault>>
+        requires sound { self.old.sound ≡ true }
+        requires numbered { NumberedFrom (length self.old.pages + 1) pages.now }
+        requires holds { Holds D.tells disk.old self.old.pages }
+        ensures pages { OnOk result (self.new.pages ≡ self.old.pages ++ pages.now) }
+        ensures first { IfOk result (λ first. first ≡ length self.old.pages + 1) }
+        ensures kept { OnErr result (self.new.pages ≡ self.old.pages) }
+        ensures sound { (self.new.sound ≡ false) ↔ (result ≡ Err (OrMemory.Fault StoreFault.Device)) }
+        ensures limit { (count : ℕ) → (result ≡ Err (OrMemory.Fault (StoreFault.Limit count)))
+            ↔ ((count ≡ length self.old.pages + length pages.now) × (65536 < count)) }
+        ensures never_short { (at : ℕ) → result ≢ Err (OrMemory.Fault (StoreFault.Short at)) }
+        ensures device { result ≡ Err (OrMemory.Fault StoreFault.Device)
+            → Rose (D.faults disk.old) (D.faults disk.new) }
+        ensures untouched { OnErr result (result ≢ Err (OrMemory.Fault StoreFault.Device)
+            → disk.new ≡ disk.old) }
+        ensures writes { WritesAt D.tells D.clock D.image_at D.faults (512 * length self.old.pages)
+            (bytes_of_pages pages.now) disk.old disk.new (is_ok result) }
+        ensures holds { Holds D.tells disk.new self.new.pages }
+        ensures stays { (since : ℕ) (front : List ℕ) → length front ≤ 512 * length self.old.pages
+            → since ≤ D.clock disk.old → KeepsSince D.clock D.image_at disk.old since front
+            → KeepsSince D.clock D.image_at disk.new since front }
+    {
+        let first = self.pages.len() as u32 + 1;
+        let count = self.pages.len() as u64 + pages.len() as u64;
+        if count > MOST {
+            return Err(OrMemory::Fault(StoreFault::Limit { count }));
+        }
+        match add(&mut self.pages, disk, pages) {
+            Ok(()) => Ok(first),
+            Err(OrMemory::Memory) => Err(OrMemory::Memory),
+            Err(OrMemory::Fault(fault)) => {
+                self.sound = false;
+                Err(OrMemory::Fault(fault))
+            }
+        }
+    }
+
+    /// Makes all pages durable: after `Ok` each crash image begins with them.
+    pub fn sync<D: Disk>(&mut self, disk: &mut D) -> Result<(), StoreFault>
+        requires sound { self.old.sound ≡ true }
+        requires holds { Holds D.tells disk.old self.old.pages }
+        ensures pages { self.new.pages ≡ self.old.pages }
+        ensures sound { self.new.sound ≡ is_ok result }
+        ensures device { OnErr result ((result ≡ Err StoreFault.Device)
+            × Rose (D.faults disk.old) (D.faults disk.new)) }
+        ensures durable { OnOk result (IfTold (D.tells disk.old) (λ _.
+            AllBegin (D.image_at disk.new (D.clock disk.new)) (bytes_of_pages self.new.pages))) }
+        ensures syncs { Syncs D.tells D.clock D.image_at D.faults disk.old disk.new (is_ok result) }
+        ensures holds { Holds D.tells disk.new self.new.pages }
+        ensures stays { (since : ℕ) (front : List ℕ) → since ≤ D.clock disk.old
+            → KeepsSince D.clock D.image_at disk.old since front
+            → KeepsSince D.clock D.image_at disk.new since front }
+    {
+        match disk.sync() {
+            Ok(()) => Ok(()),
+            Err(Failed) => {
+                self.sound = false;
+                Err(StoreFault::Device)
+            }
+        }
+    }
+}

@@ -1,6 +1,5 @@
 -- The values of a map that keeps the latest entry of each key are a run.
 use Rattle.std.proofs.Common.{◌≡◌, ℕ, zero, suc, List, [], ◌∷◌, Option, Some, None, inl, inr, refl, sym, ap, subst, ◌∙◌, map, arith}
-use Rattle.std.specs.Prelude.{◌⊎◌}
 use Rattle.std.specs.BTreeMap as tree
 use Rattle.std.specs.BTreeMap.{BTreeMap}
 use Rattle.std.specs.Cmp.{IsTotalOrder, nat_cmp_total}
@@ -15,10 +14,10 @@ use Rattle.std.proofs.lemmas.Map.Views.{btree_map_get_iff}
 use Rattle.serial_model.specs.Keys.{key_cmp}
 use Rattle.serial_model.specs.declared.key.Key.{Key}
 use Rattle.wire_form.specs.declared.bucket.Entry.{Entry}
-use Rattle.wire_form.specs.Items.{IsFollowed, RisesAfter, Rises}
+use Rattle.wire_form.specs.Items.{IsFollowed, RisesAfter}
 use Rattle.serial_model.specs.Keys.{IsKeyBelow}
 use Rattle.log_reducer.specs.declared.latest.Logged.{Logged}
-use Rattle.log_reducer.specs.Reduced.{entry_key, IsNoLater, AreLast}
+use Rattle.log_reducer.specs.Reduced.{entry_key, AreLast}
 use Rattle.log_reducer.specs.Latest.{kept_of, entry_in}
 use Rattle.log_reducer.proofs.KeptLemmas.{IsKept, kept_is, kept_some}
 

@@ -1,13 +1,11 @@
 -- What a write behind pages leaves of the device that has them.
-use Rattle.std.proofs.Common.{◌≡◌, ◌∙◌, sym, ap, subst, refl, inl, inr, ◌≤◌, ◌+◌, ◌*◌, ℕ, List, ◌++◌, length, take, drop, true, false, is_some, Option, Some, None, Bool, arith}
+use Rattle.std.proofs.Common.{◌≡◌, ◌∙◌, sym, ap, subst, refl, ◌≤◌, ◌+◌, ◌*◌, ℕ, List, ◌++◌, length, take, drop, true, false, is_some, Option, Some, None, Bool, arith}
 use Rattle.std.specs.List.{AllByRecursion}
-use Rattle.std.proofs.lemmas.Bool.{cases_lt}
 use Rattle.std.proofs.lemmas.List.{take_at}
 use Rattle.std.proofs.lemmas.Option.{same_Some}
 use Rattle.lists.specs.Fronts.{IsFront, front_length}
 use Rattle.outside.specs.Disk.{IfTold, written, Torn}
 use Rattle.outside.specs.Fronts.{begins_torn}
-use Rattle.outside.specs.Moments.{left_after}
 use Rattle.wire_form.specs.declared.page.Page.{Page}
 use Rattle.snapshot_store.specs.Store.{bytes_of_pages, IsWhole, Holds, WritesAt}
 use Rattle.snapshot_store.proofs.Pages.{length-bytes_of_pages, bytes_of_pages-append}

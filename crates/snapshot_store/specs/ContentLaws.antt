@@ -1,6 +1,6 @@
 -- A snapshot has the same content, whatever pages are added behind, as laws for those who add some.
-use Rattle.std.specs.Prelude.{◌≡◌, ℕ, ◌≤◌, ◌==◌, Bool, true, false, List, [], ◌∷◌, ◌++◌, Option, Some, None, nat_le, length, cond}
-use Rattle.std.proofs.Common.{refl, sym, ap, ◌∙◌, subst, arith}
+use Rattle.std.specs.Prelude.{◌≡◌, ℕ, ◌==◌, List, [], ◌∷◌, ◌++◌, Option, None, nat_le, cond}
+use Rattle.std.proofs.Common.{refl, sym, ap, ◌∙◌, arith}
 use Rattle.std.specs.List.{AllByRecursion}
 use Rattle.std.proofs.lemmas.List.{length-append}
 use Rattle.lists.specs.Each.{all_weaker}
@@ -9,7 +9,7 @@ use Rattle.serial_model.specs.State.{State}
 use Rattle.serial_model.specs.declared.key.Key.{Key}
 use Rattle.wire_form.specs.declared.records.Stored.{Stored}
 use Rattle.wire_form.specs.Pages.{Contents}
-use Rattle.snapshot_store.specs.Places.{Found, find}
+use Rattle.snapshot_store.specs.Places.{Found}
 use Rattle.snapshot_store.specs.Content.{deepest, root_place, format_of, IsPageOf, record_in, value_of, value_at, RootStands, CatalogueAt, SnapshotStands, IsSnapshotContent}
 use Rattle.snapshot_store.specs.StandLaws.{page-append, find-append, stands-append}
 

@@ -1,5 +1,5 @@
 -- How the pages of a tree are read.
-use Rattle.std.specs.Prelude.{◌≡◌, ◌⊎◌, ℕ, ◌+◌, ◌-◌, ◌/◌, ◌%◌, ◌<◌, ◌==◌, List, [], ◌∷◌, Option, Some, None, take, drop, slice_index, zero, suc, if◌then◌else◌}
+use Rattle.std.specs.Prelude.{◌≡◌, ◌⊎◌, ℕ, ◌-◌, ◌/◌, ◌%◌, ◌<◌, ◌==◌, List, [], ◌∷◌, Option, Some, None, take, drop, slice_index, zero, suc, if◌then◌else◌}
 use Rattle.wire_form.specs.declared.page.PageKind.TheVariants.{TreeLeaf, TreeInner}
 use Rattle.wire_form.specs.Pages.{HasKind}
 use Rattle.snapshot_store.specs.declared.place.Place.{Place}

@@ -1,4 +1,4 @@
-use Rattle.std.proofs.Common.{◌≡◌, ◌+◌, ◌∙◌, length, sym, ap, arith}
+use Rattle.std.proofs.Common.{◌≡◌, ◌∙◌, arith}
 use Rattle.lists.specs.Each.{all_push}
 use Rattle.wire_form.specs.declared.page.PageKind.TheVariants.{Catalogue}
 use Rattle.snapshot_store.specs.Store.{IsWhole}

@@ -1,4 +1,4 @@
-use Rattle.std.proofs.Common.{◌≡◌, ◌≤◌, ◌*◌, length, take}
+use Rattle.std.proofs.Common.{◌≡◌, ◌*◌, length, take}
 use Rattle.std.specs.List.{AllByRecursion}
 use Rattle.outside.specs.Disk.{IfTold}
 use Rattle.wire_form.specs.declared.page.PageKind.TheVariants.{Catalogue}

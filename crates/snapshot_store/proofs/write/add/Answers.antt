@@ -1,6 +1,4 @@
-use Rattle.std.proofs.Common.{◌≡◌, ◌≤◌, ◌*◌, ◌∙◌, ℕ, List, length, ap, arith, true}
-use Rattle.outside.specs.Disk.{IfTold}
-use Rattle.snapshot_store.specs.Store.{bytes_of_pages, WritesAt}
+use Rattle.std.proofs.Common.{◌*◌, ◌∙◌, length, ap, arith}
 use Rattle.snapshot_store.proofs.Writes.{reaches, writes_same}
 use Rattle.snapshot_store.proofs.write.add.Goals as goal
 

@@ -1,4 +1,4 @@
-use Rattle.std.proofs.Common.{◌≡◌, ◌≤◌, ◌+◌, ◌*◌, ℕ, List, length, ap, sym, subst, arith, length-append}
+use Rattle.std.proofs.Common.{◌≡◌, ◌≤◌, ◌+◌, ◌*◌, List, length, ap, sym, subst, arith, length-append}
 use Rattle.wire_form.specs.declared.page.Page.{Page}
 use Rattle.outside.specs.Fronts.{keeps_torn}
 use Rattle.snapshot_store.specs.Store.{StoreState, NumberedFrom, Holds}

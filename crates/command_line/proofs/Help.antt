@@ -1,4 +1,4 @@
--- A flag for help is refused at whatever place after `run` it stands.
+-- A flag for help is refused at whatever place after a command it stands.
 use Rattle.std.proofs.Common.{◌≡◌, refl, sym, subst, cond, ℕ, zero, suc, ◌&&◌, Bool, true, false, List, [], ◌∷◌, length, Option, Some, None, inl, inr}
 use Rattle.std.specs.Prelude.{codes, drop, encode_utf8, slice_get, ⊤}
 use Rattle.std.specs.Str.{bytes_eq, chars}
@@ -8,7 +8,7 @@ use Rattle.clap.specs.Walk.{Held, Outcome, Rule, Step, Text, Waiting, Walk, done
 use Rattle.clap.specs.Faults.{level_fault, step_fault, turn_fault, walk_fault, word_fault}
 use Rattle.clap.proofs.OnLiterals.{clap_on_literals}
 use Rattle.command_line.specs.Plain.{HasHelpFlag, IsHelpFlag}
-use Rattle.command_line.proofs.Steps.{ready}
+use Rattle.command_line.proofs.Steps.{Verb, run, dump, shape_of}
 
 -- ---- the walk goes on
 
@@ -150,37 +150,49 @@ second_is [] b f = f
 second_is (k ∷ ks) b f = tt
 
 -- the fault of a word, by the parts of the walk
-abbrev word_part : Text → Bool → Waiting → ℕ → Held → Kinds
-word_part word is_trailing waiting position h =
-    let met = word_met ready.rules [] is_trailing waiting position word h in
-    or_else (word_fault ready [] is_trailing waiting word h) (step_fault ready position met.0 met.1)
+abbrev word_part : Verb → Text → Bool → Waiting → ℕ → Held → Kinds
+word_part v word is_trailing waiting position h =
+    let met = word_met (shape_of v).rules [] is_trailing waiting position word h in
+    or_else (word_fault (shape_of v) [] is_trailing waiting word h) (step_fault (shape_of v) position met.0 met.1)
 
-long_flag : (t : Bool) (waiting : Waiting) (position : ℕ) (h : Held) → IsFaulty (word_part (codes "--help") t waiting position h)
+long_flag : (v : Verb) (t : Bool) (waiting : Waiting) (position : ℕ) (h : Held) → IsFaulty (word_part v (codes "--help") t waiting position h)
 unfolding clap_on_literals
-long_flag true waiting position h = tt
-long_flag false idle position h = tt
-long_flag false (option id) position h = tt
-long_flag false positional position h = tt
+long_flag run true waiting position h = tt
+long_flag run false idle position h = tt
+long_flag run false (option id) position h = tt
+long_flag run false positional position h = tt
+long_flag dump true waiting position h = tt
+long_flag dump false idle position h = tt
+long_flag dump false (option id) position h = tt
+long_flag dump false positional position h = tt
 
-short_flag : (t : Bool) (waiting : Waiting) (position : ℕ) (h : Held) → h.skip ≡ 0 → IsFaulty (word_part (codes "-h") t waiting position h)
+short_flag : (v : Verb) (t : Bool) (waiting : Waiting) (position : ℕ) (h : Held) → h.skip ≡ 0
+    → IsFaulty (word_part v (codes "-h") t waiting position h)
 unfolding clap_on_literals
-short_flag true waiting position h e = tt
-short_flag false idle position h e = rw e tt
-short_flag false (option id) position h e = rw e tt
-short_flag false positional position h e = rw e tt
+short_flag run true waiting position h e = tt
+short_flag run false idle position h e = rw e tt
+short_flag run false (option id) position h e = rw e tt
+short_flag run false positional position h e = rw e tt
+short_flag dump true waiting position h e = tt
+short_flag dump false idle position h e = rw e tt
+short_flag dump false (option id) position h e = rw e tt
+short_flag dump false positional position h e = rw e tt
 
-flag_turn : (w : Walk) (word : Text) → IsOpen w → IsHelpFlag word → IsFaulty (turn_fault ready [] w word)
-flag_turn w word open_ (inl e) = rw (e, open_.stopped) (long_flag w.is_trailing w.waiting w.position w.held)
-flag_turn w word open_ (inr e) = rw (e, open_.stopped) (short_flag w.is_trailing w.waiting w.position w.held open_.skip)
+flag_turn : (v : Verb) (w : Walk) (word : Text) → IsOpen w → IsHelpFlag word → IsFaulty (turn_fault (shape_of v) [] w word)
+flag_turn v w word open_ (inl e) = rw (e, open_.stopped) (long_flag v w.is_trailing w.waiting w.position w.held)
+flag_turn v w word open_ (inr e) = rw (e, open_.stopped) (short_flag v w.is_trailing w.waiting w.position w.held open_.skip)
 
-walk_is_faulty : (w : Walk) (words : List Text) → IsOpen w → HasHelpFlag words → IsFaulty (walk_fault ready [] w words)
+walk_is_faulty : (v : Verb) (w : Walk) (words : List Text) → IsOpen w → HasHelpFlag words → IsFaulty (walk_fault (shape_of v) [] w words)
 unfolding walk_fault
-walk_is_faulty w [] open_ has = absurd has
-walk_is_faulty w (word ∷ rest) open_ (inl is) = first_is (turn_fault ready [] w word) (walk_fault ready [] (walked ready.rules [] w word) rest) (flag_turn w word open_ is)
-walk_is_faulty w (word ∷ rest) open_ (inr has) =
-    second_is (turn_fault ready [] w word) (walk_fault ready [] (walked ready.rules [] w word) rest)
-    (walk_is_faulty (walked ready.rules [] w word) rest (goes_on ready.rules w word open_) has)
+walk_is_faulty v w [] open_ has = absurd has
+walk_is_faulty v w (word ∷ rest) open_ (inl is) =
+    first_is (turn_fault (shape_of v) [] w word) (walk_fault (shape_of v) [] (walked (shape_of v).rules [] w word) rest)
+    (flag_turn v w word open_ is)
+walk_is_faulty v w (word ∷ rest) open_ (inr has) =
+    second_is (turn_fault (shape_of v) [] w word) (walk_fault (shape_of v) [] (walked (shape_of v).rules [] w word) rest)
+    (walk_is_faulty v (walked (shape_of v).rules [] w word) rest (goes_on (shape_of v).rules w word open_) has)
 
-pub flag_is_faulty : (words : List Text) → HasHelpFlag words → IsFaulty (level_fault ready [] nothing_held words false [])
-flag_is_faulty words has =
-    first_is (walk_fault ready [] (walk_from nothing_held) words) _ (walk_is_faulty (walk_from nothing_held) words (record { stopped = refl; skip = refl }) has)
+pub flag_is_faulty : (v : Verb) (words : List Text) → HasHelpFlag words → IsFaulty (level_fault (shape_of v) [] nothing_held words false [])
+flag_is_faulty v words has =
+    first_is (walk_fault (shape_of v) [] (walk_from nothing_held) words) _
+    (walk_is_faulty v (walk_from nothing_held) words (record { stopped = refl; skip = refl }) has)

@@ -1,28 +1,28 @@
--- Plain words ask for a run with their numbers, and what an answer of clap's says of the words.
+-- Plain words ask for a run with their numbers or for a dump, and what an answer of clap's says of the words.
 use Rattle.std.proofs.Common.{◌≡◌, ◌∙◌, refl, sym, ap, ap₂, subst, cond, nat_le, ◌&&◌, ℕ, ◌<◌, ◌≤◌, ◌^◌, Bool, true, false, List, [], ◌∷◌, ◌++◌, map, Option, Some, None, inl, inr, arith}
 use Rattle.std.specs.Prelude.{codes, decimal, ◌⊎◌, option_and_then, option_map, ⊤}
 use Rattle.std.specs.Str.{bytes_eq}
 use Rattle.std.proofs.lemmas.Bool.{leb-true}
 use Rattle.clap.specs.Kinds.{IsAmong, Kinds}
-use Rattle.clap.specs.Walk.{Row, Text, first_of, has_row}
+use Rattle.clap.specs.Walk.{Row, Text, first_of, has_row, nothing_held}
 use Rattle.clap.specs.Simple.{App, HasMatchesOf, subcommand_of, subcommand_rows_of}
-use Rattle.clap.specs.Faults.{fault_of, is_simple_and_free}
+use Rattle.clap.specs.Faults.{fault_of, is_simple_and_free, level_fault}
 use Rattle.clap.specs.declared.error.kind.ErrorKind.{ErrorKind}
 use Rattle.clap.specs.declared.error.kind.ErrorKind.TheVariants.{OutOfMemory}
 use Rattle.clap.specs.declared.parser.matches.ArgMatches.{ArgMatches}
 use Rattle.clap.proofs.OnLiterals.{clap_on_literals}
 use Rattle.command_line.specs.Commands.{program}
 use Rattle.decimals.specs.Numbers.{number_of}
-use Rattle.command_line.specs.Options.{AreInRange, IsWithin, Refuses, asked, within, command_of, number_in, options_of, run_with, slots_range, snap_range, tries_range, unless_fault}
-use Rattle.command_line.specs.Plain.{AsksForHelp, IsHelp, RunAsksForHelp, AreChoices, Choice, IsLeftOut, IsPlain, Setting, tries, slots, snap, is_same, number_chosen, options_chosen, range_of, words_of}
+use Rattle.command_line.specs.Options.{AreInRange, IsNoCommand, IsWithin, Refuses, asked, within, command_of, number_in, options_of, run_with, slots_range, snap_range, tries_range, unless_fault}
+use Rattle.command_line.specs.Plain.{AsksForHelp, IsHelp, CommandAsksForHelp, AreChoices, Choice, IsLeftOut, IsPlain, IsPlainDump, Setting, tries, slots, snap, is_same, number_chosen, options_chosen, range_of, words_of}
 use Rattle.command_line.specs.declared.command.Command.{Command}
-use Rattle.command_line.specs.declared.command.Command.TheVariants.{Run, Refused}
+use Rattle.command_line.specs.declared.command.Command.TheVariants.{Run, Dump, Refused}
 use Rattle.command_line.specs.declared.command.RunOptions.{RunOptions}
 use Rattle.command_line.specs.declared.number.Range.{Range}
 use Rattle.command_line.proofs.Numbers.{number_in_range}
 use Rattle.command_line.proofs.Help.{IsFaulty, flag_is_faulty}
-use Rattle.command_line.proofs.Runs.{Fresh, leaf_fault, leaf_rows, program_fault, program_rows, row_at}
-use Rattle.command_line.proofs.Steps.{name_of}
+use Rattle.command_line.proofs.Runs.{Fresh, dump_fault, leaf_fault, leaf_rows, program_fault, program_rows, row_at}
+use Rattle.command_line.proofs.Steps.{Verb, run, dump, word_of, shape_of, name_of}
 
 -- ---- choices are fresh
 
@@ -106,13 +106,21 @@ choices_ask : (name : Text) (choices : List Choice) → AreChoices choices → c
 unfolding command_of
 choices_ask name choices a =
     let rows = map row_at choices in
-    let held = program_rows name (words_of choices) ∙ ap (λ (rs : List Row). Some (codes "run", rs)) (leaf_rows choices (fresh choices a)) in
-    ap₂ unless_fault (program_fault name (words_of choices) ∙ leaf_fault choices (fresh choices a)) (ap asked held)
+    let held = program_rows run name (words_of choices) ∙ ap (λ (rs : List Row). Some (codes "run", rs)) (leaf_rows choices (fresh choices a)) in
+    ap₂ unless_fault (program_fault run name (words_of choices) ∙ leaf_fault choices (fresh choices a)) (ap asked held)
     ∙ ap run_with (options_from rows (number_chosen tries choices) (number_chosen slots choices) (number_chosen snap choices)
     (chosen tries choices a) (chosen slots choices a) (chosen snap choices a))
 
 pub plain_ask : (words : List Text) (options : RunOptions) → IsPlain words options → command_of words ≡ Run options
 plain_ask words options p = ap command_of p.words ∙ choices_ask p.name p.choices p.choices_are ∙ ap Run (sym p.options)
+
+-- `dump` alone asks for a dump
+dump_asks : (name : Text) → command_of (name ∷ codes "dump" ∷ []) ≡ Dump
+unfolding command_of
+dump_asks name = ap₂ unless_fault (program_fault dump name [] ∙ dump_fault) (ap asked (program_rows dump name []))
+
+pub plain_dump_asks : (words : List Text) → IsPlainDump words → command_of words ≡ Dump
+plain_dump_asks words p = ap command_of p.words ∙ dump_asks p.name
 
 -- ---- help
 
@@ -135,18 +143,29 @@ refused_if words faulty = go (fault_of program words) faulty
     go [] h = absurd h
     go (k ∷ ks) h = refl
 
-run_help : (name : Text) (rest : List Text) → RunAsksForHelp rest → command_of (name ∷ codes "run" ∷ rest) ≡ Refused
+-- `help` right behind a command is a fault
+help_is_faulty : (v : Verb) (rest : List Text) → IsFaulty (level_fault (shape_of v) [] nothing_held (codes "help" ∷ rest) false [])
 unfolding clap_on_literals
-run_help name [] h = absurd h
-run_help name (word ∷ rest) (inl e) = rw e (refused_by (name ∷ codes "run" ∷ codes "help" ∷ rest) _ _ (program_fault name (codes "help" ∷ rest)))
-run_help name (word ∷ rest) (inr has) =
-    refused_if (name ∷ codes "run" ∷ word ∷ rest) (subst IsFaulty (sym (program_fault name (word ∷ rest))) (flag_is_faulty (word ∷ rest) has))
+help_is_faulty run rest = tt
+help_is_faulty dump rest = tt
+
+command_help : (v : Verb) (name : Text) (rest : List Text) → CommandAsksForHelp rest → command_of (name ∷ word_of v ∷ rest) ≡ Refused
+command_help v name [] h = absurd h
+command_help v name (word ∷ rest) (inl e) =
+    rw e (refused_if (name ∷ word_of v ∷ codes "help" ∷ rest)
+    (subst IsFaulty (sym (program_fault v name (codes "help" ∷ rest))) (help_is_faulty v rest)))
+command_help v name (word ∷ rest) (inr has) =
+    refused_if (name ∷ word_of v ∷ word ∷ rest) (subst IsFaulty (sym (program_fault v name (word ∷ rest))) (flag_is_faulty v (word ∷ rest) has))
 
 pub help_refused : (words : List Text) → AsksForHelp words → command_of words ≡ Refused
 help_refused [] h = absurd h
 help_refused (name ∷ []) h = absurd h
 help_refused (name ∷ word ∷ rest) (inl h) = first_help name word rest h
-help_refused (name ∷ word ∷ rest) (inr h) = rw h.0 (run_help name rest h.1)
+help_refused (name ∷ word ∷ rest) (inr h) = by_name h.0 h.1
+  where
+    by_name : (word ≡ codes "run") ⊎ (word ≡ codes "dump") → CommandAsksForHelp rest → command_of (name ∷ word ∷ rest) ≡ Refused
+    by_name (inl e) asks = rw e (command_help run name rest asks)
+    by_name (inr e) asks = rw e (command_help dump name rest asks)
 
 -- ---- what clap's answer says
 
@@ -185,11 +204,20 @@ no_options : (o : Option RunOptions) → run_with o ≡ Refused → o ≡ None
 no_options (Some options) h = absurd (cc)
 no_options None h = refl
 
+-- what clap found of the words is no command
+no_command : (o : Option (Text × List Row)) → asked o ≡ Refused → IsNoCommand o
+no_command None h = tt
+no_command (Some p) h = go (bytes_eq p.0 (codes "dump")) refl h
+  where
+    go : (b : Bool) → bytes_eq p.0 (codes "dump") ≡ b → cond b Dump (run_with (options_of p.1)) ≡ Refused → IsNoCommand (Some p)
+    go true e named = absurd (cc)
+    go false e named = (e, no_options (options_of p.1) named)
+
 -- clap took the words, and the command is refused
 pub refused_numbers : (a : App) (words : List Text) (m : ArgMatches) → a ≡ program → HasMatchesOf a words m → asked (subcommand_rows_of m) ≡ Refused → Refuses words
 refused_numbers a words m same h e =
     let held : HasMatchesOf program words m = subst (λ (b : App). HasMatchesOf b words m) same h in
-    inr (no_options (option_and_then (λ p. options_of p.1) (subcommand_of program words)) (ap asked (sym (held refl).1) ∙ e))
+    inr (no_command (subcommand_of program words) (ap asked (sym (held refl).1) ∙ e))
 
 -- ---- the numbers of a run are in their ranges
 
@@ -239,20 +267,26 @@ run_in_range words options h = go (fault_of program words) (subcommand_of progra
     ran None e = absurd (cc)
     ran (Some x) e = let same : x ≡ options = cc in ap (λ (y : RunOptions). Some y) same
 
+    named : (p : Text × List Row) (b : Bool) → cond b Dump (run_with (options_of p.1)) ≡ Run options → AreInRange options
+    named p true is = absurd (cc)
+    named p false is = options_in_range p.1 options (ran (options_of p.1) is)
+
     go : (kinds : Kinds) (o : Option (Text × List Row)) → unless_fault kinds (asked o) ≡ Run options → AreInRange options
     go (k ∷ ks) o e = absurd (cc)
     go [] None e = absurd (cc)
-    go [] (Some p) e = options_in_range p.1 options (ran (options_of p.1) e)
+    go [] (Some p) e = named p (bytes_eq p.0 (codes "dump")) e
 
 -- what an answer of the command says
 pub record Answer (words : List Text) (command : Command) : Type 0 where
   pub plain : (options : RunOptions) → IsPlain words options → command ≡ Run options
+  pub plain_dump : IsPlainDump words → command ≡ Dump
   pub ranges : (options : RunOptions) → command ≡ Run options → AreInRange options
   pub help : AsksForHelp words → command ≡ Refused
 
 pub answer : (words : List Text) (command : Command) → command ≡ command_of words → Answer words command
 answer words command is = record {
   plain = λ options p. is ∙ plain_ask words options p;
+  plain_dump = λ p. is ∙ plain_dump_asks words p;
   ranges = λ options e. run_in_range words options (sym is ∙ e);
   help = λ h. is ∙ help_refused words h;
 }

@@ -5,9 +5,9 @@ use Rattle.std.proofs.lemmas.Fmt.{decimal_digit}
 use Rattle.clap.specs.Walk.{Text}
 use Rattle.command_line.specs.Options.{command_of}
 use Rattle.command_line.specs.Plain.{AsksForHelp, IsPlain, snap, tries}
-use Rattle.command_line.specs.declared.command.Command.TheVariants.{Run}
+use Rattle.command_line.specs.declared.command.Command.TheVariants.{Run, Dump}
 use Rattle.command_line.specs.declared.command.RunOptions.{RunOptions}
-use Rattle.command_line.proofs.Plain.{plain_ask}
+use Rattle.command_line.proofs.Plain.{plain_ask, plain_dump_asks}
 
 abbrev usual : RunOptions
 usual = record { tries = 1000; slots = 256; snap = 4096 }
@@ -34,9 +34,12 @@ two_options = record {
 run_row : command_of (codes "foedus" ∷ codes "run" ∷ []) ≡ Run usual
 run_row = plain_ask (codes "foedus" ∷ codes "run" ∷ []) usual run_alone
 
+dump_row : command_of (codes "foedus" ∷ codes "dump" ∷ []) ≡ Dump
+dump_row = plain_dump_asks (codes "foedus" ∷ codes "dump" ∷ []) (record { name = codes "foedus"; words = refl })
+
 two_row : command_of two_words ≡ Run two
 two_row = plain_ask two_words two two_options
 
 -- a call for help behind an option
 late_help : AsksForHelp (codes "foedus" ∷ codes "run" ∷ codes "--tries" ∷ codes "5" ∷ codes "--help" ∷ [])
-late_help = inr (refl, inr (inr (inr (inl (inl refl)))))
+late_help = inr (inl refl, inr (inr (inr (inl (inl refl)))))

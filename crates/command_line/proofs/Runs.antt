@@ -11,7 +11,7 @@ use Rattle.clap.proofs.FaultLemmas.{stopped_fault}
 use Rattle.command_line.specs.Commands.{program}
 use Rattle.command_line.specs.Plain.{Choice, Setting, flag_of, words_of}
 use Rattle.command_line.proofs.Numbers.{begins}
-use Rattle.command_line.proofs.Steps.{name_of, pending_at, ready, row_of, waiting_for, flag_turn, flag_walk, text_turn, text_walk, used_absent, settle_absent}
+use Rattle.command_line.proofs.Steps.{Verb, run, dump, word_of, shape_of, name_of, pending_at, ready, row_of, waiting_for, flag_turn, flag_walk, text_turn, text_walk, used_absent, settle_absent}
 
 -- ---- the walk over the words of choices
 
@@ -157,39 +157,61 @@ leaf_rows (c ∷ rest) f =
 abbrev whole : App
 whole = built program
 
-abbrev entry : List Text → Walk
-entry words = record (walk_from nothing_held) { stopped = Some (codes "run", words) }
+abbrev entry : Verb → List Text → Walk
+entry v words = record (walk_from nothing_held) { stopped = Some (word_of v, words) }
 
-enters : walked whole.top.rules (names_of whole) (walk_from nothing_held) (codes "run") ≡ entry []
+enters : (v : Verb) → walked whole.top.rules (names_of whole) (walk_from nothing_held) (word_of v) ≡ entry v []
 unfolding clap_on_literals
-enters = refl
+enters run = refl
+enters dump = refl
 
-program_walk : (rest : List Text) → walk whole.top.rules (names_of whole) nothing_held (codes "run" ∷ rest) ≡ entry rest
-program_walk rest =
-    ap (λ (w : Walk). fold (walked whole.top.rules (names_of whole)) w rest) enters
-    ∙ sym (walk_stopped whole.top.rules (names_of whole) (walk_from nothing_held) (codes "run") [] rest)
+program_walk : (v : Verb) (rest : List Text) → walk whole.top.rules (names_of whole) nothing_held (word_of v ∷ rest) ≡ entry v rest
+program_walk v rest =
+    ap (λ (w : Walk). fold (walked whole.top.rules (names_of whole)) w rest) (enters v)
+    ∙ sym (walk_stopped whole.top.rules (names_of whole) (walk_from nothing_held) (word_of v) [] rest)
 
 or_nothing : (k : Kinds) → or_else k [] ≡ k
 or_nothing [] = refl
 or_nothing (k ∷ ks) = refl
 
-program_words : (rest : List Text) → walk_fault whole.top (names_of whole) (walk_from nothing_held) (codes "run" ∷ rest) ≡ []
+program_words : (v : Verb) (rest : List Text) → walk_fault whole.top (names_of whole) (walk_from nothing_held) (word_of v ∷ rest) ≡ []
 unfolding clap_on_literals
-program_words rest = stopped_fault whole.top (names_of whole) (walk_from nothing_held) (codes "run", []) rest
+program_words run rest = stopped_fault whole.top (names_of whole) (walk_from nothing_held) (codes "run", []) rest
+program_words dump rest = stopped_fault whole.top (names_of whole) (walk_from nothing_held) (codes "dump", []) rest
 
-abbrev ended : List Text → Kinds → Walk → Kinds
-ended rest first w = or_else first
+abbrev ended : Kinds → Walk → Kinds
+ended first w = or_else first
     (or_else (entered_fault whole w.stopped) (or_else (settle_fault whole.top.rules whole.top.args_override_self w.held)
     (or_else (defaults_fault (settled whole.top.rules w.held).rows whole.top.rules)
     (check_fault whole.top (finished whole.top.rules w.held) (is_some (entered whole w.stopped))))))
 
-pub program_fault : (name : Text) (rest : List Text) → fault_of program (name ∷ codes "run" ∷ rest) ≡ level_fault ready [] nothing_held rest false []
+-- what the program's own level finds is what the command's does
+ended_by : (v : Verb) (rest : List Text) → ended [] (entry v rest) ≡ or_else (level_fault (shape_of v) [] nothing_held rest false []) []
 unfolding clap_on_literals
-program_fault name rest =
-    let first = walk_fault whole.top (names_of whole) (walk_from nothing_held) (codes "run" ∷ rest) in
-    ap (λ (w : Walk). ended rest first w) (program_walk rest)
-    ∙ ap (λ (k : Kinds). ended rest k (entry rest)) (program_words rest)
-    ∙ or_nothing (level_fault ready [] nothing_held rest false [])
+ended_by run rest = refl
+ended_by dump rest = refl
 
-pub program_rows : (name : Text) (rest : List Text) → subcommand_of program (name ∷ codes "run" ∷ rest) ≡ Some (codes "run", rows_after ready.rules [] rest)
-program_rows name rest = ap (λ (w : Walk). entered whole w.stopped) (program_walk rest)
+pub program_fault : (v : Verb) (name : Text) (rest : List Text)
+    → fault_of program (name ∷ word_of v ∷ rest) ≡ level_fault (shape_of v) [] nothing_held rest false []
+unfolding clap_on_literals
+program_fault v name rest =
+    let first = walk_fault whole.top (names_of whole) (walk_from nothing_held) (word_of v ∷ rest) in
+    ap (λ (w : Walk). ended first w) (program_walk v rest)
+    ∙ ap (λ (k : Kinds). ended k (entry v rest)) (program_words v rest)
+    ∙ ended_by v rest
+    ∙ or_nothing (level_fault (shape_of v) [] nothing_held rest false [])
+
+-- what the program finds of the command
+entered_by : (v : Verb) (rest : List Text) → entered whole (Some (word_of v, rest)) ≡ Some (word_of v, rows_after (shape_of v).rules [] rest)
+unfolding clap_on_literals
+entered_by run rest = refl
+entered_by dump rest = refl
+
+pub program_rows : (v : Verb) (name : Text) (rest : List Text)
+    → subcommand_of program (name ∷ word_of v ∷ rest) ≡ Some (word_of v, rows_after (shape_of v).rules [] rest)
+program_rows v name rest = ap (λ (w : Walk). entered whole w.stopped) (program_walk v rest) ∙ entered_by v rest
+
+-- `dump` alone is in order
+pub dump_fault : level_fault (shape_of dump) [] nothing_held [] false [] ≡ []
+unfolding clap_on_literals
+dump_fault = refl

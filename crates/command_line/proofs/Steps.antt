@@ -8,14 +8,29 @@ use Rattle.clap.specs.Simple.{Shape, built, built_leaf, inherited}
 use Rattle.clap.specs.Faults.{settle_fault, turn_fault}
 use Rattle.clap.specs.declared.parser.matches.ValueSource.TheVariants.{CommandLine}
 use Rattle.clap.proofs.OnLiterals.{clap_on_literals}
-use Rattle.command_line.specs.Commands.{option_rule, program, run_shape}
+use Rattle.command_line.specs.Commands.{dump_shape, option_rule, program, run_shape}
 use Rattle.command_line.specs.Plain.{Setting, tries, slots, snap, flag_of}
 
 -- `run` as clap builds it
 abbrev pub ready : Shape
 ready = built_leaf (inherited (built program).top run_shape)
 
-subs_are : (built program).subs ≡ ready ∷ []
+-- the commands
+pub data Verb : Type 0 where
+  run : Verb
+  dump : Verb
+
+-- the word that names a command
+abbrev pub word_of : Verb → Text
+word_of run = codes "run"
+word_of dump = codes "dump"
+
+-- a command as clap builds it
+abbrev pub shape_of : Verb → Shape
+shape_of run = ready
+shape_of dump = built_leaf (inherited (built program).top dump_shape)
+
+subs_are : (built program).subs ≡ shape_of run ∷ shape_of dump ∷ []
 subs_are = refl
 
 abbrev pub name_of : Setting → Text

@@ -15,6 +15,10 @@ run_shape = record (new_shape (codes "run")) {
   rules = option_rule (codes "tries") ∷ option_rule (codes "slots") ∷ option_rule (codes "snap") ∷ [];
 }
 
+-- `dump`, which has neither options nor a flag for help
+abbrev pub dump_shape : Shape
+dump_shape = record (new_shape (codes "dump")) { disable_help_flag = true }
+
 -- the program, which has to be told a command, and has neither a flag nor a command for help
 abbrev pub program : App
 program = record {
@@ -24,5 +28,5 @@ program = record {
     subcommand_required = true;
     is_leaf = false;
   };
-  subs = run_shape ∷ [];
+  subs = run_shape ∷ dump_shape ∷ [];
 }

@@ -1,5 +1,6 @@
 -- The numbers of the options, and what the words ask for.
-use Rattle.std.specs.Prelude.{◌≡◌, ◌≢◌, ◌⊎◌, ℕ, ◌≤◌, ◌&&◌, List, [], ◌∷◌, codes, Option, Some, None, nat_le, if◌then◌else◌, option_map, option_and_then}
+use Rattle.std.specs.Prelude.{◌≡◌, ◌≢◌, ◌⊎◌, ℕ, ◌≤◌, ◌&&◌, false, List, [], ◌∷◌, codes, Option, Some, None, nat_le, if◌then◌else◌, option_map, option_and_then, ⊤}
+use Rattle.std.specs.Str.{bytes_eq}
 use Rattle.decimals.specs.Numbers.{number_of}
 use Rattle.clap.specs.Walk.{Row, Text, first_of}
 use Rattle.clap.specs.Kinds.{IsAmong, Kinds}
@@ -9,7 +10,7 @@ use Rattle.clap.specs.declared.error.kind.ErrorKind.{ErrorKind}
 use Rattle.clap.specs.declared.error.kind.ErrorKind.TheVariants.{OutOfMemory}
 use Rattle.command_line.specs.Commands.{program}
 use Rattle.command_line.specs.declared.command.Command.{Command}
-use Rattle.command_line.specs.declared.command.Command.TheVariants.{Run, Refused}
+use Rattle.command_line.specs.declared.command.Command.TheVariants.{Run, Dump, Refused}
 use Rattle.command_line.specs.declared.command.RunOptions.{RunOptions}
 use Rattle.command_line.specs.declared.number.Range.{Range}
 
@@ -60,9 +61,14 @@ abbrev pub run_with : Option RunOptions → Command
 run_with (Some options) = Run options
 run_with None = Refused
 
--- a command of the program, by its name and what its words hold: `run` is the only one
+-- a command of the program, by its name and what its words hold: it is `dump`, or `run` with its numbers
+abbrev pub asked_by : Text → List Row → Command
+asked_by name rows = if bytes_eq name (codes "dump") then Dump else run_with (options_of rows)
+
+-- the command that the words name, if they name one
 abbrev pub asked : Option (Text × List Row) → Command
-asked command = run_with (option_and_then (λ p. options_of p.1) command)
+asked None = Refused
+asked (Some p) = asked_by p.0 p.1
 
 -- the command, or refused where there is a kind of fault
 abbrev pub unless_fault : Kinds → Command → Command
@@ -74,10 +80,15 @@ unless_fault (k ∷ ks) command = Refused
 unfoldable pub command_of : List Text → Command
 command_of words = unless_fault (fault_of program words) (asked (subcommand_of program words))
 
+-- the words name no command, or they name `run`, and not every option is a number in its range
+abbrev pub IsNoCommand : Option (Text × List Row) → Type 0
+IsNoCommand None = ⊤
+IsNoCommand (Some p) = (bytes_eq p.0 (codes "dump") ≡ false) × (options_of p.1 ≡ None)
+
 -- why words are refused: clap's definition has a kind of fault for them that is not want of memory
--- (a call for help is an unknown word, option or command), or they are in order for clap, and not
--- every option is a number in its range
+-- (a call for help is an unknown word, option or command), or they are in order for clap, and name
+-- no command with its numbers
 abbrev pub Refuses : List Text → Type 0
 Refuses words =
     ((kind : ErrorKind) × IsAmong kind (fault_of program words) × (kind ≢ OutOfMemory))
-    ⊎ (option_and_then (λ p. options_of p.1) (subcommand_of program words) ≡ None)
+    ⊎ IsNoCommand (subcommand_of program words)

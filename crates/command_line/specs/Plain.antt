@@ -70,6 +70,11 @@ pub record IsPlain (call : List Text) (numbers : RunOptions) : Type 0 where
   pub choices_are : AreChoices choices
   pub options : numbers ≡ options_chosen choices
 
+-- any name of the program, and then `dump`
+pub record IsPlainDump (call : List Text) : Type 0 where
+  pub name : Text
+  pub words : call ≡ name ∷ codes "dump" ∷ []
+
 -- ---- help
 
 -- a flag for help
@@ -85,12 +90,16 @@ abbrev pub HasHelpFlag : List Text → Type 0
 HasHelpFlag [] = ⊥
 HasHelpFlag (word ∷ rest) = IsHelpFlag word ⊎ HasHelpFlag rest
 
--- what follows `run` is `help`, or a flag for help comes at some place after it, as behind options
-abbrev pub RunAsksForHelp : List Text → Type 0
-RunAsksForHelp [] = ⊥
-RunAsksForHelp (word ∷ rest) = (word ≡ codes "help") ⊎ HasHelpFlag (word ∷ rest)
+-- the word names a command
+abbrev pub IsCommandName : Text → Type 0
+IsCommandName word = (word ≡ codes "run") ⊎ (word ≡ codes "dump")
 
--- the word after the name is a call for help, or it is `run`, and what follows calls for help
+-- what follows a command is `help`, or a flag for help comes at some place after it, as behind options
+abbrev pub CommandAsksForHelp : List Text → Type 0
+CommandAsksForHelp [] = ⊥
+CommandAsksForHelp (word ∷ rest) = (word ≡ codes "help") ⊎ HasHelpFlag (word ∷ rest)
+
+-- the word after the name is a call for help, or it is a command, and what follows calls for help
 abbrev pub AsksForHelp : List Text → Type 0
-AsksForHelp (name ∷ word ∷ rest) = IsHelp word ⊎ ((word ≡ codes "run") × RunAsksForHelp rest)
+AsksForHelp (name ∷ word ∷ rest) = IsHelp word ⊎ (IsCommandName word × CommandAsksForHelp rest)
 AsksForHelp _ = ⊥

@@ -16,6 +16,8 @@ pub struct RunOptions {
 pub enum Command {
     /// To run the script.
     Run(RunOptions),
+    /// To tell what the database keeps.
+    Dump,
     /// Nothing that the program does, or help.
     Refused,
 }

@@ -1,8 +1,8 @@
-// A law of plain words, for callers: it holds of all words, so the call has nothing to do.
+// Laws of plain words, for callers: they hold of all words, so the calls have nothing to do.
 ghost use Rattle.std.specs.Prelude.{◌≡◌, ℕ, List};
 ghost use Rattle.command_line.specs.Options.{command_of};
-ghost use Rattle.command_line.specs.Plain.{IsPlain};
-ghost use Rattle.command_line.specs.declared.command.Command.TheVariants.{Run};
+ghost use Rattle.command_line.specs.Plain.{IsPlain, IsPlainDump};
+ghost use Rattle.command_line.specs.declared.command.Command.TheVariants.{Run, Dump};
 ghost use Rattle.command_line.specs.declared.command.RunOptions.{RunOptions};
 
 /// Plain words ask for a run with their numbers: no fault is found in them, and no number is out of
@@ -10,4 +10,9 @@ ghost use Rattle.command_line.specs.declared.command.RunOptions.{RunOptions};
 pub fn plain_words_run()
     ensures { (words : List (List ℕ)) (options : RunOptions) → IsPlain words options
         → command_of words ≡ Run options }
+{}
+
+/// Plain words for `dump` ask for it.
+pub fn plain_words_dump()
+    ensures { (words : List (List ℕ)) → IsPlainDump words → command_of words ≡ Dump }
 {}

@@ -1,20 +1,20 @@
 //! What the words of a call ask for.
 //!
-//! The words are the program's name and then `run`, with `--tries`, `--slots` and `--snap` in any
-//! order, each at most once, its number the word after it. The crate `clap` parts the words by the
+//! The words are the program's name and then `dump`, or `run` with `--tries`, `--slots` and `--snap` in
+//! any order, each at most once, its number the word after it. The crate `clap` parts the words by the
 //! definition of `specs/Commands.antt`; the numbers are read here, since they have neither a sign
 //! nor a leading zero.
 //!
 //! Promises of `read_words`, unless memory is refused:
 //!
 //! - it answers what the definitions say (`command`);
-//! - for plain words it answers a run, with their numbers and the usual ones (`plain`);
+//! - for plain words it answers a run, with their numbers and the usual ones (`plain`), or a dump (`plain_dump`);
 //! - the numbers of a run are in their ranges (`ranges`);
 //! - words are refused only where the definition has a kind of fault for them that is not want of
 //!   memory, or a number is none or out of its range (`refused`);
 //! - calls for help are refused, also where they come after options (`help`).
 //!
-//! The law `plain_words_run` says of the definitions that plain words ask for a run.
+//! The laws `plain_words_run` and `plain_words_dump` say of the definitions what plain words ask for.
 //!
 //! A repeated option is refused. `--tries=5` is taken for `--tries 5`, and a last `--` for nothing,
 //! as clap does; neither is among the plain words.
@@ -27,7 +27,7 @@ mod program;
 mod words;
 
 pub use command::{Command, RunOptions};
-pub use law::plain_words_run;
+pub use law::{plain_words_dump, plain_words_run};
 pub use words::read_words;
 
 #[cfg(test)]

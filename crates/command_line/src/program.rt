@@ -2,7 +2,7 @@
 ghost use Rattle.std.specs.Prelude.{◌≡◌, IfOk, false, codes};
 ghost use Rattle.clap.specs.Words.{app_of, rule_of};
 ghost use Rattle.clap.specs.declared.builder.command.Command.TheViews.{out-Command};
-ghost use Rattle.command_line.specs.Commands.{option_rule, program, run_shape};
+ghost use Rattle.command_line.specs.Commands.{dump_shape, option_rule, program, run_shape};
 
 use clap::{Arg, ArgAction, Command};
 use std::alloc::{AllocError, Global};
@@ -26,6 +26,13 @@ fn run<'a>(alloc: Global) -> Result<Command<'a>, AllocError>
         .arg(option(alloc, "snap"))
 }
 
+fn dump<'a>(alloc: Global) -> Command<'a>
+    ensures shape { (app_of result).top ≡ dump_shape }
+    ensures local { (out-Command result).has_globals ≡ false }
+{
+    Command::new(alloc, "dump").disable_help_flag(true)
+}
+
 /// The program, with its commands.
 pub(crate) fn program<'a>(alloc: Global) -> Result<Command<'a>, AllocError>
     ensures { IfOk result (λ c. app_of c ≡ program) }
@@ -35,5 +42,6 @@ pub(crate) fn program<'a>(alloc: Global) -> Result<Command<'a>, AllocError>
         .disable_help_flag(true)
         .disable_help_subcommand(true)
         .subcommand_required(true)
-        .subcommand(run)
+        .subcommand(run)?
+        .subcommand(dump(alloc))
 }

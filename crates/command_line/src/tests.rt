@@ -54,6 +54,12 @@ fn options_in_any_order(rt: HostRuntime) -> Result<(), Fail> {
 }
 
 #[test]
+fn dump_stands_alone(rt: HostRuntime) -> Result<(), Fail> {
+    assert!(rt; read_words(rt.alloc(), &["foedus", "dump"]) == Ok(Command::Dump));
+    Ok(())
+}
+
+#[test]
 fn numbers_out_of_range(rt: HostRuntime) -> Result<(), Fail> {
     let rows: [(&str, &str); 8] = [
         ("--tries", "0"),
@@ -86,7 +92,7 @@ fn no_numbers(rt: HostRuntime) -> Result<(), Fail> {
 
 #[test]
 fn faulty_words(rt: HostRuntime) -> Result<(), Fail> {
-    let rows: [&[&str]; 17] = [
+    let rows: [&[&str]; 21] = [
         &[],
         &["foedus"],
         &["foedus", "walk"],
@@ -106,6 +112,10 @@ fn faulty_words(rt: HostRuntime) -> Result<(), Fail> {
         &["foedus", "run", "--tries="],
         &["foedus", "run", "--", "5"],
         &["foedus", "--", "run"],
+        &["foedus", "dump", "all"],
+        &["foedus", "dump", "--tries", "5"],
+        &["foedus", "dump", "--help"],
+        &["foedus", "dump", "run"],
     ];
     for words in rows {
         assert!(rt; read_words(rt.alloc(), words) == Ok(Command::Refused));

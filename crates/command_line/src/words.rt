@@ -2,7 +2,7 @@
 ghost use Rattle.std.specs.Prelude.{◌≡◌, IfOk, OnOk, map};
 ghost use Rattle.clap.specs.Words.{first_of, found_of, rows_of, subcommand_rows_of};
 ghost use Rattle.command_line.specs.Options.{AreInRange, Refuses, asked, command_of, number_in, options_of};
-ghost use Rattle.command_line.specs.Plain.{AsksForHelp, IsPlain};
+ghost use Rattle.command_line.specs.Plain.{AsksForHelp, IsPlain, IsPlainDump};
 
 use crate::command::{Command, RunOptions};
 use crate::number::{Range, number_in};
@@ -50,10 +50,13 @@ fn options_of(matches: &ArgMatches) -> Option<RunOptions>
 fn asked(matches: &ArgMatches) -> Command
     ensures { result ≡ asked (subcommand_rows_of matches.now) }
 {
-    let Some((_, run)) = matches.subcommand() else {
+    let Some((name, found)) = matches.subcommand() else {
         return Command::Refused;
     };
-    match options_of(run) {
+    if name == "dump" {
+        return Command::Dump;
+    }
+    match options_of(found) {
         Some(options) => Command::Run(options),
         None => Command::Refused,
     }
@@ -64,6 +67,8 @@ pub fn read_words(alloc: Global, words: &[&str]) -> Result<Command, Memory>
     ensures command { IfOk result (λ command. command ≡ command_of (map (λ w. w.now) words.now)) }
     ensures plain { (options : _) → IsPlain (map (λ w. w.now) words.now) options
         → OnOk result (result ≡ Ok (Command.Run options)) }
+    ensures plain_dump { IsPlainDump (map (λ w. w.now) words.now)
+        → OnOk result (result ≡ Ok Command.Dump) }
     ensures ranges { (options : _) → result ≡ Ok (Command.Run options) → AreInRange options }
     ensures refused { result ≡ Ok Command.Refused → Refuses (map (λ w. w.now) words.now) }
     ensures help { AsksForHelp (map (λ w. w.now) words.now)

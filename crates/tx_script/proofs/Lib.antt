@@ -1,3 +1,4 @@
 mod WorkedRows
 pub mod TextSoFar
 pub mod FlatOutcomes
+pub mod KeyLines

@@ -1,4 +1,4 @@
--- Worked rows: what a few rounds print, and how their epochs go.
+-- Worked rows: what a few rounds print, how their epochs go, and the lines of a state's keys.
 use Rattle.std.proofs.Common.{◌≡◌, refl, [], ◌∷◌, ◌++◌, Some}
 use Rattle.std.specs.Prelude.{codes}
 use Rattle.std.specs.Fmt.{digits}
@@ -8,6 +8,8 @@ use Rattle.tx_script.specs.declared.answer.Answer.TheVariants as answers
 use Rattle.tx_script.specs.declared.outcome.Outcome.TheVariants.{Committed, Limit}
 use Rattle.tx_script.specs.Run.{AdvancesTo}
 use Rattle.tx_script.specs.Text.{lines_text}
+use Rattle.tx_script.specs.StateText.{key_lines}
+use Rattle.serial_model.specs.declared.decl.Decl.TheVariants.{Array, Tree}
 
 -- two workers' lines, the keeper's and a durable epoch
 two_workers : lines_text (
@@ -27,3 +29,14 @@ epoch_and_save = refl
 
 epoch_and_save_advance : AdvancesTo 1 (answers.Epoch 2 ∷ answers.Save 1 ∷ []) 2
 epoch_and_save_advance = (refl, refl)
+
+-- of an array the keys whose value isn't 0, and of a tree those that are present
+keys_of_both : key_lines (Array 1 4 ∷ Tree 2 ∷ []) (
+    (record { storage = 1; key = 0 }, 0)
+    ∷ (record { storage = 1; key = 2 }, 7)
+    ∷ (record { storage = 2; key = 0 }, 0)
+    ∷ (record { storage = 2; key = 5 }, 50)
+    ∷ []
+    ) ≡ codes "1 2 7" ++ 10 ∷ codes "2 0 0" ++ 10 ∷ codes "2 5 50" ++ 10 ∷ []
+unfolding digits
+keys_of_both = refl

@@ -4,3 +4,4 @@ pub mod Counts
 pub mod Draws
 pub mod Text
 pub mod Flat
+pub mod StateText

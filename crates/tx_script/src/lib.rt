@@ -1,13 +1,15 @@
 //! Runs of a script, and the lines that they print.
 //!
 //! Promises: `write_outcome` and `write_keeper` write exactly the line of an outcome or of an answer (`written`), or a
-//! beginning of it where the sink failed (`prefix`); `put_round` adds exactly the lines of a round. `Outcomes` are
-//! seen as a list, and take a head of 16 bytes and the words of their replies each.
+//! beginning of it where the sink failed (`prefix`); `put_round` adds exactly the lines of a round. `write_state` and
+//! `put_state` do the same of the text of a state. `Outcomes` are seen as a list, and take a head of 16 bytes and the
+//! words of their replies each.
 //! Laws: a round of a script can be run (`can_run`); an engine that draws for commits alone meets no limit
 //! (`each_committed`).
 //! Terms: *round*, the lines up to a join; *outcome*, what came of a worker's line; *answer*, what came of a line of
 //! the maintenance thread (a keeper line).
-//! Runs: `specs/Run.antt`. What must have happened for each outcome: `specs/Causes.antt`. Lines: `specs/Text.antt`.
+//! Runs: `specs/Run.antt`. What must have happened for each outcome: `specs/Causes.antt`. Lines: `specs/Text.antt`; a
+//! state as text: `specs/StateText.antt`.
 //! What a script is: `script_grammar`.
 #![tactic(auto)]
 
@@ -15,6 +17,7 @@ mod answer;
 mod outcome;
 mod outcomes;
 mod print;
+mod state;
 
 pub use answer::{Answer, Answers};
 pub use outcome::{LentOutcome, Outcome};
@@ -23,4 +26,5 @@ pub use print::{put_round, write_keeper, write_outcome};
 pub use script_grammar::{
     FaultKind, KeeperLine, Line, LineOps, Round, Script, ScriptFault, read_script,
 };
+pub use state::{put_state, write_state};
 pub use text_output::Printer;

@@ -17,6 +17,7 @@ returns-in-Ok c =
     record {
       command = is;
       plain = λ options p. ap (λ (x : Command). Ok x) (a.plain options p);
+      plain_dump = λ p. ap (λ (x : Command). Ok x) (a.plain_dump p);
       ranges = λ options h. a.ranges options (cc);
       refused = λ h.
           let none : c.asked.result ≡ Refused = cc in
@@ -35,6 +36,7 @@ returns c =
     record {
       command = is;
       plain = λ options p. ap (λ (x : Command). Ok x) (a.plain options p);
+      plain_dump = λ p. ap (λ (x : Command). Ok x) (a.plain_dump p);
       ranges = λ options h. a.ranges options (cc);
       refused = λ h. inl (kind, is_among, other);
       help = λ h. refl;

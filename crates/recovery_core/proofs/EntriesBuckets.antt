@@ -1,13 +1,12 @@
 -- The buckets of a log file have the entries of each key, in their order.
-use Rattle.std.proofs.Common.{◌≡◌, ℕ, ◌<◌, ◌≤◌, Bool, true, false, List, [], ◌∷◌, ◌++◌, Option, Some, None, map, inl, inr, refl, sym, ap, ◌∙◌, append-nil, arith, eqb, leb, ltb, ◌&&◌, ◌||◌}
-use Rattle.std.specs.Prelude.{cond, filter, IsTrue, nat_lt, nat_le}
+use Rattle.std.proofs.Common.{◌≡◌, ℕ, ◌<◌, ◌≤◌, Bool, true, false, List, [], ◌∷◌, ◌++◌, Option, Some, None, map, inl, inr, refl, sym, ap, ◌∙◌, append-nil, arith, eqb, ◌||◌}
+use Rattle.std.specs.Prelude.{cond, filter, IsTrue}
 use Rattle.std.specs.List.{AllByRecursion, flat_map, list_any}
 use Rattle.std.proofs.lemmas.Bool.{cases_eq}
 use Rattle.std.proofs.lemmas.Bool.Decides.{nat_tests}
-use Rattle.std.proofs.lemmas.Grind.{flat_map-append}
 use Rattle.std.proofs.lemmas.List.Elements.{filter-append}
 use Rattle.lists.specs.Each.{all_append}
-use Rattle.log_mapper.specs.Mapped.{is_after, entries_after, is_in_storage, bucket_of, buckets_of}
+use Rattle.log_mapper.specs.Mapped.{is_after, entries_after, is_in_storage, buckets_of}
 use Rattle.serial_model.specs.Keys.{id_of, has_key_of, is_tree_of}
 use Rattle.serial_model.specs.declared.decl.Decl.{Decl}
 use Rattle.serial_model.specs.declared.decl.Decl.TheVariants.{Array, Tree}
@@ -15,12 +14,11 @@ use Rattle.serial_model.specs.declared.key.Key.{Key}
 use Rattle.serial_model.specs.declared.number.Change.{Change}
 use Rattle.serial_model.specs.declared.number.Commit.{Commit}
 use Rattle.serial_model.specs.declared.number.Number.{Number}
-use Rattle.wire_form.specs.Items.{IsFollowed, RisesAfter, Rises}
+use Rattle.wire_form.specs.Items.{RisesAfter, Rises}
 use Rattle.wire_form.specs.LogFile.{has_place_for, IsChangeOf, IsLineOf}
-use Rattle.wire_form.specs.declared.bucket.Bucket.{Bucket}
 use Rattle.wire_form.specs.declared.bucket.Entry.{Entry}
 use Rattle.recovery_core.specs.LogEntries.{entry_of, entries_of, counts, is_of}
-use Rattle.recovery_core.specs.EntriesLast.{entries_in, all_entries}
+use Rattle.recovery_core.specs.EntriesLast.{all_entries}
 
 -- ---- two filters in a row
 

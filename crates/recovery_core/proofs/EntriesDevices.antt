@@ -1,5 +1,5 @@
 -- What the mapping of a log file says of the vault's devices.
-use Rattle.std.proofs.Common.{◌≡◌, ◌≢◌, ℕ, ◌<◌, List, Option, Some, inl, inr, refl, sym, ap, subst, ◌∙◌}
+use Rattle.std.proofs.Common.{◌≡◌, ◌≢◌, ℕ, ◌<◌, List, Option, Some, inl, inr, sym, ap, subst, ◌∙◌}
 use Rattle.std.specs.Prelude.{Result, Ok, Err}
 use Rattle.std.proofs.lemmas.Bool.{cases_eq}
 use Rattle.std.proofs.lemmas.Option.{same_Some}
@@ -16,7 +16,7 @@ use Rattle.outside.specs.declared.vault.Device.TheVariants.{Save, Snaps, Bank}
 use Rattle.outside.specs.declared.vault.Vault.{Vault}
 use Rattle.serial_model.specs.declared.decl.Decl.{Decl}
 use Rattle.wire_form.specs.declared.bucket.Bucket.{Bucket}
-use Rattle.recovery_core.specs.EntriesRead.{Maps, MapsIn}
+use Rattle.recovery_core.specs.EntriesRead.{MapsIn}
 use Rattle.recovery_core.specs.Images.{Images}
 use Rattle.recovery_core.specs.JointCrash.{parts_of}
 use Rattle.recovery_core.specs.Resting.{AreTold}
@@ -58,7 +58,13 @@ module _ {D : Type 0} {tells : D → Option (List ℕ)} {clock : D → ℕ} {ima
   -- the vault was only read
   pub maps_reads : MapsIn tells clock image_at faults n count decls from to old new result
       → VaultOnlyReads tells clock image_at faults old new
-  maps_reads maps = record { each = maps_each maps; even = maps.even; odd = maps.odd; ties = maps.ties; cuts = maps.cuts }
+  maps_reads maps = record {
+    each = maps_each maps;
+    even = maps.even;
+    odd = maps.odd;
+    ties = maps.ties;
+    cuts = maps.cuts;
+  }
 
   -- the first byte that is no line is told of what the log file was found to have
   pub maps_damaged : (first : Vault D) (found : Images) (at : ℕ)

@@ -1,5 +1,5 @@
 -- One log file more: its lines, and the last entries with its own.
-use Rattle.std.proofs.Common.{◌≡◌, ℕ, ◌+◌, ◌<◌, ◌≤◌, List, [], ◌∷◌, ◌++◌, Option, Some, None, length, get_or, map, take, inl, inr, refl, sym, ap, subst, ◌∙◌, append-nil, arith}
+use Rattle.std.proofs.Common.{◌≡◌, ℕ, ◌+◌, ◌<◌, List, [], ◌∷◌, ◌++◌, Some, length, get_or, map, inl, inr, refl, sym, ap, subst, ◌∙◌, append-nil, arith}
 use Rattle.std.specs.Prelude.{filter}
 use Rattle.std.specs.FinMap.{get, empty, get-empty}
 use Rattle.std.specs.List.{flat_map}
@@ -69,7 +69,8 @@ module _ {decls : List Decl} {p : Savepoint} {bank : ℕ → List ℕ} {from to 
         files = length-append so_far.lines (more ∷ []) ∙ omega (arith, so_far.files);
         each = λ m below. elim (cases_lt m n) [
           | inl before ↦ subst (IsCountedFile decls (counted_of (Some p) m) (bank m))
-              (sym (get_or_append_left so_far.lines (more ∷ []) [] m (omega (arith, so_far.files)))) (so_far.each m before)
+              (sym (get_or_append_left so_far.lines (more ∷ []) [] m (omega (arith, so_far.files))))
+              (so_far.each m before)
           | inr past ↦
               let is : n ≡ m = omega arith in
               subst (IsCountedFile decls (counted_of (Some p) m) (bank m))

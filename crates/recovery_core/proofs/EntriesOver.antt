@@ -1,5 +1,5 @@
 -- The entries of a map in the keys' order, put over a state one after another.
-use Rattle.std.proofs.Common.{◌≡◌, ℕ, Bool, true, false, List, [], ◌∷◌, Option, Some, None, length, refl, sym, ap, subst, ◌∙◌, arith}
+use Rattle.std.proofs.Common.{◌≡◌, Bool, true, false, List, [], ◌∷◌, Some, None, length, refl, sym, ap, subst, ◌∙◌, arith}
 use Rattle.std.specs.Prelude.{cond}
 use Rattle.std.specs.Cmp.{eq_by_cmp_equiv}
 use Rattle.std.specs.FinMap.{get}
@@ -15,7 +15,7 @@ use Rattle.serial_model.specs.declared.key.Key.{Key}
 use Rattle.wire_form.specs.declared.bucket.Entry.{Entry}
 use Rattle.recovery_core.specs.Recoverable.{value_over}
 use Rattle.recovery_core.specs.EntriesLast.{EntryMap, PutsAt}
-use Rattle.recovery_core.proofs.EntriesGreatest.{keys_total, keys_exact, either_way, entry_at}
+use Rattle.recovery_core.proofs.EntriesGreatest.{keys_total, keys_exact, entry_at}
 
 -- no entries have none at any key
 pub none_at : (es : List (Key × Entry)) (key : Key) → length es ≡ 0 → entry_at es key ≡ None

@@ -1,6 +1,5 @@
 -- Pages that were read from a device stand there.
-use Rattle.std.proofs.Common.{◌≡◌, ℕ, ◌+◌, ◌-◌, ◌*◌, ◌^◌, ◌<◌, ◌≤◌, ◌++◌, zero, suc, List, [], ◌∷◌, length, take, drop, get_or, refl, sym, ap, subst, ◌∙◌, arith}
-use Rattle.std.specs.Prelude.{map}
+use Rattle.std.proofs.Common.{◌≡◌, ℕ, ◌+◌, ◌-◌, ◌*◌, ◌^◌, ◌<◌, ◌≤◌, ◌++◌, zero, suc, List, [], ◌∷◌, length, take, drop, get_or, refl, sym, ap, ◌∙◌, arith}
 use Rattle.std.specs.List.{AllByRecursion}
 use Rattle.std.proofs.lemmas.List.{length-map, length-append}
 use Rattle.std.proofs.Math.Seq.{take-append_seam, drop-append-add}
@@ -15,19 +14,23 @@ use Rattle.recovery_core.specs.Catalogues.{HasPages}
 use Rattle.recovery_core.specs.RecoverableLaws.{page_in_front}
 
 -- whole pages have 512 bytes each
-pub whole_size : (pages : List Page) → AllByRecursion IsWhole pages → length (bytes_of_pages pages) ≡ 512 * length pages
+pub whole_size : (pages : List Page) → AllByRecursion IsWhole pages → length (bytes_of_pages pages)
+    ≡ 512 * length pages
 whole_size [] whole = refl
-whole_size (p ∷ ps) whole = omega (arith, length-append (bytes_of_page p) (bytes_of_pages ps), whole.0, whole_size ps whole.1)
+whole_size (p ∷ ps) whole =
+    omega (arith, length-append (bytes_of_page p) (bytes_of_pages ps), whole.0, whole_size ps whole.1)
 
 -- so each begins behind those before it
 bytes_at : (pages : List Page) (k : ℕ) → AllByRecursion IsWhole pages → k < length pages
     → take 512 (drop (512 * k) (bytes_of_pages pages)) ≡ bytes_of (get_or (words_of pages) k [])
 bytes_at [] k whole below = absurd (omega (arith, below))
 bytes_at (p ∷ ps) zero whole below =
-    ap (λ n. take n (bytes_of_page p ++ bytes_of_pages ps)) (sym whole.0) ∙ take-append_seam (bytes_of_page p) (bytes_of_pages ps)
+    ap (λ n. take n (bytes_of_page p ++ bytes_of_pages ps)) (sym whole.0)
+    ∙ take-append_seam (bytes_of_page p) (bytes_of_pages ps)
 bytes_at (p ∷ ps) (suc k) whole below =
     let past : 512 * suc k ≡ length (bytes_of_page p) + 512 * k = omega (arith, whole.0) in
-    ap (take 512) (ap (λ n. drop n (bytes_of_page p ++ bytes_of_pages ps)) past ∙ drop-append-add (bytes_of_page p) (bytes_of_pages ps) (512 * k))
+    ap (take 512) (ap (λ n. drop n (bytes_of_page p ++ bytes_of_pages ps)) past
+    ∙ drop-append-add (bytes_of_page p) (bytes_of_pages ps) (512 * k))
     ∙ bytes_at ps k whole.1 (omega (arith, below))
 
 -- the words of each have 64 bits
@@ -38,7 +41,8 @@ fit_at (w ∷ ws) zero fit below = fit.0
 fit_at (w ∷ ws) (suc k) fit below = fit_at ws k fit.1 (omega (arith, below))
 
 -- each page stands among its bytes
-has_words : (pages : List Page) (n : ℕ) → AllByRecursion IsWhole pages → AllByRecursion (AllByRecursion (λ w. w < 2 ^ 64)) (words_of pages)
+has_words : (pages : List Page) (n : ℕ) → AllByRecursion IsWhole pages
+    → AllByRecursion (AllByRecursion (λ w. w < 2 ^ 64)) (words_of pages)
     → 1 ≤ n → n ≤ length pages → HasWords (bytes_of_pages pages) n (page (words_of pages) n)
 has_words pages zero whole fit first last = absurd (omega (arith, first))
 has_words pages (suc k) whole fit first last =
@@ -60,5 +64,6 @@ has_pages pages count file whole fit size read =
     record {
       count_is = length-map pages Page.words ∙ size;
       each = λ number first last.
-          page_in_front (bytes_of_pages pages) file number _ front (has_words pages number whole fit first (omega (arith, last, size)));
+          page_in_front (bytes_of_pages pages) file number _ front
+          (has_words pages number whole fit first (omega (arith, last, size)));
     }

@@ -1,5 +1,5 @@
 -- Worked vaults: what some bytes stand for, by hand.
-use Rattle.std.specs.Prelude.{◌≡◌, ◌≢◌, ℕ, zero, suc, ◌^◌, ◌<◌, ◌≤◌, List, [], ◌∷◌, ◌++◌, Option, Some, None, replicate, length, take, drop, get_or}
+use Rattle.std.specs.Prelude.{◌≡◌, ℕ, zero, suc, ◌^◌, ◌<◌, List, [], ◌∷◌, ◌++◌, Some, None, replicate, length, take, get_or}
 use Rattle.std.proofs.Common.{refl, sym, ap, ◌∙◌, subst, arith, lit<, lit≤, append-nil}
 use Rattle.std.proofs.lemmas.List.{length-append, take_at, drop_at, take_all}
 use Rattle.std.specs.FinMap as finite
@@ -61,7 +61,10 @@ abbrev catalogue : Contents
 catalogue = record { epoch = 0; previous = 0; storages = stored ∷ [] }
 
 abbrev commit : Commit
-commit = record { number = record { epoch = 1; draw = 1 }; changes = record { key = record { storage = 1; key = 2 }; value = Some 7 } ∷ [] }
+commit = record {
+  number = record { epoch = 1; draw = 1 };
+  changes = record { key = record { storage = 1; key = 2 }; value = Some 7 } ∷ [];
+}
 
 -- the first savepoint, in place 0, and the second one, which counts a log line of 40 bytes
 abbrev first_point : Savepoint
@@ -75,10 +78,19 @@ log_of zero = line_bytes commit
 log_of (suc n) = []
 
 abbrev one_commit : Images
-one_commit = record { save = place_bytes first_point ++ place_bytes second_point; snaps = bytes_of (catalogue_words catalogue); bank = log_of }
+one_commit = record {
+  save = place_bytes first_point ++ place_bytes second_point;
+  snaps = bytes_of (catalogue_words catalogue);
+  bank = log_of;
+}
 
 abbrev reading : Reading
-reading = record { point = Some second_point; pages = catalogue_words catalogue ∷ []; catalogues = catalogue ∷ []; lines = (commit ∷ []) ∷ replicate 15 [] }
+reading = record {
+  point = Some second_point;
+  pages = catalogue_words catalogue ∷ [];
+  catalogues = catalogue ∷ [];
+  lines = (commit ∷ []) ∷ replicate 15 [];
+}
 
 -- index 2 has the value 7, and index 3 was never written
 seven : value_of_key reading (record { storage = 1; key = 2 }) ≡ Some 7
@@ -95,7 +107,13 @@ unfolding deepest leaf_room
 unsaved = refl
 
 length-place : (p : Savepoint) → length (body_words p) ≡ 63 → length (place_bytes p) ≡ 512
-length-place p size = omega (arith, length-append (padded 8 (valid_byte ∷ [])) (bytes_of (body_words p)), length-bytes_of (body_words p), size)
+length-place p size =
+    omega (
+      arith,
+      length-append (padded 8 (valid_byte ∷ [])) (bytes_of (body_words p)),
+      length-bytes_of (body_words p),
+      size,
+    )
 
 each_length : (n : ℕ) (count : ℕ) → ◌≡◌ {A = ℕ} (get_or (replicate count 0) n 0) 0
 each_length n zero = refl
@@ -116,12 +134,38 @@ names =
       first = Some first_point;
       second = Some second_point;
       in_first = (
-        record { point = record { first = lit≤ tt; last = lit< tt; epoch = lit< tt; catalogue = lit≤ tt; newest = refl; count = lit≤ tt; banks = refl; lengths = all_replicate (λ n. n < 2 ^ 40) 16 0 (lit< tt) }; stands = refl },
+        record {
+          point = record {
+            first = lit≤ tt;
+            last = lit< tt;
+            epoch = lit< tt;
+            catalogue = lit≤ tt;
+            newest = refl;
+            count = lit≤ tt;
+            banks = refl;
+            lengths = all_replicate (λ n. n < 2 ^ 40) 16 0 (lit< tt);
+          };
+          stands = refl;
+        },
         take_at (place_bytes first_point) (place_bytes second_point) 512 a,
       );
       in_second = (
-        record { point = record { first = lit≤ tt; last = lit< tt; epoch = lit< tt; catalogue = lit≤ tt; newest = refl; count = lit≤ tt; banks = refl; lengths = (lit< tt, all_replicate (λ n. n < 2 ^ 40) 15 0 (lit< tt)) }; stands = refl },
-        ap (take 512) (drop_at (place_bytes first_point) (place_bytes second_point) 512 a) ∙ take_all 512 (place_bytes second_point) (omega (arith, b)),
+        record {
+          point = record {
+            first = lit≤ tt;
+            last = lit< tt;
+            epoch = lit< tt;
+            catalogue = lit≤ tt;
+            newest = refl;
+            count = lit≤ tt;
+            banks = refl;
+            lengths =
+                (lit< tt, all_replicate (λ n. n < 2 ^ 40) 15 0 (lit< tt));
+          };
+          stands = refl;
+        },
+        ap (take 512) (drop_at (place_bytes first_point) (place_bytes second_point) 512 a)
+            ∙ take_all 512 (place_bytes second_point) (omega (arith, b)),
       );
       counts = refl;
     }
@@ -153,7 +197,13 @@ chain = (
   record {
     here = record {
       there = lit≤ tt;
-      catalogue = record { epoch = lit< tt; previous = lit< tt; most = lit≤ tt; each = (record { decl = (lit< tt, lit≤ tt, lit≤ tt); root = lit< tt }, tt); rising = (tt, tt) };
+      catalogue = record {
+        epoch = lit< tt;
+        previous = lit< tt;
+        most = lit≤ tt;
+        each = (record { decl = (lit< tt, lit≤ tt, lit≤ tt); root = lit< tt }, tt);
+        rising = (tt, tt);
+      };
       words = refl;
     };
     epoch = lit< tt;
@@ -167,7 +217,10 @@ stands : RootStandsUpTo 0 (catalogue_words catalogue ∷ []) stored
 unfolding deepest leaf_room
 stands = record {
   there = lit≤ tt;
-  right = record { page = record { none = λ _. refl; page = λ some. absurd (omega (arith, some)) }; numbers = λ leaf key low high. tt };
+  right = record {
+    page = record { none = λ _. refl; page = λ some. absurd (omega (arith, some)) };
+    numbers = λ leaf key low high. tt;
+  };
   tiles = tt;
   below = tt;
 }
@@ -175,18 +228,33 @@ stands = record {
 line : IsLineOf (Array 1 4 ∷ []) commit
 line = record {
   line = record {
-    loggable = record { number = record { some_epoch = lit≤ tt; most_epoch = lit≤ tt; some_draw = lit≤ tt; most_draw = lit< tt }; some = lit≤ tt; most = lit≤ tt; rising = (tt, tt) };
+    loggable = record {
+      number = record {
+        some_epoch = lit≤ tt;
+        most_epoch = lit≤ tt;
+        some_draw = lit≤ tt;
+        most_draw = lit< tt;
+      };
+      some = lit≤ tt;
+      most = lit≤ tt;
+      rising = (tt, tt);
+    };
     each = (record { storage = lit< tt; key = lit< tt; value = lit< tt }, tt);
   };
   each = (refl, tt);
 }
 
-file : (n : ℕ) → n < 16 → IsCountedFile (Array 1 4 ∷ []) (counted_of (Some second_point) n) (log_of n) (get_or reading.lines n [])
+file : (n : ℕ) → n < 16
+    → IsCountedFile (Array 1 4 ∷ []) (counted_of (Some second_point) n) (log_of n) (get_or reading.lines n [])
 file zero below =
     let size : length (line_bytes commit) ≡ 40 = length-line_bytes commit in
     record {
       there = omega (arith, size);
-      lines_are = record { each = (line, tt); rising = (tt, tt); spelled = take_all 40 (line_bytes commit) (omega (arith, size)) ∙ sym (append-nil (line_bytes commit)) };
+      lines_are = record {
+        each = (line, tt);
+        rising = (tt, tt);
+        spelled = take_all 40 (line_bytes commit) (omega (arith, size)) ∙ sym (append-nil (line_bytes commit));
+      };
     }
 file (suc n) below =
     subst (λ k. IsCountedFile (Array 1 4 ∷ []) k [] (get_or reading.lines (suc n) [])) (sym (each_length n 15))

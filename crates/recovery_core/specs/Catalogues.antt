@@ -1,5 +1,5 @@
 -- The pages that a savepoint counts, and the catalogues among them, from the newest back.
-use Rattle.std.specs.Prelude.{◌≡◌, ℕ, ◌<◌, ◌≤◌, List, [], ◌∷◌, Option, Some, None, IfSome, length}
+use Rattle.std.specs.Prelude.{◌≡◌, ℕ, ◌<◌, ◌≤◌, List, [], ◌∷◌, Option, Some, IfSome, length}
 use Rattle.std.specs.List.{AllByRecursion}
 use Rattle.serial_model.specs.declared.decl.Decl.{Decl}
 use Rattle.wire_form.specs.declared.records.Stored.{Stored}
@@ -24,7 +24,8 @@ pub record IsFirst (c : Contents) : Type 0 where
 
 -- A page is a catalogue that says this: its epoch is below a limit, its storages are those that were declared, where
 -- some were, and one without a predecessor is the first of all.
-pub record IsCatalogueBelow (pages : List (List ℕ)) (limit : ℕ) (declared : Option (List Decl)) (number : ℕ) (c : Contents) : Type 0 where
+pub record IsCatalogueBelow (pages : List (List ℕ)) (limit : ℕ) (declared : Option (List Decl)) (number : ℕ)
+    (c : Contents) : Type 0 where
   pub here : CatalogueAt pages number c
   pub epoch : c.epoch < limit
   pub decls : IfSome declared (λ decls. decls_of c ≡ decls)

@@ -1,7 +1,6 @@
 -- Where the devices are not in their grammars: the first byte of the first part that isn't, in the order in which they
 -- are read: save, length of the snapshots, catalogues from the newest back, pages of the newest snapshot, log files.
 use Rattle.std.specs.Prelude.{◌≡◌, ◌⊎◌, ℕ, ◌+◌, ◌-◌, ◌*◌, ◌<◌, ◌≤◌, zero, suc, List, [], ◌∷◌, Option, Some, None, length, take}
-use Rattle.std.specs.List.{AllByRecursion}
 use Rattle.outside.specs.declared.vault.Device.{Device}
 use Rattle.outside.specs.declared.vault.Device.TheVariants.{Save, Snaps, Bank}
 use Rattle.serial_model.specs.declared.decl.Decl.{Decl}
@@ -54,7 +53,8 @@ RootBreaks epoch pages at s =
 -- storages with numbers that rise, from this byte on.
 abbrev pub FileBreaks : List Decl → ℕ → List ℕ → ℕ → Type 0
 FileBreaks decls count bytes at =
-    ((length bytes < count) × (at ≡ length bytes)) ⊎ ((count ≤ length bytes) × IsDamagedAt decls None (take count bytes) at)
+    ((length bytes < count) × (at ≡ length bytes))
+    ⊎ ((count ≤ length bytes) × IsDamagedAt decls None (take count bytes) at)
 
 -- the log file of this number breaks at this byte, and those before it are lines
 pub record FilesBreak (decls : List Decl) (p : Savepoint) (bank : ℕ → List ℕ) (n at : ℕ) : Type 0 where
@@ -68,7 +68,8 @@ pub record PagesBreak (snaps : List ℕ) (p : Savepoint) (at : ℕ) : Type 0 whe
   pub catalogues : List Contents
   pub has : HasPages snaps p.count pages
   pub chain : AreCatalogues pages (p.epoch + 1) None p.catalogue catalogues
-  pub first : FirstBad (RootStandsUpTo (newest_epoch catalogues) pages) (RootBreaks (newest_epoch catalogues) pages at) (newest_storages catalogues)
+  pub first : FirstBad (RootStandsUpTo (newest_epoch catalogues) pages) (RootBreaks (newest_epoch catalogues) pages at)
+      (newest_storages catalogues)
 
 -- some catalogues are right, and the next one isn't
 pub record ChainBreaks (snaps : List ℕ) (p : Savepoint) (at : ℕ) : Type 0 where

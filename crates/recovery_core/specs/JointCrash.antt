@@ -23,7 +23,13 @@ pub record Parts (D : Type 0) : Type 0 where
 
 -- those of a vault
 abbrev pub parts_of : {D : Type 0} → Vault D → Parts D
-parts_of vault = record { save = vault.save; snaps = vault.snaps; banks = λ n. disk_in vault (Bank n); ties = vault.ties.items; cuts = vault.cuts.items }
+parts_of vault = record {
+  save = vault.save;
+  snaps = vault.snaps;
+  banks = λ n. disk_in vault (Bank n);
+  ties = vault.ties.items;
+  cuts = vault.cuts.items;
+}
 
 -- a moment of each device's clock
 pub record Moments : Type 0 where
@@ -45,7 +51,8 @@ module _ {D : Type 0} (clock : D → ℕ) (image_at : D → ℕ → List ℕ →
     pub bank_come : (n : ℕ) (bank : D) → parts.banks n ≡ Some bank → at.bank n ≤ clock bank
     pub bank : (n : ℕ) (bank : D) → parts.banks n ≡ Some bank → image_at bank (at.bank n) (found.bank n)
 
-  -- A crash of all devices at once: a moment of each, and an image of each such moment. The moments of different devices
+  -- A crash of all devices at once: a moment of each, and an image of each such moment. The moments of different
+  -- devices
   -- are tied by what was recorded, with the savepoint that the save image names.
   pub record IsJointCrash (parts : Parts D) (at : Moments) (found : Images) : Type 0 where
     pub images : AreImages parts at found
@@ -60,7 +67,8 @@ module _ {D : Type 0} (clock : D → ℕ) (image_at : D → ℕ → List ℕ →
     pub stored : (point : Option Savepoint) → Names found.save point
         → (tie : Tie) → Contains parts.ties tie → tie.sequence ≡ sequence_of point → tie.snaps ≤ at.snaps
     -- past a cut, the store that allowed it had ended
-    pub ended : (n : ℕ) (bank : D) → parts.banks n ≡ Some bank → (began after : ℕ) → HasCut parts.cuts (Bank n) began after
+    pub ended : (n : ℕ) (bank : D) → parts.banks n ≡ Some bank → (began after : ℕ)
+        → HasCut parts.cuts (Bank n) began after
         → began < at.bank n → (tie : Tie) (end : ℕ) → Contains parts.ties tie → tie.sequence ≡ after
         → tie.ended ≡ Some end → end ≤ at.save
 
@@ -72,7 +80,8 @@ module _ {D : Type 0} (clock : D → ℕ) (image_at : D → ℕ → List ℕ →
 
   -- a stop of all devices at this instant is a joint crash, whatever it leaves
   abbrev pub CrashesNow : Parts D → Type 0
-  CrashesNow parts = (at : Moments) (found : Images) → IsNow parts at → AreImages parts at found → IsJointCrash parts at found
+  CrashesNow parts = (at : Moments) (found : Images) → IsNow parts at → AreImages parts at found
+      → IsJointCrash parts at found
 
 -- none of these moments is before those
 pub record IsSince (from at : Moments) : Type 0 where
@@ -81,6 +90,7 @@ pub record IsSince (from at : Moments) : Type 0 where
   pub bank : (n : ℕ) → from.bank n ≤ at.bank n
 
 -- what was a joint crash of moments since these is one still
-abbrev pub KeepsCrashes : {D : Type 0} → (clock : D → ℕ) → (image_at : D → ℕ → List ℕ → Type 0) → Moments → Parts D → Parts D → Type 0
+abbrev pub KeepsCrashes : {D : Type 0} → (clock : D → ℕ) → (image_at : D → ℕ → List ℕ → Type 0) → Moments → Parts D
+    → Parts D → Type 0
 KeepsCrashes clock image_at from old new = (at : Moments) (found : Images) → IsSince from at
     → IsJointCrash clock image_at old at found → IsJointCrash clock image_at new at found

@@ -12,13 +12,15 @@ use Rattle.wire_form.specs.declared.bucket.Entry.{Entry}
 use Rattle.wire_form.specs.declared.savepoint.Savepoint.{Savepoint}
 use Rattle.recovery_core.specs.Images.{counted_of}
 
--- The first so many bytes of a log file are there, and are these whole lines, of these storages, with numbers that rise.
+-- The first so many bytes of a log file are there, and are these whole lines, of these storages, with numbers that
+-- rise.
 pub record IsCountedFile (decls : List Decl) (count : ℕ) (bytes : List ℕ) (lines : List Commit) : Type 0 where
   pub there : count ≤ length bytes
   pub lines_are : AreLinesOf decls None (take count bytes) lines
 
 -- the lines of each of the 16 log files that the savepoint counts
-pub record AreCounted (decls : List Decl) (p : Savepoint) (bank : ℕ → List ℕ) (lines : List (List Commit)) : Type 0 where
+pub record AreCounted (decls : List Decl) (p : Savepoint) (bank : ℕ → List ℕ)
+    (lines : List (List Commit)) : Type 0 where
   pub files : length lines ≡ 16
   pub each : (n : ℕ) → n < 16 → IsCountedFile decls (counted_of (Some p) n) (bank n) (get_or lines n [])
 

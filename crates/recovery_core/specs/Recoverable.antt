@@ -24,9 +24,11 @@ pub record Reading : Type 0 where
   pub catalogues : List Contents
   pub lines : List (List Commit)
 
--- The pages that a savepoint counts are there, and in their grammar: the catalogues, of which none has an epoch above the
+-- The pages that a savepoint counts are there, and in their grammar: the catalogues, of which none has an epoch above
+-- the
 -- saved one, and all pages of the newest snapshot.
-pub record ReadsPages (snaps : List ℕ) (p : Savepoint) (pages : List (List ℕ)) (catalogues : List Contents) : Type 0 where
+pub record ReadsPages (snaps : List ℕ) (p : Savepoint) (pages : List (List ℕ))
+    (catalogues : List Contents) : Type 0 where
   pub has : HasPages snaps p.count pages
   pub chain : AreCatalogues pages (p.epoch + 1) None p.catalogue catalogues
   pub stands : AllByRecursion (RootStandsUpTo (newest_epoch catalogues) pages) (newest_storages catalogues)

@@ -18,7 +18,8 @@ abbrev pub catalogue_of : Option Savepoint → ℕ
 catalogue_of None = 0
 catalogue_of (Some p) = p.catalogue
 
--- What was recovered is what these bytes of the devices stand for: saved epoch and state, with the savepoint, the storages,
+-- What was recovered is what these bytes of the devices stand for: saved epoch and state, with the savepoint, the
+-- storages,
 -- the pages that count, the catalogues, the oldest first, and of each key the last entry that counts.
 pub record Recovers (found : Images) (r : Recovered) : Type 0 where
   pub reading : Reading
@@ -31,7 +32,8 @@ pub record Recovers (found : Images) (r : Recovered) : Type 0 where
   pub catalogues : r.catalogues ≡ reverse (marks_of (catalogue_of reading.point) reading.catalogues)
   pub entries : (key : Key) → get r.entries key ≡ last_of key (counting reading)
 
--- Whatever the devices tell: what is given of the savepoint is what it says, it is in its ranges, and both stores are up.
+-- Whatever the devices tell: what is given of the savepoint is what it says, it is in its ranges, and both stores are
+-- up.
 pub record IsUp (r : Recovered) : Type 0 where
   pub saved : r.saved ≡ option_map saved_of r.save.newest
   pub ranges : IfSome r.saved IsSaved

@@ -7,7 +7,8 @@ use Rattle.log_writer.specs.Save.{Names}
 use Rattle.recovery_core.specs.Images.{Images, count_of, counted_of}
 use Rattle.recovery_core.specs.JointCrash.{Parts}
 
--- The save has one image, all images of the snapshots begin with the pages that it counts, and all images of each log file
+-- The save has one image, all images of the snapshots begin with the pages that it counts, and all images of each log
+-- file
 -- with the bytes that it counts. What lies behind them may be pending, as after a cut that wasn't synced.
 pub record IsResting {D : Type 0} (clock : D → ℕ) (image_at : D → ℕ → List ℕ → Type 0) (parts : Parts D) : Type 0 where
   pub file : List ℕ

@@ -3,7 +3,7 @@ use Rattle.std.specs.Prelude.{◌≡◌, ℕ, ◌/◌, ◌^◌, ◌≤◌, List,
 use Rattle.serial_model.specs.declared.decl.Decl.{Decl}
 use Rattle.wire_form.specs.declared.records.Stored.{Stored}
 use Rattle.snapshot_store.specs.declared.place.Place.{Place}
-use Rattle.snapshot_store.specs.Places.{Found, Format, StandsTo}
+use Rattle.snapshot_store.specs.Places.{Format, StandsTo}
 use Rattle.snapshot_store.specs.Content.{deepest, root_place, format_of, IsPageOf}
 
 -- the epoch that a record's number has in its word

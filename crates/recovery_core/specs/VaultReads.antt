@@ -1,5 +1,5 @@
 -- Calls that only read the devices of a vault, and whose count of faults rose in them.
-use Rattle.std.specs.Prelude.{◌≡◌, ◌<◌, ◌≤◌, ℕ, List, Option, Some, None, IsSome, length}
+use Rattle.std.specs.Prelude.{◌≡◌, ℕ, List, Option, Some, None, IsSome, length}
 use Rattle.std.proofs.Common.{inl, inr, refl, sym, ap, ◌∙◌, subst, arith}
 use Rattle.std.proofs.lemmas.Bool.{cases_lt}
 use Rattle.std.proofs.lemmas.Option.{same_Some}
@@ -20,7 +20,8 @@ use Rattle.recovery_core.specs.JointCrash.{parts_of}
 use Rattle.recovery_core.specs.Resting.{AreTold}
 
 -- each device was only read, and no store and no cut was recorded
-pub record VaultOnlyReads {D : Type 0} (tells : D → Option (List ℕ)) (clock : D → ℕ) (image_at : D → ℕ → List ℕ → Type 0)
+pub record VaultOnlyReads {D : Type 0} (tells : D → Option (List ℕ)) (clock : D → ℕ)
+    (image_at : D → ℕ → List ℕ → Type 0)
     (faults : D → ℕ) (old new : Vault D) : Type 0 where
   pub each : (device : Device) (was : D) → disk_in old device ≡ Some was
       → (now : D) × (disk_in new device ≡ Some now) × OnlyReads tells clock image_at faults was now
@@ -32,11 +33,13 @@ pub record VaultOnlyReads {D : Type 0} (tells : D → Option (List ℕ)) (clock 
 -- the vault has this device, and its count of faults rose
 abbrev pub RoseIn : {D : Type 0} → (D → ℕ) → Device → Vault D → Vault D → Type 0
 RoseIn {D} faults device old new =
-    (was : D) × (now : D) × (disk_in old device ≡ Some was) × (disk_in new device ≡ Some now) × Rose (faults was) (faults now)
+    (was : D) × (now : D) × (disk_in old device ≡ Some was) × (disk_in new device ≡ Some now)
+    × Rose (faults was) (faults now)
 
 -- the count of faults of each device stands still
 abbrev pub AreQuiet : {D : Type 0} → (D → ℕ) → Vault D → Vault D → Type 0
-AreQuiet {D} faults old new = (device : Device) (was now : D) → disk_in old device ≡ Some was → disk_in new device ≡ Some now
+AreQuiet {D} faults old new =
+    (device : Device) (was now : D) → disk_in old device ≡ Some was → disk_in new device ≡ Some now
     → faults now ≡ faults was
 
 -- something that is there is one thing
@@ -45,7 +48,8 @@ some_of None is = absurd (cc is)
 some_of (Some x) is = (x, refl)
 
 -- a bank of a whole vault is one of each other whole vault
-bank_there : {D : Type 0} {old new : Vault D} → IsWhole old → IsWhole new → (n : ℕ) (bank : D) → disk_in new (Bank n) ≡ Some bank
+bank_there : {D : Type 0} {old new : Vault D} → IsWhole old → IsWhole new → (n : ℕ) (bank : D) → disk_in new (Bank n)
+    ≡ Some bank
     → (was : D) × (disk_in old (Bank n) ≡ Some was)
 bank_there {old = old} {new = new} whole still n bank there =
     elim (cases_lt n 16) [
@@ -53,7 +57,8 @@ bank_there {old = old} {new = new} whole still n bank there =
       | inr past ↦ absurd (cc (there, whole_ends still n past))
     ]
 
-module _ {D : Type 0} {tells : D → Option (List ℕ)} {clock : D → ℕ} {image_at : D → ℕ → List ℕ → Type 0} {faults : D → ℕ} where
+module _ {D : Type 0} {tells : D → Option (List ℕ)} {clock : D → ℕ} {image_at : D → ℕ → List ℕ → Type 0} {faults : D
+    → ℕ} where
   -- no call of a device
   pub reads_none : (disk : D) → OnlyReads tells clock image_at faults disk disk
   reads_none disk = record {
@@ -96,7 +101,8 @@ module _ {D : Type 0} {tells : D → Option (List ℕ)} {clock : D → ℕ} {ima
   whole_read reads whole = record { even = reads.even ∙ whole.even; odd = reads.odd ∙ whole.odd }
 
   -- what each device tells stays
-  pub told_read : {old new : Vault D} {found : Images} → VaultOnlyReads tells clock image_at faults old new → IsWhole old
+  pub told_read : {old new : Vault D} {found : Images} → VaultOnlyReads tells clock image_at faults old new
+      → IsWhole old
       → AreTold tells (parts_of old) found → AreTold tells (parts_of new) found
   told_read {old = old} {new = new} {found = found} reads whole told =
       let save = reads.each Save old.save refl in
@@ -111,7 +117,8 @@ module _ {D : Type 0} {tells : D → Option (List ℕ)} {clock : D → ℕ} {ima
       }
 
   -- a count that rose in later calls rose in all
-  pub rose_later : {old mid : Vault D} (new : Vault D) (device : Device) → VaultOnlyReads tells clock image_at faults old mid
+  pub rose_later : {old mid : Vault D} (new : Vault D) (device : Device)
+      → VaultOnlyReads tells clock image_at faults old mid
       → IsSome (disk_in old device) → RoseIn faults device mid new → RoseIn faults device old new
   rose_later {old = old} new device reads there rose =
       let was = some_of (disk_in old device) there in
@@ -120,14 +127,16 @@ module _ {D : Type 0} {tells : D → Option (List ℕ)} {clock : D → ℕ} {ima
       (was.0, rose.1, was.1, rose.3, omega (arith, mid.2.later, ap faults same, rose.4))
 
   -- a device that is there was there before
-  was_there : {old mid : Vault D} → VaultOnlyReads tells clock image_at faults old mid → IsWhole old → (device : Device) (now : D)
+  was_there : {old mid : Vault D} → VaultOnlyReads tells clock image_at faults old mid → IsWhole old
+      → (device : Device) (now : D)
       → disk_in mid device ≡ Some now → (was : D) × (disk_in old device ≡ Some was)
   was_there {old = old} reads whole Save now there = (old.save, refl)
   was_there {old = old} reads whole Snaps now there = (old.snaps, refl)
   was_there {old = old} reads whole (Bank n) now there = bank_there whole (whole_read reads whole) n now there
 
   -- so a count that rose in later calls of a whole vault rose in all
-  pub rose_then : {old mid : Vault D} (new : Vault D) (device : Device) → VaultOnlyReads tells clock image_at faults old mid → IsWhole old
+  pub rose_then : {old mid : Vault D} (new : Vault D) (device : Device)
+      → VaultOnlyReads tells clock image_at faults old mid → IsWhole old
       → RoseIn faults device mid new → RoseIn faults device old new
   rose_then {old = old} {mid = mid} new device reads whole rose =
       let was = was_there reads whole device rose.0 rose.2 in
@@ -143,7 +152,8 @@ module _ {D : Type 0} {tells : D → Option (List ℕ)} {clock : D → ℕ} {ima
       holds bytes (sym (ap tells (same_Some _ _ now.1) ∙ now.2.told) ∙ told)
 
   -- and so does the newest savepoint
-  pub stored_read : {old new : Vault D} (newest : Option Savepoint) → VaultOnlyReads tells clock image_at faults old new
+  pub stored_read : {old new : Vault D} (newest : Option Savepoint)
+      → VaultOnlyReads tells clock image_at faults old new
       → IsStored tells clock image_at old.save newest → IsStored tells clock image_at new.save newest
   stored_read {old = old} {new = new} newest reads stored bytes told =
       let now = reads.each Save old.save refl in
@@ -159,21 +169,26 @@ module _ {D : Type 0} {tells : D → Option (List ℕ)} {clock : D → ℕ} {ima
       }
 
   -- counts that stood still in two calls stood still in both together
-  pub quiet_then : {old mid : Vault D} (new : Vault D) → VaultOnlyReads tells clock image_at faults old mid → AreQuiet faults old mid → AreQuiet faults mid new → AreQuiet faults old new
+  pub quiet_then : {old mid : Vault D} (new : Vault D) → VaultOnlyReads tells clock image_at faults old mid
+      → AreQuiet faults old mid → AreQuiet faults mid new → AreQuiet faults old new
   quiet_then new reads first next device was now before after =
       let mid = reads.each device was before in
       next device mid.0 now mid.1 after ∙ first device was mid.0 before mid.1
 
   -- the save was read, and nothing else was done
-  save_each : (old new : Vault D) → OnlyReads tells clock image_at faults old.save new.save → new.snaps ≡ old.snaps → new.even ≡ old.even
+  save_each : (old new : Vault D) → OnlyReads tells clock image_at faults old.save new.save → new.snaps ≡ old.snaps
+      → new.even ≡ old.even
       → new.odd ≡ old.odd → (device : Device) (was : D) → disk_in old device ≡ Some was
       → (now : D) × (disk_in new device ≡ Some now) × OnlyReads tells clock image_at faults was now
-  save_each old new reads snaps even odd Save was there = (new.save, refl, subst (λ d. OnlyReads tells clock image_at faults d new.save) (same_Some _ _ there) reads)
+  save_each old new reads snaps even odd Save was there =
+      (new.save, refl, subst (λ d. OnlyReads tells clock image_at faults d new.save) (same_Some _ _ there) reads)
   save_each old new reads snaps even odd Snaps was there = (was, ap Some snaps ∙ there, reads_none was)
   save_each old new reads snaps even odd (Bank n) was there = (was, rw (even, odd) there, reads_none was)
 
-  pub save_read : {old new : Vault D} → OnlyReads tells clock image_at faults old.save new.save → new.snaps ≡ old.snaps → new.even ≡ old.even
-      → new.odd ≡ old.odd → new.ties ≡ old.ties → new.cuts ≡ old.cuts → VaultOnlyReads tells clock image_at faults old new
+  pub save_read : {old new : Vault D} → OnlyReads tells clock image_at faults old.save new.save → new.snaps ≡ old.snaps
+      → new.even ≡ old.even
+      → new.odd ≡ old.odd → new.ties ≡ old.ties → new.cuts ≡ old.cuts
+      → VaultOnlyReads tells clock image_at faults old new
   save_read {old = old} {new = new} reads snaps even odd ties cuts = record {
     each = save_each old new reads snaps even odd;
     even = ap (λ l. length l.items) even;
@@ -183,15 +198,19 @@ module _ {D : Type 0} {tells : D → Option (List ℕ)} {clock : D → ℕ} {ima
   }
 
   -- the snapshots were
-  snaps_each : (old new : Vault D) → OnlyReads tells clock image_at faults old.snaps new.snaps → new.save ≡ old.save → new.even ≡ old.even
+  snaps_each : (old new : Vault D) → OnlyReads tells clock image_at faults old.snaps new.snaps → new.save ≡ old.save
+      → new.even ≡ old.even
       → new.odd ≡ old.odd → (device : Device) (was : D) → disk_in old device ≡ Some was
       → (now : D) × (disk_in new device ≡ Some now) × OnlyReads tells clock image_at faults was now
-  snaps_each old new reads save even odd Snaps was there = (new.snaps, refl, subst (λ d. OnlyReads tells clock image_at faults d new.snaps) (same_Some _ _ there) reads)
+  snaps_each old new reads save even odd Snaps was there =
+      (new.snaps, refl, subst (λ d. OnlyReads tells clock image_at faults d new.snaps) (same_Some _ _ there) reads)
   snaps_each old new reads save even odd Save was there = (was, ap Some save ∙ there, reads_none was)
   snaps_each old new reads save even odd (Bank n) was there = (was, rw (even, odd) there, reads_none was)
 
-  pub snaps_read : {old new : Vault D} → OnlyReads tells clock image_at faults old.snaps new.snaps → new.save ≡ old.save → new.even ≡ old.even
-      → new.odd ≡ old.odd → new.ties ≡ old.ties → new.cuts ≡ old.cuts → VaultOnlyReads tells clock image_at faults old new
+  pub snaps_read : {old new : Vault D} → OnlyReads tells clock image_at faults old.snaps new.snaps → new.save
+      ≡ old.save → new.even ≡ old.even
+      → new.odd ≡ old.odd → new.ties ≡ old.ties → new.cuts ≡ old.cuts
+      → VaultOnlyReads tells clock image_at faults old new
   snaps_read {old = old} {new = new} reads save even odd ties cuts = record {
     each = snaps_each old new reads save even odd;
     even = ap (λ l. length l.items) even;

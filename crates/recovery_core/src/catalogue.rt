@@ -46,7 +46,8 @@ fn storages_of(alloc: Global, number: u32, words: &[u64; 64]) -> Result<Sequence
 // The epoch of a catalogue and the page number of the one before it, in 32 bits each.
 fn head_of(number: u32, words: &[u64; 64]) -> (u32, u32)
     requires { HasKind CatalogueKind number words.now }
-    ensures { (contents : Contents) → words.now ≡ catalogue_words contents → result ≡ (contents.epoch, contents.previous) }
+    ensures { (contents : Contents) → words.now ≡ catalogue_words contents
+        → result ≡ (contents.epoch, contents.previous) }
 {
     let (epoch, previous) = epoch_and_previous(words);
     (epoch as u32, previous as u32)
@@ -55,8 +56,7 @@ fn head_of(number: u32, words: &[u64; 64]) -> (u32, u32)
 /// Words in memory have 64 bits.
 pub(crate) fn words_fit(words: &[u64])
     ensures { AllByRecursion (λ w. w < 2 ^ 64) words.now }
-{
-}
+{}
 
 /// What a page says, where it is a catalogue.
 pub(crate) fn read_catalogue(alloc: Global, page: &Page) -> Result<Option<Catalogue>, Memory>

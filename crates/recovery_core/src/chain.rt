@@ -142,10 +142,12 @@ pub(crate) fn read_before(
 ) -> Result<(), OrMemory<u64>>
     requires there { newest.now.previous ≤ length store.now.pages }
     ensures chain { OnOk result ((older : List Contents)
-        × AreCatalogues (words_of store.now.pages) newest.now.epoch (Some (decls_of newest.now)) newest.now.previous older
+        × AreCatalogues (words_of store.now.pages) newest.now.epoch (Some (decls_of newest.now))
+        newest.now.previous older
         × (marks.new.items ≡ marks.old.items ++ marks_of newest.now.previous older)) }
     ensures breaks { (at : ℕ) → result ≡ Err (OrMemory.Fault at) → (front : List Contents)
-        × CataloguesBreak (words_of store.now.pages) newest.now.epoch (Some (decls_of newest.now)) newest.now.previous front at }
+        × CataloguesBreak (words_of store.now.pages) newest.now.epoch (Some (decls_of newest.now))
+        newest.now.previous front at }
 {
     let storages = newest.storages.as_slice();
     let mut limit = newest.epoch;
@@ -154,7 +156,10 @@ pub(crate) fn read_before(
         let Some((epoch, previous)) = read_older(alloc, store, number, limit, storages)? else {
             return Err(OrMemory::Fault(first_byte(number)));
         };
-        marks.push(SnapshotMark { epoch, page: number })?;
+        marks.push(SnapshotMark {
+            epoch,
+            page: number,
+        })?;
         limit = epoch;
         number = previous;
     }

@@ -2,8 +2,8 @@
 //!
 //! What the bytes of all devices stand for is told by their grammars alone (`IsRecoverable`): the saved epoch,
 //! and the newest snapshot under the last log entries that count. Where they are out of their grammars, the
-//! first byte that is told of it is `IsDamagedIn`. They say one thing at most (`one_reading`), and never
-//! something and damage (`reading_stands`), which is at one byte of one device (`one_damaged`).
+//! first byte that is told of it is `IsDamagedIn`. They say one thing at most, or are damaged at one byte of
+//! one device, and never both ([`one_recoverable`]).
 //!
 //! Promises, over devices that tell their bytes:
 //! - [`recover`] gives what they stand for, with the storages, the snapshots and the entries that count
@@ -31,6 +31,7 @@ mod gather_array;
 mod gather_page;
 mod gather_tree;
 mod last_entries;
+mod laws;
 mod load_pages;
 mod load_save;
 mod recovered;
@@ -40,5 +41,6 @@ mod snapshot;
 pub use chain::SnapshotMark;
 pub use fault::RecoverFault;
 pub use last_entries::LastEntries;
+pub use laws::one_recoverable;
 pub use recovered::Recovered;
 pub use recovery::recover;

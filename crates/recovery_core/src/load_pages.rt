@@ -37,7 +37,8 @@ pub(crate) fn load_pages<D: Disk>(
     ensures sound { IfOk result (λ store. store.sound ≡ true) }
     ensures holds { IfOk result (λ store. Holds D.tells vault.new.snaps store.pages) }
     ensures damaged { (device : Device) (at : ℕ) → result ≡ Err (OrMemory.Fault (RecoverFault.Damaged device at))
-        → (device ≡ Device.Snaps) × IfTold (D.tells vault.old.snaps) (λ file. (length file < 512 * count) × (at ≡ length file)) }
+        → (device ≡ Device.Snaps) × IfTold (D.tells vault.old.snaps) (λ file.
+        (length file < 512 * count) × (at ≡ length file)) }
     ensures device { (device : Device) → result ≡ Err (OrMemory.Fault (RecoverFault.Device device))
         → RoseIn D.faults device vault.old vault.new }
     ensures quiet { OnOk result (AreQuiet D.faults vault.old vault.new) }

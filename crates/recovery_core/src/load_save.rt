@@ -14,7 +14,8 @@ use outside::{Device, Disk, Vault};
 pub(crate) fn load_save<D: Disk>(
     vault: &mut Vault<D>,
 ) -> Result<(Save, Option<Saved>), OrMemory<RecoverFault>>
-    ensures found { IfOk result (λ found. Finds D.tells D.clock D.image_at vault.old.save vault.new.save found.0 found.1) }
+    ensures found { IfOk result (λ found.
+        Finds D.tells D.clock D.image_at vault.old.save vault.new.save found.0 found.1) }
     ensures damaged { (device : Device) (at : ℕ) → result ≡ Err (OrMemory.Fault (RecoverFault.Damaged device at))
         → (device ≡ Device.Save) × IfTold (D.tells vault.old.save) (λ file. IsDamaged file at) }
     ensures device { (device : Device) → result ≡ Err (OrMemory.Fault (RecoverFault.Device device))

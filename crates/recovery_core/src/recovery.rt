@@ -120,7 +120,14 @@ fn recover_saved<D: Disk>(
 {
     let mut snapshot = load_snapshot(alloc, vault, &saved)?;
     let decls = snapshot.decls.as_slice();
-    let entries = read_entries(alloc, vault, &saved.lengths, decls, snapshot.epoch, saved.epoch)?;
+    let entries = read_entries(
+        alloc,
+        vault,
+        &saved.lengths,
+        decls,
+        snapshot.epoch,
+        saved.epoch,
+    )?;
     entries.put_over(&mut snapshot.state)?;
     Ok(Recovered {
         save,
@@ -142,7 +149,8 @@ pub fn recover<D: Disk>(
     vault: &mut Vault<D>,
 ) -> Result<Recovered, OrMemory<RecoverFault>>
     requires whole { IsWhole vault.old }
-    ensures recovers { IfOk result (λ r. (found : Images) → AreTold D.tells (parts_of vault.old) found → Recovers found r) }
+    ensures recovers { IfOk result (λ r. (found : Images) → AreTold D.tells (parts_of vault.old) found
+        → Recovers found r) }
     ensures up { IfOk result IsUp }
     ensures stored { IfOk result (λ r. IfTold (D.tells vault.old.save) (Only D.clock D.image_at vault.old.save)
         → IsStored D.tells D.clock D.image_at vault.new.save r.save.newest) }

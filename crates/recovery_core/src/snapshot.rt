@@ -93,7 +93,8 @@ pub(crate) fn read_snapshot(
     requires epoch { epoch < last_epoch }
     ensures snapshot { IfOk result (λ s. (catalogues : List Contents) × IsSnapshotOf epoch number catalogues s) }
     ensures store { IfOk result (λ s. s.store ≡ store) }
-    ensures breaks { (at : ℕ) → result ≡ Err (OrMemory.Fault at) → SnapshotBreaks epoch number (words_of store.pages) at }
+    ensures breaks { (at : ℕ) → result ≡ Err (OrMemory.Fault at)
+        → SnapshotBreaks epoch number (words_of store.pages) at }
 {
     let Chain { newest, marks } = read_chain(alloc, &store, epoch, number)?;
     let storages = newest.storages.as_slice();

@@ -8,7 +8,8 @@ use Rattle.recovery_core.proofs.chain.read_before.Given as goal
 abbrev pub invariant-loop-number : goal.invariant-loop-number
 invariant-loop-number l = record {
   there : l.number ≤ length l.store.pages;
-  read : HaveRead (words_of l.store.pages) (next_of l.newest) (next_at l.limit (map stored_decl l.newest.storages) l.number) l.fn.marks.items l.marks.items;
+  read : HaveRead (words_of l.store.pages) (next_of l.newest)
+      (next_at l.limit (map stored_decl l.newest.storages) l.number) l.fn.marks.items l.marks.items;
 }
 
 abbrev pub decreases-loop-number : goal.decreases-loop-number

@@ -1,6 +1,5 @@
 use Rattle.std.proofs.Common.{◌≡◌, ◌<◌, Err, get_or, sym, ap, subst, ◌∙◌, arith}
 use Rattle.std.proofs.lemmas.Option.{same_Some}
-use Rattle.outside.specs.declared.vault.Device.TheVariants.{Bank}
 use Rattle.recovery_core.specs.EntriesLast.{TakesIn, all_entries}
 use Rattle.recovery_core.specs.VaultReads.{RoseIn, vault_reads_none, vault_reads_then, quiet_then}
 use Rattle.recovery_core.proofs.EntriesDevices.{maps_reads, maps_damaged, maps_rose, maps_found, maps_quiet}

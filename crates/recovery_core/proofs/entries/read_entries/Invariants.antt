@@ -1,5 +1,4 @@
 use Rattle.std.proofs.Common.{◌≡◌}
-use Rattle.outside.specs.declared.vault.Vault.{Vault}
 use Rattle.recovery_core.specs.Images.{Images}
 use Rattle.recovery_core.specs.JointCrash.{parts_of}
 use Rattle.recovery_core.specs.Resting.{AreTold}

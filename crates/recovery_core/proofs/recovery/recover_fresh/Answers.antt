@@ -1,4 +1,4 @@
-use Rattle.std.proofs.Common.{◌≡◌, refl, arith}
+use Rattle.std.proofs.Common.{refl, arith}
 use Rattle.std.proofs.lemmas.Result.{err_from_is_err_and}
 use Rattle.recovery_core.proofs.Recovering.{fresh_recovers}
 use Rattle.recovery_core.proofs.recovery.recover_fresh.Goals as goal
@@ -12,4 +12,5 @@ returns-in_err-store-clause-damaged g c device at same file told =
 
 pub returns-clause-recovers : goal.returns-clause-recovers
 returns-clause-recovers g c found names =
-    fresh_recovers found _ names c.requires.fresh refl c.new-2.ensures c.new.ensures c.in_ok-store.ensures.count c.new-3.ensures c.new-4.ensures
+    fresh_recovers found _ names c.requires.fresh refl c.new-2.ensures c.new.ensures c.in_ok-store.ensures.count
+    c.new-3.ensures c.new-4.ensures

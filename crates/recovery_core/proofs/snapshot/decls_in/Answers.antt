@@ -12,4 +12,5 @@ loop-i-preserved c =
 pub returns : goal.returns
 returns c =
     c.loop-i.invariant
-    ∙ take_all c.loop-i.i (map stored_decl c.args.storages.now) (omega (arith, length-map c.args.storages.now stored_decl, c.loop-i-test.false))
+    ∙ take_all c.loop-i.i (map stored_decl c.args.storages.now)
+    (omega (arith, length-map c.args.storages.now stored_decl, c.loop-i-test.false))

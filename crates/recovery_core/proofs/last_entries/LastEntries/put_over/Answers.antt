@@ -26,7 +26,8 @@ loop-key-preserved c =
     let next : c.loop-key.key-iterator ≡ (key, e) ∷ c.next.new.self = c.in-Some.ensures.steps in
     put_more c.args.self.now c.next.new.self key e c.args.state.now c.loop-key.state c.put_or_remove.new.state
     (subst (λ left.
-    PutSoFar c.args.self.now left c.args.state.now c.loop-key.state) next c.loop-key.invariant) c.in_ok-put_or_remove.ensures
+    PutSoFar c.args.self.now left c.args.state.now c.loop-key.state) next c.loop-key.invariant)
+    c.in_ok-put_or_remove.ensures
 
 pub returns : goal.returns
 returns c key =

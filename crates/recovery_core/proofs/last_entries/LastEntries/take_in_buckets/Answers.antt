@@ -1,8 +1,7 @@
-use Rattle.std.proofs.Common.{◌≡◌, ◌+◌, ◌<◌, ◌∷◌, [], ◌++◌, List, get_or, length, append-nil, sym, ap, ◌∙◌, subst, take, take_all, arith}
+use Rattle.std.proofs.Common.{◌≡◌, ◌+◌, ◌<◌, ◌∷◌, [], ◌++◌, List, length, append-nil, sym, ap, ◌∙◌, subst, take, take_all, arith}
 use Rattle.std.proofs.lemmas.List.{take_more}
 use Rattle.std.proofs.lemmas.Grind.{flat_map-append}
 use Rattle.wire_form.specs.declared.bucket.Bucket.{Bucket}
-use Rattle.wire_form.specs.declared.bucket.Entry.{Entry}
 use Rattle.recovery_core.specs.EntriesLast.{TakesIn, entries_in, all_entries}
 use Rattle.recovery_core.proofs.EntriesGreatest.{takes_none, takes_then}
 use Rattle.recovery_core.proofs.last_entries.LastEntries.take_in_buckets.Goals as goal

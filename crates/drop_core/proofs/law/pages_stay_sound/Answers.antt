@@ -1,0 +1,23 @@
+-- The theorem, from its lemmas.
+use Rattle.drop_core.proofs.Aways.{taken_away}
+use Rattle.drop_core.proofs.Holds.{held_not_given}
+use Rattle.drop_core.proofs.Openings.{starts_sound}
+use Rattle.drop_core.proofs.Runs.{keeps_act, run_sound, enters}
+use Rattle.drop_core.proofs.Stays.{act_leaves}
+use Rattle.drop_core.proofs.Swings.{installs_up, swings_down}
+use Rattle.drop_core.proofs.Ways.{way_home}
+use Rattle.drop_core.proofs.law.pages_stay_sound.Goals as goal
+
+pub returns : goal.returns
+returns c = record {
+  each_act = keeps_act;
+  each_act_leaves = act_leaves;
+  starts = starts_sound;
+  stays = λ core homes events sound. run_sound events core homes sound;
+  held = λ homes core q s g sound at holds. held_not_given core.table core.grips q s g sound.table.holds_counted at holds;
+  enters = enters;
+  ways = λ homes core x k sound live inside. way_home homes core.table core.grips sound.table sound.ranked x k live inside;
+  install = λ homes d grips p s g x can sound. installs_up homes d grips sound p s g x can;
+  away = λ homes d grips p g act s can sound is. taken_away homes d grips sound p g act s can is;
+  swing = λ homes d grips p n s g x can leads sound. swings_down homes d grips sound p g x n can s leads;
+}

@@ -1,0 +1,16 @@
+-- What was found is what is looked up.
+use Rattle.std.proofs.Common.{◌∙◌, sym}
+use Rattle.std.specs.Prelude.{◌==◌}
+use Rattle.drop_core.specs.Table.{fresh_slot}
+use Rattle.drop_core.proofs.Lookups.{looked-up, looked-none, found_in}
+use Rattle.drop_core.proofs.table.Table.slot.Goals as goal
+
+pub returns-in-Some : goal.returns-in-Some
+returns-in-Some c =
+    looked-up (λ a b. a == b) fresh_slot c.args.self.now.slots c.args.slot c.in-Some.entry
+    (found_in (λ e. e.0 == c.args.slot) c.as_slice.ensures (sym c.find_slot.ensures ∙ c.in-Some.is))
+
+pub returns-in-None : goal.returns-in-None
+returns-in-None c =
+    looked-none (λ a b. a == b) fresh_slot c.args.self.now.slots c.args.slot
+    (found_in (λ e. e.0 == c.args.slot) c.as_slice.ensures (sym c.find_slot.ensures ∙ c.in-None.is))

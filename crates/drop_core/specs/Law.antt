@@ -1,0 +1,102 @@
+-- What holds under every list of events.
+use Rattle.std.specs.Prelude.{◌≡◌, ◌⊎◌, ℕ, ◌+◌, ◌≤◌, true, false, List, length, Some, slice_get, slice_set}
+use Rattle.serial_model.specs.declared.key.Key.{Key}
+use Rattle.homes.specs.declared.places.At.{At}
+use Rattle.homes.specs.declared.places.Span.{Span}
+use Rattle.homes.specs.declared.places.Home.{Home}
+use Rattle.homes.specs.Homes.{has_key, in_span, moved}
+use Rattle.drop_core.specs.declared.table.Led.TheVariants.{Away}
+use Rattle.drop_core.specs.declared.table.SnapPage.{SnapPage}
+use Rattle.drop_core.specs.declared.table.Table.{Table}
+use Rattle.drop_core.specs.declared.grip.Grip.{Grip}
+use Rattle.drop_core.specs.declared.event.Act.{Act}
+use Rattle.drop_core.specs.declared.event.Act.TheVariants.{Install, Swing}
+use Rattle.drop_core.specs.declared.event.Event.{Event}
+use Rattle.homes.specs.declared.places.At.TheVariants.{Root}
+use Rattle.drop_core.specs.Table.{slot_of, page_of, pointer_of, has_slot, at_index, snap_of, snap_home, leaf_home, is_never, is_live}
+use Rattle.drop_core.specs.Event.{DropState, is_usable, is_allowed, effect, moves, leaf_keys, keys_in, run, run_homes, most_passes}
+use Rattle.drop_core.specs.Sound.{span_at, IsSoundTable, IsSoundPages, IsSound}
+use Rattle.drop_core.specs.Opening.{CanOpen, opening_state, opening_homes}
+use Rattle.drop_core.specs.Way.{way}
+
+-- each act that is allowed keeps the pages sound, with the homes after its moves
+abbrev pub EachActKeeps : Type 0
+EachActKeeps = (homes : Key → Home) (d : Table) (grips : List Grip) (p : ℕ) (g : Grip) (act : Act)
+    → slice_get grips p ≡ Some g → is_allowed p d g act ≡ true → IsSoundPages homes d grips
+    → IsSoundPages (moved (moves d act) homes) (effect p d g act).table (slice_set grips p (effect p d g act).grip)
+
+-- each machine starts sound
+abbrev pub StartsSound : Type 0
+StartsSound = (snaps : List (ℕ × SnapPage)) (published : ℕ) (roots : List (Span × ℕ)) (room seats : ℕ)
+    → CanOpen snaps published roots room
+    → IsSound (opening_homes snaps published roots room) (opening_state snaps published roots room seats)
+
+-- every list of events keeps it so
+abbrev pub StaysSound : Type 0
+StaysSound = (c : DropState) (homes : Key → Home) (events : List Event)
+    → IsSound homes c → IsSound (run_homes events c homes) (run events c)
+
+-- a slot that some seat holds is not given, whether its page was evicted or never installed
+abbrev pub HeldIsNotGiven : Type 0
+HeldIsNotGiven = (homes : Key → Home) (c : DropState) (q s : ℕ) (g : Grip)
+    → IsSound homes c → slice_get c.grips q ≡ Some g → has_slot g.holds s ≡ true
+    → is_usable (slot_of c.table s) ≡ false
+
+-- a seat can hold any slot that it does not hold, where there are no more seats than a count has room for
+abbrev pub Enters : Type 0
+Enters = (homes : Key → Home) (c : DropState) (p s : ℕ) (g : Grip)
+    → IsSound homes c → slice_get c.grips p ≡ Some g → has_slot g.holds s ≡ false → length c.grips ≤ most_passes
+    → (slot_of c.table s).passes + 1 ≤ most_passes
+
+-- the way from a live pointer, as from a root, ends at the key's home
+abbrev pub WaysLeadHome : Type 0
+WaysLeadHome = (homes : Key → Home) (c : DropState) (x : At) (k : Key) (sound : IsSound homes c)
+    → is_live c.table x ≡ true → in_span (pointer_of c.table x).span k ≡ true
+    → way (sound.ranked.top + 1) c.table x k ≡ Some (homes k)
+
+-- a key that an install moves was where the pointer's snapshot page has it
+abbrev pub InstallsMoveUp : Type 0
+InstallsMoveUp = (homes : Key → Home) (d : Table) (grips : List Grip) (p s : ℕ) (g : Grip) (x : At)
+    → is_allowed p d g (Install x s) ≡ true → IsSoundTable homes d grips
+    → (k : Key) → has_key (leaf_keys (page_of d s)) k ≡ true → homes k ≡ snap_home d (pointer_of d x).page k
+
+-- a key that a swing moves was in the page of the pointer's slot
+abbrev pub SwingsMoveDown : Type 0
+SwingsMoveDown = (homes : Key → Home) (d : Table) (grips : List Grip) (p n s : ℕ) (g : Grip) (x : At)
+    → is_allowed p d g (Swing x n) ≡ true → (pointer_of d x).slot ≡ Some s → IsSoundTable homes d grips
+    → (k : Key) → has_key (keys_in d (Some s)) k ≡ true → homes k ≡ leaf_home s 0 (keys_in d (Some s)) k
+
+-- What an act leaves as it was of a slot's page: its layout, and the keys that its pointers are over; and that
+-- something has led to the slot since it was given.
+pub record LeavesPage (old new : Table) (s : ℕ) : Type 0 where
+  pub page : page_of new s ≡ page_of old s
+  pub spans : (j : ℕ) → span_at new (at_index s j) ≡ span_at old (at_index s j)
+  pub known : is_never (slot_of new s).led ≡ false
+
+-- An act of one seat leaves the page of each slot that any seat holds, once something has led to it; it leaves the
+-- keys that roots are over, and published snapshot pages with the homes that they give.
+pub record Leaves (grips : List Grip) (old new : Table) : Type 0 where
+  pub pages : (q s : ℕ) (h : Grip) → slice_get grips q ≡ Some h → has_slot h.holds s ≡ true
+      → is_never (slot_of old s).led ≡ false → LeavesPage old new s
+  pub roots : (r : ℕ) → span_at new (Root r) ≡ span_at old (Root r)
+  pub snaps : (n : ℕ) → n ≤ old.published → snap_of new n ≡ snap_of old n
+  pub homes : (n : ℕ) (k : Key) → n ≤ old.published → snap_home new n k ≡ snap_home old n k
+  pub published : old.published ≤ new.published
+
+-- each act that is allowed leaves alone what others hold, and what is published
+abbrev pub EachActLeaves : Type 0
+EachActLeaves = (homes : Key → Home) (d : Table) (grips : List Grip) (p : ℕ) (g : Grip) (act : Act)
+    → slice_get grips p ≡ Some g → is_allowed p d g act ≡ true → IsSoundTable homes d grips
+    → Leaves grips d (effect p d g act).table
+
+-- The slot was so before the act, with the same page; or the act is the swing that took away what led to it.
+abbrev pub WasAway : Table → Act → ℕ → Type 0
+WasAway old act s =
+    ((slot_of old s).led ≡ Away)
+    ⊎ ((x : At) × (n : ℕ) × (act ≡ Swing x n) × ((pointer_of old x).slot ≡ Some s))
+
+-- what led to a slot is taken away by a swing alone, and its page stays as it is laid out
+abbrev pub SwingsTakeAway : Type 0
+SwingsTakeAway = (homes : Key → Home) (d : Table) (grips : List Grip) (p : ℕ) (g : Grip) (act : Act) (s : ℕ)
+    → is_allowed p d g act ≡ true → IsSoundTable homes d grips → (slot_of (effect p d g act).table s).led ≡ Away
+    → (page_of (effect p d g act).table s ≡ page_of d s) × WasAway d act s

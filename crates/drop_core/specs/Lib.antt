@@ -1,0 +1,7 @@
+pub mod Table
+pub mod Event
+pub mod Opening
+pub mod Sound
+pub mod Way
+pub mod Law
+pub mod HomeLaws

@@ -1,0 +1,35 @@
+//! Pages in memory over snapshot pages, as a pure machine: which slot may be given, where a pointer may lead, and
+//! where each key's record stands after it.
+//!
+//! Promises: under every list of events, of any number of seats, each key has one home, to which the pointers lead
+//! from its storage's root; live pointers lead to published slots, each slot from one place; and no slot is given
+//! while a seat holds it (`pages_stay_sound`). `DropCore::step` follows the same condition and effect that the
+//! theorem speaks of, and answers the moves of keys that the event is: it refuses exactly where the condition
+//! fails, wants memory only where the act is allowed and takes some, and after either nothing is changed (`event`).
+//! Invariants: the sound state (`IsSound`): `one_home_each`, `holds_counted`, `snapshots_fixed`. It speaks of the
+//! homes of keys, which the machine of commits keeps; what stands there and who has it locked is not known here.
+//! Terms: *slot*, a place for a page in memory; *live*, led to from a root; *grip*, what one seat has of the pages;
+//! a *snapshot page* never changes, once it is published.
+//! Layout: `Table` says what there is, `Event` what may happen, `Sound` what holds and `Law` the theorem, all in
+//! specs/; proofs/ has a file for each kind of act, and `Runs`, the induction over lists.
+//! Design: docs/PAGES.md.
+#![tactic(auto)]
+
+mod acts;
+mod event;
+mod grip;
+mod law;
+mod machine;
+mod queries;
+mod shapes;
+mod stands;
+mod swaps;
+mod table;
+#[cfg(test)]
+mod tests;
+
+pub use event::{Act, Event, Refused};
+pub use grip::Grip;
+pub use law::pages_stay_sound;
+pub use machine::{DropCore, apply};
+pub use table::{Led, Page, Pointer, Slot, SlotState, SnapPage, Table};

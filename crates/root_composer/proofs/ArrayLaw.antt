@@ -22,7 +22,7 @@ use Rattle.root_composer.specs.declared.last.Last.{Last}
 use Rattle.root_composer.specs.Overlaid.{touches, entry_for, is_between, overlaid}
 use Rattle.root_composer.specs.Composed.{IsMade, EachWith, all_moved}
 use Rattle.root_composer.specs.Composer.{MayName, IsLawful}
-use Rattle.root_composer.specs.ArrayWriter.{filled, put, put_all, IsPut, array_writer}
+use Rattle.root_composer.specs.ArrayWriter.{filled, put, put_all, IsPut, AnyShape, array_writer}
 use Rattle.root_composer.proofs.MadeLemmas.{leaf_made}
 use Rattle.root_composer.proofs.OverlayLemmas.{touched_range}
 
@@ -446,21 +446,21 @@ leaf_below low high ws narrow = ap (λ b. cond b [] (row ws (span_of low high / 
 pub inner_below : (low high : ℕ) (ws : List ℕ) → leaf_room < span_of low high → array_below ws low high ≡ row ws (span_of low high / fan) low fan
 inner_below low high ws wide = ap (λ b. cond b [] (row ws (span_of low high / fan) low fan)) (too_wide (span_of low high) leaf_room wide)
 
-pub arrays_lawful : (size : ℕ) (run : List Last) (old : List (List ℕ)) → AllByRecursion (IsPut size) run → IsLawful array_format (IsArrayPage size) array_writer run old
+pub arrays_lawful : (size : ℕ) (run : List Last) (old : List (List ℕ)) → AllByRecursion (IsPut size) run → IsLawful array_format (IsArrayPage size) AnyShape array_writer run old
 arrays_lawful size run old puts = record { leaf = leaf; below = below; right = right }
   where
     leaf : (siblings : List (List ℕ)) (depth : ℕ) (p : Place) → StandsTo array_format (IsArrayPage size) old (suc depth) p → touches run p.low p.high ≡ true → places_below array_format old p ≡ []
-        → IsMade array_format (IsArrayPage size) run old (old ++ siblings) (put_all p.low p.high run (filled (words_at old p)) ∷ []) (suc depth) 1 p (suc (length (old ++ siblings)))
+        → IsMade array_format (IsArrayPage size) AnyShape run old (old ++ siblings) (put_all p.low p.high run (filled (words_at old p)) ∷ []) (suc depth) 1 p (suc (length (old ++ siblings)))
     leaf siblings depth p s t none =
         let narrow : span_of p.low p.high ≤ leaf_room = narrow_where p.low p.high (words_at old p) none in
         let some : p.low ≤ p.high = touched_range run p.low p.high t in
         let long : length (filled (words_at old p)) ≡ fan = length-filled (words_at old p) (length-old size p (words_at old p) s.right) in
-        leaf_made array_format (IsArrayPage size) run old (old ++ siblings) depth (put_all p.low p.high run (filled (words_at old p))) p
+        leaf_made array_format (IsArrayPage size) AnyShape run old (old ++ siblings) depth (put_all p.low p.high run (filled (words_at old p))) p
         (omega (arith, length-append old siblings)) t none
         (leaf_below p.low p.high (put_all p.low p.high run (filled (words_at old p))) narrow)
         (λ key a b. look_put_all size p.low p.high key run (filled (words_at old p)) puts (omega (arith, long, narrow, fan_is, room_is)) a b
         ∙ ap (λ f. overlaid f (entry_for run key)) (look_filled p.low key (words_at old p)))
-        (array_leaf_right size run p (words_at old p) (length (old ++ siblings)) puts t narrow s.right)
+        (array_leaf_right size run p (words_at old p) (length (old ++ siblings)) puts t narrow s.right) (λ later. tt)
 
     below : (w : List ℕ) (p : Place) (number : ℕ) (ns : List ℕ) → IsArrayPage size p w → EachWith (MayName run (length old) number) (array_below w p.low p.high) ns
         → array_below ns p.low p.high ≡ all_moved (array_below w p.low p.high) ns

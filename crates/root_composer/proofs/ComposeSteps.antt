@@ -4,12 +4,13 @@ use Rattle.std.specs.Prelude.{slice_get}
 use Rattle.std.specs.List.{AllByRecursion}
 use Rattle.std.proofs.lemmas.List.{length-append, length-map}
 use Rattle.lists.specs.Each.{all_weaker}
+use Rattle.root_composer.specs.declared.fault.ComposeFault.{ComposeFault}
 use Rattle.wire_form.specs.declared.page.Page.{Page}
 use Rattle.wire_form.specs.declared.bucket.Entry.{Entry}
 use Rattle.wire_form.specs.declared.records.Stored.{Stored}
 use Rattle.wire_form.specs.Pages.{Contents, IsCatalogue, catalogue_words}
 use Rattle.snapshot_store.specs.Content.{words_of, CatalogueAt}
-use Rattle.root_composer.specs.Storages.{compose_storages, with_roots, StoragesMade}
+use Rattle.root_composer.specs.Storages.{compose_storages, with_roots, StoragesMade, StoragesDeep}
 use Rattle.root_composer.specs.Composition.{CanCompose, WouldCompose, next_contents}
 use Rattle.root_composer.proofs.PageLemmas.{page_at}
 use Rattle.root_composer.proofs.ReadyLemmas.{ready}
@@ -53,7 +54,7 @@ pub roots_fit : (pages : List (List ℕ)) (number : ℕ) (contents : Contents) (
 roots_fit pages number contents run epoch made roots can all =
     let right = right_at run pages contents.storages (ready pages number contents run epoch can) in
     let m = compose_storages run pages contents.storages (length pages) in
-    let count = (right.right []).count in
+    let count = right.count in
     let each = numbers_of (length pages + length m.pages) contents.storages m.numbers count right.below in
     let same : length pages + length m.pages ≡ length pages + length made = omega (arith, ap length all.pages) in
     record {
@@ -80,6 +81,15 @@ pub would_compose : (pages : List (List ℕ)) (number : ℕ) (contents : Content
 would_compose pages number contents run epoch made roots new can all count =
     let w : List ℕ = catalogue_words (next_contents epoch number (with_roots contents.storages roots)) in (
       made ++ w ∷ [],
-      snapshot_made pages number contents run epoch made roots w can all.numbers all.pages refl,
+      snapshot_made pages number contents run epoch made roots w can all refl,
       omega (arith, count, length-append made (w ∷ [])),
     )
+
+-- what would be too deep of these storages and entries would be so of those
+pub deep_of : (pages : List Page) (number : ℕ) (contents : Contents) (run slice : List Entry) (epoch : ℕ) (p : Page) (stored read : List Stored) (fault : ComposeFault)
+    → CanCompose (words_of pages) number contents run epoch → slice_get pages (number - 1) ≡ Some p → slice ≡ run → read ≡ stored
+    → ((others : Contents) → IsCatalogue number others → p.words ≡ catalogue_words others → stored ≡ others.storages)
+    → StoragesDeep slice (words_of pages) read fault → StoragesDeep run (words_of pages) contents.storages fault
+deep_of pages number contents run slice epoch p stored read fault can here same_run value storages deep =
+    let same : read ≡ contents.storages = value ∙ storages contents can.stands.here.catalogue (catalogue_read pages number contents p can.stands.here here) in
+    subst (λ (l : List Stored). StoragesDeep run (words_of pages) l fault) same (subst (λ (r : List Entry). StoragesDeep r (words_of pages) read fault) same_run deep)

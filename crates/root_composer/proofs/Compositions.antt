@@ -3,21 +3,19 @@ use Rattle.std.proofs.Common.{◌≡◌, ℕ, ◌+◌, ◌<◌, ◌≤◌, suc, 
 use Rattle.std.specs.List.{AllByRecursion}
 use Rattle.std.proofs.lemmas.List.{length-append}
 use Rattle.lists.specs.Each.{all_weaker}
-use Rattle.serial_model.specs.declared.decl.Decl.{Decl}
-use Rattle.serial_model.specs.declared.decl.Decl.TheVariants.{Array, Tree}
 use Rattle.wire_form.specs.declared.bucket.Entry.{Entry}
 use Rattle.wire_form.specs.declared.records.Stored.{Stored}
 use Rattle.wire_form.specs.Items.{Rises}
 use Rattle.wire_form.specs.Pages.{IsStored, stored_id, Contents, IsCatalogue, catalogue_words}
 use Rattle.snapshot_store.specs.Places.{page}
-use Rattle.snapshot_store.specs.Content.{deepest, root_place, format_of, IsPageOf, record_in, RootStands}
+use Rattle.snapshot_store.specs.Content.{deepest, record_in, RootStands}
 use Rattle.root_composer.specs.Composed.{numbered}
 use Rattle.root_composer.specs.Composer.{AllMade}
-use Rattle.root_composer.specs.Storages.{AreComposed, newer_of, compose_storages, with_roots, IsReady}
-use Rattle.root_composer.specs.Composition.{CanCompose, IsComposed, next_contents}
-use Rattle.root_composer.proofs.MadeLemmas.{there_of, page_there, numbered-append}
+use Rattle.root_composer.specs.Storages.{AreComposed, newer_of, compose_storages, with_roots, IsReady, IsWithin, StoragesMade}
+use Rattle.root_composer.specs.Composition.{CanCompose, IsComposed, IsTooDeep, next_contents}
+use Rattle.root_composer.proofs.MadeLemmas.{page_there, numbered-append}
 use Rattle.root_composer.proofs.ContentLaw.{content_overlaid}
-use Rattle.root_composer.proofs.StoragesLaw.{AllRight, storages_right, each_overlaid, roots_stand}
+use Rattle.root_composer.proofs.StoragesLaw.{AllRight, storages_right, each_overlaid, roots_there, roots_stand}
 use Rattle.root_composer.proofs.ReadyLemmas.{ready, no_change}
 
 -- ---- storages with other roots
@@ -37,35 +35,30 @@ stored-with_roots number old [] ns all below = tt
 stored-with_roots number old (s ∷ ss) [] all below = tt
 stored-with_roots number old (s ∷ ss) (n ∷ ns) all below = (record { decl = all.0.decl; root = below.0 }, stored-with_roots number old ss ns all.1 below.1)
 
-root_number : (d : Decl) (root : ℕ) → (root_place d root).number ≡ root
-root_number (Array id size) root = refl
-root_number (Tree id) root = refl
-
--- roots that stand name pages that are there
-roots_there : (pages : List (List ℕ)) (ts : List Stored) → AllByRecursion (RootStands pages) ts → AllByRecursion (λ t. t.root ≤ length pages) ts
-roots_there pages ts all = all_weaker (RootStands pages) (λ t. t.root ≤ length pages)
-    (λ t stands. subst (λ (n : ℕ). n ≤ length pages) (root_number t.decl t.root) (there_of (format_of t.decl) (IsPageOf t.decl) pages deepest (root_place t.decl t.root) stands)) ts all
-
 -- ---- all of it
 
 -- the roots that were made name pages below the catalogue
-roots_below : (run : List Entry) (pages : List (List ℕ)) (ss : List Stored) (m : AllMade) → AllRight run pages [] [] ss m → AllByRecursion (λ t. t.root ≤ length pages + length m.pages) (with_roots ss m.numbers)
-roots_below run pages ss m right =
+roots_below : (run : List Entry) (pages : List (List ℕ)) (d : ℕ) (ss : List Stored) (m : AllMade) → AllRight run pages [] [] d ss m → AllByRecursion (λ t. t.root ≤ length pages + length m.pages) (with_roots ss m.numbers)
+roots_below run pages d ss m right =
     let same : (pages ++ []) ++ (m.pages ++ []) ≡ pages ++ m.pages = ap (λ l. l ++ (m.pages ++ [])) (append-nil pages) ∙ ap (λ l. pages ++ l) (append-nil m.pages) in
-    let stand = subst (λ (x : List (List ℕ)). AllByRecursion (RootStands x) (with_roots ss m.numbers)) same (roots_stand run pages ((pages ++ []) ++ (m.pages ++ [])) ss (with_roots ss m.numbers) right.each) in
-    all_weaker (λ t. t.root ≤ length (pages ++ m.pages)) (λ t. t.root ≤ length pages + length m.pages) (λ t h. omega (arith, h, length-append pages m.pages)) (with_roots ss m.numbers) (roots_there (pages ++ m.pages) (with_roots ss m.numbers) stand)
+    all_weaker (λ t. t.root ≤ length ((pages ++ []) ++ (m.pages ++ []))) (λ t. t.root ≤ length pages + length m.pages) (λ t h. omega (arith, h, ap length same, length-append pages m.pages)) (with_roots ss m.numbers)
+    (roots_there run pages ((pages ++ []) ++ (m.pages ++ [])) d ss (with_roots ss m.numbers) right.each)
 
 -- the same for any pages that come later
 pub record RightAt (run : List Entry) (pages : List (List ℕ)) (ss : List Stored) (m : AllMade) : Type 0 where
   pub below : AllByRecursion (λ t. t.root ≤ length pages + length m.pages) (with_roots ss m.numbers)
-  pub right : (later : List (List ℕ)) → AllRight run pages [] later ss m
+  pub right : (later : List (List ℕ)) (d : ℕ) → m.levels ≤ d → AllRight run pages [] later d ss m
+  pub count : length m.numbers ≡ length ss
 
 pub right_at : (run : List Entry) (pages : List (List ℕ)) (ss : List Stored) → AllByRecursion (IsReady run pages) ss → RightAt run pages ss (compose_storages run pages ss (length pages))
 right_at run pages ss all =
     let same : length pages ≡ length (pages ++ []) = ap length (sym (append-nil pages)) in
+    let m : AllMade = compose_storages run pages ss (length pages) in
+    let least = storages_right run pages ss [] (length pages) [] m.levels same all (omega arith) in
     record {
-      below = roots_below run pages ss (compose_storages run pages ss (length pages)) (storages_right run pages ss [] (length pages) [] same all);
-      right = λ later. storages_right run pages ss [] (length pages) later same all;
+      below = roots_below run pages m.levels ss (compose_storages run pages ss (length pages)) least;
+      right = λ (later : List (List ℕ)) (d : ℕ) le. storages_right run pages ss [] (length pages) later d same all le;
+      count = least.count;
     }
 
 -- the catalogue, behind the pages that were made
@@ -73,7 +66,7 @@ new_catalogue : (pages : List (List ℕ)) (number : ℕ) (contents : Contents) (
     → IsCatalogue (suc (length pages + length m.pages)) (next_contents epoch number (with_roots contents.storages m.numbers))
 new_catalogue pages number contents run epoch m can right =
     let was = can.stands.here.catalogue in
-    let count = (right.right []).count in
+    let count = right.count in
     record {
       epoch = can.last;
       previous = omega (arith, can.stands.here.there);
@@ -84,16 +77,16 @@ new_catalogue pages number contents run epoch m can right =
     }
 
 made_with : (pages : List (List ℕ)) (number : ℕ) (contents : Contents) (run : List Entry) (epoch : ℕ) (m : AllMade) (w : List ℕ) → CanCompose pages number contents run epoch → RightAt run pages contents.storages m
-    → w ≡ catalogue_words (next_contents epoch number (with_roots contents.storages m.numbers)) → IsComposed run epoch number contents pages (m.pages ++ w ∷ [])
-made_with pages number contents run epoch m w can right is =
-    let all = right.right (w ∷ []) in
+    → m.levels ≤ deepest → AllByRecursion (IsWithin run) contents.storages → w ≡ catalogue_words (next_contents epoch number (with_roots contents.storages m.numbers)) → IsComposed run epoch number contents pages (m.pages ++ w ∷ [])
+made_with pages number contents run epoch m w can right le within is =
+    let all = right.right (w ∷ []) deepest le in
     let same : (pages ++ []) ++ (m.pages ++ (w ∷ [])) ≡ pages ++ (m.pages ++ w ∷ []) = ap (λ l. l ++ (m.pages ++ w ∷ [])) (append-nil pages) in
     let none : length (pages ++ []) ≡ length pages = ap length (append-nil pages) in
     let count : length pages + length (m.pages ++ w ∷ []) ≡ suc (length pages + length m.pages) = omega (arith, length-append m.pages (w ∷ [])) in
     let last : length pages + length (m.pages ++ w ∷ []) ≡ length pages + 1 + length m.pages = omega (arith, count) in
-    let each = subst (λ (x : List (List ℕ)). AreComposed run pages x contents.storages (with_roots contents.storages m.numbers)) same all.each in
-    let order : newer_of (pages ++ (m.pages ++ w ∷ [])) (length pages) (with_roots contents.storages m.numbers) ≡ numbered (length pages + 1) m.pages =
-    ap (λ x. newer_of x (length pages) (with_roots contents.storages m.numbers)) (sym same) ∙ all.order ∙ ap (λ k. numbered (k + 1) m.pages) none in
+    let each = subst (λ (x : List (List ℕ)). AreComposed run pages x deepest contents.storages (with_roots contents.storages m.numbers)) same all.each in
+    let order : newer_of (pages ++ (m.pages ++ w ∷ [])) (length pages) deepest (with_roots contents.storages m.numbers) ≡ numbered (length pages + 1) m.pages =
+    ap (λ x. newer_of x (length pages) deepest (with_roots contents.storages m.numbers)) (sym same) ∙ all.order ∙ ap (λ k. numbered (k + 1) m.pages) none in
     let words : page (pages ++ (m.pages ++ w ∷ [])) (suc (length pages + length m.pages)) ≡ w =
     ap (λ l. page (pages ++ l) (suc (length pages + length m.pages))) (sym (append-nil (m.pages ++ w ∷ []))) ∙ page_there pages m.pages [] w in
     record {
@@ -112,16 +105,38 @@ made_with pages number contents run epoch m w can right is =
         roots = roots_stand run pages (pages ++ (m.pages ++ w ∷ [])) contents.storages (with_roots contents.storages m.numbers) each;
       };
       content = λ state content. content_overlaid run (record_in pages) (record_in (pages ++ (m.pages ++ w ∷ []))) contents.storages (with_roots contents.storages m.numbers) state
-          (each_overlaid run pages (pages ++ (m.pages ++ w ∷ [])) contents.storages (with_roots contents.storages m.numbers) (ready pages number contents run epoch can) each)
-          (λ key none. no_change epoch contents.storages run key can.arrays can.entries none) content;
+          (each_overlaid run pages (pages ++ (m.pages ++ w ∷ [])) contents.storages (with_roots contents.storages m.numbers) within each)
+          (λ key none. no_change epoch contents.storages run key can.entries none) content;
     }
 
 -- what the code made
 pub snapshot_made : (pages : List (List ℕ)) (number : ℕ) (contents : Contents) (run : List Entry) (epoch : ℕ) (made : List (List ℕ)) (roots w : List ℕ) → CanCompose pages number contents run epoch
-    → roots ≡ (compose_storages run pages contents.storages (length pages)).numbers → made ≡ (compose_storages run pages contents.storages (length pages)).pages
+    → StoragesMade run pages contents.storages made roots
     → w ≡ catalogue_words (next_contents epoch number (with_roots contents.storages roots)) → IsComposed run epoch number contents pages (made ++ w ∷ [])
-snapshot_made pages number contents run epoch made roots w can numbers pages_are is =
+snapshot_made pages number contents run epoch made roots w can all is =
     let m : AllMade = compose_storages run pages contents.storages (length pages) in
     let right = right_at run pages contents.storages (ready pages number contents run epoch can) in
-    let words = is ∙ ap (λ ns. catalogue_words (next_contents epoch number (with_roots contents.storages ns))) numbers in
-    subst (λ (x : List (List ℕ)). IsComposed run epoch number contents pages (x ++ w ∷ [])) (sym pages_are) (made_with pages number contents run epoch m w can right words)
+    let words = is ∙ ap (λ ns. catalogue_words (next_contents epoch number (with_roots contents.storages ns))) all.numbers in
+    subst (λ (x : List (List ℕ)). IsComposed run epoch number contents pages (x ++ w ∷ [])) (sym all.pages) (made_with pages number contents run epoch m w can right all.levels all.within words)
+
+-- what would be made, were more pages let stand one below another
+pub snapshot_deep : (pages : List (List ℕ)) (number : ℕ) (contents : Contents) (run : List Entry) (epoch : ℕ) → CanCompose pages number contents run epoch
+    → deepest < (compose_storages run pages contents.storages (length pages)).levels → (made : List (List ℕ)) × IsTooDeep run contents pages made
+snapshot_deep pages number contents run epoch can deep =
+    let m : AllMade = compose_storages run pages contents.storages (length pages) in
+    let right = right_at run pages contents.storages (ready pages number contents run epoch can) in
+    let all = right.right [] m.levels (omega arith) in
+    let ts : List Stored = with_roots contents.storages m.numbers in
+    let same : (pages ++ []) ++ (m.pages ++ []) ≡ pages ++ m.pages = ap (λ l. l ++ (m.pages ++ [])) (append-nil pages) ∙ ap (λ l. pages ++ l) (append-nil m.pages) in
+    let none : length (pages ++ []) ≡ length pages = ap length (append-nil pages) in (
+      m.pages,
+      record {
+        storages = ts;
+        depth = m.levels;
+        each = subst (λ (x : List (List ℕ)). AreComposed run pages x m.levels contents.storages ts) same all.each;
+        order = ap (λ x. newer_of x (length pages) m.levels ts) (sym same) ∙ all.order ∙ ap (λ k. numbered (k + 1) m.pages) none;
+        deep = λ stand.
+            let least : m.levels ≤ deepest = all.least (subst (λ (x : List (List ℕ)). AllByRecursion (RootStands x) ts) (sym same) stand) in
+            omega (arith, least, deep);
+      },
+    )

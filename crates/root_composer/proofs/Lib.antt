@@ -11,3 +11,15 @@ pub mod ReadyLemmas
 pub mod Compositions
 pub mod StorageSteps
 pub mod ComposeSteps
+pub mod RowLemmas
+pub mod CutLaw
+pub mod BuiltLemmas
+pub mod TreePageLemmas
+pub mod BuildLaw
+pub mod ShapeLaw
+pub mod TreeLaw
+pub mod RangeLemmas
+pub mod TreeSteps
+pub mod BuildSteps
+pub mod WordLemmas
+pub mod TreePlaces

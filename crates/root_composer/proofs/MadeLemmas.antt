@@ -9,7 +9,7 @@ use Rattle.root_composer.specs.Overlaid.{entry_for, touches, overlaid}
 use Rattle.root_composer.specs.declared.last.Last.{Last}
 use Rattle.snapshot_store.specs.Places.{Format, page, words_at, places_below, at_key, on_way, find, here_or_below, Cover, Tiles, StandsTo, moved, newer}
 use Rattle.snapshot_store.specs.declared.place.Place.{Place}
-use Rattle.root_composer.specs.Composed.{numbered, Follows, WaysFollow, Replaces, IsMade, all_moved, EachWith, AreMade}
+use Rattle.root_composer.specs.Composed.{numbered, Follows, Succeeds, WaysFollow, Replaces, IsMade, all_moved, EachWith, AreMade}
 use Rattle.snapshot_store.specs.StandLaws.{on_way-append, find-append, stands-append}
 use Rattle.root_composer.proofs.OverlayLemmas.{no_entry, none_within}
 
@@ -63,18 +63,21 @@ newer_none F pages have (suc d) p h = rw (at_most p.number have h) refl
 untouched : (run : List Last) (have : ℕ) (q : Place) → touches run q.low q.high ≡ false → Follows run have q q.number
 untouched run have q e = record { kept = λ _. refl; made = λ t. absurd (cc) }
 
+alone : (F : Format) (S : List (List ℕ) → Place → Type 0) (run : List Last) (old new : List (List ℕ)) (q : Place) → touches run q.low q.high ≡ false → Succeeds F S run old new q q.number
+alone F S run old new q e = record { follows = untouched run (length old) q e; shape = λ t none. absurd (cc) }
+
 pub there_of : (F : Format) (Is : Place → List ℕ → Type 0) (pages : List (List ℕ)) (depth : ℕ) (p : Place) → StandsTo F Is pages depth p → p.number ≤ length pages
 there_of F Is pages zero p s = absurd s
 there_of F Is pages (suc depth) p s = s.there
 
-pub kept : (F : Format) (Is : Place → List ℕ → Type 0) (run : List Last) (old siblings : List (List ℕ)) (depth : ℕ) (p : Place)
-    → StandsTo F Is old depth p → touches run p.low p.high ≡ false → IsMade F Is run old (old ++ siblings) [] depth depth p p.number
-kept F Is run old siblings depth p s e = record {
+pub kept : (F : Format) (Is : Place → List ℕ → Type 0) (S : List (List ℕ) → Place → Type 0) (run : List Last) (old siblings : List (List ℕ)) (depth : ℕ) (p : Place)
+    → StandsTo F Is old depth p → touches run p.low p.high ≡ false → IsMade F Is S run old (old ++ siblings) [] depth depth p p.number
+kept F Is S run old siblings depth p s e = record {
   replaces = λ (later : List (List ℕ)) (d : ℕ) le. rw (append_assoc old siblings later) (record {
     follows = untouched run (length old) p e;
     ways = λ (d key : ℕ) (q : Place) a b w.
         let within = way_within F Is old depth d key p q s w in
-        (q.number, on_way-append F Is old (siblings ++ later) depth d key p s ∙ w, untouched run (length old) q (none_within run p.low p.high q.low q.high e within.0 within.1));
+        (q.number, on_way-append F Is old (siblings ++ later) depth d key p s ∙ w, alone F S run old (old ++ (siblings ++ later)) q (none_within run p.low p.high q.low q.high e within.0 within.1));
     content = λ (key : ℕ) a b. find-append F Is old (siblings ++ later) depth d key p s le ∙ rw (no_entry run p.low p.high key e a b) refl;
     stands = stands-append F Is old (siblings ++ later) depth d p s le;
   });
@@ -88,18 +91,18 @@ pub numbered-append : (from : ℕ) (xs ys : List (List ℕ)) → numbered from (
 numbered-append from [] ys = ap (λ n. numbered n ys) (omega arith)
 numbered-append from (x ∷ xs) ys = ap (λ t. from ∷ t) (numbered-append (from + 1) xs ys ∙ ap (λ n. numbered (from + 1) xs ++ numbered n ys) (omega arith))
 
-pub none_made : (F : Format) (Is : Place → List ℕ → Type 0) (run : List Last) (old before : List (List ℕ)) (depth : ℕ) → AreMade F Is run old before [] depth 0 [] []
-none_made F Is run old before depth = record { replaces = λ later d le. tt; order = λ later d le. refl; least = λ later d le t. omega arith }
+pub none_made : (F : Format) (Is : Place → List ℕ → Type 0) (S : List (List ℕ) → Place → Type 0) (run : List Last) (old before : List (List ℕ)) (depth : ℕ) → AreMade F Is S run old before [] depth 0 [] []
+none_made F Is S run old before depth = record { replaces = λ later d le. tt; order = λ later d le. refl; least = λ later d le t. omega arith }
 
 pub regroup : (before first rest later : List (List ℕ)) → (before ++ first) ++ (rest ++ later) ≡ before ++ ((first ++ rest) ++ later)
 regroup before first rest later = simp append_assoc
 
-pub one_more : (F : Format) (Is : Place → List ℕ → Type 0) (run : List Last) (old before first rest : List (List ℕ)) (depth l m levels : ℕ) (q : Place) (n : ℕ) (qs : List Place) (ns : List ℕ)
-    → levels ≡ max l m → IsMade F Is run old before first depth l q n → AreMade F Is run old (before ++ first) rest depth m qs ns → AreMade F Is run old before (first ++ rest) depth levels (q ∷ qs) (n ∷ ns)
-one_more F Is run old before first rest depth l m levels q n qs ns a one all = record {
+pub one_more : (F : Format) (Is : Place → List ℕ → Type 0) (S : List (List ℕ) → Place → Type 0) (run : List Last) (old before first rest : List (List ℕ)) (depth l m levels : ℕ) (q : Place) (n : ℕ) (qs : List Place) (ns : List ℕ)
+    → levels ≡ max l m → IsMade F Is S run old before first depth l q n → AreMade F Is S run old (before ++ first) rest depth m qs ns → AreMade F Is S run old before (first ++ rest) depth levels (q ∷ qs) (n ∷ ns)
+one_more F Is S run old before first rest depth l m levels q n qs ns a one all = record {
   replaces = λ (later : List (List ℕ)) (d : ℕ) le. (
-    subst (λ (t : List (List ℕ)). Replaces F Is run old (before ++ t) depth d q n) (sym (append_assoc first rest later)) (one.replaces (rest ++ later) d (omega (arith, le))),
-    subst (λ (t : List (List ℕ)). EachWith (Replaces F Is run old t depth d) qs ns) (regroup before first rest later) (all.replaces later d (omega (arith, le))),
+    subst (λ (t : List (List ℕ)). Replaces F Is S run old (before ++ t) depth d q n) (sym (append_assoc first rest later)) (one.replaces (rest ++ later) d (omega (arith, le))),
+    subst (λ (t : List (List ℕ)). EachWith (Replaces F Is S run old t depth d) qs ns) (regroup before first rest later) (all.replaces later d (omega (arith, le))),
   );
   order = λ (later : List (List ℕ)) (d : ℕ) le.
       let x = subst (λ (t : List (List ℕ)). newer F (before ++ t) (length old) d (moved q n) ≡ numbered (length before + 1) first) (sym (append_assoc first rest later)) (one.order (rest ++ later) d (omega (arith, le))) in
@@ -116,16 +119,16 @@ one_more F Is run old before first rest depth l m levels q n qs ns a one all = r
 -- ---- the page above them
 
 -- the place that follows the one with the key
-way_replaced : (F : Format) (Is : Place → List ℕ → Type 0) (run : List Last) (old new : List (List ℕ)) (depth e d key low high : ℕ) (q : Place) (qs : List Place) (ns : List ℕ)
-    → Cover low high qs → low ≤ key → EachWith (Replaces F Is run old new depth e) qs ns → at_key key (on_way F old d key) qs ≡ Some q
-    → (n : ℕ) × (at_key key (on_way F new d key) (all_moved qs ns) ≡ Some (moved q n)) × Follows run (length old) q n
-way_replaced F Is run old new depth e d key low high q [] ns c le all w = absurd (cc)
-way_replaced F Is run old new depth e d key low high q (r ∷ rs) [] c le all w = absurd all
-way_replaced F Is run old new depth e d key low high q (r ∷ rs) (m ∷ ms) c le all w =
+way_replaced : (F : Format) (Is : Place → List ℕ → Type 0) (S : List (List ℕ) → Place → Type 0) (run : List Last) (old new : List (List ℕ)) (depth e d key low high : ℕ) (q : Place) (qs : List Place) (ns : List ℕ)
+    → Cover low high qs → low ≤ key → EachWith (Replaces F Is S run old new depth e) qs ns → at_key key (on_way F old d key) qs ≡ Some q
+    → (n : ℕ) × (at_key key (on_way F new d key) (all_moved qs ns) ≡ Some (moved q n)) × Succeeds F S run old new q n
+way_replaced F Is S run old new depth e d key low high q [] ns c le all w = absurd (cc)
+way_replaced F Is S run old new depth e d key low high q (r ∷ rs) [] c le all w = absurd all
+way_replaced F Is S run old new depth e d key low high q (r ∷ rs) (m ∷ ms) c le all w =
     elim (cases_lt r.high key) [
       | inl lt ↦
           let t = above key r.high lt in
-          let rest = way_replaced F Is run old new depth e d key (r.high + 1) high q rs ms c.3 (omega arith) all.1 (rw t at w) in
+          let rest = way_replaced F Is S run old new depth e d key (r.high + 1) high q rs ms c.3 (omega arith) all.1 (rw t at w) in
           (rest.0, rw t rest.1, rest.2)
       | inr ge ↦
           let t = at_most key r.high ge in
@@ -133,14 +136,14 @@ way_replaced F Is run old new depth e d key low high q (r ∷ rs) (m ∷ ms) c l
           (here.0, rw t here.1, here.2)
     ]
 
-find_replaced : (F : Format) (Is : Place → List ℕ → Type 0) (run : List Last) (old new : List (List ℕ)) (depth d key low high : ℕ) (qs : List Place) (ns : List ℕ)
-    → Cover low high qs → low ≤ key → key ≤ high → EachWith (Replaces F Is run old new depth d) qs ns
+find_replaced : (F : Format) (Is : Place → List ℕ → Type 0) (S : List (List ℕ) → Place → Type 0) (run : List Last) (old new : List (List ℕ)) (depth d key low high : ℕ) (qs : List Place) (ns : List ℕ)
+    → Cover low high qs → low ≤ key → key ≤ high → EachWith (Replaces F Is S run old new depth d) qs ns
     → at_key key (find F new d key) (all_moved qs ns) ≡ overlaid (at_key key (find F old depth key) qs) (entry_for run key)
-find_replaced F Is run old new depth d key low high [] ns c le ge all = absurd (omega (arith, c))
-find_replaced F Is run old new depth d key low high (r ∷ rs) [] c le ge all = absurd all
-find_replaced F Is run old new depth d key low high (r ∷ rs) (m ∷ ms) c le ge all =
+find_replaced F Is S run old new depth d key low high [] ns c le ge all = absurd (omega (arith, c))
+find_replaced F Is S run old new depth d key low high (r ∷ rs) [] c le ge all = absurd all
+find_replaced F Is S run old new depth d key low high (r ∷ rs) (m ∷ ms) c le ge all =
     elim (cases_lt r.high key) [
-      | inl lt ↦ rw (above key r.high lt) (find_replaced F Is run old new depth d key (r.high + 1) high rs ms c.3 (omega arith) ge all.1)
+      | inl lt ↦ rw (above key r.high lt) (find_replaced F Is S run old new depth d key (r.high + 1) high rs ms c.3 (omega arith) ge all.1)
       | inr h ↦ rw (at_most key r.high h) (all.0.content key (omega (arith, c.0)) h)
     ]
 
@@ -154,42 +157,42 @@ tiles_moved R low high [] ns all t = tt
 tiles_moved R low high (q ∷ qs) [] all t = absurd all
 tiles_moved R low high (q ∷ qs) (n ∷ ns) all t = cover_moved R low high (q ∷ qs) (n ∷ ns) all t
 
-all_stand : (F : Format) (Is : Place → List ℕ → Type 0) (run : List Last) (old new : List (List ℕ)) (depth d : ℕ) (qs : List Place) (ns : List ℕ)
-    → EachWith (Replaces F Is run old new depth d) qs ns → AllByRecursion (StandsTo F Is new d) (all_moved qs ns)
-all_stand F Is run old new depth d [] ns all = tt
-all_stand F Is run old new depth d (q ∷ qs) [] all = absurd all
-all_stand F Is run old new depth d (q ∷ qs) (n ∷ ns) all = (all.0.stands, all_stand F Is run old new depth d qs ns all.1)
+all_stand : (F : Format) (Is : Place → List ℕ → Type 0) (S : List (List ℕ) → Place → Type 0) (run : List Last) (old new : List (List ℕ)) (depth d : ℕ) (qs : List Place) (ns : List ℕ)
+    → EachWith (Replaces F Is S run old new depth d) qs ns → AllByRecursion (StandsTo F Is new d) (all_moved qs ns)
+all_stand F Is S run old new depth d [] ns all = tt
+all_stand F Is S run old new depth d (q ∷ qs) [] all = absurd all
+all_stand F Is S run old new depth d (q ∷ qs) (n ∷ ns) all = (all.0.stands, all_stand F Is S run old new depth d qs ns all.1)
 
 -- the page that names the new numbers stands for its range
-pub page_replaces : (F : Format) (Is : Place → List ℕ → Type 0) (run : List Last) (old new : List (List ℕ)) (depth d n : ℕ) (w : List ℕ) (p q : Place) (qs : List Place) (ns : List ℕ)
+pub page_replaces : (F : Format) (Is : Place → List ℕ → Type 0) (S : List (List ℕ) → Place → Type 0) (run : List Last) (old new : List (List ℕ)) (depth d n : ℕ) (w : List ℕ) (p q : Place) (qs : List Place) (ns : List ℕ)
     → length old < n → n ≤ length new → touches run p.low p.high ≡ true → places_below F old p ≡ q ∷ qs → StandsTo F Is old (suc depth) p
     → page new n ≡ w → F.below w p.low p.high ≡ all_moved (q ∷ qs) ns → Is (moved p n) w
-    → EachWith (Replaces F Is run old new depth d) (q ∷ qs) ns → Replaces F Is run old new (suc depth) (suc d) p n
-page_replaces F Is run old new depth d n w p q qs [] more fits t below s at kids is all = absurd all
-page_replaces F Is run old new depth d n w p q qs (m ∷ ms) more fits t below s at kids is all =
+    → EachWith (Replaces F Is S run old new depth d) (q ∷ qs) ns → Replaces F Is S run old new (suc depth) (suc d) p n
+page_replaces F Is S run old new depth d n w p q qs [] more fits t below s at kids is all = absurd all
+page_replaces F Is S run old new depth d n w p q qs (m ∷ ms) more fits t below s at kids is all =
     let tiles : Cover p.low p.high (q ∷ qs) = subst (Tiles p.low p.high) below s.tiles in
     let down : places_below F new (moved p n) ≡ all_moved (q ∷ qs) (m ∷ ms) = ap (λ ws. F.below ws p.low p.high) at ∙ kids in
     let mine : Follows run (length old) p n = record { kept = λ f. absurd (cc); made = λ _. more } in
     record {
       follows = mine;
-      ways = λ (e key : ℕ) (r : Place) a b. way e key r a b tiles down mine;
+      ways = λ (e key : ℕ) (r : Place) a b. way e key r a b tiles down (record { follows = mine; shape = λ u none. absurd (cc) });
       content = λ (key : ℕ) a b.
           ap (λ ts. here_or_below (F.look (words_at new (moved p n)) p.low key) (at_key key (find F new d key) ts) ts) down
-          ∙ find_replaced F Is run old new depth d key p.low p.high (q ∷ qs) (m ∷ ms) tiles a b all
+          ∙ find_replaced F Is S run old new depth d key p.low p.high (q ∷ qs) (m ∷ ms) tiles a b all
           ∙ ap (λ ts. overlaid (here_or_below (F.look (words_at old p) p.low key) (at_key key (find F old depth key) ts) ts) (entry_for run key)) (sym below);
       stands = record {
         there = fits;
         right = subst (λ (ws : List ℕ). Is (moved p n) ws) (sym at) is;
-        tiles = subst (Tiles p.low p.high) (sym down) (tiles_moved (Replaces F Is run old new depth d) p.low p.high (q ∷ qs) (m ∷ ms) all tiles);
-        below = subst (AllByRecursion (StandsTo F Is new d)) (sym down) (all_stand F Is run old new depth d (q ∷ qs) (m ∷ ms) all);
+        tiles = subst (Tiles p.low p.high) (sym down) (tiles_moved (Replaces F Is S run old new depth d) p.low p.high (q ∷ qs) (m ∷ ms) all tiles);
+        below = subst (AllByRecursion (StandsTo F Is new d)) (sym down) (all_stand F Is S run old new depth d (q ∷ qs) (m ∷ ms) all);
       };
     }
   where
-    way : (e key : ℕ) (r : Place) → p.low ≤ key → key ≤ p.high → Cover p.low p.high (q ∷ qs) → places_below F new (moved p n) ≡ all_moved (q ∷ qs) (m ∷ ms) → Follows run (length old) p n
-        → on_way F old e key p ≡ Some r → (k : ℕ) × (on_way F new e key (moved p n) ≡ Some (moved r k)) × Follows run (length old) r k
-    way zero key r a b tiles down mine h = let same : p ≡ r = cc in subst (λ (x : Place). (k : ℕ) × (Some (moved p n) ≡ Some (moved x k)) × Follows run (length old) x k) same (n, refl, mine)
+    way : (e key : ℕ) (r : Place) → p.low ≤ key → key ≤ p.high → Cover p.low p.high (q ∷ qs) → places_below F new (moved p n) ≡ all_moved (q ∷ qs) (m ∷ ms) → Succeeds F S run old new p n
+        → on_way F old e key p ≡ Some r → (k : ℕ) × (on_way F new e key (moved p n) ≡ Some (moved r k)) × Succeeds F S run old new r k
+    way zero key r a b tiles down mine h = let same : p ≡ r = cc in subst (λ (x : Place). (k : ℕ) × (Some (moved p n) ≡ Some (moved x k)) × Succeeds F S run old new x k) same (n, refl, mine)
     way (suc e) key r a b tiles down mine h =
-        let found = way_replaced F Is run old new depth d e key p.low p.high r (q ∷ qs) (m ∷ ms) tiles a all (ap (at_key key (on_way F old e key)) (sym below) ∙ h) in
+        let found = way_replaced F Is S run old new depth d e key p.low p.high r (q ∷ qs) (m ∷ ms) tiles a all (ap (at_key key (on_way F old e key)) (sym below) ∙ h) in
         (found.0, ap (at_key key (on_way F new e key)) down ∙ found.1, found.2)
 
 pub page_there : (before made later : List (List ℕ)) (w : List ℕ) → page (before ++ ((made ++ w ∷ []) ++ later)) (suc (length before + length made)) ≡ w
@@ -197,12 +200,12 @@ page_there before made later w =
     ap (λ t. get_or t (length before + length made) []) (ap (λ t. before ++ t) (append_assoc made (w ∷ []) later) ∙ sym (append_assoc before made (w ∷ later)))
     ∙ get_or_at (before ++ made) w later [] (length before + length made) (length-append before made)
 
-pub page_made : (F : Format) (Is : Place → List ℕ → Type 0) (run : List Last) (old before made : List (List ℕ)) (depth levels : ℕ) (w : List ℕ) (p q : Place) (qs : List Place) (ns : List ℕ)
+pub page_made : (F : Format) (Is : Place → List ℕ → Type 0) (S : List (List ℕ) → Place → Type 0) (run : List Last) (old before made : List (List ℕ)) (depth levels : ℕ) (w : List ℕ) (p q : Place) (qs : List Place) (ns : List ℕ)
     → length old ≤ length before → touches run p.low p.high ≡ true → places_below F old p ≡ q ∷ qs → StandsTo F Is old (suc depth) p
     → F.below w p.low p.high ≡ all_moved (q ∷ qs) ns → Is (moved p (suc (length before + length made))) w
-    → AreMade F Is run old before made depth levels (q ∷ qs) ns
-    → IsMade F Is run old before (made ++ w ∷ []) (suc depth) (suc levels) p (suc (length before + length made))
-page_made F Is run old before made depth levels w p q qs ns le t below s kids is are = record {
+    → AreMade F Is S run old before made depth levels (q ∷ qs) ns
+    → IsMade F Is S run old before (made ++ w ∷ []) (suc depth) (suc levels) p (suc (length before + length made))
+page_made F Is S run old before made depth levels w p q qs ns le t below s kids is are = record {
   replaces = replaces;
   order = order;
   least = least;
@@ -214,12 +217,12 @@ page_made F Is run old before made depth levels w p q qs ns le t below s kids is
     same : (later : List (List ℕ)) → before ++ (made ++ (w ∷ later)) ≡ before ++ ((made ++ w ∷ []) ++ later)
     same later = ap (λ t. before ++ t) (sym (append_assoc made (w ∷ []) later))
 
-    replaces : (later : List (List ℕ)) (d : ℕ) → suc levels ≤ d → Replaces F Is run old (before ++ ((made ++ w ∷ []) ++ later)) (suc depth) d p (suc (length before + length made))
+    replaces : (later : List (List ℕ)) (d : ℕ) → suc levels ≤ d → Replaces F Is S run old (before ++ ((made ++ w ∷ []) ++ later)) (suc depth) d p (suc (length before + length made))
     replaces later zero h = absurd (omega (arith, h))
     replaces later (suc d) h =
-        page_replaces F Is run old (before ++ ((made ++ w ∷ []) ++ later)) depth d (suc (length before + length made)) w p q qs ns
+        page_replaces F Is S run old (before ++ ((made ++ w ∷ []) ++ later)) depth d (suc (length before + length made)) w p q qs ns
         (omega arith) (room later) t below s (page_there before made later w) kids is
-        (subst (λ (x : List (List ℕ)). EachWith (Replaces F Is run old x depth d) (q ∷ qs) ns) (same later) (are.replaces (w ∷ later) d (omega arith)))
+        (subst (λ (x : List (List ℕ)). EachWith (Replaces F Is S run old x depth d) (q ∷ qs) ns) (same later) (are.replaces (w ∷ later) d (omega arith)))
 
     order : (later : List (List ℕ)) (d : ℕ) → suc levels ≤ d → newer F (before ++ ((made ++ w ∷ []) ++ later)) (length old) d (moved p (suc (length before + length made))) ≡ numbered (length before + 1) (made ++ w ∷ [])
     order later zero h = absurd (omega (arith, h))
@@ -244,11 +247,11 @@ page_made F Is run old before made depth levels w p q qs ns le t below s kids is
 
 -- ---- a leaf that is written anew as one page
 
-pub leaf_made : (F : Format) (Is : Place → List ℕ → Type 0) (run : List Last) (old before : List (List ℕ)) (depth : ℕ) (w : List ℕ) (p : Place)
+pub leaf_made : (F : Format) (Is : Place → List ℕ → Type 0) (S : List (List ℕ) → Place → Type 0) (run : List Last) (old before : List (List ℕ)) (depth : ℕ) (w : List ℕ) (p : Place)
     → length old ≤ length before → touches run p.low p.high ≡ true → places_below F old p ≡ [] → F.below w p.low p.high ≡ []
     → ((key : ℕ) → p.low ≤ key → key ≤ p.high → F.look w p.low key ≡ overlaid (F.look (words_at old p) p.low key) (entry_for run key))
-    → Is (moved p (suc (length before))) w → IsMade F Is run old before (w ∷ []) (suc depth) 1 p (suc (length before))
-leaf_made F Is run old before depth w p le t none still look is = record {
+    → Is (moved p (suc (length before))) w → ((later : List (List ℕ)) → S (before ++ ((w ∷ []) ++ later)) (moved p (suc (length before)))) → IsMade F Is S run old before (w ∷ []) (suc depth) 1 p (suc (length before))
+leaf_made F Is S run old before depth w p le t none still look is shape = record {
   replaces = replaces;
   order = order;
   least = λ (later : List (List ℕ)) (d : ℕ) le u. some d (moved p (suc (length before))) (before ++ ((w ∷ []) ++ later)) u;
@@ -263,12 +266,12 @@ leaf_made F Is run old before depth w p le t none still look is = record {
     mine : Follows run (length old) p (suc (length before))
     mine = record { kept = λ f. absurd (cc); made = λ _. omega arith }
 
-    way : (later : List (List ℕ)) → WaysFollow F run old (before ++ ((w ∷ []) ++ later)) p (moved p (suc (length before)))
-    way later zero key r a b h = let same : p ≡ r = cc in subst (λ (x : Place). (k : ℕ) × (Some (moved p (suc (length before))) ≡ Some (moved x k)) × Follows run (length old) x k) same (suc (length before), refl, mine)
+    way : (later : List (List ℕ)) → WaysFollow F S run old (before ++ ((w ∷ []) ++ later)) p (moved p (suc (length before)))
+    way later zero key r a b h = let same : p ≡ r = cc in subst (λ (x : Place). (k : ℕ) × (Some (moved p (suc (length before))) ≡ Some (moved x k)) × Succeeds F S run old (before ++ ((w ∷ []) ++ later)) x k) same (suc (length before), refl, record { follows = mine; shape = λ u none. shape later })
     way later (suc e) key r a b h =
         let gone : None ≡ Some r = ap (at_key key (on_way F old e key)) (sym none) ∙ h in absurd (cc)
 
-    replaces : (later : List (List ℕ)) (d : ℕ) → 1 ≤ d → Replaces F Is run old (before ++ ((w ∷ []) ++ later)) (suc depth) d p (suc (length before))
+    replaces : (later : List (List ℕ)) (d : ℕ) → 1 ≤ d → Replaces F Is S run old (before ++ ((w ∷ []) ++ later)) (suc depth) d p (suc (length before))
     replaces later zero h = absurd (omega (arith, h))
     replaces later (suc d) h = record {
       follows = mine;

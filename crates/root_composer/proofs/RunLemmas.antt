@@ -1,5 +1,5 @@
 -- The entries of one storage in a run that rises by key.
-use Rattle.std.proofs.Common.{◌≡◌, ℕ, ◌<◌, ◌≤◌, zero, suc, true, false, List, [], ◌∷◌, ◌++◌, length, get_or, map, Option, Some, None, refl, ap, arith, inl, inr, eqb}
+use Rattle.std.proofs.Common.{◌≡◌, ℕ, ◌+◌, ◌<◌, ◌≤◌, zero, suc, true, false, List, [], ◌∷◌, ◌++◌, length, get_or, map, Option, Some, None, refl, ap, arith, inl, inr, eqb}
 use Rattle.std.specs.Prelude.{cond}
 use Rattle.std.specs.List.{AllByRecursion}
 use Rattle.std.specs.List.Sorted.{IsNonDecreasingBy}
@@ -13,6 +13,7 @@ use Rattle.wire_form.specs.declared.bucket.Entry.{Entry}
 use Rattle.wire_form.specs.Items.{RisesAfter, Rises}
 use Rattle.log_reducer.specs.Reduced.{entry_key}
 use Rattle.root_composer.specs.declared.last.Last.{Last}
+use Rattle.root_composer.specs.Rows.{Rising}
 use Rattle.root_composer.specs.Storages.{last_of, part_of}
 use Rattle.root_composer.specs.Composition.{IsEntryOf}
 
@@ -70,6 +71,45 @@ part_ordered id last (e ∷ es) rise =
 
 pub part_in_order : (id : ℕ) (run : List Entry) → Rises IsKeyBelow (map entry_key run) → IsNonDecreasingBy (λ (m : Last). m.key) (part_of id run)
 part_in_order id run rise = part_ordered id None run rise
+
+part_above_key : (id : ℕ) (k : Key) (es : List Entry) → k.storage ≡ id → AllByRecursion (λ e. IsKeyBelow k e.key) es → AllByRecursion (λ l. k.key < l.key) (part_of id es)
+part_above_key id k [] same all = tt
+part_above_key id k (e ∷ es) same all =
+    elim (eqb e.key.storage id) as (λ b. eqb e.key.storage id ≡ b → AllByRecursion (λ l. k.key < l.key) (cond b (last_of e ∷ part_of id es) (part_of id es))) [
+      | true ↦ λ t. (key_below (is_same e.key.storage id t) all.0, part_above_key id k es same all.1)
+      | false ↦ λ t. part_above_key id k es same all.1
+    ] refl
+  where
+    is_same : (a b : ℕ) → eqb a b ≡ true → a ≡ b
+    is_same a b e = grind (arith, nat_tests)
+
+    key_below : e.key.storage ≡ id → IsKeyBelow k e.key → k.key < e.key.key
+    key_below here (inl p) = absurd (omega arith)
+    key_below here (inr p) = omega (arith, p.1)
+
+-- the keys of one storage rise strictly
+part_rises_after : (id : ℕ) (last : Option Key) (es : List Entry) → RisesAfter IsKeyBelow last (map entry_key es) → Rising 0 (part_of id es)
+part_rises_after id last [] rise = tt
+part_rises_after id last (e ∷ es) rise =
+    let rest = part_rises_after id (Some e.key) es rise.1 in
+    elim (eqb e.key.storage id) as (λ b. eqb e.key.storage id ≡ b → Rising 0 (cond b (last_of e ∷ part_of id es) (part_of id es))) [
+      | true ↦ λ t. (omega arith, from (e.key.key + 1) 0 (part_of id es) rest (all_weaker (λ l. e.key.key < l.key) (λ l. e.key.key + 1 ≤ l.key) (λ l h. omega (arith, h)) (part_of id es) (part_above_key id e.key es (is_same e.key.storage id t) (all_above e.key es rise.1))))
+      | false ↦ λ t. rest
+    ] refl
+  where
+    is_same : (a b : ℕ) → eqb a b ≡ true → a ≡ b
+    is_same a b e = grind (arith, nat_tests)
+
+    from : (low l : ℕ) (ls : List Last) → Rising l ls → AllByRecursion (λ m. low ≤ m.key) ls → Rising low ls
+    from low l [] rising all = tt
+    from low l (m ∷ ms) rising all = (all.0, rising.1)
+
+pub part_rises : (id : ℕ) (run : List Entry) → Rises IsKeyBelow (map entry_key run) → Rising 0 (part_of id run)
+part_rises id run rise = part_rises_after id None run rise
+
+-- an entry of the storage
+pub part_one : (id : ℕ) (e : Entry) → e.key.storage ≡ id → part_of id (e ∷ []) ≡ last_of e ∷ []
+part_one id e same = let t : eqb e.key.storage id ≡ true = grind (arith, nat_tests) in ap (λ b. cond b (last_of e ∷ []) []) t
 
 -- the entries of a storage in two runs
 pub part_of-append : (id : ℕ) (xs ys : List Entry) → part_of id (xs ++ ys) ≡ part_of id xs ++ part_of id ys

@@ -1,19 +1,24 @@
 -- Storages are composed one after another.
-use Rattle.std.proofs.Common.{◌≡◌, ℕ, ◌+◌, ◌<◌, ◌≤◌, ◌^◌, zero, suc, true, false, List, [], ◌∷◌, ◌++◌, length, get_or, take, drop, refl, sym, ap, subst, ◌∙◌, arith, append_assoc, append-nil, leb}
-use Rattle.std.specs.Prelude.{cond}
+use Rattle.std.proofs.Common.{◌≡◌, ℕ, ◌+◌, ◌-◌, ◌<◌, ◌≤◌, ◌^◌, zero, suc, true, false, List, [], ◌∷◌, ◌++◌, length, get_or, take, drop, refl, sym, ap, subst, ◌∙◌, arith, leb}
+use Rattle.std.specs.Prelude.{cond, OnOk, Result, Ok, Err}
 use Rattle.std.specs.List.{AllByRecursion}
-use Rattle.std.proofs.lemmas.List.{length-append, drop_more, drop_all}
+use Rattle.std.proofs.lemmas.List.{length-append, drop_more, drop_all, take_more, take_all}
 use Rattle.serial_model.specs.declared.decl.Decl.{Decl}
-use Rattle.serial_model.specs.declared.decl.Decl.TheVariants.{Array}
+use Rattle.serial_model.specs.declared.decl.Decl.TheVariants.{Array, Tree}
 use Rattle.wire_form.specs.declared.bucket.Entry.{Entry}
 use Rattle.wire_form.specs.declared.records.Stored.{Stored}
 use Rattle.snapshot_store.specs.Places.{StandsTo}
 use Rattle.snapshot_store.specs.Content.{deepest, last_index, root_place, format_of, IsPageOf}
 use Rattle.serial_model.specs.Keys.{id_of}
 use Rattle.root_composer.specs.declared.last.Last.{Last}
-use Rattle.root_composer.specs.Composer.{Made, AllMade, with_one}
+use Rattle.root_composer.specs.Composer.{Made, with_one}
 use Rattle.root_composer.specs.ArrayCode.{ArrayStands, array_one, Adds}
-use Rattle.root_composer.specs.Storages.{part_of, IsReady, compose_one, compose_storages, with_roots, StoragesMade}
+use Rattle.lists.specs.Each.{all_weaker, all_push}
+use Rattle.root_composer.specs.declared.fault.ComposeFault.{ComposeFault}
+use Rattle.root_composer.specs.TreeCode.{TreeStands, tree_one, AddsWithin, WouldBeDeep, LeavesRest}
+use Rattle.root_composer.specs.Storages.{part_of, FitStorage, IsReady, IsWithin, made_for, compose_one, compose_storages, with_roots, StoragesMade, StoragesDeep}
+use Rattle.root_composer.proofs.StoragesLaw.{array_within}
+use Rattle.root_composer.proofs.TreeSteps.{none_left_out, rest_behind, rest_deep, none_rest}
 
 pub deepest_is : deepest ≡ 32
 unfolding deepest
@@ -35,62 +40,107 @@ array_stands run old s id size is ready =
     let stands = subst (λ (d : Decl). StandsTo (format_of d) (IsPageOf d) old deepest (root_place d s.root)) is ready.stands in
     subst (λ (k : ℕ). ArrayStands size old k (record { number = s.root; low = 0; high = last_index size })) deepest_is stands
 
--- what is made for it is what is made for the storage
-pub one_adds : (run : List Entry) (old before after : List (List ℕ)) (s : Stored) (id size : ℕ) (part : List Last) (n : ℕ) → s.decl ≡ Array id size → part ≡ part_of id run
+-- what is made for an array is what is made for the storage
+pub array_adds : (run : List Entry) (old before after : List (List ℕ)) (s : Stored) (id size : ℕ) (part : List Last) (n : ℕ) → s.decl ≡ Array id size → part ≡ part_of id run
     → Adds before after n (array_one part old 32 (record { number = s.root; low = 0; high = last_index size }) (length old + length before))
-    → Adds before after n (compose_one run old s (length old + length before))
-one_adds run old before after s id size part n is same adds =
+    → AddsWithin deepest before after n (compose_one run old s (length old + length before))
+array_adds run old before after s id size part n is same adds =
     let at = subst (λ (k : ℕ). Adds before after n (array_one part old k (record { number = s.root; low = 0; high = last_index size }) (length old + length before))) (sym deepest_is) adds in
     let whole = subst (λ (l : List Last). Adds before after n (array_one l old deepest (record { number = s.root; low = 0; high = last_index size }) (length old + length before))) same at in
-    subst (λ (d : Decl). Adds before after n (array_one (part_of (id_of d) run) old deepest (root_place d s.root) (length old + length before))) (sym is) whole
+    subst (λ (d : Decl). AddsWithin deepest before after n (made_for d (part_of (id_of d) run) old (root_place d s.root) (length old + length before))) (sym is)
+    (record { number = whole.number; pages = whole.pages; levels = omega arith })
+
+-- the same of trees
+pub tree_adds : (run : List Entry) (old before after : List (List ℕ)) (s : Stored) (id : ℕ) (part : List Last) (n : ℕ) → s.decl ≡ Tree id → part ≡ part_of id run
+    → AddsWithin 32 before after n (tree_one part old 32 (record { number = s.root; low = 0; high = 2 ^ 64 - 1 }) (length old + length before))
+    → AddsWithin deepest before after n (compose_one run old s (length old + length before))
+tree_adds run old before after s id part n is same adds =
+    subst (λ (d : Decl). AddsWithin deepest before after n (made_for d (part_of (id_of d) run) old (root_place d s.root) (length old + length before))) (sym is)
+    (subst (λ (l : List Last). AddsWithin deepest before after n (tree_one l old deepest (record { number = s.root; low = 0; high = 2 ^ 64 - 1 }) (length old + length before))) same
+    (subst (λ (k : ℕ). AddsWithin k before after n (tree_one part old k (record { number = s.root; low = 0; high = 2 ^ 64 - 1 }) (length old + length before))) (sym deepest_is) adds))
+
+pub tree_deep : (run : List Entry) (old before : List (List ℕ)) (s : Stored) (id : ℕ) (part : List Last) (fault : ComposeFault) → s.decl ≡ Tree id → part ≡ part_of id run
+    → WouldBeDeep 32 fault (tree_one part old 32 (record { number = s.root; low = 0; high = 2 ^ 64 - 1 }) (length old + length before))
+    → WouldBeDeep deepest fault (compose_one run old s (length old + length before))
+tree_deep run old before s id part fault is same deep =
+    subst (λ (d : Decl). WouldBeDeep deepest fault (made_for d (part_of (id_of d) run) old (root_place d s.root) (length old + length before))) (sym is)
+    (subst (λ (l : List Last). WouldBeDeep deepest fault (tree_one l old deepest (record { number = s.root; low = 0; high = 2 ^ 64 - 1 }) (length old + length before))) same
+    (subst (λ (k : ℕ). WouldBeDeep k fault (tree_one part old k (record { number = s.root; low = 0; high = 2 ^ 64 - 1 }) (length old + length before))) (sym deepest_is) deep))
+
+-- a tree's root stands as its place does, and its entries rise
+pub tree_stands : (run : List Entry) (old : List (List ℕ)) (s : Stored) (id : ℕ) → s.decl ≡ Tree id → IsReady run old s → TreeStands old 32 (record { number = s.root; low = 0; high = 2 ^ 64 - 1 })
+tree_stands run old s id is ready =
+    let stands = subst (λ (d : Decl). StandsTo (format_of d) (IsPageOf d) old deepest (root_place d s.root)) is ready.stands in
+    subst (λ (k : ℕ). TreeStands old k (record { number = s.root; low = 0; high = 2 ^ 64 - 1 })) deepest_is stands
+
+-- the entries lie in the root's range
+pub array_keys : (run : List Entry) (old : List (List ℕ)) (s : Stored) (id size : ℕ) → s.decl ≡ Array id size → IsReady run old s → IsWithin run s
+array_keys run old s id size is ready =
+    let fit = subst (λ (d : Decl). FitStorage d (part_of (id_of d) run)) is ready.fit in
+    subst (λ (d : Decl). AllByRecursion (λ e. e.key ≤ (root_place d s.root).high) (part_of (id_of d) run)) (sym is) (array_within id size s.root (part_of id run) fit.0 fit.1)
+
+pub tree_keys : (run : List Entry) (s : Stored) (id : ℕ) (part : List Last) → s.decl ≡ Tree id → part ≡ part_of id run → AllByRecursion (λ e. e.key < 2 ^ 64) part → IsWithin run s
+tree_keys run s id part is same all =
+    subst (λ (d : Decl). AllByRecursion (λ e. e.key ≤ (root_place d s.root).high) (part_of (id_of d) run)) (sym is)
+    (subst (λ (l : List Last). AllByRecursion (λ e. e.key ≤ 2 ^ 64 - 1) l) same (all_weaker (λ e. e.key < 2 ^ 64) (λ e. e.key ≤ 2 ^ 64 - 1) (λ e h. omega (arith, h)) part all))
+
+-- what holds anyhow holds after an Ok
+pub if_any : {X E : Type 0} {P : Type 0} (r : Result X E) → P → OnOk r P
+if_any (Ok x) p = p
+if_any (Err e) p = tt
 
 -- ---- the first i storages
 
--- with those that are left they are all
+-- with those that are left they are all, and the entries of each lie in its root's range
 pub record StoragesSoFar (run : List Entry) (old : List (List ℕ)) (ss : List Stored) (i : ℕ) (made : List (List ℕ)) (roots : List ℕ) : Type 0 where
-  pub numbers : roots ++ (compose_storages run old (drop i ss) (length old + length made)).numbers ≡ (compose_storages run old ss (length old)).numbers
-  pub pages : made ++ (compose_storages run old (drop i ss) (length old + length made)).pages ≡ (compose_storages run old ss (length old)).pages
+  pub left : LeavesRest deepest roots [] made (compose_storages run old (drop i ss) (length old + length made)) (compose_storages run old ss (length old))
+  pub within : AllByRecursion (IsWithin run) (take i ss)
 
 pub none_so_far : (run : List Entry) (old : List (List ℕ)) (ss : List Stored) (made : List (List ℕ)) (roots : List ℕ) → made ≡ [] → roots ≡ [] → StoragesSoFar run old ss 0 made roots
 none_so_far run old ss made roots empty none =
-    let same : length old + length made ≡ length old = omega (arith, ap length empty) in
+    let zero : length old + 0 ≡ length old = omega arith in
     record {
-      numbers = ap (λ l. l ++ (compose_storages run old ss (length old + length made)).numbers) none ∙ ap (λ k. (compose_storages run old ss k).numbers) same;
-      pages = ap (λ l. l ++ (compose_storages run old ss (length old + length made)).pages) empty ∙ ap (λ k. (compose_storages run old ss k).pages) same;
+      left =
+          subst (λ (r : List ℕ). LeavesRest deepest r [] made (compose_storages run old ss (length old + length made)) (compose_storages run old ss (length old))) (sym none)
+          (subst (λ (m : List (List ℕ)). LeavesRest deepest [] [] m (compose_storages run old ss (length old + length m)) (compose_storages run old ss (length old))) (sym empty)
+          (subst (λ (k : ℕ). LeavesRest deepest [] [] [] (compose_storages run old ss k) (compose_storages run old ss (length old))) (sym zero) (none_left_out deepest [] (compose_storages run old ss (length old)))));
+      within = tt;
     }
 
+next_storage : (run : List Entry) (old : List (List ℕ)) (ss : List Stored) (i at : ℕ) (s d : Stored) → i < length ss → s ≡ get_or ss i d
+    → compose_storages run old (drop i ss) at ≡ with_one (compose_one run old s at) (compose_storages run old (drop (i + 1) ss) (at + length (compose_one run old s at).pages))
+next_storage run old ss i at s d here is =
+    ap (λ l. compose_storages run old l at) (drop_more ss i d here ∙ ap (λ x. x ∷ drop (i + 1) ss) (sym is))
+
 pub one_more_so_far : (run : List Entry) (old : List (List ℕ)) (ss : List Stored) (i : ℕ) (made after : List (List ℕ)) (roots : List ℕ) (s d : Stored) (n : ℕ) → i < length ss → s ≡ get_or ss i d
-    → StoragesSoFar run old ss i made roots → Adds made after n (compose_one run old s (length old + length made)) → StoragesSoFar run old ss (i + 1) after (roots ++ n ∷ [])
-one_more_so_far run old ss i made after roots s d n here is so_far adds =
-    let before : ℕ = length old + length made in
-    let m : Made = compose_one run old s (length old + length made) in
-    let rest : AllMade = compose_storages run old (drop (i + 1) ss) (length old + length made + length m.pages) in
-    let split : drop i ss ≡ s ∷ drop (i + 1) ss = drop_more ss i d here ∙ ap (λ x. x ∷ drop (i + 1) ss) (sym is) in
-    let whole : compose_storages run old (drop i ss) (length old + length made) ≡ with_one m rest = ap (λ l. compose_storages run old l (length old + length made)) split in
-    let count : length old + length after ≡ length old + length made + length m.pages = omega (arith, ap length adds.pages, length-append made m.pages) in
-    let same : compose_storages run old (drop (i + 1) ss) (length old + length after) ≡ rest = ap (compose_storages run old (drop (i + 1) ss)) count in
+    → StoragesSoFar run old ss i made roots → AddsWithin deepest made after n (compose_one run old s (length old + length made)) → IsWithin run s → StoragesSoFar run old ss (i + 1) after (roots ++ n ∷ [])
+one_more_so_far run old ss i made after roots s d n here is so_far adds within =
+    let one : Made = compose_one run old s (length old + length made) in
+    let count : length old + length made + length one.pages ≡ length old + length after = omega (arith, ap length adds.pages, length-append made one.pages) in
     record {
-      numbers =
-          ap (λ r. (roots ++ n ∷ []) ++ AllMade.numbers r) same
-          ∙ append_assoc roots (n ∷ []) rest.numbers
-          ∙ ap (λ k. roots ++ (k ∷ rest.numbers)) adds.number
-          ∙ ap (λ r. roots ++ AllMade.numbers r) (sym whole)
-          ∙ so_far.numbers;
-      pages =
-          ap (λ r. after ++ AllMade.pages r) same
-          ∙ ap (λ l. l ++ rest.pages) adds.pages
-          ∙ append_assoc made m.pages rest.pages
-          ∙ ap (λ r. made ++ AllMade.pages r) (sym whole)
-          ∙ so_far.pages;
+      left = subst (λ (k : ℕ). LeavesRest deepest (roots ++ n ∷ []) [] after (compose_storages run old (drop (i + 1) ss) k) (compose_storages run old ss (length old))) count
+          (rest_behind deepest n roots [] made after one (compose_storages run old (drop i ss) (length old + length made))
+          (compose_storages run old (drop (i + 1) ss) (length old + length made + length one.pages)) (compose_storages run old ss (length old))
+          (next_storage run old ss i (length old + length made) s d here is) so_far.left adds);
+      within = subst (AllByRecursion (IsWithin run)) (sym (take_more ss i d here ∙ ap (λ x. take i ss ++ x ∷ []) (sym is))) (all_push (IsWithin run) (take i ss) s so_far.within within);
+    }
+
+pub storage_deep : (run : List Entry) (old : List (List ℕ)) (ss : List Stored) (i : ℕ) (made : List (List ℕ)) (roots : List ℕ) (s d : Stored) (fault : ComposeFault) → i < length ss → s ≡ get_or ss i d
+    → StoragesSoFar run old ss i made roots → WouldBeDeep deepest fault (compose_one run old s (length old + length made)) → StoragesDeep run old ss fault
+storage_deep run old ss i made roots s d fault here is so_far deep =
+    let one : Made = compose_one run old s (length old + length made) in
+    record {
+      deep = deep.deep;
+      levels = rest_deep deepest fault roots [] made one (compose_storages run old (drop i ss) (length old + length made))
+          (compose_storages run old (drop (i + 1) ss) (length old + length made + length one.pages)) (compose_storages run old ss (length old))
+          (next_storage run old ss i (length old + length made) s d here is) so_far.left deep;
     }
 
 pub all_so_far : (run : List Entry) (old : List (List ℕ)) (ss : List Stored) (i : ℕ) (made : List (List ℕ)) (roots : List ℕ) → length ss ≤ i → StoragesSoFar run old ss i made roots → StoragesMade run old ss made roots
 all_so_far run old ss i made roots end so_far =
     let none : compose_storages run old (drop i ss) (length old + length made) ≡ record { numbers = []; pages = []; levels = 0 } = ap (λ l. compose_storages run old l (length old + length made)) (drop_all i ss end) in
-    record {
-      numbers = sym (append-nil roots) ∙ ap (λ r. roots ++ AllMade.numbers r) (sym none) ∙ so_far.numbers;
-      pages = sym (append-nil made) ∙ ap (λ r. made ++ AllMade.pages r) (sym none) ∙ so_far.pages;
-    }
+    let are = none_rest deepest roots [] made (compose_storages run old (drop i ss) (length old + length made)) (compose_storages run old ss (length old)) none so_far.left in
+    record { numbers = are.numbers_are; pages = are.pages; levels = are.levels; within = subst (AllByRecursion (IsWithin run)) (take_all i ss end) so_far.within }
 
 -- a storage that is ready
 pub ready_at : (run : List Entry) (old : List (List ℕ)) (ss : List Stored) (i : ℕ) (d : Stored) → i < length ss → AllByRecursion (IsReady run old) ss → IsReady run old (get_or ss i d)
@@ -134,8 +184,26 @@ place_stands run old s id size number high wide is ready root last same =
 
 pub place_adds : (run : List Entry) (old before after : List (List ℕ)) (s : Stored) (id size number high : ℕ) (part : List Last) (n : ℕ) → s.decl ≡ Array id size → part ≡ part_of id run → number ≡ s.root → high ≡ last_index size
     → Adds before after n (array_one part old 32 (record { number = number; low = 0; high = high }) (length old + length before))
-    → Adds before after n (compose_one run old s (length old + length before))
+    → AddsWithin deepest before after n (compose_one run old s (length old + length before))
 place_adds run old before after s id size number high part n is same root last adds =
-    one_adds run old before after s id size part n is same
+    array_adds run old before after s id size part n is same
     (subst (λ (k : ℕ). Adds before after n (array_one part old 32 (record { number = s.root; low = 0; high = k }) (length old + length before))) last
     (subst (λ (k : ℕ). Adds before after n (array_one part old 32 (record { number = k; low = 0; high = high }) (length old + length before))) root adds))
+
+-- a tree's place, with the root told otherwise
+pub tree_place : (old : List (List ℕ)) (number root : ℕ) → number ≡ root → TreeStands old 32 (record { number = root; low = 0; high = 2 ^ 64 - 1 }) → TreeStands old 32 (record { number = number; low = 0; high = 2 ^ 64 - 1 })
+tree_place old number root same s = subst (λ (k : ℕ). TreeStands old 32 (record { number = k; low = 0; high = 2 ^ 64 - 1 })) (sym same) s
+
+pub tree_place_adds : (run : List Entry) (old before after : List (List ℕ)) (s : Stored) (id number : ℕ) (part : List Last) (n : ℕ) → s.decl ≡ Tree id → part ≡ part_of id run → number ≡ s.root
+    → AddsWithin 32 before after n (tree_one part old 32 (record { number = number; low = 0; high = 2 ^ 64 - 1 }) (length old + length before))
+    → AddsWithin deepest before after n (compose_one run old s (length old + length before))
+tree_place_adds run old before after s id number part n is same root adds =
+    tree_adds run old before after s id part n is same
+    (subst (λ (k : ℕ). AddsWithin 32 before after n (tree_one part old 32 (record { number = k; low = 0; high = 2 ^ 64 - 1 }) (length old + length before))) root adds)
+
+pub tree_place_deep : (run : List Entry) (old before : List (List ℕ)) (s : Stored) (id number : ℕ) (part : List Last) (fault : ComposeFault) → s.decl ≡ Tree id → part ≡ part_of id run → number ≡ s.root
+    → WouldBeDeep 32 fault (tree_one part old 32 (record { number = number; low = 0; high = 2 ^ 64 - 1 }) (length old + length before))
+    → WouldBeDeep deepest fault (compose_one run old s (length old + length before))
+tree_place_deep run old before s id number part fault is same root deep =
+    tree_deep run old before s id part fault is same
+    (subst (λ (k : ℕ). WouldBeDeep 32 fault (tree_one part old 32 (record { number = k; low = 0; high = 2 ^ 64 - 1 }) (length old + length before))) root deep)

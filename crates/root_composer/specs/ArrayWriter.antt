@@ -1,10 +1,11 @@
 -- How the pages of an array are written anew.
-use Rattle.std.specs.Prelude.{◌≡◌, ℕ, ◌+◌, ◌-◌, ◌*◌, ◌<◌, List, [], ◌∷◌, Option, Some, None, cond, slice_set, suc}
+use Rattle.std.specs.Prelude.{◌≡◌, ℕ, ◌+◌, ◌-◌, ◌*◌, ◌<◌, List, [], ◌∷◌, Option, Some, None, cond, slice_set, suc, ⊤}
 use Rattle.serial_model.specs.declared.number.Number.{Number}
 use Rattle.serial_model.specs.Numbers.{IsNumber}
 use Rattle.wire_form.specs.Words.{number_word}
 use Rattle.wire_form.specs.Bytes.{padded}
 use Rattle.snapshot_store.specs.ArrayPages.{fan}
+use Rattle.snapshot_store.specs.declared.place.Place.{Place}
 use Rattle.root_composer.specs.declared.last.Last.{Last}
 use Rattle.root_composer.specs.Overlaid.{is_between}
 use Rattle.root_composer.specs.Composer.{Writer}
@@ -29,6 +30,10 @@ pub record IsPut (size : ℕ) (e : Last) : Type 0 where
   pub key : e.key < size
   pub number : (n : Number) × IsNumber n × (e.number ≡ number_word n)
   pub value : (v : ℕ) × (e.value ≡ Some v)
+
+-- a leaf is written anew as one leaf, so no shape is asked for
+abbrev pub AnyShape : List (List ℕ) → Place → Type 0
+AnyShape pages p = ⊤
 
 -- a leaf gets the run's records, and an interior page is its children's numbers
 abbrev pub array_writer : Writer

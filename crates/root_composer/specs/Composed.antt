@@ -3,7 +3,7 @@ use Rattle.std.specs.Prelude.{◌≡◌, ℕ, ◌+◌, ◌<◌, ◌≤◌, true,
 use Rattle.std.specs.List.{AllByRecursion, flat_map}
 use Rattle.root_composer.specs.Overlaid.{entry_for, touches, overlaid}
 use Rattle.root_composer.specs.declared.last.Last.{Last}
-use Rattle.snapshot_store.specs.Places.{Found, Format, moved, on_way, find, StandsTo, newer}
+use Rattle.snapshot_store.specs.Places.{Found, Format, moved, places_below, on_way, find, StandsTo, newer}
 use Rattle.snapshot_store.specs.declared.place.Place.{Place}
 
 -- so many numbers in a row as there are pages
@@ -16,23 +16,28 @@ pub record Follows (run : List Last) (have : ℕ) (p : Place) (n : ℕ) : Type 0
   pub kept : touches run p.low p.high ≡ false → n ≡ p.number
   pub made : touches run p.low p.high ≡ true → have < n
 
+-- the same, and what stands for the range of a leaf with entries has the shape that is asked for
+pub record Succeeds (F : Format) (S : List (List ℕ) → Place → Type 0) (run : List Last) (old new : List (List ℕ)) (p : Place) (n : ℕ) : Type 0 where
+  pub follows : Follows run (length old) p n
+  pub shape : touches run p.low p.high ≡ true → places_below F old p ≡ [] → S new (moved p n)
+
 -- the range of every old pointer has one new page, the one that follows it
-abbrev pub WaysFollow : Format → List Last → List (List ℕ) → List (List ℕ) → Place → Place → Type 0
-WaysFollow F run old new p r =
+abbrev pub WaysFollow : Format → (List (List ℕ) → Place → Type 0) → List Last → List (List ℕ) → List (List ℕ) → Place → Place → Type 0
+WaysFollow F S run old new p r =
     (d key : ℕ) (q : Place) → p.low ≤ key → key ≤ p.high → on_way F old d key p ≡ Some q
-    → (n : ℕ) × (on_way F new d key r ≡ Some (moved q n)) × Follows run (length old) q n
+    → (n : ℕ) × (on_way F new d key r ≡ Some (moved q n)) × Succeeds F S run old new q n
 
 -- n stands for the range of p: pages that have entries below it are new, the others as they were, and what is found is what was there under the entries
-pub record Replaces (F : Format) (Is : Place → List ℕ → Type 0) (run : List Last) (old new : List (List ℕ)) (depth d : ℕ) (p : Place) (n : ℕ) : Type 0 where
+pub record Replaces (F : Format) (Is : Place → List ℕ → Type 0) (S : List (List ℕ) → Place → Type 0) (run : List Last) (old new : List (List ℕ)) (depth d : ℕ) (p : Place) (n : ℕ) : Type 0 where
   pub follows : Follows run (length old) p n
-  pub ways : WaysFollow F run old new p (moved p n)
+  pub ways : WaysFollow F S run old new p (moved p n)
   pub content : (key : ℕ) → p.low ≤ key → key ≤ p.high → find F new d key (moved p n) ≡ overlaid (find F old depth key p) (entry_for run key)
   pub stands : StandsTo F Is new d (moved p n)
 
 -- what was made for a place, after the pages before: n stands for its range from then on, whatever pages come later,
 -- and it leads to the made pages, to each once, children first
-pub record IsMade (F : Format) (Is : Place → List ℕ → Type 0) (run : List Last) (old before made : List (List ℕ)) (depth levels : ℕ) (p : Place) (n : ℕ) : Type 0 where
-  pub replaces : (later : List (List ℕ)) (d : ℕ) → levels ≤ d → Replaces F Is run old (before ++ (made ++ later)) depth d p n
+pub record IsMade (F : Format) (Is : Place → List ℕ → Type 0) (S : List (List ℕ) → Place → Type 0) (run : List Last) (old before made : List (List ℕ)) (depth levels : ℕ) (p : Place) (n : ℕ) : Type 0 where
+  pub replaces : (later : List (List ℕ)) (d : ℕ) → levels ≤ d → Replaces F Is S run old (before ++ (made ++ later)) depth d p n
   pub order : (later : List (List ℕ)) (d : ℕ) → levels ≤ d
       → newer F (before ++ (made ++ later)) (length old) d (moved p n) ≡ numbered (length before + 1) made
   pub least : (later : List (List ℕ)) (d : ℕ) → depth ≤ d → StandsTo F Is (before ++ (made ++ later)) d (moved p n) → levels ≤ d
@@ -52,8 +57,8 @@ EachWith R (q ∷ qs) [] = ⊥
 EachWith R (q ∷ qs) (n ∷ ns) = R q n × EachWith R qs ns
 
 -- the same of what was made for places in a row, from left to right
-pub record AreMade (F : Format) (Is : Place → List ℕ → Type 0) (run : List Last) (old before made : List (List ℕ)) (depth levels : ℕ) (qs : List Place) (ns : List ℕ) : Type 0 where
-  pub replaces : (later : List (List ℕ)) (d : ℕ) → levels ≤ d → EachWith (Replaces F Is run old (before ++ (made ++ later)) depth d) qs ns
+pub record AreMade (F : Format) (Is : Place → List ℕ → Type 0) (S : List (List ℕ) → Place → Type 0) (run : List Last) (old before made : List (List ℕ)) (depth levels : ℕ) (qs : List Place) (ns : List ℕ) : Type 0 where
+  pub replaces : (later : List (List ℕ)) (d : ℕ) → levels ≤ d → EachWith (Replaces F Is S run old (before ++ (made ++ later)) depth d) qs ns
   pub order : (later : List (List ℕ)) (d : ℕ) → levels ≤ d
       → flat_map (newer F (before ++ (made ++ later)) (length old) d) (all_moved qs ns) ≡ numbered (length before + 1) made
   pub least : (later : List (List ℕ)) (d : ℕ) → depth ≤ d → AllByRecursion (StandsTo F Is (before ++ (made ++ later)) d) (all_moved qs ns) → levels ≤ d

@@ -52,9 +52,9 @@ abbrev pub MayName : List Last → ℕ → ℕ → Place → ℕ → Type 0
 MayName run have number q n = (n < number) × Follows run have q n
 
 -- leaves and interior pages are written as their format asks
-pub record IsLawful (F : Format) (Is : Place → List ℕ → Type 0) (W : Writer) (run : List Last) (old : List (List ℕ)) : Type 0 where
+pub record IsLawful (F : Format) (Is : Place → List ℕ → Type 0) (S : List (List ℕ) → Place → Type 0) (W : Writer) (run : List Last) (old : List (List ℕ)) : Type 0 where
   pub leaf : (siblings : List (List ℕ)) (depth : ℕ) (p : Place) → StandsTo F Is old (suc depth) p → touches run p.low p.high ≡ true → places_below F old p ≡ []
-      → IsMade F Is run old (old ++ siblings) (W.leaf (words_at old p) p run (length (old ++ siblings))).pages (suc depth) (W.leaf (words_at old p) p run (length (old ++ siblings))).levels p
+      → IsMade F Is S run old (old ++ siblings) (W.leaf (words_at old p) p run (length (old ++ siblings))).pages (suc depth) (W.leaf (words_at old p) p run (length (old ++ siblings))).levels p
       (W.leaf (words_at old p) p run (length (old ++ siblings))).number
   pub below : (w : List ℕ) (p : Place) (number : ℕ) (ns : List ℕ) → Is p w → EachWith (MayName run (length old) number) (F.below w p.low p.high) ns
       → F.below (W.inner w p ns) p.low p.high ≡ all_moved (F.below w p.low p.high) ns
@@ -62,7 +62,7 @@ pub record IsLawful (F : Format) (Is : Place → List ℕ → Type 0) (W : Write
       → EachWith (MayName run (length old) number) (F.below w p.low p.high) ns → Is (moved p number) (W.inner w p ns)
 
 -- what is composed for a place, after the old pages and those of siblings, is as it should be
-abbrev pub IsComposed : Format → (Place → List ℕ → Type 0) → Writer → List Last → List (List ℕ) → List (List ℕ) → ℕ → Place → Type 0
-IsComposed F Is W run old siblings depth p =
-    IsMade F Is run old (old ++ siblings) (compose F W run old depth p (length (old ++ siblings))).pages depth (compose F W run old depth p (length (old ++ siblings))).levels p
+abbrev pub IsComposed : Format → (Place → List ℕ → Type 0) → (List (List ℕ) → Place → Type 0) → Writer → List Last → List (List ℕ) → List (List ℕ) → ℕ → Place → Type 0
+IsComposed F Is S W run old siblings depth p =
+    IsMade F Is S run old (old ++ siblings) (compose F W run old depth p (length (old ++ siblings))).pages depth (compose F W run old depth p (length (old ++ siblings))).levels p
     (compose F W run old depth p (length (old ++ siblings))).number

@@ -10,11 +10,11 @@ use Rattle.wire_form.specs.declared.records.Stored.{Stored}
 use Rattle.wire_form.specs.Items.{Rises}
 use Rattle.wire_form.specs.LogFile.{has_place_for}
 use Rattle.wire_form.specs.Pages.{Contents, decls_of}
-use Rattle.snapshot_store.specs.Content.{record_in, IsContent, SnapshotStands}
+use Rattle.snapshot_store.specs.Content.{deepest, record_in, IsContent, RootStands, SnapshotStands}
 use Rattle.log_reducer.specs.Reduced.{entry_key}
 use Rattle.log_reducer.specs.Overlay.{overlay}
 use Rattle.root_composer.specs.Composed.{numbered}
-use Rattle.root_composer.specs.Storages.{IsArray, AreComposed, newer_of}
+use Rattle.root_composer.specs.Storages.{AreComposed, newer_of}
 
 -- an entry of one of the storages, with a commit number of an epoch up to this one
 pub record IsEntryOf (decls : List Decl) (epoch : ℕ) (e : Entry) : Type 0 where
@@ -25,7 +25,6 @@ pub record IsEntryOf (decls : List Decl) (epoch : ℕ) (e : Entry) : Type 0 wher
 -- a snapshot stands, and the run has entries of its storages, one a key at most, up to a later epoch
 pub record CanCompose (pages : List (List ℕ)) (number : ℕ) (contents : Contents) (run : List Entry) (epoch : ℕ) : Type 0 where
   pub stands : SnapshotStands pages number contents
-  pub arrays : AllByRecursion (λ s. IsArray s.decl) contents.storages
   pub entries : AllByRecursion (IsEntryOf (decls_of contents) epoch) run
   pub rising : Rises IsKeyBelow (map entry_key run)
   pub later : contents.epoch < epoch
@@ -39,10 +38,19 @@ next_contents epoch number storages = record { epoch = epoch; previous = number;
 -- but the last, which is the catalogue. Its content is the old one's under the run.
 pub record IsComposed (run : List Entry) (epoch number : ℕ) (contents : Contents) (pages made : List (List ℕ)) : Type 0 where
   pub storages : List Stored
-  pub each : AreComposed run pages (pages ++ made) contents.storages storages
-  pub order : newer_of (pages ++ made) (length pages) storages ++ (length pages + length made) ∷ [] ≡ numbered (length pages + 1) made
+  pub each : AreComposed run pages (pages ++ made) deepest contents.storages storages
+  pub order : newer_of (pages ++ made) (length pages) deepest storages ++ (length pages + length made) ∷ [] ≡ numbered (length pages + 1) made
   pub stands : SnapshotStands (pages ++ made) (length pages + length made) (next_contents epoch number storages)
   pub content : (state : State) → IsContent (record_in pages) contents.storages state → IsContent (record_in (pages ++ made)) storages (overlay state run)
+
+-- The pages that would be made, but for the catalogue, are those of a composed snapshot in all but this: some root
+-- leads to more pages one below another than may stand there.
+pub record IsTooDeep (run : List Entry) (contents : Contents) (pages made : List (List ℕ)) : Type 0 where
+  pub storages : List Stored
+  pub depth : ℕ
+  pub each : AreComposed run pages (pages ++ made) depth contents.storages storages
+  pub order : newer_of (pages ++ made) (length pages) depth storages ≡ numbered (length pages + 1) made
+  pub deep : AllByRecursion (RootStands (pages ++ made)) storages → ⊥
 
 -- so many pages would be made
 abbrev pub WouldCompose : List Entry → ℕ → ℕ → Contents → List (List ℕ) → ℕ → Type 0

@@ -5,3 +5,7 @@ pub mod ArrayWriter
 pub mod ArrayCode
 pub mod Storages
 pub mod Composition
+pub mod Rows
+pub mod Build
+pub mod Shape
+pub mod TreeCode

@@ -1,44 +1,15 @@
 // Composing the pages of an array.
 ghost use Rattle.std.specs.Prelude.{◌≡◌, ℕ, ◌+◌, ◌-◌, ◌*◌, ◌<◌, ◌≤◌, List, IfOk, length};
 ghost use Rattle.std.specs.List.Sorted.{IsNonDecreasingBy};
-ghost use Rattle.wire_form.specs.Bytes.{padded};
-ghost use Rattle.snapshot_store.specs.Places.{page};
 ghost use Rattle.snapshot_store.specs.Content.{words_of};
-ghost use Rattle.root_composer.specs.Overlaid.{touches};
 ghost use Rattle.root_composer.specs.ArrayWriter.{put, put_all};
 ghost use Rattle.root_composer.specs.ArrayCode.{ArrayStands, array_one, Adds};
 
 use crate::Last;
+use crate::range::{has_entry, within};
+use crate::words::page_words;
 use lists::Memory;
 use snapshot_store::{Place, SnapStore};
-use wire_form::Page;
-
-/// Whether the run, which is in order, has an entry in a range.
-fn has_entry(run: &[Last], low: u64, high: u64) -> bool
-    requires order { IsNonDecreasingBy (λ e. e.key) run.now }
-    ensures { result ≡ touches run.now low high }
-{
-    let i = run.partition_point(|e| e.key < low);
-    if i >= run.len() {
-        return false;
-    }
-    run[i].key <= high
-}
-
-/// A page's words, or zeros where there is no page.
-fn page_words(store: &SnapStore, number: u64) -> [u64; 64]
-    requires { number ≤ length store.now.pages }
-    ensures is { result ≡ padded 64 (page (words_of store.now.pages) number) }
-    ensures long { length result ≡ 64 }
-{
-    if number == 0 {
-        return [0; 64];
-    }
-    let count = u64::from(store.count());
-    prove!(number <= count);
-    let Page { words, .. } = *store.page(number as u32);
-    words
-}
 
 /// Puts a record at an index of a leaf.
 fn put_record(words: &mut [u64; 64], i: usize, number: u64, value: Option<u64>)
@@ -87,7 +58,7 @@ pub fn compose_array(
     }
     let mut words = page_words(store, p.number);
     if p.high - p.low < 32 {
-        put_records(&mut words, run, p.low, p.high);
+        put_records(&mut words, within(run, p.low, p.high), p.low, p.high);
     } else {
         let part = (p.high - p.low + 1) / 64;
         let mut low = p.low;

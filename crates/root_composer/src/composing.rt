@@ -3,22 +3,14 @@ ghost use Rattle.std.specs.Prelude.{◌≡◌, ℕ, ◌+◌, ◌<◌, ◌≤◌,
 ghost use Rattle.wire_form.specs.Pages.{Contents};
 ghost use Rattle.snapshot_store.specs.Store.{NumberedFrom};
 ghost use Rattle.snapshot_store.specs.Content.{words_of};
-ghost use Rattle.root_composer.specs.Composition.{CanCompose, IsComposed, WouldCompose};
+ghost use Rattle.root_composer.specs.Composition.{CanCompose, IsComposed, IsTooDeep, WouldCompose};
 
+use crate::ComposeFault;
 use crate::storages::{compose_storages, storages_of, with_roots};
 use lists::{Memory, OrMemory, Sequence};
 use snapshot_store::SnapStore;
 use std::alloc::Global;
 use wire_form::{Page, PageKind, Run, catalogue_words};
-
-/// Why no snapshot can be composed.
-#[derive(Clone, Copy, Debug, PartialEq, Eq)]
-pub enum ComposeFault {
-    /// A page would stand below 32 others.
-    Deep,
-    /// So many pages and so many new ones are more than there is room for.
-    Limit { have: u32, new: u64, room: u32 },
-}
 
 /// The pages to append, the catalogue last.
 pub type NewPages = Sequence<Page>;
@@ -58,7 +50,9 @@ pub fn compose(
         → IsComposed run.now epoch catalogue contents (words_of store.now.pages) (words_of pages)) }
     ensures numbered { IfOk result (λ pages. NumberedFrom (length store.now.pages + 1) pages) }
     ensures within { IfOk result (λ pages. length store.now.pages + length pages ≤ room) }
-    ensures never_deep { result ≡ Err (OrMemory.Fault ComposeFault.Deep) → ⊥ }
+    ensures deep { result ≡ Err (OrMemory.Fault ComposeFault.Deep) → (contents : Contents)
+        → CanCompose (words_of store.now.pages) catalogue contents run.now epoch
+        → (made : List (List ℕ)) × IsTooDeep run.now contents (words_of store.now.pages) made }
     ensures limit { (have new most : ℕ) → result ≡ Err (OrMemory.Fault (ComposeFault.Limit have new most))
         → (have ≡ length store.now.pages) × (most ≡ room) × (room < have + new)
         × ((contents : Contents) → CanCompose (words_of store.now.pages) catalogue contents run.now epoch

@@ -1,18 +1,20 @@
 // All storages of a snapshot.
-ghost use Rattle.std.specs.Prelude.{◌≡◌, ℕ, ◌+◌, ◌<◌, ◌≤◌, ◌^◌, [], IfOk, length, map};
+ghost use Rattle.std.specs.Prelude.{◌≡◌, ℕ, ◌+◌, ◌<◌, ◌≤◌, ◌^◌, [], Err, IfOk, OnOk, length, map};
 ghost use Rattle.std.specs.List.{AllByRecursion};
 ghost use Rattle.serial_model.specs.Keys.{IsKeyBelow};
 ghost use Rattle.serial_model.specs.Numbers.{IsNumber};
 ghost use Rattle.wire_form.specs.Items.{Rises};
 ghost use Rattle.wire_form.specs.Pages.{Contents, IsCatalogue, catalogue_words};
-ghost use Rattle.snapshot_store.specs.Content.{words_of, last_index};
+ghost use Rattle.snapshot_store.specs.Content.{words_of, deepest, last_index};
 ghost use Rattle.log_reducer.specs.Reduced.{entry_key};
-ghost use Rattle.root_composer.specs.ArrayCode.{Adds};
-ghost use Rattle.root_composer.specs.Storages.{IsReady, compose_one, with_roots, StoragesMade};
+ghost use Rattle.root_composer.specs.TreeCode.{AddsWithin, WouldBeDeep};
+ghost use Rattle.root_composer.specs.Storages.{IsReady, IsWithin, compose_one, with_roots, StoragesMade, StoragesDeep};
 
+use crate::ComposeFault;
 use crate::array::compose_array;
 use crate::part::entries_of;
-use lists::Memory;
+use crate::tree::compose_tree;
+use lists::{Memory, OrMemory};
 use serial_model::Decl;
 use snapshot_store::{Place, SnapStore};
 use std::alloc::Global;
@@ -44,24 +46,38 @@ fn compose_one(
     run: &[Entry],
     stored: &Stored,
     made: &mut Vec<[u64; 64]>,
-) -> Result<u64, Memory>
+) -> Result<u64, OrMemory<ComposeFault>>
     requires ready { IsReady run.now (words_of store.now.pages) stored.now }
     requires numbers { AllByRecursion (λ e. IsNumber e.number) run.now }
     requires rising { Rises IsKeyBelow (map entry_key run.now) }
-    ensures { IfOk result (λ n. Adds made.old.items made.new.items n
+    ensures made { IfOk result (λ n. AddsWithin deepest made.old.items made.new.items n
         (compose_one run.now (words_of store.now.pages) stored.now (length (words_of store.now.pages) + length made.old.items))) }
+    ensures within { OnOk result (IsWithin run.now stored.now) }
+    ensures deep { (fault : ComposeFault) → result ≡ Err (OrMemory.Fault fault) → WouldBeDeep deepest fault
+        (compose_one run.now (words_of store.now.pages) stored.now (length (words_of store.now.pages) + length made.old.items)) }
 {
+    let number = u64::from(stored.root);
     match stored.decl {
         Decl::Array { id, size } => {
             let part = entries_of(alloc, run, id)?;
+            let high = last_index(size);
             let place = Place {
-                number: u64::from(stored.root),
+                number,
                 low: 0,
-                high: last_index(size),
+                high,
             };
-            compose_array(store, made, &part, u64::from(size), DEEPEST, place)
+            let root = compose_array(store, made, &part, u64::from(size), DEEPEST, place)?;
+            Ok(root)
         }
-        Decl::Tree { .. } => unreachable!(),
+        Decl::Tree { id } => {
+            let entries = entries_of(alloc, run, id)?;
+            let place = Place {
+                number,
+                low: 0,
+                high: u64::MAX,
+            };
+            compose_tree(alloc, store, made, entries.as_slice(), DEEPEST, place)
+        }
     }
 }
 
@@ -72,12 +88,14 @@ pub fn compose_storages(
     run: &[Entry],
     storages: &[Stored],
     made: &mut Vec<[u64; 64]>,
-) -> Result<Vec<u64>, Memory>
+) -> Result<Vec<u64>, OrMemory<ComposeFault>>
     requires ready { AllByRecursion (IsReady run.now (words_of store.now.pages)) storages.now }
     requires numbers { AllByRecursion (λ e. IsNumber e.number) run.now }
     requires rising { Rises IsKeyBelow (map entry_key run.now) }
     requires empty { made.old.items ≡ [] }
-    ensures { IfOk result (λ roots. StoragesMade run.now (words_of store.now.pages) storages.now made.new.items roots.items) }
+    ensures made { IfOk result (λ roots. StoragesMade run.now (words_of store.now.pages) storages.now made.new.items roots.items) }
+    ensures deep { (fault : ComposeFault) → result ≡ Err (OrMemory.Fault fault)
+        → StoragesDeep run.now (words_of store.now.pages) storages.now fault }
 {
     let mut roots = Vec::with_capacity(alloc, storages.len())?;
     for stored in storages {

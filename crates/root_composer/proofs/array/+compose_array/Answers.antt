@@ -1,10 +1,13 @@
-use Rattle.std.proofs.Common.{◌≡◌, ◌+◌, ◌-◌, ◌/◌, ◌++◌, true, ◌∷◌, [], length, sym, ap, ◌∙◌, arith}
+use Rattle.std.proofs.Common.{◌≡◌, ◌+◌, ◌-◌, ◌/◌, ◌++◌, true, List, ◌∷◌, [], length, sym, ap, ◌∙◌, arith}
 use Rattle.std.proofs.lemmas.List.{length-set, length-append, length-map}
 use Rattle.wire_form.specs.declared.page.Page.{Page}
 use Rattle.snapshot_store.specs.Content.{words_of}
 use Rattle.root_composer.specs.Overlaid.{touches}
+use Rattle.root_composer.specs.declared.last.Last.{Last}
+use Rattle.root_composer.specs.ArrayWriter.{put_all}
 use Rattle.root_composer.specs.ArrayCode.{array_one}
 use Rattle.root_composer.proofs.OverlayLemmas.{touched_range}
+use Rattle.root_composer.proofs.RangeLemmas.{put_all-within}
 use Rattle.root_composer.proofs.ArrayLaw.{fan_is}
 use Rattle.root_composer.proofs.ArrayCode.{next_stands, one_more_composed, code_begins, leaf_end, inner_end, as_pushed, depth_some}
 use Rattle.root_composer.proofs.array.+compose_array.Goals as goal
@@ -47,7 +50,9 @@ returns t c =
       | then-p-lt32 w ↦
           let same : c.if-p-lt32.made.items ≡ c.args.made.now.items = ap (λ v. v.items) w.made-is in
           leaf_end c.args.run.now c.args.size (words_of c.args.store.now.pages) c.args.made.now.items c.if-p-lt32.made.items c.args.depth c.args.p c.if-p-lt32.words c.page_words-words.result c.requires.stands some touched w.if-p-lt32.true c.page_words-words.ensures.is
-          (w.words-is ∙ w.put_records.ensures) same
+          (w.words-is ∙ w.put_records.ensures
+          ∙ ap (λ (l : List Last). put_all c.args.p.low c.args.p.high l c.page_words-words.result) w.within.ensures
+          ∙ put_all-within c.args.p.low c.args.p.high c.args.run.now c.page_words-words.result) same
       | else-p-lt32+else-loop-i-test w ↦
           let same : c.if-p-lt32.made.items ≡ w.loop-i.made.items = ap (λ v. v.items) w.made-is in
           inner_end c.args.run.now c.args.size (words_of c.args.store.now.pages) c.args.made.now.items w.loop-i.made.items c.if-p-lt32.made.items c.args.depth w.loop-i.i w.loop-i.low c.args.p c.page_words-words.result w.loop-i.words c.if-p-lt32.words c.requires.stands some touched w.if-p-lt32.false

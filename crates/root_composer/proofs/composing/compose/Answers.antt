@@ -1,5 +1,7 @@
 use Rattle.std.proofs.Common.{◌≡◌, ◌<◌, ℕ, ◌+◌, ◌^◌, List, ◌∷◌, ◌++◌, [], length, sym, ap, subst, ◌∙◌, arith}
 use Rattle.std.specs.List.{AllByRecursion}
+use Rattle.std.proofs.lemmas.Result.{err_from_is_err_and}
+use Rattle.root_composer.specs.declared.fault.ComposeFault.TheVariants.{Deep}
 use Rattle.serial_model.specs.Numbers.{IsNumber}
 use Rattle.wire_form.specs.declared.bucket.Entry.{Entry}
 use Rattle.wire_form.specs.declared.records.Stored.{Stored}
@@ -8,9 +10,9 @@ use Rattle.snapshot_store.specs.Content.{words_of}
 use Rattle.root_composer.specs.Storages.{IsReady, with_roots}
 use Rattle.root_composer.specs.Composition.{IsComposed, next_contents}
 use Rattle.root_composer.proofs.RunLemmas.{all_numbers}
-use Rattle.root_composer.proofs.Compositions.{snapshot_made}
+use Rattle.root_composer.proofs.Compositions.{snapshot_made, snapshot_deep}
 use Rattle.root_composer.proofs.ReadyLemmas.{ready}
-use Rattle.root_composer.proofs.ComposeSteps.{catalogue_read, read_and_made, roots_fit, small_roots, few_pages, rooted, few_rooted, would_compose}
+use Rattle.root_composer.proofs.ComposeSteps.{catalogue_read, read_and_made, deep_of, roots_fit, small_roots, few_pages, rooted, few_rooted, would_compose}
 use Rattle.root_composer.proofs.composing.compose.Goals as goal
 
 pub compose_storages-requires-clause-ready : goal.compose_storages-requires-clause-ready
@@ -38,7 +40,7 @@ returns-then-from-new-clause-limit c have new most e =
       sym room,
       omega (arith, had, count, c.if-from-new.true, c.from.ensures, c.from-2.ensures),
       λ contents can.
-          let at = read_and_made c.args.store.now.pages c.args.catalogue contents c.args.run.now c.as_slice.result.now c.args.epoch c.page.result.now c.in_ok-storages.storages.items c.deref.result.now c.compose_storages.new.made.items c.in_ok-roots.roots.items can c.page.ensures.page c.as_slice.ensures c.deref.ensures.value c.in_ok-storages.ensures c.in_ok-roots.ensures in
+          let at = read_and_made c.args.store.now.pages c.args.catalogue contents c.args.run.now c.as_slice.result.now c.args.epoch c.page.result.now c.in_ok-storages.storages.items c.deref.result.now c.compose_storages.new.made.items c.in_ok-roots.roots.items can c.page.ensures.page c.as_slice.ensures c.deref.ensures.value c.in_ok-storages.ensures c.in_ok-roots.ensures.made in
           would_compose (words_of c.args.store.now.pages) c.args.catalogue contents c.args.run.now c.args.epoch c.compose_storages.new.made.items c.in_ok-roots.roots.items new can at.all (omega (arith, count, c.len.ensures, c.compose_storages.new.made.ok)),
     )
 
@@ -46,7 +48,7 @@ pub with_roots-requires-clause-each : goal.with_roots-requires-clause-each
 with_roots-requires-clause-each c =
     let contents = c.requires.can.0 in
     let can = c.requires.can.1 in
-    let at = read_and_made c.args.store.now.pages c.args.catalogue contents c.args.run.now c.as_slice.result.now c.args.epoch c.page.result.now c.in_ok-storages.storages.items c.deref.result.now c.compose_storages.new.made.items c.in_ok-roots.roots.items can c.page.ensures.page c.as_slice.ensures c.deref.ensures.value c.in_ok-storages.ensures c.in_ok-roots.ensures in
+    let at = read_and_made c.args.store.now.pages c.args.catalogue contents c.args.run.now c.as_slice.result.now c.args.epoch c.page.result.now c.in_ok-storages.storages.items c.deref.result.now c.compose_storages.new.made.items c.in_ok-roots.roots.items can c.page.ensures.page c.as_slice.ensures c.deref.ensures.value c.in_ok-storages.ensures c.in_ok-roots.ensures.made in
     let fit = roots_fit (words_of c.args.store.now.pages) c.args.catalogue contents c.args.run.now c.args.epoch c.compose_storages.new.made.items c.in_ok-roots.roots.items can at.all in
     subst (λ (l : List ℕ). AllByRecursion (λ n. n < 2 ^ 32) l) (sym c.deref-3.ensures.value)
     (small_roots contents.storages (length (words_of c.args.store.now.pages) + length c.compose_storages.new.made.items) c.in_ok-roots.roots.items (few_pages c.args.store.now.pages c.compose_storages.new.made.items c.count-have.result c.len.result c.args.room c.count-have.ensures.count (omega (arith, c.len.ensures, c.compose_storages.new.made.ok)) (omega (arith, c.if-from-new.false, c.from.ensures, c.from-2.ensures)) c.requires.room) fit)
@@ -55,7 +57,7 @@ pub with_roots-requires-clause-count : goal.with_roots-requires-clause-count
 with_roots-requires-clause-count c =
     let contents = c.requires.can.0 in
     let can = c.requires.can.1 in
-    let at = read_and_made c.args.store.now.pages c.args.catalogue contents c.args.run.now c.as_slice.result.now c.args.epoch c.page.result.now c.in_ok-storages.storages.items c.deref.result.now c.compose_storages.new.made.items c.in_ok-roots.roots.items can c.page.ensures.page c.as_slice.ensures c.deref.ensures.value c.in_ok-storages.ensures c.in_ok-roots.ensures in
+    let at = read_and_made c.args.store.now.pages c.args.catalogue contents c.args.run.now c.as_slice.result.now c.args.epoch c.page.result.now c.in_ok-storages.storages.items c.deref.result.now c.compose_storages.new.made.items c.in_ok-roots.roots.items can c.page.ensures.page c.as_slice.ensures c.deref.ensures.value c.in_ok-storages.ensures c.in_ok-roots.ensures.made in
     let fit = roots_fit (words_of c.args.store.now.pages) c.args.catalogue contents c.args.run.now c.args.epoch c.compose_storages.new.made.items c.in_ok-roots.roots.items can at.all in
     ap length c.deref-3.ensures.value ∙ fit.count ∙ ap length (sym (c.deref-2.ensures.value ∙ sym c.deref.ensures.value ∙ at.same))
 
@@ -63,17 +65,24 @@ pub catalogue_words-requires : goal.catalogue_words-requires
 catalogue_words-requires c =
     let contents = c.requires.can.0 in
     let can = c.requires.can.1 in
-    let at = read_and_made c.args.store.now.pages c.args.catalogue contents c.args.run.now c.as_slice.result.now c.args.epoch c.page.result.now c.in_ok-storages.storages.items c.deref.result.now c.compose_storages.new.made.items c.in_ok-roots.roots.items can c.page.ensures.page c.as_slice.ensures c.deref.ensures.value c.in_ok-storages.ensures c.in_ok-roots.ensures in
+    let at = read_and_made c.args.store.now.pages c.args.catalogue contents c.args.run.now c.as_slice.result.now c.args.epoch c.page.result.now c.in_ok-storages.storages.items c.deref.result.now c.compose_storages.new.made.items c.in_ok-roots.roots.items can c.page.ensures.page c.as_slice.ensures c.deref.ensures.value c.in_ok-storages.ensures c.in_ok-roots.ensures.made in
     let fit = roots_fit (words_of c.args.store.now.pages) c.args.catalogue contents c.args.run.now c.args.epoch c.compose_storages.new.made.items c.in_ok-roots.roots.items can at.all in
     few_rooted contents.storages c.deref-4.result.now (length (words_of c.args.store.now.pages) + length c.compose_storages.new.made.items) c.in_ok-roots.roots.items fit can.stands.here.catalogue.most
     (c.deref-4.ensures.value ∙ rooted contents.storages c.deref.result.now c.deref-2.result.now c.in_ok-stored.stored.items c.in_ok-roots.roots.items c.deref-3.result.now at.same (c.deref-2.ensures.value ∙ sym c.deref.ensures.value) c.deref-3.ensures.value c.in_ok-stored.ensures)
 
 pub returns-clause-composed : goal.returns-clause-composed
 returns-clause-composed c contents can =
-    let at = read_and_made c.args.store.now.pages c.args.catalogue contents c.args.run.now c.as_slice.result.now c.args.epoch c.page.result.now c.in_ok-storages.storages.items c.deref.result.now c.compose_storages.new.made.items c.in_ok-roots.roots.items can c.page.ensures.page c.as_slice.ensures c.deref.ensures.value c.in_ok-storages.ensures c.in_ok-roots.ensures in
+    let at = read_and_made c.args.store.now.pages c.args.catalogue contents c.args.run.now c.as_slice.result.now c.args.epoch c.page.result.now c.in_ok-storages.storages.items c.deref.result.now c.compose_storages.new.made.items c.in_ok-roots.roots.items can c.page.ensures.page c.as_slice.ensures c.deref.ensures.value c.in_ok-storages.ensures c.in_ok-roots.ensures.made in
     let stored : c.deref-4.result.now ≡ with_roots contents.storages c.in_ok-roots.roots.items = c.deref-4.ensures.value ∙ rooted contents.storages c.deref.result.now c.deref-2.result.now c.in_ok-stored.stored.items c.in_ok-roots.roots.items c.deref-3.result.now at.same (c.deref-2.ensures.value ∙ sym c.deref.ensures.value) c.deref-3.ensures.value c.in_ok-stored.ensures in
     let words = c.catalogue_words.ensures.words ∙ ap (λ l. catalogue_words (next_contents c.args.epoch c.args.catalogue l)) stored in
     let pages : words_of c.from_vec.result ≡ c.compose_storages.new.made.items ++ c.catalogue_words.result ∷ [] =
     ap words_of c.from_vec.ensures ∙ c.in_ok-pages.ensures.words ∙ c.deref-5.ensures.value ∙ c.in_ok-push.ensures.items in
     subst (λ (l : List (List ℕ)). IsComposed c.args.run.now c.args.epoch c.args.catalogue contents (words_of c.args.store.now.pages) l) (sym pages)
-    (snapshot_made (words_of c.args.store.now.pages) c.args.catalogue contents c.args.run.now c.args.epoch c.compose_storages.new.made.items c.in_ok-roots.roots.items c.catalogue_words.result can at.all.numbers at.all.pages words)
+    (snapshot_made (words_of c.args.store.now.pages) c.args.catalogue contents c.args.run.now c.args.epoch c.compose_storages.new.made.items c.in_ok-roots.roots.items c.catalogue_words.result can at.all words)
+
+pub returns-in_err-roots-clause-deep : goal.returns-in_err-roots-clause-deep
+returns-in_err-roots-clause-deep c e contents can =
+    let p = err_from_is_err_and c.from_residual-in_err-roots.result c.from_residual-in_err-roots.ensures.1 in
+    let deep = c.in_err-roots.ensures.deep Deep (cc (e, p.1, p.2)) in
+    let all = deep_of c.args.store.now.pages c.args.catalogue contents c.args.run.now c.as_slice.result.now c.args.epoch c.page.result.now c.in_ok-storages.storages.items c.deref.result.now Deep can c.page.ensures.page c.as_slice.ensures c.deref.ensures.value c.in_ok-storages.ensures deep in
+    snapshot_deep (words_of c.args.store.now.pages) c.args.catalogue contents c.args.run.now c.args.epoch can all.levels

@@ -3,7 +3,7 @@ use Rattle.std.specs.List.Sorted.{IsPartitionPoint}
 use Rattle.std.proofs.lemmas.List.Sorted.{IsPartitionPoint-from_clause, IsPartitionedBy-ltb}
 use Rattle.root_composer.specs.declared.last.Last.{Last}
 use Rattle.root_composer.proofs.OverlayLemmas.{first_tells}
-use Rattle.root_composer.proofs.array.has_entry.Goals as goal
+use Rattle.root_composer.proofs.range.has_entry.Goals as goal
 
 pub returns-then-i-run : goal.returns-then-i-run
 returns-then-i-run c =

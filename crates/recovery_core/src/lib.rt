@@ -44,3 +44,6 @@ pub use last_entries::LastEntries;
 pub use laws::one_recoverable;
 pub use recovered::Recovered;
 pub use recovery::recover;
+
+#[cfg(test)]
+mod tests;

@@ -6,18 +6,17 @@ use Rattle.std.proofs.lemmas.Bool.{cases_eq}
 use Rattle.std.proofs.lemmas.Bool.Decides.{nat_tests}
 use Rattle.std.proofs.lemmas.List.Elements.{filter-append}
 use Rattle.lists.specs.Each.{all_append}
-use Rattle.log_mapper.specs.Mapped.{is_after, entries_after, is_in_storage, buckets_of}
+use Rattle.log_mapper.specs.Mapped.{entry_of, entries_of, is_after, entries_after, is_in_storage, buckets_of}
 use Rattle.serial_model.specs.Keys.{id_of, has_key_of, is_tree_of}
 use Rattle.serial_model.specs.declared.decl.Decl.{Decl}
 use Rattle.serial_model.specs.declared.decl.Decl.TheVariants.{Array, Tree}
 use Rattle.serial_model.specs.declared.key.Key.{Key}
 use Rattle.serial_model.specs.declared.number.Change.{Change}
 use Rattle.serial_model.specs.declared.number.Commit.{Commit}
-use Rattle.serial_model.specs.declared.number.Number.{Number}
 use Rattle.wire_form.specs.Items.{RisesAfter, Rises}
 use Rattle.wire_form.specs.LogFile.{has_place_for, IsChangeOf, IsLineOf}
 use Rattle.wire_form.specs.declared.bucket.Entry.{Entry}
-use Rattle.recovery_core.specs.LogEntries.{entry_of, entries_of, counts, is_of}
+use Rattle.recovery_core.specs.LogEntries.{counts, is_of}
 use Rattle.recovery_core.specs.EntriesLast.{all_entries}
 
 -- ---- two filters in a row
@@ -188,13 +187,13 @@ none_change decls key e none some =
       | false ↦ λ t. refl
     ] refl
 
-none_of_commit : (decls : List Decl) (key : Key) (number : Number) (changes : List Change)
+none_of_commit : (decls : List Decl) (key : Key) (commit : Commit) (changes : List Change)
     → list_any (has_id key.storage) decls ≡ false
-    → AllByRecursion (IsChangeOf decls) changes → NoneOf key (map (entry_of number) changes)
-none_of_commit decls key number [] none all = tt
-none_of_commit decls key number (c ∷ cs) none all = (
-  none_change decls key (entry_of number c) none (change_declared decls c.key c.value all.0),
-  none_of_commit decls key number cs none all.1,
+    → AllByRecursion (IsChangeOf decls) changes → NoneOf key (map (entry_of commit) changes)
+none_of_commit decls key commit [] none all = tt
+none_of_commit decls key commit (c ∷ cs) none all = (
+  none_change decls key (entry_of commit c) none (change_declared decls c.key c.value all.0),
+  none_of_commit decls key commit cs none all.1,
 )
 
 none_of_lines : (decls : List Decl) (key : Key) (lines : List Commit) → list_any (has_id key.storage) decls ≡ false
@@ -202,7 +201,7 @@ none_of_lines : (decls : List Decl) (key : Key) (lines : List Commit) → list_a
 none_of_lines decls key [] none all = tt
 none_of_lines decls key (c ∷ cs) none all =
     all_append (λ e. is_of key e ≡ false) (entries_of c) (flat_map entries_of cs)
-    (none_of_commit decls key c.number c.changes none all.0.each)
+    (none_of_commit decls key c c.changes none all.0.each)
     (none_of_lines decls key cs none all.1)
 
 -- ---- the entries that count
@@ -231,7 +230,7 @@ counted_entries from to (c ∷ cs) =
     filter-append (counts from to) (entries_of c) (flat_map entries_of cs)
     ∙ ap (λ l. filter (counts from to) (entries_of c) ++ l) (counted_entries from to cs)
     ∙ ap (λ l. l ++ entries_after from to cs) (filter_alike (counts from to) (is_after from to c)
-    (entry_of c.number) (λ change. refl) c.changes)
+    (entry_of c) (λ change. refl) c.changes)
     ∙ either (is_after from to c)
   where
     either : (b : Bool) → cond b (entries_of c) [] ++ entries_after from to cs

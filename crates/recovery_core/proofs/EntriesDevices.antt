@@ -1,4 +1,4 @@
--- What the mapping of a log file says of the vault's devices.
+-- What the mapping of a log file says of the database's devices.
 use Rattle.std.proofs.Common.{◌≡◌, ◌≢◌, ℕ, ◌<◌, List, Option, Some, inl, inr, sym, ap, subst, ◌∙◌}
 use Rattle.std.specs.Prelude.{Result, Ok, Err}
 use Rattle.std.proofs.lemmas.Bool.{cases_eq}
@@ -55,7 +55,7 @@ module _ {D : Type 0} {tells : D → Option (List ℕ)} {clock : D → ℕ} {ima
     | inr differ ↦ (was, maps.others (Bank m) (banks_differ m n differ) ∙ there, reads_none was)
   ]
 
-  -- the vault was only read
+  -- the database was only read
   pub maps_reads : MapsIn tells clock image_at faults n count decls from to old new result
       → VaultOnlyReads tells clock image_at faults old new
   maps_reads maps = record {

@@ -7,7 +7,7 @@ use Rattle.std.proofs.lemmas.Bool.{cases_lt}
 use Rattle.std.proofs.lemmas.Grind.{flat_map-append}
 use Rattle.std.proofs.lemmas.List.{length-append, get_or_append_left, get_or_push}
 use Rattle.std.proofs.lemmas.List.Elements.{filter-append}
-use Rattle.log_mapper.specs.Mapped.{AreMapped, IsDamaged}
+use Rattle.log_mapper.specs.Mapped.{entries_of, AreMapped, IsDamaged}
 use Rattle.serial_model.specs.Keys.{key_cmp, id_of}
 use Rattle.serial_model.specs.declared.decl.Decl.{Decl}
 use Rattle.serial_model.specs.declared.key.Key.{Key}
@@ -18,7 +18,7 @@ use Rattle.wire_form.specs.declared.bucket.Entry.{Entry}
 use Rattle.wire_form.specs.declared.savepoint.Savepoint.{Savepoint}
 use Rattle.recovery_core.specs.Damage.{FilesBreak}
 use Rattle.recovery_core.specs.Images.{counted_of}
-use Rattle.recovery_core.specs.LogEntries.{IsCountedFile, AreCounted, entries_of, logged, counts, is_of, greatest, last_of}
+use Rattle.recovery_core.specs.LogEntries.{IsCountedFile, AreCounted, logged, counts, is_of, greatest, last_of}
 use Rattle.recovery_core.specs.EntriesLast.{EntryMap, HasLast, TakesIn, all_entries}
 use Rattle.recovery_core.proofs.EntriesBuckets.{counted_buckets}
 

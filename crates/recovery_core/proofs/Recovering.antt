@@ -1,4 +1,4 @@
--- From what is read of the parts of a vault to what it recovers to.
+-- From what is read of the parts of a database to what it recovers to.
 use Rattle.std.proofs.Common.{◌≡◌, inl, inr, ℕ, ◌+◌, ◌<◌, List, [], ◌∷◌, Option, Some, None, length, map, filter, reverse, refl, sym, ap, subst, ◌∙◌}
 use Rattle.std.specs.FinMap.{get, empty, get-empty}
 use Rattle.std.specs.List.{AllByRecursion}
@@ -22,8 +22,7 @@ use Rattle.log_writer.specs.declared.saved.Saved.{Saved}
 use Rattle.snapshot_store.specs.Content.{words_of, record_in, value_at}
 use Rattle.recovery_core.specs.declared.recovered.Recovered.{Recovered}
 use Rattle.recovery_core.specs.declared.snapshot.Snapshot.{Snapshot}
-use Rattle.recovery_core.specs.Catalogues.{HasPages, AreCatalogues, newest_epoch, newest_decls}
-use Rattle.recovery_core.specs.Chain.{marks_of}
+use Rattle.recovery_core.specs.Catalogues.{HasPages, AreCatalogues, newest_epoch, newest_decls, marks_of}
 use Rattle.recovery_core.specs.Damage.{FirstBad, RootBreaks, SnapsBreak, FilesBreak, IsDamagedIn}
 use Rattle.recovery_core.specs.EntriesLast.{EntryMap, PutsLast}
 use Rattle.recovery_core.specs.Images.{Images}
@@ -152,7 +151,7 @@ damaged_file found point p device n at pages cs decls point_is device_is names s
 
 -- ---- all parts
 
--- a fresh vault recovers to nothing
+-- a fresh database recovers to nothing
 pub fresh_recovers : (found : Images) (r : Recovered) → Names found.save None → r.save.newest ≡ None → r.epoch ≡ 0
     → r.state ≡ empty → r.decls ≡ []
     → length r.store.pages ≡ 0 → r.catalogues ≡ [] → r.entries ≡ empty → Recovers found r
@@ -168,7 +167,7 @@ fresh_recovers found r names point epoch state decls pages catalogues entries = 
   entries = λ key. ap (λ (m : EntryMap). get m key) entries ∙ get-empty key_cmp key;
 }
 
--- a vault with a savepoint recovers to what its snapshot and its log files have
+-- a database with a savepoint recovers to what its snapshot and its log files have
 pub saved_recovers : (found : Images) (r : Recovered) (point : Option Savepoint) (p : Savepoint) (saved : Saved)
     (s : Snapshot) (state : State) (cs : List Contents) (lines : List (List Commit))
     → point ≡ Some p → saved ≡ saved_of p → Names found.save point

@@ -1,4 +1,4 @@
--- Worked vaults: what some bytes stand for, by hand.
+-- Worked databases: what some bytes stand for, by hand.
 use Rattle.std.specs.Prelude.{◌≡◌, ℕ, zero, suc, ◌^◌, ◌<◌, List, [], ◌∷◌, ◌++◌, Some, None, replicate, length, take, get_or}
 use Rattle.std.proofs.Common.{refl, sym, ap, ◌∙◌, subst, arith, lit<, lit≤, append-nil}
 use Rattle.std.proofs.lemmas.List.{length-append, take_at, drop_at, take_all}
@@ -29,7 +29,7 @@ use Rattle.recovery_core.specs.SnapshotPages.{RootStandsUpTo}
 use Rattle.recovery_core.specs.LogEntries.{IsCountedFile}
 use Rattle.recovery_core.specs.Recoverable.{Reading, IsReading, value_of_key, IsRecoverable}
 
--- the fresh vault: 1,024 zeros in the save device, and nothing else
+-- the fresh database: 1,024 zeros in the save device, and nothing else
 abbrev fresh : Images
 fresh = record { save = replicate 1024 0; snaps = []; bank = λ n. [] }
 

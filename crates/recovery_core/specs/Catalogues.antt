@@ -5,6 +5,7 @@ use Rattle.serial_model.specs.declared.decl.Decl.{Decl}
 use Rattle.wire_form.specs.declared.records.Stored.{Stored}
 use Rattle.wire_form.specs.Device.{HasWords}
 use Rattle.wire_form.specs.Pages.{Contents, decls_of}
+use Rattle.recovery_core.specs.declared.chain.SnapshotMark.{SnapshotMark}
 use Rattle.snapshot_store.specs.Places.{page}
 use Rattle.snapshot_store.specs.Content.{CatalogueAt}
 
@@ -53,3 +54,8 @@ newest_storages (c ∷ cs) = c.storages
 abbrev pub newest_decls : List Contents → List Decl
 newest_decls [] = []
 newest_decls (c ∷ cs) = decls_of c
+
+-- the epochs and the page numbers of catalogues, from a page back
+abbrev pub marks_of : ℕ → List Contents → List SnapshotMark
+marks_of number [] = []
+marks_of number (c ∷ cs) = record { epoch = c.epoch; page = number } ∷ marks_of c.previous cs

@@ -3,7 +3,7 @@ use Rattle.std.specs.Prelude.{◌≡◌, ℕ, ◌≤◌, List, [], ◌∷◌, �
 use Rattle.std.proofs.Common.{refl, sym, ◌∙◌, ap, subst, append_assoc}
 use Rattle.serial_model.specs.declared.decl.Decl.{Decl}
 use Rattle.wire_form.specs.Pages.{Contents, decls_of}
-use Rattle.recovery_core.specs.Catalogues.{IsCatalogueBelow, AreCatalogues}
+use Rattle.recovery_core.specs.Catalogues.{IsCatalogueBelow, AreCatalogues, marks_of}
 use Rattle.recovery_core.specs.Damage.{first_byte, CataloguesBreak}
 use Rattle.recovery_core.specs.declared.chain.SnapshotMark.{SnapshotMark}
 
@@ -49,11 +49,6 @@ lead_breaks pages first last [] at lead some byte none =
     (some, byte, λ c is. none c (some, is))
 lead_breaks pages first last (c ∷ cs) at lead some byte none =
     (lead.0.0, lead.0.1, lead_breaks pages (next_of c) last cs at lead.1 some byte none)
-
--- the epochs and the page numbers of catalogues, from a page back
-abbrev pub marks_of : ℕ → List Contents → List SnapshotMark
-marks_of number [] = []
-marks_of number (c ∷ cs) = record { epoch = c.epoch; page = number } ∷ marks_of c.previous cs
 
 -- what has to come next: a catalogue of these storages, at this page and with an epoch below the limit
 abbrev pub next_at : ℕ → List Decl → ℕ → Next

@@ -1,14 +1,14 @@
 -- Where the devices are not in their grammars: the first byte of the first part that isn't, in the order in which they
 -- are read: save, length of the snapshots, catalogues from the newest back, pages of the newest snapshot, log files.
-use Rattle.std.specs.Prelude.{◌≡◌, ◌⊎◌, ℕ, ◌+◌, ◌-◌, ◌*◌, ◌<◌, ◌≤◌, zero, suc, List, [], ◌∷◌, Option, Some, None, length, take}
+use Rattle.std.specs.Prelude.{◌≡◌, ◌⊎◌, ℕ, ◌+◌, ◌-◌, ◌*◌, ◌<◌, ◌≤◌, zero, suc, List, [], ◌∷◌, Option, Some, None, length}
 use Rattle.outside.specs.declared.vault.Device.{Device}
 use Rattle.outside.specs.declared.vault.Device.TheVariants.{Save, Snaps, Bank}
 use Rattle.serial_model.specs.declared.decl.Decl.{Decl}
 use Rattle.serial_model.specs.declared.number.Commit.{Commit}
 use Rattle.wire_form.specs.declared.records.Stored.{Stored}
-use Rattle.wire_form.specs.LogFile.{IsDamagedAt}
 use Rattle.wire_form.specs.Pages.{Contents, decls_of}
 use Rattle.wire_form.specs.declared.savepoint.Savepoint.{Savepoint}
+use Rattle.log_mapper.specs.Mapped.{IsDamaged as IsDamagedFile}
 use Rattle.log_writer.specs.Save.{Names, IsDamaged}
 use Rattle.snapshot_store.specs.declared.place.Place.{Place}
 use Rattle.snapshot_store.specs.Places.{Format, words_at, places_below, StandsTo}
@@ -52,9 +52,7 @@ RootBreaks epoch pages at s =
 -- The counted bytes of a log file are not all there, and it ends at this byte, or they are no whole lines of these
 -- storages with numbers that rise, from this byte on.
 abbrev pub FileBreaks : List Decl → ℕ → List ℕ → ℕ → Type 0
-FileBreaks decls count bytes at =
-    ((length bytes < count) × (at ≡ length bytes))
-    ⊎ ((count ≤ length bytes) × IsDamagedAt decls None (take count bytes) at)
+FileBreaks decls count bytes at = IsDamagedFile count decls bytes at
 
 -- the log file of this number breaks at this byte, and those before it are lines
 pub record FilesBreak (decls : List Decl) (p : Savepoint) (bank : ℕ → List ℕ) (n at : ℕ) : Type 0 where

@@ -1,4 +1,4 @@
--- Log files of a vault that are mapped, and otherwise only read.
+-- Log files of a database that are mapped, and otherwise only read.
 use Rattle.std.specs.Prelude.{◌≡◌, ◌≢◌, ℕ, List, Option, Some, Result, Err, IfOk, OnOk, length}
 use Rattle.lists.specs.declared.memory.OrMemory.{OrMemory}
 use Rattle.lists.specs.declared.memory.OrMemory.TheVariants.{Fault}
@@ -27,7 +27,7 @@ module _ {D : Type 0} (tells : D → Option (List ℕ)) (clock : D → ℕ) (ima
     pub quiet : OnOk result (faults now ≡ faults was)
     pub reads : OnlyReads tells clock image_at faults was now
 
-  -- So it was with this log file of a vault, and all else stays.
+  -- So it was with this log file of a database, and all else stays.
   pub record MapsIn (old new : Vault D) (result : Result (List Bucket) (OrMemory MapFault)) : Type 0 where
     pub disk : (was : D) → disk_in old (Bank n) ≡ Some was
         → (now : D) × (disk_in new (Bank n) ≡ Some now) × Maps was now result

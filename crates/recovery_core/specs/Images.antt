@@ -1,4 +1,4 @@
--- What is found of the devices of a vault, and how much of it a savepoint counts.
+-- What is found of the devices of a database, and how much of it a savepoint counts.
 use Rattle.std.specs.Prelude.{ℕ, List, Option, Some, None, get_or}
 use Rattle.wire_form.specs.declared.savepoint.Savepoint.{Savepoint}
 

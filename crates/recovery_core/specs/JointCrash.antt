@@ -1,4 +1,4 @@
--- Crashes of all devices of a vault at once, by the ties and cuts that it recorded.
+-- Crashes of all devices of a database at once, by the ties and cuts that it recorded.
 use Rattle.std.specs.Prelude.{◌≡◌, ◌≤◌, ◌<◌, ℕ, List, Option, Some}
 use Rattle.std.specs.List.{Contains}
 use Rattle.outside.specs.Fronts.{Alike}
@@ -21,7 +21,7 @@ pub record Parts (D : Type 0) : Type 0 where
   pub ties : List Tie
   pub cuts : List Cut
 
--- those of a vault
+-- those of a database
 abbrev pub parts_of : {D : Type 0} → Vault D → Parts D
 parts_of vault = record {
   save = vault.save;

@@ -1,13 +1,12 @@
 -- The lines of the log files that a savepoint counts, and their entries: which of them count, and which is the last.
-use Rattle.std.specs.Prelude.{◌≡◌, ℕ, ◌<◌, ◌≤◌, ◌==◌, ◌&&◌, Bool, List, [], ◌∷◌, Option, Some, None, length, take, map, filter, get_or, nat_lt, nat_le, if◌then◌else◌}
+use Rattle.std.specs.Prelude.{◌≡◌, ℕ, ◌<◌, ◌≤◌, ◌==◌, ◌&&◌, Bool, List, [], ◌∷◌, Option, Some, None, length, take, filter, get_or, nat_lt, nat_le, if◌then◌else◌}
 use Rattle.std.specs.List.{flat_map}
 use Rattle.serial_model.specs.Numbers.{is_below}
 use Rattle.serial_model.specs.declared.decl.Decl.{Decl}
 use Rattle.serial_model.specs.declared.key.Key.{Key}
-use Rattle.serial_model.specs.declared.number.Change.{Change}
 use Rattle.serial_model.specs.declared.number.Commit.{Commit}
-use Rattle.serial_model.specs.declared.number.Number.{Number}
 use Rattle.wire_form.specs.LogFile.{AreLinesOf}
+use Rattle.log_mapper.specs.Mapped.{entries_of}
 use Rattle.wire_form.specs.declared.bucket.Entry.{Entry}
 use Rattle.wire_form.specs.declared.savepoint.Savepoint.{Savepoint}
 use Rattle.recovery_core.specs.Images.{counted_of}
@@ -23,14 +22,6 @@ pub record AreCounted (decls : List Decl) (p : Savepoint) (bank : ℕ → List �
     (lines : List (List Commit)) : Type 0 where
   pub files : length lines ≡ 16
   pub each : (n : ℕ) → n < 16 → IsCountedFile decls (counted_of (Some p) n) (bank n) (get_or lines n [])
-
--- what a commit did to one key
-abbrev pub entry_of : Number → Change → Entry
-entry_of number change = record { key = change.key; number = number; value = change.value }
-
--- what a commit did, key by key
-abbrev pub entries_of : Commit → List Entry
-entries_of c = map (entry_of c.number) c.changes
 
 -- what the commits of the log files did, the lowest log file first
 abbrev pub logged : List (List Commit) → List Entry

@@ -38,7 +38,7 @@ pub record ReadsSaved (found : Images) (p : Savepoint) (reading : Reading) : Typ
   pub snapshot : ReadsPages found.snaps p reading.pages reading.catalogues
   pub files : AreCounted (newest_decls reading.catalogues) p found.bank reading.lines
 
--- of a fresh vault nothing counts, whatever its devices hold
+-- of a fresh database nothing counts, whatever its devices hold
 pub record ReadsFresh (reading : Reading) : Type 0 where
   pub pages : reading.pages ≡ []
   pub catalogues : reading.catalogues ≡ []
@@ -75,7 +75,7 @@ value_of_key reading key = value_over (last_of key (counting reading)) (snapshot
 abbrev pub IsStateOf : Reading → State → Type 0
 IsStateOf reading state = (key : Key) → get state key ≡ value_of_key reading key
 
--- The devices stand for this epoch and this state: a vault without a savepoint for epoch 0 and the empty state.
+-- The devices stand for this epoch and this state: a database without a savepoint for epoch 0 and the empty state.
 pub record IsRecoverable (found : Images) (epoch : ℕ) (state : State) : Type 0 where
   pub reading : Reading
   pub is : IsReading found reading

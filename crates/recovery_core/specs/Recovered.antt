@@ -1,4 +1,4 @@
--- What recovery gives of a vault.
+-- What recovery gives of a database.
 use Rattle.std.specs.Prelude.{◌≡◌, ℕ, Option, Some, None, IfSome, true, reverse}
 use Rattle.std.specs.Option.{option_map}
 use Rattle.std.specs.FinMap.{get}
@@ -8,10 +8,9 @@ use Rattle.log_writer.specs.Points.{IsSaved, saved_of}
 use Rattle.snapshot_store.specs.Content.{words_of}
 use Rattle.recovery_core.specs.declared.recovered.Recovered.{Recovered}
 use Rattle.recovery_core.specs.Images.{Images, epoch_of}
-use Rattle.recovery_core.specs.Catalogues.{newest_decls}
+use Rattle.recovery_core.specs.Catalogues.{newest_decls, marks_of}
 use Rattle.recovery_core.specs.LogEntries.{last_of}
 use Rattle.recovery_core.specs.Recoverable.{Reading, IsReading, IsStateOf, IsRecoverable, counting}
-use Rattle.recovery_core.specs.Chain.{marks_of}
 
 -- the page number of the newest catalogue; it is 0 where there is none
 abbrev pub catalogue_of : Option Savepoint → ℕ

@@ -1,4 +1,4 @@
--- A vault of which nothing that counts is pending.
+-- A database of which nothing that counts is pending.
 use Rattle.std.specs.Prelude.{◌≡◌, ◌*◌, ℕ, List, [], Option, Some, length}
 use Rattle.outside.specs.Disk.{Only}
 use Rattle.outside.specs.Fronts.{AllBegin}

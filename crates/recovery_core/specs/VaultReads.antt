@@ -1,5 +1,5 @@
--- Calls that only read the devices of a vault, and whose count of faults rose in them.
-use Rattle.std.specs.Prelude.{◌≡◌, ℕ, List, Option, Some, None, IsSome, length}
+-- Calls that only read the devices of a database, and whose count of faults rose in them.
+use Rattle.std.specs.Prelude.{◌≡◌, ℕ, List, Option, Some, None, IsSome, is_some, length}
 use Rattle.std.proofs.Common.{inl, inr, refl, sym, ap, ◌∙◌, subst, arith}
 use Rattle.std.proofs.lemmas.Bool.{cases_lt}
 use Rattle.std.proofs.lemmas.Option.{same_Some}
@@ -30,7 +30,7 @@ pub record VaultOnlyReads {D : Type 0} (tells : D → Option (List ℕ)) (clock 
   pub ties : new.ties ≡ old.ties
   pub cuts : new.cuts ≡ old.cuts
 
--- the vault has this device, and its count of faults rose
+-- the database has this device, and its count of faults rose
 abbrev pub RoseIn : {D : Type 0} → (D → ℕ) → Device → Vault D → Vault D → Type 0
 RoseIn {D} faults device old new =
     (was : D) × (now : D) × (disk_in old device ≡ Some was) × (disk_in new device ≡ Some now)
@@ -47,7 +47,7 @@ pub some_of : {X : Type 0} (o : Option X) → IsSome o → (x : X) × (o ≡ Som
 some_of None is = absurd (cc is)
 some_of (Some x) is = (x, refl)
 
--- a bank of a whole vault is one of each other whole vault
+-- a log file of a whole database is one of each other whole database
 bank_there : {D : Type 0} {old new : Vault D} → IsWhole old → IsWhole new → (n : ℕ) (bank : D) → disk_in new (Bank n)
     ≡ Some bank
     → (was : D) × (disk_in old (Bank n) ≡ Some was)
@@ -96,7 +96,7 @@ module _ {D : Type 0} {tells : D → Option (List ℕ)} {clock : D → ℕ} {ima
     cuts = next.cuts ∙ first.cuts;
   }
 
-  -- a whole vault stays whole
+  -- a whole database stays whole
   pub whole_read : {old new : Vault D} → VaultOnlyReads tells clock image_at faults old new → IsWhole old → IsWhole new
   whole_read reads whole = record { even = reads.even ∙ whole.even; odd = reads.odd ∙ whole.odd }
 
@@ -134,15 +134,13 @@ module _ {D : Type 0} {tells : D → Option (List ℕ)} {clock : D → ℕ} {ima
   was_there {old = old} reads whole Snaps now there = (old.snaps, refl)
   was_there {old = old} reads whole (Bank n) now there = bank_there whole (whole_read reads whole) n now there
 
-  -- so a count that rose in later calls of a whole vault rose in all
+  -- so a count that rose in later calls of a whole database rose in all
   pub rose_then : {old mid : Vault D} (new : Vault D) (device : Device)
       → VaultOnlyReads tells clock image_at faults old mid → IsWhole old
       → RoseIn faults device mid new → RoseIn faults device old new
-  rose_then {old = old} {mid = mid} new device reads whole rose =
+  rose_then new device reads whole rose =
       let was = was_there reads whole device rose.0 rose.2 in
-      let now = reads.each device was.0 was.1 in
-      let same : rose.0 ≡ now.0 = same_Some _ _ (sym rose.2 ∙ now.1) in
-      (was.0, rose.1, was.1, rose.3, omega (arith, now.2.later, ap faults same, rose.4))
+      rose_later new device reads (ap is_some was.1) rose
 
   -- what stands in front of the snapshots stays
   pub holds_read : {old new : Vault D} (pages : List Page) → VaultOnlyReads tells clock image_at faults old new

@@ -3,9 +3,8 @@ ghost use Rattle.std.specs.Prelude.{◌≡◌, ℕ, ◌<◌, ◌≤◌, ◌++◌
 ghost use Rattle.std.specs.List.{AllByRecursion};
 ghost use Rattle.wire_form.specs.Pages.{Contents, decls_of, stored_decl};
 ghost use Rattle.snapshot_store.specs.Content.{words_of, CatalogueAt};
-ghost use Rattle.recovery_core.specs.Catalogues.{HasNoRoot, IsFirst, IsCatalogueBelow, AreCatalogues};
+ghost use Rattle.recovery_core.specs.Catalogues.{HasNoRoot, IsFirst, IsCatalogueBelow, AreCatalogues, marks_of};
 ghost use Rattle.recovery_core.specs.Damage.{first_byte, CataloguesBreak};
-ghost use Rattle.recovery_core.specs.Chain.{marks_of};
 
 use crate::catalogue::{Catalogue, read_catalogue};
 use lists::{Memory, OrMemory};

@@ -48,7 +48,7 @@ fn map_one<D: Disk>(
     map_bank(alloc, &mut disks[at], bank, counted, decls, from, to)
 }
 
-// Maps the log file of the vault with this number.
+// Maps the log file of the database with this number.
 fn map_in<D: Disk>(
     alloc: Global,
     vault: &mut Vault<D>,

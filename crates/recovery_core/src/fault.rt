@@ -1,8 +1,8 @@
-// Why a vault can't be recovered.
+// Why a database can't be recovered.
 
 use outside::Device;
 
-/// Why nothing is recovered from a vault.
+/// Why nothing is recovered from a database.
 #[derive(Clone, Copy, Debug, PartialEq, Eq)]
 pub enum RecoverFault {
     /// This device's count of faults rose.

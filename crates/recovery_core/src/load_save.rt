@@ -1,4 +1,4 @@
-// The newest savepoint of a vault is read.
+// The newest savepoint of a database is read.
 ghost use Rattle.std.specs.Prelude.{◌≡◌, ℕ, Err, IfOk, OnOk};
 ghost use Rattle.outside.specs.Disk.{IfTold};
 ghost use Rattle.log_writer.specs.Save.{IsDamaged};
@@ -10,7 +10,7 @@ use lists::OrMemory;
 use log_writer::{Save, SaveOpen, Saved};
 use outside::{Device, Disk, Vault};
 
-/// The newest savepoint, and what it says; none for a fresh vault.
+/// The newest savepoint, and what it says; none for a fresh database.
 pub(crate) fn load_save<D: Disk>(
     vault: &mut Vault<D>,
 ) -> Result<(Save, Option<Saved>), OrMemory<RecoverFault>>

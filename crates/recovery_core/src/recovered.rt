@@ -7,18 +7,18 @@ use log_writer::{Save, Saved};
 use serial_model::{Decl, State};
 use snapshot_store::SnapStore;
 
-/// What a vault recovers to.
+/// What a database recovers to.
 #[derive(Drop)]
 pub struct Recovered {
     /// The store of savepoints, which knows the newest one.
     pub save: Save,
-    /// What that savepoint says; nothing for a fresh vault.
+    /// What that savepoint says; nothing for a fresh database.
     pub saved: Option<Saved>,
-    /// The storages that the newest catalogue declares; none for a fresh vault.
+    /// The storages that the newest catalogue declares; none for a fresh database.
     pub decls: Sequence<Decl>,
     /// The pages that count.
     pub store: SnapStore,
-    /// The saved epoch; 0 for a fresh vault.
+    /// The saved epoch; 0 for a fresh database.
     pub epoch: u32,
     /// The newest snapshot under the log entries that count.
     pub state: State,

@@ -1,4 +1,4 @@
-// What a vault stands for is read from its devices.
+// What a database stands for is read from its devices.
 ghost use Rattle.std.specs.Prelude.{◌≡◌, ◌*◌, ◌<◌, ℕ, Err, List, Some, None, true, length, IfOk, OnOk};
 ghost use Rattle.std.specs.Option.{option_map};
 ghost use Rattle.outside.specs.Disk.{IfTold, Only};
@@ -62,7 +62,7 @@ fn load_snapshot<D: Disk>(
     }
 }
 
-// A vault without a savepoint.
+// A database without a savepoint.
 fn recover_fresh<D: Disk>(
     alloc: Global,
     vault: &mut Vault<D>,
@@ -94,7 +94,7 @@ fn recover_fresh<D: Disk>(
     })
 }
 
-// A vault with a savepoint that says this.
+// A database with a savepoint that says this.
 fn recover_saved<D: Disk>(
     alloc: Global,
     vault: &mut Vault<D>,

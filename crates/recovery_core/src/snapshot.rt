@@ -3,8 +3,7 @@ ghost use Rattle.std.specs.Prelude.{◌≡◌, ◌⊎◌, ◌∷◌, ℕ, ◌+�
 ghost use Rattle.serial_model.specs.Numbers.{last_epoch};
 ghost use Rattle.wire_form.specs.Pages.{Contents, stored_decl};
 ghost use Rattle.snapshot_store.specs.Content.{words_of};
-ghost use Rattle.recovery_core.specs.Catalogues.{AreCatalogues};
-ghost use Rattle.recovery_core.specs.Chain.{marks_of};
+ghost use Rattle.recovery_core.specs.Catalogues.{AreCatalogues, marks_of};
 ghost use Rattle.recovery_core.specs.Damage.{CataloguesBreak};
 ghost use Rattle.recovery_core.specs.SnapshotRead.{IsSnapshotOf, SnapshotBreaks};
 

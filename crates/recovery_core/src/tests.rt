@@ -1,4 +1,4 @@
-// Worked vaults, whose bytes were written down by hand from the formats.
+// Worked databases, whose bytes were written down by hand from the formats.
 use super::*;
 use lists::OrMemory;
 use outside::{Device, MemDisk, Vault};
@@ -6,7 +6,7 @@ use serial_model::Key;
 use std::alloc::{AllocError, Global};
 use std::test::Fail;
 
-// What is told of a vault whose storage 1 has one key of interest, 2.
+// What is told of a database whose storage 1 has one key of interest, 2.
 #[derive(Clone, Copy, Debug, PartialEq, Eq)]
 enum Told {
     State { epoch: u32, value: Option<u64> },
@@ -116,7 +116,7 @@ fn disk(alloc: Global, bytes: &[u8], fails: &[u64]) -> Result<MemDisk, AllocErro
     MemDisk::new(alloc, bytes.to_vec(alloc)?, fails.to_vec(alloc)?)
 }
 
-// A vault with these bytes, of which the log files 0 and 3 have some. The calls of these numbers fail on
+// A database with these bytes, of which the log files 0 and 3 have some. The calls of these numbers fail on
 // each device.
 fn vault(
     alloc: Global,
@@ -261,7 +261,7 @@ fn snapshots_are_read_from_the_newest_back(rt: HostRuntime) -> Result<(), Fail> 
     Ok(())
 }
 
-// What is told of the vault of one commit where this byte of a place of the save device is another one.
+// What is told of the database of one commit where this byte of a place of the save device is another one.
 fn told_of_place(byte: usize, newest: bool) -> Told {
     let value = None;
     let (same, older) = (state(1, 7), Told::State { epoch: 0, value });

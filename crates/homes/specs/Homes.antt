@@ -1,5 +1,5 @@
 -- Where things stand, their tests, and moves of keys from one home to another.
-use Rattle.std.specs.Prelude.{◌≡◌, ℕ, ◌==◌, ◌&&◌, Bool, true, false, List, [], ◌∷◌, map, Option, None, Some, if◌then◌else◌, nat_le}
+use Rattle.std.specs.Prelude.{ℕ, ◌==◌, ◌&&◌, Bool, true, false, List, [], ◌∷◌, map, Option, None, Some, if◌then◌else◌, nat_le}
 use Rattle.std.specs.List.{list_any}
 use Rattle.serial_model.specs.declared.key.Key.{Key}
 use Rattle.serial_model.specs.declared.number.Number.{Number}

@@ -4,7 +4,8 @@ use Rattle.std.proofs.lemmas.Bool.{or_left, or_right, cond-true, cond-false, fal
 use Rattle.std.specs.List.{Contains, filter}
 use Rattle.serial_model.specs.declared.number.Number.{Number}
 use Rattle.serial_model.specs.Numbers.{not_below_itself}
-use Rattle.commit_core.specs.declared.place.Place.{Place}
+use Rattle.homes.specs.declared.places.Content.{Content}
+use Rattle.serial_model.specs.declared.key.Key.{Key}
 use Rattle.commit_core.specs.declared.attempt.Attempt.{Attempt}
 use Rattle.commit_core.specs.Keys.{same_number, content_at}
 use Rattle.commit_core.specs.CoreState.{is_decided}
@@ -58,6 +59,6 @@ counted low h (n ∷ decided) r once drawn =
     let both = both_pass (λ b. same_number n b.number) (λ b. is_decided decided b.number) h (λ b e. subst (λ (x : Number). is_decided decided x ≡ false) (same_number-true n b.number e) once.0) in
     omega arith
 
-pub count_committed : (opening : List Place) (h : List Attempt) (decided : List Number) (clock : Number) → OrderedNumbers opening h decided clock
+pub count_committed : (opening : List (Key × Content)) (h : List Attempt) (decided : List Number) (clock : Number) → OrderedNumbers opening h decided clock
     → length (filter (λ a. is_decided decided a.number) h) ≡ length decided
 count_committed opening h decided clock o = counted (content_at opening some_key).number h decided (o.rising some_key) o.decided_once o.decided_drawn

@@ -5,3 +5,4 @@ pub mod Places
 pub mod Clock
 pub mod Checking
 pub mod Deciding
+pub mod Moving

@@ -1,6 +1,12 @@
+pub mod ListLaws
 pub mod ReadLaws
 pub mod LockLaws
 pub mod HomeLaws
+pub mod KeptLaws
+pub mod HorizonLaws
+pub mod MoveLaws
+pub mod RehomeLaws
+pub mod FillLaws
 pub mod MarkLaws
 pub mod Events
 pub mod Runs

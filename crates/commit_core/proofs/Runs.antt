@@ -1,9 +1,13 @@
 -- Lists of events: each keeps a sound state sound, and attempts, checks, decisions and marks are only added.
-use Rattle.std.proofs.Common.{◌≡◌, ℕ, true, false, not, true≢false, eqb, ◌&&◌, ◌⊎◌, inl, inr, List, [], ◌∷◌, ◌++◌, refl, sym, ap, ◌∙◌, subst, length, set, length-set, append_assoc, arith, Option, Some, None}
+use Rattle.std.proofs.Common.{◌≡◌, ℕ, Bool, true, false, not, true≢false, eqb, ◌&&◌, ◌⊎◌, inl, inr, List, [], ◌∷◌, ◌++◌, refl, sym, ap, ◌∙◌, subst, length, set, length-set, append_assoc, arith, Option, Some, None}
 use Rattle.std.proofs.lemmas.Bool.{and_parts, cases_Bool, cond_both, eq-eqb, eqb-true}
 use Rattle.std.specs.List.{slice_get}
-use Rattle.std.specs.Prelude.{is_some, nat_lt, filter}
+use Rattle.std.specs.Prelude.{nat_lt, filter}
 use Rattle.std.specs.Option.{option_map_or}
+use Rattle.homes.specs.declared.places.Content.{Content}
+use Rattle.homes.specs.declared.places.Spot.{Spot}
+use Rattle.commit_core.specs.declared.part.Word.{Word}
+use Rattle.commit_core.specs.declared.part.Word.TheVariants.{Record}
 use Rattle.serial_model.specs.declared.key.Key.{Key}
 use Rattle.serial_model.specs.Numbers.{last_epoch}
 use Rattle.commit_core.specs.declared.place.Place.{Place}
@@ -13,11 +17,16 @@ use Rattle.commit_core.specs.declared.seat.Stage.{Stage}
 use Rattle.commit_core.specs.declared.seat.Stage.TheVariants.{Idle, Trying, Ended, Decided}
 use Rattle.commit_core.specs.declared.seat.Seat.{Seat}
 use Rattle.commit_core.specs.declared.story.Story.{Story}
-use Rattle.commit_core.specs.Keys.{same_key, has_key, place_at, writes_key}
-use Rattle.commit_core.specs.CoreState.{is_held_by, check_of, is_free, is_trying, can_begin, attempt_tried, attempt_decided, same_keys, settled, settled_at, can_mark}
+use Rattle.commit_core.specs.Keys.{same_key, has_key, writes_key}
+use Rattle.commit_core.specs.Places.{spot_at, is_free_at, is_held_at}
+use Rattle.commit_core.specs.Parts.{same_word, is_record}
+use Rattle.commit_core.specs.Moves.{moves_key}
+use Rattle.commit_core.specs.Told.{IsToldTruly, TellsTruly, AllTellTruly}
+use Rattle.commit_core.specs.Lemmas.Keys.{same_word-self}
+use Rattle.commit_core.specs.CoreState.{check_of, is_trying, can_begin, attempt_tried, attempt_decided, same_keys, settled, settled_at, can_mark}
 use Rattle.commit_core.specs.Event.{is_unchecked, is_allowed, Moved, moved, next_attempt, stays_as_seen, locked, valued, opened, after_check, after_decide, decided_stage, value_to_put, effect}
 use Rattle.commit_core.specs.declared.event.Act.{Act}
-use Rattle.commit_core.specs.declared.event.Act.TheVariants.{See, Lock, Draw, Check as Look, Decide, Put, Open, Forget, Advance, Mark}
+use Rattle.commit_core.specs.declared.event.Act.TheVariants.{See, Keep, Lock, Draw, Check as Look, Confirm, Decide, Put, Open, Forget, Rehome, Advance, Mark}
 use Rattle.commit_core.specs.declared.event.Event.{Event}
 use Rattle.commit_core.specs.CoreState.{CoreState}
 use Rattle.commit_core.specs.Event.{may_happen, with_moved, happened, next, run}
@@ -26,36 +35,43 @@ use Rattle.commit_core.specs.Sound.{IsSoundStory, IsSoundSeat, IsSound}
 use Rattle.lists.specs.Elements.{at_set_same, at_set_other, at_below}
 use Rattle.commit_core.proofs.MarkLaws.{last_marked-push}
 use Rattle.commit_core.proofs.Events.Keeps.{Keeps}
-use Rattle.commit_core.proofs.Events.Resting.{keeps_see, keeps_forget, keeps_mark}
+use Rattle.commit_core.proofs.Events.Resting.{keeps_see, keeps_keep, keeps_forget, keeps_mark}
 use Rattle.commit_core.proofs.Events.Places.{keeps_lock, keeps_put, keeps_open}
 use Rattle.commit_core.proofs.Events.Clock.{keeps_draw, keeps_advance}
-use Rattle.commit_core.proofs.Events.Checking.{keeps_check}
+use Rattle.commit_core.proofs.Events.Checking.{record_so, keeps_check}
+use Rattle.commit_core.proofs.Events.Moving.{keeps_rehome}
 use Rattle.commit_core.proofs.Events.Deciding.{keeps_decide}
 
--- each act that is allowed keeps what is sound
-pub keeps_act : (opening : List Place) (p : ℕ) (m : Story) (s : Seat) (act : Act) → is_allowed p m s act ≡ true
+-- each act that is allowed, and tells what is true, keeps what is sound
+pub keeps_act : (opening : List (Key × Content)) (p : ℕ) (m : Story) (s : Seat) (act : Act) → is_allowed p m s act ≡ true → IsToldTruly p m s act
     → IsSoundStory opening m → IsSoundSeat opening m p s → Keeps opening p m (effect p m s act)
-keeps_act opening p m s (See k) may story own =
-    keeps_see opening p m s k (and_parts (not (is_trying s.stage)) (is_free (place_at m.places k)) may).1 story own
-keeps_act opening p m s (Lock k) may story own =
-    let c = and_parts (can_begin s.stage) (is_free (place_at m.places k)) may in keeps_lock opening p m s k c.0 c.1 story own
-keeps_act opening p m s (Draw writes) may story own =
+keeps_act opening p m s (See k) may told story own =
+    let c = and_parts (not (is_trying s.stage)) (is_free_at m.places (spot_at m.homes k)) may in keeps_see opening p m s k c.0 c.1 story own
+keeps_act opening p m s (Keep part) may told story own =
+    let c = and_parts (not (is_trying s.stage)) (not (is_record part.word)) may in keeps_keep opening p m s part c.0 c.1 told story own
+keeps_act opening p m s (Lock k) may told story own =
+    let c = and_parts (can_begin s.stage) (is_free_at m.places (spot_at m.homes k)) may in keeps_lock opening p m s k c.0 c.1 story own
+keeps_act opening p m s (Draw writes) may told story own =
     let c = and_parts (can_begin s.stage) (same_keys s.locks writes) may in keeps_draw opening p m s writes c.0 c.1 story own
-keeps_act opening p m s (Look k) may story own =
-    keeps_check opening p m s k (and_parts (option_map_or (is_unchecked m.checks k) (attempt_tried m.history s.stage) false) (is_some (place_at m.places k)) may).0 story own
-keeps_act opening p m s Decide may story own = keeps_decide opening p m s may story own
-keeps_act opening p m s (Put k) may story own =
-    let c = and_parts (option_map_or (λ a. writes_key a.writes k) (attempt_decided m.history s.stage) false) (is_held_by p (place_at m.places k)) may in
+keeps_act opening p m s (Look x) may told story own =
+    keeps_check opening p m s (Record x) (stays_as_seen p m.places x) may (λ i a stage at stays part inside e. record_so opening m p s i a x stage at stays story own part inside e) story own
+keeps_act opening p m s (Confirm w so) may told story own =
+    keeps_check opening p m s w (λ _. so) (and_parts (option_map_or (is_unchecked m.checks w) (attempt_tried m.history s.stage) false) (not (is_record w)) may).0
+    (λ i a stage at holds part inside e. told holds a (ap (attempt_tried m.history) stage ∙ at) part inside (subst (λ (v : Word). same_word part.word v ≡ true) e (same_word-self part.word))) story own
+keeps_act opening p m s Decide may told story own = keeps_decide opening p m s may story own
+keeps_act opening p m s (Put k) may told story own =
+    let c = and_parts (option_map_or (λ a. writes_key a.writes k) (attempt_decided m.history s.stage) false) (is_held_at p m.places (spot_at m.homes k)) may in
     keeps_put opening p m s k c.0 c.1 story own
-keeps_act opening p m s (Open k) may story own =
-    let held = is_held_by p (place_at m.places k) in
+keeps_act opening p m s (Open k) may told story own =
+    let held = is_held_at p m.places (spot_at m.homes k) in
     let in_put = option_map_or (λ _. has_key s.put k) (attempt_decided m.history s.stage) true in
     let c = and_parts (not (is_trying s.stage)) (held && in_put) may in
     let d = and_parts held in_put c.1 in
     keeps_open opening p m s k c.0 d.0 d.1 story own
-keeps_act opening p m s Forget may story own = keeps_forget opening p m s story own
-keeps_act opening p m s Advance may story own = keeps_advance opening p m s (and_parts (eqb p 0) (nat_lt m.epoch last_epoch) may).1 story own
-keeps_act opening p m s (Mark e) may story own =
+keeps_act opening p m s Forget may told story own = keeps_forget opening p m s may story own
+keeps_act opening p m s (Rehome moves) may told story own = keeps_rehome opening p m s moves may story own
+keeps_act opening p m s Advance may told story own = keeps_advance opening p m s (and_parts (eqb p 0) (nat_lt m.epoch last_epoch) may).1 story own
+keeps_act opening p m s (Mark e) may told story own =
     let c = and_parts (not (is_trying s.stage)) (can_mark m.epoch s.marks e.epoch) may in keeps_mark opening p m s e c.0 c.1 story own
 
 -- ---- the whole state
@@ -79,20 +95,20 @@ moved_sound c p s n at sound keeps = record {
 }
 
 -- with the seat that is there
-happens_at : (c : CoreState) (p : ℕ) (act : Act) (o : Option Seat) → slice_get c.seats p ≡ o → option_map_or (λ s. is_allowed p c.story s act) o false ≡ true → IsSound c
-    → IsSound (option_map_or (λ s. with_moved c p (effect p c.story s act)) o c)
-happens_at c p act None at may sound = sound
-happens_at c p act (Some s) at may sound = moved_sound c p s (effect p c.story s act) at sound (keeps_act c.opening p c.story s act may sound.story (sound.seats p s at))
+happens_at : (c : CoreState) (p : ℕ) (act : Act) (o : Option Seat) → slice_get c.seats p ≡ o → option_map_or (λ s. is_allowed p c.story s act) o false ≡ true
+    → ((s : Seat) → o ≡ Some s → IsToldTruly p c.story s act) → IsSound c → IsSound (option_map_or (λ s. with_moved c p (effect p c.story s act)) o c)
+happens_at c p act None at may told sound = sound
+happens_at c p act (Some s) at may told sound = moved_sound c p s (effect p c.story s act) at sound (keeps_act c.opening p c.story s act may (told s refl) sound.story (sound.seats p s at))
 
-pub happened_sound : (c : CoreState) (e : Event) → may_happen c e ≡ true → IsSound c → IsSound (happened c e)
-happened_sound c e may sound = happens_at c e.seat e.act (slice_get c.seats e.seat) refl may sound
+pub happened_sound : (c : CoreState) (e : Event) → may_happen c e ≡ true → TellsTruly c e → IsSound c → IsSound (happened c e)
+happened_sound c e may told sound = happens_at c e.seat e.act (slice_get c.seats e.seat) refl may told sound
 
-pub next_sound : (c : CoreState) (e : Event) → IsSound c → IsSound (next c e)
-next_sound c e sound = cond_both (may_happen c e) (happened c e) c (λ (x : CoreState). IsSound x) (λ may. happened_sound c e may sound) (λ _. sound)
+pub next_sound : (c : CoreState) (e : Event) → TellsTruly c e → IsSound c → IsSound (next c e)
+next_sound c e told sound = cond_both (may_happen c e) (happened c e) c (λ (x : CoreState). IsSound x) (λ may. happened_sound c e may told sound) (λ _. sound)
 
-pub run_sound : (events : List Event) (c : CoreState) → IsSound c → IsSound (run events c)
-run_sound [] c sound = sound
-run_sound (e ∷ events) c sound = run_sound events (next c e) (next_sound c e sound)
+pub run_sound : (events : List Event) (c : CoreState) → AllTellTruly c events → IsSound c → IsSound (run events c)
+run_sound [] c told sound = sound
+run_sound (e ∷ events) c told sound = run_sound events (next c e) told.1 (next_sound c e told.0 sound)
 
 -- ---- growth
 
@@ -104,41 +120,45 @@ prefix_then : {A : Type 0} (xs ys zs : List A) → IsPrefix xs ys → IsPrefix y
 prefix_then {A} xs ys zs a b = (a.0 ++ b.0, sym (append_assoc xs a.0 b.0) ∙ ap (λ (l : List A). l ++ b.0) a.1 ∙ b.1)
 
 pub grows_self : (m : Story) → Grows m m
-grows_self m = record { history = prefix_self m.history; checks = prefix_self m.checks; decided = prefix_self m.decided; first_draw = refl; epoch = omega arith }
+grows_self m = record { history = prefix_self m.history; checks = prefix_self m.checks; decided = prefix_self m.decided; given_up = prefix_self m.given_up; first_draw = refl; epoch = omega arith }
 
 grows_then : (a b c : Story) → Grows a b → Grows b c → Grows a c
 grows_then a b c g h = record {
   history = prefix_then a.history b.history c.history g.history h.history;
   checks = prefix_then a.checks b.checks c.checks g.checks h.checks;
   decided = prefix_then a.decided b.decided c.decided g.decided h.decided;
+  given_up = prefix_then a.given_up b.given_up c.given_up g.given_up h.given_up;
   first_draw = h.first_draw ∙ g.first_draw;
   epoch = omega arith;
 }
 
-check_grows : (p : ℕ) (k : Key) (m : Story) (s : Seat) (o : Option Attempt) → Grows m (after_check p k m s o).story
-check_grows p k m s None = grows_self m
-check_grows p k m s (Some a) =
-    cond_both (stays_as_seen p (place_at m.places k) k a) (moved (record m { checks = m.checks ++ check_of a.number k ∷ [] }) s) (moved m (settled (record s { stage = Ended }))) (λ (n : Moved). Grows m n.story)
-    (λ _. record { history = prefix_self m.history; checks = (check_of a.number k ∷ [], refl); decided = prefix_self m.decided; first_draw = refl; epoch = omega arith })
-    (λ _. grows_self m)
+check_grows : (w : Word) (stays : Attempt → Bool) (m : Story) (s : Seat) (o : Option Attempt) → Grows m (after_check w stays m s o).story
+check_grows w stays m s None = grows_self m
+check_grows w stays m s (Some a) =
+    cond_both (stays a) (moved (record m { checks = m.checks ++ check_of a.number w ∷ [] }) s) (moved (record m { given_up = m.given_up ++ a.number ∷ [] }) (settled (record s { stage = Ended }))) (λ (n : Moved). Grows m n.story)
+    (λ _. record { history = prefix_self m.history; checks = (check_of a.number w ∷ [], refl); decided = prefix_self m.decided; given_up = prefix_self m.given_up; first_draw = refl; epoch = omega arith })
+    (λ _. record { history = prefix_self m.history; checks = prefix_self m.checks; decided = prefix_self m.decided; given_up = (a.number ∷ [], refl); first_draw = refl; epoch = omega arith })
 
 decide_grows : (m : Story) (s : Seat) (o : Option Attempt) → Grows m (after_decide m s o).story
 decide_grows m s None = grows_self m
-decide_grows m s (Some a) = record { history = prefix_self m.history; checks = prefix_self m.checks; decided = (a.number ∷ [], refl); first_draw = refl; epoch = omega arith }
+decide_grows m s (Some a) = record { history = prefix_self m.history; checks = prefix_self m.checks; decided = (a.number ∷ [], refl); given_up = prefix_self m.given_up; first_draw = refl; epoch = omega arith }
 
-same_lists : (m : Story) (places : List Place) → Grows m (record m { places = places })
-same_lists m places = record { history = prefix_self m.history; checks = prefix_self m.checks; decided = prefix_self m.decided; first_draw = refl; epoch = omega arith }
+same_lists : (m : Story) (places : List (Spot × Place)) → Grows m (record m { places = places })
+same_lists m places = record { history = prefix_self m.history; checks = prefix_self m.checks; decided = prefix_self m.decided; given_up = prefix_self m.given_up; first_draw = refl; epoch = omega arith }
 
 pub act_grows : (p : ℕ) (m : Story) (s : Seat) (act : Act) → Grows m (effect p m s act).story
 act_grows p m s (See k) = grows_self m
-act_grows p m s (Lock k) = same_lists m (locked p k m.places (place_at m.places k))
-act_grows p m s (Draw writes) = record { history = (next_attempt p m s writes ∷ [], refl); checks = prefix_self m.checks; decided = prefix_self m.decided; first_draw = refl; epoch = omega arith }
-act_grows p m s (Look k) = check_grows p k m s (attempt_tried m.history s.stage)
+act_grows p m s (Keep part) = grows_self m
+act_grows p m s (Lock k) = same_lists m (locked p m.places (spot_at m.homes k))
+act_grows p m s (Draw writes) = record { history = (next_attempt p m s writes ∷ [], refl); checks = prefix_self m.checks; decided = prefix_self m.decided; given_up = prefix_self m.given_up; first_draw = refl; epoch = omega arith }
+act_grows p m s (Look x) = check_grows (Record x) (stays_as_seen p m.places x) m s (attempt_tried m.history s.stage)
+act_grows p m s (Confirm w told) = check_grows w (λ _. told) m s (attempt_tried m.history s.stage)
 act_grows p m s Decide = decide_grows m s (attempt_tried m.history s.stage)
-act_grows p m s (Put k) = same_lists m (valued k (value_to_put k (attempt_decided m.history s.stage)) m.places (place_at m.places k))
-act_grows p m s (Open k) = same_lists m (opened k (attempt_decided m.history s.stage) m.places (place_at m.places k))
+act_grows p m s (Put k) = same_lists m (valued (value_to_put k (attempt_decided m.history s.stage)) m.places (spot_at m.homes k))
+act_grows p m s (Open k) = same_lists m (opened (attempt_decided m.history s.stage) m.places (spot_at m.homes k))
 act_grows p m s Forget = grows_self m
-act_grows p m s Advance = record { history = prefix_self m.history; checks = prefix_self m.checks; decided = prefix_self m.decided; first_draw = refl; epoch = omega arith }
+act_grows p m s (Rehome moves) = record { history = prefix_self m.history; checks = prefix_self m.checks; decided = prefix_self m.decided; given_up = prefix_self m.given_up; first_draw = refl; epoch = omega arith }
+act_grows p m s Advance = record { history = prefix_self m.history; checks = prefix_self m.checks; decided = prefix_self m.decided; given_up = prefix_self m.given_up; first_draw = refl; epoch = omega arith }
 act_grows p m s (Mark e) = grows_self m
 
 -- ---- growth of marks
@@ -158,10 +178,10 @@ settled_marks s = cond_both (eqb (length s.locks) 0) (settled_at s.stage s) s (�
     by_stage Ended = refl
     by_stage (Decided i) = refl
 
-check_marks : (p : ℕ) (k : Key) (m : Story) (s : Seat) (o : Option Attempt) → (after_check p k m s o).seat.marks ≡ s.marks
-check_marks p k m s None = refl
-check_marks p k m s (Some a) =
-    cond_both (stays_as_seen p (place_at m.places k) k a) (moved (record m { checks = m.checks ++ check_of a.number k ∷ [] }) s) (moved m (settled (record s { stage = Ended }))) (λ (n : Moved). n.seat.marks ≡ s.marks)
+check_marks : (w : Word) (stays : Attempt → Bool) (m : Story) (s : Seat) (o : Option Attempt) → (after_check w stays m s o).seat.marks ≡ s.marks
+check_marks w stays m s None = refl
+check_marks w stays m s (Some a) =
+    cond_both (stays a) (moved (record m { checks = m.checks ++ check_of a.number w ∷ [] }) s) (moved (record m { given_up = m.given_up ++ a.number ∷ [] }) (settled (record s { stage = Ended }))) (λ (n : Moved). n.seat.marks ≡ s.marks)
     (λ _. refl) (λ _. settled_marks (record s { stage = Ended }))
 
 decide_marks : (m : Story) (s : Seat) (o : Option Attempt) → (after_decide m s o).seat.marks ≡ s.marks
@@ -170,13 +190,16 @@ decide_marks m s (Some a) = settled_marks (record s { put = []; stage = decided_
 
 act_marks : (p : ℕ) (m : Story) (s : Seat) (act : Act) → is_allowed p m s act ≡ true → MarksGrow s.marks (effect p m s act).seat.marks
 act_marks p m s (See k) may = same_marks s.marks s.marks refl
+act_marks p m s (Keep part) may = same_marks s.marks s.marks refl
 act_marks p m s (Lock k) may = same_marks s.marks s.marks refl
 act_marks p m s (Draw writes) may = same_marks s.marks s.marks refl
-act_marks p m s (Look k) may = same_marks s.marks (effect p m s (Look k)).seat.marks (check_marks p k m s (attempt_tried m.history s.stage))
+act_marks p m s (Look x) may = same_marks s.marks (effect p m s (Look x)).seat.marks (check_marks (Record x) (stays_as_seen p m.places x) m s (attempt_tried m.history s.stage))
+act_marks p m s (Confirm w told) may = same_marks s.marks (effect p m s (Confirm w told)).seat.marks (check_marks w (λ _. told) m s (attempt_tried m.history s.stage))
 act_marks p m s Decide may = same_marks s.marks (effect p m s Decide).seat.marks (decide_marks m s (attempt_tried m.history s.stage))
 act_marks p m s (Put k) may = same_marks s.marks s.marks refl
 act_marks p m s (Open k) may = same_marks s.marks (effect p m s (Open k)).seat.marks (settled_marks (record s { locks = filter (λ q. not (same_key q k)) s.locks }))
 act_marks p m s Forget may = same_marks s.marks s.marks refl
+act_marks p m s (Rehome moves) may = same_marks s.marks (effect p m s (Rehome moves)).seat.marks (settled_marks (record s { locks = filter (λ q. not (moves_key moves q)) s.locks }))
 act_marks p m s Advance may = same_marks s.marks s.marks refl
 act_marks p m s (Mark e) may = record {
   marks = (e ∷ [], refl);

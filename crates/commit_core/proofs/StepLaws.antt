@@ -10,6 +10,7 @@ use Rattle.commit_core.specs.Event.{is_allowed, effect}
 use Rattle.commit_core.specs.declared.event.Event.{Event}
 use Rattle.commit_core.specs.CoreState.{CoreState}
 use Rattle.commit_core.specs.Event.{with_moved}
+use Rattle.commit_core.specs.Told.{TellsTruly}
 use Rattle.commit_core.specs.Serial.{committed, ReadsAreSerial}
 use Rattle.commit_core.specs.Opening.{first_number, opening_core}
 use Rattle.commit_core.specs.Sound.{IsSound}
@@ -48,10 +49,10 @@ answers_event c e s (Err (Fault f)) m t at a =
 answers_event c e s (Err Memory) m t at a =
     (ap (λ (o : Option Seat). option_map_or (λ u. is_allowed e.seat c.story u e.act) o false) at ∙ a.0, a.1, same_state c e.seat s m t at a.2 a.3)
 
-pub answers_sound : {X : Type 0} (c : CoreState) (e : Event) (r : Result X (OrMemory Refused)) (d : CoreState) → AnswersEvent c e r d → IsSound c → IsSound d
-answers_sound c e (Ok x) d a sound = subst (λ (y : CoreState). IsSound y) (sym a.1) (happened_sound c e a.0 sound)
-answers_sound c e (Err (Fault f)) d a sound = subst (λ (y : CoreState). IsSound y) (sym a.1) sound
-answers_sound c e (Err Memory) d a sound = subst (λ (y : CoreState). IsSound y) (sym a.2) sound
+pub answers_sound : {X : Type 0} (c : CoreState) (e : Event) (r : Result X (OrMemory Refused)) (d : CoreState) → AnswersEvent c e r d → TellsTruly c e → IsSound c → IsSound d
+answers_sound c e (Ok x) d a told sound = subst (λ (y : CoreState). IsSound y) (sym a.1) (happened_sound c e a.0 told sound)
+answers_sound c e (Err (Fault f)) d a told sound = subst (λ (y : CoreState). IsSound y) (sym a.1) sound
+answers_sound c e (Err Memory) d a told sound = subst (λ (y : CoreState). IsSound y) (sym a.2) sound
 
 -- the same at each answer of a call
 

@@ -1,11 +1,11 @@
 -- The state of the machine: words on the story and on one seat.
-use Rattle.std.specs.Prelude.{ℕ, ◌+◌, ◌==◌, ◌&&◌, Bool, true, false, not, List, [], ◌∷◌, ◌++◌, filter, length, fold, Option, Some, None, if◌then◌else◌, is_none, slice_get, unwrap_or, nat_lt, nat_le}
+use Rattle.std.specs.Prelude.{ℕ, ◌+◌, ◌==◌, ◌&&◌, ◌||◌, Bool, true, false, not, List, [], length, fold, Option, Some, None, if◌then◌else◌, slice_get, unwrap_or, nat_lt, nat_le}
 use Rattle.std.specs.List.{list_any, list_all}
 use Rattle.serial_model.specs.declared.key.Key.{Key}
 use Rattle.serial_model.specs.declared.number.Number.{Number}
 use Rattle.serial_model.specs.declared.number.Change.{Change}
-use Rattle.commit_core.specs.declared.place.Place.{Place}
-use Rattle.commit_core.specs.declared.place.Part.{Part}
+use Rattle.homes.specs.declared.places.Content.{Content}
+use Rattle.commit_core.specs.declared.part.Word.{Word}
 use Rattle.commit_core.specs.declared.attempt.Attempt.{Attempt}
 use Rattle.commit_core.specs.declared.attempt.Check.{Check}
 use Rattle.commit_core.specs.declared.seat.Mark.{Mark}
@@ -13,35 +13,14 @@ use Rattle.commit_core.specs.declared.seat.Stage.{Stage}
 use Rattle.commit_core.specs.declared.seat.Stage.TheVariants.{Idle, Trying, Ended, Decided}
 use Rattle.commit_core.specs.declared.seat.Seat.{Seat}
 use Rattle.commit_core.specs.declared.story.Story.{Story}
-use Rattle.commit_core.specs.Keys.{same_key, same_number, has_key, writes_key, is_part_at}
+use Rattle.commit_core.specs.Keys.{same_number, has_key, writes_key}
+use Rattle.commit_core.specs.Parts.{same_word}
 
--- what the places held at the start, what all seats share, and what each seat has
+-- what stood at keys at the start, what all seats share, and what each seat has
 pub record CoreState : Type 0 where
-  pub opening : List Place
+  pub opening : List (Key × Content)
   pub story : Story
   pub seats : List Seat
-
--- ---- places
-
--- that seat holds the lock
-abbrev pub holder_is : ℕ → Option ℕ → Bool
-holder_is p None = false
-holder_is p (Some q) = q == p
-
--- there is such a place, and nobody holds its lock
-abbrev pub is_free : Option Place → Bool
-is_free None = false
-is_free (Some place) = is_none place.holder
-
--- the place is there, and this seat holds it
-abbrev pub is_held_by : ℕ → Option Place → Bool
-is_held_by p None = false
-is_held_by p (Some place) = holder_is p place.holder
-
--- the place is there, and is unlocked or held by this seat
-abbrev pub is_open_to : ℕ → Option Place → Bool
-is_open_to p None = false
-is_open_to p (Some place) = if is_none place.holder then true else holder_is p place.holder
 
 -- ---- the story
 
@@ -53,13 +32,21 @@ clock_of first epoch history = record { epoch = epoch; draw = first + length his
 abbrev pub is_decided : List Number → Number → Bool
 is_decided decided n = list_any (λ m. same_number m n) decided
 
--- the part at the key of the attempt with this number is checked
-abbrev pub is_checked : List Check → Number → Key → Bool
-is_checked checks n k = list_any (λ c. same_number c.number n && same_key c.key k) checks
+-- the attempt with this number was given up: it failed a check
+abbrev pub is_given_up : List Number → Number → Bool
+is_given_up given_up n = list_any (λ m. same_number m n) given_up
 
--- that the attempt with this number checked its part at this key
-abbrev pub check_of : Number → Key → Check
-check_of n k = record { number = n; key = k }
+-- the attempt with this number is neither decided nor given up
+abbrev pub is_in_progress : List Number → List Number → Number → Bool
+is_in_progress decided given_up n = not (is_decided decided n || is_given_up given_up n)
+
+-- the parts of this word of the attempt with this number are checked
+abbrev pub is_checked : List Check → Number → Word → Bool
+is_checked checks n w = list_any (λ c. same_number c.number n && same_word c.word w) checks
+
+-- that the attempt with this number checked its part of this word
+abbrev pub check_of : Number → Word → Check
+check_of n w = record { number = n; word = w }
 
 -- ---- a seat
 
@@ -90,10 +77,6 @@ attempt_decided history Idle = None
 attempt_decided history (Trying i) = None
 attempt_decided history Ended = None
 attempt_decided history (Decided i) = slice_get history i
-
--- what is kept, with a part that replaces those that its key names
-abbrev pub with_part : List Part → Part → List Part
-with_part kept part = filter (λ q. not (is_part_at part.key q)) kept ++ part ∷ []
 
 -- the locks are exactly the keys of the writes
 abbrev pub same_keys : List Key → List Change → Bool

@@ -1,8 +1,13 @@
 pub mod Keys
+pub mod Places
+pub mod Parts
 pub mod CoreState
+pub mod Moves
 pub mod Event
+pub mod Told
 pub mod Serial
 pub mod Sound
+pub mod Fill
 pub mod Opening
 pub mod Leaves
 pub mod Law

@@ -4,12 +4,12 @@ use Rattle.std.specs.Option.{option_map_or}
 use Rattle.serial_model.specs.declared.key.Key.{Key}
 use Rattle.serial_model.specs.declared.number.Number.{Number}
 use Rattle.serial_model.specs.Numbers.{is_below, IsBelow}
-use Rattle.commit_core.specs.declared.place.Content.{Content}
-use Rattle.commit_core.specs.declared.place.Place.{Place}
-use Rattle.commit_core.specs.declared.place.Part.{Part}
+use Rattle.homes.specs.declared.places.Content.{Content}
+use Rattle.commit_core.specs.declared.part.Part.{Part}
 use Rattle.commit_core.specs.declared.attempt.Attempt.{Attempt}
 use Rattle.commit_core.specs.declared.story.Story.{Story}
-use Rattle.commit_core.specs.Keys.{content_at, content_of, written, Vouches}
+use Rattle.commit_core.specs.Keys.{content_at, content_of, written}
+use Rattle.commit_core.specs.Parts.{Vouches}
 use Rattle.commit_core.specs.CoreState.{is_decided}
 
 -- what stands at the key after an attempt's writes
@@ -22,16 +22,16 @@ after_all counts k [] c = c
 after_all counts k (a ∷ more) c = after_all counts k more (if counts a then after_writes k a c else c)
 
 -- what stands at the key after the decided attempts, of those whose numbers pass
-abbrev pub content_after : List Place → List Attempt → List Number → (Number → Bool) → Key → Content
+abbrev pub content_after : List (Key × Content) → List Attempt → List Number → (Number → Bool) → Key → Content
 content_after opening history decided passes k =
     after_all (λ a. is_decided decided a.number && passes a.number) k history (content_at opening k)
 
 -- the opening state after the writes of the decided attempts with numbers below n, in order of number
-abbrev pub state_below : List Place → List Attempt → List Number → Number → Key → Content
+abbrev pub state_below : List (Key × Content) → List Attempt → List Number → Number → Key → Content
 state_below opening history decided n = content_after opening history decided (λ m. is_below m n)
 
 -- the last decided write of the key, by number, or what stood there at the start
-abbrev pub last_write : List Place → List Attempt → List Number → Key → Content
+abbrev pub last_write : List (Key × Content) → List Attempt → List Number → Key → Content
 last_write opening history decided = content_after opening history decided (λ _. true)
 
 -- ---- serial reads
@@ -56,6 +56,6 @@ ReadsAlong state (a ∷ more) = ReadsFrom state a × ReadsAlong (λ k. after_wri
 
 -- The attempts, in this order, read serially from the opening: their numbers rise strictly, and each read what those
 -- before it leave. Of replies it says nothing: what a transaction makes of its reads is its own.
-pub record ReadsAreSerial (opening : List Place) (attempts : List Attempt) : Type 0 where
+pub record ReadsAreSerial (opening : List (Key × Content)) (attempts : List Attempt) : Type 0 where
   pub rising : (k : Key) → RisesFrom (content_at opening k).number attempts
   pub reads : ReadsAlong (content_at opening) attempts

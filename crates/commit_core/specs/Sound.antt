@@ -5,47 +5,46 @@ pub mod Locks
 pub mod Homes
 pub mod Reads
 pub mod Marks
-use Rattle.std.specs.Prelude.{◌≡◌, ◌⊎◌, ℕ, ◌<◌, Bool, true, false, List, [], ◌∷◌, Option, Some, None, is_some, slice_get, length, ⊤, Contains, if◌then◌else◌}
+use Rattle.std.specs.Prelude.{◌≡◌, ℕ, List, Some, slice_get, length}
 use Rattle.serial_model.specs.declared.key.Key.{Key}
-use Rattle.serial_model.specs.declared.number.Number.{Number}
-use Rattle.serial_model.specs.Numbers.{is_below, IsBelow}
-use Rattle.commit_core.specs.declared.place.Content.{Content}
-use Rattle.commit_core.specs.declared.place.Place.{Place}
-use Rattle.commit_core.specs.declared.place.Part.{Part}
-use Rattle.commit_core.specs.declared.attempt.Attempt.{Attempt}
-use Rattle.commit_core.specs.declared.attempt.Check.{Check}
-use Rattle.commit_core.specs.declared.seat.Stage.{Stage}
-use Rattle.commit_core.specs.declared.seat.Stage.TheVariants.{Idle, Trying, Ended, Decided}
+use Rattle.homes.specs.declared.places.Content.{Content}
 use Rattle.commit_core.specs.declared.seat.Seat.{Seat}
 use Rattle.commit_core.specs.declared.story.Story.{Story}
-use Rattle.commit_core.specs.CoreState.{CoreState}
-use Rattle.commit_core.specs.Keys.{same_key, has_key, place_at, content_at, written, writes_key}
-use Rattle.commit_core.specs.CoreState.{is_held_by, holder_is, clock_of, is_decided, is_checked, mark_of}
-use Rattle.commit_core.specs.Serial.{state_below, last_write, RisesFrom}
-use Rattle.commit_core.specs.Sound.Numbers.{OrderedNumbers, EpochFits, ChecksArePast}
-use Rattle.commit_core.specs.Sound.Locks.{LockOwners, HoldersAreSeats, AttemptStands}
+use Rattle.commit_core.specs.Places.{home_of, stands}
+use Rattle.commit_core.specs.CoreState.{CoreState, clock_of}
+use Rattle.commit_core.specs.Serial.{last_write}
+use Rattle.commit_core.specs.Sound.Numbers.{OrderedNumbers, EpochFits, ChecksArePast, GivenUpStayOut, HorizonIsPast, TriesGoOn}
+use Rattle.commit_core.specs.Sound.Locks.{LockOwners, HoldersAreSeats, HomesAlive, HomesApart, AttemptStands}
 use Rattle.commit_core.specs.Sound.Homes.{UnlockedHomes, LockedHomes}
-use Rattle.commit_core.specs.Sound.Reads.{ReadsStayTrue, NoLowerWriter, CommitsAreChecked, PartsArePast, KeptIsPast}
+use Rattle.commit_core.specs.Sound.Reads.{ReadsStayTrue, NoLowerWriter, CommitsAreChecked, PartsArePast, KeptIsPast, KeptFits, TriesKept}
 use Rattle.commit_core.specs.Sound.Marks.{MarksArePast}
 
 -- what holds of the story by itself
-pub record IsSoundStory (opening : List Place) (m : Story) : Type 0 where
+pub record IsSoundStory (opening : List (Key × Content)) (m : Story) : Type 0 where
   pub ordered_numbers : OrderedNumbers opening m.history m.decided (clock_of m.first_draw m.epoch m.history)
-  pub unlocked_homes : UnlockedHomes opening m.history m.decided m.places
+  pub unlocked_homes : UnlockedHomes m.horizon (last_write opening m.history m.decided) (stands m.places m.homes)
+  pub homes_alive : HomesAlive (stands m.places m.homes)
+  pub homes_apart : HomesApart (home_of m.homes)
   pub reads_stay_true : ReadsStayTrue opening m.history m.checks m.decided
   pub commits_are_checked : CommitsAreChecked m.history m.checks m.decided
   pub parts_are_past : PartsArePast opening m.history
   pub checks_are_past : ChecksArePast m.checks (clock_of m.first_draw m.epoch m.history)
+  pub given_up_stay_out : GivenUpStayOut m.decided m.given_up (clock_of m.first_draw m.epoch m.history)
+  pub horizon_is_past : HorizonIsPast m.horizon m.history m.decided m.given_up (clock_of m.first_draw m.epoch m.history)
   pub epoch_fits : EpochFits m.epoch
 
 -- what holds of a seat beside the story
-pub record IsSoundSeat (opening : List Place) (m : Story) (p : ℕ) (s : Seat) : Type 0 where
-  pub lock_owners : LockOwners m.places p s.locks
-  pub attempt_stands : AttemptStands m.history m.decided m.places s.put p s.stage
-  pub locked_homes : LockedHomes opening m.history m.decided m.places s.put p s.stage
+pub record IsSoundSeat (opening : List (Key × Content)) (m : Story) (p : ℕ) (s : Seat) : Type 0 where
+  pub lock_owners : LockOwners (stands m.places m.homes) p s.locks
+  pub attempt_stands : AttemptStands m.history m.decided (stands m.places m.homes) s.put p s.stage
+  pub locked_homes :
+      LockedHomes m.horizon opening m.history m.decided (stands m.places m.homes) s.put p s.stage
   pub no_lower_writer : NoLowerWriter m.history m.checks s.stage
+  pub tries_go_on : TriesGoOn m.history m.given_up s.stage
+  pub tries_kept : TriesKept m.history s.kept s.stage
   pub marks_are_past : MarksArePast m.epoch m.history s.marks s.stage
   pub kept_is_past : KeptIsPast opening m.history (clock_of m.first_draw m.epoch m.history) s.kept
+  pub kept_fits : KeptFits m.places m.homes s.kept
 
 -- a fact of each seat
 abbrev pub EachSeat : List Seat → (ℕ → Seat → Type 0) → Type 0
@@ -55,4 +54,4 @@ EachSeat seats P = (p : ℕ) (s : Seat) → slice_get seats p ≡ Some s → P p
 pub record IsSound (c : CoreState) : Type 0 where
   pub story : IsSoundStory c.opening c.story
   pub seats : EachSeat c.seats (IsSoundSeat c.opening c.story)
-  pub holders_are_seats : HoldersAreSeats c.story.places (length c.seats)
+  pub holders_are_seats : HoldersAreSeats (stands c.story.places c.story.homes) (length c.seats)

@@ -1,28 +1,43 @@
 // Each act of a seat: its condition, and then its effect. What needs memory comes first, so that want of memory
 // leaves everything as it was.
-ghost use Rattle.std.specs.Prelude.{◌≡◌};
-ghost use Rattle.commit_core.specs.Event.{Answers};
+ghost use Rattle.std.specs.Prelude.{◌≡◌, OnOk, OnErr};
+ghost use Rattle.commit_core.specs.Event.{Answers, EndsCheck};
 
 use crate::attempt::{copy_changes, copy_parts, written};
-use crate::seat::keys_elsewhere;
-use crate::{Act, Attempt, Check, Content, Mark, Part, Place, Refused, Seat, Stage, Story};
-use serial_model::{Changes, Key, LAST_EPOCH, OrMemory};
+use crate::moves::{can_rehome, make_moves};
+use crate::seat::{keys_elsewhere, keys_unmoved};
+use crate::{Act, Attempt, Check, Mark, Part, Place, Refused, Seat, Stage, Story, Word};
+use homes::{Content, Holder, Move, Spot};
+use lists::Sequence;
+use serial_model::{Changes, Key, LAST_EPOCH, Memory, OrMemory};
 
 /// What an act answers.
 pub type Answer = Result<(), OrMemory<Refused>>;
 
-/// Reads an unlocked key, and keeps what stands there.
+/// Reads the record of an unlocked key, and keeps what stands there.
 pub fn see(id: u32, story: &mut Story, seat: &mut Seat, key: Key) -> Answer
     ensures { Answers id (Act.See key) story.old seat.old result story.new seat.new }
 {
-    let Some(place) = story.place(key) else {
+    let Some(spot) = story.spot(key) else {
         return Err(OrMemory::Fault(Refused));
     };
-    if seat.stage.is_trying() || place.holder.is_some() {
+    let place = story.place_of(spot);
+    if seat.stage.is_trying() || !place.holder.is_free() {
         return Err(OrMemory::Fault(Refused));
     }
-    let content = place.content;
-    seat.keep(Part { key, content })?;
+    let part = Part::of_record(seat.kept.alloc(), key, spot, place.content)?;
+    seat.keep(part)?;
+    Ok(())
+}
+
+/// Keeps what the layer above read of a word that isn't a record's.
+pub fn keep(id: u32, story: &mut Story, seat: &mut Seat, part: &Part) -> Answer
+    ensures { Answers id (Act.Keep part.now) story.old seat.old result story.new seat.new }
+{
+    if seat.stage.is_trying() || part.word.is_record() {
+        return Err(OrMemory::Fault(Refused));
+    }
+    seat.keep(part.copy()?)?;
     Ok(())
 }
 
@@ -30,20 +45,19 @@ pub fn see(id: u32, story: &mut Story, seat: &mut Seat, key: Key) -> Answer
 pub fn lock(id: u32, story: &mut Story, seat: &mut Seat, key: Key) -> Answer
     ensures { Answers id (Act.Lock key) story.old seat.old result story.new seat.new }
 {
-    let Some(place) = story.place(key) else {
+    let Some(spot) = story.spot(key) else {
         return Err(OrMemory::Fault(Refused));
     };
-    if !seat.stage.can_begin() || place.holder.is_some() {
+    let place = story.place_of(spot);
+    if !seat.stage.can_begin() || !place.holder.is_free() {
         return Err(OrMemory::Fault(Refused));
     }
     seat.locks.push(key)?;
-    let content = place.content;
-    let holder = Some(id);
-    story.set_place(Place {
-        key,
-        content,
-        holder,
-    });
+    let new = Place {
+        content: place.content,
+        holder: Holder::Held(id),
+    };
+    story.set_place(spot, new);
     Ok(())
 }
 
@@ -69,30 +83,51 @@ pub fn draw(id: u32, story: &mut Story, seat: &mut Seat, writes: &Changes) -> An
     Ok(())
 }
 
-/// Looks again at a key that was read. A place that another seat holds is not as it was read, even where its number
+/// Looks again at a record that was read. A place that another seat holds is not as it was read, even where its number
 /// is: that seat may be about to commit a new value under a lower number.
-pub fn check(id: u32, story: &mut Story, seat: &mut Seat, key: Key) -> Answer
-    ensures { Answers id (Act.Check key) story.old seat.old result story.new seat.new }
+pub fn check(id: u32, story: &mut Story, seat: &mut Seat, spot: Spot) -> Answer
+    ensures { Answers id (Act.Check spot) story.old seat.old result story.new seat.new }
 {
-    let Some(place) = story.place(key) else {
-        return Err(OrMemory::Fault(Refused));
-    };
+    let word = Word::Record(spot);
     let Some(attempt) = story.attempt_tried(seat.stage) else {
         return Err(OrMemory::Fault(Refused));
     };
-    let check = Check {
-        number: attempt.number,
-        key,
-    };
-    if !attempt.has_part(key) || story.is_checked(attempt.number, key) {
+    if !attempt.has_part(word) || story.is_checked(attempt.number, word) {
         return Err(OrMemory::Fault(Refused));
     }
-    if !attempt.stays_as_seen(id, key, &place) {
-        seat.stage = Stage::Ended;
-        seat.settle();
+    let stays = story.stays_as_seen(id, spot, attempt);
+    let number = attempt.number;
+    end_check(story, seat, Check { number, word }, stays)?;
+    Ok(())
+}
+
+/// Looks again at a word that isn't a record's, of which the layer above tells whether it is as it was read.
+pub fn confirm(id: u32, story: &mut Story, seat: &mut Seat, word: Word, told: bool) -> Answer
+    ensures { Answers id (Act.Confirm word told) story.old seat.old result story.new seat.new }
+{
+    let Some(attempt) = story.attempt_tried(seat.stage) else {
+        return Err(OrMemory::Fault(Refused));
+    };
+    if !attempt.has_part(word) || story.is_checked(attempt.number, word) || word.is_record() {
+        return Err(OrMemory::Fault(Refused));
+    }
+    let number = attempt.number;
+    end_check(story, seat, Check { number, word }, told)?;
+    Ok(())
+}
+
+/// The check is made, or the attempt given up.
+fn end_check(story: &mut Story, seat: &mut Seat, check: Check, stays: bool) -> Result<(), Memory>
+    ensures ok { OnOk result (EndsCheck story.old seat.old check stays story.new seat.new) }
+    ensures memory { OnErr result ((story.new ≡ story.old) × (seat.new ≡ seat.old)) }
+{
+    if stays {
+        story.checks.push(check)?;
         return Ok(());
     }
-    story.checks.push(check)?;
+    story.given_up.push(check.number)?;
+    seat.stage = Stage::Ended;
+    seat.settle();
     Ok(())
 }
 
@@ -121,16 +156,17 @@ pub fn decide(id: u32, story: &mut Story, seat: &mut Seat) -> Answer
 pub fn put(id: u32, story: &mut Story, seat: &mut Seat, key: Key) -> Answer
     ensures { Answers id (Act.Put key) story.old seat.old result story.new seat.new }
 {
-    let Some(place) = story.place(key) else {
+    let Some(spot) = story.spot(key) else {
         return Err(OrMemory::Fault(Refused));
     };
+    let place = story.place_of(spot);
     let Some(attempt) = story.attempt_decided(seat.stage) else {
         return Err(OrMemory::Fault(Refused));
     };
     let Some(value) = written(key, attempt.writes.as_slice()) else {
         return Err(OrMemory::Fault(Refused));
     };
-    if place.holder != Some(id) {
+    if !place.holder.is(id) {
         return Err(OrMemory::Fault(Refused));
     }
     seat.put.push(key)?;
@@ -138,11 +174,8 @@ pub fn put(id: u32, story: &mut Story, seat: &mut Seat, key: Key) -> Answer
         number: place.content.number,
         value,
     };
-    story.set_place(Place {
-        key,
-        content,
-        holder: place.holder,
-    });
+    let holder = place.holder;
+    story.set_place(spot, Place { content, holder });
     Ok(())
 }
 
@@ -150,10 +183,11 @@ pub fn put(id: u32, story: &mut Story, seat: &mut Seat, key: Key) -> Answer
 pub fn open(id: u32, story: &mut Story, seat: &mut Seat, key: Key) -> Answer
     ensures { Answers id (Act.Open key) story.old seat.old result story.new seat.new }
 {
-    let Some(place) = story.place(key) else {
+    let Some(spot) = story.spot(key) else {
         return Err(OrMemory::Fault(Refused));
     };
-    if seat.stage.is_trying() || place.holder != Some(id) {
+    let place = story.place_of(spot);
+    if seat.stage.is_trying() || !place.holder.is(id) {
         return Err(OrMemory::Fault(Refused));
     }
     let number = match story.attempt_decided(seat.stage) {
@@ -172,11 +206,8 @@ pub fn open(id: u32, story: &mut Story, seat: &mut Seat, key: Key) -> Answer
         number,
         value: place.content.value,
     };
-    story.set_place(Place {
-        key,
-        content,
-        holder: None,
-    });
+    let holder = Holder::Free;
+    story.set_place(spot, Place { content, holder });
     Ok(())
 }
 
@@ -188,6 +219,20 @@ pub fn forget(id: u32, story: &mut Story, seat: &mut Seat) -> Answer
         return Err(OrMemory::Fault(Refused));
     }
     seat.kept.clear();
+    Ok(())
+}
+
+/// Moves keys to other homes with the same contents. The locks of the seat at these keys are gone with their places.
+pub fn rehome(id: u32, story: &mut Story, seat: &mut Seat, moves: &Sequence<Move>) -> Answer
+    ensures { Answers id (Act.Rehome moves.now) story.old seat.old result story.new seat.new }
+{
+    if !can_rehome(id, seat.stage.can_begin(), story, moves.as_slice()) {
+        return Err(OrMemory::Fault(Refused));
+    }
+    let locks = keys_unmoved(&seat.locks, moves.as_slice())?;
+    make_moves(story, moves.as_slice())?;
+    seat.locks = locks;
+    seat.settle();
     Ok(())
 }
 

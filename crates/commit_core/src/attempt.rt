@@ -1,10 +1,12 @@
 // Attempts to commit.
 ghost use Rattle.std.specs.Prelude.{◌≡◌, IfOk};
 ghost use Rattle.std.specs.List.{list_any};
-ghost use Rattle.commit_core.specs.Event.{stays_as_seen};
+ghost use Rattle.commit_core.specs.Event.{is_seen_at};
 ghost use Rattle.commit_core.specs.Keys.{same_key, written};
+ghost use Rattle.commit_core.specs.Parts.{same_word};
 
-use crate::{Part, Place};
+use crate::{Part, Place, Word};
+use homes::Spot;
 use lists::Sequence;
 use serial_model::{Change, Changes, Key, Memory, Number};
 
@@ -20,26 +22,28 @@ pub struct Attempt {
 }
 
 impl Attempt {
-    pub fn has_part(&self, key: Key) -> bool
-        ensures { result ≡ list_any (λ part. same_key part.key key) self.now.parts }
+    pub fn has_part(&self, word: Word) -> bool
+        ensures { result ≡ list_any (λ part. same_word part.word word) self.now.parts }
     {
-        self.parts.as_slice().iter().any(|part| part.key == key)
+        self.parts.as_slice().iter().any(|part| part.word.is(word))
     }
 
-    /// Whether each part at the key, of which there is one, is as it was seen, where this is the place of the key.
-    pub fn stays_as_seen(&self, id: u32, key: Key, place: &Place) -> bool
-        ensures { result ≡ stays_as_seen id (Some place.now) key self.now }
+    /// Whether each part of the record's word, of which there is one, is as it was seen, where this stands in its
+    /// place.
+    pub fn stays_as_seen(&self, id: u32, spot: Spot, place: Place) -> bool
+        ensures { result ≡ is_seen_at id place spot self.now }
     {
+        let word = Word::Record(spot);
         let mut parts = self.parts.as_slice().iter();
-        parts.all(|part| part.key != key || place.is_as_seen(id, part.content))
+        parts.all(|part| !part.word.is(word) || part.is_as_seen(id, place))
     }
 }
 
-/// That the attempt with this number found its part at the key as it had read it.
+/// That the attempt with this number found its part of the word as it had read it.
 #[derive(Clone, Copy, Debug, PartialEq, Eq)]
 pub struct Check {
     pub number: Number,
-    pub key: Key,
+    pub word: Word,
 }
 
 /// The value that the writes give a key, where they write it.
@@ -56,7 +60,11 @@ pub fn written(key: Key, writes: &[Change]) -> Option<Option<u64>>
 pub fn copy_parts(parts: &Sequence<Part>) -> Result<Sequence<Part>, Memory>
     ensures { IfOk result (λ s. s ≡ parts.now) }
 {
-    Sequence::from_slice(parts.alloc(), parts.as_slice())
+    let mut copy = Sequence::new(parts.alloc());
+    for part in parts.as_slice() {
+        copy.push(part.copy()?)?;
+    }
+    Ok(copy)
 }
 
 /// The same changes again.

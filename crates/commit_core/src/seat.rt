@@ -2,10 +2,14 @@
 ghost use Rattle.std.specs.Prelude.{◌≡◌, OnOk, OnErr, IfOk, not, filter};
 ghost use Rattle.commit_core.specs.Keys.{same_key, has_key, writes_key};
 ghost use Rattle.std.specs.List.{list_all};
-ghost use Rattle.commit_core.specs.CoreState.{is_trying, can_begin, with_part, same_keys, last_marked, settled, settled_at};
+ghost use Rattle.commit_core.specs.CoreState.{is_trying, can_begin, same_keys, last_marked, settled, settled_at};
+ghost use Rattle.commit_core.specs.Parts.{same_word, with_part};
+ghost use Rattle.commit_core.specs.Moves.{moves_key};
 
-use crate::Part;
 use crate::attempt::written;
+use crate::moves::is_moved;
+use crate::{Part, Word};
+use homes::Move;
 use lists::Sequence;
 use serial_model::{Change, Key, Memory};
 
@@ -35,7 +39,7 @@ pub struct Mark {
 pub struct Seat {
     /// What was read, and kept for the next attempt.
     pub kept: Sequence<Part>,
-    /// The keys whose places this seat holds.
+    /// The keys whose homes this seat holds.
     pub locks: Sequence<Key>,
     /// The keys whose new values the decided attempt has put.
     pub put: Sequence<Key>,
@@ -60,12 +64,12 @@ impl Stage {
 }
 
 impl Seat {
-    /// Keeps the part in place of those at its key.
+    /// Keeps the part in place of those of its word.
     pub fn keep(&mut self, part: Part) -> Result<(), Memory>
         ensures ok { OnOk result (self.new ≡ record self.old { kept = with_part self.old.kept part }) }
         ensures memory { OnErr result (self.new ≡ self.old) }
     {
-        let mut kept = parts_elsewhere(&self.kept, part.key)?;
+        let mut kept = parts_elsewhere(&self.kept, part.word)?;
         kept.push(part)?;
         self.kept = kept;
         Ok(())
@@ -125,13 +129,17 @@ impl Seat {
     }
 }
 
-/// The parts at other keys.
-fn parts_elsewhere(kept: &Sequence<Part>, key: Key) -> Result<Sequence<Part>, Memory>
-    ensures { IfOk result (λ s. s ≡ filter (λ q. not (same_key q.key key)) kept.now) }
+/// The parts of other words.
+fn parts_elsewhere(kept: &Sequence<Part>, word: Word) -> Result<Sequence<Part>, Memory>
+    ensures { IfOk result (λ s. s ≡ filter (λ q. not (same_word q.word word)) kept.now) }
 {
-    let parts = kept.as_slice().iter().copied();
-    let list = parts.filter(|q| q.key != key).collect(kept.alloc())?;
-    Ok(Sequence::from_vec(list))
+    let mut others = Sequence::new(kept.alloc());
+    for part in kept.as_slice() {
+        if !part.word.is(word) {
+            others.push(part.copy()?)?;
+        }
+    }
+    Ok(others)
 }
 
 /// The keys but for this one.
@@ -141,6 +149,19 @@ pub fn keys_elsewhere(keys: &Sequence<Key>, key: Key) -> Result<Sequence<Key>, M
     let all = keys.as_slice().iter().copied();
     let list = all.filter(|q| *q != key).collect(keys.alloc())?;
     Ok(Sequence::from_vec(list))
+}
+
+/// The keys that none of the moves is of.
+pub fn keys_unmoved(keys: &Sequence<Key>, moves: &[Move]) -> Result<Sequence<Key>, Memory>
+    ensures { IfOk result (λ s. s ≡ filter (λ q. not (moves_key moves.now q)) keys.now) }
+{
+    let mut unmoved = Sequence::new(keys.alloc());
+    for key in keys.as_slice() {
+        if !is_moved(moves, *key) {
+            unmoved.push(*key)?;
+        }
+    }
+    Ok(unmoved)
 }
 
 /// Whether each lock is at a key that is written.

@@ -1,21 +1,31 @@
 // What all seats share.
-ghost use Rattle.std.specs.Prelude.{◌≡◌, IfOk};
+ghost use Rattle.std.specs.Prelude.{◌≡◌, IfOk, OnOk, OnErr};
+ghost use Rattle.commit_core.specs.Fill.{filled};
 ghost use Rattle.std.specs.List.{find};
 ghost use Rattle.std.specs.Option.{option_copied};
-ghost use Rattle.commit_core.specs.Keys.{place_at, placed, same_number};
-ghost use Rattle.commit_core.specs.CoreState.{clock_of, is_decided, is_checked, attempt_tried, attempt_decided};
-ghost use Rattle.commit_core.specs.Event.{all_checked};
+ghost use Rattle.homes.specs.Homes.{look, same_spot};
+ghost use Rattle.commit_core.specs.Keys.{same_key, same_number};
+ghost use Rattle.commit_core.specs.Places.{place_of, home_of, stands_at, stands, spot_of, spot_at, placed};
+ghost use Rattle.commit_core.specs.CoreState.{clock_of, is_decided, is_given_up, is_checked, attempt_tried, attempt_decided};
+ghost use Rattle.commit_core.specs.Event.{all_checked, stays_as_seen};
 ghost use Rattle.commit_core.specs.Serial.{committed};
 
 use crate::attempt::copy_attempt;
 use crate::place::put_place;
-use crate::{Attempt, Check, Place, Stage};
+use crate::{Attempt, Check, Place, Stage, Word};
+use homes::{Content, Holder, Home, Spot};
 use lists::Sequence;
 use serial_model::{Key, Memory, Number};
 use std::alloc::Global;
 use std::mem;
 
-/// The shared state. All lists but `places` only grow.
+/// What stands at a key that nobody wrote.
+pub const NOTHING: Content = Content {
+    number: Number { epoch: 0, draw: 0 },
+    value: None,
+};
+
+/// The shared state. The history and what was checked, decided and given up only grow.
 #[derive(Drop)]
 pub struct Story {
     /// Each attempt, in the order in which they took their numbers.
@@ -24,7 +34,15 @@ pub struct Story {
     pub checks: Sequence<Check>,
     /// The numbers of the attempts that count, in the order in which that was decided.
     pub decided: Sequence<Number>,
-    pub places: Sequence<Place>,
+    /// The numbers of the attempts that failed a check.
+    pub given_up: Sequence<Number>,
+    /// What stands in the places of slots' pages. Of equal places the first counts.
+    pub places: Sequence<(Spot, Place)>,
+    /// Where the records of keys are. Of equal keys the first counts, which is the latest.
+    pub homes: Sequence<(Key, Home)>,
+    /// The number of each absence that was lost, as a key moved from its record to where there is none, is at most
+    /// this. No word of an engine has it.
+    pub horizon: Number,
     /// The draw of the first number. Those of the others count on from it, so the clock's is this and the history's
     /// length.
     pub first_draw: u32,
@@ -49,6 +67,12 @@ impl Story {
         self.decided.as_slice().iter().any(|n| *n == number)
     }
 
+    pub fn is_given_up(&self, number: Number) -> bool
+        ensures { result ≡ is_given_up self.now.given_up number }
+    {
+        self.given_up.as_slice().iter().any(|n| *n == number)
+    }
+
     /// The attempt of this number, if one has it.
     pub fn attempt_numbered(&self, number: Number) -> Option<&Attempt>
         ensures { option_copied result ≡ find (λ a. same_number a.number number) self.now.history }
@@ -57,12 +81,12 @@ impl Story {
         attempts.find(|attempt| attempt.number == number)
     }
 
-    /// Whether the part at the key of the attempt with this number is checked.
-    pub fn is_checked(&self, number: Number, key: Key) -> bool
-        ensures { result ≡ is_checked self.now.checks number key }
+    /// Whether the attempt with this number has checked its part of the word.
+    pub fn is_checked(&self, number: Number, word: Word) -> bool
+        ensures { result ≡ is_checked self.now.checks number word }
     {
         let mut checks = self.checks.as_slice().iter();
-        checks.any(|check| check.number == number && check.key == key)
+        checks.any(|check| check.number == number && check.word.is(word))
     }
 
     /// The decided attempts, in order of number, which is the history's.
@@ -82,24 +106,88 @@ impl Story {
         ensures { result ≡ all_checked self.now.checks attempt.now }
     {
         let mut parts = attempt.parts.as_slice().iter();
-        parts.all(|part| self.is_checked(attempt.number, part.key))
+        parts.all(|part| self.is_checked(attempt.number, part.word))
     }
 
-    /// The place of a key, if it has one.
-    pub fn place(&self, key: Key) -> Option<Place>
-        ensures { result ≡ place_at self.now.places key }
+    /// Where the record of a key is.
+    pub fn home(&self, key: Key) -> Home
+        ensures { result ≡ home_of self.now.homes key }
     {
-        find_place(self.places.as_slice(), key)
+        home_in(self.homes.as_slice(), key)
     }
 
-    /// Lets this place stand at its key.
-    pub fn set_place(&mut self, new: Place)
-        ensures { self.new ≡ record self.old { places = placed self.old.places new } }
+    /// The place that is the key's home, if one is.
+    pub fn spot(&self, key: Key) -> Option<Spot>
+        ensures { result ≡ spot_at self.now.homes key }
+    {
+        spot_of(self.home(key))
+    }
+
+    /// What stands in a place. One that was never filled is dead.
+    pub fn place_of(&self, spot: Spot) -> Place
+        ensures { result ≡ place_of self.now.places spot }
+    {
+        match find_place(self.places.as_slice(), spot) {
+            Some(entry) => entry.1,
+            None => Place {
+                content: NOTHING,
+                holder: Holder::Dead,
+            },
+        }
+    }
+
+    /// What stands at a home. What is no place can't be locked.
+    pub fn stands_at(&self, home: Home) -> Place
+        ensures { result ≡ stands_at self.now.places home }
+    {
+        match home {
+            Home::InSlot(spot) => self.place_of(spot),
+            Home::InPage(_, content) => Place {
+                content,
+                holder: Holder::Free,
+            },
+            Home::Nowhere => Place {
+                content: NOTHING,
+                holder: Holder::Free,
+            },
+        }
+    }
+
+    /// What stands at a key.
+    pub fn place(&self, key: Key) -> Place
+        ensures { result ≡ stands self.now.places self.now.homes key }
+    {
+        self.stands_at(self.home(key))
+    }
+
+    /// Whether the attempt's part of the record is as it was seen.
+    pub fn stays_as_seen(&self, id: u32, spot: Spot, attempt: &Attempt) -> bool
+        ensures { result ≡ stays_as_seen id self.now.places spot attempt.now }
+    {
+        attempt.stays_as_seen(id, spot, self.place_of(spot))
+    }
+
+    /// Lets this stand in the place.
+    pub fn set_place(&mut self, spot: Spot, new: Place)
+        ensures { self.new ≡ record self.old { places = placed self.old.places spot new } }
     {
         let none = Sequence::new(self.places.alloc());
         let mut places = mem::replace(&mut self.places, none).into_vec();
-        put_place(&mut places, new);
+        put_place(&mut places, spot, new);
         self.places = Sequence::from_vec(places);
+    }
+
+    /// Lets this content stand in a place, unlocked.
+    pub fn fill(&mut self, spot: Spot, content: Content) -> Result<(), Memory>
+        ensures ok { OnOk result (self.new ≡ filled spot content self.old) }
+        ensures memory { OnErr result (self.new ≡ self.old) }
+    {
+        let holder = Holder::Free;
+        let mut places = Sequence::new(self.places.alloc());
+        places.push((spot, Place { content, holder }))?;
+        places.append(self.places.as_slice())?;
+        self.places = places;
+        Ok(())
     }
 
     /// The attempt in progress of a seat at this stage.
@@ -123,8 +211,34 @@ impl Story {
     }
 }
 
-fn find_place(places: &[Place], key: Key) -> Option<Place>
-    ensures { result ≡ place_at places.now key }
+/// The place that is the home, if one is.
+pub fn spot_of(home: Home) -> Option<Spot>
+    ensures { result ≡ spot_of home }
 {
-    places.iter().copied().find(|place| place.key == key)
+    match home {
+        Home::InSlot(spot) => Some(spot),
+        Home::InPage(_, _) | Home::Nowhere => None,
+    }
+}
+
+fn find_place(places: &[(Spot, Place)], spot: Spot) -> Option<(Spot, Place)>
+    ensures { result ≡ find (λ e. same_spot e.0 spot) places.now }
+{
+    places.iter().copied().find(|entry| entry.0.is(spot))
+}
+
+/// Where the record of a key is, by this list.
+pub fn home_in(homes: &[(Key, Home)], key: Key) -> Home
+    ensures { result ≡ home_of homes.now key }
+{
+    match find_home(homes, key) {
+        Some(entry) => entry.1,
+        None => Home::Nowhere,
+    }
+}
+
+fn find_home(homes: &[(Key, Home)], key: Key) -> Option<(Key, Home)>
+    ensures { result ≡ find (λ e. same_key e.0 key) homes.now }
+{
+    homes.iter().copied().find(|entry| entry.0 == key)
 }

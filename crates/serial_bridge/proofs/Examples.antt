@@ -8,9 +8,10 @@ use Rattle.serial_model.specs.declared.decl.Decl.TheVariants.{Array, Tree}
 use Rattle.serial_model.specs.declared.op.Op.TheVariants.{Read, Write, Remove, Add, Take}
 use Rattle.serial_model.specs.declared.reply.Reply.TheVariants.{Value, Absent}
 use Rattle.serial_model.specs.declared.reply.Verdict.TheVariants.{Done, Short}
-use Rattle.commit_core.specs.declared.place.Part.{Part}
+use Rattle.commit_core.specs.declared.part.Part.{Part}
 use Rattle.commit_core.specs.declared.attempt.Attempt.{Attempt}
-use Rattle.commit_core.specs.Keys.{same_key, written}
+use Rattle.commit_core.specs.Keys.{same_key, content_of, written}
+use Rattle.commit_core.specs.Parts.{record_part}
 use Rattle.serial_bridge.specs.Transaction.{Continues, Stops, Finished, finished, Runs, LeavesOut, IsAttemptOf}
 use Rattle.commit_core.specs.Lemmas.Keys.{same_key-true}
 use Rattle.serial_bridge.specs.Laws.{written-wrote}
@@ -28,7 +29,7 @@ abbrev at : ℕ → ℕ → Number
 at e d = record { epoch = e; draw = d }
 
 abbrev part : Key → Option ℕ → Part
-part k value = record { key = k; content = record { number = at 1 1; value = value } }
+part k value = record_part k (record { slot = 0; index = 0 }) (content_of (at 1 1) value)
 
 abbrev change : Key → Option ℕ → Change
 change k value = record { key = k; value = value }

@@ -8,8 +8,7 @@ use Rattle.serial_model.specs.Keys.{is_tree}
 use Rattle.serial_model.specs.State.{State}
 use Rattle.serial_model.specs.Step.{reply_of}
 use Rattle.serial_model.specs.History.{Entry, AnswersAt, state_after, IsSerialRun, state_after_all, as_of}
-use Rattle.commit_core.specs.declared.place.Content.{Content}
-use Rattle.commit_core.specs.declared.place.Place.{Place}
+use Rattle.homes.specs.declared.places.Content.{Content}
 use Rattle.commit_core.specs.declared.attempt.Attempt.{Attempt}
 use Rattle.commit_core.specs.declared.story.Story.{Story}
 use Rattle.commit_core.specs.Keys.{content_at, written}
@@ -56,7 +55,7 @@ pub record RunsSerially
 
 -- attempts whose reads are serial, each of its transaction, are a serial run of these transactions
 abbrev pub SerialReadsRun : Type 0
-SerialReadsRun = (decls : List Decl) (s : State) (opening : List Place) (entries : List Entry) (attempts : List Attempt)
+SerialReadsRun = (decls : List Decl) (s : State) (opening : List (Key × Content)) (entries : List Entry) (attempts : List Attempt)
     → Agrees decls s (content_at opening) → ReadsAreSerial opening attempts → AreAttemptsOf decls entries attempts
     → RunsSerially decls s entries attempts (after_attempts (content_at opening) attempts)
 
@@ -66,7 +65,7 @@ up_to_epoch epoch attempts = filter (λ a. nat_le a.number.epoch epoch) attempts
 
 -- As of an epoch the run leaves at each key what the attempts with epochs up to it wrote there last.
 abbrev pub EpochsRun : Type 0
-EpochsRun = (decls : List Decl) (s : State) (opening : List Place) (entries : List Entry) (attempts : List Attempt)
+EpochsRun = (decls : List Decl) (s : State) (opening : List (Key × Content)) (entries : List Entry) (attempts : List Attempt)
     → Agrees decls s (content_at opening) → ReadsAreSerial opening attempts → AreAttemptsOf decls entries attempts
     → (epoch : ℕ) (k : Key)
     → get (as_of decls s entries epoch) k ≡ unwrap_or (last_written (up_to_epoch epoch attempts) k) (get s k)
@@ -74,6 +73,6 @@ EpochsRun = (decls : List Decl) (s : State) (opening : List Place) (entries : Li
 -- So are the decided attempts of every sound story, in order of number, and the run agrees then with each key's last
 -- decided write.
 abbrev pub SoundStoryRuns : Type 0
-SoundStoryRuns = (decls : List Decl) (s : State) (opening : List Place) (m : Story) (entries : List Entry)
+SoundStoryRuns = (decls : List Decl) (s : State) (opening : List (Key × Content)) (m : Story) (entries : List Entry)
     → IsSoundStory opening m → Agrees decls s (content_at opening) → AreAttemptsOf decls entries (committed m)
     → RunsSerially decls s entries (committed m) (last_write opening m.history m.decided)

@@ -25,11 +25,12 @@ use Rattle.serial_model.specs.Keys.{key_cmp, is_tree, fits}
 use Rattle.serial_model.specs.State.{State, amount_at, is_within, rows_of}
 use Rattle.serial_model.specs.Step.{Goes, Ends, Ended, reply_of, move_of, after_move, step_from}
 use Rattle.serial_model.specs.History.{Entry, Precedes, InOrder, AnswersAlong, state_after, state_after_all}
-use Rattle.commit_core.specs.declared.place.Content.{Content}
-use Rattle.commit_core.specs.declared.place.Part.{Part}
+use Rattle.homes.specs.declared.places.Content.{Content}
+use Rattle.commit_core.specs.declared.part.Part.{Part}
 use Rattle.commit_core.specs.declared.attempt.Attempt.{Attempt}
 use Rattle.serial_model.specs.Numbers.{IsBelow, below_then}
-use Rattle.commit_core.specs.Keys.{same_key, IsUpTo, covers, Vouches, content_at, written}
+use Rattle.commit_core.specs.Keys.{same_key, IsUpTo, content_at, written}
+use Rattle.commit_core.specs.Parts.{covers, found, IsSameOrAbsent, Vouches}
 use Rattle.commit_core.specs.Lemmas.Keys.{same_key-self, same_key-true}
 use Rattle.lists.specs.Elements.{in_head, in_tail}
 use Rattle.commit_core.specs.CoreState.{is_decided}
@@ -214,6 +215,11 @@ runs_end decls parts first (op ∷ ops) vouch = λ own w f is over.
 
 -- ---- an attempt
 
+-- the same content, or an absence in both, is the same value
+same_value : (c d : Content) → IsSameOrAbsent c d → d.value ≡ c.value
+same_value c d (inl same) = ap (λ (x : Content). x.value) (sym same)
+same_value c d (inr absent) = absent.1 ∙ sym absent.0
+
 -- the first part that covers a key has the contents' value there
 vouched_is : (contents : Key → Content) (parts : List Part) (k : Key) (value : Option ℕ) → ((part : Part) → Contains parts part → Vouches contents part)
     → vouched parts k ≡ Some value → (contents k).value ≡ value
@@ -221,11 +227,11 @@ vouched_is contents [] k value reads is = cc
 vouched_is contents (part ∷ parts) k value reads is =
     elim (cases_Bool (covers part k)) [
       | inl hit ↦
-          let first : Some part.content.value ≡ Some value = sym (ap (option_map (λ (p : Part). p.content.value)) (cond-true (covers part k) (Some part) (find (λ (p : Part). covers p k) parts) hit)) ∙ is in
-          let same : part.content.value ≡ value = cc in
-          ap (λ (c : Content). c.value) (sym (reads part (in_head part parts) k hit)) ∙ same
+          let first : Some (found part k).value ≡ Some value = sym (ap (option_map (λ (p : Part). (found p k).value)) (cond-true (covers part k) (Some part) (find (λ (p : Part). covers p k) parts) hit)) ∙ is in
+          let same : (found part k).value ≡ value = cc in
+          same_value (found part k) (contents k) (reads part (in_head part parts) k hit) ∙ same
       | inr miss ↦ vouched_is contents parts k value (λ p m. reads p (in_tail p part parts m))
-          (sym (ap (option_map (λ (p : Part). p.content.value)) (cond-false (covers part k) (Some part) (find (λ (p : Part). covers p k) parts) miss)) ∙ is)
+          (sym (ap (option_map (λ (p : Part). (found p k).value)) (cond-false (covers part k) (Some part) (find (λ (p : Part). covers p k) parts) miss)) ∙ is)
     ]
 
 -- the value after an attempt's writes

@@ -16,15 +16,16 @@ use Rattle.serial_model.specs.Keys.{is_tree, fits}
 use Rattle.serial_model.specs.State.{State, is_within, rows_of}
 use Rattle.serial_model.specs.Step.{reply_of}
 use Rattle.serial_model.specs.History.{Entry}
-use Rattle.commit_core.specs.declared.place.Part.{Part}
+use Rattle.commit_core.specs.declared.part.Part.{Part}
 use Rattle.commit_core.specs.declared.attempt.Attempt.{Attempt}
-use Rattle.commit_core.specs.Keys.{covers, written}
+use Rattle.commit_core.specs.Keys.{written}
+use Rattle.commit_core.specs.Parts.{covers, found}
 
 -- ---- what a transaction sees
 
 -- the value that a part has for the key, where one covers it
 abbrev pub vouched : List Part → Key → Option (Option ℕ)
-vouched parts k = option_map (λ part. part.content.value) (find (λ part. covers part k) parts)
+vouched parts k = option_map (λ part. (found part k).value) (find (λ part. covers part k) parts)
 
 -- the value at a key that the transaction wrote last, else the one that a part has; none where there is neither
 abbrev pub seen : List Part → List Change → Key → Option (Option ℕ)

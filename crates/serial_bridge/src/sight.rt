@@ -31,6 +31,6 @@ fn vouched(parts: &[Part], key: Key) -> Option<Option<u64>>
 {
     parts
         .iter()
-        .find(|part| part.key == key)
-        .map(|part| part.content.value)
+        .find(|part| part.covers(key))
+        .map(|part| part.found(key).value)
 }

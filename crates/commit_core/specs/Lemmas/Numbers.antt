@@ -5,12 +5,14 @@ use Rattle.std.specs.List.{Contains}
 use Rattle.serial_model.specs.declared.key.Key.{Key}
 use Rattle.serial_model.specs.declared.number.Number.{Number}
 use Rattle.serial_model.specs.Numbers.{below_then, IsBelow, not_below_itself}
-use Rattle.commit_core.specs.declared.place.Place.{Place}
+use Rattle.homes.specs.declared.places.Content.{Content}
+use Rattle.commit_core.specs.declared.part.Word.{Word}
 use Rattle.commit_core.specs.declared.attempt.Attempt.{Attempt}
 use Rattle.commit_core.specs.declared.attempt.Check.{Check}
-use Rattle.commit_core.specs.Keys.{same_key, same_number, content_at}
+use Rattle.commit_core.specs.Keys.{same_number, content_at}
+use Rattle.commit_core.specs.Parts.{same_word}
 use Rattle.commit_core.specs.CoreState.{clock_of, is_decided, is_checked, check_of}
-use Rattle.commit_core.specs.Lemmas.Keys.{same_key-true, same_number-self, same_number-true}
+use Rattle.commit_core.specs.Lemmas.Keys.{same_number-self, same_number-true, same_word-true}
 use Rattle.lists.specs.Elements.{in_push_cases, in_push_old, any_push_cases, any_push_old, any_push_new, any_push-false}
 use Rattle.commit_core.specs.Lemmas.States.{rises_push}
 use Rattle.commit_core.specs.Sound.Numbers.{EachOnce, OrderedNumbers, ChecksArePast}
@@ -49,22 +51,22 @@ decided_other decided m n other =
     any_push-false (λ x. same_number x n) decided m (false_from_ne_true (same_number m n) (λ h. other (same_number-true m n h)))
 
 -- once one more part is checked, a checked one was checked before, or is the new one
-pub checked_cases : (checks : List Check) (n : Number) (k : Key) (m : Number) (q : Key) → is_checked (checks ++ check_of n k ∷ []) m q ≡ true
-    → (is_checked checks m q ≡ true) ⊎ ((n ≡ m) × (k ≡ q))
-checked_cases checks n k m q h =
-    elim (any_push_cases (λ c. same_number c.number m && same_key c.key q) checks (check_of n k) h) [
+pub checked_cases : (checks : List Check) (n : Number) (w : Word) (m : Number) (v : Word) → is_checked (checks ++ check_of n w ∷ []) m v ≡ true
+    → (is_checked checks m v ≡ true) ⊎ ((n ≡ m) × (w ≡ v))
+checked_cases checks n w m v h =
+    elim (any_push_cases (λ c. same_number c.number m && same_word c.word v) checks (check_of n w) h) [
       | inl old ↦ inl old
-      | inr new ↦ let parts = and_parts (same_number n m) (same_key k q) new in inr (same_number-true n m parts.0, same_key-true k q parts.1)
+      | inr new ↦ let parts = and_parts (same_number n m) (same_word w v) new in inr (same_number-true n m parts.0, same_word-true w v parts.1)
     ]
 
 -- what was checked stays so
-pub checked_old : (checks : List Check) (n : Number) (k : Key) (m : Number) (q : Key) → is_checked checks m q ≡ true → is_checked (checks ++ check_of n k ∷ []) m q ≡ true
-checked_old checks n k m q h = any_push_old (λ c. same_number c.number m && same_key c.key q) checks (check_of n k) h
+pub checked_old : (checks : List Check) (n : Number) (w : Word) (m : Number) (v : Word) → is_checked checks m v ≡ true → is_checked (checks ++ check_of n w ∷ []) m v ≡ true
+checked_old checks n w m v h = any_push_old (λ c. same_number c.number m && same_word c.word v) checks (check_of n w) h
 
 -- ---- ordered_numbers
 
 -- ordered numbers stay ordered where the clock moves up
-pub numbers_later : (opening : List Place) (h : List Attempt) (decided : List Number) (t u : Number) → IsBelow t u → OrderedNumbers opening h decided t → OrderedNumbers opening h decided u
+pub numbers_later : (opening : List (Key × Content)) (h : List Attempt) (decided : List Number) (t u : Number) → IsBelow t u → OrderedNumbers opening h decided t → OrderedNumbers opening h decided u
 numbers_later opening h decided t u l o = record {
   opening_past = λ k. below_then (content_at opening k).number t u (o.opening_past k) l;
   rising = o.rising;
@@ -74,12 +76,12 @@ numbers_later opening h decided t u l o = record {
 }
 
 -- the clock's number is not decided
-pub clock_undecided : (opening : List Place) (h : List Attempt) (decided : List Number) (t : Number) → OrderedNumbers opening h decided t → is_decided decided t ≡ false
+pub clock_undecided : (opening : List (Key × Content)) (h : List Attempt) (decided : List Number) (t : Number) → OrderedNumbers opening h decided t → is_decided decided t ≡ false
 clock_undecided opening h decided t o =
     false_from_ne_true (is_decided decided t) (λ e. let d = o.decided_drawn t e in not_below_itself d.0.number t d.2 (o.past d.0 d.1))
 
 -- ordered numbers stay ordered where an attempt takes the clock's number
-pub numbers_drawn : (opening : List Place) (h : List Attempt) (decided : List Number) (t u : Number) (a : Attempt) → a.number ≡ t → IsBelow t u
+pub numbers_drawn : (opening : List (Key × Content)) (h : List Attempt) (decided : List Number) (t u : Number) (a : Attempt) → a.number ≡ t → IsBelow t u
     → OrderedNumbers opening h decided t → OrderedNumbers opening (h ++ a ∷ []) decided u
 numbers_drawn opening h decided t u a e l o = record {
   opening_past = λ k. below_then (content_at opening k).number t u (o.opening_past k) l;
@@ -104,7 +106,7 @@ once_push (n ∷ decided) m o e = (
 )
 
 -- ordered numbers stay ordered where an attempt of the history is decided
-pub numbers_decided : (opening : List Place) (h : List Attempt) (decided : List Number) (t : Number) (a : Attempt) → Contains h a → is_decided decided a.number ≡ false
+pub numbers_decided : (opening : List (Key × Content)) (h : List Attempt) (decided : List Number) (t : Number) (a : Attempt) → Contains h a → is_decided decided a.number ≡ false
     → OrderedNumbers opening h decided t → OrderedNumbers opening h (decided ++ a.number ∷ []) t
 numbers_decided opening h decided t a m e o = record {
   opening_past = o.opening_past;
@@ -118,9 +120,9 @@ numbers_decided opening h decided t a m e o = record {
 
 -- checks lie below each later clock
 pub checks_later : (checks : List Check) (t u : Number) → IsBelow t u → ChecksArePast checks t → ChecksArePast checks u
-checks_later checks t u l past = λ n k h. below_then n t u (past n k h) l
+checks_later checks t u l past = λ n w h. below_then n t u (past n w h) l
 
 -- a check of an attempt below the clock lies below the clock
-pub checks_checked : (checks : List Check) (t n : Number) (k : Key) → IsBelow n t → ChecksArePast checks t → ChecksArePast (checks ++ check_of n k ∷ []) t
-checks_checked checks t n k l past = λ m q h.
-    elim (checked_cases checks n k m q h) [ inl old ↦ past m q old | inr new ↦ subst (λ (x : Number). IsBelow x t) new.0 l ]
+pub checks_checked : (checks : List Check) (t n : Number) (w : Word) → IsBelow n t → ChecksArePast checks t → ChecksArePast (checks ++ check_of n w ∷ []) t
+checks_checked checks t n w l past = λ m v h.
+    elim (checked_cases checks n w m v h) [ inl old ↦ past m v old | inr new ↦ subst (λ (x : Number). IsBelow x t) new.0 l ]

@@ -7,7 +7,7 @@ use Rattle.std.specs.Option.{option_map_or}
 use Rattle.serial_model.specs.declared.key.Key.{Key}
 use Rattle.serial_model.specs.declared.number.Number.{Number}
 use Rattle.serial_model.specs.Numbers.{below_then, IsBelow, not_below_itself, not_both_below}
-use Rattle.commit_core.specs.declared.place.Content.{Content}
+use Rattle.homes.specs.declared.places.Content.{Content}
 use Rattle.commit_core.specs.declared.attempt.Attempt.{Attempt}
 use Rattle.commit_core.specs.Keys.{content_of, nothing, written, writes_key, IsUpTo}
 use Rattle.commit_core.specs.Serial.{after_writes, after_all, RisesFrom}

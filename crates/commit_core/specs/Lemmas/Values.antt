@@ -6,14 +6,16 @@ use Rattle.serial_model.specs.declared.key.Key.{Key}
 use Rattle.serial_model.specs.declared.number.Number.{Number}
 use Rattle.serial_model.specs.Numbers.{IsBelow, is_below, not_below_itself, not_both_below}
 use Rattle.commit_core.specs.declared.attempt.Attempt.{Attempt}
-use Rattle.commit_core.specs.declared.place.Place.{Place}
-use Rattle.commit_core.specs.declared.place.Content.{Content}
+use Rattle.homes.specs.declared.places.Holder.TheVariants.{Free}
+use Rattle.homes.specs.declared.places.Content.{Content}
 use Rattle.commit_core.specs.declared.seat.Seat.{Seat}
 use Rattle.commit_core.specs.declared.seat.Stage.{Stage}
 use Rattle.commit_core.specs.declared.seat.Stage.TheVariants.{Idle, Trying, Ended, Decided}
 use Rattle.commit_core.specs.declared.story.Story.{Story}
-use Rattle.commit_core.specs.Keys.{IsUpTo, has_key, place_at, content_at, written, writes_key}
-use Rattle.commit_core.specs.CoreState.{is_decided, is_free, holder_is}
+use Rattle.commit_core.specs.Keys.{IsUpTo, has_key, content_at, written, writes_key}
+use Rattle.commit_core.specs.Places.{stands, holder_is}
+use Rattle.commit_core.specs.Moves.{Shows}
+use Rattle.commit_core.specs.CoreState.{is_decided}
 use Rattle.commit_core.specs.Serial.{content_after, state_below, RisesFrom}
 use Rattle.commit_core.specs.Sound.{IsSoundStory, IsSoundSeat}
 use Rattle.commit_core.specs.Sound.Homes.{HomeHeld, half_put}
@@ -31,7 +33,7 @@ pub record Overwrites (history : List Attempt) (decided : List Number) (k : Key)
   pub above : IsBelow n b.number
 
 -- what stood at a key, with a number up to that of what decided attempts leave, is that, or is overwritten
-pub version_or : (opening : List Place) (h : List Attempt) (decided : List Number) (passes : Number → Bool) (k : Key) (d : Content) → RisesFrom (content_at opening k).number h → IsVersion opening h k d
+pub version_or : (opening : List (Key × Content)) (h : List Attempt) (decided : List Number) (passes : Number → Bool) (k : Key) (d : Content) → RisesFrom (content_at opening k).number h → IsVersion opening h k d
     → IsUpTo d.number (content_after opening h decided passes k).number → (d ≡ content_after opening h decided passes k) ⊎ ((b : Attempt) × Overwrites h decided k d.number b)
 version_or opening h decided passes k d rises is (inl e) =
     inl (version_same opening h k d (content_after opening h decided passes k) rises is (after_all-version (λ a. is_decided decided a.number && passes a.number) k h (content_at opening k)) e)
@@ -53,25 +55,28 @@ version_or opening h decided passes k d rises is (inr low) =
     at_first (inl e) l = not_below_itself d.number (content_at opening k).number (ap (λ (x : Content). x.number) e) l
     at_first (inr a) l = not_both_below (content_at opening k).number a.0.number (rises_low (content_at opening k).number h rises a.0 a.1) (subst (λ n. IsBelow n (content_at opening k).number) (sym a.2) l)
 
--- The content is what decided attempts leave at the key, or the new value of a decided attempt above its number, which
--- writes the key.
-abbrev pub IsLeftOrPut : List Place → Story → Key → Content → Type 0
+-- The content shows what decided attempts leave at the key, or is the new value of a decided attempt above its number,
+-- which writes the key.
+abbrev pub IsLeftOrPut : List (Key × Content) → Story → Key → Content → Type 0
 IsLeftOrPut opening m k c =
-    ((passes : Number → Bool) × (c ≡ content_after opening m.history m.decided passes k))
+    ((passes : Number → Bool) × Shows m.horizon c (content_after opening m.history m.decided passes k))
     ⊎ ((a : Attempt) × Overwrites m.history m.decided k c.number a)
 
-held_stands : (opening : List Place) (m : Story) (p : ℕ) (put : List Key) (k : Key) (c : Content) (stage : Stage)
-    → AttemptStands m.history m.decided m.places put p stage → HomeHeld opening m.history m.decided put k c stage → IsLeftOrPut opening m k c
+held_stands : (opening : List (Key × Content)) (m : Story) (p : ℕ) (put : List Key) (k : Key) (c : Content) (stage : Stage)
+    → AttemptStands m.history m.decided (stands m.places m.homes) put p stage → HomeHeld m.horizon opening m.history m.decided put k c stage → IsLeftOrPut opening m k c
 held_stands opening m p put k c Idle a h = inl ((λ _. true), h)
 held_stands opening m p put k c (Trying i) a h = inl ((λ _. true), h.0)
 held_stands opening m p put k c Ended a h = inl ((λ _. true), h)
 held_stands opening m p put k c (Decided i) a h =
-    let now = h a.0 a.1.at in by_written (written k a.0.writes) refl (has_key put k) now.0
+    let now = h a.0 a.1.at in by_written now.0.0 now.0.1 (written k a.0.writes) refl (has_key put k) now.0.2
   where
-    by_written : (o : Option (Option ℕ)) → written k a.0.writes ≡ o → (b : Bool) → c ≡ half_put b (written k a.0.writes) (state_below opening m.history m.decided a.0.number k) → IsLeftOrPut opening m k c
-    by_written None e b is = inl ((λ n. is_below n a.0.number), is ∙ ap (λ o. half_put b o (state_below opening m.history m.decided a.0.number k)) e)
-    by_written (Some v) e false is = inl ((λ n. is_below n a.0.number), is ∙ ap (λ o. half_put false o (state_below opening m.history m.decided a.0.number k)) e)
-    by_written (Some v) e true is = inr (
+    by_written : (old : Content) → Shows m.horizon old (state_below opening m.history m.decided a.0.number k) → (o : Option (Option ℕ)) → written k a.0.writes ≡ o → (b : Bool)
+        → c ≡ half_put b (written k a.0.writes) old → IsLeftOrPut opening m k c
+    by_written old shows None e b is =
+        inl ((λ n. is_below n a.0.number), subst (λ (x : Content). Shows m.horizon x (state_below opening m.history m.decided a.0.number k)) (sym (is ∙ ap (λ o. half_put b o old) e)) shows)
+    by_written old shows (Some v) e false is =
+        inl ((λ n. is_below n a.0.number), subst (λ (x : Content). Shows m.horizon x (state_below opening m.history m.decided a.0.number k)) (sym (is ∙ ap (λ o. half_put false o old) e)) shows)
+    by_written old shows (Some v) e true is = inr (
       a.0,
       record {
         drawn = at_in m.history i a.0 a.1.at;
@@ -81,10 +86,12 @@ held_stands opening m p put k c (Decided i) a h =
       },
     )
 
--- what stands at an unlocked place
-pub free_place_stands : (opening : List Place) (m : Story) (k : Key) (q : Place) → IsSoundStory opening m → place_at m.places k ≡ Some q → is_free (Some q) ≡ true → IsLeftOrPut opening m k q.content
-free_place_stands opening m k q story at free = inl ((λ _. true), story.unlocked_homes k q at free)
+-- what stands at a key that nobody holds
+pub free_home_stands : (opening : List (Key × Content)) (m : Story) (k : Key) → IsSoundStory opening m → (stands m.places m.homes k).holder ≡ Free
+    → IsLeftOrPut opening m k (stands m.places m.homes k).content
+free_home_stands opening m k story free = inl ((λ _. true), story.unlocked_homes k free)
 
--- what stands at a place that a seat holds
-pub held_place_stands : (opening : List Place) (m : Story) (p : ℕ) (s : Seat) (k : Key) (q : Place) → IsSoundSeat opening m p s → place_at m.places k ≡ Some q → holder_is p q.holder ≡ true → IsLeftOrPut opening m k q.content
-held_place_stands opening m p s k q seat at mine = held_stands opening m p s.put k q.content s.stage seat.attempt_stands (seat.locked_homes k q at mine)
+-- what stands at a key that a seat holds
+pub held_home_stands : (opening : List (Key × Content)) (m : Story) (p : ℕ) (s : Seat) (k : Key) → IsSoundSeat opening m p s → holder_is p (stands m.places m.homes k).holder ≡ true
+    → IsLeftOrPut opening m k (stands m.places m.homes k).content
+held_home_stands opening m p s k seat mine = held_stands opening m p s.put k (stands m.places m.homes k).content s.stage seat.attempt_stands (seat.locked_homes k mine)

@@ -1,0 +1,15 @@
+mod Worked
+mod Taking
+mod StorePages
+mod StoredPages
+mod Recovering
+pub mod GatherLaws
+pub mod GatherArrayLaws
+pub mod GatherTreeLaws
+pub mod GatherTreeSteps
+pub mod GatherRootLaws
+pub mod EntriesGreatest
+pub mod EntriesOver
+pub mod EntriesBuckets
+pub mod EntriesFiles
+pub mod EntriesDevices

@@ -1,0 +1,6 @@
+use Rattle.std.proofs.Common.{ℕ, ◌*◌, ◌/◌, ◌^◌, ◌<◌, ◌≤◌, slice_index}
+use Rattle.recovery_core.proofs.gather_array.are_up_to.Given as goal
+
+-- no record so far has a later epoch
+abbrev pub invariant-loop-i : goal.invariant-loop-i
+invariant-loop-i l = (k : ℕ) → k < l.i → slice_index l.words (2 * k) / 2 ^ 40 ≤ l.epoch

@@ -1,0 +1,75 @@
+use Rattle.std.proofs.Common.{◌≡◌, None, sym, subst, ◌∙◌}
+use Rattle.std.proofs.lemmas.Result.{IfOk-weaker, on_ok_weaker}
+use Rattle.outside.specs.Disk.{IfTold, Only}
+use Rattle.log_writer.specs.Points.{SaveState}
+use Rattle.log_writer.specs.Save.{Names, IsStored}
+use Rattle.recovery_core.specs.Images.{Images}
+use Rattle.recovery_core.specs.JointCrash.{parts_of}
+use Rattle.recovery_core.specs.Recovered.{Recovers}
+use Rattle.recovery_core.specs.Resting.{AreTold}
+use Rattle.recovery_core.specs.VaultReads.{AreQuiet, told_read, rose_then, stored_read, quiet_then}
+use Rattle.recovery_core.proofs.Recovering.{says_none}
+use Rattle.recovery_core.proofs.recovery.recover.Goals as goal
+
+pub returns-in-None-clause-recovers : goal.returns-in-None-clause-recovers
+returns-in-None-clause-recovers g c =
+    let none = says_none c.in_ok-save.save.newest (sym c.in-None.is ∙ c.in_ok-save.ensures.found.says) in
+    IfOk-weaker c.recover_fresh.result (λ r. (found : Images) → Names found.save None → Recovers found r)
+    (λ r. (found : Images) → AreTold g.D.Disk.tells (parts_of c.args.vault.now) found → Recovers found r)
+    (λ r is found told. is found (subst (Names found.save) none (c.in_ok-save.ensures.found.names found.save told.save)))
+    c.recover_fresh.ensures.recovers
+
+pub returns-in-None-clause-stored : goal.returns-in-None-clause-stored
+returns-in-None-clause-stored g c =
+    IfOk-weaker c.recover_fresh.result (λ r. r.save ≡ c.in_ok-save.save)
+    (λ r. IfTold (g.D.Disk.tells c.args.vault.now.save) (Only g.D.Disk.clock g.D.Disk.image_at c.args.vault.now.save)
+        → IsStored g.D.Disk.tells g.D.Disk.clock g.D.Disk.image_at c.recover_fresh.new.vault.save r.save.newest)
+    (λ r is only. subst (λ (s : SaveState). IsStored g.D.Disk.tells g.D.Disk.clock g.D.Disk.image_at c.recover_fresh.new.vault.save s.newest) (sym is)
+        (stored_read c.in_ok-save.save.newest c.recover_fresh.ensures.reads (c.in_ok-save.ensures.found.stored only)))
+    c.recover_fresh.ensures.save
+
+pub returns-in-None-clause-damaged : goal.returns-in-None-clause-damaged
+returns-in-None-clause-damaged g c device at same found told =
+    absurd (c.recover_fresh.ensures.damaged device at same found.snaps (told_read c.load_save.ensures.reads c.requires.whole told).snaps)
+
+pub returns-in-None-clause-device : goal.returns-in-None-clause-device
+returns-in-None-clause-device g c device same =
+    rose_then c.recover_fresh.new.vault device c.load_save.ensures.reads c.requires.whole (c.recover_fresh.ensures.device device same)
+
+pub returns-in-None-clause-quiet : goal.returns-in-None-clause-quiet
+returns-in-None-clause-quiet g c =
+    on_ok_weaker {P = AreQuiet g.D.Disk.faults c.load_save.new.vault c.recover_fresh.new.vault}
+    {Q = AreQuiet g.D.Disk.faults c.args.vault.now c.recover_fresh.new.vault} c.recover_fresh.result
+    (quiet_then c.recover_fresh.new.vault c.load_save.ensures.reads c.in_ok-save.ensures.quiet) c.recover_fresh.ensures.quiet
+
+pub returns-in-Some-clause-recovers : goal.returns-in-Some-clause-recovers
+returns-in-Some-clause-recovers g c =
+    IfOk-weaker c.recover_saved.result
+    (λ r. (found : Images) → AreTold g.D.Disk.tells (parts_of c.load_save.new.vault) found → Names found.save c.in_ok-save.save.newest → Recovers found r)
+    (λ r. (found : Images) → AreTold g.D.Disk.tells (parts_of c.args.vault.now) found → Recovers found r)
+    (λ r is found told. is found (told_read c.load_save.ensures.reads c.requires.whole told) (c.in_ok-save.ensures.found.names found.save told.save))
+    c.recover_saved.ensures.recovers
+
+pub returns-in-Some-clause-stored : goal.returns-in-Some-clause-stored
+returns-in-Some-clause-stored g c =
+    IfOk-weaker c.recover_saved.result (λ r. r.save ≡ c.in_ok-save.save)
+    (λ r. IfTold (g.D.Disk.tells c.args.vault.now.save) (Only g.D.Disk.clock g.D.Disk.image_at c.args.vault.now.save)
+        → IsStored g.D.Disk.tells g.D.Disk.clock g.D.Disk.image_at c.recover_saved.new.vault.save r.save.newest)
+    (λ r is only. subst (λ (s : SaveState). IsStored g.D.Disk.tells g.D.Disk.clock g.D.Disk.image_at c.recover_saved.new.vault.save s.newest) (sym is)
+        (stored_read c.in_ok-save.save.newest c.recover_saved.ensures.reads (c.in_ok-save.ensures.found.stored only)))
+    c.recover_saved.ensures.save
+
+pub returns-in-Some-clause-damaged : goal.returns-in-Some-clause-damaged
+returns-in-Some-clause-damaged g c device at same found told =
+    c.recover_saved.ensures.damaged device at same found (told_read c.load_save.ensures.reads c.requires.whole told)
+    (c.in_ok-save.ensures.found.names found.save told.save)
+
+pub returns-in-Some-clause-device : goal.returns-in-Some-clause-device
+returns-in-Some-clause-device g c device same =
+    rose_then c.recover_saved.new.vault device c.load_save.ensures.reads c.requires.whole (c.recover_saved.ensures.device device same)
+
+pub returns-in-Some-clause-quiet : goal.returns-in-Some-clause-quiet
+returns-in-Some-clause-quiet g c =
+    on_ok_weaker {P = AreQuiet g.D.Disk.faults c.load_save.new.vault c.recover_saved.new.vault}
+    {Q = AreQuiet g.D.Disk.faults c.args.vault.now c.recover_saved.new.vault} c.recover_saved.result
+    (quiet_then c.recover_saved.new.vault c.load_save.ensures.reads c.in_ok-save.ensures.quiet) c.recover_saved.ensures.quiet

@@ -1,0 +1,63 @@
+use Rattle.std.proofs.Common.{◌≡◌, ◌+◌, ◌<◌, None, List, map, refl, sym, ap, subst, ◌∙◌}
+use Rattle.std.proofs.lemmas.Result.{err_from_is_err_and}
+use Rattle.serial_model.specs.Keys.{id_of}
+use Rattle.serial_model.specs.declared.decl.Decl.{Decl}
+use Rattle.wire_form.specs.Items.{Rises}
+use Rattle.log_writer.specs.declared.saved.Saved.{Saved}
+use Rattle.snapshot_store.specs.Content.{words_of}
+use Rattle.recovery_core.specs.LogEntries.{AreCounted}
+use Rattle.recovery_core.specs.VaultReads.{vault_reads_then, told_read, rose_then, holds_read, quiet_then}
+use Rattle.recovery_core.proofs.Recovering.{says_some, reads_pages, ids_rise, damaged_snaps, damaged_file, saved_recovers}
+use Rattle.recovery_core.proofs.recovery.recover_saved.Goals as goal
+
+pub returns-in_err-snapshot-clause-damaged : goal.returns-in_err-snapshot-clause-damaged
+returns-in_err-snapshot-clause-damaged g c device at same found told names =
+    let p = err_from_is_err_and c.from_residual.result c.from_residual.ensures.1 in
+    let point = says_some c.args.save.newest c.args.saved c.requires.says in
+    let broken = c.in_err-snapshot.ensures.damaged device at (cc (same, p.1, p.2)) in
+    damaged_snaps found c.args.save.newest point.0 device at point.1 broken.0 names (broken.1 found.snaps told.snaps point.0 point.2)
+
+pub read_entries-requires-clause-rising : goal.read_entries-requires-clause-rising
+read_entries-requires-clause-rising g c =
+    let snapshot = c.in_ok-snapshot.ensures.snapshot in
+    subst (λ (l : List Decl). Rises ◌<◌ (map id_of l)) (sym (c.as_slice-decls.ensures ∙ snapshot.1.decls_are))
+    (ids_rise (words_of c.in_ok-snapshot.snapshot.store.pages) (c.args.saved.epoch + 1) None c.args.saved.catalogue snapshot.0 snapshot.1.chain)
+
+pub returns-in_err-entries-clause-damaged : goal.returns-in_err-entries-clause-damaged
+returns-in_err-entries-clause-damaged g c device at same found told names =
+    let p = err_from_is_err_and c.from_residual-in_err-entries.result c.from_residual-in_err-entries.ensures.1 in
+    let point = says_some c.args.save.newest c.args.saved c.requires.says in
+    let snapshot = c.in_ok-snapshot.ensures.snapshot in
+    let pages = reads_pages found.snaps c.args.saved point.0 snapshot.0 c.in_ok-snapshot.snapshot point.2 snapshot.1
+        (c.in_ok-snapshot.ensures.pages found.snaps told.snaps) in
+    let broken = c.in_err-entries.ensures.damaged device at (cc (same, p.1, p.2)) found
+        (told_read c.load_snapshot.ensures.reads c.requires.whole told) point.0 (sym (ap (λ (x : Saved). x.lengths) point.2)) in
+    damaged_file found c.args.save.newest point.0 device broken.0 at (words_of c.in_ok-snapshot.snapshot.store.pages) snapshot.0
+    c.as_slice-decls.result.now point.1 broken.1 names pages (c.as_slice-decls.ensures ∙ snapshot.1.decls_are) broken.2
+
+pub returns-in_err-entries-clause-device : goal.returns-in_err-entries-clause-device
+returns-in_err-entries-clause-device g c device same =
+    let p = err_from_is_err_and c.from_residual-in_err-entries.result c.from_residual-in_err-entries.ensures.1 in
+    rose_then c.read_entries.new.vault device c.load_snapshot.ensures.reads c.requires.whole
+    (c.in_err-entries.ensures.device device (cc (same, p.1, p.2)))
+
+pub returns-in_err-entries-clause-reads : goal.returns-in_err-entries-clause-reads
+returns-in_err-entries-clause-reads g c = vault_reads_then c.load_snapshot.ensures.reads c.read_entries.ensures.reads
+
+pub returns-clause-recovers : goal.returns-clause-recovers
+returns-clause-recovers g c found told names =
+    let point = says_some c.args.save.newest c.args.saved c.requires.says in
+    let snapshot = c.in_ok-snapshot.ensures.snapshot in
+    let lasts = c.in_ok-entries.ensures.lasts found (told_read c.load_snapshot.ensures.reads c.requires.whole told) point.0
+        (sym (ap (λ (x : Saved). x.lengths) point.2)) in
+    let counted = subst (λ (l : List Decl). AreCounted l point.0 found.bank lasts.0) c.as_slice-decls.ensures lasts.1 in
+    saved_recovers found _ c.args.save.newest point.0 c.args.saved c.in_ok-snapshot.snapshot c.in_ok-snapshot.snapshot.state snapshot.0 lasts.0
+    point.1 point.2 names snapshot.1 (c.in_ok-snapshot.ensures.pages found.snaps told.snaps) counted lasts.2 refl c.in_ok-put_over.ensures
+    refl refl refl refl refl
+
+pub returns-clause-holds : goal.returns-clause-holds
+returns-clause-holds g c = holds_read c.in_ok-snapshot.snapshot.store.pages c.read_entries.ensures.reads c.in_ok-snapshot.ensures.holds
+
+pub returns-clause-quiet : goal.returns-clause-quiet
+returns-clause-quiet g c =
+    quiet_then c.read_entries.new.vault c.load_snapshot.ensures.reads c.in_ok-snapshot.ensures.quiet c.in_ok-entries.ensures.quiet

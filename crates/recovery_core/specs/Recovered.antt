@@ -1,0 +1,43 @@
+-- What recovery gives of a vault.
+use Rattle.std.specs.Prelude.{◌≡◌, ℕ, Option, Some, None, IfSome, true, reverse}
+use Rattle.std.specs.Option.{option_map}
+use Rattle.std.specs.FinMap.{get}
+use Rattle.serial_model.specs.declared.key.Key.{Key}
+use Rattle.wire_form.specs.declared.savepoint.Savepoint.{Savepoint}
+use Rattle.log_writer.specs.Points.{IsSaved, saved_of}
+use Rattle.snapshot_store.specs.Content.{words_of}
+use Rattle.recovery_core.specs.declared.recovered.Recovered.{Recovered}
+use Rattle.recovery_core.specs.Images.{Images, epoch_of}
+use Rattle.recovery_core.specs.Catalogues.{newest_decls}
+use Rattle.recovery_core.specs.LogEntries.{last_of}
+use Rattle.recovery_core.specs.Recoverable.{Reading, IsReading, IsStateOf, IsRecoverable, counting}
+use Rattle.recovery_core.specs.Chain.{marks_of}
+
+-- the page number of the newest catalogue; it is 0 where there is none
+abbrev pub catalogue_of : Option Savepoint → ℕ
+catalogue_of None = 0
+catalogue_of (Some p) = p.catalogue
+
+-- What was recovered is what these bytes of the devices stand for: saved epoch and state, with the savepoint, the storages,
+-- the pages that count, the catalogues, the oldest first, and of each key the last entry that counts.
+pub record Recovers (found : Images) (r : Recovered) : Type 0 where
+  pub reading : Reading
+  pub is : IsReading found reading
+  pub epoch : r.epoch ≡ epoch_of reading.point
+  pub state : IsStateOf reading r.state
+  pub point : r.save.newest ≡ reading.point
+  pub decls : r.decls ≡ newest_decls reading.catalogues
+  pub pages : words_of r.store.pages ≡ reading.pages
+  pub catalogues : r.catalogues ≡ reverse (marks_of (catalogue_of reading.point) reading.catalogues)
+  pub entries : (key : Key) → get r.entries key ≡ last_of key (counting reading)
+
+-- Whatever the devices tell: what is given of the savepoint is what it says, it is in its ranges, and both stores are up.
+pub record IsUp (r : Recovered) : Type 0 where
+  pub saved : r.saved ≡ option_map saved_of r.save.newest
+  pub ranges : IfSome r.saved IsSaved
+  pub up : r.save.down ≡ None
+  pub sound : r.store.sound ≡ true
+
+-- in particular epoch and state are those that the devices stand for
+pub recovers_state : (found : Images) (r : Recovered) → Recovers found r → IsRecoverable found r.epoch r.state
+recovers_state found r is = record { reading = is.reading; is = is.is; epoch_is = is.epoch; state_is = is.state }

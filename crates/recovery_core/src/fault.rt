@@ -1,0 +1,12 @@
+// Why a vault can't be recovered.
+
+use outside::Device;
+
+/// Why nothing is recovered from a vault.
+#[derive(Clone, Copy, Debug, PartialEq, Eq)]
+pub enum RecoverFault {
+    /// This device's count of faults rose.
+    Device(Device),
+    /// What this device holds is not in its grammar, from this byte on.
+    Damaged { device: Device, at: u64 },
+}

@@ -1,0 +1,56 @@
+// Pages of the newest snapshot, and where their records go.
+ghost use Rattle.std.specs.Prelude.{◌≡◌, ℕ, ◌≤◌, Some, IsTrue, ◌↔◌, OnOk, length};
+ghost use Rattle.wire_form.specs.Pages.{HasKind};
+ghost use Rattle.snapshot_store.specs.Places.{page};
+ghost use Rattle.snapshot_store.specs.Content.{words_of};
+ghost use Rattle.recovery_core.specs.Damage.{first_byte};
+ghost use Rattle.recovery_core.specs.Gather.{Puts, only_at, found_of};
+
+use crate::catalogue::words_fit;
+use lists::Memory;
+use serial_model::{Key, State};
+use snapshot_store::SnapStore;
+use wire_form::{PageKind, is_page};
+
+/// The size of a page on the device, in bytes.
+const SIZE: u64 = 512;
+
+/// A page's first byte on the device.
+pub(crate) fn first_byte(store: &SnapStore, number: u64) -> u64
+    requires { number ≤ length store.now.pages }
+    ensures { result ≡ first_byte number }
+{
+    let count = u64::from(store.count());
+    prove!(number <= count);
+    SIZE * number.saturating_sub(1)
+}
+
+/// The words of the page of this number.
+pub(crate) fn words_at(store: &SnapStore, number: u64) -> &[u64; 64]
+    requires first { 1 ≤ number }
+    requires last { number ≤ length store.now.pages }
+    ensures words { result.now ≡ page (words_of store.now.pages) number }
+    ensures number { number ≤ 65536 }
+{
+    let count = u64::from(store.count());
+    prove!(number <= count);
+    &store.page(number as u32).words
+}
+
+/// Whether the words are what a page of the kind and number may have in it.
+pub(crate) fn has_kind(kind: PageKind, number: u64, words: &[u64; 64]) -> bool
+    requires first { 1 ≤ number }
+    requires last { number ≤ 65536 }
+    ensures { IsTrue result ↔ HasKind kind number words.now }
+{
+    words_fit(words);
+    is_page(kind, number as u32, words)
+}
+
+/// Puts a record's value at its key.
+pub(crate) fn put(state: &mut State, key: Key, value: u64) -> Result<(), Memory>
+    ensures { (number : ℕ) → OnOk result (Puts (only_at key (Some (found_of number value))) state.old state.new) }
+{
+    state.insert(key, value)?;
+    Ok(())
+}

@@ -1,0 +1,65 @@
+// The pages that a savepoint counts are read.
+ghost use Rattle.std.specs.Prelude.{◌≡◌, ◌<◌, ◌≤◌, ◌*◌, ◌^◌, ℕ, Err, true, length, IfOk, OnOk};
+ghost use Rattle.std.specs.List.{AllByRecursion};
+ghost use Rattle.outside.specs.Disk.{IfTold};
+ghost use Rattle.snapshot_store.specs.Content.{words_of};
+ghost use Rattle.snapshot_store.specs.Store.{IsWhole, Holds};
+ghost use Rattle.recovery_core.specs.Catalogues.{HasPages};
+ghost use Rattle.recovery_core.specs.VaultReads.{VaultOnlyReads, RoseIn, AreQuiet};
+
+use crate::RecoverFault;
+use crate::catalogue::words_fit;
+use lists::OrMemory;
+use outside::{Device, Disk, Vault};
+use snapshot_store::{SnapStore, StoreFault};
+use std::alloc::Global;
+
+// Words in memory have 64 bits, and pages 512 bytes.
+fn pages_fit(store: &SnapStore)
+    ensures fit { AllByRecursion (AllByRecursion (λ w. w < 2 ^ 64)) (words_of store.now.pages) }
+    ensures whole { AllByRecursion IsWhole store.now.pages }
+{
+    for i in 0..store.count() {
+        words_fit(&store.page(i + 1).words);
+    }
+}
+
+/// The pages with numbers up to this one.
+pub(crate) fn load_pages<D: Disk>(
+    alloc: Global,
+    vault: &mut Vault<D>,
+    count: u32,
+) -> Result<SnapStore, OrMemory<RecoverFault>>
+    requires few { count ≤ 65536 }
+    ensures pages { IfOk result (λ store. IfTold (D.tells vault.old.snaps) (λ file.
+        HasPages file count (words_of store.pages))) }
+    ensures count { IfOk result (λ store. length store.pages ≡ count) }
+    ensures sound { IfOk result (λ store. store.sound ≡ true) }
+    ensures holds { IfOk result (λ store. Holds D.tells vault.new.snaps store.pages) }
+    ensures damaged { (device : Device) (at : ℕ) → result ≡ Err (OrMemory.Fault (RecoverFault.Damaged device at))
+        → (device ≡ Device.Snaps) × IfTold (D.tells vault.old.snaps) (λ file. (length file < 512 * count) × (at ≡ length file)) }
+    ensures device { (device : Device) → result ≡ Err (OrMemory.Fault (RecoverFault.Device device))
+        → RoseIn D.faults device vault.old vault.new }
+    ensures quiet { OnOk result (AreQuiet D.faults vault.old vault.new) }
+    ensures reads { VaultOnlyReads D.tells D.clock D.image_at D.faults vault.old vault.new }
+    ensures save { vault.new.save ≡ vault.old.save }
+{
+    let device = Device::Snaps;
+    match SnapStore::load(alloc, &mut vault.snaps, count) {
+        Ok(store) => {
+            pages_fit(&store);
+            Ok(store)
+        }
+        Err(OrMemory::Memory) => Err(OrMemory::Memory),
+        Err(OrMemory::Fault(StoreFault::Device)) => {
+            Err(OrMemory::Fault(RecoverFault::Device(device)))
+        }
+        Err(OrMemory::Fault(StoreFault::Short { at })) => {
+            Err(OrMemory::Fault(RecoverFault::Damaged { device, at }))
+        }
+        // There are no more pages than numbers.
+        Err(OrMemory::Fault(StoreFault::Limit { count: at })) => {
+            Err(OrMemory::Fault(RecoverFault::Damaged { device, at }))
+        }
+    }
+}

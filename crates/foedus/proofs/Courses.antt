@@ -9,10 +9,10 @@ use Rattle.script_grammar.specs.declared.fault.ScriptFault.{ScriptFault}
 use Rattle.script_grammar.specs.declared.fault.FaultKind.TheVariants.{TooLong}
 use Rattle.tx_script.specs.Run.{Ran}
 use Rattle.command_line.specs.declared.command.Command.{Command}
-use Rattle.command_line.specs.declared.command.Command.TheVariants.{Run, Refused}
+use Rattle.command_line.specs.declared.command.Command.TheVariants.{Run, Dump, Refused}
 use Rattle.command_line.specs.declared.command.RunOptions.{RunOptions}
 use Rattle.foedus.specs.declared.ending.Ending.{Ending}
-use Rattle.foedus.specs.declared.ending.Ending.TheVariants.{Finished, NoScript, Usage, ReadFault, NoDevice, AtLimit, NoMemory}
+use Rattle.foedus.specs.declared.ending.Ending.TheVariants.{Finished, NoScript, Usage, ReadFault, NoDevice, Damaged, AtLimit, NoMemory}
 use Rattle.foedus.specs.Ending.{Comes, IsNoText, IsReadOut, ReadsFirst, most_read}
 use Rattle.foedus.specs.Main.{Came, Course, Opening, fresh}
 use Rattle.foedus.specs.OnTheWay.{RunsScript}
@@ -54,13 +54,24 @@ pub read_fault_course : (options : RunOptions) (bytes : Bytes) (left : Option By
 read_fault_course options bytes left = record { script = None; state = fresh.state; run = (refl, refl); comes = tt; reads = inl refl }
 
 -- memory may be wanted at any time
-memory_comes : (command : Command) (bytes : Bytes) → Comes command bytes None [] NoMemory
-memory_comes Refused bytes = tt
-memory_comes (Run options) bytes = tt
+memory_comes : (command : Command) (bytes : Bytes) → (command ≡ Dump → ⊥) → Comes command bytes None [] NoMemory
+memory_comes Refused bytes other = tt
+memory_comes (Run options) bytes other = tt
+memory_comes Dump bytes other = absurd (other refl)
 
 -- want of memory before a script was read
-pub memory_course : (command : Command) (bytes : Bytes) (left : Option Bytes) → Course fresh command bytes left [] NoMemory
-memory_course command bytes left = record { script = None; state = fresh.state; run = (refl, refl); comes = memory_comes command bytes; reads = inl refl }
+pub memory_course : (command : Command) (bytes : Bytes) (left : Option Bytes) → (command ≡ Dump → ⊥) → Course fresh command bytes left [] NoMemory
+memory_course command bytes left other = record {
+  script = None;
+  state = fresh.state;
+  run = (refl, refl);
+  comes = memory_comes command bytes other;
+  reads = inl refl;
+}
+
+-- a run that wants memory before its script was read
+pub unread_course : (options : RunOptions) (bytes : Bytes) (left : Option Bytes) → Course fresh (Run options) bytes left [] NoMemory
+unread_course options bytes left = memory_course (Run options) bytes left (λ is. cc)
 
 -- ---- the bytes that were read, and all bytes of the source
 
@@ -129,6 +140,7 @@ run_reads options bytes left script rans (NoScript fault) comes end = absurd com
 run_reads options bytes left script rans Usage comes end = absurd comes
 run_reads options bytes left script rans ReadFault comes end = absurd comes
 run_reads options bytes left script rans (NoDevice device) comes end = absurd comes
+run_reads options bytes left script rans (Damaged device at) comes end = absurd comes
 run_reads options bytes left script rans (AtLimit name) comes end = inr end
 run_reads options bytes left script rans NoMemory comes end = inr end
 

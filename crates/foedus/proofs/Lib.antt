@@ -5,3 +5,5 @@ pub mod Limits
 pub mod SoFar
 pub mod Statuses
 pub mod Told
+pub mod OneState
+pub mod Dumps

@@ -1,5 +1,5 @@
 -- Where a round ends a run, its clock is at a limit.
-use Rattle.std.proofs.Common.{◌≡◌, subst, refl, ℕ, ◌+◌, ◌<◌, ◌≤◌, Bool, true, false, List, [], ◌∷◌, Option, Some, None, arith}
+use Rattle.std.proofs.Common.{◌≡◌, subst, refl, ℕ, ◌<◌, ◌≤◌, Bool, true, false, List, [], ◌∷◌, Some, None, arith}
 use Rattle.std.specs.Prelude.{nat_lt, if◌then◌else◌}
 use Rattle.std.specs.List.{AllByRecursion, list_any}
 use Rattle.std.proofs.lemmas.Bool.{ltb-false, ltb-true}
@@ -11,7 +11,6 @@ use Rattle.tx_script.specs.declared.outcome.Outcome.TheVariants as outcomes
 use Rattle.tx_script.specs.Causes.{AllCaused, AnswerCause, OutcomeCause}
 use Rattle.tx_script.specs.Run.{AdvancesTo, Ran, is_limit}
 use Rattle.round_engine.specs.RanRound.{end_of}
-use Rattle.round_engine.specs.declared.report.End.{End}
 use Rattle.round_engine.specs.declared.report.End.TheVariants.{Limit}
 use Rattle.round_engine.specs.declared.report.LimitName.{LimitName}
 use Rattle.round_engine.specs.declared.report.LimitName.TheVariants.{Draw, Epoch}

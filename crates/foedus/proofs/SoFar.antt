@@ -6,7 +6,6 @@ use Rattle.std.specs.List.{AllByRecursion, slice_get}
 use Rattle.std.proofs.lemmas.List.{append-nil}
 use Rattle.std.proofs.lemmas.List.Sorted.{IsPermutation-refl}
 use Rattle.serial_model.specs.Numbers.{last_epoch}
-use Rattle.serial_model.specs.State.{State}
 use Rattle.serial_model.specs.declared.number.Number.{Number}
 use Rattle.lists.specs.Each.{all_push}
 use Rattle.serial_model.specs.declared.decl.Decl.{Decl}
@@ -26,8 +25,8 @@ use Rattle.round_engine.specs.declared.report.End.TheVariants.{Limit}
 use Rattle.command_line.specs.declared.command.Command.TheVariants.{Run}
 use Rattle.command_line.specs.declared.command.RunOptions.{RunOptions}
 use Rattle.foedus.specs.declared.ending.Ending.{Ending}
-use Rattle.foedus.specs.declared.ending.Ending.TheVariants.{Finished, AtLimit, NoMemory}
-use Rattle.foedus.specs.Ending.{Comes, GoesOn, last_line, output_text}
+use Rattle.foedus.specs.declared.ending.Ending.TheVariants.{Finished, NoMemory}
+use Rattle.foedus.specs.Ending.{Comes, GoesOn, last_line}
 use Rattle.foedus.specs.Main.{IsNotDurable, fresh}
 use Rattle.foedus.specs.OnTheWay.{AddsRun, RunsScript, ending_of}
 use Rattle.foedus.proofs.Limits.{before_last, epoch-begin, limit_of}

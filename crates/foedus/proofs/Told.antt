@@ -1,5 +1,5 @@
 -- From texts on their way to what the sink holds, and to the answer.
-use Rattle.std.proofs.Common.{◌≡◌, inl, inr, ◌∙◌, sym, ap, subst, refl, ℕ, ◌≤◌, List, [], ◌∷◌, ◌++◌, Option, Some, None, Result, Ok, Err, arith}
+use Rattle.std.proofs.Common.{◌≡◌, inl, inr, ◌∙◌, sym, ap, subst, refl, ℕ, List, [], ◌∷◌, ◌++◌, Option, Result, Ok, Err}
 use Rattle.std.specs.Prelude.{IfOk, OnOk}
 use Rattle.std.specs.List.{AllByRecursion}
 use Rattle.std.specs.Io.KnownBytes.{Appends}
@@ -15,7 +15,7 @@ use Rattle.tx_script.specs.Text.{run_text}
 use Rattle.command_line.specs.Options.{command_of}
 use Rattle.command_line.specs.declared.command.Command.{Command}
 use Rattle.foedus.specs.declared.ending.Ending.{Ending}
-use Rattle.foedus.specs.declared.ending.Ending.TheVariants.{Finished, NoScript, Usage, ReadFault, NoDevice, AtLimit, NoMemory}
+use Rattle.foedus.specs.declared.ending.Ending.TheVariants.{Finished, NoScript, Usage, ReadFault, NoDevice, Damaged, AtLimit, NoMemory}
 use Rattle.foedus.specs.Ending.{last_line, output_text, status_of}
 use Rattle.foedus.specs.Main.{Answers, Came, Holds, IsNoSave, IsNoSnap, IsNotDurable, SavesNothing, Shown, Snapshots, Streams, fresh}
 use Rattle.foedus.specs.OnTheWay.{AddsRun, Takes, status_told}
@@ -72,6 +72,7 @@ holds_all (NoScript fault) before after text appends = appends
 holds_all Usage before after text appends = appends
 holds_all ReadFault before after text appends = appends
 holds_all (NoDevice device) before after text appends = appends
+holds_all (Damaged device at) before after text appends = appends
 holds_all (AtLimit name) before after text appends = appends
 holds_all NoMemory before after text appends = appends
 

@@ -1,15 +1,32 @@
--- Why a call ends with its status, whatever its streams tell.
-use Rattle.std.specs.Prelude.{◌≡◌, ◌≢◌, ◌⊎◌, ℕ, ◌<◌, ◌≤◌, List}
+-- Why a call ends with its status, whatever its streams and its vault tell.
+use Rattle.std.specs.Prelude.{◌≡◌, ◌≢◌, ◌⊎◌, ℕ, ◌<◌, ◌≤◌, List, ⊤}
 use Rattle.outside.specs.Faults.{Rose}
 use Rattle.script_grammar.specs.Script.{Bytes}
 use Rattle.command_line.specs.Options.{Refuses, command_of}
-use Rattle.command_line.specs.Plain.{AsksForHelp, IsPlain}
-use Rattle.command_line.specs.declared.command.Command.TheVariants.{Refused}
+use Rattle.command_line.specs.Plain.{AsksForHelp, IsPlain, IsPlainDump}
+use Rattle.command_line.specs.declared.command.Command.{Command}
+use Rattle.command_line.specs.declared.command.Command.TheVariants.{Run, Dump, Refused}
 use Rattle.command_line.specs.declared.command.RunOptions.{RunOptions}
 
--- No other status comes yet.
-abbrev pub IsStatus : ℕ → Type 0
-IsStatus status = (status ≤ 4) ⊎ ((status ≡ 7) ⊎ (status ≡ 8))
+-- The statuses of a dump: 0, 4 to 6, and 8.
+abbrev pub IsDumpStatus : ℕ → Type 0
+IsDumpStatus status = (status ≡ 0) ⊎ (((4 ≤ status) × (status ≤ 6)) ⊎ (status ≡ 8))
+
+-- The statuses of any other call: 0 to 4, 7 and 8.
+abbrev pub IsRunStatus : ℕ → Type 0
+IsRunStatus status = (status ≤ 4) ⊎ ((status ≡ 7) ⊎ (status ≡ 8))
+
+-- No other status comes yet of a command.
+abbrev pub IsStatus : Command → ℕ → Type 0
+IsStatus Dump status = IsDumpStatus status
+IsStatus (Run options) status = IsRunStatus status
+IsStatus Refused status = IsRunStatus status
+
+-- These commands read no source.
+abbrev pub ReadsNoSource : Command → Type 0
+ReadsNoSource (Run options) = ⊥
+ReadsNoSource Dump = ⊤
+ReadsNoSource Refused = ⊤
 
 -- The statuses of a call whose words were refused: usage, or that the sink or memory failed.
 abbrev pub IsRefusal : ℕ → Type 0
@@ -20,6 +37,7 @@ IsRefusal status = (status ≡ 2) ⊎ ((status ≡ 4) ⊎ (status ≡ 8))
 pub record AnswersWords (words : List Bytes) (status : ℕ) : Type 0 where
   pub usage : status ≡ 2 → Refuses words
   pub plain : (options : RunOptions) → IsPlain words options → status ≢ 2
+  pub plain_dump : IsPlainDump words → status ≢ 2
   pub refused : command_of words ≡ Refused → IsRefusal status
   pub help : AsksForHelp words → IsRefusal status
 

@@ -1,5 +1,5 @@
 -- The names of the vault's devices: of their files, and in the last line of a call that can't have one.
-use Rattle.std.specs.Prelude.{ℕ, List, [], ◌∷◌, ◌++◌, codes, decimal}
+use Rattle.std.specs.Prelude.{[], ◌∷◌, ◌++◌, codes, decimal}
 use Rattle.text_output.specs.Output.{Bytes}
 use Rattle.outside.specs.declared.vault.Device.{Device}
 use Rattle.outside.specs.declared.vault.Device.TheVariants.{Save, Snaps, Bank}

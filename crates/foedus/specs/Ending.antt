@@ -1,5 +1,5 @@
 -- How a call ends: its status, its last line, and the table of what has to hold where it ends so.
-use Rattle.std.specs.Prelude.{◌≡◌, ◌⊎◌, ℕ, ◌≤◌, ◌+◌, List, [], ◌∷◌, ◌++◌, length, codes, decimal, Option, Some, None, ⊤}
+use Rattle.std.specs.Prelude.{◌≡◌, ◌⊎◌, ℕ, ◌≤◌, List, [], ◌∷◌, ◌++◌, length, codes, decimal, Option, Some, None, ⊤}
 use Rattle.std.specs.List.{AllByRecursion}
 use Rattle.std.specs.Io.KnownBytes.{Consumes, IsAtEnd}
 use Rattle.serial_model.specs.Numbers.{draw_limit, last_epoch}
@@ -17,9 +17,10 @@ use Rattle.round_engine.specs.declared.report.LimitName.{LimitName}
 use Rattle.round_engine.specs.declared.report.LimitName.TheVariants.{Draw, Epoch}
 use Rattle.command_line.specs.declared.command.Command.{Command}
 use Rattle.command_line.specs.declared.command.Command.TheVariants.{Run, Refused}
-use Rattle.foedus.specs.Devices.{device_text}
+use Rattle.outside.specs.declared.vault.Device.{Device}
+use Rattle.foedus.specs.Devices.{device_name, device_text}
 use Rattle.foedus.specs.declared.ending.Ending.{Ending}
-use Rattle.foedus.specs.declared.ending.Ending.TheVariants.{Finished, NoScript, Usage, ReadFault, NoDevice, AtLimit, NoMemory}
+use Rattle.foedus.specs.declared.ending.Ending.TheVariants.{Finished, NoScript, Usage, ReadFault, NoDevice, Damaged, AtLimit, NoMemory}
 
 -- ---- what is told
 
@@ -30,6 +31,7 @@ status_of (NoScript fault) = 1
 status_of Usage = 2
 status_of ReadFault = 3
 status_of (NoDevice device) = 5
+status_of (Damaged device at) = 6
 status_of (AtLimit name) = 7
 status_of NoMemory = 8
 
@@ -47,6 +49,10 @@ kind_text kinds.Range = codes "Range"
 abbrev pub fault_text : ScriptFault → Bytes
 fault_text fault = codes "script " ++ decimal fault.line ++ codes " " ++ kind_text fault.kind ++ 10 ∷ []
 
+-- The line that tells damage: the device, and the first byte that isn't in its format.
+abbrev pub damaged_text : Device → ℕ → Bytes
+damaged_text device at = codes "damaged " ++ device_name device ++ codes " " ++ decimal at ++ 10 ∷ []
+
 -- The line that tells a limit.
 abbrev pub limit_text : LimitName → Bytes
 limit_text Epoch = codes "limit epoch" ++ 10 ∷ []
@@ -59,6 +65,7 @@ last_line (NoScript fault) = fault_text fault
 last_line Usage = codes "usage" ++ 10 ∷ []
 last_line ReadFault = codes "read" ++ 10 ∷ []
 last_line (NoDevice device) = device_text device
+last_line (Damaged device at) = damaged_text device at
 last_line (AtLimit name) = limit_text name
 last_line NoMemory = codes "memory" ++ 10 ∷ []
 

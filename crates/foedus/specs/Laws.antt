@@ -16,7 +16,7 @@ use Rattle.round_engine.specs.declared.report.End.{End}
 use Rattle.round_engine.specs.declared.report.End.TheVariants.{Limit}
 use Rattle.round_engine.specs.declared.report.LimitName.TheVariants.{Draw, Epoch}
 use Rattle.command_line.specs.declared.command.Command.{Command}
-use Rattle.command_line.specs.declared.command.Command.TheVariants.{Run, Refused}
+use Rattle.command_line.specs.declared.command.Command.TheVariants.{Run, Dump, Refused}
 use Rattle.foedus.specs.declared.ending.Ending.{Ending}
 use Rattle.foedus.specs.declared.ending.Ending.TheVariants.{AtLimit}
 use Rattle.foedus.specs.Ending.{Comes, EndsBy, IsLimitOf}
@@ -71,6 +71,7 @@ all_last (ran ∷ before) last all = all_last before last all.1
 comes_at : (command : Command) (bytes : Bytes) (script : Option Script) (rans : List Ran) → Comes command bytes script rans (AtLimit Draw) → (number : ℕ) × IsLimitOf Draw number × EndsBy (Limit Draw number) rans
 comes_at Refused bytes None rans comes = absurd comes
 comes_at Refused bytes (Some script) rans comes = absurd comes
+comes_at Dump bytes script rans comes = absurd comes
 comes_at (Run options) bytes None rans comes = absurd comes
 comes_at (Run options) bytes (Some script) rans comes = comes
 

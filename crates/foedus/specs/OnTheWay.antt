@@ -1,6 +1,6 @@
 -- On the way to the main theorem: what the functions below `top`, and the program round it, tell of an ending and of
 -- text.
-use Rattle.std.specs.Prelude.{◌≡◌, ◌⊎◌, ℕ, ◌<◌, ◌≤◌, List, Option, Some, Result, Ok, Err, ⊤}
+use Rattle.std.specs.Prelude.{◌≡◌, ◌⊎◌, ℕ, ◌<◌, ◌≤◌, ◌++◌, List, Option, Some, Result, Ok, Err, ⊤}
 use Rattle.std.specs.List.{AllByRecursion}
 use Rattle.std.specs.Io.KnownBytes.{Appends}
 use Rattle.lists.specs.declared.memory.OrMemory.{OrMemory}
@@ -21,9 +21,11 @@ use Rattle.round_engine.specs.declared.report.End.TheVariants.{Limit}
 use Rattle.command_line.specs.declared.command.Command.{Command}
 use Rattle.command_line.specs.declared.command.Command.TheVariants.{Run}
 use Rattle.command_line.specs.declared.command.RunOptions.{RunOptions}
+use Rattle.recovery_core.specs.declared.fault.RecoverFault.{RecoverFault}
+use Rattle.recovery_core.specs.declared.fault.RecoverFault.TheVariants as faults
 use Rattle.foedus.specs.declared.ending.Ending.{Ending}
-use Rattle.foedus.specs.declared.ending.Ending.TheVariants.{NoScript, Usage, ReadFault, NoDevice, AtLimit, NoMemory}
-use Rattle.foedus.specs.Causes.{Counts, IsStatus}
+use Rattle.foedus.specs.declared.ending.Ending.TheVariants.{NoScript, Usage, ReadFault, NoDevice, Damaged, AtLimit, NoMemory}
+use Rattle.foedus.specs.Causes.{Counts, IsDumpStatus, IsRunStatus}
 use Rattle.foedus.specs.Ending.{Comes, last_line, output_text, status_of}
 use Rattle.foedus.specs.Main.{Holds, IsNotDurable, Opening}
 
@@ -62,9 +64,9 @@ IsWithout device (NoDevice other) = other ≡ device
 IsWithout device NoMemory = ⊤
 IsWithout device _ = ⊥
 
--- The statuses of the program: those of `top`, and 5 where a device can't be had.
+-- The statuses of the program: those of `top`. Status 5 also comes where a device can't be had.
 abbrev pub IsExit : ℕ → Type 0
-IsExit status = IsStatus status ⊎ (status ≡ 5)
+IsExit status = IsRunStatus status ⊎ IsDumpStatus status
 
 -- The source's count stands still unless its fault is answered, and then it rose.
 abbrev pub ReadsWithCause : {T : Type 0} → ℕ → ℕ → Result T (OrMemory Failed) → Type 0
@@ -77,11 +79,31 @@ abbrev pub EndsWithCause : ℕ → ℕ → Ending → Type 0
 EndsWithCause before after ReadFault = (before ≤ after) × Rose before after
 EndsWithCause before after ending = after ≡ before
 
+-- How a call ends where recovery is refused.
+abbrev pub ending_of_fault : RecoverFault → Ending
+ending_of_fault (faults.Device device) = NoDevice device
+ending_of_fault (faults.Damaged device at) = Damaged device at
+
+-- The same, or for want of memory.
+abbrev pub ending_of_refusal : OrMemory RecoverFault → Ending
+ending_of_refusal (errors.Fault fault) = ending_of_fault fault
+ending_of_refusal errors.Memory = NoMemory
+
 -- ---- text
 
 -- How a run ends that a round ends so.
 abbrev pub ending_of : End → Ending
 ending_of (Limit name number) = AtLimit name
+
+-- The call came to this ending, and the text was added, but not the last line; or the sink failed within the two.
+abbrev pub AddsText : Output → Output → Result Ending Failed → Bytes → Ending → Type 0
+AddsText old new (Ok came) text ending = (ending ≡ came) × Adds old new text
+AddsText old new (Err failed) text ending = Breaks old new (text ++ last_line ending)
+
+-- The call came to this ending, and the sink took its text and the last line; or the sink failed within that.
+abbrev pub TakesText : Option Bytes → Option Bytes → Result Ending Failed → Bytes → Ending → Type 0
+TakesText held holds (Ok came) text ending = (ending ≡ came) × Appends held holds (text ++ last_line ending)
+TakesText held holds (Err failed) text ending = TakesPrefix held holds (text ++ last_line ending)
 
 -- No round's join made an epoch durable; the call came to this ending, and the text of what was run was added, but
 -- not the last line; or the sink failed within the call's text.

@@ -2,7 +2,7 @@
 ghost use Rattle.std.specs.Prelude.{◌≡◌, [], IfOk, OnOk};
 ghost use Rattle.text_output.specs.Output.{Prints};
 ghost use Rattle.foedus.specs.Devices.{device_name, device_text};
-ghost use Rattle.foedus.specs.Ending.{fault_text, kind_text, last_line, limit_text, status_of};
+ghost use Rattle.foedus.specs.Ending.{damaged_text, fault_text, kind_text, last_line, limit_text, status_of};
 ghost use Rattle.foedus.specs.OnTheWay.{ending_of, status_told};
 ghost use Rattle.foedus.specs.declared.ending.Ending.TheVariants as endings;
 
@@ -25,6 +25,8 @@ pub enum Ending {
     ReadFault,
     /// This device can't be had.
     NoDevice(Device),
+    /// What this device holds isn't in its format, from this byte on.
+    Damaged { device: Device, at: u64 },
     /// The clock's draws or its epochs are used up.
     AtLimit(LimitName),
     /// A growth was refused.
@@ -42,6 +44,7 @@ impl Ending {
             Ending::Usage => 2,
             Ending::ReadFault => 3,
             Ending::NoDevice(_) => 5,
+            Ending::Damaged { .. } => 6,
             Ending::AtLimit(_) => 7,
             Ending::NoMemory => 8,
         }
@@ -57,6 +60,7 @@ impl Ending {
             Ending::Usage => printer.put(b"usage\n"),
             Ending::ReadFault => printer.put(b"read\n"),
             Ending::NoDevice(device) => put_device(printer, *device),
+            Ending::Damaged { device, at } => put_damaged(printer, *device, *at),
             Ending::AtLimit(name) => printer.put(limit_text(*name)),
             Ending::NoMemory => printer.put(b"memory\n"),
         }
@@ -127,6 +131,16 @@ fn put_device<K: Sink>(printer: &mut Printer<'_, K>, device: Device) -> Result<(
 {
     printer.put(b"device ")?;
     put_name(printer, device)?;
+    printer.put(b"\n")
+}
+
+fn put_damaged<K: Sink>(printer: &mut Printer<'_, K>, device: Device, at: u64) -> Result<(), Failed>
+    ensures { Prints printer.old printer.new (damaged_text device at) result }
+{
+    printer.put(b"damaged ")?;
+    put_name(printer, device)?;
+    printer.put(b" ")?;
+    printer.put_number(at)?;
     printer.put(b"\n")
 }
 

@@ -21,14 +21,17 @@ use text_output::Printer;
 
 /// What the program does, for a person whose words were refused.
 pub(crate) const USAGE: &str = "\
-foedus runs the transactions of a script, and prints a line for each.
+foedus runs the transactions of a script and prints a line for each, or tells what the database keeps.
 
   foedus run [--tries N] [--slots N] [--snap N] < SCRIPT
+  foedus dump
 
   run         reads the script from standard input and runs it on an empty database
   --tries N   how often a transaction is tried: 1 to 1000000, 1000 if left out
   --slots N   pages in memory that can change: 4 to 4096, 256 if left out
   --snap N    snapshot pages in memory: 1 to 65536, 4096 if left out
+  dump        prints the saved epoch, and a line for each key: its storage, the key and its value;
+              keys of arrays only where the value isn't 0
 
 Options come in any order, each at most once. They are without effect for now.
 A script declares arrays (array ID SIZE), and then has a line for each transaction: the worker,

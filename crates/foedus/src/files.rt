@@ -18,7 +18,7 @@ const BANKS: u8 = 8;
 const NO_SAVEPOINT: [u8; 1024] = [0; 1024];
 
 /// Opens the files of a folder, which is made where it is missing, as are the files: the savepoint's
-/// with 1,024 zero bytes, the others empty. Of the files that can't be had the first one is answered, in
+/// with 1,024 zero bytes, the others empty. What is made is there for good before anything is opened after it. Of the files that can't be had the first one is answered, in
 /// the order save, snaps, bank0, bank1 and on.
 pub(crate) fn open_vault<R: Files<File = File>>(
     rt: &R,
@@ -28,8 +28,7 @@ pub(crate) fn open_vault<R: Files<File = File>>(
     ensures whole { IfOk result IsWhole }
     ensures early { IfErr result IsEarly }
 {
-    // Where the folder can't be made, its first file can't be opened.
-    let _made = fs::create_dir(rt, folder);
+    make_folder(rt, alloc, folder)?;
     let save = open_device(rt, alloc, folder, Device::Save)?;
     let snaps = open_device(rt, alloc, folder, Device::Snaps)?;
     let mut even = Vec::new(alloc);
@@ -60,11 +59,12 @@ fn open_device<R: Files<File = File>>(
     ensures { IfErr result (IsWithout device) }
 {
     let path = device_path(alloc, folder, device)?;
+    let draft = format!(in alloc; "{path}.new")?;
     let first: &[u8] = match device {
         Device::Save => &NO_SAVEPOINT,
         _ => &[],
     };
-    match open_file(rt, path.as_str(), first) {
+    match open_file(rt, folder, path.as_str(), draft.as_str(), first) {
         Ok(file) => Ok(FileDisk::new(file)),
         Err(_) => Err(Ending::NoDevice(device)),
     }
@@ -90,21 +90,64 @@ fn device_name(alloc: Global, device: Device) -> Result<String, AllocError>
     }
 }
 
-// Opens a file for reading and writing, and makes it with these bytes where it is missing.
-fn open_file<R: Files<File = File>>(rt: &R, path: &str, first: &[u8]) -> io::Result<File> {
+// Makes the folder where it is missing. Where it can't be made, its first file can't be opened.
+fn make_folder<R: Files<File = File>>(
+    rt: &R,
+    alloc: Global,
+    folder: &str,
+) -> Result<(), AllocError> {
+    let around = format!(in alloc; "{folder}/..")?;
+    if fs::create_dir(rt, folder).is_ok() {
+        let _synced = sync_folder(rt, around.as_str());
+    }
+    Ok(())
+}
+
+fn read_and_write() -> OpenOptions {
     let mut options = OpenOptions::new();
     options.read(true);
     options.write(true);
-    match options.open(rt, path) {
+    options
+}
+
+// Opens a file for reading and writing, and makes it with these bytes where it is missing.
+fn open_file<R: Files<File = File>>(
+    rt: &R,
+    folder: &str,
+    path: &str,
+    draft: &str,
+    first: &[u8],
+) -> io::Result<File> {
+    match read_and_write().open(rt, path) {
         Ok(file) => Ok(file),
-        Err(error) => {
-            if error.kind() != ErrorKind::NotFound {
-                return Err(error);
-            }
-            options.create_new(true);
-            let mut file = options.open(rt, path)?;
-            file.write_all(first)?;
-            Ok(file)
-        }
+        Err(error) if error.kind() == ErrorKind::NotFound => make_file(
+            rt, folder, path, draft, first,
+        ),
+        Err(error) => Err(error),
     }
+}
+
+// Makes a file with these bytes. It gets its name once they are on the device, since a savepoint's file with fewer bytes,
+// as a stop might leave it, would be taken for damage from then on.
+fn make_file<R: Files<File = File>>(
+    rt: &R,
+    folder: &str,
+    path: &str,
+    draft: &str,
+    first: &[u8],
+) -> io::Result<File> {
+    let mut options = read_and_write();
+    options.create(true);
+    options.truncate(true);
+    let mut file = options.open(rt, draft)?;
+    file.write_all(first)?;
+    file.sync_all()?;
+    fs::rename(rt, draft, path)?;
+    sync_folder(rt, folder)?;
+    Ok(file)
+}
+
+// Brings the names of a folder's files to the device itself.
+fn sync_folder<R: Files<File = File>>(rt: &R, folder: &str) -> io::Result<()> {
+    File::open(rt, folder)?.sync_all()
 }

@@ -1,10 +1,16 @@
 // One call of the program.
-ghost use Rattle.std.specs.Prelude.{◌≡◌, ℕ, List, [], Some, Ok, map};
+ghost use Rattle.std.specs.Prelude.{◌≡◌, ◌≢◌, ℕ, List, [], Some, Ok, map};
 ghost use Rattle.command_line.specs.Options.{command_of};
-ghost use Rattle.foedus.specs.Causes.{AnswersFaults, AnswersWords, IsStatus};
+ghost use Rattle.outside.specs.Vault.{IsWhole};
+ghost use Rattle.recovery_core.specs.Images.{Images};
+ghost use Rattle.recovery_core.specs.JointCrash.{parts_of};
+ghost use Rattle.recovery_core.specs.Resting.{AreTold};
+ghost use Rattle.recovery_core.specs.VaultReads.{VaultOnlyReads};
+ghost use Rattle.foedus.specs.Causes.{AnswersFaults, AnswersWords, IsStatus, ReadsNoSource};
+ghost use Rattle.foedus.specs.Dump.{Dumped, IsUndisturbed, ShownText, TellsAll};
 ghost use Rattle.foedus.specs.Ending.{TakesAtMost};
 ghost use Rattle.foedus.specs.Main.{Answers, Came, Streams, fresh};
-ghost use Rattle.foedus.specs.OnTheWay.{AddsRun, Takes, status_told};
+ghost use Rattle.foedus.specs.OnTheWay.{AddsRun, AddsText, Takes, TakesText, status_told};
 
 use crate::ending::{Ending, finish, status_told};
 use crate::run::run;
@@ -18,7 +24,8 @@ use text_output::Printer;
 
 /// Does what the words ask for, and answers the program's status: 0 where all was done, 1 where the
 /// bytes are no script, 2 where the words ask for nothing, 3 where the source failed, 4 where the sink
-/// failed, 7 where the epochs are used up and 8 for want of memory.
+/// failed, 5 where a device of the vault failed, 6 where one is damaged, 7 where the epochs are used up and 8 for want
+/// of memory.
 pub fn top<R: Threads + Wait + Sync, S: Source, K: Sink, D: Disk + Send + Drop, G: Gate + Sync>(
     rt: &R,
     alloc: Global,
@@ -28,8 +35,10 @@ pub fn top<R: Threads + Wait + Sync, S: Source, K: Sink, D: Disk + Send + Drop, 
     vault: &mut Vault<D>,
     gate: &G,
 ) -> u8
+    requires whole { IsWhole vault.old }
     // What was run, printed and kept, and how the call ended: the main theorem.
-    ensures answer { (bytes : List ℕ) → S.left source.old ≡ Some bytes
+    ensures answer { command_of (map (λ word. word.now) words.now) ≢ Command.Dump
+        → (bytes : List ℕ) → S.left source.old ≡ Some bytes
         → let streams : Streams = record {
           bytes = bytes;
           left = S.left source.new;
@@ -37,78 +46,103 @@ pub fn top<R: Threads + Wait + Sync, S: Source, K: Sink, D: Disk + Send + Drop, 
           holds = K.held sink.new;
         } in
         Answers fresh (map (λ word. word.now) words.now) streams vault.old vault.new result }
-    // No other status comes, and each only for its cause, whatever the streams tell.
-    ensures statuses { IsStatus result }
+    // What is told of what the vault keeps, and that it is told where nothing fails.
+    ensures dumped { command_of (map (λ word. word.now) words.now) ≡ Command.Dump
+        → Dumped D.tells D.faults vault.old vault.new (ShownText (K.held sink.old) (K.held sink.new) result) }
+    ensures complete { command_of (map (λ word. word.now) words.now) ≡ Command.Dump
+        → (found : Images) → AreTold D.tells (parts_of vault.old) found → IsUndisturbed result
+        → TellsAll found (K.held sink.old) (K.held sink.new) result }
+    // No other status comes, and each only for its cause, whatever the streams and devices tell.
+    ensures statuses { IsStatus (command_of (map (λ word. word.now) words.now)) result }
     ensures asked { AnswersWords (map (λ word. word.now) words.now) result }
     ensures faults { AnswersFaults
         (record { before = S.faults source.old; after = S.faults source.new })
         (record { before = K.faults sink.old; after = K.faults sink.new }) result }
     // What is left alone.
-    ensures spared { command_of (map (λ word. word.now) words.now) ≡ Command.Refused
+    ensures spared { ReadsNoSource (command_of (map (λ word. word.now) words.now))
         → source.new ≡ source.old }
     ensures taken { TakesAtMost (S.left source.old) (S.left source.new) }
-    ensures untouched { vault.new ≡ vault.old }
+    ensures untouched { command_of (map (λ word. word.now) words.now) ≢ Command.Dump
+        → vault.new ≡ vault.old }
+    ensures reads { VaultOnlyReads D.tells D.clock D.image_at D.faults vault.old vault.new }
 {
-    let _vault = &vault.ties;
     let mut printer = Printer::new(sink);
-    let outcome = call(rt, alloc, words, source, &mut printer, gate);
+    let outcome = call(rt, alloc, words, source, &mut printer, vault, gate);
     let _ = printer.into_sink();
     status_told(outcome)
 }
 
 // Does what the words ask for, and prints all of its text.
-fn call<R: Threads + Wait + Sync, S: Source, K: Sink, G: Gate + Sync>(
+fn call<R: Threads + Wait + Sync, S: Source, K: Sink, D: Disk, G: Gate + Sync>(
     rt: &R,
     alloc: Global,
     words: &[&str],
     source: &mut S,
     printer: &mut Printer<'_, K>,
+    vault: &mut Vault<D>,
     gate: &G,
 ) -> Result<Ending, Failed>
-    requires { printer.old.waiting ≡ [] }
-    ensures came { (bytes : List ℕ) → S.left source.old ≡ Some bytes
+    requires empty { printer.old.waiting ≡ [] }
+    requires whole { IsWhole vault.old }
+    ensures came { command_of (map (λ word. word.now) words.now) ≢ Command.Dump
+        → (bytes : List ℕ) → S.left source.old ≡ Some bytes
         → let command = command_of (map (λ word. word.now) words.now) in
         Came fresh command bytes (S.left source.new)
         (Takes command printer.old.held printer.new.held result) }
+    ensures dumped { command_of (map (λ word. word.now) words.now) ≡ Command.Dump
+        → Dumped D.tells D.faults vault.old vault.new
+        (TakesText printer.old.held printer.new.held result) }
     ensures asked { AnswersWords (map (λ word. word.now) words.now) (status_told result) }
     ensures faults { AnswersFaults
         (record { before = S.faults source.old; after = S.faults source.new })
         (record { before = printer.old.faults; after = printer.new.faults }) (status_told result) }
-    ensures spared { command_of (map (λ word. word.now) words.now) ≡ Command.Refused
+    ensures spared { ReadsNoSource (command_of (map (λ word. word.now) words.now))
         → source.new ≡ source.old }
     ensures taken { TakesAtMost (S.left source.old) (S.left source.new) }
-    ensures statuses { IsStatus (status_told result) }
+    ensures untouched { command_of (map (λ word. word.now) words.now) ≢ Command.Dump
+        → vault.new ≡ vault.old }
+    ensures reads { VaultOnlyReads D.tells D.clock D.image_at D.faults vault.old vault.new }
+    ensures statuses { IsStatus (command_of (map (λ word. word.now) words.now)) (status_told result) }
     ensures same { printer.new.sink ≡ printer.old.sink }
 {
-    let ending = run_words(rt, alloc, words, source, printer, gate)?;
+    let ending = run_words(rt, alloc, words, source, printer, vault, gate)?;
     finish(printer, ending)
 }
 
 // Does what the words ask for, and adds the text of what was run.
-fn run_words<R: Threads + Wait + Sync, S: Source, K: Sink, G: Gate + Sync>(
+fn run_words<R: Threads + Wait + Sync, S: Source, K: Sink, D: Disk, G: Gate + Sync>(
     rt: &R,
     alloc: Global,
     words: &[&str],
     source: &mut S,
     printer: &mut Printer<'_, K>,
+    vault: &mut Vault<D>,
     gate: &G,
 ) -> Result<Ending, Failed>
-    ensures came { (bytes : List ℕ) → S.left source.old ≡ Some bytes
+    requires whole { IsWhole vault.old }
+    ensures came { command_of (map (λ word. word.now) words.now) ≢ Command.Dump
+        → (bytes : List ℕ) → S.left source.old ≡ Some bytes
         → let command = command_of (map (λ word. word.now) words.now) in
         Came fresh command bytes (S.left source.new)
         (AddsRun command printer.old printer.new result) }
+    ensures dumped { command_of (map (λ word. word.now) words.now) ≡ Command.Dump
+        → Dumped D.tells D.faults vault.old vault.new
+        (AddsText printer.old printer.new result) }
     ensures asked { AnswersWords (map (λ word. word.now) words.now) (status_told result) }
     ensures faults { AnswersFaults
         (record { before = S.faults source.old; after = S.faults source.new })
         (record { before = printer.old.faults; after = printer.new.faults }) (status_told result) }
-    ensures spared { command_of (map (λ word. word.now) words.now) ≡ Command.Refused
+    ensures spared { ReadsNoSource (command_of (map (λ word. word.now) words.now))
         → source.new ≡ source.old }
     ensures taken { TakesAtMost (S.left source.old) (S.left source.new) }
-    ensures statuses { IsStatus (status_told result) }
+    ensures untouched { command_of (map (λ word. word.now) words.now) ≢ Command.Dump
+        → vault.new ≡ vault.old }
+    ensures reads { VaultOnlyReads D.tells D.clock D.image_at D.faults vault.old vault.new }
+    ensures statuses { IsStatus (command_of (map (λ word. word.now) words.now)) (status_told result) }
     ensures same { printer.new.sink ≡ printer.old.sink }
 {
     match read_words(alloc, words) {
-        Ok(command) => run(rt, alloc, command, source, printer, gate),
+        Ok(command) => run(rt, alloc, command, source, printer, vault, gate),
         Err(Memory) => Ok(Ending::NoMemory),
     }
 }

@@ -4,6 +4,7 @@ use crate::entry::{USAGE, run_program};
 use crate::files::open_vault;
 use crate::{Ending, top};
 use outside::{Disk, FileDisk, Gate, MemDisk, MemSink, MemSource, OpenGate, SureSource, Vault};
+use serial_model::{Decl, Key, State};
 use std::alloc::Global;
 use std::fs::{self, File, Files};
 use std::process::ExitCode;
@@ -11,16 +12,38 @@ use std::sync::Wait;
 use std::sync::atomic::{AtomicU64, Ordering};
 use std::test::Fail;
 use std::thread::Threads;
+use tx_script::write_state;
 
-fn fresh_vault(alloc: Global) -> Result<Vault<MemDisk>, Fail> {
+// Eight disks, of which the first has these bytes and the others none.
+fn banks(alloc: Global, first: &[u8]) -> Result<Vec<MemDisk>, Fail> {
+    let mut disks = Vec::new(alloc);
+    disks.push(MemDisk::new(alloc, first.to_vec(alloc)?, Vec::new(alloc))?)?;
+    for _ in 1..8 {
+        disks.push(MemDisk::new(alloc, Vec::new(alloc), Vec::new(alloc))?)?;
+    }
+    Ok(disks)
+}
+
+// A vault whose first devices have these bytes, and the others none. Of the calls of the save these fail.
+fn vault_of(
+    alloc: Global,
+    save: &[u8],
+    snaps: &[u8],
+    bank: &[u8],
+    fails: &[u64],
+) -> Result<Vault<MemDisk>, Fail> {
     Ok(Vault {
-        save: MemDisk::new(alloc, vec![in alloc; 0; 1024]?, Vec::new(alloc))?,
-        snaps: MemDisk::new(alloc, Vec::new(alloc), Vec::new(alloc))?,
-        even: Vec::new(alloc),
-        odd: Vec::new(alloc),
+        save: MemDisk::new(alloc, save.to_vec(alloc)?, fails.to_vec(alloc)?)?,
+        snaps: MemDisk::new(alloc, snaps.to_vec(alloc)?, Vec::new(alloc))?,
+        even: banks(alloc, bank)?,
+        odd: banks(alloc, &[])?,
         ties: Vec::new(alloc),
         cuts: Vec::new(alloc),
     })
+}
+
+fn fresh_vault(alloc: Global) -> Result<Vault<MemDisk>, Fail> {
+    vault_of(alloc, &[0; 1024], &[], &[], &[])
 }
 
 // The status of a call with these words after the program's name, over a source and a sink of which the calls of these
@@ -210,6 +233,9 @@ fn a_folder_is_a_vault(rt: HostRuntime) -> Result<(), Fail> {
     let alloc = rt.alloc();
     let folder = "foedus_vault";
     let _old = fs::remove_dir_all(&rt, folder);
+    // A process that was stopped while it made the savepoint's file leaves some of it under another name.
+    fs::create_dir(&rt, folder)?;
+    fs::write(&rt, "foedus_vault/save.new", [165; 3].as_slice())?;
     let _made = open_vault(&rt, alloc, folder).map_err(|_| "a vault")?;
     assert_eq!(rt;
         fs::read(&rt, "foedus_vault/save")?.as_slice(),
@@ -227,6 +253,119 @@ fn a_folder_is_a_vault(rt: HostRuntime) -> Result<(), Fail> {
     assert_eq!(rt; even.as_slice(), [0, 2, 4, 6, 8, 10, 12, 14].as_slice());
     assert_eq!(rt; odd.as_slice(), [1, 3, 5, 7, 9, 11, 13, 15].as_slice());
     fs::remove_dir_all(&rt, folder)?;
+    Ok(())
+}
+
+// The bytes of 64 words, which stand at these places; the others are 0.
+fn page(alloc: Global, words: &[(usize, u64)]) -> Result<Vec<u8>, Fail> {
+    let mut all = [0; 64];
+    for (place, word) in words {
+        all[*place] = *word;
+    }
+    let mut bytes = Vec::new(alloc);
+    for word in all {
+        bytes.extend_from_slice(&word.to_be_bytes())?;
+    }
+    Ok(bytes)
+}
+
+// What devices have after a run that set value 2 of an array of 4 to 7, and was saved: two places of the savepoint, the
+// second one newer, the catalogue of epoch 0, and one log line of 40 bytes.
+fn saved_vault(
+    alloc: Global,
+    counted: u64,
+    value: u64,
+    fails: &[u64],
+) -> Result<Vault<MemDisk>, Fail> {
+    let open = 0xA500_0000_0000_0000;
+    let version = 0x464F_4544_5553_0001;
+    let mut save = page(alloc, &[(0, open), (1, version), (2, 1), (4, 1), (5, 1)])?;
+    save.extend_from_slice(&page(
+        alloc,
+        &[
+            (0, open),
+            (1, version),
+            (2, 2),
+            (3, 1),
+            (4, 1),
+            (5, 1),
+            (6, counted),
+        ],
+    )?)?;
+    let snaps = page(alloc, &[(0, 0x4341_5400_0000_0001), (16, 257), (17, 4)])?;
+    let line = page(
+        alloc,
+        &[
+            (0, 0x0000_0100_0000_0001),
+            (1, 1),
+            (2, 0x101),
+            (3, 2),
+            (4, value),
+        ],
+    )?;
+    vault_of(alloc, &save, &snaps, &line[..40], fails)
+}
+
+// The status and the text of a dump, whose sink fails at this call.
+fn dump<R: Threads + Wait + Sync + AllocGlobal>(
+    rt: &R,
+    mut vault: Vault<MemDisk>,
+    failing_write: u64,
+) -> Result<(u8, Vec<u8>), Fail> {
+    let alloc = rt.alloc();
+    let mut source = MemSource::new(Vec::new(alloc), vec![in alloc; 0]?);
+    let mut sink = MemSink::new(alloc, vec![in alloc; failing_write]?);
+    let status = top(
+        rt,
+        alloc,
+        &["foedus", "dump"],
+        &mut source,
+        &mut sink,
+        &mut vault,
+        &OpenGate,
+    );
+    Ok((status, sink.bytes().to_vec(alloc)?))
+}
+
+// What is kept of vaults, and damage at its byte.
+#[test]
+fn a_dump_tells_what_is_kept(rt: HostRuntime) -> Result<(), Fail> {
+    let alloc = rt.alloc();
+    let cases: [(Vault<MemDisk>, u64, u8, &str); 8] = [
+        (fresh_vault(alloc)?, 9, 0, "epoch 0\n"),
+        (saved_vault(alloc, 40, 7, &[])?, 9, 0, "epoch 1\n1 2 7\n"),
+        (saved_vault(alloc, 0, 7, &[])?, 9, 0, "epoch 1\n"),
+        (saved_vault(alloc, 40, 0, &[])?, 9, 0, "epoch 1\n"),
+        (saved_vault(alloc, 40, 7, &[])?, 0, 4, "epoch 1"),
+        (
+            vault_of(alloc, &[0; 3], &[], &[], &[])?,
+            9,
+            6,
+            "damaged save 0\n",
+        ),
+        (saved_vault(alloc, 41, 7, &[])?, 9, 6, "damaged bank0 40\n"),
+        (saved_vault(alloc, 40, 7, &[0])?, 9, 5, "device save\n"),
+    ];
+    for (vault, failing_write, status, text) in cases {
+        let (got, told) = dump(&rt, vault, failing_write)?;
+        assert_eq!(rt; got, status, "{text}");
+        assert_eq!(rt; told.as_slice(), text.as_bytes());
+    }
+    Ok(())
+}
+
+// Of an array the keys whose value isn't 0, and of a tree those that are present.
+#[test]
+fn a_state_as_text(rt: HostRuntime) -> Result<(), Fail> {
+    let alloc = rt.alloc();
+    let decls = [Decl::Array { id: 1, size: 4 }, Decl::Tree { id: 2 }];
+    let mut state = State::new(alloc);
+    for (storage, key, value) in [(2, 5, 50), (2, 0, 0), (1, 0, 0), (1, 2, 7)] {
+        let _before = state.insert(Key { storage, key }, value)?;
+    }
+    let mut sink = MemSink::new(alloc, Vec::new(alloc));
+    write_state(&mut sink, 3, &state, &decls)?;
+    assert_eq!(rt; sink.bytes(), b"epoch 3\n1 2 7\n2 0 0\n2 5 50\n".as_slice());
     Ok(())
 }
 
@@ -264,7 +403,8 @@ fn program<R: Threads + Wait + Sync + Files<File = File> + AllocGlobal>(
 // explanation.
 #[test]
 fn the_program_tells_and_explains(rt: HostRuntime) -> Result<(), Fail> {
-    let cases: [(&str, [&str; 2], u8, &str, &str); 6] = [
+    let cases: [(&str, [&str; 2], u8, &str, &str); 7] = [
+        ("dump", ["other", "another"], 0, "epoch 0\n", ""),
         ("run", ["other", "another"], 0, "0.0 ok 1:1 0\n", ""),
         ("--help", ["other", "another"], 2, "usage\n", USAGE),
         ("run", ["bank3", "bank2"], 5, "device bank2\n", ""),

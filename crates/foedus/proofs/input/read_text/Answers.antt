@@ -4,14 +4,14 @@ use Rattle.std.specs.Io.KnownBytes.{Consumes}
 use Rattle.script_grammar.specs.Faults.{IsFirstFault}
 use Rattle.script_grammar.specs.Script.{IsTextOf}
 use Rattle.foedus.specs.Ending.{IsNoText}
-use Rattle.foedus.proofs.Courses.{memory_course, no_script_course, read_fault_course}
+use Rattle.foedus.proofs.Courses.{no_script_course, read_fault_course, unread_course}
 use Rattle.foedus.proofs.input.read_text.Goals as goal
 
 pub returns-in-Err-Fault-clause-read : goal.returns-in-Err-Fault-clause-read
 returns-in-Err-Fault-clause-read g c = λ bytes told options. read_fault_course options bytes _
 
 pub returns-in-Err-Memory-clause-read : goal.returns-in-Err-Memory-clause-read
-returns-in-Err-Memory-clause-read g c = λ bytes told options. memory_course _ bytes _
+returns-in-Err-Memory-clause-read g c = λ bytes told options. unread_course options bytes _
 
 pub returns-in-Err-Fault-read_script-clause-read : goal.returns-in-Err-Fault-read_script-clause-read
 returns-in-Err-Fault-read_script-clause-read g c = λ bytes told options.
@@ -21,4 +21,4 @@ returns-in-Err-Fault-read_script-clause-read g c = λ bytes told options.
     (subst (λ b. IsFirstFault b c.in-Err-Fault-read_script.fault) c.deref.ensures.value (c.in-Err-Fault-read_script.ensures.fault c.in-Err-Fault-read_script.fault (rw c.in-Err-Fault-read_script.field-0-is refl)))
 
 pub returns-clause-read : goal.returns-clause-read
-returns-clause-read g c = λ bytes told options. memory_course _ bytes _
+returns-clause-read g c = λ bytes told options. unread_course options bytes _

@@ -3,14 +3,15 @@ use Rattle.std.proofs.Common.{◌∙◌}
 use Rattle.std.proofs.lemmas.Result.{err_from_is_err_and}
 use Rattle.foedus.proofs.Statuses.{faults_finished, status_finished, words_finished}
 use Rattle.foedus.proofs.Told.{came_broken, came_finished, same_printed}
+use Rattle.foedus.proofs.Dumps.{dump_broken, dump_finished}
 use Rattle.foedus.proofs.program.call.Goals as goal
 
 pub returns-in_err-ending-clause-came : goal.returns-in_err-ending-clause-came
-returns-in_err-ending-clause-came g c = λ bytes told.
-    let p = err_from_is_err_and c.from_residual.result c.from_residual.ensures.1 in rw p.1 (came_broken _ _ _ _ _ c.requires (c.in_err-ending.ensures.came bytes told))
+returns-in_err-ending-clause-came g c = λ other bytes told.
+    let p = err_from_is_err_and c.from_residual.result c.from_residual.ensures.1 in rw p.1 (came_broken _ _ _ _ _ c.requires.empty (c.in_err-ending.ensures.came other bytes told))
 
 pub returns-clause-came : goal.returns-clause-came
-returns-clause-came g c = λ bytes told. came_finished _ _ _ _ _ _ c.requires c.finish.ensures.prints c.finish.ensures.empty c.finish.ensures.same (c.in_ok-ending.ensures.came bytes told)
+returns-clause-came g c = λ other bytes told. came_finished _ _ _ _ _ _ c.requires.empty c.finish.ensures.prints c.finish.ensures.empty c.finish.ensures.same (c.in_ok-ending.ensures.came other bytes told)
 
 pub returns-clause-asked : goal.returns-clause-asked
 returns-clause-asked g c = words_finished _ _ _ c.finish.ensures.same c.in_ok-ending.ensures.asked
@@ -19,7 +20,14 @@ pub returns-clause-faults : goal.returns-clause-faults
 returns-clause-faults g c = faults_finished _ _ _ _ _ _ _ c.in_ok-ending.ensures.faults c.finish.ensures.prints c.finish.ensures.same
 
 pub returns-clause-statuses : goal.returns-clause-statuses
-returns-clause-statuses g c = status_finished _ _ c.finish.ensures.same c.in_ok-ending.ensures.statuses
+returns-clause-statuses g c = status_finished _ _ _ c.finish.ensures.same c.in_ok-ending.ensures.statuses
 
 pub returns-clause-same : goal.returns-clause-same
 returns-clause-same g c = same_printed _ _ _ _ c.finish.ensures.prints ∙ c.in_ok-ending.ensures.same
+
+pub returns-in_err-ending-clause-dumped : goal.returns-in_err-ending-clause-dumped
+returns-in_err-ending-clause-dumped g c = λ is.
+    let p = err_from_is_err_and c.from_residual.result c.from_residual.ensures.1 in rw p.1 (dump_broken _ _ _ _ _ _ _ _ c.requires.empty (c.in_err-ending.ensures.dumped is))
+
+pub returns-clause-dumped : goal.returns-clause-dumped
+returns-clause-dumped g c = λ is. dump_finished _ _ _ _ _ _ _ _ _ c.requires.empty c.finish.ensures.prints c.finish.ensures.empty c.finish.ensures.same (c.in_ok-ending.ensures.dumped is)

@@ -83,7 +83,7 @@ fn catalogue(epoch: u64, previous: u64, root: u64) -> [u64; 64] {
 // A leaf of that array with a value at index 2.
 fn leaf(epoch: u64, value: u64) -> [u64; 64] {
     let mut words = [0; 64];
-    words[4] = (epoch << 40) + 1;
+    words[4] = (epoch << 40) | 1;
     words[5] = value;
     words
 }
@@ -99,7 +99,7 @@ fn pages(alloc: Global, pages: &[[u64; 64]]) -> Result<Vec<u8>, AllocError> {
 
 // A log line that puts a value at key 2 of storage 1.
 fn line(epoch: u64, draw: u64, value: u64) -> [u64; 5] {
-    [(epoch << 40) + draw, 1, 1 + 256, 2, value]
+    [(epoch << 40) | draw, 1, 1 + 256, 2, value]
 }
 
 // Both lines.
@@ -203,6 +203,10 @@ fn what_counts_is_recovered(rt: HostRuntime) -> Result<(), Fail> {
     Ok(())
 }
 
+fn mark(epoch: u32, page: u32) -> SnapshotMark {
+    SnapshotMark { epoch, page }
+}
+
 #[test]
 fn snapshots_are_read_from_the_newest_back(rt: HostRuntime) -> Result<(), Fail> {
     let alloc = rt.alloc();
@@ -222,7 +226,6 @@ fn snapshots_are_read_from_the_newest_back(rt: HostRuntime) -> Result<(), Fail> 
     )?;
     if named.is_whole() {
         let recovered = recover(alloc, &mut named).expect(&rt, "three snapshots");
-        let mark = |epoch, page| SnapshotMark { epoch, page };
         assert_eq!(rt;
             recovered.catalogues.as_slice(),
             [mark(0, 1), mark(1, 3), mark(2, 5)].as_slice()
@@ -236,24 +239,26 @@ fn snapshots_are_read_from_the_newest_back(rt: HostRuntime) -> Result<(), Fail> 
             (1, 5, true)
         );
     }
-    // Saved epoch, page that is another one, what it is, and what is told.
+    // Saved epoch, index of the page that is another one, what it is, and what is told.
     let cases = [
-        (2, 4, leaf(2, 8), state(2, 8)),
-        (2, 4, leaf(3, 8), damaged(Device::Snaps, 1536)),
-        (1, 4, leaf(2, 8), damaged(Device::Snaps, 2048)),
-        (2, 5, catalogue(1, 3, 4), damaged(Device::Snaps, 1024)),
-        (2, 1, catalogue(0, 0, 1), damaged(Device::Snaps, 0)),
-        (2, 2, catalogue(0, 0, 0), state(2, 6)),
+        (2, 3, leaf(2, 8), state(2, 8)),
+        (2, 3, leaf(3, 8), damaged(Device::Snaps, 1536)),
+        (1, 3, leaf(2, 8), damaged(Device::Snaps, 2048)),
+        (2, 4, catalogue(1, 3, 4), damaged(Device::Snaps, 1024)),
+        (2, 0, catalogue(0, 0, 1), damaged(Device::Snaps, 0)),
+        (2, 1, catalogue(0, 0, 0), state(2, 6)),
     ];
-    for (epoch, number, page, want) in cases {
+    for (epoch, index, page, want) in cases {
         let mut all = three;
-        all[number - 1] = page;
+        if index < 5 {
+            all[index] = page;
+        }
         let save = save(alloc, epoch, 5, &[])?;
         let found = told_of(
             alloc,
             vault(alloc, &save, &pages(alloc, &all)?, [&[], &[]], &[])?,
         );
-        assert_eq!(rt; found, want, "{epoch} {number}");
+        assert_eq!(rt; found, want, "{epoch} {index}");
     }
     let save = save(alloc, 2, 6, &[])?;
     let short = vault(alloc, &save, &pages(alloc, &three)?, [&[], &[]], &[])?;
@@ -279,7 +284,10 @@ fn told_of_place(byte: usize, newest: bool) -> Told {
         30 | 31 => same,
         // A length, and the log file has fewer bytes.
         48..=55 if newest && is_length => damaged(Device::Bank(0), 40),
-        56..=175 if newest && is_length => damaged(Device::Bank((byte / 8 - 6) as u8), 0),
+        56..=175 if newest && is_length => damaged(
+            Device::Bank((byte / 8).saturating_sub(6).min(15) as u8),
+            0,
+        ),
         48..=175 if is_length => same,
         _ => damaged(Device::Save, base),
     }

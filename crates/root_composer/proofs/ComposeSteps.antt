@@ -9,9 +9,9 @@ use Rattle.wire_form.specs.declared.page.Page.{Page}
 use Rattle.wire_form.specs.declared.bucket.Entry.{Entry}
 use Rattle.wire_form.specs.declared.records.Stored.{Stored}
 use Rattle.wire_form.specs.Pages.{Contents, IsCatalogue, catalogue_words}
-use Rattle.snapshot_store.specs.Content.{words_of, CatalogueAt}
+use Rattle.snapshot_store.specs.Content.{deepest, words_of, CatalogueAt}
 use Rattle.root_composer.specs.Storages.{compose_storages, with_roots, StoragesMade, StoragesDeep}
-use Rattle.root_composer.specs.Composition.{CanCompose, WouldCompose, next_contents}
+use Rattle.root_composer.specs.Composition.{CanCompose, WouldCompose, next_contents, new_count, level_count}
 use Rattle.root_composer.proofs.PageLemmas.{page_at}
 use Rattle.root_composer.proofs.ReadyLemmas.{ready}
 use Rattle.root_composer.proofs.Compositions.{right_at, snapshot_made, length-with_roots}
@@ -80,10 +80,20 @@ pub would_compose : (pages : List (List ℕ)) (number : ℕ) (contents : Content
     → StoragesMade run pages contents.storages made roots → new ≡ length made + 1 → WouldCompose run epoch number contents pages new
 would_compose pages number contents run epoch made roots new can all count =
     let w : List ℕ = catalogue_words (next_contents epoch number (with_roots contents.storages roots)) in (
-      made ++ w ∷ [],
-      snapshot_made pages number contents run epoch made roots w can all refl,
-      omega (arith, count, length-append made (w ∷ [])),
+      omega (arith, count, ap length all.pages),
+      all.levels,
+      (
+        made ++ w ∷ [],
+        snapshot_made pages number contents run epoch made roots w can all refl,
+        omega (arith, count, length-append made (w ∷ [])),
+      ),
     )
+
+-- how many pages were made
+pub counted : (pages : List (List ℕ)) (contents : Contents) (run : List Entry) (made : List (List ℕ)) (roots : List ℕ) (new : List Page) (w : List ℕ) → StoragesMade run pages contents.storages made roots → words_of new ≡ made ++ w ∷ []
+    → (length new ≡ new_count run contents pages) × (level_count run contents pages ≤ deepest)
+counted pages contents run made roots new w all is =
+    (omega (arith, ap length is, length-map new (λ (q : Page). q.words), length-append made (w ∷ []), ap length all.pages), all.levels)
 
 -- what would be too deep of these storages and entries would be so of those
 pub deep_of : (pages : List Page) (number : ℕ) (contents : Contents) (run slice : List Entry) (epoch : ℕ) (p : Page) (stored read : List Stored) (fault : ComposeFault)

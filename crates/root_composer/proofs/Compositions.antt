@@ -138,5 +138,6 @@ snapshot_deep pages number contents run epoch can deep =
         deep = λ stand.
             let least : m.levels ≤ deepest = all.least (subst (λ (x : List (List ℕ)). AllByRecursion (RootStands x) ts) (sym same) stand) in
             omega (arith, least, deep);
+        levels = deep;
       },
     )

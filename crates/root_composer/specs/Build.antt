@@ -10,15 +10,17 @@ use Rattle.root_composer.specs.declared.row.Row.{Row}
 use Rattle.root_composer.specs.Composer.{Made, AllMade, Writer, with_one, with_page}
 use Rattle.root_composer.specs.Rows.{entries_in, merged, rows_of}
 
--- how many records a leaf has at most, and how many children an interior page; not computed in goals
+-- how many records a leaf has at most; this and the next are not computed in goals
 unfoldable pub leaf_most : ℕ
 leaf_most = 16
 
+-- how many children an interior page has at most
 unfoldable pub fan_most : ℕ
 fan_most = 30
 
 -- ---- pages
 
+-- the three words of a row
 abbrev pub row_words : Row → List ℕ
 row_words r = r.key ∷ r.number ∷ r.value ∷ []
 
@@ -49,6 +51,7 @@ abbrev pub runs_of : List ℕ → List Row → List (List Row)
 runs_of [] rs = []
 runs_of (k ∷ ks) rs = take k rs ∷ runs_of ks (drop k rs)
 
+-- the key of the first row
 abbrev pub first_key : List Row → ℕ
 first_key [] = 0
 first_key (r ∷ rs) = r.key
@@ -60,6 +63,7 @@ begins (r ∷ rs) = map first_key rs
 
 -- ---- building
 
+-- nothing
 abbrev pub none_made : AllMade
 none_made = record { numbers = []; pages = []; levels = 0 }
 
@@ -70,6 +74,7 @@ build_each f low high (r ∷ []) before = with_one (f low high r before) none_ma
 build_each f low high (r ∷ s ∷ ss) before =
     with_one (f low (first_key s - 1) r before) (build_each f (first_key s) high (s ∷ ss) (before + length (f low (first_key s - 1) r before).pages))
 
+-- a leaf of all rows
 abbrev pub one_leaf : ℕ → ℕ → List Row → ℕ → Made
 one_leaf low high rs before = record { number = suc before; pages = leaf_words low high rs ∷ []; levels = 1 }
 
@@ -91,6 +96,7 @@ abbrev pub with_numbers : Place → Node → List ℕ → List ℕ
 with_numbers p (Leaf rs) numbers = []
 with_numbers p (Inner separators old) numbers = inner_words p.low p.high separators numbers
 
+-- what stands for the range of a leaf with these rows
 abbrev pub tree_leaf : Place → List Row → ℕ → Made
 tree_leaf p rs before = build (length rs) p.low p.high rs before
 

@@ -44,6 +44,7 @@ pub record IsMade (F : Format) (Is : Place → List ℕ → Type 0) (S : List (L
 
 -- ---- places in a row
 
+-- each place with its own number
 abbrev pub all_moved : List Place → List ℕ → List Place
 all_moved [] ns = []
 all_moved (q ∷ qs) [] = []
@@ -70,12 +71,14 @@ pub record Holds (F : Format) (Is : Place → List ℕ → Type 0) (new : List (
   pub content : (key : ℕ) → p.low ≤ key → key ≤ p.high → find F new d key (moved p n) ≡ target key
   pub stands : StandsTo F Is new d (moved p n)
 
+-- what was built for a place: n stands for its range from then on, and leads to the built pages, children first
 pub record IsBuilt (F : Format) (Is : Place → List ℕ → Type 0) (have : ℕ) (before made : List (List ℕ)) (levels : ℕ) (target : ℕ → Option Found) (p : Place) (n : ℕ) : Type 0 where
   pub holds : (later : List (List ℕ)) (d : ℕ) → levels ≤ d → Holds F Is (before ++ (made ++ later)) d target p n
   pub order : (later : List (List ℕ)) (d : ℕ) → levels ≤ d → newer F (before ++ (made ++ later)) have d (moved p n) ≡ numbered (length before + 1) made
   pub above : have < n
   pub least : (later : List (List ℕ)) (d : ℕ) → StandsTo F Is (before ++ (made ++ later)) d (moved p n) → levels ≤ d
 
+-- the same of places in a row
 pub record AreBuilt (F : Format) (Is : Place → List ℕ → Type 0) (have : ℕ) (before made : List (List ℕ)) (levels : ℕ) (target : ℕ → Option Found) (qs : List Place) (ns : List ℕ) : Type 0 where
   pub hold : (later : List (List ℕ)) (d : ℕ) → levels ≤ d → EachWith (Holds F Is (before ++ (made ++ later)) d target) qs ns
   pub order : (later : List (List ℕ)) (d : ℕ) → levels ≤ d → flat_map (newer F (before ++ (made ++ later)) have d) (all_moved qs ns) ≡ numbered (length before + 1) made

@@ -12,6 +12,7 @@ pub record Made : Type 0 where
   pub pages : List (List ℕ)
   pub levels : ℕ
 
+-- the same of places in a row, with a number for each
 pub record AllMade : Type 0 where
   pub numbers : List ℕ
   pub pages : List (List ℕ)
@@ -22,6 +23,7 @@ pub record Writer : Type 0 where
   pub leaf : List ℕ → Place → List Last → ℕ → Made
   pub inner : List ℕ → Place → List ℕ → List ℕ
 
+-- one place in front of others
 abbrev pub with_one : Made → AllMade → AllMade
 with_one m r = record { numbers = m.number ∷ r.numbers; pages = m.pages ++ r.pages; levels = max m.levels r.levels }
 
@@ -30,6 +32,7 @@ abbrev pub compose_each : (Place → ℕ → Made) → List Place → ℕ → Al
 compose_each f [] before = record { numbers = []; pages = []; levels = 0 }
 compose_each f (q ∷ qs) before = with_one (f q before) (compose_each f qs (before + length (f q before).pages))
 
+-- a page that keeps its number
 abbrev pub left_alone : ℕ → Place → Made
 left_alone depth p = record { number = p.number; pages = []; levels = depth }
 
@@ -37,6 +40,7 @@ left_alone depth p = record { number = p.number; pages = []; levels = depth }
 abbrev pub with_page : List ℕ → ℕ → AllMade → Made
 with_page w before r = record { number = suc (before + length r.pages); pages = r.pages ++ w ∷ []; levels = suc r.levels }
 
+-- a page with entries: a leaf, or the page above what was composed below it
 abbrev pub written : Writer → List ℕ → Place → List Last → ℕ → (Place → ℕ → Made) → List Place → Made
 written W words p run before f [] = W.leaf words p run before
 written W words p run before f (q ∷ qs) = with_page (W.inner words p (compose_each f (q ∷ qs) before).numbers) before (compose_each f (q ∷ qs) before)

@@ -14,7 +14,7 @@ use Rattle.snapshot_store.specs.Content.{deepest, record_in, IsContent, RootStan
 use Rattle.log_reducer.specs.Reduced.{entry_key}
 use Rattle.log_reducer.specs.Overlay.{overlay}
 use Rattle.root_composer.specs.Composed.{numbered}
-use Rattle.root_composer.specs.Storages.{AreComposed, newer_of}
+use Rattle.root_composer.specs.Storages.{AreComposed, newer_of, compose_storages}
 
 -- an entry of one of the storages, with a commit number of an epoch up to this one
 pub record IsEntryOf (decls : List Decl) (epoch : ℕ) (e : Entry) : Type 0 where
@@ -43,6 +43,14 @@ pub record IsComposed (run : List Entry) (epoch number : ℕ) (contents : Conten
   pub stands : SnapshotStands (pages ++ made) (length pages + length made) (next_contents epoch number storages)
   pub content : (state : State) → IsContent (record_in pages) contents.storages state → IsContent (record_in (pages ++ made)) storages (overlay state run)
 
+-- How many pages come of a run, the catalogue with them. Which answer is given hangs on this number and the next.
+abbrev pub new_count : List Entry → Contents → List (List ℕ) → ℕ
+new_count run contents pages = length (compose_storages run pages contents.storages (length pages)).pages + 1
+
+-- how many of the pages stand one below another at most
+abbrev pub level_count : List Entry → Contents → List (List ℕ) → ℕ
+level_count run contents pages = (compose_storages run pages contents.storages (length pages)).levels
+
 -- The pages that would be made, but for the catalogue, are those of a composed snapshot in all but this: some root
 -- leads to more pages one below another than may stand there.
 pub record IsTooDeep (run : List Entry) (contents : Contents) (pages made : List (List ℕ)) : Type 0 where
@@ -51,7 +59,9 @@ pub record IsTooDeep (run : List Entry) (contents : Contents) (pages made : List
   pub each : AreComposed run pages (pages ++ made) depth contents.storages storages
   pub order : newer_of (pages ++ made) (length pages) depth storages ≡ numbered (length pages + 1) made
   pub deep : AllByRecursion (RootStands (pages ++ made)) storages → ⊥
+  pub levels : deepest < level_count run contents pages
 
--- so many pages would be made
+-- so many pages would be made, and none of them would stand too deep
 abbrev pub WouldCompose : List Entry → ℕ → ℕ → Contents → List (List ℕ) → ℕ → Type 0
-WouldCompose run epoch number contents pages new = (made : List (List ℕ)) × IsComposed run epoch number contents pages made × (length made ≡ new)
+WouldCompose run epoch number contents pages new =
+    (new ≡ new_count run contents pages) × (level_count run contents pages ≤ deepest) × ((made : List (List ℕ)) × IsComposed run epoch number contents pages made × (length made ≡ new))

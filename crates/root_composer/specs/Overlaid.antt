@@ -9,6 +9,7 @@ abbrev pub entry_for : List Last → ℕ → Option Last
 entry_for [] key = None
 entry_for (e ∷ es) key = if e.key == key then Some e else entry_for es key
 
+-- whether a key lies in a range
 abbrev pub is_between : ℕ → ℕ → ℕ → Bool
 is_between low high key = nat_le low key && nat_le key high
 

@@ -13,10 +13,11 @@ use Rattle.root_composer.specs.Overlaid.{is_between}
 abbrev pub found_of : Row → Found
 found_of r = record { number = r.number; value = r.value }
 
--- a record as a row, and a row as a record
+-- a record as a row
 abbrev pub row_of : Record → Row
 row_of r = record { key = r.key; number = r.found.number; value = r.found.value }
 
+-- a row as a record
 abbrev pub record_of : Row → Record
 record_of r = record { key = r.key; found = found_of r }
 
@@ -55,11 +56,12 @@ abbrev pub put_list : ℕ → ℕ → Option ℕ → List Row
 put_list key number None = []
 put_list key number (Some v) = record { key = key; number = number; value = v } ∷ []
 
--- the rows up to the first with at least this key, and those from it on
+-- the rows up to the first with at least this key
 abbrev pub rows_below : ℕ → List Row → List Row
 rows_below key [] = []
 rows_below key (r ∷ rs) = cond (nat_lt r.key key) (r ∷ rows_below key rs) []
 
+-- the rows from the first with at least this key on
 abbrev pub rows_from : ℕ → List Row → List Row
 rows_from key [] = []
 rows_from key (r ∷ rs) = cond (nat_lt r.key key) (rows_from key rs) (r ∷ rs)

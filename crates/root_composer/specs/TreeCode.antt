@@ -33,6 +33,7 @@ pub record WouldBeDeep (depth : ℕ) (fault : ComposeFault) (m : Made) : Type 0 
 abbrev pub Builds : ℕ → List (List ℕ) → List (List ℕ) → ℕ → ℕ → ℕ → List Row → ℕ → Type 0
 Builds depth before after n low high rows at = (fuel : ℕ) → length rows ≤ fuel → AddsWithin depth before after n (build fuel low high rows at)
 
+-- the same of rows whose pages would stand too deep
 abbrev pub BuildsTooDeep : ℕ → ComposeFault → ℕ → ℕ → List Row → ℕ → Type 0
 BuildsTooDeep depth fault low high rows at = (fuel : ℕ) → length rows ≤ fuel → WouldBeDeep depth fault (build fuel low high rows at)
 

@@ -51,7 +51,8 @@ pub fn compose_array(
     requires range { p.high < 4294967296 }
     requires order { IsNonDecreasingBy (λ e. e.key) run.now }
     ensures { IfOk result (λ n. Adds made.old.items made.new.items n
-        (array_one run.now (words_of store.now.pages) depth p (length (words_of store.now.pages) + length made.old.items))) }
+        (array_one run.now (words_of store.now.pages) depth p
+        (length (words_of store.now.pages) + length made.old.items))) }
 {
     if !has_entry(run, p.low, p.high) {
         return Ok(p.number);

@@ -124,7 +124,8 @@ pub fn build(
 ) -> Result<u64, OrMemory<ComposeFault>>
     requires ascends { Ascends low high rows.now }
     requires range { low ≤ high }
-    ensures built { IfOk result (λ n. Builds depth made.old.items made.new.items n low high rows.now (have + length made.old.items)) }
+    ensures built { IfOk result (λ n. Builds depth made.old.items made.new.items n low high rows.now
+        (have + length made.old.items)) }
     ensures deep { (fault : ComposeFault) → result ≡ Err (OrMemory.Fault fault)
         → BuildsTooDeep depth fault low high rows.now (have + length made.old.items) }
 {

@@ -2,8 +2,8 @@
 ghost use Rattle.std.specs.Prelude.{◌≡◌, ℕ, ◌+◌, ◌<◌, ◌≤◌, List, Err, IfOk, length};
 ghost use Rattle.wire_form.specs.Pages.{Contents};
 ghost use Rattle.snapshot_store.specs.Store.{NumberedFrom};
-ghost use Rattle.snapshot_store.specs.Content.{words_of};
-ghost use Rattle.root_composer.specs.Composition.{CanCompose, IsComposed, IsTooDeep, WouldCompose};
+ghost use Rattle.snapshot_store.specs.Content.{deepest, words_of};
+ghost use Rattle.root_composer.specs.Composition.{CanCompose, IsComposed, IsTooDeep, WouldCompose, new_count, level_count};
 
 use crate::ComposeFault;
 use crate::storages::{compose_storages, storages_of, with_roots};
@@ -48,6 +48,10 @@ pub fn compose(
     ensures composed { IfOk result (λ pages. (contents : Contents)
         → CanCompose (words_of store.now.pages) catalogue contents run.now epoch
         → IsComposed run.now epoch catalogue contents (words_of store.now.pages) (words_of pages)) }
+    ensures counted { IfOk result (λ pages. (contents : Contents)
+        → CanCompose (words_of store.now.pages) catalogue contents run.now epoch
+        → (length pages ≡ new_count run.now contents (words_of store.now.pages))
+        × (level_count run.now contents (words_of store.now.pages) ≤ deepest)) }
     ensures numbered { IfOk result (λ pages. NumberedFrom (length store.now.pages + 1) pages) }
     ensures within { IfOk result (λ pages. length store.now.pages + length pages ≤ room) }
     ensures deep { result ≡ Err (OrMemory.Fault ComposeFault.Deep) → (contents : Contents)

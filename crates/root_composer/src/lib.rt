@@ -34,3 +34,6 @@ mod words;
 pub use composing::{NewPages, compose};
 pub use fault::ComposeFault;
 pub use last::Last;
+
+#[cfg(test)]
+mod tests;

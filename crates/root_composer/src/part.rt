@@ -15,7 +15,8 @@ use wire_form::{Entry, number_word};
 // The last change of a key of one storage.
 fn last_of(key: u64, number: Number, value: Option<u64>) -> Last
     requires { IsNumber number }
-    ensures is { let last : Last = record { key = key; number = number_word number; value = value } in result ≡ last }
+    ensures is { let last : Last = record { key = key; number = number_word number; value = value }
+        in result ≡ last }
     ensures key { result.key < 2 ^ 64 }
 {
     Last {

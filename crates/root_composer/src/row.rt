@@ -60,7 +60,8 @@ fn push_below(rows: &[Row], at: usize, key: u64, all: &mut Vec<Row>) -> Result<u
 
 /// Adds the row that an entry puts, if it puts one.
 fn push_put(entry: &Last, all: &mut Vec<Row>) -> Result<(), Memory>
-    ensures { OnOk result (all.new.items ≡ all.old.items ++ put_list entry.now.key entry.now.number entry.now.value) }
+    ensures { OnOk result (all.new.items ≡ all.old.items ++
+        put_list entry.now.key entry.now.number entry.now.value) }
 {
     if let Some(value) = entry.value {
         all.push(Row {

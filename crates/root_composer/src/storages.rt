@@ -51,10 +51,12 @@ fn compose_one(
     requires numbers { AllByRecursion (λ e. IsNumber e.number) run.now }
     requires rising { Rises IsKeyBelow (map entry_key run.now) }
     ensures made { IfOk result (λ n. AddsWithin deepest made.old.items made.new.items n
-        (compose_one run.now (words_of store.now.pages) stored.now (length (words_of store.now.pages) + length made.old.items))) }
+        (compose_one run.now (words_of store.now.pages) stored.now
+        (length (words_of store.now.pages) + length made.old.items))) }
     ensures within { OnOk result (IsWithin run.now stored.now) }
     ensures deep { (fault : ComposeFault) → result ≡ Err (OrMemory.Fault fault) → WouldBeDeep deepest fault
-        (compose_one run.now (words_of store.now.pages) stored.now (length (words_of store.now.pages) + length made.old.items)) }
+        (compose_one run.now (words_of store.now.pages) stored.now
+        (length (words_of store.now.pages) + length made.old.items)) }
 {
     let number = u64::from(stored.root);
     match stored.decl {
@@ -93,7 +95,8 @@ pub fn compose_storages(
     requires numbers { AllByRecursion (λ e. IsNumber e.number) run.now }
     requires rising { Rises IsKeyBelow (map entry_key run.now) }
     requires empty { made.old.items ≡ [] }
-    ensures made { IfOk result (λ roots. StoragesMade run.now (words_of store.now.pages) storages.now made.new.items roots.items) }
+    ensures made { IfOk result (λ roots. StoragesMade run.now (words_of store.now.pages) storages.now
+        made.new.items roots.items) }
     ensures deep { (fault : ComposeFault) → result ≡ Err (OrMemory.Fault fault)
         → StoragesDeep run.now (words_of store.now.pages) storages.now fault }
 {

@@ -81,9 +81,11 @@ pub fn compose_tree(
     requires order { IsNonDecreasingBy (λ e. e.key) run.now }
     requires rising { Rising 0 run.now }
     ensures made { IfOk result (λ n. AddsWithin depth made.old.items made.new.items n
-        (tree_one run.now (words_of store.now.pages) depth p (length (words_of store.now.pages) + length made.old.items))) }
+        (tree_one run.now (words_of store.now.pages) depth p
+        (length (words_of store.now.pages) + length made.old.items))) }
     ensures deep { (fault : ComposeFault) → result ≡ Err (OrMemory.Fault fault) → WouldBeDeep depth fault
-        (tree_one run.now (words_of store.now.pages) depth p (length (words_of store.now.pages) + length made.old.items)) }
+        (tree_one run.now (words_of store.now.pages) depth p
+        (length (words_of store.now.pages) + length made.old.items)) }
 {
     if !has_entry(run, p.low, p.high) {
         return Ok(p.number);

@@ -12,7 +12,7 @@ use Rattle.root_composer.specs.Composition.{IsComposed, next_contents}
 use Rattle.root_composer.proofs.RunLemmas.{all_numbers}
 use Rattle.root_composer.proofs.Compositions.{snapshot_made, snapshot_deep}
 use Rattle.root_composer.proofs.ReadyLemmas.{ready}
-use Rattle.root_composer.proofs.ComposeSteps.{catalogue_read, read_and_made, deep_of, roots_fit, small_roots, few_pages, rooted, few_rooted, would_compose}
+use Rattle.root_composer.proofs.ComposeSteps.{catalogue_read, read_and_made, deep_of, roots_fit, small_roots, few_pages, rooted, few_rooted, would_compose, counted}
 use Rattle.root_composer.proofs.composing.compose.Goals as goal
 
 pub compose_storages-requires-clause-ready : goal.compose_storages-requires-clause-ready
@@ -86,3 +86,10 @@ returns-in_err-roots-clause-deep c e contents can =
     let deep = c.in_err-roots.ensures.deep Deep (cc (e, p.1, p.2)) in
     let all = deep_of c.args.store.now.pages c.args.catalogue contents c.args.run.now c.as_slice.result.now c.args.epoch c.page.result.now c.in_ok-storages.storages.items c.deref.result.now Deep can c.page.ensures.page c.as_slice.ensures c.deref.ensures.value c.in_ok-storages.ensures deep in
     snapshot_deep (words_of c.args.store.now.pages) c.args.catalogue contents c.args.run.now c.args.epoch can all.levels
+
+pub returns-clause-counted : goal.returns-clause-counted
+returns-clause-counted c contents can =
+    let at = read_and_made c.args.store.now.pages c.args.catalogue contents c.args.run.now c.as_slice.result.now c.args.epoch c.page.result.now c.in_ok-storages.storages.items c.deref.result.now c.compose_storages.new.made.items c.in_ok-roots.roots.items can c.page.ensures.page c.as_slice.ensures c.deref.ensures.value c.in_ok-storages.ensures c.in_ok-roots.ensures.made in
+    let pages : words_of c.from_vec.result ≡ c.compose_storages.new.made.items ++ c.catalogue_words.result ∷ [] =
+    ap words_of c.from_vec.ensures ∙ c.in_ok-pages.ensures.words ∙ c.deref-5.ensures.value ∙ c.in_ok-push.ensures.items in
+    counted (words_of c.args.store.now.pages) contents c.args.run.now c.compose_storages.new.made.items c.in_ok-roots.roots.items c.from_vec.result c.catalogue_words.result at.all pages

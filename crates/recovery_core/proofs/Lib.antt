@@ -13,3 +13,5 @@ pub mod EntriesOver
 pub mod EntriesBuckets
 pub mod EntriesFiles
 pub mod EntriesDevices
+mod Files
+pub mod SettleOrder

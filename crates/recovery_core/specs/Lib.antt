@@ -16,3 +16,17 @@ pub mod SnapshotRead
 pub mod Gather
 pub mod EntriesLast
 pub mod EntriesRead
+pub mod Story
+pub mod Cutting
+pub mod Settling
+pub mod Marks
+pub mod Rounds
+pub mod Crashes
+pub mod SettledLaws
+pub mod SettleRests
+pub mod CrashesRecover
+pub mod FreshLaws
+pub mod SettleFiles
+pub mod SettleLaws
+pub mod SettlePages
+pub mod SettleFresh

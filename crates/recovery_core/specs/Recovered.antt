@@ -1,5 +1,5 @@
 -- What recovery gives of a database.
-use Rattle.std.specs.Prelude.{◌≡◌, ℕ, Option, Some, None, IfSome, true, reverse}
+use Rattle.std.specs.Prelude.{◌≡◌, ℕ, Option, Some, None, IfSome, true, reverse, length}
 use Rattle.std.specs.Option.{option_map}
 use Rattle.std.specs.FinMap.{get}
 use Rattle.serial_model.specs.declared.key.Key.{Key}
@@ -31,13 +31,14 @@ pub record Recovers (found : Images) (r : Recovered) : Type 0 where
   pub catalogues : r.catalogues ≡ reverse (marks_of (catalogue_of reading.point) reading.catalogues)
   pub entries : (key : Key) → get r.entries key ≡ last_of key (counting reading)
 
--- Whatever the devices tell: what is given of the savepoint is what it says, it is in its ranges, and both stores are
--- up.
+-- Whatever the devices tell: what is given of the savepoint is what it says, it is in its ranges, both stores are up,
+-- and where there is no savepoint no page is given.
 pub record IsUp (r : Recovered) : Type 0 where
   pub saved : r.saved ≡ option_map saved_of r.save.newest
   pub ranges : IfSome r.saved IsSaved
   pub up : r.save.down ≡ None
   pub sound : r.store.sound ≡ true
+  pub fresh : r.saved ≡ None → length r.store.pages ≡ 0
 
 -- in particular epoch and state are those that the devices stand for
 pub recovers_state : (found : Images) (r : Recovered) → Recovers found r → IsRecoverable found r.epoch r.state

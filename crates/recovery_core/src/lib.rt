@@ -8,6 +8,11 @@
 //! Promises, over devices that tell their bytes:
 //! - [`recover`] gives what they stand for, with the storages, the snapshots and the entries that count
 //!   (`recovers`), and `Damaged` only where they are, at exactly that byte (`damaged`).
+//! - [`settle`], whatever it answers: each crash of all devices since they rest leaves the epoch and the state
+//!   that were recovered (`crashes`, record `LeavesSame`); behind `Ok` the newest
+//!   savepoint is the one that is handed on, and the log files are empty (`says`, `emptied`).
+//! - [`store_and_cut`] and [`cut_banks`]: each joint crash stands for one savepoint, and what was a joint crash
+//!   is one (`crashes`, `cut`).
 //!
 //! And over each disk: a fault is answered only where that device's count of faults rose (`device`), and
 //! where the answer is `Ok` none did (`quiet`); each device is only read, and no store or cut is recorded
@@ -22,10 +27,14 @@
 //! Design: docs/DURABILITY.md. Bytes: docs/FORMATS.md.
 #![tactic(auto)]
 
+mod at_rest;
 mod catalogue;
 mod chain;
+mod cutting;
 mod entries;
 mod fault;
+mod first_page;
+mod fresh;
 mod gather;
 mod gather_array;
 mod gather_page;
@@ -36,14 +45,19 @@ mod load_pages;
 mod load_save;
 mod recovered;
 mod recovery;
+mod settlement;
+mod settling;
 mod snapshot;
 
 pub use chain::SnapshotMark;
-pub use fault::RecoverFault;
+pub use cutting::cut_banks;
+pub use fault::{RecoverFault, SettleFault};
 pub use last_entries::LastEntries;
 pub use laws::one_recoverable;
 pub use recovered::Recovered;
 pub use recovery::recover;
+pub use settlement::{Settled, settle};
+pub use settling::{StoreAndCutFault, store_and_cut};
 
 #[cfg(test)]
 mod tests;

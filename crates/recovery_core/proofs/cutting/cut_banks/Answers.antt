@@ -1,0 +1,119 @@
+use Rattle.std.proofs.Common.{◌≡◌, ℕ, [], get_or, take, refl, sym, ap, ◌∙◌, subst, arith}
+use Rattle.std.specs.List.{Contains}
+use Rattle.std.proofs.lemmas.List.{take_all, take_more}
+use Rattle.std.proofs.lemmas.List.Elements.{Contains-get_or}
+use Rattle.std.specs.Prelude.{Some}
+use Rattle.std.proofs.lemmas.Option.{same_Some}
+use Rattle.outside.specs.declared.vault.Device.TheVariants.{Bank}
+use Rattle.outside.specs.Vault.{disk_in}
+use Rattle.outside.specs.Cuts.{bank_keeps_snaps}
+use Rattle.recovery_core.specs.JointCrash.{parts_of}
+use Rattle.recovery_core.specs.Cutting.{AreCut}
+use Rattle.recovery_core.specs.Crashes.VaultCuts.{later_cut, cut_rose, more_empty}
+use Rattle.recovery_core.specs.Crashes.VaultCuts.{vault_begun, vault_done, still_there, still_told}
+use Rattle.recovery_core.specs.Crashes.CutSteps.{cuts_none}
+use Rattle.recovery_core.proofs.cutting.cut_banks.Goals as goal
+
+pub returns-clause-cut : goal.returns-clause-cut
+returns-clause-cut g c story from low may =
+    let all = (c.loop-number.invariant.cut story from low may).0 in
+    subst (λ l. AreCut g.D.Disk.clock g.D.Disk.image_at story from low c.args.after l (parts_of c.args.vault.now)
+    (parts_of c.loop-number.vault))
+    (take_all c.loop-number.number-index c.args.numbers.now (omega (arith, c.loop-number-test.false))) all
+
+pub returns-in_default-clause-others : goal.returns-in_default-clause-others
+returns-in_default-clause-others g c = (
+  c.cut_in.ensures.save ∙ c.loop-number.invariant.save,
+  bank_keeps_snaps _ c.cut_in.ensures.cut ∙ c.loop-number.invariant.snaps,
+  c.cut_in.ensures.ties ∙ c.loop-number.invariant.ties,
+)
+
+pub returns-in_default-clause-cut : goal.returns-in_default-clause-cut
+returns-in_default-clause-cut g c story from low may =
+    let inv = c.loop-number.invariant in
+    let so_far = inv.cut story from low may in
+    let has = Contains-get_or c.args.numbers.now c.loop-number.number-index 0
+    (omega (arith, c.loop-number-test.true)) in
+    vault_begun g.met.D.Disk.reads c.args.vault.now _ so_far.0.left
+    (inv.there _ has) c.cut_in.ensures.cut c.cut_in.ensures.recorded
+    c.cut_in.ensures.save c.cut_in.ensures.ties (may.none _ has) (rw inv.ties may.ended)
+
+pub loop-number-preserved : goal.loop-number-preserved
+loop-number-preserved g c =
+    let inv = c.loop-number.invariant in
+    let has = Contains-get_or c.args.numbers.now c.loop-number.number-index 0
+    (omega (arith, c.loop-number-test.true)) in
+    record {
+      there = λ n has_n. still_there _ n c.cut_in.ensures.cut (inv.there n has_n);
+      still = λ n was. still_there _ n c.cut_in.ensures.cut (inv.still n was);
+      room = omega (arith, inv.room, c.cut_in.ensures.len, c.cut_in.ensures.capacity);
+      save = c.cut_in.ensures.save ∙ inv.save;
+      snaps = bank_keeps_snaps _ c.cut_in.ensures.cut ∙ inv.snaps;
+      ties = c.cut_in.ensures.ties ∙ inv.ties;
+      later = later_cut c.args.vault.now _ inv.later c.cut_in.ensures.cut (inv.there _ has);
+      emptied = λ tell.
+          let so_far = inv.emptied tell in (
+            subst (λ l. (m : ℕ) (bank : g.row.D.Denot) → Contains l m → disk_in c.cut_in.new.self (Bank m)
+                ≡ Some bank → g.D.Disk.tells bank ≡ Some [])
+                (sym (take_more c.args.numbers.now c.loop-number.number-index 0
+                (omega (arith, c.loop-number-test.true))))
+                (more_empty (take c.loop-number.number-index c.args.numbers.now) _
+                (inv.there _ has) c.in-Ok.ensures.cut (λ was is. so_far.1 _ was has is) so_far.0),
+            still_told c.args.numbers.now _ has (inv.there _ has) c.cut_in.ensures.cut so_far.1,
+          );
+      cut = λ story from low may.
+          let so_far = inv.cut story from low may in
+          let done = vault_done g.met.D.Disk.reads c.args.vault.now _ so_far.0
+          (inv.there _ has) c.in-Ok.ensures.cut c.cut_in.ensures.recorded
+          c.cut_in.ensures.save c.cut_in.ensures.ties (may.none _ has) (rw inv.ties may.ended)
+          (λ was is. so_far.1 _ was has is) in (
+            rw (take_more c.args.numbers.now c.loop-number.number-index 0
+                (omega (arith, c.loop-number-test.true))) done,
+            still_told c.args.numbers.now _ has (inv.there _ has) c.cut_in.ensures.cut so_far.1,
+          );
+    }
+
+pub loop-number-init : goal.loop-number-init
+loop-number-init g c = record {
+  there = c.requires.banks;
+  still = λ n was. was;
+  room = omega (arith, c.requires.room);
+  save = refl;
+  snaps = refl;
+  ties = refl;
+  later = λ m was now before after. let same = same_Some was now (sym before ∙ after) in omega
+      (arith, ap g.D.Disk.faults same);
+  emptied = λ tell. (λ n bank has. absurd (omega (arith, has.1)), tell);
+  cut = λ story from low may. (cuts_none may.told may.ready may.past, may.tell);
+}
+
+pub returns-in_default-clause-there : goal.returns-in_default-clause-there
+returns-in_default-clause-there g c n was = still_there _ n c.cut_in.ensures.cut (c.loop-number.invariant.still n was)
+
+pub returns-clause-there : goal.returns-clause-there
+returns-clause-there g c n was = c.loop-number.invariant.still n was
+
+pub returns-clause-emptied : goal.returns-clause-emptied
+returns-clause-emptied g c tell =
+    subst (λ l. (m : ℕ) (bank : g.row.D.Denot) → Contains l m → disk_in c.loop-number.vault (Bank m) ≡ Some bank
+    → g.D.Disk.tells bank ≡ Some [])
+    (take_all c.loop-number.number-index c.args.numbers.now (omega (arith, c.loop-number-test.false)))
+    (c.loop-number.invariant.emptied tell).0
+
+pub returns-in_default-clause-device : goal.returns-in_default-clause-device
+returns-in_default-clause-device g c n is was now before after =
+    let inv = c.loop-number.invariant in
+    let has = Contains-get_or c.args.numbers.now c.loop-number.number-index 0
+    (omega (arith, c.loop-number-test.true)) in
+    let same : get_or c.args.numbers.now c.loop-number.number-index 0 ≡ n = cc is in
+    cut_rose c.args.vault.now
+    (get_or c.args.numbers.now c.loop-number.number-index 0) c.in_default.field-0 c.in_default.is inv.later c.cut_in.ensures.cut (inv.there _ has) was now
+    (subst (λ j. disk_in c.args.vault.now (Bank j) ≡ Some was) (sym same) before)
+    (subst (λ j. disk_in c.cut_in.new.self (Bank j) ≡ Some now) (sym same) after)
+
+pub returns-in_default-clause-among : goal.returns-in_default-clause-among
+returns-in_default-clause-among g c n is =
+    let has = Contains-get_or c.args.numbers.now c.loop-number.number-index 0
+    (omega (arith, c.loop-number-test.true)) in
+    let same : get_or c.args.numbers.now c.loop-number.number-index 0 ≡ n = cc is in
+    subst (Contains c.args.numbers.now) same has

@@ -1,0 +1,146 @@
+use Rattle.std.proofs.Common.{◌≡◌, ◌≢◌, ◌+◌, ◌⊎◌, inl, inr, refl, sym, ◌∙◌, ap, subst, arith}
+use Rattle.std.specs.Prelude.{Some, Result, Err}
+use Rattle.log_writer.specs.declared.save.SaveFault.{SaveFault}
+use Rattle.log_writer.specs.declared.save.SaveFault.TheVariants.{Device, Down, Limit}
+use Rattle.log_writer.specs.Points.{sequence_of, point_of}
+use Rattle.log_writer.specs.Save.{Names, IsStored}
+use Rattle.outside.specs.Vault.{disk_in}
+use Rattle.outside.specs.declared.vault.Device.TheVariants.{Bank}
+use Rattle.recovery_core.specs.Crashes.Instants.{keeps_then}
+use Rattle.recovery_core.specs.VaultReads.{some_of}
+use Rattle.recovery_core.specs.Crashes.StoreSteps.{now_one, all_stored, all_failed, all_refused}
+use Rattle.recovery_core.proofs.settling.store_and_cut.Goals as goal
+
+fault_cases : (f : SaveFault) → (f ≡ Device) ⊎ (f ≢ Device)
+fault_cases Device = inl refl
+fault_cases (Down n) = inr (λ is. cc is)
+fault_cases (Limit n) = inr (λ is. cc is)
+
+err_differs : {T : Type 0} (f : SaveFault) → f ≢ Device → (let r : Result T SaveFault = Err f in r) ≢ Err Device
+err_differs f other is = other (cc is)
+
+pub returns-in-Err-clause-crashes : goal.returns-in-Err-clause-crashes
+returns-in-Err-clause-crashes g c =
+    λ story from low may past tell none.
+    let e = c.in-Err.ensures in
+    let file = some_of (g.D.Disk.tells c.args.vault.now.save) may.tells_save in
+    let now = c.requires.stored file.0 file.1 in
+    elim (fault_cases c.in-Err.fault) [
+      | inl device ↦
+          let left = all_failed may (e.stores.any_moment file.0 file.1) now.only now.names (e.begun (ap Err device)) in
+          rw (e.others.0, e.others.1, e.others.2, e.others.3) (left.1, left.0)
+      | inr other ↦
+          let same = e.untied (err_differs c.in-Err.fault other) in
+          let left = all_refused may now.only now.names in
+          rw same (left.1, left.0)
+    ]
+
+pub returns-in-Ok-cut_banks-clause-crashes : goal.returns-in-Ok-cut_banks-clause-crashes
+returns-in-Ok-cut_banks-clause-crashes g c =
+    λ story from low may past tell none.
+    let e = c.in-Ok.ensures in
+    let file = some_of (g.D.Disk.tells c.args.vault.now.save) may.tells_save in
+    let new_file = some_of (g.D.Disk.tells c.store_in.new.vault.save) (e.stores.told ∙ may.tells_save) in
+    let now = e.stores.stored new_file.0 new_file.1 in
+    let names = subst (λ p. Names new_file.0 p) e.stores.newest now.names in
+    let stored = all_stored c.args.numbers.now may past tell none
+    (e.stores.any_moment file.0 file.1) now.only names e.tied in
+    let after = c.sequence-sequence.ensures.newest ∙ ap sequence_of e.stores.newest in
+    let cut = rw (after, e.others.0, e.others.1, e.others.2, e.others.3) at
+    (c.in-Ok-cut_banks.ensures.cut story from low) in
+    let done = cut stored.0 in (
+      keeps_then stored.1 done.left.stays,
+      record {
+        told = done.left.told;
+        instant = now_one done.left.told done.left.ready
+            (λ b image. subst (λ x. Names b x) (sym may.point)
+            (subst (λ l. Names l (Some (point_of (sequence_of c.args.save.now.newest + 1) c.args.saved)))
+            (sym (now.only b (subst (λ d. g.D.Disk.image_at d
+            (g.D.Disk.clock d) b) c.cut_banks.ensures.others.0 image))) names));
+        past = done.past;
+        empty = done.empty;
+        others = done.others;
+        open_others = done.open_others;
+      },
+    )
+
+pub returns-in-Err-cut_banks-clause-crashes : goal.returns-in-Err-cut_banks-clause-crashes
+returns-in-Err-cut_banks-clause-crashes g c =
+    λ story from low may past tell none.
+    let e = c.in-Ok.ensures in
+    let file = some_of (g.D.Disk.tells c.args.vault.now.save) may.tells_save in
+    let new_file = some_of (g.D.Disk.tells c.store_in.new.vault.save) (e.stores.told ∙ may.tells_save) in
+    let now = e.stores.stored new_file.0 new_file.1 in
+    let names = subst (λ p. Names new_file.0 p) e.stores.newest now.names in
+    let stored = all_stored c.args.numbers.now may past tell none
+    (e.stores.any_moment file.0 file.1) now.only names e.tied in
+    let after = c.sequence-sequence.ensures.newest ∙ ap sequence_of e.stores.newest in
+    let cut = rw (after, e.others.0, e.others.1, e.others.2, e.others.3) at
+    (c.in-Err-cut_banks.ensures.cut story from low) in
+    let left = cut stored.0 in (
+      keeps_then stored.1 left.stays,
+      record {
+        high = sequence_of c.args.save.now.newest + 1;
+        within = omega arith;
+        told = left.told;
+        instant = now_one left.told left.ready
+            (λ b image. subst (λ x. Names b x) (sym may.point)
+            (subst (λ l. Names l (Some (point_of (sequence_of c.args.save.now.newest + 1) c.args.saved)))
+            (sym (now.only b (subst (λ d. g.D.Disk.image_at d
+            (g.D.Disk.clock d) b) c.cut_banks.ensures.others.0 image))) names));
+      },
+    )
+
+pub returns-in-Err-clause-there : goal.returns-in-Err-clause-there
+returns-in-Err-clause-there g c n was = rw (c.in-Err.ensures.others.1, c.in-Err.ensures.others.2) was
+
+pub returns-in-Ok-cut_banks-clause-there : goal.returns-in-Ok-cut_banks-clause-there
+returns-in-Ok-cut_banks-clause-there g c n was = c.cut_banks.ensures.there n
+    (rw (c.in-Ok.ensures.others.1, c.in-Ok.ensures.others.2) was)
+
+pub returns-in-Err-cut_banks-clause-there : goal.returns-in-Err-cut_banks-clause-there
+returns-in-Err-cut_banks-clause-there g c n was = c.cut_banks.ensures.there n
+    (rw (c.in-Ok.ensures.others.1, c.in-Ok.ensures.others.2) was)
+
+pub returns-in-Ok-cut_banks-clause-emptied : goal.returns-in-Ok-cut_banks-clause-emptied
+returns-in-Ok-cut_banks-clause-emptied g c tell = c.in-Ok-cut_banks.ensures.emptied
+    (rw (c.in-Ok.ensures.others.1, c.in-Ok.ensures.others.2) tell)
+
+pub returns-in-Err-clause-limit : goal.returns-in-Err-clause-limit
+returns-in-Err-clause-limit g c sequence is =
+    let e = c.in-Err.ensures in
+    let fault : c.in-Err.fault ≡ Limit sequence = cc is in
+    let cause = (e.stores.limit sequence).0 (ap Err fault) in
+    (cause.1, cause.2, e.untied (err_differs c.in-Err.fault (λ device. cc (fault, device))))
+
+pub returns-in-Err-clause-never_down : goal.returns-in-Err-clause-never_down
+returns-in-Err-clause-never_down g c count is =
+    let fault : c.in-Err.fault ≡ Down count = cc is in
+    let down = (c.in-Err.ensures.stores.down count).0 (ap Err fault) in
+    cc (down, c.requires.up)
+
+pub returns-in-Ok-cut_banks-clause-stores : goal.returns-in-Ok-cut_banks-clause-stores
+returns-in-Ok-cut_banks-clause-stores g c =
+    let e = c.in-Ok.ensures in (
+      e.stores.newest,
+      e.stores.up.1,
+      subst (λ d. IsStored g.D.Disk.tells g.D.Disk.clock g.D.Disk.image_at d c.store_in.new.self.newest)
+          (sym c.cut_banks.ensures.others.0)
+          e.stores.stored,
+    )
+
+pub returns-in-Err-cut_banks-clause-bank_failed : goal.returns-in-Err-cut_banks-clause-bank_failed
+returns-in-Err-cut_banks-clause-bank_failed g c n is =
+    let bank : c.in-Err-cut_banks.bank ≡ n = cc is in
+    let e = c.in-Err-cut_banks.ensures in
+    let there = c.requires.banks n (e.among n (ap Err bank)) in
+    let was = some_of (disk_in c.args.vault.now (Bank n)) there in
+    let now = some_of (disk_in c.cut_banks.new.vault (Bank n))
+    (e.there n (rw (c.in-Ok.ensures.others.1, c.in-Ok.ensures.others.2) there)) in (
+      was.0,
+      now.0,
+      was.1,
+      now.1,
+      e.device n (ap Err bank) was.0 now.0
+          (rw (c.in-Ok.ensures.others.1, c.in-Ok.ensures.others.2) was.1) now.1,
+    )

@@ -1,0 +1,293 @@
+// A vault that was recovered is settled, so that a run can begin: nothing of the log files counts, and they are
+// empty.
+ghost use Rattle.std.specs.Prelude.{◌≡◌, ◌⊎◌, ◌+◌, ◌-◌, ◌^◌, ◌<◌, ◌≤◌, ◌↔◌, ◌==◌, if◌then◌else◌};
+ghost use Rattle.std.specs.Prelude.{ℕ, [], Some, None, Err, IfOk, OnOk, IsTrue, vec_len, vec_capacity};
+ghost use Rattle.std.specs.Prelude.{map, true, IfSome};
+ghost use Rattle.std.specs.List.Sorted.{IsPermutation};
+ghost use Rattle.outside.specs.Disk.{IfTold};
+ghost use Rattle.outside.specs.Fronts.{AllBegin};
+ghost use Rattle.serial_model.specs.Decls.{AreDecls};
+ghost use Rattle.serial_model.specs.Keys.{id_of};
+ghost use Rattle.wire_form.specs.Items.{Rises};
+ghost use Rattle.snapshot_store.specs.Store.{bytes_of_pages, Holds};
+ghost use Rattle.recovery_core.specs.declared.fault.SettleFault.{SettleFault as TheFault};
+ghost use Rattle.recovery_core.specs.FreshLaws.{first_saved};
+ghost use Rattle.std.specs.List.{AllByRecursion, Contains, list_all};
+ghost use Rattle.std.specs.Option.{option_map};
+ghost use Rattle.std.specs.FinMap.{get};
+ghost use Rattle.outside.specs.Vault.{disk_in, IsWhole};
+ghost use Rattle.outside.specs.declared.vault.Device.{Device as TheDevice};
+ghost use Rattle.serial_model.specs.State.{State};
+ghost use Rattle.serial_model.specs.declared.key.Key.{Key};
+ghost use Rattle.wire_form.specs.declared.savepoint.Savepoint.{Savepoint};
+ghost use Rattle.log_writer.specs.Points.{IsSaved, point_of, saved_of, sequence_of};
+ghost use Rattle.log_writer.specs.Save.{IsStored};
+ghost use Rattle.recovery_core.specs.Images.{Images};
+ghost use Rattle.recovery_core.specs.LogEntries.{last_of};
+ghost use Rattle.recovery_core.specs.Recoverable.{counting, IsRecoverable};
+ghost use Rattle.recovery_core.specs.JointCrash.{Moments, parts_of};
+ghost use Rattle.recovery_core.specs.Resting.{IsResting, HasNoRecords, AreTold};
+ghost use Rattle.recovery_core.specs.CrashesRecover.{LeavesSame};
+ghost use Rattle.recovery_core.specs.Cutting.{AreToldIn};
+ghost use Rattle.recovery_core.specs.SettleFiles.{all_banks};
+ghost use Rattle.recovery_core.specs.SettleLaws.{without_files};
+ghost use Rattle.recovery_core.specs.Recovered.{Recovers, IsUp};
+ghost use Rattle.recovery_core.specs.SettleRests.{RestsSince};
+ghost use Rattle.recovery_core.specs.VaultReads.{RoseIn};
+
+use crate::at_rest::{cut_uncounted, settle_lengths};
+use crate::first_page::{first_page, in_order};
+use crate::fresh::settle_fresh;
+use crate::last_entries::LastEntries;
+use crate::settling::StoreAndCutFault;
+use crate::{Recovered, SettleFault};
+use lists::{Memory, OrMemory, Sequence};
+use log_writer::{Save, SaveFault, Saved};
+use outside::{Device, Disk, Vault};
+use serial_model::Decl;
+use snapshot_store::SnapStore;
+use std::alloc::Global;
+
+// Whether nothing of any log file counts.
+fn count_nothing(lengths: &[u64; 16]) -> bool
+    ensures zero { IsTrue result ↔ AllByRecursion (λ n. n ≡ 0) lengths.now }
+    ensures test { result ≡ list_all (λ n. n == 0) lengths.now }
+{
+    lengths.iter().all(|length| *length == 0)
+}
+
+/// Which fault of a settling this is. The store is up, so it never answers that it is down.
+pub(crate) fn fault_of(fault: StoreAndCutFault) -> SettleFault
+    requires { (count : ℕ) → fault ≡ StoreAndCutFault.Store (SaveFault.Down count) → ⊥ }
+    ensures device { (device : TheDevice) → result ≡ SettleFault.Device device
+        → ((device ≡ Device.Save) × (fault ≡ StoreAndCutFault.Store SaveFault.Device))
+        ⊎ ((n : ℕ) × (device ≡ Device.Bank n) × (fault ≡ StoreAndCutFault.Cut n)) }
+    ensures sequence { (sequence : ℕ) → result ≡ SettleFault.Sequence sequence
+        → fault ≡ StoreAndCutFault.Store (SaveFault.Limit sequence) }
+    ensures never_limit { (have room new : ℕ) → result ≡ SettleFault.Limit have new room → ⊥ }
+    ensures never_deep { result ≡ SettleFault.Deep → ⊥ }
+{
+    match fault {
+        StoreAndCutFault::Store(SaveFault::Device) => SettleFault::Device(Device::Save),
+        StoreAndCutFault::Store(SaveFault::Down { faults: _ }) => SettleFault::Device(Device::Save),
+        StoreAndCutFault::Store(SaveFault::Limit { sequence }) => SettleFault::Sequence {
+            sequence,
+        },
+        StoreAndCutFault::Cut { bank } => SettleFault::Device(Device::Bank(bank)),
+    }
+}
+
+/// Settles a vault with a savepoint. Where entries count, or more pages than are let in, it answers the limit
+/// and does nothing. Where lengths stand, a savepoint without them is stored first, since a stop between the
+/// cuts must not find one that counts what was cut.
+pub(crate) fn settle_saved<D: Disk>(
+    save: &mut Save,
+    vault: &mut Vault<D>,
+    saved: Saved,
+    entries: &LastEntries,
+    snap: u32,
+) -> Result<Saved, SettleFault>
+    requires whole { IsWhole vault.old }
+    requires says { Some saved ≡ option_map saved_of save.old.newest }
+    requires ranges { IsSaved saved }
+    requires up { save.old.down ≡ None }
+    requires stored { IsStored D.tells D.clock D.image_at vault.old.save save.old.newest }
+    requires tie_room { vec_len vault.old.ties < vec_capacity vault.old.ties }
+    requires cut_room { vec_len vault.old.cuts + 16 ≤ vec_capacity vault.old.cuts }
+    ensures crashes { (found : Images) (from : Moments) (epoch : ℕ) (state : State)
+        → (rest : IsResting D.clock D.image_at (parts_of vault.old)) → HasNoRecords (parts_of vault.old)
+        → AreTold D.tells (parts_of vault.old) found
+        → RestsSince D.clock D.image_at from rest.point rest.pages rest.counted (parts_of vault.old)
+        → (is : IsRecoverable found epoch state)
+        → ((key : Key) → get entries.now key ≡ last_of key (counting is.reading))
+        → LeavesSame D.clock D.image_at from epoch state (parts_of vault.old) (parts_of vault.new) }
+    ensures limit { (have new room : ℕ) → result ≡ Err (SettleFault.Limit have new room)
+        → (have ≡ saved.count) × (vault.new ≡ vault.old)
+        × (((new ≡ 1) × (room ≡ saved.count) × (((key : Key) → get entries.now key ≡ None) → ⊥))
+        ⊎ ((new ≡ 0) × (room ≡ snap) × (snap < saved.count) × ((key : Key) → get entries.now key ≡ None))) }
+    ensures sequence { (sequence : ℕ) → result ≡ Err (SettleFault.Sequence sequence)
+        → (sequence ≡ sequence_of save.old.newest) × (sequence ≡ 2 ^ 63 - 1) × (vault.new ≡ vault.old) }
+    ensures device { (device : TheDevice) → result ≡ Err (SettleFault.Device device)
+        → RoseIn D.faults device vault.old vault.new }
+    ensures never_deep { result ≡ Err SettleFault.Deep → ⊥ }
+    ensures says { IfOk result (λ s. (s ≡ without_files saved) × (Some s ≡ option_map saved_of save.new.newest)) }
+    ensures up { OnOk result (save.new.down ≡ None) }
+    ensures stored { OnOk result (IsStored D.tells D.clock D.image_at vault.new.save save.new.newest) }
+    ensures sequence_is { OnOk result (sequence_of save.new.newest
+        ≡ sequence_of save.old.newest + (if list_all (λ n. n == 0) saved.lengths then 0 else 1)) }
+    ensures emptied { AreToldIn D.tells all_banks (parts_of vault.old) → OnOk result ((n : ℕ) (bank : D)
+        → Contains all_banks n → disk_in vault.new (Device.Bank n) ≡ Some bank → D.tells bank ≡ Some []) }
+    ensures snaps { vault.new.snaps ≡ vault.old.snaps }
+{
+    let have = saved.count;
+    if !entries.is_empty() {
+        return Err(SettleFault::Limit {
+            have,
+            new: 1,
+            room: have,
+        });
+    }
+    if have > snap {
+        return Err(SettleFault::Limit {
+            have,
+            new: 0,
+            room: snap,
+        });
+    }
+    if count_nothing(&saved.lengths) {
+        return match cut_uncounted(save, vault) {
+            Ok(()) => Ok(saved),
+            Err(bank) => Err(SettleFault::Device(Device::Bank(bank))),
+        };
+    }
+    let saved = Saved {
+        lengths: [0; 16],
+        ..saved
+    };
+    match settle_lengths(save, vault, saved) {
+        Ok(()) => Ok(saved),
+        Err(fault) => Err(fault_of(fault)),
+    }
+}
+
+/// What a settled vault stands at.
+#[derive(Drop)]
+pub struct Settled {
+    /// The store of savepoints, which knows the newest one.
+    pub save: Save,
+    /// The pages that count.
+    pub store: SnapStore,
+    /// What the newest savepoint says: it counts nothing of the log files.
+    pub saved: Saved,
+    /// The storages that the newest catalogue declares.
+    pub decls: Sequence<Decl>,
+}
+
+// Makes room for the record of a store, and of a cut of each log file: neither may begin and then go
+// unrecorded for want of memory.
+fn make_room<D: Disk>(vault: &mut Vault<D>) -> Result<(), Memory>
+    ensures parts { parts_of vault.new ≡ parts_of vault.old }
+    ensures even { vault.new.even ≡ vault.old.even }
+    ensures odd { vault.new.odd ≡ vault.old.odd }
+    ensures save { vault.new.save ≡ vault.old.save }
+    ensures snaps { vault.new.snaps ≡ vault.old.snaps }
+    ensures tie_room { OnOk result (vec_len vault.new.ties < vec_capacity vault.new.ties) }
+    ensures cut_room { OnOk result (vec_len vault.new.cuts + 16 ≤ vec_capacity vault.new.cuts) }
+{
+    vault.ties.reserve(1)?;
+    vault.cuts.reserve(16)?;
+    Ok(())
+}
+
+// Settles a vault without a savepoint.
+fn settle_new<D: Disk>(
+    alloc: Global,
+    save: &mut Save,
+    store: &mut SnapStore,
+    vault: &mut Vault<D>,
+    decls: &[Decl],
+) -> Result<(Saved, Sequence<Decl>), OrMemory<SettleFault>>
+    requires whole { IsWhole vault.old }
+    requires fresh { save.old.newest ≡ None }
+    requires up { save.old.down ≡ None }
+    requires stored { IsStored D.tells D.clock D.image_at vault.old.save save.old.newest }
+    requires sound { store.old.sound ≡ true }
+    requires empty { store.old.pages ≡ [] }
+    requires holds { Holds D.tells vault.old.snaps store.old.pages }
+    requires decls { AreDecls decls.now }
+    requires tie_room { vec_len vault.old.ties < vec_capacity vault.old.ties }
+    requires cut_room { vec_len vault.old.cuts + 16 ≤ vec_capacity vault.old.cuts }
+    ensures crashes { (found : Images) (from : Moments) (state : State)
+        → (rest : IsResting D.clock D.image_at (parts_of vault.old)) → HasNoRecords (parts_of vault.old)
+        → AreTold D.tells (parts_of vault.old) found
+        → RestsSince D.clock D.image_at from rest.point rest.pages rest.counted (parts_of vault.old)
+        → IsRecoverable found 0 state → ((key : Key) → get state key ≡ None)
+        → LeavesSame D.clock D.image_at from 0 state (parts_of vault.old) (parts_of vault.new) }
+    ensures device { (device : TheDevice) → result ≡ Err (OrMemory.Fault (SettleFault.Device device))
+        → RoseIn D.faults device vault.old vault.new }
+    ensures only_device { (fault : TheFault) → result ≡ Err (OrMemory.Fault fault)
+        → (device : TheDevice) × (fault ≡ SettleFault.Device device) }
+    ensures says { IfOk result (λ s. (s.0 ≡ first_saved) × (save.new.newest ≡ Some (point_of 1 s.0))) }
+    ensures decls { IfOk result (λ s. IsPermutation decls.now s.1 × Rises ◌<◌ (map id_of s.1)) }
+    ensures up { OnOk result (save.new.down ≡ None) }
+    ensures stored { OnOk result (IsStored D.tells D.clock D.image_at vault.new.save save.new.newest) }
+    ensures emptied { AreToldIn D.tells all_banks (parts_of vault.old) → OnOk result ((n : ℕ) (bank : D)
+        → Contains all_banks n → disk_in vault.new (Device.Bank n) ≡ Some bank → D.tells bank ≡ Some []) }
+    ensures sound { OnOk result (store.new.sound ≡ true) }
+    ensures holds { Holds D.tells vault.new.snaps store.new.pages }
+    ensures durable { OnOk result (IfTold (D.tells vault.old.snaps) (λ _. AllBegin
+        (D.image_at vault.new.snaps (D.clock vault.new.snaps)) (bytes_of_pages store.new.pages))) }
+{
+    let sorted = in_order(alloc, decls)?;
+    let page = first_page(alloc, &sorted)?;
+    let saved = settle_fresh(save, store, vault, page)?;
+    Ok((saved, Sequence::from_vec(sorted)))
+}
+
+/// Settles a vault as it was recovered, for these storages, in any order. Where entries count it answers the
+/// limit, and does nothing; else the log files are emptied behind a savepoint that counts nothing of them.
+/// A fresh vault gets its first catalogue and its first savepoint. Whatever it answers, each crash since the
+/// devices rest leaves the epoch and the state that were recovered.
+pub fn settle<D: Disk>(
+    alloc: Global,
+    vault: &mut Vault<D>,
+    recovered: Recovered,
+    decls: &[Decl],
+    snap: u32,
+) -> Result<Settled, OrMemory<SettleFault>>
+    requires whole { IsWhole vault.old }
+    requires up { IsUp recovered }
+    requires stored { IsStored D.tells D.clock D.image_at vault.old.save recovered.save.newest }
+    requires holds { Holds D.tells vault.old.snaps recovered.store.pages }
+    requires decls { AreDecls decls.now }
+    ensures crashes { (found : Images) (from : Moments)
+        → (rest : IsResting D.clock D.image_at (parts_of vault.old)) → HasNoRecords (parts_of vault.old)
+        → AreTold D.tells (parts_of vault.old) found
+        → RestsSince D.clock D.image_at from rest.point rest.pages rest.counted (parts_of vault.old)
+        → Recovers found recovered
+        → LeavesSame D.clock D.image_at from recovered.epoch recovered.state
+        (parts_of vault.old) (parts_of vault.new) }
+    ensures limit { (have new room : ℕ) → result ≡ Err (OrMemory.Fault (SettleFault.Limit have new room))
+        → IfSome recovered.saved (λ s. (have ≡ s.count)
+        × (((new ≡ 1) × (room ≡ s.count) × (((key : Key) → get recovered.entries key ≡ None) → ⊥))
+        ⊎ ((new ≡ 0) × (room ≡ snap) × (snap < s.count) × ((key : Key) → get recovered.entries key ≡ None)))) }
+    ensures sequence { (sequence : ℕ) → result ≡ Err (OrMemory.Fault (SettleFault.Sequence sequence))
+        → (sequence ≡ sequence_of recovered.save.newest) × (sequence ≡ 2 ^ 63 - 1) }
+    ensures device { (device : TheDevice) → result ≡ Err (OrMemory.Fault (SettleFault.Device device))
+        → RoseIn D.faults device vault.old vault.new }
+    ensures never_deep { result ≡ Err (OrMemory.Fault SettleFault.Deep) → ⊥ }
+    ensures says { IfOk result (λ s. (Some s.saved ≡ option_map saved_of s.save.newest)
+        × (s.save.down ≡ None) × IsStored D.tells D.clock D.image_at vault.new.save s.save.newest) }
+    ensures emptied { AreToldIn D.tells all_banks (parts_of vault.old) → OnOk result ((n : ℕ) (bank : D)
+        → Contains all_banks n → disk_in vault.new (Device.Bank n) ≡ Some bank → D.tells bank ≡ Some []) }
+{
+    make_room(vault)?;
+    let Recovered {
+        mut save,
+        saved,
+        decls: kept,
+        mut store,
+        epoch: _,
+        state: _,
+        catalogues: _,
+        entries,
+    } = recovered;
+    let Some(saved) = saved else {
+        let (saved, decls) = settle_new(alloc, &mut save, &mut store, vault, decls)?;
+        return Ok(Settled {
+            save,
+            store,
+            saved,
+            decls,
+        });
+    };
+    match settle_saved(&mut save, vault, saved, &entries, snap) {
+        Ok(saved) => Ok(Settled {
+            save,
+            store,
+            saved,
+            decls: kept,
+        }),
+        Err(fault) => Err(OrMemory::Fault(fault)),
+    }
+}

@@ -1,0 +1,78 @@
+// A savepoint that counts nothing of some log files, and then their cuts: what a settling does where no
+// entry counts, and what a join does for the closed side.
+ghost use Rattle.std.specs.Prelude.{◌≡◌, ◌+◌, ◌-◌, ◌^◌, ◌<◌, ◌≤◌, ℕ, [], Some};
+ghost use Rattle.std.specs.Prelude.{None, Err, length, IsSome, OnOk, MatchResult, vec_len, vec_capacity};
+ghost use Rattle.std.specs.List.{Contains};
+ghost use Rattle.outside.specs.Vault.{disk_in};
+ghost use Rattle.log_writer.specs.Points.{IsSaved, point_of, sequence_of};
+ghost use Rattle.log_writer.specs.Save.{IsStored};
+ghost use Rattle.recovery_core.specs.JointCrash.{Moments, parts_of, KeepsCrashes};
+ghost use Rattle.recovery_core.specs.Story.{Story};
+ghost use Rattle.recovery_core.specs.Cutting.{ArePast, AreToldIn};
+ghost use Rattle.recovery_core.specs.Settling.{MayStore, IsLeft, IsSettled};
+ghost use Rattle.recovery_core.specs.VaultReads.{RoseIn};
+
+use crate::cutting::cut_banks;
+use log_writer::{Save, SaveFault, Saved};
+use outside::{Device, Disk, Vault};
+
+/// The numbers of all log files.
+pub(crate) const BANKS: [u8; 16] = [0, 1, 2, 3, 4, 5, 6, 7, 8, 9, 10, 11, 12, 13, 14, 15];
+
+/// Which call failed: the store, or the cut of this log file.
+#[derive(Clone, Copy, Debug, PartialEq, Eq)]
+pub enum StoreAndCutFault {
+    Store(SaveFault),
+    Cut { bank: u8 },
+}
+
+/// Stores a savepoint that counts nothing of the log files of these numbers, and cuts them. A crash of all
+/// devices at any moments, as their ties and cuts allow them together, stands for a savepoint that was
+/// newest before or for this one.
+pub fn store_and_cut<D: Disk>(
+    save: &mut Save,
+    vault: &mut Vault<D>,
+    saved: Saved,
+    numbers: &[u8],
+) -> Result<(), StoreAndCutFault>
+    requires saved { IsSaved saved }
+    requires up { save.old.down ≡ None }
+    requires stored { IsStored D.tells D.clock D.image_at vault.old.save save.old.newest }
+    requires banks { (n : ℕ) → Contains numbers.now n → IsSome (disk_in vault.old (Device.Bank n)) }
+    requires tie_room { vec_len vault.old.ties < vec_capacity vault.old.ties }
+    requires cut_room { vec_len vault.old.cuts + length numbers.now ≤ vec_capacity vault.old.cuts }
+    ensures crashes { (story : Story) (from : Moments) (low : ℕ)
+        → MayStore D.clock D.image_at D.tells story from low save.old.newest saved (parts_of vault.old)
+        → ArePast D.clock D.image_at (parts_of vault.old)
+        → AreToldIn D.tells numbers.now (parts_of vault.old)
+        → ((n : ℕ) → Contains numbers.now n → story.counted (sequence_of save.old.newest + 1) n ≡ [])
+        → KeepsCrashes D.clock D.image_at from (parts_of vault.old) (parts_of vault.new)
+        × MatchResult result
+        (λ _. IsSettled D.clock D.image_at story from low (sequence_of save.old.newest + 1) numbers.now (parts_of vault.old) (parts_of vault.new))
+        (λ _. IsLeft D.clock D.image_at story from low (sequence_of save.old.newest + 1) (parts_of vault.new)) }
+    ensures emptied { AreToldIn D.tells numbers.now (parts_of vault.old) → OnOk result ((n : ℕ) (bank : D)
+        → Contains numbers.now n → disk_in vault.new (Device.Bank n) ≡ Some bank → D.tells bank ≡ Some []) }
+    ensures there { (n : ℕ) → IsSome (disk_in vault.old (Device.Bank n))
+        → IsSome (disk_in vault.new (Device.Bank n)) }
+    ensures snaps { vault.new.snaps ≡ vault.old.snaps }
+    ensures stores { OnOk result ((save.new.newest ≡ Some (point_of (sequence_of save.old.newest + 1) saved))
+        × (save.new.down ≡ None)
+        × IsStored D.tells D.clock D.image_at vault.new.save save.new.newest) }
+    ensures save_failed { result ≡ Err (StoreAndCutFault.Store SaveFault.Device)
+        → RoseIn D.faults Device.Save vault.old vault.new }
+    ensures bank_failed { (n : ℕ) → result ≡ Err (StoreAndCutFault.Cut n)
+        → RoseIn D.faults (Device.Bank n) vault.old vault.new }
+    ensures limit { (sequence : ℕ) → result ≡ Err (StoreAndCutFault.Store (SaveFault.Limit sequence))
+        → (sequence ≡ sequence_of save.old.newest) × (sequence ≡ 2 ^ 63 - 1) × (vault.new ≡ vault.old) }
+    ensures never_down { (count : ℕ) → result ≡ Err (StoreAndCutFault.Store (SaveFault.Down count)) → ⊥ }
+{
+    match save.store_in(vault, saved) {
+        Ok(()) => {}
+        Err(fault) => return Err(StoreAndCutFault::Store(fault)),
+    }
+    let sequence = save.sequence();
+    match cut_banks(vault, numbers, sequence) {
+        Ok(()) => Ok(()),
+        Err(bank) => Err(StoreAndCutFault::Cut { bank }),
+    }
+}

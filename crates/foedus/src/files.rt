@@ -18,8 +18,9 @@ const BANKS: u8 = 8;
 const NO_SAVEPOINT: [u8; 1024] = [0; 1024];
 
 /// Opens the files of a folder, which is made where it is missing, as are the files: the savepoint's
-/// with 1,024 zero bytes, the others empty. What is made is there for good before anything is opened after it. Of the files that can't be had the first one is answered, in
-/// the order save, snaps, bank0, bank1 and on.
+/// with 1,024 zero bytes, the others empty. What is made is there for good before anything is opened
+/// after it. Of the files that can't be had the first one is answered, in the order save, snaps, bank0,
+/// bank1 and on.
 pub(crate) fn open_vault<R: Files<File = File>>(
     rt: &R,
     alloc: Global,
@@ -127,8 +128,8 @@ fn open_file<R: Files<File = File>>(
     }
 }
 
-// Makes a file with these bytes. It gets its name once they are on the device, since a savepoint's file with fewer bytes,
-// as a stop might leave it, would be taken for damage from then on.
+// Makes a file with these bytes. It gets its name once they are on the device, since a savepoint's file
+// with fewer bytes, as a stop might leave it, would be taken for damage from then on.
 fn make_file<R: Files<File = File>>(
     rt: &R,
     folder: &str,

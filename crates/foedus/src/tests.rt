@@ -64,6 +64,9 @@ fn call<R: Threads + Wait + Sync + AllocGlobal, G: Gate + Sync>(
     let mut source = MemSource::new(script.to_vec(alloc)?, vec![in alloc; failing_read]?);
     let mut sink = MemSink::new(alloc, vec![in alloc; failing_write]?);
     let mut vault = fresh_vault(alloc)?;
+    if !vault.is_whole() {
+        return Err(Fail::from("a vault without a log file"));
+    }
     let status = top(rt, alloc, &words, &mut source, &mut sink, &mut vault, gate);
     Ok((status, sink.bytes().to_vec(alloc)?))
 }
@@ -260,7 +263,7 @@ fn a_folder_is_a_vault(rt: HostRuntime) -> Result<(), Fail> {
 fn page(alloc: Global, words: &[(usize, u64)]) -> Result<Vec<u8>, Fail> {
     let mut all = [0; 64];
     for (place, word) in words {
-        all[*place] = *word;
+        all[*place % 64] = *word;
     }
     let mut bytes = Vec::new(alloc);
     for word in all {
@@ -293,7 +296,7 @@ fn saved_vault(
         ],
     )?)?;
     let snaps = page(alloc, &[(0, 0x4341_5400_0000_0001), (16, 257), (17, 4)])?;
-    let line = page(
+    let mut line = page(
         alloc,
         &[
             (0, 0x0000_0100_0000_0001),
@@ -303,7 +306,8 @@ fn saved_vault(
             (4, value),
         ],
     )?;
-    vault_of(alloc, &save, &snaps, &line[..40], fails)
+    line.truncate(40);
+    vault_of(alloc, &save, &snaps, &line, fails)
 }
 
 // The status and the text of a dump, whose sink fails at this call.
@@ -315,6 +319,9 @@ fn dump<R: Threads + Wait + Sync + AllocGlobal>(
     let alloc = rt.alloc();
     let mut source = MemSource::new(Vec::new(alloc), vec![in alloc; 0]?);
     let mut sink = MemSink::new(alloc, vec![in alloc; failing_write]?);
+    if !vault.is_whole() {
+        return Err(Fail::from("a vault without a log file"));
+    }
     let status = top(
         rt,
         alloc,

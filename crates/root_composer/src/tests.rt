@@ -1,101 +1,113 @@
 // Compositions worked by hand.
-ghost use Rattle.std.specs.Prelude.{◌≡◌, ◌^◌, ◌<◌, ◌≤◌, [], ◌∷◌, IfOk};
-ghost use Rattle.serial_model.specs.declared.decl.Decl.TheVariants.{Tree};
-ghost use Rattle.wire_form.specs.Pages.{Contents, catalogue_words};
-ghost use Rattle.snapshot_store.specs.Content.{words_of};
+ghost use Rattle.std.specs.Prelude.{◌^◌, ◌<◌, IfOk};
 ghost use Rattle.root_composer.specs.Rows.{Ascends};
+
+mod snapshots;
 
 use super::*;
 use crate::build::build;
 use crate::row::Row;
-use lists::{Memory, OrMemory, Sequence};
-use outside::MemDisk;
-use serial_model::{Decl, Key, Number};
-use snapshot_store::{SnapStore, StoreFault};
-use std::alloc::{AllocError, Global};
+use lists::{Memory, OrMemory};
+use snapshots::{Change, fresh};
+use std::alloc::Global;
 use std::test::Fail;
-use wire_form::{Entry, Page, PageKind, Run, Stored, catalogue_words};
-
-// A store with one page.
-fn one_page(
-    alloc: Global,
-    disk: &mut MemDisk,
-    words: [u64; 64],
-) -> Result<SnapStore, OrMemory<StoreFault>>
-    ensures { IfOk result (λ store. words_of store.pages ≡ words ∷ []) }
-{
-    let mut store = SnapStore::load(alloc, disk, 0)?;
-    let page = Page {
-        number: 1,
-        kind: PageKind::Catalogue,
-        words,
-    };
-    store.append(disk, &[page])?;
-    Ok(store)
-}
-
-// A run of one entry.
-fn one_entry(alloc: Global, entry: Entry) -> Result<Run, AllocError>
-    ensures { IfOk result (λ run. run ≡ entry ∷ []) }
-{
-    let mut entries = Vec::new(alloc);
-    entries.push(entry)?;
-    Ok(Sequence::from_vec(entries))
-}
-
-// A put at key 5 of tree 2, which has no pages yet.
-fn first_put(
-    alloc: Global,
-    store: &SnapStore,
-    room: u32,
-) -> Result<NewPages, OrMemory<ComposeFault>>
-    requires tree { let contents : Contents = record {
-      epoch = 0;
-      previous = 0;
-      storages = record { decl = Tree 2; root = 0 } ∷ [];
-    } in words_of store.now.pages ≡ catalogue_words contents ∷ [] }
-    requires room { room ≤ 65536 }
-{
-    let put = Entry {
-        key: Key { storage: 2, key: 5 },
-        number: Number { epoch: 1, draw: 1 },
-        value: Some(7),
-    };
-    let Ok(entries) = one_entry(alloc, put) else {
-        return Err(OrMemory::Memory);
-    };
-    compose(alloc, store, 1, &entries, 1, room)
-}
+use wire_form::{PageKind, is_page};
 
 #[test]
 fn a_tree_gets_its_first_leaf(rt: HostRuntime) -> Result<(), Fail> {
     let alloc = rt.alloc();
-    let mut disk = MemDisk::new(alloc, Vec::new(alloc), Vec::new(alloc))?;
-    let tree = Stored {
-        decl: Decl::Tree { id: 2 },
-        root: 0,
-    };
-    let words = catalogue_words(0, 0, &[tree]);
-    let store = one_page(alloc, &mut disk, words).expect(&rt, "one page");
-    let made = first_put(alloc, &store, 3).expect(&rt, "room for three pages");
-    let [leaf, catalogue] = made.as_slice() else {
-        panic!(rt; "two pages");
-    };
-    // The leaf has the whole range, and 5 = 7 by 1:1; the catalogue names it, and the one before.
-    let mut want = [0; 64];
-    (want[0], want[2]) = (257, u64::MAX);
-    (want[16], want[17], want[18]) = (5, 1_099_511_627_777, 7);
-    assert_eq!(rt; (leaf.number, leaf.words), (2, want));
-    let mut want = [0; 64];
-    (want[0], want[1], want[2]) = (0x4341_5400_0000_0001, 1, 1);
-    (want[16], want[18]) = (514, 2);
-    assert_eq!(rt; (catalogue.number, catalogue.words), (3, want));
+    let empty = fresh(alloc, 0).expect(&rt, "a tree");
+    let put = [(5, Some(7))];
     let full = ComposeFault::Limit {
         have: 1,
         new: 2,
         room: 2,
     };
-    assert!(rt; first_put(alloc, &store, 2).err() == Some(OrMemory::Fault(full)));
+    assert!(rt; empty.new_pages(alloc, &put, 2).err() == Some(OrMemory::Fault(full)));
+    assert!(rt; empty.new_pages(alloc, &put, 3).is_ok());
+    let made = empty.next(alloc, &put).expect(&rt, "two pages");
+    // The leaf has the whole range, and 5 = 7 by 1:1; the catalogue names it, and the one before.
+    let mut want = [0; 64];
+    (want[0], want[2]) = (257, u64::MAX);
+    (want[16], want[17], want[18]) = (5, 1_099_511_627_777, 7);
+    assert_eq!(rt; made.words(2), want);
+    let mut want = [0; 64];
+    (want[0], want[1], want[2]) = (0x4341_5400_0000_0001, 1, 1);
+    (want[16], want[18]) = (514, 2);
+    assert_eq!(rt; made.words(3), want);
+    assert_eq!(rt; made.count(), 3);
+    Ok(())
+}
+
+// The number and kind of a page, and one of its words.
+type Wanted = (u32, PageKind, usize, u64);
+
+// Whether these puts make just these pages in an array that has none.
+fn makes(
+    alloc: Global,
+    size: u32,
+    puts: &[Change],
+    wanted: &[Wanted],
+) -> Result<bool, OrMemory<ComposeFault>> {
+    let Ok(empty) = fresh(alloc, size) else {
+        return Err(OrMemory::Memory);
+    };
+    let made = empty.next(alloc, puts)?;
+    for &(number, kind, at, word) in wanted {
+        let words = made.words(u64::from(number));
+        if !is_page(kind, number, &words) || words[at % 64] != word {
+            return Ok(false);
+        }
+    }
+    Ok(made.count() as usize == wanted.len() + 1)
+}
+
+#[test]
+fn arrays_get_their_first_pages(rt: HostRuntime) -> Result<(), Fail> {
+    let alloc = rt.alloc();
+    let small = makes(
+        alloc,
+        4,
+        &[(3, Some(9))],
+        &[
+            (2, PageKind::ArrayLeaf { used: 4 }, 7, 9),
+            (3, PageKind::Catalogue, 18, 2),
+        ],
+    );
+    assert_eq!(rt; small, Ok(true));
+    let past_a_child = makes(
+        alloc,
+        2049,
+        &[(2048, Some(9))],
+        &[
+            (2, PageKind::ArrayLeaf { used: 1 }, 1, 9),
+            (3, PageKind::ArrayInner { used: 1 }, 0, 2),
+            (4, PageKind::ArrayInner { used: 2 }, 1, 3),
+            (5, PageKind::Catalogue, 18, 4),
+        ],
+    );
+    assert_eq!(rt; past_a_child, Ok(true));
+    let corners = makes(
+        alloc,
+        131_072,
+        &[
+            (131_071, Some(4)),
+            (0, Some(1)),
+            (129_024, Some(3)),
+            (2047, Some(2)),
+        ],
+        &[
+            (2, PageKind::ArrayLeaf { used: 32 }, 1, 1),
+            (3, PageKind::ArrayLeaf { used: 32 }, 63, 2),
+            (4, PageKind::ArrayInner { used: 64 }, 63, 3),
+            (5, PageKind::ArrayLeaf { used: 32 }, 1, 3),
+            (6, PageKind::ArrayLeaf { used: 32 }, 63, 4),
+            (7, PageKind::ArrayInner { used: 64 }, 0, 5),
+            (8, PageKind::ArrayInner { used: 64 }, 63, 7),
+            (9, PageKind::Catalogue, 18, 8),
+        ],
+    );
+    assert_eq!(rt; corners, Ok(true));
     Ok(())
 }
 

@@ -8,8 +8,9 @@ use super::*;
 use crate::build::build;
 use crate::row::Row;
 use lists::{Memory, OrMemory};
-use snapshots::{Change, fresh};
+use snapshots::{Change, Snapshots, fresh};
 use std::alloc::Global;
+use std::collections::{BTreeMap, BTreeSet};
 use std::test::Fail;
 use wire_form::{PageKind, is_page};
 
@@ -42,6 +43,19 @@ fn a_tree_gets_its_first_leaf(rt: HostRuntime) -> Result<(), Fail> {
 // The number and kind of a page, and one of its words.
 type Wanted = (u32, PageKind, usize, u64);
 
+// Whether pages are of these kinds and have these words, the last of all among them.
+fn has_pages(snapshots: &Snapshots, wanted: &[Wanted]) -> bool {
+    let mut last = 0;
+    for &(number, kind, at, word) in wanted {
+        let words = snapshots.words(u64::from(number));
+        if !is_page(kind, number, &words) || words[at % 64] != word {
+            return false;
+        }
+        last = number;
+    }
+    last == snapshots.count()
+}
+
 // Whether these puts make just these pages in an array that has none.
 fn makes(
     alloc: Global,
@@ -53,13 +67,7 @@ fn makes(
         return Err(OrMemory::Memory);
     };
     let made = empty.next(alloc, puts)?;
-    for &(number, kind, at, word) in wanted {
-        let words = made.words(u64::from(number));
-        if !is_page(kind, number, &words) || words[at % 64] != word {
-            return Ok(false);
-        }
-    }
-    Ok(made.count() as usize == wanted.len() + 1)
+    Ok(has_pages(&made, wanted))
 }
 
 #[test]
@@ -108,6 +116,192 @@ fn arrays_get_their_first_pages(rt: HostRuntime) -> Result<(), Fail> {
         ],
     );
     assert_eq!(rt; corners, Ok(true));
+    Ok(())
+}
+
+// Changes of the keys from 1 on: each is put as its own value, or removed.
+fn changes(alloc: Global, count: u64, put: bool) -> Result<Vec<Change>, Memory>
+    requires { count < 2 ^ 32 }
+{
+    let mut changes = Vec::new(alloc);
+    for i in 0..count {
+        let key = i + 1;
+        changes.push((key, if put { Some(key) } else { None }))?;
+    }
+    Ok(changes)
+}
+
+#[test]
+fn a_tree_keeps_pages_without_changes(rt: HostRuntime) -> Result<(), Fail> {
+    let alloc = rt.alloc();
+    let right = PageKind::TreeLeaf {
+        low: 10,
+        high: u64::MAX,
+    };
+    let left = PageKind::TreeLeaf { low: 0, high: 9 };
+    let above = PageKind::TreeInner {
+        low: 0,
+        high: u64::MAX,
+    };
+    let empty = fresh(alloc, 0).expect(&rt, "a tree");
+    let puts = changes(alloc, 17, true).expect(&rt, "17 puts");
+    let first = empty.next(alloc, &puts).expect(&rt, "17 records");
+    assert!(rt;
+        has_pages(
+            &first,
+            &[
+                (2, left, 0, 256 + 9),
+                (3, right, 0, 256 + 8),
+                (4, above, 34, 10),
+                (5, PageKind::Catalogue, 18, 4),
+            ]
+        )
+    );
+    // Page 2 stays, with page 6 beside it.
+    let second = first.next(alloc, &[(20, Some(20))]).expect(&rt, "one more");
+    assert!(rt;
+        has_pages(
+            &second,
+            &[
+                (6, right, 0, 256 + 9),
+                (7, above, 4, 2),
+                (7, above, 5, 6),
+                (8, PageKind::Catalogue, 18, 7),
+            ]
+        )
+    );
+    // A leaf that empties stays a leaf.
+    let removals = changes(alloc, 9, false).expect(&rt, "9 removals");
+    let third = second.next(alloc, &removals).expect(&rt, "an empty leaf");
+    assert!(rt;
+        has_pages(
+            &third,
+            &[
+                (9, left, 0, 256),
+                (10, above, 4, 9),
+                (10, above, 5, 6),
+                (11, PageKind::Catalogue, 2, 8),
+            ]
+        )
+    );
+    Ok(())
+}
+
+// Pseudo-random changes by a linear congruence, with some removals where there may be some.
+fn random_changes(
+    alloc: Global,
+    round: u64,
+    keys: u64,
+    stride: u64,
+    removals: bool,
+) -> Result<Vec<Change>, Memory>
+    requires { 0 < keys }
+{
+    let mut changes = Vec::new(alloc);
+    let mut random = round.wrapping_add(keys);
+    for i in 0..80 {
+        random = random
+            .wrapping_mul(6_364_136_223_846_793_005)
+            .wrapping_add(1_442_695_040_888_963_407);
+        let key = ((random >> 33) % keys).wrapping_mul(stride);
+        let value = if removals && (random >> 20) % 4 == 0 {
+            None
+        } else {
+            Some(100 * round.min(1000) + i)
+        };
+        changes.push((key, value))?;
+    }
+    Ok(changes)
+}
+
+// The changes, one after another, over a map.
+fn apply(model: &mut BTreeMap<u64, u64>, changes: &[Change]) -> Result<(), Memory> {
+    for &(key, value) in changes {
+        match value {
+            Some(value) => {
+                model.insert(key, value)?;
+            }
+            None => {
+                model.remove(&key);
+            }
+        }
+    }
+    Ok(())
+}
+
+// How many ranges of so many indexes have changes.
+fn ranges(alloc: Global, changes: &[Change], span: u64) -> Result<usize, Memory>
+    requires { 0 < span }
+{
+    let mut ranges = BTreeSet::new(alloc);
+    for &(key, _) in changes {
+        ranges.insert(key / span)?;
+    }
+    Ok(ranges.len())
+}
+
+// A page for each range of an array with changes, and a catalogue.
+fn array_pages(alloc: Global, size: u32, changes: &[Change]) -> Result<usize, Memory> {
+    let mut pages = ranges(alloc, changes, 32)?.wrapping_add(1);
+    if size > 32 {
+        pages = pages.wrapping_add(ranges(alloc, changes, 2048)?);
+    }
+    if size > 2048 {
+        pages = pages.wrapping_add(ranges(alloc, changes, 131_072)?);
+    }
+    Ok(pages)
+}
+
+// Whether the newest snapshot has the map's values at these keys.
+fn is_content(snapshots: &Snapshots, model: &BTreeMap<u64, u64>, keys: u64, stride: u64) -> bool {
+    for i in 0..keys {
+        let key = i.wrapping_mul(stride);
+        if snapshots.value(key) != model.get(&key).copied() {
+            return false;
+        }
+    }
+    true
+}
+
+// Whether rounds of pseudo-random changes leave what they leave in a map, over pages for just the ranges
+// with changes.
+fn random_rounds(
+    alloc: Global,
+    size: u32,
+    keys: u64,
+    stride: u64,
+) -> Result<bool, OrMemory<ComposeFault>>
+    requires { 0 < keys }
+{
+    let Ok(mut snapshots) = fresh(alloc, size) else {
+        return Err(OrMemory::Memory);
+    };
+    let mut model = BTreeMap::new(alloc);
+    for round in 0..6 {
+        let changes = random_changes(alloc, round, keys, stride, size == 0)?;
+        apply(&mut model, &changes)?;
+        let had = snapshots.count();
+        snapshots = snapshots.next(alloc, &changes)?;
+        let new = snapshots.count().wrapping_sub(had) as usize;
+        if size > 0 && new != array_pages(alloc, size, &changes)? {
+            return Ok(false);
+        }
+        if !is_content(&snapshots, &model, keys, stride) {
+            return Ok(false);
+        }
+    }
+    Ok(true)
+}
+
+#[test]
+fn random_rounds_are_those_of_a_map(rt: HostRuntime) -> Result<(), Fail> {
+    let alloc = rt.alloc();
+    // Arrays of one, two and three levels, and trees, one with keys far apart.
+    assert_eq!(rt; random_rounds(alloc, 32, 32, 1), Ok(true));
+    assert_eq!(rt; random_rounds(alloc, 2000, 2000, 1), Ok(true));
+    assert_eq!(rt; random_rounds(alloc, 131_072, 1024, 127), Ok(true));
+    assert_eq!(rt; random_rounds(alloc, 0, 60, 1), Ok(true));
+    assert_eq!(rt; random_rounds(alloc, 0, 1000, 1 << 54), Ok(true));
     Ok(())
 }
 

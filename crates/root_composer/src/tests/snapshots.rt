@@ -183,8 +183,63 @@ impl Snapshots {
         self.store.page(number as u32).words
     }
 
-    /// The root's page number.
-    pub fn root(&self) -> u64 {
-        self.words(u64::from(self.store.count()))[18]
+    // The words of the root.
+    fn root(&self) -> [u64; 64] {
+        self.words(self.words(u64::from(self.store.count()))[18])
     }
+
+    /// The value of a key, by the pages from the root on.
+    pub fn value(&self, key: u64) -> Option<u64> {
+        match self.decl {
+            Decl::Array { size, .. } => self.array_value(size, key),
+            Decl::Tree { .. } => self.tree_value(key),
+        }
+    }
+
+    fn array_value(&self, size: u32, index: u64) -> Option<u64> {
+        let mut words = self.root();
+        if size > 2048 {
+            words = self.words(words[(index / 2048 % 64) as usize]);
+        }
+        if size > 32 {
+            words = self.words(words[(index / 32 % 64) as usize]);
+        }
+        let at = 2 * (index % 32) as usize;
+        if words[at] == 0 {
+            None
+        } else {
+            Some(words[at + 1])
+        }
+    }
+
+    fn tree_value(&self, key: u64) -> Option<u64> {
+        let mut words = self.root();
+        for _ in 0..32 {
+            if words[0] / 256 == 2 {
+                words = self.words(child(&words, key));
+            }
+        }
+        value_in_leaf(&words, key)
+    }
+}
+
+// The child with a key, of an interior page of a tree.
+fn child(words: &[u64; 64], key: u64) -> u64 {
+    let mut child = words[4];
+    for i in 1..30 {
+        if (i as u64) < words[0] % 256 && words[33 + i] <= key {
+            child = words[4 + i];
+        }
+    }
+    child
+}
+
+// The value of a key in a leaf of a tree.
+fn value_in_leaf(words: &[u64; 64], key: u64) -> Option<u64> {
+    for i in 0..16 {
+        if (i as u64) < words[0] % 256 && words[16 + 3 * i] == key {
+            return Some(words[18 + 3 * i]);
+        }
+    }
+    None
 }

@@ -2,15 +2,17 @@
 ghost use Rattle.std.specs.Prelude.{◌^◌, ◌<◌, IfOk};
 ghost use Rattle.root_composer.specs.Rows.{Ascends};
 
+mod ranges;
 mod snapshots;
 
 use super::*;
 use crate::build::build;
 use crate::row::Row;
 use lists::{Memory, OrMemory};
+use ranges::{array_pages, one_leaf, tree_pages};
 use snapshots::{Change, Snapshots, fresh};
 use std::alloc::Global;
-use std::collections::{BTreeMap, BTreeSet};
+use std::collections::BTreeMap;
 use std::test::Fail;
 use wire_form::{PageKind, is_page};
 
@@ -229,29 +231,6 @@ fn apply(model: &mut BTreeMap<u64, u64>, changes: &[Change]) -> Result<(), Memor
     Ok(())
 }
 
-// How many ranges of so many indexes have changes.
-fn ranges(alloc: Global, changes: &[Change], span: u64) -> Result<usize, Memory>
-    requires { 0 < span }
-{
-    let mut ranges = BTreeSet::new(alloc);
-    for &(key, _) in changes {
-        ranges.insert(key / span)?;
-    }
-    Ok(ranges.len())
-}
-
-// A page for each range of an array with changes, and a catalogue.
-fn array_pages(alloc: Global, size: u32, changes: &[Change]) -> Result<usize, Memory> {
-    let mut pages = ranges(alloc, changes, 32)?.wrapping_add(1);
-    if size > 32 {
-        pages = pages.wrapping_add(ranges(alloc, changes, 2048)?);
-    }
-    if size > 2048 {
-        pages = pages.wrapping_add(ranges(alloc, changes, 131_072)?);
-    }
-    Ok(pages)
-}
-
 // Whether the newest snapshot has the map's values at these keys.
 fn is_content(snapshots: &Snapshots, model: &BTreeMap<u64, u64>, keys: u64, stride: u64) -> bool {
     for i in 0..keys {
@@ -277,13 +256,19 @@ fn random_rounds(
         return Err(OrMemory::Memory);
     };
     let mut model = BTreeMap::new(alloc);
+    let mut tree = one_leaf(alloc)?;
     for round in 0..6 {
         let changes = random_changes(alloc, round, keys, stride, size == 0)?;
         apply(&mut model, &changes)?;
         let had = snapshots.count();
         snapshots = snapshots.next(alloc, &changes)?;
-        let new = snapshots.count().wrapping_sub(had) as usize;
-        if size > 0 && new != array_pages(alloc, size, &changes)? {
+        let (pages, ranges) = tree_pages(alloc, tree, &model, &changes)?;
+        tree = ranges;
+        let wanted = match size {
+            0 => pages,
+            _ => array_pages(alloc, size, &changes)?,
+        };
+        if snapshots.count().wrapping_sub(had) as usize != wanted {
             return Ok(false);
         }
         if !is_content(&snapshots, &model, keys, stride) {

@@ -23,4 +23,4 @@ pub mod TreeSteps
 pub mod BuildSteps
 pub mod WordLemmas
 pub mod TreePlaces
-pub mod FreshTree
+pub mod FreshSnapshots

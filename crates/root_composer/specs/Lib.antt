@@ -9,3 +9,4 @@ pub mod Rows
 pub mod Build
 pub mod Shape
 pub mod TreeCode
+pub mod Newest

@@ -1,101 +1,292 @@
 // Compositions worked by hand.
-ghost use Rattle.std.specs.Prelude.{◌≡◌, ◌^◌, ◌<◌, ◌≤◌, [], ◌∷◌, IfOk};
-ghost use Rattle.serial_model.specs.declared.decl.Decl.TheVariants.{Tree};
-ghost use Rattle.wire_form.specs.Pages.{Contents, catalogue_words};
-ghost use Rattle.snapshot_store.specs.Content.{words_of};
+ghost use Rattle.std.specs.Prelude.{◌^◌, ◌<◌, IfOk};
 ghost use Rattle.root_composer.specs.Rows.{Ascends};
+
+mod ranges;
+mod snapshots;
 
 use super::*;
 use crate::build::build;
 use crate::row::Row;
-use lists::{Memory, OrMemory, Sequence};
-use outside::MemDisk;
-use serial_model::{Decl, Key, Number};
-use snapshot_store::{SnapStore, StoreFault};
-use std::alloc::{AllocError, Global};
+use lists::{Memory, OrMemory};
+use ranges::{array_pages, one_leaf, tree_pages};
+use snapshots::{Change, Snapshots, fresh};
+use std::alloc::Global;
+use std::collections::BTreeMap;
 use std::test::Fail;
-use wire_form::{Entry, Page, PageKind, Run, Stored, catalogue_words};
-
-// A store with one page.
-fn one_page(
-    alloc: Global,
-    disk: &mut MemDisk,
-    words: [u64; 64],
-) -> Result<SnapStore, OrMemory<StoreFault>>
-    ensures { IfOk result (λ store. words_of store.pages ≡ words ∷ []) }
-{
-    let mut store = SnapStore::load(alloc, disk, 0)?;
-    let page = Page {
-        number: 1,
-        kind: PageKind::Catalogue,
-        words,
-    };
-    store.append(disk, &[page])?;
-    Ok(store)
-}
-
-// A run of one entry.
-fn one_entry(alloc: Global, entry: Entry) -> Result<Run, AllocError>
-    ensures { IfOk result (λ run. run ≡ entry ∷ []) }
-{
-    let mut entries = Vec::new(alloc);
-    entries.push(entry)?;
-    Ok(Sequence::from_vec(entries))
-}
-
-// A put at key 5 of tree 2, which has no pages yet.
-fn first_put(
-    alloc: Global,
-    store: &SnapStore,
-    room: u32,
-) -> Result<NewPages, OrMemory<ComposeFault>>
-    requires tree { let contents : Contents = record {
-      epoch = 0;
-      previous = 0;
-      storages = record { decl = Tree 2; root = 0 } ∷ [];
-    } in words_of store.now.pages ≡ catalogue_words contents ∷ [] }
-    requires room { room ≤ 65536 }
-{
-    let put = Entry {
-        key: Key { storage: 2, key: 5 },
-        number: Number { epoch: 1, draw: 1 },
-        value: Some(7),
-    };
-    let Ok(entries) = one_entry(alloc, put) else {
-        return Err(OrMemory::Memory);
-    };
-    compose(alloc, store, 1, &entries, 1, room)
-}
+use wire_form::{PageKind, is_page};
 
 #[test]
 fn a_tree_gets_its_first_leaf(rt: HostRuntime) -> Result<(), Fail> {
     let alloc = rt.alloc();
-    let mut disk = MemDisk::new(alloc, Vec::new(alloc), Vec::new(alloc))?;
-    let tree = Stored {
-        decl: Decl::Tree { id: 2 },
-        root: 0,
-    };
-    let words = catalogue_words(0, 0, &[tree]);
-    let store = one_page(alloc, &mut disk, words).expect(&rt, "one page");
-    let made = first_put(alloc, &store, 3).expect(&rt, "room for three pages");
-    let [leaf, catalogue] = made.as_slice() else {
-        panic!(rt; "two pages");
-    };
-    // The leaf has the whole range, and 5 = 7 by 1:1; the catalogue names it, and the one before.
-    let mut want = [0; 64];
-    (want[0], want[2]) = (257, u64::MAX);
-    (want[16], want[17], want[18]) = (5, 1_099_511_627_777, 7);
-    assert_eq!(rt; (leaf.number, leaf.words), (2, want));
-    let mut want = [0; 64];
-    (want[0], want[1], want[2]) = (0x4341_5400_0000_0001, 1, 1);
-    (want[16], want[18]) = (514, 2);
-    assert_eq!(rt; (catalogue.number, catalogue.words), (3, want));
+    let empty = fresh(alloc, 0).expect(&rt, "a tree");
+    let put = [(5, Some(7))];
     let full = ComposeFault::Limit {
         have: 1,
         new: 2,
         room: 2,
     };
-    assert!(rt; first_put(alloc, &store, 2).err() == Some(OrMemory::Fault(full)));
+    assert!(rt; empty.new_pages(alloc, &put, 2).err() == Some(OrMemory::Fault(full)));
+    assert!(rt; empty.new_pages(alloc, &put, 3).is_ok());
+    let made = empty.next(alloc, &put).expect(&rt, "two pages");
+    // The leaf has the whole range, and 5 = 7 by 1:1; the catalogue names it, and the one before.
+    let mut want = [0; 64];
+    (want[0], want[2]) = (257, u64::MAX);
+    (want[16], want[17], want[18]) = (5, 1_099_511_627_777, 7);
+    assert_eq!(rt; made.words(2), want);
+    let mut want = [0; 64];
+    (want[0], want[1], want[2]) = (0x4341_5400_0000_0001, 1, 1);
+    (want[16], want[18]) = (514, 2);
+    assert_eq!(rt; made.words(3), want);
+    assert_eq!(rt; made.count(), 3);
+    Ok(())
+}
+
+// The number and kind of a page, and one of its words.
+type Wanted = (u32, PageKind, usize, u64);
+
+// Whether pages are of these kinds and have these words, the last of all among them.
+fn has_pages(snapshots: &Snapshots, wanted: &[Wanted]) -> bool {
+    let mut last = 0;
+    for &(number, kind, at, word) in wanted {
+        let words = snapshots.words(u64::from(number));
+        if !is_page(kind, number, &words) || words[at % 64] != word {
+            return false;
+        }
+        last = number;
+    }
+    last == snapshots.count()
+}
+
+// Whether these puts make just these pages in an array that has none.
+fn makes(
+    alloc: Global,
+    size: u32,
+    puts: &[Change],
+    wanted: &[Wanted],
+) -> Result<bool, OrMemory<ComposeFault>> {
+    let Ok(empty) = fresh(alloc, size) else {
+        return Err(OrMemory::Memory);
+    };
+    let made = empty.next(alloc, puts)?;
+    Ok(has_pages(&made, wanted))
+}
+
+#[test]
+fn arrays_get_their_first_pages(rt: HostRuntime) -> Result<(), Fail> {
+    let alloc = rt.alloc();
+    let small = makes(
+        alloc,
+        4,
+        &[(3, Some(9))],
+        &[
+            (2, PageKind::ArrayLeaf { used: 4 }, 7, 9),
+            (3, PageKind::Catalogue, 18, 2),
+        ],
+    );
+    assert_eq!(rt; small, Ok(true));
+    let past_a_child = makes(
+        alloc,
+        2049,
+        &[(2048, Some(9))],
+        &[
+            (2, PageKind::ArrayLeaf { used: 1 }, 1, 9),
+            (3, PageKind::ArrayInner { used: 1 }, 0, 2),
+            (4, PageKind::ArrayInner { used: 2 }, 1, 3),
+            (5, PageKind::Catalogue, 18, 4),
+        ],
+    );
+    assert_eq!(rt; past_a_child, Ok(true));
+    let corners = makes(
+        alloc,
+        131_072,
+        &[
+            (131_071, Some(4)),
+            (0, Some(1)),
+            (129_024, Some(3)),
+            (2047, Some(2)),
+        ],
+        &[
+            (2, PageKind::ArrayLeaf { used: 32 }, 1, 1),
+            (3, PageKind::ArrayLeaf { used: 32 }, 63, 2),
+            (4, PageKind::ArrayInner { used: 64 }, 63, 3),
+            (5, PageKind::ArrayLeaf { used: 32 }, 1, 3),
+            (6, PageKind::ArrayLeaf { used: 32 }, 63, 4),
+            (7, PageKind::ArrayInner { used: 64 }, 0, 5),
+            (8, PageKind::ArrayInner { used: 64 }, 63, 7),
+            (9, PageKind::Catalogue, 18, 8),
+        ],
+    );
+    assert_eq!(rt; corners, Ok(true));
+    Ok(())
+}
+
+// Changes of the keys from 1 on: each is put as its own value, or removed.
+fn changes(alloc: Global, count: u64, put: bool) -> Result<Vec<Change>, Memory>
+    requires { count < 2 ^ 32 }
+{
+    let mut changes = Vec::new(alloc);
+    for i in 0..count {
+        let key = i + 1;
+        changes.push((key, if put { Some(key) } else { None }))?;
+    }
+    Ok(changes)
+}
+
+#[test]
+fn a_tree_keeps_pages_without_changes(rt: HostRuntime) -> Result<(), Fail> {
+    let alloc = rt.alloc();
+    let right = PageKind::TreeLeaf {
+        low: 10,
+        high: u64::MAX,
+    };
+    let left = PageKind::TreeLeaf { low: 0, high: 9 };
+    let above = PageKind::TreeInner {
+        low: 0,
+        high: u64::MAX,
+    };
+    let empty = fresh(alloc, 0).expect(&rt, "a tree");
+    let puts = changes(alloc, 17, true).expect(&rt, "17 puts");
+    let first = empty.next(alloc, &puts).expect(&rt, "17 records");
+    assert!(rt;
+        has_pages(
+            &first,
+            &[
+                (2, left, 0, 256 + 9),
+                (3, right, 0, 256 + 8),
+                (4, above, 34, 10),
+                (5, PageKind::Catalogue, 18, 4),
+            ]
+        )
+    );
+    // Page 2 stays, with page 6 beside it.
+    let second = first.next(alloc, &[(20, Some(20))]).expect(&rt, "one more");
+    assert!(rt;
+        has_pages(
+            &second,
+            &[
+                (6, right, 0, 256 + 9),
+                (7, above, 4, 2),
+                (7, above, 5, 6),
+                (8, PageKind::Catalogue, 18, 7),
+            ]
+        )
+    );
+    // A leaf that empties stays a leaf.
+    let removals = changes(alloc, 9, false).expect(&rt, "9 removals");
+    let third = second.next(alloc, &removals).expect(&rt, "an empty leaf");
+    assert!(rt;
+        has_pages(
+            &third,
+            &[
+                (9, left, 0, 256),
+                (10, above, 4, 9),
+                (10, above, 5, 6),
+                (11, PageKind::Catalogue, 2, 8),
+            ]
+        )
+    );
+    Ok(())
+}
+
+// Pseudo-random changes by a linear congruence, with some removals where there may be some.
+fn random_changes(
+    alloc: Global,
+    round: u64,
+    keys: u64,
+    stride: u64,
+    removals: bool,
+) -> Result<Vec<Change>, Memory>
+    requires { 0 < keys }
+{
+    let mut changes = Vec::new(alloc);
+    let mut random = round.wrapping_add(keys);
+    for i in 0..80 {
+        random = random
+            .wrapping_mul(6_364_136_223_846_793_005)
+            .wrapping_add(1_442_695_040_888_963_407);
+        let key = ((random >> 33) % keys).wrapping_mul(stride);
+        let value = if removals && (random >> 20) % 4 == 0 {
+            None
+        } else {
+            Some(100 * round.min(1000) + i)
+        };
+        changes.push((key, value))?;
+    }
+    Ok(changes)
+}
+
+// The changes, one after another, over a map.
+fn apply(model: &mut BTreeMap<u64, u64>, changes: &[Change]) -> Result<(), Memory> {
+    for &(key, value) in changes {
+        match value {
+            Some(value) => {
+                model.insert(key, value)?;
+            }
+            None => {
+                model.remove(&key);
+            }
+        }
+    }
+    Ok(())
+}
+
+// Whether the newest snapshot has the map's values at these keys.
+fn is_content(snapshots: &Snapshots, model: &BTreeMap<u64, u64>, keys: u64, stride: u64) -> bool {
+    for i in 0..keys {
+        let key = i.wrapping_mul(stride);
+        if snapshots.value(key) != model.get(&key).copied() {
+            return false;
+        }
+    }
+    true
+}
+
+// Whether rounds of pseudo-random changes leave what they leave in a map, over pages for just the ranges
+// with changes.
+fn random_rounds(
+    alloc: Global,
+    size: u32,
+    keys: u64,
+    stride: u64,
+) -> Result<bool, OrMemory<ComposeFault>>
+    requires { 0 < keys }
+{
+    let Ok(mut snapshots) = fresh(alloc, size) else {
+        return Err(OrMemory::Memory);
+    };
+    let mut model = BTreeMap::new(alloc);
+    let mut tree = one_leaf(alloc)?;
+    for round in 0..6 {
+        let changes = random_changes(alloc, round, keys, stride, size == 0)?;
+        apply(&mut model, &changes)?;
+        let had = snapshots.count();
+        snapshots = snapshots.next(alloc, &changes)?;
+        let (pages, ranges) = tree_pages(alloc, tree, &model, &changes)?;
+        tree = ranges;
+        let wanted = match size {
+            0 => pages,
+            _ => array_pages(alloc, size, &changes)?,
+        };
+        if snapshots.count().wrapping_sub(had) as usize != wanted {
+            return Ok(false);
+        }
+        if !is_content(&snapshots, &model, keys, stride) {
+            return Ok(false);
+        }
+    }
+    Ok(true)
+}
+
+#[test]
+fn random_rounds_are_those_of_a_map(rt: HostRuntime) -> Result<(), Fail> {
+    let alloc = rt.alloc();
+    // Arrays of one, two and three levels, and trees, one with keys far apart.
+    assert_eq!(rt; random_rounds(alloc, 32, 32, 1), Ok(true));
+    assert_eq!(rt; random_rounds(alloc, 2000, 2000, 1), Ok(true));
+    assert_eq!(rt; random_rounds(alloc, 131_072, 1024, 127), Ok(true));
+    assert_eq!(rt; random_rounds(alloc, 0, 60, 1), Ok(true));
+    assert_eq!(rt; random_rounds(alloc, 0, 1000, 1 << 54), Ok(true));
     Ok(())
 }
 

@@ -1,6 +1,6 @@
 use Rattle.std.proofs.Common.{sym, subst, arith}
 use Rattle.root_composer.specs.Rows.{Ascends}
-use Rattle.root_composer.proofs.FreshTree.{ascends_wider}
+use Rattle.root_composer.proofs.FreshSnapshots.{ascends_wider}
 use Rattle.root_composer.proofs.tests.built.Goals as goal
 
 pub build-requires-clause-ascends : goal.build-requires-clause-ascends

@@ -1,6 +1,6 @@
 use Rattle.std.proofs.Common.{◌+◌, sym, subst, arith}
 use Rattle.root_composer.specs.Rows.{Ascends}
-use Rattle.root_composer.proofs.FreshTree.{row_behind}
+use Rattle.root_composer.proofs.FreshSnapshots.{row_behind}
 use Rattle.root_composer.proofs.tests.rows.Goals as goal
 
 pub loop-i-preserved : goal.loop-i-preserved

@@ -1,0 +1,207 @@
+-- Snapshots of one storage, as tests compose them one after another: the first, without pages, and each next one.
+use Rattle.std.proofs.Common.{◌≡◌, ℕ, ◌+◌, ◌-◌, ◌*◌, ◌/◌, ◌^◌, ◌<◌, ◌≤◌, zero, suc, true, false, List, [], ◌∷◌, ◌++◌, length, map, refl, sym, ap, subst, ◌∙◌, arith, leb}
+use Rattle.std.specs.Prelude.{cond}
+use Rattle.std.specs.List.{AllByRecursion, Contains}
+use Rattle.std.proofs.lemmas.List.{length-append, length-map, map-append, append-nil}
+use Rattle.serial_model.specs.Decls.{IsDecl}
+use Rattle.serial_model.specs.Keys.{IsKeyBelow}
+use Rattle.serial_model.specs.Numbers.{last_epoch}
+use Rattle.serial_model.specs.declared.decl.Decl.{Decl}
+use Rattle.serial_model.specs.declared.decl.Decl.TheVariants.{Array, Tree}
+use Rattle.wire_form.specs.declared.bucket.Bucket.{Bucket}
+use Rattle.wire_form.specs.declared.bucket.Entry.{Entry}
+use Rattle.wire_form.specs.declared.page.Page.{Page}
+use Rattle.wire_form.specs.declared.records.Stored.{Stored}
+use Rattle.wire_form.specs.Items.{Rises}
+use Rattle.wire_form.specs.Pages.{Contents, IsCatalogue, catalogue_words, decls_of, stored_decl}
+use Rattle.snapshot_store.specs.declared.place.Place.{Place}
+use Rattle.snapshot_store.specs.Places.{StandsTo, Cover, Tiles}
+use Rattle.snapshot_store.specs.ArrayPages.{fan, leaf_room, span_of, row, array_below}
+use Rattle.snapshot_store.specs.TreePages.{tree_format, IsTreePage}
+use Rattle.snapshot_store.specs.Content.{deepest, last_index, words_of, RootStands, SnapshotStands}
+use Rattle.log_reducer.specs.declared.latest.Logged.{Logged}
+use Rattle.log_reducer.specs.Reduced.{logged_as, all_logged, entry_key, AreLast}
+use Rattle.root_composer.specs.declared.row.Row.{Row}
+use Rattle.root_composer.specs.Rows.{Ascends}
+use Rattle.root_composer.specs.ArrayCode.{ArrayStands}
+use Rattle.root_composer.specs.Storages.{AreComposed}
+use Rattle.root_composer.specs.Composition.{IsEntryOf, CanCompose, IsComposed}
+use Rattle.root_composer.specs.Newest.{IsNewest}
+use Rattle.root_composer.proofs.ArrayLaw.{fan_is, room_is, fits, too_wide}
+use Rattle.root_composer.proofs.StorageSteps.{deepest_is}
+
+-- ---- the first
+
+-- what its catalogue says
+abbrev pub no_pages : Decl → Contents
+no_pages d = record { epoch = 0; previous = 0; storages = record { decl = d; root = 0 } ∷ [] }
+
+is_catalogue : (d : Decl) → IsDecl d → IsCatalogue 1 (no_pages d)
+is_catalogue d is = record {
+  epoch = omega arith;
+  previous = omega arith;
+  most = omega arith;
+  each = (record { decl = is; root = omega arith }, tt);
+  rising = (tt, tt);
+}
+
+no_tree : (pages : List (List ℕ)) (d high : ℕ) → StandsTo tree_format IsTreePage pages (suc d) (record { number = 0; low = 0; high = high })
+no_tree pages d high = record {
+  there = omega arith;
+  right = record { none = λ e. refl; page = λ h. absurd (omega (arith, h)) };
+  tiles = tt;
+  below = tt;
+}
+
+-- a range of an array for which no page stands
+abbrev no_page : ℕ → ℕ → Place
+no_page low span = record { number = 0; low = low; high = low + (span - 1) }
+
+span_is : (low span : ℕ) → 0 < span → span_of low (low + (span - 1)) ≡ span
+span_is low span some = omega arith
+
+no_leaf : (size : ℕ) (pages : List (List ℕ)) (d low : ℕ) → ArrayStands size pages (suc d) (no_page low 32)
+no_leaf size pages d low =
+    let narrow : span_of low (low + (32 - 1)) ≤ leaf_room = omega (arith, room_is) in
+    let leaf : array_below [] low (low + (32 - 1)) ≡ [] =
+    ap (λ b. cond b [] (row [] (span_of low (low + (32 - 1)) / fan) low fan)) (fits (span_of low (low + (32 - 1))) leaf_room narrow) in
+    record {
+      there = omega arith;
+      right = record { none = λ e. refl; page = λ h. absurd (omega (arith, h)) };
+      tiles = subst (Tiles low (low + (32 - 1))) (sym leaf) tt;
+      below = subst (AllByRecursion (ArrayStands size pages d)) (sym leaf) tt;
+    }
+
+empty_row : (P : Place → Type 0) (part low n : ℕ) → ((at : ℕ) → P (no_page at part)) → AllByRecursion P (row [] part low n)
+empty_row P part low zero each = tt
+empty_row P part low (suc n) each = (each low, empty_row P part (low + part) n each)
+
+-- so many parts of a length
+abbrev parts : ℕ → ℕ → ℕ
+parts part zero = 0
+parts part (suc n) = part + parts part n
+
+covered : (part low high n : ℕ) → 0 < part → low + parts part n ≡ high + 1 → Cover low high (row [] part low n)
+covered part low high zero some end = omega (arith, end)
+covered part low high (suc n) some end =
+    let next : low + part ≡ low + (part - 1) + 1 = omega arith in
+    let rest : low + (part + parts part n) ≡ high + 1 = end in
+    (refl, omega arith, omega (arith, rest), subst (λ (x : ℕ). Cover x high (row [] part (low + part) n)) next (covered part (low + part) high n some (omega (arith, rest))))
+
+tiled : (part low high n : ℕ) → 0 < n → Cover low high (row [] part low n) → Tiles low high (row [] part low n)
+tiled part low high zero some cover = absurd (omega (arith, some))
+tiled part low high (suc n) some cover = cover
+
+no_inner : (size : ℕ) (pages : List (List ℕ)) (d low span part : ℕ) → 32 < span → 0 < part → span ≡ 64 * part → span / 64 ≡ part → ((at : ℕ) → ArrayStands size pages d (no_page at part)) → ArrayStands size pages (suc d) (no_page low span)
+no_inner size pages d low span part wide some whole part_is each =
+    let is = span_is low span (omega (arith, wide)) in
+    let more : leaf_room < span_of low (low + (span - 1)) = omega (arith, room_is, wide, is) in
+    let each_part : span_of low (low + (span - 1)) / fan ≡ part = ap (λ x. x / fan) is ∙ ap (λ k. span / k) fan_is ∙ part_is in
+    let below : array_below [] low (low + (span - 1)) ≡ row [] part low fan =
+    ap (λ b. cond b [] (row [] (span_of low (low + (span - 1)) / fan) low fan)) (too_wide (span_of low (low + (span - 1))) leaf_room more)
+    ∙ ap (λ k. row [] k low fan) each_part in
+    let end : low + parts part 64 ≡ low + (span - 1) + 1 = omega (arith, whole, wide) in
+    let all : low + parts part fan ≡ low + (span - 1) + 1 = ap (λ k. low + parts part k) fan_is ∙ end in
+    record {
+      there = omega arith;
+      right = record { none = λ e. refl; page = λ h. absurd (omega (arith, h)) };
+      tiles = subst (Tiles low (low + (span - 1))) (sym below) (tiled part low (low + (span - 1)) fan (omega (arith, fan_is)) (covered part low (low + (span - 1)) fan some all));
+      below = subst (AllByRecursion (ArrayStands size pages d)) (sym below) (empty_row (ArrayStands size pages d) part low fan each);
+    }
+
+no_array : (size : ℕ) (pages : List (List ℕ)) (d : ℕ) → ArrayStands size pages (suc (suc (suc d))) (record { number = 0; low = 0; high = last_index size })
+no_array size pages d =
+    let leaves = no_inner size pages (suc d) 0 2048 32 (omega arith) (omega arith) refl refl (no_leaf size pages d) in
+    let inners = no_inner size pages (suc (suc d)) 0 131072 2048 (omega arith) (omega arith) refl refl
+    (λ at. no_inner size pages (suc d) at 2048 32 (omega arith) (omega arith) refl refl (no_leaf size pages d)) in
+    elim (leb size 32) as (λ b. ArrayStands size pages (suc (suc (suc d))) (record { number = 0; low = 0; high = cond {A = ℕ} b 31 (cond {A = ℕ} (leb size 2048) 2047 131071) })) [
+      | true ↦ no_leaf size pages (suc (suc d)) 0
+      | false ↦ elim (leb size 2048) as (λ b. ArrayStands size pages (suc (suc (suc d))) (record { number = 0; low = 0; high = cond {A = ℕ} b 2047 131071 })) [
+        | true ↦ no_inner size pages (suc (suc d)) 0 2048 32 (omega arith) (omega arith) refl refl (no_leaf size pages (suc d))
+        | false ↦ inners
+      ]
+    ]
+
+no_root : (pages : List (List ℕ)) (d : Decl) → RootStands pages (record { decl = d; root = 0 })
+no_root pages (Array id size) =
+    let some : 32 ≡ deepest = sym deepest_is in
+    subst (λ (k : ℕ). ArrayStands size pages k (record { number = 0; low = 0; high = last_index size })) some (no_array size pages 29)
+no_root pages (Tree id) =
+    let some : 32 ≡ deepest = sym deepest_is in
+    subst (λ (k : ℕ). StandsTo tree_format IsTreePage pages k (record { number = 0; low = 0; high = 2 ^ 64 - 1 })) some (no_tree pages 31 (2 ^ 64 - 1))
+
+-- a store whose only page is the catalogue of a storage without pages
+pub first_stands : (old new : List Page) (p : Page) (d : Decl) → IsDecl d → length old ≡ 0 → new ≡ old ++ p ∷ [] → p.words ≡ catalogue_words (no_pages d) → IsNewest d 0 (words_of new)
+first_stands [] new p d is none same words =
+    let only : words_of new ≡ catalogue_words (no_pages d) ∷ [] = ap words_of same ∙ ap (λ w. w ∷ []) words in
+    subst (IsNewest d 0) (sym only) (
+      no_pages d,
+      record {
+        here = record { there = omega arith; catalogue = is_catalogue d is; words = refl };
+        roots = (no_root (catalogue_words (no_pages d) ∷ []) d, tt);
+      },
+      refl,
+      refl,
+    )
+first_stands (q ∷ qs) new p d is none same words = absurd (omega (arith, none))
+
+-- ---- each next one
+
+all_contained : {X : Type 0} (P : X → Type 0) (xs : List X) → ((x : X) → Contains xs x → P x) → AllByRecursion P xs
+all_contained P [] each = tt
+all_contained P (x ∷ xs) each = (each x (0, omega arith, refl), all_contained P xs (λ y has. each y (suc has.0, omega (arith, has.1), has.2)))
+
+contained : {X : Type 0} (P : X → Type 0) (xs : List X) (y : X) → AllByRecursion P xs → Contains xs y → P y
+contained P [] y all has = absurd (omega (arith, has.1))
+contained P (x ∷ xs) y all (zero, h, e) = subst P e all.0
+contained P (x ∷ xs) y all (suc k, h, e) = contained P xs y all.1 (k, omega (arith, h), e)
+
+all_logged_as : (P : Entry → Type 0) (bank : ℕ) (es : List Entry) → AllByRecursion P es → AllByRecursion (λ (f : Logged). P f.entry) (map (logged_as bank) es)
+all_logged_as P bank [] all = tt
+all_logged_as P bank (e ∷ es) all = (all.0, all_logged_as P bank es all.1)
+
+-- the run of entries of one log file has entries of it
+pub all_last : (P : Entry → Type 0) (b : Bucket) (run : List Entry) → AllByRecursion P b.entries → AreLast (all_logged (b ∷ [])) run → AllByRecursion P run
+all_last P b run all last =
+    let logged : AllByRecursion (λ (f : Logged). P f.entry) (all_logged (b ∷ [])) =
+    subst (AllByRecursion (λ (f : Logged). P f.entry)) (sym (append-nil (map (logged_as b.bank) b.entries))) (all_logged_as P b.bank b.entries all) in
+    all_contained P run (λ r has.
+    let f = last.latest r has in
+    subst P f.2 (contained (λ (g : Logged). P g.entry) (all_logged (b ∷ [])) f.0 logged f.1))
+
+pub can_go_on : (old : List Page) (d : Decl) (epoch number : ℕ) (run : List Entry) (newest : IsNewest d epoch (words_of old)) → number ≡ length old → AllByRecursion (IsEntryOf (d ∷ []) (epoch + 1)) run
+    → Rises IsKeyBelow (map entry_key run) → epoch + 1 < last_epoch → CanCompose (words_of old) number newest.0 run (epoch + 1)
+can_go_on old d epoch number run newest same each rising last = record {
+  stands = subst (λ (k : ℕ). SnapshotStands (words_of old) k newest.0) (length-map old (λ (p : Page). p.words) ∙ sym same) newest.1;
+  entries = subst (λ (ds : List Decl). AllByRecursion (IsEntryOf ds (epoch + 1)) run) (sym newest.2) each;
+  rising = rising;
+  later = omega (arith, newest.3);
+  last = last;
+}
+
+decls_stay : (run : List Entry) (old new : List (List ℕ)) (d : ℕ) (ss ts : List Stored) → AreComposed run old new d ss ts → map stored_decl ts ≡ map stored_decl ss
+decls_stay run old new d [] [] all = refl
+decls_stay run old new d [] (t ∷ ts) all = absurd all
+decls_stay run old new d (s ∷ ss) [] all = absurd all
+decls_stay run old new d (s ∷ ss) (t ∷ ts) all = ap (λ x. x ∷ map stored_decl ts) all.0.same ∙ ap (λ l. s.decl ∷ l) (decls_stay run old new d ss ts all.1)
+
+pub next_stands : (old made : List Page) (d : Decl) (epoch number : ℕ) (run : List Entry) (contents : Contents) → decls_of contents ≡ d ∷ [] → IsComposed run (epoch + 1) number contents (words_of old) (words_of made)
+    → IsNewest d (epoch + 1) (words_of (old ++ made))
+next_stands old made d epoch number run contents decls composed =
+    subst (IsNewest d (epoch + 1)) (sym (map-append (λ (p : Page). p.words) old made)) (
+      record { epoch = epoch + 1; previous = number; storages = composed.storages },
+      subst (λ (k : ℕ). SnapshotStands (words_of old ++ words_of made) k (record { epoch = epoch + 1; previous = number; storages = composed.storages }))
+          (sym (length-append (words_of old) (words_of made))) composed.stands,
+      decls_stay run (words_of old) (words_of old ++ words_of made) deepest contents.storages composed.storages composed.each ∙ decls,
+      refl,
+    )
+
+-- ---- rows
+
+pub row_behind : (low high : ℕ) (rs : List Row) (r : Row) → Ascends low high rs → low ≤ r.key → high < r.key → Ascends low r.key (rs ++ r ∷ [])
+row_behind low high [] r a p q = (p, omega arith, tt)
+row_behind low high (s ∷ ss) r a p q = (a.0, omega (arith, a.1), row_behind (s.key + 1) high ss r a.2 (omega (arith, a.1)) q)
+
+pub ascends_wider : (low high l h : ℕ) (rs : List Row) → l ≤ low → high ≤ h → Ascends low high rs → Ascends l h rs
+ascends_wider low high l h [] p q a = tt
+ascends_wider low high l h (r ∷ rs) p q a = (omega (arith, a.0), omega (arith, a.1), ascends_wider (r.key + 1) high (r.key + 1) h rs (omega arith) q a.2)

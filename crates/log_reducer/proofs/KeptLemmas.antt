@@ -228,18 +228,7 @@ kept_of-append key old (x ∷ xs) ys = kept_of-append key (kept_at key old x) xs
 compared : (a b : Key) → is_eq (key_cmp a b) ≡ is_key a b
 compared a b = grind (arith, nat_tests)
 
--- what is kept stays, where the new entry isn't the latest
-pub keeps_old : (o : Key → Option Logged) (new : Logged) → is_latest (o new.entry.key) new ≡ false → (key : Key) → o key ≡ kept_at key (o key) new
-keeps_old o new older key =
-    elim (is_key new.entry.key key) as (λ b. is_key new.entry.key key ≡ b → o key ≡ cond b (cond (is_latest (o key) new) (Some new) (o key)) (o key)) [
-      | true ↦ λ t.
-          let same = key_is new.entry.key key t in
-          let test : is_latest (o key) new ≡ false = ap (λ k. is_latest (o k) new) (sym same) ∙ older in
-          ap (λ b. cond b (Some new) (o key)) (sym test)
-      | false ↦ λ t. refl
-    ] refl
-
--- and the latest takes its place
+-- the latest takes the place of what was kept
 pub keeps_new : (o p : Key → Option Logged) (new : Logged) → is_latest (o new.entry.key) new ≡ true
     → ((key : Key) → p key ≡ cond (is_eq (key_cmp new.entry.key key)) (Some new) (o key)) → (key : Key) → p key ≡ kept_at key (o key) new
 keeps_new o p new newer updates key =
@@ -250,6 +239,22 @@ keeps_new o p new newer updates key =
           let same = key_is new.entry.key key t in
           let test : is_latest (o key) new ≡ true = ap (λ k. is_latest (o k) new) (sym same) ∙ newer in
           ap (λ b. cond b (Some new) (o key)) (sym test)
+      | false ↦ λ t. refl
+    ] refl)
+
+-- and what was kept is put back, where it is later
+pub keeps_old : (o p q : Key → Option Logged) (new old : Logged) → o new.entry.key ≡ Some old → is_no_later old new ≡ false
+    → ((key : Key) → p key ≡ cond (is_eq (key_cmp new.entry.key key)) (Some new) (o key))
+    → ((key : Key) → q key ≡ cond (is_eq (key_cmp new.entry.key key)) (Some old) (p key)) → (key : Key) → q key ≡ kept_at key (o key) new
+keeps_old o p q new old was later puts again key =
+    again key
+    ∙ ap (cond (is_eq (key_cmp new.entry.key key)) (Some old)) (puts key)
+    ∙ ap (λ b. cond b (Some old) (cond b (Some new) (o key))) (compared new.entry.key key)
+    ∙ (elim (is_key new.entry.key key) as (λ b. is_key new.entry.key key ≡ b → cond b (Some old) (cond b (Some new) (o key)) ≡ cond b (cond (is_latest (o key) new) (Some new) (o key)) (o key)) [
+      | true ↦ λ t.
+          let same : o key ≡ Some old = ap o (sym (key_is new.entry.key key t)) ∙ was in
+          let test : is_latest (o key) new ≡ false = ap (λ x. is_latest x new) same ∙ later in
+          sym same ∙ ap (λ b. cond b (Some new) (o key)) (sym test)
       | false ↦ λ t. refl
     ] refl)
 

@@ -35,12 +35,12 @@ fn keep_entries(
 }
 
 // The entries of a map, ascending by key.
-fn entries_of(alloc: Global, mut latest: BTreeMap<Key, Logged>) -> Result<Vec<Entry>, Memory>
-    ensures entries { IfOk result (λ entries. entries.items ≡ map entry_in (tree.values latest)) }
-    ensures ordered { tree.IsOrdered key_cmp latest }
+fn entries_of(alloc: Global, latest: &BTreeMap<Key, Logged>) -> Result<Vec<Entry>, Memory>
+    ensures entries { IfOk result (λ entries. entries.items ≡ map entry_in (tree.values latest.now)) }
+    ensures ordered { tree.IsOrdered key_cmp latest.now }
 {
     let mut entries = Vec::with_capacity(alloc, latest.len())?;
-    while let Some((_, logged)) = latest.pop_first() {
+    for logged in latest.values() {
         entries.push(logged.entry)?;
     }
     Ok(entries)
@@ -55,5 +55,5 @@ pub fn reduce(alloc: Global, buckets: &[Bucket]) -> Result<Run, Memory>
     for bucket in buckets {
         keep_entries(&mut latest, bucket.bank, bucket.entries.as_slice())?;
     }
-    Ok(Sequence::from_vec(entries_of(alloc, latest)?))
+    Ok(Sequence::from_vec(entries_of(alloc, &latest)?))
 }

@@ -12,6 +12,8 @@
 //! would be a composed snapshot), and else [`ComposeFault::Limit`] exactly where they are more than there
 //! is room for (`limit`, `within`). Nothing is written.
 //!
+//! A law for those who go on from a composition: a storage without entries keeps its root ([`root_stays`]).
+//!
 //! The facts are told of the pages (specs/Composed.antt); the recursion that makes them
 //! (specs/Composer.antt) is shown to have them, for arrays and trees at once.
 //!
@@ -24,6 +26,7 @@ mod build;
 mod composing;
 mod fault;
 mod last;
+mod laws;
 mod part;
 mod range;
 mod row;
@@ -34,6 +37,7 @@ mod words;
 pub use composing::{NewPages, compose};
 pub use fault::ComposeFault;
 pub use last::Last;
+pub use laws::root_stays;
 
 #[cfg(test)]
 mod tests;

@@ -1,5 +1,7 @@
-// Compositions worked by hand.
-ghost use Rattle.std.specs.Prelude.{◌^◌, ◌<◌, IfOk};
+// Compositions worked by hand, and pseudo-random ones beside a map.
+ghost use Rattle.std.specs.Prelude.{◌^◌, ◌+◌, ◌<◌, IfOk};
+ghost use Rattle.snapshot_store.specs.Content.{words_of};
+ghost use Rattle.root_composer.specs.Newest.{IsNewest};
 ghost use Rattle.root_composer.specs.Rows.{Ascends};
 
 mod ranges;
@@ -121,13 +123,12 @@ fn arrays_get_their_first_pages(rt: HostRuntime) -> Result<(), Fail> {
     Ok(())
 }
 
-// Changes of the keys from 1 on: each is put as its own value, or removed.
-fn changes(alloc: Global, count: u64, put: bool) -> Result<Vec<Change>, Memory>
-    requires { count < 2 ^ 32 }
+// Changes of so many keys in a row: each is put as its own value, or removed.
+fn changes(alloc: Global, first: u64, count: u64, put: bool) -> Result<Vec<Change>, Memory>
+    requires { first + count < 2 ^ 63 }
 {
     let mut changes = Vec::new(alloc);
-    for i in 0..count {
-        let key = i + 1;
+    for key in first..first + count {
         changes.push((key, if put { Some(key) } else { None }))?;
     }
     Ok(changes)
@@ -146,7 +147,7 @@ fn a_tree_keeps_pages_without_changes(rt: HostRuntime) -> Result<(), Fail> {
         high: u64::MAX,
     };
     let empty = fresh(alloc, 0).expect(&rt, "a tree");
-    let puts = changes(alloc, 17, true).expect(&rt, "17 puts");
+    let puts = changes(alloc, 1, 17, true).expect(&rt, "17 puts");
     let first = empty.next(alloc, &puts).expect(&rt, "17 records");
     assert!(rt;
         has_pages(
@@ -173,7 +174,7 @@ fn a_tree_keeps_pages_without_changes(rt: HostRuntime) -> Result<(), Fail> {
         )
     );
     // A leaf that empties stays a leaf.
-    let removals = changes(alloc, 9, false).expect(&rt, "9 removals");
+    let removals = changes(alloc, 1, 9, false).expect(&rt, "9 removals");
     let third = second.next(alloc, &removals).expect(&rt, "an empty leaf");
     assert!(rt;
         has_pages(
@@ -337,11 +338,48 @@ fn rows_past_a_full_page_take_a_third_level(rt: HostRuntime) -> Result<(), Fail>
     for (count, depth, pages) in [(480, 2, 31), (481, 3, 33)] {
         let made = built(alloc, count, depth).expect(&rt, "enough levels");
         assert_eq!(rt; made.len(), pages, "of {count}");
+        let empty = fresh(alloc, 0).expect(&rt, "a tree");
+        let puts = changes(alloc, 1, count, true).expect(&rt, "puts");
+        let tree = empty.next(alloc, &puts).expect(&rt, "a tree of them");
+        assert_eq!(rt; tree.count() as usize, pages + 2, "of {count}");
         let deep = built(alloc, count, depth - 1).err();
         assert!(rt;
             deep == Some(OrMemory::Fault(ComposeFault::Deep)),
             "of {count}"
         );
     }
+    Ok(())
+}
+
+// A tree of so many levels, with eight keys in its last leaf: nine more cut it each time.
+fn chain(alloc: Global, levels: u64) -> Result<Snapshots, OrMemory<ComposeFault>>
+    requires { levels < 2 ^ 32 }
+    ensures { IfOk result (λ s. IsNewest s.decl s.epoch (words_of s.store.pages)) }
+{
+    let Ok(empty) = fresh(alloc, 0) else {
+        return Err(OrMemory::Memory);
+    };
+    let eight = changes(alloc, 1, 8, true)?;
+    let mut chain = empty.next(alloc, &eight)?;
+    for level in 1..levels {
+        let nine = changes(alloc, 9 * level, 9, true)?;
+        chain = chain.next(alloc, &nine)?;
+    }
+    Ok(chain)
+}
+
+#[test]
+fn a_chain_ends_at_32_levels(rt: HostRuntime) -> Result<(), Fail> {
+    let alloc = rt.alloc();
+    let deep = OrMemory::Fault(ComposeFault::Deep);
+    assert!(rt; chain(alloc, 33).err() == Some(deep));
+    // Each level takes the pages above the leaf once more, three in its place, and a catalogue: 4 to 34 pages, behind
+    // the first catalogue, leaf and catalogue.
+    let chain = chain(alloc, 32).expect(&rt, "32 levels");
+    assert_eq!(rt; chain.count(), 592);
+    assert_eq!(rt; chain.value(287), Some(287));
+    // One key more finds room in the last leaf; a page for each level is written, and the catalogue.
+    let more = chain.next(alloc, &[(288, Some(7))]).expect(&rt, "one more");
+    assert_eq!(rt; (more.count(), more.value(288)), (625, Some(7)));
     Ok(())
 }

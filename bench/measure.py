@@ -3,7 +3,8 @@
 
 The scripts have a quarter, a half and all of 64 MiB. In those of 16 writes a line and of 16 reads a line each line is
 padded to 1,024 bytes by empty lines, which count for nothing. The others are of joins alone, of the shortest lines in full
-rounds, and of such lines with a join after each.
+rounds, and of such lines with a join after each. Last come scripts of scans: of a tree with 16,384, 32,768 and 65,536 keys,
+as many scans from a key on, of 16 rows each but near the last key.
 Usage: bench/measure.py PROGRAM, where PROGRAM is `./foedus` or the built program.
 """
 import os
@@ -39,6 +40,16 @@ def short_script(kind, size):
     read = "0 r 1 0\n"
     block = {"joins": "join\n", "shortest lines": read * LINES + "join\n", "rounds of a line": read + "join\n"}[kind]
     return head + repeated(block, size - len(head))
+
+
+def scans(keys):
+    def key(number):
+        return number * 2654435761 % 2**32
+
+    writes = [f"w 2 {key(number)} {number}" for number in range(keys)]
+    lines = ["0 " + "; ".join(writes[first : first + 16]) for first in range(0, keys, 16)]
+    reads = [f"0 s 2 {key(number)} {2**64 - 1}" for number in range(keys)]
+    return "\n".join(["tree 2"] + lines + ["join"] + reads) + "\n"
 
 
 def run(program, path):
@@ -80,6 +91,8 @@ def main():
             measure(program, f"16 {kind} a line, {lines:6} lines", lambda: script(lines, kind))
         for kind in ("joins", "shortest lines", "rounds of a line"):
             measure(program, kind, lambda: short_script(kind, lines * BYTES))
+    for keys in (LINES // 4, LINES // 2, LINES):
+        measure(program, f"{keys:6} scans of a tree with as many keys", lambda: scans(keys))
 
 
 if __name__ == "__main__":

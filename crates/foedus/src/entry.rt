@@ -34,8 +34,8 @@ foedus runs the transactions of a script and prints a line for each, or tells wh
               keys of arrays only where the value isn't 0
 
 Options come in any order, each at most once. They are without effect for now.
-A script declares arrays (array ID SIZE), and then has a line for each transaction: the worker,
-and its operations, as in 0 w 1 2 7; r 1 2. A line join ends a round.
+A script declares arrays (array ID SIZE) and trees (tree ID), and then has a line for each
+transaction: the worker, and its operations, as in 0 w 1 2 7; r 1 2. A line join ends a round.
 ";
 
 /// The words of the command line. Words that aren't UTF-8 ask for nothing that the program does.

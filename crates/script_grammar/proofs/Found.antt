@@ -1,6 +1,6 @@
 -- What steps that found something say.
 use Rattle.std.proofs.Common.{◌≡◌, ◌⊎◌, inl, inr, Bool, true, false, cond, Option, Some, None, refl}
-use Rattle.std.specs.Prelude.{◌||◌, not, is_none}
+use Rattle.std.specs.Prelude.{◌||◌, ◌&&◌, not, is_none}
 use Rattle.script_grammar.specs.Words.{◌>>=◌}
 
 -- two steps found something, so each did
@@ -56,3 +56,23 @@ or_from false y e f = f
 pub or_cases : (x y : Bool) → (x || y) ≡ true → (x ≡ true) ⊎ (y ≡ true)
 or_cases true y e = inl refl
 or_cases false y e = inr e
+
+-- of two that don't both hold the second doesn't, where the first does
+pub second_false : (x y : Bool) → x ≡ true → (x && y) ≡ false → y ≡ false
+second_false true y e f = f
+second_false false y e f = absurd cc
+
+-- the last of two holds
+pub or_last : (x y : Bool) → y ≡ true → (x || y) ≡ true
+or_last true y e = refl
+or_last false y e = e
+
+-- one of two, where the last of them gives another
+pub or_more : (x y z : Bool) → (x || y) ≡ true → (y ≡ true → z ≡ true) → (x || z) ≡ true
+or_more true y z e more = refl
+or_more false y z e more = more e
+
+-- what is true is not denied
+pub denied : (b : Bool) → b ≡ true → not b ≡ false
+denied true e = refl
+denied false e = absurd cc

@@ -1,5 +1,5 @@
 -- A line in which no test finds a fault is read.
-use Rattle.std.proofs.Common.{◌≡◌, inl, inr, ℕ, ◌<◌, ◌≤◌, Bool, true, false, cond, List, [], ◌∷◌, ◌++◌, length, Option, Some, None, refl, sym, ap, subst, ◌∙◌, arith}
+use Rattle.std.proofs.Common.{◌≡◌, ◌⊎◌, inl, inr, ℕ, ◌<◌, ◌≤◌, Bool, true, false, cond, List, [], ◌∷◌, ◌++◌, length, Option, Some, None, refl, sym, ap, subst, ◌∙◌, arith}
 use Rattle.std.specs.Prelude.{◌==◌, ◌&&◌, ◌||◌, not, nat_le, nat_lt, is_none, codes, slice_get}
 use Rattle.std.specs.Cmp.Lexicographic.{same_text}
 use Rattle.std.specs.List.{list_all, list_any}
@@ -9,20 +9,20 @@ use Rattle.decimals.specs.Numbers.{number_of}
 use Rattle.decimals.specs.Digits.{cases_on}
 use Rattle.serial_model.specs.Keys.{fits, id_of}
 use Rattle.serial_model.specs.declared.decl.Decl.{Decl}
-use Rattle.serial_model.specs.declared.decl.Decl.TheVariants.{Array}
+use Rattle.serial_model.specs.declared.decl.Decl.TheVariants.{Array, Tree}
 use Rattle.serial_model.specs.declared.op.Op.{Op}
 use Rattle.script_grammar.specs.declared.fault.FaultKind.{FaultKind}
-use Rattle.script_grammar.specs.declared.fault.FaultKind.TheVariants.{Word, Number, Declared, Range}
+use Rattle.script_grammar.specs.declared.fault.FaultKind.TheVariants.{Word, Number, Declared, Kind, Range}
 use Rattle.script_grammar.specs.Script.{Bytes, Line, Worker, op_text}
 use Rattle.script_grammar.specs.Words.{passes, words, number_in, is_no_number, is_word, is_join, is_worker_line, worker_word, op_parts}
 use Rattle.script_grammar.specs.Reading.{Parts, is_fresh, may_declare, may_run, with_join, ops_in, line_at, decl_at, step}
-use Rattle.script_grammar.specs.Faults.{Place, place_after, is_decl_shape, op_is, some_op_is, is_too_long, has_no_shape, lacks_number, is_too_many, is_misdeclared, is_out_of_range, kind_of}
-use Rattle.script_grammar.proofs.Found.{or_parts, or_cases, not_true}
+use Rattle.script_grammar.specs.Faults.{Place, place_after, begins_with, is_decl_shape, op_is, some_op_is, is_too_long, has_no_shape, lacks_number, is_too_many, is_misdeclared, is_of_other_kind, is_out_of_range, kind_of}
+use Rattle.script_grammar.proofs.Found.{or_parts, or_cases, not_true, second_false}
 use Rattle.script_grammar.proofs.OpTexts.{ops_take}
 use Rattle.script_grammar.proofs.LineTexts.{line_takes, line_found, decl_takes}
 use Rattle.script_grammar.proofs.StepTexts.{IsShort, step-nil}
 use Rattle.script_grammar.proofs.StepAgain.{join_step, decl_step_at, line_step_at}
-use Rattle.script_grammar.proofs.GoodOps.{IsNumber, is_number, not_passed, three_words, IsGood, good_op}
+use Rattle.script_grammar.proofs.GoodOps.{IsNumber, is_number, not_passed, two_words, three_words, IsGood, good_op}
 
 -- ---- all operations
 
@@ -37,6 +37,7 @@ pub record HaveNoFault (decls : List Decl) (ps : List Bytes) : Type 0 where
   pub shape : list_any (op_is Word decls) ps ≡ false
   pub numbers : list_any (op_is Number decls) ps ≡ false
   pub declared : list_any (op_is Declared decls) ps ≡ false
+  pub kind : list_any (op_is Kind decls) ps ≡ false
   pub range : list_any (op_is Range decls) ps ≡ false
 
 good_ops : (decls : List Decl) (ps : List Bytes) → HaveNoFault decls ps → AreGood decls ps
@@ -45,9 +46,10 @@ good_ops decls (p ∷ ps) none =
     let shape = or_parts (op_is Word decls p) (list_any (op_is Word decls) ps) none.shape in
     let numbers = or_parts (op_is Number decls p) (list_any (op_is Number decls) ps) none.numbers in
     let declared = or_parts (op_is Declared decls p) (list_any (op_is Declared decls) ps) none.declared in
+    let kind = or_parts (op_is Kind decls p) (list_any (op_is Kind decls) ps) none.kind in
     let range = or_parts (op_is Range decls p) (list_any (op_is Range decls) ps) none.range in
-    let first : IsGood decls p = good_op decls p (record { shape = shape.0; numbers = numbers.0; declared = declared.0; range = range.0 }) in
-    let others : AreGood decls ps = good_ops decls ps (record { shape = shape.1; numbers = numbers.1; declared = declared.1; range = range.1 }) in
+    let first : IsGood decls p = good_op decls p (record { shape = shape.0; numbers = numbers.0; declared = declared.0; kind = kind.0; range = range.0 }) in
+    let others : AreGood decls ps = good_ops decls ps (record { shape = shape.1; numbers = numbers.1; declared = declared.1; kind = kind.1; range = range.1 }) in
     record {
       ops = first.is ∷ others.ops;
       found = rw (first.found, others.found) refl;
@@ -63,6 +65,7 @@ pub record IsFaultless (place : Place) (line : Bytes) : Type 0 where
   pub numbers : lacks_number place line ≡ false
   pub few : is_too_many place line ≡ false
   pub declared : is_misdeclared place line ≡ false
+  pub kind : is_of_other_kind place line ≡ false
   pub range : is_out_of_range place line ≡ false
 
 -- where no kind is chosen, the test didn't hold, and no later one
@@ -79,8 +82,9 @@ faultless place line e =
     let t2 = not_chosen (lacks_number place line) _ _ t1.1 in
     let t3 = not_chosen (is_too_many place line) _ _ t2.1 in
     let t4 = not_chosen (is_misdeclared place line) _ _ t3.1 in
-    let t5 = not_chosen (is_out_of_range place line) _ _ t4.1 in
-    record { short = t0.0; shape = t1.0; numbers = t2.0; few = t3.0; declared = t4.0; range = t5.0 }
+    let t5 = not_chosen (is_of_other_kind place line) _ _ t4.1 in
+    let t6 = not_chosen (is_out_of_range place line) _ _ t5.1 in
+    record { short = t0.0; shape = t1.0; numbers = t2.0; few = t3.0; declared = t4.0; kind = t5.0; range = t6.0 }
 
 of_first : (b x y : Bool) → b ≡ true → cond b x y ≡ false → x ≡ false
 of_first true x y e f = f
@@ -89,11 +93,6 @@ of_first false x y e f = absurd cc
 of_second : (b x y : Bool) → b ≡ false → cond b x y ≡ false → y ≡ false
 of_second true x y e f = absurd cc
 of_second false x y e f = f
-
--- of two that don't both hold the second doesn't, where the first does
-second_false : (x y : Bool) → x ≡ true → (x && y) ≡ false → y ≡ false
-second_false true y e f = f
-second_false false y e f = absurd cc
 
 -- ---- workers' lines
 
@@ -120,14 +119,20 @@ line_of p line none worker range few room =
     }
 
 good_line : (p : Parts) (line : Bytes) → is_worker_line line ≡ true → IsFaultless (place_after p) line → IsGoodLine p line
-unfolding has_no_shape lacks_number is_too_many is_misdeclared is_out_of_range some_op_is
+unfolding has_no_shape lacks_number is_too_many is_misdeclared is_of_other_kind is_out_of_range some_op_is
 good_line p line worker none =
     let b : Bool = is_worker_line line in
     let numbers = or_parts (is_none (number_of (worker_word line))) (list_any (op_is Number p.decls) (op_parts line)) (of_first b _ _ worker none.numbers) in
     let few = or_parts (nat_lt 16 (length (op_parts line))) (nat_le 65536 (length p.lines)) (of_first b _ _ worker none.few) in
     let range = or_parts (passes (nat_le 8) (number_of (worker_word line))) (list_any (op_is Range p.decls) (op_parts line)) (of_first b _ _ worker none.range) in
     line_of p line
-    (record { shape = of_first b _ _ worker none.shape; numbers = numbers.1; declared = of_first b _ _ worker none.declared; range = range.1 })
+    (record {
+      shape = of_first b _ _ worker none.shape;
+      numbers = numbers.1;
+      declared = of_first b _ _ worker none.declared;
+      kind = second_false b _ worker none.kind;
+      range = range.1;
+    })
     (is_number (worker_word line) numbers.0) range.0 few.0 few.1
 
 -- ---- declarations
@@ -138,25 +143,50 @@ record IsGoodDecl (p : Parts) (line : Bytes) : Type 0 where
   found : decl_at line ≡ Some is
   room : may_declare p is ≡ true
 
--- three words, the first of them the declaration's
-record HasDeclWords (line : Bytes) : Type 0 where
+-- an array's three words
+record HasArrayWords (line : Bytes) : Type 0 where
   id : Bytes
   size : Bytes
   words_are : words line ≡ codes "array" ∷ id ∷ size ∷ []
 
-decl_words : (line : Bytes) → is_decl_shape line ≡ true → HasDeclWords line
-unfolding is_decl_shape
-decl_words line e =
+-- a tree's two words
+record HasTreeWords (line : Bytes) : Type 0 where
+  id : Bytes
+  words_are : words line ≡ codes "tree" ∷ id ∷ []
+
+array_words : (line : Bytes) → begins_with (codes "array") 3 (words line) ≡ true → HasArrayWords line
+array_words line e =
     let both = and_parts (length (words line) == 3) (passes (is_word (codes "array")) (slice_get (words line) 0)) e in
     let ws = three_words (words line) (eqb-true (length (words line)) 3 both.0) in
     let first : is_word (codes "array") ws.0 ≡ true = rw ws.3 at both.1 in
     let same : ws.0 ≡ codes "array" = same_text ws.0 (codes "array") (sym first) in
     record { id = ws.1; size = ws.2; words_are = ws.3 ∙ ap (λ (w : Bytes). w ∷ ws.1 ∷ ws.2 ∷ []) same }
 
--- three words with numbers in their ranges are a declaration
-decl_is : (line : Bytes) (ws : HasDeclWords line) (id size : ℕ) → number_of ws.id ≡ Some id → number_of ws.size ≡ Some size → id < 256 → 0 < size → size ≤ 131072 → decl_at line ≡ Some (Array id size)
+tree_words : (line : Bytes) → begins_with (codes "tree") 2 (words line) ≡ true → HasTreeWords line
+tree_words line e =
+    let both = and_parts (length (words line) == 2) (passes (is_word (codes "tree")) (slice_get (words line) 0)) e in
+    let ws = two_words (words line) (eqb-true (length (words line)) 2 both.0) in
+    let first : is_word (codes "tree") ws.0 ≡ true = rw ws.2 at both.1 in
+    let same : ws.0 ≡ codes "tree" = same_text ws.0 (codes "tree") (sym first) in
+    record { id = ws.1; words_are = ws.2 ∙ ap (λ (w : Bytes). w ∷ ws.1 ∷ []) same }
+
+decl_words : (line : Bytes) → is_decl_shape line ≡ true → HasArrayWords line ⊎ HasTreeWords line
+unfolding is_decl_shape
+decl_words line e =
+    elim (or_cases (begins_with (codes "array") 3 (words line)) (begins_with (codes "tree") 2 (words line)) e) [
+      | inl array ↦ inl (array_words line array)
+      | inr tree ↦ inr (tree_words line tree)
+    ]
+
+-- three words with numbers in their ranges are an array's declaration
+array_is : (line : Bytes) (ws : HasArrayWords line) (id size : ℕ) → number_of ws.id ≡ Some id → number_of ws.size ≡ Some size → id < 256 → 0 < size → size ≤ 131072 → decl_at line ≡ Some (Array id size)
 unfolding decl_at
-decl_is line ws id size e f below some limit = rw (ws.words_are, e, f, lt-ltb id 256 below, lt-ltb 0 size some, le-leb size 131072 limit) refl
+array_is line ws id size e f below some limit = rw (ws.words_are, e, f, lt-ltb id 256 below, lt-ltb 0 size some, le-leb size 131072 limit) refl
+
+-- two words with a number in its range are a tree's declaration
+tree_is : (line : Bytes) (ws : HasTreeWords line) (id : ℕ) → number_of ws.id ≡ Some id → id < 256 → decl_at line ≡ Some (Tree id)
+unfolding decl_at
+tree_is line ws id e below = rw (ws.words_are, e, lt-ltb id 256 below) refl
 
 -- a size that is neither 0 nor too great
 size_is : (n : ℕ) → ((n == 0) || nat_lt 131072 n) ≡ false → (0 < n) × (n ≤ 131072)
@@ -165,28 +195,61 @@ size_is n e =
     let some = eqb-false n 0 both.0 in
     (omega arith, ltb-false 131072 n both.1)
 
-good_decl : (p : Parts) (line : Bytes) → is_worker_line line ≡ false → is_decl_shape line ≡ true → IsFaultless (place_after p) line → IsGoodDecl p line
+-- what the tests leave of a declaration's id
+record IsGoodId (p : Parts) (id : Bytes) : Type 0 where
+  value : ℕ
+  found : number_of id ≡ Some value
+  below : value < 256
+  room : (is_fresh p && (nat_lt (length p.decls) 16 && not (list_any (λ d. id_of d == value) p.decls))) ≡ true
+
+good_id : (p : Parts) (line word id : Bytes) (more : List Bytes) → words line ≡ word ∷ id ∷ more → is_worker_line line ≡ false → is_decl_shape line ≡ true → IsFaultless (place_after p) line → IsGoodId p id
 unfolding lacks_number is_too_many is_misdeclared is_out_of_range
-good_decl p line other shape none =
+good_id p line word id more ws other shape none =
     let b : Bool = is_worker_line line in
-    let ws = decl_words line shape in
     let of_id = λ (test : ℕ → Bool). passes test (number_in (words line) 1) in
     let of_size = λ (test : ℕ → Bool). passes test (number_in (words line) 2) in
     let numbers = or_parts (is_no_number (words line) 1) (is_no_number (words line) 2) (of_second b _ _ other none.numbers) in
-    let id : IsNumber ws.id = is_number ws.id (rw ws.words_are at numbers.0) in
-    let size : IsNumber ws.size = is_number ws.size (rw ws.words_are at numbers.1) in
+    let n : IsNumber id = is_number id (rw ws at numbers.0) in
     let few = second_false _ _ shape (of_second b _ _ other none.few) in
-    let declared = or_parts (not (is_fresh p)) (of_id (λ n. list_any (λ d. id_of d == n) p.decls)) (second_false _ _ shape (of_second b _ _ other none.declared)) in
-    let range = or_parts (of_id (nat_le 256)) (of_size (λ n. (n == 0) || nat_lt 131072 n)) (second_false _ _ shape (of_second b _ _ other none.range)) in
-    let new : list_any (λ d. id_of d == id.value) p.decls ≡ false = not_passed (λ n. list_any (λ d. id_of d == n) p.decls) ws.id id.value id.found (rw ws.words_are at declared.1) in
-    let small = not_passed (nat_le 256) ws.id id.value id.found (rw ws.words_are at range.0) in
-    let sized = size_is size.value (not_passed (λ n. (n == 0) || nat_lt 131072 n) ws.size size.value size.found (rw ws.words_are at range.1)) in
+    let declared = or_parts (not (is_fresh p)) (of_id (λ m. list_any (λ d. id_of d == m) p.decls)) (second_false _ _ shape (of_second b _ _ other none.declared)) in
+    let range = or_parts (of_id (nat_le 256)) (of_size (λ m. (m == 0) || nat_lt 131072 m)) (second_false _ _ shape (of_second b _ _ other none.range)) in
+    let new : list_any (λ d. id_of d == n.value) p.decls ≡ false = not_passed (λ m. list_any (λ d. id_of d == m) p.decls) id n.value n.found (rw ws at declared.1) in
     record {
-      is = Array id.value size.value;
-      found = decl_is line ws id.value size.value id.found size.found (leb-false 256 id.value small) sized.0 sized.1;
+      value = n.value;
+      found = n.found;
+      below = leb-false 256 n.value (not_passed (nat_le 256) id n.value n.found (rw ws at range.0));
       room = and_from (is_fresh p) _ (not_true (is_fresh p) declared.0)
           (and_from (nat_lt (length p.decls) 16) _ (lt-ltb (length p.decls) 16 (leb-false 16 (length p.decls) few)) (rw new refl));
     }
+
+good_tree : (p : Parts) (line : Bytes) → is_worker_line line ≡ false → is_decl_shape line ≡ true → IsFaultless (place_after p) line → HasTreeWords line → IsGoodDecl p line
+good_tree p line other shape none ws =
+    let id = good_id p line (codes "tree") ws.id [] ws.words_are other shape none in
+    record { is = Tree id.value; found = tree_is line ws id.value id.found id.below; room = id.room }
+
+good_array : (p : Parts) (line : Bytes) → is_worker_line line ≡ false → is_decl_shape line ≡ true → IsFaultless (place_after p) line → HasArrayWords line → IsGoodDecl p line
+unfolding lacks_number is_out_of_range
+good_array p line other shape none ws =
+    let b : Bool = is_worker_line line in
+    let of_id = λ (test : ℕ → Bool). passes test (number_in (words line) 1) in
+    let of_size = λ (test : ℕ → Bool). passes test (number_in (words line) 2) in
+    let id = good_id p line (codes "array") ws.id (ws.size ∷ []) ws.words_are other shape none in
+    let numbers = or_parts (is_no_number (words line) 1) (is_no_number (words line) 2) (of_second b _ _ other none.numbers) in
+    let size : IsNumber ws.size = is_number ws.size (rw ws.words_are at numbers.1) in
+    let range = or_parts (of_id (nat_le 256)) (of_size (λ n. (n == 0) || nat_lt 131072 n)) (second_false _ _ shape (of_second b _ _ other none.range)) in
+    let sized = size_is size.value (not_passed (λ n. (n == 0) || nat_lt 131072 n) ws.size size.value size.found (rw ws.words_are at range.1)) in
+    record {
+      is = Array id.value size.value;
+      found = array_is line ws id.value size.value id.found size.found id.below sized.0 sized.1;
+      room = id.room;
+    }
+
+good_decl : (p : Parts) (line : Bytes) → is_worker_line line ≡ false → is_decl_shape line ≡ true → IsFaultless (place_after p) line → IsGoodDecl p line
+good_decl p line other shape none =
+    elim (decl_words line shape) [
+      | inl array ↦ good_array p line other shape none array
+      | inr tree ↦ good_tree p line other shape none tree
+    ]
 
 -- ---- all lines
 

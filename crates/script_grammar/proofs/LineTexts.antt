@@ -19,10 +19,10 @@ use Rattle.serial_model.specs.declared.decl.Decl.TheVariants.{Array, Tree}
 use Rattle.serial_model.specs.declared.op.Op.{Op}
 use Rattle.script_grammar.specs.Script.{Bytes, Line, Worker, Keeper, op_text, ops_text, line_text, decl_text}
 use Rattle.script_grammar.specs.Words.{◌>>=◌, words, parts, is_word, is_space, is_worker_line, worker_word, op_parts}
-use Rattle.script_grammar.specs.Reading.{ops_in, few_of, few_ops_in, worker_in, line_at, array_in, decl_in, decl_at}
+use Rattle.script_grammar.specs.Reading.{ops_in, few_of, few_ops_in, worker_in, line_at, array_in, tree_in, decl_in, decl_at}
 use Rattle.script_grammar.proofs.Found.{bind_some, test_some, chosen, some_same}
 use Rattle.script_grammar.proofs.Parts.{parts_cons}
-use Rattle.script_grammar.proofs.WordTexts.{digits_of, words_join, words_two}
+use Rattle.script_grammar.proofs.WordTexts.{digits_of, words_join, words_last, words_two}
 use Rattle.script_grammar.proofs.OpTexts.{IsSpelled, ops_take, ops_again}
 use Rattle.script_grammar.proofs.PartTexts.{joined_ops, joined_parts, joined_texts, parts_texts}
 
@@ -138,20 +138,25 @@ line_again (Keeper line) is = absurd is
 
 -- ---- declarations
 
--- a declaration that scripts can name so far
-abbrev pub IsNamed : Decl → Type 0
-IsNamed (Array id size) = IsDecl (Array id size)
-IsNamed (Tree id) = ⊥
+-- the text of an array's words
+array_joined : (word id size : Bytes) (i n : ℕ) → word ≡ codes "array" → id ≡ decimal i → size ≡ decimal n → join_with_byte 32 (word ∷ id ∷ size ∷ []) ≡ decl_text (Array i n)
+array_joined word id size i n e f g = rw (e, f, g) (ap (λ (r : Bytes). codes "array " ++ r) (sym (append_assoc (decimal i) (32 ∷ []) (decimal n))))
 
--- the text of a declaration's words
-decl_joined : (word id size : Bytes) (i n : ℕ) → word ≡ codes "array" → id ≡ decimal i → size ≡ decimal n → join_with_byte 32 (word ∷ id ∷ size ∷ []) ≡ decl_text (Array i n)
-decl_joined word id size i n e f g = rw (e, f, g) (ap (λ (r : Bytes). codes "array " ++ r) (sym (append_assoc (decimal i) (32 ∷ []) (decimal n))))
+-- the text of a tree's words
+tree_joined : (word id : Bytes) (i : ℕ) → word ≡ codes "tree" → id ≡ decimal i → join_with_byte 32 (word ∷ id ∷ []) ≡ decl_text (Tree i)
+tree_joined word id i e f = rw (e, f) refl
 
 -- a declaration's words that are read are spelled so
-decl_words_take : (ws : List Bytes) (d : Decl) → decl_in ws ≡ Some d → (join_with_byte 32 ws ≡ decl_text d) × IsNamed d
+decl_words_take : (ws : List Bytes) (d : Decl) → decl_in ws ≡ Some d → (join_with_byte 32 ws ≡ decl_text d) × IsDecl d
 decl_words_take [] d e = absurd cc
 decl_words_take (word ∷ []) d e = absurd cc
-decl_words_take (word ∷ id ∷ []) d e = absurd cc
+decl_words_take (word ∷ id ∷ []) d e =
+    let c = chosen (is_word (codes "tree") word) (number_of id >>= tree_in) d e in
+    let a = bind_some (number_of id) tree_in d c.1 in
+    let t = test_some (nat_lt a.0 256) (Tree a.0) d a.2 in
+    let same : word ≡ codes "tree" = same_text word (codes "tree") (sym c.0) in
+    subst (λ (x : Decl). (join_with_byte 32 (word ∷ id ∷ []) ≡ decl_text x) × IsDecl x) t.1
+    (tree_joined word id a.0 same (number_of_takes id a.0 a.1).0, ltb-true _ _ t.0)
 decl_words_take (word ∷ id ∷ size ∷ []) d e =
     let c = chosen (is_word (codes "array") word) (number_of id >>= (λ i. number_of size >>= array_in i)) d e in
     let a = bind_some (number_of id) (λ i. number_of size >>= array_in i) d c.1 in
@@ -161,35 +166,41 @@ decl_words_take (word ∷ id ∷ size ∷ []) d e =
     let second = and_parts (nat_lt 0 b.0) (nat_le b.0 131072) first.1 in
     let some : 0 < b.0 = ltb-true _ _ second.0 in
     let same : word ≡ codes "array" = same_text word (codes "array") (sym c.0) in
-    subst (λ (x : Decl). (join_with_byte 32 (word ∷ id ∷ size ∷ []) ≡ decl_text x) × IsNamed x) t.1 (
-      decl_joined word id size a.0 b.0 same (number_of_takes id a.0 a.1).0 (number_of_takes size b.0 b.1).0,
+    subst (λ (x : Decl). (join_with_byte 32 (word ∷ id ∷ size ∷ []) ≡ decl_text x) × IsDecl x) t.1 (
+      array_joined word id size a.0 b.0 same (number_of_takes id a.0 a.1).0 (number_of_takes size b.0 b.1).0,
       (ltb-true _ _ first.0, omega arith, leb-true _ _ second.1),
     )
 decl_words_take (word ∷ id ∷ size ∷ more ∷ ws) d e = absurd cc
 
 -- a declaration that is read is spelled so
-pub decl_takes : (bs : Bytes) (d : Decl) → decl_at bs ≡ Some d → (bs ≡ decl_text d) × IsNamed d
+pub decl_takes : (bs : Bytes) (d : Decl) → decl_at bs ≡ Some d → (bs ≡ decl_text d) × IsDecl d
 unfolding decl_at
 decl_takes bs d e = let t = decl_words_take (words bs) d e in (words_join bs (words bs) refl ∙ t.0, t.1)
 
--- a declaration's words
-pub words_decl : (id size : ℕ) → id < 2 ^ 64 → size < 2 ^ 64 → words (decl_text (Array id size)) ≡ codes "array" ∷ decimal id ∷ decimal size ∷ []
-words_decl id size lt small =
+-- a tree's words
+pub words_tree : (id : ℕ) → id < 2 ^ 64 → words (decl_text (Tree id)) ≡ codes "tree" ∷ decimal id ∷ []
+words_tree id lt = rw (words_last (decimal id) (digits_of id lt)) refl
+
+-- an array's words
+pub words_array : (id size : ℕ) → id < 2 ^ 64 → size < 2 ^ 64 → words (decl_text (Array id size)) ≡ codes "array" ∷ decimal id ∷ decimal size ∷ []
+words_array id size lt small =
     ap (λ (r : Bytes). words (codes "array " ++ r)) (append_assoc (decimal id) (32 ∷ []) (decimal size)) ∙ rw (words_two id size lt small) refl
 
 -- a spelled declaration is read again
-pub decl_again : (d : Decl) → IsNamed d → decl_at (decl_text d) ≡ Some d
+pub decl_again : (d : Decl) → IsDecl d → decl_at (decl_text d) ≡ Some d
 unfolding decl_at
 decl_again (Array id size) is =
     let below = is.0 in
     let limit = is.2 in
     let some : 0 < size = let one = is.1 in omega arith in
     rw (
-      words_decl id size (omega arith) (omega arith),
+      words_array id size (omega arith) (omega arith),
       number_of_again id (omega arith),
       number_of_again size (omega arith),
       lt-ltb id 256 is.0,
       lt-ltb 0 size some,
       le-leb size 131072 is.2,
     ) refl
-decl_again (Tree id) is = absurd is
+decl_again (Tree id) is =
+    let below : id < 256 = is in
+    rw (words_tree id (omega arith), number_of_again id (omega arith), lt-ltb id 256 is) refl

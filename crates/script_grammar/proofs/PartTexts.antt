@@ -14,7 +14,7 @@ use Rattle.script_grammar.specs.Script.{Bytes, key_text, op_text, more_ops_text,
 use Rattle.script_grammar.specs.Words.{begins_space, begins_separator, before_parts, parts}
 use Rattle.script_grammar.proofs.Parts.{parts_cons}
 use Rattle.script_grammar.proofs.WordTexts.{IsKey, digits_of}
-use Rattle.script_grammar.proofs.OpTexts.{IsSpelled}
+use Rattle.script_grammar.proofs.OpTexts.{IsSpelled, key_at}
 
 -- ---- the parts, joined again
 
@@ -98,8 +98,8 @@ op_semicolon (Read k) is = (refl, (refl, key_semicolon k is))
 op_semicolon (Write k v) is = (refl, (refl, value_semicolon k v is.0 is.1))
 op_semicolon (Add k v) is = (refl, (refl, value_semicolon k v is.0 is.1))
 op_semicolon (Take k v) is = (refl, (refl, value_semicolon k v is.0 is.1))
-op_semicolon (Remove k) is = absurd is
-op_semicolon (Scan storage low high) is = absurd is
+op_semicolon (Remove k) is = (refl, (refl, key_semicolon k is))
+op_semicolon (Scan storage low high) is = (refl, (refl, value_semicolon (key_at storage low) high is.0 is.1))
 
 -- bytes without a semicolon before a separator are a part
 parts_first : (xs rest : Bytes) → HasNoSemicolon xs → parts (xs ++ (59 ∷ 32 ∷ rest)) ≡ xs ∷ parts rest

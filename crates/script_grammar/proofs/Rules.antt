@@ -1,21 +1,21 @@
 -- What the reader tests of operations and of declarations, and the rules of a script.
-use Rattle.std.proofs.Common.{◌≡◌, ◌≢◌, inl, inr, ℕ, ◌<◌, Bool, true, false, eqb, List, [], ◌∷◌, ◌++◌, refl, subst, arith, map}
+use Rattle.std.proofs.Common.{◌≡◌, ◌≢◌, inl, inr, ℕ, ◌<◌, ◌^◌, Bool, true, false, eqb, List, [], ◌∷◌, ◌++◌, refl, subst, map}
 use Rattle.std.specs.Prelude.{◌==◌, nat_lt}
 use Rattle.std.specs.List.{AllByRecursion, list_any, list_all}
-use Rattle.std.proofs.lemmas.Bool.{ltb-true, eqb-true, eqb-false, ne_eqb, and_parts, and_from}
+use Rattle.std.proofs.lemmas.Bool.{eqb-true, eqb-false, ne_eqb, and_parts, and_from}
 use Rattle.lists.specs.Each.{AreDistinct}
-use Rattle.serial_model.specs.Keys.{id_of, fits, has_key, has_key_of}
+use Rattle.serial_model.specs.Keys.{id_of, fits, has_key, has_key_of, is_tree}
 use Rattle.serial_model.specs.Decls.{IsDecl}
 use Rattle.serial_model.specs.declared.key.Key.{Key}
 use Rattle.serial_model.specs.declared.op.Op.{Op}
 use Rattle.serial_model.specs.declared.op.Op.TheVariants.{Read, Write, Remove, Add, Take, Scan}
 use Rattle.serial_model.specs.declared.decl.Decl.{Decl}
 use Rattle.serial_model.specs.declared.decl.Decl.TheVariants.{Array, Tree}
-use Rattle.script_grammar.specs.Script.{Line, Worker, Keeper, IsArray, IsOp, IsLine}
-use Rattle.script_grammar.proofs.Found.{or_parts, or_from, or_cases}
+use Rattle.script_grammar.specs.Script.{Line, Worker, Keeper, IsOp, IsLine}
+use Rattle.script_grammar.proofs.Found.{or_parts, or_from, or_cases, or_last, or_more}
 use Rattle.script_grammar.proofs.WordTexts.{IsKey}
-use Rattle.script_grammar.proofs.OpTexts.{IsSpelled}
-use Rattle.script_grammar.proofs.LineTexts.{IsSpelledLine, IsNamed}
+use Rattle.script_grammar.proofs.OpTexts.{IsSpelled, key_at}
+use Rattle.script_grammar.proofs.LineTexts.{IsSpelledLine}
 
 -- ---- lists
 
@@ -29,56 +29,52 @@ pub all_back : {X : Type 0} (P : X → Type 0) (xs ys : List X) → AllByRecursi
 all_back P [] ys all = all
 all_back P (x ∷ xs) ys all = all_back P xs ys all.1
 
--- ---- declarations that scripts can name
-
--- a declaration by the rules of which only arrays are named is one that scripts can name
-pub are_named : (ds : List Decl) → AllByRecursion IsDecl ds → AllByRecursion IsArray ds → AllByRecursion IsNamed ds
-are_named [] all arrays = tt
-are_named (Array id size ∷ ds) all arrays = (all.0, are_named ds all.1 arrays.1)
-are_named (Tree id ∷ ds) all arrays = absurd arrays.0
-
--- and the other way
-pub named_are : (ds : List Decl) → AllByRecursion IsNamed ds → AllByRecursion IsDecl ds × AllByRecursion IsArray ds
-named_are [] all = (tt, tt)
-named_are (Array id size ∷ ds) all = let more = named_are ds all.1 in ((all.0, more.0), (tt, more.1))
-named_are (Tree id ∷ ds) all = absurd all.0
-
 -- ---- operations that fit a declared storage
 
--- a key below an array's size has a spelling
-key_below : (id size : ℕ) (k : Key) → IsNamed (Array id size) → has_key_of k (Array id size) ≡ true → IsKey k
-key_below id size k is e =
-    let parts = and_parts (eqb id k.storage) (nat_lt k.key size) e in
-    let same : id ≡ k.storage = eqb-true id k.storage parts.0 in
-    let below : k.key < size = ltb-true k.key size parts.1 in
-    record { storage = subst (λ (s : ℕ). s < 256) same is.0; key = let limit = is.2 in omega arith }
+-- a tree has each key
+pub has_key-tree : (decls : List Decl) (k : Key) → is_tree decls k.storage ≡ true → has_key decls k ≡ true
+has_key-tree [] k e = absurd cc
+has_key-tree (Array id size ∷ decls) k e = or_last (has_key_of k (Array id size)) (has_key decls k) (has_key-tree decls k e)
+has_key-tree (Tree id ∷ decls) k e = or_more (id == k.storage) (is_tree decls k.storage) (has_key decls k) e (has_key-tree decls k)
 
--- a key of a declared storage has a spelling
-has_key_below : (decls : List Decl) (k : Key) → AllByRecursion IsNamed decls → has_key decls k ≡ true → IsKey k
-has_key_below [] k all e = absurd cc
-has_key_below (Tree id ∷ decls) k all e = absurd all.0
-has_key_below (Array id size ∷ decls) k all e =
-    elim (or_cases (has_key_of k (Array id size)) (has_key decls k) e) [
-      | inl here ↦ key_below id size k all.0 here
-      | inr there ↦ has_key_below decls k all.1 there
+-- the id of a declaration that has the key is below 256
+id_below : (d : Decl) (k : Key) → IsDecl d → has_key_of k d ≡ true → k.storage < 256
+id_below (Array id size) k is e =
+    let same : id ≡ k.storage = eqb-true id k.storage (and_parts (eqb id k.storage) (nat_lt k.key size) e).0 in
+    subst (λ (s : ℕ). s < 256) same is.0
+id_below (Tree id) k is e = subst (λ (s : ℕ). s < 256) (eqb-true id k.storage e) is
+
+-- the same of all declarations
+storage_below : (decls : List Decl) (k : Key) → AllByRecursion IsDecl decls → has_key decls k ≡ true → k.storage < 256
+storage_below [] k all e = absurd cc
+storage_below (d ∷ decls) k all e =
+    elim (or_cases (has_key_of k d) (has_key decls k) e) [
+      | inl here ↦ id_below d k all.0 here
+      | inr there ↦ storage_below decls k all.1 there
     ]
 
+-- a key of a declared storage has a spelling
+key_spelled : (decls : List Decl) (k : Key) → AllByRecursion IsDecl decls → has_key decls k ≡ true → k.key < 2 ^ 64 → IsKey k
+key_spelled decls k all e lt = record { storage = storage_below decls k all e; key = lt }
+
 -- an operation by the rules has a spelling
-op_spelled : (decls : List Decl) (op : Op) → AllByRecursion IsNamed decls → IsOp decls op → IsSpelled op
-op_spelled decls (Read k) all is = has_key_below decls k all is.fitting
-op_spelled decls (Write k v) all is = (has_key_below decls k all is.fitting, is.value)
-op_spelled decls (Remove k) all is = absurd is.value
-op_spelled decls (Add k v) all is = (has_key_below decls k all is.fitting, is.value)
-op_spelled decls (Take k v) all is = (has_key_below decls k all is.fitting, is.value)
-op_spelled decls (Scan storage low high) all is = absurd is.value
+op_spelled : (decls : List Decl) (op : Op) → AllByRecursion IsDecl decls → IsOp decls op → IsSpelled op
+op_spelled decls (Read k) all is = key_spelled decls k all is.fitting is.numbers
+op_spelled decls (Write k v) all is = (key_spelled decls k all is.fitting is.numbers.0, is.numbers.1)
+op_spelled decls (Remove k) all is = key_spelled decls k all (has_key-tree decls k is.fitting) is.numbers
+op_spelled decls (Add k v) all is = (key_spelled decls k all is.fitting is.numbers.0, is.numbers.1)
+op_spelled decls (Take k v) all is = (key_spelled decls k all is.fitting is.numbers.0, is.numbers.1)
+op_spelled decls (Scan storage low high) all is =
+    let k : Key = key_at storage low in
+    (key_spelled decls k all (has_key-tree decls k is.fitting) is.numbers.0, is.numbers.1)
 
 -- the same of all operations
-ops_spelled : (decls : List Decl) (ops : List Op) → AllByRecursion IsNamed decls → AllByRecursion (IsOp decls) ops → AllByRecursion IsSpelled ops
+ops_spelled : (decls : List Decl) (ops : List Op) → AllByRecursion IsDecl decls → AllByRecursion (IsOp decls) ops → AllByRecursion IsSpelled ops
 ops_spelled decls [] all are = tt
 ops_spelled decls (op ∷ ops) all are = (op_spelled decls op all are.0, ops_spelled decls ops all are.1)
 
 -- a line by the rules has a spelling
-pub line_spelled : (decls : List Decl) (l : Line) → AllByRecursion IsNamed decls → IsLine decls l → IsSpelledLine l
+pub line_spelled : (decls : List Decl) (l : Line) → AllByRecursion IsDecl decls → IsLine decls l → IsSpelledLine l
 line_spelled decls (Worker worker ops) all is = (is.worker, record { some = is.some_op; few = is.few_ops; each = ops_spelled decls ops all is.ops })
 line_spelled decls (Keeper line) all is = absurd is
 
@@ -89,12 +85,12 @@ ops_fit decls (op ∷ ops) are = and_from (fits decls op) (list_all (fits decls)
 
 -- an operation with a spelling that passes the test is one by the rules
 op_by_rules : (decls : List Decl) (op : Op) → IsSpelled op → fits decls op ≡ true → IsOp decls op
-op_by_rules decls (Read k) is e = record { fitting = e; value = tt }
-op_by_rules decls (Write k v) is e = record { fitting = e; value = is.1 }
-op_by_rules decls (Remove k) is e = absurd is
-op_by_rules decls (Add k v) is e = record { fitting = e; value = is.1 }
-op_by_rules decls (Take k v) is e = record { fitting = e; value = is.1 }
-op_by_rules decls (Scan storage low high) is e = absurd is
+op_by_rules decls (Read k) is e = record { fitting = e; numbers = is.key }
+op_by_rules decls (Write k v) is e = record { fitting = e; numbers = (is.0.key, is.1) }
+op_by_rules decls (Remove k) is e = record { fitting = e; numbers = is.key }
+op_by_rules decls (Add k v) is e = record { fitting = e; numbers = (is.0.key, is.1) }
+op_by_rules decls (Take k v) is e = record { fitting = e; numbers = (is.0.key, is.1) }
+op_by_rules decls (Scan storage low high) is e = record { fitting = e; numbers = (is.0.key, is.1) }
 
 -- the same of all operations
 ops_by_rules : (decls : List Decl) (ops : List Op) → AllByRecursion IsSpelled ops → list_all (fits decls) ops ≡ true → AllByRecursion (IsOp decls) ops

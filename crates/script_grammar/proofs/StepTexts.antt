@@ -7,12 +7,13 @@ use Rattle.std.proofs.lemmas.Bool.{ltb-true, ltb-false, lt-ltb, eqb-true, ne_eqb
 use Rattle.std.proofs.lemmas.List.{append-nil, map_push, nil_from_length}
 use Rattle.lists.specs.Each.{AreDistinct, all_push}
 use Rattle.serial_model.specs.Keys.{id_of, fits}
+use Rattle.serial_model.specs.Decls.{IsDecl}
 use Rattle.serial_model.specs.declared.decl.Decl.{Decl}
 use Rattle.script_grammar.specs.Script.{Bytes, Line, Worker, Keeper, Round, line_text, decl_text, joined_lines, IsLine, IsRound}
 use Rattle.script_grammar.specs.Words.{◌>>=◌, is_join}
 use Rattle.script_grammar.specs.Reading.{Parts, no_parts, decl_at, line_at, may_declare, may_follow, with_decl, with_line, with_join, with_some_line, is_fresh, begins_declaration, step, steps}
 use Rattle.script_grammar.proofs.Found.{bind_some, test_some, not_test_some, some_same, not_false}
-use Rattle.script_grammar.proofs.LineTexts.{IsSpelledLine, IsNamed, decl_takes, line_takes}
+use Rattle.script_grammar.proofs.LineTexts.{IsSpelledLine, decl_takes, line_takes}
 use Rattle.script_grammar.proofs.Rules.{is_declared, line_by_rules, distinct_push}
 
 -- the lines of what was read
@@ -25,7 +26,7 @@ IsShort line = length line ≤ 1024
 -- what was read keeps the rules of a script
 pub record IsSound (p : Parts) : Type 0 where
   pub few_decls : length p.decls ≤ 16
-  pub decls : AllByRecursion IsNamed p.decls
+  pub decls : AllByRecursion IsDecl p.decls
   pub distinct : AreDistinct (map id_of p.decls)
   pub joined : AllByRecursion (IsRound p.decls) p.joined
   pub few_lines : length p.lines ≤ 65536
@@ -42,7 +43,7 @@ pub record Grows (p : Parts) (line : Bytes) (q : Parts) : Type 0 where
   pub text : texts q ≡ texts p ++ line ∷ []
 
 -- a new declaration keeps the rules
-with_decl-grows : (decls : List Decl) (d : Decl) (line : Bytes) → IsSound (record { decls = decls; joined = []; lines = [] }) → length line ≤ 1024 → line ≡ decl_text d → IsNamed d
+with_decl-grows : (decls : List Decl) (d : Decl) (line : Bytes) → IsSound (record { decls = decls; joined = []; lines = [] }) → length line ≤ 1024 → line ≡ decl_text d → IsDecl d
     → length decls < 16 → is_declared d decls ≡ false → Grows (record { decls = decls; joined = []; lines = [] }) line (record { decls = decls ++ d ∷ []; joined = []; lines = [] })
 with_decl-grows decls d line sound short e is room new =
     let before : Parts = record { decls = decls; joined = []; lines = [] } in
@@ -54,7 +55,7 @@ with_decl-grows decls d line sound short e is room new =
     record {
       sound = record {
         few_decls = omega (arith, length-append decls (d ∷ []));
-        decls = all_push IsNamed decls d sound.decls is;
+        decls = all_push IsDecl decls d sound.decls is;
         distinct = distinct_push decls d sound.distinct new;
         joined = tt;
         few_lines = omega arith;

@@ -9,7 +9,7 @@ use Rattle.serial_model.specs.declared.decl.Decl.{Decl}
 use Rattle.script_grammar.specs.Script.{Bytes, Line, Round, Script, IsTextOf, IsScript, IsLine, IsRound, joined_lines, last_round, lines_of, line_text, decl_text}
 use Rattle.script_grammar.specs.Reading.{Parts, no_parts, steps, parts_of, script_from}
 use Rattle.script_grammar.proofs.Found.{not_test_some}
-use Rattle.script_grammar.proofs.Rules.{all_front, all_back, are_named, named_are}
+use Rattle.script_grammar.proofs.Rules.{all_front, all_back}
 use Rattle.script_grammar.proofs.StepTexts.{IsShort, is_some_line, nothing_sound, steps-filter, steps_take}
 use Rattle.script_grammar.proofs.StepAgain.{decls_again, lines_again, rounds_again}
 
@@ -43,7 +43,6 @@ text_from_parts bytes p e =
     let t = not_test_some (ltb 67108864 (length bytes)) (steps no_parts (slice_split (λ b. b == 10) bytes)) p e in
     let read : steps no_parts (lines_of bytes) ≡ Some p = sym (steps-filter no_parts (slice_split (λ b. b == 10) bytes)) ∙ t.1 in
     let taken = steps_take no_parts p (lines_of bytes) nothing_sound (all_some (slice_split (λ b. b == 10) bytes)) read in
-    let named = named_are p.decls taken.sound.decls in
     record {
       size = ltb-false _ _ t.0;
       short = subst (AllByRecursion IsShort) taken.text taken.sound.short;
@@ -52,8 +51,7 @@ text_from_parts bytes p e =
       rounds = refl;
       lines = sym taken.text;
       rules = record {
-        decls = record { few = taken.sound.few_decls; each = named.0; distinct = taken.sound.distinct };
-        arrays = named.1;
+        decls = record { few = taken.sound.few_decls; each = taken.sound.decls; distinct = taken.sound.distinct };
         rounds = rounds_by_rules p.decls p.joined p.lines taken.sound.joined taken.sound.few_lines taken.sound.lines;
       };
     }
@@ -76,13 +74,12 @@ parts_by_rules decls joined rest rules short =
     let last = rest_by_rules decls joined rest (all_back (IsRound decls) joined (last_round joined rest) rules.rounds) in
     let few_lines = last.few_lines in
     let few_decls = rules.decls.few in
-    let named = are_named decls rules.decls.each rules.arrays in
     let lines_short = all_back IsShort (map decl_text decls) (joined_lines joined ++ map line_text rest) short in
     let p : Parts = record { decls = decls; joined = joined; lines = [] } in
-    decls_again [] decls (joined_lines joined ++ map line_text rest) (omega arith) named rules.decls.distinct (all_front IsShort (map decl_text decls) (joined_lines joined ++ map line_text rest) short)
-    ∙ rounds_again decls [] joined (map line_text rest) named front (all_front IsShort (joined_lines joined) (map line_text rest) lines_short)
+    decls_again [] decls (joined_lines joined ++ map line_text rest) (omega arith) rules.decls.each rules.decls.distinct (all_front IsShort (map decl_text decls) (joined_lines joined ++ map line_text rest) short)
+    ∙ rounds_again decls [] joined (map line_text rest) rules.decls.each front (all_front IsShort (joined_lines joined) (map line_text rest) lines_short)
     ∙ ap (steps p) (sym (append-nil (map line_text rest)))
-    ∙ lines_again p rest [] (omega arith) named last.lines (all_back IsShort (joined_lines joined) (map line_text rest) lines_short)
+    ∙ lines_again p rest [] (omega arith) rules.decls.each last.lines (all_back IsShort (joined_lines joined) (map line_text rest) lines_short)
 
 -- a script with this text is read
 pub parts_from_text : (bytes : Bytes) (script : Script) → IsTextOf bytes script → (p : Parts) × (parts_of bytes ≡ Some p) × (script_from p ≡ script)

@@ -33,7 +33,7 @@ words_digits (d ∷ ds) rest all =
     rw (ne_eqb d 32 (λ same. omega arith), words_digits ds rest all.1) refl
 
 -- digits alone are a word
-words_last : (ds : Bytes) → AllDigits 10 ds → words ds ≡ ds ∷ []
+pub words_last : (ds : Bytes) → AllDigits 10 ds → words ds ≡ ds ∷ []
 words_last [] all = refl
 words_last (d ∷ ds) all =
     let h = digit_from_value d all.0 in

@@ -2,9 +2,9 @@
 use Rattle.std.specs.Prelude.{◌≡◌, ℕ, ◌+◌, ◌==◌, ◌&&◌, ◌||◌, Bool, true, false, List, [], ◌∷◌, ◌++◌, length, codes, nat_lt, nat_le, not, if◌then◌else◌, slice_get, Option, Some, None, is_none}
 use Rattle.std.specs.List.{list_any, slice_split}
 use Rattle.decimals.specs.Numbers.{number_of}
-use Rattle.serial_model.specs.Keys.{has_key, id_of}
+use Rattle.serial_model.specs.Keys.{has_key, id_of, is_tree}
 use Rattle.serial_model.specs.declared.decl.Decl.{Decl}
-use Rattle.serial_model.specs.declared.decl.Decl.TheVariants.{Array}
+use Rattle.serial_model.specs.declared.decl.Decl.TheVariants.{Array, Tree}
 use Rattle.script_grammar.specs.declared.fault.ScriptFault.{ScriptFault}
 use Rattle.script_grammar.specs.declared.fault.FaultKind.{FaultKind}
 use Rattle.script_grammar.specs.declared.fault.FaultKind.TheVariants.{TooLong, Word, Number, TooMany, Declared, Kind, Range}
@@ -29,9 +29,10 @@ place_after p = record { decls = p.decls; begun = not (is_fresh p); lines = leng
 abbrev pub has_letter : Bytes → List Bytes → Bool
 has_letter letters ws = passes (is_letter letters) (slice_get ws 0)
 
--- a letter, a storage and a key, and where it is no read a value
+-- a letter, a storage and a key, and where the letter asks for it one number more
 abbrev pub is_op_shape : List Bytes → Bool
-is_op_shape ws = ((length ws == 3) && has_letter (codes "r") ws) || ((length ws == 4) && has_letter (codes "wat") ws)
+is_op_shape ws =
+    ((length ws == 3) && has_letter (codes "rd") ws) || ((length ws == 4) && has_letter (codes "wats") ws)
 
 -- a number's place has something else
 abbrev pub lacks_op_number : List Bytes → Bool
@@ -40,6 +41,11 @@ lacks_op_number ws = is_no_number ws 1 || (is_no_number ws 2 || is_no_number ws 
 -- no storage has such an id, or none with it is declared
 abbrev pub is_undeclared : List Decl → ℕ → Bool
 is_undeclared decls storage = nat_le 256 storage || not (list_any (λ d. id_of d == storage) decls)
+
+-- the operation is one that trees alone have, and its storage is none
+abbrev pub lacks_tree : List Decl → List Bytes → Bool
+lacks_tree decls ws =
+    has_letter (codes "ds") ws && passes (λ storage. not (is_tree decls storage)) (number_in ws 1)
 
 -- the declared storages have no such key
 abbrev pub lacks_key : List Decl → List Bytes → Bool
@@ -52,10 +58,10 @@ unfoldable pub op_is : FaultKind → List Decl → Bytes → Bool
 op_is Word decls op = not (is_op_shape (words op))
 op_is Number decls op = lacks_op_number (words op)
 op_is Declared decls op = passes (is_undeclared decls) (number_in (words op) 1)
+op_is Kind decls op = lacks_tree decls (words op)
 op_is Range decls op = lacks_key decls (words op)
 op_is TooLong decls op = false
 op_is TooMany decls op = false
-op_is Kind decls op = false
 
 -- some operation of the line is at fault in this way
 unfoldable pub some_op_is : FaultKind → List Decl → Bytes → Bool
@@ -63,9 +69,13 @@ some_op_is kind decls line = list_any (op_is kind decls) (op_parts line)
 
 -- ---- what a line lacks
 
--- three words, the first of them that of a declaration
+-- so many words, and this is the first of them
+abbrev pub begins_with : Bytes → ℕ → List Bytes → Bool
+begins_with word count ws = (length ws == count) && passes (is_word word) (slice_get ws 0)
+
+-- an array's three words, or a tree's two
 unfoldable pub is_decl_shape : Bytes → Bool
-is_decl_shape line = (length (words line) == 3) && passes (is_word (codes "array")) (slice_get (words line) 0)
+is_decl_shape line = begins_with (codes "array") 3 (words line) || begins_with (codes "tree") 2 (words line)
 
 -- more than 1,024 bytes
 unfoldable pub is_too_long : Place → Bytes → Bool
@@ -96,9 +106,9 @@ is_misdeclared place line =
     else (is_decl_shape line
     && (place.begun || passes (λ id. list_any (λ d. id_of d == id) place.decls) (number_in (words line) 1)))
 
--- no storage has the operation of another kind: all that can be declared are arrays, and all operations are theirs
-abbrev pub is_of_other_kind : Place → Bytes → Bool
-is_of_other_kind place line = false
+-- an operation is one that its storage's kind doesn't have
+unfoldable pub is_of_other_kind : Place → Bytes → Bool
+is_of_other_kind place line = is_worker_line line && some_op_is Kind place.decls line
 
 -- a number is out of its range
 unfoldable pub is_out_of_range : Place → Bytes → Bool
@@ -132,10 +142,11 @@ kind_of place line = first_kind tests place line
 
 -- ---- the first faulty line
 
--- the storage that a declaration declares
+-- the storage that a declaration declares: an array where there is a size
 abbrev pub declared_by : Option ℕ → Option ℕ → List Decl
 declared_by (Some id) (Some size) = Array id size ∷ []
-declared_by _ _ = []
+declared_by (Some id) None = Tree id ∷ []
+declared_by None size = []
 
 -- where the line behind this one stands
 unfoldable pub place_past : Place → Bytes → Place

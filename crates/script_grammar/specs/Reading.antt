@@ -1,5 +1,5 @@
 -- Reading a script: what each line adds to what was read before it, word by word.
-use Rattle.std.specs.Prelude.{◌≡◌, ℕ, ◌==◌, ◌&&◌, Bool, false, List, [], ◌∷◌, ◌++◌, length, codes, nat_lt, nat_le, not, if◌then◌else◌, Option, Some, None, Result, Ok, Err, ⊤}
+use Rattle.std.specs.Prelude.{◌≡◌, ℕ, ◌==◌, ◌&&◌, ◌||◌, Bool, false, List, [], ◌∷◌, ◌++◌, length, codes, nat_lt, nat_le, not, if◌then◌else◌, Option, Some, None, Result, Ok, Err, ⊤}
 use Rattle.std.specs.List.{list_all, list_any, slice_split}
 use Rattle.decimals.specs.Numbers.{number_of}
 use Rattle.lists.specs.declared.memory.OrMemory.{OrMemory}
@@ -7,9 +7,9 @@ use Rattle.lists.specs.declared.memory.OrMemory.TheVariants as errors
 use Rattle.serial_model.specs.Keys.{fits, id_of}
 use Rattle.serial_model.specs.declared.key.Key.{Key}
 use Rattle.serial_model.specs.declared.op.Op.{Op}
-use Rattle.serial_model.specs.declared.op.Op.TheVariants.{Read, Write, Add, Take}
+use Rattle.serial_model.specs.declared.op.Op.TheVariants.{Read, Write, Remove, Add, Take, Scan}
 use Rattle.serial_model.specs.declared.decl.Decl.{Decl}
-use Rattle.serial_model.specs.declared.decl.Decl.TheVariants.{Array}
+use Rattle.serial_model.specs.declared.decl.Decl.TheVariants.{Array, Tree}
 use Rattle.script_grammar.specs.declared.fault.ScriptFault.{ScriptFault}
 use Rattle.script_grammar.specs.declared.fault.Refused.{Refused}
 use Rattle.script_grammar.specs.Script.{Bytes, Line, Worker, Keeper, Round, Script, last_round}
@@ -29,22 +29,25 @@ abbrev pub letter_in : Bytes → Option ℕ
 letter_in (letter ∷ []) = Some letter
 letter_in _ = None
 
--- a read, by its letter r
-abbrev pub read_by : ℕ → Key → Option Op
-read_by letter key = if letter == 114 then Some (Read key) else None
+-- an operation of a key alone, by its letter r or d
+abbrev pub short_op_by : ℕ → Key → Option Op
+short_op_by letter key =
+    if letter == 114 then Some (Read key)
+    else (if letter == 100 then Some (Remove key) else None)
 
--- a change, by its letter w, a or t
-abbrev pub change_by : ℕ → Key → ℕ → Option Op
-change_by letter key value =
+-- an operation of a key and a value, by its letter w, a or t, or a scan, by its letter s, whose highest key is the value
+abbrev pub long_op_by : ℕ → Key → ℕ → Option Op
+long_op_by letter key value =
     if letter == 119 then Some (Write key value)
     else (if letter == 97 then Some (Add key value)
-    else (if letter == 116 then Some (Take key value) else None))
+    else (if letter == 116 then Some (Take key value)
+    else (if letter == 115 then Some (Scan key.storage key.key value) else None)))
 
--- the operation of the words: a letter, a storage and a key, and where it is no read a value
+-- the operation of the words: a letter, a storage and a key, and where the letter asks for it one number more
 abbrev pub op_in : List Bytes → Option Op
-op_in (word ∷ storage ∷ key ∷ []) = letter_in word >>= (λ letter. key_in storage key >>= read_by letter)
+op_in (word ∷ storage ∷ key ∷ []) = letter_in word >>= (λ letter. key_in storage key >>= short_op_by letter)
 op_in (word ∷ storage ∷ key ∷ value ∷ []) =
-    letter_in word >>= (λ letter. key_in storage key >>= (λ k. number_of value >>= change_by letter k))
+    letter_in word >>= (λ letter. key_in storage key >>= (λ k. number_of value >>= long_op_by letter k))
 op_in _ = None
 
 -- an operation before others
@@ -81,8 +84,13 @@ line_at line = do
 abbrev pub array_in : ℕ → ℕ → Option Decl
 array_in id size = if nat_lt id 256 && (nat_lt 0 size && nat_le size 131072) then Some (Array id size) else None
 
--- a declaration's three words
+-- a tree with its id
+abbrev pub tree_in : ℕ → Option Decl
+tree_in id = if nat_lt id 256 then Some (Tree id) else None
+
+-- a declaration's words: those of an array are three, those of a tree two
 abbrev pub decl_in : List Bytes → Option Decl
+decl_in (word ∷ id ∷ []) = if is_word (codes "tree") word then (number_of id >>= tree_in) else None
 decl_in (word ∷ id ∷ size ∷ []) =
     if is_word (codes "array") word then (number_of id >>= (λ i. number_of size >>= array_in i)) else None
 decl_in _ = None
@@ -136,10 +144,10 @@ with_line p line = do
 abbrev pub with_join : Parts → Parts
 with_join p = record { decls = p.decls; joined = p.joined ++ record { lines = p.lines } ∷ []; lines = [] }
 
--- a declaration begins with a letter of its own
+-- a declaration begins with a letter of its own, a or t
 abbrev pub begins_declaration : Bytes → Bool
 begins_declaration [] = false
-begins_declaration (b ∷ bs) = b == 97
+begins_declaration (b ∷ bs) = (b == 97) || (b == 116)
 
 -- one line more, by its kind
 unfoldable pub with_some_line : Parts → Bytes → Option Parts

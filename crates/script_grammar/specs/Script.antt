@@ -1,5 +1,5 @@
 -- Scripts, and which bytes are the text of one.
-use Rattle.std.specs.Prelude.{◌≡◌, ℕ, ◌<◌, ◌≤◌, ◌^◌, ◌==◌, IsTrue, List, [], ◌∷◌, ◌++◌, length, map, filter, codes, decimal, nat_lt, if◌then◌else◌, Option, Some, None, ⊤}
+use Rattle.std.specs.Prelude.{◌≡◌, ℕ, ◌<◌, ◌≤◌, ◌^◌, ◌==◌, IsTrue, List, [], ◌∷◌, ◌++◌, length, map, filter, codes, decimal, nat_lt, if◌then◌else◌, Option, Some, None}
 use Rattle.std.specs.List.{AllByRecursion, filter_map, slice_split}
 use Rattle.serial_model.specs.Keys.{fits}
 use Rattle.serial_model.specs.Decls.{AreDecls}
@@ -117,23 +117,19 @@ last_round (round ∷ rounds) (line ∷ rest) = record { lines = line ∷ rest }
 
 -- ---- what holds of the lines of a script
 
--- arrays alone are declared for now
-abbrev pub IsArray : Decl → Type 0
-IsArray (Array id size) = ⊤
-IsArray (Tree id) = ⊥
+-- the operation's keys and its value are numbers that a u64 has
+abbrev pub HasNumbers : Op → Type 0
+HasNumbers (Read k) = k.key < 2 ^ 64
+HasNumbers (Write k v) = (k.key < 2 ^ 64) × (v < 2 ^ 64)
+HasNumbers (Remove k) = k.key < 2 ^ 64
+HasNumbers (Add k v) = (k.key < 2 ^ 64) × (v < 2 ^ 64)
+HasNumbers (Take k v) = (k.key < 2 ^ 64) × (v < 2 ^ 64)
+HasNumbers (Scan storage low high) = (low < 2 ^ 64) × (high < 2 ^ 64)
 
--- the operation is a read, or a change by a value that a u64 has; no others are named for now
-abbrev pub HasValue : Op → Type 0
-HasValue (Read k) = ⊤
-HasValue (Write k v) = v < 2 ^ 64
-HasValue (Add k v) = v < 2 ^ 64
-HasValue (Take k v) = v < 2 ^ 64
-HasValue _ = ⊥
-
--- a read or a change of a declared storage's key
+-- an operation on a declared storage of a kind that has it, and of an array on a key that it has
 pub record IsOp (decls : List Decl) (op : Op) : Type 0 where
   pub fitting : IsTrue (fits decls op)
-  pub value : HasValue op
+  pub numbers : HasNumbers op
 
 -- 1 to 16 operations of a worker from 0 to 7
 pub record IsTransaction (decls : List Decl) (number : ℕ) (list : List Op) : Type 0 where
@@ -155,7 +151,6 @@ pub record IsRound (decls : List Decl) (round : Round) : Type 0 where
 -- the declarations and the rounds are by the rules
 pub record IsScript (script : Script) : Type 0 where
   pub decls : AreDecls script.decls
-  pub arrays : AllByRecursion IsArray script.decls
   pub rounds : AllByRecursion (IsRound script.decls) script.rounds
 
 -- ---- the text of a script

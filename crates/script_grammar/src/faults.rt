@@ -4,7 +4,7 @@ ghost use Rattle.std.specs.List.{list_any};
 ghost use Rattle.serial_model.specs.Keys.{id_of};
 ghost use Rattle.decimals.specs.Numbers.{number_of};
 ghost use Rattle.script_grammar.specs.Words.{passes, words, number_in, is_word, is_worker_line};
-ghost use Rattle.script_grammar.specs.Faults.{is_decl_shape, has_no_shape, lacks_number, is_too_many, is_misdeclared, is_out_of_range, kind_of};
+ghost use Rattle.script_grammar.specs.Faults.{begins_with, is_decl_shape, has_no_shape, lacks_number, is_too_many, is_misdeclared, is_of_other_kind, is_out_of_range, kind_of};
 
 use crate::fault::FaultKind;
 use crate::op_faults::{declares, op_count, some_op_is};
@@ -44,11 +44,15 @@ fn is_worker_line(line: &[u8]) -> bool
     }
 }
 
-fn is_array_word(line: &[u8]) -> bool
-    ensures { result ≡ passes (is_word (codes "array")) (slice_get (words line.now) 0) }
+/// So many words, and this is the first of them.
+fn begins_with(first: &[u8], count: usize, line: &[u8]) -> bool
+    ensures { result ≡ begins_with first.now count (words line.now) }
 {
+    if word_count(line) != count {
+        return false;
+    }
     match word(line, 0) {
-        Some(word) => word == b"array".as_slice(),
+        Some(word) => word == first,
         None => false,
     }
 }
@@ -57,7 +61,7 @@ fn is_array_word(line: &[u8]) -> bool
 fn is_decl_shape(line: &[u8]) -> bool
     ensures { result ≡ is_decl_shape line.now }
 {
-    word_count(line) == 3 && is_array_word(line)
+    begins_with(b"array", 3, line) || begins_with(b"tree", 2, line)
 }
 
 #[tactic(auto, unfolding(crate::specs::Faults::has_no_shape))]
@@ -113,6 +117,13 @@ fn is_misdeclared(place: &Place, line: &[u8]) -> bool
     } else {
         is_decl_shape(line) && (place.begun || is_declared_again(place.decls, line))
     }
+}
+
+#[tactic(auto, unfolding(crate::specs::Faults::is_of_other_kind))]
+fn is_of_other_kind(place: &Place, line: &[u8]) -> bool
+    ensures { result ≡ is_of_other_kind place.now line.now }
+{
+    is_worker_line(line) && some_op_is(FaultKind::Kind, place.decls, line)
 }
 
 fn is_no_worker(word: &[u8]) -> bool
@@ -173,6 +184,9 @@ pub(crate) fn kind_of(place: &Place, line: &[u8]) -> Option<FaultKind>
     }
     if is_misdeclared(place, line) {
         return Some(FaultKind::Declared);
+    }
+    if is_of_other_kind(place, line) {
+        return Some(FaultKind::Kind);
     }
     if is_out_of_range(place, line) {
         return Some(FaultKind::Range);

@@ -1,9 +1,9 @@
 // What an operation of a worker's line has or lacks, where the line is no line of a script.
 ghost use Rattle.std.specs.Prelude.{◌≡◌, ◌==◌, length};
 ghost use Rattle.std.specs.List.{list_any};
-ghost use Rattle.serial_model.specs.Keys.{id_of, has_key_of, has_key};
+ghost use Rattle.serial_model.specs.Keys.{id_of, has_key_of, has_key, is_tree, is_tree_of};
 ghost use Rattle.script_grammar.specs.Words.{words, number_in, parts, is_letter, op_parts};
-ghost use Rattle.script_grammar.specs.Faults.{has_letter, is_op_shape, lacks_op_number, is_undeclared, lacks_key, op_is, some_op_is};
+ghost use Rattle.script_grammar.specs.Faults.{has_letter, is_op_shape, lacks_op_number, is_undeclared, lacks_tree, lacks_key, op_is, some_op_is};
 
 use crate::fault::FaultKind;
 use crate::read_op::IDS;
@@ -32,7 +32,7 @@ fn is_op_shape(op: &[u8]) -> bool
     ensures { result ≡ is_op_shape (words op.now) }
 {
     let count = word_count(op);
-    (count == 3 && has_letter(b"r", op)) || (count == 4 && has_letter(b"wat", op))
+    (count == 3 && has_letter(b"rd", op)) || (count == 4 && has_letter(b"wats", op))
 }
 
 fn lacks_op_number(op: &[u8]) -> bool
@@ -76,6 +76,34 @@ fn has_key(decls: &[Decl], storage: u64, key: u64) -> bool
     decls.iter().any(|decl| has_key_of(storage, key, decl))
 }
 
+fn is_tree_of(storage: u64, decl: &Decl) -> bool
+    ensures { result ≡ is_tree_of storage decl.now }
+{
+    match *decl {
+        Decl::Array { .. } => false,
+        Decl::Tree { id } => u64::from(id) == storage,
+    }
+}
+
+fn is_tree(decls: &[Decl], storage: u64) -> bool
+    ensures { result ≡ is_tree decls.now storage }
+{
+    decls.iter().any(|decl| is_tree_of(storage, decl))
+}
+
+/// Only trees have the operation, and its storage is none.
+fn lacks_tree(decls: &[Decl], op: &[u8]) -> bool
+    ensures { result ≡ lacks_tree decls.now (words op.now) }
+{
+    if !has_letter(b"ds", op) {
+        return false;
+    }
+    match number_in(op, 1) {
+        Some(storage) => !is_tree(decls, storage),
+        None => false,
+    }
+}
+
 /// The declared storages have no such key.
 fn lacks_key(decls: &[Decl], op: &[u8]) -> bool
     ensures { result ≡ lacks_key decls.now (words op.now) }
@@ -101,8 +129,9 @@ fn op_is(kind: FaultKind, decls: &[Decl], op: &[u8]) -> bool
             Some(storage) => is_undeclared(decls, storage),
             None => false,
         },
+        FaultKind::Kind => lacks_tree(decls, op),
         FaultKind::Range => lacks_key(decls, op),
-        FaultKind::TooLong | FaultKind::TooMany | FaultKind::Kind => false,
+        FaultKind::TooLong | FaultKind::TooMany => false,
     }
 }
 

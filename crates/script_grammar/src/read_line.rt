@@ -2,7 +2,7 @@
 ghost use Rattle.std.specs.Prelude.{◌≡◌, [], ◌∷◌, None, Some, MatchOption};
 ghost use Rattle.script_grammar.specs.Script.{Worker};
 ghost use Rattle.script_grammar.specs.Words.{is_join};
-ghost use Rattle.script_grammar.specs.Reading.{array_in, decl_at, decl_in, line_at, worker_in};
+ghost use Rattle.script_grammar.specs.Reading.{array_in, decl_at, decl_in, line_at, tree_in, worker_in};
 
 use crate::cut::cut;
 use crate::flat_ops::LineOps;
@@ -60,8 +60,19 @@ fn array_in(id: u64, size: u64) -> Option<Decl>
     }
 }
 
+/// A tree with its id.
+fn tree_in(id: u64) -> Option<Decl>
+    ensures { result ≡ tree_in id }
+{
+    if id < IDS {
+        Some(Decl::Tree { id: id as u8 })
+    } else {
+        None
+    }
+}
+
 /// A declaration of three words.
-fn decl_in(word: &[u8], id: &[u8], size: &[u8]) -> Option<Decl>
+fn array_decl(word: &[u8], id: &[u8], size: &[u8]) -> Option<Decl>
     ensures { result ≡ decl_in (word.now ∷ id.now ∷ size.now ∷ []) }
 {
     if word != b"array".as_slice() {
@@ -72,15 +83,27 @@ fn decl_in(word: &[u8], id: &[u8], size: &[u8]) -> Option<Decl>
     array_in(id, size)
 }
 
-/// An array's declaration.
+/// A declaration of two words.
+fn tree_decl(word: &[u8], id: &[u8]) -> Option<Decl>
+    ensures { result ≡ decl_in (word.now ∷ id.now ∷ []) }
+{
+    if word != b"tree".as_slice() {
+        return None;
+    }
+    tree_in(number_of(id)?)
+}
+
+/// A declaration.
 #[tactic(auto, unfolding(crate::specs::Reading::decl_at))]
 pub(crate) fn decl_at(line: &[u8]) -> Option<Decl>
     ensures { result ≡ decl_at line.now }
 {
     let (word, rest) = cut(b' ', line)?;
-    let (id, size) = cut(b' ', rest)?;
+    let Some((id, size)) = cut(b' ', rest) else {
+        return tree_decl(word, rest);
+    };
     match cut(b' ', size) {
         Some(_) => None,
-        None => decl_in(word, id, size),
+        None => array_decl(word, id, size),
     }
 }

@@ -1,7 +1,7 @@
 // Operations, one after another up to the end of a line.
 ghost use Rattle.std.specs.Prelude.{◌≡◌, [], ◌∷◌, None, Some, MatchOption};
 ghost use Rattle.script_grammar.specs.Words.{words, parts};
-ghost use Rattle.script_grammar.specs.Reading.{change_by, few_ops_in, key_in, letter_in, op_in};
+ghost use Rattle.script_grammar.specs.Reading.{few_ops_in, key_in, letter_in, long_op_by, op_in, short_op_by};
 
 use crate::cut::cut;
 use crate::flat_ops::LineOps;
@@ -40,39 +40,51 @@ fn letter_in(word: &[u8]) -> Option<u8>
     }
 }
 
-/// A change, by its letter.
-fn change_by(letter: u8, key: Key, value: u64) -> Option<Op>
-    ensures { result ≡ change_by letter key value }
+/// An operation of a key alone, by its letter.
+fn short_op_by(letter: u8, key: Key) -> Option<Op>
+    ensures { result ≡ short_op_by letter key }
+{
+    match letter {
+        b'r' => Some(Op::Read(key)),
+        b'd' => Some(Op::Remove(key)),
+        _ => None,
+    }
+}
+
+/// An operation of a key and a value, or a scan up to that value, by its letter.
+fn long_op_by(letter: u8, key: Key, value: u64) -> Option<Op>
+    ensures { result ≡ long_op_by letter key value }
 {
     match letter {
         b'w' => Some(Op::Write(key, value)),
         b'a' => Some(Op::Add(key, value)),
         b't' => Some(Op::Take(key, value)),
+        b's' => Some(Op::Scan {
+            storage: key.storage,
+            low: key.key,
+            high: value,
+        }),
         _ => None,
     }
 }
 
-/// A read of three words.
-fn read_in(word: &[u8], storage: &[u8], key: &[u8]) -> Option<Op>
+/// An operation of three words.
+fn short_op_in(word: &[u8], storage: &[u8], key: &[u8]) -> Option<Op>
     ensures { result ≡ op_in (word.now ∷ storage.now ∷ key.now ∷ []) }
 {
     let letter = letter_in(word)?;
     let key = key_in(storage, key)?;
-    if letter == b'r' {
-        Some(Op::Read(key))
-    } else {
-        None
-    }
+    short_op_by(letter, key)
 }
 
-/// A change of four words.
-fn change_in(word: &[u8], storage: &[u8], key: &[u8], value: &[u8]) -> Option<Op>
+/// An operation of four words.
+fn long_op_in(word: &[u8], storage: &[u8], key: &[u8], value: &[u8]) -> Option<Op>
     ensures { result ≡ op_in (word.now ∷ storage.now ∷ key.now ∷ value.now ∷ []) }
 {
     let letter = letter_in(word)?;
     let key = key_in(storage, key)?;
     let value = number_of(value)?;
-    change_by(letter, key, value)
+    long_op_by(letter, key, value)
 }
 
 /// The operation of a part.
@@ -82,11 +94,11 @@ fn op_in(part: &[u8]) -> Option<Op>
     let (word, rest) = cut(b' ', part)?;
     let (storage, rest) = cut(b' ', rest)?;
     let Some((key, value)) = cut(b' ', rest) else {
-        return read_in(word, storage, rest);
+        return short_op_in(word, storage, rest);
     };
     match cut(b' ', value) {
         Some(_) => None,
-        None => change_in(word, storage, key, value),
+        None => long_op_in(word, storage, key, value),
     }
 }
 

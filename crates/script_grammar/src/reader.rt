@@ -145,7 +145,7 @@ impl Reader {
             return self.add_join();
         }
         match line {
-            [b'a', ..] => self.add_decl(line),
+            [b'a' | b't', ..] => self.add_decl(line),
             _ => self.add_line(line),
         }
     }

@@ -17,7 +17,11 @@ const WORD: &[u8] = b"\
 1 \x20array 1 4|\
 1 array 1 4 |\
 1 array  1 4|\
-1 tree 2|\
+1 tree|\
+1 tree 2 4|\
+1 tree  2|\
+1 Tree 2|\
+1 trees 2|\
 1 k save|\
 1 joi|\
 1 join |\
@@ -37,8 +41,12 @@ const WORD: &[u8] = b"\
 2 array 1 4\n 0 r 1 0|\
 2 array 1 4\n0 r 1 0 |\
 2 array 1 4\n-1 r 1 0|\
-2 array 1 4\n0 d 1 0|\
-2 array 1 4\n0 s 1 0 1|\
+2 tree 1\n0 d 1|\
+2 tree 1\n0 d 1 0 0|\
+2 tree 1\n0 s 1 0|\
+2 tree 1\n0 s 1 0 1 2|\
+2 tree 1\n0 D 1 0|\
+2 tree 1\n0 ds 1 0 1|\
 2 array 1 4\n0 R 1 0|\
 2 array 1 4\n0 r 1 0;r 1 0|\
 2 array 1 4\n0 r 1 0;  r 1 0|\
@@ -56,6 +64,15 @@ const NUMBER: &[u8] = b"\
 1 array 01 4|\
 1 array 1 18446744073709551616|\
 1 array 300 x|\
+1 tree |\
+1 tree x|\
+1 tree 02|\
+2 tree 1\n0 d 1 x|\
+2 tree 1\n0 d 1 18446744073709551616|\
+2 tree 1\n0 s 1 x 0|\
+2 tree 1\n0 s 1 0 x|\
+2 tree 1\n0 s 1 0 18446744073709551616|\
+2 array 1 4\n0 d 1 0; s 1 0 x|\
 2 array 1 4\n0 r 1 0;|\
 2 array 1 4\n00 r 1 0|\
 2 array 1 4\n0 r 1 00|\
@@ -76,6 +93,7 @@ const NUMBER: &[u8] = b"\
 const TOO_MANY: &[u8] = b"\
 2 array 1 4\n0 r 1 0; r 1 0; r 1 0; r 1 0; r 1 0; r 1 0; r 1 0; r 1 0; r 1 0; r 1 0; r 1 0; r 1 0; r 1 0; r 1 0; r 1 0; r 1 0; r 1 0|\
 A array 0 1\narray 1 1\narray 2 1\narray 3 1\narray 4 1\narray 5 1\narray 6 1\narray 7 1\narray 8 1\narray 9 1\narray 10 1\narray 11 1\narray 12 1\narray 13 1\narray 14 1\narray 15 1\narray 16 1\n|\
+A tree 0\ntree 1\ntree 2\ntree 3\ntree 4\ntree 5\ntree 6\ntree 7\ntree 8\ntree 9\ntree 10\ntree 11\ntree 12\ntree 13\ntree 14\narray 15 1\ntree 0|\
 3 array 1 4\njoin\n8 r 2 9; r 2 9; r 2 9; r 2 9; r 2 9; r 2 9; r 2 9; r 2 9; r 2 9; r 2 9; r 2 9; r 2 9; r 2 9; r 2 9; r 2 9; r 2 9; r 2 9";
 
 /// Declared late, again or not at all.
@@ -88,7 +106,22 @@ const DECLARED: &[u8] = b"\
 2 array 1 4\n0 r 256 0|\
 2 array 1 4\n0 r 18446744073709551615 0|\
 2 array 1 4\n8 r 1 0; w 2 9 1|\
+2 tree 1\ntree 1|\
+2 tree 1\narray 1 4|\
+2 array 1 4\ntree 1|\
+2 join\ntree 1|\
+2 tree 1\n0 d 2 0|\
+2 tree 1\n0 s 256 0 1|\
+2 array 1 4\n0 d 1 0; r 2 0|\
 1 0 r 1 0";
+
+/// Of trees alone.
+const KIND: &[u8] = b"\
+2 array 1 4\n0 d 1 0|\
+2 array 1 4\n0 s 1 0 1|\
+2 array 1 4\n0 d 1 4|\
+2 array 1 4\n8 s 1 0 1|\
+3 tree 2\narray 1 4\n0 d 2 0; d 1 0; r 1 9";
 
 /// Out of range.
 const RANGE: &[u8] = b"\
@@ -96,6 +129,10 @@ const RANGE: &[u8] = b"\
 1 array 1 0|\
 1 array 1 131073|\
 1 array 18446744073709551615 1|\
+1 tree 256|\
+1 tree 18446744073709551615|\
+2 tree 1\n8 d 1 0|\
+3 tree 2\narray 1 4\n0 d 2 9; r 1 4|\
 2 array 1 4\n0 r 1 4|\
 2 array 1 4\n8 r 1 0|\
 2 array 1 4\n0 t 1 4 1|\
@@ -146,6 +183,7 @@ fn tells_numbers(rt: HostRuntime) {
 fn tells_the_other_kinds(rt: HostRuntime) {
     tells(&rt, rt.alloc(), FaultKind::TooMany, TOO_MANY);
     tells(&rt, rt.alloc(), FaultKind::Declared, DECLARED);
+    tells(&rt, rt.alloc(), FaultKind::Kind, KIND);
     tells(&rt, rt.alloc(), FaultKind::Range, RANGE);
 }
 
@@ -162,11 +200,20 @@ fn worker_line<'b>(round: &Round<'_>, room: &'b mut LineOps) -> Option<(u8, &'b 
 
 #[test]
 fn reads_the_worked_rows(rt: HostRuntime) -> Result<(), Fail> {
-    let text = b"array 1 4\n0 w 1 2 7; r 1 2\njoin\n0 a 1 0 5; t 1 0 6\n";
+    let text = b"array 1 4\ntree 3\n0 w 1 2 7; r 1 2\njoin\n0 a 1 0 5; t 1 0 6; d 3 9; s 3 4 8\n";
     let script = read_script(rt.alloc(), text).ok().ok_or("it is a script")?;
-    assert_eq!(rt; script.decls(), [Decl::Array { id: 1, size: 4 }].as_slice());
+    assert_eq!(rt;
+        script.decls(),
+        [Decl::Array { id: 1, size: 4 }, Decl::Tree { id: 3 }].as_slice()
+    );
     let key = Key { storage: 1, key: 2 };
     let first = Key { storage: 1, key: 0 };
+    let removed = Op::Remove(Key { storage: 3, key: 9 });
+    let scan = Op::Scan {
+        storage: 3,
+        low: 4,
+        high: 8,
+    };
     assert_eq!(rt; script.rounds(), 2);
     let round = script.round(0);
     assert_eq!(rt; round.len(), 1);
@@ -179,7 +226,10 @@ fn reads_the_worked_rows(rt: HostRuntime) -> Result<(), Fail> {
     assert_eq!(rt; round.len(), 1);
     assert_eq!(rt;
         worker_line(&round, &mut room),
-        Some((0, [Op::Add(first, 5), Op::Take(first, 6)].as_slice()))
+        Some((
+            0,
+            [Op::Add(first, 5), Op::Take(first, 6), removed, scan].as_slice()
+        ))
     );
     Ok(())
 }
@@ -190,7 +240,7 @@ fn accepts(rt: HostRuntime) {
         b"array 1 1\n7 r 1 0; r 1 0; r 1 0; r 1 0; r 1 0; r 1 0; r 1 0; r 1 0; r 1 0; r 1 0; r 1 0; r 1 0; r 1 0; r 1 0; r 1 0; r 1 0";
     let storages =
         b"array 0 1\narray 1 1\narray 2 1\narray 3 1\narray 4 1\narray 5 1\narray 6 1\narray 7 1\narray 8 1\narray 9 1\narray 10 1\narray 11 1\narray 12 1\narray 13 1\narray 14 1\narray 15 1\n";
-    let texts: [(&[u8], (usize, usize, usize)); 13] = [
+    let texts: [(&[u8], (usize, usize, usize)); 15] = [
         (b"", (0, 1, 0)),
         (b"\n\n", (0, 1, 0)),
         (b"array 1 4", (1, 1, 0)),
@@ -202,6 +252,11 @@ fn accepts(rt: HostRuntime) {
         (b"array 1 4\n0 w 1 0 18446744073709551615\n", (1, 1, 1)),
         (b"array 1 4\n7 r 1 3\n", (1, 1, 1)),
         (sixteen, (1, 1, 1)),
+        (b"tree 0\ntree 255", (2, 1, 0)),
+        (
+            b"tree 0\narray 1 1\n0 d 0 18446744073709551615; s 0 18446744073709551615 0; a 0 7 1; r 1 0",
+            (2, 1, 1),
+        ),
         (storages, (16, 1, 0)),
         (b"join", (0, 1, 0)),
         (b"join\njoin\n\n", (0, 2, 0)),

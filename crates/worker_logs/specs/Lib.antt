@@ -1,0 +1,9 @@
+pub mod Changes
+pub mod ChangesLaws
+pub mod KeysWritten
+pub mod Logs
+pub mod LogLaws
+pub mod Moves
+pub mod FlushAll
+pub mod Saves
+pub mod SavesLaws

@@ -1,0 +1,157 @@
+-- What is known of a worker's log through its calls, as laws for those who make them.
+use Rattle.std.proofs.Common.{◌≡◌, ◌≤◌, ◌++◌, ◌∷◌, inl, inr, ℕ, List, [], Option, Some, None, length}
+use Rattle.std.proofs.Common.{append_assoc, refl, sym, ◌∙◌, ap, subst, arith}
+use Rattle.std.specs.List.{AllByRecursion, Contains, flat_map}
+use Rattle.std.proofs.lemmas.List.{append-nil}
+use Rattle.std.proofs.lemmas.List.Elements.{Contains-append_cases}
+use Rattle.lists.specs.Elements.{in_cases, in_none}
+use Rattle.outside.specs.Growth.{grows_none}
+use Rattle.serial_model.specs.declared.number.Commit.{Commit}
+use Rattle.wire_form.specs.LogFile.{lines_bytes}
+use Rattle.wire_form.specs.LogLine.{line_bytes}
+use Rattle.wire_form.specs.declared.clock.Mark.{Mark}
+use Rattle.recovery_core.specs.Marks.{Marks}
+use Rattle.recovery_core.specs.Rounds.{WorkerRan}
+use Rattle.recovery_core.specs.Crashes.Marking.{lines_more, mark_put, mark_set}
+use Rattle.worker_logs.specs.Logs.{LogState, idle_log, MarkSays, IsMarkOf, epoch_with, set_mark}
+use Rattle.worker_logs.specs.Logs.{IsEpochPassed, IsPassed}
+use Rattle.worker_logs.specs.Logs.{IsLog, LogRan}
+
+-- ---- marks
+
+-- the number of an epoch and a length that a mark tells
+tells_this : (commits : List Commit) (marked : Option ℕ) (length epoch size : ℕ) → MarkSays commits length marked
+    → Contains (epoch_with marked length) (epoch, size) → Marks commits epoch size × (size ≡ length)
+tells_this commits None length epoch size says has = absurd (in_none (epoch, size) has)
+tells_this commits (Some marked) length epoch size says has = elim (in_cases (epoch, size) (marked, length) [] has) [
+  | inl is ↦
+      let same_epoch : marked ≡ epoch = ap (λ (m : ℕ × ℕ). m.0) is in
+      let same_size : length ≡ size = ap (λ (m : ℕ × ℕ). m.1) is in (
+        subst (λ k. Marks commits epoch k) same_size (subst (λ e. Marks commits e length) same_epoch says),
+        sym same_size,
+      )
+  | inr none ↦ absurd (in_none (epoch, size) none)
+]
+
+-- what marks tell is of the commits and of what is durable
+pub marks_tell : (commits : List Commit) (durable : List ℕ) (marks : List Mark) (epoch size : ℕ)
+    → AllByRecursion (IsMarkOf commits durable) marks → Contains (flat_map set_mark marks) (epoch, size)
+    → Marks commits epoch size × (size ≤ length durable)
+marks_tell commits durable [] epoch size had has = absurd (in_none (epoch, size) has)
+marks_tell commits durable (m ∷ ms) epoch size had has =
+    elim (Contains-append_cases (set_mark m) (flat_map set_mark ms) (epoch, size) has) [
+      | inl here ↦
+          let this = tells_this commits m.epoch m.length epoch size had.0.says here in
+          (this.0, omega (arith, this.1, had.0.within))
+      | inr later ↦ marks_tell commits durable ms epoch size had.1 later
+    ]
+
+-- a mark that a commit may follow says of it what it said before
+says_put : (commits : List Commit) (c : Commit) (marked : Option ℕ) (size : ℕ) → MarkSays commits size marked
+    → IsEpochPassed c.number.epoch marked → MarkSays (commits ++ c ∷ []) size marked
+says_put commits c None size says passed = absurd passed
+says_put commits c (Some epoch) size says passed = mark_put commits epoch size c says passed
+
+mark_put_behind : (commits : List Commit) (durable : List ℕ) (c : Commit) (m : Mark) → IsMarkOf commits durable m
+    → IsPassed c.number.epoch m → IsMarkOf (commits ++ c ∷ []) durable m
+mark_put_behind commits durable c m is passed = record {
+  says = says_put commits c m.epoch m.length is.says passed;
+  within = is.within;
+}
+
+marks_put_behind : (commits : List Commit) (durable : List ℕ) (c : Commit) (marks : List Mark)
+    → AllByRecursion (IsMarkOf commits durable) marks → AllByRecursion (IsPassed c.number.epoch) marks
+    → AllByRecursion (IsMarkOf (commits ++ c ∷ []) durable) marks
+marks_put_behind commits durable c [] had passed = tt
+marks_put_behind commits durable c (m ∷ ms) had passed = (
+  mark_put_behind commits durable c m had.0 passed.0,
+  marks_put_behind commits durable c ms had.1 passed.1,
+)
+
+-- the last of some marks is one of them
+last_is : (P : Mark → Type 0) (marks earlier : List Mark) (m : Mark) → marks ≡ earlier ++ m ∷ []
+    → AllByRecursion P marks → P m
+last_is P marks earlier m is all = at_end earlier (subst (AllByRecursion P) is all)
+  where
+    at_end : (front : List Mark) → AllByRecursion P (front ++ m ∷ []) → P m
+    at_end [] all = all.0
+    at_end (x ∷ xs) all = at_end xs all.1
+
+-- ---- a log
+
+module _ {D : Type 0} {tells : D → Option (List ℕ)} {clock : D → ℕ} {image_at : D → ℕ → List ℕ → Type 0} where
+  -- nothing was called since now
+  pub log_begins : {commits : List Commit} {durable : List ℕ} {log : LogState} {bank : D}
+      → IsLog tells clock image_at commits durable log bank
+      → LogRan tells clock image_at commits durable durable (log.mark ∷ []) bank bank log
+  log_begins is = record {
+    grows = grows_none is.journal_of.durable.begins;
+    journal_of = is.journal_of;
+    lines = is.lines;
+    had = (is.mark, tt);
+    last = ([], refl);
+  }
+
+  -- what ran is a log
+  pub log_of : {commits : List Commit} {was durable : List ℕ} {marks : List Mark} {first bank : D} {log : LogState}
+      → LogRan tells clock image_at commits was durable marks first bank log
+      → IsLog tells clock image_at commits durable log bank
+  log_of {commits = commits} {durable = durable} {marks = marks} {log = log} ran = record {
+    journal_of = ran.journal_of;
+    lines = ran.lines;
+    mark = last_is (IsMarkOf commits durable) marks ran.last.0 log.mark ran.last.1 ran.had;
+  }
+
+  -- and it is a worker's part of a round
+  pub worker_ran : {commits : List Commit} {was durable : List ℕ} {marks : List Mark} {first bank : D} {log : LogState}
+      → LogRan tells clock image_at commits was durable marks first bank log
+      → WorkerRan tells clock image_at commits (flat_map set_mark marks) was durable first bank log.journal
+  worker_ran {commits = commits} {durable = durable} {marks = marks} ran = record {
+    grows = ran.grows;
+    journal_of = ran.journal_of;
+    lines = ran.lines;
+    marked = λ epoch size has. marks_tell commits durable marks epoch size ran.had has;
+  }
+
+  -- A commit is put behind those that wait, which each mark allows.
+  pub log_put : {commits : List Commit} {was durable : List ℕ} {marks : List Mark} {first bank : D}
+      {old new : LogState} (c : Commit)
+      → LogRan tells clock image_at commits was durable marks first bank old
+      → new.journal.lines ≡ old.journal.lines ++ line_bytes c → new.journal.durable ≡ old.journal.durable
+      → new.journal.down ≡ old.journal.down → new.mark ≡ old.mark
+      → AllByRecursion (IsPassed c.number.epoch) marks
+      → LogRan tells clock image_at (commits ++ c ∷ []) was durable marks first bank new
+  log_put {commits = commits} {durable = durable} {marks = marks} {old = old} c ran lines size down mark
+      passed = record {
+        grows = ran.grows;
+        journal_of = record {
+          durable = record {
+            size = ran.journal_of.durable.size ∙ sym size;
+            begins = ran.journal_of.durable.begins;
+          };
+          told = λ up. ran.journal_of.told (sym down ∙ up);
+        };
+        lines = lines_more commits (c ∷ []) ∙ ap (λ l. l ++ lines_bytes (c ∷ [])) ran.lines
+            ∙ ap (λ l. durable ++ old.journal.lines ++ l) (append-nil (line_bytes c))
+            ∙ append_assoc durable old.journal.lines (line_bytes c) ∙ ap (λ l. durable ++ l) (sym lines);
+        had = marks_put_behind commits durable c marks ran.had passed;
+        last = (ran.last.0, ran.last.1 ∙ ap (λ m. ran.last.0 ++ m ∷ []) (sym mark));
+      }
+
+  -- A log whose mark counts all that is durable, as no line waits, may be set idle.
+  pub log_idles : {commits : List Commit} {durable : List ℕ} {log : LogState} {bank : D}
+      → IsLog tells clock image_at commits durable log bank → log.journal.lines ≡ []
+      → log.mark.length ≡ log.journal.durable
+      → IsLog tells clock image_at commits durable (idle_log log) bank
+  log_idles {commits = commits} {durable = durable} {log = log} is none counts =
+      let whole : lines_bytes commits ≡ durable = is.lines ∙ ap (λ l. durable ++ l) none ∙ append-nil durable in
+      let size : length (lines_bytes commits) ≡ log.mark.length =
+      ap length whole ∙ is.journal_of.durable.size ∙ sym counts in
+      record {
+        journal_of = is.journal_of;
+        lines = is.lines;
+        mark = record {
+          says = λ epoch. subst (λ k. Marks commits epoch k) size (mark_set commits epoch);
+          within = is.mark.within;
+        };
+      }

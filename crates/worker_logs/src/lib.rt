@@ -1,0 +1,41 @@
+//! What each worker of a running database logs, how far its log counts, and the savepoints that follow from that.
+//!
+//! Promises:
+//!
+//! - [`WriteSet::commit`] gives the log line of a transaction that was run: its number, and each key that it wrote,
+//!   ascending, with the value that it left there or its removal; nothing where it wrote none (`logged`, by `IsLogged`
+//!   in `specs/Changes.antt`). The write set is told before the transaction runs, by the state alone ([`WriteSet::of`],
+//!   `keys`).
+//! - [`WorkerLog::flush_and_mark`] makes the lines that wait durable, and then says so: its mark counts all of them, up
+//!   to the epoch before the clock's (`marked`).
+//! - [`WorkerLog::prepare`] makes ready for a line: its mark holds back no epoch that the clock has left (`keeps_up`),
+//!   and there is room for the line's commit (`free`, `below`).
+//! - Whatever these calls answer, the log file only grew, and each mark that the log ever had says what it counts: the
+//!   worker's commits up to the mark's epoch lie in so many durable bytes (`moves`, by `MovesLog` in
+//!   `specs/Moves.antt`, which carries `LogRan` of `specs/Logs.antt` from one call to the next; a commit that is put
+//!   carries it by the law `log_put`). A refusal has its cause (`moves`, `full`, `not_full`).
+//! - [`flush_all`] flushes and marks all logs, up to the first that refuses (`flushes`, by `FlushesAll`).
+//! - [`Savepoints::save_marks`] stores the savepoint that the marks allow: the least of their epochs and of the clock's
+//!   less 1, and of each growing log file the length that its mark counts (`saves`, by `SavesMarks` in
+//!   `specs/Saves.antt`). What it stores covers each worker's commits up to its epoch (the law `counts_saved`), and to
+//!   one that knows the save device it is one savepoint more (`keeper_saved`).
+//!
+//! No call takes memory but [`WorkerLog::new`].
+//!
+//! Invariants: a log's journal has the limit of a log file, and its mark counts no more (`IsLogState`); what the newest
+//! savepoint says is known (`IsKnown`).
+//!
+//! Terms: a *mark* is an epoch with the length of a log file that has all its worker's commits up to that epoch. An
+//! *idle* worker has no line in a round: its mark names no epoch, and holds none back. Epochs, marks and group commit
+//! by the least of them are Silo's.
+#![tactic(auto)]
+
+mod flushing;
+mod savepoints;
+mod worker_log;
+mod write_set;
+
+pub use flushing::flush_all;
+pub use savepoints::Savepoints;
+pub use worker_log::WorkerLog;
+pub use write_set::WriteSet;

@@ -1,5 +1,6 @@
 pub mod Table
 pub mod Event
+pub mod Swap
 pub mod Opening
 pub mod Sound
 pub mod Way

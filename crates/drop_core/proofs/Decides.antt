@@ -1,6 +1,6 @@
 -- What the tests of the conditions decide of children: what they lead to, and that they tile a span.
-use Rattle.std.proofs.Common.{◌≡◌, ℕ, zero, suc, ◌+◌, ◌-◌, ◌<◌, ◌≤◌, Bool, true, false, not, true≢false, eqb, eqb-true, eq-eqb, leb, ltb, ◌&&◌, ◌||◌, ◌⊎◌, inl, inr, List, [], ◌∷◌, refl, sym, ap, ◌∙◌, subst, arith, Option, Some, None}
-use Rattle.std.proofs.lemmas.Bool.{and_parts, and_from, or_cases, cases_Bool, cond-true, cond-false}
+use Rattle.std.proofs.Common.{◌≡◌, ℕ, zero, suc, ◌+◌, ◌-◌, ◌<◌, ◌≤◌, Bool, true, false, true≢false, eqb, eqb-true, eq-eqb, leb, ltb, ◌&&◌, ◌||◌, ◌⊎◌, inl, inr, List, [], ◌∷◌, refl, sym, ap, ◌∙◌, subst, arith, Option, Some, None}
+use Rattle.std.proofs.lemmas.Bool.{and_parts, and_from, or_cases, cases_Bool}
 use Rattle.std.proofs.lemmas.Bool.Decides.{nat_tests}
 use Rattle.std.specs.List.{list_all}
 use Rattle.std.specs.Prelude.{is_none}
@@ -10,7 +10,7 @@ use Rattle.homes.specs.Homes.{same_key, has_key, in_span}
 use Rattle.homes.specs.Laws.{same_key-true, number_or_other}
 use Rattle.drop_core.specs.declared.table.Page.TheVariants.{Inner}
 use Rattle.drop_core.specs.declared.table.Table.{Table}
-use Rattle.drop_core.specs.Table.{snap_home, has_pointer}
+use Rattle.drop_core.specs.Table.{has_pointer}
 use Rattle.drop_core.specs.Event.{all_below, same_below, child, begins, is_tile, is_same_child}
 use Rattle.drop_core.specs.KeyTests.{same-homes}
 use Rattle.drop_core.proofs.Conditions.{FitsInner}

@@ -33,11 +33,13 @@ mod story;
 #[cfg(test)]
 mod tests;
 
+pub use acts::rehome;
 pub use attempt::{Attempt, Check};
 pub use event::{Act, Event, Refused};
 pub use law::commits_are_serial;
 pub use machine::{Core, act};
+pub use moves::can_move;
 pub use part::{Part, Version, Word};
-pub use place::Place;
+pub use place::{Place, is_open_to};
 pub use seat::{Mark, Seat, Stage};
-pub use story::Story;
+pub use story::{FirstDraw, Story};

@@ -10,7 +10,7 @@ ghost use Rattle.commit_core.specs.Fill.{AnswersFill, NobodyKeeps};
 ghost use Rattle.std.specs.Prelude.{map, replicate};
 
 use crate::moves::is_nobodys;
-use crate::{Act, Attempt, Event, Mark, Place, Refused, Seat, Stage, Story, acts};
+use crate::{Act, Attempt, Event, FirstDraw, Mark, Place, Refused, Seat, Stage, Story, acts};
 use homes::{Content, Holder, Home, Spot};
 use lists::Sequence;
 use serial_model::{Key, Memory, Number, OrMemory};
@@ -117,7 +117,7 @@ fn opened(alloc: Global, pairs: &[(Key, u64)], passes: u32) -> Result<Core, Memo
         places,
         homes,
         horizon: Number { epoch: 0, draw: 0 },
-        first_draw: 1,
+        first_draw: FirstDraw::new(1),
         epoch: 1,
     };
     Ok(Core {

@@ -2,7 +2,6 @@
 ghost use Rattle.std.specs.Prelude.{◌≡◌, ◌&&◌, ◌||◌, not, if◌then◌else◌, OnOk, OnErr, IfOk, ◌++◌, map};
 ghost use Rattle.std.specs.List.{list_any, list_all};
 ghost use Rattle.homes.specs.Homes.{same_key};
-ghost use Rattle.commit_core.specs.CoreState.{is_in_progress};
 ghost use Rattle.commit_core.specs.Places.{place, spot_of, spot_at, stands_at, stands};
 ghost use Rattle.serial_model.specs.Numbers.{is_below};
 ghost use Rattle.commit_core.specs.Moves.{moves_key, is_spot, moves_to_spot, are_apart, is_nobodys, is_movable, is_below_all, may_go_for, can_move, can_rehome, is_left, buried_entry, buried, rehomed, horizon_by, horizon_after, with_moves};
@@ -93,7 +92,7 @@ fn is_apart(step: Move, more: &[Move]) -> bool
 }
 
 /// Whether the key may go where the move says.
-fn can_move(id: u32, begins: bool, story: &Story, step: Move) -> bool
+pub fn can_move(id: u32, begins: bool, story: &Story, step: Move) -> bool
     ensures { result ≡ can_move id begins story.now step }
 {
     let old = story.place(step.key);
@@ -144,14 +143,8 @@ fn is_below_all(story: &Story, number: Number) -> bool
     ensures { result ≡ is_below_all story.now.history story.now.decided story.now.given_up number }
 {
     let mut attempts = story.history.as_slice().iter();
-    attempts.all(|attempt| !is_in_progress(story, attempt.number)
+    attempts.all(|attempt| !story.is_in_progress(attempt.number)
         || is_below(number, attempt.number))
-}
-
-fn is_in_progress(story: &Story, number: Number) -> bool
-    ensures { result ≡ is_in_progress story.now.decided story.now.given_up number }
-{
-    !(story.is_decided(number) || story.is_given_up(number))
 }
 
 fn is_below(a: Number, b: Number) -> bool

@@ -1,12 +1,12 @@
 // What all seats share.
-ghost use Rattle.std.specs.Prelude.{◌≡◌, IfOk, OnOk, OnErr};
+ghost use Rattle.std.specs.Prelude.{◌≡◌, ◌<◌, ◌^◌, IfOk, OnOk, OnErr};
 ghost use Rattle.commit_core.specs.Fill.{filled};
 ghost use Rattle.std.specs.List.{find};
 ghost use Rattle.std.specs.Option.{option_copied};
 ghost use Rattle.homes.specs.Homes.{look, same_spot};
 ghost use Rattle.commit_core.specs.Keys.{same_key, same_number};
 ghost use Rattle.commit_core.specs.Places.{place_of, home_of, stands_at, stands, spot_of, spot_at, placed};
-ghost use Rattle.commit_core.specs.CoreState.{clock_of, is_decided, is_given_up, is_checked, attempt_tried, attempt_decided};
+ghost use Rattle.commit_core.specs.CoreState.{clock_of, is_decided, is_given_up, is_in_progress, is_checked, attempt_tried, attempt_decided};
 ghost use Rattle.commit_core.specs.Event.{all_checked, stays_as_seen};
 ghost use Rattle.commit_core.specs.Serial.{committed};
 
@@ -17,6 +17,7 @@ use homes::{Content, Holder, Home, Spot};
 use lists::Sequence;
 use serial_model::{Key, Memory, Number};
 use std::alloc::Global;
+use std::marker::Model;
 use std::mem;
 
 /// What stands at a key that nobody wrote.
@@ -45,9 +46,41 @@ pub struct Story {
     pub horizon: Number,
     /// The draw of the first number. Those of the others count on from it, so the clock's is this and the history's
     /// length.
-    pub first_draw: u32,
+    pub first_draw: FirstDraw,
     /// The clock's epoch.
     pub epoch: u32,
+}
+
+/// The draw of a first number: it fits the bits that a word has for draws.
+#[derive(Drop)]
+pub struct FirstDraw {
+    draw: u64,
+}
+
+impl Model for FirstDraw {
+    ghost use Rattle.std.specs.Prelude.{ℕ, ◌<◌, ◌^◌};
+
+    ghost Value = { ℕ };
+
+    ghost view = { λ f. f.draw };
+
+    ghost invariant = { λ f. f.draw < 2 ^ 40 };
+}
+
+impl FirstDraw {
+    pub fn new(draw: u64) -> Self
+        requires { draw < 2 ^ 40 }
+        ensures { result ≡ draw }
+    {
+        FirstDraw { draw }
+    }
+
+    pub fn get(&self) -> u64
+        ensures value { result ≡ self.now }
+        ensures bound { result < 2 ^ 40 }
+    {
+        self.draw
+    }
 }
 
 impl Story {
@@ -57,7 +90,7 @@ impl Story {
     {
         Number {
             epoch: self.epoch,
-            draw: self.first_draw as u64 + self.history.len() as u64,
+            draw: self.first_draw.get() + self.history.len() as u64,
         }
     }
 
@@ -71,6 +104,13 @@ impl Story {
         ensures { result ≡ is_given_up self.now.given_up number }
     {
         self.given_up.as_slice().iter().any(|n| *n == number)
+    }
+
+    /// Whether the attempt with this number is neither decided nor given up.
+    pub fn is_in_progress(&self, number: Number) -> bool
+        ensures { result ≡ is_in_progress self.now.decided self.now.given_up number }
+    {
+        !(self.is_decided(number) || self.is_given_up(number))
     }
 
     /// The attempt of this number, if one has it.

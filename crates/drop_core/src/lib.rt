@@ -6,6 +6,8 @@
 //! while a seat holds it (`pages_stay_sound`). `DropCore::step` follows the same condition and effect that the
 //! theorem speaks of, and answers the moves of keys that the event is: it refuses exactly where the condition
 //! fails, wants memory only where the act is allowed and takes some, and after either nothing is changed (`event`).
+//! Who keeps pages beside another machine leads a pointer elsewhere in two steps: what that comes to, which changes nothing
+//! (`prepare_install`, `prepare_swing`), and to put it, which takes no memory (`put`).
 //! Invariants: the sound state (`IsSound`): `one_home_each`, `holds_counted`, `snapshots_fixed`. It speaks of the
 //! homes of keys, which the machine of commits keeps; what stands there and who has it locked is not known here.
 //! Terms: *slot*, a place for a page in memory; *live*, led to from a root; *grip*, what one seat has of the pages;
@@ -29,7 +31,9 @@ mod table;
 mod tests;
 
 pub use event::{Act, Event, Refused};
-pub use grip::Grip;
+pub use grip::{Grip, has_slot};
 pub use law::pages_stay_sound;
 pub use machine::{DropCore, apply};
+pub use queries::{child_of, leaf_home};
+pub use swaps::{Numbers, Swap, prepare_install, prepare_swing, put};
 pub use table::{Led, Page, Pointer, Slot, SlotState, SnapPage, Table};

@@ -57,6 +57,15 @@ impl DropCore {
         }
     }
 
+    /// Its parts, for whoever keeps them beside something else.
+    pub fn into_parts(self) -> (Table, Vec<Grip>)
+        ensures table { result.0 ≡ self.table }
+        ensures grips { result.1.items ≡ self.grips }
+    {
+        let DropCore { table, grips } = self;
+        (table, grips)
+    }
+
     pub fn table(&self) -> &Table
         ensures { result.now ≡ self.now.table }
     {

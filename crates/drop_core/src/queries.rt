@@ -207,7 +207,7 @@ fn entry_home(number: u32, entries: &[(Key, Content)], key: Key) -> Home
 }
 
 /// The page that the first child with the key leads to, or 0.
-fn child_of(children: &[(Span, u32)], key: Key) -> u32
+pub fn child_of(children: &[(Span, u32)], key: Key) -> u32
     ensures { result ≡ child_of children.now key }
 {
     for child in children {

@@ -2,6 +2,7 @@
 ghost use Rattle.std.specs.Prelude.{◌≡◌, ◌==◌, ◌&&◌, ◌||◌, [], ◌∷◌, IfOk, nat_le};
 ghost use Rattle.homes.specs.Homes.{moves_to, same_span};
 ghost use Rattle.drop_core.specs.Table.{slot_of, page_of, pointer_of, snap_of, page_span, has_slot, is_never, leaf_home, snap_home};
+ghost use Rattle.drop_core.specs.Swap.{Prepares, with_numbers, put};
 ghost use Rattle.drop_core.specs.Event.{Answers, is_published, can_install, can_swing_from, can_swing, is_in, bury, buried_pointers, leaf_keys};
 
 use crate::acts::{Answer, numbers_with, numbers_without, pointers_with, slots_with};
@@ -12,9 +13,52 @@ use homes::{At, Holder, Move};
 use lists::Sequence;
 use serial_model::{Key, Memory, OrMemory};
 
+/// What leading a pointer elsewhere comes to, made beforehand: to put it takes no memory. In between, whoever keeps pages
+/// beside another machine tells that one of the moves.
+#[derive(Drop)]
+pub struct Swap {
+    pub slots: Sequence<(u32, Slot)>,
+    pub pointers: Sequence<(At, Pointer)>,
+    pub numbers: Numbers,
+    /// The keys that move, with their new homes.
+    pub moves: Sequence<Move>,
+}
+
+/// The slots of a seat that change with a pointer.
+#[derive(Drop)]
+pub enum Numbers {
+    /// Those that it made, with an install.
+    Made(Sequence<u32>),
+    /// Those that it took, with a swing.
+    Taken(Sequence<u32>),
+}
+
 /// Leads a pointer to a slot, whose page says the same as the snapshot page that it led to.
 pub fn install(id: u32, table: &mut Table, grip: &mut Grip, at: At, slot: u32) -> Answer
     ensures { Answers id (Act.Install at slot) table.old grip.old result table.new grip.new }
+{
+    let swap = prepare_install(id, table, grip, at, slot)?;
+    Ok(put(swap, table, grip))
+}
+
+/// Leads a pointer from a slot to a snapshot page that says the same as the slot's page. Whoever reads the dead page
+/// still holds the slot, and finds its pointers dead.
+pub fn swing(id: u32, table: &mut Table, grip: &mut Grip, at: At, number: u32) -> Answer
+    ensures { Answers id (Act.Swing at number) table.old grip.old result table.new grip.new }
+{
+    let swap = prepare_swing(id, table, grip, at, number)?;
+    Ok(put(swap, table, grip))
+}
+
+/// What an install comes to, if it may be made.
+pub fn prepare_install(
+    id: u32,
+    table: &Table,
+    grip: &Grip,
+    at: At,
+    slot: u32,
+) -> Result<Swap, OrMemory<Refused>>
+    ensures { Prepares id (Act.Install at slot) table.now grip.now result }
 {
     if id == 0 || !can_install(table, grip, at, slot) {
         return Err(OrMemory::Fault(Refused));
@@ -24,16 +68,23 @@ pub fn install(id: u32, table: &mut Table, grip: &mut Grip, at: At, slot: u32) -
     let pointer = leading(table.pointer(at), Some(slot), table.pointer(at).page);
     let pointers = pointers_with(&table.pointers, at, pointer)?;
     let made = numbers_without(&grip.made, slot)?;
-    table.slots = slots;
-    table.pointers = pointers;
-    grip.made = made;
-    Ok(moves)
+    Ok(Swap {
+        slots,
+        pointers,
+        numbers: Numbers::Made(made),
+        moves,
+    })
 }
 
-/// Leads a pointer from a slot to a snapshot page that says the same as the slot's page. Whoever reads the dead page
-/// still holds the slot, and finds its pointers dead.
-pub fn swing(id: u32, table: &mut Table, grip: &mut Grip, at: At, number: u32) -> Answer
-    ensures { Answers id (Act.Swing at number) table.old grip.old result table.new grip.new }
+/// What a swing comes to, if it may be made.
+pub fn prepare_swing(
+    id: u32,
+    table: &Table,
+    grip: &Grip,
+    at: At,
+    number: u32,
+) -> Result<Swap, OrMemory<Refused>>
+    ensures { Prepares id (Act.Swing at number) table.now grip.now result }
 {
     if !can_swing(id, table, at, number) {
         return Err(OrMemory::Fault(Refused));
@@ -47,10 +98,39 @@ pub fn swing(id: u32, table: &mut Table, grip: &mut Grip, at: At, number: u32) -
     let pointer = leading(table.pointer(at), None, number);
     let pointers = pointers_with(&buried, at, pointer)?;
     let taken = numbers_with(&grip.taken, slot)?;
+    Ok(Swap {
+        slots,
+        pointers,
+        numbers: Numbers::Taken(taken),
+        moves,
+    })
+}
+
+/// Makes what was prepared so, and answers the moves.
+pub fn put(swap: Swap, table: &mut Table, grip: &mut Grip) -> Sequence<Move>
+    ensures moves { result ≡ swap.moves }
+    ensures table { table.new ≡ (put swap table.old grip.old).table }
+    ensures grip { grip.new ≡ (put swap table.old grip.old).grip }
+{
+    let Swap {
+        slots,
+        pointers,
+        numbers,
+        moves,
+    } = swap;
     table.slots = slots;
     table.pointers = pointers;
-    grip.taken = taken;
-    Ok(moves)
+    set_numbers(grip, numbers);
+    moves
+}
+
+fn set_numbers(grip: &mut Grip, numbers: Numbers)
+    ensures { grip.new ≡ with_numbers numbers grip.old }
+{
+    match numbers {
+        Numbers::Made(made) => grip.made = made,
+        Numbers::Taken(taken) => grip.taken = taken,
+    }
 }
 
 fn can_install(table: &Table, grip: &Grip, at: At, slot: u32) -> bool

@@ -1,5 +1,5 @@
 -- All log files of a whole vault.
-use Rattle.std.proofs.Common.{◌≡◌, ◌<◌, ◌∷◌, ℕ, zero, suc, List, [], Option, Some, arith, subst, lit<}
+use Rattle.std.proofs.Common.{◌≡◌, ◌<◌, ◌∷◌, ℕ, List, [], Some, subst, lit<}
 use Rattle.std.specs.Prelude.{IsSome}
 use Rattle.std.specs.List.{Contains, AllByRecursion}
 use Rattle.std.proofs.lemmas.Bool.{cases_lt}

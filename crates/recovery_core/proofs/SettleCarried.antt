@@ -1,5 +1,5 @@
 -- What comes of a settling, from where its room was made to where it began.
-use Rattle.std.proofs.Common.{◌≡◌, ℕ, List, Option, Some, None, sym, subst}
+use Rattle.std.proofs.Common.{◌≡◌, ℕ, List, Option, None, sym, subst}
 use Rattle.std.specs.FinMap.{get}
 use Rattle.serial_model.specs.State.{State}
 use Rattle.serial_model.specs.declared.key.Key.{Key}

@@ -1,17 +1,16 @@
 -- Devices of a settled database that tell their bytes say what is handed on.
-use Rattle.std.proofs.Common.{◌≡◌, ◌*◌, ◌^◌, ◌<◌, ℕ, List, [], ◌∷◌, Option, Some, None, length, get_or, take}
-use Rattle.std.proofs.Common.{refl, sym, ap, ◌∙◌, subst, arith}
+use Rattle.std.proofs.Common.{◌≡◌, ◌*◌, ◌^◌, ◌<◌, ℕ, List, [], ◌∷◌, Option, Some, None, length, get_or}
+use Rattle.std.proofs.Common.{refl, sym, ap, ◌∙◌, subst}
 use Rattle.std.specs.Prelude.{is_some}
 use Rattle.std.specs.FinMap.{get}
 use Rattle.std.specs.List.{AllByRecursion, Contains}
 use Rattle.std.specs.Option.{option_map}
 use Rattle.lists.specs.Fronts.{IsFront, front_take}
 use Rattle.outside.specs.Vault.{disk_in, IsWhole}
-use Rattle.outside.specs.declared.vault.Device.TheVariants.{Bank}
+use Rattle.outside.specs.declared.vault.Device.TheVariants.{Save, Snaps, Bank}
 use Rattle.outside.specs.declared.vault.Vault.{Vault}
 use Rattle.serial_model.specs.State.{State}
 use Rattle.serial_model.specs.declared.key.Key.{Key}
-use Rattle.wire_form.specs.Bytes.{bytes_of}
 use Rattle.wire_form.specs.Pages.{catalogue_words}
 use Rattle.wire_form.specs.declared.page.Page.{Page}
 use Rattle.wire_form.specs.declared.savepoint.Savepoint.{Savepoint}
@@ -37,7 +36,7 @@ use Rattle.recovery_core.specs.SettleFiles.{all_banks}
 use Rattle.recovery_core.specs.SettleFresh.{recovers_fresh}
 use Rattle.recovery_core.specs.SettleLaws.{without_files, point_says, no_last}
 use Rattle.recovery_core.specs.SettlePages.{first_contents, same_decls}
-use Rattle.recovery_core.specs.VaultReads.{some_of}
+use Rattle.recovery_core.specs.VaultReads.{AreQuiet, some_of, quiet_of}
 use Rattle.recovery_core.proofs.Files.{listed_bank}
 
 -- the savepoint that is handed on says the same as the one before, whether it is that one or the next
@@ -150,3 +149,11 @@ same_then first next = record {
 -- and so did a call that left an equal vault
 pub same_devices : {D : Type 0} {old mid new : Vault D} → SameDevices old mid → new ≡ mid → SameDevices old new
 same_devices {old = old} first same = subst (SameDevices old) (sym same) first
+
+-- counts that stood still since such a call stood still in all
+pub quiet_same : {D : Type 0} {faults : D → ℕ} {old mid : Vault D} (new : Vault D) → SameDevices old mid
+    → AreQuiet faults mid new → AreQuiet faults old new
+quiet_same {faults = faults} {old = old} {mid = mid} new same quiet = quiet_of old new
+    (quiet Save mid.save new.save refl refl ∙ ap faults same.save)
+    (quiet Snaps mid.snaps new.snaps refl refl ∙ ap faults same.snaps)
+    (λ n was now before after. quiet (Bank n) was now (rw (same.even, same.odd) before) after)

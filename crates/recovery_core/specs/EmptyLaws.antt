@@ -74,7 +74,7 @@ unfolding leaf_room fan
 top_below low =
     let large : nat_le (low + 131071 + 1 - low) 32 ≡ false = grind (arith, nat_tests) in
     let part : (low + 131071 + 1 - low) / 64 ≡ 2048 = omega arith in
-    rw (large, part) refl
+    rw (large, part) (refl {a = row [] 2048 low 64})
 
 module _ (pages : List (List ℕ)) (epoch id size : ℕ) where
   right : (low high : ℕ) → IsPageUpTo epoch (Array id size) (no_page low high) []

@@ -1,6 +1,6 @@
 -- A fresh vault on its way to its first savepoint.
-use Rattle.std.specs.Prelude.{◌≡◌, ℕ, zero, suc, ◌+◌, ◌*◌, ◌^◌, ◌<◌, List}
-use Rattle.std.specs.Prelude.{[], ◌∷◌, ◌++◌, Option, Some, None, length, get_or, replicate}
+use Rattle.std.specs.Prelude.{◌≡◌, ℕ, zero, suc, ◌*◌, ◌^◌, ◌<◌, List}
+use Rattle.std.specs.Prelude.{[], ◌∷◌, Option, Some, None, length, get_or, replicate}
 use Rattle.std.proofs.Common.{refl, sym, ap, ◌∙◌, subst, arith, lit<, lit≤}
 use Rattle.std.specs.FinMap.{get}
 use Rattle.std.specs.List.{AllByRecursion}
@@ -15,7 +15,6 @@ use Rattle.serial_model.specs.declared.key.Key.{Key}
 use Rattle.wire_form.specs.Bytes.{bytes_of}
 use Rattle.wire_form.specs.Pages.{Contents, IsCatalogue, catalogue_words}
 use Rattle.wire_form.specs.declared.page.Page.{Page}
-use Rattle.wire_form.specs.declared.savepoint.Savepoint.{Savepoint}
 use Rattle.log_writer.specs.Points.{point_of, IsSaved}
 use Rattle.log_writer.specs.declared.saved.Saved.{Saved}
 use Rattle.log_writer.specs.Save.{Names}
@@ -24,7 +23,7 @@ use Rattle.recovery_core.specs.Images.{Images, count_of}
 use Rattle.recovery_core.specs.Catalogues.{IsFirst}
 use Rattle.recovery_core.specs.JointCrash.{Parts, Moments}
 use Rattle.recovery_core.specs.Resting.{IsResting, HasNoRecords, AreTold}
-use Rattle.recovery_core.specs.Settling.{RestsOn, story_of}
+use Rattle.recovery_core.specs.Settling.{RestsOn}
 use Rattle.recovery_core.specs.SettledLaws.{IsFirstPoint}
 use Rattle.recovery_core.specs.SettleRests.{RestsSince}
 use Rattle.recovery_core.specs.CrashesRecover.{LeavesSame, point_read, fresh_leaves}

@@ -1,11 +1,10 @@
 -- What a settling leaves of a vault at rest where it stored nothing.
-use Rattle.std.specs.Prelude.{◌≡◌, ℕ, ◌+◌, ◌^◌, ◌<◌, zero, suc, List, [], ◌∷◌, Option, Some}
+use Rattle.std.specs.Prelude.{◌≡◌, ℕ, ◌^◌, ◌<◌, zero, suc, List, [], ◌∷◌, Option, Some}
 use Rattle.std.specs.Prelude.{None, true, cond, filter, Result, Ok, Err, MatchResult, replicate, length, get_or}
 use Rattle.std.specs.Option.{option_map}
-use Rattle.std.proofs.Common.{inl, inr, refl, sym, ap, ◌∙◌, subst, arith, lit<, lit≤}
-use Rattle.std.specs.List.{AllByRecursion, Contains}
+use Rattle.std.proofs.Common.{refl, sym, ap, ◌∙◌, subst, arith, lit<}
+use Rattle.std.specs.List.{AllByRecursion}
 use Rattle.std.proofs.lemmas.Bool.Decides.{nat_tests}
-use Rattle.std.proofs.lemmas.List.{nil_from_length}
 use Rattle.lists.specs.Each.{all_replicate}
 use Rattle.lists.specs.Fronts.{IsFront}
 use Rattle.log_writer.specs.Points.{sequence_of, point_of, saved_of, IsSaved}
@@ -17,19 +16,18 @@ use Rattle.wire_form.specs.declared.bucket.Entry.{Entry}
 use Rattle.wire_form.specs.declared.savepoint.Savepoint.{Savepoint}
 use Rattle.recovery_core.specs.Images.{Images, counted_of}
 use Rattle.recovery_core.specs.LogEntries.{is_of, greatest, last_of}
-use Rattle.recovery_core.specs.Recoverable.{IsRecoverable, counting}
-use Rattle.recovery_core.specs.JointCrash.{Parts, Moments, KeepsCrashes}
+use Rattle.recovery_core.specs.Recoverable.{IsRecoverable}
+use Rattle.recovery_core.specs.JointCrash.{Parts, Moments}
 use Rattle.recovery_core.specs.Resting.{IsResting, HasNoRecords, AreTold}
 use Rattle.recovery_core.specs.Story.{Story}
-use Rattle.recovery_core.specs.Cutting.{MayCut, AreCut, CutsLeave}
-use Rattle.recovery_core.specs.Settling.{RestsOn, IsLeft, story_of}
+use Rattle.recovery_core.specs.Cutting.{AreCut, CutsLeave}
+use Rattle.recovery_core.specs.Settling.{story_of}
 use Rattle.recovery_core.specs.SettledLaws.{SaysSame}
 use Rattle.recovery_core.specs.SettleRests.{RestsSince}
-use Rattle.recovery_core.specs.CrashesRecover.{LeavesSame, HasFiles, point_read, old_recovers, settled_leaves}
+use Rattle.recovery_core.specs.CrashesRecover.{LeavesSame, HasFiles, old_recovers}
 use Rattle.recovery_core.specs.FreshLaws.{zero_at}
 use Rattle.recovery_core.specs.Crashes.Rested.{told_begun, ready_begun, rests_on}
-use Rattle.recovery_core.specs.Crashes.Rested.{no_cut, point_old, pages_old, counted_old}
-use Rattle.recovery_core.specs.Crashes.Safe.{safe_of}
+use Rattle.recovery_core.specs.Crashes.Rested.{point_old, pages_old, counted_old}
 use Rattle.recovery_core.specs.Crashes.Standing.{crash_stands}
 use Rattle.recovery_core.specs.Crashes.StoreSteps.{now_one}
 

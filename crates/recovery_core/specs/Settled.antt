@@ -2,7 +2,7 @@
 -- pages and the state that were recovered.
 use Rattle.std.specs.Prelude.{◌≡◌, ◌==◌, ◌<◌, ◌≤◌, ◌+◌, ℕ, List, [], ◌∷◌, Option, Some, None, true}
 use Rattle.std.specs.Prelude.{if◌then◌else◌, IfSome, IfNone, map, filter, length, replicate}
-use Rattle.std.proofs.Common.{sym, ap, ◌∙◌, subst}
+use Rattle.std.proofs.Common.{sym, ap, ◌∙◌}
 use Rattle.std.specs.FinMap.{get}
 use Rattle.std.specs.List.{Contains, list_all}
 use Rattle.std.specs.List.Sorted.{IsPermutation}

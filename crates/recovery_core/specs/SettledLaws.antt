@@ -1,30 +1,28 @@
 -- A savepoint that counts nothing of the log files stands for the same state, where no entry counted before it.
-use Rattle.std.specs.Prelude.{◌≡◌, ℕ, zero, suc, ◌+◌, ◌*◌, ◌==◌, ◌<◌, ◌≤◌, Bool, true}
-use Rattle.std.specs.Prelude.{false, List, [], ◌∷◌, Option, Some, None, length, take, get_or, replicate, cond}
-use Rattle.std.proofs.Common.{inl, inr, refl, sym, ap, ◌∙◌, subst, arith}
+use Rattle.std.specs.Prelude.{◌≡◌, ℕ, zero, suc, ◌+◌, ◌*◌, ◌==◌, true}
+use Rattle.std.specs.Prelude.{false, List, [], ◌∷◌, Option, Some, None, take, get_or, replicate, cond}
+use Rattle.std.proofs.Common.{refl, sym, ap, ◌∙◌, subst, arith}
 use Rattle.std.specs.FinMap.{get}
 use Rattle.std.specs.List.{AllByRecursion}
-use Rattle.std.proofs.lemmas.Option.{same_Some}
 use Rattle.lists.specs.Fronts.{IsFront}
 use Rattle.serial_model.specs.Keys.{id_of}
 use Rattle.serial_model.specs.State.{State}
 use Rattle.serial_model.specs.declared.decl.Decl.{Decl}
 use Rattle.serial_model.specs.declared.key.Key.{Key}
 use Rattle.serial_model.specs.declared.number.Commit.{Commit}
-use Rattle.wire_form.specs.LogFileLaws.{no_lines}
 use Rattle.wire_form.specs.Pages.{Contents, IsCatalogue, catalogue_words}
 use Rattle.wire_form.specs.declared.records.Stored.{Stored}
 use Rattle.wire_form.specs.declared.savepoint.Savepoint.{Savepoint}
 use Rattle.log_writer.specs.Save.{Names}
 use Rattle.snapshot_store.specs.Places.{Found}
 use Rattle.snapshot_store.specs.Content.{record_in, value_of, value_at}
-use Rattle.recovery_core.specs.Images.{Images, epoch_of, count_of, counted_of}
+use Rattle.recovery_core.specs.Images.{Images, epoch_of, counted_of}
 use Rattle.recovery_core.specs.Catalogues.{HasPages, IsFirst, HasNoRoot}
-use Rattle.recovery_core.specs.Catalogues.{AreCatalogues, newest_epoch, newest_storages, newest_decls}
+use Rattle.recovery_core.specs.Catalogues.{AreCatalogues, newest_decls}
 use Rattle.recovery_core.specs.SnapshotPages.{RootStandsUpTo}
 use Rattle.recovery_core.specs.LogEntries.{IsCountedFile, AreCounted, last_of}
-use Rattle.recovery_core.specs.Recoverable.{Reading, ReadsPages, ReadsSaved, ReadsBy, IsReading}
-use Rattle.recovery_core.specs.Recoverable.{counting, snapshot_value, value_over, value_of_key, IsRecoverable}
+use Rattle.recovery_core.specs.Recoverable.{Reading, ReadsSaved, ReadsBy, IsReading}
+use Rattle.recovery_core.specs.Recoverable.{counting, snapshot_value, value_over, IsRecoverable}
 use Rattle.recovery_core.specs.RecoverableLaws.{same_pages}
 use Rattle.recovery_core.specs.EmptyLaws.{empty_stands, empty_record}
 

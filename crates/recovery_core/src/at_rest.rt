@@ -17,7 +17,7 @@ ghost use Rattle.recovery_core.specs.CrashesRecover.{LeavesSame};
 ghost use Rattle.recovery_core.specs.Cutting.{AreToldIn};
 ghost use Rattle.recovery_core.specs.SettleFiles.{all_banks};
 ghost use Rattle.recovery_core.specs.SettleGoesOn.{GoesOn};
-ghost use Rattle.recovery_core.specs.VaultReads.{RoseIn};
+ghost use Rattle.recovery_core.specs.VaultReads.{RoseIn, AreQuiet};
 
 use crate::cutting::cut_banks;
 use crate::settling::{BANKS, StoreAndCutFault, store_and_cut};
@@ -66,6 +66,7 @@ pub(crate) fn settle_lengths<D: Disk>(
         × IsStored D.tells D.clock D.image_at vault.new.save save.new.newest) }
     ensures emptied { AreToldIn D.tells all_banks (parts_of vault.old) → OnOk result ((n : ℕ) (bank : D)
         → Contains all_banks n → disk_in vault.new (Device.Bank n) ≡ Some bank → D.tells bank ≡ Some []) }
+    ensures quiet { OnOk result (AreQuiet D.faults vault.old vault.new) }
     ensures whole { IsWhole vault.new }
     ensures told { is_some (D.tells vault.new.save) ≡ is_some (D.tells vault.old.save) }
     ensures snaps { vault.new.snaps ≡ vault.old.snaps }
@@ -99,6 +100,7 @@ pub(crate) fn cut_uncounted<D: Disk>(save: &Save, vault: &mut Vault<D>) -> Resul
     ensures device { (n : ℕ) → result ≡ Err n → RoseIn D.faults (Device.Bank n) vault.old vault.new }
     ensures others { (vault.new.save ≡ vault.old.save) × (vault.new.snaps ≡ vault.old.snaps)
         × (vault.new.ties ≡ vault.old.ties) }
+    ensures quiet { OnOk result (AreQuiet D.faults vault.old vault.new) }
     ensures whole { IsWhole vault.new }
 {
     let sequence = save.sequence();

@@ -16,7 +16,7 @@ ghost use Rattle.snapshot_store.specs.Store.{bytes_of_pages, Holds};
 ghost use Rattle.recovery_core.specs.declared.fault.SettleFault.{SettleFault as TheFault};
 ghost use Rattle.recovery_core.specs.Cutting.{AreToldIn};
 ghost use Rattle.recovery_core.specs.SettleFiles.{all_banks};
-ghost use Rattle.recovery_core.specs.VaultReads.{RoseIn};
+ghost use Rattle.recovery_core.specs.VaultReads.{RoseIn, AreQuiet};
 ghost use Rattle.recovery_core.specs.JointCrash.{Moments, parts_of};
 ghost use Rattle.recovery_core.specs.SettleRests.{RestsSince};
 ghost use Rattle.recovery_core.specs.Resting.{IsResting, HasNoRecords, AreTold};
@@ -75,6 +75,7 @@ pub(crate) fn settle_fresh<D: Disk>(
     ensures stored { OnOk result (IsStored D.tells D.clock D.image_at vault.new.save save.new.newest) }
     ensures emptied { AreToldIn D.tells all_banks (parts_of vault.old) → OnOk result ((n : ℕ) (bank : D)
         → Contains all_banks n → disk_in vault.new (Device.Bank n) ≡ Some bank → D.tells bank ≡ Some []) }
+    ensures quiet { OnOk result (AreQuiet D.faults vault.old vault.new) }
     ensures whole { IsWhole vault.new }
     ensures told { OnOk result (is_some (D.tells vault.new.save) ≡ is_some (D.tells vault.old.save)) }
     ensures told_snaps { OnOk result (is_some (D.tells vault.new.snaps) ≡ is_some (D.tells vault.old.snaps)) }

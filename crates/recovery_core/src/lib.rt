@@ -16,8 +16,8 @@
 //! - [`store_and_cut`] and [`cut_banks`]: each joint crash stands for one savepoint, and what was a joint crash
 //!   is one (`crashes`, `cut`).
 //!
-//! And over each disk: a fault is answered only where that device's count of faults rose (`device`), and
-//! where the answer is `Ok` none did (`quiet`); each device is only read, and no store or cut is recorded
+//! And over each disk: both answer a fault only where that device's count of faults rose (`device`), and where
+//! the answer is `Ok` none did (`quiet`); [`recover`] only reads each device, and records no store and no cut
 //! (`reads`).
 //!
 //! Its specs/ also say what a crash of all devices at once may leave (`IsJointCrash`), and when nothing that

@@ -37,7 +37,7 @@ ghost use Rattle.recovery_core.specs.SettleFiles.{all_banks};
 ghost use Rattle.recovery_core.specs.SettleLaws.{without_files};
 ghost use Rattle.recovery_core.specs.Recovered.{Recovers, IsUp};
 ghost use Rattle.recovery_core.specs.SettleRests.{RestsSince};
-ghost use Rattle.recovery_core.specs.VaultReads.{RoseIn};
+ghost use Rattle.recovery_core.specs.VaultReads.{RoseIn, AreQuiet};
 
 use crate::at_rest::{cut_uncounted, settle_lengths};
 use crate::first_page::{first_page, in_order};
@@ -136,6 +136,7 @@ pub(crate) fn settle_saved<D: Disk>(
         ≡ sequence_of save.old.newest + (if list_all (λ n. n == 0) saved.lengths then 0 else 1)) }
     ensures emptied { AreToldIn D.tells all_banks (parts_of vault.old) → OnOk result ((n : ℕ) (bank : D)
         → Contains all_banks n → disk_in vault.new (Device.Bank n) ≡ Some bank → D.tells bank ≡ Some []) }
+    ensures quiet { OnOk result (AreQuiet D.faults vault.old vault.new) }
     ensures whole { IsWhole vault.new }
     ensures told { is_some (D.tells vault.new.save) ≡ is_some (D.tells vault.old.save) }
     ensures snaps { vault.new.snaps ≡ vault.old.snaps }
@@ -238,6 +239,7 @@ fn settle_new<D: Disk>(
     ensures says { IfOk result (λ s. (s.0 ≡ first_saved) × (save.new.newest ≡ Some (point_of 1 s.0))) }
     ensures page { IfOk result (λ s. (page : Page)
         × (store.new.pages ≡ page ∷ []) × IsFirstPage page.words (first_contents s.1)) }
+    ensures quiet { OnOk result (AreQuiet D.faults vault.old vault.new) }
     ensures whole { IsWhole vault.new }
     ensures told { OnOk result (is_some (D.tells vault.new.save) ≡ is_some (D.tells vault.old.save)) }
     ensures told_snaps { OnOk result (is_some (D.tells vault.new.snaps) ≡ is_some (D.tells vault.old.snaps)) }
@@ -294,6 +296,7 @@ pub fn settle<D: Disk>(
         × (stores_due recovered.saved ≡ 1) }
     ensures device { (device : TheDevice) → result ≡ Err (OrMemory.Fault (SettleFault.Device device))
         → RoseIn D.faults device vault.old vault.new }
+    ensures quiet { OnOk result (AreQuiet D.faults vault.old vault.new) }
     ensures never_deep { result ≡ Err (OrMemory.Fault SettleFault.Deep) → ⊥ }
     ensures untouched { ((device : TheDevice) → result ≡ Err (OrMemory.Fault (SettleFault.Device device)) → ⊥)
         → OnErr result (SameDevices vault.old vault.new) }

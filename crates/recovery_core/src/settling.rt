@@ -10,7 +10,7 @@ ghost use Rattle.recovery_core.specs.JointCrash.{Moments, parts_of, KeepsCrashes
 ghost use Rattle.recovery_core.specs.Story.{Story};
 ghost use Rattle.recovery_core.specs.Cutting.{ArePast, AreToldIn};
 ghost use Rattle.recovery_core.specs.Settling.{MayStore, IsLeft, IsSettled};
-ghost use Rattle.recovery_core.specs.VaultReads.{RoseIn};
+ghost use Rattle.recovery_core.specs.VaultReads.{RoseIn, AreQuiet};
 
 use crate::cutting::cut_banks;
 use log_writer::{Save, SaveFault, Saved};
@@ -67,6 +67,7 @@ pub fn store_and_cut<D: Disk>(
         → RoseIn D.faults (Device.Bank n) vault.old vault.new }
     ensures limit { (sequence : ℕ) → result ≡ Err (StoreAndCutFault.Store (SaveFault.Limit sequence))
         → (sequence ≡ sequence_of save.old.newest) × (sequence ≡ 2 ^ 63 - 1) × (vault.new ≡ vault.old) }
+    ensures quiet { OnOk result (AreQuiet D.faults vault.old vault.new) }
     ensures never_down { (count : ℕ) → result ≡ Err (StoreAndCutFault.Store (SaveFault.Down count)) → ⊥ }
 {
     match save.store_in(vault, saved) {

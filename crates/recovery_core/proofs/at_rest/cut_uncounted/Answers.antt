@@ -1,8 +1,11 @@
+use Rattle.std.proofs.Common.{ap}
+use Rattle.std.proofs.lemmas.Result.{on_ok_weaker}
 use Rattle.outside.specs.Cuts.{whole_bank}
 use Rattle.outside.specs.Vault.{disk_in}
 use Rattle.outside.specs.declared.vault.Device.TheVariants.{Bank}
 use Rattle.recovery_core.specs.JointCrash.{parts_of}
-use Rattle.recovery_core.specs.VaultReads.{some_of}
+use Rattle.recovery_core.specs.Cutting.{FaultsStand}
+use Rattle.recovery_core.specs.VaultReads.{AreQuiet, some_of, quiet_of}
 use Rattle.recovery_core.proofs.Files.{all_below, has_files, still_files, listed_bank}
 use Rattle.recovery_core.proofs.FilesCut.{files_cut}
 use Rattle.recovery_core.proofs.at_rest.cut_uncounted.Goals as goal
@@ -27,6 +30,14 @@ returns-clause-goes_on g c found from epoch state p rest none told since is no_e
     (listed_bank (c.cut_banks.ensures.whole c.requires.whole)) rest none told since is no_entry newest nothing
     (c.requires.stored found.save told.save).names c.cut_banks.ensures.others.0
     (rw c.sequence-sequence.ensures.newest at c.cut_banks.ensures.cut)).1
+
+pub returns-clause-quiet : goal.returns-clause-quiet
+returns-clause-quiet g c =
+    on_ok_weaker {P = FaultsStand g.D.Disk.faults c.args.vault.now c.cut_banks.new.vault}
+    {Q = AreQuiet g.D.Disk.faults c.args.vault.now c.cut_banks.new.vault} c.cut_banks.result
+    (λ stand. quiet_of c.args.vault.now c.cut_banks.new.vault
+    (ap g.D.Disk.faults c.cut_banks.ensures.others.0) (ap g.D.Disk.faults c.cut_banks.ensures.others.1) stand)
+    c.cut_banks.ensures.quiet
 
 pub returns-clause-device : goal.returns-clause-device
 returns-clause-device g c n is =

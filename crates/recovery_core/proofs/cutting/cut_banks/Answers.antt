@@ -9,7 +9,7 @@ use Rattle.outside.specs.Vault.{disk_in}
 use Rattle.outside.specs.Cuts.{bank_keeps_snaps, whole_cut}
 use Rattle.recovery_core.specs.JointCrash.{parts_of}
 use Rattle.recovery_core.specs.Cutting.{AreCut}
-use Rattle.recovery_core.specs.Crashes.VaultCuts.{later_cut, cut_rose, more_empty}
+use Rattle.recovery_core.specs.Crashes.VaultCuts.{later_cut, quiet_cut, cut_rose, more_empty}
 use Rattle.recovery_core.specs.Crashes.VaultCuts.{vault_begun, vault_done, still_there, still_told}
 use Rattle.recovery_core.specs.Crashes.CutSteps.{cuts_none}
 use Rattle.recovery_core.proofs.cutting.cut_banks.Goals as goal
@@ -55,6 +55,7 @@ loop-number-preserved g c =
       ties = c.cut_in.ensures.ties ∙ inv.ties;
       whole = λ was. whole_cut c.cut_in.ensures.cut (inv.whole was);
       later = later_cut c.args.vault.now _ inv.later c.cut_in.ensures.cut (inv.there _ has);
+      stand = quiet_cut c.args.vault.now _ inv.stand c.in-Ok.ensures.cut (inv.there _ has);
       emptied = λ tell.
           let so_far = inv.emptied tell in (
             subst (λ l. (m : ℕ) (bank : g.row.D.Denot) → Contains l m → disk_in c.cut_in.new.self (Bank m)
@@ -88,6 +89,8 @@ loop-number-init g c = record {
   whole = λ was. was;
   later = λ m was now before after. let same = same_Some was now (sym before ∙ after) in omega
       (arith, ap g.D.Disk.faults same);
+  stand = λ m was now before after. let same = same_Some was now (sym before ∙ after) in
+      ap g.D.Disk.faults (sym same);
   emptied = λ tell. (λ n bank has. absurd (omega (arith, has.1)), tell);
   cut = λ story from low may. (cuts_none may.told may.ready may.past, may.tell);
 }
@@ -100,6 +103,9 @@ returns-clause-there g c n was = c.loop-number.invariant.still n was
 
 pub returns-clause-whole : goal.returns-clause-whole
 returns-clause-whole g c was = c.loop-number.invariant.whole was
+
+pub returns-clause-quiet : goal.returns-clause-quiet
+returns-clause-quiet g c = c.loop-number.invariant.stand
 
 pub returns-clause-emptied : goal.returns-clause-emptied
 returns-clause-emptied g c tell =

@@ -5,7 +5,7 @@ use Rattle.outside.specs.declared.vault.Device.TheVariants.{Bank}
 use Rattle.outside.specs.Vault.{disk_in, IsWhole}
 use Rattle.recovery_core.specs.JointCrash.{Moments, parts_of}
 use Rattle.recovery_core.specs.Story.{Story}
-use Rattle.recovery_core.specs.Cutting.{FaultsLast, MayCut, AreCut, AreToldIn}
+use Rattle.recovery_core.specs.Cutting.{FaultsLast, FaultsStand, MayCut, AreCut, AreToldIn}
 use Rattle.recovery_core.proofs.cutting.cut_banks.Given as goal
 
 abbrev pub invariant-loop-number : goal.invariant-loop-number
@@ -18,6 +18,7 @@ invariant-loop-number g l = record {
   ties : l.vault.ties ≡ l.fn.vault.ties;
   whole : IsWhole l.fn.vault → IsWhole l.vault;
   later : FaultsLast g.D.Disk.faults l.fn.vault l.vault;
+  stand : FaultsStand g.D.Disk.faults l.fn.vault l.vault;
   emptied : AreToldIn g.D.Disk.tells l.numbers (parts_of l.fn.vault)
       → ((n : ℕ) (bank : g.row.D.Denot) → Contains (take l.number-index l.numbers) n
       → disk_in l.vault (Bank n) ≡ Some bank → g.D.Disk.tells bank ≡ Some [])

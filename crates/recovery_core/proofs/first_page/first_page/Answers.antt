@@ -1,4 +1,4 @@
-use Rattle.std.proofs.Common.{◌≡◌, length, map, refl, sym, ap, ◌∙◌, subst, take, take_all, rules}
+use Rattle.std.proofs.Common.{◌≡◌, map, refl, ap, ◌∙◌, take_all, rules}
 use Rattle.std.specs.Prelude.{List}
 use Rattle.wire_form.specs.Pages.{Contents, catalogue_words}
 use Rattle.wire_form.specs.declared.records.Stored.{Stored}

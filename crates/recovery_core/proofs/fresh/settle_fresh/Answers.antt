@@ -1,8 +1,8 @@
-use Rattle.std.proofs.Common.{◌≡◌, ◌+◌, ◌∷◌, ◌++◌, length, ℕ, [], refl, ◌∙◌, ap, subst, arith}
+use Rattle.std.proofs.Common.{◌≡◌, ◌∷◌, ◌++◌, length, ℕ, [], refl, ◌∙◌, ap, subst, arith}
 use Rattle.std.specs.Prelude.{Err, is_some}
 use Rattle.lists.specs.declared.memory.OrMemory.TheVariants.{Fault}
 use Rattle.outside.specs.declared.vault.Device.{Device}
-use Rattle.outside.specs.declared.vault.Device.TheVariants.{Snaps}
+use Rattle.outside.specs.declared.vault.Device.TheVariants.{Save, Snaps, Bank}
 use Rattle.snapshot_store.specs.declared.store.StoreFault.{StoreFault}
 use Rattle.snapshot_store.specs.declared.store.StoreFault.TheVariants.{Device as Failed, Short, Limit}
 use Rattle.outside.specs.Cuts.{whole_bank}
@@ -13,7 +13,7 @@ use Rattle.outside.specs.Fronts.{AllBegin}
 use Rattle.wire_form.specs.Pages.{catalogue_words}
 use Rattle.log_writer.specs.Save.{Names}
 use Rattle.recovery_core.specs.JointCrash.{parts_of}
-use Rattle.recovery_core.specs.VaultReads.{RoseIn, some_of}
+use Rattle.recovery_core.specs.VaultReads.{RoseIn, some_of, quiet_of}
 use Rattle.recovery_core.specs.FreshLaws.{one_page_bytes, fresh_rests, fresh_since, fresh_left}
 use Rattle.recovery_core.proofs.Files.{all_below, listed_bank}
 use Rattle.recovery_core.proofs.FreshStored.{fresh_stored}
@@ -144,3 +144,12 @@ pub returns-in-Ok-store_and_cut-clause-told_snaps : goal.returns-in-Ok-store_and
 returns-in-Ok-store_and_cut-clause-told_snaps g c =
     ap (λ d. is_some (g.D.Disk.tells d)) c.store_and_cut.ensures.snaps ∙ ap is_some c.sync.ensures.syncs.told
     ∙ c.append.ensures.writes.told
+
+pub returns-in-Ok-store_and_cut-clause-quiet : goal.returns-in-Ok-store_and_cut-clause-quiet
+returns-in-Ok-store_and_cut-clause-quiet g c =
+    let faults = g.D.Disk.faults in
+    let quiet = c.in-Ok-store_and_cut.ensures.quiet in
+    quiet_of c.args.vault.now c.store_and_cut.new.vault (quiet Save _ _ refl refl)
+    (ap faults c.store_and_cut.ensures.snaps ∙ c.in-Ok-sync.ensures.syncs.quiet refl
+    ∙ c.in-Ok.ensures.writes.quiet refl)
+    (λ n was now before after. quiet (Bank n) was now before after)

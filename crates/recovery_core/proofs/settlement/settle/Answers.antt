@@ -20,7 +20,7 @@ use Rattle.recovery_core.specs.SettleGoesOn.{GoesOn}
 use Rattle.recovery_core.specs.SettleFresh.{none_says}
 use Rattle.recovery_core.specs.SettleLaws.{is_without_files, untouched_leaves}
 use Rattle.recovery_core.proofs.SettleCarried.{carry_saved, carry_fresh}
-use Rattle.recovery_core.proofs.SettledReadings.{rests_saved, rests_fresh, same_devices}
+use Rattle.recovery_core.proofs.SettledReadings.{rests_saved, rests_fresh, same_devices, quiet_same}
 use Rattle.recovery_core.proofs.Files.{has_files}
 use Rattle.recovery_core.proofs.settlement.settle.Goals as goal
 
@@ -169,3 +169,9 @@ returns-in-Ok-clause-settles g c =
 pub returns-clause-untouched : goal.returns-clause-untouched
 returns-clause-untouched g c others =
     same_devices c.make_room.ensures.same (c.in-Err.ensures.untouched (λ device is. others device (cc is)))
+
+pub returns-in_default-clause-quiet : goal.returns-in_default-clause-quiet
+returns-in_default-clause-quiet g c = quiet_same c.settle_new.new.vault c.make_room.ensures.same c.in_ok-saved.ensures.quiet
+
+pub returns-in-Ok-clause-quiet : goal.returns-in-Ok-clause-quiet
+returns-in-Ok-clause-quiet g c = quiet_same c.settle_saved.new.vault c.make_room.ensures.same c.in-Ok.ensures.quiet

@@ -1,10 +1,10 @@
-use Rattle.std.proofs.Common.{◌≡◌, ◌+◌, ℕ, List, [], ◌∷◌, get_or, refl, sym, ◌∙◌, ap, subst}
-use Rattle.std.specs.Prelude.{Option, Some, None, Err}
+use Rattle.std.proofs.Common.{◌+◌, refl, sym, ◌∙◌, ap, subst}
+use Rattle.std.specs.Prelude.{Err}
 use Rattle.outside.specs.declared.vault.Device.TheVariants.{Bank}
 use Rattle.log_writer.specs.Points.{sequence_of}
 use Rattle.log_writer.specs.Save.{IsStored}
 use Rattle.recovery_core.specs.JointCrash.{parts_of}
-use Rattle.recovery_core.specs.Recoverable.{Reading, counting}
+use Rattle.recovery_core.specs.Recoverable.{counting}
 use Rattle.recovery_core.specs.SettleGoesOn.{GoesOn}
 use Rattle.recovery_core.specs.SettleLaws.{no_last, point_says, all_zero}
 use Rattle.recovery_core.specs.SettleLaws.{says_without_files, stays_without, untouched_leaves}

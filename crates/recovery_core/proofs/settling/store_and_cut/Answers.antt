@@ -2,7 +2,7 @@ use Rattle.std.proofs.Common.{◌≡◌, ◌≢◌, ◌+◌, ◌⊎◌, inl, inr
 use Rattle.std.specs.Prelude.{Some, Result, Err, is_some}
 use Rattle.log_writer.specs.declared.save.SaveFault.{SaveFault}
 use Rattle.log_writer.specs.declared.save.SaveFault.TheVariants.{Device, Down, Limit}
-use Rattle.log_writer.specs.Points.{sequence_of, point_of}
+use Rattle.log_writer.specs.Points.{sequence_of}
 use Rattle.log_writer.specs.Save.{Names, IsStored}
 use Rattle.outside.specs.Disk.{Only}
 use Rattle.outside.specs.Vault.{disk_in, IsWhole}
@@ -13,7 +13,7 @@ use Rattle.recovery_core.specs.JointCrash.{Parts, Moments, CrashesNow}
 use Rattle.recovery_core.specs.Story.{Story, IsTold}
 use Rattle.recovery_core.specs.Cutting.{AreReady}
 use Rattle.recovery_core.specs.Crashes.Instants.{keeps_then}
-use Rattle.recovery_core.specs.VaultReads.{some_of}
+use Rattle.recovery_core.specs.VaultReads.{some_of, quiet_of}
 use Rattle.recovery_core.specs.Crashes.StoreSteps.{now_one, all_stored, all_failed, all_refused}
 use Rattle.recovery_core.proofs.settling.store_and_cut.Goals as goal
 
@@ -165,6 +165,14 @@ returns-in-Ok-cut_banks-clause-stores g c =
           (sym c.cut_banks.ensures.others.0)
           e.stores.stored,
     )
+
+pub returns-in-Ok-cut_banks-clause-quiet : goal.returns-in-Ok-cut_banks-clause-quiet
+returns-in-Ok-cut_banks-clause-quiet g c =
+    let e = c.in-Ok.ensures in
+    let cut = c.cut_banks.ensures.others in
+    quiet_of c.args.vault.now c.cut_banks.new.vault (ap g.D.Disk.faults cut.0 ∙ e.stores.quiet)
+    (ap g.D.Disk.faults (cut.1 ∙ e.others.0))
+    (λ n was now before. c.in-Ok-cut_banks.ensures.quiet n was now (rw (e.others.1, e.others.2) before))
 
 pub returns-in-Err-cut_banks-clause-bank_failed : goal.returns-in-Err-cut_banks-clause-bank_failed
 returns-in-Err-cut_banks-clause-bank_failed g c n is =

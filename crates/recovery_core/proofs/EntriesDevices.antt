@@ -20,7 +20,8 @@ use Rattle.recovery_core.specs.EntriesRead.{MapsIn}
 use Rattle.recovery_core.specs.Images.{Images}
 use Rattle.recovery_core.specs.JointCrash.{parts_of}
 use Rattle.recovery_core.specs.Resting.{AreTold}
-use Rattle.recovery_core.specs.VaultReads.{VaultOnlyReads, RoseIn, AreQuiet, some_of, reads_none, whole_read, told_read, rose_later}
+use Rattle.recovery_core.specs.VaultReads.{VaultOnlyReads, RoseIn, AreQuiet, some_of, reads_none, whole_read}
+use Rattle.recovery_core.specs.VaultReads.{told_read, rose_later}
 
 banks_differ : (m n : ℕ) → m ≢ n → Bank m ≢ Bank n
 banks_differ m n differ same = differ cc

@@ -1,16 +1,17 @@
 -- All log files of a whole vault.
-use Rattle.std.proofs.Common.{◌≡◌, ◌<◌, ◌∷◌, ℕ, zero, suc, List, [], Option, Some, arith, subst, lit<}
+use Rattle.std.proofs.Common.{◌≡◌, ◌<◌, ◌∷◌, ℕ, List, [], Some, subst, lit<}
 use Rattle.std.specs.Prelude.{IsSome}
 use Rattle.std.specs.List.{Contains, AllByRecursion}
+use Rattle.std.proofs.lemmas.Bool.{cases_lt}
 use Rattle.lists.specs.Elements.{in_none, in_cases}
 use Rattle.std.proofs.Common.{inl, inr}
 use Rattle.outside.specs.declared.vault.Device.TheVariants.{Bank}
 use Rattle.outside.specs.declared.vault.Vault.{Vault}
 use Rattle.outside.specs.Vault.{disk_in, IsWhole}
-use Rattle.outside.specs.Cuts.{whole_bank}
+use Rattle.outside.specs.Cuts.{whole_bank, whole_ends}
 use Rattle.recovery_core.specs.JointCrash.{parts_of}
 use Rattle.recovery_core.specs.CrashesRecover.{HasFiles}
-use Rattle.recovery_core.specs.SettleFiles.{all_banks}
+use Rattle.recovery_core.specs.SettleFiles.{all_banks, has_all}
 use Rattle.recovery_core.specs.VaultReads.{some_of}
 
 pub below_all : (most n : ℕ) (numbers : List ℕ) → AllByRecursion (λ x. x < most) numbers → Contains numbers n
@@ -65,3 +66,11 @@ all_below n has = below_all 16 n all_banks (
     ),
   ),
 ) has
+
+-- a log file of a whole vault is one of all numbers
+pub listed_bank : {D : Type 0} {vault : Vault D} → IsWhole vault → (n : ℕ) (bank : D) → disk_in vault (Bank n) ≡ Some bank
+    → Contains all_banks n
+listed_bank whole n bank there = elim (cases_lt n 16) [
+  | inl below ↦ has_all n below
+  | inr past ↦ absurd (cc (there, whole_ends whole n past))
+]

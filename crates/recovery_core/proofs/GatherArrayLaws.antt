@@ -1,5 +1,7 @@
 -- Arrays: what the page of a place is, and the places below it.
-use Rattle.std.proofs.Common.{◌≡◌, ℕ, ◌+◌, ◌-◌, ◌*◌, ◌/◌, ◌^◌, ◌<◌, ◌≤◌, zero, suc, true, false, List, [], ◌∷◌, ◌++◌, length, get_or, drop, replicate, Some, None, refl, sym, ap, subst, ◌∙◌, arith, inl, inr}
+use Rattle.std.proofs.Common.{◌≡◌, ℕ, ◌+◌, ◌-◌, ◌*◌, ◌/◌, ◌^◌, ◌<◌, ◌≤◌, zero, suc, true, false, List, [], ◌∷◌}
+use Rattle.std.proofs.Common.{◌++◌, length, get_or, drop, replicate, Some, None, refl, sym, ap, subst, ◌∙◌}
+use Rattle.std.proofs.Common.{arith, inl, inr}
 use Rattle.std.specs.Prelude.{cond, min, ◌==◌, IfSome}
 use Rattle.std.specs.Int.{div_ceil}
 use Rattle.std.specs.List.{AllByRecursion}
@@ -11,12 +13,16 @@ use Rattle.wire_form.specs.declared.page.PageKind.TheVariants.{ArrayLeaf, ArrayI
 use Rattle.wire_form.specs.Pages.{IsChild, HasKind}
 use Rattle.snapshot_store.specs.declared.place.Place.{Place}
 use Rattle.snapshot_store.specs.Places.{Found, find, Cover, words_at, places_below, StandsTo}
-use Rattle.snapshot_store.specs.ArrayPages.{fan, leaf_room, row, array_below, array_found, array_look, array_format, array_kind}
+use Rattle.snapshot_store.specs.ArrayPages.{fan, leaf_room, row, array_below, array_found, array_look}
+use Rattle.snapshot_store.specs.ArrayPages.{array_format, array_kind}
 use Rattle.recovery_core.specs.Damage.{first_byte, BreaksTo}
 use Rattle.recovery_core.specs.SnapshotPages.{epoch_in, IsPageUpTo}
-use Rattle.recovery_core.specs.EmptyLaws.{no_page, leaf_stands, middle_stands, top_stands, leaf_finds, middle_finds, top_finds}
+use Rattle.recovery_core.specs.EmptyLaws.{no_page, leaf_stands, middle_stands, top_stands, leaf_finds}
+use Rattle.recovery_core.specs.EmptyLaws.{middle_finds, top_finds}
 use Rattle.recovery_core.specs.Gather.{Puts, is_from, array_records, found_at, Gathered, Gathers, IsLevel}
-use Rattle.recovery_core.proofs.GatherLaws.{le_yes, le_no, eq_no, no_found, puts_none, puts_same, gathers_begin, gathers_more, gathers_break, inner_gathered, leaf_gathered, breaks_here, breaks_below}
+use Rattle.recovery_core.proofs.GatherLaws.{le_yes, le_no, eq_no, no_found, puts_none, puts_same, gathers_begin}
+use Rattle.recovery_core.proofs.GatherLaws.{gathers_more, gathers_break, inner_gathered, leaf_gathered}
+use Rattle.recovery_core.proofs.GatherLaws.{breaks_here, breaks_below}
 
 pub fan_is : fan ≡ 64
 unfolding fan

@@ -1,5 +1,7 @@
 -- What pages put into a state: one record, the records of a page, those of all pages below a page.
-use Rattle.std.proofs.Common.{◌≡◌, ◌≢◌, ℕ, ◌+◌, ◌-◌, ◌*◌, ◌<◌, ◌≤◌, suc, Bool, true, false, List, [], ◌∷◌, length, get_or, Option, Some, None, refl, sym, ap, subst, ◌∙◌, arith, inl, inr, eqb, ◌&&◌}
+use Rattle.std.proofs.Common.{◌≡◌, ◌≢◌, ℕ, ◌+◌, ◌-◌, ◌*◌, ◌<◌, ◌≤◌, suc, Bool, true, false, List, [], ◌∷◌}
+use Rattle.std.proofs.Common.{length, get_or, Option, Some, None, refl, sym, ap, subst, ◌∙◌, arith, inl, inr}
+use Rattle.std.proofs.Common.{eqb, ◌&&◌}
 use Rattle.std.specs.Prelude.{cond, nat_le, nat_lt, ◌==◌}
 use Rattle.std.specs.Cmp.{IsTotalOrder, nat_cmp_total}
 use Rattle.std.specs.Ordering.{eq_by_cmp}
@@ -12,10 +14,12 @@ use Rattle.serial_model.specs.Keys.{key_cmp}
 use Rattle.serial_model.specs.State.{State}
 use Rattle.serial_model.specs.declared.key.Key.{Key}
 use Rattle.snapshot_store.specs.declared.place.Place.{Place}
-use Rattle.snapshot_store.specs.Places.{Found, Format, at_key, find, here_or_below, words_at, places_below, Cover, Tiles, StandsTo}
+use Rattle.snapshot_store.specs.Places.{Found, Format, at_key, find, here_or_below, words_at, places_below}
+use Rattle.snapshot_store.specs.Places.{Cover, Tiles, StandsTo}
 use Rattle.snapshot_store.specs.ArrayPages.{array_found, array_look}
 use Rattle.recovery_core.specs.Damage.{first_byte, FirstBad, BreaksTo}
-use Rattle.recovery_core.specs.Gather.{found_of, put_over, Puts, only_at, is_from, array_records, found_at, found_among, Gathered, Gathers}
+use Rattle.recovery_core.specs.Gather.{found_of, put_over, Puts, only_at, is_from, array_records, found_at}
+use Rattle.recovery_core.specs.Gather.{found_among, Gathered, Gathers}
 
 keys_total : IsTotalOrder key_cmp
 keys_total = then_total (on_total (λ (k : Key). k.storage) nat_cmp_total)

@@ -1,5 +1,7 @@
 -- Trees: what the page of a place is, the places below it, and the records of a leaf.
-use Rattle.std.proofs.Common.{◌≡◌, ◌≢◌, ℕ, ◌+◌, ◌-◌, ◌*◌, ◌/◌, ◌^◌, ◌<◌, ◌≤◌, zero, suc, true, false, List, [], ◌∷◌, ◌++◌, length, map, get_or, take, drop, replicate, Option, Some, None, refl, sym, ap, subst, ◌∙◌, arith, append_assoc, inl, inr}
+use Rattle.std.proofs.Common.{◌≡◌, ◌≢◌, ℕ, ◌+◌, ◌-◌, ◌*◌, ◌/◌, ◌^◌, ◌<◌, ◌≤◌, zero, suc, true, false, List, []}
+use Rattle.std.proofs.Common.{◌∷◌, ◌++◌, length, map, get_or, take, drop, replicate, Option, Some, None, refl}
+use Rattle.std.proofs.Common.{sym, ap, subst, ◌∙◌, arith, append_assoc, inl, inr}
 use Rattle.std.specs.Prelude.{◌⊎◌, cond, ◌==◌, IfSome}
 use Rattle.std.specs.List.{AllByRecursion, flat_map}
 use Rattle.std.specs.FinMap.{get}
@@ -14,10 +16,12 @@ use Rattle.wire_form.specs.Bytes.{padded}
 use Rattle.wire_form.specs.ByteLaws.{length-padded}
 use Rattle.wire_form.specs.Items.{RisesAfter, Rises}
 use Rattle.wire_form.specs.Words.{number_word}
-use Rattle.wire_form.specs.Pages.{IsChild, IsSeparator, IsTreeRecord, Children, HasKind, device_header, record_key, tree_record_words, tree_leaf_words, tree_inner_words}
+use Rattle.wire_form.specs.Pages.{IsChild, IsSeparator, IsTreeRecord, Children, HasKind, device_header}
+use Rattle.wire_form.specs.Pages.{record_key, tree_record_words, tree_leaf_words, tree_inner_words}
 use Rattle.snapshot_store.specs.declared.place.Place.{Place}
 use Rattle.snapshot_store.specs.Places.{Found, Cover}
-use Rattle.snapshot_store.specs.TreePages.{Record, records_at, count_of, node_of, children, node_below, record_for, records_of}
+use Rattle.snapshot_store.specs.TreePages.{Record, records_at, count_of, node_of, children, node_below}
+use Rattle.snapshot_store.specs.TreePages.{record_for, records_of}
 use Rattle.snapshot_store.specs.TreePages.Node.{Leaf, Inner}
 use Rattle.recovery_core.specs.SnapshotPages.{epoch_in, IsPageUpTo}
 use Rattle.recovery_core.specs.Gather.{found_of, put_over, Puts, only_at, tree_records}

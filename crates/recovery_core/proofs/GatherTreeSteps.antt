@@ -1,5 +1,6 @@
 -- The pages of a tree, gathered one after another.
-use Rattle.std.proofs.Common.{◌≡◌, ◌≢◌, ℕ, ◌+◌, ◌-◌, ◌/◌, ◌<◌, ◌≤◌, suc, List, [], ◌∷◌, length, get_or, drop, None, refl, sym, ap, subst, ◌∙◌, arith, inl, inr}
+use Rattle.std.proofs.Common.{◌≡◌, ◌≢◌, ℕ, ◌+◌, ◌-◌, ◌/◌, ◌<◌, ◌≤◌, suc, List, [], ◌∷◌, length, get_or, drop}
+use Rattle.std.proofs.Common.{None, refl, sym, ap, subst, ◌∙◌, arith, inl, inr}
 use Rattle.std.specs.Prelude.{cond}
 use Rattle.std.proofs.lemmas.List.{get_or-drop, get_or-take}
 use Rattle.std.proofs.lemmas.Bool.{cases_eq, cases_lt}
@@ -14,8 +15,13 @@ use Rattle.snapshot_store.specs.TreePages.{count_of, node_of, children, node_bel
 use Rattle.recovery_core.specs.Damage.{first_byte, BreaksTo}
 use Rattle.recovery_core.specs.SnapshotPages.{IsPageUpTo}
 use Rattle.recovery_core.specs.Gather.{Puts, is_from, tree_records, found_at, Gathered, Gathers}
-use Rattle.recovery_core.proofs.GatherLaws.{le_yes, le_no, lt_yes, lt_no, eq_yes, eq_no, no_found, puts_none, puts_same, gathers_begin, gathers_more, gathers_break, inner_gathered, leaf_gathered, breaks_here, breaks_below}
-use Rattle.recovery_core.proofs.GatherTreeLaws.{records_in, numbers_in, separators_in, IsInner, cover_inner, inner_is, leaf_is, node_inner, children_more, children_last, length-children, child_at, separator_some, record_outside, leaf_records, look_leaf, below_leaf}
+use Rattle.recovery_core.proofs.GatherLaws.{le_yes, le_no, lt_yes, lt_no, eq_yes, eq_no, no_found, puts_none}
+use Rattle.recovery_core.proofs.GatherLaws.{puts_same, gathers_begin, gathers_more, gathers_break}
+use Rattle.recovery_core.proofs.GatherLaws.{inner_gathered, leaf_gathered, breaks_here, breaks_below}
+use Rattle.recovery_core.proofs.GatherTreeLaws.{records_in, numbers_in, separators_in, IsInner, cover_inner}
+use Rattle.recovery_core.proofs.GatherTreeLaws.{inner_is, leaf_is, node_inner, children_more, children_last}
+use Rattle.recovery_core.proofs.GatherTreeLaws.{length-children, child_at, separator_some, record_outside}
+use Rattle.recovery_core.proofs.GatherTreeLaws.{leaf_records, look_leaf, below_leaf}
 
 -- ---- the words of the children
 

@@ -15,3 +15,8 @@ pub mod EntriesFiles
 pub mod EntriesDevices
 mod Files
 pub mod SettleOrder
+pub mod SettledReadings
+pub mod SettleCarried
+pub mod FreshStored
+pub mod LengthsStored
+pub mod FilesCut

@@ -1,5 +1,6 @@
 -- From what is read of the parts of a database to what it recovers to.
-use Rattle.std.proofs.Common.{◌≡◌, inl, inr, ℕ, ◌+◌, ◌<◌, List, [], ◌∷◌, Option, Some, None, length, map, filter, reverse, refl, sym, ap, subst, ◌∙◌}
+use Rattle.std.proofs.Common.{◌≡◌, inl, inr, ℕ, ◌+◌, ◌<◌, List, [], ◌∷◌, Option, Some, None, length, map}
+use Rattle.std.proofs.Common.{filter, reverse, refl, sym, ap, subst, ◌∙◌}
 use Rattle.std.specs.FinMap.{get, empty, get-empty}
 use Rattle.std.specs.List.{AllByRecursion}
 use Rattle.std.specs.Option.{option_map}

@@ -1,5 +1,6 @@
 -- Worked databases: what some bytes stand for, by hand.
-use Rattle.std.specs.Prelude.{◌≡◌, ℕ, zero, suc, ◌^◌, ◌<◌, List, [], ◌∷◌, ◌++◌, Some, None, replicate, length, take, get_or}
+use Rattle.std.specs.Prelude.{◌≡◌, ℕ, zero, suc, ◌^◌, ◌<◌, List, [], ◌∷◌, ◌++◌, Some, None, replicate, length}
+use Rattle.std.specs.Prelude.{take, get_or}
 use Rattle.std.proofs.Common.{refl, sym, ap, ◌∙◌, subst, arith, lit<, lit≤, append-nil}
 use Rattle.std.proofs.lemmas.List.{length-append, take_at, drop_at, take_all}
 use Rattle.std.specs.FinMap as finite

@@ -18,6 +18,11 @@ abbrev pub FaultsLast : {D : Type 0} → (D → ℕ) → Vault D → Vault D →
 FaultsLast {D} faults old new = (n : ℕ) (was now : D) → disk_in old (Bank n) ≡ Some was → disk_in new (Bank n)
     ≡ Some now → faults was ≤ faults now
 
+-- each log file's count of faults stands still
+abbrev pub FaultsStand : {D : Type 0} → (D → ℕ) → Vault D → Vault D → Type 0
+FaultsStand {D} faults old new = (n : ℕ) (was now : D) → disk_in old (Bank n) ≡ Some was → disk_in new (Bank n)
+    ≡ Some now → faults now ≡ faults was
+
 -- these log files tell their bytes
 abbrev pub AreToldIn : {D : Type 0} → (D → Option (List ℕ)) → List ℕ → Parts D → Type 0
 AreToldIn {D} tells numbers parts = (n : ℕ) (bank : D) → Contains numbers n → parts.banks n ≡ Some bank

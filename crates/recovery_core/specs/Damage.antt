@@ -1,6 +1,7 @@
 -- Where the devices are not in their grammars: the first byte of the first part that isn't, in the order in which they
 -- are read: save, length of the snapshots, catalogues from the newest back, pages of the newest snapshot, log files.
-use Rattle.std.specs.Prelude.{◌≡◌, ◌⊎◌, ℕ, ◌+◌, ◌-◌, ◌*◌, ◌<◌, ◌≤◌, zero, suc, List, [], ◌∷◌, Option, Some, None, length}
+use Rattle.std.specs.Prelude.{◌≡◌, ◌⊎◌, ℕ, ◌+◌, ◌-◌, ◌*◌, ◌<◌, ◌≤◌, zero, suc, List, [], ◌∷◌, Option, Some}
+use Rattle.std.specs.Prelude.{None, length}
 use Rattle.outside.specs.declared.vault.Device.{Device}
 use Rattle.outside.specs.declared.vault.Device.TheVariants.{Save, Snaps, Bank}
 use Rattle.serial_model.specs.declared.decl.Decl.{Decl}
@@ -14,7 +15,8 @@ use Rattle.snapshot_store.specs.declared.place.Place.{Place}
 use Rattle.snapshot_store.specs.Places.{Format, words_at, places_below, StandsTo}
 use Rattle.snapshot_store.specs.Content.{deepest, root_place, format_of}
 use Rattle.recovery_core.specs.Images.{Images, counted_of}
-use Rattle.recovery_core.specs.Catalogues.{HasPages, IsCatalogueBelow, AreCatalogues, newest_epoch, newest_storages, newest_decls}
+use Rattle.recovery_core.specs.Catalogues.{HasPages, IsCatalogueBelow, AreCatalogues, newest_epoch}
+use Rattle.recovery_core.specs.Catalogues.{newest_storages, newest_decls}
 use Rattle.recovery_core.specs.SnapshotPages.{IsPageUpTo, RootStandsUpTo}
 use Rattle.recovery_core.specs.LogEntries.{IsCountedFile}
 use Rattle.recovery_core.specs.Recoverable.{ReadsPages}

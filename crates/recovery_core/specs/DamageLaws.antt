@@ -23,7 +23,8 @@ use Rattle.recovery_core.specs.SnapshotPages.{IsPageUpTo, RootStandsUpTo}
 use Rattle.recovery_core.specs.LogEntries.{IsCountedFile}
 use Rattle.recovery_core.specs.Recoverable.{Reading, ReadsPages, ReadsSaved, ReadsBy, IsReading}
 use Rattle.recovery_core.specs.RecoverableLaws.{one_pages, one_chain}
-use Rattle.recovery_core.specs.Damage.{FirstBad, CataloguesBreak, BreaksTo, RootBreaks, FileBreaks, FilesBreak, SnapsBreak, LogsBreak, IsDamagedIn}
+use Rattle.recovery_core.specs.Damage.{FirstBad, CataloguesBreak, BreaksTo, RootBreaks, FileBreaks, FilesBreak}
+use Rattle.recovery_core.specs.Damage.{SnapsBreak, LogsBreak, IsDamagedIn}
 
 -- ---- the first bad one of some things
 

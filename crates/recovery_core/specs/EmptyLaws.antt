@@ -1,5 +1,6 @@
 -- A storage without pages stands, and has no record.
-use Rattle.std.specs.Prelude.{◌≡◌, ℕ, zero, suc, ◌+◌, ◌-◌, ◌/◌, ◌≤◌, Bool, true, false, List, [], Option, None, nat_le, cond}
+use Rattle.std.specs.Prelude.{◌≡◌, ℕ, zero, suc, ◌+◌, ◌-◌, ◌/◌, ◌≤◌, Bool, true, false, List, [], Option, None}
+use Rattle.std.specs.Prelude.{nat_le, cond}
 use Rattle.std.proofs.Common.{refl, sym, ap, ◌∙◌, subst, arith}
 use Rattle.std.specs.List.{AllByRecursion}
 use Rattle.std.proofs.lemmas.Bool.Decides.{nat_tests}
@@ -66,14 +67,14 @@ unfolding leaf_room fan
 middle_below low =
     let large : nat_le (low + 2047 + 1 - low) 32 ≡ false = grind (arith, nat_tests) in
     let part : (low + 2047 + 1 - low) / 64 ≡ 32 = omega arith in
-    rw (large, part) refl
+    rw (large, part) (refl {a = row [] 32 low 64})
 
 top_below : (low : ℕ) → array_below [] low (low + 131071) ≡ row [] 2048 low 64
 unfolding leaf_room fan
 top_below low =
     let large : nat_le (low + 131071 + 1 - low) 32 ≡ false = grind (arith, nat_tests) in
     let part : (low + 131071 + 1 - low) / 64 ≡ 2048 = omega arith in
-    rw (large, part) refl
+    rw (large, part) (refl {a = row [] 2048 low 64})
 
 module _ (pages : List (List ℕ)) (epoch id size : ℕ) where
   right : (low high : ℕ) → IsPageUpTo epoch (Array id size) (no_page low high) []

@@ -1,10 +1,11 @@
 -- A fresh vault on its way to its first savepoint.
-use Rattle.std.specs.Prelude.{◌≡◌, ℕ, zero, suc, ◌+◌, ◌*◌, ◌^◌, ◌<◌, List}
-use Rattle.std.specs.Prelude.{[], ◌∷◌, ◌++◌, Option, Some, None, length, get_or, replicate}
-use Rattle.std.proofs.Common.{refl, sym, ap, ◌∙◌, subst, arith}
+use Rattle.std.specs.Prelude.{◌≡◌, ℕ, zero, suc, ◌*◌, ◌^◌, ◌<◌, List}
+use Rattle.std.specs.Prelude.{[], ◌∷◌, Option, Some, None, length, get_or, replicate}
+use Rattle.std.proofs.Common.{refl, sym, ap, ◌∙◌, subst, arith, lit<, lit≤}
 use Rattle.std.specs.FinMap.{get}
 use Rattle.std.specs.List.{AllByRecursion}
 use Rattle.std.proofs.lemmas.List.{nil_from_length, append-nil}
+use Rattle.lists.specs.Each.{all_replicate}
 use Rattle.lists.specs.Fronts.{IsFront}
 use Rattle.outside.specs.Disk.{Runs}
 use Rattle.outside.specs.declared.vault.Tie.{Tie}
@@ -14,8 +15,7 @@ use Rattle.serial_model.specs.declared.key.Key.{Key}
 use Rattle.wire_form.specs.Bytes.{bytes_of}
 use Rattle.wire_form.specs.Pages.{Contents, IsCatalogue, catalogue_words}
 use Rattle.wire_form.specs.declared.page.Page.{Page}
-use Rattle.wire_form.specs.declared.savepoint.Savepoint.{Savepoint}
-use Rattle.log_writer.specs.Points.{point_of}
+use Rattle.log_writer.specs.Points.{point_of, IsSaved}
 use Rattle.log_writer.specs.declared.saved.Saved.{Saved}
 use Rattle.log_writer.specs.Save.{Names}
 use Rattle.snapshot_store.specs.Store.{bytes_of_pages}
@@ -23,7 +23,7 @@ use Rattle.recovery_core.specs.Images.{Images, count_of}
 use Rattle.recovery_core.specs.Catalogues.{IsFirst}
 use Rattle.recovery_core.specs.JointCrash.{Parts, Moments}
 use Rattle.recovery_core.specs.Resting.{IsResting, HasNoRecords, AreTold}
-use Rattle.recovery_core.specs.Settling.{RestsOn, story_of}
+use Rattle.recovery_core.specs.Settling.{RestsOn}
 use Rattle.recovery_core.specs.SettledLaws.{IsFirstPoint}
 use Rattle.recovery_core.specs.SettleRests.{RestsSince}
 use Rattle.recovery_core.specs.CrashesRecover.{LeavesSame, point_read, fresh_leaves}
@@ -45,6 +45,19 @@ zero_at (suc n) (suc count) = zero_at n count
 
 pub is_first : IsFirstPoint (point_of 1 first_saved)
 is_first = record { epoch = refl; catalogue = refl; count = refl; nothing = λ n. zero_at n 16 }
+
+-- which is in its ranges
+pub is_first_saved : IsSaved first_saved
+is_first_saved = record {
+  first = lit≤ tt;
+  last = lit< tt;
+  epoch = lit< tt;
+  catalogue = lit≤ tt;
+  newest = refl;
+  count = lit≤ tt;
+  banks = refl;
+  lengths = all_replicate (λ n. n < 2 ^ 40) 16 0 (lit< tt);
+}
 
 -- the bytes of the one page are those of its words
 pub one_page_bytes : (pages : List Page) (page : Page) (words : List ℕ) → pages ≡ page ∷ [] → page.words ≡ words

@@ -29,4 +29,6 @@ pub mod FreshLaws
 pub mod SettleFiles
 pub mod SettleLaws
 pub mod SettlePages
+pub mod SettleGoesOn
+pub mod Settled
 pub mod SettleFresh

@@ -1,10 +1,13 @@
 -- What recovery gives of a database.
-use Rattle.std.specs.Prelude.{◌≡◌, ℕ, Option, Some, None, IfSome, true, reverse, length}
+use Rattle.std.specs.Prelude.{◌≡◌, ◌<◌, ℕ, Option, Some, None, IfSome, true, map, reverse, length}
 use Rattle.std.specs.Option.{option_map}
 use Rattle.std.specs.FinMap.{get}
+use Rattle.serial_model.specs.Keys.{id_of}
 use Rattle.serial_model.specs.declared.key.Key.{Key}
+use Rattle.wire_form.specs.Items.{Rises}
 use Rattle.wire_form.specs.declared.savepoint.Savepoint.{Savepoint}
 use Rattle.log_writer.specs.Points.{IsSaved, saved_of}
+use Rattle.log_writer.specs.declared.saved.Saved.{Saved}
 use Rattle.snapshot_store.specs.Content.{words_of}
 use Rattle.recovery_core.specs.declared.recovered.Recovered.{Recovered}
 use Rattle.recovery_core.specs.Images.{Images, epoch_of}
@@ -31,14 +34,26 @@ pub record Recovers (found : Images) (r : Recovered) : Type 0 where
   pub catalogues : r.catalogues ≡ reverse (marks_of (catalogue_of reading.point) reading.catalogues)
   pub entries : (key : Key) → get r.entries key ≡ last_of key (counting reading)
 
+-- the saved epoch; it is 0 where nothing was saved
+abbrev pub saved_epoch : Option Saved → ℕ
+saved_epoch None = 0
+saved_epoch (Some s) = s.epoch
+
+-- so many pages count
+abbrev pub saved_count : Option Saved → ℕ
+saved_count None = 0
+saved_count (Some s) = s.count
+
 -- Whatever the devices tell: what is given of the savepoint is what it says, it is in its ranges, both stores are up,
--- and where there is no savepoint no page is given.
+-- the epoch is the saved one, as many pages are given as count, and the storages are in order of their ids.
 pub record IsUp (r : Recovered) : Type 0 where
   pub saved : r.saved ≡ option_map saved_of r.save.newest
   pub ranges : IfSome r.saved IsSaved
   pub up : r.save.down ≡ None
   pub sound : r.store.sound ≡ true
-  pub fresh : r.saved ≡ None → length r.store.pages ≡ 0
+  pub epoch : r.epoch ≡ saved_epoch r.saved
+  pub count : length r.store.pages ≡ saved_count r.saved
+  pub rising : Rises ◌<◌ (map id_of r.decls)
 
 -- in particular epoch and state are those that the devices stand for
 pub recovers_state : (found : Images) (r : Recovered) → Recovers found r → IsRecoverable found r.epoch r.state

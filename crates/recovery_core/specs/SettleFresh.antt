@@ -1,5 +1,5 @@
 -- What is recovered of a vault without a savepoint: epoch 0, and no key.
-use Rattle.std.specs.Prelude.{◌≡◌, ℕ, List, [], Option, Some, None, filter}
+use Rattle.std.specs.Prelude.{◌≡◌, Option, Some, None, filter}
 use Rattle.std.proofs.Common.{refl, sym, ap, ◌∙◌, subst}
 use Rattle.std.specs.FinMap.{get}
 use Rattle.std.specs.Option.{option_map}
@@ -12,7 +12,7 @@ use Rattle.recovery_core.specs.Images.{Images, epoch_of}
 use Rattle.recovery_core.specs.Catalogues.{newest_epoch, newest_storages}
 use Rattle.recovery_core.specs.LogEntries.{logged, counts, last_of}
 use Rattle.recovery_core.specs.Recoverable.{Reading, ReadsFresh, ReadsBy, IsRecoverable}
-use Rattle.recovery_core.specs.Recoverable.{counting, value_over, snapshot_value, value_of_key}
+use Rattle.recovery_core.specs.Recoverable.{value_over, snapshot_value, value_of_key}
 use Rattle.recovery_core.specs.Recovered.{Recovers}
 
 -- where nothing is said of a savepoint there is none

@@ -1,11 +1,11 @@
 -- What a settling leaves of a vault at rest where it stored nothing.
-use Rattle.std.specs.Prelude.{◌≡◌, ℕ, ◌+◌, ◌<◌, zero, suc, List, [], ◌∷◌, Option, Some}
+use Rattle.std.specs.Prelude.{◌≡◌, ℕ, ◌^◌, ◌<◌, zero, suc, List, [], ◌∷◌, Option, Some}
 use Rattle.std.specs.Prelude.{None, true, cond, filter, Result, Ok, Err, MatchResult, replicate, length, get_or}
 use Rattle.std.specs.Option.{option_map}
-use Rattle.std.proofs.Common.{inl, inr, refl, sym, ap, ◌∙◌, subst, arith, lit<, lit≤}
-use Rattle.std.specs.List.{AllByRecursion, Contains}
+use Rattle.std.proofs.Common.{refl, sym, ap, ◌∙◌, subst, arith, lit<}
+use Rattle.std.specs.List.{AllByRecursion}
 use Rattle.std.proofs.lemmas.Bool.Decides.{nat_tests}
-use Rattle.std.proofs.lemmas.List.{nil_from_length}
+use Rattle.lists.specs.Each.{all_replicate}
 use Rattle.lists.specs.Fronts.{IsFront}
 use Rattle.log_writer.specs.Points.{sequence_of, point_of, saved_of, IsSaved}
 use Rattle.log_writer.specs.Save.{Names}
@@ -16,19 +16,18 @@ use Rattle.wire_form.specs.declared.bucket.Entry.{Entry}
 use Rattle.wire_form.specs.declared.savepoint.Savepoint.{Savepoint}
 use Rattle.recovery_core.specs.Images.{Images, counted_of}
 use Rattle.recovery_core.specs.LogEntries.{is_of, greatest, last_of}
-use Rattle.recovery_core.specs.Recoverable.{IsRecoverable, counting}
-use Rattle.recovery_core.specs.JointCrash.{Parts, Moments, KeepsCrashes}
+use Rattle.recovery_core.specs.Recoverable.{IsRecoverable}
+use Rattle.recovery_core.specs.JointCrash.{Parts, Moments}
 use Rattle.recovery_core.specs.Resting.{IsResting, HasNoRecords, AreTold}
 use Rattle.recovery_core.specs.Story.{Story}
-use Rattle.recovery_core.specs.Cutting.{MayCut, AreCut, CutsLeave}
-use Rattle.recovery_core.specs.Settling.{RestsOn, IsLeft, story_of}
+use Rattle.recovery_core.specs.Cutting.{AreCut, CutsLeave}
+use Rattle.recovery_core.specs.Settling.{story_of}
 use Rattle.recovery_core.specs.SettledLaws.{SaysSame}
 use Rattle.recovery_core.specs.SettleRests.{RestsSince}
-use Rattle.recovery_core.specs.CrashesRecover.{LeavesSame, HasFiles, point_read, old_recovers, settled_leaves}
+use Rattle.recovery_core.specs.CrashesRecover.{LeavesSame, HasFiles, old_recovers}
 use Rattle.recovery_core.specs.FreshLaws.{zero_at}
 use Rattle.recovery_core.specs.Crashes.Rested.{told_begun, ready_begun, rests_on}
-use Rattle.recovery_core.specs.Crashes.Rested.{no_cut, point_old, pages_old, counted_old}
-use Rattle.recovery_core.specs.Crashes.Safe.{safe_of}
+use Rattle.recovery_core.specs.Crashes.Rested.{point_old, pages_old, counted_old}
 use Rattle.recovery_core.specs.Crashes.Standing.{crash_stands}
 use Rattle.recovery_core.specs.Crashes.StoreSteps.{now_one}
 
@@ -53,34 +52,7 @@ is_without_files s is = record {
   newest = is.newest;
   count = is.count;
   banks = refl;
-  lengths = (
-    lit< tt,
-    (
-      lit< tt,
-      (
-        lit< tt,
-        (
-          lit< tt,
-          (
-            lit< tt,
-            (
-              lit< tt,
-              (
-                lit< tt,
-                (
-                  lit< tt,
-                  (
-                    lit< tt,
-                    (lit< tt, (lit< tt, (lit< tt, (lit< tt, (lit< tt, (lit< tt, (lit< tt, tt))))))),
-                  ),
-                ),
-              ),
-            ),
-          ),
-        ),
-      ),
-    ),
-  );
+  lengths = all_replicate (λ n. n < 2 ^ 40) 16 0 (lit< tt);
 }
 
 -- the next savepoint says what the newest one says, and counts nothing of the log files
@@ -161,18 +133,13 @@ pub stays_without : (s : Saved) → IsSaved s → AllByRecursion (λ n. n ≡ 0)
 stays_without s is all = ap (λ l. record s { lengths = l })
     (replicated s.lengths all ∙ ap (λ n. replicate n 0) is.banks)
 
--- what is left of a vault is left of an equal one
-pub carry_leaves : {D : Type 0} {tells : D → Option (List ℕ)} {clock : D → ℕ} {image_at : D → ℕ → List ℕ → Type 0}
-    {found : Images}
-    {from : Moments} {epoch : ℕ} {state : State} (old mid new : Parts D) → mid ≡ old
+-- what comes of a vault at rest comes of an equal one
+pub carry_rest : {D : Type 0} {tells : D → Option (List ℕ)} {clock : D → ℕ} {image_at : D → ℕ → List ℕ → Type 0}
+    {found : Images} {from : Moments} (P : Parts D → Type 0) (old mid : Parts D) → mid ≡ old
     → ((rest : IsResting clock image_at mid) → HasNoRecords mid → AreTold tells mid found
-    → RestsSince clock image_at from rest.point rest.pages rest.counted mid
-    → LeavesSame clock image_at from epoch state mid new)
+    → RestsSince clock image_at from rest.point rest.pages rest.counted mid → P mid)
     → (rest : IsResting clock image_at old) → HasNoRecords old → AreTold tells old found
-    → RestsSince clock image_at from rest.point rest.pages rest.counted old
-    → LeavesSame clock image_at from epoch state old new
-carry_leaves {tells = tells} {clock = clock} {image_at = image_at} {found = found} {from = from} {epoch = epoch}
-    {state = state} old mid new same leaves =
+    → RestsSince clock image_at from rest.point rest.pages rest.counted old → P old
+carry_rest {tells = tells} {clock = clock} {image_at = image_at} {found = found} {from = from} P old mid same comes =
     subst (λ p. (rest : IsResting clock image_at p) → HasNoRecords p → AreTold tells p found
-    → RestsSince clock image_at from rest.point rest.pages rest.counted p
-    → LeavesSame clock image_at from epoch state p new) same leaves
+    → RestsSince clock image_at from rest.point rest.pages rest.counted p → P p) same comes

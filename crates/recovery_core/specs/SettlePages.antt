@@ -1,12 +1,12 @@
 -- The storages of the first catalogue: those that are declared, in order of their ids, without pages.
-use Rattle.std.specs.Prelude.{◌≡◌, ◌<◌, ◌≤◌, ℕ, List, [], ◌∷◌, map, length, refl}
-use Rattle.std.proofs.Common.{ap, ◌∙◌, subst, sym, lit<, arith}
+use Rattle.std.specs.Prelude.{◌≡◌, ◌<◌, ◌≤◌, List, [], ◌∷◌, map, length, refl}
+use Rattle.std.proofs.Common.{ap, subst, sym, lit<, arith}
 use Rattle.std.specs.List.{AllByRecursion}
 use Rattle.serial_model.specs.Decls.{IsDecl}
 use Rattle.serial_model.specs.Keys.{id_of}
 use Rattle.serial_model.specs.declared.decl.Decl.{Decl}
 use Rattle.wire_form.specs.Items.{Rises}
-use Rattle.wire_form.specs.Pages.{Contents, IsStored, IsCatalogue, stored_id, stored_decl, decls_of}
+use Rattle.wire_form.specs.Pages.{Contents, IsStored, IsCatalogue, stored_id, decls_of}
 use Rattle.wire_form.specs.declared.records.Stored.{Stored}
 use Rattle.recovery_core.specs.Catalogues.{HasNoRoot, IsFirst}
 

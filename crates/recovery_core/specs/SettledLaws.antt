@@ -1,30 +1,28 @@
 -- A savepoint that counts nothing of the log files stands for the same state, where no entry counted before it.
-use Rattle.std.specs.Prelude.{◌≡◌, ℕ, zero, suc, ◌+◌, ◌*◌, ◌==◌, ◌<◌, ◌≤◌, Bool, true}
-use Rattle.std.specs.Prelude.{false, List, [], ◌∷◌, Option, Some, None, length, take, get_or, replicate, cond}
-use Rattle.std.proofs.Common.{inl, inr, refl, sym, ap, ◌∙◌, subst, arith}
+use Rattle.std.specs.Prelude.{◌≡◌, ℕ, zero, suc, ◌+◌, ◌*◌, ◌==◌, true}
+use Rattle.std.specs.Prelude.{false, List, [], ◌∷◌, Option, Some, None, take, get_or, replicate, cond}
+use Rattle.std.proofs.Common.{refl, sym, ap, ◌∙◌, subst, arith}
 use Rattle.std.specs.FinMap.{get}
 use Rattle.std.specs.List.{AllByRecursion}
-use Rattle.std.proofs.lemmas.Option.{same_Some}
 use Rattle.lists.specs.Fronts.{IsFront}
 use Rattle.serial_model.specs.Keys.{id_of}
 use Rattle.serial_model.specs.State.{State}
 use Rattle.serial_model.specs.declared.decl.Decl.{Decl}
 use Rattle.serial_model.specs.declared.key.Key.{Key}
 use Rattle.serial_model.specs.declared.number.Commit.{Commit}
-use Rattle.wire_form.specs.LogFileLaws.{no_lines}
 use Rattle.wire_form.specs.Pages.{Contents, IsCatalogue, catalogue_words}
 use Rattle.wire_form.specs.declared.records.Stored.{Stored}
 use Rattle.wire_form.specs.declared.savepoint.Savepoint.{Savepoint}
 use Rattle.log_writer.specs.Save.{Names}
 use Rattle.snapshot_store.specs.Places.{Found}
 use Rattle.snapshot_store.specs.Content.{record_in, value_of, value_at}
-use Rattle.recovery_core.specs.Images.{Images, epoch_of, count_of, counted_of}
+use Rattle.recovery_core.specs.Images.{Images, epoch_of, counted_of}
 use Rattle.recovery_core.specs.Catalogues.{HasPages, IsFirst, HasNoRoot}
-use Rattle.recovery_core.specs.Catalogues.{AreCatalogues, newest_epoch, newest_storages, newest_decls}
+use Rattle.recovery_core.specs.Catalogues.{AreCatalogues, newest_decls}
 use Rattle.recovery_core.specs.SnapshotPages.{RootStandsUpTo}
 use Rattle.recovery_core.specs.LogEntries.{IsCountedFile, AreCounted, last_of}
-use Rattle.recovery_core.specs.Recoverable.{Reading, ReadsPages, ReadsSaved, ReadsBy, IsReading}
-use Rattle.recovery_core.specs.Recoverable.{counting, snapshot_value, value_over, value_of_key, IsRecoverable}
+use Rattle.recovery_core.specs.Recoverable.{Reading, ReadsSaved, ReadsBy, IsReading}
+use Rattle.recovery_core.specs.Recoverable.{counting, snapshot_value, value_over, IsRecoverable}
 use Rattle.recovery_core.specs.RecoverableLaws.{same_pages}
 use Rattle.recovery_core.specs.EmptyLaws.{empty_stands, empty_record}
 
@@ -60,35 +58,39 @@ pub record SaysSame (p q : Savepoint) : Type 0 where
   pub count : q.count ≡ p.count
   pub nothing : (n : ℕ) → counted_of (Some q) n ≡ 0
 
--- Devices that name it, and begin with the pages that counted, stand for the same epoch and state where no entry
--- counted.
+-- devices that name it, and begin with the pages that counted, say this
+pub settled_reads : (found other : Images) (p q : Savepoint) (reading : Reading) → IsReading found reading
+    → reading.point ≡ Some p → SaysSame p q → Names other.save (Some q)
+    → IsFront (take (512 * p.count) found.snaps) other.snaps → IsReading other (settled_reading q reading)
+settled_reads found other p q reading is point same names front =
+    let reads : ReadsSaved found p reading = subst (λ x. ReadsBy found x reading) point is.counts in
+    let has = same_pages found.snaps other.snaps p.count reading.pages front reads.snapshot.has in
+    record {
+      names = names;
+      counts = record {
+        snapshot = record {
+          has = subst (λ n. HasPages other.snaps n reading.pages) (sym same.count) has;
+          chain = subst (λ n. AreCatalogues reading.pages (n + 1) None q.catalogue reading.catalogues)
+              (sym same.epoch)
+              (subst (λ n. AreCatalogues reading.pages (p.epoch + 1) None n reading.catalogues)
+              (sym same.catalogue) reads.snapshot.chain);
+          stands = reads.snapshot.stands;
+        };
+        files = counts_nothing (newest_decls reading.catalogues) q other.bank same.nothing;
+      };
+    }
+
+-- and stand for the same epoch and state where no entry counted
 pub settled_same : (found other : Images) (p q : Savepoint) (epoch : ℕ) (state : State)
     → (is : IsRecoverable found epoch state)
     → is.reading.point ≡ Some p → counting is.reading ≡ [] → SaysSame p q → Names other.save (Some q)
     → IsFront (take (512 * p.count) found.snaps) other.snaps → IsRecoverable other epoch state
-settled_same found other p q epoch state is point none same names front =
-    let reading = is.reading in
-    let reads : ReadsSaved found p reading = subst (λ x. ReadsBy found x reading) point is.is.counts in
-    let has = same_pages found.snaps other.snaps p.count reading.pages front reads.snapshot.has in
-    record {
-      reading = settled_reading q reading;
-      is = record {
-        names = names;
-        counts = record {
-          snapshot = record {
-            has = subst (λ n. HasPages other.snaps n reading.pages) (sym same.count) has;
-            chain = subst (λ n. AreCatalogues reading.pages (n + 1) None q.catalogue reading.catalogues)
-                (sym same.epoch)
-                (subst (λ n. AreCatalogues reading.pages (p.epoch + 1) None n reading.catalogues)
-                (sym same.catalogue) reads.snapshot.chain);
-            stands = reads.snapshot.stands;
-          };
-          files = counts_nothing (newest_decls reading.catalogues) q other.bank same.nothing;
-        };
-      };
-      epoch_is = is.epoch_is ∙ ap epoch_of point ∙ sym same.epoch;
-      state_is = λ key. is.state_is key ∙ ap (λ es. value_over (last_of key es) (snapshot_value reading key)) none;
-    }
+settled_same found other p q epoch state is point none same names front = record {
+  reading = settled_reading q is.reading;
+  is = settled_reads found other p q is.reading is.is point same names front;
+  epoch_is = is.epoch_is ∙ ap epoch_of point ∙ sym same.epoch;
+  state_is = λ key. is.state_is key ∙ ap (λ es. value_over (last_of key es) (snapshot_value is.reading key)) none;
+}
 
 -- ---- a fresh vault
 
@@ -126,37 +128,54 @@ pub record IsFirstPoint (q : Savepoint) : Type 0 where
   pub count : q.count ≡ 1
   pub nothing : (n : ℕ) → counted_of (Some q) n ≡ 0
 
--- devices that name it, and begin with that catalogue's page, stand for epoch 0 and no key
+-- what the first savepoint reads
+abbrev pub first_reading : Savepoint → Contents → Reading
+first_reading q c =
+    record { point = Some q; pages = catalogue_words c ∷ []; catalogues = c ∷ []; lines = no_log }
+
+-- devices that name it, and begin with that catalogue's page, say this
+pub first_reads : (found : Images) (q : Savepoint) (c : Contents) → IsFirstPoint q → Names found.save (Some q)
+    → IsCatalogue 1 c → c.previous ≡ 0 → IsFirst c → HasPages found.snaps 1 (catalogue_words c ∷ [])
+    → IsReading found (first_reading q c)
+first_reads found q c first names is previous begins has =
+    let pages : List (List ℕ) = catalogue_words c ∷ [] in
+    record {
+      names = names;
+      counts = record {
+        snapshot = record {
+          has = subst (λ n. HasPages found.snaps n pages) (sym first.count) has;
+          chain = subst (λ n. AreCatalogues pages (q.epoch + 1) None n (c ∷ [])) (sym first.catalogue) (
+            omega arith,
+            record {
+              here = record { there = omega arith; catalogue = is; words = refl };
+              epoch = omega (arith, begins.epoch);
+              decls = tt;
+              first = λ none. begins;
+            },
+            previous,
+          );
+          stands = no_roots_stand pages c.epoch c.storages begins.empty;
+        };
+        files = counts_nothing (newest_decls (c ∷ [])) q found.bank first.nothing;
+      };
+    }
+
+-- which has no key
+pub no_first_value : (q : Savepoint) (c : Contents) (key : Key) → IsFirst c
+    → snapshot_value (first_reading q c) key ≡ None
+no_first_value q c key begins =
+    let pages : List (List ℕ) = catalogue_words c ∷ [] in
+    no_values (record_in pages) c.storages key (no_records pages key.key c.storages begins.empty)
+
+-- so they stand for epoch 0 and no key
 pub first_recoverable : (found : Images) (q : Savepoint) (c : Contents) (state : State) → IsFirstPoint q
     → Names found.save (Some q)
     → IsCatalogue 1 c → c.previous ≡ 0 → IsFirst c → HasPages found.snaps 1 (catalogue_words c ∷ [])
     → ((key : Key) → get state key ≡ None)
     → IsRecoverable found 0 state
-first_recoverable found q c state first names is previous begins has empty =
-    let pages : List (List ℕ) = catalogue_words c ∷ [] in
-    record {
-      reading = record { point = Some q; pages = pages; catalogues = c ∷ []; lines = no_log };
-      is = record {
-        names = names;
-        counts = record {
-          snapshot = record {
-            has = subst (λ n. HasPages found.snaps n pages) (sym first.count) has;
-            chain = subst (λ n. AreCatalogues pages (q.epoch + 1) None n (c ∷ [])) (sym first.catalogue) (
-              omega arith,
-              record {
-                here = record { there = omega arith; catalogue = is; words = refl };
-                epoch = omega (arith, begins.epoch);
-                decls = tt;
-                first = λ none. begins;
-              },
-              previous,
-            );
-            stands = no_roots_stand pages c.epoch c.storages begins.empty;
-          };
-          files = counts_nothing (newest_decls (c ∷ [])) q found.bank first.nothing;
-        };
-      };
-      epoch_is = sym first.epoch;
-      state_is = λ key. empty key ∙ sym (no_values (record_in pages) c.storages key
-          (no_records pages key.key c.storages begins.empty));
-    }
+first_recoverable found q c state first names is previous begins has empty = record {
+  reading = first_reading q c;
+  is = first_reads found q c first names is previous begins has;
+  epoch_is = sym first.epoch;
+  state_is = λ key. empty key ∙ sym (no_first_value q c key begins);
+}

@@ -42,6 +42,18 @@ AreQuiet {D} faults old new =
     (device : Device) (was now : D) → disk_in old device ≡ Some was → disk_in new device ≡ Some now
     → faults now ≡ faults was
 
+-- so it does where those of the save, of the snapshots and of each log file do
+pub quiet_of : {D : Type 0} {faults : D → ℕ} (old new : Vault D) → faults new.save ≡ faults old.save
+    → faults new.snaps ≡ faults old.snaps
+    → ((n : ℕ) (was now : D) → disk_in old (Bank n) ≡ Some was → disk_in new (Bank n) ≡ Some now
+    → faults now ≡ faults was)
+    → AreQuiet faults old new
+quiet_of {faults = faults} old new save snaps banks Save was now before after =
+    sym (ap faults (same_Some _ _ after)) ∙ save ∙ ap faults (same_Some _ _ before)
+quiet_of {faults = faults} old new save snaps banks Snaps was now before after =
+    sym (ap faults (same_Some _ _ after)) ∙ snaps ∙ ap faults (same_Some _ _ before)
+quiet_of old new save snaps banks (Bank n) was now before after = banks n was now before after
+
 -- something that is there is one thing
 pub some_of : {X : Type 0} (o : Option X) → IsSome o → (x : X) × (o ≡ Some x)
 some_of None is = absurd (cc is)

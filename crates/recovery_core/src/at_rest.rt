@@ -1,5 +1,6 @@
 // A vault with a savepoint of which no entry counts is settled: its log files are emptied.
-ghost use Rattle.std.specs.Prelude.{◌≡◌, ◌+◌, ◌-◌, ◌^◌, ◌<◌, ◌≤◌, ℕ, [], Some, None, Err, OnOk, vec_len, vec_capacity};
+ghost use Rattle.std.specs.Prelude.{◌≡◌, ◌+◌, ◌-◌, ◌^◌, ◌<◌, ◌≤◌, ℕ, [], Some, None};
+ghost use Rattle.std.specs.Prelude.{Err, OnOk, is_some, vec_len, vec_capacity};
 ghost use Rattle.std.specs.List.{Contains};
 ghost use Rattle.outside.specs.Vault.{disk_in, IsWhole};
 ghost use Rattle.serial_model.specs.State.{State};
@@ -15,7 +16,8 @@ ghost use Rattle.recovery_core.specs.Resting.{IsResting, HasNoRecords, AreTold};
 ghost use Rattle.recovery_core.specs.CrashesRecover.{LeavesSame};
 ghost use Rattle.recovery_core.specs.Cutting.{AreToldIn};
 ghost use Rattle.recovery_core.specs.SettleFiles.{all_banks};
-ghost use Rattle.recovery_core.specs.VaultReads.{RoseIn};
+ghost use Rattle.recovery_core.specs.SettleGoesOn.{GoesOn};
+ghost use Rattle.recovery_core.specs.VaultReads.{RoseIn, AreQuiet};
 
 use crate::cutting::cut_banks;
 use crate::settling::{BANKS, StoreAndCutFault, store_and_cut};
@@ -44,6 +46,14 @@ pub(crate) fn settle_lengths<D: Disk>(
         → (is : IsRecoverable found epoch state) → counting is.reading ≡ []
         → save.old.newest ≡ Some p → SaysSame p (point_of (sequence_of save.old.newest + 1) saved)
         → LeavesSame D.clock D.image_at from epoch state (parts_of vault.old) (parts_of vault.new) }
+    ensures goes_on { (found : Images) (from : Moments) (epoch : ℕ) (state : State) (p : Savepoint)
+        → (rest : IsResting D.clock D.image_at (parts_of vault.old)) → HasNoRecords (parts_of vault.old)
+        → AreTold D.tells (parts_of vault.old) found
+        → RestsSince D.clock D.image_at from rest.point rest.pages rest.counted (parts_of vault.old)
+        → (is : IsRecoverable found epoch state) → counting is.reading ≡ []
+        → save.old.newest ≡ Some p → SaysSame p (point_of (sequence_of save.old.newest + 1) saved)
+        → OnOk result (GoesOn D.clock D.image_at from epoch state (sequence_of save.old.newest)
+        (Some (point_of (sequence_of save.old.newest + 1) saved)) (parts_of vault.new)) }
     ensures save_failed { result ≡ Err (StoreAndCutFault.Store SaveFault.Device)
         → RoseIn D.faults Device.Save vault.old vault.new }
     ensures bank_failed { (n : ℕ) → result ≡ Err (StoreAndCutFault.Cut n)
@@ -56,6 +66,9 @@ pub(crate) fn settle_lengths<D: Disk>(
         × IsStored D.tells D.clock D.image_at vault.new.save save.new.newest) }
     ensures emptied { AreToldIn D.tells all_banks (parts_of vault.old) → OnOk result ((n : ℕ) (bank : D)
         → Contains all_banks n → disk_in vault.new (Device.Bank n) ≡ Some bank → D.tells bank ≡ Some []) }
+    ensures quiet { OnOk result (AreQuiet D.faults vault.old vault.new) }
+    ensures whole { IsWhole vault.new }
+    ensures told { is_some (D.tells vault.new.save) ≡ is_some (D.tells vault.old.save) }
     ensures snaps { vault.new.snaps ≡ vault.old.snaps }
 {
     store_and_cut(save, vault, saved, &BANKS)
@@ -74,11 +87,21 @@ pub(crate) fn cut_uncounted<D: Disk>(save: &Save, vault: &mut Vault<D>) -> Resul
         → (is : IsRecoverable found epoch state) → counting is.reading ≡ []
         → save.now.newest ≡ Some p → ((n : ℕ) → counted_of (Some p) n ≡ 0)
         → LeavesSame D.clock D.image_at from epoch state (parts_of vault.old) (parts_of vault.new) }
+    ensures goes_on { (found : Images) (from : Moments) (epoch : ℕ) (state : State) (p : Savepoint)
+        → (rest : IsResting D.clock D.image_at (parts_of vault.old)) → HasNoRecords (parts_of vault.old)
+        → AreTold D.tells (parts_of vault.old) found
+        → RestsSince D.clock D.image_at from rest.point rest.pages rest.counted (parts_of vault.old)
+        → (is : IsRecoverable found epoch state) → counting is.reading ≡ []
+        → save.now.newest ≡ Some p → ((n : ℕ) → counted_of (Some p) n ≡ 0)
+        → OnOk result (GoesOn D.clock D.image_at from epoch state (sequence_of save.now.newest) save.now.newest
+        (parts_of vault.new)) }
     ensures emptied { AreToldIn D.tells all_banks (parts_of vault.old) → OnOk result ((n : ℕ) (bank : D)
         → Contains all_banks n → disk_in vault.new (Device.Bank n) ≡ Some bank → D.tells bank ≡ Some []) }
     ensures device { (n : ℕ) → result ≡ Err n → RoseIn D.faults (Device.Bank n) vault.old vault.new }
     ensures others { (vault.new.save ≡ vault.old.save) × (vault.new.snaps ≡ vault.old.snaps)
         × (vault.new.ties ≡ vault.old.ties) }
+    ensures quiet { OnOk result (AreQuiet D.faults vault.old vault.new) }
+    ensures whole { IsWhole vault.new }
 {
     let sequence = save.sequence();
     cut_banks(vault, &BANKS, sequence)

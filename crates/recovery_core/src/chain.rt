@@ -1,5 +1,6 @@
 // The catalogues from the newest back.
-ghost use Rattle.std.specs.Prelude.{◌≡◌, ℕ, ◌<◌, ◌≤◌, ◌++◌, List, Some, Err, IsTrue, ◌↔◌, IfSome, IfNone, IfOk, OnOk, length, map, slice_get};
+ghost use Rattle.std.specs.Prelude.{◌≡◌, ℕ, ◌<◌, ◌≤◌, ◌++◌, List, Some, Err, IsTrue, ◌↔◌, IfSome, IfNone, IfOk};
+ghost use Rattle.std.specs.Prelude.{OnOk, length, map, slice_get};
 ghost use Rattle.std.specs.List.{AllByRecursion};
 ghost use Rattle.wire_form.specs.Pages.{Contents, decls_of, stored_decl};
 ghost use Rattle.snapshot_store.specs.Content.{words_of, CatalogueAt};
@@ -125,10 +126,9 @@ fn read_older(
 
 /// A page's first byte on its device.
 pub(crate) fn first_byte(number: u32) -> u64
-    requires { 1 ≤ number }
     ensures { result ≡ first_byte number }
 {
-    512 * u64::from(number - 1)
+    512 * u64::from(number.saturating_sub(1))
 }
 
 /// Adds the epochs and pages of the catalogues before one, from the newest back; or tells the first byte of the

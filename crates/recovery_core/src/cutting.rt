@@ -3,10 +3,10 @@ ghost use Rattle.std.specs.Prelude.{◌≡◌, ◌+◌, ◌≤◌, ℕ, [], Some
 ghost use Rattle.std.specs.Prelude.{length, IsSome, OnOk, MatchResult, vec_len, vec_capacity};
 ghost use Rattle.std.specs.List.{Contains};
 ghost use Rattle.outside.specs.Faults.{Rose};
-ghost use Rattle.outside.specs.Vault.{disk_in};
+ghost use Rattle.outside.specs.Vault.{disk_in, IsWhole};
 ghost use Rattle.recovery_core.specs.JointCrash.{Moments, parts_of};
 ghost use Rattle.recovery_core.specs.Story.{Story};
-ghost use Rattle.recovery_core.specs.Cutting.{AreToldIn, MayCut, CutsLeave, AreCut};
+ghost use Rattle.recovery_core.specs.Cutting.{AreToldIn, FaultsStand, MayCut, CutsLeave, AreCut};
 
 use outside::{Device, Disk, Failed, Vault};
 
@@ -25,10 +25,12 @@ pub fn cut_banks<D: Disk>(vault: &mut Vault<D>, numbers: &[u8], after: u64) -> R
     ensures among { (n : ℕ) → result ≡ Err n → Contains numbers.now n }
     ensures device { (n : ℕ) → result ≡ Err n → (was now : D) → disk_in vault.old (Device.Bank n) ≡ Some was
         → disk_in vault.new (Device.Bank n) ≡ Some now → Rose (D.faults was) (D.faults now) }
+    ensures quiet { OnOk result (FaultsStand D.faults vault.old vault.new) }
     ensures there { (n : ℕ) → IsSome (disk_in vault.old (Device.Bank n))
         → IsSome (disk_in vault.new (Device.Bank n)) }
     ensures others { (vault.new.save ≡ vault.old.save) × (vault.new.snaps ≡ vault.old.snaps)
         × (vault.new.ties ≡ vault.old.ties) }
+    ensures whole { IsWhole vault.old → IsWhole vault.new }
 {
     for number in numbers {
         let Ok(()) = vault.cut_in(Device::Bank(*number), after) else {

@@ -1,5 +1,6 @@
 // The log files, read one after another: the entries that count, and the first byte that is no line.
-ghost use Rattle.std.specs.Prelude.{◌≡◌, ◌≢◌, ◌<◌, ◌^◌, ◌/◌, ℕ, List, Some, Err, IfOk, OnOk, length, map, filter, slice_get};
+ghost use Rattle.std.specs.Prelude.{◌≡◌, ◌≢◌, ◌<◌, ◌^◌, ◌/◌, ℕ, List, Some, Err, IfOk, OnOk, length, map};
+ghost use Rattle.std.specs.Prelude.{filter, slice_get};
 ghost use Rattle.std.specs.List.{AllByRecursion};
 ghost use Rattle.std.specs.FinMap.{get};
 ghost use Rattle.outside.specs.Vault.{IsWhole};

@@ -6,8 +6,8 @@ ghost use Rattle.lists.specs.Each.{AreDistinct};
 ghost use Rattle.serial_model.specs.Decls.{IsDecl};
 ghost use Rattle.serial_model.specs.Keys.{id_of};
 ghost use Rattle.wire_form.specs.Items.{Rises};
-ghost use Rattle.wire_form.specs.Pages.{Contents, decls_of};
 ghost use Rattle.recovery_core.specs.FreshLaws.{IsFirstPage};
+ghost use Rattle.recovery_core.specs.SettlePages.{first_contents};
 
 use crate::catalogue::words_fit;
 use lists::Memory;
@@ -21,8 +21,7 @@ pub(crate) fn first_page(alloc: Global, decls: &[Decl]) -> Result<Page, Memory>
     requires decls { AllByRecursion IsDecl decls.now }
     requires rising { Rises ◌<◌ (map id_of decls.now) }
     ensures number { IfOk result (λ page. page.number ≡ 1) }
-    ensures first { IfOk result (λ page. (c : Contents)
-        × IsFirstPage page.words c × (decls_of c ≡ decls.now)) }
+    ensures first { IfOk result (λ page. IsFirstPage page.words (first_contents decls.now)) }
 {
     let mut storages = Vec::with_capacity(alloc, decls.len())?;
     for decl in decls {

@@ -1,6 +1,6 @@
 // A fresh vault is settled: its first catalogue, its first savepoint, and empty log files.
 ghost use Rattle.std.specs.Prelude.{◌≡◌, ◌<◌, ◌≤◌, ◌+◌, ℕ, [], ◌∷◌, Some};
-ghost use Rattle.std.specs.Prelude.{None, Err, true, IfOk, OnOk, vec_len, vec_capacity};
+ghost use Rattle.std.specs.Prelude.{None, Err, true, is_some, IfOk, OnOk, vec_len, vec_capacity};
 ghost use Rattle.std.specs.List.{Contains};
 ghost use Rattle.std.specs.FinMap.{get};
 ghost use Rattle.outside.specs.Disk.{IfTold};
@@ -16,13 +16,15 @@ ghost use Rattle.snapshot_store.specs.Store.{bytes_of_pages, Holds};
 ghost use Rattle.recovery_core.specs.declared.fault.SettleFault.{SettleFault as TheFault};
 ghost use Rattle.recovery_core.specs.Cutting.{AreToldIn};
 ghost use Rattle.recovery_core.specs.SettleFiles.{all_banks};
-ghost use Rattle.recovery_core.specs.VaultReads.{RoseIn};
+ghost use Rattle.recovery_core.specs.VaultReads.{RoseIn, AreQuiet};
 ghost use Rattle.recovery_core.specs.JointCrash.{Moments, parts_of};
 ghost use Rattle.recovery_core.specs.SettleRests.{RestsSince};
 ghost use Rattle.recovery_core.specs.Resting.{IsResting, HasNoRecords, AreTold};
 ghost use Rattle.recovery_core.specs.Images.{Images};
 ghost use Rattle.recovery_core.specs.CrashesRecover.{LeavesSame};
 ghost use Rattle.recovery_core.specs.FreshLaws.{first_saved, IsFirstPage};
+ghost use Rattle.recovery_core.specs.Settled.{SameDevices};
+ghost use Rattle.recovery_core.specs.SettleGoesOn.{GoesOn};
 
 use crate::SettleFault;
 use crate::settlement::fault_of;
@@ -57,6 +59,13 @@ pub(crate) fn settle_fresh<D: Disk>(
         → RestsSince D.clock D.image_at from rest.point rest.pages rest.counted (parts_of vault.old)
         → IsFirstPage page.words c → ((key : Key) → get state key ≡ None)
         → LeavesSame D.clock D.image_at from 0 state (parts_of vault.old) (parts_of vault.new) }
+    ensures goes_on { (found : Images) (from : Moments) (c : Contents) (state : State)
+        → (rest : IsResting D.clock D.image_at (parts_of vault.old)) → HasNoRecords (parts_of vault.old)
+        → AreTold D.tells (parts_of vault.old) found
+        → RestsSince D.clock D.image_at from rest.point rest.pages rest.counted (parts_of vault.old)
+        → IsFirstPage page.words c → ((key : Key) → get state key ≡ None)
+        → OnOk result (GoesOn D.clock D.image_at from 0 state 0 (Some (point_of 1 first_saved))
+        (parts_of vault.new)) }
     ensures device { (device : TheDevice) → result ≡ Err (OrMemory.Fault (SettleFault.Device device))
         → RoseIn D.faults device vault.old vault.new }
     ensures only_device { (fault : TheFault) → result ≡ Err (OrMemory.Fault fault)
@@ -66,6 +75,11 @@ pub(crate) fn settle_fresh<D: Disk>(
     ensures stored { OnOk result (IsStored D.tells D.clock D.image_at vault.new.save save.new.newest) }
     ensures emptied { AreToldIn D.tells all_banks (parts_of vault.old) → OnOk result ((n : ℕ) (bank : D)
         → Contains all_banks n → disk_in vault.new (Device.Bank n) ≡ Some bank → D.tells bank ≡ Some []) }
+    ensures quiet { OnOk result (AreQuiet D.faults vault.old vault.new) }
+    ensures whole { IsWhole vault.new }
+    ensures told { OnOk result (is_some (D.tells vault.new.save) ≡ is_some (D.tells vault.old.save)) }
+    ensures told_snaps { OnOk result (is_some (D.tells vault.new.snaps) ≡ is_some (D.tells vault.old.snaps)) }
+    ensures untouched { result ≡ Err OrMemory.Memory → SameDevices vault.old vault.new }
     ensures pages { OnOk result (store.new.pages ≡ page ∷ []) }
     ensures sound { OnOk result (store.new.sound ≡ true) }
     ensures holds { Holds D.tells vault.new.snaps store.new.pages }

@@ -7,22 +7,20 @@ ghost use Rattle.recovery_core.specs.Damage.{first_byte};
 ghost use Rattle.recovery_core.specs.Gather.{Puts, only_at, found_of};
 
 use crate::catalogue::words_fit;
+use crate::chain;
 use lists::Memory;
 use serial_model::{Key, State};
 use snapshot_store::SnapStore;
 use wire_form::{PageKind, is_page};
 
-/// The size of a page on the device, in bytes.
-const SIZE: u64 = 512;
-
-/// A page's first byte on the device.
+/// The first byte on the device of a page of the store, and 0 for page 0.
 pub(crate) fn first_byte(store: &SnapStore, number: u64) -> u64
     requires { number ≤ length store.now.pages }
     ensures { result ≡ first_byte number }
 {
     let count = u64::from(store.count());
     prove!(number <= count);
-    SIZE * number.saturating_sub(1)
+    chain::first_byte(number as u32)
 }
 
 /// The words of the page of this number.

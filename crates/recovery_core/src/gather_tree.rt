@@ -1,5 +1,6 @@
 // The records of a tree's pages.
-ghost use Rattle.std.specs.Prelude.{◌≡◌, ℕ, ◌+◌, ◌-◌, ◌*◌, ◌/◌, ◌^◌, ◌<◌, ◌≤◌, Err, IsTrue, ◌↔◌, OnOk, length, drop, slice_index};
+ghost use Rattle.std.specs.Prelude.{◌≡◌, ℕ, ◌+◌, ◌-◌, ◌*◌, ◌/◌, ◌^◌, ◌<◌, ◌≤◌, Err, IsTrue, ◌↔◌, OnOk, length};
+ghost use Rattle.std.specs.Prelude.{drop, slice_index};
 ghost use Rattle.serial_model.specs.declared.decl.Decl.TheVariants.{Tree};
 ghost use Rattle.snapshot_store.specs.Content.{words_of};
 ghost use Rattle.snapshot_store.specs.TreePages.{tree_format, count_of, records_at};

@@ -9,13 +9,15 @@
 //! - [`recover`] gives what they stand for, with the storages, the snapshots and the entries that count
 //!   (`recovers`), and `Damaged` only where they are, at exactly that byte (`damaged`).
 //! - [`settle`], whatever it answers: each crash of all devices since they rest leaves the epoch and the state
-//!   that were recovered (`crashes`, record `LeavesSame`); behind `Ok` the newest
-//!   savepoint is the one that is handed on, and the log files are empty (`says`, `emptied`).
+//!   that were recovered (`crashes`, record `LeavesSame`). Behind `Ok` the devices say what is handed on, and the
+//!   log files are empty (`settles`, records `Settles` and `SaysSettled`); after each other answer but a device's
+//!   fault they are as they were (`untouched`). Where entries count, or pages are more than are let in, it answers
+//!   the limit (`limit`, `fits`).
 //! - [`store_and_cut`] and [`cut_banks`]: each joint crash stands for one savepoint, and what was a joint crash
 //!   is one (`crashes`, `cut`).
 //!
-//! And over each disk: a fault is answered only where that device's count of faults rose (`device`), and
-//! where the answer is `Ok` none did (`quiet`); each device is only read, and no store or cut is recorded
+//! And over each disk: both answer a fault only where that device's count of faults rose (`device`), and where
+//! the answer is `Ok` none did (`quiet`); [`recover`] only reads each device, and records no store and no cut
 //! (`reads`).
 //!
 //! Its specs/ also say what a crash of all devices at once may leave (`IsJointCrash`), and when nothing that

@@ -41,6 +41,7 @@ fn load_snapshot<D: Disk>(
         × IsSnapshotOf saved.now.epoch saved.now.catalogue catalogues s) }
     ensures pages { IfOk result (λ s. IfTold (D.tells vault.old.snaps) (λ file.
         HasPages file saved.now.count (words_of s.store.pages))) }
+    ensures count { IfOk result (λ s. length s.store.pages ≡ saved.now.count) }
     ensures sound { IfOk result (λ s. s.store.sound ≡ true) }
     ensures holds { IfOk result (λ s. Holds D.tells vault.new.snaps s.store.pages) }
     ensures damaged { (device : Device) (at : ℕ) → result ≡ Err (OrMemory.Fault (RecoverFault.Damaged device at))

@@ -1,8 +1,8 @@
 // A vault that was recovered is settled, so that a run can begin: nothing of the log files counts, and they are
 // empty.
 ghost use Rattle.std.specs.Prelude.{◌≡◌, ◌⊎◌, ◌+◌, ◌-◌, ◌^◌, ◌<◌, ◌≤◌, ◌↔◌, ◌==◌, if◌then◌else◌};
-ghost use Rattle.std.specs.Prelude.{ℕ, [], Some, None, Err, IfOk, OnOk, IsTrue, vec_len, vec_capacity};
-ghost use Rattle.std.specs.Prelude.{map, true, IfSome};
+ghost use Rattle.std.specs.Prelude.{ℕ, [], ◌∷◌, Some, None, Err, IfOk, OnOk, OnErr, IsTrue};
+ghost use Rattle.std.specs.Prelude.{map, true, false, is_some, IfSome, vec_len, vec_capacity};
 ghost use Rattle.std.specs.List.Sorted.{IsPermutation};
 ghost use Rattle.outside.specs.Disk.{IfTold};
 ghost use Rattle.outside.specs.Fronts.{AllBegin};
@@ -11,13 +11,17 @@ ghost use Rattle.serial_model.specs.Keys.{id_of};
 ghost use Rattle.wire_form.specs.Items.{Rises};
 ghost use Rattle.snapshot_store.specs.Store.{bytes_of_pages, Holds};
 ghost use Rattle.recovery_core.specs.declared.fault.SettleFault.{SettleFault as TheFault};
-ghost use Rattle.recovery_core.specs.FreshLaws.{first_saved};
+ghost use Rattle.wire_form.specs.declared.page.Page.{Page};
+ghost use Rattle.recovery_core.specs.FreshLaws.{first_saved, IsFirstPage};
+ghost use Rattle.recovery_core.specs.SettlePages.{first_contents};
+ghost use Rattle.recovery_core.specs.Settled.{Settles, Fits, SameDevices, stores_due};
+ghost use Rattle.recovery_core.specs.SettleGoesOn.{GoesOn};
 ghost use Rattle.std.specs.List.{AllByRecursion, Contains, list_all};
 ghost use Rattle.std.specs.Option.{option_map};
 ghost use Rattle.std.specs.FinMap.{get};
 ghost use Rattle.outside.specs.Vault.{disk_in, IsWhole};
 ghost use Rattle.outside.specs.declared.vault.Device.{Device as TheDevice};
-ghost use Rattle.serial_model.specs.State.{State};
+ghost use Rattle.serial_model.specs.State.{State as TheState};
 ghost use Rattle.serial_model.specs.declared.key.Key.{Key};
 ghost use Rattle.wire_form.specs.declared.savepoint.Savepoint.{Savepoint};
 ghost use Rattle.log_writer.specs.Points.{IsSaved, point_of, saved_of, sequence_of};
@@ -33,7 +37,7 @@ ghost use Rattle.recovery_core.specs.SettleFiles.{all_banks};
 ghost use Rattle.recovery_core.specs.SettleLaws.{without_files};
 ghost use Rattle.recovery_core.specs.Recovered.{Recovers, IsUp};
 ghost use Rattle.recovery_core.specs.SettleRests.{RestsSince};
-ghost use Rattle.recovery_core.specs.VaultReads.{RoseIn};
+ghost use Rattle.recovery_core.specs.VaultReads.{RoseIn, AreQuiet};
 
 use crate::at_rest::{cut_uncounted, settle_lengths};
 use crate::first_page::{first_page, in_order};
@@ -44,7 +48,7 @@ use crate::{Recovered, SettleFault};
 use lists::{Memory, OrMemory, Sequence};
 use log_writer::{Save, SaveFault, Saved};
 use outside::{Device, Disk, Vault};
-use serial_model::Decl;
+use serial_model::{Decl, State};
 use snapshot_store::SnapStore;
 use std::alloc::Global;
 
@@ -64,6 +68,8 @@ pub(crate) fn fault_of(fault: StoreAndCutFault) -> SettleFault
         ⊎ ((n : ℕ) × (device ≡ Device.Bank n) × (fault ≡ StoreAndCutFault.Cut n)) }
     ensures sequence { (sequence : ℕ) → result ≡ SettleFault.Sequence sequence
         → fault ≡ StoreAndCutFault.Store (SaveFault.Limit sequence) }
+    ensures other { ((device : TheDevice) → result ≡ SettleFault.Device device → ⊥)
+        → (sequence : ℕ) × (fault ≡ StoreAndCutFault.Store (SaveFault.Limit sequence)) }
     ensures never_limit { (have room new : ℕ) → result ≡ SettleFault.Limit have new room → ⊥ }
     ensures never_deep { result ≡ SettleFault.Deep → ⊥ }
 {
@@ -94,22 +100,35 @@ pub(crate) fn settle_saved<D: Disk>(
     requires stored { IsStored D.tells D.clock D.image_at vault.old.save save.old.newest }
     requires tie_room { vec_len vault.old.ties < vec_capacity vault.old.ties }
     requires cut_room { vec_len vault.old.cuts + 16 ≤ vec_capacity vault.old.cuts }
-    ensures crashes { (found : Images) (from : Moments) (epoch : ℕ) (state : State)
+    ensures crashes { (found : Images) (from : Moments) (epoch : ℕ) (state : TheState)
         → (rest : IsResting D.clock D.image_at (parts_of vault.old)) → HasNoRecords (parts_of vault.old)
         → AreTold D.tells (parts_of vault.old) found
         → RestsSince D.clock D.image_at from rest.point rest.pages rest.counted (parts_of vault.old)
         → (is : IsRecoverable found epoch state)
         → ((key : Key) → get entries.now key ≡ last_of key (counting is.reading))
         → LeavesSame D.clock D.image_at from epoch state (parts_of vault.old) (parts_of vault.new) }
+    ensures goes_on { (found : Images) (from : Moments) (epoch : ℕ) (state : TheState)
+        → (rest : IsResting D.clock D.image_at (parts_of vault.old)) → HasNoRecords (parts_of vault.old)
+        → AreTold D.tells (parts_of vault.old) found
+        → RestsSince D.clock D.image_at from rest.point rest.pages rest.counted (parts_of vault.old)
+        → (is : IsRecoverable found epoch state)
+        → ((key : Key) → get entries.now key ≡ last_of key (counting is.reading))
+        → OnOk result (GoesOn D.clock D.image_at from epoch state (sequence_of save.old.newest) save.new.newest
+        (parts_of vault.new)) }
     ensures limit { (have new room : ℕ) → result ≡ Err (SettleFault.Limit have new room)
-        → (have ≡ saved.count) × (vault.new ≡ vault.old)
+        → (have ≡ saved.count)
         × (((new ≡ 1) × (room ≡ saved.count) × (((key : Key) → get entries.now key ≡ None) → ⊥))
         ⊎ ((new ≡ 0) × (room ≡ snap) × (snap < saved.count) × ((key : Key) → get entries.now key ≡ None))) }
+    ensures fits { ((have new room : ℕ) → result ≡ Err (SettleFault.Limit have new room) → ⊥)
+        → ((key : Key) → get entries.now key ≡ None) × (saved.count ≤ snap) }
     ensures sequence { (sequence : ℕ) → result ≡ Err (SettleFault.Sequence sequence)
-        → (sequence ≡ sequence_of save.old.newest) × (sequence ≡ 2 ^ 63 - 1) × (vault.new ≡ vault.old) }
+        → (sequence ≡ sequence_of save.old.newest) × (sequence ≡ 2 ^ 63 - 1)
+        × (list_all (λ n. n == 0) saved.lengths ≡ false) }
     ensures device { (device : TheDevice) → result ≡ Err (SettleFault.Device device)
         → RoseIn D.faults device vault.old vault.new }
     ensures never_deep { result ≡ Err SettleFault.Deep → ⊥ }
+    ensures untouched { ((device : TheDevice) → result ≡ Err (SettleFault.Device device) → ⊥)
+        → OnErr result (vault.new ≡ vault.old) }
     ensures says { IfOk result (λ s. (s ≡ without_files saved) × (Some s ≡ option_map saved_of save.new.newest)) }
     ensures up { OnOk result (save.new.down ≡ None) }
     ensures stored { OnOk result (IsStored D.tells D.clock D.image_at vault.new.save save.new.newest) }
@@ -117,6 +136,9 @@ pub(crate) fn settle_saved<D: Disk>(
         ≡ sequence_of save.old.newest + (if list_all (λ n. n == 0) saved.lengths then 0 else 1)) }
     ensures emptied { AreToldIn D.tells all_banks (parts_of vault.old) → OnOk result ((n : ℕ) (bank : D)
         → Contains all_banks n → disk_in vault.new (Device.Bank n) ≡ Some bank → D.tells bank ≡ Some []) }
+    ensures quiet { OnOk result (AreQuiet D.faults vault.old vault.new) }
+    ensures whole { IsWhole vault.new }
+    ensures told { is_some (D.tells vault.new.save) ≡ is_some (D.tells vault.old.save) }
     ensures snaps { vault.new.snaps ≡ vault.old.snaps }
 {
     let have = saved.count;
@@ -161,16 +183,15 @@ pub struct Settled {
     pub saved: Saved,
     /// The storages that the newest catalogue declares.
     pub decls: Sequence<Decl>,
+    /// The state that was recovered.
+    pub state: State,
 }
 
 // Makes room for the record of a store, and of a cut of each log file: neither may begin and then go
 // unrecorded for want of memory.
 fn make_room<D: Disk>(vault: &mut Vault<D>) -> Result<(), Memory>
     ensures parts { parts_of vault.new ≡ parts_of vault.old }
-    ensures even { vault.new.even ≡ vault.old.even }
-    ensures odd { vault.new.odd ≡ vault.old.odd }
-    ensures save { vault.new.save ≡ vault.old.save }
-    ensures snaps { vault.new.snaps ≡ vault.old.snaps }
+    ensures same { SameDevices vault.old vault.new }
     ensures tie_room { OnOk result (vec_len vault.new.ties < vec_capacity vault.new.ties) }
     ensures cut_room { OnOk result (vec_len vault.new.cuts + 16 ≤ vec_capacity vault.new.cuts) }
 {
@@ -197,17 +218,31 @@ fn settle_new<D: Disk>(
     requires decls { AreDecls decls.now }
     requires tie_room { vec_len vault.old.ties < vec_capacity vault.old.ties }
     requires cut_room { vec_len vault.old.cuts + 16 ≤ vec_capacity vault.old.cuts }
-    ensures crashes { (found : Images) (from : Moments) (state : State)
+    ensures crashes { (found : Images) (from : Moments) (state : TheState)
         → (rest : IsResting D.clock D.image_at (parts_of vault.old)) → HasNoRecords (parts_of vault.old)
         → AreTold D.tells (parts_of vault.old) found
         → RestsSince D.clock D.image_at from rest.point rest.pages rest.counted (parts_of vault.old)
         → IsRecoverable found 0 state → ((key : Key) → get state key ≡ None)
         → LeavesSame D.clock D.image_at from 0 state (parts_of vault.old) (parts_of vault.new) }
+    ensures goes_on { (found : Images) (from : Moments) (state : TheState)
+        → (rest : IsResting D.clock D.image_at (parts_of vault.old)) → HasNoRecords (parts_of vault.old)
+        → AreTold D.tells (parts_of vault.old) found
+        → RestsSince D.clock D.image_at from rest.point rest.pages rest.counted (parts_of vault.old)
+        → IsRecoverable found 0 state → ((key : Key) → get state key ≡ None)
+        → OnOk result (GoesOn D.clock D.image_at from 0 state 0 (Some (point_of 1 first_saved))
+        (parts_of vault.new)) }
     ensures device { (device : TheDevice) → result ≡ Err (OrMemory.Fault (SettleFault.Device device))
         → RoseIn D.faults device vault.old vault.new }
     ensures only_device { (fault : TheFault) → result ≡ Err (OrMemory.Fault fault)
         → (device : TheDevice) × (fault ≡ SettleFault.Device device) }
+    ensures untouched { result ≡ Err OrMemory.Memory → SameDevices vault.old vault.new }
     ensures says { IfOk result (λ s. (s.0 ≡ first_saved) × (save.new.newest ≡ Some (point_of 1 s.0))) }
+    ensures page { IfOk result (λ s. (page : Page)
+        × (store.new.pages ≡ page ∷ []) × IsFirstPage page.words (first_contents s.1)) }
+    ensures quiet { OnOk result (AreQuiet D.faults vault.old vault.new) }
+    ensures whole { IsWhole vault.new }
+    ensures told { OnOk result (is_some (D.tells vault.new.save) ≡ is_some (D.tells vault.old.save)) }
+    ensures told_snaps { OnOk result (is_some (D.tells vault.new.snaps) ≡ is_some (D.tells vault.old.snaps)) }
     ensures decls { IfOk result (λ s. IsPermutation decls.now s.1 × Rises ◌<◌ (map id_of s.1)) }
     ensures up { OnOk result (save.new.down ≡ None) }
     ensures stored { OnOk result (IsStored D.tells D.clock D.image_at vault.new.save save.new.newest) }
@@ -247,19 +282,24 @@ pub fn settle<D: Disk>(
         → Recovers found recovered
         → LeavesSame D.clock D.image_at from recovered.epoch recovered.state
         (parts_of vault.old) (parts_of vault.new) }
+    ensures settles { IfOk result (λ s.
+        Settles D.tells D.clock D.image_at recovered decls.now vault.old vault.new s) }
     ensures limit { (have new room : ℕ) → result ≡ Err (OrMemory.Fault (SettleFault.Limit have new room))
         → IfSome recovered.saved (λ s. (have ≡ s.count)
         × (((new ≡ 1) × (room ≡ s.count) × (((key : Key) → get recovered.entries key ≡ None) → ⊥))
         ⊎ ((new ≡ 0) × (room ≡ snap) × (snap < s.count) × ((key : Key) → get recovered.entries key ≡ None)))) }
+    ensures fits { (result ≡ Err OrMemory.Memory → ⊥)
+        → ((have new room : ℕ) → result ≡ Err (OrMemory.Fault (SettleFault.Limit have new room)) → ⊥)
+        → IfSome recovered.saved (Fits recovered snap) }
     ensures sequence { (sequence : ℕ) → result ≡ Err (OrMemory.Fault (SettleFault.Sequence sequence))
-        → (sequence ≡ sequence_of recovered.save.newest) × (sequence ≡ 2 ^ 63 - 1) }
+        → (sequence ≡ sequence_of recovered.save.newest) × (sequence ≡ 2 ^ 63 - 1)
+        × (stores_due recovered.saved ≡ 1) }
     ensures device { (device : TheDevice) → result ≡ Err (OrMemory.Fault (SettleFault.Device device))
         → RoseIn D.faults device vault.old vault.new }
+    ensures quiet { OnOk result (AreQuiet D.faults vault.old vault.new) }
     ensures never_deep { result ≡ Err (OrMemory.Fault SettleFault.Deep) → ⊥ }
-    ensures says { IfOk result (λ s. (Some s.saved ≡ option_map saved_of s.save.newest)
-        × (s.save.down ≡ None) × IsStored D.tells D.clock D.image_at vault.new.save s.save.newest) }
-    ensures emptied { AreToldIn D.tells all_banks (parts_of vault.old) → OnOk result ((n : ℕ) (bank : D)
-        → Contains all_banks n → disk_in vault.new (Device.Bank n) ≡ Some bank → D.tells bank ≡ Some []) }
+    ensures untouched { ((device : TheDevice) → result ≡ Err (OrMemory.Fault (SettleFault.Device device)) → ⊥)
+        → OnErr result (SameDevices vault.old vault.new) }
 {
     make_room(vault)?;
     let Recovered {
@@ -268,7 +308,7 @@ pub fn settle<D: Disk>(
         decls: kept,
         mut store,
         epoch: _,
-        state: _,
+        state,
         catalogues: _,
         entries,
     } = recovered;
@@ -279,6 +319,7 @@ pub fn settle<D: Disk>(
             store,
             saved,
             decls,
+            state,
         });
     };
     match settle_saved(&mut save, vault, saved, &entries, snap) {
@@ -287,6 +328,7 @@ pub fn settle<D: Disk>(
             store,
             saved,
             decls: kept,
+            state,
         }),
         Err(fault) => Err(OrMemory::Fault(fault)),
     }

@@ -1,16 +1,16 @@
 // A savepoint that counts nothing of some log files, and then their cuts: what a settling does where no
 // entry counts, and what a join does for the closed side.
 ghost use Rattle.std.specs.Prelude.{◌≡◌, ◌+◌, ◌-◌, ◌^◌, ◌<◌, ◌≤◌, ℕ, [], Some};
-ghost use Rattle.std.specs.Prelude.{None, Err, length, IsSome, OnOk, MatchResult, vec_len, vec_capacity};
+ghost use Rattle.std.specs.Prelude.{None, Err, length, IsSome, is_some, OnOk, MatchResult, vec_len, vec_capacity};
 ghost use Rattle.std.specs.List.{Contains};
-ghost use Rattle.outside.specs.Vault.{disk_in};
+ghost use Rattle.outside.specs.Vault.{disk_in, IsWhole};
 ghost use Rattle.log_writer.specs.Points.{IsSaved, point_of, sequence_of};
 ghost use Rattle.log_writer.specs.Save.{IsStored};
 ghost use Rattle.recovery_core.specs.JointCrash.{Moments, parts_of, KeepsCrashes};
 ghost use Rattle.recovery_core.specs.Story.{Story};
 ghost use Rattle.recovery_core.specs.Cutting.{ArePast, AreToldIn};
 ghost use Rattle.recovery_core.specs.Settling.{MayStore, IsLeft, IsSettled};
-ghost use Rattle.recovery_core.specs.VaultReads.{RoseIn};
+ghost use Rattle.recovery_core.specs.VaultReads.{RoseIn, AreQuiet};
 
 use crate::cutting::cut_banks;
 use log_writer::{Save, SaveFault, Saved};
@@ -48,12 +48,15 @@ pub fn store_and_cut<D: Disk>(
         → ((n : ℕ) → Contains numbers.now n → story.counted (sequence_of save.old.newest + 1) n ≡ [])
         → KeepsCrashes D.clock D.image_at from (parts_of vault.old) (parts_of vault.new)
         × MatchResult result
-        (λ _. IsSettled D.clock D.image_at story from low (sequence_of save.old.newest + 1) numbers.now (parts_of vault.old) (parts_of vault.new))
+        (λ _. IsSettled D.clock D.image_at story from low (sequence_of save.old.newest + 1) numbers.now
+        (parts_of vault.old) (parts_of vault.new))
         (λ _. IsLeft D.clock D.image_at story from low (sequence_of save.old.newest + 1) (parts_of vault.new)) }
     ensures emptied { AreToldIn D.tells numbers.now (parts_of vault.old) → OnOk result ((n : ℕ) (bank : D)
         → Contains numbers.now n → disk_in vault.new (Device.Bank n) ≡ Some bank → D.tells bank ≡ Some []) }
     ensures there { (n : ℕ) → IsSome (disk_in vault.old (Device.Bank n))
         → IsSome (disk_in vault.new (Device.Bank n)) }
+    ensures whole { IsWhole vault.old → IsWhole vault.new }
+    ensures told { is_some (D.tells vault.new.save) ≡ is_some (D.tells vault.old.save) }
     ensures snaps { vault.new.snaps ≡ vault.old.snaps }
     ensures stores { OnOk result ((save.new.newest ≡ Some (point_of (sequence_of save.old.newest + 1) saved))
         × (save.new.down ≡ None)
@@ -64,6 +67,7 @@ pub fn store_and_cut<D: Disk>(
         → RoseIn D.faults (Device.Bank n) vault.old vault.new }
     ensures limit { (sequence : ℕ) → result ≡ Err (StoreAndCutFault.Store (SaveFault.Limit sequence))
         → (sequence ≡ sequence_of save.old.newest) × (sequence ≡ 2 ^ 63 - 1) × (vault.new ≡ vault.old) }
+    ensures quiet { OnOk result (AreQuiet D.faults vault.old vault.new) }
     ensures never_down { (count : ℕ) → result ≡ Err (StoreAndCutFault.Store (SaveFault.Down count)) → ⊥ }
 {
     match save.store_in(vault, saved) {

@@ -6,8 +6,8 @@ use Rattle.lists.specs.Fronts.{IsFront}
 use Rattle.outside.specs.Fronts.{AllBegin}
 use Rattle.outside.specs.Growth.{Grows}
 use Rattle.recovery_core.specs.Story.{BankTold, BankOpen}
-use Rattle.lists.specs.Fronts.{front_refl, front_then, front_same}
-use Rattle.outside.specs.Fronts.{agrees_by, begins_less}
+use Rattle.lists.specs.Fronts.{front_then, front_same}
+use Rattle.outside.specs.Fronts.{agrees_by}
 use Rattle.std.proofs.lemmas.List.{nil_from_length}
 
 module _ {D : Type 0} {clock : D → ℕ} {image_at : D → ℕ → List ℕ → Type 0} where

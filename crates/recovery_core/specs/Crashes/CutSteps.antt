@@ -1,6 +1,6 @@
 -- One cut more.
 use Rattle.std.proofs.Common.{◌≡◌, ◌≢◌, ◌<◌, ◌⊎◌, ◌++◌, ◌∷◌, inl, inr, ℕ}
-use Rattle.std.proofs.Common.{List, [], Option, Some, refl, sym, ◌∙◌, ap, subst, arith}
+use Rattle.std.proofs.Common.{List, [], Some, refl, sym, ◌∙◌, ap, subst, arith}
 use Rattle.std.specs.List.{Contains}
 use Rattle.std.proofs.lemmas.Bool.{cases_eq}
 use Rattle.std.proofs.lemmas.Option.{same_Some}
@@ -8,8 +8,6 @@ use Rattle.std.proofs.lemmas.List.Elements.{Contains-push_cases, Contains-push, 
 use Rattle.outside.specs.declared.vault.Device.TheVariants.{Bank}
 use Rattle.outside.specs.declared.vault.Cut.{Cut}
 use Rattle.outside.specs.Disk.{Shortened, Goes, LeavesEach}
-use Rattle.log_writer.specs.Save.{Names}
-use Rattle.wire_form.specs.declared.savepoint.Savepoint.{Savepoint}
 use Rattle.lists.specs.Fronts.{IsFront}
 use Rattle.recovery_core.specs.Story.{Lasts}
 use Rattle.recovery_core.specs.JointCrash.{Parts, Moments, HasCut}

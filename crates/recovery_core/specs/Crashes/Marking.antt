@@ -23,11 +23,22 @@ up_to_front epoch zero commits above = sym (up_to_none epoch commits above)
 up_to_front epoch (suc n) [] above = refl
 up_to_front epoch (suc n) (c ∷ cs) above = rw (up_to_front epoch n cs above) refl
 
--- a mark of a later epoch is one of an earlier epoch
+-- what is above an epoch is above each earlier one
 above_less : (less epoch : ℕ) (commits : List Commit) → less ≤ epoch → AllByRecursion (IsAbove epoch) commits
     → AllByRecursion (IsAbove less) commits
 above_less less epoch [] within above = tt
 above_less less epoch (c ∷ cs) within above = (omega (arith, above.0, within), above_less less epoch cs within above.1)
+
+-- a mark of an epoch is one of each earlier epoch
+pub mark_less : (commits : List Commit) (epoch less size : ℕ) → Marks commits epoch size → less ≤ epoch
+    → Marks commits less size
+mark_less commits epoch less size mark within = record {
+  front = mark.front;
+  within = mark.within;
+  counted = mark.counted;
+  lines = mark.lines;
+  rest = above_less less epoch (drop mark.front commits) within mark.rest;
+}
 
 -- The save takes the least of the marks: what each mark's length covers.
 pub mark_covers : (commits : List Commit) (epoch least length : ℕ) → Marks commits epoch length → least ≤ epoch

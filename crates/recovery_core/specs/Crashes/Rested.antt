@@ -17,7 +17,7 @@ use Rattle.lists.specs.Fronts.{IsFront}
 use Rattle.outside.specs.Fronts.{AllBegin}
 use Rattle.recovery_core.specs.Images.{Images, count_of, counted_of}
 use Rattle.recovery_core.specs.JointCrash.{Parts, Moments, HasCut, KeepsCrashes}
-use Rattle.recovery_core.specs.Story.{Story, SaveTold, SnapsTold, BankTold, IsTold}
+use Rattle.recovery_core.specs.Story.{Story, IsTold}
 use Rattle.recovery_core.specs.Resting.{IsResting, HasNoRecords, AreTold}
 use Rattle.recovery_core.specs.Settling.{MayStore, RestsOn, story_of}
 use Rattle.recovery_core.specs.SettleRests.{RestsSince}

@@ -9,8 +9,6 @@ use Rattle.outside.specs.Disk.{Runs}
 use Rattle.outside.specs.declared.vault.Tie.{Tie}
 use Rattle.outside.specs.declared.vault.Cut.{Cut}
 use Rattle.serial_model.specs.declared.number.Commit.{Commit}
-use Rattle.wire_form.specs.declared.savepoint.Savepoint.{Savepoint}
-use Rattle.log_writer.specs.Save.{Names}
 use Rattle.lists.specs.Fronts.{IsFront, front_take}
 use Rattle.wire_form.specs.LogFile.{lines_bytes}
 use Rattle.outside.specs.Fronts.{AllBegin}

@@ -76,7 +76,8 @@ save_step {clock = clock} {image_at = image_at} {point = point} {from = from} {l
           | inr before ↦
               let was_image = runs.no_new m c before image in
               let was_is = told.names m c since before was_image in
-              let at_most_k = told.ended tie end m c was_is.0 older ended since past before was_image was_is.1 was_is.2 was_is.3 in
+              let at_most_k = told.ended tie end m c was_is.0 older ended since past before was_image was_is.1 was_is.2
+              was_is.3 in
               let same = one_number point k was_is.0 c (numbered k at_least at_most)
               (numbered was_is.0 was_is.1 (omega (arith, was_is.2))) names was_is.3 in
               omega (arith, at_most_k, same)

@@ -35,7 +35,8 @@ crash_stands {clock = clock} {image_at = image_at} {story = story} {parts = part
               | inl first ↦ absurd (omega (arith, less, first, named.1))
               | inr tied ↦
                   let end = crash.ended n bank there began after cut past tied.0 tied.1 tied.2 tied.3 tied.4 in
-                  let at_least = told.save.ended tied.0 tied.1 at.save found.save k tied.2 tied.4 since.save end crash.images.save_come crash.images.save named.1 named.2 named.3 in
+                  let at_least = told.save.ended tied.0 tied.1 at.save found.save k tied.2 tied.4 since.save end
+                  crash.images.save_come crash.images.save named.1 named.2 named.3 in
                   absurd (omega (arith, less, tied.3, at_least))
             ]
           ])
@@ -57,6 +58,7 @@ crash_covers {at = at} {found = found} tie end told since crash has ended past =
       k.0,
       k.1,
       k.2,
-      told.save.ended tie end at.save found.save k.0 has ended since.save past crash.images.save_come crash.images.save k.1 k.2 k.3.names,
+      told.save.ended tie end at.save found.save k.0 has ended since.save past crash.images.save_come
+          crash.images.save k.1 k.2 k.3.names,
       k.3,
     )

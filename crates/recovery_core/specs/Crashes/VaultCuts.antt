@@ -1,6 +1,6 @@
 -- A cut of a log file of a vault, by what the call ensures.
 use Rattle.std.proofs.Common.{◌≡◌, ◌++◌, ◌∷◌, inl, inr, ℕ, true, List, []}
-use Rattle.std.proofs.Common.{Option, Some, None, refl, sym, ◌∙◌, ap, subst, arith}
+use Rattle.std.proofs.Common.{Option, Some, sym, ◌∙◌, ap, subst, arith}
 use Rattle.std.specs.Prelude.{◌≤◌, IsSome, is_some, Result, Ok, Err, OnErr}
 use Rattle.std.specs.List.{Contains}
 use Rattle.std.proofs.lemmas.Bool.{cases_eq}
@@ -11,11 +11,9 @@ use Rattle.outside.specs.declared.vault.Vault.{Vault}
 use Rattle.outside.specs.Faults.{Rose}
 use Rattle.outside.specs.Vault.{disk_in, CutsIn}
 use Rattle.outside.specs.Cuts.{bank_keeps_snaps, bank_keeps_bank}
-use Rattle.log_writer.specs.Save.{Names}
-use Rattle.wire_form.specs.declared.savepoint.Savepoint.{Savepoint}
 use Rattle.recovery_core.specs.JointCrash.{Moments, parts_of}
 use Rattle.recovery_core.specs.Story.{Story}
-use Rattle.recovery_core.specs.Cutting.{FaultsLast, HadEnded, AreToldIn, CutsLeave, AreCut}
+use Rattle.recovery_core.specs.Cutting.{FaultsLast, FaultsStand, HadEnded, AreToldIn, CutsLeave, AreCut}
 use Rattle.recovery_core.specs.Crashes.CutSteps.{cut_begun, cut_done}
 use Rattle.recovery_core.specs.VaultReads.{some_of}
 
@@ -90,6 +88,24 @@ later_cut {D} {faults = faults} {old = old} {new = new} first n last cut there m
             end.2.goes.cause.later,
             ap faults is_end,
           )
+    ]
+
+-- nor does it rise where the cut was done
+pub quiet_cut : {D T E : Type 0} {tells : D → Option (List ℕ)} {clock : D → ℕ} {image_at : D → ℕ → List ℕ → Type 0}
+    {faults : D → ℕ} {x : T} {old new : Vault D} (first : Vault D) (n : ℕ)
+    → FaultsStand faults first old
+    → (let r : Result T E = Ok x in CutsIn tells clock image_at faults (Bank n) old new r)
+    → IsSome (disk_in old (Bank n)) → FaultsStand faults first new
+quiet_cut {D} {faults = faults} {old = old} {new = new} first n stand cut there m was now before after = elim
+    (cases_eq m n) [
+      | inr other ↦ stand m was now before (sym (bank_keeps_bank m n other cut) ∙ after)
+      | inl same ↦
+          let mid = some_of (disk_in old (Bank n)) there in
+          let end = cut.cut mid.0 mid.1 in
+          let is_end : end.0 ≡ now = same_Some end.0 now
+          (sym end.1 ∙ subst (λ j. disk_in new (Bank j) ≡ Some now) same after) in
+          ap faults (sym is_end) ∙ end.2.goes.cause.quiet
+          ∙ stand n was mid.0 (subst (λ j. disk_in first (Bank j) ≡ Some was) same before) mid.1
     ]
 
 -- and that of one rose whose cut failed

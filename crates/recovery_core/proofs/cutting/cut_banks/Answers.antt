@@ -6,10 +6,10 @@ use Rattle.std.specs.Prelude.{Some}
 use Rattle.std.proofs.lemmas.Option.{same_Some}
 use Rattle.outside.specs.declared.vault.Device.TheVariants.{Bank}
 use Rattle.outside.specs.Vault.{disk_in}
-use Rattle.outside.specs.Cuts.{bank_keeps_snaps}
+use Rattle.outside.specs.Cuts.{bank_keeps_snaps, whole_cut}
 use Rattle.recovery_core.specs.JointCrash.{parts_of}
 use Rattle.recovery_core.specs.Cutting.{AreCut}
-use Rattle.recovery_core.specs.Crashes.VaultCuts.{later_cut, cut_rose, more_empty}
+use Rattle.recovery_core.specs.Crashes.VaultCuts.{later_cut, quiet_cut, cut_rose, more_empty}
 use Rattle.recovery_core.specs.Crashes.VaultCuts.{vault_begun, vault_done, still_there, still_told}
 use Rattle.recovery_core.specs.Crashes.CutSteps.{cuts_none}
 use Rattle.recovery_core.proofs.cutting.cut_banks.Goals as goal
@@ -27,6 +27,9 @@ returns-in_default-clause-others g c = (
   bank_keeps_snaps _ c.cut_in.ensures.cut ∙ c.loop-number.invariant.snaps,
   c.cut_in.ensures.ties ∙ c.loop-number.invariant.ties,
 )
+
+pub returns-in_default-clause-whole : goal.returns-in_default-clause-whole
+returns-in_default-clause-whole g c was = whole_cut c.cut_in.ensures.cut (c.loop-number.invariant.whole was)
 
 pub returns-in_default-clause-cut : goal.returns-in_default-clause-cut
 returns-in_default-clause-cut g c story from low may =
@@ -50,7 +53,9 @@ loop-number-preserved g c =
       save = c.cut_in.ensures.save ∙ inv.save;
       snaps = bank_keeps_snaps _ c.cut_in.ensures.cut ∙ inv.snaps;
       ties = c.cut_in.ensures.ties ∙ inv.ties;
+      whole = λ was. whole_cut c.cut_in.ensures.cut (inv.whole was);
       later = later_cut c.args.vault.now _ inv.later c.cut_in.ensures.cut (inv.there _ has);
+      stand = quiet_cut c.args.vault.now _ inv.stand c.in-Ok.ensures.cut (inv.there _ has);
       emptied = λ tell.
           let so_far = inv.emptied tell in (
             subst (λ l. (m : ℕ) (bank : g.row.D.Denot) → Contains l m → disk_in c.cut_in.new.self (Bank m)
@@ -81,8 +86,11 @@ loop-number-init g c = record {
   save = refl;
   snaps = refl;
   ties = refl;
+  whole = λ was. was;
   later = λ m was now before after. let same = same_Some was now (sym before ∙ after) in omega
       (arith, ap g.D.Disk.faults same);
+  stand = λ m was now before after. let same = same_Some was now (sym before ∙ after) in
+      ap g.D.Disk.faults (sym same);
   emptied = λ tell. (λ n bank has. absurd (omega (arith, has.1)), tell);
   cut = λ story from low may. (cuts_none may.told may.ready may.past, may.tell);
 }
@@ -92,6 +100,12 @@ returns-in_default-clause-there g c n was = still_there _ n c.cut_in.ensures.cut
 
 pub returns-clause-there : goal.returns-clause-there
 returns-clause-there g c n was = c.loop-number.invariant.still n was
+
+pub returns-clause-whole : goal.returns-clause-whole
+returns-clause-whole g c was = c.loop-number.invariant.whole was
+
+pub returns-clause-quiet : goal.returns-clause-quiet
+returns-clause-quiet g c = c.loop-number.invariant.stand
 
 pub returns-clause-emptied : goal.returns-clause-emptied
 returns-clause-emptied g c tell =
@@ -107,7 +121,8 @@ returns-in_default-clause-device g c n is was now before after =
     (omega (arith, c.loop-number-test.true)) in
     let same : get_or c.args.numbers.now c.loop-number.number-index 0 ≡ n = cc is in
     cut_rose c.args.vault.now
-    (get_or c.args.numbers.now c.loop-number.number-index 0) c.in_default.field-0 c.in_default.is inv.later c.cut_in.ensures.cut (inv.there _ has) was now
+    (get_or c.args.numbers.now c.loop-number.number-index 0) c.in_default.field-0 c.in_default.is inv.later
+    c.cut_in.ensures.cut (inv.there _ has) was now
     (subst (λ j. disk_in c.args.vault.now (Bank j) ≡ Some was) (sym same) before)
     (subst (λ j. disk_in c.cut_in.new.self (Bank j) ≡ Some now) (sym same) after)
 

@@ -2,10 +2,10 @@ use Rattle.std.proofs.Common.{◌≡◌, ◌+◌, ◌≤◌, ℕ, length, take}
 use Rattle.std.specs.Prelude.{Some, [], IsSome, vec_len, vec_capacity}
 use Rattle.std.specs.List.{Contains}
 use Rattle.outside.specs.declared.vault.Device.TheVariants.{Bank}
-use Rattle.outside.specs.Vault.{disk_in}
+use Rattle.outside.specs.Vault.{disk_in, IsWhole}
 use Rattle.recovery_core.specs.JointCrash.{Moments, parts_of}
 use Rattle.recovery_core.specs.Story.{Story}
-use Rattle.recovery_core.specs.Cutting.{FaultsLast, MayCut, AreCut, AreToldIn}
+use Rattle.recovery_core.specs.Cutting.{FaultsLast, FaultsStand, MayCut, AreCut, AreToldIn}
 use Rattle.recovery_core.proofs.cutting.cut_banks.Given as goal
 
 abbrev pub invariant-loop-number : goal.invariant-loop-number
@@ -16,7 +16,9 @@ invariant-loop-number g l = record {
   save : l.vault.save ≡ l.fn.vault.save;
   snaps : l.vault.snaps ≡ l.fn.vault.snaps;
   ties : l.vault.ties ≡ l.fn.vault.ties;
+  whole : IsWhole l.fn.vault → IsWhole l.vault;
   later : FaultsLast g.D.Disk.faults l.fn.vault l.vault;
+  stand : FaultsStand g.D.Disk.faults l.fn.vault l.vault;
   emptied : AreToldIn g.D.Disk.tells l.numbers (parts_of l.fn.vault)
       → ((n : ℕ) (bank : g.row.D.Denot) → Contains (take l.number-index l.numbers) n
       → disk_in l.vault (Bank n) ≡ Some bank → g.D.Disk.tells bank ≡ Some [])

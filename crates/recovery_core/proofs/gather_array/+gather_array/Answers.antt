@@ -5,7 +5,9 @@ use Rattle.std.proofs.lemmas.Result.{err_from_is_err_and}
 use Rattle.lists.specs.declared.memory.OrMemory.TheVariants.{Fault}
 use Rattle.wire_form.specs.declared.page.Page.{Page}
 use Rattle.snapshot_store.specs.Content.{words_of}
-use Rattle.recovery_core.proofs.GatherArrayLaws.{level_some, level_inner, child_below, empty_gathered, leaf_put, array_begins, array_within, array_more, array_break, array_wrong, array_end}
+use Rattle.recovery_core.proofs.GatherArrayLaws.{level_some, level_inner, child_below, empty_gathered, leaf_put}
+use Rattle.recovery_core.proofs.GatherArrayLaws.{array_begins, array_within, array_more, array_break}
+use Rattle.recovery_core.proofs.GatherArrayLaws.{array_wrong, array_end}
 use Rattle.recovery_core.proofs.gather_array.+gather_array.Goals as goal
 
 pub returns-then-place-eq0-clause-gathered : goal.returns-then-place-eq0-clause-gathered

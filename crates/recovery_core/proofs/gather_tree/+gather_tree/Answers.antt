@@ -6,7 +6,9 @@ use Rattle.lists.specs.declared.memory.OrMemory.TheVariants.{Fault}
 use Rattle.wire_form.specs.declared.page.Page.{Page}
 use Rattle.snapshot_store.specs.Content.{words_of}
 use Rattle.recovery_core.proofs.GatherTreeLaws.{inner_is, leaf_is, leaf_few}
-use Rattle.recovery_core.proofs.GatherTreeSteps.{TreeGathers, child_below, separator_above, tree_empty, tree_wrong, tree_deep, leaf_put, tree_begins, tree_more, tree_break, tree_last_break, tree_end}
+use Rattle.recovery_core.proofs.GatherTreeSteps.{TreeGathers, child_below, separator_above, tree_empty}
+use Rattle.recovery_core.proofs.GatherTreeSteps.{tree_wrong, tree_deep, leaf_put, tree_begins, tree_more}
+use Rattle.recovery_core.proofs.GatherTreeSteps.{tree_break, tree_last_break, tree_end}
 use Rattle.recovery_core.proofs.gather_tree.+gather_tree.Goals as goal
 
 pub returns-then-depth-eq0-clause-breaks : goal.returns-then-depth-eq0-clause-breaks

@@ -1,15 +1,32 @@
-use Rattle.std.proofs.Common.{◌≡◌, None, sym, subst, ◌∙◌}
+use Rattle.std.proofs.Common.{◌≡◌, ℕ, List, Option, None, sym, subst, ◌∙◌}
+use Rattle.std.specs.Prelude.{Result, IfOk}
 use Rattle.std.proofs.lemmas.Result.{IfOk-weaker, on_ok_weaker}
 use Rattle.outside.specs.Disk.{IfTold, Only}
+use Rattle.outside.specs.declared.vault.Vault.{Vault}
 use Rattle.log_writer.specs.Points.{SaveState}
 use Rattle.log_writer.specs.Save.{Names, IsStored}
 use Rattle.recovery_core.specs.Images.{Images}
 use Rattle.recovery_core.specs.JointCrash.{parts_of}
 use Rattle.recovery_core.specs.Recovered.{Recovers}
 use Rattle.recovery_core.specs.Resting.{AreTold}
-use Rattle.recovery_core.specs.VaultReads.{AreQuiet, told_read, rose_then, stored_read, quiet_then}
+use Rattle.recovery_core.specs.declared.recovered.Recovered.{Recovered}
+use Rattle.recovery_core.specs.VaultReads.{VaultOnlyReads, AreQuiet, told_read, rose_then, stored_read, quiet_then}
 use Rattle.recovery_core.proofs.Recovering.{says_none}
 use Rattle.recovery_core.proofs.recovery.recover.Goals as goal
+
+-- what was stored of the savepoint that was found is stored after further reads
+stored_ok : {D E : Type 0} {tells : D → Option (List ℕ)} {clock : D → ℕ} {image_at : D → ℕ → List ℕ → Type 0}
+    {faults : D → ℕ} {mid new : Vault D} (was : D) (result : Result Recovered E) (save : SaveState)
+    → VaultOnlyReads tells clock image_at faults mid new
+    → (IfTold (tells was) (Only clock image_at was) → IsStored tells clock image_at mid.save save.newest)
+    → IfOk result (λ r. r.save ≡ save)
+    → IfOk result (λ r. IfTold (tells was) (Only clock image_at was)
+    → IsStored tells clock image_at new.save r.save.newest)
+stored_ok {tells = tells} {clock = clock} {image_at = image_at} {new = new} was result save reads stored same =
+    IfOk-weaker result (λ r. r.save ≡ save) (λ r. IfTold (tells was) (Only clock image_at was)
+    → IsStored tells clock image_at new.save r.save.newest)
+    (λ r is only. subst (λ (s : SaveState). IsStored tells clock image_at new.save s.newest) (sym is)
+    (stored_read save.newest reads (stored only))) same
 
 pub returns-in-None-clause-recovers : goal.returns-in-None-clause-recovers
 returns-in-None-clause-recovers g c =
@@ -21,15 +38,9 @@ returns-in-None-clause-recovers g c =
     c.recover_fresh.ensures.recovers
 
 pub returns-in-None-clause-stored : goal.returns-in-None-clause-stored
-returns-in-None-clause-stored g c =
-    IfOk-weaker c.recover_fresh.result (λ r. r.save ≡ c.in_ok-save.save)
-    (λ r. IfTold (g.D.Disk.tells c.args.vault.now.save) (Only g.D.Disk.clock g.D.Disk.image_at c.args.vault.now.save)
-    → IsStored g.D.Disk.tells g.D.Disk.clock g.D.Disk.image_at c.recover_fresh.new.vault.save r.save.newest)
-    (λ r is only. subst (λ
-    (s : SaveState). IsStored g.D.Disk.tells g.D.Disk.clock g.D.Disk.image_at c.recover_fresh.new.vault.save
-    s.newest) (sym is)
-    (stored_read c.in_ok-save.save.newest c.recover_fresh.ensures.reads (c.in_ok-save.ensures.found.stored only)))
-    c.recover_fresh.ensures.save
+returns-in-None-clause-stored g c = stored_ok c.args.vault.now.save c.recover_fresh.result
+    c.in_ok-save.save c.recover_fresh.ensures.reads
+    c.in_ok-save.ensures.found.stored c.recover_fresh.ensures.save
 
 pub returns-in-None-clause-damaged : goal.returns-in-None-clause-damaged
 returns-in-None-clause-damaged g c device at same found told =
@@ -59,15 +70,9 @@ returns-in-Some-clause-recovers g c =
     c.recover_saved.ensures.recovers
 
 pub returns-in-Some-clause-stored : goal.returns-in-Some-clause-stored
-returns-in-Some-clause-stored g c =
-    IfOk-weaker c.recover_saved.result (λ r. r.save ≡ c.in_ok-save.save)
-    (λ r. IfTold (g.D.Disk.tells c.args.vault.now.save) (Only g.D.Disk.clock g.D.Disk.image_at c.args.vault.now.save)
-    → IsStored g.D.Disk.tells g.D.Disk.clock g.D.Disk.image_at c.recover_saved.new.vault.save r.save.newest)
-    (λ r is only. subst (λ
-    (s : SaveState). IsStored g.D.Disk.tells g.D.Disk.clock g.D.Disk.image_at c.recover_saved.new.vault.save
-    s.newest) (sym is)
-    (stored_read c.in_ok-save.save.newest c.recover_saved.ensures.reads (c.in_ok-save.ensures.found.stored only)))
-    c.recover_saved.ensures.save
+returns-in-Some-clause-stored g c = stored_ok c.args.vault.now.save c.recover_saved.result
+    c.in_ok-save.save c.recover_saved.ensures.reads
+    c.in_ok-save.ensures.found.stored c.recover_saved.ensures.save
 
 pub returns-in-Some-clause-damaged : goal.returns-in-Some-clause-damaged
 returns-in-Some-clause-damaged g c device at same found told =

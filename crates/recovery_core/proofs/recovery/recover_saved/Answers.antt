@@ -7,7 +7,8 @@ use Rattle.log_writer.specs.declared.saved.Saved.{Saved}
 use Rattle.snapshot_store.specs.Content.{words_of}
 use Rattle.recovery_core.specs.LogEntries.{AreCounted}
 use Rattle.recovery_core.specs.VaultReads.{vault_reads_then, told_read, rose_then, holds_read, quiet_then}
-use Rattle.recovery_core.proofs.Recovering.{says_some, reads_pages, ids_rise, damaged_snaps, damaged_file, saved_recovers}
+use Rattle.recovery_core.proofs.Recovering.{says_some, reads_pages, ids_rise, damaged_snaps, damaged_file}
+use Rattle.recovery_core.proofs.Recovering.{saved_recovers}
 use Rattle.recovery_core.proofs.recovery.recover_saved.Goals as goal
 
 pub returns-in_err-snapshot-clause-damaged : goal.returns-in_err-snapshot-clause-damaged
@@ -71,3 +72,18 @@ pub returns-clause-quiet : goal.returns-clause-quiet
 returns-clause-quiet g c =
     quiet_then c.read_entries.new.vault c.load_snapshot.ensures.reads c.in_ok-snapshot.ensures.quiet
     c.in_ok-entries.ensures.quiet
+
+pub returns-clause-up : goal.returns-clause-up
+returns-clause-up g c =
+    let snapshot = c.in_ok-snapshot.ensures.snapshot in
+    record {
+      saved = c.requires.says;
+      ranges = c.requires.saved;
+      up = c.requires.up;
+      sound = c.in_ok-snapshot.ensures.sound;
+      epoch = refl;
+      count = c.in_ok-snapshot.ensures.count;
+      rising = subst (λ (l : List Decl). Rises ◌<◌ (map id_of l)) (sym snapshot.1.decls_are)
+          (ids_rise (words_of c.in_ok-snapshot.snapshot.store.pages)
+          (c.args.saved.epoch + 1) None c.args.saved.catalogue snapshot.0 snapshot.1.chain);
+    }

@@ -1,13 +1,19 @@
-use Rattle.std.proofs.Common.{◌≡◌, ◌≢◌, ◌+◌, ◌⊎◌, inl, inr, refl, sym, ◌∙◌, ap, subst, arith}
-use Rattle.std.specs.Prelude.{Some, Result, Err}
+use Rattle.std.proofs.Common.{◌≡◌, ◌≢◌, ◌+◌, ◌⊎◌, inl, inr, ℕ, List, length, refl, sym, ◌∙◌, ap, subst, arith}
+use Rattle.std.specs.Prelude.{Some, Result, Err, is_some}
 use Rattle.log_writer.specs.declared.save.SaveFault.{SaveFault}
 use Rattle.log_writer.specs.declared.save.SaveFault.TheVariants.{Device, Down, Limit}
-use Rattle.log_writer.specs.Points.{sequence_of, point_of}
+use Rattle.log_writer.specs.Points.{sequence_of}
 use Rattle.log_writer.specs.Save.{Names, IsStored}
-use Rattle.outside.specs.Vault.{disk_in}
+use Rattle.outside.specs.Disk.{Only}
+use Rattle.outside.specs.Vault.{disk_in, IsWhole}
+use Rattle.outside.specs.declared.vault.Vault.{Vault}
 use Rattle.outside.specs.declared.vault.Device.TheVariants.{Bank}
+use Rattle.wire_form.specs.declared.savepoint.Savepoint.{Savepoint}
+use Rattle.recovery_core.specs.JointCrash.{Parts, Moments, CrashesNow}
+use Rattle.recovery_core.specs.Story.{Story, IsTold}
+use Rattle.recovery_core.specs.Cutting.{AreReady}
 use Rattle.recovery_core.specs.Crashes.Instants.{keeps_then}
-use Rattle.recovery_core.specs.VaultReads.{some_of}
+use Rattle.recovery_core.specs.VaultReads.{some_of, quiet_of}
 use Rattle.recovery_core.specs.Crashes.StoreSteps.{now_one, all_stored, all_failed, all_refused}
 use Rattle.recovery_core.proofs.settling.store_and_cut.Goals as goal
 
@@ -18,6 +24,14 @@ fault_cases (Limit n) = inr (λ is. cc is)
 
 err_differs : {T : Type 0} (f : SaveFault) → f ≢ Device → (let r : Result T SaveFault = Err f in r) ≢ Err Device
 err_differs f other is = other (cc is)
+
+-- a stop now finds the savepoint that the one image of the save names
+named_now : {D : Type 0} {clock : D → ℕ} {image_at : D → ℕ → List ℕ → Type 0} {story : Story} {from : Moments}
+    {low high : ℕ} {all : Parts D} {file : List ℕ} {next : Savepoint} → IsTold clock image_at story from low high all
+    → AreReady clock image_at story high all → story.point high ≡ Some next → Only clock image_at all.save file
+    → Names file (Some next) → CrashesNow clock image_at all
+named_now {next = next} told ready point only names = now_one told ready (λ b image.
+    subst (λ x. Names b x) (sym point) (subst (λ l. Names l (Some next)) (sym (only b image)) names))
 
 pub returns-in-Err-clause-crashes : goal.returns-in-Err-clause-crashes
 returns-in-Err-clause-crashes g c =
@@ -46,17 +60,15 @@ returns-in-Ok-cut_banks-clause-crashes g c =
     let stored = all_stored c.args.numbers.now may past tell none
     (e.stores.any_moment file.0 file.1) now.only names e.tied in
     let after = c.sequence-sequence.ensures.newest ∙ ap sequence_of e.stores.newest in
+    let only = subst (λ d. Only g.D.Disk.clock g.D.Disk.image_at d new_file.0) (sym c.cut_banks.ensures.others.0)
+    now.only in
     let cut = rw (after, e.others.0, e.others.1, e.others.2, e.others.3) at
     (c.in-Ok-cut_banks.ensures.cut story from low) in
     let done = cut stored.0 in (
       keeps_then stored.1 done.left.stays,
       record {
         told = done.left.told;
-        instant = now_one done.left.told done.left.ready
-            (λ b image. subst (λ x. Names b x) (sym may.point)
-            (subst (λ l. Names l (Some (point_of (sequence_of c.args.save.now.newest + 1) c.args.saved)))
-            (sym (now.only b (subst (λ d. g.D.Disk.image_at d
-            (g.D.Disk.clock d) b) c.cut_banks.ensures.others.0 image))) names));
+        instant = named_now done.left.told done.left.ready may.point only names;
         past = done.past;
         empty = done.empty;
         others = done.others;
@@ -75,6 +87,8 @@ returns-in-Err-cut_banks-clause-crashes g c =
     let stored = all_stored c.args.numbers.now may past tell none
     (e.stores.any_moment file.0 file.1) now.only names e.tied in
     let after = c.sequence-sequence.ensures.newest ∙ ap sequence_of e.stores.newest in
+    let only = subst (λ d. Only g.D.Disk.clock g.D.Disk.image_at d new_file.0) (sym c.cut_banks.ensures.others.0)
+    now.only in
     let cut = rw (after, e.others.0, e.others.1, e.others.2, e.others.3) at
     (c.in-Err-cut_banks.ensures.cut story from low) in
     let left = cut stored.0 in (
@@ -83,11 +97,7 @@ returns-in-Err-cut_banks-clause-crashes g c =
         high = sequence_of c.args.save.now.newest + 1;
         within = omega arith;
         told = left.told;
-        instant = now_one left.told left.ready
-            (λ b image. subst (λ x. Names b x) (sym may.point)
-            (subst (λ l. Names l (Some (point_of (sequence_of c.args.save.now.newest + 1) c.args.saved)))
-            (sym (now.only b (subst (λ d. g.D.Disk.image_at d
-            (g.D.Disk.clock d) b) c.cut_banks.ensures.others.0 image))) names));
+        instant = named_now left.told left.ready may.point only names;
       },
     )
 
@@ -101,6 +111,33 @@ returns-in-Ok-cut_banks-clause-there g c n was = c.cut_banks.ensures.there n
 pub returns-in-Err-cut_banks-clause-there : goal.returns-in-Err-cut_banks-clause-there
 returns-in-Err-cut_banks-clause-there g c n was = c.cut_banks.ensures.there n
     (rw (c.in-Ok.ensures.others.1, c.in-Ok.ensures.others.2) was)
+
+-- a store leaves the log files
+stored_whole : {D : Type 0} (old new : Vault D) → new.even ≡ old.even → new.odd ≡ old.odd → IsWhole old → IsWhole new
+stored_whole old new even odd whole = record {
+  even = ap (λ l. length l.items) even ∙ whole.even;
+  odd = ap (λ l. length l.items) odd ∙ whole.odd;
+}
+
+pub returns-in-Err-clause-whole : goal.returns-in-Err-clause-whole
+returns-in-Err-clause-whole g c was = stored_whole c.args.vault.now c.store_in.new.vault c.in-Err.ensures.others.1
+    c.in-Err.ensures.others.2 was
+
+pub returns-in-Ok-cut_banks-clause-whole : goal.returns-in-Ok-cut_banks-clause-whole
+returns-in-Ok-cut_banks-clause-whole g c was = c.cut_banks.ensures.whole (stored_whole c.args.vault.now
+    c.store_in.new.vault c.in-Ok.ensures.others.1 c.in-Ok.ensures.others.2 was)
+
+pub returns-in-Err-cut_banks-clause-whole : goal.returns-in-Err-cut_banks-clause-whole
+returns-in-Err-cut_banks-clause-whole g c was = c.cut_banks.ensures.whole (stored_whole c.args.vault.now
+    c.store_in.new.vault c.in-Ok.ensures.others.1 c.in-Ok.ensures.others.2 was)
+
+pub returns-in-Ok-cut_banks-clause-told : goal.returns-in-Ok-cut_banks-clause-told
+returns-in-Ok-cut_banks-clause-told g c =
+    ap (λ d. is_some (g.D.Disk.tells d)) c.cut_banks.ensures.others.0 ∙ c.in-Ok.ensures.stores.told
+
+pub returns-in-Err-cut_banks-clause-told : goal.returns-in-Err-cut_banks-clause-told
+returns-in-Err-cut_banks-clause-told g c =
+    ap (λ d. is_some (g.D.Disk.tells d)) c.cut_banks.ensures.others.0 ∙ c.in-Ok.ensures.stores.told
 
 pub returns-in-Ok-cut_banks-clause-emptied : goal.returns-in-Ok-cut_banks-clause-emptied
 returns-in-Ok-cut_banks-clause-emptied g c tell = c.in-Ok-cut_banks.ensures.emptied
@@ -128,6 +165,14 @@ returns-in-Ok-cut_banks-clause-stores g c =
           (sym c.cut_banks.ensures.others.0)
           e.stores.stored,
     )
+
+pub returns-in-Ok-cut_banks-clause-quiet : goal.returns-in-Ok-cut_banks-clause-quiet
+returns-in-Ok-cut_banks-clause-quiet g c =
+    let e = c.in-Ok.ensures in
+    let cut = c.cut_banks.ensures.others in
+    quiet_of c.args.vault.now c.cut_banks.new.vault (ap g.D.Disk.faults cut.0 ∙ e.stores.quiet)
+    (ap g.D.Disk.faults (cut.1 ∙ e.others.0))
+    (λ n was now before. c.in-Ok-cut_banks.ensures.quiet n was now (rw (e.others.1, e.others.2) before))
 
 pub returns-in-Err-cut_banks-clause-bank_failed : goal.returns-in-Err-cut_banks-clause-bank_failed
 returns-in-Err-cut_banks-clause-bank_failed g c n is =

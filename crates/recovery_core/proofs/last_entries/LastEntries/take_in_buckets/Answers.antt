@@ -1,4 +1,5 @@
-use Rattle.std.proofs.Common.{◌≡◌, ◌+◌, ◌<◌, ◌∷◌, [], ◌++◌, List, length, append-nil, sym, ap, ◌∙◌, subst, take, take_all, arith}
+use Rattle.std.proofs.Common.{◌≡◌, ◌+◌, ◌<◌, ◌∷◌, [], ◌++◌, List, length, append-nil, sym, ap, ◌∙◌, subst, take}
+use Rattle.std.proofs.Common.{take_all, arith}
 use Rattle.std.proofs.lemmas.List.{take_more}
 use Rattle.std.proofs.lemmas.Grind.{flat_map-append}
 use Rattle.wire_form.specs.declared.bucket.Bucket.{Bucket}

@@ -1,4 +1,4 @@
-// Schedules worked by hand.
+// Schedules worked by hand: what each seat does, in this order, and whether it may.
 use super::*;
 use homes::{At, Content, Holder, Home, Move, Span, Spot};
 use lists::Sequence;
@@ -13,10 +13,35 @@ const Y: Key = Key { storage: 1, key: 1 };
 
 const Z: Key = Key { storage: 2, key: 7 };
 
+/// Of no place.
+const NO_KEY: Key = Key { storage: 9, key: 0 };
+
 const PAIRS: [(Key, u64); 3] = [(X, 10), (Y, 20), (Z, 30)];
 
-fn start(alloc: Global, passes: u32) -> Result<Core, Memory> {
-    Core::new(alloc, &PAIRS, passes)
+/// A word of keys of a span.
+const ROOT: Word = Word::Pointer(At::Root(0));
+
+/// An act of a seat.
+#[derive(Clone, Copy)]
+enum Step {
+    See(Key),
+    /// Keep the part of the root's word.
+    Keep,
+    Lock(Key),
+    /// Draw, with nothing to write.
+    Draw,
+    /// Draw, with this to write.
+    Set(Key, Option<u64>),
+    /// Check the record that key X, Y or Z has at the start.
+    Check(usize),
+    Confirm(Word),
+    Decide,
+    Put(Key),
+    Open(Key),
+    Forget,
+    Move(Key, Home),
+    Advance,
+    Mark(Option<u32>),
 }
 
 /// The place that key X, Y or Z has at the start.
@@ -28,39 +53,107 @@ fn at(epoch: u32, draw: u64) -> Number {
     Number { epoch, draw }
 }
 
-/// What the machine answers to the act.
-fn answer(core: &mut Core, seat: u32, act: Act) -> Result<(), OrMemory<Refused>> {
-    core.step(&Event { seat, act })
+/// A content that is older than each number.
+fn old(value: u64) -> Content {
+    Content {
+        number: at(0, 0),
+        value: Some(value),
+    }
 }
 
-/// The act happens.
-fn step(core: &mut Core, seat: u32, act: Act) -> Result<(), Fail> {
-    answer(core, seat, act)?;
+fn act(alloc: Global, step: Step) -> Result<Act, Memory> {
+    Ok(match step {
+        Step::See(key) => Act::See(key),
+        Step::Keep => Act::Keep(part_of_a_span(alloc)?),
+        Step::Lock(key) => Act::Lock(key),
+        Step::Draw => Act::Draw(Changes::new()),
+        Step::Set(key, value) => Act::Draw(change(key, value)),
+        Step::Check(index) => Act::Check(spot(index)),
+        Step::Confirm(word) => Act::Confirm(word, true),
+        Step::Decide => Act::Decide,
+        Step::Put(key) => Act::Put(key),
+        Step::Open(key) => Act::Open(key),
+        Step::Forget => Act::Forget,
+        Step::Move(key, home) => Act::Rehome(one_move(alloc, key, home)?),
+        Step::Advance => Act::Advance,
+        Step::Mark(epoch) => Act::Mark(Mark { epoch, length: 40 }),
+    })
+}
+
+fn change(key: Key, value: Option<u64>) -> Changes {
+    let mut changes = Changes::new();
+    changes.push(Change { key, value });
+    changes
+}
+
+fn one_move(alloc: Global, key: Key, home: Home) -> Result<Sequence<Move>, Memory> {
+    Sequence::from_slice(alloc, &[Move { key, home }])
+}
+
+/// A part of a pointer's span that has one pair, and leaves out one key.
+fn part_of_a_span(alloc: Global) -> Result<Part, Memory> {
+    Ok(Part {
+        word: ROOT,
+        version: Version::Leads(5),
+        span: Span {
+            storage: 1,
+            low: 0,
+            high: 9,
+        },
+        less: Sequence::from_slice(alloc, &[Y])?,
+        pairs: Sequence::from_slice(alloc, &[(X, old(10))])?,
+    })
+}
+
+/// Whether the step happens.
+fn happens(core: &mut Core, seat: u32, act: Act) -> Result<bool, Memory> {
+    match core.step(&Event { seat, act }) {
+        Ok(()) => Ok(true),
+        Err(OrMemory::Fault(_)) => Ok(false),
+        Err(OrMemory::Memory) => Err(Memory),
+    }
+}
+
+/// The machine after these steps, of which those happen of which it is said here.
+fn follows(
+    rt: &impl Abort,
+    core: &mut Core,
+    alloc: Global,
+    steps: &[(u32, Step, bool)],
+) -> Result<(), Fail> {
+    for (seat, step, may) in steps {
+        let act = act(alloc, *step)?;
+        assert_eq!(rt; happens(core, *seat, act)?, *may);
+    }
     Ok(())
 }
 
-fn sets(key: Key, value: Option<u64>) -> Act {
-    let mut writes = Changes::new();
-    writes.push(Change { key, value });
-    Act::Draw(writes)
+/// A machine after these steps of so many seats, each of which happens or not, as is said beside it.
+fn after(
+    rt: &impl Abort,
+    alloc: Global,
+    seats: u32,
+    steps: &[(u32, Step, bool)],
+) -> Result<Core, Fail> {
+    let mut core = Core::new(alloc, &PAIRS, seats)?;
+    follows(rt, &mut core, alloc, steps)?;
+    Ok(core)
 }
 
-fn marks(epoch: Option<u32>) -> Act {
-    Act::Mark(Mark { epoch, length: 40 })
-}
-
-/// The act is refused.
-fn expect_refusal(rt: &impl Abort, core: &mut Core, seat: u32, act: Act) {
-    assert_eq!(rt; answer(core, seat, act), Err(OrMemory::Fault(Refused)));
-}
-
-/// The numbers of `serial` are these.
-fn expect_serial(rt: &impl Abort, core: &Core, alloc: Global, want: &[Number]) -> Result<(), Fail> {
+/// The numbers of `serial`.
+fn serial(core: &Core, alloc: Global) -> Result<Sequence<Number>, Memory> {
+    let mut numbers = Sequence::new(alloc);
     let run = core.serial(alloc)?;
-    assert_eq!(rt; run.len(), want.len());
-    for (attempt, number) in run.as_slice().iter().zip(want) {
-        assert_eq!(rt; attempt.number, *number);
+    for attempt in run.as_slice() {
+        numbers.push(attempt.number)?;
     }
+    Ok(numbers)
+}
+
+/// They are these.
+fn expect_serial(rt: &impl Abort, core: &Core, alloc: Global, want: &[Number]) -> Result<(), Fail> {
+    let numbers = serial(core, alloc)?;
+    assert_eq!(rt; numbers.as_slice(), want);
     Ok(())
 }
 
@@ -77,41 +170,22 @@ fn expect_home(
     assert_eq!(rt; core.story().place(key), Place { content, holder });
 }
 
-/// The seat reads one key, locks another and draws with a new value for it.
-fn reads_and_draws(core: &mut Core, seat: u32, read: Key, write: Key) -> Result<(), Fail> {
-    step(core, seat, Act::See(read))?;
-    step(core, seat, Act::Lock(write))?;
-    step(core, seat, sets(write, Some(1)))
-}
-
-/// The seat commits a removal of the key.
-fn removes(core: &mut Core, seat: u32, key: Key) -> Result<(), Fail> {
-    step(core, seat, Act::Lock(key))?;
-    step(core, seat, sets(key, None))?;
-    step(core, seat, Act::Decide)?;
-    step(core, seat, Act::Put(key))?;
-    step(core, seat, Act::Open(key))
-}
-
-/// Two seats read and lock in turns, before either draws.
-fn crosses(core: &mut Core) -> Result<(), Fail> {
-    step(core, 0, Act::See(X))?;
-    step(core, 1, Act::See(Y))?;
-    step(core, 0, Act::Lock(Y))?;
-    step(core, 1, Act::Lock(X))?;
-    step(core, 0, sets(Y, Some(1)))?;
-    step(core, 1, sets(X, Some(2)))
-}
-
 /// Write skew: each reads what the other writes. Neither commits.
 #[test]
 fn write_skew(rt: HostRuntime) -> Result<(), Fail> {
-    let mut core = start(rt.alloc(), 2)?;
-    crosses(&mut core)?;
-    step(&mut core, 0, Act::Check(spot(0)))?;
-    step(&mut core, 1, Act::Check(spot(1)))?;
-    expect_refusal(&rt, &mut core, 0, Act::Decide);
-    expect_refusal(&rt, &mut core, 1, Act::Decide);
+    let steps = [
+        (0, Step::See(X), true),
+        (1, Step::See(Y), true),
+        (0, Step::Lock(Y), true),
+        (1, Step::Lock(X), true),
+        (0, Step::Set(Y, Some(1)), true),
+        (1, Step::Set(X, Some(2)), true),
+        (0, Step::Check(0), true),
+        (1, Step::Check(1), true),
+        (0, Step::Decide, false),
+        (1, Step::Decide, false),
+    ];
+    let core = after(&rt, rt.alloc(), 2, &steps)?;
     assert_eq!(&rt; core.story().history.len(), 2);
     expect_serial(&rt, &core, rt.alloc(), &[])
 }
@@ -119,13 +193,17 @@ fn write_skew(rt: HostRuntime) -> Result<(), Fail> {
 /// A decision in the middle of the order: the later number is decided first.
 #[test]
 fn decided_later_than_a_greater_number(rt: HostRuntime) -> Result<(), Fail> {
-    let mut core = start(rt.alloc(), 2)?;
-    step(&mut core, 0, Act::Lock(X))?;
-    step(&mut core, 0, sets(X, Some(11)))?;
-    reads_and_draws(&mut core, 1, Y, Z)?;
-    step(&mut core, 1, Act::Check(spot(1)))?;
-    step(&mut core, 1, Act::Decide)?;
-    step(&mut core, 0, Act::Decide)?;
+    let steps = [
+        (0, Step::Lock(X), true),
+        (0, Step::Set(X, Some(11)), true),
+        (1, Step::See(Y), true),
+        (1, Step::Lock(Z), true),
+        (1, Step::Set(Z, Some(1)), true),
+        (1, Step::Check(1), true),
+        (1, Step::Decide, true),
+        (0, Step::Decide, true),
+    ];
+    let core = after(&rt, rt.alloc(), 2, &steps)?;
     assert_eq!(&rt;
         core.story().decided.as_slice(),
         [at(1, 2), at(1, 1)].as_slice()
@@ -136,143 +214,125 @@ fn decided_later_than_a_greater_number(rt: HostRuntime) -> Result<(), Fail> {
 /// A commit from the first read to the last lock, and what a reader sees before and after it.
 #[test]
 fn a_commit_step_by_step(rt: HostRuntime) -> Result<(), Fail> {
-    let mut core = start(rt.alloc(), 2)?;
-    step(&mut core, 0, Act::Advance)?;
-    reads_and_draws(&mut core, 1, X, X)?;
-    expect_refusal(&rt, &mut core, 0, Act::See(X));
-    step(&mut core, 1, Act::Check(spot(0)))?;
-    step(&mut core, 1, Act::Decide)?;
-    expect_refusal(&rt, &mut core, 1, Act::Open(X));
-    step(&mut core, 1, Act::Put(X))?;
+    let steps = [
+        (0, Step::Advance, true),
+        (1, Step::See(X), true),
+        (1, Step::Lock(X), true),
+        (1, Step::Set(X, Some(1)), true),
+        (0, Step::See(X), false),
+        (1, Step::Check(0), true),
+        (1, Step::Decide, true),
+        (1, Step::Open(X), false),
+        (1, Step::Put(X), true),
+    ];
+    let mut core = after(&rt, rt.alloc(), 2, &steps)?;
     expect_home(&rt, &core, X, at(0, 0), Some(1), Holder::Held(1));
-    step(&mut core, 1, Act::Open(X))?;
+    follows(&rt, &mut core, rt.alloc(), &[(1, Step::Open(X), true)])?;
     expect_home(&rt, &core, X, at(2, 1), Some(1), Holder::Free);
     expect_serial(&rt, &core, rt.alloc(), &[at(2, 1)])
-}
-
-/// A removal is a write too, and its number is the place's from then on.
-#[test]
-fn a_removal(rt: HostRuntime) -> Result<(), Fail> {
-    let mut core = start(rt.alloc(), 1)?;
-    removes(&mut core, 0, Y)?;
-    expect_home(&rt, &core, Y, at(1, 1), None, Holder::Free);
-    Ok(())
 }
 
 /// An attempt that failed a check opens its lock with the old word, and what it had kept is dropped.
 #[test]
 fn a_failed_attempt_leaves_no_trace(rt: HostRuntime) -> Result<(), Fail> {
-    let mut core = start(rt.alloc(), 2)?;
-    reads_and_draws(&mut core, 0, X, Y)?;
-    step(&mut core, 1, Act::Lock(X))?;
-    step(&mut core, 0, Act::Check(spot(0)))?;
-    step(&mut core, 0, Act::Open(Y))?;
+    let steps = [
+        (0, Step::See(X), true),
+        (0, Step::Lock(Y), true),
+        (0, Step::Set(Y, Some(1)), true),
+        (1, Step::Lock(X), true),
+        (0, Step::Check(0), true),
+        (0, Step::Open(Y), true),
+    ];
+    let core = after(&rt, rt.alloc(), 2, &steps)?;
     expect_home(&rt, &core, Y, at(0, 0), Some(20), Holder::Free);
-    assert!(&rt; core.seats().iter().all(|seat| seat.kept.is_empty()));
+    for seat in core.seats() {
+        assert!(&rt; seat.kept.is_empty());
+    }
     Ok(())
 }
 
 /// Seats and keys that are not there, and locks that are another seat's or not the keys written.
 #[test]
 fn refused_for_seats_and_locks(rt: HostRuntime) -> Result<(), Fail> {
-    let mut core = start(rt.alloc(), 2)?;
-    let nowhere = Key { storage: 9, key: 0 };
-    expect_refusal(&rt, &mut core, 2, Act::Forget);
-    expect_refusal(&rt, &mut core, 0, Act::See(nowhere));
-    expect_refusal(&rt, &mut core, 0, sets(X, None));
-    step(&mut core, 0, Act::Lock(X))?;
-    step(&mut core, 0, Act::Lock(Y))?;
-    expect_refusal(&rt, &mut core, 0, sets(X, None));
-    expect_refusal(&rt, &mut core, 1, Act::Open(X));
+    let steps = [
+        (2, Step::Forget, false),
+        (0, Step::See(NO_KEY), false),
+        (0, Step::Set(X, None), false),
+        (0, Step::Lock(X), true),
+        (0, Step::Lock(Y), true),
+        (0, Step::Set(X, None), false),
+        (1, Step::Open(X), false),
+    ];
+    after(&rt, rt.alloc(), 2, &steps)?;
     Ok(())
 }
 
 /// A read is checked after the number is taken, and once: a check before it is refused, and counts for nothing.
 #[test]
 fn no_check_before_the_number(rt: HostRuntime) -> Result<(), Fail> {
-    let mut core = start(rt.alloc(), 2)?;
-    step(&mut core, 0, Act::See(X))?;
-    step(&mut core, 0, Act::Lock(Y))?;
-    expect_refusal(&rt, &mut core, 0, Act::Check(spot(0)));
-    step(&mut core, 0, sets(Y, Some(1)))?;
-    expect_refusal(&rt, &mut core, 0, Act::Decide);
-    expect_refusal(&rt, &mut core, 0, Act::See(Z));
-    expect_refusal(&rt, &mut core, 0, Act::Forget);
-    step(&mut core, 0, Act::Check(spot(0)))?;
-    expect_refusal(&rt, &mut core, 0, Act::Check(spot(0)));
-    expect_refusal(&rt, &mut core, 0, Act::Put(Y));
+    let steps = [
+        (0, Step::See(X), true),
+        (0, Step::Lock(Y), true),
+        (0, Step::Check(0), false),
+        (0, Step::Set(Y, Some(1)), true),
+        (0, Step::Decide, false),
+        (0, Step::See(Z), false),
+        (0, Step::Forget, false),
+        (0, Step::Check(0), true),
+        (0, Step::Check(0), false),
+        (0, Step::Put(Y), false),
+    ];
+    after(&rt, rt.alloc(), 2, &steps)?;
     Ok(())
 }
 
 /// What is forgotten is no part of the next attempt; a locked key is not locked again.
 #[test]
 fn a_forgotten_read(rt: HostRuntime) -> Result<(), Fail> {
-    let mut core = start(rt.alloc(), 2)?;
-    step(&mut core, 0, Act::See(X))?;
-    step(&mut core, 0, Act::Forget)?;
-    step(&mut core, 1, Act::Lock(X))?;
-    expect_refusal(&rt, &mut core, 0, Act::Lock(X));
-    step(&mut core, 0, Act::Draw(Changes::new()))?;
-    step(&mut core, 0, Act::Decide)?;
+    let steps = [
+        (0, Step::See(X), true),
+        (0, Step::Forget, true),
+        (1, Step::Lock(X), true),
+        (0, Step::Lock(X), false),
+        (0, Step::Draw, true),
+        (0, Step::Decide, true),
+    ];
+    let core = after(&rt, rt.alloc(), 2, &steps)?;
     expect_serial(&rt, &core, rt.alloc(), &[at(1, 1)])
 }
 
 /// Seat 0 alone advances, and a mark is below the epoch and never goes back.
 #[test]
 fn refused_for_epochs(rt: HostRuntime) -> Result<(), Fail> {
-    let mut core = start(rt.alloc(), 2)?;
-    expect_refusal(&rt, &mut core, 1, Act::Advance);
-    expect_refusal(&rt, &mut core, 1, marks(Some(1)));
-    step(&mut core, 0, Act::Advance)?;
-    step(&mut core, 1, marks(Some(1)))?;
-    step(&mut core, 1, marks(None))?;
-    expect_refusal(&rt, &mut core, 1, marks(Some(0)));
-    Ok(())
-}
-
-fn moves(alloc: Global, key: Key, home: Home) -> Result<Act, Memory> {
-    let list = Sequence::from_slice(alloc, &[Move { key, home }])?;
-    Ok(Act::Rehome(list))
-}
-
-/// The key moves.
-fn goes(core: &mut Core, alloc: Global, seat: u32, key: Key, home: Home) -> Result<(), Fail> {
-    step(core, seat, moves(alloc, key, home)?)
-}
-
-/// The key may not move there.
-fn expect_stay(
-    rt: &impl Abort,
-    core: &mut Core,
-    alloc: Global,
-    key: Key,
-    home: Home,
-) -> Result<(), Fail> {
-    expect_refusal(rt, core, 1, moves(alloc, key, home)?);
+    let steps = [
+        (1, Step::Advance, false),
+        (1, Step::Mark(Some(1)), false),
+        (0, Step::Advance, true),
+        (1, Step::Mark(Some(1)), true),
+        (1, Step::Mark(None), true),
+        (1, Step::Mark(Some(0)), false),
+    ];
+    after(&rt, rt.alloc(), 2, &steps)?;
     Ok(())
 }
 
 /// An entry of a snapshot page.
 fn page(value: u64) -> Home {
-    let number = at(0, 0);
-    let value = Some(value);
-    Home::InPage(5, Content { number, value })
+    Home::InPage(5, old(value))
 }
 
 /// A key moves between equal contents alone, to a place that is nobody's, and not from under another's lock.
 #[test]
 fn refused_for_homes(rt: HostRuntime) -> Result<(), Fail> {
-    let mut core = start(rt.alloc(), 2)?;
-    step(&mut core, 0, Act::Lock(Y))?;
-    for (key, home) in [
-        (X, page(11)),
-        (X, Home::Nowhere),
-        (X, Home::InSlot(spot(2))),
-        (X, Home::InSlot(spot(9))),
-        (Y, page(20)),
-    ] {
-        expect_stay(&rt, &mut core, rt.alloc(), key, home)?;
-    }
+    let steps = [
+        (0, Step::Lock(Y), true),
+        (1, Step::Move(X, page(11)), false),
+        (1, Step::Move(X, Home::Nowhere), false),
+        (1, Step::Move(X, Home::InSlot(spot(2))), false),
+        (1, Step::Move(X, Home::InSlot(spot(9))), false),
+        (1, Step::Move(Y, page(20)), false),
+    ];
+    after(&rt, rt.alloc(), 2, &steps)?;
     Ok(())
 }
 
@@ -280,71 +340,65 @@ fn refused_for_homes(rt: HostRuntime) -> Result<(), Fail> {
 /// snapshot page. Filled anew, the place takes the key back.
 #[test]
 fn a_key_that_moves(rt: HostRuntime) -> Result<(), Fail> {
-    let mut core = start(rt.alloc(), 2)?;
-    step(&mut core, 0, Act::See(X))?;
-    goes(&mut core, rt.alloc(), 1, X, page(10))?;
+    let steps = [
+        (0, Step::See(X), true),
+        (1, Step::Move(X, page(10)), true),
+        (1, Step::Lock(X), false),
+        (0, Step::Draw, true),
+        (0, Step::Check(0), true),
+    ];
+    let mut core = after(&rt, rt.alloc(), 2, &steps)?;
     expect_home(&rt, &core, X, at(0, 0), Some(10), Holder::Free);
-    expect_refusal(&rt, &mut core, 1, Act::Lock(X));
-    step(&mut core, 0, Act::Draw(Changes::new()))?;
-    step(&mut core, 0, Act::Check(spot(0)))?;
     assert_eq!(&rt; core.story().given_up.as_slice(), [at(1, 1)].as_slice());
-    comes_back(&mut core, rt.alloc())
+    core.fill(spot(0), old(10))?;
+    let back = [
+        (1, Step::Move(X, Home::InSlot(spot(0))), true),
+        (1, Step::Lock(X), true),
+    ];
+    follows(&rt, &mut core, rt.alloc(), &back)
 }
 
-fn comes_back(core: &mut Core, alloc: Global) -> Result<(), Fail> {
-    let number = at(0, 0);
-    let value = Some(10);
-    core.fill(spot(0), Content { number, value })?;
-    goes(core, alloc, 1, X, Home::InSlot(spot(0)))?;
-    step(core, 1, Act::Lock(X))
-}
-
-/// An absence loses its number only once no attempt at or below it is in progress.
+/// A removal is a write too, and its number is the place's from then on. It is lost only once no attempt at or below it is
+/// in progress.
 #[test]
 fn an_absence_that_is_lost(rt: HostRuntime) -> Result<(), Fail> {
-    let mut core = start(rt.alloc(), 3)?;
-    step(&mut core, 1, Act::Draw(Changes::new()))?;
-    removes(&mut core, 0, X)?;
-    expect_stay(&rt, &mut core, rt.alloc(), X, Home::Nowhere)?;
-    step(&mut core, 1, Act::Decide)?;
-    goes(&mut core, rt.alloc(), 2, X, Home::Nowhere)?;
+    let steps = [
+        (1, Step::Draw, true),
+        (0, Step::Lock(X), true),
+        (0, Step::Set(X, None), true),
+        (0, Step::Decide, true),
+        (0, Step::Put(X), true),
+        (0, Step::Open(X), true),
+        (2, Step::Move(X, Home::Nowhere), false),
+    ];
+    let mut core = after(&rt, rt.alloc(), 3, &steps)?;
+    expect_home(&rt, &core, X, at(1, 2), None, Holder::Free);
+    let lost = [
+        (1, Step::Decide, true),
+        (2, Step::Move(X, Home::Nowhere), true),
+    ];
+    follows(&rt, &mut core, rt.alloc(), &lost)?;
     expect_home(&rt, &core, X, at(0, 0), None, Holder::Free);
     assert_eq!(&rt; core.story().horizon, at(1, 2));
     Ok(())
 }
 
-/// A part of a pointer's span that has one pair, and leaves out one key.
-fn part_of_a_span(alloc: Global) -> Result<Part, Memory> {
-    let content = Content {
-        number: at(0, 0),
-        value: Some(10),
-    };
-    Ok(Part {
-        word: Word::Pointer(At::Root(0)),
-        version: Version::Leads(5),
-        span: Span {
-            storage: 1,
-            low: 0,
-            high: 9,
-        },
-        less: Sequence::from_slice(alloc, &[Y])?,
-        pairs: Sequence::from_slice(alloc, &[(X, content)])?,
-    })
-}
-
 /// What a word of a span says is told: a part of it is kept and checked as any other.
 #[test]
 fn a_part_of_a_span(rt: HostRuntime) -> Result<(), Fail> {
-    let mut core = start(rt.alloc(), 1)?;
     let part = part_of_a_span(rt.alloc())?;
-    let word = part.word;
-    assert!(&rt; part.covers(X) && !part.covers(Y) && !part.covers(Z));
+    for (key, is_covered) in [(X, true), (Y, false), (Z, false)] {
+        assert_eq!(&rt; part.covers(key), is_covered);
+    }
     assert_eq!(&rt; part.found(X).value, Some(10));
-    step(&mut core, 0, Act::Keep(part))?;
-    step(&mut core, 0, Act::Draw(Changes::new()))?;
-    expect_refusal(&rt, &mut core, 0, Act::Decide);
-    expect_refusal(&rt, &mut core, 0, Act::Confirm(Word::Record(spot(0)), true));
-    step(&mut core, 0, Act::Confirm(word, true))?;
-    step(&mut core, 0, Act::Decide)?;
+    let steps = [
+        (0, Step::Keep, true),
+        (0, Step::Draw, true),
+        (0, Step::Decide, false),
+        (0, Step::Confirm(Word::Record(spot(0))), false),
+        (0, Step::Confirm(ROOT), true),
+        (0, Step::Decide, true),
+    ];
+    let core = after(&rt, rt.alloc(), 1, &steps)?;
     expect_serial(&rt, &core, rt.alloc(), &[at(1, 1)])
 }

@@ -1,22 +1,18 @@
--- What the tests of the conditions decide: keys below a page, and children that tile a span.
-use Rattle.std.proofs.Common.{◌≡◌, ℕ, zero, suc, ◌+◌, ◌-◌, ◌<◌, ◌≤◌, Bool, true, false, not, true≢false, eqb, eqb-true, eq-eqb, leb, ltb, ◌&&◌, ◌||◌, ◌⊎◌, inl, inr, List, [], ◌∷◌, refl, sym, ap, ◌∙◌, subst, arith, Option, Some, None}
-use Rattle.std.proofs.lemmas.Bool.{and_parts, and_from, or_cases, cases_Bool, cond-true, cond-false}
+-- What the tests of the conditions decide of children: what they lead to, and that they tile a span.
+use Rattle.std.proofs.Common.{◌≡◌, ℕ, zero, suc, ◌+◌, ◌-◌, ◌<◌, ◌≤◌, Bool, true, false, true≢false, eqb, eqb-true, eq-eqb, leb, ltb, ◌&&◌, ◌||◌, ◌⊎◌, inl, inr, List, [], ◌∷◌, refl, sym, ap, ◌∙◌, subst, arith, Option, Some, None}
+use Rattle.std.proofs.lemmas.Bool.{and_parts, and_from, or_cases, cases_Bool}
 use Rattle.std.proofs.lemmas.Bool.Decides.{nat_tests}
 use Rattle.std.specs.List.{list_all}
 use Rattle.std.specs.Prelude.{is_none}
 use Rattle.serial_model.specs.declared.key.Key.{Key}
-use Rattle.homes.specs.declared.places.Content.{Content}
 use Rattle.homes.specs.declared.places.Span.{Span}
-use Rattle.homes.specs.declared.places.Home.{Home}
-use Rattle.homes.specs.declared.places.Home.TheVariants.{InPage, Nowhere}
-use Rattle.homes.specs.Homes.{same_key, same_home, has_key, in_span, look}
-use Rattle.homes.specs.Laws.{same_key-true, same_home-true, number_or_other}
+use Rattle.homes.specs.Homes.{same_key, has_key, in_span}
+use Rattle.homes.specs.Laws.{same_key-true, number_or_other}
 use Rattle.drop_core.specs.declared.table.Page.TheVariants.{Inner}
-use Rattle.drop_core.specs.declared.table.SnapPage.{SnapPage}
-use Rattle.drop_core.specs.declared.table.SnapPage.TheVariants.{Missing, Entries, Children}
 use Rattle.drop_core.specs.declared.table.Table.{Table}
-use Rattle.drop_core.specs.Table.{snap_of, entry_home, child_of, snap_step, snap_walk, snap_home, has_pointer}
-use Rattle.drop_core.specs.Event.{all_below, page_keys_pass, keys_pass, leaves_none_out, same_below, child, begins, is_tile, is_same_child}
+use Rattle.drop_core.specs.Table.{has_pointer}
+use Rattle.drop_core.specs.Event.{all_below, same_below, child, begins, is_tile, is_same_child}
+use Rattle.drop_core.specs.KeyTests.{same-homes}
 use Rattle.drop_core.proofs.Conditions.{FitsInner}
 
 -- ---- all numbers below one
@@ -39,71 +35,7 @@ below-each (suc n) test all j less =
         at_least : (n j : ℕ) → ltb j (suc n) ≡ true → ltb j n ≡ false → n ≡ j
         at_least n j less e = grind (arith, nat_tests)
 
--- ---- keys that some snapshot page has an entry of
-
-entries-pass : (test : Key → Bool) (n : ℕ) (entries : List (Key × Content)) (k : Key) → list_all (λ e. test e.0) entries ≡ true → (entry_home n entries k ≡ Nowhere) ⊎ (test k ≡ true)
-entries-pass test n [] k all = inl refl
-entries-pass test n (e ∷ more) k all =
-    let parts = and_parts (test e.0) (list_all (λ e. test e.0) more) all in
-    elim (cases_Bool (same_key e.0 k)) [
-      | inl hit ↦ inr (subst (λ (q : Key). test q ≡ true) (same_key-true e.0 k hit) parts.0)
-      | inr miss ↦ elim (entries-pass test n more k parts.1) [
-        | inl none ↦ inl (cond-false (same_key e.0 k) (InPage n e.1) (entry_home n more k) miss ∙ none)
-        | inr pass ↦ inr pass
-      ]
-    ]
-
-snaps-pass : (test : Key → Bool) (snaps : List (ℕ × SnapPage)) → keys_pass test snaps ≡ true → (n : ℕ) → page_keys_pass test (look (λ a b. eqb a b) Missing snaps n) ≡ true
-snaps-pass test [] all n = refl
-snaps-pass test (s ∷ more) all n =
-    let parts = and_parts (page_keys_pass test s.1) (keys_pass test more) all in
-    elim (cases_Bool (eqb s.0 n)) [
-      | inl hit ↦ ap (page_keys_pass test) (cond-true (eqb s.0 n) s.1 (look (λ a b. eqb a b) Missing more n) hit) ∙ parts.0
-      | inr miss ↦ ap (page_keys_pass test) (cond-false (eqb s.0 n) s.1 (look (λ a b. eqb a b) Missing more n) miss) ∙ snaps-pass test more parts.1 n
-    ]
-
-step-pass : (test : Key → Bool) (down : ℕ → Key → Home) → ((n : ℕ) (k : Key) → (down n k ≡ Nowhere) ⊎ (test k ≡ true))
-    → (n : ℕ) (k : Key) (page : SnapPage) → page_keys_pass test page ≡ true → (snap_step down n k page ≡ Nowhere) ⊎ (test k ≡ true)
-step-pass test down goes n k Missing pass = inl refl
-step-pass test down goes n k (Entries over entries) pass = entries-pass test n entries k pass
-step-pass test down goes n k (Children over children) pass = goes (child_of children k) k
-
-walk-pass : (test : Key → Bool) (snaps : ℕ → SnapPage) → ((n : ℕ) → page_keys_pass test (snaps n) ≡ true) → (f n : ℕ) (k : Key) → (snap_walk f snaps n k ≡ Nowhere) ⊎ (test k ≡ true)
-unfolding snap_walk
-walk-pass test snaps pass zero n k = inl refl
-walk-pass test snaps pass (suc f) n k = step-pass test (λ m q. snap_walk f snaps m q) (λ m q. walk-pass test snaps pass f m q) n k (snaps n) (pass n)
-
--- a key that doesn't pass has no home in any page
-pub home-pass : (d : Table) (test : Key → Bool) → keys_pass test d.snaps ≡ true → (n : ℕ) (k : Key) → (snap_home d n k ≡ Nowhere) ⊎ (test k ≡ true)
-home-pass d test all n k = walk-pass test (snap_of d) (snaps-pass test d.snaps all) n n k
-
--- ---- what the tests over keys decide
-
-unless : (a b : Bool) → (not a || b) ≡ true → a ≡ true → b ≡ true
-unless true b e t = e
-unless false b e t = absurd (true≢false (sym t))
-
-pub none-out : (d : Table) (n : ℕ) (span : Span) (keys : List Key) → leaves_none_out d n span keys ≡ true
-    → (k : Key) → in_span span k ≡ true → has_key keys k ≡ false → snap_home d n k ≡ Nowhere
-none-out d n span keys all k inside miss =
-    elim (home-pass d (λ q. not (in_span span q) || (has_key keys q || same_home (snap_home d n q) Nowhere)) all n k) [
-      | inl none ↦ none
-      | inr pass ↦ same_home-true (snap_home d n k) Nowhere
-          (sym (ap (λ (b : Bool). b || same_home (snap_home d n k) Nowhere) miss) ∙ unless (in_span span k) (has_key keys k || same_home (snap_home d n k) Nowhere) pass inside)
-    ]
-
-pub same-homes : (d : Table) (span : Span) (m n : ℕ) → same_below d span m n ≡ true → (k : Key) → in_span span k ≡ true → snap_home d m k ≡ snap_home d n k
-same-homes d span m n all k inside =
-    elim (home-pass d (λ q. not (in_span span q) || same_home (snap_home d m q) (snap_home d n q)) all m k) [
-      | inl none ↦ elim (home-pass d (λ q. not (in_span span q) || same_home (snap_home d m q) (snap_home d n q)) all n k) [
-        | inl also ↦ none ∙ sym also
-        | inr pass ↦ passes pass
-      ]
-      | inr pass ↦ passes pass
-    ]
-  where
-    passes : (not (in_span span k) || same_home (snap_home d m k) (snap_home d n k)) ≡ true → snap_home d m k ≡ snap_home d n k
-    passes pass = same_home-true (snap_home d m k) (snap_home d n k) (unless (in_span span k) (same_home (snap_home d m k) (snap_home d n k)) pass inside)
+-- ---- children of an interior page
 
 pub none_there : (o : Option ℕ) → is_none o ≡ true → o ≡ None
 none_there None e = refl

@@ -27,7 +27,8 @@ use Rattle.drop_core.proofs.Installs.{install_sound, was_home}
 use Rattle.drop_core.proofs.InnerInstalls.{install_inner_sound}
 use Rattle.drop_core.proofs.Drops.{drop_sound}
 use Rattle.drop_core.proofs.DropCases.{leaf_drop, inner_drop, was_leaf}
-use Rattle.drop_core.proofs.Decides.{below-each, none-out, none_there, inner-fits, all-within, tiles-cover, tiles-within, tiles-apart}
+use Rattle.drop_core.specs.KeyTests.{none-out}
+use Rattle.drop_core.proofs.Decides.{below-each, none_there, inner-fits, all-within, tiles-cover, tiles-within, tiles-apart}
 
 at_most : (a b : ℕ) → leb a b ≡ true → a ≤ b
 at_most a b e = grind (arith, nat_tests)

@@ -1,9 +1,10 @@
 -- What holds under every list of events.
-use Rattle.std.specs.Prelude.{◌≡◌, ◌⊎◌, ℕ, ◌+◌, ◌≤◌, true, false, List, length, Some, slice_get, slice_set}
+use Rattle.std.specs.Prelude.{◌≡◌, ◌↔◌, ◌⊎◌, ℕ, ◌+◌, ◌≤◌, true, false, List, length, Some, slice_get, slice_set}
 use Rattle.serial_model.specs.declared.key.Key.{Key}
 use Rattle.homes.specs.declared.places.At.{At}
 use Rattle.homes.specs.declared.places.Span.{Span}
 use Rattle.homes.specs.declared.places.Home.{Home}
+use Rattle.homes.specs.declared.places.Home.TheVariants.{Nowhere}
 use Rattle.homes.specs.Homes.{has_key, in_span, moved}
 use Rattle.drop_core.specs.declared.table.Led.TheVariants.{Away}
 use Rattle.drop_core.specs.declared.table.SnapPage.{SnapPage}
@@ -14,7 +15,7 @@ use Rattle.drop_core.specs.declared.event.Act.TheVariants.{Install, Swing}
 use Rattle.drop_core.specs.declared.event.Event.{Event}
 use Rattle.homes.specs.declared.places.At.TheVariants.{Root}
 use Rattle.drop_core.specs.Table.{slot_of, page_of, pointer_of, has_slot, at_index, snap_of, snap_home, leaf_home, is_never, is_live}
-use Rattle.drop_core.specs.Event.{DropState, is_usable, is_allowed, effect, moves, leaf_keys, keys_in, run, run_homes, most_passes}
+use Rattle.drop_core.specs.Event.{DropState, leaves_none_out, same_below, is_usable, is_allowed, effect, moves, leaf_keys, keys_in, run, run_homes, most_passes}
 use Rattle.drop_core.specs.Sound.{span_at, IsSoundTable, IsSoundPages, IsSound}
 use Rattle.drop_core.specs.Opening.{CanOpen, opening_state, opening_homes}
 use Rattle.drop_core.specs.Way.{way}
@@ -100,3 +101,12 @@ abbrev pub SwingsTakeAway : Type 0
 SwingsTakeAway = (homes : Key → Home) (d : Table) (grips : List Grip) (p : ℕ) (g : Grip) (act : Act) (s : ℕ)
     → is_allowed p d g act ≡ true → IsSoundTable homes d grips → (slot_of (effect p d g act).table s).led ≡ Away
     → (page_of (effect p d g act).table s ≡ page_of d s) × WasAway d act s
+
+-- The tests of an install and a swing are true exactly where what they stand for holds of all keys: that page n has no other
+-- key of the span, and that two pages give the span's keys the same homes.
+pub record TestsDecide : Type 0 where
+  pub none_out : (d : Table) (n : ℕ) (span : Span) (keys : List Key)
+      → (leaves_none_out d n span keys ≡ true)
+      ↔ ((k : Key) → in_span span k ≡ true → has_key keys k ≡ false → snap_home d n k ≡ Nowhere)
+  pub same_homes : (d : Table) (span : Span) (m n : ℕ)
+      → (same_below d span m n ≡ true) ↔ ((k : Key) → in_span span k ≡ true → snap_home d m k ≡ snap_home d n k)

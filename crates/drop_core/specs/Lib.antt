@@ -6,3 +6,4 @@ pub mod Sound
 pub mod Way
 pub mod Law
 pub mod HomeLaws
+pub mod KeyTests

@@ -1,4 +1,4 @@
-// Schedules worked by hand.
+// Schedules worked by hand: what each seat does, in this order, and how many keys it moves, or that it is refused.
 use super::*;
 use homes::{At, Content, Holder, Span, Spot};
 use lists::Sequence;
@@ -19,6 +19,31 @@ const ALL: Span = Span {
     high: 1,
 };
 
+/// An act of a seat.
+#[derive(Clone, Copy)]
+enum Step {
+    Enter(u32),
+    Leave(u32),
+    Give(u32),
+    Publish(u32),
+    Retire(u32),
+    /// Lay out a page with so many of the keys X and Y.
+    FillLeaf(u32, usize),
+    /// Lay out a page with two pointers.
+    FillInner(u32),
+    FillPointer(Spot, Pointer),
+    /// Set a snapshot page over this span with entries of X and Y.
+    FillSnapshot(u32, Span),
+    /// Let it be none.
+    FillNothing(u32),
+    Extend(u32),
+    Install(At, u32),
+    Swing(At, u32),
+    Renew(At, u32),
+    Shut(At),
+    Reopen(At),
+}
+
 fn content(value: u64) -> Content {
     Content {
         number: Number { epoch: 1, draw: 1 },
@@ -26,131 +51,45 @@ fn content(value: u64) -> Content {
     }
 }
 
-/// A snapshot page over both keys that has an entry of each.
-fn both(alloc: Global) -> Result<SnapPage, Memory> {
+/// A snapshot page over the span that has an entry of each key.
+fn both(alloc: Global, span: Span) -> Result<SnapPage, Memory> {
     let entries = Sequence::from_slice(alloc, &[(X, content(10)), (Y, content(20))])?;
-    Ok(SnapPage::Entries(ALL, entries))
+    Ok(SnapPage::Entries(span, entries))
+}
+
+/// The first keys, so many.
+fn keys(alloc: Global, count: usize) -> Result<Sequence<Key>, Memory> {
+    let mut keys = Sequence::from_slice(alloc, &[X, Y])?;
+    keys.truncate(count);
+    Ok(keys)
+}
+
+fn act(alloc: Global, step: Step) -> Result<Act, Memory> {
+    Ok(match step {
+        Step::Enter(slot) => Act::Enter(slot),
+        Step::Leave(slot) => Act::Leave(slot),
+        Step::Give(slot) => Act::Give(slot),
+        Step::Publish(slot) => Act::Publish(slot),
+        Step::Retire(slot) => Act::Retire(slot),
+        Step::FillLeaf(slot, count) => Act::FillPage(slot, Page::Leaf(keys(alloc, count)?)),
+        Step::FillInner(slot) => Act::FillPage(slot, Page::Inner(2)),
+        Step::FillPointer(spot, pointer) => Act::FillPointer(spot, pointer),
+        Step::FillSnapshot(number, span) => Act::FillSnapshot(number, both(alloc, span)?),
+        Step::FillNothing(number) => Act::FillSnapshot(number, SnapPage::Missing),
+        Step::Extend(number) => Act::Extend(number),
+        Step::Install(at, slot) => Act::Install(at, slot),
+        Step::Swing(at, number) => Act::Swing(at, number),
+        Step::Renew(at, number) => Act::Renew(at, number),
+        Step::Shut(at) => Act::Shut(at),
+        Step::Reopen(at) => Act::Reopen(at),
+    })
 }
 
 /// A machine over page 1, with four slots and three seats.
 fn start(alloc: Global) -> Result<DropCore, Memory> {
     let mut snaps = Sequence::new(alloc);
-    snaps.push((1, both(alloc)?))?;
+    snaps.push((1, both(alloc, ALL)?))?;
     DropCore::new(alloc, snaps, 1, &[(ALL, 1)], 4, 3)
-}
-
-/// The act happens, and moves so many keys.
-fn step(
-    rt: &impl Abort,
-    core: &mut DropCore,
-    seat: u32,
-    act: Act,
-    moved: usize,
-) -> Result<(), Fail> {
-    let moves = core.step(Event { seat, act })?;
-    assert_eq!(rt; moves.len(), moved);
-    Ok(())
-}
-
-/// The act is refused.
-fn expect_refusal(rt: &impl Abort, core: &mut DropCore, seat: u32, act: Act) {
-    let refused = matches!(
-        core.step(Event { seat, act }),
-        Err(OrMemory::Fault(Refused))
-    );
-    assert!(rt; refused);
-}
-
-/// The seat installs a leaf with both keys at the root, in this slot.
-fn installs(
-    rt: &impl Abort,
-    core: &mut DropCore,
-    alloc: Global,
-    seat: u32,
-    slot: u32,
-) -> Result<(), Fail> {
-    let keys = Sequence::from_slice(alloc, &[X, Y])?;
-    step(rt, core, seat, Act::Give(slot), 0)?;
-    step(rt, core, seat, Act::FillPage(slot, Page::Leaf(keys)), 0)?;
-    step(rt, core, seat, Act::Publish(slot), 0)?;
-    step(rt, core, seat, Act::Install(ROOT, slot), 2)
-}
-
-/// Seat 0 publishes page 2, with the same records.
-fn publishes(rt: &impl Abort, core: &mut DropCore, alloc: Global) -> Result<(), Fail> {
-    step(rt, core, 0, Act::FillSnapshot(2, both(alloc)?), 0)?;
-    step(rt, core, 0, Act::Extend(2), 0)
-}
-
-/// A page that was evicted: its slot isn't given while a seat holds it, and is after that seat left.
-#[test]
-fn a_held_slot_is_not_given(rt: HostRuntime) -> Result<(), Fail> {
-    let mut core = start(rt.alloc())?;
-    installs(&rt, &mut core, rt.alloc(), 1, 0)?;
-    step(&rt, &mut core, 2, Act::Enter(0), 0)?;
-    publishes(&rt, &mut core, rt.alloc())?;
-    step(&rt, &mut core, 0, Act::Swing(ROOT, 2), 2)?;
-    step(&rt, &mut core, 0, Act::Retire(0), 0)?;
-    expect_refusal(&rt, &mut core, 1, Act::Give(0));
-    step(&rt, &mut core, 2, Act::Leave(0), 0)?;
-    step(&rt, &mut core, 1, Act::Give(0), 0)
-}
-
-/// A pointer that was (none, 1) is not that again after an install and an eviction.
-#[test]
-fn a_pointer_does_not_come_back(rt: HostRuntime) -> Result<(), Fail> {
-    let mut core = start(rt.alloc())?;
-    assert_eq!(&rt; core.table().pointer(ROOT).page, 1);
-    installs(&rt, &mut core, rt.alloc(), 1, 3)?;
-    assert_eq!(&rt; core.table().pointer(ROOT).slot, Some(3));
-    publishes(&rt, &mut core, rt.alloc())?;
-    step(&rt, &mut core, 0, Act::Swing(ROOT, 2), 2)?;
-    assert_eq!(&rt; core.table().pointer(ROOT).slot, None);
-    assert_eq!(&rt; core.table().pointer(ROOT).page, 2);
-    Ok(())
-}
-
-/// What a beginning doesn't allow.
-#[test]
-fn refused_at_the_start(rt: HostRuntime) -> Result<(), Fail> {
-    let mut core = start(rt.alloc())?;
-    expect_refusal(&rt, &mut core, 1, Act::Leave(0));
-    expect_refusal(&rt, &mut core, 1, Act::Give(4));
-    expect_refusal(&rt, &mut core, 1, Act::Publish(0));
-    expect_refusal(&rt, &mut core, 1, Act::Retire(0));
-    expect_refusal(&rt, &mut core, 0, Act::FillSnapshot(1, SnapPage::Missing));
-    expect_refusal(&rt, &mut core, 1, Act::FillSnapshot(2, SnapPage::Missing));
-    expect_refusal(&rt, &mut core, 0, Act::Extend(2));
-    expect_refusal(&rt, &mut core, 1, Act::Install(ROOT, 0));
-    expect_refusal(&rt, &mut core, 0, Act::Swing(ROOT, 1));
-    expect_refusal(&rt, &mut core, 0, Act::Renew(ROOT, 1));
-    expect_refusal(&rt, &mut core, 0, Act::Reopen(ROOT));
-    expect_refusal(&rt, &mut core, 3, Act::Enter(0));
-    expect_refusal(&rt, &mut core, 1, Act::Enter(4));
-    Ok(())
-}
-
-/// A page with an entry of a key beyond its span is not published.
-#[test]
-fn a_page_of_other_keys_is_not_published(rt: HostRuntime) -> Result<(), Fail> {
-    let mut core = start(rt.alloc())?;
-    let entries = Sequence::from_slice(rt.alloc(), &[(X, content(10)), (Y, content(20))])?;
-    step(
-        &rt,
-        &mut core,
-        0,
-        Act::FillSnapshot(2, SnapPage::Entries(one(0), entries)),
-        0,
-    )?;
-    expect_refusal(&rt, &mut core, 0, Act::Extend(2));
-    step(
-        &rt,
-        &mut core,
-        0,
-        Act::FillSnapshot(2, both(rt.alloc())?),
-        0,
-    )?;
-    step(&rt, &mut core, 0, Act::Extend(2), 0)
 }
 
 /// One key.
@@ -174,63 +113,137 @@ fn start_above(alloc: Global) -> Result<DropCore, Memory> {
     DropCore::new(alloc, snaps, 3, &[(ALL, 3)], 4, 3)
 }
 
-/// Sets the pointer with this index in the page of slot 1, over one key, to a snapshot page.
-fn fills(
+/// How many keys the act moves, or nothing where it is refused.
+fn moved(core: &mut DropCore, seat: u32, act: Act) -> Result<Option<usize>, Memory> {
+    match core.step(Event { seat, act }) {
+        Ok(moves) => Ok(Some(moves.len())),
+        Err(OrMemory::Fault(_)) => Ok(None),
+        Err(OrMemory::Memory) => Err(Memory),
+    }
+}
+
+/// Each step moves so many keys, or is refused.
+fn follows(
     rt: &impl Abort,
     core: &mut DropCore,
-    index: usize,
-    page: u32,
-    holder: Holder,
+    alloc: Global,
+    steps: &[(u32, Step, Option<usize>)],
 ) -> Result<(), Fail> {
-    let pointer = Pointer {
-        span: one(index as u64),
+    for (seat, step, want) in steps {
+        let act = act(alloc, *step)?;
+        assert_eq!(rt; moved(core, *seat, act)?, *want);
+    }
+    Ok(())
+}
+
+/// A pointer that was (none, 1) is not that again after an install and an eviction. The evicted slot isn't given while a
+/// seat holds it, and is after that seat left.
+#[test]
+fn a_page_comes_and_goes(rt: HostRuntime) -> Result<(), Fail> {
+    let mut core = start(rt.alloc())?;
+    assert_eq!(&rt; core.table().pointer(ROOT).page, 1);
+    let comes = [
+        (1, Step::Give(3), Some(0)),
+        (1, Step::FillLeaf(3, 2), Some(0)),
+        (1, Step::Publish(3), Some(0)),
+        (1, Step::Install(ROOT, 3), Some(2)),
+    ];
+    follows(&rt, &mut core, rt.alloc(), &comes)?;
+    assert_eq!(&rt; core.table().pointer(ROOT).slot, Some(3));
+    let goes = [
+        (2, Step::Enter(3), Some(0)),
+        (0, Step::FillSnapshot(2, ALL), Some(0)),
+        (0, Step::Extend(2), Some(0)),
+        (0, Step::Swing(ROOT, 2), Some(2)),
+        (0, Step::Retire(3), Some(0)),
+        (1, Step::Give(3), None),
+        (2, Step::Leave(3), Some(0)),
+        (1, Step::Give(3), Some(0)),
+    ];
+    follows(&rt, &mut core, rt.alloc(), &goes)?;
+    assert_eq!(&rt; core.table().pointer(ROOT).slot, None);
+    assert_eq!(&rt; core.table().pointer(ROOT).page, 2);
+    Ok(())
+}
+
+/// What a beginning doesn't allow. A page with an entry of a key beyond its span is not published.
+#[test]
+fn refused_at_the_start(rt: HostRuntime) -> Result<(), Fail> {
+    let mut core = start(rt.alloc())?;
+    let steps = [
+        (1, Step::Leave(0), None),
+        (1, Step::Give(4), None),
+        (1, Step::Publish(0), None),
+        (1, Step::Retire(0), None),
+        (0, Step::FillNothing(1), None),
+        (1, Step::FillNothing(2), None),
+        (0, Step::Extend(2), None),
+        (1, Step::Install(ROOT, 0), None),
+        (0, Step::Swing(ROOT, 1), None),
+        (0, Step::Renew(ROOT, 1), None),
+        (0, Step::Reopen(ROOT), None),
+        (3, Step::Enter(0), None),
+        (1, Step::Enter(4), None),
+        (0, Step::FillSnapshot(2, one(0)), Some(0)),
+        (0, Step::Extend(2), None),
+        (0, Step::FillSnapshot(2, ALL), Some(0)),
+        (0, Step::Extend(2), Some(0)),
+    ];
+    follows(&rt, &mut core, rt.alloc(), &steps)
+}
+
+/// A pointer in slot 1.
+fn pointer_at(index: usize) -> Spot {
+    Spot { slot: 1, index }
+}
+
+/// A pointer over one key to a snapshot page.
+fn pointer_to(key: u64, page: u32, holder: Holder) -> Pointer {
+    Pointer {
+        span: one(key),
         slot: None,
         page,
         holder,
-    };
-    step(
-        rt,
-        core,
-        1,
-        Act::FillPointer(Spot { slot: 1, index }, pointer),
-        0,
-    )
+    }
 }
 
-/// The seat makes an interior page in slot 1 with two pointers, of which the second is so.
-fn makes_inner(
+/// An interior page in slot 1 with two pointers, of which the second is so, is published, and installed or not.
+fn installs_inner(
     rt: &impl Abort,
-    core: &mut DropCore,
-    page: u32,
-    holder: Holder,
-) -> Result<(), Fail> {
-    step(rt, core, 1, Act::Give(1), 0)?;
-    step(rt, core, 1, Act::FillPage(1, Page::Inner(2)), 0)?;
-    fills(rt, core, 0, 1, Holder::Free)?;
-    fills(rt, core, 1, page, holder)?;
-    step(rt, core, 1, Act::Publish(1), 0)
+    alloc: Global,
+    second: Pointer,
+    installed: Option<usize>,
+) -> Result<DropCore, Fail> {
+    let mut core = start_above(alloc)?;
+    let first = pointer_to(0, 1, Holder::Free);
+    let steps = [
+        (1, Step::Give(1), Some(0)),
+        (1, Step::FillInner(1), Some(0)),
+        (1, Step::FillPointer(pointer_at(0), first), Some(0)),
+        (1, Step::FillPointer(pointer_at(1), second), Some(0)),
+        (1, Step::Publish(1), Some(0)),
+        (1, Step::Install(ROOT, 1), installed),
+    ];
+    follows(rt, &mut core, alloc, &steps)?;
+    Ok(core)
 }
 
 /// An interior page moves no key. It is dropped once all of its pointers are shut, and they stay dead.
 #[test]
 fn an_interior_page_comes_and_goes(rt: HostRuntime) -> Result<(), Fail> {
-    let mut core = start_above(rt.alloc())?;
-    makes_inner(&rt, &mut core, 2, Holder::Free)?;
-    step(&rt, &mut core, 1, Act::Install(ROOT, 1), 0)?;
-    let last = At::In(Spot { slot: 1, index: 1 });
-    step(
-        &rt,
-        &mut core,
-        0,
-        Act::Shut(At::In(Spot { slot: 1, index: 0 })),
-        0,
-    )?;
-    expect_refusal(&rt, &mut core, 0, Act::Swing(ROOT, 3));
-    step(&rt, &mut core, 0, Act::Shut(last), 0)?;
-    step(&rt, &mut core, 0, Act::Swing(ROOT, 3), 0)?;
+    let second = pointer_to(1, 2, Holder::Free);
+    let mut core = installs_inner(&rt, rt.alloc(), second, Some(0))?;
+    let last = At::In(pointer_at(1));
+    let steps = [
+        (0, Step::Shut(At::In(pointer_at(0))), Some(0)),
+        (0, Step::Swing(ROOT, 3), None),
+        (0, Step::Shut(last), Some(0)),
+        (0, Step::Swing(ROOT, 3), Some(0)),
+        (0, Step::Reopen(last), None),
+    ];
+    follows(&rt, &mut core, rt.alloc(), &steps)?;
     let dead = matches!(core.table().pointer(last).holder, Holder::Dead);
     assert!(&rt; dead);
-    expect_refusal(&rt, &mut core, 0, Act::Reopen(last));
     Ok(())
 }
 
@@ -238,15 +251,14 @@ fn an_interior_page_comes_and_goes(rt: HostRuntime) -> Result<(), Fail> {
 #[test]
 fn a_page_that_says_less_is_not_installed(rt: HostRuntime) -> Result<(), Fail> {
     for (page, holder) in [(0, Holder::Free), (2, Holder::Held(2)), (2, Holder::Dead)] {
-        let mut core = start_above(rt.alloc())?;
-        makes_inner(&rt, &mut core, page, holder)?;
-        expect_refusal(&rt, &mut core, 1, Act::Install(ROOT, 1));
+        installs_inner(&rt, rt.alloc(), pointer_to(1, page, holder), None)?;
     }
     let mut core = start(rt.alloc())?;
-    let keys = Sequence::from_slice(rt.alloc(), &[X])?;
-    step(&rt, &mut core, 1, Act::Give(2), 0)?;
-    step(&rt, &mut core, 1, Act::FillPage(2, Page::Leaf(keys)), 0)?;
-    step(&rt, &mut core, 1, Act::Publish(2), 0)?;
-    expect_refusal(&rt, &mut core, 1, Act::Install(ROOT, 2));
-    Ok(())
+    let steps = [
+        (1, Step::Give(2), Some(0)),
+        (1, Step::FillLeaf(2, 1), Some(0)),
+        (1, Step::Publish(2), Some(0)),
+        (1, Step::Install(ROOT, 2), None),
+    ];
+    follows(&rt, &mut core, rt.alloc(), &steps)
 }

@@ -1,0 +1,15 @@
+-- What the theorems of the two machines say, of which the joint one is made.
+use Rattle.commit_core.specs.Law.{EachActKeeps as CommitsKeep, EachActLeaves as CommitsLeave, OpensSound, SoundIsSerial}
+use Rattle.drop_core.specs.Law.{EachActKeeps as PagesKeep, EachActLeaves as PagesLeave, StartsSound as PagesStart, HeldIsNotGiven, SwingsMoveDown, SwingsTakeAway}
+
+pub record Laws : Type 0 where
+  pub commits_keep : CommitsKeep
+  pub commits_leave : CommitsLeave
+  pub commits_open : OpensSound
+  pub serial : SoundIsSerial
+  pub pages_keep : PagesKeep
+  pub pages_leave : PagesLeave
+  pub pages_start : PagesStart
+  pub held : HeldIsNotGiven
+  pub down : SwingsMoveDown
+  pub away : SwingsTakeAway

@@ -1,0 +1,78 @@
+-- Both machines together, and what of a word of a page is compared.
+use Rattle.std.specs.Prelude.{ℕ, ◌==◌, ◌&&◌, ◌||◌, Bool, true, false, not, List, Option, Some, None, is_none}
+use Rattle.std.specs.List.{list_any, list_all}
+use Rattle.std.specs.Option.{option_map_or}
+use Rattle.homes.specs.declared.places.At.{At}
+use Rattle.homes.specs.declared.places.At.TheVariants.{Root, In}
+use Rattle.commit_core.specs.declared.part.Word.{Word}
+use Rattle.commit_core.specs.declared.part.Word.TheVariants.{Record, Pointer}
+use Rattle.commit_core.specs.declared.part.Version.{Version}
+use Rattle.commit_core.specs.declared.part.Version.TheVariants.{Numbered, Leads}
+use Rattle.commit_core.specs.declared.part.Part.{Part}
+use Rattle.commit_core.specs.declared.attempt.Attempt.{Attempt}
+use Rattle.commit_core.specs.declared.seat.Seat.{Seat}
+use Rattle.commit_core.specs.declared.story.Story.{Story}
+use Rattle.commit_core.specs.CoreState.{CoreState, attempt_tried}
+use Rattle.commit_core.specs.Places.{is_open_to}
+use Rattle.commit_core.specs.Parts.{same_word}
+use Rattle.drop_core.specs.declared.table.Pointer.{Pointer as Leading}
+use Rattle.drop_core.specs.declared.table.Table.{Table}
+use Rattle.drop_core.specs.declared.grip.Grip.{Grip}
+use Rattle.drop_core.specs.Table.{pointer_of, has_slot}
+use Rattle.drop_core.specs.Event.{DropState, is_open}
+
+-- the machine of commits and the machine of pages, with the same seats
+pub record JointState : Type 0 where
+  pub commits : CoreState
+  pub pages : DropState
+
+-- ---- where words stand
+
+-- the slot in whose page the pointer stands
+abbrev pub slot_at : At → Option ℕ
+slot_at (Root r) = None
+slot_at (In x) = Some x.slot
+
+-- the slot in whose page the word stands
+abbrev pub slot_of_word : Word → Option ℕ
+slot_of_word (Record x) = Some x.slot
+slot_of_word (Pointer x) = slot_at x
+
+-- it is this slot
+abbrev pub is_slot : ℕ → Option ℕ → Bool
+is_slot s None = false
+is_slot s (Some t) = t == s
+
+-- one of the words that are kept stands in the slot's page
+abbrev pub keeps_word : List Part → ℕ → Bool
+keeps_word kept s = list_any (λ part. is_slot s (slot_of_word part.word)) kept
+
+-- the seat holds the slot, if there is one
+abbrev pub holds_slot : Grip → Option ℕ → Bool
+holds_slot g None = true
+holds_slot g (Some s) = has_slot g.holds s
+
+-- ---- a pointer that is read, and read again
+
+-- The seat may keep the pointer: it is live, nobody has shut it, it leads to no slot, and the seat holds the slot that
+-- it stands in.
+abbrev pub can_see : Table → Grip → At → Bool
+can_see d g x = is_open d x && (is_none (pointer_of d x).slot && holds_slot g (slot_at x))
+
+-- the pointer leads to no slot, and to the page of the version: both halves are compared
+abbrev pub leads_so : Leading → Version → Bool
+leads_so q (Numbered n there) = false
+leads_so q (Leads n) = is_none q.slot && q.page == n
+
+-- the same, and nobody but the seat has shut it
+abbrev pub is_pointer_so : ℕ → Leading → Version → Bool
+is_pointer_so p q v = is_open_to p q.holder && leads_so q v
+
+-- each part of the attempt with this pointer's word, of which there is one, is as it was read
+abbrev pub pointer_stays : ℕ → Table → At → Attempt → Bool
+pointer_stays p d x a =
+    list_all (λ part. not (same_word part.word (Pointer x)) || is_pointer_so p (pointer_of d x) part.version) a.parts
+
+-- the same of the attempt in progress, if there is one
+abbrev pub is_so_now : ℕ → Table → Story → Seat → At → Bool
+is_so_now p d m s x = option_map_or (pointer_stays p d x) (attempt_tried m.history s.stage) false

@@ -1,0 +1,9 @@
+pub mod Pairs
+pub mod JointState
+pub mod Event
+pub mod Shift
+pub mod Answers
+pub mod Sound
+pub mod Opening
+pub mod Reading
+pub mod Law

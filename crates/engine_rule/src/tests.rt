@@ -1,0 +1,459 @@
+// Schedules worked by hand.
+use super::*;
+use commit_core::{Act as CommitAct, Mark};
+use drop_core::{Act as PageAct, Page, Pointer, SnapPage};
+use homes::{At, Content, Holder, Span, Spot};
+use lists::Sequence;
+use serial_model::{Change, Changes, Key, Memory, Number, OrMemory};
+use std::alloc::Global;
+use std::process::Abort;
+use std::test::Fail;
+
+const X: Key = Key { storage: 1, key: 0 };
+
+const Y: Key = Key { storage: 1, key: 1 };
+
+const Z: Key = Key { storage: 2, key: 0 };
+
+/// Over X and Y.
+const LEFT: At = At::Root(0);
+
+/// Over Z.
+const RIGHT: At = At::Root(1);
+
+const LEFT_SPAN: Span = Span {
+    storage: 1,
+    low: 0,
+    high: 1,
+};
+
+const RIGHT_SPAN: Span = Span {
+    storage: 2,
+    low: 0,
+    high: 0,
+};
+
+/// What a seat does with pages. Seat 0 keeps snapshots, seat 1 makes pages, and seat 2 leaves.
+#[derive(Clone, Copy, PartialEq, Eq)]
+enum Turn {
+    Enter,
+    Leave,
+    Give,
+    Publish,
+    Retire,
+    FillPage,
+    FillPointer,
+    FillRecord,
+    FillSnapshot,
+    Extend,
+    Install,
+    Shut,
+    Reopen,
+    Swing,
+    Renew,
+}
+
+/// What seat 2 does with records, and seat 0 with the clock.
+#[derive(Clone, Copy, PartialEq, Eq)]
+enum Deed {
+    See,
+    SeePointer,
+    Lock,
+    Draw,
+    Check,
+    CheckPointer,
+    Decide,
+    Put,
+    Open,
+    Forget,
+    Advance,
+    Mark,
+}
+
+const TURNS: [Turn; 15] = [
+    Turn::Enter,
+    Turn::Leave,
+    Turn::Give,
+    Turn::Publish,
+    Turn::Retire,
+    Turn::FillPage,
+    Turn::FillPointer,
+    Turn::FillRecord,
+    Turn::FillSnapshot,
+    Turn::Extend,
+    Turn::Install,
+    Turn::Shut,
+    Turn::Reopen,
+    Turn::Swing,
+    Turn::Renew,
+];
+
+const DEEDS: [Deed; 12] = [
+    Deed::See,
+    Deed::SeePointer,
+    Deed::Lock,
+    Deed::Draw,
+    Deed::Check,
+    Deed::CheckPointer,
+    Deed::Decide,
+    Deed::Put,
+    Deed::Open,
+    Deed::Forget,
+    Deed::Advance,
+    Deed::Mark,
+];
+
+/// Whether the turn came first, whether each of the two happened, and how many attempts were given up.
+type Outcome = (bool, bool, bool, usize);
+
+/// Where one of the two keeps the other from happening, or a check fails. In all other schedules both happen, and no
+/// attempt is given up.
+const MEETINGS: [(Turn, Deed, Outcome); 23] = [
+    // Seat 2 keeps no word of a page that it leaves, and sees none of a page that it left.
+    (Turn::Leave, Deed::See, (true, true, false, 0)),
+    (Turn::Leave, Deed::See, (false, false, true, 0)),
+    (Turn::Leave, Deed::Check, (true, false, true, 0)),
+    (Turn::Leave, Deed::Check, (false, false, true, 0)),
+    (Turn::Leave, Deed::Forget, (true, false, true, 0)),
+    // A pointer that leads to a slot is not seen, and one that was seen before is not as it was.
+    (Turn::Install, Deed::SeePointer, (true, true, false, 0)),
+    (Turn::Install, Deed::CheckPointer, (true, true, true, 1)),
+    // The same of one that is shut.
+    (Turn::Shut, Deed::SeePointer, (true, true, false, 0)),
+    (Turn::Shut, Deed::CheckPointer, (true, true, true, 1)),
+    (Turn::Reopen, Deed::SeePointer, (false, true, false, 0)),
+    (Turn::Reopen, Deed::CheckPointer, (false, true, true, 1)),
+    // Seat 0 holds X and Y, and after the swing they are in no slot.
+    (Turn::Swing, Deed::See, (true, true, false, 0)),
+    (Turn::Swing, Deed::See, (false, true, false, 0)),
+    (Turn::Swing, Deed::Lock, (true, true, false, 0)),
+    (Turn::Swing, Deed::Lock, (false, true, false, 0)),
+    (Turn::Swing, Deed::Check, (true, true, true, 1)),
+    (Turn::Swing, Deed::Check, (false, true, true, 1)),
+    // Seat 2 holds Y.
+    (Turn::Swing, Deed::Draw, (true, false, true, 0)),
+    (Turn::Swing, Deed::Draw, (false, false, true, 0)),
+    (Turn::Swing, Deed::Put, (true, false, true, 0)),
+    (Turn::Swing, Deed::Put, (false, false, true, 0)),
+    (Turn::Swing, Deed::Open, (true, false, true, 0)),
+    (Turn::Swing, Deed::Open, (false, false, true, 0)),
+];
+
+fn content(value: u64) -> Content {
+    Content {
+        number: Number { epoch: 1, draw: 1 },
+        value: Some(value),
+    }
+}
+
+fn spot(slot: u32, index: usize) -> Spot {
+    Spot { slot, index }
+}
+
+/// A snapshot page that has X and Y.
+fn left_page(alloc: Global) -> Result<SnapPage, Memory> {
+    let entries = Sequence::from_slice(alloc, &[(X, content(10)), (Y, content(20))])?;
+    Ok(SnapPage::Entries(LEFT_SPAN, entries))
+}
+
+/// A machine over pages 1 to 5, with three seats and four slots. Page 1 has Z, the others have X and Y.
+fn start(alloc: Global) -> Result<Joint, Memory> {
+    let mut snaps = Sequence::new(alloc);
+    let entries = Sequence::from_slice(alloc, &[(Z, content(30))])?;
+    snaps.push((1, SnapPage::Entries(RIGHT_SPAN, entries)))?;
+    for number in 2..6 {
+        snaps.push((number, left_page(alloc)?))?;
+    }
+    let roots = [(LEFT_SPAN, 5), (RIGHT_SPAN, 1)];
+    let first = Number { epoch: 2, draw: 5 };
+    Joint::over(alloc, snaps, 5, &roots, first, 4, 3)
+}
+
+/// Whether the act happened.
+fn happens(joint: &mut Joint, seat: u32, act: JointAct) -> Result<bool, Memory> {
+    match joint.step(JointEvent { seat, act }) {
+        Ok(()) => Ok(true),
+        Err(OrMemory::Fault(_)) => Ok(false),
+        Err(OrMemory::Memory) => Err(Memory),
+    }
+}
+
+fn turns(joint: &mut Joint, seat: u32, act: PageAct) -> Result<bool, Memory> {
+    happens(joint, seat, JointAct::Turn(act))
+}
+
+fn commits(joint: &mut Joint, seat: u32, act: CommitAct) -> Result<bool, Memory> {
+    happens(joint, seat, JointAct::Commit(act))
+}
+
+/// The seat takes a number for this change, or as a reader.
+fn draws(joint: &mut Joint, seat: u32, change: Option<Change>) -> Result<bool, Memory> {
+    let mut writes = Changes::new();
+    if let Some(change) = change {
+        writes.push(change);
+    }
+    commits(joint, seat, CommitAct::Draw(writes))
+}
+
+/// The seat commits a change, whose key nobody holds.
+fn changes(joint: &mut Joint, seat: u32, key: Key, value: Option<u64>) -> Result<bool, Memory> {
+    commits(joint, seat, CommitAct::Lock(key))?;
+    draws(joint, seat, Some(Change { key, value }))?;
+    commits(joint, seat, CommitAct::Decide)?;
+    commits(joint, seat, CommitAct::Put(key))?;
+    commits(joint, seat, CommitAct::Open(key))
+}
+
+/// Seat 0 publishes the pages from 6 up to this one, all with these entries over X and Y.
+fn publishes(
+    joint: &mut Joint,
+    alloc: Global,
+    last: u32,
+    entries: &[(Key, Content)],
+) -> Result<bool, Memory> {
+    for number in 6..=last {
+        let page = SnapPage::Entries(LEFT_SPAN, Sequence::from_slice(alloc, entries)?);
+        turns(joint, 0, PageAct::FillSnapshot(number, page))?;
+    }
+    turns(joint, 0, PageAct::Extend(last))
+}
+
+/// Seat 0 holds X and Y.
+fn locks_both(joint: &mut Joint) -> Result<bool, Memory> {
+    commits(joint, 0, CommitAct::Lock(X))?;
+    commits(joint, 0, CommitAct::Lock(Y))
+}
+
+/// Seat 1 makes a leaf with these records in the slot, and publishes it.
+fn makes(
+    joint: &mut Joint,
+    alloc: Global,
+    slot: u32,
+    records: &[(Key, u64)],
+) -> Result<(), Memory> {
+    turns(joint, 1, PageAct::Give(slot))?;
+    let mut keys = Sequence::new(alloc);
+    for record in records {
+        let place = spot(slot, keys.len());
+        happens(joint, 1, JointAct::FillRecord(place, content(record.1)))?;
+        keys.push(record.0)?;
+    }
+    turns(joint, 1, PageAct::FillPage(slot, Page::Leaf(keys)))?;
+    turns(joint, 1, PageAct::Publish(slot))?;
+    Ok(())
+}
+
+/// X and Y are in slot 0, which seat 2 holds.
+fn begins(alloc: Global) -> Result<Joint, Memory> {
+    let mut joint = start(alloc)?;
+    makes(&mut joint, alloc, 0, &[(X, 10), (Y, 20)])?;
+    turns(&mut joint, 1, PageAct::Install(LEFT, 0))?;
+    turns(&mut joint, 2, PageAct::Enter(0))?;
+    Ok(joint)
+}
+
+/// What has to come before the turn.
+fn prepares_turn(joint: &mut Joint, alloc: Global, turn: Turn) -> Result<bool, Memory> {
+    match turn {
+        Turn::Publish | Turn::FillPage | Turn::FillPointer | Turn::FillRecord => {
+            turns(joint, 1, PageAct::Give(1))
+        }
+        Turn::Retire => {
+            turns(joint, 1, PageAct::Give(1))?;
+            turns(joint, 1, PageAct::Publish(1))
+        }
+        Turn::Extend => turns(joint, 0, PageAct::FillSnapshot(6, left_page(alloc)?)),
+        Turn::Install => {
+            makes(joint, alloc, 1, &[(Z, 30)])?;
+            Ok(true)
+        }
+        Turn::Reopen => turns(joint, 0, PageAct::Shut(RIGHT)),
+        Turn::Swing => locks_both(joint),
+        Turn::Enter | Turn::Leave | Turn::Give | Turn::FillSnapshot | Turn::Shut | Turn::Renew => {
+            Ok(true)
+        }
+    }
+}
+
+fn does_turn(joint: &mut Joint, alloc: Global, turn: Turn) -> Result<bool, Memory> {
+    match turn {
+        Turn::Enter => turns(joint, 1, PageAct::Enter(1)),
+        Turn::Leave => turns(joint, 2, PageAct::Leave(0)),
+        Turn::Give => turns(joint, 1, PageAct::Give(1)),
+        Turn::Publish => turns(joint, 1, PageAct::Publish(1)),
+        Turn::Retire => turns(joint, 1, PageAct::Retire(1)),
+        Turn::FillPage => turns(joint, 1, PageAct::FillPage(1, Page::Inner(1))),
+        Turn::FillPointer => {
+            let pointer = Pointer {
+                span: RIGHT_SPAN,
+                slot: None,
+                page: 1,
+                holder: Holder::Free,
+            };
+            turns(joint, 1, PageAct::FillPointer(spot(1, 0), pointer))
+        }
+        Turn::FillRecord => happens(joint, 1, JointAct::FillRecord(spot(1, 0), content(7))),
+        Turn::FillSnapshot => turns(joint, 0, PageAct::FillSnapshot(6, left_page(alloc)?)),
+        Turn::Extend => turns(joint, 0, PageAct::Extend(6)),
+        Turn::Install => turns(joint, 1, PageAct::Install(RIGHT, 1)),
+        Turn::Shut => turns(joint, 0, PageAct::Shut(RIGHT)),
+        Turn::Reopen => turns(joint, 0, PageAct::Reopen(RIGHT)),
+        Turn::Swing => turns(joint, 0, PageAct::Swing(LEFT, 3)),
+        Turn::Renew => turns(joint, 0, PageAct::Renew(LEFT, 3)),
+    }
+}
+
+/// What has to come before the deed.
+fn prepares_deed(joint: &mut Joint, deed: Deed) -> Result<bool, Memory> {
+    match deed {
+        Deed::See | Deed::SeePointer | Deed::Lock | Deed::Advance | Deed::Mark => Ok(true),
+        Deed::Draw | Deed::Open => commits(joint, 2, CommitAct::Lock(Y)),
+        Deed::Check => {
+            commits(joint, 2, CommitAct::See(X))?;
+            draws(joint, 2, None)
+        }
+        Deed::CheckPointer => {
+            happens(joint, 2, JointAct::SeePointer(RIGHT))?;
+            draws(joint, 2, None)
+        }
+        Deed::Decide => draws(joint, 2, None),
+        Deed::Put => {
+            commits(joint, 2, CommitAct::Lock(Y))?;
+            draws(
+                joint,
+                2,
+                Some(Change {
+                    key: Y,
+                    value: Some(5),
+                }),
+            )?;
+            commits(joint, 2, CommitAct::Decide)
+        }
+        Deed::Forget => commits(joint, 2, CommitAct::See(X)),
+    }
+}
+
+fn does_deed(joint: &mut Joint, deed: Deed) -> Result<bool, Memory> {
+    match deed {
+        Deed::See => commits(joint, 2, CommitAct::See(X)),
+        Deed::SeePointer => happens(joint, 2, JointAct::SeePointer(RIGHT)),
+        Deed::Lock => commits(joint, 2, CommitAct::Lock(Y)),
+        Deed::Draw => draws(
+            joint,
+            2,
+            Some(Change {
+                key: Y,
+                value: Some(5),
+            }),
+        ),
+        Deed::Check => commits(joint, 2, CommitAct::Check(spot(0, 0))),
+        Deed::CheckPointer => happens(joint, 2, JointAct::CheckPointer(RIGHT)),
+        Deed::Decide => commits(joint, 2, CommitAct::Decide),
+        Deed::Put => commits(joint, 2, CommitAct::Put(Y)),
+        Deed::Open => commits(joint, 2, CommitAct::Open(Y)),
+        Deed::Forget => commits(joint, 2, CommitAct::Forget),
+        Deed::Advance => commits(joint, 0, CommitAct::Advance),
+        Deed::Mark => {
+            let epoch = Some(1);
+            commits(joint, 2, CommitAct::Mark(Mark { epoch, length: 40 }))
+        }
+    }
+}
+
+/// The outcome of the schedule in which the turn comes first, or the deed.
+fn meets(alloc: Global, turn: Turn, deed: Deed, turn_first: bool) -> Result<Outcome, Memory> {
+    let mut joint = begins(alloc)?;
+    prepares_deed(&mut joint, deed)?;
+    prepares_turn(&mut joint, alloc, turn)?;
+    let (turned, did) = if turn_first {
+        let turned = does_turn(&mut joint, alloc, turn)?;
+        (turned, does_deed(&mut joint, deed)?)
+    } else {
+        let did = does_deed(&mut joint, deed)?;
+        (does_turn(&mut joint, alloc, turn)?, did)
+    };
+    Ok((turn_first, turned, did, joint.story().given_up.len()))
+}
+
+/// What the table says.
+fn expected(turn: Turn, deed: Deed, turn_first: bool) -> Outcome {
+    for meeting in MEETINGS {
+        if meeting.0 == turn && meeting.1 == deed && meeting.2.0 == turn_first {
+            return meeting.2;
+        }
+    }
+    (turn_first, true, true, 0)
+}
+
+/// Each turn against each deed, in both orders.
+#[test]
+fn turns_meet_deeds(rt: HostRuntime) -> Result<(), Fail> {
+    for turn in TURNS {
+        for deed in DEEDS {
+            for turn_first in [true, false] {
+                let outcome = meets(rt.alloc(), turn, deed, turn_first)?;
+                assert_eq!(&rt; outcome, expected(turn, deed, turn_first));
+            }
+        }
+    }
+    Ok(())
+}
+
+/// Seat 2 reads a pointer to page 5, and draws. Meanwhile it came to lead to a copy, a key was changed there, and then
+/// it came to lead to page 9, which has the change: so again to no slot. The check fails.
+#[test]
+fn a_pointer_to_another_page_is_another(rt: HostRuntime) -> Result<(), Fail> {
+    let mut joint = start(rt.alloc())?;
+    assert!(&rt; happens(&mut joint, 2, JointAct::SeePointer(LEFT))?);
+    makes(&mut joint, rt.alloc(), 0, &[(X, 10), (Y, 20)])?;
+    assert!(&rt; turns(&mut joint, 1, PageAct::Install(LEFT, 0))?);
+    assert!(&rt; changes(&mut joint, 1, X, Some(11))?);
+    let changed = Content {
+        number: Number { epoch: 2, draw: 5 },
+        value: Some(11),
+    };
+    assert!(&rt; publishes(&mut joint, rt.alloc(), 9, &[(X, changed), (Y, content(20))])?);
+    assert!(&rt; locks_both(&mut joint)?);
+    assert!(&rt; turns(&mut joint, 0, PageAct::Swing(LEFT, 9))?);
+    assert!(&rt; draws(&mut joint, 2, None)?);
+    assert!(&rt; happens(&mut joint, 2, JointAct::CheckPointer(LEFT))?);
+    assert!(&rt; !commits(&mut joint, 2, CommitAct::Decide)?);
+    assert_eq!(&rt;
+        joint.story().given_up.as_slice(),
+        [Number { epoch: 2, draw: 6 }].as_slice()
+    );
+    Ok(())
+}
+
+/// A retired slot is not given while a seat holds it, and is once that seat left.
+#[test]
+fn a_held_slot_is_not_given(rt: HostRuntime) -> Result<(), Fail> {
+    let mut joint = begins(rt.alloc())?;
+    assert!(&rt; locks_both(&mut joint)?);
+    assert!(&rt; turns(&mut joint, 0, PageAct::Swing(LEFT, 3))?);
+    assert!(&rt; turns(&mut joint, 0, PageAct::Retire(0))?);
+    assert!(&rt; !turns(&mut joint, 1, PageAct::Give(0))?);
+    assert!(&rt; turns(&mut joint, 2, PageAct::Leave(0))?);
+    assert!(&rt; turns(&mut joint, 1, PageAct::Give(0))?);
+    Ok(())
+}
+
+/// Y was removed by 2:5, and the snapshot has no entry of it: a swing would lose that number. It waits for the attempt
+/// 2:6, and not for one of a later epoch.
+#[test]
+fn a_swing_waits_for_those_below_an_absence(rt: HostRuntime) -> Result<(), Fail> {
+    for is_later in [false, true] {
+        let mut joint = begins(rt.alloc())?;
+        assert!(&rt; changes(&mut joint, 1, Y, None)?);
+        assert!(&rt; publishes(&mut joint, rt.alloc(), 6, &[(X, content(10))])?);
+        assert!(&rt; locks_both(&mut joint)?);
+        if is_later {
+            assert!(&rt; commits(&mut joint, 0, CommitAct::Advance)?);
+        }
+        assert!(&rt; draws(&mut joint, 2, None)?);
+        assert_eq!(&rt; turns(&mut joint, 0, PageAct::Swing(LEFT, 6))?, is_later);
+        assert!(&rt; commits(&mut joint, 2, CommitAct::Decide)?);
+        assert_eq!(&rt; turns(&mut joint, 0, PageAct::Swing(LEFT, 6))?, !is_later);
+    }
+    Ok(())
+}

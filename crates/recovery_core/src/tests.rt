@@ -1,10 +1,15 @@
 // Worked databases, whose bytes were written down by hand from the formats.
+ghost use Rattle.std.specs.Prelude.{IfOk};
+ghost use Rattle.outside.specs.Disk.{IfTold, Only};
+
 use super::*;
 use lists::OrMemory;
-use outside::{Device, MemDisk, Vault};
+use outside::{Device, Disk, MemDisk, Vault};
 use serial_model::Key;
 use std::alloc::{AllocError, Global};
 use std::test::Fail;
+
+mod settled_databases;
 
 // What is told of a database whose storage 1 has one key of interest, 2.
 #[derive(Clone, Copy, Debug, PartialEq, Eq)]
@@ -112,7 +117,11 @@ fn two_lines(first: [u64; 5], second: [u64; 5]) -> [u64; 10] {
     words
 }
 
-fn disk(alloc: Global, bytes: &[u8], fails: &[u64]) -> Result<MemDisk, AllocError> {
+#[tactic(auto, using(outside::specs::Moments::only_told))]
+fn disk(alloc: Global, bytes: &[u8], fails: &[u64]) -> Result<MemDisk, AllocError>
+    ensures { IfOk result (λ disk. IfTold (⟦<MemDisk as Disk>⟧.tells disk)
+        (Only ⟦<MemDisk as Disk>⟧.clock ⟦<MemDisk as Disk>⟧.image_at disk)) }
+{
     MemDisk::new(alloc, bytes.to_vec(alloc)?, fails.to_vec(alloc)?)
 }
 
@@ -124,7 +133,10 @@ fn vault(
     snaps: &[u8],
     banks: [&[u64]; 2],
     fails: &[u64],
-) -> Result<Vault<MemDisk>, AllocError> {
+) -> Result<Vault<MemDisk>, AllocError>
+    ensures { IfOk result (λ vault. IfTold (⟦<MemDisk as Disk>⟧.tells vault.save)
+        (Only ⟦<MemDisk as Disk>⟧.clock ⟦<MemDisk as Disk>⟧.image_at vault.save)) }
+{
     let (mut even, mut odd) = (Vec::new(alloc), Vec::new(alloc));
     for worker in 0..8 {
         let first = if worker == 0 { banks[0] } else { &[] };

@@ -44,12 +44,12 @@ pub record IsJoined (clock : ℕ) (log : LogState) : Type 0 where
   pub flushed : log.journal.lines ≡ []
   pub marked : log.mark ≡ record { length = log.journal.durable; epoch = Some (clock - 1) }
 
--- no epoch, or the clock's less 1 at least
+-- a mark of this epoch, or an idle one, holds no epoch back that the clock has left: it is the clock's less 1 at least
 abbrev pub IsEpochUpTo : ℕ → Option ℕ → Type 0
 IsEpochUpTo clock None = ⊤
 IsEpochUpTo clock (Some epoch) = clock ≤ epoch + 1
 
--- the mark holds no epoch back that the clock has left
+-- the mark holds none back
 abbrev pub IsUpTo : ℕ → Mark → Type 0
 IsUpTo clock mark = IsEpochUpTo clock mark.epoch
 
@@ -75,7 +75,7 @@ epoch_with None size = []
 abbrev pub set_mark : Mark → List (ℕ × ℕ)
 set_mark mark = epoch_with mark.epoch mark.length
 
--- a commit of this epoch is above the epoch; above an idle worker's mark is none
+-- a commit of this epoch is above a mark of the other one; above an idle mark is none
 abbrev pub IsEpochPassed : ℕ → Option ℕ → Type 0
 IsEpochPassed epoch None = ⊥
 IsEpochPassed epoch (Some marked) = marked < epoch

@@ -68,8 +68,8 @@ all_below n has = below_all 16 n all_banks (
 ) has
 
 -- a log file of a whole vault is one of all numbers
-pub listed_bank : {D : Type 0} {vault : Vault D} → IsWhole vault → (n : ℕ) (bank : D) → disk_in vault (Bank n) ≡ Some bank
-    → Contains all_banks n
+pub listed_bank : {D : Type 0} {vault : Vault D} → IsWhole vault → (n : ℕ) (bank : D)
+    → disk_in vault (Bank n) ≡ Some bank → Contains all_banks n
 listed_bank whole n bank there = elim (cases_lt n 16) [
   | inl below ↦ has_all n below
   | inr past ↦ absurd (cc (there, whole_ends whole n past))

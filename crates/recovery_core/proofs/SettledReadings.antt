@@ -65,7 +65,8 @@ module _ {D : Type 0} {tells : D → Option (List ℕ)} {clock : D → ℕ} {ima
       → ((n : ℕ) (bank : D) → Contains all_banks n → disk_in new (Bank n) ≡ Some bank → tells bank ≡ Some [])
       → (now : Images) × AreTold tells (parts_of new) now × SaysSettled now s
   rests_saved {new = new}
-      {found = found} old r s saved whole told is says without after store decls state none told_save snaps stored emptied =
+      {found = found}
+      old r s saved whole told is says without after store decls state none told_save snaps stored emptied =
       let was = point_says r.save.newest saved says in
       let new_point = point_says s.save.newest s.saved after in
       let p = was.0 in
@@ -105,7 +106,8 @@ module _ {D : Type 0} {tells : D → Option (List ℕ)} {clock : D → ℕ} {ima
       → ((n : ℕ) (bank : D) → Contains all_banks n → disk_in new (Bank n) ≡ Some bank → tells bank ≡ Some [])
       → (now : Images) × AreTold tells (parts_of new) now × SaysSettled now s
   rests_fresh {new = new}
-      {found = found} old r s page whole told is none newest pages first state told_save told_snaps stored holds emptied =
+      {found = found}
+      old r s page whole told is none newest pages first state told_save told_snaps stored holds emptied =
       let q = point_of 1 first_saved in
       let c = first_contents s.decls in
       let fresh = recovers_fresh found r is none in

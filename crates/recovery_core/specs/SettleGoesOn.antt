@@ -78,7 +78,8 @@ module _ {D : Type 0} {tells : D → Option (List ℕ)} {clock : D → ℕ} {ima
         stands = λ k other at_least at_most stands.
             settled_recovers reads p q after files still rest told is (sym named ∙ has) none same
             (subst (λ x. FoundOldOrNew x q rest.pages rest.pages rest.counted after other) named
-            (old_or_new newest q rest.pages rest.pages rest.counted k at_least (omega (arith, at_most, number)) stands));
+            (old_or_new newest q rest.pages rest.pages rest.counted k at_least (omega (arith, at_most, number))
+            stands));
       }
 
   -- the log files were cut, and no store was due

@@ -60,6 +60,8 @@ pub(crate) fn settle_lengths<D: Disk>(
         → RoseIn D.faults (Device.Bank n) vault.old vault.new }
     ensures limit { (sequence : ℕ) → result ≡ Err (StoreAndCutFault.Store (SaveFault.Limit sequence))
         → (sequence ≡ sequence_of save.old.newest) × (sequence ≡ 2 ^ 63 - 1) × (vault.new ≡ vault.old) }
+    ensures last { sequence_of save.old.newest ≡ 2 ^ 63 - 1
+        → result ≡ Err (StoreAndCutFault.Store (SaveFault.Limit (sequence_of save.old.newest))) }
     ensures never_down { (count : ℕ) → result ≡ Err (StoreAndCutFault.Store (SaveFault.Down count)) → ⊥ }
     ensures stores { OnOk result ((save.new.newest ≡ Some (point_of (sequence_of save.old.newest + 1) saved))
         × (save.new.down ≡ None)

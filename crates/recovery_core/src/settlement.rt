@@ -68,6 +68,8 @@ pub(crate) fn fault_of(fault: StoreAndCutFault) -> SettleFault
         ⊎ ((n : ℕ) × (device ≡ Device.Bank n) × (fault ≡ StoreAndCutFault.Cut n)) }
     ensures sequence { (sequence : ℕ) → result ≡ SettleFault.Sequence sequence
         → fault ≡ StoreAndCutFault.Store (SaveFault.Limit sequence) }
+    ensures at_limit { (sequence : ℕ) → fault ≡ StoreAndCutFault.Store (SaveFault.Limit sequence)
+        → result ≡ SettleFault.Sequence sequence }
     ensures other { ((device : TheDevice) → result ≡ SettleFault.Device device → ⊥)
         → (sequence : ℕ) × (fault ≡ StoreAndCutFault.Store (SaveFault.Limit sequence)) }
     ensures never_limit { (have room new : ℕ) → result ≡ SettleFault.Limit have new room → ⊥ }
@@ -124,6 +126,9 @@ pub(crate) fn settle_saved<D: Disk>(
     ensures sequence { (sequence : ℕ) → result ≡ Err (SettleFault.Sequence sequence)
         → (sequence ≡ sequence_of save.old.newest) × (sequence ≡ 2 ^ 63 - 1)
         × (list_all (λ n. n == 0) saved.lengths ≡ false) }
+    ensures last { sequence_of save.old.newest ≡ 2 ^ 63 - 1 → list_all (λ n. n == 0) saved.lengths ≡ false
+        → ((key : Key) → get entries.now key ≡ None) → saved.count ≤ snap
+        → result ≡ Err (SettleFault.Sequence (sequence_of save.old.newest)) }
     ensures device { (device : TheDevice) → result ≡ Err (SettleFault.Device device)
         → RoseIn D.faults device vault.old vault.new }
     ensures never_deep { result ≡ Err SettleFault.Deep → ⊥ }
@@ -294,6 +299,10 @@ pub fn settle<D: Disk>(
     ensures sequence { (sequence : ℕ) → result ≡ Err (OrMemory.Fault (SettleFault.Sequence sequence))
         → (sequence ≡ sequence_of recovered.save.newest) × (sequence ≡ 2 ^ 63 - 1)
         × (stores_due recovered.saved ≡ 1) }
+    ensures last { sequence_of recovered.save.newest ≡ 2 ^ 63 - 1 → stores_due recovered.saved ≡ 1
+        → IfSome recovered.saved (Fits recovered snap)
+        → (result ≡ Err OrMemory.Memory)
+        ⊎ (result ≡ Err (OrMemory.Fault (SettleFault.Sequence (sequence_of recovered.save.newest)))) }
     ensures device { (device : TheDevice) → result ≡ Err (OrMemory.Fault (SettleFault.Device device))
         → RoseIn D.faults device vault.old vault.new }
     ensures quiet { OnOk result (AreQuiet D.faults vault.old vault.new) }

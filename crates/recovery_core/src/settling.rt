@@ -67,6 +67,8 @@ pub fn store_and_cut<D: Disk>(
         → RoseIn D.faults (Device.Bank n) vault.old vault.new }
     ensures limit { (sequence : ℕ) → result ≡ Err (StoreAndCutFault.Store (SaveFault.Limit sequence))
         → (sequence ≡ sequence_of save.old.newest) × (sequence ≡ 2 ^ 63 - 1) × (vault.new ≡ vault.old) }
+    ensures last { sequence_of save.old.newest ≡ 2 ^ 63 - 1
+        → result ≡ Err (StoreAndCutFault.Store (SaveFault.Limit (sequence_of save.old.newest))) }
     ensures quiet { OnOk result (AreQuiet D.faults vault.old vault.new) }
     ensures never_down { (count : ℕ) → result ≡ Err (StoreAndCutFault.Store (SaveFault.Down count)) → ⊥ }
 {

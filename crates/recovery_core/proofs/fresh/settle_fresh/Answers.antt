@@ -96,7 +96,8 @@ returns-in-Ok-store_and_cut-clause-goes_on g c found from contents state rest no
     let all = one_page_bytes c.sync.new.self.pages c.args.page (catalogue_words contents)
     (c.sync.ensures.pages ∙ c.in-Ok.ensures.pages
     ∙ ap (λ l. l ++ c.args.page ∷ []) c.requires.empty) page.words_are in
-    rw c.in-Ok-store_and_cut.is at (fresh_stored g.met.D.Disk.reads contents state (parts_of c.store_and_cut.new.vault) c.store_and_cut.result
+    rw c.in-Ok-store_and_cut.is at (fresh_stored g.met.D.Disk.reads contents state
+    (parts_of c.store_and_cut.new.vault) c.store_and_cut.result
     (listed_bank (c.store_and_cut.ensures.whole (still_whole c.sync.new.disk c.requires.whole))) rest none told since
     (subst (λ x. Names found.save x) c.requires.fresh (c.requires.stored found.save told.save).names) page empty
     (runs_then (runs_call (λ d b was is. refl) c.append.ensures.writes.moments)

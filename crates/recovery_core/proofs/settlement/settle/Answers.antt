@@ -1,5 +1,5 @@
-use Rattle.std.proofs.Common.{◌≡◌, ◌+◌, [], ◌∷◌, Option, Some, length, refl, sym, ap, ◌∙◌, subst, arith}
-use Rattle.std.specs.Prelude.{is_some, IfSome, IfNone}
+use Rattle.std.proofs.Common.{◌≡◌, ◌+◌, inl, inr, ℕ, Bool, true, false, [], ◌∷◌, Option, Some, length, refl, sym, ap, ◌∙◌, subst, arith}
+use Rattle.std.specs.Prelude.{is_some, if◌then◌else◌, IfSome, IfNone}
 use Rattle.std.specs.List.Sorted.{IsPermutation}
 use Rattle.std.specs.Option.{option_map}
 use Rattle.std.proofs.lemmas.List.{nil_from_length}
@@ -14,7 +14,7 @@ use Rattle.recovery_core.specs.Cutting.{AreToldIn}
 use Rattle.recovery_core.specs.FreshLaws.{first_saved, is_first_saved}
 use Rattle.recovery_core.specs.JointCrash.{parts_of}
 use Rattle.recovery_core.specs.Recovered.{recovers_state, saved_count, saved_epoch}
-use Rattle.recovery_core.specs.Settled.{settled_saved, settled_pages, stores_due}
+use Rattle.recovery_core.specs.Settled.{Fits, settled_saved, settled_pages, stores_due}
 use Rattle.recovery_core.specs.SettleFiles.{all_banks}
 use Rattle.recovery_core.specs.SettleGoesOn.{GoesOn}
 use Rattle.recovery_core.specs.SettleFresh.{none_says}
@@ -157,8 +157,9 @@ returns-in-Ok-clause-settles g c =
       kept = subst (λ (o : Option Saved). IfSome o (λ _. r.decls ≡ r.decls)) (sym here) refl;
       rising = up.rising;
       emptied = emptied;
-      rests = λ found told is. rests_saved c.args.vault.now r _ _ c.settle_saved.ensures.whole told is says e.says.0 e.says.1 refl refl
-          refl none told_save snaps e.stored (emptied (λ n bank has there. ap is_some (told.bank n bank there)));
+      rests = λ found told is. rests_saved c.args.vault.now r _ _ c.settle_saved.ensures.whole told is says e.says.0
+          e.says.1 refl refl refl none told_save snaps e.stored
+          (emptied (λ n bank has there. ap is_some (told.bank n bank there)));
       goes_on = λ found from rest no_records told since is.
           carry_saved (λ epoch state p. GoesOn g.D.Disk.clock g.D.Disk.image_at from epoch state
           (sequence_of r.save.newest) c.settle_saved.new.save.newest (parts_of c.settle_saved.new.vault))
@@ -171,7 +172,37 @@ returns-clause-untouched g c others =
     same_devices c.make_room.ensures.same (c.in-Err.ensures.untouched (λ device is. others device (cc is)))
 
 pub returns-in_default-clause-quiet : goal.returns-in_default-clause-quiet
-returns-in_default-clause-quiet g c = quiet_same c.settle_new.new.vault c.make_room.ensures.same c.in_ok-saved.ensures.quiet
+returns-in_default-clause-quiet g c = quiet_same c.settle_new.new.vault c.make_room.ensures.same
+    c.in_ok-saved.ensures.quiet
 
 pub returns-in-Ok-clause-quiet : goal.returns-in-Ok-clause-quiet
 returns-in-Ok-clause-quiet g c = quiet_same c.settle_saved.new.vault c.make_room.ensures.same c.in-Ok.ensures.quiet
+
+-- where a store is due, a length stands
+due_lengths : (b : Bool) → ◌≡◌ {A = ℕ} (if b then 0 else 1) 1 → b ≡ false
+due_lengths true is = absurd (omega (arith, is))
+due_lengths false is = refl
+
+pub returns-in_err-saved-clause-last : goal.returns-in_err-saved-clause-last
+returns-in_err-saved-clause-last g c at due fits =
+    let none = ap sequence_of (none_says c.args.recovered.save.newest (sym c.in_default.is ∙ c.requires.up.saved)) in
+    absurd (omega (arith, at, none))
+
+pub returns-in_default-clause-last : goal.returns-in_default-clause-last
+returns-in_default-clause-last g c at due fits =
+    let none = ap sequence_of (none_says c.args.recovered.save.newest (sym c.in_default.is ∙ c.requires.up.saved)) in
+    absurd (omega (arith, at, none))
+
+pub returns-in-Ok-clause-last : goal.returns-in-Ok-clause-last
+returns-in-Ok-clause-last g c at due fits =
+    let here = c.in-Some.is in
+    let fit = subst (λ o. IfSome o (Fits c.args.recovered c.args.snap)) here fits in
+    let limit = c.in-Ok.ensures.last at (due_lengths _ (sym (ap stores_due here) ∙ due)) fit.none fit.count in
+    cc limit
+
+pub returns-clause-last : goal.returns-clause-last
+returns-clause-last g c at due fits =
+    let here = c.in-Some.is in
+    let fit = subst (λ o. IfSome o (Fits c.args.recovered c.args.snap)) here fits in
+    let limit = c.in-Err.ensures.last at (due_lengths _ (sym (ap stores_due here) ∙ due)) fit.none fit.count in
+    inr (cc limit)

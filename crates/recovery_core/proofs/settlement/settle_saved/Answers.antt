@@ -1,4 +1,4 @@
-use Rattle.std.proofs.Common.{◌+◌, refl, sym, ◌∙◌, ap, subst}
+use Rattle.std.proofs.Common.{◌+◌, refl, sym, ◌∙◌, ap, subst, arith}
 use Rattle.std.specs.Prelude.{Err}
 use Rattle.outside.specs.declared.vault.Device.TheVariants.{Bank}
 use Rattle.log_writer.specs.Points.{sequence_of}
@@ -93,3 +93,32 @@ returns-in-Ok-settle_lengths-clause-goes_on g c found from epoch state rest none
     (c.in-Ok-settle_lengths.ensures.goes_on found from epoch state newest.0 rest none told since is
     (no_last (counting is.reading) (λ key. sym (lasts key) ∙ empty key)) newest.1
     (says_without_files (sequence_of c.args.save.now.newest + 1) newest.0 c.args.saved newest.2))
+
+pub returns-then-not-is_empty-clause-last : goal.returns-then-not-is_empty-clause-last
+returns-then-not-is_empty-clause-last g c at due none fits =
+    let empty = c.is_empty.ensures.1 none in
+    cc (empty, c.if-not-is_empty.true)
+
+pub returns-then-have-snap-clause-last : goal.returns-then-have-snap-clause-last
+returns-then-have-snap-clause-last g c at due none fits =
+    absurd (omega (arith, fits, c.if-have-snap.true))
+
+pub returns-in-Ok-clause-last : goal.returns-in-Ok-clause-last
+returns-in-Ok-clause-last g c at due none fits =
+    let test = c.count_nothing.ensures.test in
+    cc (test, due, c.if-count_nothing.true)
+
+pub returns-in-Err-clause-last : goal.returns-in-Err-clause-last
+returns-in-Err-clause-last g c at due none fits =
+    let test = c.count_nothing.ensures.test in
+    cc (test, due, c.if-count_nothing.true)
+
+pub returns-in-Ok-settle_lengths-clause-last : goal.returns-in-Ok-settle_lengths-clause-last
+returns-in-Ok-settle_lengths-clause-last g c at due none fits =
+    let limit = c.in-Ok-settle_lengths.ensures.last at in
+    cc limit
+
+pub returns-in-Err-settle_lengths-clause-last : goal.returns-in-Err-settle_lengths-clause-last
+returns-in-Err-settle_lengths-clause-last g c at due none fits =
+    let limit = c.in-Err-settle_lengths.ensures.last at in
+    ap Err (c.fault_of.ensures.at_limit (sequence_of c.args.save.now.newest) (cc limit))

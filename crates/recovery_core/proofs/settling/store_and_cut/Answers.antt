@@ -189,3 +189,18 @@ returns-in-Err-cut_banks-clause-bank_failed g c n is =
       e.device n (ap Err bank) was.0 now.0
           (rw (c.in-Ok.ensures.others.1, c.in-Ok.ensures.others.2) was.1) now.1,
     )
+
+pub returns-in-Err-clause-last : goal.returns-in-Err-clause-last
+returns-in-Err-clause-last g c at =
+    let limit = (c.in-Err.ensures.stores.limit (sequence_of c.args.save.now.newest)).1 (c.requires.up, refl, at) in
+    cc limit
+
+pub returns-in-Ok-cut_banks-clause-last : goal.returns-in-Ok-cut_banks-clause-last
+returns-in-Ok-cut_banks-clause-last g c at =
+    let limit = (c.in-Ok.ensures.stores.limit (sequence_of c.args.save.now.newest)).1 (c.requires.up, refl, at) in
+    cc limit
+
+pub returns-in-Err-cut_banks-clause-last : goal.returns-in-Err-cut_banks-clause-last
+returns-in-Err-cut_banks-clause-last g c at =
+    let limit = (c.in-Ok.ensures.stores.limit (sequence_of c.args.save.now.newest)).1 (c.requires.up, refl, at) in
+    cc limit

@@ -195,6 +195,41 @@ fn draws(joint: &mut Joint, seat: u32, change: Option<Change>) -> Result<bool, M
     commits(joint, seat, CommitAct::Draw(writes))
 }
 
+fn locks_and_draws(joint: &mut Joint, seat: u32, change: Change) -> Result<bool, Memory> {
+    commits(joint, seat, CommitAct::Lock(change.key))?;
+    draws(joint, seat, Some(change))
+}
+
+fn puts_and_opens(joint: &mut Joint, seat: u32, key: Key) -> Result<bool, Memory> {
+    commits(joint, seat, CommitAct::Put(key))?;
+    commits(joint, seat, CommitAct::Open(key))
+}
+
+fn decides(joint: &mut Joint, seat: u32, key: Key) -> Result<bool, Memory> {
+    commits(joint, seat, CommitAct::Decide)?;
+    puts_and_opens(joint, seat, key)
+}
+
+/// The seat commits a change, whose key nobody holds.
+fn changes(joint: &mut Joint, seat: u32, change: Change) -> Result<bool, Memory> {
+    locks_and_draws(joint, seat, change)?;
+    decides(joint, seat, change.key)
+}
+
+/// Seat 0 publishes the pages from 6 up to this one, all with these entries over X and Y.
+fn publishes(
+    joint: &mut Joint,
+    alloc: Global,
+    last: u32,
+    entries: &[(Key, Content)],
+) -> Result<bool, Memory> {
+    for number in 6..=last {
+        let page = SnapPage::Entries(LEFT_SPAN, Sequence::from_slice(alloc, entries)?);
+        turns(joint, 0, PageAct::FillSnapshot(number, page))?;
+    }
+    turns(joint, 0, PageAct::Extend(last))
+}
+
 /// Seat 0 holds X and Y.
 fn locks_both(joint: &mut Joint) -> Result<bool, Memory> {
     commits(joint, 0, CommitAct::Lock(X))?;
@@ -443,6 +478,70 @@ fn all_meet(alloc: Global, turn_first: bool) -> Result<bool, Memory> {
 fn turns_meet_deeds(rt: HostRuntime) -> Result<(), Fail> {
     assert!(&rt; all_meet(rt.alloc(), true)?);
     assert!(&rt; all_meet(rt.alloc(), false)?);
+    Ok(())
+}
+
+/// The pointer is led to a copy of its page in slot 0.
+fn leads_to_a_copy(joint: &mut Joint, alloc: Global) -> Result<bool, Memory> {
+    makes(joint, alloc, 0, &[(X, 10), (Y, 20)])?;
+    turns(joint, 1, PageAct::Install(LEFT, 0))
+}
+
+/// What X is changed to by the first number.
+const CHANGED: Content = Content {
+    number: Number { epoch: 2, draw: 5 },
+    value: Some(11),
+};
+
+/// Seat 1 changes X, and seat 0 publishes page 9, which has the change.
+fn publishes_a_change(joint: &mut Joint, alloc: Global) -> Result<bool, Memory> {
+    changes(
+        joint,
+        1,
+        Change {
+            key: X,
+            value: Some(11),
+        },
+    )?;
+    publishes(joint, alloc, 9, &[(X, CHANGED), (Y, content(20))])
+}
+
+fn publishes_and_leads(joint: &mut Joint, alloc: Global) -> Result<bool, Memory> {
+    publishes_a_change(joint, alloc)?;
+    leads_to(joint, 9)
+}
+
+/// Seat 0 holds X and Y, and leads their pointer to this page.
+fn leads_to(joint: &mut Joint, number: u32) -> Result<bool, Memory> {
+    locks_both(joint)?;
+    turns(joint, 0, PageAct::Swing(LEFT, number))
+}
+
+/// The pointer comes to lead to a copy in a slot, and then to page 9, so again to no slot.
+fn leads_elsewhere(joint: &mut Joint, alloc: Global) -> Result<bool, Memory> {
+    leads_to_a_copy(joint, alloc)?;
+    publishes_and_leads(joint, alloc)
+}
+
+fn checks_and_decides(joint: &mut Joint) -> Result<bool, Memory> {
+    happens(joint, 2, JointAct::CheckPointer(LEFT))?;
+    commits(joint, 2, CommitAct::Decide)
+}
+
+/// Whether seat 2 commits as a reader of the pointer.
+fn commits_a_read(joint: &mut Joint) -> Result<bool, Memory> {
+    draws(joint, 2, None)?;
+    checks_and_decides(joint)
+}
+
+/// Seat 2 reads a pointer to page 5, which then comes to lead to page 9, which has a change. Its check fails.
+#[test]
+fn a_pointer_to_another_page_is_another(rt: HostRuntime) -> Result<(), Fail> {
+    let mut joint = start(rt.alloc())?;
+    assert!(&rt; happens(&mut joint, 2, JointAct::SeePointer(LEFT))?);
+    assert!(&rt; leads_elsewhere(&mut joint, rt.alloc())?);
+    assert!(&rt; !commits_a_read(&mut joint)?);
+    assert_eq!(&rt; joint.story().given_up.len(), 1);
     Ok(())
 }
 

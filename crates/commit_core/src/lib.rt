@@ -30,8 +30,6 @@ mod part;
 mod place;
 mod seat;
 mod story;
-#[cfg(test)]
-mod tests;
 
 pub use acts::rehome;
 pub use attempt::{Attempt, Check};

@@ -27,8 +27,6 @@ mod shapes;
 mod stands;
 mod swaps;
 mod table;
-#[cfg(test)]
-mod tests;
 
 pub use event::{Act, Event, Refused};
 pub use grip::{Grip, has_slot};

@@ -27,8 +27,6 @@ mod pairs;
 mod pointers;
 mod reading;
 mod shifts;
-#[cfg(test)]
-mod tests;
 
 pub use commit_core::Refused;
 pub use event::{JointAct, JointEvent};

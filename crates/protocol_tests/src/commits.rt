@@ -1,15 +1,12 @@
 // Schedules worked by hand: what each seat does, in this order, and whether it may.
-use super::*;
+use crate::samples::{X, Y};
+use commit_core::{Act, Core, Event, Mark, Part, Place, Refused, Version, Word};
 use homes::{At, Content, Holder, Home, Move, Span, Spot};
 use lists::Sequence;
 use serial_model::{Change, Changes, Key, Memory, Number, OrMemory};
 use std::alloc::Global;
 use std::process::Abort;
 use std::test::Fail;
-
-const X: Key = Key { storage: 1, key: 0 };
-
-const Y: Key = Key { storage: 1, key: 1 };
 
 const Z: Key = Key { storage: 2, key: 7 };
 
@@ -105,9 +102,14 @@ fn part_of_a_span(alloc: Global) -> Result<Part, Memory> {
     })
 }
 
+// Without clauses, since what `step` ensures is long.
+fn answer(core: &mut Core, seat: u32, act: Act) -> Result<(), OrMemory<Refused>> {
+    core.step(&Event { seat, act })
+}
+
 /// Whether the step happens.
 fn happens(core: &mut Core, seat: u32, act: Act) -> Result<bool, Memory> {
-    match core.step(&Event { seat, act }) {
+    match answer(core, seat, act) {
         Ok(()) => Ok(true),
         Err(OrMemory::Fault(_)) => Ok(false),
         Err(OrMemory::Memory) => Err(Memory),
@@ -157,6 +159,10 @@ fn expect_serial(rt: &impl Abort, core: &Core, alloc: Global, want: &[Number]) -
     Ok(())
 }
 
+fn place(core: &Core, key: Key) -> Place {
+    core.story().place(key)
+}
+
 /// What stands at the key.
 fn expect_home(
     rt: &impl Abort,
@@ -167,7 +173,7 @@ fn expect_home(
     holder: Holder,
 ) {
     let content = Content { number, value };
-    assert_eq!(rt; core.story().place(key), Place { content, holder });
+    assert_eq!(rt; place(core, key), Place { content, holder });
 }
 
 /// Write skew: each reads what the other writes. Neither commits.
@@ -336,6 +342,11 @@ fn refused_for_homes(rt: HostRuntime) -> Result<(), Fail> {
     Ok(())
 }
 
+/// Key X's place of the start is filled again.
+fn fill(core: &mut Core) -> Result<(), OrMemory<Refused>> {
+    core.fill(spot(0), old(10))
+}
+
 /// The old place of a key that moved is dead: what was read there fails its check, and the key can't be locked in a
 /// snapshot page. Filled anew, the place takes the key back.
 #[test]
@@ -350,7 +361,7 @@ fn a_key_that_moves(rt: HostRuntime) -> Result<(), Fail> {
     let mut core = after(&rt, rt.alloc(), 2, &steps)?;
     expect_home(&rt, &core, X, at(0, 0), Some(10), Holder::Free);
     assert_eq!(&rt; core.story().given_up.as_slice(), [at(1, 1)].as_slice());
-    core.fill(spot(0), old(10))?;
+    fill(&mut core)?;
     let back = [
         (1, Step::Move(X, Home::InSlot(spot(0))), true),
         (1, Step::Lock(X), true),
@@ -383,14 +394,27 @@ fn an_absence_that_is_lost(rt: HostRuntime) -> Result<(), Fail> {
     Ok(())
 }
 
+fn covers(part: &Part, key: Key) -> bool {
+    part.covers(key)
+}
+
+fn found(part: &Part, key: Key) -> Option<u64> {
+    part.found(key).value
+}
+
+#[test]
+fn what_a_part_covers(rt: HostRuntime) -> Result<(), Fail> {
+    let part = part_of_a_span(rt.alloc())?;
+    assert!(&rt; covers(&part, X));
+    assert!(&rt; !covers(&part, Y));
+    assert!(&rt; !covers(&part, Z));
+    assert_eq!(&rt; found(&part, X), Some(10));
+    Ok(())
+}
+
 /// What a word of a span says is told: a part of it is kept and checked as any other.
 #[test]
 fn a_part_of_a_span(rt: HostRuntime) -> Result<(), Fail> {
-    let part = part_of_a_span(rt.alloc())?;
-    for (key, is_covered) in [(X, true), (Y, false), (Z, false)] {
-        assert_eq!(&rt; part.covers(key), is_covered);
-    }
-    assert_eq!(&rt; part.found(X).value, Some(10));
     let steps = [
         (0, Step::Keep, true),
         (0, Step::Draw, true),

@@ -1,23 +1,14 @@
 // Schedules worked by hand: what each seat does, in this order, and how many keys it moves, or that it is refused.
-use super::*;
-use homes::{At, Content, Holder, Span, Spot};
+use crate::samples::{BOTH, X, Y, content, page_of_both};
+use drop_core::{Act, DropCore, Event, Page, Pointer, Refused, SnapPage};
+use homes::{At, Holder, Move, Span, Spot};
 use lists::Sequence;
-use serial_model::{Key, Memory, Number, OrMemory};
+use serial_model::{Key, Memory, OrMemory};
 use std::alloc::Global;
 use std::process::Abort;
 use std::test::Fail;
 
-const X: Key = Key { storage: 1, key: 0 };
-
-const Y: Key = Key { storage: 1, key: 1 };
-
 const ROOT: At = At::Root(0);
-
-const ALL: Span = Span {
-    storage: 1,
-    low: 0,
-    high: 1,
-};
 
 /// An act of a seat.
 #[derive(Clone, Copy)]
@@ -44,19 +35,6 @@ enum Step {
     Reopen(At),
 }
 
-fn content(value: u64) -> Content {
-    Content {
-        number: Number { epoch: 1, draw: 1 },
-        value: Some(value),
-    }
-}
-
-/// A snapshot page over the span that has an entry of each key.
-fn both(alloc: Global, span: Span) -> Result<SnapPage, Memory> {
-    let entries = Sequence::from_slice(alloc, &[(X, content(10)), (Y, content(20))])?;
-    Ok(SnapPage::Entries(span, entries))
-}
-
 /// The first keys, so many.
 fn keys(alloc: Global, count: usize) -> Result<Sequence<Key>, Memory> {
     let mut keys = Sequence::from_slice(alloc, &[X, Y])?;
@@ -74,7 +52,7 @@ fn act(alloc: Global, step: Step) -> Result<Act, Memory> {
         Step::FillLeaf(slot, count) => Act::FillPage(slot, Page::Leaf(keys(alloc, count)?)),
         Step::FillInner(slot) => Act::FillPage(slot, Page::Inner(2)),
         Step::FillPointer(spot, pointer) => Act::FillPointer(spot, pointer),
-        Step::FillSnapshot(number, span) => Act::FillSnapshot(number, both(alloc, span)?),
+        Step::FillSnapshot(number, span) => Act::FillSnapshot(number, page_of_both(alloc, span)?),
         Step::FillNothing(number) => Act::FillSnapshot(number, SnapPage::Missing),
         Step::Extend(number) => Act::Extend(number),
         Step::Install(at, slot) => Act::Install(at, slot),
@@ -88,8 +66,8 @@ fn act(alloc: Global, step: Step) -> Result<Act, Memory> {
 /// A machine over page 1, with four slots and three seats.
 fn start(alloc: Global) -> Result<DropCore, Memory> {
     let mut snaps = Sequence::new(alloc);
-    snaps.push((1, both(alloc, ALL)?))?;
-    DropCore::new(alloc, snaps, 1, &[(ALL, 1)], 4, 3)
+    snaps.push((1, page_of_both(alloc, BOTH)?))?;
+    DropCore::new(alloc, snaps, 1, &[(BOTH, 1)], 4, 3)
 }
 
 /// One key.
@@ -109,13 +87,22 @@ fn start_above(alloc: Global) -> Result<DropCore, Memory> {
     let y = Sequence::from_slice(alloc, &[(Y, content(20))])?;
     snaps.push((2, SnapPage::Entries(one(1), y)))?;
     let children = Sequence::from_slice(alloc, &[(one(0), 1), (one(1), 2)])?;
-    snaps.push((3, SnapPage::Children(ALL, children)))?;
-    DropCore::new(alloc, snaps, 3, &[(ALL, 3)], 4, 3)
+    snaps.push((3, SnapPage::Children(BOTH, children)))?;
+    DropCore::new(alloc, snaps, 3, &[(BOTH, 3)], 4, 3)
+}
+
+// Without clauses, since what `step` ensures is long.
+fn answer(core: &mut DropCore, seat: u32, act: Act) -> Result<Sequence<Move>, OrMemory<Refused>> {
+    core.step(Event { seat, act })
+}
+
+fn pointer(core: &DropCore, at: At) -> Pointer {
+    core.table().pointer(at)
 }
 
 /// How many keys the act moves, or nothing where it is refused.
 fn moved(core: &mut DropCore, seat: u32, act: Act) -> Result<Option<usize>, Memory> {
-    match core.step(Event { seat, act }) {
+    match answer(core, seat, act) {
         Ok(moves) => Ok(Some(moves.len())),
         Err(OrMemory::Fault(_)) => Ok(None),
         Err(OrMemory::Memory) => Err(Memory),
@@ -141,7 +128,7 @@ fn follows(
 #[test]
 fn a_page_comes_and_goes(rt: HostRuntime) -> Result<(), Fail> {
     let mut core = start(rt.alloc())?;
-    assert_eq!(&rt; core.table().pointer(ROOT).page, 1);
+    assert_eq!(&rt; pointer(&core, ROOT).page, 1);
     let comes = [
         (1, Step::Give(3), Some(0)),
         (1, Step::FillLeaf(3, 2), Some(0)),
@@ -149,10 +136,10 @@ fn a_page_comes_and_goes(rt: HostRuntime) -> Result<(), Fail> {
         (1, Step::Install(ROOT, 3), Some(2)),
     ];
     follows(&rt, &mut core, rt.alloc(), &comes)?;
-    assert_eq!(&rt; core.table().pointer(ROOT).slot, Some(3));
+    assert_eq!(&rt; pointer(&core, ROOT).slot, Some(3));
     let goes = [
         (2, Step::Enter(3), Some(0)),
-        (0, Step::FillSnapshot(2, ALL), Some(0)),
+        (0, Step::FillSnapshot(2, BOTH), Some(0)),
         (0, Step::Extend(2), Some(0)),
         (0, Step::Swing(ROOT, 2), Some(2)),
         (0, Step::Retire(3), Some(0)),
@@ -161,8 +148,8 @@ fn a_page_comes_and_goes(rt: HostRuntime) -> Result<(), Fail> {
         (1, Step::Give(3), Some(0)),
     ];
     follows(&rt, &mut core, rt.alloc(), &goes)?;
-    assert_eq!(&rt; core.table().pointer(ROOT).slot, None);
-    assert_eq!(&rt; core.table().pointer(ROOT).page, 2);
+    assert_eq!(&rt; pointer(&core, ROOT).slot, None);
+    assert_eq!(&rt; pointer(&core, ROOT).page, 2);
     Ok(())
 }
 
@@ -186,7 +173,7 @@ fn refused_at_the_start(rt: HostRuntime) -> Result<(), Fail> {
         (1, Step::Enter(4), None),
         (0, Step::FillSnapshot(2, one(0)), Some(0)),
         (0, Step::Extend(2), None),
-        (0, Step::FillSnapshot(2, ALL), Some(0)),
+        (0, Step::FillSnapshot(2, BOTH), Some(0)),
         (0, Step::Extend(2), Some(0)),
     ];
     follows(&rt, &mut core, rt.alloc(), &steps)
@@ -242,7 +229,7 @@ fn an_interior_page_comes_and_goes(rt: HostRuntime) -> Result<(), Fail> {
         (0, Step::Reopen(last), None),
     ];
     follows(&rt, &mut core, rt.alloc(), &steps)?;
-    let dead = matches!(core.table().pointer(last).holder, Holder::Dead);
+    let dead = matches!(pointer(&core, last).holder, Holder::Dead);
     assert!(&rt; dead);
     Ok(())
 }

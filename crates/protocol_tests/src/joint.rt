@@ -1,17 +1,14 @@
-// Schedules worked by hand.
-use super::*;
+// Each kind of step on pages against each kind of step on records, and how reads fare while pages come and go.
+use crate::samples::{BOTH, X, Y, content, page_of_both};
 use commit_core::{Act as CommitAct, Mark};
 use drop_core::{Act as PageAct, Page, Pointer, SnapPage};
+use engine_rule::{Joint, JointAct, JointEvent, Refused};
 use homes::{At, Content, Holder, Span, Spot};
 use lists::Sequence;
 use serial_model::{Change, Changes, Key, Memory, Number, OrMemory};
 use std::alloc::Global;
 use std::process::Abort;
 use std::test::Fail;
-
-const X: Key = Key { storage: 1, key: 0 };
-
-const Y: Key = Key { storage: 1, key: 1 };
 
 const Z: Key = Key { storage: 2, key: 0 };
 
@@ -20,12 +17,6 @@ const LEFT: At = At::Root(0);
 
 /// Over Z.
 const RIGHT: At = At::Root(1);
-
-const LEFT_SPAN: Span = Span {
-    storage: 1,
-    low: 0,
-    high: 1,
-};
 
 const RIGHT_SPAN: Span = Span {
     storage: 2,
@@ -139,21 +130,13 @@ const MEETINGS: [(Turn, Deed, Outcome); 23] = [
     (Turn::Swing, Deed::Open, (false, false, true, 0)),
 ];
 
-fn content(value: u64) -> Content {
-    Content {
-        number: Number { epoch: 1, draw: 1 },
-        value: Some(value),
-    }
-}
-
 fn spot(slot: u32, index: usize) -> Spot {
     Spot { slot, index }
 }
 
-/// A snapshot page that has X and Y.
+/// A snapshot page of the left.
 fn left_page(alloc: Global) -> Result<SnapPage, Memory> {
-    let entries = Sequence::from_slice(alloc, &[(X, content(10)), (Y, content(20))])?;
-    Ok(SnapPage::Entries(LEFT_SPAN, entries))
+    page_of_both(alloc, BOTH)
 }
 
 /// A machine over pages 1 to 5, with three seats and four slots. Page 1 has Z, the others have X and Y.
@@ -164,14 +147,19 @@ fn start(alloc: Global) -> Result<Joint, Memory> {
     for number in 2..6 {
         snaps.push((number, left_page(alloc)?))?;
     }
-    let roots = [(LEFT_SPAN, 5), (RIGHT_SPAN, 1)];
+    let roots = [(BOTH, 5), (RIGHT_SPAN, 1)];
     let first = Number { epoch: 2, draw: 5 };
     Joint::over(alloc, snaps, 5, &roots, first, 4, 3)
 }
 
+// Without clauses, since what `step` ensures is long.
+fn answer(joint: &mut Joint, seat: u32, act: JointAct) -> Result<(), OrMemory<Refused>> {
+    joint.step(JointEvent { seat, act })
+}
+
 /// Whether the act happened.
 fn happens(joint: &mut Joint, seat: u32, act: JointAct) -> Result<bool, Memory> {
-    match joint.step(JointEvent { seat, act }) {
+    match answer(joint, seat, act) {
         Ok(()) => Ok(true),
         Err(OrMemory::Fault(_)) => Ok(false),
         Err(OrMemory::Memory) => Err(Memory),
@@ -224,7 +212,7 @@ fn publishes(
     entries: &[(Key, Content)],
 ) -> Result<bool, Memory> {
     for number in 6..=last {
-        let page = SnapPage::Entries(LEFT_SPAN, Sequence::from_slice(alloc, entries)?);
+        let page = SnapPage::Entries(BOTH, Sequence::from_slice(alloc, entries)?);
         turns(joint, 0, PageAct::FillSnapshot(number, page))?;
     }
     turns(joint, 0, PageAct::Extend(last))
@@ -555,5 +543,54 @@ fn a_held_slot_is_not_given(rt: HostRuntime) -> Result<(), Fail> {
     assert!(&rt; !turns(&mut joint, 1, PageAct::Give(0))?);
     assert!(&rt; turns(&mut joint, 2, PageAct::Leave(0))?);
     assert!(&rt; turns(&mut joint, 1, PageAct::Give(0))?);
+    Ok(())
+}
+
+/// Seat 1 removes Y, and seat 0 publishes page 6, which has no entry of it.
+fn publishes_an_absence(joint: &mut Joint, alloc: Global) -> Result<bool, Memory> {
+    changes(
+        joint,
+        1,
+        Change {
+            key: Y,
+            value: None,
+        },
+    )?;
+    publishes(joint, alloc, 6, &[(X, content(10))])
+}
+
+/// Y is absent by 2:5, in a page in memory, and the newest snapshot page has no entry of it.
+fn begins_with_an_absence(alloc: Global) -> Result<Joint, Memory> {
+    let mut joint = begins(alloc)?;
+    publishes_an_absence(&mut joint, alloc)?;
+    Ok(joint)
+}
+
+/// Seat 2 takes a number, and then seat 0 tries to lead the pointer to page 6, which would lose the number of Y's absence.
+fn draws_and_leads(joint: &mut Joint) -> Result<bool, Memory> {
+    draws(joint, 2, None)?;
+    leads_to(joint, 6)
+}
+
+fn decides_and_leads(joint: &mut Joint) -> Result<bool, Memory> {
+    commits(joint, 2, CommitAct::Decide)?;
+    turns(joint, 0, PageAct::Swing(LEFT, 6))
+}
+
+/// A swing that loses the number 2:5 waits for the attempt 2:6.
+#[test]
+fn a_swing_waits_for_those_below_an_absence(rt: HostRuntime) -> Result<(), Fail> {
+    let mut joint = begins_with_an_absence(rt.alloc())?;
+    assert!(&rt; !draws_and_leads(&mut joint)?);
+    assert!(&rt; decides_and_leads(&mut joint)?);
+    Ok(())
+}
+
+/// It doesn't wait for the attempt 3:6, of a later epoch.
+#[test]
+fn a_swing_passes_those_of_a_later_epoch(rt: HostRuntime) -> Result<(), Fail> {
+    let mut joint = begins_with_an_absence(rt.alloc())?;
+    assert!(&rt; commits(&mut joint, 0, CommitAct::Advance)?);
+    assert!(&rt; draws_and_leads(&mut joint)?);
     Ok(())
 }

@@ -1,0 +1,18 @@
+//! Schedules of the protocols' machines, worked by hand: nothing but tests.
+//!
+//! Shows: what the theorems of the three machines leave to be looked at, that their conditions are those that are meant.
+//! Each schedule says, step by step, whether the step may happen, and what stands there after it. `commits` has those of
+//! commits (commit_core), `pages` those of pages in memory over snapshot pages (drop_core), and `joint` those of both as
+//! one machine (engine_rule), with each kind of step on pages against each kind of step on records, in both orders.
+//! They stand in a crate above those that they test, because a crate with tests is proved a second time.
+//! Design: docs/COMMIT.md and docs/PAGES.md.
+#![tactic(auto)]
+
+#[cfg(test)]
+mod commits;
+#[cfg(test)]
+mod joint;
+#[cfg(test)]
+mod pages;
+#[cfg(test)]
+mod samples;

@@ -1,8 +1,8 @@
 // A log file is read and mapped.
-ghost use Rattle.std.specs.Prelude.{◌≡◌, ◌+◌, ◌<◌, ◌≤◌, ◌^◌, ℕ, Err, ◌++◌, length, take, drop, IfOk, OnOk};
+ghost use Rattle.std.specs.Prelude.{◌≡◌, ◌+◌, ◌<◌, ◌≤◌, ◌^◌, ℕ, List, Err, ◌++◌, length, take, drop, IfOk, OnOk};
 ghost use Rattle.outside.specs.Disk.{IfTold};
 ghost use Rattle.outside.specs.Faults.{Rose};
-ghost use Rattle.log_mapper.specs.Mapped.{AreMapped, IsDamaged};
+ghost use Rattle.log_mapper.specs.Mapped.{AreMapped, AreMappedLines, IsDamaged};
 ghost use Rattle.outside.specs.Reads.{OnlyReads};
 
 use crate::buckets::Buckets;
@@ -85,7 +85,8 @@ fn read_front<D: Disk>(
 }
 
 /// The entries of the first `length` bytes of a log file with epochs above `from` and at most `to`:
-/// one bucket for each storage, in the order of the storages.
+/// one bucket for each storage, in the order of the storages. Whatever the device tells, they are those of lines
+/// of these storages (`lines`).
 pub fn map_bank<D: Disk>(
     alloc: Global,
     disk: &mut D,
@@ -98,6 +99,7 @@ pub fn map_bank<D: Disk>(
     requires { length < 2 ^ 40 }
     ensures mapped { IfOk result (λ buckets. IfTold (D.tells disk.old) (λ file.
         AreMapped bank length decls.now from to file buckets)) }
+    ensures lines { IfOk result (λ buckets. (bytes : List ℕ) × AreMappedLines bank decls.now from to bytes buckets) }
     ensures damaged { (at : ℕ) → result ≡ Err (OrMemory.Fault (MapFault.Damaged at))
         → IfTold (D.tells disk.old) (λ file. IsDamaged length decls.now file at) }
     ensures device { result ≡ Err (OrMemory.Fault MapFault.Device)

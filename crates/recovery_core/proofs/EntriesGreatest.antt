@@ -110,7 +110,7 @@ is_of-compared : (key : Key) (e : Entry) → is_of key e ≡ is_eq (key_cmp e.ke
 is_of-compared key e = grind (arith, nat_tests)
 
 -- and then they are one key
-is_of-key : (key : Key) (e : Entry) → is_of key e ≡ true → e.key ≡ key
+pub is_of-key : (key : Key) (e : Entry) → is_of key e ≡ true → e.key ≡ key
 is_of-key key e h =
     let s : e.key.storage ≡ key.storage = grind (arith, nat_tests) in
     let k : e.key.key ≡ key.key = grind (arith, nat_tests) in

@@ -23,7 +23,7 @@ use Rattle.recovery_core.specs.CrashesRecover.{LeavesSame, HasFiles, point_read,
 use Rattle.recovery_core.specs.Crashes.Rested.{told_begun, ready_begun, rests_on, no_cut, point_old, counted_old}
 use Rattle.recovery_core.specs.Crashes.Safe.{safe_of}
 use Rattle.recovery_core.specs.Crashes.StoreSteps.{now_one}
-use Rattle.recovery_core.proofs.Files.{all_below}
+use Rattle.recovery_core.specs.Files.{all_below}
 
 module _ {D : Type 0} {tells : D → Option (List ℕ)} {clock : D → ℕ} {image_at : D → ℕ → List ℕ → Type 0}
     (reads : (disk : D) (file : List ℕ) → tells disk ≡ Some file → image_at disk (clock disk) file) where

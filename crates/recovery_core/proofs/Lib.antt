@@ -1,7 +1,6 @@
 mod Worked
 mod Taking
 mod StorePages
-mod StoredPages
 mod Recovering
 pub mod GatherLaws
 pub mod GatherArrayLaws
@@ -13,10 +12,11 @@ pub mod EntriesOver
 pub mod EntriesBuckets
 pub mod EntriesFiles
 pub mod EntriesDevices
-mod Files
+pub mod EntriesFit
+pub mod EntriesInOrder
+pub mod OlderSnapshots
 pub mod SettleOrder
 pub mod SettledReadings
-pub mod SettleCarried
 pub mod FreshStored
 pub mod LengthsStored
 pub mod FilesCut

@@ -22,7 +22,7 @@ use Rattle.log_writer.specs.Save.{Names}
 use Rattle.log_writer.specs.declared.saved.Saved.{Saved}
 use Rattle.snapshot_store.specs.Content.{words_of, record_in, value_at}
 use Rattle.recovery_core.specs.declared.recovered.Recovered.{Recovered}
-use Rattle.recovery_core.specs.declared.snapshot.Snapshot.{Snapshot}
+use Rattle.recovery_core.specs.declared.newest.Snapshot.{Snapshot}
 use Rattle.recovery_core.specs.Catalogues.{HasPages, AreCatalogues, newest_epoch, newest_decls, marks_of}
 use Rattle.recovery_core.specs.Damage.{FirstBad, RootBreaks, SnapsBreak, FilesBreak, IsDamagedIn}
 use Rattle.recovery_core.specs.EntriesLast.{EntryMap, PutsLast}

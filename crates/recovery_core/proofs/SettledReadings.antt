@@ -37,7 +37,7 @@ use Rattle.recovery_core.specs.SettleFresh.{recovers_fresh}
 use Rattle.recovery_core.specs.SettleLaws.{without_files, point_says, no_last}
 use Rattle.recovery_core.specs.SettlePages.{first_contents, same_decls}
 use Rattle.recovery_core.specs.VaultReads.{AreQuiet, some_of, quiet_of}
-use Rattle.recovery_core.proofs.Files.{listed_bank}
+use Rattle.recovery_core.specs.Files.{listed_bank}
 
 -- the savepoint that is handed on says the same as the one before, whether it is that one or the next
 says_same : (saved after : Saved) (p q : Savepoint) → saved ≡ saved_of p → after ≡ saved_of q

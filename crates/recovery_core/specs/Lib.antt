@@ -16,6 +16,7 @@ pub mod SnapshotRead
 pub mod Gather
 pub mod EntriesLast
 pub mod EntriesRead
+pub mod EntriesRun
 pub mod Story
 pub mod Cutting
 pub mod Settling
@@ -32,3 +33,7 @@ pub mod SettlePages
 pub mod SettleGoesOn
 pub mod Settled
 pub mod SettleFresh
+pub mod StoredPages
+pub mod Files
+pub mod SettleCarried
+pub mod Snapshots

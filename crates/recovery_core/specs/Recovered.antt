@@ -1,19 +1,23 @@
 -- What recovery gives of a database.
-use Rattle.std.specs.Prelude.{◌≡◌, ◌<◌, ℕ, Option, Some, None, IfSome, true, map, reverse, length}
+use Rattle.std.specs.Prelude.{◌≡◌, ◌<◌, ℕ, ◌+◌, List, [], Option, Some, None, IfSome, true, map, reverse, length}
 use Rattle.std.specs.Option.{option_map}
 use Rattle.std.specs.FinMap.{get}
+use Rattle.std.specs.List.{AllByRecursion}
 use Rattle.serial_model.specs.Keys.{id_of}
 use Rattle.serial_model.specs.declared.key.Key.{Key}
 use Rattle.wire_form.specs.Items.{Rises}
+use Rattle.wire_form.specs.Pages.{Contents}
 use Rattle.wire_form.specs.declared.savepoint.Savepoint.{Savepoint}
 use Rattle.log_writer.specs.Points.{IsSaved, saved_of}
 use Rattle.log_writer.specs.declared.saved.Saved.{Saved}
 use Rattle.snapshot_store.specs.Content.{words_of}
 use Rattle.recovery_core.specs.declared.recovered.Recovered.{Recovered}
 use Rattle.recovery_core.specs.Images.{Images, epoch_of}
-use Rattle.recovery_core.specs.Catalogues.{newest_decls, marks_of}
+use Rattle.recovery_core.specs.Catalogues.{AreCatalogues, newest_epoch, newest_storages, newest_decls, marks_of}
+use Rattle.recovery_core.specs.EntriesRun.{AllMayCount}
 use Rattle.recovery_core.specs.LogEntries.{last_of}
 use Rattle.recovery_core.specs.Recoverable.{Reading, IsReading, IsStateOf, IsRecoverable, counting}
+use Rattle.recovery_core.specs.SnapshotPages.{RootStandsUpTo}
 
 -- the page number of the newest catalogue; it is 0 where there is none
 abbrev pub catalogue_of : Option Savepoint → ℕ
@@ -44,8 +48,26 @@ abbrev pub saved_count : Option Saved → ℕ
 saved_count None = 0
 saved_count (Some s) = s.count
 
+-- In the pages that a savepoint counts the catalogues stand, from the newest back, and all pages of the newest
+-- snapshot. The storages that are given are that snapshot's, and each last entry is of one of them, with an epoch above
+-- it.
+pub record SnapshotsStand (r : Recovered) (s : Saved) : Type 0 where
+  pub catalogues : List Contents
+  pub chain : AreCatalogues (words_of r.store.pages) (s.epoch + 1) None s.catalogue catalogues
+  pub stands : AllByRecursion (RootStandsUpTo (newest_epoch catalogues) (words_of r.store.pages))
+      (newest_storages catalogues)
+  pub decls : r.decls ≡ newest_decls catalogues
+  pub marks : r.catalogues ≡ reverse (marks_of s.catalogue catalogues)
+  pub entries : AllMayCount r.decls (newest_epoch catalogues) s.epoch r.entries
+
+-- and without a savepoint there is no catalogue, and no entry counts
+abbrev pub HasSnapshots : Recovered → Option Saved → Type 0
+HasSnapshots r None = (r.catalogues ≡ []) × ((key : Key) → get r.entries key ≡ None)
+HasSnapshots r (Some s) = SnapshotsStand r s
+
 -- Whatever the devices tell: what is given of the savepoint is what it says, it is in its ranges, both stores are up,
--- the epoch is the saved one, as many pages are given as count, and the storages are in order of their ids.
+-- the epoch is the saved one, as many pages are given as count, the storages are in order of their ids, and the
+-- snapshots stand.
 pub record IsUp (r : Recovered) : Type 0 where
   pub saved : r.saved ≡ option_map saved_of r.save.newest
   pub ranges : IfSome r.saved IsSaved
@@ -54,6 +76,7 @@ pub record IsUp (r : Recovered) : Type 0 where
   pub epoch : r.epoch ≡ saved_epoch r.saved
   pub count : length r.store.pages ≡ saved_count r.saved
   pub rising : Rises ◌<◌ (map id_of r.decls)
+  pub snapshots : HasSnapshots r r.saved
 
 -- in particular epoch and state are those that the devices stand for
 pub recovers_state : (found : Images) (r : Recovered) → Recovers found r → IsRecoverable found r.epoch r.state

@@ -5,7 +5,7 @@ use Rattle.std.specs.FinMap.{get}
 use Rattle.serial_model.specs.declared.key.Key.{Key}
 use Rattle.wire_form.specs.Pages.{Contents}
 use Rattle.snapshot_store.specs.Content.{words_of, record_in, value_at}
-use Rattle.recovery_core.specs.declared.snapshot.Snapshot.{Snapshot}
+use Rattle.recovery_core.specs.declared.newest.Snapshot.{Snapshot}
 use Rattle.recovery_core.specs.Catalogues.{AreCatalogues, newest_epoch, newest_storages, newest_decls, marks_of}
 use Rattle.recovery_core.specs.Damage.{FirstBad, CataloguesBreak, RootBreaks}
 use Rattle.recovery_core.specs.SnapshotPages.{RootStandsUpTo}

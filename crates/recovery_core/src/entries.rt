@@ -11,7 +11,9 @@ ghost use Rattle.serial_model.specs.declared.number.Commit.{Commit};
 ghost use Rattle.wire_form.specs.Items.{Rises};
 ghost use Rattle.wire_form.specs.declared.savepoint.Savepoint.{Savepoint};
 ghost use Rattle.recovery_core.specs.Damage.{FilesBreak};
+ghost use Rattle.log_mapper.specs.Mapped.{AreMappedLines};
 ghost use Rattle.recovery_core.specs.EntriesRead.{Maps, MapsIn};
+ghost use Rattle.recovery_core.specs.EntriesRun.{AllMayCount};
 ghost use Rattle.recovery_core.specs.Images.{Images};
 ghost use Rattle.recovery_core.specs.JointCrash.{parts_of};
 ghost use Rattle.recovery_core.specs.LogEntries.{logged, counts, last_of, AreCounted};
@@ -41,6 +43,7 @@ fn map_one<D: Disk>(
     ensures maps { (was : D) → slice_get disks.old (bank / 2) ≡ Some was
         → (now : D) × (slice_get disks.new (bank / 2) ≡ Some now)
         × Maps D.tells D.clock D.image_at D.faults bank counted decls.now from to was now result }
+    ensures lines { IfOk result (λ buckets. (bytes : List ℕ) × AreMappedLines bank decls.now from to bytes buckets) }
     ensures others { (other : ℕ) → other ≢ bank / 2
         → slice_get disks.new other ≡ slice_get disks.old other }
     ensures len { length disks.new ≡ length disks.old }
@@ -62,8 +65,9 @@ fn map_in<D: Disk>(
     requires whole { IsWhole vault.old }
     requires bank { bank < 16 }
     requires size { counted < 2 ^ 40 }
-    ensures { MapsIn D.tells D.clock D.image_at D.faults bank counted decls.now from to
+    ensures maps { MapsIn D.tells D.clock D.image_at D.faults bank counted decls.now from to
         vault.old vault.new result }
+    ensures lines { IfOk result (λ buckets. (bytes : List ℕ) × AreMappedLines bank decls.now from to bytes buckets) }
 {
     if bank % 2 == 0 {
         return map_one(alloc, &mut vault.even, bank, counted, decls, from, to);
@@ -106,6 +110,7 @@ pub(crate) fn read_entries<D: Disk>(
         → (p : Savepoint) → p.lengths ≡ lengths.now
         → (lines : List (List Commit)) × AreCounted decls.now p found.bank lines
         × ((key : Key) → get last key ≡ last_of key (filter (counts from to) (logged lines)))) }
+    ensures may_count { IfOk result (AllMayCount decls.now from to) }
     ensures damaged { (device : TheDevice) (at : ℕ) → result ≡ Err (OrMemory.Fault (RecoverFault.Damaged device at))
         → (found : Images) → AreTold D.tells (parts_of vault.old) found
         → (p : Savepoint) → p.lengths ≡ lengths.now

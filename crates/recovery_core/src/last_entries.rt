@@ -1,16 +1,19 @@
 // Of each key the last entry.
-ghost use Rattle.std.specs.Prelude.{◌≡◌, ◌↔◌, [], ◌∷◌, None, IsTrue, OnOk};
+ghost use Rattle.std.specs.Prelude.{◌≡◌, ◌↔◌, [], ◌∷◌, None, IsTrue, IfOk, OnOk};
+ghost use Rattle.std.specs.BTreeMap as tree;
 ghost use Rattle.std.specs.FinMap as finite;
+ghost use Rattle.serial_model.specs.Keys.{key_cmp};
 ghost use Rattle.serial_model.specs.Numbers.{is_below};
 ghost use Rattle.serial_model.specs.declared.key.Key.{Key as TheKey};
 ghost use Rattle.recovery_core.specs.EntriesLast.{TakesIn, is_later, all_entries, PutsAt, PutsLast};
+ghost use Rattle.recovery_core.specs.EntriesRun.{AreOfTheirKeys, IsRunOf};
 
-use lists::Memory;
+use lists::{Memory, Sequence};
 use serial_model::{Key, Number, State};
 use std::alloc::Global;
 use std::collections::BTreeMap;
 use std::marker::Model;
-use wire_form::{Bucket, Entry};
+use wire_form::{Bucket, Entry, Run};
 
 /// The last entry of each key that has entries, which contracts see as a finite map.
 #[derive(Drop)]
@@ -46,6 +49,13 @@ impl LastEntries {
         ensures { IsTrue result ↔ ((key : TheKey) → finite.get self.now key ≡ None) }
     {
         self.map.is_empty()
+    }
+
+    /// The last entries in one list, ascending by key.
+    pub fn run(&self, alloc: Global) -> Result<Run, Memory>
+        ensures { IfOk result (λ run. AreOfTheirKeys self.now → IsRunOf self.now run) }
+    {
+        Ok(Sequence::from_vec(entries_of(alloc, &self.map)?))
     }
 
     // Whether the entry comes after the last one of its key so far, if there is one. Of equal numbers
@@ -97,6 +107,18 @@ impl LastEntries {
         }
         Ok(())
     }
+}
+
+// The entries of a map, in the order of its keys.
+fn entries_of(alloc: Global, map: &BTreeMap<Key, Entry>) -> Result<Vec<Entry>, Memory>
+    ensures entries { IfOk result (λ entries. entries.items ≡ tree.values map.now) }
+    ensures ordered { tree.IsOrdered key_cmp map.now }
+{
+    let mut entries = Vec::with_capacity(alloc, map.len())?;
+    for entry in map.values() {
+        entries.push(*entry)?;
+    }
+    Ok(entries)
 }
 
 // Whether a commit number is below another.

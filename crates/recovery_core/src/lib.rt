@@ -8,6 +8,9 @@
 //! Promises, over devices that tell their bytes:
 //! - [`recover`] gives what they stand for, with the storages, the snapshots and the entries that count
 //!   (`recovers`), and `Damaged` only where they are, at exactly that byte (`damaged`).
+//! - [`snapshot`] gives what the snapshot of an epoch has, of those that were recovered, nothing where no catalogue
+//!   is of that epoch (`found`, `none`), and `Damaged` at the first byte of the first of its pages that isn't right
+//!   (`damaged`).
 //! - [`settle`], whatever it answers: each crash of all devices since they rest leaves the epoch and the state
 //!   that were recovered (`crashes`, record `LeavesSame`). Behind `Ok` the devices say what is handed on, and the
 //!   log files are empty (`settles`, records `Settles` and `SaysSettled`); after each other answer but a device's
@@ -32,6 +35,7 @@
 mod at_rest;
 mod catalogue;
 mod chain;
+mod content;
 mod cutting;
 mod entries;
 mod fault;
@@ -45,21 +49,20 @@ mod last_entries;
 mod laws;
 mod load_pages;
 mod load_save;
+mod newest;
 mod recovered;
 mod recovery;
 mod settlement;
 mod settling;
-mod snapshot;
 
 pub use chain::SnapshotMark;
+pub use content::snapshot;
 pub use cutting::cut_banks;
 pub use fault::{RecoverFault, SettleFault};
 pub use last_entries::LastEntries;
 pub use laws::one_recoverable;
+pub use load_pages::pages_fit;
 pub use recovered::Recovered;
 pub use recovery::recover;
-pub use settlement::{Settled, settle};
+pub use settlement::{Settled, make_room, settle};
 pub use settling::{StoreAndCutFault, store_and_cut};
-
-#[cfg(test)]
-mod tests;

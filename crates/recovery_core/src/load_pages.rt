@@ -14,8 +14,8 @@ use outside::{Device, Disk, Vault};
 use snapshot_store::{SnapStore, StoreFault};
 use std::alloc::Global;
 
-// Words in memory have 64 bits, and pages 512 bytes.
-fn pages_fit(store: &SnapStore)
+/// Words in memory have 64 bits, and pages 512 bytes: a law of stores, for those who compare them with a device.
+pub fn pages_fit(store: &SnapStore)
     ensures fit { AllByRecursion (AllByRecursion (λ w. w < 2 ^ 64)) (words_of store.now.pages) }
     ensures whole { AllByRecursion IsWhole store.now.pages }
 {

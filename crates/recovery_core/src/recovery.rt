@@ -22,7 +22,7 @@ use crate::entries::read_entries;
 use crate::last_entries::LastEntries;
 use crate::load_pages::load_pages;
 use crate::load_save::load_save;
-use crate::snapshot::{Snapshot, read_snapshot};
+use crate::newest::{Snapshot, read_snapshot};
 use crate::{RecoverFault, Recovered};
 use lists::{OrMemory, Sequence};
 use log_writer::{Save, Saved};

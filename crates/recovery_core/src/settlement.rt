@@ -2,7 +2,7 @@
 // empty.
 ghost use Rattle.std.specs.Prelude.{◌≡◌, ◌⊎◌, ◌+◌, ◌-◌, ◌^◌, ◌<◌, ◌≤◌, ◌↔◌, ◌==◌, if◌then◌else◌};
 ghost use Rattle.std.specs.Prelude.{ℕ, [], ◌∷◌, Some, None, Err, IfOk, OnOk, OnErr, IsTrue};
-ghost use Rattle.std.specs.Prelude.{map, true, false, is_some, IfSome, vec_len, vec_capacity};
+ghost use Rattle.std.specs.Prelude.{map, true, false, is_some, IfSome, IsSome, vec_len, vec_capacity};
 ghost use Rattle.std.specs.List.Sorted.{IsPermutation};
 ghost use Rattle.outside.specs.Disk.{IfTold};
 ghost use Rattle.outside.specs.Fronts.{AllBegin};
@@ -192,9 +192,9 @@ pub struct Settled {
     pub state: State,
 }
 
-// Makes room for the record of a store, and of a cut of each log file: neither may begin and then go
-// unrecorded for want of memory.
-fn make_room<D: Disk>(vault: &mut Vault<D>) -> Result<(), Memory>
+/// Makes room for the record of a store, and of a cut of each log file: neither may begin and then go
+/// unrecorded for want of memory.
+pub fn make_room<D: Disk>(vault: &mut Vault<D>) -> Result<(), Memory>
     ensures parts { parts_of vault.new ≡ parts_of vault.old }
     ensures same { SameDevices vault.old vault.new }
     ensures tie_room { OnOk result (vec_len vault.new.ties < vec_capacity vault.new.ties) }
@@ -293,6 +293,8 @@ pub fn settle<D: Disk>(
         → IfSome recovered.saved (λ s. (have ≡ s.count)
         × (((new ≡ 1) × (room ≡ s.count) × (((key : Key) → get recovered.entries key ≡ None) → ⊥))
         ⊎ ((new ≡ 0) × (room ≡ snap) × (snap < s.count) × ((key : Key) → get recovered.entries key ≡ None)))) }
+    ensures limit_saved { (have new room : ℕ) → result ≡ Err (OrMemory.Fault (SettleFault.Limit have new room))
+        → IsSome recovered.saved }
     ensures fits { (result ≡ Err OrMemory.Memory → ⊥)
         → ((have new room : ℕ) → result ≡ Err (OrMemory.Fault (SettleFault.Limit have new room)) → ⊥)
         → IfSome recovered.saved (Fits recovered snap) }

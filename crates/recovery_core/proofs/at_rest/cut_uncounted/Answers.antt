@@ -6,7 +6,7 @@ use Rattle.outside.specs.declared.vault.Device.TheVariants.{Bank}
 use Rattle.recovery_core.specs.JointCrash.{parts_of}
 use Rattle.recovery_core.specs.Cutting.{FaultsStand}
 use Rattle.recovery_core.specs.VaultReads.{AreQuiet, some_of, quiet_of}
-use Rattle.recovery_core.proofs.Files.{all_below, has_files, still_files, listed_bank}
+use Rattle.recovery_core.specs.Files.{all_below, has_files, still_files, listed_bank}
 use Rattle.recovery_core.proofs.FilesCut.{files_cut}
 use Rattle.recovery_core.proofs.at_rest.cut_uncounted.Goals as goal
 

@@ -2,7 +2,7 @@ use Rattle.std.proofs.Common.{◌+◌}
 use Rattle.log_writer.specs.Points.{sequence_of}
 use Rattle.outside.specs.Cuts.{whole_bank}
 use Rattle.recovery_core.specs.JointCrash.{parts_of}
-use Rattle.recovery_core.proofs.Files.{all_below, has_files, still_files, listed_bank}
+use Rattle.recovery_core.specs.Files.{all_below, has_files, still_files, listed_bank}
 use Rattle.recovery_core.proofs.LengthsStored.{lengths_stored}
 use Rattle.recovery_core.proofs.at_rest.settle_lengths.Goals as goal
 

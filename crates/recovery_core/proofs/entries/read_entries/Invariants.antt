@@ -1,4 +1,5 @@
 use Rattle.std.proofs.Common.{◌≡◌}
+use Rattle.recovery_core.specs.EntriesRun.{AreLastOfSome}
 use Rattle.recovery_core.specs.Images.{Images}
 use Rattle.recovery_core.specs.JointCrash.{parts_of}
 use Rattle.recovery_core.specs.Resting.{AreTold}
@@ -15,4 +16,5 @@ invariant-loop-bank g l = record {
   so_far : (found : Images) → AreTold g.D.Disk.tells (parts_of l.fn.vault) found → (p : Savepoint) → p.lengths
       ≡ l.lengths
       → CountedSoFar l.decls p found.bank l.from l.to l.bank l.last;
+  some : AreLastOfSome l.decls l.from l.to l.last;
 }

@@ -15,7 +15,7 @@ use Rattle.log_writer.specs.Save.{Names}
 use Rattle.recovery_core.specs.JointCrash.{parts_of}
 use Rattle.recovery_core.specs.VaultReads.{RoseIn, some_of, quiet_of}
 use Rattle.recovery_core.specs.FreshLaws.{one_page_bytes, fresh_rests, fresh_since, fresh_left}
-use Rattle.recovery_core.proofs.Files.{all_below, listed_bank}
+use Rattle.recovery_core.specs.Files.{all_below, listed_bank}
 use Rattle.recovery_core.proofs.FreshStored.{fresh_stored}
 use Rattle.recovery_core.proofs.fresh.settle_fresh.Goals as goal
 

@@ -1,6 +1,6 @@
 use Rattle.std.proofs.Common.{refl, arith}
 use Rattle.recovery_core.specs.VaultReads.{snaps_read}
-use Rattle.recovery_core.proofs.StoredPages.{has_pages}
+use Rattle.recovery_core.specs.StoredPages.{has_pages}
 use Rattle.recovery_core.proofs.load_pages.load_pages.Goals as goal
 
 pub returns-in-Ok-clause-reads : goal.returns-in-Ok-clause-reads

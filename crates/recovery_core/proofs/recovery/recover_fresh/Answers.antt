@@ -1,5 +1,12 @@
-use Rattle.std.proofs.Common.{refl, arith}
+use Rattle.std.proofs.Common.{◌<◌, List, map, refl, sym, ap, subst, ◌∙◌, arith}
+use Rattle.std.specs.FinMap.{get, get-empty}
+use Rattle.std.specs.Option.{option_map}
 use Rattle.std.proofs.lemmas.Result.{err_from_is_err_and}
+use Rattle.serial_model.specs.Keys.{key_cmp, id_of}
+use Rattle.serial_model.specs.declared.decl.Decl.{Decl}
+use Rattle.wire_form.specs.Items.{Rises}
+use Rattle.log_writer.specs.Points.{saved_of}
+use Rattle.recovery_core.specs.EntriesLast.{EntryMap}
 use Rattle.recovery_core.proofs.Recovering.{fresh_recovers}
 use Rattle.recovery_core.proofs.recovery.recover_fresh.Goals as goal
 
@@ -14,3 +21,18 @@ pub returns-clause-recovers : goal.returns-clause-recovers
 returns-clause-recovers g c found names =
     fresh_recovers found _ names c.requires.fresh refl c.new-2.ensures c.new.ensures c.in_ok-store.ensures.count
     c.new-3.ensures c.new-4.ensures
+
+pub returns-clause-up : goal.returns-clause-up
+returns-clause-up g c = record {
+  saved = sym (ap (option_map saved_of) c.requires.fresh);
+  ranges = tt;
+  up = c.requires.up;
+  sound = c.in_ok-store.ensures.sound;
+  epoch = refl;
+  count = c.in_ok-store.ensures.count;
+  rising = subst (λ (l : List Decl). Rises ◌<◌ (map id_of l)) (sym c.new.ensures) tt;
+  snapshots = (
+    c.new-3.ensures,
+    λ key. ap (λ (m : EntryMap). get m key) c.new-4.ensures ∙ get-empty key_cmp key,
+  );
+}

@@ -1,10 +1,12 @@
-use Rattle.std.proofs.Common.{◌+◌, ◌<◌, None, List, map, refl, sym, ap, subst, ◌∙◌}
+use Rattle.std.proofs.Common.{◌≡◌, ◌+◌, ◌<◌, None, List, map, refl, sym, ap, subst, ◌∙◌}
 use Rattle.std.proofs.lemmas.Result.{err_from_is_err_and}
 use Rattle.serial_model.specs.Keys.{id_of}
 use Rattle.serial_model.specs.declared.decl.Decl.{Decl}
 use Rattle.wire_form.specs.Items.{Rises}
 use Rattle.log_writer.specs.declared.saved.Saved.{Saved}
 use Rattle.snapshot_store.specs.Content.{words_of}
+use Rattle.recovery_core.specs.Catalogues.{newest_epoch}
+use Rattle.recovery_core.specs.EntriesRun.{AllMayCount}
 use Rattle.recovery_core.specs.LogEntries.{AreCounted}
 use Rattle.recovery_core.specs.VaultReads.{vault_reads_then, told_read, rose_then, holds_read, quiet_then}
 use Rattle.recovery_core.proofs.Recovering.{says_some, reads_pages, ids_rise, damaged_snaps, damaged_file}
@@ -76,6 +78,7 @@ returns-clause-quiet g c =
 pub returns-clause-up : goal.returns-clause-up
 returns-clause-up g c =
     let snapshot = c.in_ok-snapshot.ensures.snapshot in
+    let decls : c.as_slice-decls.result.now ≡ c.in_ok-snapshot.snapshot.decls = c.as_slice-decls.ensures in
     record {
       saved = c.requires.says;
       ranges = c.requires.saved;
@@ -86,4 +89,15 @@ returns-clause-up g c =
       rising = subst (λ (l : List Decl). Rises ◌<◌ (map id_of l)) (sym snapshot.1.decls_are)
           (ids_rise (words_of c.in_ok-snapshot.snapshot.store.pages)
           (c.args.saved.epoch + 1) None c.args.saved.catalogue snapshot.0 snapshot.1.chain);
+      snapshots = record {
+        catalogues = snapshot.0;
+        chain = snapshot.1.chain;
+        stands = snapshot.1.stands;
+        decls = snapshot.1.decls_are;
+        marks = snapshot.1.marks_are;
+        entries = subst (λ (l : List Decl). AllMayCount l (newest_epoch snapshot.0) c.args.saved.epoch
+            c.in_ok-entries.entries) decls
+            (subst (λ k. AllMayCount c.as_slice-decls.result.now k c.args.saved.epoch c.in_ok-entries.entries)
+            snapshot.1.epoch_is c.in_ok-entries.ensures.may_count);
+      };
     }

@@ -1,4 +1,4 @@
-use Rattle.std.proofs.Common.{◌≡◌, ◌+◌, inl, inr, ℕ, Bool, true, false, [], ◌∷◌, Option, Some, length, refl, sym, ap, ◌∙◌, subst, arith}
+use Rattle.std.proofs.Common.{◌≡◌, ◌+◌, inr, ℕ, Bool, true, false, [], ◌∷◌, Option, Some, length, refl, sym, ap, ◌∙◌, subst, arith}
 use Rattle.std.specs.Prelude.{is_some, if◌then◌else◌, IfSome, IfNone}
 use Rattle.std.specs.List.Sorted.{IsPermutation}
 use Rattle.std.specs.Option.{option_map}
@@ -19,9 +19,9 @@ use Rattle.recovery_core.specs.SettleFiles.{all_banks}
 use Rattle.recovery_core.specs.SettleGoesOn.{GoesOn}
 use Rattle.recovery_core.specs.SettleFresh.{none_says}
 use Rattle.recovery_core.specs.SettleLaws.{is_without_files, untouched_leaves}
-use Rattle.recovery_core.proofs.SettleCarried.{carry_saved, carry_fresh}
+use Rattle.recovery_core.specs.SettleCarried.{carry_saved, carry_fresh}
 use Rattle.recovery_core.proofs.SettledReadings.{rests_saved, rests_fresh, same_devices, quiet_same}
-use Rattle.recovery_core.proofs.Files.{has_files}
+use Rattle.recovery_core.specs.Files.{has_files}
 use Rattle.recovery_core.proofs.settlement.settle.Goals as goal
 
 pub settle_new-requires-clause-stored : goal.settle_new-requires-clause-stored

@@ -5,7 +5,7 @@ use Rattle.serial_model.specs.Decls.{IsDecl}
 use Rattle.recovery_core.specs.FreshLaws.{IsFirstPage}
 use Rattle.recovery_core.specs.SettleLaws.{untouched_leaves}
 use Rattle.recovery_core.specs.SettlePages.{first_contents}
-use Rattle.recovery_core.proofs.Files.{has_files}
+use Rattle.recovery_core.specs.Files.{has_files}
 use Rattle.recovery_core.proofs.SettleOrder.{still_decls}
 use Rattle.recovery_core.proofs.settlement.settle_new.Goals as goal
 

@@ -8,7 +8,7 @@ use Rattle.recovery_core.specs.Recoverable.{counting}
 use Rattle.recovery_core.specs.SettleGoesOn.{GoesOn}
 use Rattle.recovery_core.specs.SettleLaws.{no_last, point_says, all_zero}
 use Rattle.recovery_core.specs.SettleLaws.{says_without_files, stays_without, untouched_leaves}
-use Rattle.recovery_core.proofs.Files.{has_files}
+use Rattle.recovery_core.specs.Files.{has_files}
 use Rattle.recovery_core.proofs.settlement.settle_saved.Goals as goal
 
 pub returns-then-not-is_empty-clause-crashes : goal.returns-then-not-is_empty-clause-crashes

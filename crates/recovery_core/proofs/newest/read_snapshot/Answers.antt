@@ -3,7 +3,7 @@ use Rattle.std.proofs.lemmas.Result.{err_from_is_err_and}
 use Rattle.wire_form.specs.Pages.{Contents}
 use Rattle.snapshot_store.specs.Content.{words_of}
 use Rattle.recovery_core.proofs.Recovering.{snapshot_is, no_snapshot}
-use Rattle.recovery_core.proofs.snapshot.read_snapshot.Goals as goal
+use Rattle.recovery_core.proofs.newest.read_snapshot.Goals as goal
 
 pub returns-in_err-gather-clause-breaks : goal.returns-in_err-gather-clause-breaks
 returns-in_err-gather-clause-breaks c at same =

@@ -2,7 +2,7 @@ use Rattle.std.proofs.Common.{◌++◌, ◌∷◌, [], map, sym, ap, ◌∙◌, 
 use Rattle.std.proofs.lemmas.List.{length-map}
 use Rattle.wire_form.specs.Pages.{stored_decl}
 use Rattle.recovery_core.proofs.Taking.{take_get}
-use Rattle.recovery_core.proofs.snapshot.decls_in.Goals as goal
+use Rattle.recovery_core.proofs.newest.decls_in.Goals as goal
 
 pub loop-i-preserved : goal.loop-i-preserved
 loop-i-preserved c =

@@ -1,6 +1,6 @@
 use Rattle.std.proofs.Common.{◌∷◌}
 use Rattle.std.proofs.lemmas.Result.{err_from_is_err_and}
-use Rattle.recovery_core.proofs.snapshot.read_chain.Goals as goal
+use Rattle.recovery_core.proofs.newest.read_chain.Goals as goal
 
 pub returns-in_err-read_before-clause-breaks : goal.returns-in_err-read_before-clause-breaks
 returns-in_err-read_before-clause-breaks c at same =

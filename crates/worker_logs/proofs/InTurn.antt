@@ -93,13 +93,15 @@ module _ {D : Type 0} {tells : D → Option (List ℕ)} {clock : D → ℕ} {ima
       → MovesLog tells clock image_at faults (epoch - 1) was log bank_was bank (refusal result)
       → OnOk result (IsJoined epoch log) → OnErr result (log.mark ≡ was.mark)
       → ((length : ℕ) → result ≢ Err (Limit length))
+      → (was.journal.lines ≡ [] → log.journal ≡ was.journal)
       → FlushedAs tells clock image_at faults epoch result was log bank_was bank
-  flushed_as epoch (Ok done) moves joined kept not_full = record { moves = moves; joined = joined }
-  flushed_as epoch (Err fault) moves joined kept not_full = record {
+  flushed_as epoch (Ok done) moves joined kept not_full nothing = record { moves = moves; joined = joined }
+  flushed_as epoch (Err fault) moves joined kept not_full nothing = record {
     fault = fault;
     moves = moves;
     not_full = λ length is. not_full length (ap Err is);
     mark = kept;
+    nothing = nothing;
   }
 
 module _ {D : Type 0} {tells : D → Option (List ℕ)} {clock : D → ℕ} {image_at : D → ℕ → List ℕ → Type 0}

@@ -1,5 +1,5 @@
 -- What a flush of all workers' logs does to each of them.
-use Rattle.std.specs.Prelude.{◌≡◌, ◌≢◌, ◌<◌, ◌≤◌, ◌-◌, ℕ, List, length, Option, Some, None, slice_get, ⊤}
+use Rattle.std.specs.Prelude.{◌≡◌, ◌≢◌, ◌<◌, ◌≤◌, ◌-◌, ℕ, List, [], length, Option, Some, None, slice_get, ⊤}
 use Rattle.std.specs.Prelude.{Result, Ok, Err}
 use Rattle.log_writer.specs.Journal.{Reaches}
 use Rattle.log_writer.specs.declared.journal.LogFault.{LogFault}
@@ -35,12 +35,14 @@ module _ {D : Type 0} (tells : D → Option (List ℕ)) (clock : D → ℕ) (ima
     pub moves : MovesLog tells clock image_at faults (epoch - 1) was log bank_was bank None
     pub joined : IsJoined epoch log
 
-  -- A log refused to be flushed, since its log file failed, now or before: it keeps its mark.
+  -- A log refused to be flushed, since its log file failed, now or before: it keeps its mark. One that had no line
+  -- waiting stays as it was.
   pub record RefusesFlush (epoch : ℕ) (was log : LogState) (bank_was bank : D) : Type 0 where
     pub fault : LogFault
     pub moves : MovesLog tells clock image_at faults (epoch - 1) was log bank_was bank (Some fault)
     pub not_full : (length : ℕ) → fault ≢ Limit length
     pub mark : log.mark ≡ was.mark
+    pub nothing : was.journal.lines ≡ [] → log.journal ≡ was.journal
 
   -- which of both comes of one log
   abbrev pub FlushedAs : {T : Type 0} → ℕ → Result T LogFault → LogState → LogState → D → D → Type 0

@@ -39,6 +39,3 @@ pub use flushing::flush_all;
 pub use savepoints::Savepoints;
 pub use worker_log::WorkerLog;
 pub use write_set::WriteSet;
-
-#[cfg(test)]
-mod tests;

@@ -10,7 +10,8 @@ returns-clause-one g c =
     c.args.logs.now c.args.growing.now c.args.worker c.index-logs-worker.result c.flush_and_mark.new.self
     c.index-growing-worker.result c.flush_and_mark.new.bank
     (flushed_as c.args.clock c.flush_and_mark.result c.flush_and_mark.ensures.moves c.flush_and_mark.ensures.marked
-    c.flush_and_mark.ensures.kept c.flush_and_mark.ensures.not_full)
+    c.flush_and_mark.ensures.kept c.flush_and_mark.ensures.not_full
+    (λ none. (c.flush_and_mark.ensures.nothing none).0))
 
 pub returns-clause-other_logs : goal.returns-clause-other_logs
 returns-clause-other_logs g c other apart =

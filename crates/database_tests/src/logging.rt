@@ -4,13 +4,14 @@ ghost use Rattle.outside.specs.Disk.{IfTold, Only};
 ghost use Rattle.log_writer.specs.Journal.{Reaches};
 ghost use Rattle.log_writer.specs.Save.{IsStored};
 
-use super::*;
+use crate::disks::disk;
 use log_writer::{LogFault, Save};
 use outside::{Disk, MemDisk, Vault};
 use serial_model::{Change, Changes, Commit, Decl, Key, Memory, Number, Op, Plain, fits, run_one};
 use std::alloc::{AllocError, Global};
 use std::test::Fail;
 use wire_form::{Savepoint, is_loggable, read_savepoint, write_savepoint};
+use worker_logs::{Savepoints, WorkerLog, WriteSet};
 
 fn key(storage: u8, key: u64) -> Key {
     Key { storage, key }
@@ -138,15 +139,6 @@ fn log<D: Disk>(
     Ok(log)
 }
 
-// A disk with these bytes, that tells them.
-#[tactic(auto, using(outside::specs::Moments::only_told))]
-fn disk(alloc: Global, bytes: &[u8]) -> Result<MemDisk, AllocError>
-    ensures { IfOk result (λ disk. IfTold (⟦<MemDisk as Disk>⟧.tells disk)
-        (Only ⟦<MemDisk as Disk>⟧.clock ⟦<MemDisk as Disk>⟧.image_at disk)) }
-{
-    MemDisk::new(alloc, bytes.to_vec(alloc)?, Vec::new(alloc))
-}
-
 // The save device after its first store, which counts nothing.
 fn save_device(alloc: Global) -> Result<MemDisk, AllocError>
     ensures { IfOk result (λ disk. IfTold (⟦<MemDisk as Disk>⟧.tells disk)
@@ -165,14 +157,14 @@ fn save_device(alloc: Global) -> Result<MemDisk, AllocError>
     }
     let mut bytes = [0; 1024];
     bytes[..512].copy_from_slice(&place);
-    disk(alloc, &bytes)
+    disk(alloc, &bytes, &[])
 }
 
 // What is stored at epoch 5 of the clock, once each worker put so many lines and was marked.
 fn stored(alloc: Global, workers: &[(usize, u32); 8]) -> Result<Option<(u32, Savepoint)>, Memory> {
     let (mut logs, mut even) = (Vec::new(alloc), Vec::new(alloc));
     for (lines, clock) in workers {
-        let mut bank = disk(alloc, &[])?;
+        let mut bank = disk(alloc, &[], &[])?;
         logs.push(log(alloc, &mut bank, *lines, *clock)?)?;
         even.push(bank)?;
     }
@@ -180,7 +172,7 @@ fn stored(alloc: Global, workers: &[(usize, u32); 8]) -> Result<Option<(u32, Sav
     ties.reserve(1)?;
     let mut vault = Vault {
         save: save_device(alloc)?,
-        snaps: disk(alloc, &[])?,
+        snaps: disk(alloc, &[], &[])?,
         even,
         odd: Vec::new(alloc),
         ties,

@@ -1,7 +1,7 @@
 use Rattle.std.proofs.Common.{subst, sym}
 use Rattle.log_writer.specs.Points.{SaveState}
 use Rattle.log_writer.specs.Save.{LeavesNewest}
-use Rattle.worker_logs.proofs.tests.open.Goals as goal
+use Rattle.database_tests.proofs.logging.open.Goals as goal
 
 pub returns : goal.returns
 returns g c = record {

@@ -1,0 +1,31 @@
+-- A write behind some bytes, and a sync, leave these bytes.
+use Rattle.std.proofs.Common.{◌≡◌, ℕ, List, inl, inr, refl, subst}
+use Rattle.lists.specs.Fronts.{IsFront}
+use Rattle.outside.specs.Disk.{Torn, Same, Goes}
+use Rattle.outside.specs.Fronts.{AllBegin}
+use Rattle.outside.specs.Moments.{runs_call, runs_then, left_after_runs}
+use Rattle.snapshot_store.specs.declared.store.StoreFault.{StoreFault}
+use Rattle.snapshot_store.specs.declared.store.StoreFault.TheVariants.{Device as Failed, Short, Limit}
+use Rattle.recovery_core.specs.Crashes.SnapsSteps.{front_torn}
+use Rattle.checkpoints.specs.Written.{KeepsFront}
+
+-- the device is all that an append of pages with numbers tells of
+pub only_failed : (f : StoreFault) → ((at : ℕ) → f ≡ Short at → ⊥) → ((n : ℕ) → f ≡ Limit n → ⊥) → f ≡ Failed
+only_failed Failed short limit = refl
+only_failed (Short at) short limit = absurd (short at refl)
+only_failed (Limit n) short limit = absurd (limit n refl)
+
+module _ {D : Type 0} {clock : D → ℕ} {image_at : D → ℕ → List ℕ → Type 0} {at count : ℕ} where
+  pub write_keeps : {old new : D} → Goes clock image_at (Torn at count) old new → KeepsFront clock image_at at old new
+  write_keeps goes front within all =
+      runs_call (λ d c was torn. front_torn front at count d c within torn (all d was)) goes
+
+  pub synced_keeps : {old mid new : D} → Goes clock image_at (Torn at count) old mid → Goes clock image_at Same mid new
+      → KeepsFront clock image_at at old new
+  synced_keeps {mid = mid} goes next front within all =
+      let first = write_keeps goes front within all in
+      let begun : AllBegin (image_at mid (clock mid)) front = λ d left. elim (left_after_runs d first left) [
+        | inl was ↦ all d was
+        | inr now ↦ now
+      ] in
+      runs_then first (runs_call (λ d c was same. subst (IsFront front) same (begun d was)) next)

@@ -1,0 +1,10 @@
+pub mod Bounded
+pub mod Overlays
+pub mod NextReading
+pub mod NextState
+pub mod OldOrNext
+pub mod DueLemmas
+pub mod Appended
+pub mod NextSettled
+pub mod OneRun
+pub mod PlainSettled

@@ -1,0 +1,28 @@
+//! New snapshots on disk: log entries are composed into pages, which a savepoint then names.
+//!
+//! Promises:
+//! - [`settle`] brings a database that was recovered to where a run begins. Where log entries count above its newest
+//!   snapshot, it composes a new one of the saved epoch. Behind `Ok` the devices say what is handed on, and the log
+//!   files are empty (`settles`, record `SettlesInto`). Whatever it answers, each crash of all devices since they rest
+//!   leaves the epoch and the state that were recovered (`crashes`, record `LeavesSame`); after each other answer but
+//!   a device's fault the devices are as they were (`untouched`).
+//! - Its refusals have their numbers (`deep`, `limit`, `sequence`), come in this order, before any write, and come
+//!   exactly where they are due (`fits`, `last`).
+//!
+//! Order of writes: the new pages, their sync, the savepoint that names them and counts nothing of the log files, the
+//! cuts of the log files. A stop between two of them finds the old savepoint with all that it counts, or the new one.
+//!
+//! Terms: an entry *counts* where its epoch is above the newest snapshot's and at most the saved one; a *run* has the
+//! last entry of each key.
+//!
+//! Design: docs/CHECKPOINT.md, docs/DURABILITY.md.
+#![tactic(auto)]
+
+mod due;
+mod settlement;
+mod writing;
+
+pub use settlement::settle;
+
+#[cfg(test)]
+mod tests;

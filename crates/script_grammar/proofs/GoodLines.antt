@@ -13,8 +13,10 @@ use Rattle.serial_model.specs.declared.decl.Decl.TheVariants.{Array, Tree}
 use Rattle.serial_model.specs.declared.op.Op.{Op}
 use Rattle.script_grammar.specs.declared.fault.FaultKind.{FaultKind}
 use Rattle.script_grammar.specs.declared.fault.FaultKind.TheVariants.{Word, Number, Declared, Kind, Range}
-use Rattle.script_grammar.specs.Script.{Bytes, Line, Worker, op_text}
-use Rattle.script_grammar.specs.Words.{passes, words, number_in, is_no_number, is_word, is_join, is_worker_line, worker_word, op_parts}
+use Rattle.script_grammar.specs.declared.lines.KeeperLine.{KeeperLine}
+use Rattle.script_grammar.specs.declared.lines.KeeperLine.TheVariants.{Epoch, Save}
+use Rattle.script_grammar.specs.Script.{Bytes, Line, Worker, Keeper, IsAsked, op_text, keeper_text}
+use Rattle.script_grammar.specs.Words.{passes, words, number_in, is_no_number, is_word, is_join, is_keeper_line, is_worker_line, worker_word, op_parts}
 use Rattle.script_grammar.specs.Reading.{Parts, is_fresh, may_declare, may_run, with_join, ops_in, line_at, decl_at, step}
 use Rattle.script_grammar.specs.Faults.{Place, place_after, begins_with, is_decl_shape, op_is, some_op_is, is_too_long, has_no_shape, lacks_number, is_too_many, is_misdeclared, is_of_other_kind, is_out_of_range, kind_of}
 use Rattle.script_grammar.proofs.Found.{or_parts, or_cases, not_true, second_false}
@@ -104,9 +106,9 @@ record IsGoodLine (p : Parts) (line : Bytes) : Type 0 where
   room : may_run p ops ≡ true
 
 -- the same, of what stands before and behind the first space
-line_of : (p : Parts) (line : Bytes) → HaveNoFault p.decls (op_parts line) → IsNumber (worker_word line) → passes (nat_le 8) (number_of (worker_word line)) ≡ false → nat_lt 16 (length (op_parts line)) ≡ false
+line_of : (p : Parts) (line : Bytes) → is_worker_line line ≡ true → HaveNoFault p.decls (op_parts line) → IsNumber (worker_word line) → passes (nat_le 8) (number_of (worker_word line)) ≡ false → nat_lt 16 (length (op_parts line)) ≡ false
     → nat_le 65536 (length p.lines) ≡ false → IsGoodLine p line
-line_of p line none worker range few room =
+line_of p line begins none worker range few room =
     let good : AreGood p.decls (op_parts line) = good_ops p.decls (op_parts line) none in
     let text = ops_take (op_parts line) good.ops good.found in
     let count : length good.ops ≡ length (op_parts line) = sym (length-map good.ops op_text) ∙ ap (λ (ps : List Bytes). length ps) (sym text.0) in
@@ -114,7 +116,7 @@ line_of p line none worker range few room =
     record {
       worker = worker.value;
       ops = good.ops;
-      found = line_found line worker.value good.ops worker.found (leb-false 8 worker.value (not_passed (nat_le 8) (worker_word line) worker.value worker.found range)) good.found (omega arith);
+      found = line_found line worker.value good.ops begins worker.found (leb-false 8 worker.value (not_passed (nat_le 8) (worker_word line) worker.value worker.found range)) good.found (omega arith);
       room = and_from (nat_lt (length p.lines) 65536) (list_all (fits p.decls) good.ops) (lt-ltb (length p.lines) 65536 (leb-false 65536 (length p.lines) room)) good.fitting;
     }
 
@@ -125,7 +127,7 @@ good_line p line worker none =
     let numbers = or_parts (is_none (number_of (worker_word line))) (list_any (op_is Number p.decls) (op_parts line)) (of_first b _ _ worker none.numbers) in
     let few = or_parts (nat_lt 16 (length (op_parts line))) (nat_le 65536 (length p.lines)) (of_first b _ _ worker none.few) in
     let range = or_parts (passes (nat_le 8) (number_of (worker_word line))) (list_any (op_is Range p.decls) (op_parts line)) (of_first b _ _ worker none.range) in
-    line_of p line
+    line_of p line worker
     (record {
       shape = of_first b _ _ worker none.shape;
       numbers = numbers.1;
@@ -208,9 +210,9 @@ good_id p line word id more ws other shape none =
     let b : Bool = is_worker_line line in
     let of_id = λ (test : ℕ → Bool). passes test (number_in (words line) 1) in
     let of_size = λ (test : ℕ → Bool). passes test (number_in (words line) 2) in
-    let numbers = or_parts (is_no_number (words line) 1) (is_no_number (words line) 2) (of_second b _ _ other none.numbers) in
+    let numbers = or_parts (is_no_number (words line) 1) (is_no_number (words line) 2) (second_false _ _ shape (of_second b _ _ other none.numbers)) in
     let n : IsNumber id = is_number id (rw ws at numbers.0) in
-    let few = second_false _ _ shape (of_second b _ _ other none.few) in
+    let few = second_false _ _ shape (or_parts (is_keeper_line line && nat_le 65536 (length p.lines)) _ (of_second b _ _ other none.few)).1 in
     let declared = or_parts (not (is_fresh p)) (of_id (λ m. list_any (λ d. id_of d == m) p.decls)) (second_false _ _ shape (of_second b _ _ other none.declared)) in
     let range = or_parts (of_id (nat_le 256)) (of_size (λ m. (m == 0) || nat_lt 131072 m)) (second_false _ _ shape (of_second b _ _ other none.range)) in
     let new : list_any (λ d. id_of d == n.value) p.decls ≡ false = not_passed (λ m. list_any (λ d. id_of d == m) p.decls) id n.value n.found (rw ws at declared.1) in
@@ -234,7 +236,7 @@ good_array p line other shape none ws =
     let of_id = λ (test : ℕ → Bool). passes test (number_in (words line) 1) in
     let of_size = λ (test : ℕ → Bool). passes test (number_in (words line) 2) in
     let id = good_id p line (codes "array") ws.id (ws.size ∷ []) ws.words_are other shape none in
-    let numbers = or_parts (is_no_number (words line) 1) (is_no_number (words line) 2) (of_second b _ _ other none.numbers) in
+    let numbers = or_parts (is_no_number (words line) 1) (is_no_number (words line) 2) (second_false _ _ shape (of_second b _ _ other none.numbers)) in
     let size : IsNumber ws.size = is_number ws.size (rw ws.words_are at numbers.1) in
     let range = or_parts (of_id (nat_le 256)) (of_size (λ n. (n == 0) || nat_lt 131072 n)) (second_false _ _ shape (of_second b _ _ other none.range)) in
     let sized = size_is size.value (not_passed (λ n. (n == 0) || nat_lt 131072 n) ws.size size.value size.found (rw ws.words_are at range.1)) in
@@ -268,6 +270,25 @@ taken_decl p line short good =
     let t = decl_takes line good.is good.found in
     (record p { decls = p.decls ++ good.is ∷ [] }, ap (step p) t.0 ∙ decl_step_at p good.is t.1 (subst IsShort t.0 short) good.room)
 
+-- a line of the maintenance thread
+taken_asked : (p : Parts) (line : Bytes) (asked : KeeperLine) → IsAsked asked → IsShort line → nat_le 65536 (length p.lines) ≡ false → line ≡ keeper_text asked → IsTaken p line
+taken_asked p line asked is short few e =
+    let room : nat_lt (length p.lines) 65536 ≡ true = lt-ltb (length p.lines) 65536 (leb-false 65536 (length p.lines) few) in
+    (record p { lines = p.lines ++ Keeper asked ∷ [] }, ap (step p) e ∙ line_step_at p (Keeper asked) is (subst IsShort e short) room)
+
+taken_keeper : (p : Parts) (line : Bytes) → IsShort line → is_keeper_line line ≡ true → nat_le 65536 (length p.lines) ≡ false → IsTaken p line
+taken_keeper p line short keeper few =
+    elim (or_cases (is_word (codes "k epoch") line) (is_word (codes "k save") line) keeper) [
+      | inl epoch ↦ taken_asked p line Epoch tt short few (same_text line (codes "k epoch") (sym epoch))
+      | inr save ↦ taken_asked p line Save tt short few (same_text line (codes "k save") (sym save))
+    ]
+
+-- too many lines are none of the maintenance thread
+few_keeper : (p : Parts) (line : Bytes) → is_worker_line line ≡ false → is_keeper_line line ≡ true → is_too_many (place_after p) line ≡ false → nat_le 65536 (length p.lines) ≡ false
+unfolding is_too_many
+few_keeper p line other keeper few =
+    second_false (is_keeper_line line) _ keeper (or_parts (is_keeper_line line && nat_le 65536 (length p.lines)) _ (of_second (is_worker_line line) _ _ other few)).0
+
 taken_join : (p : Parts) (line : Bytes) → is_join line ≡ true → IsTaken p line
 taken_join p line e = (with_join p, ap (step p) (same_text line (codes "join") (sym e)) ∙ join_step p)
 
@@ -285,11 +306,14 @@ is_taken p line e =
       | inl worker ↦ taken_line p line short (good_line p line worker none)
       | inr other ↦
           let shaped = not_true _ (of_second (is_worker_line line) _ _ other none.shape) in
-          elim (or_cases (length line == 0) (is_join line || is_decl_shape line) shaped) [
+          elim (or_cases (length line == 0) (is_join line || (is_keeper_line line || is_decl_shape line)) shaped) [
             | inl empty ↦ taken_empty p line (eqb-true (length line) 0 empty)
-            | inr some ↦ elim (or_cases (is_join line) (is_decl_shape line) some) [
+            | inr some ↦ elim (or_cases (is_join line) (is_keeper_line line || is_decl_shape line) some) [
               | inl join ↦ taken_join p line join
-              | inr decl ↦ taken_decl p line short (good_decl p line other decl none)
+              | inr later ↦ elim (or_cases (is_keeper_line line) (is_decl_shape line) later) [
+                | inl keeper ↦ taken_keeper p line short keeper (few_keeper p line other keeper none.few)
+                | inr decl ↦ taken_decl p line short (good_decl p line other decl none)
+              ]
             ]
           ]
     ]

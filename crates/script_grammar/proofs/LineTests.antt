@@ -12,8 +12,10 @@ use Rattle.serial_model.specs.declared.decl.Decl.{Decl}
 use Rattle.serial_model.specs.declared.decl.Decl.TheVariants.{Array, Tree}
 use Rattle.serial_model.specs.declared.op.Op.{Op}
 use Rattle.script_grammar.specs.declared.fault.FaultKind.TheVariants.{Word, Number, Declared, Kind, Range}
-use Rattle.script_grammar.specs.Script.{Bytes, Line, Worker, Keeper, Round, op_text, line_text, decl_text}
-use Rattle.script_grammar.specs.Words.{passes, words, number_in, is_no_number, is_join, is_worker_line, op_parts}
+use Rattle.script_grammar.specs.declared.lines.KeeperLine.{KeeperLine}
+use Rattle.script_grammar.specs.declared.lines.KeeperLine.TheVariants.{Epoch, Save, Glean, Drop}
+use Rattle.script_grammar.specs.Script.{Bytes, Line, Worker, Keeper, IsAsked, Round, op_text, keeper_text, line_text, decl_text}
+use Rattle.script_grammar.specs.Words.{passes, words, number_in, is_no_number, is_join, is_keeper_line, is_worker_line, op_parts}
 use Rattle.script_grammar.specs.Reading.{Parts, is_fresh, may_declare, may_run, may_follow, with_join}
 use Rattle.script_grammar.specs.Faults.{Place, place_after, place_past, declared_by, is_decl_shape, op_is, some_op_is, is_too_long, has_no_shape, lacks_number, is_too_many, is_misdeclared, is_of_other_kind, is_out_of_range, kind_of}
 use Rattle.script_grammar.proofs.Found.{or_from, or_last, not_false, denied}
@@ -91,23 +93,31 @@ not_empty xs x = ne_eqb (length (xs ++ x ∷ [])) 0 (λ none. omega (arith, leng
 abbrev stands : List Decl → Bool → ℕ → Place
 stands decls begun lines = record { decls = decls; begun = begun; lines = lines }
 
-past_line : (p : Parts) (line : Bytes) (l : Line) → is_worker_line line ≡ true → place_past (place_after p) line ≡ place_after (record p { lines = p.lines ++ l ∷ [] })
+past_line : (p : Parts) (line : Bytes) (l : Line) → (is_worker_line line || is_keeper_line line) ≡ true → place_past (place_after p) line ≡ place_after (record p { lines = p.lines ++ l ∷ [] })
 unfolding place_past
-past_line p line l worker =
+past_line p line l one =
     let begun : is_fresh (record p { lines = p.lines ++ l ∷ [] }) ≡ false = and_false (length p.joined == 0) _ (not_empty p.lines l) in
-    rw worker
+    rw one
     (ap (λ (n : ℕ). stands p.decls true n) (sym (length-append p.lines (l ∷ []))) ∙ ap (λ (b : Bool). stands p.decls (not b) (length (p.lines ++ l ∷ []))) (sym begun))
 
--- behind a worker's line that may come here stands the next one
+-- behind a line of the maintenance thread that may come here stands the next one
+passes_keeper : (p : Parts) (asked : KeeperLine) → IsAsked asked → nat_lt (length p.lines) 65536 ≡ true → Passes p (keeper_text asked) (record p { lines = p.lines ++ Keeper asked ∷ [] })
+unfolding kind_of is_too_long has_no_shape lacks_number is_too_many is_misdeclared is_of_other_kind is_out_of_range is_decl_shape
+passes_keeper p Epoch is room = record { kind = rw (lt-leb 65536 (length p.lines) (ltb-true _ _ room)) refl; past = past_line p (codes "k epoch") (Keeper Epoch) refl }
+passes_keeper p Save is room = record { kind = rw (lt-leb 65536 (length p.lines) (ltb-true _ _ room)) refl; past = past_line p (codes "k save") (Keeper Save) refl }
+passes_keeper p Glean is room = absurd is
+passes_keeper p Drop is room = absurd is
+
+-- behind a line that may come here stands the next one
 pub passes_line : (p : Parts) (l : Line) → IsSpelledLine l → IsShort (line_text l) → may_follow p l ≡ true → Passes p (line_text l) (record p { lines = p.lines ++ l ∷ [] })
 passes_line p (Worker worker ops) is short test =
     let begins = line_begins_so worker ops is.0 is.1 in
     let line : Bytes = line_text (Worker worker ops) in
     record {
       kind = no_kind (place_after p) line (faultless_line p line worker ops is.0 is.1 short test begins);
-      past = past_line p line (Worker worker ops) begins.worker_line;
+      past = past_line p line (Worker worker ops) (rw begins.worker_line refl);
     }
-passes_line p (Keeper line) is short test = absurd is
+passes_line p (Keeper line) is short test = passes_keeper p line is test
 
 -- ---- declarations
 
@@ -115,6 +125,7 @@ passes_line p (Keeper line) is short test = absurd is
 record IsGoodDecl (line : Bytes) (d : Decl) : Type 0 where
   other : is_worker_line line ≡ false
   no_join : is_join line ≡ false
+  no_keeper : is_keeper_line line ≡ false
   shape : is_decl_shape line ≡ true
   id_is : number_in (words line) 1 ≡ Some (id_of d)
   numbers : (is_no_number (words line) 1 || is_no_number (words line) 2) ≡ false
@@ -142,6 +153,7 @@ good_decl (Array id size) is =
     record {
       other = refl;
       no_join = refl;
+      no_keeper = refl;
       shape = array_shape (decl_text (Array id size)) (decimal id) (decimal size) ws;
       id_is = rw (ws, n) refl;
       numbers = rw (ws, n, m) refl;
@@ -155,6 +167,7 @@ good_decl (Tree id) is =
     record {
       other = refl;
       no_join = refl;
+      no_keeper = refl;
       shape = tree_shape (decl_text (Tree id)) (decimal id) ws;
       id_is = rw (ws, n) refl;
       numbers = rw (ws, n) refl;
@@ -172,9 +185,9 @@ faultless_decl p line d good short test =
     let new : list_any (λ e. id_of e == id_of d) p.decls ≡ false = not_false _ second.1 in
     record {
       short = le-ltb 1024 (length line) short;
-      shape = at_second b _ _ good.other (denied _ (or_last (length line == 0) _ (or_last _ (is_decl_shape line) good.shape)));
-      numbers = at_second b _ _ good.other good.numbers;
-      few = at_second b _ _ good.other (and_false (is_decl_shape line) _ (lt-leb 16 (length p.decls) (ltb-true _ _ second.0)));
+      shape = at_second b _ _ good.other (denied _ (or_last (length line == 0) _ (or_last (is_join line) _ (or_last (is_keeper_line line) (is_decl_shape line) good.shape))));
+      numbers = at_second b _ _ good.other (and_false (is_decl_shape line) _ good.numbers);
+      few = at_second b _ _ good.other (or_from (is_keeper_line line && nat_le 65536 (length p.lines)) _ (rw good.no_keeper refl) (and_false (is_decl_shape line) _ (lt-leb 16 (length p.decls) (ltb-true _ _ second.0))));
       declared = at_second b _ _ good.other (and_false (is_decl_shape line) _ (or_from (not (is_fresh p)) _ (denied (is_fresh p) first.0) (rw good.id_is new)));
       kind = rw good.other refl;
       range = at_second b _ _ good.other (and_false (is_decl_shape line) _ good.range);
@@ -182,7 +195,7 @@ faultless_decl p line d good short test =
 
 past_decl : (p : Parts) (line : Bytes) (d : Decl) → IsGoodDecl line d → place_past (place_after p) line ≡ place_after (record p { decls = p.decls ++ d ∷ [] })
 unfolding place_past
-past_decl p line d good = rw (good.other, good.no_join, good.shape, good.declares) refl
+past_decl p line d good = rw (good.other, good.no_keeper, good.no_join, good.shape, good.declares) refl
 
 pub passes_decl : (p : Parts) (d : Decl) → IsDecl d → IsShort (decl_text d) → may_declare p d ≡ true → Passes p (decl_text d) (record p { decls = p.decls ++ d ∷ [] })
 passes_decl p d is short test =

@@ -1,5 +1,5 @@
 -- A line that is read is spelled so, and what is spelled so is read.
-use Rattle.std.proofs.Common.{◌≡◌, inl, inr, ℕ, ◌+◌, ◌<◌, ◌≤◌, ◌^◌, true, false, cond, ltb, leb, eqb, List, [], ◌∷◌, ◌++◌, length, map, get_or, Some, None, refl, sym, ap, subst, ◌∙◌, append_assoc, arith}
+use Rattle.std.proofs.Common.{◌≡◌, inl, inr, ℕ, ◌+◌, ◌<◌, ◌≤◌, ◌^◌, Bool, true, false, cond, ltb, leb, eqb, List, [], ◌∷◌, ◌++◌, length, map, get_or, Option, Some, None, refl, sym, ap, subst, ◌∙◌, append_assoc, arith}
 use Rattle.std.specs.Prelude.{◌&&◌, codes, nat_lt, nat_le}
 use Rattle.std.specs.Char.{is_ascii_digit}
 use Rattle.std.specs.Cmp.Lexicographic.{same_text}
@@ -17,9 +17,11 @@ use Rattle.serial_model.specs.Decls.{IsDecl}
 use Rattle.serial_model.specs.declared.decl.Decl.{Decl}
 use Rattle.serial_model.specs.declared.decl.Decl.TheVariants.{Array, Tree}
 use Rattle.serial_model.specs.declared.op.Op.{Op}
-use Rattle.script_grammar.specs.Script.{Bytes, Line, Worker, Keeper, op_text, ops_text, line_text, decl_text}
+use Rattle.script_grammar.specs.declared.lines.KeeperLine.{KeeperLine}
+use Rattle.script_grammar.specs.declared.lines.KeeperLine.TheVariants.{Epoch, Save, Glean, Drop}
+use Rattle.script_grammar.specs.Script.{Bytes, Line, Worker, Keeper, IsAsked, op_text, ops_text, keeper_text, line_text, decl_text}
 use Rattle.script_grammar.specs.Words.{◌>>=◌, words, parts, is_word, is_space, is_worker_line, worker_word, op_parts}
-use Rattle.script_grammar.specs.Reading.{ops_in, few_of, few_ops_in, worker_in, line_at, array_in, tree_in, decl_in, decl_at}
+use Rattle.script_grammar.specs.Reading.{ops_in, few_of, few_ops_in, worker_in, transaction_at, begins_keeper, keeper_in, line_at, array_in, tree_in, decl_in, decl_at}
 use Rattle.script_grammar.proofs.Found.{bind_some, test_some, chosen, some_same}
 use Rattle.script_grammar.proofs.Parts.{parts_cons}
 use Rattle.script_grammar.proofs.WordTexts.{digits_of, words_join, words_last, words_two}
@@ -34,10 +36,10 @@ pub record AreSpelled (ops : List Op) : Type 0 where
   pub few : length ops ≤ 16
   pub each : AllByRecursion IsSpelled ops
 
--- a line of a worker from 0 to 7 whose operations have a spelling
+-- a line of a worker from 0 to 7 whose operations have a spelling, or one of the maintenance thread
 abbrev pub IsSpelledLine : Line → Type 0
 IsSpelledLine (Worker worker ops) = (worker < 8) × AreSpelled ops
-IsSpelledLine (Keeper line) = ⊥
+IsSpelledLine (Keeper line) = IsAsked line
 
 -- a worker that is read is spelled so
 worker_takes : (word : Bytes) (w : ℕ) → worker_in word ≡ Some w → (word ≡ decimal w) × (w < 8)
@@ -76,9 +78,9 @@ cut_at_space line ops e =
     ]
 
 -- a worker's line that is read is spelled so
-pub line_takes : (bs : Bytes) (l : Line) → line_at bs ≡ Some l → (bs ≡ line_text l) × IsSpelledLine l
-unfolding line_at
-line_takes bs l e =
+pub transaction_takes : (bs : Bytes) (l : Line) → transaction_at bs ≡ Some l → (bs ≡ line_text l) × IsSpelledLine l
+unfolding transaction_at
+transaction_takes bs l e =
     let a = bind_some (worker_in (worker_word bs)) (λ w. few_ops_in (op_parts bs) >>= (λ ops. Some (Worker w ops))) l e in
     let b = bind_some (few_ops_in (op_parts bs)) (λ ops. Some (Worker a.0 ops)) l a.2 in
     let d = bind_some (ops_in (op_parts bs)) few_of b.0 b.1 in
@@ -123,18 +125,73 @@ line_begins_so worker ops below are =
     (begins_line (48 + worker) (ops_text ops) worker ops (ne_eqb (48 + worker) 32 (λ same. omega arith)) (is_digit (48 + worker) all.0)
     (ap number_of (sym one) ∙ number_of_again worker (omega arith)) (ops_parts ops are))
 
--- a line that begins so is read
-pub line_found : (line : Bytes) (worker : ℕ) (ops : List Op) → number_of (worker_word line) ≡ Some worker → worker < 8 → ops_in (op_parts line) ≡ Some ops → length ops ≤ 16
-    → line_at line ≡ Some (Worker worker ops)
-unfolding line_at
-line_found line worker ops number_is below found few = rw (number_is, lt-ltb worker 8 below, found, le-leb (length ops) 16 few) refl
+-- a worker's line doesn't begin as one of the maintenance thread
+no_keeper : (line : Bytes) → is_worker_line line ≡ true → begins_keeper line ≡ false
+no_keeper [] e = refl
+no_keeper (b ∷ bs) e =
+    elim (cases_on (eqb b 107)) [
+      | inl same ↦ absurd (let h = rw (eqb-true b 107 same) at e in cc)
+      | inr other ↦ other
+    ]
 
--- a spelled worker's line is read again
+-- what is read of a line that doesn't begin as one of the maintenance thread
+pub of_worker : (line : Bytes) (found : Option Line) → begins_keeper line ≡ false → transaction_at line ≡ found → line_at line ≡ found
+unfolding line_at
+of_worker line found other e = rw other e
+
+transaction_found : (line : Bytes) (worker : ℕ) (ops : List Op) → number_of (worker_word line) ≡ Some worker → worker < 8 → ops_in (op_parts line) ≡ Some ops → length ops ≤ 16
+    → transaction_at line ≡ Some (Worker worker ops)
+unfolding transaction_at
+transaction_found line worker ops number_is below found few = rw (number_is, lt-ltb worker 8 below, found, le-leb (length ops) 16 few) refl
+
+-- a line that begins so is read
+pub line_found : (line : Bytes) (worker : ℕ) (ops : List Op) → is_worker_line line ≡ true → number_of (worker_word line) ≡ Some worker → worker < 8 → ops_in (op_parts line) ≡ Some ops → length ops ≤ 16
+    → line_at line ≡ Some (Worker worker ops)
+line_found line worker ops begins number_is below found few =
+    of_worker line (Some (Worker worker ops)) (no_keeper line begins) (transaction_found line worker ops number_is below found few)
+
+-- ---- lines of the maintenance thread
+
+-- the words decide what is asked for
+keeper_by_words : (line : Bytes) (asked : KeeperLine) (epoch save : Bool) → is_word (codes "k epoch") line ≡ epoch → is_word (codes "k save") line ≡ save
+    → cond epoch (Some Epoch) (cond save (Some Save) None) ≡ Some asked → (line ≡ keeper_text asked) × IsAsked asked
+keeper_by_words line asked true save e f found =
+    subst (λ (a : KeeperLine). (line ≡ keeper_text a) × IsAsked a) (some_same Epoch asked found) (same_text line (codes "k epoch") (sym e), tt)
+keeper_by_words line asked false true e f found =
+    subst (λ (a : KeeperLine). (line ≡ keeper_text a) × IsAsked a) (some_same Save asked found) (same_text line (codes "k save") (sym f), tt)
+keeper_by_words line asked false false e f found = absurd cc
+
+-- a line of the maintenance thread that is read is spelled so
+keeper_takes : (line : Bytes) (asked : KeeperLine) → keeper_in line ≡ Some asked → (line ≡ keeper_text asked) × IsAsked asked
+keeper_takes line asked e = keeper_by_words line asked (is_word (codes "k epoch") line) (is_word (codes "k save") line) refl refl e
+
+-- and what is spelled so is read
+keeper_again : (asked : KeeperLine) → IsAsked asked → line_at (keeper_text asked) ≡ Some (Keeper asked)
+unfolding line_at
+keeper_again Epoch is = refl
+keeper_again Save is = refl
+keeper_again Glean is = absurd is
+keeper_again Drop is = absurd is
+
+-- ---- both kinds of lines
+
+takes_by_letter : (keeper : Bool) (bs : Bytes) (l : Line) → cond keeper (keeper_in bs >>= (λ asked. Some (Keeper asked))) (transaction_at bs) ≡ Some l → (bs ≡ line_text l) × IsSpelledLine l
+takes_by_letter true bs l e =
+    let a = bind_some (keeper_in bs) (λ asked. Some (Keeper asked)) l e in
+    subst (λ (x : Line). (bs ≡ line_text x) × IsSpelledLine x) (some_same (Keeper a.0) l a.2) (keeper_takes bs a.0 a.1)
+takes_by_letter false bs l e = transaction_takes bs l e
+
+-- a line that is read is spelled so
+pub line_takes : (bs : Bytes) (l : Line) → line_at bs ≡ Some l → (bs ≡ line_text l) × IsSpelledLine l
+unfolding line_at
+line_takes bs l e = takes_by_letter (begins_keeper bs) bs l e
+
+-- a spelled line is read again
 pub line_again : (l : Line) → IsSpelledLine l → line_at (line_text l) ≡ Some l
 line_again (Worker worker ops) is =
     let begins = line_begins_so worker ops is.0 is.1 in
-    line_found (line_text (Worker worker ops)) worker ops begins.number_is is.0 (ap ops_in begins.ops_are ∙ ops_again ops is.1.each) is.1.few
-line_again (Keeper line) is = absurd is
+    line_found (line_text (Worker worker ops)) worker ops begins.worker_line begins.number_is is.0 (ap ops_in begins.ops_are ∙ ops_again ops is.1.each) is.1.few
+line_again (Keeper line) is = keeper_again line is
 
 -- ---- declarations
 

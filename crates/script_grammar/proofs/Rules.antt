@@ -76,7 +76,7 @@ ops_spelled decls (op ∷ ops) all are = (op_spelled decls op all are.0, ops_spe
 -- a line by the rules has a spelling
 pub line_spelled : (decls : List Decl) (l : Line) → AllByRecursion IsDecl decls → IsLine decls l → IsSpelledLine l
 line_spelled decls (Worker worker ops) all is = (is.worker, record { some = is.some_op; few = is.few_ops; each = ops_spelled decls ops all is.ops })
-line_spelled decls (Keeper line) all is = absurd is
+line_spelled decls (Keeper line) all is = is
 
 -- operations by the rules pass the test
 pub ops_fit : (decls : List Decl) (ops : List Op) → AllByRecursion (IsOp decls) ops → list_all (fits decls) ops ≡ true

@@ -10,6 +10,7 @@ use Rattle.serial_model.specs.Keys.{id_of, fits}
 use Rattle.serial_model.specs.Decls.{IsDecl}
 use Rattle.serial_model.specs.declared.decl.Decl.{Decl}
 use Rattle.serial_model.specs.declared.decl.Decl.TheVariants.{Array, Tree}
+use Rattle.script_grammar.specs.declared.lines.KeeperLine.TheVariants.{Epoch, Save, Glean, Drop}
 use Rattle.script_grammar.specs.Script.{Bytes, Line, Worker, Keeper, Round, ops_text, line_text, decl_text, joined_lines, IsLine, IsRound}
 use Rattle.script_grammar.specs.Words.{is_join}
 use Rattle.script_grammar.specs.Reading.{Parts, may_declare, may_follow, with_decl, with_line, with_join, with_some_line, begins_declaration, step, steps}
@@ -64,16 +65,19 @@ decls_again front (d ∷ ds) rest few all distinct short =
     (decls_again (front ++ d ∷ []) ds rest (omega (arith, length-append front (d ∷ []))) all.1 (subst (λ (es : List Decl). AreDistinct (map id_of es)) (sym grown) distinct) short.1
     ∙ ap (λ (es : List Decl). steps (let p : Parts = record { decls = es; joined = []; lines = [] } in p) rest) grown)
 
--- ---- workers' lines
+-- ---- lines of both kinds
 
--- a worker's line begins with a digit
+-- a worker's line begins with a digit, one of the maintenance thread with its letter
 line_begins : (l : Line) → IsSpelledLine l → (0 < length (line_text l)) × (is_join (line_text l) ≡ false) × (begins_declaration (line_text l) ≡ false)
 line_begins (Worker worker ops) is =
     let below = is.0 in
     let digit : line_text (Worker worker ops) ≡ (48 + worker) ∷ 32 ∷ ops_text ops = rw (decimal_digit worker (omega arith)) refl in
     subst (λ (t : Bytes). (0 < length t) × (is_join t ≡ false) × (begins_declaration t ≡ false)) (sym digit)
     (omega arith, rw (ne_eqb (48 + worker) 106 (λ same. omega arith)) refl, or_from (eqb (48 + worker) 97) _ (ne_eqb (48 + worker) 97 (λ same. omega arith)) (ne_eqb (48 + worker) 116 (λ same. omega arith)))
-line_begins (Keeper line) is = absurd is
+line_begins (Keeper Epoch) is = (omega arith, refl, refl)
+line_begins (Keeper Save) is = (omega arith, refl, refl)
+line_begins (Keeper Glean) is = absurd is
+line_begins (Keeper Drop) is = absurd is
 
 -- a worker's line that may come here is one line more
 pub line_step_at : (p : Parts) (l : Line) → IsSpelledLine l → IsShort (line_text l) → may_follow p l ≡ true → step p (line_text l) ≡ Some (record p { lines = p.lines ++ l ∷ [] })
@@ -85,7 +89,7 @@ line_step_at p l is short test =
 -- a line by the rules may come where there is room
 may_come : (p : Parts) (l : Line) → IsLine p.decls l → length p.lines < 65536 → may_follow p l ≡ true
 may_come p (Worker worker ops) is room = and_from (nat_lt (length p.lines) 65536) (list_all (fits p.decls) ops) (lt-ltb (length p.lines) 65536 room) (ops_fit p.decls ops is.ops)
-may_come p (Keeper line) is room = absurd is
+may_come p (Keeper line) is room = lt-ltb (length p.lines) 65536 room
 
 -- a worker's line by the rules is one line more
 line_step : (p : Parts) (l : Line) → AllByRecursion IsDecl p.decls → IsLine p.decls l → IsShort (line_text l) → length p.lines < 65536

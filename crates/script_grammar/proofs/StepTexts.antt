@@ -101,7 +101,7 @@ line_follows : (p : Parts) (l : Line) → IsSpelledLine l → may_follow p l ≡
 line_follows p (Worker worker ops) is test =
     let tests = and_parts (nat_lt (length p.lines) 65536) (list_all (fits p.decls) ops) test in
     (ltb-true _ _ tests.0, line_by_rules p.decls worker ops is tests.1)
-line_follows p (Keeper line) is test = absurd is
+line_follows p (Keeper line) is test = (ltb-true _ _ test, is)
 
 -- a worker's line that is taken is one more line of the text
 with_line_takes : (p q : Parts) (line : Bytes) → IsSound p → length line ≤ 1024 → with_line p line ≡ Some q → Grows p line q

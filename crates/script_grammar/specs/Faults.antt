@@ -9,11 +9,11 @@ use Rattle.script_grammar.specs.declared.fault.ScriptFault.{ScriptFault}
 use Rattle.script_grammar.specs.declared.fault.FaultKind.{FaultKind}
 use Rattle.script_grammar.specs.declared.fault.FaultKind.TheVariants.{TooLong, Word, Number, TooMany, Declared, Kind, Range}
 use Rattle.script_grammar.specs.Script.{Bytes}
-use Rattle.script_grammar.specs.Words.{passes, words, number_in, is_no_number, is_word, is_letter, is_worker_line, worker_word, op_parts, is_join}
+use Rattle.script_grammar.specs.Words.{passes, words, number_in, is_no_number, is_word, is_letter, is_worker_line, worker_word, op_parts, is_keeper_line, is_join}
 use Rattle.script_grammar.specs.Reading.{Parts, is_fresh}
 
 -- where a line stands: the storages declared before it, whether a line of another kind came before it, and how many
--- workers' lines its round has before it
+-- lines its round has before it
 pub record Place : Type 0 where
   pub decls : List Decl
   pub begun : Bool
@@ -85,19 +85,19 @@ is_too_long place line = nat_lt 1024 (length line)
 unfoldable pub has_no_shape : Place → Bytes → Bool
 has_no_shape place line =
     if is_worker_line line then some_op_is Word place.decls line
-    else not ((length line == 0) || (is_join line || is_decl_shape line))
+    else not ((length line == 0) || (is_join line || (is_keeper_line line || is_decl_shape line)))
 
 -- a number's place has something else
 unfoldable pub lacks_number : Place → Bytes → Bool
 lacks_number place line =
     if is_worker_line line then is_none (number_of (worker_word line)) || some_op_is Number place.decls line
-    else (is_no_number (words line) 1 || is_no_number (words line) 2)
+    else (is_decl_shape line && (is_no_number (words line) 1 || is_no_number (words line) 2))
 
 -- too many operations, the 65,537th line of its round, or the 17th declaration
 unfoldable pub is_too_many : Place → Bytes → Bool
 is_too_many place line =
     if is_worker_line line then nat_lt 16 (length (op_parts line)) || nat_le 65536 place.lines
-    else (is_decl_shape line && nat_le 16 (length place.decls))
+    else ((is_keeper_line line && nat_le 65536 place.lines) || (is_decl_shape line && nat_le 16 (length place.decls)))
 
 -- an operation's storage isn't declared, or a declaration comes late or again
 unfoldable pub is_misdeclared : Place → Bytes → Bool
@@ -151,7 +151,7 @@ declared_by None size = []
 -- where the line behind this one stands
 unfoldable pub place_past : Place → Bytes → Place
 place_past place line =
-    if is_worker_line line then record { decls = place.decls; begun = true; lines = place.lines + 1 }
+    if is_worker_line line || is_keeper_line line then record { decls = place.decls; begun = true; lines = place.lines + 1 }
     else (if is_join line then record { decls = place.decls; begun = true; lines = 0 }
     else (if is_decl_shape line then record {
       decls = place.decls ++ declared_by (number_in (words line) 1) (number_in (words line) 2);

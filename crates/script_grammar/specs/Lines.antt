@@ -1,12 +1,13 @@
 -- How the lines of a script lie in memory: one list of operations, spans of it for the lines, and stretches of the
 -- lines for the rounds.
-use Rattle.std.specs.Prelude.{◌+◌, ◌-◌, ◌≤◌, List, map, take, drop, length}
+use Rattle.std.specs.Prelude.{◌+◌, ◌-◌, ◌≤◌, List, map, take, drop, length, ⊤}
 use Rattle.std.specs.List.{AllByRecursion}
 use Rattle.serial_model.specs.declared.op.Op.{Op}
 use Rattle.script_grammar.specs.Script.{Line, Worker, Keeper, Round}
 use Rattle.script_grammar.specs.declared.lines.Line as lent
 use Rattle.script_grammar.specs.declared.lines.Line.TheVariants as lents
 use Rattle.script_grammar.specs.declared.lines.Span.{Span}
+use Rattle.script_grammar.specs.declared.lines.Span.TheVariants as spans
 use Rattle.script_grammar.specs.declared.rounds.Stretch.{Stretch}
 
 -- the line that is handed out, with its operations lent
@@ -16,16 +17,17 @@ line_lent (lents.Keeper line) = Keeper line
 
 -- the line of a span
 abbrev pub line_in : List Op → Span → Line
-line_in ops span = Worker span.worker (take span.count (drop span.start ops))
+line_in ops (spans.Worker worker count start) = Worker worker (take count (drop start ops))
+line_in ops (spans.Keeper line) = Keeper line
 
 -- the lines of all spans
 abbrev pub lines_in : List Op → List Span → List Line
 lines_in ops spans = map (line_in ops) spans
 
--- the span lies within the operations, and is one of at most 16
-pub record IsWithin (ops : List Op) (span : Span) : Type 0 where
-  pub end : span.start + span.count ≤ length ops
-  pub few : span.count ≤ 16
+-- a worker's span lies within the operations, and is one of at most 16
+abbrev pub IsWithin : List Op → Span → Type 0
+IsWithin ops (spans.Worker worker count start) = (start + count ≤ length ops) × (count ≤ 16)
+IsWithin ops (spans.Keeper line) = ⊤
 
 -- the same of all spans
 abbrev pub AreWithin : List Op → List Span → Type 0

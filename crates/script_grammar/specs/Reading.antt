@@ -12,6 +12,8 @@ use Rattle.serial_model.specs.declared.decl.Decl.{Decl}
 use Rattle.serial_model.specs.declared.decl.Decl.TheVariants.{Array, Tree}
 use Rattle.script_grammar.specs.declared.fault.ScriptFault.{ScriptFault}
 use Rattle.script_grammar.specs.declared.fault.Refused.{Refused}
+use Rattle.script_grammar.specs.declared.lines.KeeperLine.{KeeperLine}
+use Rattle.script_grammar.specs.declared.lines.KeeperLine.TheVariants.{Epoch, Save}
 use Rattle.script_grammar.specs.Script.{Bytes, Line, Worker, Keeper, Round, Script, last_round}
 use Rattle.script_grammar.specs.Words.{◌>>=◌, words, is_word, worker_word, op_parts, is_join}
 
@@ -74,11 +76,27 @@ abbrev pub worker_in : Bytes → Option ℕ
 worker_in word = number_of word >>= (λ worker. if nat_lt worker 8 then Some worker else None)
 
 -- a worker's line: the worker before the first space, and its operations behind it
-unfoldable pub line_at : Bytes → Option Line
-line_at line = do
+unfoldable pub transaction_at : Bytes → Option Line
+transaction_at line = do
   worker ← worker_in (worker_word line)
   ops ← few_ops_in (op_parts line)
   Some (Worker worker ops)
+
+-- a line of the maintenance thread begins with a letter of its own, k
+abbrev pub begins_keeper : Bytes → Bool
+begins_keeper [] = false
+begins_keeper (b ∷ bs) = b == 107
+
+-- what the maintenance thread is asked for
+abbrev pub keeper_in : Bytes → Option KeeperLine
+keeper_in line =
+    if is_word (codes "k epoch") line then Some Epoch
+    else (if is_word (codes "k save") line then Some Save else None)
+
+-- a line of the maintenance thread, or else of a worker
+unfoldable pub line_at : Bytes → Option Line
+line_at line =
+    if begins_keeper line then (keeper_in line >>= (λ asked. Some (Keeper asked))) else transaction_at line
 
 -- an array with its id and its size
 abbrev pub array_in : ℕ → ℕ → Option Decl
@@ -129,12 +147,12 @@ with_decl p line = do
 abbrev pub may_run : Parts → List Op → Bool
 may_run p ops = nat_lt (length p.lines) 65536 && list_all (fits p.decls) ops
 
--- the same for a line; those of the maintenance thread aren't read
+-- the same for a line
 abbrev pub may_follow : Parts → Line → Bool
 may_follow p (Worker worker ops) = may_run p ops
-may_follow p (Keeper line) = false
+may_follow p (Keeper line) = nat_lt (length p.lines) 65536
 
--- one more worker's line
+-- one more line of a worker or of the maintenance thread
 unfoldable pub with_line : Parts → Bytes → Option Parts
 with_line p line = do
   l ← line_at line

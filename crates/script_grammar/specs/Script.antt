@@ -1,5 +1,5 @@
 -- Scripts, and which bytes are the text of one.
-use Rattle.std.specs.Prelude.{◌≡◌, ℕ, ◌<◌, ◌≤◌, ◌^◌, ◌==◌, IsTrue, List, [], ◌∷◌, ◌++◌, length, map, filter, codes, decimal, nat_lt, if◌then◌else◌, Option, Some, None}
+use Rattle.std.specs.Prelude.{◌≡◌, ℕ, ◌<◌, ◌≤◌, ◌^◌, ◌==◌, IsTrue, List, [], ◌∷◌, ◌++◌, length, map, filter, codes, decimal, nat_lt, if◌then◌else◌, Option, Some, None, ⊤}
 use Rattle.std.specs.List.{AllByRecursion, filter_map, slice_split}
 use Rattle.serial_model.specs.Keys.{fits}
 use Rattle.serial_model.specs.Decls.{AreDecls}
@@ -138,10 +138,17 @@ pub record IsTransaction (decls : List Decl) (number : ℕ) (list : List Op) : T
   pub few_ops : length list ≤ 16
   pub ops : AllByRecursion (IsOp decls) list
 
--- a line by the rules; those of the maintenance thread aren't read for now
+-- what the maintenance thread can be asked for so far: the next epoch, and a savepoint
+abbrev pub IsAsked : KeeperLine → Type 0
+IsAsked Epoch = ⊤
+IsAsked Save = ⊤
+IsAsked Glean = ⊥
+IsAsked Drop = ⊥
+
+-- a line by the rules
 abbrev pub IsLine : List Decl → Line → Type 0
 IsLine decls (Worker worker ops) = IsTransaction decls worker ops
-IsLine decls (Keeper line) = ⊥
+IsLine decls (Keeper line) = IsAsked line
 
 -- at most 65,536 lines
 pub record IsRound (decls : List Decl) (round : Round) : Type 0 where

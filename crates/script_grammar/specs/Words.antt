@@ -1,5 +1,5 @@
 -- How a line of a script falls into words, numbers and operations.
-use Rattle.std.specs.Prelude.{ℕ, ◌==◌, ◌&&◌, Bool, true, false, List, [], ◌∷◌, drop, codes, slice_get, Option, Some, None, is_none}
+use Rattle.std.specs.Prelude.{ℕ, ◌==◌, ◌&&◌, ◌||◌, Bool, true, false, List, [], ◌∷◌, drop, codes, slice_get, Option, Some, None, is_none}
 use Rattle.std.specs.Char.{is_ascii_digit}
 use Rattle.std.specs.List.{list_any, slice_split, before_first, after_first}
 use Rattle.std.specs.Cmp.Lexicographic.{pointwise}
@@ -82,6 +82,10 @@ worker_word line = before_first is_space line
 -- the parts of what stands behind it, where its operations belong
 abbrev pub op_parts : Bytes → List Bytes
 op_parts line = parts (after_first is_space line)
+
+-- the line is one of the maintenance thread
+abbrev pub is_keeper_line : Bytes → Bool
+is_keeper_line line = is_word (codes "k epoch") line || is_word (codes "k save") line
 
 -- the line ends a round
 abbrev pub is_join : Bytes → Bool

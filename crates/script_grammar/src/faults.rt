@@ -3,7 +3,7 @@ ghost use Rattle.std.specs.Prelude.{◌≡◌, ◌==◌, ◌||◌, codes, nat_le
 ghost use Rattle.std.specs.List.{list_any};
 ghost use Rattle.serial_model.specs.Keys.{id_of};
 ghost use Rattle.decimals.specs.Numbers.{number_of};
-ghost use Rattle.script_grammar.specs.Words.{passes, words, number_in, is_word, is_worker_line};
+ghost use Rattle.script_grammar.specs.Words.{passes, words, number_in, is_word, is_worker_line, is_keeper_line};
 ghost use Rattle.script_grammar.specs.Faults.{begins_with, is_decl_shape, has_no_shape, lacks_number, is_too_many, is_misdeclared, is_of_other_kind, is_out_of_range, kind_of};
 
 use crate::fault::FaultKind;
@@ -23,7 +23,7 @@ pub(crate) struct Place<'a> {
     pub decls: &'a [Decl],
     /// A line of another kind came before it.
     pub begun: bool,
-    /// The workers' lines before it in its round.
+    /// The lines before it in its round.
     pub lines: usize,
 }
 
@@ -42,6 +42,12 @@ fn is_worker_line(line: &[u8]) -> bool
         [byte, ..] => byte.is_ascii_digit(),
         [] => false,
     }
+}
+
+fn is_keeper_line(line: &[u8]) -> bool
+    ensures { result ≡ is_keeper_line line.now }
+{
+    line == b"k epoch".as_slice() || line == b"k save".as_slice()
 }
 
 /// So many words, and this is the first of them.
@@ -71,7 +77,7 @@ fn has_no_shape(place: &Place, line: &[u8]) -> bool
     if is_worker_line(line) {
         some_op_is(FaultKind::Word, place.decls, line)
     } else {
-        !(line.is_empty() || is_join(line) || is_decl_shape(line))
+        !(line.is_empty() || is_join(line) || is_keeper_line(line) || is_decl_shape(line))
     }
 }
 
@@ -82,7 +88,7 @@ fn lacks_number(place: &Place, line: &[u8]) -> bool
     if is_worker_line(line) {
         number_of(cut_worker(line).0).is_none() || some_op_is(FaultKind::Number, place.decls, line)
     } else {
-        is_no_number(line, 1) || is_no_number(line, 2)
+        is_decl_shape(line) && (is_no_number(line, 1) || is_no_number(line, 2))
     }
 }
 
@@ -93,7 +99,8 @@ fn is_too_many(place: &Place, line: &[u8]) -> bool
     if is_worker_line(line) {
         op_count(line) > MOST_OPS || place.lines >= MOST_LINES
     } else {
-        is_decl_shape(line) && place.decls.len() >= MOST_STORAGES
+        (is_keeper_line(line) && place.lines >= MOST_LINES)
+            || (is_decl_shape(line) && place.decls.len() >= MOST_STORAGES)
     }
 }
 

@@ -1,6 +1,6 @@
 // Lines in memory: one list of operations for all, and a span of it for each, so that a line takes no list of its own.
 ghost use Rattle.std.specs.Prelude.{◌≡◌, ◌<◌, ◌≤◌, [], ◌∷◌, ◌++◌, length, slice_get, Some, OnOk, OnErr, option_map};
-ghost use Rattle.script_grammar.specs.Script.{Worker, worker_of};
+ghost use Rattle.script_grammar.specs.Script.{Keeper, Worker, keeper_line_of, worker_of};
 ghost use Rattle.script_grammar.specs.Lines.{line_lent};
 
 use crate::flat_ops::{FlatOps, LineOps};
@@ -9,13 +9,15 @@ use serial_model::Op;
 use std::alloc::Global;
 use std::marker::Model;
 
-/// Where a worker's line lies: its operations, so many from the first one on.
+/// Where a line lies: a worker's operations, so many from the first one on. A line of the maintenance thread has none.
 #[derive(Clone, Copy)]
-struct Span {
-    start: u32,
-    count: u8,
-    worker: u8,
+enum Span {
+    Worker { worker: u8, count: u8, start: u32 },
+    Keeper(KeeperLine),
 }
+
+// A script may have some millions of lines.
+const _: () = prove!(size_of::<Span>() == 8);
 
 /// What a line of the maintenance thread asks for.
 #[derive(Clone, Copy, Debug, PartialEq, Eq)]
@@ -81,14 +83,22 @@ impl Lines {
         let Ok(start) = u32::try_from(self.ops.len()) else {
             return Err(Memory);
         };
-        let span = Span {
-            start,
-            count: ops.len() as u8,
-            worker,
-        };
+        let count = ops.len() as u8;
         self.ops.append(ops)?;
-        self.spans.push(span)?;
+        self.spans.push(Span::Worker {
+            worker,
+            count,
+            start,
+        })?;
         Ok(())
+    }
+
+    /// A line of the maintenance thread more. After want of memory the lines are as they were.
+    pub(crate) fn push_keeper(&mut self, line: KeeperLine) -> Result<(), Memory>
+        ensures ok { OnOk result (self.new ≡ self.old ++ Keeper line ∷ []) }
+        ensures memory { OnErr result (self.new ≡ self.old) }
+    {
+        self.spans.push(Span::Keeper(line))
     }
 
     /// The worker whose line it is, if it is one's.
@@ -96,7 +106,21 @@ impl Lines {
         requires { index < length self.now }
         ensures { option_map worker_of (slice_get self.now index) ≡ Some result }
     {
-        Some(self.spans.as_slice()[index].worker)
+        match self.spans.as_slice()[index] {
+            Span::Worker { worker, .. } => Some(worker),
+            Span::Keeper(_) => None,
+        }
+    }
+
+    /// What the line asks for, if it is one of the maintenance thread.
+    pub(crate) fn keeper(&self, index: usize) -> Option<KeeperLine>
+        requires { index < length self.now }
+        ensures { option_map keeper_line_of (slice_get self.now index) ≡ Some result }
+    {
+        match self.spans.as_slice()[index] {
+            Span::Worker { .. } => None,
+            Span::Keeper(line) => Some(line),
+        }
     }
 
     /// The line, with its operations in the room.
@@ -104,12 +128,19 @@ impl Lines {
         requires { index < length self.now }
         ensures { slice_get self.now index ≡ Some (line_lent result) }
     {
-        let span = self.spans.as_slice()[index];
-        self.ops
-            .fill(span.start as usize, usize::from(span.count), room);
-        Line::Worker {
-            worker: span.worker,
-            ops: room.as_slice(),
+        match self.spans.as_slice()[index] {
+            Span::Worker {
+                worker,
+                count,
+                start,
+            } => {
+                self.ops.fill(start as usize, usize::from(count), room);
+                Line::Worker {
+                    worker,
+                    ops: room.as_slice(),
+                }
+            }
+            Span::Keeper(line) => Line::Keeper(line),
         }
     }
 }

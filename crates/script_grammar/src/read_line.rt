@@ -1,11 +1,12 @@
-// One line: a declaration, or a worker's line.
+// One line: a declaration, or a line of a worker or of the maintenance thread.
 ghost use Rattle.std.specs.Prelude.{◌≡◌, [], ◌∷◌, None, Some, MatchOption};
 ghost use Rattle.script_grammar.specs.Script.{Worker};
 ghost use Rattle.script_grammar.specs.Words.{is_join};
-ghost use Rattle.script_grammar.specs.Reading.{array_in, decl_at, decl_in, line_at, tree_in, worker_in};
+ghost use Rattle.script_grammar.specs.Reading.{array_in, decl_at, decl_in, keeper_in, transaction_at, tree_in, worker_in};
 
 use crate::cut::cut;
 use crate::flat_ops::LineOps;
+use crate::lines::KeeperLine;
 use crate::read_op::{IDS, read_ops};
 use crate::words::cut_worker;
 use decimals::number_of;
@@ -28,15 +29,28 @@ fn worker_in(word: &[u8]) -> Option<u8>
 }
 
 /// A worker's line: the worker, and in the room the operations.
-#[tactic(auto, unfolding(crate::specs::Reading::line_at))]
+#[tactic(auto, unfolding(crate::specs::Reading::transaction_at))]
 pub(crate) fn read_worker(line: &[u8], ops: &mut LineOps) -> Option<u8>
-    ensures { MatchOption result (line_at line.now ≡ None)
-        (λ worker. line_at line.now ≡ Some (Worker worker ops.new)) }
+    ensures { MatchOption result (transaction_at line.now ≡ None)
+        (λ worker. transaction_at line.now ≡ Some (Worker worker ops.new)) }
 {
     let (word, rest) = cut_worker(line);
     let worker = worker_in(word)?;
     read_ops(rest, ops)?;
     Some(worker)
+}
+
+/// What the maintenance thread is asked for.
+pub(crate) fn keeper_in(line: &[u8]) -> Option<KeeperLine>
+    ensures { result ≡ keeper_in line.now }
+{
+    if line == b"k epoch".as_slice() {
+        return Some(KeeperLine::Epoch);
+    }
+    if line == b"k save".as_slice() {
+        return Some(KeeperLine::Save);
+    }
+    None
 }
 
 /// The end of a round.

@@ -6,7 +6,7 @@ ghost use Rattle.serial_model.specs.Keys.{id_of, fits};
 use crate::fault::{FaultKind, Refused, ScriptFault};
 use crate::faults::{Place, kind_of};
 use crate::flat_ops::LineOps;
-use crate::read_line::{decl_at, is_join, read_worker};
+use crate::read_line::{decl_at, is_join, keeper_in, read_worker};
 use crate::rounds::Rounds;
 use crate::script::Script;
 use lists::{Memory, OrMemory};
@@ -58,8 +58,8 @@ fn all_fit(decls: &[Decl], ops: &[Op]) -> bool
 }
 
 impl Reader {
-    ghost use Rattle.std.specs.Prelude.{[], ◌∷◌};
-    ghost use Rattle.script_grammar.specs.Reading.{no_parts, is_fresh, may_declare, may_run, with_decl, with_line, with_join, with_some_line, step, script_from, Reads, FindsOrTells};
+    ghost use Rattle.std.specs.Prelude.{[], ◌∷◌, true, false};
+    ghost use Rattle.script_grammar.specs.Reading.{no_parts, begins_keeper, is_fresh, may_declare, may_run, with_decl, with_line, with_join, with_some_line, step, script_from, Reads, FindsOrTells};
     ghost use Rattle.script_grammar.specs.Faults.{place_after, kind_of, fault_or};
 
     pub(crate) fn new(alloc: Global) -> Self
@@ -110,9 +110,27 @@ impl Reader {
         self.rounds.rest_len() < MOST_LINES && all_fit(self.decls.as_slice(), ops)
     }
 
+    /// One line of the maintenance thread more.
+    #[tactic(auto, unfolding(crate::specs::Reading::with_line, crate::specs::Reading::line_at))]
+    fn add_keeper(&mut self, line: &[u8]) -> Result<(), OrMemory<Refused>>
+        requires { begins_keeper line.now ≡ true }
+        ensures read { Reads result self.new (with_line self.old line.now) }
+        ensures kept { OnErr result (self.new ≡ self.old) }
+    {
+        let Some(asked) = keeper_in(line) else {
+            return Err(OrMemory::Fault(Refused));
+        };
+        if self.rounds.rest_len() >= MOST_LINES {
+            return Err(OrMemory::Fault(Refused));
+        }
+        self.rounds.push_keeper(asked)?;
+        Ok(())
+    }
+
     /// One worker's line more.
-    #[tactic(auto, unfolding(crate::specs::Reading::with_line))]
-    fn add_line(&mut self, line: &[u8]) -> Result<(), OrMemory<Refused>>
+    #[tactic(auto, unfolding(crate::specs::Reading::with_line, crate::specs::Reading::line_at))]
+    fn add_transaction(&mut self, line: &[u8]) -> Result<(), OrMemory<Refused>>
+        requires { begins_keeper line.now ≡ false }
         ensures read { Reads result self.new (with_line self.old line.now) }
         ensures kept { OnErr result (self.new ≡ self.old) }
     {
@@ -135,7 +153,18 @@ impl Reader {
         Ok(())
     }
 
-    /// One line more: a join, a declaration, or else a worker's line.
+    /// One line more of the maintenance thread, or else of a worker.
+    fn add_line(&mut self, line: &[u8]) -> Result<(), OrMemory<Refused>>
+        ensures read { Reads result self.new (with_line self.old line.now) }
+        ensures kept { OnErr result (self.new ≡ self.old) }
+    {
+        match line {
+            [b'k', ..] => self.add_keeper(line),
+            _ => self.add_transaction(line),
+        }
+    }
+
+    /// One line more: a join, a declaration, or else a line of a worker or of the maintenance thread.
     #[tactic(auto, unfolding(crate::specs::Reading::with_some_line))]
     fn add(&mut self, line: &[u8]) -> Result<(), OrMemory<Refused>>
         ensures read { Reads result self.new (with_some_line self.old line.now) }

@@ -1,10 +1,10 @@
 // Rounds in memory: all their lines, and a stretch of these for each, so that a round takes no list of its own.
 ghost use Rattle.std.specs.Prelude.{◌≡◌, ◌<◌, ◌≤◌, [], ◌∷◌, ◌++◌, length, slice_get, option_map, Some, OnOk, OnErr};
-ghost use Rattle.script_grammar.specs.Script.{Worker, last_round, worker_of};
+ghost use Rattle.script_grammar.specs.Script.{Keeper, Worker, keeper_line_of, last_round, worker_of};
 ghost use Rattle.script_grammar.specs.Lines.{line_lent};
 
 use crate::flat_ops::LineOps;
-use crate::lines::{Line, Lines};
+use crate::lines::{KeeperLine, Line, Lines};
 use lists::{Memory, Sequence};
 use serial_model::Op;
 use std::alloc::Global;
@@ -90,6 +90,15 @@ impl Rounds {
         self.lines.push(worker, ops)
     }
 
+    /// One line of the maintenance thread more. After want of memory all is as it was.
+    pub(crate) fn push_keeper(&mut self, line: KeeperLine) -> Result<(), Memory>
+        ensures ok { OnOk result (self.new
+            ≡ record self.old { rest = self.old.rest ++ Keeper line ∷ [] }) }
+        ensures memory { OnErr result (self.new ≡ self.old) }
+    {
+        self.lines.push_keeper(line)
+    }
+
     /// A join ends the round. After want of memory all is as it was; more than 2^32 lines are one.
     pub(crate) fn join(&mut self) -> Result<(), Memory>
         ensures ok { OnOk result (self.new
@@ -147,6 +156,15 @@ impl Round<'_> {
     {
         prove!(index < self.end - self.start);
         self.lines.worker(self.start + index)
+    }
+
+    /// What this line asks for, by its index from 0 in the order of the script, if it is one of the maintenance thread.
+    pub fn keeper(&self, index: usize) -> Option<KeeperLine>
+        requires { index < length self.now.lines }
+        ensures { option_map keeper_line_of (slice_get self.now.lines index) ≡ Some result }
+    {
+        prove!(index < self.end - self.start);
+        self.lines.keeper(self.start + index)
     }
 
     /// The line of this index, from 0, in the order of the script. Its operations take the place of those in the room.

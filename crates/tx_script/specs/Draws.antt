@@ -1,8 +1,9 @@
--- Numbers drawn for commits alone, by an engine without second tries, and the law that follows: no line of a script meets
+-- Numbers drawn for commits alone, by an engine without second tries, and the law that follows: no line of a
+-- script meets
 -- the limit.
-use Rattle.std.specs.Prelude.{◌≡◌, ◌⊎◌, ◌≤◌, ◌+◌, ◌==◌, ℕ, Bool, IsTrue}
+use Rattle.std.specs.Prelude.{◌≡◌, ◌⊎◌, ◌≤◌, ◌+◌, ◌==◌, ℕ, Bool, true, false, IsTrue, Option, Some, None}
 use Rattle.std.specs.Prelude.{List, [], ◌∷◌, ◌++◌, length, map, filter, sum_by, codes, nat_lt}
-use Rattle.std.specs.List.{AllByRecursion, slice_split}
+use Rattle.std.specs.List.{AllByRecursion, list_any, slice_split}
 use Rattle.std.proofs.Common.{refl, ap, ◌∙◌, inl, inr, arith, length-append}
 use Rattle.std.proofs.lemmas.List.{length-map}
 use Rattle.std.proofs.lemmas.List.Sums.{sum_by-cons, count_by-le-length, length-filter}
@@ -15,10 +16,10 @@ use Rattle.script_grammar.specs.Script.{decl_text, joined_lines, last_round, lin
 use Rattle.serial_model.specs.Numbers.{draw_limit}
 use Rattle.tx_script.specs.declared.outcome.Outcome.{Outcome}
 use Rattle.tx_script.specs.declared.outcome.Outcome.TheVariants.{Committed, Conflict, Full, Wide, Limit, Unrun}
-use Rattle.tx_script.specs.Causes.{AllCaused, OutcomeCause}
+use Rattle.tx_script.specs.Causes.{AllCaused, OutcomeCause, WorkersCaused}
 use Rattle.tx_script.specs.Counts.{total, total-worker_lines}
-use Rattle.tx_script.specs.Run.{Ran, AreOfFirst, IsOfRound, IsScriptRun, OneForEach, RunsClocks}
-use Rattle.tx_script.specs.Run.{clock_after, is_commit, joined}
+use Rattle.tx_script.specs.Run.{LogRefusal, Ran, AreOfFirst, IsOfRound, IsScriptRun, OneForEach, RunsClocks}
+use Rattle.tx_script.specs.Run.{clock_after, is_commit, is_limit, joined}
 
 -- how many of the outcomes are commits
 abbrev pub commits_of : List (List Outcome) → ℕ
@@ -28,17 +29,11 @@ commits_of = sum_by (λ outcomes. length (filter is_commit outcomes))
 abbrev pub DrawsOnce : Ran → Type 0
 DrawsOnce ran = ran.end.draw ≡ ran.begin.draw + commits_of ran.outcomes
 
--- each line of the round is committed, with the one number that it draws
-pub record CommitsEach (ran : Ran) : Type 0 where
-  pub commits : AllByRecursion (AllByRecursion (λ outcome. IsTrue (is_commit outcome))) ran.outcomes
-  pub draws : ran.end.draw ≡ ran.begin.draw + sum_by length ran.outcomes
+-- no line of the round was refused a number
+abbrev pub NoneLimited : Ran → Type 0
+NoneLimited ran = list_any (list_any is_limit) ran.outcomes ≡ false
 
 -- ---- a round
-
--- all of a worker's lines are commits
-abbrev AreCommits : List Outcome → Type 0
-AreCommits outcomes =
-    AllByRecursion (λ outcome. IsTrue (is_commit outcome)) outcomes × (length (filter is_commit outcomes) ≡ length outcomes)
 
 -- a line met the limit, and so there are fewer commits than lines
 abbrev MeetsLimit : Ran → ℕ → ℕ → Type 0
@@ -47,19 +42,24 @@ MeetsLimit ran commits lines = (draw_limit ≤ ran.end.draw) × (commits + 1 ≤
 commits-le : (outcomes : List Outcome) → length (filter is_commit outcomes) ≤ length outcomes
 commits-le outcomes = omega (arith, length-filter is_commit outcomes, count_by-le-length is_commit outcomes)
 
-of_worker_cases : (ran : Ran) (outcomes : List Outcome) → AllByRecursion (OutcomeCause ran) outcomes
-    → AreCommits outcomes ⊎ MeetsLimit ran (length (filter is_commit outcomes)) (length outcomes)
-of_worker_cases ran [] caused = inl (tt, refl)
-of_worker_cases ran (Committed verdict number replies ∷ outcomes) caused =
-    elim (of_worker_cases ran outcomes caused.1) [
-      | inl all ↦ inl ((refl, all.0), omega (arith, all.1))
+of_worker_cases : (ran : Ran) (log : Option LogRefusal) (outcomes : List Outcome)
+    → AllByRecursion (OutcomeCause ran log) outcomes
+    → (list_any is_limit outcomes ≡ false) ⊎ MeetsLimit ran (length (filter is_commit outcomes)) (length outcomes)
+of_worker_cases ran log [] caused = inl refl
+of_worker_cases ran log (Committed verdict number replies ∷ outcomes) caused =
+    elim (of_worker_cases ran log outcomes caused.1) [
+      | inl none ↦ inl none
       | inr one ↦ inr (one.0, omega (arith, one.1))
     ]
-of_worker_cases ran (Limit ∷ outcomes) caused = inr (caused.0, omega (arith, commits-le outcomes))
-of_worker_cases ran (Conflict ∷ outcomes) caused = absurd caused.0
-of_worker_cases ran (Full ∷ outcomes) caused = absurd caused.0
-of_worker_cases ran (Wide ∷ outcomes) caused = absurd caused.0
-of_worker_cases ran (Unrun ∷ outcomes) caused = absurd caused.0
+of_worker_cases ran log (Unrun ∷ outcomes) caused =
+    elim (of_worker_cases ran log outcomes caused.1) [
+      | inl none ↦ inl none
+      | inr one ↦ inr (one.0, omega (arith, one.1))
+    ]
+of_worker_cases ran log (Limit ∷ outcomes) caused = inr (caused.0, omega (arith, commits-le outcomes))
+of_worker_cases ran log (Conflict ∷ outcomes) caused = absurd caused.0
+of_worker_cases ran log (Full ∷ outcomes) caused = absurd caused.0
+of_worker_cases ran log (Wide ∷ outcomes) caused = absurd caused.0
 
 commits_of-cons : (mine : List Outcome) (more : List (List Outcome))
     → commits_of (mine ∷ more) ≡ length (filter is_commit mine) + commits_of more
@@ -71,24 +71,20 @@ commits_of-le [] = omega arith
 commits_of-le (mine ∷ more) =
     omega (arith, commits_of-cons mine more, sum_by-cons length mine more, commits-le mine, commits_of-le more)
 
--- all of a round's lines are commits
-abbrev AreAllCommits : List (List Outcome) → Type 0
-AreAllCommits outcomes =
-    AllByRecursion (AllByRecursion (λ outcome. IsTrue (is_commit outcome))) outcomes
-    × (commits_of outcomes ≡ sum_by length outcomes)
-
-of_round_cases : (ran : Ran) (outcomes : List (List Outcome))
-    → AllByRecursion (AllByRecursion (OutcomeCause ran)) outcomes
-    → AreAllCommits outcomes ⊎ MeetsLimit ran (commits_of outcomes) (sum_by length outcomes)
-of_round_cases ran [] caused = inl (tt, refl)
-of_round_cases ran (mine ∷ more) caused =
+of_round_cases : (ran : Ran) (logs : List (Option LogRefusal)) (outcomes : List (List Outcome))
+    → WorkersCaused ran logs outcomes
+    → (list_any (list_any is_limit) outcomes ≡ false) ⊎ MeetsLimit ran (commits_of outcomes) (sum_by length outcomes)
+of_round_cases ran [] [] caused = inl refl
+of_round_cases ran (log ∷ logs) [] caused = absurd caused
+of_round_cases ran [] (mine ∷ more) caused = absurd caused
+of_round_cases ran (log ∷ logs) (mine ∷ more) caused =
     let commits = commits_of-cons mine more in
     let lines = sum_by-cons length mine more in
-    elim (of_worker_cases ran mine caused.0) [
+    elim (of_worker_cases ran log mine caused.0) [
       | inr one ↦ inr (one.0, omega (arith, one.1, commits, lines, commits_of-le more))
-      | inl all ↦ elim (of_round_cases ran more caused.1) [
-        | inr one ↦ inr (one.0, omega (arith, one.1, all.1, commits, lines))
-        | inl rest ↦ inl ((all.0, rest.0), omega (arith, all.1, rest.1, commits, lines))
+      | inl none ↦ elim (of_round_cases ran logs more caused.2) [
+        | inr one ↦ inr (one.0, omega (arith, one.1, commits-le mine, commits, lines))
+        | inl rest ↦ inl (rw none rest)
       ]
     ]
 
@@ -105,11 +101,11 @@ pub few_outcomes : (ran : Ran) (round : Round) → IsOfRound ran round → sum_b
 few_outcomes ran round of =
     omega (arith, total-one_for_each (worker_lines round) ran.outcomes of.outcomes, total-worker_lines round)
 
--- while there are numbers left for all of its lines, each line of a round is committed
-pub round_committed : (ran : Ran) (round : Round) → IsOfRound ran round → AllCaused ran → DrawsOnce ran
-    → ran.begin.draw + length round.lines ≤ draw_limit → CommitsEach ran
-round_committed ran round of caused once room = elim (of_round_cases ran ran.outcomes caused.outcomes) [
-  | inl all ↦ record { commits = all.0; draws = once ∙ ap (λ n. ran.begin.draw + n) all.1 }
+-- while there are numbers left for all of its lines, no line of a round is refused one
+pub round_unlimited : (ran : Ran) (round : Round) → IsOfRound ran round → AllCaused ran → DrawsOnce ran
+    → ran.begin.draw + length round.lines ≤ draw_limit → NoneLimited ran
+round_unlimited ran round of caused once room = elim (of_round_cases ran ran.logs ran.outcomes caused.outcomes) [
+  | inl none ↦ none
   | inr one ↦ absurd (omega (arith, one.0, one.1, once, few_outcomes ran round of))
 ]
 
@@ -120,17 +116,18 @@ abbrev lines_in : List Round → ℕ
 lines_in [] = 0
 lines_in (round ∷ rounds) = length round.lines + lines_in rounds
 
-rounds_committed : (index : ℕ) (clock : Number) (rans : List Ran) (rounds : List Round)
-    → AreOfFirst rans rounds → RunsClocks index clock rans rounds → AllByRecursion AllCaused rans → AllByRecursion DrawsOnce rans
-    → clock.draw + lines_in rounds ≤ draw_limit → AllByRecursion CommitsEach rans
-rounds_committed index clock [] rounds of clocks caused once room = tt
-rounds_committed index clock (ran ∷ rans) [] of clocks caused once room = absurd of
-rounds_committed index clock (ran ∷ rans) (round ∷ rounds) of clocks caused once room =
+rounds_unlimited : (index : ℕ) (clock : Number) (rans : List Ran) (rounds : List Round)
+    → AreOfFirst rans rounds → RunsClocks index clock rans rounds → AllByRecursion AllCaused rans
+    → AllByRecursion DrawsOnce rans
+    → clock.draw + lines_in rounds ≤ draw_limit → AllByRecursion NoneLimited rans
+rounds_unlimited index clock [] rounds of clocks caused once room = tt
+rounds_unlimited index clock (ran ∷ rans) [] of clocks caused once room = absurd of
+rounds_unlimited index clock (ran ∷ rans) (round ∷ rounds) of clocks caused once room =
     let begin : ran.begin.draw ≡ clock.draw = ap (λ (n : Number). n.draw) clocks.0 in
     let few : ran.end.draw ≤ clock.draw + length round.lines =
     omega (arith, begin, once.0, commits_of-le ran.outcomes, few_outcomes ran round of.0) in (
-      round_committed ran round of.0 caused.0 once.0 (omega (arith, begin, room)),
-      rounds_committed (index + 1) (joined ran.end) rans rounds of.1 clocks.2 caused.1 once.1
+      round_unlimited ran round of.0 caused.0 once.0 (omega (arith, begin, room)),
+      rounds_unlimited (index + 1) (joined ran.end) rans rounds of.1 clocks.2 caused.1 once.1
           (omega (arith, few, room)),
     )
 
@@ -143,7 +140,8 @@ lines_in-append (round ∷ rounds) more = omega (arith, lines_in-append rounds m
 lines_in-joined : (joined : List Round) → lines_in joined ≤ length (joined_lines joined)
 lines_in-joined [] = omega arith
 lines_in-joined (round ∷ rounds) =
-    let joins : length (joined_lines (round ∷ rounds)) ≡ length (map line_text round.lines) + length (codes "join" ∷ joined_lines rounds) =
+    let joins : length (joined_lines (round ∷ rounds)) ≡ length (map line_text round.lines) + length (codes "join"
+    ∷ joined_lines rounds) =
     length-append (map line_text round.lines) (codes "join" ∷ joined_lines rounds) in
     omega (arith, length-map round.lines line_text, lines_in-joined rounds)
 
@@ -182,11 +180,29 @@ few_lines bytes script text =
       lines_in-last text.joined text.rest,
     )
 
--- In the rounds of a script, from the first draw on, each line is committed with the one number that it draws: an
--- engine that draws for commits alone meets no limit.
-pub each_committed : (bytes : Bytes) (script : Script) (s : State) (saved : ℕ) (rans : List Ran) (t : State)
-    → IsTextOf bytes script → IsScriptRun script s saved rans t → AllByRecursion AllCaused rans → AllByRecursion DrawsOnce rans
-    → AllByRecursion CommitsEach rans
-each_committed bytes script s saved rans t text run caused once =
-    rounds_committed 0 (clock_after saved) rans script.rounds run.lines run.clocks caused once
+-- In the rounds of a script, from the first draw on, no line is refused a number: an engine that draws for commits
+-- alone
+-- meets no limit.
+pub none_limited : (bytes : Bytes) (script : Script) (s : State) (saved : ℕ) (rans : List Ran) (t : State)
+    → IsTextOf bytes script → IsScriptRun script s saved rans t → AllByRecursion AllCaused rans
+    → AllByRecursion DrawsOnce rans
+    → AllByRecursion NoneLimited rans
+none_limited bytes script s saved rans t text run caused once =
+    rounds_unlimited 0 (clock_after saved) rans script.rounds run.lines run.clocks caused once
     (omega (arith, few_lines bytes script text))
+
+-- A line of a worker whose log nothing refused, and that was not refused a number, is committed.
+commits_by : (ran : Ran) (outcomes : List Outcome) → AllByRecursion (OutcomeCause ran None) outcomes
+    → list_any is_limit outcomes ≡ false
+    → AllByRecursion (λ outcome. IsTrue (is_commit outcome)) outcomes
+commits_by ran [] caused none = tt
+commits_by ran (Committed verdict number replies ∷ outcomes) caused none = (
+  refl,
+  commits_by ran outcomes caused.1
+      none,
+)
+commits_by ran (Limit ∷ outcomes) caused none = absurd cc
+commits_by ran (Unrun ∷ outcomes) caused none = absurd (let is = caused.0 in cc)
+commits_by ran (Conflict ∷ outcomes) caused none = absurd caused.0
+commits_by ran (Full ∷ outcomes) caused none = absurd caused.0
+commits_by ran (Wide ∷ outcomes) caused none = absurd caused.0

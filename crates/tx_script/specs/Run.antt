@@ -12,21 +12,35 @@ use Rattle.serial_model.specs.declared.op.Op.{Op}
 use Rattle.serial_model.specs.declared.decl.Decl.{Decl}
 use Rattle.serial_model.specs.declared.number.Number.{Number}
 use Rattle.script_grammar.specs.Script.{Line, Worker, Keeper, Round, Script, keeper_lines, worker_lines}
-use Rattle.script_grammar.specs.Script.{IsLine, IsOp, IsRound, IsScript}
+use Rattle.script_grammar.specs.Script.{IsAsked, IsLine, IsOp, IsRound, IsScript}
+use Rattle.script_grammar.specs.declared.lines.KeeperLine.{KeeperLine}
+use Rattle.outside.specs.declared.vault.Device.{Device}
 use Rattle.tx_script.specs.declared.answer.Answer.{Answer}
 use Rattle.tx_script.specs.declared.answer.Answer.TheVariants as answers
 use Rattle.tx_script.specs.declared.outcome.Outcome.{Outcome}
 use Rattle.tx_script.specs.declared.outcome.Outcome.TheVariants.{Committed, Limit}
 
+-- Why a worker's log takes no more lines: its log file failed, or it may get no longer than it is.
+pub data LogRefusal : Type 0 where
+  LogFailed : LogRefusal
+  LogFull : ℕ → LogRefusal
+
 -- What came of a round: the number that the clock would give at its begin and at its end, each worker's outcomes in
--- the order of its lines, for workers 0 to 7, the answers to its keeper lines in their order, and the epoch that was
--- made durable.
+-- the order of its lines, for workers 0 to 7, what its keeper lines asked for and the answers to them in their
+-- order, and the epoch that was made durable. Beside what is printed: the sequence of the newest savepoint at its
+-- begin; of each worker the epochs of the marks that it had while the lines ran, none for an idle one, the first
+-- being that at the begin, and what refused its log, if anything did; and the devices that failed.
 pub record Ran : Type 0 where
   pub begin : Number
   pub end : Number
   pub outcomes : List (List Outcome)
+  pub asked : List KeeperLine
   pub answers : List Answer
   pub durable : Option ℕ
+  pub sequence : ℕ
+  pub marks : List (List (Option ℕ))
+  pub logs : List (Option LogRefusal)
+  pub devices : List Device
 
 -- for each list of lines one of outcomes, of the same length
 abbrev pub OneForEach : List (List (List Op)) → List (List Outcome) → Type 0
@@ -38,6 +52,7 @@ OneForEach (lines ∷ more) [] = ⊥
 -- each worker's line of the round has an outcome, and each keeper line an answer
 pub record IsOfRound (ran : Ran) (round : Round) : Type 0 where
   pub outcomes : OneForEach (worker_lines round) ran.outcomes
+  pub asked : ran.asked ≡ keeper_lines round
   pub answers : length ran.answers ≡ length (keeper_lines round)
 
 -- the rounds that were run are the first ones
@@ -95,7 +110,8 @@ entries_of_round index ran round = entries_of_workers index 0 ran.outcomes (work
 abbrev pub entries_of : ℕ → List Ran → List Round → List Entry
 entries_of index [] rounds = []
 entries_of index (ran ∷ rans) [] = []
-entries_of index (ran ∷ rans) (round ∷ rounds) = entries_of_round index ran round ++ entries_of (index + 1) rans rounds
+entries_of index (ran ∷ rans) (round ∷ rounds) = entries_of_round index ran round ++ entries_of (index + 1) rans
+    rounds
 
 -- the commits of a worker
 abbrev pub of_worker : ℕ → List Entry → List Entry
@@ -135,8 +151,9 @@ RunsClocks index clock (ran ∷ rans) (round ∷ rounds) =
 
 -- ---- runs
 
--- What was run of rounds, counted from index on, from the state s and the clock to the state t: one outcome or answer
--- for each line, commits whose numbers rise for each worker, and an order of all of them in which they are one serial run.
+-- What was run of rounds, counted from index on, from the state s and the clock to the state t: one outcome or
+-- answer for each line, commits whose numbers rise for each worker, and an order of all of them in which they are
+-- one serial run.
 pub record IsRun (decls : List Decl) (index : ℕ) (rounds : List Round) (s : State) (clock : Number)
     (rans : List Ran) (t : State) : Type 0 where
   pub lines : AreOfFirst rans rounds
@@ -164,10 +181,10 @@ pub record CanRunOps (decls : List Decl) (w : ℕ) (os : List Op) : Type 0 where
   pub few : length os ≤ 16
   pub fitting : AllByRecursion (λ op. IsTrue (fits decls op)) os
 
--- a line that can be run; those of the maintenance thread can't be yet
+-- a line that can be run
 abbrev pub CanRunLine : List Decl → Line → Type 0
 CanRunLine decls (Worker worker ops) = CanRunOps decls worker ops
-CanRunLine decls (Keeper line) = ⊥
+CanRunLine decls (Keeper line) = IsAsked line
 
 -- a round that a runtime with these storages can run
 pub record CanRun (decls : List Decl) (round : Round) : Type 0 where
@@ -183,7 +200,7 @@ can_run_line decls (Worker worker ops) rules = record {
   few = rules.few_ops;
   fitting = all_weaker (IsOp decls) (λ op. IsTrue (fits decls op)) (λ op r. r.fitting) ops rules.ops;
 }
-can_run_line decls (Keeper line) rules = absurd rules
+can_run_line decls (Keeper line) rules = rules
 
 -- a round of a script can be run over its declarations
 pub can_run : (script : Script) (index : ℕ) (round : Round) → IsScript script
@@ -192,5 +209,6 @@ can_run script index round rules at =
     let r : IsRound script.decls round = all_at (IsRound script.decls) script.rounds index round rules.rounds at in
     record {
       few_lines = r.few_lines;
-      lines = all_weaker (IsLine script.decls) (CanRunLine script.decls) (can_run_line script.decls) round.lines r.lines;
+      lines = all_weaker (IsLine script.decls) (CanRunLine script.decls) (can_run_line script.decls) round.lines
+          r.lines;
     }

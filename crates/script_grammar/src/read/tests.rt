@@ -1,5 +1,5 @@
 use super::*;
-use crate::{Line, LineOps, Round};
+use crate::{KeeperLine, Line, LineOps, Round};
 use serial_model::{Decl, Key, Op};
 use std::process::Abort;
 use std::test::Fail;
@@ -22,7 +22,14 @@ const WORD: &[u8] = b"\
 1 tree  2|\
 1 Tree 2|\
 1 trees 2|\
-1 k save|\
+1 k|\
+1 k glean|\
+1 k drop|\
+1 k save |\
+1 k  epoch|\
+1 k epoch 1|\
+1 K save|\
+1 keeper save|\
 1 joi|\
 1 join |\
 1 joins|\
@@ -110,6 +117,8 @@ const DECLARED: &[u8] = b"\
 2 tree 1\narray 1 4|\
 2 array 1 4\ntree 1|\
 2 join\ntree 1|\
+2 k save\ntree 1|\
+2 k epoch\narray 1 4|\
 2 tree 1\n0 d 2 0|\
 2 tree 1\n0 s 256 0 1|\
 2 array 1 4\n0 d 1 0; r 2 0|\
@@ -200,7 +209,8 @@ fn worker_line<'b>(round: &Round<'_>, room: &'b mut LineOps) -> Option<(u8, &'b 
 
 #[test]
 fn reads_the_worked_rows(rt: HostRuntime) -> Result<(), Fail> {
-    let text = b"array 1 4\ntree 3\n0 w 1 2 7; r 1 2\njoin\n0 a 1 0 5; t 1 0 6; d 3 9; s 3 4 8\n";
+    let text =
+        b"array 1 4\ntree 3\n0 w 1 2 7; r 1 2\nk save\nk epoch\njoin\n0 a 1 0 5; t 1 0 6; d 3 9; s 3 4 8\n";
     let script = read_script(rt.alloc(), text).ok().ok_or("it is a script")?;
     assert_eq!(rt;
         script.decls(),
@@ -216,7 +226,21 @@ fn reads_the_worked_rows(rt: HostRuntime) -> Result<(), Fail> {
     };
     assert_eq!(rt; script.rounds(), 2);
     let round = script.round(0);
-    assert_eq!(rt; round.len(), 1);
+    assert_eq!(rt; round.len(), 3);
+    assert_eq!(rt;
+        (
+            round.worker(0),
+            round.worker(1),
+            round.keeper(1),
+            round.keeper(2)
+        ),
+        (
+            Some(0),
+            None,
+            Some(KeeperLine::Save),
+            Some(KeeperLine::Epoch)
+        )
+    );
     let mut room = LineOps::new();
     assert_eq!(rt;
         worker_line(&round, &mut room),
@@ -240,7 +264,7 @@ fn accepts(rt: HostRuntime) {
         b"array 1 1\n7 r 1 0; r 1 0; r 1 0; r 1 0; r 1 0; r 1 0; r 1 0; r 1 0; r 1 0; r 1 0; r 1 0; r 1 0; r 1 0; r 1 0; r 1 0; r 1 0";
     let storages =
         b"array 0 1\narray 1 1\narray 2 1\narray 3 1\narray 4 1\narray 5 1\narray 6 1\narray 7 1\narray 8 1\narray 9 1\narray 10 1\narray 11 1\narray 12 1\narray 13 1\narray 14 1\narray 15 1\n";
-    let texts: [(&[u8], (usize, usize, usize)); 15] = [
+    let texts: [(&[u8], (usize, usize, usize)); 17] = [
         (b"", (0, 1, 0)),
         (b"\n\n", (0, 1, 0)),
         (b"array 1 4", (1, 1, 0)),
@@ -258,6 +282,8 @@ fn accepts(rt: HostRuntime) {
             (2, 1, 1),
         ),
         (storages, (16, 1, 0)),
+        (b"k epoch\nk save", (0, 1, 2)),
+        (b"array 1 4\nk save\n0 r 1 0\njoin\nk epoch\n", (1, 2, 3)),
         (b"join", (0, 1, 0)),
         (b"join\njoin\n\n", (0, 2, 0)),
         (b"array 1 4\n0 a 1 0 1\njoin\n\n0 t 1 0 1", (1, 2, 2)),
@@ -292,6 +318,12 @@ fn bounds_a_round(rt: HostRuntime) -> Result<(), Fail> {
     let mut joined = text.clone()?;
     joined.extend_from_slice(b"join\n0 r 1 0\n")?;
     assert_eq!(rt; counts(rt.alloc(), &joined), Some((1, 2, 65_537)));
+    let mut asked = text.clone()?;
+    asked.extend_from_slice(b"k save\n")?;
+    assert_eq!(rt;
+        fault(rt.alloc(), &asked),
+        Some((65_538, FaultKind::TooMany))
+    );
     text.extend_from_slice(b"0 r 1 0\n")?;
     assert_eq!(rt;
         fault(rt.alloc(), &text),

@@ -16,9 +16,9 @@ returns-in_err-push-clause-memory c =
 pub invariant_of-self-2 : goal.invariant_of-self-2
 invariant_of-self-2 c =
     rw (c.in_ok-append.ensures.ok, c.in_ok-push.ensures.ok)
-    (AreWithin-push c.self.inside.ops c.args.ops.now c.self.inside.spans _ refl (c.in-Ok.ensures.1 ∙ c.len.ensures) c.requires c.self.invariant)
+    (AreWithin-push c.self.inside.ops c.args.ops.now c.self.inside.spans c.args.worker _ _ refl (c.in-Ok.ensures.1 ∙ c.len.ensures) c.requires c.self.invariant)
 
 pub returns-clause-ok : goal.returns-clause-ok
 returns-clause-ok c =
     rw (c.in_ok-append.ensures.ok, c.in_ok-push.ensures.ok, ← c.self.view_is)
-    (lines_in-push c.self.inside.ops c.args.ops.now c.self.inside.spans _ refl (c.in-Ok.ensures.1 ∙ c.len.ensures) c.self.invariant)
+    (lines_in-push c.self.inside.ops c.args.ops.now c.self.inside.spans c.args.worker _ _ refl (c.in-Ok.ensures.1 ∙ c.len.ensures) c.self.invariant)

@@ -1,5 +1,6 @@
 -- What lines draw on the plain map: each commit one number, and a line that the clock refuses none.
-use Rattle.std.proofs.Common.{◌≡◌, subst, refl, ℕ, ◌+◌, ◌≤◌, Bool, true, false, cond, List, [], ◌∷◌, ◌++◌, length, filter, None, arith}
+use Rattle.std.proofs.Common.{◌≡◌, subst, refl, ℕ, ◌+◌, ◌≤◌, Bool, true, false, cond, List, [], ◌∷◌, ◌++◌}
+use Rattle.std.proofs.Common.{length, filter, map, Option, Some, None, arith}
 use Rattle.std.specs.List.{AllByRecursion, flat_map}
 use Rattle.std.proofs.lemmas.Bool.{ltb-false, ltb-true}
 use Rattle.std.proofs.lemmas.List.Sums.{sum_by-cons}
@@ -7,71 +8,124 @@ use Rattle.serial_model.specs.Numbers.{draw_limit}
 use Rattle.serial_model.specs.Step.{step}
 use Rattle.serial_model.specs.declared.op.Op.{Op}
 use Rattle.tx_script.specs.declared.outcome.Outcome.{Outcome}
-use Rattle.tx_script.specs.declared.outcome.Outcome.TheVariants.{Committed, Limit}
-use Rattle.tx_script.specs.Run.{Ran, is_commit}
-use Rattle.tx_script.specs.Causes.{OutcomeCause}
+use Rattle.tx_script.specs.declared.outcome.Outcome.TheVariants.{Committed, Limit, Unrun}
+use Rattle.tx_script.specs.Run.{LogRefusal, Ran, is_commit}
+use Rattle.tx_script.specs.Causes.{OutcomeCause, UnrunLast, WorkersCaused, is_unrun}
 use Rattle.tx_script.specs.Draws.{commits_of}
 use Rattle.round_engine.specs.Standing.{Standing}
-use Rattle.round_engine.specs.Plainly.{DrawsTo, after_line, after_lines, after_workers, committed, has_number, next_number, outcomes_at, outcomes_of}
+use Rattle.round_engine.specs.Plainly.{DrawsTo, after_line, after_lines, committed, has_number, next_number}
+use Rattle.round_engine.specs.Plainly.{outcomes_at}
+use Rattle.round_engine.specs.Parts.{AreParts, Part, after_parts, outcomes_in, outcomes_of, unrun}
 
 -- ---- a line gets a number exactly while the clock gives numbers
 
-draws_to-append : (xs ys : List Outcome) (n k m : ℕ) → DrawsTo n xs k → DrawsTo k ys m → DrawsTo n (xs ++ ys) m
+pub draws_to-append : (xs ys : List Outcome) (n k m : ℕ) → DrawsTo n xs k → DrawsTo k ys m → DrawsTo n (xs ++ ys) m
 draws_to-append [] ys n k m first then = subst (λ x. DrawsTo x ys m) first then
-draws_to-append (Committed verdict number replies ∷ xs) ys n k m first then = (first.0, draws_to-append xs ys (n + 1) k m first.1 then)
+draws_to-append (Committed verdict number replies ∷ xs) ys n k m first then =
+    (first.0, draws_to-append xs ys (n + 1) k m first.1 then)
 draws_to-append (Limit ∷ xs) ys n k m first then = (first.0, draws_to-append xs ys n k m first.1 then)
+draws_to-append (Unrun ∷ xs) ys n k m first then = draws_to-append xs ys n k m first then
 draws_to-append (_ ∷ xs) ys n k m first then = absurd first
 
-line_draws : (ops : List Op) (s : Standing) (b : Bool) (outcomes : List Outcome) (m : ℕ) → has_number s ≡ b
-    → DrawsTo (cond b (next_number s.clock) s.clock).draw outcomes m → DrawsTo s.clock.draw (cond b (committed s.clock (step s.decls s.state ops)) Limit ∷ outcomes) m
+pub line_draws : (ops : List Op) (s : Standing) (b : Bool) (outcomes : List Outcome) (m : ℕ) → has_number s ≡ b
+    → DrawsTo (cond b (next_number s.clock) s.clock).draw outcomes m
+    → DrawsTo s.clock.draw (cond b (committed s.clock (step s.decls s.state ops)) Limit ∷ outcomes) m
 line_draws ops s true outcomes m is rest = (ltb-true s.clock.draw draw_limit is, rest)
 line_draws ops s false outcomes m is rest = (ltb-false s.clock.draw draw_limit is, rest)
 
-lines_draw : (lines : List (List Op)) (s : Standing) → DrawsTo s.clock.draw (outcomes_at s lines) (after_lines s lines).clock.draw
-lines_draw [] s = refl
-lines_draw (ops ∷ lines) s =
-    line_draws ops s (has_number s) (outcomes_at (after_line s ops) lines) _ refl (lines_draw lines (after_line s ops))
+pub unrun_draws : (left : List (List Op)) (n : ℕ) → DrawsTo n (unrun left) n
+unrun_draws [] n = refl
+unrun_draws (ops ∷ left) n = unrun_draws left n
 
-pub workers_draw : (lines : List (List (List Op))) (s : Standing)
-    → DrawsTo s.clock.draw (flat_map (λ outcomes. outcomes) (outcomes_of s lines)) (after_workers s lines).clock.draw
-workers_draw [] s = refl
-workers_draw (mine ∷ more) s =
-    draws_to-append (outcomes_at s mine) _ s.clock.draw (after_lines s mine).clock.draw _ (lines_draw mine s) (workers_draw more (after_lines s mine))
+pub lines_draw : (ran left : List (List Op)) (s : Standing)
+    → DrawsTo s.clock.draw (outcomes_at s ran ++ unrun left) (after_lines s ran).clock.draw
+lines_draw [] left s = unrun_draws left s.clock.draw
+lines_draw (ops ∷ ran) left s =
+    line_draws ops s (has_number s) (outcomes_at (after_line s ops) ran ++ unrun left) _ refl
+    (lines_draw ran left (after_line s ops))
+
+pub parts_draw : (parts : List Part) (s : Standing)
+    → DrawsTo s.clock.draw (flat_map (λ outcomes. outcomes) (outcomes_of s parts)) (after_parts s parts).clock.draw
+parts_draw [] s = refl
+parts_draw (p ∷ parts) s =
+    draws_to-append (outcomes_in s p) _ s.clock.draw (after_lines s p.ran).clock.draw _ (lines_draw p.ran p.left s)
+    (parts_draw parts (after_lines s p.ran))
 
 -- ---- what follows for a worker's outcomes, and for all of them
 
--- each has its cause, and each commit drew one number
-pub draws_caused : (ran : Ran) (outcomes : List Outcome) (n m : ℕ) → DrawsTo n outcomes m → m ≤ ran.end.draw
-    → AllByRecursion (OutcomeCause ran) outcomes × (m ≡ n + length (filter is_commit outcomes))
-draws_caused ran [] n m draws le = (tt, omega (arith, draws))
-draws_caused ran (Committed verdict number replies ∷ outcomes) n m draws le =
-    let rest = draws_caused ran outcomes (n + 1) m draws.1 le in ((tt, rest.0), omega (arith, rest.1))
-draws_caused ran (Limit ∷ outcomes) n m draws le =
-    let rest = draws_caused ran outcomes n m draws.1 le in ((omega (arith, draws.0, rest.1), rest.0), rest.1)
-draws_caused ran (_ ∷ outcomes) n m draws le = absurd draws
+-- each commit drew one number
+pub lines_counted : (outcomes : List Outcome) (n m : ℕ) → DrawsTo n outcomes m → m ≡ n + length (filter is_commit outcomes)
+lines_counted [] n m draws = omega (arith, draws)
+lines_counted (Committed verdict number replies ∷ outcomes) n m draws =
+    omega (arith, lines_counted outcomes (n + 1) m draws.1)
+lines_counted (Limit ∷ outcomes) n m draws = lines_counted outcomes n m draws.1
+lines_counted (Unrun ∷ outcomes) n m draws = lines_counted outcomes n m draws
+lines_counted (_ ∷ outcomes) n m draws = absurd draws
 
-lines-grow : (lines : List (List (List Op))) (s : Standing) → s.clock.draw ≤ (after_workers s lines).clock.draw
-lines-grow [] s = omega arith
-lines-grow (mine ∷ more) s =
-    let whole : Ran = record {
-      begin = s.clock;
-      end = (after_lines s mine).clock;
-      outcomes = [];
-      answers = [];
-      durable = None;
-    } in
-    let one = draws_caused whole (outcomes_at s mine) s.clock.draw (after_lines s mine).clock.draw (lines_draw mine s) (omega arith) in
-    let rest = lines-grow more (after_lines s mine) in
-    omega (arith, one.1, rest)
+pub parts_counted : (parts : List Part) (s : Standing)
+    → (after_parts s parts).clock.draw ≡ s.clock.draw + commits_of (outcomes_of s parts)
+parts_counted [] s = omega arith
+parts_counted (p ∷ parts) s =
+    let t : Standing = after_lines s p.ran in
+    let one = lines_counted (outcomes_in s p) s.clock.draw t.clock.draw (lines_draw p.ran p.left s) in
+    let split : commits_of (outcomes_of s (p ∷ parts)) ≡ length (filter is_commit (outcomes_in s p))
+    + commits_of (outcomes_of t parts) =
+    sum_by-cons (λ outcomes. length (filter is_commit outcomes)) (outcomes_in s p) (outcomes_of t parts) in
+    omega (arith, one, parts_counted parts t, split)
 
-pub workers_caused : (ran : Ran) (lines : List (List (List Op))) (s : Standing) → (after_workers s lines).clock.draw ≤ ran.end.draw
-    → AllByRecursion (AllByRecursion (OutcomeCause ran)) (outcomes_of s lines) × ((after_workers s lines).clock.draw ≡ s.clock.draw + commits_of (outcomes_of s lines))
-workers_caused ran [] s le = (tt, omega arith)
-workers_caused ran (mine ∷ more) s le =
-    let t : Standing = after_lines s mine in
-    let grows = lines-grow more t in
-    let one = draws_caused ran (outcomes_at s mine) s.clock.draw t.clock.draw (lines_draw mine s) (omega arith) in
-    let rest = workers_caused ran more t le in
-    let split : commits_of (outcomes_of s (mine ∷ more)) ≡ length (filter is_commit (outcomes_at s mine)) + commits_of (outcomes_of t more) =
-    sum_by-cons (λ outcomes. length (filter is_commit outcomes)) (outcomes_at s mine) (outcomes_of t more) in
-    ((one.0, rest.0), omega (arith, one.1, rest.1, split))
+-- ---- causes
+
+-- a line that was run has its cause
+pub ran_caused : (ran : Ran) (log : Option LogRefusal) (ops : List Op) (s : Standing) (b : Bool) → has_number s ≡ b
+    → s.clock.draw ≤ ran.end.draw
+    → OutcomeCause ran log (cond b (committed s.clock (step s.decls s.state ops)) Limit)
+    × (is_unrun (cond b (committed s.clock (step s.decls s.state ops)) Limit) ≡ false)
+ran_caused ran log ops s true is le = (ltb-true s.clock.draw draw_limit is, refl)
+ran_caused ran log ops s false is le = (omega (arith, ltb-false s.clock.draw draw_limit is), refl)
+
+-- lines that were left out of a log that was refused have one
+left_more : (ran : Ran) (refusal : LogRefusal) (left : List (List Op))
+    → AllByRecursion (OutcomeCause ran (Some refusal)) (unrun left)
+left_more ran refusal [] = tt
+left_more ran refusal (ops ∷ left) = (refl, left_more ran refusal left)
+
+-- lines that were left out have one
+pub left_caused : (ran : Ran) (log : Option LogRefusal) (left : List (List Op)) → (log ≡ None → left ≡ [])
+    → AllByRecursion (OutcomeCause ran log) (unrun left)
+left_caused ran log [] all = tt
+left_caused ran None (ops ∷ left) all = absurd (let none = all refl in cc)
+left_caused ran (Some refusal) (ops ∷ left) all = (refl, left_more ran refusal left)
+
+pub unrun_all : (left : List (List Op)) → AllByRecursion (λ o. is_unrun o ≡ true) (unrun left)
+unrun_all [] = tt
+unrun_all (ops ∷ left) = (refl, unrun_all left)
+
+pub unrun_last : (left : List (List Op)) → UnrunLast (unrun left)
+unrun_last [] = tt
+unrun_last (ops ∷ left) = unrun_all left
+
+-- the draws never fall
+pub lines_grow : (ran : List (List Op)) (s : Standing) → s.clock.draw ≤ (after_lines s ran).clock.draw
+lines_grow ran s =
+    omega (arith, lines_counted (outcomes_at s ran ++ unrun []) s.clock.draw (after_lines s ran).clock.draw (lines_draw ran [] s))
+
+pub part_caused : (ran : Ran) (log : Option LogRefusal) (lines left : List (List Op)) (s : Standing)
+    → (log ≡ None → left ≡ []) → (after_lines s lines).clock.draw ≤ ran.end.draw
+    → AllByRecursion (OutcomeCause ran log) (outcomes_at s lines ++ unrun left)
+    × UnrunLast (outcomes_at s lines ++ unrun left)
+part_caused ran log [] left s all le = (left_caused ran log left all, unrun_last left)
+part_caused ran log (ops ∷ lines) left s all le =
+    let line = ran_caused ran log ops s (has_number s) refl
+    (omega (arith, lines_grow (ops ∷ lines) s, le)) in
+    let rest = part_caused ran log lines left (after_line s ops) all le in
+    ((line.0, rest.0), rw line.1 rest.1)
+
+pub parts_caused : (ran : Ran) (parts : List Part) (s : Standing) → AreParts s parts
+    → (after_parts s parts).clock.draw ≤ ran.end.draw
+    → WorkersCaused ran (map (λ (p : Part). p.refusal) parts) (outcomes_of s parts)
+parts_caused ran [] s are le = tt
+parts_caused ran (p ∷ parts) s are le =
+    let t : Standing = after_lines s p.ran in
+    let grows : t.clock.draw ≤ (after_parts t parts).clock.draw = omega (arith, parts_counted parts t) in
+    let one = part_caused ran p.refusal p.ran p.left s are.0.all (omega (arith, grows, le)) in
+    (one.0, one.1, parts_caused ran parts t are.1 le)

@@ -16,36 +16,36 @@ use Rattle.serial_model.specs.declared.reply.Reply.TheVariants.{Value, Rows}
 use Rattle.serial_model.specs.declared.reply.Verdict.TheVariants.{Short, Over}
 
 -- what the operation replies takes at most 34 words
-abbrev IsSmall : Move → Type 0
+abbrev pub IsSmall : Move → Type 0
 IsSmall (Goes reply s) = length (replies_words (option_to_list reply)) ≤ 34
 IsSmall (Ends verdict) = ⊤
 
-few_value : (v : ℕ) → length (replies_words (Value v ∷ [])) ≤ 34
+pub few_value : (v : ℕ) → length (replies_words (Value v ∷ [])) ≤ 34
 unfolding reply_words
 few_value v = elim (cases_Bool (nat_lt v (2 ^ 64 - 3))) [ inl small ↦ rw small (omega arith) | inr great ↦ rw great (omega arith) ]
 
-few_read : (kind : Bool) (value : Option ℕ) → length (replies_words (reply_of kind value ∷ [])) ≤ 34
+pub few_read : (kind : Bool) (value : Option ℕ) → length (replies_words (reply_of kind value ∷ [])) ≤ 34
 unfolding reply_words
 few_read true (Some v) = few_value v
 few_read false (Some v) = few_value v
 few_read true None = omega arith
 few_read false None = few_value 0
 
-taken : (rows : List (ℕ × ℕ)) → length (take 16 rows) ≤ 16
+pub taken : (rows : List (ℕ × ℕ)) → length (take 16 rows) ≤ 16
 taken rows = omega (arith, length-take 16 rows)
 
-few_rows : (s : State) (storage low high : ℕ) → length (replies_words (Rows (rows_of s storage low high) ∷ [])) ≤ 34
+pub few_rows : (s : State) (storage low high : ℕ) → length (replies_words (Rows (rows_of s storage low high) ∷ [])) ≤ 34
 unfolding reply_words
 few_rows s storage low high =
     let rows : List (ℕ × ℕ) = rows_of s storage low high in
     let few : length rows ≤ 16 = taken _ in
     omega (arith, length-rows_words rows, length-append (reply_words (Rows rows)) [])
 
-one_of : (b : Bool) (m n : Move) → IsSmall m → IsSmall n → IsSmall (cond b m n)
+pub one_of : (b : Bool) (m n : Move) → IsSmall m → IsSmall n → IsSmall (cond b m n)
 one_of true m n first second = first
 one_of false m n first second = second
 
-few_move : (decls : List Decl) (s : State) (op : Op) → IsSmall (move_of decls s op)
+pub few_move : (decls : List Decl) (s : State) (op : Op) → IsSmall (move_of decls s op)
 few_move decls s (Read k) = few_read (is_tree decls k.storage) (get s k)
 few_move decls s (Write k v) = omega arith
 few_move decls s (Remove k) = omega arith
@@ -53,14 +53,14 @@ few_move decls s (Add k v) = one_of (nat_lt (amount_at s k + v) (2 ^ 64)) (Goes 
 few_move decls s (Take k v) = one_of (nat_le v (amount_at s k)) (Goes None (insert s k (amount_at s k - v))) (Ends Short) (omega arith) tt
 few_move decls s (Scan storage low high) = few_rows s storage low high
 
-few_after : (first : State) (m : Move) (rest : State → Ended) (n : ℕ) → IsSmall m → ((t : State) → length (replies_words (rest t).replies) ≤ n)
+pub few_after : (first : State) (m : Move) (rest : State → Ended) (n : ℕ) → IsSmall m → ((t : State) → length (replies_words (rest t).replies) ≤ n)
     → length (replies_words (after_move first m rest).replies) ≤ 34 + n
 few_after first (Goes reply s) rest n small few =
     let both = ap length (replies_words-append (option_to_list reply) (rest s).replies) in
     omega (arith, both, length-append (replies_words (option_to_list reply)) (replies_words (rest s).replies), small, few s)
 few_after first (Ends verdict) rest n small few = omega arith
 
-few_from : (decls : List Decl) (first : State) (ops : List Op) (s : State) → length (replies_words (step_from decls first ops s).replies) ≤ 34 * length ops
+pub few_from : (decls : List Decl) (first : State) (ops : List Op) (s : State) → length (replies_words (step_from decls first ops s).replies) ≤ 34 * length ops
 few_from decls first [] s = omega arith
 few_from decls first (op ∷ ops) s =
     let all : length (replies_words (step_from decls first (op ∷ ops) s).replies) ≤ 34 + 34 * length ops =

@@ -1,116 +1,263 @@
--- What the loops over lines and workers have done so far.
-use Rattle.std.proofs.Common.{◌≡◌, ◌∙◌, sym, ap, refl, ℕ, zero, suc, ◌+◌, ◌<◌, ◌≤◌, List, [], ◌∷◌, ◌++◌, take, Some, None, arith}
-use Rattle.std.specs.List.{slice_get}
-use Rattle.std.proofs.lemmas.Option.{get_or_from_slice_get}
-use Rattle.std.proofs.lemmas.List.{take_more}
+-- What the loop over a worker's lines has done so far.
+use Rattle.std.proofs.Common.{◌≡◌, ◌∙◌, ◌≤◌, ◌+◌, ◌-◌, ◌++◌, ◌∷◌, inl, sym, ap, subst, refl, ℕ, List, [], take}
+use Rattle.std.proofs.Common.{Bool, true, false, cond, Option, Some, None, append_assoc, arith}
+use Rattle.std.specs.Prelude.{MatchBool, option_to_list}
+use Rattle.std.specs.List.{AllByRecursion}
+use Rattle.std.proofs.lemmas.List.{append-nil}
+use Rattle.lists.specs.Each.{all_append}
+use Rattle.serial_model.specs.State.{State}
+use Rattle.serial_model.specs.declared.decl.Decl.{Decl}
+use Rattle.serial_model.specs.declared.number.Commit.{Commit}
+use Rattle.serial_model.specs.declared.number.Number.{Number}
 use Rattle.serial_model.specs.declared.op.Op.{Op}
-use Rattle.script_grammar.specs.Script.{Line, Round, lines_of_worker, worker_lines}
+use Rattle.script_grammar.specs.Script.{Line}
+use Rattle.wire_form.specs.LogFile.{IsLineOf}
+use Rattle.log_writer.specs.Journal.{JournalState, Reaches, end_of}
+use Rattle.log_writer.specs.declared.journal.LogFault.{LogFault}
+use Rattle.log_writer.specs.declared.journal.LogFault.TheVariants.{Device, Down, Limit}
 use Rattle.tx_script.specs.declared.outcome.Outcome.{Outcome}
+use Rattle.tx_script.specs.declared.outcome.Outcome.TheVariants.{Unrun}
+use Rattle.worker_logs.specs.Changes.{IsLogged}
+use Rattle.worker_logs.specs.Logs.{LogState}
+use Rattle.worker_logs.specs.Moves.{MovesLog}
+use Rattle.round_engine.specs.Parts.{IsLoggedAt, unrun}
+use Rattle.round_engine.specs.Plainly.{after_line, after_lines, has_number, next_number, outcome_at, outcomes_at}
 use Rattle.round_engine.specs.Standing.{Standing}
-use Rattle.round_engine.specs.Plainly.{after_line, after_lines, after_workers, outcome_at, outcomes_at, outcomes_of}
-use Rattle.round_engine.proofs.Fronts.{HasOps, ops_of, take_mine, take_other}
+use Rattle.round_engine.specs.Steps.{Blames, IsFull, IsLogUp, KeepsMark, Moves, TakesCommit, TakesLine, full_after}
+use Rattle.round_engine.specs.Workers.{RunsLines}
+use Rattle.round_engine.proofs.Chains.{after_lines-decls}
+use Rattle.round_engine.proofs.Fronts.{HasOps, ops_of, take_other}
+use Rattle.round_engine.proofs.Logged.{logged_push}
+use Rattle.round_engine.proofs.Takes.{blames_move, blames_none, keeps_commit, keeps_then, still_down, still_full}
+use Rattle.round_engine.proofs.Takes.{takes_commit, takes_move, takes_none}
 
--- the worker's lines among the first ones were run
-pub record LinesSoFar (lines : List Line) (worker index count : ℕ) (first now : Standing) (outcomes : List Outcome) : Type 0 where
-  pub counted : count ≤ index
-  pub decls : now.decls ≡ first.decls
-  pub told : outcomes ≡ outcomes_at first (ops_of worker (take index lines))
-  pub standing : now ≡ after_lines first (ops_of worker (take index lines))
+-- ---- one line more
 
--- the lines of the first workers were run
-pub record WorkersSoFar (lines : List (List (List Op))) (worker : ℕ) (first now : Standing) (outcomes : List (List Outcome)) : Type 0 where
-  pub decls : now.decls ≡ first.decls
-  pub told : outcomes ≡ outcomes_of first (take worker lines)
-  pub standing : now ≡ after_workers first (take worker lines)
+pub outcomes_push : (lines : List (List Op)) (ops : List Op) (s : Standing)
+    → outcomes_at s (lines ++ ops ∷ []) ≡ outcomes_at s lines ++ outcome_at (after_lines s lines) ops ∷ []
+outcomes_push [] ops s = refl
+outcomes_push (first ∷ lines) ops s = ap (λ x. outcome_at s first ∷ x) (outcomes_push lines ops (after_line s first))
 
-outcomes_at-push : (lines : List (List Op)) (ops : List Op) (s : Standing) → outcomes_at s (lines ++ ops ∷ []) ≡ outcomes_at s lines ++ outcome_at (after_lines s lines) ops ∷ []
-outcomes_at-push [] ops s = refl
-outcomes_at-push (first ∷ lines) ops s = ap (λ x. outcome_at s first ∷ x) (outcomes_at-push lines ops (after_line s first))
+pub after_push : (lines : List (List Op)) (ops : List Op) (s : Standing)
+    → after_lines s (lines ++ ops ∷ []) ≡ after_line (after_lines s lines) ops
+after_push [] ops s = refl
+after_push (first ∷ lines) ops s = after_push lines ops (after_line s first)
 
-after_lines-push : (lines : List (List Op)) (ops : List Op) (s : Standing) → after_lines s (lines ++ ops ∷ []) ≡ after_line (after_lines s lines) ops
-after_lines-push [] ops s = refl
-after_lines-push (first ∷ lines) ops s = after_lines-push lines ops (after_line s first)
+pub unrun_push : (left : List (List Op)) (ops : List Op) → unrun (left ++ ops ∷ []) ≡ unrun left ++ Unrun ∷ []
+unrun_push [] ops = refl
+unrun_push (first ∷ left) ops = ap (λ x. Unrun ∷ x) (unrun_push left ops)
 
--- where a line of the worker leaves the runtime, if it was run
-pub after_mine : (lines : List Line) (worker index : ℕ) (first now : Standing) (ops : List Op) → HasOps worker lines index (Some ops)
-    → now ≡ after_lines first (ops_of worker (take index lines)) → after_line now ops ≡ after_lines first (ops_of worker (take (index + 1) lines))
-after_mine lines worker index first now ops has so =
-    ap (λ s. after_line s ops) so ∙ sym (after_lines-push (ops_of worker (take index lines)) ops first) ∙ ap (after_lines first) (sym (take_mine worker lines index ops has))
+-- the epoch stays
+pub line_epoch : (clock : Number) (b : Bool) → (cond b (next_number clock) clock).epoch ≡ clock.epoch
+line_epoch clock true = refl
+line_epoch clock false = refl
 
--- a line of the worker was run
-pub lines_so_far-mine : (lines : List Line) (worker index count : ℕ) (first now then : Standing) (outcomes after : List Outcome) (ops : List Op)
-    → HasOps worker lines index (Some ops) → LinesSoFar lines worker index count first now outcomes
-    → after ≡ outcomes ++ outcome_at now ops ∷ [] → then ≡ after_line now ops → LinesSoFar lines worker (index + 1) (count + 1) first then after
-lines_so_far-mine lines worker index count first now then outcomes after ops has so pushed ran =
-    let mine : List (List Op) = ops_of worker (take index lines) in
-    record {
-      counted = omega arith;
-      decls = ap (λ (s : Standing). s.decls) ran ∙ so.decls;
-      told = pushed ∙ ap (λ o. o ++ outcome_at now ops ∷ []) so.told ∙ ap (λ s. outcomes_at first mine ++ outcome_at s ops ∷ []) so.standing
-          ∙ sym (outcomes_at-push mine ops first) ∙ ap (outcomes_at first) (sym (take_mine worker lines index ops has));
-      standing = ran ∙ after_mine lines worker index first now ops has so.standing;
-    }
+pub lines_epoch : (lines : List (List Op)) (s : Standing) → (after_lines s lines).clock.epoch ≡ s.clock.epoch
+lines_epoch [] s = refl
+lines_epoch (ops ∷ lines) s = lines_epoch lines (after_line s ops) ∙ line_epoch s.clock (has_number s)
 
--- a line of another worker was passed over
-pub lines_so_far-other : (lines : List Line) (worker index count : ℕ) (first now : Standing) (outcomes : List Outcome)
-    → HasOps worker lines index None → LinesSoFar lines worker index count first now outcomes
-    → LinesSoFar lines worker (index + 1) count first now outcomes
-lines_so_far-other lines worker index count first now outcomes has so =
-    let same = sym (take_other worker lines index has) in
-    record {
-      counted = omega arith;
-      decls = so.decls;
-      told = so.told ∙ ap (outcomes_at first) same;
-      standing = so.standing ∙ ap (after_lines first) same;
-    }
+-- what a line logs has the clock's number
+pub logged_number : (decls : List Decl) (s : State) (ops : List Op) (number : Number) (b : Bool) (first : Option Commit)
+    → MatchBool b (IsLogged decls s ops number first) (first ≡ None) → (c : Commit) → first ≡ Some c
+    → c.number.epoch ≡ number.epoch
+logged_number decls s ops number true None is c has = absurd cc
+logged_number decls s ops number true (Some d) is c has =
+    let same : d ≡ c = cc in ap (λ (x : Commit). x.number.epoch) (sym same) ∙ ap (λ (n : Number). n.epoch) is.1
+logged_number decls s ops number false first is c has = absurd (let none = sym is ∙ has in cc)
 
--- ---- workers
+-- a log that has room for a line isn't full
+pub room_left : (full : Option ℕ) → ((size : ℕ) → full ≡ Some size → ⊥) → full ≡ None
+room_left None not = refl
+room_left (Some size) not = absurd (not size refl)
 
--- the lines of worker w stand at w
-worker_at : (round : Round) (w : ℕ) → w < 8 → slice_get (worker_lines round) w ≡ Some (lines_of_worker round w)
-worker_at round zero h = refl
-worker_at round (suc zero) h = refl
-worker_at round (suc (suc zero)) h = refl
-worker_at round (suc (suc (suc zero))) h = refl
-worker_at round (suc (suc (suc (suc zero)))) h = refl
-worker_at round (suc (suc (suc (suc (suc zero))))) h = refl
-worker_at round (suc (suc (suc (suc (suc (suc zero)))))) h = refl
-worker_at round (suc (suc (suc (suc (suc (suc (suc zero))))))) h = refl
-worker_at round (suc (suc (suc (suc (suc (suc (suc (suc w)))))))) h = absurd (omega arith)
+-- what a log with a commit more is
+pub blames_took : {D : Type 0} {faults : D → ℕ} {first now : D} (ready left : LogState) (commit : Option Commit)
+    → Blames faults first now ready.journal → TakesCommit commit ready left → Blames faults first now left.journal
+blames_took {faults = faults} {first = first} {now = now} ready left None blames is =
+    subst (λ (l : LogState). Blames faults first now l.journal) (sym is) blames
+blames_took ready left (Some c) blames puts = record {
+  later = blames.later;
+  quiet = λ up. blames.quiet (sym puts.down ∙ up);
+  rose = λ count down. blames.rose count (sym puts.down ∙ down);
+}
 
-outcomes_of-push : (before : List (List (List Op))) (lines : List (List Op)) (s : Standing)
-    → outcomes_of s (before ++ lines ∷ []) ≡ outcomes_of s before ++ outcomes_at (after_workers s before) lines ∷ []
-outcomes_of-push [] lines s = refl
-outcomes_of-push (more ∷ before) lines s = ap (λ x. outcomes_at s more ∷ x) (outcomes_of-push before lines (after_lines s more))
+pub reaches_took : {D : Type 0} (tells : D → Option (List ℕ)) (now : D) (ready left : LogState) (commit : Option Commit)
+    → Reaches tells now ready.journal → TakesCommit commit ready left → Reaches tells now left.journal
+reaches_took tells now ready left None reaches is =
+    subst (λ (l : LogState). Reaches tells now l.journal) (sym is) reaches
+reaches_took tells now ready left (Some c) reaches puts = λ file told. omega (arith, reaches file told, puts.durable)
 
-after_workers-push : (before : List (List (List Op))) (lines : List (List Op)) (s : Standing)
-    → after_workers s (before ++ lines ∷ []) ≡ after_lines (after_workers s before) lines
-after_workers-push [] lines s = refl
-after_workers-push (more ∷ before) lines s = after_workers-push before lines (after_lines s more)
+pub limit_took : (ready left : LogState) (commit : Option Commit) → TakesCommit commit ready left
+    → left.journal.limit ≡ ready.journal.limit
+limit_took ready left None is = ap (λ (l : LogState). l.journal.limit) is
+limit_took ready left (Some c) puts = puts.limit
 
--- one more worker's lines
-take_worker : (round : Round) (w : ℕ) → w < 8 → take (w + 1) (worker_lines round) ≡ take w (worker_lines round) ++ lines_of_worker round w ∷ []
-take_worker round w h =
-    take_more (worker_lines round) w [] h ∙ ap (λ x. take w (worker_lines round) ++ x ∷ []) (get_or_from_slice_get (worker_lines round) w (lines_of_worker round w) [] (worker_at round w h))
+-- lines with one more are some
+pub some_lines : (lines : List (List Op)) (ops : List Op) → lines ++ ops ∷ [] ≡ [] → ⊥
+some_lines [] ops is = absurd cc
+some_lines (first ∷ lines) ops is = absurd cc
 
--- the storages stay
-after_lines-decls : (lines : List (List Op)) (s : Standing) → (after_lines s lines).decls ≡ s.decls
-after_lines-decls [] s = refl
-after_lines-decls (ops ∷ lines) s = after_lines-decls lines (after_line s ops)
+-- a log that took a call well was up
+pub up_or : (down : Option ℕ) → ((count : ℕ) → down ≡ Some count → ⊥) → down ≡ None
+up_or None not = refl
+up_or (Some count) not = absurd (not count refl)
 
--- a worker's lines were run
-pub workers_so_far-run : (round : Round) (worker : ℕ) (first now then : Standing) (outcomes after : List (List Outcome)) (told : List Outcome)
-    → worker < 8 → WorkersSoFar (worker_lines round) worker first now outcomes
-    → told ≡ outcomes_at now (lines_of_worker round worker) → then ≡ after_lines now (lines_of_worker round worker) → after ≡ outcomes ++ told ∷ []
-    → WorkersSoFar (worker_lines round) (worker + 1) first then after
-workers_so_far-run round worker first now then outcomes after told small so is ran pushed =
-    let mine : List (List Op) = lines_of_worker round worker in
-    let before : List (List (List Op)) = take worker (worker_lines round) in
-    let more = take_worker round worker small in
-    record {
-      decls = ap (λ (s : Standing). s.decls) ran ∙ after_lines-decls mine now ∙ so.decls;
-      told = pushed ∙ ap (λ o. outcomes ++ o ∷ []) (is ∙ ap (λ s. outcomes_at s mine) so.standing)
-          ∙ ap (λ x. x ++ outcomes_at (after_workers first before) mine ∷ []) so.told
-          ∙ sym (outcomes_of-push before mine first) ∙ ap (outcomes_of first) (sym more);
-      standing = ran ∙ ap (λ s. after_lines s mine) so.standing ∙ sym (after_workers-push before mine first) ∙ ap (after_workers first) (sym more);
-    }
+-- where a log is full
+pub full_at : {journal : JournalState} (fault : LogFault) (full : Option ℕ)
+    → ((size : ℕ) → fault ≡ Limit size → IsFull size journal) → ((size : ℕ) → full ≡ Some size → IsFull size journal)
+    → (size : ℕ) → full_after fault full ≡ Some size → IsFull size journal
+full_at Device full limit before size is = before size is
+full_at (Down count) full limit before size is = before size is
+full_at (Limit length) full limit before size is =
+    let same : length ≡ size = cc in limit size (ap Limit same)
+
+module _ {D : Type 0} {tells : D → Option (List ℕ)} {clock : D → ℕ} {image_at : D → ℕ → List ℕ → Type 0}
+    {faults : D → ℕ} {epoch : ℕ} {log left : LogState} {bank now : D} where
+  -- a log that was made ready was up
+  pub was_up : MovesLog tells clock image_at faults epoch log left bank now None → log.journal.down ≡ None
+  was_up moves = up_or log.journal.down (λ count is. let no = (moves.down count).1 is in absurd cc)
+
+  -- and one that refuses a line for another cause than its length is down
+  never_up : (fault : LogFault) (full : Option ℕ) → MovesLog tells clock image_at faults epoch log left bank now (Some fault)
+      → full_after fault full ≡ None → left.journal.down ≡ None → ⊥
+  never_up Device full moves none up = let no = sym (moves.goes_down refl) ∙ up in absurd cc
+  never_up (Down count) full moves none up =
+      let no = sym ((moves.down count).0 refl) ∙ sym (moves.stays_up (λ is. cc)) ∙ up in absurd cc
+  never_up (Limit size) full moves none up = absurd cc
+
+module _ {D : Type 0} {tells : D → Option (List ℕ)} {clock : D → ℕ} {image_at : D → ℕ → List ℕ → Type 0}
+    {faults : D → ℕ} where
+  -- no line
+  pub lines_begin : (s : Standing) (log : LogState) (bank : D) → IsLogUp tells log bank
+      → RunsLines tells clock image_at faults [] s s [] None log log bank bank
+  lines_begin s log bank up = record {
+    ran = [];
+    left = [];
+    logged = [];
+    whole = refl;
+    told = refl;
+    standing = refl;
+    logged_are = refl;
+    lines_are = tt;
+    takes = takes_none s.clock.epoch log bank;
+    mark = inl refl;
+    blames = blames_none bank log.journal up.up;
+    reaches = up.reaches;
+    limit = refl;
+    full_is = λ size is. absurd (let none = is in cc);
+    all = λ none is. refl;
+    none = λ is. refl;
+  }
+
+  -- a line of another worker was passed over
+  pub lines_other : (lines : List Line) (worker index : ℕ) {s t : Standing} {outcomes : List Outcome} {full : Option ℕ}
+      {old log : LogState} {before bank : D} → HasOps worker lines index None
+      → RunsLines tells clock image_at faults (ops_of worker (take index lines)) s t outcomes full old log before bank
+      → RunsLines tells clock image_at faults (ops_of worker (take (index + 1) lines)) s t outcomes full old log before
+      bank
+  lines_other lines worker index {s = s} {t = t} {outcomes = outcomes} {full = full} {old = old} {log = log}
+      {before = before} {bank = bank} has so =
+      subst (λ l. RunsLines tells clock image_at faults l s t outcomes full old log before bank)
+      (sym (take_other worker lines index has)) so
+
+  -- a line of the worker was run
+  pub lines_ran : {lines : List (List Op)} {s mid t : Standing} {outcomes after : List Outcome} {full : Option ℕ}
+      {old log ready left : LogState} {before bank now : D} (ops : List Op) → 1 ≤ s.clock.epoch
+      → RunsLines tells clock image_at faults lines s mid outcomes full old log before bank
+      → MovesLog tells clock image_at faults (s.clock.epoch - 1) log ready bank now None
+      → KeepsMark s.clock.epoch log ready
+      → end_of ready.journal + 400 ≤ ready.journal.limit
+      → TakesLine mid ops ready left
+      → after ≡ outcomes ++ outcome_at mid ops ∷ [] → t ≡ after_line mid ops
+      → RunsLines tells clock image_at faults (lines ++ ops ∷ []) s t after full old left before now
+  lines_ran {lines = lines} {s = s} {mid = mid} {full = full} {old = old} {log = log} {ready = ready} {left = left} {now = now} ops some so
+      moves mark below took told then =
+      let open_log : full ≡ None = room_left full (λ size is.
+      let now_full = still_full moves (so.full_is size is) in omega (arith, now_full.end, now_full.above, below)) in
+      let none : so.left ≡ [] = so.all open_log (was_up moves) in
+      let ran : lines ≡ so.ran = so.whole ∙ ap (λ l. so.ran ++ l) none ∙ append-nil so.ran in
+      let same_decls : mid.decls ≡ s.decls = ap (λ (x : Standing). x.decls) so.standing ∙ after_lines-decls so.ran s in
+      let same_epoch : mid.clock.epoch ≡ s.clock.epoch =
+      ap (λ (x : Standing). x.clock.epoch) so.standing ∙ lines_epoch so.ran s in
+      record {
+        ran = so.ran ++ ops ∷ [];
+        left = [];
+        logged = so.logged ++ option_to_list took.first;
+        whole = ap (λ l. l ++ ops ∷ []) ran ∙ sym (append-nil (so.ran ++ ops ∷ []));
+        told = told ∙ ap (λ o. o ++ outcome_at mid ops ∷ [])
+            (so.told ∙ ap (λ l. outcomes_at s so.ran ++ unrun l) none ∙ append-nil (outcomes_at s so.ran))
+            ∙ ap (λ m. outcomes_at s so.ran ++ outcome_at m ops ∷ []) so.standing ∙ sym (outcomes_push so.ran ops s)
+            ∙ sym (append-nil (outcomes_at s (so.ran ++ ops ∷ [])));
+        standing = then ∙ ap (λ m. after_line m ops) so.standing ∙ sym (after_push so.ran ops s);
+        logged_are = logged_push so.ran ops s so.logged took.first so.logged_are
+            (subst (λ m. IsLoggedAt m ops took.first) so.standing took.logged);
+        lines_are = all_append (IsLineOf s.decls) so.logged (option_to_list took.first) so.lines_are
+            (subst (λ ds. AllByRecursion (IsLineOf ds) (option_to_list took.first)) same_decls took.line);
+        takes = takes_commit took.first some
+            (λ c has. logged_number mid.decls mid.state ops mid.clock (has_number mid) took.first took.logged c has
+            ∙ same_epoch)
+            (takes_move so.takes moves.runs) took.takes;
+        mark = keeps_commit s.clock.epoch old ready left took.first (keeps_then s.clock.epoch old log ready so.mark mark)
+            took.takes;
+        blames = blames_took ready left took.first (blames_move None so.blames moves) took.takes;
+        reaches = reaches_took tells now ready left took.first moves.reaches took.takes;
+        limit = limit_took ready left took.first took.takes ∙ moves.limit ∙ so.limit;
+        full_is = λ size is. absurd (let no = sym open_log ∙ is in cc);
+        all = λ no up. refl;
+        none = λ is. absurd (some_lines lines ops is);
+      }
+
+  -- a line of the worker was left out
+  pub lines_left : {lines : List (List Op)} {s mid : Standing} {outcomes after : List Outcome} {full : Option ℕ}
+      {old log left : LogState} {before bank now : D} (ops : List Op) (fault : LogFault)
+      → RunsLines tells clock image_at faults lines s mid outcomes full old log before bank
+      → MovesLog tells clock image_at faults (s.clock.epoch - 1) log left bank now (Some fault)
+      → KeepsMark s.clock.epoch log left
+      → ((size : ℕ) → fault ≡ Limit size → IsFull size log.journal)
+      → after ≡ outcomes ++ Unrun ∷ []
+      → RunsLines tells clock image_at faults (lines ++ ops ∷ []) s mid after (full_after fault full) old left before now
+  lines_left {lines = lines} {s = s} {full = full} {old = old} {log = log} {left = left} ops fault so moves mark limit told = record {
+    ran = so.ran;
+    left = so.left ++ ops ∷ [];
+    logged = so.logged;
+    whole = ap (λ l. l ++ ops ∷ []) so.whole ∙ append_assoc so.ran so.left (ops ∷ []);
+    told = told ∙ ap (λ o. o ++ Unrun ∷ []) so.told ∙ append_assoc (outcomes_at s so.ran) (unrun so.left) (Unrun ∷ [])
+        ∙ ap (λ o. outcomes_at s so.ran ++ o) (sym (unrun_push so.left ops));
+    standing = so.standing;
+    logged_are = so.logged_are;
+    lines_are = so.lines_are;
+    takes = takes_move so.takes moves.runs;
+    mark = keeps_then s.clock.epoch old log left so.mark mark;
+    blames = blames_move (Some fault) so.blames moves;
+    reaches = moves.reaches;
+    limit = moves.limit ∙ so.limit;
+    full_is = λ size is. still_full moves (full_at fault full limit so.full_is size is);
+    all = λ none up. absurd (never_up fault full moves none up);
+    none = λ is. absurd (some_lines lines ops is);
+  }
+
+  -- What waits was made durable at the end, and marked, unless there was no line.
+  pub lines_marked : {lines : List (List Op)} {s t : Standing} {outcomes : List Outcome} {full : Option ℕ}
+      {old log left : LogState} {before bank now : D}
+      → RunsLines tells clock image_at faults lines s t outcomes full old log before bank
+      → Moves tells clock image_at faults s.clock.epoch log left bank now
+      → (lines ≡ [] → left ≡ log)
+      → RunsLines tells clock image_at faults lines s t outcomes full old left before now
+  lines_marked {s = s} {old = old} {log = log} {left = left} so marks none = record {
+    ran = so.ran;
+    left = so.left;
+    logged = so.logged;
+    whole = so.whole;
+    told = so.told;
+    standing = so.standing;
+    logged_are = so.logged_are;
+    lines_are = so.lines_are;
+    takes = takes_move so.takes marks.moves.runs;
+    mark = keeps_then s.clock.epoch old log left so.mark marks.mark;
+    blames = blames_move marks.fault so.blames marks.moves;
+    reaches = marks.moves.reaches;
+    limit = marks.moves.limit ∙ so.limit;
+    full_is = λ size is. still_full marks.moves (so.full_is size is);
+    all = λ no up. so.all no (still_down marks.fault marks.moves up);
+    none = λ is. none is ∙ so.none is;
+  }

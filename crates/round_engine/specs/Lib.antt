@@ -1,3 +1,15 @@
 pub mod Standing
+pub mod Begun
+pub mod Changes
+pub mod Logs
+pub mod Saves
+pub mod Ends
 pub mod RanRound
+pub mod Joins
 pub mod Plainly
+pub mod Parts
+pub mod Steps
+pub mod Workers
+pub mod Keeping
+pub mod Refusals
+pub mod Phases

@@ -5,13 +5,11 @@ use Rattle.serial_model.specs.Step.{step, Ended}
 use Rattle.serial_model.specs.History.{Entry}
 use Rattle.serial_model.specs.declared.op.Op.{Op}
 use Rattle.serial_model.specs.declared.number.Number.{Number}
-use Rattle.script_grammar.specs.Script.{Round, keeper_lines, worker_lines}
+use Rattle.script_grammar.specs.Script.{Round}
 use Rattle.tx_script.specs.declared.outcome.Outcome.{Outcome}
-use Rattle.tx_script.specs.declared.outcome.Outcome.TheVariants.{Committed, Limit}
+use Rattle.tx_script.specs.declared.outcome.Outcome.TheVariants.{Committed, Limit, Unrun}
 use Rattle.round_engine.specs.Standing.{Standing}
-use Rattle.round_engine.specs.RanRound.{IsFrontOf, ran_of}
-use Rattle.round_engine.specs.declared.report.Report.{Report}
-use Rattle.tx_script.specs.Draws.{DrawsOnce}
+use Rattle.tx_script.specs.Draws.{commits_of}
 
 -- ---- a line
 
@@ -50,30 +48,6 @@ abbrev pub after_lines : Standing → List (List Op) → Standing
 after_lines s [] = s
 after_lines s (ops ∷ lines) = after_lines (after_line s ops) lines
 
--- ---- each worker's lines, one worker after another
-
--- what comes of the workers' lines
-abbrev pub outcomes_of : Standing → List (List (List Op)) → List (List Outcome)
-outcomes_of s [] = []
-outcomes_of s (lines ∷ more) = outcomes_at s lines ∷ outcomes_of (after_lines s lines) more
-
--- where they leave the runtime
-abbrev pub after_workers : Standing → List (List (List Op)) → Standing
-after_workers s [] = s
-after_workers s (lines ∷ more) = after_workers (after_lines s lines) more
-
--- all lines of the round were run
-pub record RanLines (round : Round) (old new : Standing) (outcomes : List (List Outcome)) : Type 0 where
-  pub told : outcomes ≡ outcomes_of old (worker_lines round)
-  pub standing : new ≡ after_workers old (worker_lines round)
-
--- a front of the round was run
-pub record RanFront (round : Round) (old new : Standing) : Type 0 where
-  pub front : Round
-  pub first : IsFrontOf front round
-  pub no_keeper : keeper_lines front ≡ []
-  pub standing : new ≡ after_workers old (worker_lines front)
-
 -- ---- what only the plain map gives
 
 -- each number is the one after the last
@@ -81,14 +55,15 @@ abbrev pub AreConsecutive : Number → List Entry → Type 0
 AreConsecutive n [] = ⊤
 AreConsecutive n (e ∷ es) = (e.number ≡ n) × AreConsecutive (next_number n) es
 
--- From n on each line gets the next draw exactly while the clock gives numbers, up to m.
+-- From n on each line that is run gets the next draw exactly while the clock gives numbers, up to m.
 abbrev pub DrawsTo : ℕ → List Outcome → ℕ → Type 0
 DrawsTo n [] m = m ≡ n
 DrawsTo n (Committed verdict number replies ∷ outcomes) m = (n < draw_limit) × DrawsTo (n + 1) outcomes m
 DrawsTo n (Limit ∷ outcomes) m = (draw_limit ≤ n) × DrawsTo n outcomes m
+DrawsTo n (Unrun ∷ outcomes) m = DrawsTo n outcomes m
 DrawsTo n (_ ∷ outcomes) m = ⊥
 
 -- The round drew a number for each of its commits, and none besides: no more numbers than it has lines.
-pub record DrawsFew (round : Round) (old new : Standing) (report : Report) : Type 0 where
-  pub once : DrawsOnce (ran_of old new report)
-  pub few : new.clock.draw ≤ old.clock.draw + length round.lines
+pub record DrawsFew (round : Round) (first last : ℕ) (outcomes : List (List Outcome)) : Type 0 where
+  pub once : last ≡ first + commits_of outcomes
+  pub few : last ≤ first + length round.lines

@@ -1,23 +1,34 @@
-//! Rounds of a script, run on an engine.
+//! Rounds of a script, run on an engine over the devices of a database.
 //!
-//! Promises: `round` answers an outcome for each line. Whichever the engine is, the commits, in order of number, are a
-//! serial run from the standing before to the one after, each outcome has its cause, and the join advances the epoch
-//! or ends the run (`rounds`, by `RanRound`); after want of memory a front of the round was run, and the run has ended
-//! (`rounds`, by `StopsIn`). The plain map gives besides that numbers follow one another (`consecutive`), that a line
-//! gets one exactly while there are some (`draws`), and that none is drawn but for commits (`draws_few`). A test shows
-//! that the gate is called round each line.
+//! Promises, whichever the engine is:
+//! - [`round`]: one outcome for each line and one answer for each line of the maintenance thread, each with its cause;
+//!   the commits, in order of number, are a serial run from the standing before to the one after, and the logs have
+//!   what they changed; the join makes the round's last epoch durable or ends the run, with the first refusal
+//!   (`rounds`, by `RanRound`). Of the vault, each log file grew by its worker's lines and its marks count what is
+//!   durable; the savepoints stored are those that are told (`rounds`, by `LeavesVault`). After want of memory a
+//!   front of the workers' lines was run, nothing was stored, and the run has ended (`rounds`, by `StopsIn`).
+//! - [`join_round`]: the same of a round without lines (`joins`, by `Joins`).
+//! - [`Runtime::new`] begins in the settled state, in the epoch after the saved one, with empty logs (`begins`).
+//!
+//! Invariants: a runtime has a log for each of eight workers, and knows what the newest savepoint says; while the run
+//! goes on, no line waits between two rounds, and each mark counts all that is durable (`IsReady`).
+//!
 //! Terms: *standing*, the storages, their contents, the clock, and whether the run has ended; *clock*, the number that
-//! the next commit gets; *front* of a round, the first lines of each worker.
-//! Design: docs/ARCHITECTURE.md. For now the engine is the plain map, and one worker's lines are run after another's.
+//! the next commit gets; *front* of a round, the first lines of each worker; *log*, a worker's journal with its mark;
+//! *growing*, of a log file, that a journal writes it.
+//!
+//! Design: docs/ARCHITECTURE.md, docs/DURABILITY.md. For now the engine is the plain map, one worker's lines are run
+//! after another's, and the growing log files are those of even number.
 #![tactic(auto)]
 
+mod joins;
+mod keeper;
 mod report;
 mod rounds;
 mod runtime;
+mod workers;
 
+pub use joins::join_round;
 pub use report::{End, LimitName, Report};
 pub use rounds::round;
 pub use runtime::Runtime;
-
-#[cfg(test)]
-mod tests;

@@ -1,15 +1,29 @@
-// The engine and its clock.
-ghost use Rattle.std.specs.Prelude.{◌≡◌, IfOk, false};
-ghost use Rattle.std.specs.FinMap as finite;
+// The engine with its clock, the store of savepoints and the workers' logs.
+ghost use Rattle.std.specs.Prelude.{◌≡◌, ◌≤◌, ◌*◌, ℕ, [], Some, None, IfOk, replicate};
+ghost use Rattle.outside.specs.Vault.{IsWhole, disk_in};
+ghost use Rattle.outside.specs.declared.vault.Device.TheVariants as devices;
 ghost use Rattle.serial_model.specs.Numbers.{IsConfig};
+ghost use Rattle.log_writer.specs.Save.{IsStored};
+ghost use Rattle.tx_script.specs.Run.{clock_after};
+ghost use Rattle.worker_logs.specs.Logs.{fresh_log};
+ghost use Rattle.worker_logs.specs.Saves.{CountsOf, IsKnown};
+ghost use Rattle.round_engine.specs.Begun.{begun};
+ghost use Rattle.round_engine.specs.Logs.{AreLogs};
+ghost use Rattle.round_engine.specs.Standing.{StandsOn};
 
-use serial_model::{Config, Decl, Memory, Number, Plain};
+use outside::{Disk, Vault};
+use recovery_core::Settled;
+use serial_model::{Config, Memory, Number, Plain};
 use std::alloc::Global;
 use std::marker::Model;
+use worker_logs::{Savepoints, WorkerLog};
 
-/// What rounds are run on.
+/// How many workers there are.
+pub(crate) const WORKERS: usize = 8;
+
+/// The engine: the storages with their contents, and the clock. Here it runs one transaction after another.
 #[derive(Drop)]
-pub struct Runtime {
+pub(crate) struct Engine {
     /// The storages and their contents.
     pub(crate) plain: Plain,
     /// The number that the next commit gets.
@@ -18,8 +32,8 @@ pub struct Runtime {
     pub(crate) ended: bool,
 }
 
-impl Model for Runtime {
-    ghost use Rattle.round_engine.specs.Standing.{Standing};
+impl Model for Engine {
+    ghost use Rattle.round_engine.specs.Standing.{IsClock, Standing};
     ghost use Rattle.std.specs.Coded.{codes, coded_ℕ};
     ghost use Rattle.std.specs.FinMap as finite;
     ghost use Rattle.serial_model.specs.Keys.{coded_key, key_cmp};
@@ -28,27 +42,119 @@ impl Model for Runtime {
 
     ghost coded = { Prim.hlevel (codes, finite.code {R = key_cmp} coded_key coded_ℕ) };
 
-    ghost view = { λ r. record { decls = r.plain.decls; state = r.plain.state; clock = r.clock; ended = r.ended } };
+    ghost view = { λ e. record { decls = e.plain.decls; state = e.plain.state; clock = e.clock; ended = e.ended } };
+
+    ghost invariant = { λ e. IsClock e.clock };
+}
+
+/// What rounds are run on.
+#[derive(Drop)]
+pub struct Runtime {
+    pub(crate) engine: Engine,
+    /// The store of savepoints.
+    pub(crate) save: Savepoints,
+    /// The workers' logs.
+    pub(crate) logs: Vec<WorkerLog>,
+    /// Whether a device failed, or memory was wanted in a round.
+    pub(crate) down: bool,
+}
+
+impl Model for Runtime {
+    ghost use Rattle.std.specs.Coded.{codes, coded_ℕ};
+    ghost use Rattle.std.specs.FinMap as finite;
+    ghost use Rattle.serial_model.specs.Keys.{coded_key, key_cmp};
+    ghost use Rattle.round_engine.specs.Standing.{RuntimeState};
+
+    ghost Value = { RuntimeState };
+
+    ghost coded = { Prim.hlevel (codes, finite.code {R = key_cmp} coded_key coded_ℕ) };
+
+    ghost view = { λ r. record { stands = r.engine; save = r.save; logs = r.logs.items; down = r.down } };
 }
 
 impl Runtime {
-    /// An empty database with these storages.
-    pub fn new(alloc: Global, decls: &[Decl], config: Config) -> Result<Self, Memory>
-        requires { IsConfig config }
-        ensures { IfOk result (λ runtime. runtime
-            ≡ record { decls = decls.now; state = finite.empty; clock = config.first; ended = false }) }
+    /// A runtime over a vault that was just settled, in its state, and in the epoch after the saved one. The logs
+    /// are empty, and the vault is left as it is.
+    pub fn new<D: Disk>(
+        alloc: Global,
+        vault: &mut Vault<D>,
+        settled: Settled,
+        config: Config,
+    ) -> Result<Self, Memory>
+        requires config { IsConfig config }
+        requires first { config.first ≡ clock_after settled.saved.epoch }
+        requires pages { settled.saved.count ≤ config.snap }
+        requires whole { IsWhole vault.old }
+        requires known { IsKnown settled.save.newest settled.saved }
+        requires nothing { settled.saved.lengths ≡ replicate 16 0 }
+        requires up { settled.save.down ≡ None }
+        requires stored { IsStored D.tells D.clock D.image_at vault.old.save settled.save.newest }
+        ensures begins { IfOk result (λ runtime.
+            runtime ≡ begun settled.decls settled.state settled.save config.first) }
+        ensures stands { IfOk result (λ runtime.
+            StandsOn D.tells D.clock D.image_at runtime vault.new) }
+        // Over log files that are empty as far as they tell, which a settling leaves.
+        ensures logs { ((worker : ℕ) (bank : D) → disk_in vault.old (devices.Bank (2 * worker)) ≡ Some bank
+            → D.tells bank ≡ Some [])
+            → IfOk result (λ runtime.
+            AreLogs D.tells D.clock D.image_at (λ worker. []) (λ worker. []) runtime vault.new) }
+        ensures counts { IfOk result (λ runtime. CountsOf (λ worker. []) (λ worker. []) runtime.save.newest) }
+        ensures vault { vault.new ≡ vault.old }
     {
-        Ok(Runtime {
-            plain: Plain::new(alloc, decls)?,
-            clock: config.first,
-            ended: false,
-        })
+        let _vault = &vault.ties;
+        begin(alloc, settled, config)
     }
 
-    /// Whether a round ended the run: by a limit, or for want of memory. Then no further round is run.
+    /// Whether a round or a join ended the run: by a refusal, or for want of memory. Then no further round is run.
     pub fn has_ended(&self) -> bool
-        ensures { result ≡ self.now.ended }
+        ensures { result ≡ self.now.stands.ended }
     {
-        self.ended
+        self.engine.ended
     }
+
+    /// Whether a device failed, or memory was wanted in a round. Then nothing is joined any more.
+    pub fn is_down(&self) -> bool
+        ensures { result ≡ self.now.down }
+    {
+        self.down
+    }
+}
+
+// A runtime in a settled state, with empty logs.
+fn begin(alloc: Global, settled: Settled, config: Config) -> Result<Runtime, Memory>
+    requires config { IsConfig config }
+    requires first { config.first ≡ clock_after settled.saved.epoch }
+    requires known { IsKnown settled.save.newest settled.saved }
+    ensures { IfOk result (λ runtime.
+        runtime ≡ begun settled.decls settled.state settled.save config.first) }
+{
+    let Settled {
+        save,
+        saved,
+        decls,
+        state,
+        store: _,
+    } = settled;
+    let logs = new_logs(alloc, config.first.epoch - 1)?;
+    Ok(Runtime {
+        engine: Engine {
+            plain: Plain { decls, state },
+            clock: config.first,
+            ended: false,
+        },
+        save: Savepoints::new(save, saved),
+        logs,
+        down: false,
+    })
+}
+
+// Logs for all workers, marked at this epoch.
+fn new_logs(alloc: Global, epoch: u32) -> Result<Vec<WorkerLog>, Memory>
+    ensures { IfOk result (λ logs. logs.items ≡ replicate 8 (fresh_log epoch)) }
+{
+    let mut logs = Vec::new(alloc);
+    for _ in 0..WORKERS {
+        logs.push(WorkerLog::new(alloc, epoch)?)?;
+    }
+    Ok(logs)
 }

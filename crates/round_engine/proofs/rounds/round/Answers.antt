@@ -1,68 +1,87 @@
--- The lines and their join are a round; after want of memory a front of it was run.
-use Rattle.std.proofs.Common.{◌∙◌, None, ap, refl, subst, sym}
-use Rattle.std.specs.List.{list_any}
-use Rattle.tx_script.specs.Run.{is_limit}
-use Rattle.round_engine.specs.Plainly.{RanFront}
-use Rattle.round_engine.specs.RanRound.{end_at}
-use Rattle.round_engine.specs.Standing.{Standing}
-use Rattle.round_engine.specs.declared.report.Report.{Report}
-use Rattle.round_engine.proofs.Fronts.{no_keeper_lines}
-use Rattle.round_engine.proofs.PlainRound.{ran_round, round_consecutive, round_draws, round_draws_few, stops_in}
+-- The phases are a round; after want of memory a front of it was run.
+use Rattle.std.proofs.Common.{◌∙◌, ap, arith, refl, subst, sym}
+use Rattle.log_writer.specs.Save.{IsStored}
+use Rattle.tx_script.specs.Run.{CanRun}
+use Rattle.log_writer.specs.Points.{SaveState}
+use Rattle.round_engine.specs.Phases.{RunsAll, RunsSome}
+use Rattle.round_engine.specs.Standing.{RuntimeState, Standing}
+use Rattle.round_engine.proofs.KeeperSteps.{same_state}
+use Rattle.round_engine.proofs.RoundStops.{stopped}
+use Rattle.round_engine.proofs.RoundWhole.{start_flushed, start_ups, whole, whole_consecutive, whole_draws, whole_few}
 use Rattle.round_engine.proofs.rounds.round.Goals as goal
+
+pub run_round-requires-clause-lines : goal.run_round-requires-clause-lines
+run_round-requires-clause-lines g c =
+    subst (λ (s : Standing). CanRun s.decls c.args.round.now) (sym c.idle_logs.ensures.stands) c.requires.lines
+
+pub run_round-requires-clause-logs : goal.run_round-requires-clause-logs
+run_round-requires-clause-logs g c =
+    start_ups c.args.round.now c.idle_logs.new.runtime.logs c.requires.stands (c.requires.stands.goes_on c.requires.goes_on)
+    (c.idle_logs.ensures.length ∙ c.requires.stands.workers) c.idle_logs.ensures.idle
+
+pub run_round-requires-clause-flushed : goal.run_round-requires-clause-flushed
+run_round-requires-clause-flushed g c =
+    start_flushed c.args.round.now c.idle_logs.new.runtime.logs c.requires.stands (c.requires.stands.goes_on c.requires.goes_on)
+    (c.idle_logs.ensures.length ∙ c.requires.stands.workers) c.idle_logs.ensures.idle
+
+pub run_round-requires-clause-up : goal.run_round-requires-clause-up
+run_round-requires-clause-up g c =
+    ap (λ (s : SaveState). s.down) c.idle_logs.ensures.save
+    ∙ (c.requires.stands.up (c.requires.stands.goes_on c.requires.goes_on).up).save
+
+pub run_round-requires-clause-stored : goal.run_round-requires-clause-stored
+run_round-requires-clause-stored g c =
+    subst (λ (s : SaveState). IsStored g.D.Disk.tells g.D.Disk.clock g.D.Disk.image_at c.args.vault.now.save s.newest)
+    (sym c.idle_logs.ensures.save)
+    (c.requires.stands.stored (c.requires.stands.up (c.requires.stands.goes_on c.requires.goes_on).up).save)
+
+pub returns-in-Ok-clause-rounds : goal.returns-in-Ok-clause-rounds
+returns-in-Ok-clause-rounds g c =
+    let idled = c.idle_logs.ensures in
+    let start = c.idle_logs.new.runtime.logs in
+    let same = same_state c.idle_logs.new.runtime (record c.args.runtime.now { logs = start }) idled.stands idled.save refl idled.down in
+    let all = subst (λ (o : RuntimeState). RunsAll g.D.Disk.tells g.D.Disk.clock g.D.Disk.image_at g.D.Disk.faults c.args.round.now
+    o c.run_round.new.runtime c.args.vault.now c.run_round.new.vault c.in-Ok.report) same c.in-Ok.ensures.phases in
+    whole c.requires.stands (c.requires.stands.goes_on c.requires.goes_on) (omega (arith, c.requires.stands.above))
+    (idled.length ∙ c.requires.stands.workers) idled.idle all
+
+pub returns-in-Ok-clause-consecutive : goal.returns-in-Ok-clause-consecutive
+returns-in-Ok-clause-consecutive g c =
+    let idled = c.idle_logs.ensures in
+    let start = c.idle_logs.new.runtime.logs in
+    let same = same_state c.idle_logs.new.runtime (record c.args.runtime.now { logs = start }) idled.stands idled.save refl idled.down in
+    let all = subst (λ (o : RuntimeState). RunsAll g.D.Disk.tells g.D.Disk.clock g.D.Disk.image_at g.D.Disk.faults c.args.round.now
+    o c.run_round.new.runtime c.args.vault.now c.run_round.new.vault c.in-Ok.report) same c.in-Ok.ensures.phases in
+    whole_consecutive c.requires.stands (c.requires.stands.goes_on c.requires.goes_on) (omega (arith, c.requires.stands.above))
+    (idled.length ∙ c.requires.stands.workers) idled.idle all
+
+pub returns-in-Ok-clause-draws : goal.returns-in-Ok-clause-draws
+returns-in-Ok-clause-draws g c =
+    let idled = c.idle_logs.ensures in
+    let start = c.idle_logs.new.runtime.logs in
+    let same = same_state c.idle_logs.new.runtime (record c.args.runtime.now { logs = start }) idled.stands idled.save refl idled.down in
+    let all = subst (λ (o : RuntimeState). RunsAll g.D.Disk.tells g.D.Disk.clock g.D.Disk.image_at g.D.Disk.faults c.args.round.now
+    o c.run_round.new.runtime c.args.vault.now c.run_round.new.vault c.in-Ok.report) same c.in-Ok.ensures.phases in
+    whole_draws c.requires.stands (c.requires.stands.goes_on c.requires.goes_on) (omega (arith, c.requires.stands.above))
+    (idled.length ∙ c.requires.stands.workers) idled.idle all
+
+pub returns-in-Ok-clause-draws_few : goal.returns-in-Ok-clause-draws_few
+returns-in-Ok-clause-draws_few g c =
+    let idled = c.idle_logs.ensures in
+    let start = c.idle_logs.new.runtime.logs in
+    let same = same_state c.idle_logs.new.runtime (record c.args.runtime.now { logs = start }) idled.stands idled.save refl idled.down in
+    let all = subst (λ (o : RuntimeState). RunsAll g.D.Disk.tells g.D.Disk.clock g.D.Disk.image_at g.D.Disk.faults c.args.round.now
+    o c.run_round.new.runtime c.args.vault.now c.run_round.new.vault c.in-Ok.report) same c.in-Ok.ensures.phases in
+    whole_few c.requires.stands (c.requires.stands.goes_on c.requires.goes_on) (omega (arith, c.requires.stands.above))
+    (idled.length ∙ c.requires.stands.workers) idled.idle all
 
 pub returns-in-Err-clause-rounds : goal.returns-in-Err-clause-rounds
 returns-in-Err-clause-rounds g c =
-    let mid : Standing = record {
-      decls = c.runtime.inside.plain.decls;
-      state = c.runtime.inside.plain.state;
-      clock = c.runtime.inside.clock;
-      ended = c.runtime.inside.ended;
-    } in
-    stops_in c.args.round.now c.args.runtime.now mid (subst (RanFront c.args.round.now c.args.runtime.now) (sym c.runtime.view_is) c.in-Err.ensures.stops)
-
-pub returns-clause-rounds : goal.returns-clause-rounds
-returns-clause-rounds g c =
-    ran_round c.args.round.now c.args.runtime.now c.run_workers.new.runtime c.join-end.new.runtime _ (record {
-      none = no_keeper_lines c.args.runtime.now.decls c.args.round.now c.requires.lines;
-      lines = c.in-Ok.ensures.ran;
-      keeper = c.new.ensures;
-      durable = refl;
-      join = c.join-end.ensures.runtime;
-      end = c.join-end.ensures.end ∙ ap (end_at c.run_workers.new.runtime.clock) (c.has_limit.ensures ∙ ap (list_any (list_any is_limit)) c.as_slice.ensures);
-    })
-
-pub returns-clause-consecutive : goal.returns-clause-consecutive
-returns-clause-consecutive g c =
-    let report : Report = record { outcomes = c.in-Ok.outcomes; keeper = c.new.result; durable = None; end = c.join-end.result } in
-    round_consecutive c.args.round.now c.args.runtime.now c.run_workers.new.runtime c.join-end.new.runtime report (record {
-      none = no_keeper_lines c.args.runtime.now.decls c.args.round.now c.requires.lines;
-      lines = c.in-Ok.ensures.ran;
-      keeper = c.new.ensures;
-      durable = refl;
-      join = c.join-end.ensures.runtime;
-      end = c.join-end.ensures.end ∙ ap (end_at c.run_workers.new.runtime.clock) (c.has_limit.ensures ∙ ap (list_any (list_any is_limit)) c.as_slice.ensures);
-    })
-
-pub returns-clause-draws : goal.returns-clause-draws
-returns-clause-draws g c =
-    let report : Report = record { outcomes = c.in-Ok.outcomes; keeper = c.new.result; durable = None; end = c.join-end.result } in
-    round_draws c.args.round.now c.args.runtime.now c.run_workers.new.runtime c.join-end.new.runtime report (record {
-      none = no_keeper_lines c.args.runtime.now.decls c.args.round.now c.requires.lines;
-      lines = c.in-Ok.ensures.ran;
-      keeper = c.new.ensures;
-      durable = refl;
-      join = c.join-end.ensures.runtime;
-      end = c.join-end.ensures.end ∙ ap (end_at c.run_workers.new.runtime.clock) (c.has_limit.ensures ∙ ap (list_any (list_any is_limit)) c.as_slice.ensures);
-    })
-
-pub returns-clause-draws_few : goal.returns-clause-draws_few
-returns-clause-draws_few g c =
-    let report : Report = record { outcomes = c.in-Ok.outcomes; keeper = c.new.result; durable = None; end = c.join-end.result } in
-    round_draws_few c.args.round.now c.args.runtime.now c.run_workers.new.runtime c.join-end.new.runtime report (record {
-      none = no_keeper_lines c.args.runtime.now.decls c.args.round.now c.requires.lines;
-      lines = c.in-Ok.ensures.ran;
-      keeper = c.new.ensures;
-      durable = refl;
-      join = c.join-end.ensures.runtime;
-      end = c.join-end.ensures.end ∙ ap (end_at c.run_workers.new.runtime.clock) (c.has_limit.ensures ∙ ap (list_any (list_any is_limit)) c.as_slice.ensures);
-    })
+    let idled = c.idle_logs.ensures in
+    let start = c.idle_logs.new.runtime.logs in
+    let same = same_state c.idle_logs.new.runtime (record c.args.runtime.now { logs = start }) idled.stands idled.save refl idled.down in
+    let some = subst (λ (o : RuntimeState). RunsSome g.D.Disk.tells g.D.Disk.clock g.D.Disk.image_at g.D.Disk.faults c.args.round.now
+    o c.run_round.new.runtime c.args.vault.now c.run_round.new.vault) same c.in-Err.ensures.phases in
+    rw c.end_with.ensures.runtime
+    (stopped c.requires.stands (c.requires.stands.goes_on c.requires.goes_on) (omega (arith, c.requires.stands.above))
+    (idled.length ∙ c.requires.stands.workers) idled.idle some c.in-Err.field-0)

@@ -1,0 +1,99 @@
+-- How a runtime begins over a vault that was settled.
+use Rattle.std.proofs.Common.{◌≡◌, ◌∙◌, ◌≤◌, ◌+◌, ◌-◌, ◌*◌, sym, ap, subst, refl, ℕ, zero, suc, List, [], length}
+use Rattle.std.proofs.Common.{Option, Some, None, arith}
+use Rattle.std.specs.Prelude.{get_or, replicate, slice_get}
+use Rattle.std.proofs.lemmas.Option.{same_Some}
+use Rattle.lists.specs.Each.{all_replicate}
+use Rattle.outside.specs.Disk.{IfTold}
+use Rattle.outside.specs.Vault.{disk_in, IsWhole}
+use Rattle.outside.specs.declared.vault.Device.TheVariants.{Bank}
+use Rattle.outside.specs.declared.vault.Vault.{Vault}
+use Rattle.serial_model.specs.State.{State}
+use Rattle.serial_model.specs.declared.decl.Decl.{Decl}
+use Rattle.serial_model.specs.declared.number.Number.{Number}
+use Rattle.wire_form.specs.declared.savepoint.Savepoint.{Savepoint}
+use Rattle.log_writer.specs.Points.{SaveState, saved_of}
+use Rattle.log_writer.specs.Save.{IsStored}
+use Rattle.log_writer.specs.declared.saved.Saved.{Saved}
+use Rattle.recovery_core.specs.Images.{counted_of, epoch_of}
+use Rattle.recovery_core.specs.Marks.{Marks}
+use Rattle.recovery_core.specs.Crashes.Marking.{mark_set}
+use Rattle.worker_logs.specs.Logs.{IsJoined, IsLog, LogState, fresh_log, log_limit}
+use Rattle.worker_logs.specs.Saves.{CountsOf, IsKnown}
+use Rattle.round_engine.specs.Begun.{begun}
+use Rattle.round_engine.specs.Logs.{AreLogs}
+use Rattle.round_engine.specs.Standing.{IsMarkBefore, StandsOn}
+
+-- what stands in a list of one thing
+pub replicate_at : {X : Type 0} (n i : ℕ) (x y : X) → slice_get (replicate n x) i ≡ Some y → x ≡ y
+replicate_at zero i x y at = absurd cc
+replicate_at (suc n) zero x y at = same_Some x y at
+replicate_at (suc n) (suc i) x y at = replicate_at n i x y at
+
+pub zero_at : (n i : ℕ) → ◌≡◌ {A = ℕ} (get_or (replicate n 0) i 0) 0
+zero_at zero i = refl
+zero_at (suc n) zero = refl
+zero_at (suc n) (suc i) = zero_at n i
+
+-- what is known of the newest savepoint
+pub known_epoch : (newest : Option Savepoint) (saved : Saved) → IsKnown newest saved → epoch_of newest ≡ saved.epoch
+known_epoch None saved known = absurd (let no = known.says in cc)
+known_epoch (Some p) saved known = ap (λ (s : Saved). s.epoch) (sym (same_Some saved (saved_of p) known.says))
+
+pub known_counts : (newest : Option Savepoint) (saved : Saved) → IsKnown newest saved → saved.lengths ≡ replicate 16 0
+    → (n : ℕ) → counted_of newest n ≡ 0
+known_counts None saved known none n = refl
+known_counts (Some p) saved known none n =
+    ap (λ l. get_or l n 0) (ap (λ (s : Saved). s.lengths) (sym (same_Some saved (saved_of p) known.says)) ∙ none) ∙ zero_at 16 n
+
+pub begun_counts : (newest : Option Savepoint) (saved : Saved) → IsKnown newest saved → saved.lengths ≡ replicate 16 0
+    → CountsOf (λ worker. []) (λ worker. []) newest
+begun_counts newest saved known none = record {
+  growing = λ worker below.
+      let nothing = known_counts newest saved known none (2 * worker) in (
+        subst (λ k. Marks [] (epoch_of newest) k) (sym nothing) (mark_set [] (epoch_of newest)),
+        omega (arith, nothing),
+      );
+  closed = λ worker below. known_counts newest saved known none (2 * worker + 1);
+}
+
+module _ {D : Type 0} {tells : D → Option (List ℕ)} {clock : D → ℕ} {image_at : D → ℕ → List ℕ → Type 0} where
+  pub begun_stands : (decls : List Decl) (state : State) (save : SaveState) (saved : Saved) (first : Number) (vault : Vault D)
+      → IsKnown save.newest saved → first.epoch ≡ saved.epoch + 1 → IsWhole vault → save.down ≡ None
+      → IsStored tells clock image_at vault.save save.newest
+      → StandsOn tells clock image_at (begun decls state save first) vault
+  begun_stands decls state save saved first vault known next whole up stored = record {
+    whole = whole;
+    workers = refl;
+    limits = all_replicate (λ (l : LogState). l.journal.limit ≡ log_limit) 8 (fresh_log (first.epoch - 1)) refl;
+    above = omega (arith, known_epoch save.newest saved known, next);
+    marked = all_replicate (λ (l : LogState). IsMarkBefore first.epoch l.mark.epoch) 8 (fresh_log (first.epoch - 1))
+        (omega (arith, next));
+    up = λ is. record {
+      save = up;
+      logs = all_replicate (λ (l : LogState). l.journal.down ≡ None) 8 (fresh_log (first.epoch - 1)) refl;
+    };
+    goes_on = λ on. record {
+      up = refl;
+      logs = all_replicate (IsJoined first.epoch) 8 (fresh_log (first.epoch - 1)) (record { flushed = refl; marked = refl });
+    };
+    stored = λ is. stored;
+    reaches = λ worker log bank at there.
+        subst (λ (l : LogState). IfTold (tells bank) (λ file. l.journal.durable ≤ length file))
+        (replicate_at 8 worker (fresh_log (first.epoch - 1)) log at) (λ file told. omega arith);
+  }
+
+  pub begun_logs : (decls : List Decl) (state : State) (save : SaveState) (first : Number) (vault : Vault D)
+      → ((worker : ℕ) (bank : D) → disk_in vault (Bank (2 * worker)) ≡ Some bank → tells bank ≡ Some [])
+      → AreLogs tells clock image_at (λ worker. []) (λ worker. []) (begun decls state save first) vault
+  begun_logs decls state save first vault empty worker log bank at there =
+      subst (λ (l : LogState). IsLog tells clock image_at [] [] l bank)
+      (replicate_at 8 worker (fresh_log (first.epoch - 1)) log at)
+      (record {
+        journal_of = record {
+          durable = record { size = refl; begins = λ image is. refl };
+          told = λ up. empty worker bank there;
+        };
+        lines = refl;
+        mark = record { says = mark_set [] (first.epoch - 1); within = omega arith };
+      })

@@ -1,0 +1,408 @@
+-- A round on the plain map that stopped for want of memory: a front of it was run.
+use Rattle.std.proofs.Common.{◌≡◌, ◌∙◌, ◌≤◌, ◌<◌, ◌+◌, ◌*◌, ◌⊎◌, ◌++◌, ◌∷◌, inl, inr, sym, ap, subst, refl, ℕ, zero, suc, List, []}
+use Rattle.std.proofs.Common.{length, map, true, false, Option, Some, None, arith}
+use Rattle.std.specs.Prelude.{is_some, slice_get, Err}
+use Rattle.std.specs.List.{Contains, filter_map}
+use Rattle.std.proofs.lemmas.Bool.{cases_lt}
+use Rattle.std.proofs.lemmas.List.{append-nil, length-map}
+use Rattle.std.proofs.lemmas.Option.{same_Some}
+use Rattle.lists.specs.Each.{all_at}
+use Rattle.lists.specs.Fronts.{IsFront, front_none}
+use Rattle.lists.specs.declared.memory.Memory.{Memory}
+use Rattle.outside.specs.Cuts.{disk_in-even}
+use Rattle.outside.specs.declared.vault.Device.TheVariants as devices
+use Rattle.outside.specs.declared.vault.Vault.{Vault}
+use Rattle.serial_model.specs.declared.op.Op.{Op}
+use Rattle.script_grammar.specs.Script.{Line, Round, keeper_lines, lines_of_worker, ops_of_worker}
+use Rattle.script_grammar.specs.Script.{worker_lines}
+use Rattle.log_writer.specs.Points.{SaveState, sequence_of}
+use Rattle.recovery_core.specs.Images.{epoch_of}
+use Rattle.log_writer.specs.Save.{IsStored}
+use Rattle.tx_script.specs.Causes.{LogsCaused, log_of}
+use Rattle.tx_script.specs.Run.{LogFailed, LogFull, Ran}
+use Rattle.wire_form.specs.declared.clock.Mark.{Mark}
+use Rattle.worker_logs.specs.Logs.{IsJoined, LogState, log_limit}
+use Rattle.round_engine.specs.Changes.{AreLogged}
+use Rattle.round_engine.specs.Keeping.{Keeps}
+use Rattle.round_engine.specs.Logs.{IsRefusedBy}
+use Rattle.round_engine.specs.Parts.{AreParts, Part, after_parts, lines_in, logged_at, outcomes_of}
+use Rattle.round_engine.specs.Phases.{RunsSome}
+use Rattle.round_engine.specs.Plainly.{after_lines}
+use Rattle.round_engine.specs.RanRound.{AreRoundMarks, Rounds}
+use Rattle.round_engine.specs.Ends.{epoch_joined}
+use Rattle.round_engine.specs.Standing.{IsMarkBefore, IsReady, RuntimeState, Standing, StandsOn}
+use Rattle.round_engine.specs.Steps.{AreLogsUp, IsLogUp, KeepsMark}
+use Rattle.round_engine.specs.Workers.{idled}
+use Rattle.round_engine.proofs.Beside.{keeps_from, keeps_none}
+use Rattle.round_engine.proofs.Devices.{are_down, at_first, bank_down, bank_in, down_at, save_down}
+use Rattle.round_engine.proofs.Ended.{devices_down}
+use Rattle.round_engine.proofs.Fronts.{lines_from, no_keepers, ran_at, ran_of as run_of}
+use Rattle.round_engine.proofs.LinesLeft.{LastStep, front_nothing, last_none, lines_at, logged_above, logged_none}
+use Rattle.round_engine.proofs.LinesLeft.{logs_total, logs_up}
+use Rattle.round_engine.proofs.Logged.{parts_lines, parts_logged}
+use Rattle.round_engine.proofs.PlainRun.{IsRanOf, plain_caused, plain_kept, plain_run}
+use Rattle.round_engine.proofs.Places.{all_from, map_there}
+use Rattle.round_engine.proofs.RoundCases.{before_later}
+use Rattle.round_engine.proofs.RoundDone.{idled_up, logs_caused, round_marks}
+use Rattle.round_engine.proofs.Whole.{LogsTotal, SeenIn, below_8, epochs_at, first_epochs, leaves_vault, round_front}
+use Rattle.round_engine.proofs.WorkersRun.{item_at, map_at, within_of}
+
+-- ---- eight parts
+
+-- a worker that ran nothing
+abbrev pub nothing_run : Part
+nothing_run = record { ran = []; left = []; refusal = None; logged = [] }
+
+-- so many parts: those that there are, and then such
+abbrev pub padded : ℕ → List Part → List Part
+padded zero parts = []
+padded (suc n) [] = nothing_run ∷ padded n []
+padded (suc n) (p ∷ parts) = p ∷ padded n parts
+
+pub pad_after : (n : ℕ) (parts : List Part) (s : Standing) → length parts ≤ n → after_parts s (padded n parts) ≡ after_parts s parts
+pad_after zero [] s few = refl
+pad_after zero (p ∷ parts) s few = absurd (omega (arith, few))
+pad_after (suc n) [] s few = pad_after n [] s (omega arith)
+pad_after (suc n) (p ∷ parts) s few = pad_after n parts (after_lines s p.ran) (omega (arith, few))
+
+pub pad_are : (n : ℕ) (parts : List Part) (s : Standing) → AreParts s parts → AreParts s (padded n parts)
+pad_are zero parts s are = tt
+pad_are (suc n) [] s are = (record { logged = refl; lines = tt; all = λ none. refl }, pad_are n [] s tt)
+pad_are (suc n) (p ∷ parts) s are = (are.0, pad_are n parts (after_lines s p.ran) are.1)
+
+pub pad_logged : (n : ℕ) (parts : List Part) (w : ℕ) → length parts ≤ n → logged_at (padded n parts) w ≡ logged_at parts w
+pad_logged zero [] w few = refl
+pad_logged zero (p ∷ parts) w few = absurd (omega (arith, few))
+pad_logged (suc n) [] zero few = refl
+pad_logged (suc n) [] (suc w) few = pad_logged n [] w (omega arith)
+pad_logged (suc n) (p ∷ parts) zero few = refl
+pad_logged (suc n) (p ∷ parts) (suc w) few = pad_logged n parts w (omega (arith, few))
+
+-- a part of them is one of those, or stands behind them and was not refused
+pub pad_at : (n : ℕ) (parts : List Part) (w : ℕ) (p : Part) → slice_get (padded n parts) w ≡ Some p
+    → (slice_get parts w ≡ Some p) ⊎ ((p.refusal ≡ None) × (length parts ≤ w))
+pad_at zero parts w p at = absurd cc
+pad_at (suc n) [] zero p at = inr (ap (λ (x : Part). x.refusal) (sym (same_Some nothing_run p at)), omega arith)
+pad_at (suc n) [] (suc w) p at = elim (pad_at n [] w p at) [
+  | inl there ↦ absurd (let no = there in cc)
+  | inr none ↦ inr (none.0, omega arith)
+]
+pad_at (suc n) (q ∷ parts) zero p at = inl at
+pad_at (suc n) (q ∷ parts) (suc w) p at = elim (pad_at n parts w p at) [
+  | inl there ↦ inl there
+  | inr none ↦ inr (none.0, omega (arith, none.1))
+]
+
+-- and each of those is one of them
+pub pad_some : (n : ℕ) (parts : List Part) (w : ℕ) (p : Part) → length parts ≤ n → slice_get parts w ≡ Some p
+    → slice_get (padded n parts) w ≡ Some p
+pad_some n [] w p few at = absurd cc
+pad_some zero (q ∷ parts) w p few at = absurd (omega (arith, few))
+pad_some (suc n) (q ∷ parts) zero p few at = at
+pad_some (suc n) (q ∷ parts) (suc w) p few at = pad_some n parts w p (omega (arith, few)) at
+
+-- the mark of a worker that ran in part
+pub mark_stopped : (lines : List (List Op)) (was begins log : LogState) (epoch : ℕ) → 1 ≤ epoch → IsJoined epoch was
+    → idled lines was ≡ begins → KeepsMark epoch begins log → IsMarkBefore epoch log.mark.epoch
+mark_stopped lines was begins log epoch first joined is (inl same) =
+    subst (λ (m : Mark). IsMarkBefore epoch m.epoch) (sym same)
+    (subst (λ (l : LogState). IsMarkBefore epoch l.mark.epoch) is (idled_before lines was epoch first joined))
+  where
+    idled_before : (lines : List (List Op)) (was : LogState) (epoch : ℕ) → 1 ≤ epoch → IsJoined epoch was
+        → IsMarkBefore epoch (idled lines was).mark.epoch
+    idled_before [] was epoch first joined = tt
+    idled_before (ops ∷ lines) was epoch first joined =
+        subst (IsMarkBefore epoch) (sym (ap (λ (m : Mark). m.epoch) joined.marked)) (omega (arith, first))
+mark_stopped lines was begins log epoch first joined is (inr set) =
+    subst (IsMarkBefore epoch) (sym set) (omega (arith, first))
+
+-- so many workers from this one on
+abbrev pub workers_from : ℕ → ℕ → List ℕ
+workers_from k zero = []
+workers_from k (suc n) = k ∷ workers_from (k + 1) n
+
+-- their lines are those that were run
+pub pad_lines : (n worker : ℕ) (parts : List Part) (lines : List Line)
+    → ((i : ℕ) → filter_map (ops_of_worker (worker + i)) lines ≡ ran_at parts i)
+    → ((i : ℕ) (p : Part) → slice_get parts i ≡ Some p → p.left ≡ [])
+    → map lines_in (padded n parts) ≡ map (λ v. filter_map (ops_of_worker v) lines) (workers_from worker n)
+pad_lines zero worker parts lines run none = refl
+pad_lines (suc n) worker [] lines run none =
+    ap (λ l. l ∷ map lines_in (padded n [])) (sym (run 0) ∙ ap (λ v. filter_map (ops_of_worker v) lines) (plain worker))
+    ∙ ap (λ l. filter_map (ops_of_worker worker) lines ∷ l)
+    (pad_lines n (worker + 1) [] lines (λ i. ap (λ v. filter_map (ops_of_worker v) lines) (next worker i) ∙ run (suc i)) none)
+  where
+    plain : (n : ℕ) → n + 0 ≡ n
+    plain n = omega arith
+
+    next : (worker i : ℕ) → (worker + 1) + i ≡ worker + suc i
+    next worker i = omega arith
+pad_lines (suc n) worker (p ∷ parts) lines run none =
+    ap (λ l. l ∷ map lines_in (padded n parts))
+    (ap (λ l. p.ran ++ l) (none 0 p refl) ∙ append-nil p.ran ∙ sym (run 0)
+    ∙ ap (λ v. filter_map (ops_of_worker v) lines) (plain worker))
+    ∙ ap (λ l. filter_map (ops_of_worker worker) lines ∷ l)
+    (pad_lines n (worker + 1) parts lines (λ i. ap (λ v. filter_map (ops_of_worker v) lines) (next worker i) ∙ run (suc i))
+    (λ i q at. none (suc i) q at))
+  where
+    plain : (n : ℕ) → n + 0 ≡ n
+    plain n = omega arith
+
+    next : (worker i : ℕ) → (worker + 1) + i ≡ worker + suc i
+    next worker i = omega arith
+
+-- what a worker beyond the parts ran is nothing
+pub ran_past : (parts : List Part) (w : ℕ) → length parts ≤ w → ran_at parts w ≡ []
+ran_past [] w past = refl
+ran_past (p ∷ parts) zero past = absurd (omega (arith, past))
+ran_past (p ∷ parts) (suc w) past = ran_past parts w (omega (arith, past))
+
+pub ran_some : (parts : List Part) (w : ℕ) (p : Part) → slice_get parts w ≡ Some p → ran_at parts w ≡ p.ran
+ran_some [] w p at = absurd cc
+ran_some (q ∷ parts) zero p at = ap (λ (x : Part). x.ran) (same_Some q p at)
+ran_some (q ∷ parts) (suc w) p at = ran_some parts w p at
+
+module _ {D : Type 0} {tells : D → Option (List ℕ)} {clock : D → ℕ} {image_at : D → ℕ → List ℕ → Type 0}
+    {faults : D → ℕ} {round : Round} {old : RuntimeState} {start : List LogState} {mid : RuntimeState}
+    {before now : Vault D}
+    (stands : StandsOn tells clock image_at old before) (ready : IsReady old) (some : 1 ≤ old.stands.clock.epoch)
+    (start_many : length start ≡ 8)
+    (idle : (w : ℕ) (log : LogState) → slice_get old.logs w ≡ Some log
+    → slice_get start w ≡ Some (idled (lines_of_worker round w) log))
+    (part : RunsSome tells clock image_at faults round (record old { logs = start }) mid before now) where
+  abbrev parts : List Part
+  parts = part.parts
+
+  abbrev eight : List Part
+  eight = padded 8 part.parts
+
+  abbrev new : RuntimeState
+  new = record mid { stands = record mid.stands { ended = true }; down = true }
+
+  abbrev front : Round
+  front = record { lines = lines_from 0 part.parts }
+
+  abbrev ran : Ran
+  ran = record {
+    begin = old.stands.clock;
+    end = mid.stands.clock;
+    outcomes = outcomes_of old.stands eight;
+    asked = [];
+    answers = [];
+    durable = None;
+    sequence = sequence_of old.save.newest;
+    marks = first_epochs start;
+    logs = map (λ (p : Part). p.refusal) eight;
+    devices = devices_down (are_down mid.logs) false;
+  }
+
+  few : length parts ≤ 8
+  few = omega (arith, part.first.count, part.within)
+
+  start_up : AreLogsUp tells start before.even.items
+  start_up w log bank at bank_at =
+      let was = item_at old.logs w (omega (arith, below_8 start w log at start_many, stands.workers)) in
+      let up = logs_up stands (stands.up ready.up) w was.0 bank was.1 bank_at in
+      let same : idled (lines_of_worker round w) was.0 ≡ log = same_Some _ log (sym (idle w was.0 was.1) ∙ at) in
+      subst (λ x. IsLogUp tells x bank) same (idled_up (lines_of_worker round w) was.0 bank up)
+
+  front_lines : (v : ℕ) → lines_of_worker front v ≡ ran_at parts v
+  front_lines v = run_of 0 v v parts (omega arith)
+
+  is_front : (v : ℕ) → IsFront (lines_of_worker front v) (lines_of_worker round v)
+  is_front v = elim (cases_lt v (length parts)) [
+    | inl within ↦
+        let p = item_at parts v within in
+        subst (λ l. IsFront l (lines_of_worker round v)) (sym (front_lines v ∙ ran_some parts v p.0 p.1))
+        (part.fronts v p.0 p.1).0
+    | inr past ↦ subst (λ l. IsFront l (lines_of_worker round v)) (sym (front_lines v ∙ ran_past parts v past))
+        (front_none (lines_of_worker round v))
+  ]
+
+  lines_are : map lines_in eight ≡ worker_lines front
+  lines_are = pad_lines 8 0 parts (lines_from 0 parts) (λ i. run_of 0 i (0 + i) parts refl) (λ i p at. (part.fronts i p at).1)
+
+  standing : mid.stands ≡ after_parts old.stands eight
+  standing = part.first.standing ∙ sym (pad_after 8 parts old.stands few)
+
+  of : IsRanOf front old.stands eight ran
+  of = record {
+    lines = lines_are;
+    begin = refl;
+    draw = ap (λ (x : Standing). x.clock.draw) standing;
+    outcomes = refl;
+    asked = sym (no_keepers 0 parts);
+    answers = ap length (sym (no_keepers 0 parts));
+    epoch = ap (λ (x : Standing). x.clock.epoch) standing ∙ (plain_kept eight old.stands).1;
+  }
+
+  total : LogsTotal tells clock image_at faults (logged_at parts) start old.logs mid.logs mid.logs before.even.items
+      now.even.items
+  total = logs_total part.first start_up start_many stands.workers (part.first.logs_length ∙ start_many) stands.whole.even
+      (part.first.banks_length ∙ stands.whole.even) some ready.logs idle
+      (λ w none. logged_none parts old.stands w part.first.are
+      (λ p at. front_nothing p.ran (lines_of_worker round w) (part.fronts w p at).0 none))
+      (λ w lines log was is at there bank bank_now.
+      subst (λ x. LastStep tells clock image_at faults old.stands.clock.epoch lines x was is)
+      (same_Some lines log (sym at ∙ there))
+      (subst (λ x. LastStep tells clock image_at faults old.stands.clock.epoch lines lines was x)
+      (same_Some was is (sym bank ∙ bank_now)) (last_none old.stands.clock.epoch lines was)))
+
+  keeps : Keeps tells clock image_at faults (SeenIn old.stands.clock.epoch (epoch_joined ran) mid.logs mid.logs) [] None old.save
+      mid.save before now
+  keeps = keeps_from part.beside part.save
+      (subst (λ s. Keeps tells clock image_at faults (SeenIn old.stands.clock.epoch (epoch_joined ran) mid.logs mid.logs) [] None s s
+      now now) (sym part.save)
+      (keeps_none old.save now (stands.up ready.up).save
+      (subst (λ d. IsStored tells clock image_at d old.save.newest) (sym part.beside.save)
+      (stands.stored (stands.up ready.up).save))))
+
+  -- what a part tells of its log
+  refused_at : (w : ℕ) (p : Part) (log : LogState) → slice_get parts w ≡ Some p → slice_get mid.logs w ≡ Some log
+      → IsRefusedBy p.refusal log.journal × (log.journal.limit ≡ log_limit)
+  refused_at w p log at there =
+      let below : w < 8 = omega (arith, within_of parts w p at, few) in
+      let begins = item_at start w (omega (arith, below, start_many)) in
+      let bank = item_at before.even.items w (omega (arith, below, stands.whole.even)) in
+      let mid_bank = item_at now.even.items w (omega (arith, below, stands.whole.even, part.first.banks_length)) in
+      let left = part.first.each w p begins.0 log bank.0 mid_bank.0 at begins.1 there bank.1 mid_bank.1 in
+      (left.refused, left.limit ∙ (start_up w begins.0 bank.0 begins.1 bank.1).limit)
+
+  -- the log of a worker behind the parts is as it was
+  untouched : (w : ℕ) (log : LogState) → length parts ≤ w → slice_get mid.logs w ≡ Some log → log.journal.down ≡ None
+  untouched w log past at =
+      let below = below_8 mid.logs w log at (part.first.logs_length ∙ start_many) in
+      let bank = item_at before.even.items w (omega (arith, below, stands.whole.even)) in
+      (start_up w log bank.0 (sym (part.first.rest_logs w (omega (arith, past, part.first.count))) ∙ at) bank.1).up
+
+  failed_at : (w : ℕ) → w < 8 → Contains ran.devices (devices.Bank (2 * w)) → slice_get ran.logs w ≡ Some (Some LogFailed)
+  failed_at w below has =
+      let at = map_at (λ (l : LogState). is_some l.journal.down) mid.logs w true (bank_down (are_down mid.logs) false w has) in
+      elim (cases_lt w (length parts)) [
+        | inr past ↦ absurd (let no = sym at.2 ∙ ap is_some (untouched w at.0 past at.1) in cc)
+        | inl within ↦
+            let p = item_at parts w within in
+            let begins = item_at start w (omega (arith, below, start_many)) in
+            let bank = item_at before.even.items w (omega (arith, below, stands.whole.even)) in
+            let mid_bank = item_at now.even.items w (omega (arith, below, stands.whole.even, part.first.banks_length)) in
+            let left = part.first.each w p.0 begins.0 at.0 bank.0 mid_bank.0 p.1 begins.1 at.1 bank.1 mid_bank.1 in
+            map_there (λ (q : Part). q.refusal) eight w p.0 (pad_some 8 parts w p.0 few p.1) ∙ ap Some (left.failed at.2)
+      ]
+
+  logs_caused_so : LogsCaused ran.devices 0 ran.logs
+  logs_caused_so = logs_caused ran.devices 0 ran.logs
+      (λ i at.
+      let p = map_at (λ (p : Part). p.refusal) eight i (Some LogFailed) at in
+      elim (pad_at 8 parts i p.0 p.1) [
+        | inr none ↦ absurd (let no = sym none.0 ∙ p.2 in cc)
+        | inl there ↦
+            let log = item_at mid.logs i (omega (arith, within_of parts i p.0 there, few, part.first.logs_length, start_many)) in
+            let down = subst (λ r. IsRefusedBy r log.0.journal) p.2 (refused_at i p.0 log.0 there log.1).0 in
+            subst (λ n. Contains ran.devices (log_of n)) (at_first i)
+            (bank_in 0 i i (are_down mid.logs) (omega arith) (down_at mid.logs i log.0 log.1 down))
+      ])
+      (λ i size at.
+      let p = map_at (λ (p : Part). p.refusal) eight i (Some (LogFull size)) at in
+      elim (pad_at 8 parts i p.0 p.1) [
+        | inr none ↦ absurd (let no = sym none.0 ∙ p.2 in cc)
+        | inl there ↦
+            let log = item_at mid.logs i (omega (arith, within_of parts i p.0 there, few, part.first.logs_length, start_many)) in
+            let is = refused_at i p.0 log.0 there log.1 in
+            let full = subst (λ r. IsRefusedBy r log.0.journal) p.2 is.0 in
+            omega (arith, full.1, is.1)
+      ])
+
+  stands_new : StandsOn tells clock image_at new now
+  stands_new = record {
+    whole = record {
+      even = part.first.banks_length ∙ stands.whole.even;
+      odd = ap (λ v. length v.items) part.beside.odd ∙ stands.whole.odd;
+    };
+    workers = part.first.logs_length ∙ start_many;
+    limits = all_from (λ (l : LogState). l.journal.limit ≡ log_limit) mid.logs (λ w log at.
+        let below = below_8 mid.logs w log at (part.first.logs_length ∙ start_many) in
+        let begins = item_at start w (omega (arith, below, start_many)) in
+        let was = item_at before.even.items w (omega (arith, below, stands.whole.even)) in
+        let bank = item_at now.even.items w (omega (arith, below, stands.whole.even, part.first.banks_length)) in
+        (lines_at w part.first start_up begins.1 at was.1 bank.1).limit ∙ (start_up w begins.0 was.0 begins.1 was.1).limit);
+    above = omega (
+      arith,
+      stands.above,
+      ap (λ (x : SaveState). epoch_of x.newest) part.save,
+      ap (λ (x : Standing). x.clock.epoch) standing,
+      (plain_kept eight old.stands).1,
+    );
+    marked = all_from (λ (l : LogState). IsMarkBefore mid.stands.clock.epoch l.mark.epoch) mid.logs (λ w log at.
+        let below = below_8 mid.logs w log at (part.first.logs_length ∙ start_many) in
+        let begins = item_at start w (omega (arith, below, start_many)) in
+        let was = item_at old.logs w (omega (arith, below, stands.workers)) in
+        let bank = item_at before.even.items w (omega (arith, below, stands.whole.even)) in
+        let mid_bank = item_at now.even.items w (omega (arith, below, stands.whole.even, part.first.banks_length)) in
+        let joined = all_at (IsJoined old.stands.clock.epoch) old.logs w was.0 ready.logs was.1 in
+        let is : idled (lines_of_worker round w) was.0 ≡ begins.0 = same_Some _ begins.0 (sym (idle w was.0 was.1) ∙ begins.1) in
+        before_later log.mark.epoch old.stands.clock.epoch mid.stands.clock.epoch
+        (omega (arith, ap (λ (x : Standing). x.clock.epoch) standing, (plain_kept eight old.stands).1))
+        (mark_stopped (lines_of_worker round w) was.0 begins.0 log old.stands.clock.epoch some joined is
+        (lines_at w part.first start_up begins.1 at bank.1 mid_bank.1).mark));
+    up = λ up. absurd (let no = up in cc);
+    goes_on = λ on. absurd (let no = on in cc);
+    stored = keeps.stands;
+    reaches = λ w log bank at there.
+        let below = below_8 mid.logs w log at (part.first.logs_length ∙ start_many) in
+        let begins = item_at start w (omega (arith, below, start_many)) in
+        let was = item_at before.even.items w (omega (arith, below, stands.whole.even)) in
+        (lines_at w part.first start_up begins.1 at was.1 (sym (disk_in-even now w) ∙ there)).reaches;
+  }
+
+  pub stopped : (memory : Memory) → Rounds tells clock image_at faults round old new before now (Err memory)
+  stopped memory =
+      let run = λ (index : ℕ). plain_run index front old.stands eight ran mid.stands.state of
+      (ap (λ (x : Standing). x.state) standing) in (
+        record {
+          front = front;
+          first = record {
+            workers = is_front;
+            keeper = subst (λ k. IsFront k (keeper_lines round)) (sym (no_keepers 0 parts)) (front_none (keeper_lines round));
+          };
+          ran = ran;
+          logged = logged_at parts;
+          begins = record {
+            sequence = refl;
+            workers = length-map start (λ (log : LogState). log.mark.epoch ∷ []) ∙ start_many;
+            marks = λ w log epochs at are.
+                subst (AreRoundMarks (lines_of_worker round w) log.mark.epoch old.stands.clock.epoch mid.stands.clock.epoch)
+                (epochs_at start w (idled (lines_of_worker round w) log) epochs (idle w log at) are)
+                (round_marks (lines_of_worker round w) log old.stands.clock.epoch mid.stands.clock.epoch);
+          };
+          lines = record {
+            decls = ap (λ (x : Standing). x.decls) standing ∙ (plain_kept eight old.stands).0;
+            run = λ index. (run index).0;
+            caused = record {
+              logs = logs_caused_so;
+              outcomes = plain_caused front old.stands eight ran of (pad_are 8 parts old.stands part.first.are);
+              answers = tt;
+            };
+            lines_are = λ w below. parts_lines parts old.stands w part.first.are;
+            logged_are = λ index w below. subst (λ es. AreLogged old.stands.decls w old.stands.state es (logged_at parts w))
+                (sym (run index).1)
+                (subst (AreLogged old.stands.decls w old.stands.state _) (pad_logged 8 parts w few)
+                (parts_logged index 0 w w eight old.stands (pad_are 8 parts old.stands part.first.are) (omega arith)));
+          };
+          unanswered = refl;
+          unstored = λ has. let no = save_down (are_down mid.logs) false has in cc;
+          log_failed = failed_at;
+          durable = refl;
+          clock = refl;
+          ended = refl;
+        },
+        leaves_vault ran (logged_at parts) start mid.logs old new before now [] None total keeps (round_front start)
+            (λ w below. logged_above parts old.stands w (epoch_of old.save.newest) part.first.are stands.above)
+            stands_new refl refl
+            (λ w log refusal at has.
+            let p = map_at (λ (p : Part). p.refusal) eight w refusal has in
+            elim (pad_at 8 parts w p.0 p.1) [
+              | inr none ↦ subst (λ r. IsRefusedBy r log.journal) (sym none.0 ∙ p.2) (untouched w log none.1 at)
+              | inl there ↦ subst (λ r. IsRefusedBy r log.journal) p.2 (refused_at w p.0 log there at).0
+            ])
+            (λ w below has. inl (failed_at w below has)) tt (λ is. absurd (let no = is in cc)),
+      )

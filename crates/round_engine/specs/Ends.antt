@@ -1,0 +1,123 @@
+-- Which refusal ends a run after a round: devices first, then limits in the order of their names.
+use Rattle.std.specs.Prelude.{◌+◌, ◌==◌, ◌&&◌, ◌||◌, ℕ, Bool, true, false, not, List, []}
+use Rattle.std.specs.Prelude.{◌∷◌, nat_le, nat_lt, if◌then◌else◌, Option, Some, None}
+use Rattle.std.specs.Option.{option_map}
+use Rattle.std.specs.List.{list_any}
+use Rattle.serial_model.specs.Numbers.{last_epoch}
+use Rattle.outside.specs.declared.vault.Device.{Device}
+use Rattle.outside.specs.declared.vault.Device.TheVariants as devices
+use Rattle.script_grammar.specs.declared.lines.KeeperLine.{KeeperLine}
+use Rattle.script_grammar.specs.declared.lines.KeeperLine.TheVariants as asks
+use Rattle.tx_script.specs.declared.answer.Answer.{Answer}
+use Rattle.tx_script.specs.declared.answer.Answer.TheVariants as answers
+use Rattle.tx_script.specs.Run.{LogRefusal, LogFailed, LogFull, Ran, is_limit}
+use Rattle.tx_script.specs.Causes.{keeper_at_end, last_sequence, leaves_join_out}
+use Rattle.round_engine.specs.declared.report.End.{End}
+use Rattle.round_engine.specs.declared.report.End.TheVariants as ends
+use Rattle.round_engine.specs.declared.report.LimitName.{LimitName}
+use Rattle.round_engine.specs.declared.report.LimitName.TheVariants.{Epoch, Draw, Bank, Sequence}
+
+-- ---- the first of several
+
+-- the first thing, or else the second
+abbrev pub first_of : {X : Type 0} → Option X → Option X → Option X
+first_of (Some x) later = Some x
+first_of None later = later
+
+-- there are none
+abbrev pub is_empty : {X : Type 0} → List X → Bool
+is_empty [] = true
+is_empty (x ∷ xs) = false
+
+-- a thing where the test holds
+abbrev pub where_true : {X : Type 0} → Bool → X → Option X
+where_true b x = if b then Some x else None
+
+-- devices in the order in which their faults are told
+abbrev pub device_place : Device → ℕ
+device_place devices.Save = 0
+device_place devices.Snaps = 1
+device_place (devices.Bank number) = number + 2
+
+-- the earlier of a device and another, if there is one
+abbrev pub earlier : Device → Option Device → Device
+earlier device None = device
+earlier device (Some other) = if nat_le (device_place device) (device_place other) then device else other
+
+-- the first of some devices
+abbrev pub first_device : List Device → Option Device
+first_device [] = None
+first_device (device ∷ more) = Some (earlier device (first_device more))
+
+-- ---- the refusals of a round
+
+-- a device failed
+abbrev pub device_end : List Device → Option End
+device_end failed = option_map ends.Device (first_device failed)
+
+-- the length of the first log that is full
+abbrev pub full_length : List (Option LogRefusal) → Option ℕ
+full_length [] = None
+full_length (Some (LogFull size) ∷ logs) = Some size
+full_length (Some LogFailed ∷ logs) = full_length logs
+full_length (None ∷ logs) = full_length logs
+
+-- a limit of this name
+abbrev pub limit_at : LimitName → ℕ → End
+limit_at name number = ends.Limit name number
+
+-- the join comes to its advance, and to its save
+abbrev pub comes_to_advance : Ran → Bool
+comes_to_advance ran = not (leaves_join_out ran)
+
+abbrev pub comes_to_save : Ran → Bool
+comes_to_save ran = comes_to_advance ran && nat_lt ran.end.epoch last_epoch
+
+-- a line that asked for a save met the last sequence
+abbrev pub save_limited : List KeeperLine → List Answer → Bool
+save_limited (asks.Save ∷ lines) (answers.Limit ∷ more) = true
+save_limited (line ∷ lines) (answer ∷ more) = save_limited lines more
+save_limited _ _ = false
+
+-- the epoch can't be advanced by the join: it is the last one
+abbrev pub epoch_end : Ran → Option End
+epoch_end ran = where_true (comes_to_advance ran && not (nat_lt ran.end.epoch last_epoch))
+    (limit_at Epoch ran.end.epoch)
+
+-- a line was refused a number
+abbrev pub draw_end : Ran → Option End
+draw_end ran = where_true (list_any (list_any is_limit) ran.outcomes) (limit_at Draw ran.end.draw)
+
+-- a log is full
+abbrev pub bank_end : Ran → Option End
+bank_end ran = option_map (limit_at Bank) (full_length ran.logs)
+
+-- a save met the last sequence, a line's or the join's
+abbrev pub sequence_end : Ran → Option End
+sequence_end ran = where_true
+    (save_limited ran.asked ran.answers || (comes_to_save ran && ((keeper_at_end ran).sequence == last_sequence)))
+    (limit_at Sequence (keeper_at_end ran).sequence)
+
+-- The refusal that ends the run after a round, if one does.
+abbrev pub end_of : Ran → Option End
+end_of ran = first_of (device_end ran.devices) (first_of (epoch_end ran)
+    (first_of (draw_end ran) (first_of (bank_end ran) (sequence_end ran))))
+
+-- ---- the join
+
+-- the epoch after an advance, which the last epoch refuses
+abbrev pub epoch_after : ℕ → ℕ
+epoch_after epoch = if nat_lt epoch last_epoch then epoch + 1 else epoch
+
+-- the epoch after the join
+abbrev pub epoch_joined : Ran → ℕ
+epoch_joined ran = if comes_to_advance ran then epoch_after ran.end.epoch else ran.end.epoch
+
+-- a savepoint has a next one, as the round's lines leave it
+abbrev pub has_sequence : Ran → Bool
+has_sequence ran = nat_lt (keeper_at_end ran).sequence last_sequence
+
+-- What the join makes durable: the round's last epoch, exactly where it comes to its save, no device failed, and the
+-- savepoint is not the last.
+abbrev pub durable_of : Ran → Option ℕ
+durable_of ran = where_true (comes_to_save ran && (has_sequence ran && is_empty ran.devices)) ran.end.epoch

@@ -1,0 +1,54 @@
+-- What a join comes to: advance of the epoch, flush and mark of every worker's log, save; the first of these that is
+-- refused ends it, and the run.
+use Rattle.std.specs.Prelude.{◌≡◌, ◌≤◌, ◌||◌, ℕ, false, List, [], Option, is_some, replicate}
+use Rattle.std.specs.List.{Contains}
+use Rattle.serial_model.specs.Numbers.{last_epoch}
+use Rattle.outside.specs.declared.vault.Device.{Device}
+use Rattle.outside.specs.declared.vault.Device.TheVariants.{Bank}
+use Rattle.outside.specs.declared.vault.Vault.{Vault}
+use Rattle.log_writer.specs.Points.{sequence_of}
+use Rattle.tx_script.specs.Run.{Ran}
+use Rattle.round_engine.specs.Ends.{durable_of, end_of, epoch_joined}
+use Rattle.round_engine.specs.RanRound.{LeavesVault}
+use Rattle.round_engine.specs.Standing.{RuntimeState, Standing}
+use Rattle.round_engine.specs.declared.report.End.{End}
+
+-- A join is told as a round without lines, in which these devices failed and this epoch was made durable.
+abbrev pub without_lines : RuntimeState → List Device → Option ℕ → Ran
+without_lines r failed durable = record {
+  begin = r.stands.clock;
+  end = r.stands.clock;
+  outcomes = [];
+  asked = [];
+  answers = [];
+  durable = durable;
+  sequence = sequence_of r.save.newest;
+  marks = replicate 8 [];
+  logs = [];
+  devices = failed;
+}
+
+-- where the engine stands after it
+abbrev pub stands_joined : Standing → Ran → Option End → Standing
+stands_joined s ran end = record s {
+  clock = record s.clock { epoch = epoch_joined ran };
+  ended = s.ended || is_some end;
+}
+
+-- What a join comes to over the vault. It makes the clock's epoch durable, as it was before the advance, or it ends
+-- the run.
+pub record Joins {D : Type 0} (tells : D → Option (List ℕ)) (clock : D → ℕ) (image_at : D → ℕ → List ℕ → Type 0)
+    (faults : D → ℕ) (old new : RuntimeState) (before now : Vault D) (durable : Option ℕ) (end : Option End)
+    : Type 0 where
+  pub failed : List Device
+  pub end_is : end ≡ end_of (without_lines old failed durable)
+  pub durable_is : durable ≡ durable_of (without_lines old failed durable)
+  pub stands : new.stands ≡ stands_joined old.stands (without_lines old failed durable) end
+  pub down : failed ≡ [] → new.down ≡ false
+  pub leaves : LeavesVault tells clock image_at faults (without_lines old failed durable) (λ worker. []) old new
+      before now
+  -- What lies behind a step that was refused is left out: without an advance no device is called, and without each log
+  -- flushed nothing is stored.
+  pub not_advanced : last_epoch ≤ old.stands.clock.epoch
+      → (now ≡ before) × (new.logs ≡ old.logs) × (new.save ≡ old.save)
+  pub not_flushed : (number : ℕ) → Contains failed (Bank number) → (now.save ≡ before.save) × (new.save ≡ old.save)

@@ -1,0 +1,37 @@
+-- What a round leaves of each worker's log and its log file.
+use Rattle.std.specs.Prelude.{◌≡◌, ◌<◌, ◌*◌, ◌+◌, ◌++◌, ℕ, List, flat_map, map, option_to_list, true}
+use Rattle.std.specs.Prelude.{Option, Some, None, is_some, slice_get}
+use Rattle.lists.specs.Fronts.{IsFront}
+use Rattle.outside.specs.Vault.{disk_in}
+use Rattle.outside.specs.declared.vault.Device.TheVariants.{Bank}
+use Rattle.outside.specs.declared.vault.Vault.{Vault}
+use Rattle.serial_model.specs.declared.number.Commit.{Commit}
+use Rattle.wire_form.specs.declared.clock.Mark.{Mark}
+use Rattle.log_writer.specs.Journal.{JournalState, end_of}
+use Rattle.tx_script.specs.Causes.{longest_line}
+use Rattle.tx_script.specs.Run.{LogRefusal, LogFailed, LogFull}
+use Rattle.worker_logs.specs.Logs.{IsLog, LogRan, LogState}
+use Rattle.round_engine.specs.Saves.{NeverFall}
+use Rattle.round_engine.specs.Standing.{RuntimeState}
+
+module _ {D : Type 0} (tells : D → Option (List ℕ)) (clock : D → ℕ) (image_at : D → ℕ → List ℕ → Type 0) where
+  -- A worker's part of a round: it logged so many commits more, its log file grew, and the marks that it had say what
+  -- they count; the first of them, of these epochs, it had while its lines ran, and their epochs never fall.
+  pub record LeavesLog (commits more : List Commit) (was durable : List ℕ) (marks : List Mark)
+      (epochs : List (Option ℕ)) (before now : D) (log : LogState) : Type 0 where
+    pub ran : LogRan tells clock image_at (commits ++ more) was durable marks before now log
+    pub while_run : IsFront epochs (map (λ (m : Mark). m.epoch) marks)
+    pub rise : NeverFall 0 (flat_map (λ (m : Mark). option_to_list m.epoch) marks)
+
+  -- the workers' logs are those of these commits, of which these bytes are durable
+  abbrev pub AreLogs : (ℕ → List Commit) → (ℕ → List ℕ) → RuntimeState → Vault D → Type 0
+  AreLogs commits durable r vault = (worker : ℕ) (log : LogState) (bank : D) → slice_get r.logs worker ≡ Some log
+      → disk_in vault (Bank (2 * worker)) ≡ Some bank
+      → IsLog tells clock image_at (commits worker) (durable worker) log bank
+
+-- What refused a log tells of its journal: it is down, or with one line more its file might get longer than it may;
+-- else it is up.
+abbrev pub IsRefusedBy : Option LogRefusal → JournalState → Type 0
+IsRefusedBy None journal = journal.down ≡ None
+IsRefusedBy (Some LogFailed) journal = is_some journal.down ≡ true
+IsRefusedBy (Some (LogFull size)) journal = (size ≡ end_of journal) × (journal.limit < size + longest_line)

@@ -1,4 +1,4 @@
--- A flag for help is refused at whatever place after a command it stands.
+-- A flag for help is refused at whatever place after a command without arguments it stands.
 use Rattle.std.proofs.Common.{◌≡◌, refl, sym, subst, cond, ℕ, zero, suc, ◌&&◌, Bool, true, false, List, [], ◌∷◌, length, Option, Some, None, inl, inr}
 use Rattle.std.specs.Prelude.{codes, drop, encode_utf8, slice_get, ⊤}
 use Rattle.std.specs.Str.{bytes_eq, chars}
@@ -8,7 +8,7 @@ use Rattle.clap.specs.Walk.{Held, Outcome, Rule, Step, Text, Waiting, Walk, done
 use Rattle.clap.specs.Faults.{level_fault, step_fault, turn_fault, walk_fault, word_fault}
 use Rattle.clap.proofs.OnLiterals.{clap_on_literals}
 use Rattle.command_line.specs.Plain.{HasHelpFlag, IsHelpFlag}
-use Rattle.command_line.proofs.Steps.{Verb, run, dump, shape_of}
+use Rattle.command_line.proofs.Steps.{Verb, run, dump, make, shape_of}
 
 -- ---- the walk goes on
 
@@ -141,13 +141,19 @@ abbrev pub IsFaulty : Kinds → Type 0
 IsFaulty [] = ⊥
 IsFaulty (k ∷ ks) = ⊤
 
-first_is : (a b : Kinds) → IsFaulty a → IsFaulty (or_else a b)
+pub first_is : (a b : Kinds) → IsFaulty a → IsFaulty (or_else a b)
 first_is [] b f = absurd f
 first_is (k ∷ ks) b f = tt
 
-second_is : (a b : Kinds) → IsFaulty b → IsFaulty (or_else a b)
+pub second_is : (a b : Kinds) → IsFaulty b → IsFaulty (or_else a b)
 second_is [] b f = f
 second_is (k ∷ ks) b f = tt
+
+-- the command takes no arguments
+abbrev pub TakesNone : Verb → Type 0
+TakesNone run = ⊤
+TakesNone dump = ⊤
+TakesNone make = ⊥
 
 -- the fault of a word, by the parts of the walk
 abbrev word_part : Verb → Text → Bool → Waiting → ℕ → Held → Kinds
@@ -155,44 +161,46 @@ word_part v word is_trailing waiting position h =
     let met = word_met (shape_of v).rules [] is_trailing waiting position word h in
     or_else (word_fault (shape_of v) [] is_trailing waiting word h) (step_fault (shape_of v) position met.0 met.1)
 
-long_flag : (v : Verb) (t : Bool) (waiting : Waiting) (position : ℕ) (h : Held) → IsFaulty (word_part v (codes "--help") t waiting position h)
+long_flag : (v : Verb) → TakesNone v → (t : Bool) (waiting : Waiting) (position : ℕ) (h : Held) → IsFaulty (word_part v (codes "--help") t waiting position h)
 unfolding clap_on_literals
-long_flag run true waiting position h = tt
-long_flag run false idle position h = tt
-long_flag run false (option id) position h = tt
-long_flag run false positional position h = tt
-long_flag dump true waiting position h = tt
-long_flag dump false idle position h = tt
-long_flag dump false (option id) position h = tt
-long_flag dump false positional position h = tt
+long_flag run none true waiting position h = tt
+long_flag run none false idle position h = tt
+long_flag run none false (option id) position h = tt
+long_flag run none false positional position h = tt
+long_flag dump none true waiting position h = tt
+long_flag dump none false idle position h = tt
+long_flag dump none false (option id) position h = tt
+long_flag dump none false positional position h = tt
+long_flag make none t waiting position h = absurd none
 
-short_flag : (v : Verb) (t : Bool) (waiting : Waiting) (position : ℕ) (h : Held) → h.skip ≡ 0
+short_flag : (v : Verb) → TakesNone v → (t : Bool) (waiting : Waiting) (position : ℕ) (h : Held) → h.skip ≡ 0
     → IsFaulty (word_part v (codes "-h") t waiting position h)
 unfolding clap_on_literals
-short_flag run true waiting position h e = tt
-short_flag run false idle position h e = rw e tt
-short_flag run false (option id) position h e = rw e tt
-short_flag run false positional position h e = rw e tt
-short_flag dump true waiting position h e = tt
-short_flag dump false idle position h e = rw e tt
-short_flag dump false (option id) position h e = rw e tt
-short_flag dump false positional position h e = rw e tt
+short_flag run none true waiting position h e = tt
+short_flag run none false idle position h e = rw e tt
+short_flag run none false (option id) position h e = rw e tt
+short_flag run none false positional position h e = rw e tt
+short_flag dump none true waiting position h e = tt
+short_flag dump none false idle position h e = rw e tt
+short_flag dump none false (option id) position h e = rw e tt
+short_flag dump none false positional position h e = rw e tt
+short_flag make none t waiting position h e = absurd none
 
-flag_turn : (v : Verb) (w : Walk) (word : Text) → IsOpen w → IsHelpFlag word → IsFaulty (turn_fault (shape_of v) [] w word)
-flag_turn v w word open_ (inl e) = rw (e, open_.stopped) (long_flag v w.is_trailing w.waiting w.position w.held)
-flag_turn v w word open_ (inr e) = rw (e, open_.stopped) (short_flag v w.is_trailing w.waiting w.position w.held open_.skip)
+flag_turn : (v : Verb) → TakesNone v → (w : Walk) (word : Text) → IsOpen w → IsHelpFlag word → IsFaulty (turn_fault (shape_of v) [] w word)
+flag_turn v none w word open_ (inl e) = rw (e, open_.stopped) (long_flag v none w.is_trailing w.waiting w.position w.held)
+flag_turn v none w word open_ (inr e) = rw (e, open_.stopped) (short_flag v none w.is_trailing w.waiting w.position w.held open_.skip)
 
-walk_is_faulty : (v : Verb) (w : Walk) (words : List Text) → IsOpen w → HasHelpFlag words → IsFaulty (walk_fault (shape_of v) [] w words)
+walk_is_faulty : (v : Verb) → TakesNone v → (w : Walk) (words : List Text) → IsOpen w → HasHelpFlag words → IsFaulty (walk_fault (shape_of v) [] w words)
 unfolding walk_fault
-walk_is_faulty v w [] open_ has = absurd has
-walk_is_faulty v w (word ∷ rest) open_ (inl is) =
+walk_is_faulty v none w [] open_ has = absurd has
+walk_is_faulty v none w (word ∷ rest) open_ (inl is) =
     first_is (turn_fault (shape_of v) [] w word) (walk_fault (shape_of v) [] (walked (shape_of v).rules [] w word) rest)
-    (flag_turn v w word open_ is)
-walk_is_faulty v w (word ∷ rest) open_ (inr has) =
+    (flag_turn v none w word open_ is)
+walk_is_faulty v none w (word ∷ rest) open_ (inr has) =
     second_is (turn_fault (shape_of v) [] w word) (walk_fault (shape_of v) [] (walked (shape_of v).rules [] w word) rest)
-    (walk_is_faulty v (walked (shape_of v).rules [] w word) rest (goes_on (shape_of v).rules w word open_) has)
+    (walk_is_faulty v none (walked (shape_of v).rules [] w word) rest (goes_on (shape_of v).rules w word open_) has)
 
-pub flag_is_faulty : (v : Verb) (words : List Text) → HasHelpFlag words → IsFaulty (level_fault (shape_of v) [] nothing_held words false [])
-flag_is_faulty v words has =
+pub flag_is_faulty : (v : Verb) → TakesNone v → (words : List Text) → HasHelpFlag words → IsFaulty (level_fault (shape_of v) [] nothing_held words false [])
+flag_is_faulty v none words has =
     first_is (walk_fault (shape_of v) [] (walk_from nothing_held) words) _
-    (walk_is_faulty v (walk_from nothing_held) words (record { stopped = refl; skip = refl }) has)
+    (walk_is_faulty v none (walk_from nothing_held) words (record { stopped = refl; skip = refl }) has)

@@ -3,6 +3,7 @@ use Rattle.std.proofs.Common.{◌≡◌, ◌∙◌, refl, sym, ap, ap₂, subst,
 use Rattle.std.specs.Prelude.{codes, decimal, ◌⊎◌, option_and_then, option_map, ⊤}
 use Rattle.std.specs.Str.{bytes_eq}
 use Rattle.std.proofs.lemmas.Bool.{leb-true}
+use Rattle.decimals.specs.Numbers.{digits_number, number_of}
 use Rattle.clap.specs.Kinds.{IsAmong, Kinds}
 use Rattle.clap.specs.Walk.{Row, Text, first_of, has_row, nothing_held}
 use Rattle.clap.specs.Simple.{App, HasMatchesOf, subcommand_of, subcommand_rows_of}
@@ -12,34 +13,38 @@ use Rattle.clap.specs.declared.error.kind.ErrorKind.TheVariants.{OutOfMemory}
 use Rattle.clap.specs.declared.parser.matches.ArgMatches.{ArgMatches}
 use Rattle.clap.proofs.OnLiterals.{clap_on_literals}
 use Rattle.command_line.specs.Commands.{program}
-use Rattle.decimals.specs.Numbers.{number_of}
-use Rattle.command_line.specs.Options.{AreInRange, IsNoCommand, IsWithin, Refuses, asked, within, command_of, number_in, options_of, run_with, slots_range, snap_range, tries_range, unless_fault}
-use Rattle.command_line.specs.Plain.{AsksForHelp, IsHelp, CommandAsksForHelp, AreChoices, Choice, IsLeftOut, IsPlain, IsPlainDump, Setting, tries, slots, snap, is_same, number_chosen, options_chosen, range_of, words_of}
+use Rattle.command_line.specs.Options.{AreInRange, AreMadeInRange, IsNoCommand, IsWithin, LacksNumbers, Refuses, arguments_of, asked, within, command_of, lines_range, make_with, number_given, number_in, number_or, options_of, run_with, seed_range, slots_range, snap_range, tries_range, unless_fault, usual, workers_range}
+use Rattle.command_line.specs.Plain.{AsksForHelp, HasHelpFlag, IsHelp, IsHelpFlag, CommandAsksForHelp, AreChoices, Choice, IsLeftOut, IsPlain, IsPlainDump, IsPlainMake, Setting, sets, tries, slots, snap, is_same, is_same_setting, number_chosen, options_chosen, range_of, usual_of, words_of}
 use Rattle.command_line.specs.declared.command.Command.{Command}
-use Rattle.command_line.specs.declared.command.Command.TheVariants.{Run, Dump, Refused}
+use Rattle.command_line.specs.declared.command.Command.TheVariants.{Run, Dump, Make, Refused}
+use Rattle.command_line.specs.declared.command.MakeArguments.{MakeArguments}
 use Rattle.command_line.specs.declared.command.RunOptions.{RunOptions}
 use Rattle.command_line.specs.declared.number.Range.{Range}
-use Rattle.command_line.proofs.Numbers.{number_in_range}
-use Rattle.command_line.proofs.Help.{IsFaulty, flag_is_faulty}
-use Rattle.command_line.proofs.Runs.{Fresh, dump_fault, leaf_fault, leaf_rows, program_fault, program_rows, row_at}
-use Rattle.command_line.proofs.Steps.{Verb, run, dump, word_of, shape_of, name_of}
+use Rattle.command_line.proofs.Numbers.{begins, number_in_range}
+use Rattle.command_line.proofs.Help.{IsFaulty, TakesNone, flag_is_faulty}
+use Rattle.command_line.proofs.Makes.{HasBad, IsBad, IsPlainWord, bad_words, three_fault, three_rows, three_rows_are}
+use Rattle.command_line.proofs.Runs.{Fresh, dump_fault, id_of, leaf_fault, leaf_rows, program_fault, program_rows, row_at}
+use Rattle.command_line.proofs.Steps.{Verb, run, dump, make, word_of, shape_of, name_of}
 
 -- ---- choices are fresh
 
-names_differ : (a b : Setting) → is_same a b ≡ false → bytes_eq (name_of a) (name_of b) ≡ false
-names_differ tries tries h = h
-names_differ tries slots h = refl
-names_differ tries snap h = refl
-names_differ slots tries h = refl
-names_differ slots slots h = h
-names_differ slots snap h = refl
-names_differ snap tries h = refl
-names_differ snap slots h = refl
-names_differ snap snap h = h
+settings_differ : (a b : Setting) → is_same_setting a b ≡ false → bytes_eq (name_of a) (name_of b) ≡ false
+settings_differ tries tries h = h
+settings_differ tries slots h = refl
+settings_differ tries snap h = refl
+settings_differ slots tries h = refl
+settings_differ slots slots h = h
+settings_differ slots snap h = refl
+settings_differ snap tries h = refl
+settings_differ snap slots h = refl
+settings_differ snap snap h = h
+
+names_differ : (c d : Choice) → is_same c d ≡ false → bytes_eq (row_at c).id (id_of d) ≡ false
+names_differ (sets s n) (sets t m) h = settings_differ s t h
 
 Absent : List Row → List Choice → Type 0
 Absent rows [] = ⊤
-Absent rows (c ∷ rest) = (has_row (name_of c.0) rows ≡ false) × Absent rows rest
+Absent rows (c ∷ rest) = (has_row (id_of c) rows ≡ false) × Absent rows rest
 
 one_more_row : (id : Text) (r : Row) (rows : List Row) → has_row id rows ≡ false → bytes_eq r.id id ≡ false → has_row id (rows ++ r ∷ []) ≡ false
 one_more_row id r [] h e = rw e refl
@@ -50,11 +55,11 @@ one_more_row id r (x ∷ rows) h e = go (bytes_eq x.id id) refl (one_more_row id
     go true at next = let bad : true ≡ false = rw at at h in cc
     go false at next = rw at (next (rw at at h) e)
 
-still_absent : (c : Choice) (rows : List Row) (rest : List Choice) → IsLeftOut c.0 rest → Absent rows rest → Absent (rows ++ row_at c ∷ []) rest
+still_absent : (c : Choice) (rows : List Row) (rest : List Choice) → IsLeftOut c rest → Absent rows rest → Absent (rows ++ row_at c ∷ []) rest
 unfolding Absent
 still_absent c rows [] out h = tt
 still_absent c rows (q ∷ rest) out h =
-    (one_more_row (name_of q.0) (row_at c) rows h.0 (names_differ c.0 q.0 out.0), still_absent c rows rest out.1 h.1)
+    (one_more_row (id_of q) (row_at c) rows h.0 (names_differ c q out.0), still_absent c rows rest out.1 h.1)
 
 most_below : (s : Setting) → (range_of s).most < 2 ^ 64
 most_below tries = omega arith
@@ -67,8 +72,8 @@ small s n h = let most = most_below s in omega arith
 fresh_from : (rows : List Row) (choices : List Choice) → AreChoices choices → Absent rows choices → Fresh rows choices
 unfolding Absent
 fresh_from rows [] a h = tt
-fresh_from rows (c ∷ rest) a h =
-    (h.0, small c.0 c.1 a.1.1, fresh_from (rows ++ row_at c ∷ []) rest a.2 (still_absent c rows rest a.0 h.1))
+fresh_from rows (sets s n ∷ rest) a h =
+    (h.0, small s n a.1.1, fresh_from (rows ++ row_at (sets s n) ∷ []) rest a.2 (still_absent (sets s n) rows rest a.0 h.1))
 
 none_absent : (choices : List Choice) → Absent [] choices
 unfolding Absent
@@ -80,23 +85,26 @@ fresh choices a = fresh_from [] choices a (none_absent choices)
 
 -- ---- the numbers of choices
 
-number_here : (s : Setting) (n : ℕ) → (range_of s).least ≤ n → n ≤ (range_of s).most → number_in (range_of s) (Some (decimal n)) ≡ Some n
+number_here : (s : Setting) (n : ℕ) → (range_of s).least ≤ n → n ≤ (range_of s).most → number_or (usual_of s) (range_of s) (Some (decimal n)) ≡ Some n
 number_here s n low high = number_in_range (range_of s) n low high (small s n high)
 
-chosen : (s : Setting) (choices : List Choice) → AreChoices choices → number_in (range_of s) (first_of (name_of s) (map row_at choices)) ≡ Some (number_chosen s choices)
-chosen s [] a = refl
-chosen tries ((tries, n) ∷ rest) a = number_here tries n a.1.0 a.1.1
-chosen tries ((slots, n) ∷ rest) a = chosen tries rest a.2
-chosen tries ((snap, n) ∷ rest) a = chosen tries rest a.2
-chosen slots ((tries, n) ∷ rest) a = chosen slots rest a.2
-chosen slots ((slots, n) ∷ rest) a = number_here slots n a.1.0 a.1.1
-chosen slots ((snap, n) ∷ rest) a = chosen slots rest a.2
-chosen snap ((tries, n) ∷ rest) a = chosen snap rest a.2
-chosen snap ((slots, n) ∷ rest) a = chosen snap rest a.2
-chosen snap ((snap, n) ∷ rest) a = number_here snap n a.1.0 a.1.1
+chosen : (s : Setting) (choices : List Choice) → AreChoices choices
+    → number_or (usual_of s) (range_of s) (first_of (name_of s) (map row_at choices)) ≡ Some (number_chosen s choices)
+chosen tries [] a = refl
+chosen slots [] a = refl
+chosen snap [] a = refl
+chosen tries (sets tries n ∷ rest) a = number_here tries n a.1.0 a.1.1
+chosen tries (sets slots n ∷ rest) a = chosen tries rest a.2
+chosen tries (sets snap n ∷ rest) a = chosen tries rest a.2
+chosen slots (sets tries n ∷ rest) a = chosen slots rest a.2
+chosen slots (sets slots n ∷ rest) a = number_here slots n a.1.0 a.1.1
+chosen slots (sets snap n ∷ rest) a = chosen slots rest a.2
+chosen snap (sets tries n ∷ rest) a = chosen snap rest a.2
+chosen snap (sets slots n ∷ rest) a = chosen snap rest a.2
+chosen snap (sets snap n ∷ rest) a = number_here snap n a.1.0 a.1.1
 
-options_from : (rows : List Row) (t s p : ℕ) → number_in tries_range (first_of (codes "tries") rows) ≡ Some t
-    → number_in slots_range (first_of (codes "slots") rows) ≡ Some s → number_in snap_range (first_of (codes "snap") rows) ≡ Some p
+options_from : (rows : List Row) (t s p : ℕ) → number_or usual.tries tries_range (first_of (codes "tries") rows) ≡ Some t
+    → number_or usual.slots slots_range (first_of (codes "slots") rows) ≡ Some s → number_or usual.snap snap_range (first_of (codes "snap") rows) ≡ Some p
     → options_of rows ≡ Some (record { tries = t; slots = s; snap = p })
 options_from rows t s p et es ep = rw (et, es, ep) refl
 
@@ -122,6 +130,36 @@ dump_asks name = ap₂ unless_fault (program_fault dump name [] ∙ dump_fault) 
 pub plain_dump_asks : (words : List Text) → IsPlainDump words → command_of words ≡ Dump
 plain_dump_asks words p = ap command_of p.words ∙ dump_asks p.name
 
+-- a number is a word without a hyphen
+plain_word : (n : ℕ) → n < 2 ^ 64 → IsPlainWord (decimal n)
+plain_word n h = let b = begins n h in record { first = b.first; more = b.more; is = b.is; no_hyphen = b.no_hyphen }
+
+arguments_from : (rows : List Row) (s w l : ℕ) → number_given seed_range (first_of (codes "seed") rows) ≡ Some s
+    → number_given workers_range (first_of (codes "workers") rows) ≡ Some w → number_given lines_range (first_of (codes "lines") rows) ≡ Some l
+    → arguments_of rows ≡ Some (record { seed = s; workers = w; lines = l })
+arguments_from rows s w l es ew el = rw (es, ew, el) refl
+
+-- `make` with its numbers asks for a script
+numbers_ask : (name : Text) (s w l : ℕ) → IsWithin seed_range s → IsWithin workers_range w → IsWithin lines_range l
+    → command_of (name ∷ codes "make" ∷ decimal s ∷ decimal w ∷ decimal l ∷ []) ≡ Make (record { seed = s; workers = w; lines = l })
+unfolding command_of
+numbers_ask name s w l hs hw hl =
+    let words = decimal s ∷ decimal w ∷ decimal l ∷ [] in
+    let bs : s < 2 ^ 64 = omega (arith, hs.1) in
+    let bw : w < 2 ^ 64 = omega (arith, hw.1) in
+    let bl : l < 2 ^ 64 = omega (arith, hl.1) in
+    let ps = plain_word s bs in
+    let pw = plain_word w bw in
+    let pl = plain_word l bl in
+    let held = program_rows make name words ∙ ap (λ (rs : List Row). Some (codes "make", rs)) (three_rows_are (decimal s) (decimal w) (decimal l) ps pw pl) in
+    ap₂ unless_fault (program_fault make name words ∙ three_fault (decimal s) (decimal w) (decimal l) ps pw pl) (ap asked held)
+    ∙ ap make_with (arguments_from (three_rows (decimal s) (decimal w) (decimal l)) s w l
+    (number_in_range seed_range s hs.0 hs.1 bs) (number_in_range workers_range w hw.0 hw.1 bw) (number_in_range lines_range l hl.0 hl.1 bl))
+
+pub plain_make_asks : (words : List Text) (arguments : MakeArguments) → IsPlainMake words arguments → command_of words ≡ Make arguments
+plain_make_asks words arguments p =
+    ap command_of p.words ∙ numbers_ask p.name arguments.seed arguments.workers arguments.lines p.ranges.0 p.ranges.1 p.ranges.2
+
 -- ---- help
 
 refused_by : (words : List Text) (kind : ErrorKind) (more : Kinds) → fault_of program words ≡ kind ∷ more → command_of words ≡ Refused
@@ -143,19 +181,62 @@ refused_if words faulty = go (fault_of program words) faulty
     go [] h = absurd h
     go (k ∷ ks) h = refl
 
--- `help` right behind a command is a fault
-help_is_faulty : (v : Verb) (rest : List Text) → IsFaulty (level_fault (shape_of v) [] nothing_held (codes "help" ∷ rest) false [])
+-- `help` right behind a command without arguments is a fault
+help_is_faulty : (v : Verb) → TakesNone v → (rest : List Text) → IsFaulty (level_fault (shape_of v) [] nothing_held (codes "help" ∷ rest) false [])
 unfolding clap_on_literals
-help_is_faulty run rest = tt
-help_is_faulty dump rest = tt
+help_is_faulty run none rest = tt
+help_is_faulty dump none rest = tt
+help_is_faulty make none rest = absurd none
 
-command_help : (v : Verb) (name : Text) (rest : List Text) → CommandAsksForHelp rest → command_of (name ∷ word_of v ∷ rest) ≡ Refused
-command_help v name [] h = absurd h
-command_help v name (word ∷ rest) (inl e) =
+command_help : (v : Verb) → TakesNone v → (name : Text) (rest : List Text) → CommandAsksForHelp rest → command_of (name ∷ word_of v ∷ rest) ≡ Refused
+command_help v none name [] h = absurd h
+command_help v none name (word ∷ rest) (inl e) =
     rw e (refused_if (name ∷ word_of v ∷ codes "help" ∷ rest)
-    (subst IsFaulty (sym (program_fault v name (codes "help" ∷ rest))) (help_is_faulty v rest)))
-command_help v name (word ∷ rest) (inr has) =
-    refused_if (name ∷ word_of v ∷ word ∷ rest) (subst IsFaulty (sym (program_fault v name (word ∷ rest))) (flag_is_faulty v (word ∷ rest) has))
+    (subst IsFaulty (sym (program_fault v name (codes "help" ∷ rest))) (help_is_faulty v none rest)))
+command_help v none name (word ∷ rest) (inr has) =
+    refused_if (name ∷ word_of v ∷ word ∷ rest) (subst IsFaulty (sym (program_fault v name (word ∷ rest))) (flag_is_faulty v none (word ∷ rest) has))
+
+-- calls for help are no numbers
+help_word : IsBad (codes "help")
+unfolding number_of digits_number
+help_word = record { no_number = refl; no_dash = refl }
+
+long_flag_word : IsBad (codes "--help")
+unfolding number_of digits_number
+long_flag_word = record { no_number = refl; no_dash = refl }
+
+short_flag_word : IsBad (codes "-h")
+unfolding number_of digits_number
+short_flag_word = record { no_number = refl; no_dash = refl }
+
+flag_word : (word : Text) → IsHelpFlag word → IsBad word
+flag_word word (inl e) = subst IsBad (sym e) long_flag_word
+flag_word word (inr e) = subst IsBad (sym e) short_flag_word
+
+flags_are_bad : (words : List Text) → HasHelpFlag words → HasBad words
+flags_are_bad [] has = absurd has
+flags_are_bad (word ∷ rest) (inl is) = inl (flag_word word is)
+flags_are_bad (word ∷ rest) (inr has) = inr (flags_are_bad rest has)
+
+help_is_bad : (words : List Text) → CommandAsksForHelp words → HasBad words
+help_is_bad [] h = absurd h
+help_is_bad (word ∷ rest) (inl e) = inl (subst IsBad (sym e) help_word)
+help_is_bad (word ∷ rest) (inr has) = flags_are_bad (word ∷ rest) has
+
+refused_anyway : (kinds : Kinds) → unless_fault kinds Refused ≡ Refused
+refused_anyway [] = refl
+refused_anyway (k ∷ ks) = refl
+
+make_help : (name : Text) (rest : List Text) → CommandAsksForHelp rest → command_of (name ∷ codes "make" ∷ rest) ≡ Refused
+unfolding command_of
+make_help name rest asks =
+    elim (bad_words rest (help_is_bad rest asks)) [
+      | inl faulty ↦ refused_if (name ∷ codes "make" ∷ rest) (subst IsFaulty (sym (program_fault make name rest)) faulty)
+      | inr none ↦
+          ap (λ (o : Option (Text × List Row)). unless_fault (fault_of program (name ∷ codes "make" ∷ rest)) (asked o)) (program_rows make name rest)
+          ∙ ap (λ (a : Option MakeArguments). unless_fault (fault_of program (name ∷ codes "make" ∷ rest)) (make_with a)) none
+          ∙ refused_anyway (fault_of program (name ∷ codes "make" ∷ rest))
+    ]
 
 pub help_refused : (words : List Text) → AsksForHelp words → command_of words ≡ Refused
 help_refused [] h = absurd h
@@ -163,9 +244,10 @@ help_refused (name ∷ []) h = absurd h
 help_refused (name ∷ word ∷ rest) (inl h) = first_help name word rest h
 help_refused (name ∷ word ∷ rest) (inr h) = by_name h.0 h.1
   where
-    by_name : (word ≡ codes "run") ⊎ (word ≡ codes "dump") → CommandAsksForHelp rest → command_of (name ∷ word ∷ rest) ≡ Refused
-    by_name (inl e) asks = rw e (command_help run name rest asks)
-    by_name (inr e) asks = rw e (command_help dump name rest asks)
+    by_name : (word ≡ codes "run") ⊎ ((word ≡ codes "dump") ⊎ (word ≡ codes "make")) → CommandAsksForHelp rest → command_of (name ∷ word ∷ rest) ≡ Refused
+    by_name (inl e) asks = rw e (command_help run tt name rest asks)
+    by_name (inr (inl e)) asks = rw e (command_help dump tt name rest asks)
+    by_name (inr (inr e)) asks = rw e (make_help name rest asks)
 
 -- ---- what clap's answer says
 
@@ -204,14 +286,25 @@ no_options : (o : Option RunOptions) → run_with o ≡ Refused → o ≡ None
 no_options (Some options) h = absurd (cc)
 no_options None h = refl
 
+no_arguments : (o : Option MakeArguments) → make_with o ≡ Refused → o ≡ None
+no_arguments (Some arguments) h = absurd (cc)
+no_arguments None h = refl
+
+-- a command that isn't `dump`
+lacks : (name : Text) (rows : List Row) (m : Bool) → bytes_eq name (codes "make") ≡ m
+    → cond m (make_with (arguments_of rows)) (run_with (options_of rows)) ≡ Refused → LacksNumbers name rows
+lacks name rows true e none = inl (e, no_arguments (arguments_of rows) none)
+lacks name rows false e none = inr (e, no_options (options_of rows) none)
+
 -- what clap found of the words is no command
 no_command : (o : Option (Text × List Row)) → asked o ≡ Refused → IsNoCommand o
 no_command None h = tt
 no_command (Some p) h = go (bytes_eq p.0 (codes "dump")) refl h
   where
-    go : (b : Bool) → bytes_eq p.0 (codes "dump") ≡ b → cond b Dump (run_with (options_of p.1)) ≡ Refused → IsNoCommand (Some p)
+    go : (b : Bool) → bytes_eq p.0 (codes "dump") ≡ b
+        → cond b Dump (cond (bytes_eq p.0 (codes "make")) (make_with (arguments_of p.1)) (run_with (options_of p.1))) ≡ Refused → IsNoCommand (Some p)
     go true e named = absurd (cc)
-    go false e named = (e, no_options (options_of p.1) named)
+    go false e named = (e, lacks p.0 p.1 (bytes_eq p.0 (codes "make")) refl named)
 
 -- clap took the words, and the command is refused
 pub refused_numbers : (a : App) (words : List Text) (m : ArgMatches) → a ≡ program → HasMatchesOf a words m → asked (subcommand_rows_of m) ≡ Refused → Refuses words
@@ -231,13 +324,20 @@ within_is range n m h = go (nat_le range.least n) (nat_le n range.most) refl ref
     go true false low high e = absurd (cc)
     go false b low high e = absurd (cc)
 
-number_in_is : (range : Range) (text : Option Text) (n : ℕ) → IsWithin range range.usual → number_in range text ≡ Some n → IsWithin range n
-number_in_is range None n usual h = let same : range.usual ≡ n = cc in subst (IsWithin range) same usual
-number_in_is range (Some text) n usual h = go (number_of text) h
+number_in_is : (range : Range) (text : Text) (n : ℕ) → number_in range text ≡ Some n → IsWithin range n
+number_in_is range text n h = go (number_of text) h
   where
     go : (o : Option ℕ) → option_and_then (within range) o ≡ Some n → IsWithin range n
     go None e = absurd (cc)
     go (Some m) e = within_is range m n e
+
+number_or_is : (most : ℕ) (range : Range) (text : Option Text) (n : ℕ) → IsWithin range most → number_or most range text ≡ Some n → IsWithin range n
+number_or_is most range None n is h = let same : most ≡ n = cc in subst (IsWithin range) same is
+number_or_is most range (Some text) n is h = number_in_is range text n h
+
+number_given_is : (range : Range) (text : Option Text) (n : ℕ) → number_given range text ≡ Some n → IsWithin range n
+number_given_is range None n h = absurd (cc)
+number_given_is range (Some text) n h = number_in_is range text n h
 
 numbers_of : (a b c : Option ℕ) (options : RunOptions)
     → option_and_then (λ t. option_and_then (λ s. option_map (λ p. record { tries = t; slots = s; snap = p }) c) b) a ≡ Some options
@@ -252,34 +352,84 @@ numbers_of (Some t) (Some s) (Some p) options h =
 
 options_in_range : (rows : List Row) (options : RunOptions) → options_of rows ≡ Some options → AreInRange options
 options_in_range rows options h =
-    let p = numbers_of (number_in tries_range (first_of (codes "tries") rows)) (number_in slots_range (first_of (codes "slots") rows))
-    (number_in snap_range (first_of (codes "snap") rows)) options h in (
-      number_in_is tries_range (first_of (codes "tries") rows) options.tries (omega arith, omega arith) p.0,
-      number_in_is slots_range (first_of (codes "slots") rows) options.slots (omega arith, omega arith) p.1,
-      number_in_is snap_range (first_of (codes "snap") rows) options.snap (omega arith, omega arith) p.2,
+    let p = numbers_of (number_or usual.tries tries_range (first_of (codes "tries") rows))
+    (number_or usual.slots slots_range (first_of (codes "slots") rows)) (number_or usual.snap snap_range (first_of (codes "snap") rows)) options h in (
+      number_or_is usual.tries tries_range (first_of (codes "tries") rows) options.tries (omega arith, omega arith) p.0,
+      number_or_is usual.slots slots_range (first_of (codes "slots") rows) options.slots (omega arith, omega arith) p.1,
+      number_or_is usual.snap snap_range (first_of (codes "snap") rows) options.snap (omega arith, omega arith) p.2,
     )
+
+made_of : (a b c : Option ℕ) (arguments : MakeArguments)
+    → option_and_then (λ s. option_and_then (λ w. option_map (λ l. record { seed = s; workers = w; lines = l }) c) b) a ≡ Some arguments
+    → (a ≡ Some arguments.seed) × (b ≡ Some arguments.workers) × (c ≡ Some arguments.lines)
+made_of None b c arguments h = absurd (cc)
+made_of (Some s) None c arguments h = absurd (cc)
+made_of (Some s) (Some w) None arguments h = absurd (cc)
+made_of (Some s) (Some w) (Some l) arguments h =
+    let made : MakeArguments = record { seed = s; workers = w; lines = l } in
+    let same : made ≡ arguments = cc in
+    (ap (λ (o : MakeArguments). Some o.seed) same, ap (λ (o : MakeArguments). Some o.workers) same, ap (λ (o : MakeArguments). Some o.lines) same)
+
+arguments_in_range : (rows : List Row) (arguments : MakeArguments) → arguments_of rows ≡ Some arguments → AreMadeInRange arguments
+arguments_in_range rows arguments h =
+    let p = made_of (number_given seed_range (first_of (codes "seed") rows)) (number_given workers_range (first_of (codes "workers") rows))
+    (number_given lines_range (first_of (codes "lines") rows)) arguments h in (
+      number_given_is seed_range (first_of (codes "seed") rows) arguments.seed p.0,
+      number_given_is workers_range (first_of (codes "workers") rows) arguments.workers p.1,
+      number_given_is lines_range (first_of (codes "lines") rows) arguments.lines p.2,
+    )
+
+ran : (o : Option RunOptions) (options : RunOptions) → run_with o ≡ Run options → o ≡ Some options
+ran None options e = absurd (cc)
+ran (Some x) options e = let same : x ≡ options = cc in ap (λ (y : RunOptions). Some y) same
+
+no_run : (o : Option MakeArguments) (options : RunOptions) → make_with o ≡ Run options → ⊥
+no_run None options e = absurd (cc)
+no_run (Some x) options e = absurd (cc)
+
+made : (o : Option MakeArguments) (arguments : MakeArguments) → make_with o ≡ Make arguments → o ≡ Some arguments
+made None arguments e = absurd (cc)
+made (Some x) arguments e = let same : x ≡ arguments = cc in ap (λ (y : MakeArguments). Some y) same
+
+no_make : (o : Option RunOptions) (arguments : MakeArguments) → run_with o ≡ Make arguments → ⊥
+no_make None arguments e = absurd (cc)
+no_make (Some x) arguments e = absurd (cc)
 
 run_in_range : (words : List Text) (options : RunOptions) → command_of words ≡ Run options → AreInRange options
 unfolding command_of
 run_in_range words options h = go (fault_of program words) (subcommand_of program words) h
   where
-    ran : (o : Option RunOptions) → run_with o ≡ Run options → o ≡ Some options
-    ran None e = absurd (cc)
-    ran (Some x) e = let same : x ≡ options = cc in ap (λ (y : RunOptions). Some y) same
-
-    named : (p : Text × List Row) (b : Bool) → cond b Dump (run_with (options_of p.1)) ≡ Run options → AreInRange options
-    named p true is = absurd (cc)
-    named p false is = options_in_range p.1 options (ran (options_of p.1) is)
+    named : (p : Text × List Row) (b m : Bool) → cond b Dump (cond m (make_with (arguments_of p.1)) (run_with (options_of p.1))) ≡ Run options → AreInRange options
+    named p true m is = absurd (cc)
+    named p false true is = absurd (no_run (arguments_of p.1) options is)
+    named p false false is = options_in_range p.1 options (ran (options_of p.1) options is)
 
     go : (kinds : Kinds) (o : Option (Text × List Row)) → unless_fault kinds (asked o) ≡ Run options → AreInRange options
     go (k ∷ ks) o e = absurd (cc)
     go [] None e = absurd (cc)
-    go [] (Some p) e = named p (bytes_eq p.0 (codes "dump")) e
+    go [] (Some p) e = named p (bytes_eq p.0 (codes "dump")) (bytes_eq p.0 (codes "make")) e
+
+make_in_range : (words : List Text) (arguments : MakeArguments) → command_of words ≡ Make arguments → AreMadeInRange arguments
+unfolding command_of
+make_in_range words arguments h = go (fault_of program words) (subcommand_of program words) h
+  where
+    named : (p : Text × List Row) (b m : Bool) → cond b Dump (cond m (make_with (arguments_of p.1)) (run_with (options_of p.1))) ≡ Make arguments
+        → AreMadeInRange arguments
+    named p true m is = absurd (cc)
+    named p false true is = arguments_in_range p.1 arguments (made (arguments_of p.1) arguments is)
+    named p false false is = absurd (no_make (options_of p.1) arguments is)
+
+    go : (kinds : Kinds) (o : Option (Text × List Row)) → unless_fault kinds (asked o) ≡ Make arguments → AreMadeInRange arguments
+    go (k ∷ ks) o e = absurd (cc)
+    go [] None e = absurd (cc)
+    go [] (Some p) e = named p (bytes_eq p.0 (codes "dump")) (bytes_eq p.0 (codes "make")) e
 
 -- what an answer of the command says
 pub record Answer (words : List Text) (command : Command) : Type 0 where
   pub plain : (options : RunOptions) → IsPlain words options → command ≡ Run options
   pub plain_dump : IsPlainDump words → command ≡ Dump
+  pub plain_make : (arguments : MakeArguments) → IsPlainMake words arguments → command ≡ Make arguments
+  pub made_ranges : (arguments : MakeArguments) → command ≡ Make arguments → AreMadeInRange arguments
   pub ranges : (options : RunOptions) → command ≡ Run options → AreInRange options
   pub help : AsksForHelp words → command ≡ Refused
 
@@ -287,6 +437,8 @@ pub answer : (words : List Text) (command : Command) → command ≡ command_of 
 answer words command is = record {
   plain = λ options p. is ∙ plain_ask words options p;
   plain_dump = λ p. is ∙ plain_dump_asks words p;
+  plain_make = λ arguments p. is ∙ plain_make_asks words arguments p;
+  made_ranges = λ arguments e. make_in_range words arguments (sym is ∙ e);
   ranges = λ options e. run_in_range words options (sym is ∙ e);
   help = λ h. is ∙ help_refused words h;
 }

@@ -1,16 +1,13 @@
 -- Rows of what the words ask for, and that there are plain words and calls for help.
-use Rattle.std.proofs.Common.{◌≡◌, refl, sym, ap₂, List, [], ◌∷◌, inl, inr, arith}
+use Rattle.std.proofs.Common.{◌≡◌, refl, sym, ap₂, true, List, [], ◌∷◌, inl, inr, arith}
 use Rattle.std.specs.Prelude.{codes}
 use Rattle.std.proofs.lemmas.Fmt.{decimal_digit}
 use Rattle.clap.specs.Walk.{Text}
-use Rattle.command_line.specs.Options.{command_of}
-use Rattle.command_line.specs.Plain.{AsksForHelp, IsPlain, snap, tries}
+use Rattle.command_line.specs.Options.{command_of, usual}
+use Rattle.command_line.specs.Plain.{AsksForHelp, IsPlain, sets, snap, tries}
 use Rattle.command_line.specs.declared.command.Command.TheVariants.{Run, Dump}
 use Rattle.command_line.specs.declared.command.RunOptions.{RunOptions}
 use Rattle.command_line.proofs.Plain.{plain_ask, plain_dump_asks}
-
-abbrev usual : RunOptions
-usual = record { tries = 1000; slots = 256; snap = 4096 }
 
 run_alone : IsPlain (codes "foedus" ∷ codes "run" ∷ []) usual
 run_alone = record { name = codes "foedus"; choices = []; words = refl; choices_are = tt; options = refl }
@@ -24,7 +21,7 @@ two_words = codes "x" ∷ codes "run" ∷ codes "--snap" ∷ codes "9" ∷ codes
 two_options : IsPlain two_words two
 two_options = record {
   name = codes "x";
-  choices = (snap, 9) ∷ (tries, 7) ∷ [];
+  choices = sets snap 9 ∷ sets tries 7 ∷ [];
   words = ap₂ (λ (a b : Text). codes "x" ∷ codes "run" ∷ codes "--snap" ∷ a ∷ codes "--tries" ∷ b ∷ [])
       (sym (decimal_digit 9 (omega arith))) (sym (decimal_digit 7 (omega arith)));
   choices_are = ((refl, tt), (omega arith, omega arith), (tt, (omega arith, omega arith), tt));

@@ -2,36 +2,46 @@
 use Rattle.std.proofs.Common.{◌≡◌, ◌∙◌, refl, ap, ℕ, Bool, true, false, ◌==◌, List, [], ◌∷◌, ◌++◌, Some, None, append-nil}
 use Rattle.std.specs.Prelude.{codes}
 use Rattle.std.specs.Str.{bytes_eq}
-use Rattle.clap.specs.Kinds.{or_else}
-use Rattle.clap.specs.Walk.{Held, Row, Text, Walk, option, at_row, has_row, more_values, with_values, without, settled, walk_from, walked, reading_by}
-use Rattle.clap.specs.Simple.{Shape, built, built_leaf, inherited}
-use Rattle.clap.specs.Faults.{settle_fault, turn_fault}
+use Rattle.clap.specs.Kinds.{Kinds, or_else}
+use Rattle.clap.specs.Walk.{Held, Row, Rule, Text, Walk, option, at_row, has_row, more_values, reacted, used, with_values, without, settled, walk_from, walked, reading_by}
+use Rattle.clap.specs.Simple.{Shape, built, built_leaf, filled, inherited}
+use Rattle.clap.specs.Faults.{settle_fault, turn_fault, use_fault}
+use Rattle.clap.specs.declared.builder.value_parser.Reading.{Reading}
 use Rattle.clap.specs.declared.parser.matches.ValueSource.TheVariants.{CommandLine}
 use Rattle.clap.proofs.OnLiterals.{clap_on_literals}
-use Rattle.command_line.specs.Commands.{dump_shape, option_rule, program, run_shape}
+use Rattle.command_line.specs.Commands.{argument_rule, dump_shape, make_shape, option_rule, program, run_shape}
 use Rattle.command_line.specs.Plain.{Setting, tries, slots, snap, flag_of}
 
 -- `run` as clap builds it
 abbrev pub ready : Shape
 ready = built_leaf (inherited (built program).top run_shape)
 
+-- `make` as clap builds it
+abbrev pub making : Shape
+making = built_leaf (inherited (built program).top make_shape)
+
 -- the commands
 pub data Verb : Type 0 where
   run : Verb
   dump : Verb
+  make : Verb
 
 -- the word that names a command
 abbrev pub word_of : Verb → Text
 word_of run = codes "run"
 word_of dump = codes "dump"
+word_of make = codes "make"
 
 -- a command as clap builds it
 abbrev pub shape_of : Verb → Shape
 shape_of run = ready
 shape_of dump = built_leaf (inherited (built program).top dump_shape)
+shape_of make = making
 
-subs_are : (built program).subs ≡ shape_of run ∷ shape_of dump ∷ []
+subs_are : (built program).subs ≡ shape_of run ∷ shape_of dump ∷ shape_of make ∷ []
 subs_are = refl
+
+-- ---- an option with a number
 
 abbrev pub name_of : Setting → Text
 name_of tries = codes "tries"
@@ -70,14 +80,16 @@ text_walk tries h d ds e = rw (e, e) refl
 text_walk slots h d ds e = rw (e, e) refl
 text_walk snap h d ds e = rw (e, e) refl
 
--- what clap keeps of an option
-abbrev pub row_of : Setting → Text → Row
-row_of q t = record {
-  id = name_of q;
+-- ---- rows
+
+-- what clap keeps of an option with its value
+abbrev pub row_for : Text → Reading → Text → Row
+row_for id reading t = record {
+  id = id;
   values = t ∷ [];
   count = None;
   source = Some CommandLine;
-  reading = reading_by (option_rule (name_of q));
+  reading = reading;
 }
 
 pub at_row_absent : (id : Text) (change : Row → List Row) (missing rows : List Row) → has_row id rows ≡ false → at_row id change missing rows ≡ rows ++ missing
@@ -89,11 +101,21 @@ at_row_absent id change missing (r ∷ rs) h = go (bytes_eq r.id id) refl (at_ro
     go true e next = let bad : true ≡ false = rw e at h in cc
     go false e next = rw e (ap (λ (xs : List Row). r ∷ xs) (next (rw e at h)))
 
+-- the first use of an option adds its row
+pub first_use : (id : Text) (how : Reading) (t : Text) (rows : List Row) → has_row id rows ≡ false
+    → with_values id how CommandLine (t ∷ []) (without id rows) ≡ rows ++ row_for id how t ∷ []
+first_use id how t rows h =
+    ap (with_values id how CommandLine (t ∷ [])) (at_row_absent id (λ _. []) [] rows h ∙ append-nil rows)
+    ∙ at_row_absent id (more_values CommandLine (t ∷ [])) (row_for id how t ∷ []) rows h
+
+-- ---- what is kept of an option with a number
+
+abbrev pub row_of : Setting → Text → Row
+row_of q t = row_for (name_of q) (reading_by (option_rule (name_of q))) t
+
 used_row : (q : Setting) (t : Text) (rows : List Row) → has_row (name_of q) rows ≡ false
     → with_values (name_of q) (reading_by (option_rule (name_of q))) CommandLine (t ∷ []) (without (name_of q) rows) ≡ rows ++ row_of q t ∷ []
-used_row q t rows h =
-    ap (with_values (name_of q) (reading_by (option_rule (name_of q))) CommandLine (t ∷ [])) (at_row_absent (name_of q) (λ _. []) [] rows h ∙ append-nil rows)
-    ∙ at_row_absent (name_of q) (more_values CommandLine (t ∷ [])) (row_of q t ∷ []) rows h
+used_row q t rows h = first_use (name_of q) (reading_by (option_rule (name_of q))) t rows h
 
 pub used_absent : (q : Setting) (t : Text) (rows : List Row) → has_row (name_of q) rows ≡ false
     → settled ready.rules (record { rows = rows; pending = Some (name_of q, t ∷ []); skip = 0 })
@@ -107,3 +129,13 @@ pub settle_absent : (q : Setting) (t : Text) (rows : List Row) → has_row (name
 settle_absent tries t rows h = rw h refl
 settle_absent slots t rows h = rw h refl
 settle_absent snap t rows h = rw h refl
+
+-- ---- arguments and what is kept between options
+
+-- nothing waits, and this is kept
+abbrev pub between : List Row → Held
+between rows = record { rows = rows; pending = None; skip = 0 }
+
+-- what clap keeps of an argument
+abbrev pub argument_row : Text → Text → Row
+argument_row id t = row_for id (reading_by (argument_rule id)) t

@@ -8,6 +8,10 @@ use Rattle.clap.specs.declared.builder.action.ArgAction.TheVariants.{Set}
 abbrev pub option_rule : Text → Rule
 option_rule name = record (new_rule name) { long = Some name; action = Some Set }
 
+-- a word that has to be given
+abbrev pub argument_rule : Text → Rule
+argument_rule name = record (new_rule name) { required = true }
+
 -- `run`, which has three options and no flag for help
 abbrev pub run_shape : Shape
 run_shape = record (new_shape (codes "run")) {
@@ -19,6 +23,13 @@ run_shape = record (new_shape (codes "run")) {
 abbrev pub dump_shape : Shape
 dump_shape = record (new_shape (codes "dump")) { disable_help_flag = true }
 
+-- `make`, which has three arguments, and neither options nor a flag for help
+abbrev pub make_shape : Shape
+make_shape = record (new_shape (codes "make")) {
+  disable_help_flag = true;
+  rules = argument_rule (codes "seed") ∷ argument_rule (codes "workers") ∷ argument_rule (codes "lines") ∷ [];
+}
+
 -- the program, which has to be told a command, and has neither a flag nor a command for help
 abbrev pub program : App
 program = record {
@@ -28,5 +39,5 @@ program = record {
     subcommand_required = true;
     is_leaf = false;
   };
-  subs = run_shape ∷ dump_shape ∷ [];
+  subs = run_shape ∷ dump_shape ∷ make_shape ∷ [];
 }

@@ -1,5 +1,6 @@
--- The numbers of the options, and what the words ask for.
-use Rattle.std.specs.Prelude.{◌≡◌, ◌≢◌, ◌⊎◌, ℕ, ◌≤◌, ◌&&◌, false, List, [], ◌∷◌, codes, Option, Some, None, nat_le, if◌then◌else◌, option_map, option_and_then, ⊤}
+-- The numbers of options and arguments, and what the words ask for.
+use Rattle.std.specs.Prelude.{◌≡◌, ◌≢◌, ◌⊎◌, ℕ, ◌≤◌, ◌&&◌, true, false, List, [], ◌∷◌, codes, Option, Some, None}
+use Rattle.std.specs.Prelude.{nat_le, if◌then◌else◌, option_map, option_and_then, ⊤}
 use Rattle.std.specs.Str.{bytes_eq}
 use Rattle.decimals.specs.Numbers.{number_of}
 use Rattle.clap.specs.Walk.{Row, Text, first_of}
@@ -10,36 +11,76 @@ use Rattle.clap.specs.declared.error.kind.ErrorKind.{ErrorKind}
 use Rattle.clap.specs.declared.error.kind.ErrorKind.TheVariants.{OutOfMemory}
 use Rattle.command_line.specs.Commands.{program}
 use Rattle.command_line.specs.declared.command.Command.{Command}
-use Rattle.command_line.specs.declared.command.Command.TheVariants.{Run, Dump, Refused}
+use Rattle.command_line.specs.declared.command.Command.TheVariants.{Run, Dump, Make, Refused}
+use Rattle.command_line.specs.declared.command.MakeArguments.{MakeArguments}
 use Rattle.command_line.specs.declared.command.RunOptions.{RunOptions}
 use Rattle.command_line.specs.declared.number.Range.{Range}
 
+-- ---- ranges
+
 -- how often a transaction is tried
 abbrev pub tries_range : Range
-tries_range = record { least = 1; most = 1000000; usual = 1000 }
+tries_range = record { least = 1; most = 1000000 }
 
 -- how many slots there are
 abbrev pub slots_range : Range
-slots_range = record { least = 4; most = 4096; usual = 256 }
+slots_range = record { least = 4; most = 4096 }
 
 -- how many pages of snapshots stay in memory
 abbrev pub snap_range : Range
-snap_range = record { least = 1; most = 65536; usual = 4096 }
+snap_range = record { least = 1; most = 65536 }
+
+-- where the generator of scripts begins: a number below 2^31
+abbrev pub seed_range : Range
+seed_range = record { least = 0; most = 2147483647 }
+
+-- how many workers a script that is made has
+abbrev pub workers_range : Range
+workers_range = record { least = 1; most = 8 }
+
+-- how many transactions it has
+abbrev pub lines_range : Range
+lines_range = record { least = 1; most = 65536 }
 
 -- the number is in the range, whose ends count
 abbrev pub IsWithin : Range → ℕ → Type 0
 IsWithin range n = (range.least ≤ n) × (n ≤ range.most)
 
+-- each number of a run is in its range
+abbrev pub AreInRange : RunOptions → Type 0
+AreInRange options = IsWithin tries_range options.tries × IsWithin slots_range options.slots
+    × IsWithin snap_range options.snap
+
+-- each number of a script to be made is in its range
+abbrev pub AreMadeInRange : MakeArguments → Type 0
+AreMadeInRange arguments = IsWithin seed_range arguments.seed × IsWithin workers_range arguments.workers
+    × IsWithin lines_range arguments.lines
+
+-- what stands for options that are left out
+abbrev pub usual : RunOptions
+usual = record { tries = 1000; slots = 256; snap = 4096 }
+
+-- ---- numbers, from the texts of their values
+
 -- the number, if it is in the range
 abbrev pub within : Range → ℕ → Option ℕ
 within range n = if nat_le range.least n && nat_le n range.most then Some n else None
 
--- the number of an option, from the text of its value, or the usual one where it is left out
-abbrev pub number_in : Range → Option Text → Option ℕ
-number_in range None = Some range.usual
-number_in range (Some text) = option_and_then (within range) (number_of text)
+-- the number that the text is, if it is in the range
+abbrev pub number_in : Range → Text → Option ℕ
+number_in range text = option_and_then (within range) (number_of text)
 
--- the numbers of a run, if each is in its range
+-- the number of an option, or the usual one where it is left out
+abbrev pub number_or : ℕ → Range → Option Text → Option ℕ
+number_or otherwise range None = Some otherwise
+number_or otherwise range (Some text) = number_in range text
+
+-- the number of an argument, if it is given
+abbrev pub number_given : Range → Option Text → Option ℕ
+number_given range None = None
+number_given range (Some text) = number_in range text
+
+-- the options of a run, if each number is in its range
 abbrev pub options_of : List Row → Option RunOptions
 options_of rows =
     option_and_then (λ tries. option_and_then (λ slots. option_map (λ snap. record {
@@ -47,23 +88,39 @@ options_of rows =
       slots = slots;
       snap = snap;
     })
-    (number_in snap_range (first_of (codes "snap") rows)))
-    (number_in slots_range (first_of (codes "slots") rows)))
-    (number_in tries_range (first_of (codes "tries") rows))
+    (number_or usual.snap snap_range (first_of (codes "snap") rows)))
+    (number_or usual.slots slots_range (first_of (codes "slots") rows)))
+    (number_or usual.tries tries_range (first_of (codes "tries") rows))
 
--- each number of a run is in its range
-abbrev pub AreInRange : RunOptions → Type 0
-AreInRange options = IsWithin tries_range options.tries × IsWithin slots_range options.slots
-    × IsWithin snap_range options.snap
+-- the arguments of `make`, if each number is in its range
+abbrev pub arguments_of : List Row → Option MakeArguments
+arguments_of rows =
+    option_and_then (λ seed. option_and_then (λ workers. option_map (λ lines. record {
+      seed = seed;
+      workers = workers;
+      lines = lines;
+    })
+    (number_given lines_range (first_of (codes "lines") rows)))
+    (number_given workers_range (first_of (codes "workers") rows)))
+    (number_given seed_range (first_of (codes "seed") rows))
 
--- a run with these numbers, if there are any
+-- ---- what the words ask for
+
+-- a run with these options, if there are any
 abbrev pub run_with : Option RunOptions → Command
 run_with (Some options) = Run options
 run_with None = Refused
 
--- a command of the program, by its name and what its words hold: it is `dump`, or `run` with its numbers
+-- a script with these arguments, if there are any
+abbrev pub make_with : Option MakeArguments → Command
+make_with (Some arguments) = Make arguments
+make_with None = Refused
+
+-- a command of the program, by its name and what its words hold: it is `dump`, `make` with its numbers, or `run` with
+-- its own
 abbrev pub asked_by : Text → List Row → Command
-asked_by name rows = if bytes_eq name (codes "dump") then Dump else run_with (options_of rows)
+asked_by name rows = if bytes_eq name (codes "dump") then Dump
+    else (if bytes_eq name (codes "make") then make_with (arguments_of rows) else run_with (options_of rows))
 
 -- the command that the words name, if they name one
 abbrev pub asked : Option (Text × List Row) → Command
@@ -80,10 +137,15 @@ unless_fault (k ∷ ks) command = Refused
 unfoldable pub command_of : List Text → Command
 command_of words = unless_fault (fault_of program words) (asked (subcommand_of program words))
 
--- the words name no command, or they name `run`, and not every option is a number in its range
+-- not every number of `make`, or else of `run`, is one in its range
+abbrev pub LacksNumbers : Text → List Row → Type 0
+LacksNumbers name rows = ((bytes_eq name (codes "make") ≡ true) × (arguments_of rows ≡ None))
+    ⊎ ((bytes_eq name (codes "make") ≡ false) × (options_of rows ≡ None))
+
+-- the words name no command, or they name `make` or `run`, and not every number is one in its range
 abbrev pub IsNoCommand : Option (Text × List Row) → Type 0
 IsNoCommand None = ⊤
-IsNoCommand (Some p) = (bytes_eq p.0 (codes "dump") ≡ false) × (options_of p.1 ≡ None)
+IsNoCommand (Some p) = (bytes_eq p.0 (codes "dump") ≡ false) × LacksNumbers p.0 p.1
 
 -- why words are refused: clap's definition has a kind of fault for them that is not want of memory
 -- (a call for help is an unknown word, option or command), or they are in order for clap, and name

@@ -1,7 +1,8 @@
 -- Plain words, and calls for help.
 use Rattle.std.specs.Prelude.{◌≡◌, ◌⊎◌, ℕ, Bool, true, false, List, [], ◌∷◌, codes, decimal, if◌then◌else◌, ⊤}
 use Rattle.clap.specs.Walk.{Text}
-use Rattle.command_line.specs.Options.{IsWithin, slots_range, snap_range, tries_range}
+use Rattle.command_line.specs.Options.{AreMadeInRange, IsWithin, slots_range, snap_range, tries_range, usual}
+use Rattle.command_line.specs.declared.command.MakeArguments.{MakeArguments}
 use Rattle.command_line.specs.declared.command.RunOptions.{RunOptions}
 use Rattle.command_line.specs.declared.number.Range.{Range}
 
@@ -23,38 +24,52 @@ range_of tries = tries_range
 range_of slots = slots_range
 range_of snap = snap_range
 
--- two options are one
-abbrev pub is_same : Setting → Setting → Bool
-is_same tries tries = true
-is_same slots slots = true
-is_same snap snap = true
-is_same _ _ = false
+-- the number that stands for it where it is left out
+abbrev pub usual_of : Setting → ℕ
+usual_of tries = usual.tries
+usual_of slots = usual.slots
+usual_of snap = usual.snap
 
--- an option with its number
-abbrev pub Choice : Type 0
-Choice = Setting × ℕ
+-- two options are one
+abbrev pub is_same_setting : Setting → Setting → Bool
+is_same_setting tries tries = true
+is_same_setting slots slots = true
+is_same_setting snap snap = true
+is_same_setting _ _ = false
+
+-- an option as it is given, with its number
+pub data Choice : Type 0 where
+  sets : Setting → ℕ → Choice
 
 -- each option is a word, and its number the word after it
 abbrev pub words_of : List Choice → List Text
 words_of [] = []
-words_of (c ∷ rest) = flag_of c.0 ∷ decimal c.1 ∷ words_of rest
+words_of (sets s n ∷ rest) = flag_of s ∷ decimal n ∷ words_of rest
+
+-- two choices are of one option
+abbrev pub is_same : Choice → Choice → Bool
+is_same (sets s n) (sets t m) = is_same_setting s t
 
 -- the option is none of these
-abbrev pub IsLeftOut : Setting → List Choice → Type 0
-IsLeftOut s [] = ⊤
-IsLeftOut s (c ∷ rest) = (is_same s c.0 ≡ false) × IsLeftOut s rest
+abbrev pub IsLeftOut : Choice → List Choice → Type 0
+IsLeftOut c [] = ⊤
+IsLeftOut c (d ∷ rest) = (is_same c d ≡ false) × IsLeftOut c rest
+
+-- its number is in its range
+abbrev pub IsInRange : Choice → Type 0
+IsInRange (sets s n) = IsWithin (range_of s) n
 
 -- each option at most once, and each number in its range
 abbrev pub AreChoices : List Choice → Type 0
 AreChoices [] = ⊤
-AreChoices (c ∷ rest) = IsLeftOut c.0 rest × IsWithin (range_of c.0) c.1 × AreChoices rest
+AreChoices (c ∷ rest) = IsLeftOut c rest × IsInRange c × AreChoices rest
 
 -- the number of an option, or the usual one where it is left out
 abbrev pub number_chosen : Setting → List Choice → ℕ
-number_chosen s [] = (range_of s).usual
-number_chosen s (c ∷ rest) = if is_same s c.0 then c.1 else number_chosen s rest
+number_chosen s [] = usual_of s
+number_chosen s (sets t n ∷ rest) = if is_same_setting s t then n else number_chosen s rest
 
--- the numbers of a run with these options
+-- what a run is asked for with these options
 abbrev pub options_chosen : List Choice → RunOptions
 options_chosen choices = record {
   tries = number_chosen tries choices;
@@ -75,6 +90,13 @@ pub record IsPlainDump (call : List Text) : Type 0 where
   pub name : Text
   pub words : call ≡ name ∷ codes "dump" ∷ []
 
+-- any name of the program, then `make`, and its three numbers
+pub record IsPlainMake (call : List Text) (numbers : MakeArguments) : Type 0 where
+  pub name : Text
+  pub words : call ≡ name ∷ codes "make" ∷ decimal numbers.seed ∷ decimal numbers.workers
+      ∷ decimal numbers.lines ∷ []
+  pub ranges : AreMadeInRange numbers
+
 -- ---- help
 
 -- a flag for help
@@ -92,7 +114,7 @@ HasHelpFlag (word ∷ rest) = IsHelpFlag word ⊎ HasHelpFlag rest
 
 -- the word names a command
 abbrev pub IsCommandName : Text → Type 0
-IsCommandName word = (word ≡ codes "run") ⊎ (word ≡ codes "dump")
+IsCommandName word = (word ≡ codes "run") ⊎ ((word ≡ codes "dump") ⊎ (word ≡ codes "make"))
 
 -- what follows a command is `help`, or a flag for help comes at some place after it, as behind options
 abbrev pub CommandAsksForHelp : List Text → Type 0

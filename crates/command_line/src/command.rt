@@ -1,6 +1,6 @@
 // What a call may ask for.
 
-/// The numbers of a run.
+/// The options of a run.
 #[derive(Clone, Copy, Debug, PartialEq, Eq)]
 pub struct RunOptions {
     /// How often a transaction is tried.
@@ -11,6 +11,17 @@ pub struct RunOptions {
     pub snap: u32,
 }
 
+/// The arguments of `make`.
+#[derive(Clone, Copy, Debug, PartialEq, Eq)]
+pub struct MakeArguments {
+    /// Where the generator begins.
+    pub seed: u32,
+    /// How many workers take turns.
+    pub workers: u8,
+    /// How many transactions there are.
+    pub lines: u32,
+}
+
 /// What the words of a call ask for.
 #[derive(Clone, Copy, Debug, PartialEq, Eq)]
 pub enum Command {
@@ -18,6 +29,8 @@ pub enum Command {
     Run(RunOptions),
     /// To tell what the database keeps.
     Dump,
+    /// To make a script.
+    Make(MakeArguments),
     /// Nothing that the program does, or help.
     Refused,
 }

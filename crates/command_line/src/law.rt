@@ -1,8 +1,9 @@
 // Laws of plain words, for callers: they hold of all words, so the calls have nothing to do.
 ghost use Rattle.std.specs.Prelude.{◌≡◌, ℕ, List};
 ghost use Rattle.command_line.specs.Options.{command_of};
-ghost use Rattle.command_line.specs.Plain.{IsPlain, IsPlainDump};
-ghost use Rattle.command_line.specs.declared.command.Command.TheVariants.{Run, Dump};
+ghost use Rattle.command_line.specs.Plain.{IsPlain, IsPlainDump, IsPlainMake};
+ghost use Rattle.command_line.specs.declared.command.Command.TheVariants.{Run, Dump, Make};
+ghost use Rattle.command_line.specs.declared.command.MakeArguments.{MakeArguments};
 ghost use Rattle.command_line.specs.declared.command.RunOptions.{RunOptions};
 
 /// Plain words ask for a run with their numbers: no fault is found in them, and no number is out of
@@ -15,4 +16,10 @@ pub fn plain_words_run()
 /// Plain words for `dump` ask for it.
 pub fn plain_words_dump()
     ensures { (words : List (List ℕ)) → IsPlainDump words → command_of words ≡ Dump }
+{}
+
+/// Plain words for `make` ask for a script with their numbers.
+pub fn plain_words_make()
+    ensures { (words : List (List ℕ)) (arguments : MakeArguments) → IsPlainMake words arguments
+        → command_of words ≡ Make arguments }
 {}

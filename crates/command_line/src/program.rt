@@ -2,7 +2,8 @@
 ghost use Rattle.std.specs.Prelude.{◌≡◌, IfOk, false, codes};
 ghost use Rattle.clap.specs.Words.{app_of, rule_of};
 ghost use Rattle.clap.specs.declared.builder.command.Command.TheViews.{out-Command};
-ghost use Rattle.command_line.specs.Commands.{dump_shape, option_rule, program, run_shape};
+ghost use Rattle.command_line.specs.Commands.{argument_rule, dump_shape, make_shape, option_rule};
+ghost use Rattle.command_line.specs.Commands.{program, run_shape};
 
 use clap::{Arg, ArgAction, Command};
 use std::alloc::{AllocError, Global};
@@ -13,6 +14,14 @@ fn option<'a>(alloc: Global, name: &'a str) -> Arg<'a>
     ensures local { result.global ≡ false }
 {
     Arg::new(alloc, name).long(name).action(ArgAction::Set)
+}
+
+/// A word that has to be given, which is text to clap.
+fn argument<'a>(alloc: Global, name: &'a str) -> Arg<'a>
+    ensures rule { rule_of result ≡ argument_rule name.entry.now }
+    ensures local { result.global ≡ false }
+{
+    Arg::new(alloc, name).required(true)
 }
 
 fn run<'a>(alloc: Global) -> Result<Command<'a>, AllocError>
@@ -33,15 +42,28 @@ fn dump<'a>(alloc: Global) -> Command<'a>
     Command::new(alloc, "dump").disable_help_flag(true)
 }
 
+fn make<'a>(alloc: Global) -> Result<Command<'a>, AllocError>
+    ensures shape { IfOk result (λ c. (app_of c).top ≡ make_shape) }
+    ensures local { IfOk result (λ c. (out-Command c).has_globals ≡ false) }
+{
+    Command::new(alloc, "make")
+        .disable_help_flag(true)
+        .arg(argument(alloc, "seed"))?
+        .arg(argument(alloc, "workers"))?
+        .arg(argument(alloc, "lines"))
+}
+
 /// The program, with its commands.
 pub(crate) fn program<'a>(alloc: Global) -> Result<Command<'a>, AllocError>
     ensures { IfOk result (λ c. app_of c ≡ program) }
 {
     let run = run(alloc)?;
+    let make = make(alloc)?;
     Command::new(alloc, "foedus")
         .disable_help_flag(true)
         .disable_help_subcommand(true)
         .subcommand_required(true)
         .subcommand(run)?
-        .subcommand(dump(alloc))
+        .subcommand(dump(alloc))?
+        .subcommand(make)
 }

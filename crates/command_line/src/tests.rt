@@ -1,9 +1,17 @@
-use crate::{Command, RunOptions, read_words};
+use crate::{Command, MakeArguments, RunOptions, read_words};
 use serial_model::Memory;
 use std::test::Fail;
 
 fn run(tries: u32, slots: u32, snap: u32) -> Result<Command, Memory> {
     Ok(Command::Run(RunOptions { tries, slots, snap }))
+}
+
+fn make(seed: u32, workers: u8, lines: u32) -> Result<Command, Memory> {
+    Ok(Command::Make(MakeArguments {
+        seed,
+        workers,
+        lines,
+    }))
 }
 
 #[test]
@@ -60,6 +68,30 @@ fn dump_stands_alone(rt: HostRuntime) -> Result<(), Fail> {
 }
 
 #[test]
+fn numbers_of_a_script(rt: HostRuntime) -> Result<(), Fail> {
+    let rows: [(&[&str], Result<Command, Memory>); 12] = [
+        (&["7", "8", "65536"], make(7, 8, 65_536)),
+        (&["0", "1", "1"], make(0, 1, 1)),
+        (&["2147483647", "2", "3"], make(2_147_483_647, 2, 3)),
+        (&["1", "--", "2", "3"], make(1, 2, 3)),
+        (&["2147483648", "1", "1"], Ok(Command::Refused)),
+        (&["1", "0", "1"], Ok(Command::Refused)),
+        (&["1", "9", "1"], Ok(Command::Refused)),
+        (&["1", "1", "0"], Ok(Command::Refused)),
+        (&["1", "1", "65537"], Ok(Command::Refused)),
+        (&["01", "1", "1"], Ok(Command::Refused)),
+        (&["+1", "1", "1"], Ok(Command::Refused)),
+        (&["-1", "1", "1"], Ok(Command::Refused)),
+    ];
+    for (numbers, asked) in rows {
+        let mut words = vec![in rt.alloc(); "any", "make"]?;
+        words.extend_from_slice(numbers)?;
+        assert!(rt; read_words(rt.alloc(), words.as_slice()) == asked);
+    }
+    Ok(())
+}
+
+#[test]
 fn numbers_out_of_range(rt: HostRuntime) -> Result<(), Fail> {
     let rows: [(&str, &str); 8] = [
         ("--tries", "0"),
@@ -92,7 +124,7 @@ fn no_numbers(rt: HostRuntime) -> Result<(), Fail> {
 
 #[test]
 fn faulty_words(rt: HostRuntime) -> Result<(), Fail> {
-    let rows: [&[&str]; 21] = [
+    let rows: [&[&str]; 31] = [
         &[],
         &["foedus"],
         &["foedus", "walk"],
@@ -116,6 +148,16 @@ fn faulty_words(rt: HostRuntime) -> Result<(), Fail> {
         &["foedus", "dump", "--tries", "5"],
         &["foedus", "dump", "--help"],
         &["foedus", "dump", "run"],
+        &["foedus", "dump", "--brief"],
+        &["foedus", "run", "--brief"],
+        &["foedus", "make"],
+        &["foedus", "make", "1", "2"],
+        &["foedus", "make", "1", "2", "3", "4"],
+        &["foedus", "make", "1", "2", "3", "--brief"],
+        &["foedus", "make", "--seed", "1", "2", "3"],
+        &["foedus", "make", "help", "2", "3"],
+        &["foedus", "make", "1", "2", "3", "--help"],
+        &["foedus", "make", "--", "--help", "2", "3"],
     ];
     for words in rows {
         assert!(rt; read_words(rt.alloc(), words) == Ok(Command::Refused));

@@ -1,10 +1,12 @@
 // The words of a call.
-ghost use Rattle.std.specs.Prelude.{◌≡◌, IfOk, OnOk, map};
+ghost use Rattle.std.specs.Prelude.{◌≡◌, IfOk, IfSome, OnOk, map};
 ghost use Rattle.clap.specs.Words.{first_of, found_of, rows_of, subcommand_rows_of};
-ghost use Rattle.command_line.specs.Options.{AreInRange, Refuses, asked, command_of, number_in, options_of};
-ghost use Rattle.command_line.specs.Plain.{AsksForHelp, IsPlain, IsPlainDump};
+ghost use Rattle.command_line.specs.Options.{AreInRange, AreMadeInRange, IsWithin, Refuses, arguments_of, asked};
+ghost use Rattle.command_line.specs.Options.{command_of, make_with, number_given, number_or, options_of};
+ghost use Rattle.command_line.specs.Options.{run_with};
+ghost use Rattle.command_line.specs.Plain.{AsksForHelp, IsPlain, IsPlainDump, IsPlainMake};
 
-use crate::command::{Command, RunOptions};
+use crate::command::{Command, MakeArguments, RunOptions};
 use crate::number::{Range, number_in};
 use crate::program::program;
 use clap::ArgMatches;
@@ -15,36 +17,95 @@ use std::alloc::Global;
 const TRIES: Range = Range {
     least: 1,
     most: 1_000_000,
-    usual: 1_000,
 };
 
 const SLOTS: Range = Range {
     least: 4,
     most: 4_096,
-    usual: 256,
 };
 
 const SNAP: Range = Range {
     least: 1,
     most: 65_536,
-    usual: 4_096,
+};
+
+const SEED: Range = Range {
+    least: 0,
+    most: 2_147_483_647,
+};
+
+const WORKERS: Range = Range { least: 1, most: 8 };
+
+const LINES: Range = Range {
+    least: 1,
+    most: 65_536,
+};
+
+/// What stands for an option that is left out.
+const USUAL: RunOptions = RunOptions {
+    tries: 1_000,
+    slots: 256,
+    snap: 4_096,
 };
 
 /// The number of an option, if it is in its range.
-fn option_number(matches: &ArgMatches, name: &str, range: Range) -> Option<u32>
-    ensures { result ≡ number_in range (first_of name.now (rows_of (found_of matches.now))) }
+fn option_number(matches: &ArgMatches, name: &str, range: Range, usual: u32) -> Option<u32>
+    ensures { result ≡ number_or usual range (first_of name.now (rows_of (found_of matches.now))) }
 {
-    number_in(range, matches.get_str(name))
+    match matches.get_str(name) {
+        Some(text) => number_in(range, text),
+        None => Some(usual),
+    }
 }
 
-/// The numbers of a run, if each is in its range.
+/// The number of an argument, if it is in its range.
+fn argument_number(matches: &ArgMatches, name: &str, range: Range) -> Option<u32>
+    ensures number { result ≡ number_given range (first_of name.now (rows_of (found_of matches.now))) }
+    ensures within { IfSome result (IsWithin range) }
+{
+    number_in(range, matches.get_str(name)?)
+}
+
+/// The options of a run, if each number is in its range.
 fn options_of(matches: &ArgMatches) -> Option<RunOptions>
     ensures { result ≡ options_of (rows_of (found_of matches.now)) }
 {
-    let tries = option_number(matches, "tries", TRIES)?;
-    let slots = option_number(matches, "slots", SLOTS)?;
-    let snap = option_number(matches, "snap", SNAP)?;
+    let tries = option_number(matches, "tries", TRIES, USUAL.tries)?;
+    let slots = option_number(matches, "slots", SLOTS, USUAL.slots)?;
+    let snap = option_number(matches, "snap", SNAP, USUAL.snap)?;
     Some(RunOptions { tries, slots, snap })
+}
+
+/// The arguments of `make`, if each number is in its range.
+fn arguments_of(matches: &ArgMatches) -> Option<MakeArguments>
+    ensures { result ≡ arguments_of (rows_of (found_of matches.now)) }
+{
+    let seed = argument_number(matches, "seed", SEED)?;
+    let workers = argument_number(matches, "workers", WORKERS)? as u8;
+    let lines = argument_number(matches, "lines", LINES)?;
+    Some(MakeArguments {
+        seed,
+        workers,
+        lines,
+    })
+}
+
+fn run_asked(matches: &ArgMatches) -> Command
+    ensures { result ≡ run_with (options_of (rows_of (found_of matches.now))) }
+{
+    match options_of(matches) {
+        Some(options) => Command::Run(options),
+        None => Command::Refused,
+    }
+}
+
+fn make_asked(matches: &ArgMatches) -> Command
+    ensures { result ≡ make_with (arguments_of (rows_of (found_of matches.now))) }
+{
+    match arguments_of(matches) {
+        Some(arguments) => Command::Make(arguments),
+        None => Command::Refused,
+    }
 }
 
 fn asked(matches: &ArgMatches) -> Command
@@ -56,10 +117,10 @@ fn asked(matches: &ArgMatches) -> Command
     if name == "dump" {
         return Command::Dump;
     }
-    match options_of(found) {
-        Some(options) => Command::Run(options),
-        None => Command::Refused,
+    if name == "make" {
+        return make_asked(found);
     }
+    run_asked(found)
 }
 
 /// What the words ask for, or want of memory.
@@ -69,7 +130,11 @@ pub fn read_words(alloc: Global, words: &[&str]) -> Result<Command, Memory>
         → OnOk result (result ≡ Ok (Command.Run options)) }
     ensures plain_dump { IsPlainDump (map (λ w. w.now) words.now)
         → OnOk result (result ≡ Ok Command.Dump) }
+    ensures plain_make { (arguments : _) → IsPlainMake (map (λ w. w.now) words.now) arguments
+        → OnOk result (result ≡ Ok (Command.Make arguments)) }
     ensures ranges { (options : _) → result ≡ Ok (Command.Run options) → AreInRange options }
+    ensures made_ranges { (arguments : _) → result ≡ Ok (Command.Make arguments)
+        → AreMadeInRange arguments }
     ensures refused { result ≡ Ok Command.Refused → Refuses (map (λ w. w.now) words.now) }
     ensures help { AsksForHelp (map (λ w. w.now) words.now)
         → OnOk result (result ≡ Ok Command.Refused) }

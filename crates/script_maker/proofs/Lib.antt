@@ -1,0 +1,4 @@
+pub mod Lines
+pub mod MadeLines
+pub mod MadeScript
+pub mod WorkedRows

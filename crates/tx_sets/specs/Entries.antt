@@ -1,0 +1,91 @@
+-- What the sets of a transaction have, and what a call leaves of them.
+use Rattle.std.specs.Prelude.{◌≡◌, ◌↔◌, ℕ, ◌<◌, ◌==◌, Bool, List, [], ◌∷◌, ◌++◌, map, length, Option, Some, Result, IsOk, OnOk, OnErr, IfErr, slice_get, get_or}
+use Rattle.std.specs.List.{find, list_any}
+use Rattle.std.specs.Option.{option_map}
+use Rattle.serial_model.specs.declared.key.Key.{Key}
+use Rattle.serial_model.specs.Keys.{IsKeyBelow}
+use Rattle.homes.specs.Homes.{same_key}
+use Rattle.wire_form.specs.Items.{Rises}
+use Rattle.tx_sets.specs.declared.seen.Seen.{Seen}
+use Rattle.tx_sets.specs.declared.writes.Write.{Write}
+
+-- ---- lists
+
+-- x is put in somewhere, and all else is as it was
+pub record IsInserted {E : Type 0} (x : E) (old new : List E) : Type 0 where
+  pub before : List E
+  pub after : List E
+  pub was : old ≡ before ++ after
+  pub now : new ≡ before ++ x ∷ after
+
+-- y stands in the place of x, and all else is as it was
+pub record IsReplaced {E : Type 0} (x y : E) (old new : List E) : Type 0 where
+  pub before : List E
+  pub after : List E
+  pub was : old ≡ before ++ x ∷ after
+  pub now : new ≡ before ++ y ∷ after
+
+-- a set of at most `most` entries took one more at its end, or is full and gave it back
+pub record IsPushed {E : Type 0} (most : ℕ) (x : E) (old new : List E) (result : Result (Unit {0}) E) : Type 0 where
+  pub exactly : IsOk result ↔ (length old < most)
+  pub added : OnOk result (new ≡ old ++ x ∷ [])
+  pub kept : OnErr result (new ≡ old)
+  pub given_back : IfErr result (λ e. e ≡ x)
+
+-- ---- words that were seen
+
+abbrev pub places_of : List Seen → List ℕ
+places_of seen = map (λ s. s.at) seen
+
+-- the word at this place was seen
+abbrev pub has_word : ℕ → List Seen → Bool
+has_word at seen = list_any (λ s. s.at == at) seen
+
+-- what was seen at this place
+abbrev pub word_at : ℕ → List Seen → Option ℕ
+word_at at seen = option_map (λ s. s.word) (find (λ s. s.at == at) seen)
+
+-- ---- writes
+
+-- each key is above those before it, so each stands once
+abbrev pub IsAscending : List Write → Type 0
+IsAscending writes = Rises IsKeyBelow (map (λ w. w.key) writes)
+
+abbrev pub record_places_of : List Write → List ℕ
+record_places_of writes = map (λ w. w.at) writes
+
+-- the key is written
+abbrev pub has_write : Key → List Write → Bool
+has_write key writes = list_any (λ w. same_key w.key key) writes
+
+-- the record at this place is written
+abbrev pub writes_at : ℕ → List Write → Bool
+writes_at at writes = list_any (λ w. w.at == at) writes
+
+-- what is written at a key, where it is written: a value, or its removal
+abbrev pub value_of : Key → List Write → Option (Option ℕ)
+value_of key writes = option_map (λ w. w.value) (find (λ w. same_key w.key key) writes)
+
+-- the set took one write more, in its place in the order, or is full and gave it back
+pub record IsPut (x : Write) (old new : List Write) (result : Result (Unit {0}) Write) : Type 0 where
+  pub exactly : IsOk result ↔ (length old < 16)
+  pub added : OnOk result (IsInserted x old new)
+  pub kept : OnErr result (new ≡ old)
+  pub given_back : IfErr result (λ e. e ≡ x)
+
+-- the write of a key has another value now
+pub record IsRewritten (key : Key) (value : Option ℕ) (old new : List Write) : Type 0 where
+  pub write : Write
+  pub of_key : write.key ≡ key
+  pub rest : IsReplaced write (record write { value = value }) old new
+
+-- the write at this index has the word that its record had
+pub record HasFound (index found : ℕ) (old new : List Write) : Type 0 where
+  pub write : Write
+  pub there : slice_get old index ≡ Some write
+  pub rest : IsReplaced write (record write { found = found }) old new
+
+-- so many writes are of keys below this one, and the next one isn't
+pub record IsPlaceOf (key : Key) (writes : List Write) (place : ℕ) : Type 0 where
+  pub below : (i : ℕ) (d : Write) → i < place → IsKeyBelow (get_or writes i d).key key
+  pub stops : (d : Write) → place < length writes → IsKeyBelow (get_or writes place d).key key → ⊥

@@ -1,5 +1,7 @@
 #!/usr/bin/env python3
-"""Kills the program while it makes the files of a database, again and again, and asks that the next call finds a fresh one.
+"""Kills the program again and again: while it makes the files of a database, and asks that the next call finds a fresh
+one; and amid a run of many rounds, and asks that the database then has a saved epoch that covers each one that was told
+durable, with exactly its commits.
 
 Usage: bench/kill.py PROGRAM [TIMES], where PROGRAM is the built program, crates/foedus/out/foedus.
 """
@@ -12,29 +14,60 @@ import tempfile
 import time
 
 FILES = 18
-LONGEST = 0.012  # seconds, somewhat more than the making takes
+LONGEST_MAKING = 0.012  # seconds, somewhat more than the making takes
+ROUNDS = 1000
+LONGEST_RUN = 1.0  # seconds
 
 
-def try_once(program):
+def kill_within(begun, longest):
+    time.sleep(random.random() * longest)
+    begun.send_signal(signal.SIGKILL)
+    begun.wait()
+
+
+def dump(program, folder):
+    done = subprocess.run([program, "dump"], cwd=folder, capture_output=True, text=True)
+    return done.returncode, done.stdout
+
+
+def try_making(program, folder):
     """Whether the program was killed before all files were there."""
-    with tempfile.TemporaryDirectory() as folder:
-        begun = subprocess.Popen([program, "dump"], cwd=folder, stdout=subprocess.DEVNULL)
-        time.sleep(random.random() * LONGEST)
-        begun.send_signal(signal.SIGKILL)
-        begun.wait()
-        vault = f"{folder}/vault"
-        made = [name for name in os.listdir(vault) if "." not in name] if os.path.isdir(vault) else []
-        again = subprocess.run([program, "dump"], cwd=folder, capture_output=True, text=True)
-        if (again.returncode, again.stdout) != (0, "epoch 0\n"):
-            sys.exit(f"after {sorted(made)}: status {again.returncode}, {again.stdout!r}")
-        return len(made) < FILES
+    kill_within(subprocess.Popen([program, "dump"], cwd=folder, stdout=subprocess.DEVNULL), LONGEST_MAKING)
+    vault = f"{folder}/vault"
+    made = [name for name in os.listdir(vault) if "." not in name] if os.path.isdir(vault) else []
+    answer = dump(program, folder)
+    if answer != (0, "epoch 0\n"):
+        sys.exit(f"after {sorted(made)}: {answer}")
+    return len(made) < FILES
+
+
+def try_run(program, folder):
+    """Whether the program was killed before its last round, each of which adds 1 to a value."""
+    script = "array 1 4\n" + "0 a 1 0 1\njoin\n" * ROUNDS
+    with open(f"{folder}/script", "w") as source:
+        source.write(script)
+    with open(f"{folder}/script") as source, open(f"{folder}/text", "w") as text:
+        begun = subprocess.Popen([program, "run"], cwd=folder, stdin=source, stdout=text)
+        kill_within(begun, LONGEST_RUN)
+    with open(f"{folder}/text") as text:
+        told = text.read().rpartition("\n")[0].count("durable")
+    status, kept = dump(program, folder)
+    epoch = int(kept.split()[1]) if status == 0 else -1
+    expected = f"epoch {epoch}\n" + (f"1 0 {epoch}\n" if epoch > 0 else "")
+    if kept != expected or epoch < told:
+        sys.exit(f"{told} rounds were told durable, then: {status}, {kept!r}")
+    return epoch < ROUNDS
 
 
 def main():
     program = os.path.abspath(sys.argv[1])
     times = int(sys.argv[2]) if len(sys.argv) > 2 else 400
-    within = sum(try_once(program) for _ in range(times))
-    print(f"{times} times killed, {within} of them before all files were made: each next dump was of a fresh database")
+    for name, try_once in (("all files were made", try_making), ("its last round", try_run)):
+        within = 0
+        for _ in range(times):
+            with tempfile.TemporaryDirectory() as folder:
+                within += try_once(program, folder)
+        print(f"{times} times killed, {within} of them before {name}: each next dump was right")
 
 
 if __name__ == "__main__":

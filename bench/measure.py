@@ -1,11 +1,13 @@
 #!/usr/bin/env python3
 """Measures what a run of a long script takes: seconds, and peak memory as a multiple of the script's size.
 
-The scripts have a quarter, a half and all of 64 MiB. In those of 16 writes a line and of 16 reads a line each line is
-padded to 1,024 bytes by empty lines, which count for nothing. The others are of joins alone, of the shortest lines in full
-rounds, and of such lines with a join after each. Last come scripts of scans: of a tree with 16,384, 32,768 and 65,536 keys,
-as many scans from a key on, of 16 rows each but near the last key.
-Usage: bench/measure.py PROGRAM, where PROGRAM is `./foedus` or the built program.
+The scripts of long lines and of short ones have a quarter, a half and all of 64 MiB. In those of 16 writes a line and of
+16 reads a line each line is padded to 1,024 bytes by empty lines, which count for nothing; those of the shortest lines
+have full rounds. Then come scripts of 25,000, 50,000 and 100,000 rounds without a line, and of one line each; and of
+scans: of a tree with 16,384, 32,768 and 65,536 keys, as many scans from a key on, of 16 rows each but near the last key.
+The databases are in a folder in memory, where a sync costs nothing: what it costs to make commits durable on a device
+measure_log.py tells.
+Usage: bench/measure.py PROGRAM, where PROGRAM is `./foedus` or the built program. It takes some minutes.
 """
 import os
 import sys
@@ -14,6 +16,9 @@ import time
 
 LINES = 65536
 BYTES = 1024
+ROUNDS = 100_000
+READ = "0 r 1 0\n"
+MEMORY = "/dev/shm"
 
 
 def line(number, kind):
@@ -35,11 +40,9 @@ def repeated(block, size):
     return (block * (size // len(block) + 1))[:size].rsplit("\n", 1)[0] + "\n"
 
 
-def short_script(kind, size):
-    head = "" if kind == "joins" else "array 1 4\n"
-    read = "0 r 1 0\n"
-    block = {"joins": "join\n", "shortest lines": read * LINES + "join\n", "rounds of a line": read + "join\n"}[kind]
-    return head + repeated(block, size - len(head))
+def short_lines(size):
+    head = "array 1 4\n"
+    return head + repeated(READ * LINES + "join\n", size - len(head))
 
 
 def scans(keys):
@@ -53,7 +56,7 @@ def scans(keys):
 
 
 def run(program, path):
-    with tempfile.TemporaryDirectory() as folder, open(path, "rb") as source, open(os.devnull, "wb") as sink:
+    with tempfile.TemporaryDirectory(dir=MEMORY) as folder, open(path, "rb") as source, open(os.devnull, "wb") as sink:
         start = time.monotonic()
         child = os.fork()
         if child == 0:
@@ -89,8 +92,10 @@ def main():
     for lines in (LINES // 4, LINES // 2, LINES):
         for kind in ("writes", "reads"):
             measure(program, f"16 {kind} a line, {lines:6} lines", lambda: script(lines, kind))
-        for kind in ("joins", "shortest lines", "rounds of a line"):
-            measure(program, kind, lambda: short_script(kind, lines * BYTES))
+        measure(program, "shortest lines, in full rounds", lambda: short_lines(lines * BYTES))
+    for rounds in (ROUNDS // 4, ROUNDS // 2, ROUNDS):
+        measure(program, f"{rounds:6} rounds without a line", lambda: "join\n" * rounds)
+        measure(program, f"{rounds:6} rounds of a line", lambda: "array 1 4\n" + (READ + "join\n") * rounds)
     for keys in (LINES // 4, LINES // 2, LINES):
         measure(program, f"{keys:6} scans of a tree with as many keys", lambda: scans(keys))
 

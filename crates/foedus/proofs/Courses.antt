@@ -1,77 +1,148 @@
 -- How a call goes that runs nothing, or the rounds of one script.
-use Rattle.std.proofs.Common.{◌≡◌, ◌⊎◌, inl, inr, ◌∙◌, sym, ap, subst, refl, ◌+◌, ◌<◌, ◌≤◌, List, [], ◌++◌, length, Option, Some, None, arith, length-append}
+use Rattle.std.proofs.Common.{◌≡◌, ◌⊎◌, inl, inr, ◌∙◌, sym, ap, subst, refl, ◌+◌, ◌<◌, ◌≤◌, List, [], ◌++◌, length, Option, Some, None, Result, arith, length-append, Ok}
+use Rattle.std.specs.FinMap.{empty}
 use Rattle.std.specs.Io.KnownBytes.{Consumes, IsAtEnd}
 use Rattle.std.proofs.lemmas.Bool.{lt-ltb}
 use Rattle.std.proofs.lemmas.List.{append-nil}
+use Rattle.outside.specs.Vault.{IsWhole}
+use Rattle.outside.specs.declared.fault.Failed.{Failed}
+use Rattle.text_output.specs.Output.{Output}
 use Rattle.script_grammar.specs.Faults.{IsFirstFault, fault_of}
 use Rattle.script_grammar.specs.Script.{Bytes, Script, IsTextOf}
 use Rattle.script_grammar.specs.declared.fault.ScriptFault.{ScriptFault}
 use Rattle.script_grammar.specs.declared.fault.FaultKind.TheVariants.{TooLong}
+use Rattle.text_output.specs.Output.{Output}
+use Rattle.text_output.specs.Printed.{adds_as, adds_nothing}
 use Rattle.tx_script.specs.Run.{Ran}
 use Rattle.command_line.specs.declared.command.Command.{Command}
-use Rattle.command_line.specs.declared.command.Command.TheVariants.{Run, Dump, Refused}
+use Rattle.command_line.specs.declared.command.Command.TheVariants.{Run, Dump, Make, Refused}
+use Rattle.command_line.specs.declared.command.MakeArguments.{MakeArguments}
 use Rattle.command_line.specs.declared.command.RunOptions.{RunOptions}
+use Rattle.foedus.specs.Beginning.{Opening}
 use Rattle.foedus.specs.declared.ending.Ending.{Ending}
-use Rattle.foedus.specs.declared.ending.Ending.TheVariants.{Finished, NoScript, Usage, ReadFault, NoDevice, Damaged, AtLimit, NoMemory}
-use Rattle.foedus.specs.Ending.{Comes, IsNoText, IsReadOut, ReadsFirst, most_read}
-use Rattle.foedus.specs.Main.{Came, Course, Opening, fresh}
-use Rattle.foedus.specs.OnTheWay.{RunsScript}
+use Rattle.foedus.specs.declared.ending.Ending.TheVariants.{Finished, NoScript, Shape, Usage, ReadFault, NoDevice, Damaged, AtLimit, NoMemory}
+use Rattle.foedus.specs.Ending.{Comes, IsNoText, IsReadOut, ReadsFirst, body_text, most_read}
+use Rattle.foedus.specs.Main.{Came}
+use Rattle.foedus.specs.OnTheWay.{AddsRun, IsUnreadOf, RunsScript}
+use Rattle.foedus.specs.Vaults.{IsUntouched, Vaults}
+use Rattle.foedus.proofs.StandsStill.{untouched_stands}
 
--- ---- what is shown of a run and its ending
+-- where a run would begin that never does
+abbrev pub nowhere : Opening
+nowhere = record { state = empty; saved = 0; sequence = 0 }
 
--- what is shown, shown otherwise
-abbrev pub shown_as : {opening : Opening} {command : Command} {bytes : Bytes} {left : Option Bytes} {P Q : List Ran → Ending → Type 0}
-    → ((rans : List Ran) (ending : Ending) → P rans ending → Q rans ending) → Came opening command bytes left P → Came opening command bytes left Q
-shown_as has came = record {
-  rans = came.rans;
-  ending = came.ending;
-  course = came.course;
-  caused = came.caused;
-  draws_once = came.draws_once;
-  shown = has came.rans came.ending came.shown;
-}
+module _ {D : Type 0} (v : Vaults D) where
+  -- ---- what is shown of a run and its ending
 
--- a call that ran nothing
-pub nothing_run : {opening : Opening} {command : Command} {bytes : Bytes} {left : Option Bytes} {Shows : List Ran → Ending → Type 0} (ending : Ending)
-    → Course opening command bytes left [] ending → Shows [] ending → Came opening command bytes left Shows
-nothing_run ending course shown = record {
-  rans = [];
-  ending = ending;
-  course = course;
-  caused = tt;
-  draws_once = tt;
-  shown = shown;
-}
+  -- what is shown, shown otherwise
+  abbrev pub shown_as : {command : Command} {bytes : Bytes} {left : Option Bytes} {P Q : List Ran → Ending → Type 0}
+      → ((rans : List Ran) (ending : Ending) → P rans ending → Q rans ending) → Came v command bytes left P → Came v command bytes left Q
+  shown_as has came = record {
+    rans = came.rans;
+    ending = came.ending;
+    course = came.course;
+    caused = came.caused;
+    full = came.full;
+    kept = came.kept;
+    shown = has came.rans came.ending came.shown;
+  }
 
--- ---- nothing is run
+  -- ---- a script is run
 
--- refused words
-pub usage_course : (bytes : Bytes) (left : Option Bytes) → Course fresh Refused bytes left [] Usage
-usage_course bytes left = record { script = None; state = fresh.state; run = (refl, refl); comes = tt; reads = inl refl }
+  -- the run of a script that was read out
+  pub script_came : {Shows : List Ran → Ending → Type 0} (options : RunOptions) (bytes : Bytes) (left : Option Bytes) (script : Script)
+      → IsTextOf bytes script × IsAtEnd left → RunsScript v options.snap script Shows → Came v (Run options) bytes left Shows
+  script_came options bytes left script read runs = record {
+    rans = runs.rans;
+    ending = runs.ending;
+    course = record {
+      script = Some script;
+      opening = runs.opening;
+      state = runs.state;
+      run = (read.0, runs.run);
+      comes = runs.comes;
+      reads = read.1;
+    };
+    caused = runs.caused;
+    full = runs.full;
+    kept = runs.kept;
+    shown = runs.shown;
+  }
 
--- a source that failed
-pub read_fault_course : (options : RunOptions) (bytes : Bytes) (left : Option Bytes) → Course fresh (Run options) bytes left [] ReadFault
-read_fault_course options bytes left = record { script = None; state = fresh.state; run = (refl, refl); comes = tt; reads = inl refl }
+-- the same of the command that was asked for
+pub command_as : {D : Type 0} (v : Vaults D) (command asked : Command) (bytes : Bytes) (left : Option Bytes) (old new : Output) (r : Result Ending Failed) → command ≡ asked
+    → Came v command bytes left (AddsRun command old new r) → Came v asked bytes left (AddsRun asked old new r)
+command_as v command asked bytes left old new r is came = subst (λ (m : Command). Came v m bytes left (AddsRun m old new r)) is came
 
--- memory may be wanted at any time
-memory_comes : (command : Command) (bytes : Bytes) → (command ≡ Dump → ⊥) → Comes command bytes None [] NoMemory
-memory_comes Refused bytes other = tt
-memory_comes (Run options) bytes other = tt
-memory_comes Dump bytes other = absurd (other refl)
+module _ {D : Type 0} (v : Vaults D) (whole : IsWhole v.was) where
+  -- ---- nothing is run
 
--- want of memory before a script was read
-pub memory_course : (command : Command) (bytes : Bytes) (left : Option Bytes) → (command ≡ Dump → ⊥) → Course fresh command bytes left [] NoMemory
-memory_course command bytes left other = record {
-  script = None;
-  state = fresh.state;
-  run = (refl, refl);
-  comes = memory_comes command bytes other;
-  reads = inl refl;
-}
+  -- a call that read no script, and left the vault alone
+  pub nothing_run : {Shows : List Ran → Ending → Type 0} (command : Command) (bytes : Bytes) (left : Option Bytes) (ending : Ending)
+      → Comes v command bytes None nowhere [] ending → ReadsFirst None ending (Some bytes) left → IsUntouched v
+      → Shows [] ending → Came v command bytes left Shows
+  nothing_run command bytes left ending comes reads same shown = record {
+    rans = [];
+    ending = ending;
+    course = record { script = None; opening = nowhere; state = empty; run = (refl, refl); comes = comes; reads = reads };
+    caused = record { caused = tt; durable = tt; sequences = tt; marks = tt; draws_once = tt };
+    full = λ found told. tt;
+    kept = record {
+      stands = λ sound. untouched_stands v [] whole same;
+      declared = λ some. absurd (some refl);
+      whole = λ finished. refl;
+    };
+    shown = shown;
+  }
 
--- a run that wants memory before its script was read
-pub unread_course : (options : RunOptions) (bytes : Bytes) (left : Option Bytes) → Course fresh (Run options) bytes left [] NoMemory
-unread_course options bytes left = memory_course (Run options) bytes left (λ is. cc)
+  -- refused words
+  pub usage_came : {Shows : List Ran → Ending → Type 0} (bytes : Bytes) (left : Option Bytes) → IsUntouched v → Shows [] Usage → Came v Refused bytes left Shows
+  usage_came bytes left same shown = nothing_run Refused bytes left Usage same tt same shown
+
+  -- a script was made
+  pub made_came : {Shows : List Ran → Ending → Type 0} (arguments : MakeArguments) (bytes : Bytes) (left : Option Bytes) → IsUntouched v → Shows [] Finished
+      → Came v (Make arguments) bytes left Shows
+  made_came arguments bytes left same shown = nothing_run (Make arguments) bytes left Finished same tt same shown
+
+  -- memory may be wanted at any time
+  memory_comes : (command : Command) (bytes : Bytes) → (command ≡ Dump → ⊥) → IsUntouched v → Comes v command bytes None nowhere [] NoMemory
+  memory_comes Refused bytes other same = same
+  memory_comes (Run options) bytes other same = same
+  memory_comes (Make arguments) bytes other same = same
+  memory_comes Dump bytes other same = absurd (other refl)
+
+  -- want of memory before a script was read
+  pub memory_came : {Shows : List Ran → Ending → Type 0} (command : Command) (bytes : Bytes) (left : Option Bytes) → (command ≡ Dump → ⊥)
+      → IsUntouched v → Shows [] NoMemory → Came v command bytes left Shows
+  memory_came command bytes left other same shown =
+      nothing_run command bytes left NoMemory (memory_comes command bytes other same) tt same shown
+
+  -- then nothing is printed before the last line
+  nothing_printed : (command : Command) → body_text command [] NoMemory ≡ []
+  nothing_printed (Run options) = refl
+  nothing_printed Dump = refl
+  nothing_printed (Make arguments) = refl
+  nothing_printed Refused = refl
+
+  -- the same, over a printer
+  pub memory_ran : (command : Command) (bytes : Bytes) (left : Option Bytes) (at : Output) → (command ≡ Dump → ⊥) → IsUntouched v
+      → Came v command bytes left (AddsRun command at at (Ok NoMemory))
+  memory_ran command bytes left at other same =
+      memory_came command bytes left other same (refl, adds_as (sym (nothing_printed command)) (adds_nothing at))
+
+  -- a run that read no script
+  pub unread_came : {Shows : List Ran → Ending → Type 0} (options : RunOptions) (bytes : Bytes) (left : Option Bytes) (ending : Ending)
+      → IsUnreadOf bytes left ending → IsUntouched v → Shows [] ending → Came v (Run options) bytes left Shows
+  unread_came options bytes left (NoScript fault) is same shown =
+      nothing_run (Run options) bytes left (NoScript fault) (is.0, is.1, same) is.2 same shown
+  unread_came options bytes left ReadFault is same shown = nothing_run (Run options) bytes left ReadFault same tt same shown
+  unread_came options bytes left NoMemory is same shown = nothing_run (Run options) bytes left NoMemory same tt same shown
+  unread_came options bytes left Finished is same shown = absurd is
+  unread_came options bytes left Usage is same shown = absurd is
+  unread_came options bytes left (Shape declared others) is same shown = absurd is
+  unread_came options bytes left (NoDevice device) is same shown = absurd is
+  unread_came options bytes left (Damaged device at) is same shown = absurd is
+  unread_came options bytes left (AtLimit name) is same shown = absurd is
 
 -- ---- the bytes that were read, and all bytes of the source
 
@@ -121,42 +192,7 @@ fault_of_all bytes front (Some rest) fault consumed (inr long) first =
     fault_of_long bytes (omega arith) ∙ sym (fault_of_long front (omega arith)) ∙ first
 
 -- bytes that are no script, once they were read out
-pub no_script_course : (options : RunOptions) (bytes front : Bytes) (left : Option Bytes) (fault : ScriptFault) → Consumes (Some bytes) left front → IsAtEnd left ⊎ (length front ≡ most_read) → IsNoText front → IsFirstFault front fault
-    → Course fresh (Run options) bytes left [] (NoScript fault)
-no_script_course options bytes front left fault consumed out none first = record {
-  script = None;
-  state = fresh.state;
-  run = (refl, refl);
-  comes = (no_text_of_all bytes front left consumed out none, fault_of_all bytes front left fault consumed out first);
-  reads = read_out bytes front left consumed out;
-}
-
--- ---- a script is run
-
--- rounds are run once the source is read out
-run_reads : (options : RunOptions) (bytes : Bytes) (left : Option Bytes) (script : Script) (rans : List Ran) (ending : Ending) → Comes (Run options) bytes (Some script) rans ending → IsAtEnd left → ReadsFirst ending rans (Some bytes) left
-run_reads options bytes left script rans Finished comes end = inr end
-run_reads options bytes left script rans (NoScript fault) comes end = absurd comes
-run_reads options bytes left script rans Usage comes end = absurd comes
-run_reads options bytes left script rans ReadFault comes end = absurd comes
-run_reads options bytes left script rans (NoDevice device) comes end = absurd comes
-run_reads options bytes left script rans (Damaged device at) comes end = absurd comes
-run_reads options bytes left script rans (AtLimit name) comes end = inr end
-run_reads options bytes left script rans NoMemory comes end = inr end
-
--- the run of a script that was read out
-pub script_came : {Shows : List Ran → Ending → Type 0} (options : RunOptions) (bytes : Bytes) (left : Option Bytes) (script : Script) → IsTextOf bytes script × IsAtEnd left → RunsScript fresh script Shows → Came fresh (Run options) bytes left Shows
-script_came options bytes left script read runs = record {
-  rans = runs.rans;
-  ending = runs.ending;
-  course = record {
-    script = Some script;
-    state = runs.state;
-    run = (read.0, runs.run);
-    comes = runs.comes options bytes;
-    reads = run_reads options bytes left script runs.rans runs.ending (runs.comes options bytes) read.1;
-  };
-  caused = runs.caused;
-  draws_once = runs.draws_once;
-  shown = runs.shown;
-}
+pub no_script_read : (bytes front : Bytes) (left : Option Bytes) (fault : ScriptFault) → Consumes (Some bytes) left front → IsAtEnd left ⊎ (length front ≡ most_read) → IsNoText front → IsFirstFault front fault
+    → IsUnreadOf bytes left (NoScript fault)
+no_script_read bytes front left fault consumed out none first =
+    (no_text_of_all bytes front left consumed out none, fault_of_all bytes front left fault consumed out first, read_out bytes front left consumed out)

@@ -26,14 +26,14 @@ use Rattle.text_output.specs.Output.{Bytes, Output, Adds, Breaks, Prints}
 use Rattle.text_output.specs.Printed.{adds_as, adds_nothing, adds_then, breaks_then, breaks_within}
 use Rattle.tx_script.specs.StateText.{state_text}
 use Rattle.foedus.specs.declared.ending.Ending.{Ending}
-use Rattle.foedus.specs.declared.ending.Ending.TheVariants.{Finished, NoScript, Usage, ReadFault, NoDevice, Damaged, AtLimit, NoMemory}
-use Rattle.foedus.specs.Causes.{AnswersFaults, Counts, IsDumpStatus}
+use Rattle.foedus.specs.declared.ending.Ending.TheVariants.{Finished, NoScript, Shape, Usage, ReadFault, NoDevice, Damaged, AtLimit, NoMemory}
+use Rattle.foedus.specs.Causes.{AnswersDevices, AnswersFaults, Counts, IsDumpStatus}
 use Rattle.foedus.specs.Dump.{DumpComes, Dumped, IsUndisturbed, Kept, ShownText, StandFor, TellsAll, TellsDamage, kept_text}
 use Rattle.foedus.specs.Ending.{damaged_text, last_line, status_of}
 use Rattle.foedus.specs.Main.{Holds}
 use Rattle.foedus.specs.OnTheWay.{AddsText, TakesText, ending_of_refusal, status_told}
 use Rattle.foedus.proofs.OneState.{one_state}
-use Rattle.foedus.proofs.Statuses.{faults_broke, faults_quiet, status_of-not_4}
+use Rattle.foedus.proofs.Statuses.{faults_broke, faults_quiet, no_device_told, status_of-not_4}
 use Rattle.foedus.proofs.Told.{appends_from, holds_all, prefix_from}
 
 -- ---- what devices stand for is one
@@ -64,6 +64,29 @@ shows held holds (Ok came) text ending takes = record {
       (holds_all ending held holds (text ++ last_line ending) takes.1);
 }
 shows held holds (Err failed) text ending takes = record { status_is = inr refl; printed = takes }
+
+-- a fault within a text
+pub text_broken : (old new : Output) (e f : Failed) → old.waiting ≡ [] → (text : Bytes) (ending : Ending) → AddsText old new (Err e) text ending
+    → TakesText old.held new.held (Err f) text ending
+text_broken old new e f empty text ending broke = prefix_from old new (text ++ last_line ending) empty broke
+
+-- a text, and then the last line with all that waits, or a fault within these
+pub text_finished : (old mid new : Output) (ending : Ending) (r : Result Ending Failed) → old.waiting ≡ [] → Prints mid new (last_line ending) r
+    → OnOk r (new.waiting ≡ []) → IfOk r (λ it. it ≡ ending) → (text : Bytes) (e : Ending) → AddsText old mid (Ok ending) text e
+    → TakesText old.held new.held r text e
+text_finished old mid new ending (Ok it) empty line still same text e added =
+    let whole : Adds old new (text ++ last_line e) = adds_then added.1 (adds_as (ap last_line (sym added.0)) line) in
+    (added.0 ∙ sym same, appends_from old new (text ++ last_line e) empty still whole)
+text_finished old mid new ending (Err f) empty line still same text e added =
+    let whole : Breaks old new (text ++ last_line ending) = breaks_then added.1 line in
+    subst (λ (x : Ending). TakesPrefix old.held new.held (text ++ last_line x)) (sym added.0) (prefix_from old new (text ++ last_line ending) empty whole)
+
+-- what is shown of it, where the printer stood over the sink
+pub text_shown : (held holds : Option Bytes) (r : Result Ending Failed) (status : ℕ) (old new : Output) → status ≡ status_told r → old.held ≡ held
+    → new.held ≡ holds → (text : Bytes) (ending : Ending) → TakesText old.held new.held r text ending → ShownText held holds status text ending
+text_shown held holds r status old new is_told had has text ending takes =
+    subst (λ s. ShownText held holds s text ending) (sym is_told) (shows held holds r text ending
+    (subst (λ h. TakesText h holds r text ending) had (subst (λ h. TakesText old.held h r text ending) has takes)))
 
 module _ {D : Type 0} (tells : D → Option Bytes) (faults : D → ℕ) (was is : Vault D) where
   -- the same ending with the same text, of which something else is shown
@@ -115,6 +138,7 @@ module _ {D : Type 0} (tells : D → Option Bytes) (faults : D → ℕ) (was is 
   not_3 : (text : Bytes) (ending : Ending) → DumpComes tells faults was is text ending → status_of ending ≡ 3 → ⊥
   not_3 text Finished comes three = omega arith
   not_3 text (NoScript fault) comes three = comes
+  not_3 text (Shape declared others) comes three = comes
   not_3 text Usage comes three = comes
   not_3 text ReadFault comes three = comes
   not_3 text (NoDevice device) comes three = omega arith
@@ -125,6 +149,7 @@ module _ {D : Type 0} (tells : D → Option Bytes) (faults : D → ℕ) (was is 
   not_usage : (text : Bytes) (ending : Ending) → DumpComes tells faults was is text ending → ending ≡ Usage → ⊥
   not_usage text Finished comes usage = cc
   not_usage text (NoScript fault) comes usage = comes
+  not_usage text (Shape declared others) comes usage = comes
   not_usage text Usage comes usage = comes
   not_usage text ReadFault comes usage = comes
   not_usage text (NoDevice device) comes usage = cc
@@ -135,6 +160,7 @@ module _ {D : Type 0} (tells : D → Option Bytes) (faults : D → ℕ) (was is 
   status_comes : (text : Bytes) (ending : Ending) → DumpComes tells faults was is text ending → IsDumpStatus (status_of ending)
   status_comes text Finished comes = inl refl
   status_comes text (NoScript fault) comes = absurd comes
+  status_comes text (Shape declared others) comes = absurd comes
   status_comes text Usage comes = absurd comes
   status_comes text ReadFault comes = absurd comes
   status_comes text (NoDevice device) comes = inr (inl (omega arith, omega arith))
@@ -176,25 +202,18 @@ module _ {D : Type 0} (tells : D → Option Bytes) (faults : D → ℕ) (was is 
   -- a fault within the text
   pub dump_broken : (old new : Output) (e f : Failed) → old.waiting ≡ [] → Dumped tells faults was is (AddsText old new (Err e))
       → Dumped tells faults was is (TakesText old.held new.held (Err f))
-  dump_broken old new e f empty = dumped_as (λ text ending broke. prefix_from old new (text ++ last_line ending) empty broke)
+  dump_broken old new e f empty = dumped_as (text_broken old new e f empty)
 
   -- the text, and then the last line with all that waits, or a fault within these
   pub dump_finished : (old mid new : Output) (ending : Ending) (r : Result Ending Failed) → old.waiting ≡ []
       → Prints mid new (last_line ending) r → OnOk r (new.waiting ≡ []) → IfOk r (λ it. it ≡ ending)
       → Dumped tells faults was is (AddsText old mid (Ok ending)) → Dumped tells faults was is (TakesText old.held new.held r)
-  dump_finished old mid new ending (Ok it) empty line still same = dumped_as (λ text e added.
-      let whole : Adds old new (text ++ last_line e) = adds_then added.1 (adds_as (ap last_line (sym added.0)) line) in
-      (added.0 ∙ sym same, appends_from old new (text ++ last_line e) empty still whole))
-  dump_finished old mid new ending (Err f) empty line still same = dumped_as (λ text e added.
-      let whole : Breaks old new (text ++ last_line ending) = breaks_then added.1 line in
-      subst (λ (x : Ending). TakesPrefix old.held new.held (text ++ last_line x)) (sym added.0) (prefix_from old new (text ++ last_line ending) empty whole))
+  dump_finished old mid new ending r empty line still same = dumped_as (text_finished old mid new ending r empty line still same)
 
   -- the answer, where the printer stood over the sink
   pub dump_over : (held holds : Option Bytes) (r : Result Ending Failed) (status : ℕ) (old new : Output) → status ≡ status_told r → old.held ≡ held
       → new.held ≡ holds → Dumped tells faults was is (TakesText old.held new.held r) → Dumped tells faults was is (ShownText held holds status)
-  dump_over held holds r status old new is_told had has d =
-      subst (λ s. Dumped tells faults was is (ShownText held holds s)) (sym is_told) (dumped_as (shows held holds r)
-      (subst (λ h. Dumped tells faults was is (TakesText h holds r)) had (subst (λ h. Dumped tells faults was is (TakesText old.held h r)) has d)))
+  dump_over held holds r status old new is_told had has = dumped_as (text_shown held holds r status old new is_told had has)
 
   -- ---- all is told where nothing fails
 
@@ -206,6 +225,7 @@ module _ {D : Type 0} (tells : D → Option Bytes) (faults : D → ℕ) (was is 
       let whole : Appends held holds (text ++ []) = subst (λ s. Holds s held holds (text ++ [])) own has in
       (own, subst (Appends held holds) (append-nil text ∙ here.2 ∙ one_text found here.0 kept here.1 stands) whole)
   kept_told found kept held holds status text (NoScript fault) told calm stands comes own has = absurd comes
+  kept_told found kept held holds status text (Shape declared others) told calm stands comes own has = absurd comes
   kept_told found kept held holds status text Usage told calm stands comes own has = absurd comes
   kept_told found kept held holds status text ReadFault told calm stands comes own has = absurd comes
   kept_told found kept held holds status text (NoDevice device) told calm stands comes own has = absurd (calm.device own)
@@ -222,6 +242,7 @@ module _ {D : Type 0} (tells : D → Option Bytes) (faults : D → ℕ) (was is 
       let stands = here.1 in
       absurd (reading_stands found stands.reading device at stands.is damaged)
   damage_told found device at held holds status text (NoScript fault) told calm damaged comes own has = absurd comes
+  damage_told found device at held holds status text (Shape declared others) told calm damaged comes own has = absurd comes
   damage_told found device at held holds status text Usage told calm damaged comes own has = absurd comes
   damage_told found device at held holds status text ReadFault told calm damaged comes own has = absurd comes
   damage_told found device at held holds status text (NoDevice other) told calm damaged comes own has = absurd (calm.device own)
@@ -251,3 +272,35 @@ module _ {D : Type 0} (tells : D → Option Bytes) (faults : D → ℕ) (was is 
       → Dumped tells faults was is (TakesText old.held new.held r) → TellsAll found held holds status
   all_over found held holds r status old new is_told had has told calm d =
       all_told found held holds status told calm (dump_over held holds r status old new is_told had has d)
+
+  -- ---- the devices
+
+  dump_device : (text : Bytes) (ending : Ending) → DumpComes tells faults was is text ending → status_of ending ≡ 5 → (device : Device) × RoseIn faults device was is
+  dump_device text Finished comes five = absurd (omega arith)
+  dump_device text (NoScript fault) comes five = absurd comes
+  dump_device text (Shape declared others) comes five = absurd comes
+  dump_device text Usage comes five = absurd comes
+  dump_device text ReadFault comes five = absurd comes
+  dump_device text (NoDevice device) comes five = (device, comes.1)
+  dump_device text (Damaged device at) comes five = absurd (omega arith)
+  dump_device text (AtLimit name) comes five = absurd comes
+  dump_device text NoMemory comes five = absurd (omega arith)
+
+  dump_quiet : (text : Bytes) (ending : Ending) → DumpComes tells faults was is text ending → status_of ending ≡ 0 → AreQuiet faults was is
+  dump_quiet text Finished comes zero = comes.0
+  dump_quiet text (NoScript fault) comes zero = absurd comes
+  dump_quiet text (Shape declared others) comes zero = absurd comes
+  dump_quiet text Usage comes zero = absurd comes
+  dump_quiet text ReadFault comes zero = absurd comes
+  dump_quiet text (NoDevice device) comes zero = absurd (omega arith)
+  dump_quiet text (Damaged device at) comes zero = absurd (omega arith)
+  dump_quiet text (AtLimit name) comes zero = absurd comes
+  dump_quiet text NoMemory comes zero = absurd (omega arith)
+
+  -- a device's fault is told only where it failed, and no fault was kept quiet
+  pub devices_dumped : (old new : Output) (r : Result Ending Failed) → Dumped tells faults was is (AddsText old new r) → AnswersDevices faults was is (status_told r)
+  devices_dumped old new (Ok came) d =
+      let shown = d.shown in
+      subst (λ (e : Ending). AnswersDevices faults was is (status_of e)) shown.0
+      (record { failed = dump_device d.text d.ending d.comes; quiet = dump_quiet d.text d.ending d.comes })
+  devices_dumped old new (Err failed) d = no_device_told faults was is 4 (λ five. omega arith) (λ zero. omega arith)

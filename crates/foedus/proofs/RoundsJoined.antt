@@ -150,8 +150,9 @@ answers-append decls s (x ∷ xs) ys first then = (first.0, answers-append decls
 
 -- the runs of rounds and of the one after them are a run of all of them
 pub run-push : (decls : List Decl) (rounds : List Round) (s : State) (clock : Number) (rans : List Ran) (t u : State) (ran : Ran) (round : Round)
-    → slice_get rounds (length rans) ≡ Some round → IsRun decls 0 rounds s clock rans t → ran.begin ≡ clock_from clock rans
-    → IsRun decls (length rans) (round ∷ []) t ran.begin (ran ∷ []) u → IsRun decls 0 rounds s clock (rans ++ ran ∷ []) u
+    → slice_get rounds (length rans) ≡ Some round → (so : IsRun decls 0 rounds s clock rans t) → ran.begin ≡ clock_from clock rans
+    → (one : IsRun decls (length rans) (round ∷ []) t ran.begin (ran ∷ []) u)
+    → (run : IsRun decls 0 rounds s clock (rans ++ ran ∷ []) u) × (run.ordered ≡ so.ordered ++ one.ordered)
 run-push decls rounds s clock rans t u ran round at so begins one =
     let es : List Entry = entries_of 0 rans rounds in
     let fs : List Entry = entries_of_round (length rans) ran round in
@@ -167,23 +168,25 @@ run-push decls rounds s clock rans t u ran round at so begins one =
     let ordered_from : AllByRecursion (IsFrom c) one.ordered = all-reordered (IsFrom c) fs one.ordered same_one from in
     let serial = so.serial in
     let serial_one = one.serial in
-    let below : (e f : Entry) → IsPast c e → IsFrom c f → IsBelow e.number f.number = λ e f past from. inl (let a = past.0 in let b = from.0 in omega arith) in
-    record {
-      lines = are_of_first-push rans ran rounds round at so.lines one.lines.0;
-      workers = λ worker.
-          subst (λ xs. Rises (of_worker worker xs)) (sym all)
-          (subst Rises (sym (filter-append (λ (e : Entry). e.worker == worker) es fs))
-          (in_order-append (λ e f. IsBelow e.number f.number) (IsPast c) (IsFrom c) (of_worker worker es) (of_worker worker fs) below
-          (all-kept (IsPast c) (λ e. e.worker == worker) es past) (all-kept (IsFrom c) (λ e. e.worker == worker) fs from)
-          (so.workers worker) (subst (λ xs. Rises (of_worker worker xs)) mine (one.workers worker))));
-      clocks = runs_clocks-push 0 clock rans ran rounds round at so.clocks begins (subst (λ i. RunsClock i ran round) (sym counted) own);
-      ordered = so.ordered ++ one.ordered;
-      same = subst (λ xs. IsPermutation xs (so.ordered ++ one.ordered)) (sym all) (IsPermutation-append es so.ordered fs one.ordered so.same same_one);
-      serial = record {
-        rising = in_order-append (λ e f. IsBelow e.number f.number) (IsPast c) (IsFrom c) so.ordered one.ordered below ordered_past ordered_from serial.rising serial_one.rising;
-        epochs = in_order-append (λ e f. e.number.epoch ≤ f.number.epoch) (IsPast c) (IsFrom c) so.ordered one.ordered (λ e f past from. let a = past.0 in let b = from.0 in omega arith) ordered_past ordered_from serial.epochs serial_one.epochs;
-        answers = answers-append decls s so.ordered one.ordered serial.answers (subst (AnswersAlong decls one.ordered) so.after serial_one.answers);
-      };
-      draws = in_order-append (λ e f. e.number.draw < f.number.draw) (IsPast c) (IsFrom c) so.ordered one.ordered (λ e f past from. let a = past.1 in let b = from.1 in omega arith) ordered_past ordered_from so.draws one.draws;
-      after = one.after ∙ ap (λ x. state_after_all decls x one.ordered) so.after ∙ sym (state_after_all-append decls s so.ordered one.ordered);
-    }
+    let below : (e f : Entry) → IsPast c e → IsFrom c f → IsBelow e.number f.number = λ e f past from. inl (let a = past.0 in let b = from.0 in omega arith) in (
+      record {
+        lines = are_of_first-push rans ran rounds round at so.lines one.lines.0;
+        workers = λ worker.
+            subst (λ xs. Rises (of_worker worker xs)) (sym all)
+            (subst Rises (sym (filter-append (λ (e : Entry). e.worker == worker) es fs))
+            (in_order-append (λ e f. IsBelow e.number f.number) (IsPast c) (IsFrom c) (of_worker worker es) (of_worker worker fs) below
+            (all-kept (IsPast c) (λ e. e.worker == worker) es past) (all-kept (IsFrom c) (λ e. e.worker == worker) fs from)
+            (so.workers worker) (subst (λ xs. Rises (of_worker worker xs)) mine (one.workers worker))));
+        clocks = runs_clocks-push 0 clock rans ran rounds round at so.clocks begins (subst (λ i. RunsClock i ran round) (sym counted) own);
+        ordered = so.ordered ++ one.ordered;
+        same = subst (λ xs. IsPermutation xs (so.ordered ++ one.ordered)) (sym all) (IsPermutation-append es so.ordered fs one.ordered so.same same_one);
+        serial = record {
+          rising = in_order-append (λ e f. IsBelow e.number f.number) (IsPast c) (IsFrom c) so.ordered one.ordered below ordered_past ordered_from serial.rising serial_one.rising;
+          epochs = in_order-append (λ e f. e.number.epoch ≤ f.number.epoch) (IsPast c) (IsFrom c) so.ordered one.ordered (λ e f past from. let a = past.0 in let b = from.0 in omega arith) ordered_past ordered_from serial.epochs serial_one.epochs;
+          answers = answers-append decls s so.ordered one.ordered serial.answers (subst (AnswersAlong decls one.ordered) so.after serial_one.answers);
+        };
+        draws = in_order-append (λ e f. e.number.draw < f.number.draw) (IsPast c) (IsFrom c) so.ordered one.ordered (λ e f past from. let a = past.1 in let b = from.1 in omega arith) ordered_past ordered_from so.draws one.draws;
+        after = one.after ∙ ap (λ x. state_after_all decls x one.ordered) so.after ∙ sym (state_after_all-append decls s so.ordered one.ordered);
+      },
+      refl,
+    )

@@ -1,27 +1,35 @@
 -- Each status comes only for its cause.
-use Rattle.std.proofs.Common.{◌≡◌, inl, inr, ◌∙◌, sym, ap, subst, refl, ℕ, ◌<◌, List, [], Some, Result, Ok, Err, arith}
+use Rattle.std.proofs.Common.{◌≡◌, inl, inr, ◌∙◌, sym, ap, subst, refl, ℕ, ◌<◌, ◌≤◌, List, Option, Result, Ok, Err, arith}
 use Rattle.std.specs.Prelude.{◌⊎◌, IfOk}
 use Rattle.outside.specs.Faults.{Rose}
 use Rattle.outside.specs.declared.fault.Failed.{Failed}
+use Rattle.outside.specs.declared.vault.Device.{Device}
+use Rattle.outside.specs.declared.vault.Vault.{Vault}
 use Rattle.text_output.specs.Output.{Bytes, Output, Breaks, Prints}
 use Rattle.script_grammar.specs.Script.{Script}
+use Rattle.recovery_core.specs.VaultReads.{AreQuiet, RoseIn}
 use Rattle.tx_script.specs.Run.{Ran}
 use Rattle.command_line.specs.Options.{Refuses, command_of}
-use Rattle.command_line.specs.Plain.{AsksForHelp, IsPlain, IsPlainDump}
+use Rattle.command_line.specs.Plain.{AsksForHelp, IsPlain, IsPlainDump, IsPlainMake}
 use Rattle.command_line.specs.declared.command.Command.{Command}
-use Rattle.command_line.specs.declared.command.Command.TheVariants.{Run, Dump, Refused}
+use Rattle.command_line.specs.declared.command.Command.TheVariants.{Run, Dump, Make, Refused}
+use Rattle.command_line.specs.declared.command.MakeArguments.{MakeArguments}
 use Rattle.command_line.specs.declared.command.RunOptions.{RunOptions}
 use Rattle.foedus.specs.declared.ending.Ending.{Ending}
-use Rattle.foedus.specs.declared.ending.Ending.TheVariants.{Finished, NoScript, Usage, ReadFault, NoDevice, Damaged, AtLimit, NoMemory}
-use Rattle.foedus.specs.Causes.{AnswersFaults, AnswersWords, Counts, IsRunStatus, IsStatus}
-use Rattle.foedus.specs.Ending.{Comes, status_of}
-use Rattle.foedus.specs.Main.{fresh}
+use Rattle.foedus.specs.declared.ending.Ending.TheVariants.{Finished, NoScript, Shape, Usage, ReadFault, NoDevice, Damaged, AtLimit, NoMemory}
+use Rattle.foedus.specs.Beginning.{Opening}
+use Rattle.foedus.specs.Causes.{AnswersDevices, AnswersFaults, AnswersWords, Counts, IsDumpStatus, IsMakeStatus, IsRefusal, IsStatus, ReadsOnly, RestsAgain}
+use Rattle.foedus.specs.Ending.{RunComes, devices_in, status_of}
 use Rattle.foedus.specs.OnTheWay.{AddsRun, EndsWithCause, IsEarly, IsExit, IsUnread, RunsScript, status_told}
+use Rattle.foedus.specs.Vaults.{Vaults}
+use Rattle.foedus.proofs.NotBegun.{not_alone}
+use Rattle.foedus.proofs.VaultsLater.{none_failed_in, quiet_failed}
 
 -- 4 is no ending's status
 pub status_of-not_4 : (ending : Ending) → status_of ending ≡ 4 → ⊥
 status_of-not_4 Finished four = omega arith
 status_of-not_4 (NoScript fault) four = omega arith
+status_of-not_4 (Shape declared others) four = omega arith
 status_of-not_4 Usage four = omega arith
 status_of-not_4 ReadFault four = omega arith
 status_of-not_4 (NoDevice device) four = omega arith
@@ -37,6 +45,7 @@ words_at_4 words = record {
   usage = λ two. absurd (omega arith);
   plain = λ options is_plain two. omega arith;
   plain_dump = λ is_plain two. omega arith;
+  plain_make = λ arguments is_plain two. omega arith;
   refused = λ refused. inr (inl refl);
   help = λ asks. inr (inl refl);
 }
@@ -47,6 +56,7 @@ words_at_8 words = record {
   usage = λ two. absurd (omega arith);
   plain = λ options is_plain two. omega arith;
   plain_dump = λ is_plain two. omega arith;
+  plain_make = λ arguments is_plain two. omega arith;
   refused = λ refused. inr (inr refl);
   help = λ asks. inr (inr refl);
 }
@@ -55,6 +65,7 @@ words_at_8 words = record {
 usage_of_status : (r : Result Ending Failed) → status_told r ≡ 2 → r ≡ Ok Usage
 usage_of_status (Ok Finished) two = absurd (omega arith)
 usage_of_status (Ok (NoScript fault)) two = absurd (omega arith)
+usage_of_status (Ok (Shape declared others)) two = absurd (omega arith)
 usage_of_status (Ok Usage) two = refl
 usage_of_status (Ok ReadFault) two = absurd (omega arith)
 usage_of_status (Ok (NoDevice device)) two = absurd (omega arith)
@@ -71,16 +82,22 @@ run_is_not_refused command options ran refused = cc
 dump_is_not_refused : (command : Command) → command ≡ Dump → command ≡ Refused → ⊥
 dump_is_not_refused command dump refused = cc
 
+-- nor a script to be made and refused
+make_is_not_refused : (command : Command) (arguments : MakeArguments) → command ≡ Make arguments → command ≡ Refused → ⊥
+make_is_not_refused command arguments made refused = cc
+
 -- the command of the words was done
 pub words_done : (words : List Bytes) (command : Command) (r : Result Ending Failed) → command ≡ command_of words → (command ≡ Refused → Refuses words)
-    → ((options : RunOptions) → IsPlain words options → command ≡ Run options) → (IsPlainDump words → command ≡ Dump) → (AsksForHelp words → command ≡ Refused)
+    → ((options : RunOptions) → IsPlain words options → command ≡ Run options) → (IsPlainDump words → command ≡ Dump)
+    → ((arguments : MakeArguments) → IsPlainMake words arguments → command ≡ Make arguments) → (AsksForHelp words → command ≡ Refused)
     → (r ≡ Ok Usage → command ≡ Refused) → (command ≡ Refused → r ≡ Ok Usage) → AnswersWords words (status_told r)
-words_done words command r asked refuses plain plain_dump help usage refused =
+words_done words command r asked refuses plain plain_dump plain_make help usage refused =
     let at_2 : command ≡ Refused → status_told r ≡ 2 = λ is. ap status_told (refused is) in
     record {
       usage = λ two. refuses (usage (usage_of_status r two));
       plain = λ options is_plain two. run_is_not_refused command options (plain options is_plain) (usage (usage_of_status r two));
       plain_dump = λ is_plain two. dump_is_not_refused command (plain_dump is_plain) (usage (usage_of_status r two));
+      plain_make = λ arguments is_plain two. make_is_not_refused command arguments (plain_make arguments is_plain) (usage (usage_of_status r two));
       refused = λ is. inl (at_2 (asked ∙ is));
       help = λ asks. inl (at_2 (help asks));
     }
@@ -137,33 +154,12 @@ faults_unread source sink ReadFault cause quiet = record {
 }
 faults_unread source sink Finished cause quiet = faults_quiet source sink 0 cause quiet (λ three. omega arith) (λ four. omega arith)
 faults_unread source sink (NoScript fault) cause quiet = faults_quiet source sink 1 cause quiet (λ three. omega arith) (λ four. omega arith)
+faults_unread source sink (Shape declared others) cause quiet = faults_quiet source sink 1 cause quiet (λ three. omega arith) (λ four. omega arith)
 faults_unread source sink Usage cause quiet = faults_quiet source sink 2 cause quiet (λ three. omega arith) (λ four. omega arith)
 faults_unread source sink (NoDevice device) cause quiet = faults_quiet source sink 5 cause quiet (λ three. omega arith) (λ four. omega arith)
 faults_unread source sink (Damaged device at) cause quiet = faults_quiet source sink 6 cause quiet (λ three. omega arith) (λ four. omega arith)
 faults_unread source sink (AtLimit name) cause quiet = faults_quiet source sink 7 cause quiet (λ three. omega arith) (λ four. omega arith)
 faults_unread source sink NoMemory cause quiet = faults_quiet source sink 8 cause quiet (λ three. omega arith) (λ four. omega arith)
-
--- how a script's run can't end
-ran_not_3 : (options : RunOptions) (script : Script) (rans : List Ran) (ending : Ending) → Comes (Run options) [] (Some script) rans ending → status_of ending ≡ 3 → ⊥
-ran_not_3 options script rans Finished comes three = omega arith
-ran_not_3 options script rans (NoScript fault) comes three = comes
-ran_not_3 options script rans Usage comes three = comes
-ran_not_3 options script rans ReadFault comes three = comes
-ran_not_3 options script rans (NoDevice device) comes three = comes
-ran_not_3 options script rans (Damaged device at) comes three = comes
-ran_not_3 options script rans (AtLimit name) comes three = omega arith
-ran_not_3 options script rans NoMemory comes three = omega arith
-
--- nor as refused words do
-ran_not_usage : (options : RunOptions) (script : Script) (rans : List Ran) (ending : Ending) → Comes (Run options) [] (Some script) rans ending → ending ≡ Usage → ⊥
-ran_not_usage options script rans Finished comes usage = cc
-ran_not_usage options script rans (NoScript fault) comes usage = comes
-ran_not_usage options script rans Usage comes usage = comes
-ran_not_usage options script rans ReadFault comes usage = comes
-ran_not_usage options script rans (NoDevice device) comes usage = comes
-ran_not_usage options script rans (Damaged device at) comes usage = comes
-ran_not_usage options script rans (AtLimit name) comes usage = cc
-ran_not_usage options script rans NoMemory comes usage = cc
 
 -- the sink failed within a text
 pub faults_broke : (source : Counts) (old new : Output) (text : Bytes) → Breaks old new text → source.after ≡ source.before
@@ -177,73 +173,135 @@ faults_broke source old new text breaks quiet = record {
   sink_later = breaks.later;
 }
 
--- a script was run
-pub faults_ran : (source : Counts) (old new : Output) (options : RunOptions) (script : Script) (r : Result Ending Failed) → RunsScript fresh script (AddsRun (Run options) old new r) → source.after ≡ source.before
-    → AnswersFaults source (record { before = old.faults; after = new.faults }) (status_told r)
-faults_ran source old new options script (Ok ending) runs quiet =
-    let shown = runs.shown in
-    let adds = shown.2 in
-    faults_quiet source (record { before = old.faults; after = new.faults }) (status_of ending) quiet adds.faults
-    (λ three. ran_not_3 options script runs.rans runs.ending (runs.comes options []) (ap status_of shown.1 ∙ three))
-    (status_of-not_4 ending)
-faults_ran source old new options script (Err failed) runs quiet =
-    let shown = runs.shown in
-    faults_broke source old new _ shown.1 quiet
+-- a call that tells no device
+pub no_device_told : {D : Type 0} (faults : D → ℕ) (was is : Vault D) (status : ℕ) → (status ≡ 5 → ⊥) → (status ≡ 0 → ⊥) → AnswersDevices faults was is status
+no_device_told faults was is status not_5 not_0 = record { failed = λ five. absurd (not_5 five); quiet = λ zero. absurd (not_0 zero) }
 
--- a script's run is no usage
-pub usage_not_ran : (old new : Output) (options : RunOptions) (script : Script) (r : Result Ending Failed) → RunsScript fresh script (AddsRun (Run options) old new r) → r ≡ Ok Usage → ⊥
-usage_not_ran old new options script (Ok ending) runs is =
-    let shown = runs.shown in
-    let same : ending ≡ Usage = cc in
-    ran_not_usage options script runs.rans runs.ending (runs.comes options []) (shown.1 ∙ same)
-usage_not_ran old new options script (Err failed) runs is = cc
+module _ {D : Type 0} (v : Vaults D) (snap : ℕ) (script : Script) where
+  -- how a script's run can't end
+  ran_not_3 : (opening : Opening) (rans : List Ran) (ending : Ending) → RunComes v snap script opening rans ending → status_of ending ≡ 3 → ⊥
+  ran_not_3 opening rans Finished comes three = omega arith
+  ran_not_3 opening rans (NoScript fault) comes three = comes
+  ran_not_3 opening rans (Shape declared others) comes three = omega arith
+  ran_not_3 opening rans Usage comes three = comes
+  ran_not_3 opening rans ReadFault comes three = comes
+  ran_not_3 opening rans (NoDevice device) comes three = omega arith
+  ran_not_3 opening rans (Damaged device at) comes three = omega arith
+  ran_not_3 opening rans (AtLimit name) comes three = omega arith
+  ran_not_3 opening rans NoMemory comes three = omega arith
 
--- the run prints to the same sink
-pub same_ran : (old new : Output) (options : RunOptions) (script : Script) (r : Result Ending Failed) → RunsScript fresh script (AddsRun (Run options) old new r) → new.sink ≡ old.sink
-same_ran old new options script (Ok ending) runs = let shown = runs.shown in let adds = shown.2 in adds.same
-same_ran old new options script (Err failed) runs = let shown = runs.shown in let breaks = shown.1 in breaks.same
+  -- nor as refused words do
+  ran_not_usage : (opening : Opening) (rans : List Ran) (ending : Ending) → RunComes v snap script opening rans ending → ending ≡ Usage → ⊥
+  ran_not_usage opening rans Finished comes usage = cc
+  ran_not_usage opening rans (NoScript fault) comes usage = comes
+  ran_not_usage opening rans (Shape declared others) comes usage = cc
+  ran_not_usage opening rans Usage comes usage = comes
+  ran_not_usage opening rans ReadFault comes usage = comes
+  ran_not_usage opening rans (NoDevice device) comes usage = cc
+  ran_not_usage opening rans (Damaged device at) comes usage = cc
+  ran_not_usage opening rans (AtLimit name) comes usage = cc
+  ran_not_usage opening rans NoMemory comes usage = cc
+
+  -- a script was run
+  pub faults_ran : (source : Counts) (old new : Output) (options : RunOptions) (r : Result Ending Failed) → RunsScript v snap script (AddsRun (Run options) old new r) → source.after ≡ source.before
+      → AnswersFaults source (record { before = old.faults; after = new.faults }) (status_told r)
+  faults_ran source old new options (Ok ending) runs quiet =
+      let shown = runs.shown in
+      let adds = shown.1 in
+      faults_quiet source (record { before = old.faults; after = new.faults }) (status_of ending) quiet adds.faults
+      (λ three. ran_not_3 runs.opening runs.rans runs.ending runs.comes (ap status_of shown.0 ∙ three))
+      (status_of-not_4 ending)
+  faults_ran source old new options (Err failed) runs quiet = faults_broke source old new _ runs.shown quiet
+
+  -- a script's run is no usage
+  pub usage_not_ran : (old new : Output) (options : RunOptions) (r : Result Ending Failed) → RunsScript v snap script (AddsRun (Run options) old new r) → r ≡ Ok Usage → ⊥
+  usage_not_ran old new options (Ok ending) runs is =
+      let shown = runs.shown in
+      let same : ending ≡ Usage = cc in
+      ran_not_usage runs.opening runs.rans runs.ending runs.comes (shown.0 ∙ same)
+  usage_not_ran old new options (Err failed) runs is = cc
+
+  -- the run prints to the same sink
+  pub same_ran : (old new : Output) (options : RunOptions) (r : Result Ending Failed) → RunsScript v snap script (AddsRun (Run options) old new r) → new.sink ≡ old.sink
+  same_ran old new options (Ok ending) runs = let shown = runs.shown in let adds = shown.1 in adds.same
+  same_ran old new options (Err failed) runs = let breaks = runs.shown in breaks.same
+
+  -- all devices stood still where all rounds went on
+  quiet_finished : (opening : Opening) (rans : List Ran) (ending : Ending) → RunComes v snap script opening rans ending → status_of ending ≡ 0 → AreQuiet v.faults v.was v.is
+  quiet_finished opening rans Finished comes zero = quiet_failed (devices_in rans) (none_failed_in rans comes.1.went_on) comes.0.failed
+  quiet_finished opening rans (NoScript fault) comes zero = absurd comes
+  quiet_finished opening rans (Shape declared others) comes zero = absurd (omega arith)
+  quiet_finished opening rans Usage comes zero = absurd comes
+  quiet_finished opening rans ReadFault comes zero = absurd comes
+  quiet_finished opening rans (NoDevice device) comes zero = absurd (omega arith)
+  quiet_finished opening rans (Damaged device at) comes zero = absurd (omega arith)
+  quiet_finished opening rans (AtLimit name) comes zero = absurd (omega arith)
+  quiet_finished opening rans NoMemory comes zero = absurd (omega arith)
+
+  -- a device's fault was its cause
+  device_ended : (opening : Opening) (rans : List Ran) (ending : Ending) → RunComes v snap script opening rans ending → status_of ending ≡ 5 → (device : Device) × RoseIn v.faults device v.was v.is
+  device_ended opening rans Finished comes five = absurd (omega arith)
+  device_ended opening rans (NoScript fault) comes five = absurd comes
+  device_ended opening rans (Shape declared others) comes five = absurd (omega arith)
+  device_ended opening rans Usage comes five = absurd comes
+  device_ended opening rans ReadFault comes five = absurd comes
+  device_ended opening rans (NoDevice device) comes five = (device, comes.0)
+  device_ended opening rans (Damaged device at) comes five = absurd (omega arith)
+  device_ended opening rans (AtLimit name) comes five = absurd (omega arith)
+  device_ended opening rans NoMemory comes five = absurd (omega arith)
+
+  pub devices_ran : (old new : Output) (options : RunOptions) (r : Result Ending Failed) → RunsScript v snap script (AddsRun (Run options) old new r) → AnswersDevices v.faults v.was v.is (status_told r)
+  devices_ran old new options (Ok ending) runs =
+      let shown = runs.shown in
+      subst (λ (e : Ending). AnswersDevices v.faults v.was v.is (status_of e)) shown.0 (record {
+        failed = device_ended runs.opening runs.rans runs.ending runs.comes;
+        quiet = quiet_finished runs.opening runs.rans runs.ending runs.comes;
+      })
+  devices_ran old new options (Err failed) runs = no_device_told v.faults v.was v.is 4 (λ five. omega arith) (λ zero. omega arith)
+
+-- a call that reads no script tells no device
+pub devices_unread : {D : Type 0} (faults : D → ℕ) (was is : Vault D) (ending : Ending) → IsUnread ending → AnswersDevices faults was is (status_of ending)
+devices_unread faults was is (NoScript fault) unread = no_device_told faults was is 1 (λ five. omega arith) (λ zero. omega arith)
+devices_unread faults was is ReadFault unread = no_device_told faults was is 3 (λ five. omega arith) (λ zero. omega arith)
+devices_unread faults was is NoMemory unread = no_device_told faults was is 8 (λ five. omega arith) (λ zero. omega arith)
+devices_unread faults was is Finished unread = absurd unread
+devices_unread faults was is (Shape declared others) unread = absurd unread
+devices_unread faults was is Usage unread = absurd unread
+devices_unread faults was is (NoDevice device) unread = absurd unread
+devices_unread faults was is (Damaged device at) unread = absurd unread
+devices_unread faults was is (AtLimit name) unread = absurd unread
 
 -- ---- no other status
 
--- a run comes to no other status
-status_comes : (options : RunOptions) (script : Script) (rans : List Ran) (ending : Ending) → Comes (Run options) [] (Some script) rans ending → IsRunStatus (status_of ending)
-status_comes options script rans Finished comes = inl (omega arith)
-status_comes options script rans (NoScript fault) comes = absurd comes
-status_comes options script rans Usage comes = absurd comes
-status_comes options script rans ReadFault comes = absurd comes
-status_comes options script rans (NoDevice device) comes = absurd comes
-status_comes options script rans (Damaged device at) comes = absurd comes
-status_comes options script rans (AtLimit name) comes = inr (inl refl)
-status_comes options script rans NoMemory comes = inr (inr refl)
+-- no ending has a greater status than 8
+pub status_most : (ending : Ending) → status_of ending ≤ 8
+status_most Finished = omega arith
+status_most (NoScript fault) = omega arith
+status_most (Shape declared others) = omega arith
+status_most Usage = omega arith
+status_most ReadFault = omega arith
+status_most (NoDevice device) = omega arith
+status_most (Damaged device at) = omega arith
+status_most (AtLimit name) = omega arith
+status_most NoMemory = omega arith
 
--- nor does the call of one
-pub status_ran : (old new : Output) (options : RunOptions) (script : Script) (r : Result Ending Failed) → RunsScript fresh script (AddsRun (Run options) old new r) → IsRunStatus (status_told r)
-status_ran old new options script (Ok ending) runs =
-    let shown = runs.shown in
-    subst (λ (e : Ending). IsRunStatus (status_of e)) shown.1 (status_comes options script runs.rans runs.ending (runs.comes options []))
-status_ran old new options script (Err failed) runs = inl (omega arith)
-
--- nor a call that reads no script
-pub status_unread : (ending : Ending) → IsUnread ending → IsRunStatus (status_of ending)
-status_unread Finished unread = absurd unread
-status_unread (NoScript fault) unread = inl (omega arith)
-status_unread Usage unread = absurd unread
-status_unread ReadFault unread = inl (omega arith)
-status_unread (NoDevice device) unread = absurd unread
-status_unread (Damaged device at) unread = absurd unread
-status_unread (AtLimit name) unread = absurd unread
-status_unread NoMemory unread = inr (inr refl)
+-- nor has a call
+pub told_most : (r : Result Ending Failed) → status_told r ≤ 8
+told_most (Ok ending) = status_most ending
+told_most (Err failed) = omega arith
 
 -- a sink may fail whatever the command
 status_4 : (command : Command) → IsStatus command 4
 status_4 Dump = inr (inl (omega arith, omega arith))
-status_4 (Run options) = inl (omega arith)
-status_4 Refused = inl (omega arith)
+status_4 (Run options) = omega arith
+status_4 (Make arguments) = inr (inl refl)
+status_4 Refused = inr (inl refl)
 
 -- memory may be wanted whatever the command
 pub status_8 : (command : Command) → IsStatus command 8
 status_8 Dump = inr (inr refl)
-status_8 (Run options) = inr (inr refl)
+status_8 (Run options) = omega arith
+status_8 (Make arguments) = inr (inr refl)
 status_8 Refused = inr (inr refl)
 
 -- nor the last line of either
@@ -252,20 +310,50 @@ pub status_finished : (command : Command) (ending : Ending) (r : Result Ending F
 status_finished command ending (Ok it) same one = subst (λ (e : Ending). IsStatus command (status_of e)) (sym same) one
 status_finished command ending (Err failed) same one = status_4 command
 
+dump_most : (status : ℕ) → IsDumpStatus status → status ≤ 8
+dump_most status (inl zero) = omega arith
+dump_most status (inr (inl between)) = omega (arith, between.1)
+dump_most status (inr (inr eight)) = omega arith
+
+refusal_most : (status : ℕ) → IsRefusal status → status ≤ 8
+refusal_most status (inl two) = omega arith
+refusal_most status (inr (inl four)) = omega arith
+refusal_most status (inr (inr eight)) = omega arith
+
+make_most : (status : ℕ) → IsMakeStatus status → status ≤ 8
+make_most status (inl zero) = omega arith
+make_most status (inr (inl four)) = omega arith
+make_most status (inr (inr eight)) = omega arith
+
 -- the program's status is one of these
 pub exit_of : (command : Command) (status : ℕ) → IsStatus command status → IsExit status
-exit_of Dump status is = inr is
-exit_of (Run options) status is = inl is
-exit_of Refused status is = inl is
+exit_of Dump status is = dump_most status is
+exit_of (Run options) status is = is
+exit_of (Make arguments) status is = make_most status is
+exit_of Refused status is = refusal_most status is
 
 -- also where `top` isn't called
 pub exit_told : (ending : Ending) (status : ℕ) → IsEarly ending → (status ≡ status_of ending) ⊎ (status ≡ 4) → IsExit status
-exit_told ending status early (inr four) = inl (inl (omega arith))
-exit_told Finished status early (inl is) = absurd early
-exit_told (NoScript fault) status early (inl is) = absurd early
-exit_told Usage status early (inl is) = inl (inl (omega arith))
-exit_told ReadFault status early (inl is) = absurd early
-exit_told (NoDevice device) status early (inl is) = inr (inr (inl (omega arith, omega arith)))
-exit_told (Damaged device at) status early (inl is) = absurd early
-exit_told (AtLimit name) status early (inl is) = absurd early
-exit_told NoMemory status early (inl is) = inl (inr (inr is))
+exit_told ending status early (inr four) = omega arith
+exit_told ending status early (inl is) = omega (arith, status_most ending)
+
+-- ---- the last line leaves the vault alone
+
+-- the last line was printed, or the sink failed
+pub devices_finished : {D : Type 0} (faults : D → ℕ) (was is : Vault D) (ending : Ending) (r : Result Ending Failed) → IfOk r (λ it. it ≡ ending)
+    → AnswersDevices faults was is (status_of ending) → AnswersDevices faults was is (status_told r)
+devices_finished faults was is ending (Ok it) same one = subst (λ (e : Ending). AnswersDevices faults was is (status_of e)) (sym same) one
+devices_finished faults was is ending (Err failed) same one = no_device_told faults was is 4 (λ five. omega arith) (λ zero. omega arith)
+
+pub rests_finished : {D : Type 0} (tells : D → Option Bytes) (clock : D → ℕ) (image_at : D → ℕ → Bytes → Type 0) (was is : Vault D) (ending : Ending) (r : Result Ending Failed)
+    → IfOk r (λ it. it ≡ ending) → RestsAgain tells clock image_at (status_of ending) was is → RestsAgain tells clock image_at (status_told r) was is
+rests_finished tells clock image_at was is ending (Ok it) same one = subst (λ (e : Ending). RestsAgain tells clock image_at (status_of e) was is) (sym same) one
+rests_finished tells clock image_at was is ending (Err failed) same one = record { again = λ not_4. absurd (not_4 refl) }
+
+pub reads_finished : {R : Type 0} (command : Command) (ending : Ending) (r : Result Ending Failed) → IfOk r (λ it. it ≡ ending)
+    → (ReadsOnly command (status_of ending) → R) → ReadsOnly command (status_told r) → R
+reads_finished command ending (Ok it) same one = λ reads. one (subst (λ (e : Ending). ReadsOnly command (status_of e)) same reads)
+reads_finished Dump ending (Err failed) same one = λ reads. one tt
+reads_finished (Run options) ending (Err failed) same one = λ reads. absurd (not_alone 4 (omega arith) (λ six. omega arith) reads)
+reads_finished (Make arguments) ending (Err failed) same one = λ reads. one tt
+reads_finished Refused ending (Err failed) same one = λ reads. one tt

@@ -5,22 +5,25 @@ use Rattle.std.specs.List.{AllByRecursion}
 use Rattle.std.specs.Io.KnownBytes.{Appends}
 use Rattle.outside.specs.Stream.{TakesPrefix}
 use Rattle.outside.specs.declared.fault.Failed.{Failed}
-use Rattle.outside.specs.declared.vault.Vault.{Vault}
 use Rattle.std.proofs.lemmas.List.{append-nil}
 use Rattle.text_output.specs.Output.{Bytes, Output, Adds, Breaks, Prints}
 use Rattle.text_output.specs.Printed.{adds_as, adds_then, breaks_then}
-use Rattle.tx_script.specs.Causes.{AllCaused}
+use Rattle.script_grammar.specs.declared.lines.KeeperLine.{KeeperLine}
+use Rattle.script_grammar.specs.declared.lines.KeeperLine.TheVariants as asks
+use Rattle.tx_script.specs.Causes.{AllCaused, AnswersCaused, IsAnswerTo, KeeperAt, keeper_after, keeper_before}
 use Rattle.tx_script.specs.Run.{Ran}
-use Rattle.tx_script.specs.Text.{run_text}
+use Rattle.tx_script.specs.declared.answer.Answer.{Answer}
+use Rattle.tx_script.specs.declared.answer.Answer.TheVariants as answers
 use Rattle.command_line.specs.Options.{command_of}
 use Rattle.command_line.specs.declared.command.Command.{Command}
 use Rattle.foedus.specs.declared.ending.Ending.{Ending}
-use Rattle.foedus.specs.declared.ending.Ending.TheVariants.{Finished, NoScript, Usage, ReadFault, NoDevice, Damaged, AtLimit, NoMemory}
-use Rattle.foedus.specs.Ending.{last_line, output_text, status_of}
-use Rattle.foedus.specs.Main.{Answers, Came, Holds, IsNoSave, IsNoSnap, IsNotDurable, SavesNothing, Shown, Snapshots, Streams, fresh}
+use Rattle.foedus.specs.declared.ending.Ending.TheVariants.{Finished, NoScript, Shape, Usage, ReadFault, NoDevice, Damaged, AtLimit, NoMemory}
+use Rattle.foedus.specs.Ending.{body_text, last_line, output_text, status_of}
+use Rattle.foedus.specs.Main.{Answers, Came, Holds, IsNoSnap, Shown, Snapshots, Streams}
 use Rattle.foedus.specs.OnTheWay.{AddsRun, Takes, status_told}
+use Rattle.foedus.specs.Vaults.{Vaults}
 use Rattle.foedus.proofs.Courses.{shown_as}
-use Rattle.foedus.proofs.Limits.{no_answers}
+use Rattle.foedus.specs.EndLaws.{cause_cases}
 
 -- ---- what the sink holds
 
@@ -34,34 +37,62 @@ appends_from old new text empty still adds =
     let all : adds.out ≡ text = sym (append-nil adds.out) ∙ ap (λ w. adds.out ++ w) (sym still) ∙ adds.whole ∙ ap (λ w. w ++ text) empty in
     subst (λ t. Appends old.held new.held t) all adds.written
 
--- a fault within the run's text
-pub came_broken : {bytes : Bytes} {left : Option Bytes} (command : Command) (old new : Output) (e f : Failed) → old.waiting ≡ [] → Came fresh command bytes left (AddsRun command old new (Err e))
-    → Came fresh command bytes left (Takes command old.held new.held (Err f))
-came_broken command old new e f empty = shown_as (λ rans ending broke. (broke.0, prefix_from old new (output_text command rans ending) empty broke.1))
+module _ {D : Type 0} (v : Vaults D) where
+  -- a fault within the run's text
+  pub came_broken : {bytes : Bytes} {left : Option Bytes} (command : Command) (old new : Output) (e f : Failed) → old.waiting ≡ [] → Came v command bytes left (AddsRun command old new (Err e))
+      → Came v command bytes left (Takes command old.held new.held (Err f))
+  came_broken command old new e f empty = shown_as v (λ rans ending broke. prefix_from old new (output_text command rans ending) empty broke)
 
--- the run's text, and then the last line with all that waits, or a fault within these
-pub came_finished : {bytes : Bytes} {left : Option Bytes} (command : Command) (old mid new : Output) (ending : Ending) (r : Result Ending Failed) → old.waiting ≡ []
-    → Prints mid new (last_line ending) r → OnOk r (new.waiting ≡ []) → IfOk r (λ it. it ≡ ending)
-    → Came fresh command bytes left (AddsRun command old mid (Ok ending)) → Came fresh command bytes left (Takes command old.held new.held r)
-came_finished command old mid new ending (Ok it) empty line still same = shown_as (λ rans e added.
-    let whole : Adds old new (output_text command rans e) = adds_then added.2 (adds_as (ap last_line (sym added.1)) line) in
-    (added.0, added.1 ∙ sym same, appends_from old new (output_text command rans e) empty still whole))
-came_finished command old mid new ending (Err f) empty line still same = shown_as (λ rans e added.
-    let whole : Breaks old new (run_text rans ++ last_line ending) = breaks_then added.2 line in
-    (added.0, subst (λ (x : Ending). TakesPrefix old.held new.held (run_text rans ++ last_line x)) (sym added.1) (prefix_from old new (run_text rans ++ last_line ending) empty whole)))
+  -- the run's text, and then the last line with all that waits, or a fault within these
+  pub came_finished : {bytes : Bytes} {left : Option Bytes} (command : Command) (old mid new : Output) (ending : Ending) (r : Result Ending Failed) → old.waiting ≡ []
+      → Prints mid new (last_line ending) r → OnOk r (new.waiting ≡ []) → IfOk r (λ it. it ≡ ending)
+      → Came v command bytes left (AddsRun command old mid (Ok ending)) → Came v command bytes left (Takes command old.held new.held r)
+  came_finished command old mid new ending (Ok it) empty line still same = shown_as v (λ rans e added.
+      let whole : Adds old new (output_text command rans e) = adds_then added.1 (adds_as (ap last_line (sym added.0)) line) in
+      (added.0 ∙ sym same, appends_from old new (output_text command rans e) empty still whole))
+  came_finished command old mid new ending (Err f) empty line still same = shown_as v (λ rans e added.
+      let whole : Breaks old new (body_text command rans e ++ last_line ending) = breaks_then added.1 line in
+      subst (λ (x : Ending). TakesPrefix old.held new.held (body_text command rans e ++ last_line x)) (sym added.0)
+      (prefix_from old new (body_text command rans e ++ last_line ending) empty whole))
 
--- ---- nothing is saved
+-- ---- no snapshot is made
 
--- no round saves anything
-all_save_nothing : (rans : List Ran) → AllByRecursion AllCaused rans → AllByRecursion IsNotDurable rans → AllByRecursion SavesNothing rans
-all_save_nothing [] caused durable = tt
-all_save_nothing (ran ∷ rans) caused durable =
-    (record { by_join = durable.0; by_keeper = subst (AllByRecursion IsNoSave) (sym (no_answers ran caused.0)) tt }, all_save_nothing rans caused.1 durable.1)
+-- an answer that has its cause makes none
+no_snap : (ran : Ran) (k : KeeperAt) (line : KeeperLine) (answer : Answer) → IsAnswerTo ran k line answer → IsNoSnap answer
+no_snap ran k line (answers.Epoch epoch) caused = tt
+no_snap ran k line (answers.Save epoch) caused = tt
+no_snap ran k asks.Epoch (answers.Snap epoch new) caused = absurd caused
+no_snap ran k asks.Save (answers.Snap epoch new) caused = absurd caused
+no_snap ran k asks.Glean (answers.Snap epoch new) caused = absurd caused
+no_snap ran k asks.Drop (answers.Snap epoch new) caused = absurd caused
+no_snap ran k line answers.Empty caused = tt
+no_snap ran k line answers.SnapFull caused = tt
+no_snap ran k line answers.Deep caused = tt
+no_snap ran k line (answers.Drop dropped kept) caused = tt
+no_snap ran k line answers.Limit caused = tt
+no_snap ran k line answers.Device caused = tt
+no_snap ran k line answers.Damaged caused = tt
+no_snap ran k line answers.Memory caused = tt
+no_snap ran k line answers.Unrun caused = tt
+
+no_snaps_of : (ran : Ran) (k : KeeperAt) (lines : List KeeperLine) (told : List Answer) → AnswersCaused ran k lines told
+    → AllByRecursion IsNoSnap told
+no_snaps_of ran k [] [] caused = tt
+no_snaps_of ran k (line ∷ lines) [] caused = tt
+no_snaps_of ran k [] (answer ∷ more) caused = absurd caused
+no_snaps_of ran k (line ∷ lines) (answer ∷ more) caused = (
+  elim (cause_cases ran k line answer caused.0) [
+    | inl unrun ↦ subst IsNoSnap (sym unrun) tt
+    | inr is ↦ no_snap ran k line answer is
+  ],
+  no_snaps_of ran (keeper_after k answer) lines more caused.1,
+)
 
 -- no round makes a snapshot
 no_snapshots : (rans : List Ran) → AllByRecursion AllCaused rans → Snapshots rans
 no_snapshots [] caused = tt
-no_snapshots (ran ∷ rans) caused = (subst (AllByRecursion IsNoSnap) (sym (no_answers ran caused.0)) tt, no_snapshots rans caused.1)
+no_snapshots (ran ∷ rans) caused =
+    (no_snaps_of ran (keeper_before ran) ran.asked ran.answers caused.0.answers, no_snapshots rans caused.1)
 
 -- ---- the answer
 
@@ -69,6 +100,7 @@ no_snapshots (ran ∷ rans) caused = (subst (AllByRecursion IsNoSnap) (sym (no_a
 pub holds_all : (ending : Ending) (before after : Option Bytes) (text : Bytes) → Appends before after text → Holds (status_of ending) before after text
 holds_all Finished before after text appends = appends
 holds_all (NoScript fault) before after text appends = appends
+holds_all (Shape declared others) before after text appends = appends
 holds_all Usage before after text appends = appends
 holds_all ReadFault before after text appends = appends
 holds_all (NoDevice device) before after text appends = appends
@@ -80,27 +112,17 @@ holds_all NoMemory before after text appends = appends
 shows : (command : Command) (streams : Streams) (r : Result Ending Failed) (rans : List Ran) (ending : Ending)
     → Takes command streams.held streams.holds r rans ending → Shown command streams (status_told r) rans ending
 shows command streams (Ok came) rans ending takes = record {
-  status_is = inl (ap status_of (sym takes.1));
-  text = subst (λ (e : Ending). Holds (status_of e) streams.held streams.holds (output_text command rans ending)) takes.1 (holds_all ending streams.held streams.holds (output_text command rans ending) takes.2);
+  status_is = inl (ap status_of (sym takes.0));
+  text = subst (λ (e : Ending). Holds (status_of e) streams.held streams.holds (output_text command rans ending)) takes.0 (holds_all ending streams.held streams.holds (output_text command rans ending) takes.1);
 }
-shows command streams (Err failed) rans ending takes = record { status_is = inr refl; text = takes.1 }
-
--- no join made an epoch durable
-durable_of : (command : Command) (held holds : Option Bytes) (r : Result Ending Failed) (rans : List Ran) (ending : Ending) → Takes command held holds r rans ending → AllByRecursion IsNotDurable rans
-durable_of command held holds (Ok came) rans ending takes = takes.0
-durable_of command held holds (Err failed) rans ending takes = takes.0
+shows command streams (Err failed) rans ending takes = record { status_is = inr refl; text = takes }
 
 -- what the call came to is the answer
-pub answers_of : {D : Type 0} (words : List Bytes) (streams : Streams) (vault : Vault D) (r : Result Ending Failed)
-    → Came fresh (command_of words) streams.bytes streams.left (Takes (command_of words) streams.held streams.holds r) → Answers fresh words streams vault vault (status_told r)
-answers_of words streams vault r came = record {
-  came = shown_as (shows (command_of words) streams r) came;
-  kept = record {
-    saves = all_save_nothing came.rans came.caused (durable_of (command_of words) streams.held streams.holds r came.rans came.ending came.shown);
-    vault = refl;
-  };
-  snapshots = no_snapshots came.rans came.caused;
-  stops = refl;
+pub answers_of : {D : Type 0} (v : Vaults D) (words : List Bytes) (streams : Streams) (r : Result Ending Failed)
+    → Came v (command_of words) streams.bytes streams.left (Takes (command_of words) streams.held streams.holds r) → Answers v words streams (status_told r)
+answers_of v words streams r came = record {
+  came = shown_as v (shows (command_of words) streams r) came;
+  snapshots = no_snapshots came.rans came.caused.caused;
 }
 
 -- a text is printed to the same sink
@@ -109,9 +131,9 @@ same_printed old new text (Ok x) prints = prints.same
 same_printed old new text (Err e) prints = prints.same
 
 -- the answer, where the printer stood over the sink of the streams
-pub answers_over : {D : Type 0} (words : List Bytes) (streams : Streams) (vault : Vault D) (r : Result Ending Failed) (status : ℕ) (old new : Output) → status ≡ status_told r → old.held ≡ streams.held → new.held ≡ streams.holds
-    → Came fresh (command_of words) streams.bytes streams.left (Takes (command_of words) old.held new.held r) → Answers fresh words streams vault vault status
-answers_over words streams vault r status old new is held holds came =
-    subst (λ s. Answers fresh words streams vault vault s) (sym is) (answers_of words streams vault r
-    (subst (λ h. Came fresh (command_of words) streams.bytes streams.left (Takes (command_of words) h streams.holds r)) held
-    (subst (λ h. Came fresh (command_of words) streams.bytes streams.left (Takes (command_of words) old.held h r)) holds came)))
+pub answers_over : {D : Type 0} (v : Vaults D) (words : List Bytes) (streams : Streams) (r : Result Ending Failed) (status : ℕ) (old new : Output) → status ≡ status_told r → old.held ≡ streams.held → new.held ≡ streams.holds
+    → Came v (command_of words) streams.bytes streams.left (Takes (command_of words) old.held new.held r) → Answers v words streams status
+answers_over v words streams r status old new is held holds came =
+    subst (λ s. Answers v words streams s) (sym is) (answers_of v words streams r
+    (subst (λ h. Came v (command_of words) streams.bytes streams.left (Takes (command_of words) h streams.holds r)) held
+    (subst (λ h. Came v (command_of words) streams.bytes streams.left (Takes (command_of words) old.held h r)) holds came)))

@@ -1,36 +1,65 @@
 -- Why a call ends with its status, whatever its streams and its vault tell.
-use Rattle.std.specs.Prelude.{◌≡◌, ◌≢◌, ◌⊎◌, ℕ, ◌<◌, ◌≤◌, List, ⊤}
+use Rattle.std.specs.Prelude.{◌≡◌, ◌≢◌, ◌⊎◌, ℕ, ◌<◌, ◌≤◌, List, Option, ⊤}
+use Rattle.outside.specs.declared.vault.Device.{Device}
+use Rattle.outside.specs.declared.vault.Vault.{Vault}
+use Rattle.recovery_core.specs.VaultReads.{AreQuiet, RoseIn}
+use Rattle.outside.specs.Disk.{IfTold, Only}
 use Rattle.outside.specs.Faults.{Rose}
 use Rattle.script_grammar.specs.Script.{Bytes}
 use Rattle.command_line.specs.Options.{Refuses, command_of}
-use Rattle.command_line.specs.Plain.{AsksForHelp, IsPlain, IsPlainDump}
+use Rattle.command_line.specs.Plain.{AsksForHelp, IsPlain, IsPlainDump, IsPlainMake}
 use Rattle.command_line.specs.declared.command.Command.{Command}
-use Rattle.command_line.specs.declared.command.Command.TheVariants.{Run, Dump, Refused}
+use Rattle.command_line.specs.declared.command.Command.TheVariants.{Run, Dump, Make, Refused}
+use Rattle.command_line.specs.declared.command.MakeArguments.{MakeArguments}
 use Rattle.command_line.specs.declared.command.RunOptions.{RunOptions}
 
 -- The statuses of a dump: 0, 4 to 6, and 8.
 abbrev pub IsDumpStatus : ℕ → Type 0
 IsDumpStatus status = (status ≡ 0) ⊎ (((4 ≤ status) × (status ≤ 6)) ⊎ (status ≡ 8))
 
--- The statuses of any other call: 0 to 4, 7 and 8.
+-- The statuses of a run: all up to 8.
 abbrev pub IsRunStatus : ℕ → Type 0
-IsRunStatus status = (status ≤ 4) ⊎ ((status ≡ 7) ⊎ (status ≡ 8))
+IsRunStatus status = status ≤ 8
 
--- No other status comes yet of a command.
+-- The statuses of a call whose words were refused: usage, or that the sink or memory failed.
+abbrev pub IsRefusal : ℕ → Type 0
+IsRefusal status = (status ≡ 2) ⊎ ((status ≡ 4) ⊎ (status ≡ 8))
+
+-- The statuses of a call that makes a script: 0, 4 and 8.
+abbrev pub IsMakeStatus : ℕ → Type 0
+IsMakeStatus status = (status ≡ 0) ⊎ ((status ≡ 4) ⊎ (status ≡ 8))
+
+-- No other status comes of a command.
 abbrev pub IsStatus : Command → ℕ → Type 0
 IsStatus Dump status = IsDumpStatus status
 IsStatus (Run options) status = IsRunStatus status
-IsStatus Refused status = IsRunStatus status
+IsStatus (Make arguments) status = IsMakeStatus status
+IsStatus Refused status = IsRefusal status
+
+-- The statuses of a run that only reads the vault: a script's fault or other storages, a source that failed, damage.
+abbrev pub ReadsAlone : ℕ → Type 0
+ReadsAlone status = ((1 ≤ status) × (status ≤ 3)) ⊎ (status ≡ 6)
+
+-- These calls only read the vault.
+abbrev pub ReadsOnly : Command → ℕ → Type 0
+ReadsOnly Dump status = ⊤
+ReadsOnly (Run options) status = ReadsAlone status
+ReadsOnly (Make arguments) status = ⊤
+ReadsOnly Refused status = ⊤
 
 -- These commands read no source.
 abbrev pub ReadsNoSource : Command → Type 0
 ReadsNoSource (Run options) = ⊥
 ReadsNoSource Dump = ⊤
+ReadsNoSource (Make arguments) = ⊤
 ReadsNoSource Refused = ⊤
 
--- The statuses of a call whose words were refused: usage, or that the sink or memory failed.
-abbrev pub IsRefusal : ℕ → Type 0
-IsRefusal status = (status ≡ 2) ⊎ ((status ≡ 4) ⊎ (status ≡ 8))
+-- These commands leave the vault alone.
+abbrev pub LeavesVault : Command → Type 0
+LeavesVault (Run options) = ⊥
+LeavesVault Dump = ⊥
+LeavesVault (Make arguments) = ⊤
+LeavesVault Refused = ⊤
 
 -- Status 2 is for refused words alone, never for plain ones, and refused words and calls for help come to nothing
 -- else.
@@ -38,6 +67,7 @@ pub record AnswersWords (words : List Bytes) (status : ℕ) : Type 0 where
   pub usage : status ≡ 2 → Refuses words
   pub plain : (options : RunOptions) → IsPlain words options → status ≢ 2
   pub plain_dump : IsPlainDump words → status ≢ 2
+  pub plain_make : (arguments : MakeArguments) → IsPlainMake words arguments → status ≢ 2
   pub refused : command_of words ≡ Refused → IsRefusal status
   pub help : AsksForHelp words → IsRefusal status
 
@@ -55,3 +85,15 @@ pub record AnswersFaults (source sink : Counts) (status : ℕ) : Type 0 where
   pub sink_failed : sink.before < sink.after → status ≡ 4
   pub source_later : source.before ≤ source.after
   pub sink_later : sink.before ≤ sink.after
+
+-- Status 5 comes only where a device failed, and status 0 only where none did.
+pub record AnswersDevices {D : Type 0} (faults : D → ℕ) (was is : Vault D) (status : ℕ) : Type 0 where
+  pub failed : status ≡ 5 → (device : Device) × RoseIn faults device was is
+  pub quiet : status ≡ 0 → AreQuiet faults was is
+
+-- Where the save device had one image as the call began, it has one again, unless a device failed or the sink did: the
+-- next call may begin.
+pub record RestsAgain {D : Type 0} (tells : D → Option Bytes) (clock : D → ℕ) (image_at : D → ℕ → Bytes → Type 0)
+    (status : ℕ) (was is : Vault D) : Type 0 where
+  pub again : (status ≡ 4 → ⊥) → (status ≡ 5 → ⊥)
+      → IfTold (tells was.save) (Only clock image_at was.save) → IfTold (tells is.save) (Only clock image_at is.save)

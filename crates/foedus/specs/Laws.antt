@@ -1,85 +1,148 @@
--- What follows from the main theorem while each line is tried once: none is refused a number, so that each is
--- committed with the one that it draws, and no run ends at the limit of the draws.
-use Rattle.std.specs.Prelude.{◌≡◌, Bool, true, false, ℕ, List, [], ◌∷◌, ◌++◌, IsTrue, Option, Some, None, nat_lt, if◌then◌else◌}
-use Rattle.std.specs.List.{AllByRecursion, list_any}
-use Rattle.std.proofs.Common.{refl, sym, subst}
-use Rattle.serial_model.specs.Numbers.{last_epoch}
+-- What follows from the main theorem: while each line is tried once, no run ends at the limit of the draws; a run with
+-- nothing in its way is done; and of one that is done each line is committed, and each round is durable.
+use Rattle.std.specs.Prelude.{◌≡◌, ℕ, List, [], ◌∷◌, ◌++◌, IfSome, IsSome, Option, Some, None}
+use Rattle.std.specs.List.{AllByRecursion}
+use Rattle.std.proofs.Common.{inl, inr, ◌∙◌, refl, sym, subst}
 use Rattle.serial_model.specs.State.{State}
-use Rattle.script_grammar.specs.Script.{Bytes, Script}
-use Rattle.tx_script.specs.declared.outcome.Outcome.{Outcome}
-use Rattle.tx_script.specs.declared.outcome.Outcome.TheVariants as outcomes
+use Rattle.serial_model.specs.declared.decl.Decl.{Decl}
+use Rattle.script_grammar.specs.Script.{Bytes, Script, IsTextOf}
+use Rattle.wire_form.specs.declared.savepoint.Savepoint.{Savepoint}
+use Rattle.recovery_core.specs.Catalogues.{newest_decls}
+use Rattle.recovery_core.specs.DamageLaws.{reading_stands}
+use Rattle.recovery_core.specs.Images.{Images}
+use Rattle.recovery_core.specs.JointCrash.{parts_of}
+use Rattle.recovery_core.specs.Recoverable.{Reading}
+use Rattle.recovery_core.specs.RecoverableLaws.{one_reading}
+use Rattle.recovery_core.specs.Resting.{AreTold}
 use Rattle.tx_script.specs.Causes.{AllCaused}
-use Rattle.tx_script.specs.Draws.{CommitsEach, DrawsOnce, each_committed}
-use Rattle.tx_script.specs.Run.{Ran, is_commit, is_limit}
-use Rattle.round_engine.specs.RanRound.{end_of}
-use Rattle.round_engine.specs.declared.report.End.{End}
-use Rattle.round_engine.specs.declared.report.End.TheVariants.{Limit}
-use Rattle.round_engine.specs.declared.report.LimitName.TheVariants.{Draw, Epoch}
-use Rattle.command_line.specs.declared.command.Command.{Command}
-use Rattle.command_line.specs.declared.command.Command.TheVariants.{Run, Dump, Refused}
+use Rattle.tx_script.specs.Draws.{DrawsOnce, NoneLimited, none_limited}
+use Rattle.tx_script.specs.Run.{Ran}
+use Rattle.round_engine.specs.declared.report.LimitName.{LimitName}
+use Rattle.round_engine.specs.declared.report.LimitName.TheVariants.{Draw}
+use Rattle.command_line.specs.declared.command.Command.TheVariants.{Run}
+use Rattle.command_line.specs.declared.command.RunOptions.{RunOptions}
+use Rattle.foedus.specs.Beginning.{HasKept, HasStorages, Opening, SameDecls}
+use Rattle.foedus.specs.EndLaws.{IsCommitted, goes_on_committed, no_draw_end}
 use Rattle.foedus.specs.declared.ending.Ending.{Ending}
-use Rattle.foedus.specs.declared.ending.Ending.TheVariants.{AtLimit}
-use Rattle.foedus.specs.Ending.{Comes, EndsBy, IsLimitOf}
-use Rattle.foedus.specs.Main.{Came, Opening, RunsOf}
+use Rattle.foedus.specs.declared.ending.Ending.TheVariants.{Finished, NoScript, Shape, Usage, ReadFault, NoDevice}
+use Rattle.foedus.specs.declared.ending.Ending.TheVariants.{Damaged, AtLimit, NoMemory}
+use Rattle.foedus.specs.Ending.{Comes, GoesOn, RunComes}
+use Rattle.foedus.specs.Main.{Came, IsDurable, RunsOf}
+use Rattle.foedus.specs.Vaults.{NoneFailed, Vaults}
 
--- The same of a run alone.
-commits_of : (script : Option Script) (opening : Opening) (bytes : Bytes) (rans : List Ran) (t : State) → RunsOf script opening bytes rans t
-    → AllByRecursion AllCaused rans → AllByRecursion DrawsOnce rans → AllByRecursion CommitsEach rans
-commits_of None opening bytes rans t run caused once = subst (AllByRecursion CommitsEach) (sym run.0) tt
-commits_of (Some script) opening bytes rans t run caused once = each_committed bytes script opening.state opening.saved rans t run.0 run.1 caused once
-
--- Each line of the rounds that were run is committed, with the one number that it draws.
-pub commits_each : {opening : Opening} {command : Command} {bytes : Bytes} {left : Option Bytes} {Shows : List Ran → Ending → Type 0}
-    (came : Came opening command bytes left Shows) → AllByRecursion CommitsEach came.rans
-commits_each {opening = opening} {bytes = bytes} came =
-    let course = came.course in
-    commits_of course.script opening bytes came.rans course.state course.run came.caused came.draws_once
-
--- No commit is a refusal.
-none_limited : (of_worker : List Outcome) → AllByRecursion (λ outcome. IsTrue (is_commit outcome)) of_worker → list_any is_limit of_worker ≡ false
-none_limited [] all = refl
-none_limited (outcomes.Committed verdict number replies ∷ more) all = none_limited more all.1
-none_limited (outcomes.Conflict ∷ more) all = cc all.0
-none_limited (outcomes.Full ∷ more) all = cc all.0
-none_limited (outcomes.Wide ∷ more) all = cc all.0
-none_limited (outcomes.Limit ∷ more) all = cc all.0
-none_limited (outcomes.Unrun ∷ more) all = cc all.0
-
--- No worker's commits are.
-none_limited_of : (workers : List (List Outcome)) → AllByRecursion (AllByRecursion (λ outcome. IsTrue (is_commit outcome))) workers → list_any (list_any is_limit) workers ≡ false
-none_limited_of [] all = refl
-none_limited_of (of_worker ∷ workers) all =
-    let one = none_limited of_worker all.0 in let rest = none_limited_of workers all.1 in rw (one, rest) refl
-
--- A round of commits doesn't end a run at the draws
-no_draw_end : (ran : Ran) (number : ℕ) → CommitsEach ran → end_of ran ≡ Some (Limit Draw number) → ⊥
-no_draw_end ran number commits is =
-    let of : Bool → Bool → Option End = λ below any. if below then (if any then Some (Limit Draw ran.end.draw) else None) else Some (Limit Epoch ran.end.epoch) in
-    let never : (below : Bool) → of below false ≡ Some (Limit Draw number) → ⊥ = λ below. elim below as (λ b. of b false ≡ Some (Limit Draw number) → ⊥) [
-      | true ↦ λ (h : None ≡ Some (Limit Draw number)). cc
-      | false ↦ λ (h : Some (Limit Epoch ran.end.epoch) ≡ Some (Limit Draw number)). cc
-    ] in
-    never (nat_lt ran.end.epoch last_epoch)
-    (subst (λ any. of (nat_lt ran.end.epoch last_epoch) any ≡ Some (Limit Draw number)) (none_limited_of ran.outcomes commits.commits) is)
+-- No line of a run is refused a number.
+limited_none : (script : Option Script) (opening : Opening) (bytes : Bytes) (rans : List Ran) (t : State)
+    → RunsOf script opening bytes rans t → AllByRecursion AllCaused rans → AllByRecursion DrawsOnce rans
+    → AllByRecursion NoneLimited rans
+limited_none None opening bytes rans t run caused once = subst (AllByRecursion NoneLimited) (sym run.0) tt
+limited_none (Some script) opening bytes rans t run caused once =
+    none_limited bytes script opening.state opening.saved rans t run.0 run.1 caused once
 
 -- The last round is one of the rounds.
-all_last : (before : List Ran) (last : Ran) → AllByRecursion CommitsEach (before ++ last ∷ []) → CommitsEach last
+all_last : (before : List Ran) (last : Ran) → AllByRecursion NoneLimited (before ++ last ∷ []) → NoneLimited last
 all_last [] last all = all.0
 all_last (ran ∷ before) last all = all_last before last all.1
 
--- A call ends at a limit only as its run does.
-comes_at : (command : Command) (bytes : Bytes) (script : Option Script) (rans : List Ran) → Comes command bytes script rans (AtLimit Draw) → (number : ℕ) × IsLimitOf Draw number × EndsBy (Limit Draw number) rans
-comes_at Refused bytes None rans comes = absurd comes
-comes_at Refused bytes (Some script) rans comes = absurd comes
-comes_at Dump bytes script rans comes = absurd comes
-comes_at (Run options) bytes None rans comes = absurd comes
-comes_at (Run options) bytes (Some script) rans comes = comes
+-- What holds where something is there holds of what is there.
+taken : {C : Type 0} (o : Option Savepoint) → IsSome o → IfSome o (λ _. C) → C
+taken None some has = absurd (cc some)
+taken (Some p) some has = has
 
--- No run ends at the limit of the draws.
-pub never_at_draws : {opening : Opening} {command : Command} {bytes : Bytes} {left : Option Bytes} {Shows : List Ran → Ending → Type 0}
-    (came : Came opening command bytes left Shows) → came.ending ≡ AtLimit Draw → ⊥
-never_at_draws {command = command} {bytes = bytes} came is =
-    let course = came.course in
-    let ends = comes_at command bytes course.script came.rans (subst (λ (e : Ending). Comes command bytes course.script came.rans e) is course.comes) in
-    let by = ends.2 in
-    no_draw_end by.last ends.0 (all_last by.before by.last (subst (AllByRecursion CommitsEach) by.rounds (commits_each came))) by.refused
+-- A vault that has the declared storages keeps no others.
+storages_of : (found : Images) (decls kept : List Decl) → HasStorages found decls → HasKept kept found
+    → SameDecls decls kept
+storages_of found decls kept here there =
+    let same = one_reading found here.reading there.reading here.is there.is in
+    let has : IfSome there.reading.point (λ _. SameDecls decls (newest_decls there.reading.catalogues)) =
+    subst (λ (r : Reading). IfSome r.point (λ _. SameDecls decls (newest_decls r.catalogues))) same here.same in
+    subst (λ ds. SameDecls decls ds) (sym there.kept_are) (taken there.reading.point there.saved has)
+
+-- Each line of the round is committed, and its last epoch is durable.
+pub record IsDone (ran : Ran) : Type 0 where
+  pub commits : AllByRecursion (AllByRecursion IsCommitted) ran.outcomes
+  pub durable : ran.durable ≡ Some ran.end.epoch
+
+-- So it is in rounds that go on.
+done_of : (rans : List Ran) → AllByRecursion GoesOn rans → AllByRecursion AllCaused rans → AllByRecursion IsDurable rans
+    → AllByRecursion IsDone rans
+done_of [] on caused durable = tt
+done_of (ran ∷ rans) on caused durable = (
+  record { commits = goes_on_committed ran caused.0 on.0; durable = durable.0.lasts on.0 },
+  done_of rans on.1 caused.1 durable.1,
+)
+
+module _ {D : Type 0} (v : Vaults D) (options : RunOptions) (bytes : Bytes) (left : Option Bytes)
+    (Shows : List Ran → Ending → Type 0) where
+  -- A run doesn't come to the limit of the draws.
+  not_at_draws : (snap : ℕ) (script : Script) (opening : Opening) (rans : List Ran) → AllByRecursion NoneLimited rans
+      → RunComes v snap script opening rans (AtLimit Draw) → ⊥
+  not_at_draws snap script opening rans none (inl runs) =
+      let by = runs.stops in
+      no_draw_end by.last runs.number (all_last by.before by.last (subst (AllByRecursion NoneLimited) by.rounds none))
+      by.refused
+  not_at_draws snap script opening rans none (inr before) = before.1
+
+  -- No run ends at the limit of the draws.
+  pub never_at_draws : (came : Came v (Run options) bytes left Shows) → came.ending ≡ AtLimit Draw → ⊥
+  never_at_draws came is = of came.course.script came.course.run
+      (subst (λ (e : Ending). Comes v (Run options) bytes came.course.script came.course.opening came.rans e) is
+      came.course.comes)
+    where
+      of : (script : Option Script) → RunsOf script came.course.opening bytes came.rans came.course.state
+          → Comes v (Run options) bytes script came.course.opening came.rans (AtLimit Draw) → ⊥
+      of None run comes = comes
+      of (Some script) run comes = not_at_draws options.snap script came.course.opening came.rans
+          (limited_none (Some script) came.course.opening bytes came.rans came.course.state run came.caused.caused
+          came.caused.draws_once) comes
+
+  -- With a script, a vault in its formats that has the script's storages, no device or stream that fails, no limit
+  -- that is met, and memory, all is done.
+  pub all_is_done : (came : Came v (Run options) bytes left Shows) (script : Script) (found : Images)
+      → IsTextOf bytes script
+      → AreTold v.tells (parts_of v.was) found
+      → ((read : Script) → came.course.script ≡ Some read → HasStorages found read.decls) → NoneFailed v
+      → (came.ending ≡ ReadFault → ⊥) → ((name : LimitName) → came.ending ≡ AtLimit name → ⊥)
+      → (came.ending ≡ NoMemory → ⊥) → came.ending ≡ Finished
+  all_is_done came script found text told has none not_read not_limit not_memory =
+      of came.course.script came.ending refl refl came.course.comes
+    where
+      run_done : (read : Script) (e : Ending) → came.course.script ≡ Some read → came.ending ≡ e
+          → RunComes v options.snap read came.course.opening came.rans e → e ≡ Finished
+      run_done read Finished is same comes = refl
+      run_done read (NoScript fault) is same comes = absurd comes
+      run_done read (Shape declared kept) is same comes =
+          let here = has read is in
+          let there = comes.2.kept_are found told in
+          absurd (comes.2.other (storages_of found read.decls kept here there))
+      run_done read Usage is same comes = absurd comes
+      run_done read ReadFault is same comes = absurd comes
+      run_done read (NoDevice device) is same comes = absurd (none device comes.0)
+      run_done read (Damaged device at) is same comes =
+          let here = has read is in absurd (reading_stands found here.reading device at here.is (comes.2 found told))
+      run_done read (AtLimit name) is same comes = absurd (not_limit name same)
+      run_done read NoMemory is same comes = absurd (not_memory same)
+
+      of : (o : Option Script) (e : Ending) → came.course.script ≡ o → came.ending ≡ e
+          → Comes v (Run options) bytes o came.course.opening came.rans e → came.ending ≡ Finished
+      of None Finished is same comes = absurd comes
+      of None (NoScript fault) is same comes = absurd (comes.0 script text)
+      of None (Shape declared kept) is same comes = absurd comes
+      of None Usage is same comes = absurd comes
+      of None ReadFault is same comes = absurd (not_read same)
+      of None (NoDevice device) is same comes = absurd comes
+      of None (Damaged device at) is same comes = absurd comes
+      of None (AtLimit name) is same comes = absurd comes
+      of None NoMemory is same comes = absurd (not_memory same)
+      of (Some read) e is same comes = same ∙ run_done read e is same comes
+
+  -- Then each round is done.
+  pub each_is_done : (came : Came v (Run options) bytes left Shows) → came.ending ≡ Finished
+      → AllByRecursion IsDone came.rans
+  each_is_done came is = of came.course.script
+      (subst (λ (e : Ending). Comes v (Run options) bytes came.course.script came.course.opening came.rans e) is
+      came.course.comes)
+    where
+      of : (script : Option Script) → Comes v (Run options) bytes script came.course.opening came.rans Finished
+          → AllByRecursion IsDone came.rans
+      of None comes = absurd comes
+      of (Some script) comes = done_of came.rans comes.1.went_on came.caused.caused came.caused.durable

@@ -1,7 +1,11 @@
+pub mod Vaults
+pub mod Beginning
 pub mod Main
 pub mod Ending
 pub mod Causes
 pub mod Devices
 pub mod Dump
+pub mod Made
 pub mod OnTheWay
+pub mod EndLaws
 pub mod Laws

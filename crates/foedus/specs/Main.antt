@@ -1,33 +1,39 @@
 -- The main theorem: what a call of the program comes to. Where its source tells its bytes, `top` ensures `Answers`,
--- the last definition of this file. How a call may end is a table of its own, `Comes` in Ending.antt.
-use Rattle.std.specs.Prelude.{◌≡◌, ◌⊎◌, ℕ, List, [], Option, Some, None, MatchBool, ◌==◌, ⊤}
+-- the last definition of this file. How a call may end is a table of its own, `Comes` in Ending.antt; where a run
+-- begins stands in Beginning.antt.
+use Rattle.std.specs.Prelude.{◌≡◌, ◌⊎◌, ◌+◌, ◌-◌, ◌<◌, ◌++◌, ℕ, List, [], ◌∷◌, length, fold, flat_map, option_to_list}
+use Rattle.std.specs.Prelude.{slice_get, Option, Some, None, MatchBool, ◌==◌, ⊤}
 use Rattle.std.specs.List.{AllByRecursion}
-use Rattle.std.specs.FinMap.{empty}
 use Rattle.std.specs.Io.KnownBytes.{Appends}
 use Rattle.outside.specs.Stream.{TakesPrefix}
-use Rattle.outside.specs.declared.vault.Vault.{Vault}
+use Rattle.serial_model.specs.History.{Entry, as_of}
 use Rattle.serial_model.specs.State.{State}
-use Rattle.script_grammar.specs.Script.{Bytes, Script, IsTextOf}
-use Rattle.tx_script.specs.Run.{Ran, IsScriptRun}
+use Rattle.serial_model.specs.declared.decl.Decl.{Decl}
+use Rattle.serial_model.specs.declared.number.Commit.{Commit}
+use Rattle.script_grammar.specs.Script.{Bytes, Round, Script, IsTextOf, lines_of_worker}
+use Rattle.recovery_core.specs.Images.{Images}
+use Rattle.recovery_core.specs.JointCrash.{parts_of}
+use Rattle.recovery_core.specs.Recoverable.{IsRecoverable}
+use Rattle.recovery_core.specs.Resting.{AreTold}
+use Rattle.tx_script.specs.Run.{LogFull, Ran, IsScriptRun}
 use Rattle.tx_script.specs.Causes.{AllCaused}
 use Rattle.tx_script.specs.Draws.{DrawsOnce}
 use Rattle.tx_script.specs.declared.answer.Answer.{Answer}
 use Rattle.tx_script.specs.declared.answer.Answer.TheVariants as answers
+use Rattle.wire_form.specs.LogFile.{lines_bytes}
+use Rattle.round_engine.specs.Changes.{AreLogged}
+use Rattle.round_engine.specs.Ends.{durable_of, end_of}
+use Rattle.round_engine.specs.RanRound.{AreRoundMarks}
+use Rattle.round_engine.specs.Saves.{saves_told}
 use Rattle.command_line.specs.Options.{command_of}
 use Rattle.command_line.specs.declared.command.Command.{Command}
 use Rattle.foedus.specs.declared.ending.Ending.{Ending}
+use Rattle.foedus.specs.declared.ending.Ending.TheVariants.{Finished}
+use Rattle.foedus.specs.Beginning.{HasStorages, Opening, SameDecls}
 use Rattle.foedus.specs.Ending.{Comes, ReadsFirst, output_text, status_of}
+use Rattle.foedus.specs.Vaults.{HoldsOf, NoneFailed, Vaults}
 
 -- ---- what is run
-
--- Where a run begins: the state as of the epoch that was saved.
-pub record Opening : Type 0 where
-  pub state : State
-  pub saved : ℕ
-
--- An empty database, of which nothing was saved.
-abbrev pub fresh : Opening
-fresh = record { state = empty; saved = 0 }
 
 -- The bytes are a text of the script, and this is a run of it, from the opening to the state t; or no script was
 -- read, and nothing was run.
@@ -36,25 +42,132 @@ RunsOf (Some script) opening bytes rans t =
     IsTextOf bytes script × IsScriptRun script opening.state opening.saved rans t
 RunsOf None opening bytes rans t = (rans ≡ []) × (t ≡ opening.state)
 
--- How a command goes over a source with these bytes, of which `left` are left: what was run of which script, up to an
--- ending that may come so.
-pub record Course (opening : Opening) (command : Command) (bytes : Bytes) (left : Option Bytes)
+-- How a command goes over a source with these bytes, of which `left` are left, and over a vault: what was run of which
+-- script, from where, up to an ending that may come so.
+pub record Course {D : Type 0} (v : Vaults D) (command : Command) (bytes : Bytes) (left : Option Bytes)
     (rans : List Ran) (ending : Ending) : Type 0 where
   pub script : Option Script
+  pub opening : Opening
   pub state : State
   pub run : RunsOf script opening bytes rans state
-  pub comes : Comes command bytes script rans ending
-  pub reads : ReadsFirst ending rans (Some bytes) left
+  pub comes : Comes v command bytes script opening rans ending
+  pub reads : ReadsFirst script ending (Some bytes) left
 
--- What a command comes to over such a source: there are a run and an ending; each outcome of the run has its cause;
--- each line drew at most one number; and this is shown of both.
-pub record Came (opening : Opening) (command : Command) (bytes : Bytes) (left : Option Bytes)
+-- ---- why it came so
+
+-- the epochs that a round saved, by lines of the maintenance thread and by its join, in their order
+abbrev pub saved_in : Ran → List ℕ
+saved_in ran = saves_told ran.answers ++ option_to_list ran.durable
+
+-- the newest savepoint has this sequence at the begin of the first round, and one more with each that is stored
+abbrev pub SequencesFrom : ℕ → List Ran → Type 0
+SequencesFrom sequence [] = ⊤
+SequencesFrom sequence (ran ∷ rans) =
+    (ran.sequence ≡ sequence) × SequencesFrom (sequence + length (saved_in ran)) rans
+
+-- The marks that the workers had in a round: without a line in it a worker is idle; else its first mark is of the epoch
+-- before the round's.
+pub record IsMarked (round : Round) (ran : Ran) : Type 0 where
+  pub workers : length ran.marks ≡ 8
+  pub marks : (worker : ℕ) (epochs : List (Option ℕ)) → slice_get ran.marks worker ≡ Some epochs
+      → AreRoundMarks (lines_of_worker round worker) (Some (ran.begin.epoch - 1)) ran.begin.epoch ran.end.epoch epochs
+
+-- so they are in the first of these rounds
+abbrev pub AreMarked : List Ran → List Round → Type 0
+AreMarked [] rounds = ⊤
+AreMarked (ran ∷ rans) (round ∷ rounds) = IsMarked round ran × AreMarked rans rounds
+AreMarked (ran ∷ rans) [] = ⊥
+
+-- the rounds of a script, if one was read
+abbrev pub rounds_of : Option Script → List Round
+rounds_of (Some script) = script.rounds
+rounds_of None = []
+
+-- the join made durable what it could, and where nothing ends the run, the round's last epoch
+pub record IsDurable (ran : Ran) : Type 0 where
+  pub as_told : ran.durable ≡ durable_of ran
+  pub lasts : end_of ran ≡ None → ran.durable ≡ Some ran.end.epoch
+
+-- Each outcome and each answer of the rounds has its cause, as has each epoch that was made durable; by the sequences
+-- of the savepoints and the marks of the workers, which these causes speak of; and each line drew at most one number.
+pub record AreCaused (rounds : List Round) (sequence : ℕ) (rans : List Ran) : Type 0 where
+  pub caused : AllByRecursion AllCaused rans
+  pub durable : AllByRecursion IsDurable rans
+  pub sequences : SequencesFrom sequence rans
+  pub marks : AreMarked rans rounds
+  pub draws_once : AllByRecursion DrawsOnce rans
+
+-- A log file that was told full in a round: the lines that its worker logged in the whole run are so many bytes.
+abbrev pub AreFull : List Decl → State → List Entry → Ran → Type 0
+AreFull decls s commits ran = (worker size : ℕ) → worker < 8
+    → slice_get ran.logs worker ≡ Some (Some (LogFull size)) → (storages : List Decl) × SameDecls decls storages
+    × (logged : List Commit) × AreLogged storages worker s commits logged × (size ≡ length (lines_bytes logged))
+
+-- ---- what is kept of it
+
+-- the last epoch that these rounds saved, else the one that was saved before them
+abbrev pub last_saved : ℕ → List Ran → ℕ
+last_saved saved rans = fold (λ _ epoch. epoch) saved (flat_map saved_in rans)
+
+-- the commits of what was run, in the order in which they are serial
+abbrev pub commits_of : (script : Option Script) (opening : Opening) (bytes : Bytes) (rans : List Ran) (t : State)
+    → RunsOf script opening bytes rans t → List Entry
+commits_of (Some script) opening bytes rans t run = run.1.ordered
+commits_of None opening bytes rans t run = []
+
+-- the storages that were declared
+abbrev pub decls_in : Option Script → List Decl
+decls_in (Some script) = script.decls
+decls_in None = []
+
+-- The vault stands for the last epoch that was saved, and the state as of that epoch: from the state that it stood for
+-- as the call began, after these commits up to that epoch.
+abbrev pub StandsThrough : {D : Type 0} → Vaults D → List Decl → List Entry → List Ran → Type 0
+StandsThrough v decls commits rans = (found now : Images) (epoch : ℕ) (state : State)
+    → AreTold v.tells (parts_of v.was) found → AreTold v.tells (parts_of v.is) now → IsRecoverable found epoch state
+    → IsRecoverable now (last_saved epoch rans) (as_of decls state commits (last_saved epoch rans))
+
+-- The vault has the storages that were declared.
+abbrev pub HasDeclared : {D : Type 0} → Vaults D → List Decl → Type 0
+HasDeclared v decls = (found now : Images)
+    → AreTold v.tells (parts_of v.was) found → AreTold v.tells (parts_of v.is) now → HasStorages now decls
+
+-- no device failed, or all was done
+abbrev pub IsSound : {D : Type 0} → Vaults D → Ending → Type 0
+IsSound v ending = NoneFailed v ⊎ (ending ≡ Finished)
+
+-- What the vault keeps, where no device failed, and where all was done: then of all commits.
+pub record Keeps {D : Type 0} (v : Vaults D) (decls : List Decl) (commits : List Entry) (opening : Opening) (t : State)
+    (rans : List Ran) (ending : Ending) : Type 0 where
+  pub stands : IsSound v ending → StandsThrough v decls commits rans
+  pub declared : (rans ≡ [] → ⊥) → IsSound v ending → HasDeclared v decls
+  pub whole : ending ≡ Finished
+      → as_of decls opening.state commits (last_saved opening.saved rans) ≡ t
+
+-- the same of a course
+abbrev pub KeepsCourse : {D : Type 0} (v : Vaults D) (command : Command) (bytes : Bytes) (left : Option Bytes)
+    (rans : List Ran) (ending : Ending) → Course v command bytes left rans ending → Type 0
+KeepsCourse v command bytes left rans ending course = Keeps v (decls_in course.script)
+    (commits_of course.script course.opening bytes rans course.state course.run)
+    course.opening course.state rans ending
+
+-- so it is in the rounds of a course
+abbrev pub FilesAreFull : {D : Type 0} (v : Vaults D) (decls : List Decl) (commits : List Entry) (opening : Opening)
+    (rans : List Ran) → Type 0
+FilesAreFull v decls commits opening rans =
+    HoldsOf v (λ found. AllByRecursion (AreFull decls opening.state commits) rans)
+
+-- What a command comes to over such a source: there are a run and an ending; what came of the run has its cause; the
+-- vault keeps what it saved; and this is shown of both.
+pub record Came {D : Type 0} (v : Vaults D) (command : Command) (bytes : Bytes) (left : Option Bytes)
     (Shows : List Ran → Ending → Type 0) : Type 0 where
   pub rans : List Ran
   pub ending : Ending
-  pub course : Course opening command bytes left rans ending
-  pub caused : AllByRecursion AllCaused rans
-  pub draws_once : AllByRecursion DrawsOnce rans
+  pub course : Course v command bytes left rans ending
+  pub caused : AreCaused (rounds_of course.script) course.opening.sequence rans
+  pub full : FilesAreFull v (decls_in course.script)
+      (commits_of course.script course.opening bytes rans course.state course.run) course.opening rans
+  pub kept : KeepsCourse v command bytes left rans ending course
   pub shown : Shows rans ending
 
 -- ---- what is printed of it
@@ -76,48 +189,23 @@ pub record Shown (command : Command) (streams : Streams) (status : ℕ) (rans : 
   pub status_is : (status ≡ status_of ending) ⊎ (status ≡ 4)
   pub text : Holds status streams.held streams.holds (output_text command rans ending)
 
--- ---- what is kept of it
-
--- The answer to a keeper line saved nothing.
-abbrev pub IsNoSave : Answer → Type 0
-IsNoSave (answers.Save epoch) = ⊥
-IsNoSave answer = ⊤
+-- ---- snapshots
 
 -- The answer to a keeper line made no snapshot.
 abbrev pub IsNoSnap : Answer → Type 0
 IsNoSnap (answers.Snap epoch new) = ⊥
 IsNoSnap answer = ⊤
 
--- The join of the round made no epoch durable.
-abbrev pub IsNotDurable : Ran → Type 0
-IsNotDurable ran = ran.durable ≡ None
-
--- No epoch of the round was made durable, neither by its join nor by a keeper line.
-pub record SavesNothing (ran : Ran) : Type 0 where
-  pub by_join : IsNotDurable ran
-  pub by_keeper : AllByRecursion IsNoSave ran.answers
-
--- The run saves nothing, and the vault keeps what it kept.
-pub record Keeps {D : Type 0} (was is : Vault D) (rans : List Ran) : Type 0 where
-  pub saves : AllByRecursion SavesNothing rans
-  pub vault : is ≡ was
-
--- The run makes no snapshot.
+-- No line of the run makes a snapshot. What settling makes before it, at most one, of the epoch and the state that are
+-- kept then, isn't told here.
 abbrev pub Snapshots : List Ran → Type 0
 Snapshots = AllByRecursion (λ ran. AllByRecursion IsNoSnap ran.answers)
 
--- A stop at any moment of the call leaves what a stop before it left: no device was called.
-abbrev pub Stops : {D : Type 0} → Vault D → Vault D → Type 0
-Stops was is = is ≡ was
-
 -- ---- the main theorem
 
--- What a call with these words comes to, from this opening, over these streams and this vault: there are a run and
--- an ending, with their status and their text (`came`); the vault keeps what that run saved (`kept`) and has the
--- snapshots that it made (`snapshots`); and a stop within the call leaves what the vault may then keep (`stops`).
-pub record Answers {D : Type 0} (opening : Opening) (words : List Bytes) (streams : Streams) (was is : Vault D)
-    (status : ℕ) : Type 0 where
-  pub came : Came opening (command_of words) streams.bytes streams.left (Shown (command_of words) streams status)
-  pub kept : Keeps was is came.rans
+-- What a call with these words comes to, over these streams and this vault: there are a run, from what the vault stood
+-- for, and an ending, with their status and their text, and the vault keeps what that run saved (`came`); no line of
+-- the run makes a snapshot (`snapshots`). Of a stop within the call nothing is said here.
+pub record Answers {D : Type 0} (v : Vaults D) (words : List Bytes) (streams : Streams) (status : ℕ) : Type 0 where
+  pub came : Came v (command_of words) streams.bytes streams.left (Shown (command_of words) streams status)
   pub snapshots : Snapshots came.rans
-  pub stops : Stops was is

@@ -1,33 +1,55 @@
--- On the way to the main theorem: what the functions below `top`, and the program round it, tell of an ending and of
--- text.
-use Rattle.std.specs.Prelude.{◌≡◌, ◌⊎◌, ℕ, ◌<◌, ◌≤◌, ◌++◌, List, Option, Some, Result, Ok, Err, ⊤}
-use Rattle.std.specs.List.{AllByRecursion}
+-- On the way to the main theorem: what the functions below `top`, and the program round it, tell of an ending, of text,
+-- and of the begin of a run.
+use Rattle.std.specs.Prelude.{◌≡◌, ◌⊎◌, ◌<◌, ◌≤◌, ◌++◌, ℕ, List, [], Option, Some, Result, Ok, Err, ⊤}
+use Rattle.std.specs.Prelude.{IfSome, IsSome}
 use Rattle.std.specs.Io.KnownBytes.{Appends}
+use Rattle.std.specs.List.Sorted.{IsNonDecreasingBy, IsPermutation}
 use Rattle.lists.specs.declared.memory.OrMemory.{OrMemory}
 use Rattle.lists.specs.declared.memory.OrMemory.TheVariants as errors
 use Rattle.outside.specs.Faults.{Rose}
 use Rattle.outside.specs.Stream.{TakesPrefix}
+use Rattle.outside.specs.Vault.{IsWhole}
 use Rattle.outside.specs.declared.fault.Failed.{Failed}
 use Rattle.outside.specs.declared.vault.Device.{Device}
+use Rattle.outside.specs.declared.vault.Vault.{Vault}
 use Rattle.text_output.specs.Output.{Bytes, Output, Adds, Breaks}
+use Rattle.serial_model.specs.Keys.{id_of}
 use Rattle.serial_model.specs.State.{State}
+use Rattle.serial_model.specs.declared.decl.Decl.{Decl}
+use Rattle.script_grammar.specs.Faults.{IsFirstFault}
 use Rattle.script_grammar.specs.Script.{Script}
-use Rattle.tx_script.specs.Causes.{AllCaused}
-use Rattle.tx_script.specs.Draws.{DrawsOnce}
-use Rattle.tx_script.specs.Run.{Ran, IsScriptRun}
-use Rattle.tx_script.specs.Text.{run_text}
-use Rattle.round_engine.specs.declared.report.End.{End}
-use Rattle.round_engine.specs.declared.report.End.TheVariants.{Limit}
-use Rattle.command_line.specs.declared.command.Command.{Command}
-use Rattle.command_line.specs.declared.command.Command.TheVariants.{Run}
-use Rattle.command_line.specs.declared.command.RunOptions.{RunOptions}
+use Rattle.log_writer.specs.Points.{sequence_of}
+use Rattle.recovery_core.specs.Images.{Images}
+use Rattle.recovery_core.specs.JointCrash.{parts_of}
+use Rattle.recovery_core.specs.Recovered.{IsUp, Recovers}
+use Rattle.recovery_core.specs.Resting.{AreTold}
+use Rattle.checkpoints.specs.Due.{IsStoreDue, IsWithin}
+use Rattle.checkpoints.specs.SettlesInto.{SettlesInto}
+use Rattle.recovery_core.specs.VaultReads.{AreQuiet, VaultOnlyReads}
 use Rattle.recovery_core.specs.declared.fault.RecoverFault.{RecoverFault}
-use Rattle.recovery_core.specs.declared.fault.RecoverFault.TheVariants as faults
+use Rattle.recovery_core.specs.declared.fault.RecoverFault.TheVariants as recovers
+use Rattle.recovery_core.specs.declared.fault.SettleFault.{SettleFault}
+use Rattle.recovery_core.specs.declared.fault.SettleFault.TheVariants as settles
+use Rattle.recovery_core.specs.declared.recovered.Recovered.{Recovered}
+use Rattle.recovery_core.specs.declared.settlement.Settled.{Settled}
+use Rattle.worker_logs.specs.Saves.{CountsOf}
+use Rattle.tx_script.specs.Causes.{last_sequence}
+use Rattle.tx_script.specs.Run.{Ran, IsScriptRun, clock_after}
+use Rattle.round_engine.specs.Begun.{begun}
+use Rattle.round_engine.specs.Logs.{AreLogs}
+use Rattle.round_engine.specs.Standing.{RuntimeState, StandsOn}
+use Rattle.round_engine.specs.declared.report.End.{End}
+use Rattle.round_engine.specs.declared.report.End.TheVariants as ends
+use Rattle.round_engine.specs.declared.report.LimitName.TheVariants.{Height, Snap, Sequence}
+use Rattle.command_line.specs.declared.command.Command.{Command}
 use Rattle.foedus.specs.declared.ending.Ending.{Ending}
-use Rattle.foedus.specs.declared.ending.Ending.TheVariants.{NoScript, Usage, ReadFault, NoDevice, Damaged, AtLimit, NoMemory}
-use Rattle.foedus.specs.Causes.{Counts, IsDumpStatus, IsRunStatus}
-use Rattle.foedus.specs.Ending.{Comes, last_line, output_text, status_of}
-use Rattle.foedus.specs.Main.{Holds, IsNotDurable, Opening}
+use Rattle.foedus.specs.declared.ending.Ending.TheVariants.{NoScript, Shape, Usage, ReadFault, NoDevice, Damaged}
+use Rattle.foedus.specs.declared.ending.Ending.TheVariants.{AtLimit, NoMemory}
+use Rattle.foedus.specs.Beginning.{Opening, SameDecls}
+use Rattle.foedus.specs.Causes.{Counts, IsRunStatus, ReadsAlone, RestsAgain}
+use Rattle.foedus.specs.Ending.{IsNoText, IsReadOut, RunComes, body_text, last_line, output_text, status_of}
+use Rattle.foedus.specs.Main.{AreCaused, FilesAreFull, Holds, Keeps}
+use Rattle.foedus.specs.Vaults.{Vaults}
 
 -- ---- endings and statuses
 
@@ -42,6 +64,13 @@ IsUnread (NoScript fault) = ⊤
 IsUnread ReadFault = ⊤
 IsUnread NoMemory = ⊤
 IsUnread _ = ⊥
+
+-- What they tell of a source with these bytes, of which so many are left.
+abbrev pub IsUnreadOf : Bytes → Option Bytes → Ending → Type 0
+IsUnreadOf bytes left (NoScript fault) = IsNoText bytes × IsFirstFault bytes fault × IsReadOut (Some bytes) left
+IsUnreadOf bytes left ReadFault = ⊤
+IsUnreadOf bytes left NoMemory = ⊤
+IsUnreadOf bytes left _ = ⊥
 
 -- What is told where `top` isn't called: the ending's line with its status; or the sink failed within it.
 pub record TellsEnding (ending : Ending) (sink : Counts) (held holds : Option Bytes) (status : ℕ) : Type 0 where
@@ -66,7 +95,7 @@ IsWithout device _ = ⊥
 
 -- The statuses of the program: those of `top`. Status 5 also comes where a device can't be had.
 abbrev pub IsExit : ℕ → Type 0
-IsExit status = IsRunStatus status ⊎ IsDumpStatus status
+IsExit status = IsRunStatus status
 
 -- The source's count stands still unless its fault is answered, and then it rose.
 abbrev pub ReadsWithCause : {T : Type 0} → ℕ → ℕ → Result T (OrMemory Failed) → Type 0
@@ -81,19 +110,34 @@ EndsWithCause before after ending = after ≡ before
 
 -- How a call ends where recovery is refused.
 abbrev pub ending_of_fault : RecoverFault → Ending
-ending_of_fault (faults.Device device) = NoDevice device
-ending_of_fault (faults.Damaged device at) = Damaged device at
+ending_of_fault (recovers.Device device) = NoDevice device
+ending_of_fault (recovers.Damaged device at) = Damaged device at
 
 -- The same, or for want of memory.
 abbrev pub ending_of_refusal : OrMemory RecoverFault → Ending
 ending_of_refusal (errors.Fault fault) = ending_of_fault fault
 ending_of_refusal errors.Memory = NoMemory
 
--- ---- text
+-- How a call ends whose vault can't be settled.
+abbrev pub ending_of_settle_fault : SettleFault → Ending
+ending_of_settle_fault (settles.Device device) = NoDevice device
+ending_of_settle_fault settles.Deep = AtLimit Height
+ending_of_settle_fault (settles.Limit have new room) = AtLimit Snap
+ending_of_settle_fault (settles.Sequence sequence) = AtLimit Sequence
+
+-- The same, or for want of memory.
+abbrev pub ending_of_settling : OrMemory SettleFault → Ending
+ending_of_settling (errors.Fault fault) = ending_of_settle_fault fault
+ending_of_settling errors.Memory = NoMemory
 
 -- How a run ends that a round ends so.
 abbrev pub ending_of : End → Ending
-ending_of (Limit name number) = AtLimit name
+ending_of (ends.Device device) = NoDevice device
+ending_of (ends.Damaged device at) = Damaged device at
+ending_of (ends.Limit name number) = AtLimit name
+ending_of ends.Memory = NoMemory
+
+-- ---- text
 
 -- The call came to this ending, and the text was added, but not the last line; or the sink failed within the two.
 abbrev pub AddsText : Output → Output → Result Ending Failed → Bytes → Ending → Type 0
@@ -105,29 +149,84 @@ abbrev pub TakesText : Option Bytes → Option Bytes → Result Ending Failed �
 TakesText held holds (Ok came) text ending = (ending ≡ came) × Appends held holds (text ++ last_line ending)
 TakesText held holds (Err failed) text ending = TakesPrefix held holds (text ++ last_line ending)
 
--- No round's join made an epoch durable; the call came to this ending, and the text of what was run was added, but
--- not the last line; or the sink failed within the call's text.
+-- The call came to this ending, and what is printed before the last line was added; or the sink failed
+-- within the call's text.
 abbrev pub AddsRun : Command → Output → Output → Result Ending Failed → List Ran → Ending → Type 0
-AddsRun command old new (Ok came) rans ending =
-    AllByRecursion IsNotDurable rans × (ending ≡ came) × Adds old new (run_text rans)
-AddsRun command old new (Err failed) rans ending =
-    AllByRecursion IsNotDurable rans × Breaks old new (output_text command rans ending)
+AddsRun command old new (Ok came) rans ending = (ending ≡ came) × Adds old new (body_text command rans ending)
+AddsRun command old new (Err failed) rans ending = Breaks old new (output_text command rans ending)
 
--- No round's join made an epoch durable; the call came to this ending, and the sink took all of its text; or the
--- sink failed within that.
+-- The call came to this ending, and the sink took all of its text; or the sink failed within that.
 abbrev pub Takes : Command → Option Bytes → Option Bytes → Result Ending Failed → List Ran → Ending → Type 0
 Takes command held holds (Ok came) rans ending =
-    AllByRecursion IsNotDurable rans × (ending ≡ came) × Appends held holds (output_text command rans ending)
-Takes command held holds (Err failed) rans ending =
-    AllByRecursion IsNotDurable rans × TakesPrefix held holds (output_text command rans ending)
+    (ending ≡ came) × Appends held holds (output_text command rans ending)
+Takes command held holds (Err failed) rans ending = TakesPrefix held holds (output_text command rans ending)
 
--- What was run of a script from the opening and how that ended, whichever text of it was read; and this is shown of both.
-pub record RunsScript (opening : Opening) (script : Script) (Shows : List Ran → Ending → Type 0) : Type 0 where
+-- ---- the begin of a run
+
+-- What is recorded of stores and cuts was forgotten, and the devices are as they were.
+pub record IsForgotten {D : Type 0} (old new : Vault D) : Type 0 where
+  pub save : new.save ≡ old.save
+  pub snaps : new.snaps ≡ old.snaps
+  pub even : new.even ≡ old.even
+  pub odd : new.odd ≡ old.odd
+
+-- How a call ends that declares these storages over a vault that keeps others.
+abbrev pub AreOther : List Decl → List Decl → Ending → Type 0
+AreOther decls others NoMemory = ⊤
+AreOther decls others (Shape declared kept) = IsPermutation decls declared × IsNonDecreasingBy id_of declared
+    × (SameDecls decls kept → ⊥) × (kept ≡ others)
+AreOther decls others _ = ⊥
+
+-- The same over a vault that was recovered so: it isn't fresh.
+pub record IsOtherShape (decls : List Decl) (recovered : Recovered) (ending : Ending) : Type 0 where
+  pub saved : IsSome recovered.saved
+  pub other : AreOther decls recovered.decls ending
+
+-- How a run's beginning ends the call: as a run of no rounds may end; the vault keeps what it kept where no device
+-- failed, and was only read where it is damaged or has other storages.
+pub record EndsBefore {D : Type 0} (tells : D → Option Bytes) (clock : D → ℕ) (image_at : D → ℕ → Bytes → Type 0)
+    (faults : D → ℕ) (snap : ℕ) (script : Script) (was is : Vault D) (ending : Ending) : Type 0 where
+  pub opening : Opening
+  pub comes : RunComes (record { tells = tells; faults = faults; was = was; is = is }) snap script opening [] ending
+  pub kept : Keeps (record { tells = tells; faults = faults; was = was; is = is }) script.decls [] opening
+      opening.state [] ending
+  pub rests : RestsAgain tells clock image_at (status_of ending) was is
+  pub reads : ReadsAlone (status_of ending) → VaultOnlyReads tells clock image_at faults was is
+
+-- A run begins: the vault was recovered, as it reads, has the storages, and was settled; and the runtime stands on it.
+pub record BeginsRun {D : Type 0} (tells : D → Option Bytes) (clock : D → ℕ) (image_at : D → ℕ → Bytes → Type 0)
+    (faults : D → ℕ) (snap : ℕ) (decls : List Decl) (was is : Vault D) (r : RuntimeState) : Type 0 where
+  pub recovered : Recovered
+  pub settled : Settled
+  pub between : Vault D
+  pub recovers : (found : Images) → AreTold tells (parts_of was) found → Recovers found recovered
+  pub told : (found : Images) → AreTold tells (parts_of was) found → AreTold tells (parts_of between) found
+  pub up : IsUp recovered
+  pub same : SameDecls decls settled.decls
+  pub has : IfSome recovered.saved (λ _. SameDecls decls recovered.decls)
+  pub fits : IfSome recovered.saved (IsWithin recovered snap)
+  pub sequence : IsStoreDue recovered → sequence_of recovered.save.newest ≡ last_sequence → ⊥
+  pub settles : SettlesInto tells clock image_at recovered decls between is settled
+  pub begins : r ≡ begun settled.decls settled.state settled.save (clock_after settled.saved.epoch)
+  pub stands : StandsOn tells clock image_at r is
+  pub logs_told : (found : Images) → AreTold tells (parts_of was) found
+      → AreLogs tells clock image_at (λ worker. []) (λ worker. []) r is
+  pub counts : CountsOf (λ worker. []) (λ worker. []) r.save.newest
+  pub quiet : AreQuiet faults was is
+  pub whole : IsWhole was
+
+-- ---- a script's run
+
+-- What was run of a script from what the vault stood for, and how that ended; and this is shown of both.
+pub record RunsScript {D : Type 0} (v : Vaults D) (snap : ℕ) (script : Script) (Shows : List Ran → Ending → Type 0)
+    : Type 0 where
   pub rans : List Ran
   pub ending : Ending
+  pub opening : Opening
   pub state : State
   pub run : IsScriptRun script opening.state opening.saved rans state
-  pub comes : (options : RunOptions) (bytes : Bytes) → Comes (Run options) bytes (Some script) rans ending
-  pub caused : AllByRecursion AllCaused rans
-  pub draws_once : AllByRecursion DrawsOnce rans
+  pub comes : RunComes v snap script opening rans ending
+  pub caused : AreCaused script.rounds opening.sequence rans
+  pub full : FilesAreFull v script.decls run.ordered opening rans
+  pub kept : Keeps v script.decls run.ordered opening state rans ending
   pub shown : Shows rans ending

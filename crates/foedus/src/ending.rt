@@ -6,19 +6,27 @@ ghost use Rattle.foedus.specs.Ending.{damaged_text, fault_text, kind_text, last_
 ghost use Rattle.foedus.specs.OnTheWay.{ending_of, status_told};
 ghost use Rattle.foedus.specs.declared.ending.Ending.TheVariants as endings;
 
+use crate::shape::put_shape;
+use lists::{Memory, Sequence};
 use outside::{Device, Failed, Sink};
 use round_engine::{End, LimitName};
+use serial_model::Decl;
 use std::alloc::{AllocError, AllocFailed};
 use text_output::Printer;
 use tx_script::{FaultKind, ScriptFault};
 
 /// How a call ends, unless the sink fails.
-#[derive(Clone, Copy, Debug, PartialEq, Eq)]
+#[derive(Drop)]
 pub enum Ending {
     /// Every round was run.
     Finished,
     /// The bytes are no script.
     NoScript(ScriptFault),
+    /// The script declares other storages than the vault keeps.
+    Shape {
+        declared: Sequence<Decl>,
+        kept: Sequence<Decl>,
+    },
     /// The words ask for nothing that the program does.
     Usage,
     /// The source failed.
@@ -26,8 +34,11 @@ pub enum Ending {
     /// This device can't be had.
     NoDevice(Device),
     /// What this device holds isn't in its format, from this byte on.
-    Damaged { device: Device, at: u64 },
-    /// The clock's draws or its epochs are used up.
+    Damaged {
+        device: Device,
+        at: u64,
+    },
+    /// This limit was met.
     AtLimit(LimitName),
     /// A growth was refused.
     NoMemory,
@@ -41,6 +52,7 @@ impl Ending {
         match self {
             Ending::Finished => 0,
             Ending::NoScript(_) => 1,
+            Ending::Shape { .. } => 1,
             Ending::Usage => 2,
             Ending::ReadFault => 3,
             Ending::NoDevice(_) => 5,
@@ -57,6 +69,9 @@ impl Ending {
         match self {
             Ending::Finished => printer.put(b""),
             Ending::NoScript(fault) => put_fault(printer, *fault),
+            Ending::Shape { declared, kept } => {
+                put_shape(printer, declared.as_slice(), kept.as_slice())
+            }
             Ending::Usage => printer.put(b"usage\n"),
             Ending::ReadFault => printer.put(b"read\n"),
             Ending::NoDevice(device) => put_device(printer, *device),
@@ -71,6 +86,14 @@ impl From<AllocError> for Ending {
     ghost from_gives = { λ _ ending. ending ≡ endings.NoMemory };
 
     fn from(_error: AllocError) -> Ending {
+        Ending::NoMemory
+    }
+}
+
+impl From<Memory> for Ending {
+    ghost from_gives = { λ _ ending. ending ≡ endings.NoMemory };
+
+    fn from(_error: Memory) -> Ending {
         Ending::NoMemory
     }
 }
@@ -102,7 +125,10 @@ pub(crate) fn ending_of(end: End) -> Ending
     ensures { result ≡ ending_of end }
 {
     match end {
+        End::Device(device) => Ending::NoDevice(device),
+        End::Damaged { device, at } => Ending::Damaged { device, at },
         End::Limit { name, .. } => Ending::AtLimit(name),
+        End::Memory => Ending::NoMemory,
     }
 }
 
@@ -177,5 +203,9 @@ fn limit_text(name: LimitName) -> &'static [u8]
     match name {
         LimitName::Epoch => b"limit epoch\n",
         LimitName::Draw => b"limit draw\n",
+        LimitName::Bank => b"limit bank\n",
+        LimitName::Snap => b"limit snap\n",
+        LimitName::Height => b"limit height\n",
+        LimitName::Sequence => b"limit sequence\n",
     }
 }

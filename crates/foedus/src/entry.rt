@@ -21,21 +21,25 @@ use text_output::Printer;
 
 /// What the program does, for a person whose words were refused.
 pub(crate) const USAGE: &str = "\
-foedus runs the transactions of a script and prints a line for each, or tells what the database keeps.
+foedus runs the transactions of a script on a database and prints a line for each, or tells what the database keeps.
 
   foedus run [--tries N] [--slots N] [--snap N] < SCRIPT
   foedus dump
+  foedus make SEED WORKERS LINES
 
-  run         reads the script from standard input and runs it on an empty database
+  run         reads the script from standard input and runs it on what the folder vault keeps
   --tries N   how often a transaction is tried: 1 to 1000000, 1000 if left out
   --slots N   pages in memory that can change: 4 to 4096, 256 if left out
   --snap N    snapshot pages in memory: 1 to 65536, 4096 if left out
   dump        prints the saved epoch, and a line for each key: its storage, the key and its value;
               keys of arrays only where the value isn't 0
+  make        prints a script of so many LINES (1 to 65536) for so many WORKERS (1 to 8), the same for the same
+              SEED (0 to 2147483647); it reads nothing and keeps nothing
 
-Options come in any order, each at most once. They are without effect for now.
+Options come in any order, each at most once. Of them --snap alone has an effect for now.
 A script declares arrays (array ID SIZE) and trees (tree ID), and then has a line for each
-transaction: the worker, and its operations, as in 0 w 1 2 7; r 1 2. A line join ends a round.
+transaction: the worker, and its operations, as in 0 w 1 2 7; r 1 2. A line join ends a round, which
+is durable then. In a round k epoch ends the epoch, and k save makes durable what has ended.
 ";
 
 /// The words of the command line. Words that aren't UTF-8 ask for nothing that the program does.

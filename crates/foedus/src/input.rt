@@ -1,13 +1,11 @@
 // The script of a source.
-ghost use Rattle.std.specs.Prelude.{◌≡◌, ◌⊎◌, ℕ, ◌≤◌, List, [], Some, length, IfOk, IfErr, MatchResult};
+ghost use Rattle.std.specs.Prelude.{◌≡◌, ◌⊎◌, ℕ, ◌≤◌, List, Some, length, IfOk, IfErr, MatchResult};
 ghost use Rattle.std.specs.Io.KnownBytes.{Consumes, IsAtEnd};
 ghost use Rattle.script_grammar.specs.Script.{IsScript, IsTextOf};
-ghost use Rattle.foedus.specs.OnTheWay.{EndsWithCause, IsUnread, ReadsWithCause};
+ghost use Rattle.foedus.specs.OnTheWay.{EndsWithCause, IsUnread, IsUnreadOf, ReadsWithCause};
 ghost use Rattle.foedus.specs.Ending.{TakesAtMost, most_read};
-ghost use Rattle.foedus.specs.Main.{Course, fresh};
 
 use crate::ending::Ending;
-use command_line::{Command, RunOptions};
 use outside::{Failed, Source};
 use serial_model::OrMemory;
 use std::alloc::Global;
@@ -51,8 +49,7 @@ pub(crate) fn read_bytes<S: Source>(
 pub(crate) fn read_text<S: Source>(alloc: Global, source: &mut S) -> Result<Script, Ending>
     ensures read { (bytes : List ℕ) → S.left source.old ≡ Some bytes → MatchResult result
         (λ script. IsTextOf bytes script × IsAtEnd (S.left source.new))
-        (λ ending. (options : RunOptions)
-        → Course fresh (Command.Run options) bytes (S.left source.new) [] ending) }
+        (IsUnreadOf bytes (S.left source.new)) }
     ensures rules { IfOk result IsScript }
     ensures unread { IfErr result IsUnread }
     ensures cause { MatchResult result (λ _. S.faults source.new ≡ S.faults source.old)

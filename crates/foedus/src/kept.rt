@@ -33,7 +33,7 @@ pub(crate) fn dump<K: Sink, D: Disk>(
 }
 
 /// How a call ends whose vault can't be recovered.
-fn ending_of_refusal(refusal: OrMemory<RecoverFault>) -> Ending
+pub(crate) fn ending_of_refusal(refusal: OrMemory<RecoverFault>) -> Ending
     ensures { result ≡ ending_of_refusal refusal }
 {
     match refusal {

@@ -1,16 +1,20 @@
 // One call of the program.
 ghost use Rattle.std.specs.Prelude.{◌≡◌, ◌≢◌, ℕ, List, [], Some, Ok, map};
 ghost use Rattle.command_line.specs.Options.{command_of};
+ghost use Rattle.outside.specs.Disk.{IfTold, Only};
 ghost use Rattle.outside.specs.Vault.{IsWhole};
 ghost use Rattle.recovery_core.specs.Images.{Images};
 ghost use Rattle.recovery_core.specs.JointCrash.{parts_of};
 ghost use Rattle.recovery_core.specs.Resting.{AreTold};
 ghost use Rattle.recovery_core.specs.VaultReads.{VaultOnlyReads};
-ghost use Rattle.foedus.specs.Causes.{AnswersFaults, AnswersWords, IsStatus, ReadsNoSource};
+ghost use Rattle.foedus.specs.Causes.{AnswersDevices, AnswersFaults, AnswersWords, IsStatus};
+ghost use Rattle.foedus.specs.Causes.{LeavesVault, ReadsNoSource, ReadsOnly, RestsAgain};
 ghost use Rattle.foedus.specs.Dump.{Dumped, IsUndisturbed, ShownText, TellsAll};
 ghost use Rattle.foedus.specs.Ending.{TakesAtMost};
-ghost use Rattle.foedus.specs.Main.{Answers, Came, Streams, fresh};
+ghost use Rattle.foedus.specs.Made.{Makes};
+ghost use Rattle.foedus.specs.Main.{Answers, Came, Streams};
 ghost use Rattle.foedus.specs.OnTheWay.{AddsRun, AddsText, Takes, TakesText, status_told};
+ghost use Rattle.foedus.specs.Vaults.{Vaults};
 
 use crate::ending::{Ending, finish, status_told};
 use crate::run::run;
@@ -23,9 +27,11 @@ use std::thread::Threads;
 use text_output::Printer;
 
 /// Does what the words ask for, and answers the program's status: 0 where all was done, 1 where the
-/// bytes are no script, 2 where the words ask for nothing, 3 where the source failed, 4 where the sink
-/// failed, 5 where a device of the vault failed, 6 where one is damaged, 7 where the epochs are used up and 8 for want
-/// of memory.
+/// bytes are no script or declare other storages than the vault keeps, 2 where the words ask for nothing, 3 where
+/// the source failed, 4 where the sink failed, 5 where a device of the vault failed, 6 where one is damaged, 7 where
+/// a limit was met and 8 for want of memory.
+///
+/// As a run begins, the save device has to have one image: nothing is pending.
 pub fn top<R: Threads + Wait + Sync, S: Source, K: Sink, D: Disk + Send + Drop, G: Gate + Sync>(
     rt: &R,
     alloc: Global,
@@ -36,6 +42,8 @@ pub fn top<R: Threads + Wait + Sync, S: Source, K: Sink, D: Disk + Send + Drop, 
     gate: &G,
 ) -> u8
     requires whole { IsWhole vault.old }
+    requires one { (options : _) → command_of (map (λ word. word.now) words.now) ≡ Command.Run options
+        → IfTold (D.tells vault.old.save) (Only D.clock D.image_at vault.old.save) }
     // What was run, printed and kept, and how the call ended: the main theorem.
     ensures answer { command_of (map (λ word. word.now) words.now) ≢ Command.Dump
         → (bytes : List ℕ) → S.left source.old ≡ Some bytes
@@ -45,10 +53,19 @@ pub fn top<R: Threads + Wait + Sync, S: Source, K: Sink, D: Disk + Send + Drop, 
           held = K.held sink.old;
           holds = K.held sink.new;
         } in
-        Answers fresh (map (λ word. word.now) words.now) streams vault.old vault.new result }
+        let vaults : Vaults D = record {
+          tells = D.tells;
+          faults = D.faults;
+          was = vault.old;
+          is = vault.new;
+        } in
+        Answers vaults (map (λ word. word.now) words.now) streams result }
     // What is told of what the vault keeps, and that it is told where nothing fails.
     ensures dumped { command_of (map (λ word. word.now) words.now) ≡ Command.Dump
         → Dumped D.tells D.faults vault.old vault.new (ShownText (K.held sink.old) (K.held sink.new) result) }
+    // That a script is made, whatever the source tells.
+    ensures made { (arguments : _) → command_of (map (λ word. word.now) words.now) ≡ Command.Make arguments
+        → Makes arguments (ShownText (K.held sink.old) (K.held sink.new) result) }
     ensures complete { command_of (map (λ word. word.now) words.now) ≡ Command.Dump
         → (found : Images) → AreTold D.tells (parts_of vault.old) found → IsUndisturbed result
         → TellsAll found (K.held sink.old) (K.held sink.new) result }
@@ -62,9 +79,12 @@ pub fn top<R: Threads + Wait + Sync, S: Source, K: Sink, D: Disk + Send + Drop, 
     ensures spared { ReadsNoSource (command_of (map (λ word. word.now) words.now))
         → source.new ≡ source.old }
     ensures taken { TakesAtMost (S.left source.old) (S.left source.new) }
-    ensures untouched { command_of (map (λ word. word.now) words.now) ≢ Command.Dump
+    ensures untouched { LeavesVault (command_of (map (λ word. word.now) words.now))
         → vault.new ≡ vault.old }
-    ensures reads { VaultOnlyReads D.tells D.clock D.image_at D.faults vault.old vault.new }
+    ensures reads { ReadsOnly (command_of (map (λ word. word.now) words.now)) result
+        → VaultOnlyReads D.tells D.clock D.image_at D.faults vault.old vault.new }
+    ensures devices { AnswersDevices D.faults vault.old vault.new result }
+    ensures rests { RestsAgain D.tells D.clock D.image_at result vault.old vault.new }
 {
     let mut printer = Printer::new(sink);
     let outcome = call(rt, alloc, words, source, &mut printer, vault, gate);
@@ -73,7 +93,7 @@ pub fn top<R: Threads + Wait + Sync, S: Source, K: Sink, D: Disk + Send + Drop, 
 }
 
 // Does what the words ask for, and prints all of its text.
-fn call<R: Threads + Wait + Sync, S: Source, K: Sink, D: Disk, G: Gate + Sync>(
+fn call<R: Threads + Wait + Sync, S: Source, K: Sink, D: Disk + Drop, G: Gate + Sync>(
     rt: &R,
     alloc: Global,
     words: &[&str],
@@ -84,14 +104,19 @@ fn call<R: Threads + Wait + Sync, S: Source, K: Sink, D: Disk, G: Gate + Sync>(
 ) -> Result<Ending, Failed>
     requires empty { printer.old.waiting ≡ [] }
     requires whole { IsWhole vault.old }
+    requires one { (options : _) → command_of (map (λ word. word.now) words.now) ≡ Command.Run options
+        → IfTold (D.tells vault.old.save) (Only D.clock D.image_at vault.old.save) }
     ensures came { command_of (map (λ word. word.now) words.now) ≢ Command.Dump
         → (bytes : List ℕ) → S.left source.old ≡ Some bytes
         → let command = command_of (map (λ word. word.now) words.now) in
-        Came fresh command bytes (S.left source.new)
+        Came (record { tells = D.tells; faults = D.faults; was = vault.old; is = vault.new }) command bytes
+        (S.left source.new)
         (Takes command printer.old.held printer.new.held result) }
     ensures dumped { command_of (map (λ word. word.now) words.now) ≡ Command.Dump
         → Dumped D.tells D.faults vault.old vault.new
         (TakesText printer.old.held printer.new.held result) }
+    ensures made { (arguments : _) → command_of (map (λ word. word.now) words.now) ≡ Command.Make arguments
+        → Makes arguments (TakesText printer.old.held printer.new.held result) }
     ensures asked { AnswersWords (map (λ word. word.now) words.now) (status_told result) }
     ensures faults { AnswersFaults
         (record { before = S.faults source.old; after = S.faults source.new })
@@ -99,9 +124,12 @@ fn call<R: Threads + Wait + Sync, S: Source, K: Sink, D: Disk, G: Gate + Sync>(
     ensures spared { ReadsNoSource (command_of (map (λ word. word.now) words.now))
         → source.new ≡ source.old }
     ensures taken { TakesAtMost (S.left source.old) (S.left source.new) }
-    ensures untouched { command_of (map (λ word. word.now) words.now) ≢ Command.Dump
+    ensures untouched { LeavesVault (command_of (map (λ word. word.now) words.now))
         → vault.new ≡ vault.old }
-    ensures reads { VaultOnlyReads D.tells D.clock D.image_at D.faults vault.old vault.new }
+    ensures reads { ReadsOnly (command_of (map (λ word. word.now) words.now)) (status_told result)
+        → VaultOnlyReads D.tells D.clock D.image_at D.faults vault.old vault.new }
+    ensures devices { AnswersDevices D.faults vault.old vault.new (status_told result) }
+    ensures rests { RestsAgain D.tells D.clock D.image_at (status_told result) vault.old vault.new }
     ensures statuses { IsStatus (command_of (map (λ word. word.now) words.now)) (status_told result) }
     ensures same { printer.new.sink ≡ printer.old.sink }
 {
@@ -110,7 +138,7 @@ fn call<R: Threads + Wait + Sync, S: Source, K: Sink, D: Disk, G: Gate + Sync>(
 }
 
 // Does what the words ask for, and adds the text of what was run.
-fn run_words<R: Threads + Wait + Sync, S: Source, K: Sink, D: Disk, G: Gate + Sync>(
+fn run_words<R: Threads + Wait + Sync, S: Source, K: Sink, D: Disk + Drop, G: Gate + Sync>(
     rt: &R,
     alloc: Global,
     words: &[&str],
@@ -120,14 +148,19 @@ fn run_words<R: Threads + Wait + Sync, S: Source, K: Sink, D: Disk, G: Gate + Sy
     gate: &G,
 ) -> Result<Ending, Failed>
     requires whole { IsWhole vault.old }
+    requires one { (options : _) → command_of (map (λ word. word.now) words.now) ≡ Command.Run options
+        → IfTold (D.tells vault.old.save) (Only D.clock D.image_at vault.old.save) }
     ensures came { command_of (map (λ word. word.now) words.now) ≢ Command.Dump
         → (bytes : List ℕ) → S.left source.old ≡ Some bytes
         → let command = command_of (map (λ word. word.now) words.now) in
-        Came fresh command bytes (S.left source.new)
+        Came (record { tells = D.tells; faults = D.faults; was = vault.old; is = vault.new }) command bytes
+        (S.left source.new)
         (AddsRun command printer.old printer.new result) }
     ensures dumped { command_of (map (λ word. word.now) words.now) ≡ Command.Dump
         → Dumped D.tells D.faults vault.old vault.new
         (AddsText printer.old printer.new result) }
+    ensures made { (arguments : _) → command_of (map (λ word. word.now) words.now) ≡ Command.Make arguments
+        → Makes arguments (AddsText printer.old printer.new result) }
     ensures asked { AnswersWords (map (λ word. word.now) words.now) (status_told result) }
     ensures faults { AnswersFaults
         (record { before = S.faults source.old; after = S.faults source.new })
@@ -135,9 +168,12 @@ fn run_words<R: Threads + Wait + Sync, S: Source, K: Sink, D: Disk, G: Gate + Sy
     ensures spared { ReadsNoSource (command_of (map (λ word. word.now) words.now))
         → source.new ≡ source.old }
     ensures taken { TakesAtMost (S.left source.old) (S.left source.new) }
-    ensures untouched { command_of (map (λ word. word.now) words.now) ≢ Command.Dump
+    ensures untouched { LeavesVault (command_of (map (λ word. word.now) words.now))
         → vault.new ≡ vault.old }
-    ensures reads { VaultOnlyReads D.tells D.clock D.image_at D.faults vault.old vault.new }
+    ensures reads { ReadsOnly (command_of (map (λ word. word.now) words.now)) (status_told result)
+        → VaultOnlyReads D.tells D.clock D.image_at D.faults vault.old vault.new }
+    ensures devices { AnswersDevices D.faults vault.old vault.new (status_told result) }
+    ensures rests { RestsAgain D.tells D.clock D.image_at (status_told result) vault.old vault.new }
     ensures statuses { IsStatus (command_of (map (λ word. word.now) words.now)) (status_told result) }
     ensures same { printer.new.sink ≡ printer.old.sink }
 {

@@ -1,25 +1,42 @@
 // The answers of whole calls, and of the program. Texts, statuses and failing calls are those of the program's
 // description.
+ghost use Rattle.std.specs.Prelude.{IfOk};
+ghost use Rattle.outside.specs.Disk.{IfTold, Only};
+
 use crate::entry::{USAGE, run_program};
 use crate::files::open_vault;
 use crate::{Ending, top};
 use outside::{Disk, FileDisk, Gate, MemDisk, MemSink, MemSource, OpenGate, SureSource, Vault};
 use serial_model::{Decl, Key, State};
-use std::alloc::Global;
+use std::alloc::{AllocError, Global};
 use std::fs::{self, File, Files};
-use std::process::ExitCode;
+use std::process::{Abort, ExitCode};
 use std::sync::Wait;
 use std::sync::atomic::{AtomicU64, Ordering};
 use std::test::Fail;
 use std::thread::Threads;
 use tx_script::write_state;
 
+mod failing_devices;
+mod kept_runs;
+mod rounds;
+mod stops;
+
+// A disk of these bytes on which nothing is pending. The calls of these numbers fail.
+#[tactic(auto, using(outside::specs::Moments::only_told))]
+fn disk_of(alloc: Global, bytes: &[u8], fails: &[u64]) -> Result<MemDisk, AllocError>
+    ensures { IfOk result (λ disk. IfTold (⟦<MemDisk as Disk>⟧.tells disk)
+        (Only ⟦<MemDisk as Disk>⟧.clock ⟦<MemDisk as Disk>⟧.image_at disk)) }
+{
+    MemDisk::new(alloc, bytes.to_vec(alloc)?, fails.to_vec(alloc)?)
+}
+
 // Eight disks, of which the first has these bytes and the others none.
-fn banks(alloc: Global, first: &[u8]) -> Result<Vec<MemDisk>, Fail> {
+fn banks(alloc: Global, first: &[u8]) -> Result<Vec<MemDisk>, AllocError> {
     let mut disks = Vec::new(alloc);
-    disks.push(MemDisk::new(alloc, first.to_vec(alloc)?, Vec::new(alloc))?)?;
+    disks.push(disk_of(alloc, first, &[])?)?;
     for _ in 1..8 {
-        disks.push(MemDisk::new(alloc, Vec::new(alloc), Vec::new(alloc))?)?;
+        disks.push(disk_of(alloc, &[], &[])?)?;
     }
     Ok(disks)
 }
@@ -31,10 +48,13 @@ fn vault_of(
     snaps: &[u8],
     bank: &[u8],
     fails: &[u64],
-) -> Result<Vault<MemDisk>, Fail> {
+) -> Result<Vault<MemDisk>, AllocError>
+    ensures { IfOk result (λ vault. IfTold (⟦<MemDisk as Disk>⟧.tells vault.save)
+        (Only ⟦<MemDisk as Disk>⟧.clock ⟦<MemDisk as Disk>⟧.image_at vault.save)) }
+{
     Ok(Vault {
-        save: MemDisk::new(alloc, save.to_vec(alloc)?, fails.to_vec(alloc)?)?,
-        snaps: MemDisk::new(alloc, snaps.to_vec(alloc)?, Vec::new(alloc))?,
+        save: disk_of(alloc, save, fails)?,
+        snaps: disk_of(alloc, snaps, &[])?,
         even: banks(alloc, bank)?,
         odd: banks(alloc, &[])?,
         ties: Vec::new(alloc),
@@ -42,8 +62,35 @@ fn vault_of(
     })
 }
 
-fn fresh_vault(alloc: Global) -> Result<Vault<MemDisk>, Fail> {
+fn fresh_vault(alloc: Global) -> Result<Vault<MemDisk>, AllocError>
+    ensures { IfOk result (λ vault. IfTold (⟦<MemDisk as Disk>⟧.tells vault.save)
+        (Only ⟦<MemDisk as Disk>⟧.clock ⟦<MemDisk as Disk>⟧.image_at vault.save)) }
+{
     vault_of(alloc, &[0; 1024], &[], &[], &[])
+}
+
+// Disks of what others hold.
+fn disks_anew(alloc: Global, disks: &[MemDisk]) -> Result<Vec<MemDisk>, AllocError> {
+    let mut anew = Vec::new(alloc);
+    for disk in disks {
+        anew.push(disk_of(alloc, disk.bytes(), &[])?)?;
+    }
+    Ok(anew)
+}
+
+// A vault of what another holds, with nothing pending. Of the calls of its save these fail.
+fn anew(alloc: Global, vault: &Vault<MemDisk>, fails: &[u64]) -> Result<Vault<MemDisk>, AllocError>
+    ensures { IfOk result (λ vault. IfTold (⟦<MemDisk as Disk>⟧.tells vault.save)
+        (Only ⟦<MemDisk as Disk>⟧.clock ⟦<MemDisk as Disk>⟧.image_at vault.save)) }
+{
+    Ok(Vault {
+        save: disk_of(alloc, vault.save.bytes(), fails)?,
+        snaps: disk_of(alloc, vault.snaps.bytes(), &[])?,
+        even: disks_anew(alloc, &vault.even)?,
+        odd: disks_anew(alloc, &vault.odd)?,
+        ties: Vec::new(alloc),
+        cuts: Vec::new(alloc),
+    })
 }
 
 // The status of a call with these words after the program's name, over a source and a sink of which the calls of these
@@ -57,10 +104,7 @@ fn call<R: Threads + Wait + Sync + AllocGlobal, G: Gate + Sync>(
     gate: &G,
 ) -> Result<(u8, Vec<u8>), Fail> {
     let alloc = rt.alloc();
-    let mut words = vec![in alloc; "foedus"]?;
-    for word in asked.split_whitespace() {
-        words.push(word)?;
-    }
+    let words = words(alloc, asked)?;
     let mut source = MemSource::new(script.to_vec(alloc)?, vec![in alloc; failing_read]?);
     let mut sink = MemSink::new(alloc, vec![in alloc; failing_write]?);
     let mut vault = fresh_vault(alloc)?;
@@ -82,42 +126,120 @@ fn lines(alloc: Global, text: &str) -> Result<Vec<u8>, Fail> {
     Ok(bytes)
 }
 
+// The status and the text of a call with these words after the program's name over a vault.
+fn answer<R: Threads + Wait + Sync + AllocGlobal, D: Disk + Send + Drop>(
+    rt: &R,
+    vault: &mut Vault<D>,
+    asked: &str,
+    script: &[u8],
+) -> Result<(u8, Vec<u8>), Fail>
+    requires { IfTold (D.tells vault.old.save) (Only D.clock D.image_at vault.old.save) }
+{
+    let alloc = rt.alloc();
+    let words = words(alloc, asked)?;
+    let mut source = SureSource::new(script.to_vec(alloc)?);
+    let mut sink = MemSink::new(alloc, Vec::new(alloc));
+    if !vault.is_whole() {
+        return Err(Fail::from("a vault without a log file"));
+    }
+    let status = top(rt, alloc, &words, &mut source, &mut sink, vault, &OpenGate);
+    Ok((status, sink.bytes().to_vec(alloc)?))
+}
+
+// The same over what a vault holds, with nothing pending.
+fn answer_anew<R: Threads + Wait + Sync + AllocGlobal + Abort>(
+    rt: &R,
+    vault: &mut Vault<MemDisk>,
+    asked: &str,
+    script: &[u8],
+) -> Result<(u8, Vec<u8>), Fail> {
+    *vault = anew(rt.alloc(), vault, &[])?;
+    answer(rt, vault, asked, script)
+}
+
+// The program's name, and the words of a text.
+fn words(alloc: Global, asked: &str) -> Result<Vec<&str>, Fail> {
+    let mut words = vec![in alloc; "foedus"]?;
+    for word in asked.split_whitespace() {
+        words.push(word)?;
+    }
+    Ok(words)
+}
+
+// Four parts of a row.
+fn parts(row: &str) -> [&str; 4] {
+    let mut parts = row.split('#');
+    let first = parts.next().unwrap_or("").trim();
+    let second = parts.next().unwrap_or("").trim();
+    let third = parts.next().unwrap_or("").trim();
+    let fourth = parts.next().unwrap_or("").trim();
+    [first, second, third, fourth]
+}
+
+// Makes the call of a row over what a vault holds, and compares its status and its text.
+fn check_row<R: Threads + Wait + Sync + AllocGlobal + Abort>(
+    rt: &R,
+    vault: &mut Vault<MemDisk>,
+    row: &str,
+) -> Result<(), Fail> {
+    let [asked, script, status, text] = parts(row);
+    let script = lines(rt.alloc(), script)?;
+    let (got, told) = answer_anew(rt, vault, asked, &script)?;
+    let text = lines(rt.alloc(), text)?;
+    assert_eq!(rt; got, status.parse::<u8>()?, "{row}");
+    assert_eq!(rt; told.as_slice(), text.as_slice(), "{row}");
+    Ok(())
+}
+
 // The words after the name, the script, the status and the text, with bars for newlines.
 const CASES: &str = "\
-run # array 1 4|0 w 1 2 7; r 1 2|0 r 1 0| # 0 # 0.0 ok 1:1 7|0.1 ok 1:2 0|
-run # # 0 #
+run # array 1 4|0 w 1 2 7; r 1 2|0 r 1 0| # 0 # 0.0 ok 1:1 7|0.1 ok 1:2 0|durable 1|
+run #  # 0 # durable 1|
 run # array 1 131072|0 w 1 131071 5|0 w 1 131072 5| # 1 # script 3 Range|
-run # array 1 4|0 t 1 0 5| # 0 # 0.0 short 1:1|
-run # array 1 4|0 w 1 0 18446744073709551615; a 1 0 1|0 r 1 0| # 0 # 0.0 over 1:1|0.1 ok 1:2 0|
-run # array 1 4|0 w 1 0 1|join|0 r 1 0| # 0 # 0.0 ok 1:1|0.0 ok 2:2 1|
-run # array 1 4|join||join # 0 #
-run # array 9 2|3 w 9 1 5|0 r 9 1||3 r 9 1; r 9 0 # 0 # 0.0 ok 1:1 0|3.0 ok 1:2|3.1 ok 1:3 5 0|
-run # tree 2|0 w 2 5 50; w 2 1 10; s 2 0 9| # 0 # 0.0 ok 1:1 1=10,5=50|
-run # tree 2|0 r 2 3|0 s 2 0 9|0 s 2 9 0| # 0 # 0.0 ok 1:1 -|0.1 ok 1:2 .|0.2 ok 1:3 .|
+run # array 1 4|0 t 1 0 5| # 0 # 0.0 short 1:1|durable 1|
+run # array 1 4|0 w 1 0 18446744073709551615; a 1 0 1|0 r 1 0| # 0 # 0.0 over 1:1|0.1 ok 1:2 0|durable 1|
+run # array 1 4|0 w 1 0 1|join|0 r 1 0| # 0 # 0.0 ok 1:1|durable 1|0.0 ok 2:2 1|durable 2|
+run # array 1 4|join||join # 0 # durable 1|durable 2|
+run # array 1 4|k epoch|k save| # 0 # k.0 epoch 2|k.1 save 1|durable 2|
+run # k epoch|k epoch|k save| # 0 # k.0 epoch 2|k.1 epoch 3|k.2 save 2|durable 3|
+run # array 1 4|k epoch|0 w 1 0 5|k save|join|0 r 1 0| # 0 # 0.0 ok 1:1|k.0 epoch 2|k.1 save 0|durable 2|0.0 ok 3:2 5|\
+durable 3|
+run # array 9 2|3 w 9 1 5|0 r 9 1||3 r 9 1; r 9 0 # 0 # 0.0 ok 1:1 0|3.0 ok 1:2|3.1 ok 1:3 5 0|durable 1|
+run # tree 2|0 w 2 5 50; w 2 1 10; s 2 0 9| # 0 # 0.0 ok 1:1 1=10,5=50|durable 1|
+run # tree 2|0 r 2 3|0 s 2 0 9|0 s 2 9 0| # 0 # 0.0 ok 1:1 -|0.1 ok 1:2 .|0.2 ok 1:3 .|durable 1|
 run # tree 2|0 w 2 18446744073709551615 1; r 2 18446744073709551615; d 2 18446744073709551615; r 2 \
-18446744073709551615| # 0 # 0.0 ok 1:1 1 -|
-run # tree 2|0 w 2 1 1|0 w 2 2 2|0 w 2 3 3|0 w 2 4 4|0 w 2 5 5|0 w 2 6 6|0 w 2 7 7|0 w 2 8 8|0 w 2 9 9|0 w 2 10 10|\
-0 w 2 11 11|0 w 2 12 12|0 w 2 13 13|0 w 2 14 14|0 w 2 15 15|0 w 2 16 16|0 w 2 17 17|0 s 2 0 99| # 0 # 0.0 ok 1:1|\
-0.1 ok 1:2|0.2 ok 1:3|0.3 ok 1:4|0.4 ok 1:5|0.5 ok 1:6|0.6 ok 1:7|0.7 ok 1:8|0.8 ok 1:9|0.9 ok 1:10|0.10 ok 1:11|\
-0.11 ok 1:12|0.12 ok 1:13|0.13 ok 1:14|0.14 ok 1:15|0.15 ok 1:16|0.16 ok 1:17|0.17 ok 1:18 1=1,2=2,3=3,4=4,5=5,6=6,\
-7=7,8=8,9=9,10=10,11=11,12=12,13=13,14=14,15=15,16=16|
-run # tree 2|0 w 2 1 1; w 2 2 2; w 2 3 3; w 2 4 4; w 2 5 5; w 2 6 6; w 2 7 7; w 2 8 8; w 2 9 9; w 2 10 10; w 2 11 \
-11; w 2 12 12; w 2 13 13; w 2 14 14; w 2 15 15; w 2 16 16|0 s 2 0 99; w 2 17 17; s 2 0 99; d 2 1; s 2 0 99| # 0 # \
-0.0 ok 1:1|0.1 ok 1:2 1=1,2=2,3=3,4=4,5=5,6=6,7=7,8=8,9=9,10=10,11=11,12=12,13=13,14=14,15=15,16=16 1=1,2=2,3=3,4=4,\
-5=5,6=6,7=7,8=8,9=9,10=10,11=11,12=12,13=13,14=14,15=15,16=16 2=2,3=3,4=4,5=5,6=6,7=7,8=8,9=9,10=10,11=11,12=12,\
-13=13,14=14,15=15,16=16,17=17|
-run # tree 2|0 w 2 0 1; w 2 18446744073709551615 2; s 2 0 18446744073709551615; s 2 1 18446744073709551614; s 2 0 \
-0; s 2 18446744073709551615 18446744073709551615| # 0 # 0.0 ok 1:1 0=1,18446744073709551615=2 . 0=1 \
-18446744073709551615=2|
-run # tree 2|0 w 2 1 10; w 2 5 50|0 d 2 1; r 2 1; s 2 0 9; w 2 1 7; r 2 1; s 2 1 5; d 2 4|0 s 2 0 9|0 d 2 5; t 2 1 \
-8|0 s 2 0 9| # 0 # 0.0 ok 1:1|0.1 ok 1:2 - 5=50 7 1=7,5=50|0.2 ok 1:3 1=7,5=50|0.3 short 1:4|0.4 ok 1:5 1=7,5=50|
-run # array 1 4|tree 2|tree 3|0 w 1 1 7; w 2 1 8; w 3 1 9; a 3 2 5; t 3 4 0|0 d 2 1; r 1 1; r 2 1; r 3 1|join|1 s 2 \
-0 9; s 3 0 9; r 1 1; r 1 2| # 0 # 0.0 ok 1:1|0.1 ok 1:2 7 - 9|1.0 ok 2:3 . 1=9,2=5,4=0 7 0|
-run --snap 1 --tries 1000000 # array 1 4|0 r 1 0 # 0 # 0.0 ok 1:1 0|
-run --slots 4096 # array 1 4|0 r 1 0 # 0 # 0.0 ok 1:1 0|
+18446744073709551615| # 0 # 0.0 ok 1:1 1 -|durable 1|
+run # tree 2|0 w 2 1 1|0 w 2 2 2|0 w 2 3 3|0 w 2 4 4|0 w 2 5 5|0 w 2 6 6|0 w 2 7 7|0 w 2 8 8|0 w 2 9 9|0 w 2 10 10|0 \
+w 2 11 11|0 w 2 12 12|0 w 2 13 13|0 w 2 14 14|0 w 2 15 15|0 w 2 16 16|0 w 2 17 17|0 s 2 0 99| # 0 # 0.0 ok 1:1|0.1 ok \
+1:2|0.2 ok 1:3|0.3 ok 1:4|0.4 ok 1:5|0.5 ok 1:6|0.6 ok 1:7|0.7 ok 1:8|0.8 ok 1:9|0.9 ok 1:10|0.10 ok 1:11|0.11 ok \
+1:12|0.12 ok 1:13|0.13 ok 1:14|0.14 ok 1:15|0.15 ok 1:16|0.16 ok 1:17|0.17 ok 1:18 1=1,2=2,3=3,4=4,5=5,6=6,7=7,8=8,\
+9=9,10=10,11=11,12=12,13=13,14=14,15=15,16=16|durable 1|
+run # tree 2|0 w 2 1 1; w 2 2 2; w 2 3 3; w 2 4 4; w 2 5 5; w 2 6 6; w 2 7 7; w 2 8 8; w 2 9 9; w 2 10 10; w 2 11 11; \
+w 2 12 12; w 2 13 13; w 2 14 14; w 2 15 15; w 2 16 16|0 s 2 0 99; w 2 17 17; s 2 0 99; d 2 1; s 2 0 99| # 0 # 0.0 ok \
+1:1|0.1 ok 1:2 1=1,2=2,3=3,4=4,5=5,6=6,7=7,8=8,9=9,10=10,11=11,12=12,13=13,14=14,15=15,16=16 1=1,2=2,3=3,4=4,5=5,6=6,\
+7=7,8=8,9=9,10=10,11=11,12=12,13=13,14=14,15=15,16=16 2=2,3=3,4=4,5=5,6=6,7=7,8=8,9=9,10=10,11=11,12=12,13=13,14=14,\
+15=15,16=16,17=17|durable 1|
+run # tree 2|0 w 2 0 1; w 2 18446744073709551615 2; s 2 0 18446744073709551615; s 2 1 18446744073709551614; s 2 0 0; \
+s 2 18446744073709551615 18446744073709551615| # 0 # 0.0 ok 1:1 0=1,18446744073709551615=2 . 0=1 \
+18446744073709551615=2|durable 1|
+run # tree 2|0 w 2 1 10; w 2 5 50|0 d 2 1; r 2 1; s 2 0 9; w 2 1 7; r 2 1; s 2 1 5; d 2 4|0 s 2 0 9|0 d 2 5; t 2 1 8|\
+0 s 2 0 9| # 0 # 0.0 ok 1:1|0.1 ok 1:2 - 5=50 7 1=7,5=50|0.2 ok 1:3 1=7,5=50|0.3 short 1:4|0.4 ok 1:5 1=7,5=50|\
+durable 1|
+run # array 1 4|tree 2|tree 3|0 w 1 1 7; w 2 1 8; w 3 1 9; a 3 2 5; t 3 4 0|0 d 2 1; r 1 1; r 2 1; r 3 1|join|1 s 2 0 \
+9; s 3 0 9; r 1 1; r 1 2| # 0 # 0.0 ok 1:1|0.1 ok 1:2 7 - 9|durable 1|1.0 ok 2:3 . 1=9,2=5,4=0 7 0|durable 2|
+run --snap 1 --tries 1000000 # array 1 4|0 r 1 0 # 0 # 0.0 ok 1:1 0|durable 1|
+run --slots 4096 # array 1 4|0 r 1 0 # 0 # 0.0 ok 1:1 0|durable 1|
 run --slots 3 # array 1 4| # 2 # usage|
 run --tries 0 # array 1 4| # 2 # usage|
 run --tries 5 --help # array 1 4| # 2 # usage|
+make 1 2 2 # # 0 # array 1 1024|tree 2|0 a 1 454 1; a 2 126 1|1 a 1 897 1; a 2 107 1|
+run # array 1 1024|tree 2|0 a 1 454 1; a 2 126 1|1 a 1 897 1; a 2 107 1| # 0 # 0.0 ok 1:1|1.0 ok 1:2|durable 1|
+make 1 2 0 # # 2 # usage|
+make 1 9 2 # # 2 # usage|
+make 2147483648 1 1 # # 2 # usage|
+make # # 2 # usage|
+make -- --help 1 2 # # 2 # usage|
+run --brief # array 1 4| # 2 # usage|
 walk # array 1 4| # 2 # usage|
 --help # array 1 4| # 2 # usage|
  # array 1 4| # 2 # usage|
@@ -137,7 +259,12 @@ run # array 1 4|8 r 1 0| # 1 # script 2 Range|
 run # array 1 4|0 r 1 4| # 1 # script 2 Range|
 run # tree 2 4| # 1 # script 1 Word|
 run # tree 2|0 d 2 0 1| # 1 # script 2 Word|
-run # k epoch| # 1 # script 1 Word|
+run # k glean| # 1 # script 1 Word|
+run # k drop| # 1 # script 1 Word|
+run # k epoch | # 1 # script 1 Word|
+run # k save 1| # 1 # script 1 Word|
+run # k| # 1 # script 1 Word|
+run # k epoch|array 1 4| # 1 # script 2 Declared|
 run # tree 02| # 1 # script 1 Number|
 run # tree 2|0 s 2 0 18446744073709551616| # 1 # script 2 Number|
 run # tree 2|tree 2| # 1 # script 2 Declared|
@@ -150,16 +277,9 @@ run # tree 256| # 1 # script 1 Range|
 // With ample memory each call gives its text: a body that always wants memory fails here.
 #[test]
 fn ample_memory_is_enough(rt: HostRuntime) -> Result<(), Fail> {
-    let alloc = rt.alloc();
-    for case in CASES.lines() {
-        let mut parts = case.split('#');
-        let asked = parts.next().ok_or("words")?;
-        let script = lines(alloc, parts.next().ok_or("a script")?.trim())?;
-        let status = parts.next().ok_or("a status")?.trim().parse::<u8>()?;
-        let text = lines(alloc, parts.next().ok_or("a text")?.trim_start())?;
-        let (got, held) = call(&rt, asked, &script, 9, 9, &OpenGate)?;
-        assert_eq!(rt; got, status, "{case}");
-        assert_eq!(rt; held.as_slice(), text.as_slice(), "{case}");
+    for row in CASES.lines() {
+        let mut vault = fresh_vault(rt.alloc())?;
+        check_row(&rt, &mut vault, row)?;
     }
     Ok(())
 }
@@ -171,7 +291,7 @@ fn a_fault_of_a_stream_ends_the_call(rt: HostRuntime) -> Result<(), Fail> {
     let cases: [(u64, u64, u8, &str); 4] = [
         (0, 9, 3, "read\n"),
         (1, 9, 3, "read\n"),
-        (9, 0, 4, "0.0 ok 1:1 7\n"),
+        (9, 0, 4, "0.0 ok 1:1 7\n0.1 o"),
         (0, 0, 4, "re"),
     ];
     for (read, write, status, text) in cases {
@@ -210,8 +330,8 @@ fn too_much_is_told(rt: HostRuntime) -> Result<(), Fail> {
     Ok(())
 }
 
-// The calls of a gate, each in two digits of base 16, the last one lowest: the worker, and 8 more behind a line; and the
-// line.
+// The calls of a gate, each in two digits of base 16, the last one lowest: the worker, and 8 more behind a line; and
+// the line.
 #[derive(Drop)]
 struct Recording {
     calls: AtomicU64,
@@ -338,16 +458,18 @@ fn saved_vault(
         ],
     )?;
     line.truncate(40);
-    vault_of(alloc, &save, &snaps, &line, fails)
+    Ok(vault_of(alloc, &save, &snaps, &line, fails)?)
 }
 
-// The status and the text of a dump, whose sink fails at this call.
+// The status and the text of a dump of what a vault holds, whose sink fails at this call. The vault's calls fail as it
+// says.
 fn dump<R: Threads + Wait + Sync + AllocGlobal>(
     rt: &R,
-    mut vault: Vault<MemDisk>,
+    vault: &Vault<MemDisk>,
     failing_write: u64,
 ) -> Result<(u8, Vec<u8>), Fail> {
     let alloc = rt.alloc();
+    let mut vault = anew(alloc, vault, vault.save.fails())?;
     let mut source = MemSource::new(Vec::new(alloc), vec![in alloc; 0]?);
     let mut sink = MemSink::new(alloc, vec![in alloc; failing_write]?);
     if !vault.is_whole() {
@@ -385,7 +507,7 @@ fn a_dump_tells_what_is_kept(rt: HostRuntime) -> Result<(), Fail> {
         (saved_vault(alloc, 40, 7, &[0])?, 9, 5, "device save\n"),
     ];
     for (vault, failing_write, status, text) in cases {
-        let (got, told) = dump(&rt, vault, failing_write)?;
+        let (got, told) = dump(&rt, &vault, failing_write)?;
         assert_eq!(rt; got, status, "{text}");
         assert_eq!(rt; told.as_slice(), text.as_bytes());
     }
@@ -407,7 +529,30 @@ fn a_state_as_text(rt: HostRuntime) -> Result<(), Fail> {
     Ok(())
 }
 
-// What the program answers, prints and explains, where a folder stands in the place of two files.
+// What the program answers, prints and explains over a folder.
+fn program_in<R: Threads + Wait + Sync + Files<File = File> + AllocGlobal>(
+    rt: &R,
+    folder: &str,
+    word: &str,
+    script: &str,
+) -> Result<(ExitCode, Vec<u8>, Vec<u8>), Fail> {
+    let alloc = rt.alloc();
+    let mut words = Vec::new(alloc);
+    for text in ["foedus", word] {
+        words.push(String::from_str(alloc, text)?)?;
+    }
+    let mut source = SureSource::new(script.as_bytes().to_vec(alloc)?);
+    let mut sink = MemSink::new(alloc, Vec::new(alloc));
+    let mut errors = MemSink::new(alloc, Vec::new(alloc));
+    let code = run_program(rt, Ok(words), folder, &mut source, &mut sink, &mut errors);
+    Ok((
+        code,
+        sink.bytes().to_vec(alloc)?,
+        errors.bytes().to_vec(alloc)?,
+    ))
+}
+
+// The same over a new folder, where folders stand in the place of two files.
 fn program<R: Threads + Wait + Sync + Files<File = File> + AllocGlobal>(
     rt: &R,
     word: &str,
@@ -421,20 +566,45 @@ fn program<R: Threads + Wait + Sync + Files<File = File> + AllocGlobal>(
         let path = format!(in alloc; "{folder}/{name}")?;
         fs::create_dir(rt, path.as_str())?;
     }
-    let mut words = Vec::new(alloc);
-    for text in ["foedus", word] {
-        words.push(String::from_str(alloc, text)?)?;
-    }
-    let mut source = SureSource::new(b"array 1 4\n0 r 1 3\n".to_vec(alloc)?);
-    let mut sink = MemSink::new(alloc, Vec::new(alloc));
-    let mut errors = MemSink::new(alloc, Vec::new(alloc));
-    let code = run_program(rt, Ok(words), folder, &mut source, &mut sink, &mut errors);
+    let answer = program_in(rt, folder, word, "array 1 4\n0 r 1 3\n")?;
     fs::remove_dir_all(rt, folder)?;
-    Ok((
-        code,
-        sink.bytes().to_vec(alloc)?,
-        errors.bytes().to_vec(alloc)?,
-    ))
+    Ok(answer)
+}
+
+// What was run is found again in the files.
+#[test]
+fn files_keep_what_was_run(rt: HostRuntime) -> Result<(), Fail> {
+    let folder = "foedus_kept";
+    let _old = fs::remove_dir_all(&rt, folder);
+    let cases: [(&str, &str, u8, &str); 5] = [
+        (
+            "run",
+            "array 1 4\n0 r 1 2\n",
+            0,
+            "0.0 ok 1:1 0\ndurable 1\n",
+        ),
+        (
+            "run",
+            "array 1 4\n0 w 1 2 7\n",
+            0,
+            "0.0 ok 2:1\ndurable 2\n",
+        ),
+        ("dump", "", 0, "epoch 2\n1 2 7\n"),
+        (
+            "run",
+            "array 1 4\n0 r 1 2\n",
+            0,
+            "0.0 ok 3:1 7\ndurable 3\n",
+        ),
+        ("run", "array 1 5\n", 1, "shape declared 1:5 kept 1:4\n"),
+    ];
+    for (word, script, status, text) in cases {
+        let (code, told, _explained) = program_in(&rt, folder, word, script)?;
+        assert!(rt; code == ExitCode::from(status), "{text}");
+        assert_eq!(rt; told.as_slice(), text.as_bytes());
+    }
+    fs::remove_dir_all(&rt, folder)?;
+    Ok(())
 }
 
 // The word, the files that can't be had, of which the first in order is told, the status, the text and the
@@ -443,7 +613,13 @@ fn program<R: Threads + Wait + Sync + Files<File = File> + AllocGlobal>(
 fn the_program_tells_and_explains(rt: HostRuntime) -> Result<(), Fail> {
     let cases: [(&str, [&str; 2], u8, &str, &str); 7] = [
         ("dump", ["other", "another"], 0, "epoch 0\n", ""),
-        ("run", ["other", "another"], 0, "0.0 ok 1:1 0\n", ""),
+        (
+            "run",
+            ["other", "another"],
+            0,
+            "0.0 ok 1:1 0\ndurable 1\n",
+            "",
+        ),
         ("--help", ["other", "another"], 2, "usage\n", USAGE),
         ("run", ["bank3", "bank2"], 5, "device bank2\n", ""),
         ("run", ["bank14", "bank1"], 5, "device bank1\n", ""),

@@ -4,21 +4,12 @@ use Rattle.std.specs.Io.KnownBytes.{Consumes}
 use Rattle.script_grammar.specs.Faults.{IsFirstFault}
 use Rattle.script_grammar.specs.Script.{IsTextOf}
 use Rattle.foedus.specs.Ending.{IsNoText}
-use Rattle.foedus.proofs.Courses.{no_script_course, read_fault_course, unread_course}
+use Rattle.foedus.proofs.Courses.{no_script_read}
 use Rattle.foedus.proofs.input.read_text.Goals as goal
 
-pub returns-in-Err-Fault-clause-read : goal.returns-in-Err-Fault-clause-read
-returns-in-Err-Fault-clause-read g c = λ bytes told options. read_fault_course options bytes _
-
-pub returns-in-Err-Memory-clause-read : goal.returns-in-Err-Memory-clause-read
-returns-in-Err-Memory-clause-read g c = λ bytes told options. unread_course options bytes _
-
 pub returns-in-Err-Fault-read_script-clause-read : goal.returns-in-Err-Fault-read_script-clause-read
-returns-in-Err-Fault-read_script-clause-read g c = λ bytes told options.
+returns-in-Err-Fault-read_script-clause-read g c = λ bytes told.
     let none : IsNoText c.in-Ok.bytes.items = λ script text.
     rw c.in-Err-Fault-read_script.field-0-is at (c.in-Err-Fault-read_script.ensures.only script (subst (λ b. IsTextOf b script) (sym c.deref.ensures.value) text)) in
-    no_script_course options bytes c.in-Ok.bytes.items _ _ (subst (λ o. Consumes o (g.S.Source.left c.read_bytes.new.source) c.in-Ok.bytes.items) told c.in-Ok.ensures.bytes) c.in-Ok.ensures.all none
+    no_script_read bytes c.in-Ok.bytes.items _ _ (subst (λ o. Consumes o (g.S.Source.left c.read_bytes.new.source) c.in-Ok.bytes.items) told c.in-Ok.ensures.bytes) c.in-Ok.ensures.all none
     (subst (λ b. IsFirstFault b c.in-Err-Fault-read_script.fault) c.deref.ensures.value (c.in-Err-Fault-read_script.ensures.fault c.in-Err-Fault-read_script.fault (rw c.in-Err-Fault-read_script.field-0-is refl)))
-
-pub returns-clause-read : goal.returns-clause-read
-returns-clause-read g c = λ bytes told options. unread_course options bytes _

@@ -1,23 +1,33 @@
 -- The run's text, and then the last line.
 use Rattle.std.proofs.Common.{◌∙◌}
 use Rattle.std.proofs.lemmas.Result.{err_from_is_err_and}
-use Rattle.foedus.proofs.Statuses.{faults_finished, status_finished, words_finished}
+use Rattle.foedus.proofs.Makes.{made_broken, made_finished}
+use Rattle.foedus.proofs.Statuses.{devices_finished, faults_finished, reads_finished, rests_finished, status_finished, words_finished}
 use Rattle.foedus.proofs.Told.{came_broken, came_finished, same_printed}
 use Rattle.foedus.proofs.Dumps.{dump_broken, dump_finished}
 use Rattle.foedus.proofs.program.call.Goals as goal
 
 pub returns-in_err-ending-clause-came : goal.returns-in_err-ending-clause-came
 returns-in_err-ending-clause-came g c = λ other bytes told.
-    let p = err_from_is_err_and c.from_residual.result c.from_residual.ensures.1 in rw p.1 (came_broken _ _ _ _ _ c.requires.empty (c.in_err-ending.ensures.came other bytes told))
+    let p = err_from_is_err_and c.from_residual.result c.from_residual.ensures.1 in rw p.1 (came_broken _ _ _ _ _ _ c.requires.empty (c.in_err-ending.ensures.came other bytes told))
 
 pub returns-clause-came : goal.returns-clause-came
-returns-clause-came g c = λ other bytes told. came_finished _ _ _ _ _ _ c.requires.empty c.finish.ensures.prints c.finish.ensures.empty c.finish.ensures.same (c.in_ok-ending.ensures.came other bytes told)
+returns-clause-came g c = λ other bytes told. came_finished _ _ _ _ _ _ _ c.requires.empty c.finish.ensures.prints c.finish.ensures.empty c.finish.ensures.same (c.in_ok-ending.ensures.came other bytes told)
 
 pub returns-clause-asked : goal.returns-clause-asked
 returns-clause-asked g c = words_finished _ _ _ c.finish.ensures.same c.in_ok-ending.ensures.asked
 
 pub returns-clause-faults : goal.returns-clause-faults
 returns-clause-faults g c = faults_finished _ _ _ _ _ _ _ c.in_ok-ending.ensures.faults c.finish.ensures.prints c.finish.ensures.same
+
+pub returns-clause-devices : goal.returns-clause-devices
+returns-clause-devices g c = devices_finished _ _ _ _ _ c.finish.ensures.same c.in_ok-ending.ensures.devices
+
+pub returns-clause-rests : goal.returns-clause-rests
+returns-clause-rests g c = rests_finished _ _ _ _ _ _ _ c.finish.ensures.same c.in_ok-ending.ensures.rests
+
+pub returns-clause-reads : goal.returns-clause-reads
+returns-clause-reads g c = reads_finished _ _ _ c.finish.ensures.same c.in_ok-ending.ensures.reads
 
 pub returns-clause-statuses : goal.returns-clause-statuses
 returns-clause-statuses g c = status_finished _ _ _ c.finish.ensures.same c.in_ok-ending.ensures.statuses
@@ -31,3 +41,12 @@ returns-in_err-ending-clause-dumped g c = λ is.
 
 pub returns-clause-dumped : goal.returns-clause-dumped
 returns-clause-dumped g c = λ is. dump_finished _ _ _ _ _ _ _ _ _ c.requires.empty c.finish.ensures.prints c.finish.ensures.empty c.finish.ensures.same (c.in_ok-ending.ensures.dumped is)
+
+pub returns-in_err-ending-clause-made : goal.returns-in_err-ending-clause-made
+returns-in_err-ending-clause-made g c = λ arguments is.
+    let p = err_from_is_err_and c.from_residual.result c.from_residual.ensures.1 in
+    rw p.1 (made_broken _ _ _ _ _ c.requires.empty (c.in_err-ending.ensures.made arguments is))
+
+pub returns-clause-made : goal.returns-clause-made
+returns-clause-made g c = λ arguments is.
+    made_finished _ _ _ _ _ _ c.requires.empty c.finish.ensures.prints c.finish.ensures.empty c.finish.ensures.same (c.in_ok-ending.ensures.made arguments is)

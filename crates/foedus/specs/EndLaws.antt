@@ -1,0 +1,381 @@
+-- What the refusal that ends a run after a round tells of the round.
+use Rattle.std.proofs.Common.{◌≡◌, ◌⊎◌, inl, inr, sym, ap, subst, refl, cond, ℕ, ◌+◌, ◌<◌, ◌≤◌, Bool, true, false}
+use Rattle.std.proofs.Common.{zero, suc, List, [], ◌∷◌, Option, Some, None, arith}
+use Rattle.std.specs.Prelude.{◌==◌, ◌&&◌, ◌||◌, MatchBool, fold, nat_le, not, slice_get}
+use Rattle.std.specs.Option.{option_map}
+use Rattle.std.specs.List.{AllByRecursion, Contains, list_any}
+use Rattle.std.proofs.lemmas.Bool.{eqb-true, ltb-false}
+use Rattle.lists.specs.Elements.{in_head, in_none, in_tail}
+use Rattle.serial_model.specs.Numbers.{draw_limit, last_epoch}
+use Rattle.outside.specs.declared.vault.Device.{Device}
+use Rattle.script_grammar.specs.declared.lines.KeeperLine.{KeeperLine}
+use Rattle.script_grammar.specs.declared.lines.KeeperLine.TheVariants as asks
+use Rattle.tx_script.specs.declared.answer.Answer.{Answer}
+use Rattle.tx_script.specs.declared.answer.Answer.TheVariants as answers
+use Rattle.tx_script.specs.declared.outcome.Outcome.{Outcome}
+use Rattle.tx_script.specs.declared.outcome.Outcome.TheVariants as outcomes
+use Rattle.tx_script.specs.Causes.{AllCaused, AnswersCaused, IsAnswerTo, KeeperAt, LogsCaused, OutcomeCause}
+use Rattle.tx_script.specs.Causes.{WorkersCaused}
+use Rattle.tx_script.specs.Causes.{keeper_after, keeper_at_end, keeper_before, last_sequence, log_limit, log_of}
+use Rattle.tx_script.specs.Causes.{longest_line}
+use Rattle.tx_script.specs.Run.{LogFailed, LogFull, LogRefusal, Ran, is_commit, is_limit}
+use Rattle.round_engine.specs.Ends.{bank_end, comes_to_save, device_end, device_place, draw_end, earlier}
+use Rattle.round_engine.specs.Ends.{end_of, epoch_end, first_device, first_of, full_length, limit_at, save_limited}
+use Rattle.round_engine.specs.Ends.{where_true}
+use Rattle.round_engine.specs.declared.report.End.{End}
+use Rattle.round_engine.specs.declared.report.End.TheVariants as ends
+use Rattle.round_engine.specs.declared.report.LimitName.TheVariants.{Epoch, Draw, Bank, Sequence}
+use Rattle.foedus.specs.Ending.{IsLimitOf}
+
+-- ---- the first of several
+
+-- of two the first that gives something
+first_cases : (first later : Option End) (e : End) → first_of first later ≡ Some e
+    → (first ≡ Some e) ⊎ ((first ≡ None) × (later ≡ Some e))
+first_cases None later e is = inr (refl, is)
+first_cases (Some x) later e is = inl is
+
+-- of two that give nothing neither gives anything
+both_none : (first later : Option End) → first_of first later ≡ None → (first ≡ None) × (later ≡ None)
+both_none None later none = (refl, none)
+both_none (Some x) later none = absurd cc
+
+where_cases : (test : Bool) (x e : End) → where_true test x ≡ Some e → (test ≡ true) × (x ≡ e)
+where_cases true x e is = (refl, cc)
+where_cases false x e is = absurd cc
+
+both_true : (a b : Bool) → a && b ≡ true → (a ≡ true) × (b ≡ true)
+both_true true b is = (refl, is)
+both_true false b is = absurd cc
+
+either_true : (a b : Bool) → a || b ≡ true → (a ≡ true) ⊎ (b ≡ true)
+either_true true b is = inl refl
+either_true false b is = inr is
+
+not_true : (b : Bool) → not b ≡ true → b ≡ false
+not_true true is = absurd cc
+not_true false is = refl
+
+-- ---- devices
+
+-- the earlier of a device and one of others is one of them all
+earlier_in : (device x : Device) (more : List Device) → Contains more x
+    → Contains (device ∷ more) (earlier device (Some x))
+earlier_in device x more has = elim (nat_le (device_place device)
+    (device_place x)) as (λ b. Contains (device ∷ more) (cond b device x)) [
+      | true ↦ in_head device more
+      | false ↦ in_tail x device more has
+    ]
+
+-- the first of some devices is one of them
+first_in : (device : Device) (more : List Device) → (x : Device) × (first_device (device ∷ more) ≡ Some x)
+    × Contains (device ∷ more) x
+first_in device [] = (device, refl, in_head device [])
+first_in device (other ∷ more) =
+    let rest = first_in other more in (
+      earlier device (Some rest.0),
+      ap (λ x. Some (earlier device x)) rest.1,
+      earlier_in device rest.0 (other ∷ more) rest.2,
+    )
+
+-- devices that give an end give that of one of them
+device_cases : (failed : List Device) (e : End) → device_end failed ≡ Some e
+    → (device : Device) × (e ≡ ends.Device device) × Contains failed device
+device_cases [] e is = absurd cc
+device_cases (device ∷ more) e is =
+    let first = first_in device more in
+    let end : device_end (device ∷ more) ≡ Some (ends.Device first.0) = ap (option_map ends.Device) first.1 in
+    (first.0, cc (end, is), first.2)
+
+no_devices : (failed : List Device) → device_end failed ≡ None → failed ≡ []
+no_devices [] none = refl
+no_devices (device ∷ more) none = absurd cc
+
+-- ---- logs
+
+-- a full log is caused
+full_caused : (failed : List Device) (worker : ℕ) (logs : List (Option LogRefusal)) (size : ℕ)
+    → LogsCaused failed worker logs
+    → full_length logs ≡ Some size → log_limit < size + longest_line
+full_caused failed worker [] size caused is = absurd cc
+full_caused failed worker (None ∷ logs) size caused is = full_caused failed (worker + 1) logs size caused is
+full_caused failed worker (Some LogFailed ∷ logs) size caused is = full_caused failed (worker + 1) logs size caused.1 is
+full_caused failed worker (Some (LogFull other) ∷ logs) size caused is = let same : other ≡ size =
+    cc in subst (λ n. log_limit < n + longest_line) same caused.0
+
+-- where none is told full none is
+none_full : (logs : List (Option LogRefusal)) (worker size : ℕ) → full_length logs ≡ None
+    → slice_get logs worker ≡ Some (Some (LogFull size)) → ⊥
+none_full [] worker size none is = cc
+none_full (None ∷ logs) zero size none is = cc
+none_full (None ∷ logs) (suc worker) size none is = none_full logs worker size none is
+none_full (Some LogFailed ∷ logs) zero size none is = cc
+none_full (Some LogFailed ∷ logs) (suc worker) size none is = none_full logs worker size none is
+none_full (Some (LogFull other) ∷ logs) worker size none is = cc
+
+bank_cases : (size : Option ℕ) (e : End) → option_map (limit_at Bank) size ≡ Some e
+    → (n : ℕ) × (size ≡ Some n) × (limit_at Bank n ≡ e)
+bank_cases None e is = absurd cc
+bank_cases (Some n) e is = (n, refl, cc)
+
+bank_none : (size : Option ℕ) → option_map (limit_at Bank) size ≡ None → size ≡ None
+bank_none None none = refl
+bank_none (Some n) none = absurd cc
+
+-- ---- draws
+
+-- a line met the limit, so the draws have come to it
+limited_line : (ran : Ran) (log : Option LogRefusal) (of_worker : List Outcome)
+    → AllByRecursion (OutcomeCause ran log) of_worker
+    → list_any is_limit of_worker ≡ true → draw_limit ≤ ran.end.draw
+limited_line ran log [] caused some = absurd cc
+limited_line ran log (outcomes.Limit ∷ more) caused some = caused.0
+limited_line ran log (outcomes.Committed verdict number replies ∷ more) caused some =
+    limited_line ran log more caused.1 some
+limited_line ran log (outcomes.Conflict ∷ more) caused some = absurd caused.0
+limited_line ran log (outcomes.Full ∷ more) caused some = absurd caused.0
+limited_line ran log (outcomes.Wide ∷ more) caused some = absurd caused.0
+limited_line ran log (outcomes.Unrun ∷ more) caused some = limited_line ran log more caused.1 some
+
+limited : (ran : Ran) (logs : List (Option LogRefusal)) (workers : List (List Outcome)) → WorkersCaused ran logs workers
+    → list_any (list_any is_limit) workers ≡ true → draw_limit ≤ ran.end.draw
+limited ran [] [] caused some = absurd cc
+limited ran (log ∷ logs) [] caused some = absurd cc
+limited ran [] (mine ∷ more) caused some = absurd caused
+limited ran (log ∷ logs) (mine ∷ more) caused some = elim (either_true (list_any is_limit mine)
+    (list_any (list_any is_limit) more) some) [
+      | inl here ↦ limited_line ran log mine caused.0 here
+      | inr later ↦ limited ran logs more caused.2 later
+    ]
+
+-- ---- sequences
+
+-- from the last sequence on no savepoint is stored
+answered_last : (ran : Ran) (k : KeeperAt) (line : KeeperLine) (answer : Answer) → k.sequence ≡ last_sequence
+    → IsAnswerTo ran k line answer → (keeper_after k answer).sequence ≡ last_sequence
+answered_last ran k line (answers.Epoch epoch) last caused = last
+answered_last ran k asks.Epoch (answers.Save epoch) last caused = absurd caused
+answered_last ran k asks.Save (answers.Save epoch) last caused = absurd (let below =
+    caused.0 in omega (arith, below, last))
+answered_last ran k asks.Glean (answers.Save epoch) last caused = absurd caused
+answered_last ran k asks.Drop (answers.Save epoch) last caused = absurd caused
+answered_last ran k line (answers.Snap epoch new) last caused = last
+answered_last ran k line answers.Empty last caused = last
+answered_last ran k line answers.SnapFull last caused = last
+answered_last ran k line answers.Deep last caused = last
+answered_last ran k line (answers.Drop dropped kept) last caused = last
+answered_last ran k line answers.Limit last caused = last
+answered_last ran k line answers.Device last caused = last
+answered_last ran k line answers.Damaged last caused = last
+answered_last ran k line answers.Memory last caused = last
+answered_last ran k line answers.Unrun last caused = last
+
+-- an answer that has its cause is that to a line that is run, or to one that isn't
+pub cause_cases : (ran : Ran) (k : KeeperAt) (line : KeeperLine) (answer : Answer)
+    → MatchBool k.refused (answer ≡ answers.Unrun) (IsAnswerTo ran k line answer)
+    → (answer ≡ answers.Unrun) ⊎ IsAnswerTo ran k line answer
+cause_cases ran k line answer caused = elim k.refused as (λ b. MatchBool b (answer ≡ answers.Unrun)
+    (IsAnswerTo ran k line answer) → (answer ≡ answers.Unrun) ⊎ IsAnswerTo ran k line answer) [
+      | true ↦ λ unrun. inl unrun
+      | false ↦ λ is. inr is
+    ] caused
+
+stays_last : (ran : Ran) (k : KeeperAt) (line : KeeperLine) (answer : Answer) → k.sequence ≡ last_sequence
+    → MatchBool k.refused (answer ≡ answers.Unrun) (IsAnswerTo ran k line answer)
+    → (keeper_after k answer).sequence ≡ last_sequence
+stays_last ran k line answer last caused = elim (cause_cases ran k line answer caused) [
+  | inl unrun ↦ subst (λ a. (keeper_after k a).sequence ≡ last_sequence) (sym unrun) last
+  | inr is ↦ answered_last ran k line answer last is
+]
+
+last_to_end : (ran : Ran) (k : KeeperAt) (lines : List KeeperLine) (told : List Answer) → k.sequence ≡ last_sequence
+    → AnswersCaused ran k lines told → (fold keeper_after k told).sequence ≡ last_sequence
+last_to_end ran k [] [] last caused = last
+last_to_end ran k (line ∷ lines) [] last caused = absurd caused
+last_to_end ran k [] (answer ∷ more) last caused = absurd caused
+last_to_end ran k (line ∷ lines) (answer ∷ more) last caused =
+    last_to_end ran (keeper_after k answer) lines more (stays_last ran k line answer last caused.0) caused.1
+
+-- a save that met the last sequence stood there
+limited_save : (ran : Ran) (k : KeeperAt) → MatchBool k.refused (answers.Limit ≡ answers.Unrun)
+    (IsAnswerTo ran k asks.Save answers.Limit)
+    → k.sequence ≡ last_sequence
+limited_save ran k caused = elim (cause_cases ran k asks.Save answers.Limit caused) [
+  | inl unrun ↦ absurd cc
+  | inr is ↦ is
+]
+
+save_met_last : (ran : Ran) (k : KeeperAt) (lines : List KeeperLine) (told : List Answer)
+    → AnswersCaused ran k lines told
+    → save_limited lines told ≡ true → (fold keeper_after k told).sequence ≡ last_sequence
+save_met_last ran k [] told caused met = absurd cc
+save_met_last ran k (line ∷ lines) [] caused met = absurd caused
+save_met_last ran k (asks.Save ∷ lines) (answers.Limit ∷ more) caused met =
+    last_to_end ran k lines more (limited_save ran k caused.0) caused.1
+save_met_last ran k (asks.Save ∷ lines) (answers.Epoch epoch ∷ more) caused met =
+    save_met_last ran (keeper_after k (answers.Epoch epoch)) lines more caused.1 met
+save_met_last ran k (asks.Save ∷ lines) (answers.Save epoch ∷ more) caused met =
+    save_met_last ran (keeper_after k (answers.Save epoch)) lines more caused.1 met
+save_met_last ran k (asks.Save ∷ lines) (answers.Snap epoch new ∷ more) caused met =
+    save_met_last ran (keeper_after k (answers.Snap epoch new)) lines more caused.1 met
+save_met_last ran k (asks.Save ∷ lines) (answers.Empty ∷ more) caused met =
+    save_met_last ran (keeper_after k answers.Empty) lines more caused.1 met
+save_met_last ran k (asks.Save ∷ lines) (answers.SnapFull ∷ more) caused met =
+    save_met_last ran (keeper_after k answers.SnapFull) lines more caused.1 met
+save_met_last ran k (asks.Save ∷ lines) (answers.Deep ∷ more) caused met =
+    save_met_last ran (keeper_after k answers.Deep) lines more caused.1 met
+save_met_last ran k (asks.Save ∷ lines) (answers.Drop dropped kept ∷ more) caused met =
+    save_met_last ran (keeper_after k (answers.Drop dropped kept)) lines more caused.1 met
+save_met_last ran k (asks.Save ∷ lines) (answers.Device ∷ more) caused met =
+    save_met_last ran (keeper_after k answers.Device) lines more caused.1 met
+save_met_last ran k (asks.Save ∷ lines) (answers.Damaged ∷ more) caused met =
+    save_met_last ran (keeper_after k answers.Damaged) lines more caused.1 met
+save_met_last ran k (asks.Save ∷ lines) (answers.Memory ∷ more) caused met =
+    save_met_last ran (keeper_after k answers.Memory) lines more caused.1 met
+save_met_last ran k (asks.Save ∷ lines) (answers.Unrun ∷ more) caused met =
+    save_met_last ran (keeper_after k answers.Unrun) lines more caused.1 met
+save_met_last ran k (asks.Epoch ∷ lines) (answer ∷ more) caused met =
+    save_met_last ran (keeper_after k answer) lines more caused.1 met
+save_met_last ran k (asks.Glean ∷ lines) (answer ∷ more) caused met =
+    save_met_last ran (keeper_after k answer) lines more caused.1 met
+save_met_last ran k (asks.Drop ∷ lines) (answer ∷ more) caused met =
+    save_met_last ran (keeper_after k answer) lines more caused.1 met
+
+-- ---- the end of a run
+
+-- what a refusal tells: a device that failed, or a limit that stands at its number
+abbrev pub EndTells : Ran → End → Type 0
+EndTells ran (ends.Device device) = Contains ran.devices device
+EndTells ran (ends.Damaged device at) = ⊥
+EndTells ran (ends.Limit name number) = IsLimitOf name number × (ran.devices ≡ [])
+EndTells ran ends.Memory = ⊥
+
+sequence_last : (ran : Ran) → AllCaused ran
+    → save_limited ran.asked ran.answers
+    || (comes_to_save ran && ((keeper_at_end ran).sequence == last_sequence)) ≡ true
+    → (keeper_at_end ran).sequence ≡ last_sequence
+sequence_last ran caused met = elim (either_true (save_limited ran.asked ran.answers) _ met) [
+  | inl here ↦ save_met_last ran (keeper_before ran) ran.asked ran.answers caused.answers here
+  | inr joined ↦ eqb-true (keeper_at_end ran).sequence last_sequence (both_true (comes_to_save ran) _ joined).1
+]
+
+pub end_tells : (ran : Ran) (e : End) → AllCaused ran → ran.end.epoch ≤ last_epoch → end_of ran ≡ Some e
+    → EndTells ran e
+end_tells ran e caused most is = elim (first_cases (device_end ran.devices) _ e is) [
+  | inl device ↦ let d = device_cases ran.devices e device in subst (EndTells ran) (sym d.1) d.2
+  | inr later ↦
+      let quiet : ran.devices ≡ [] = no_devices ran.devices later.0 in
+      elim (first_cases (epoch_end ran) _ e later.1) [
+        | inl epoch ↦
+            let w = where_cases _ (limit_at Epoch ran.end.epoch) e epoch in
+            let past = ltb-false ran.end.epoch last_epoch (not_true _ (both_true _ _ w.0).1) in
+            let at : ran.end.epoch ≡ last_epoch = omega (arith, past, most) in
+            subst (EndTells ran) w.1 (at, quiet)
+        | inr then ↦ elim (first_cases (draw_end ran) _ e then.1) [
+          | inl draw ↦
+              let w = where_cases _ (limit_at Draw ran.end.draw) e draw in
+              subst (EndTells ran) w.1 (limited ran ran.logs ran.outcomes caused.outcomes w.0, quiet)
+          | inr last ↦ elim (first_cases (bank_end ran) _ e last.1) [
+            | inl bank ↦
+                let w = bank_cases (full_length ran.logs) e bank in
+                subst (EndTells ran) w.2 (full_caused ran.devices 0 ran.logs w.0 caused.logs w.1, quiet)
+            | inr sequence ↦
+                let w = where_cases _ (limit_at Sequence (keeper_at_end ran).sequence) e sequence.1 in
+                subst (EndTells ran) w.1 (sequence_last ran caused w.0, quiet)
+          ]
+        ]
+      ]
+]
+
+-- a round that goes on had no device that failed, and no log that was told full
+pub goes_on_quiet : (ran : Ran) → end_of ran ≡ None → ran.devices ≡ []
+goes_on_quiet ran none = no_devices ran.devices (both_none (device_end ran.devices) _ none).0
+
+pub goes_on_room : (ran : Ran) (worker size : ℕ) → end_of ran ≡ None
+    → slice_get ran.logs worker ≡ Some (Some (LogFull size)) → ⊥
+goes_on_room ran worker size none is =
+    let a = both_none (device_end ran.devices) _ none in
+    let b = both_none (epoch_end ran) _ a.1 in
+    let c = both_none (draw_end ran) _ b.1 in
+    let d = both_none (bank_end ran) _ c.1 in
+    none_full ran.logs worker size (bank_none (full_length ran.logs) d.0) is
+
+-- no refusal is that of the draws where no line was refused a number
+pub no_draw_end : (ran : Ran) (number : ℕ) → list_any (list_any is_limit) ran.outcomes ≡ false
+    → end_of ran ≡ Some (ends.Limit Draw number) → ⊥
+no_draw_end ran number none is = elim (first_cases (device_end ran.devices) _ _ is) [
+  | inl device ↦ let d = device_cases ran.devices _ device in let same = d.1 in cc
+  | inr later ↦ elim (first_cases (epoch_end ran) _ _ later.1) [
+    | inl epoch ↦ let w = (where_cases _ (limit_at Epoch ran.end.epoch) _ epoch).1 in cc
+    | inr then ↦ elim (first_cases (draw_end ran) _ _ then.1) [
+      | inl draw ↦ let w = (where_cases _ (limit_at Draw ran.end.draw) _ draw).0 in cc
+      | inr last ↦ elim (first_cases (bank_end ran) _ _ last.1) [
+        | inl bank ↦ let w = (bank_cases (full_length ran.logs) _ bank).2 in cc
+        | inr sequence ↦ let w = (where_cases _ (limit_at Sequence (keeper_at_end ran).sequence) _ sequence.1).1 in cc
+      ]
+    ]
+  ]
+]
+
+-- ---- a round that goes on
+
+-- the outcome is a commit
+abbrev pub IsCommitted : Outcome → Type 0
+IsCommitted outcome = is_commit outcome ≡ true
+
+-- A line that nothing refused is committed.
+committed : (ran : Ran) (log : Option LogRefusal) (mine : List Outcome) → log ≡ None
+    → AllByRecursion (OutcomeCause ran log) mine
+    → list_any is_limit mine ≡ false → AllByRecursion IsCommitted mine
+committed ran log [] up caused none = tt
+committed ran log (outcomes.Committed verdict number replies ∷ more) up caused none =
+    (refl, committed ran log more up caused.1 none)
+committed ran log (outcomes.Limit ∷ more) up caused none = absurd cc
+committed ran log (outcomes.Unrun ∷ more) up caused none = absurd (let is = caused.0 in cc)
+committed ran log (outcomes.Conflict ∷ more) up caused none = absurd caused.0
+committed ran log (outcomes.Full ∷ more) up caused none = absurd caused.0
+committed ran log (outcomes.Wide ∷ more) up caused none = absurd caused.0
+
+-- where no device failed, and no log file is full, no log was refused
+log_up : (failed : List Device) (worker : ℕ) (log : Option LogRefusal) (logs : List (Option LogRefusal)) → failed ≡ []
+    → LogsCaused failed worker (log ∷ logs) → full_length (log ∷ logs) ≡ None
+    → (log ≡ None) × LogsCaused failed (worker + 1) logs × (full_length logs ≡ None)
+log_up failed worker None logs quiet caused full = (refl, caused, full)
+log_up failed worker (Some LogFailed) logs quiet caused full = absurd (in_none (log_of worker)
+    (subst (λ l. Contains l (log_of worker)) quiet caused.0))
+log_up failed worker (Some (LogFull size)) logs quiet caused full = absurd cc
+
+either_false : (a b : Bool) → a || b ≡ false → (a ≡ false) × (b ≡ false)
+either_false true b is = absurd cc
+either_false false b is = (refl, is)
+
+all_committed : (ran : Ran) (failed : List Device) (worker : ℕ) (logs : List (Option LogRefusal))
+    (workers : List (List Outcome)) → failed ≡ []
+    → LogsCaused failed worker logs → full_length logs ≡ None → WorkersCaused ran logs workers
+    → list_any (list_any is_limit) workers ≡ false
+    → AllByRecursion (AllByRecursion IsCommitted) workers
+all_committed ran failed worker [] [] quiet caused full by none = tt
+all_committed ran failed worker (log ∷ logs) [] quiet caused full by none = tt
+all_committed ran failed worker [] (mine ∷ more) quiet caused full by none = absurd by
+all_committed ran failed worker (log ∷ logs) (mine ∷ more) quiet caused full by none =
+    let up = log_up failed worker log logs quiet caused full in
+    let none_of = either_false (list_any is_limit mine) (list_any (list_any is_limit) more) none in (
+      committed ran log mine up.0 by.0 none_of.0,
+      all_committed ran failed (worker + 1) logs more quiet up.1 up.2 by.2 none_of.1,
+    )
+
+where_none : (test : Bool) (x : End) → where_true test x ≡ None → test ≡ false
+where_none true x none = absurd cc
+where_none false x none = refl
+
+-- Each line of a round that doesn't end the run is committed.
+pub goes_on_committed : (ran : Ran) → AllCaused ran → end_of ran ≡ None
+    → AllByRecursion (AllByRecursion IsCommitted) ran.outcomes
+goes_on_committed ran caused none =
+    let a = both_none (device_end ran.devices) _ none in
+    let b = both_none (epoch_end ran) _ a.1 in
+    let c = both_none (draw_end ran) _ b.1 in
+    let d = both_none (bank_end ran) _ c.1 in
+    all_committed ran ran.devices 0 ran.logs ran.outcomes
+    (no_devices ran.devices a.0) caused.logs (bank_none (full_length ran.logs) d.0)
+    caused.outcomes (where_none _ (limit_at Draw ran.end.draw) c.0)

@@ -1,0 +1,32 @@
+-- The vault of a call, before it and after it.
+use Rattle.std.specs.Prelude.{◌≡◌, ℕ, Option}
+use Rattle.outside.specs.declared.vault.Device.{Device}
+use Rattle.outside.specs.declared.vault.Vault.{Vault}
+use Rattle.recovery_core.specs.Images.{Images}
+use Rattle.recovery_core.specs.JointCrash.{parts_of}
+use Rattle.recovery_core.specs.Resting.{AreTold}
+use Rattle.recovery_core.specs.VaultReads.{RoseIn}
+use Rattle.script_grammar.specs.Script.{Bytes}
+
+-- What a device tells of its bytes, and its count of faults; the vault as the call began, and as it returned.
+pub record Vaults (D : Type 0) : Type 0 where
+  pub tells : D → Option Bytes
+  pub faults : D → ℕ
+  pub was : Vault D
+  pub is : Vault D
+
+-- no device was called, and nothing was recorded of them
+abbrev pub IsUntouched : {D : Type 0} → Vaults D → Type 0
+IsUntouched v = v.is ≡ v.was
+
+-- This holds of the bytes that the devices had as the call began, where they tell them.
+abbrev pub HoldsOf : {D : Type 0} → Vaults D → (Images → Type 0) → Type 0
+HoldsOf v P = (found : Images) → AreTold v.tells (parts_of v.was) found → P found
+
+-- the devices tell what they told as the call began
+abbrev pub TellsTheSame : {D : Type 0} → Vaults D → Type 0
+TellsTheSame v = HoldsOf v (AreTold v.tells (parts_of v.is))
+
+-- no device failed: no count rose, or stands at its last value
+abbrev pub NoneFailed : {D : Type 0} → Vaults D → Type 0
+NoneFailed v = (device : Device) → RoseIn v.faults device v.was v.is → ⊥

@@ -1,0 +1,204 @@
+// Runs of which one call of one device fails.
+ghost use Rattle.std.specs.Prelude.{IfOk};
+ghost use Rattle.outside.specs.Disk.{IfTold, Only};
+
+use super::kept_runs::kept_vault;
+use super::*;
+
+// The names of the log files.
+const BANKS: [&str; 16] = [
+    "bank0", "bank1", "bank2", "bank3", "bank4", "bank5", "bank6", "bank7", "bank8", "bank9",
+    "bank10", "bank11", "bank12", "bank13", "bank14", "bank15",
+];
+
+// The numbers of the calls that fail: this one, if it is the device that is meant.
+fn fails_of(alloc: Global, is_meant: bool, call: u64) -> Result<Vec<u64>, AllocError> {
+    let mut fails = Vec::new(alloc);
+    if is_meant {
+        fails.push(call)?;
+    }
+    Ok(fails)
+}
+
+// A disk of what another holds, of which this call fails if it is the device that is meant.
+fn failing_disk(
+    alloc: Global,
+    disk: &MemDisk,
+    is_meant: bool,
+    call: u64,
+) -> Result<MemDisk, AllocError>
+    ensures { IfOk result (λ disk. IfTold (⟦<MemDisk as Disk>⟧.tells disk)
+        (Only ⟦<MemDisk as Disk>⟧.clock ⟦<MemDisk as Disk>⟧.image_at disk)) }
+{
+    disk_of(alloc, disk.bytes(), &fails_of(alloc, is_meant, call)?)
+}
+
+// A vault of what another holds, of which this call of this device fails.
+fn failing_vault(
+    alloc: Global,
+    vault: &Vault<MemDisk>,
+    device: &str,
+    call: u64,
+) -> Result<Vault<MemDisk>, Fail>
+    ensures { IfOk result (λ vault. IfTold (⟦<MemDisk as Disk>⟧.tells vault.save)
+        (Only ⟦<MemDisk as Disk>⟧.clock ⟦<MemDisk as Disk>⟧.image_at vault.save)) }
+{
+    if !vault.is_whole() {
+        return Err(Fail::from("a vault without a log file"));
+    }
+    let (mut even, mut odd) = (Vec::new(alloc), Vec::new(alloc));
+    for worker in 0..8 {
+        let (first, second) = (BANKS[2 * worker] == device, BANKS[2 * worker + 1] == device);
+        even.push(failing_disk(alloc, &vault.even[worker], first, call)?)?;
+        odd.push(failing_disk(alloc, &vault.odd[worker], second, call)?)?;
+    }
+    Ok(Vault {
+        save: failing_disk(alloc, &vault.save, device == "save", call)?,
+        snaps: failing_disk(alloc, &vault.snaps, device == "snaps", call)?,
+        even,
+        odd,
+        ties: Vec::new(alloc),
+        cuts: Vec::new(alloc),
+    })
+}
+
+const SCRIPT: &[u8] = b"array 1 4\n0 w 1 2 7\njoin\n1 w 1 0 9\nk save\n";
+
+// The device, and the first and the last of its calls at whose failure the run ends so: its status and its text, and
+// what a dump tells then. The last rows of each device are of the first call that the run doesn't make.
+//
+// Of the save, a recovery makes a call for the length and one for each place. A store makes one that reads the valid
+// byte, one that closes the place where it is open, a sync, and a write and a sync for the body and for the valid
+// byte: so the run's four stores begin at the calls 3, 9, 15 and 22.
+const FAILING: &str = "\
+save # 0 # 8 # 5 # device save| # epoch 0|
+save # 9 # 13 # 5 # 0.0 ok 1:1|device save| # epoch 0|
+save # 14 # 14 # 5 # 0.0 ok 1:1|device save| # epoch 1|1 2 7|
+save # 15 # 21 # 5 # 0.0 ok 1:1|durable 1|1.0 ok 2:2|k.0 device|device save| # epoch 1|1 2 7|
+save # 22 # 27 # 5 # 0.0 ok 1:1|durable 1|1.0 ok 2:2|k.0 save 1|device save| # epoch 1|1 2 7|
+save # 28 # 28 # 5 # 0.0 ok 1:1|durable 1|1.0 ok 2:2|k.0 save 1|device save| # epoch 2|1 0 9|1 2 7|
+save # 29 # 29 # 0 # 0.0 ok 1:1|durable 1|1.0 ok 2:2|k.0 save 1|durable 2| # epoch 2|1 0 9|1 2 7|
+snaps # 0 # 2 # 5 # device snaps| # epoch 0|
+snaps # 3 # 3 # 0 # 0.0 ok 1:1|durable 1|1.0 ok 2:2|k.0 save 1|durable 2| # epoch 2|1 0 9|1 2 7|
+bank0 # 0 # 0 # 5 # device bank0| # epoch 0|
+bank0 # 1 # 2 # 5 # 0.0 ok 1:1|device bank0| # epoch 0|
+bank0 # 3 # 3 # 0 # 0.0 ok 1:1|durable 1|1.0 ok 2:2|k.0 save 1|durable 2| # epoch 2|1 0 9|1 2 7|
+bank2 # 0 # 0 # 5 # device bank2| # epoch 0|
+bank2 # 1 # 2 # 5 # 0.0 ok 1:1|durable 1|1.0 ok 2:2|k.0 save 1|device bank2| # epoch 1|1 2 7|
+bank2 # 3 # 3 # 0 # 0.0 ok 1:1|durable 1|1.0 ok 2:2|k.0 save 1|durable 2| # epoch 2|1 0 9|1 2 7|
+";
+
+const READING: &[u8] = b"array 1 4\n0 r 1 2\n";
+
+// The same of a run over a vault that has a log entry, which becomes a snapshot first: two pages are appended and
+// synced, a savepoint is stored that counts them, and the log files are cut.
+const SETTLING: &str = "\
+save # 0 # 8 # 5 # device save| # epoch 1|1 2 7|
+save # 9 # 14 # 5 # 0.0 ok 2:1 7|device save| # epoch 1|1 2 7|
+save # 15 # 15 # 5 # 0.0 ok 2:1 7|device save| # epoch 2|1 2 7|
+save # 16 # 16 # 0 # 0.0 ok 2:1 7|durable 2| # epoch 2|1 2 7|
+snaps # 0 # 3 # 5 # device snaps| # epoch 1|1 2 7|
+snaps # 4 # 4 # 0 # 0.0 ok 2:1 7|durable 2| # epoch 2|1 2 7|
+bank0 # 0 # 2 # 5 # device bank0| # epoch 1|1 2 7|
+bank0 # 3 # 3 # 0 # 0.0 ok 2:1 7|durable 2| # epoch 2|1 2 7|
+";
+
+// Makes the run over what a vault holds of which this call of this device fails, and then a dump, and compares what
+// they tell.
+fn check_failure<R: Threads + Wait + Sync + AllocGlobal + Abort>(
+    rt: &R,
+    (vault, script): (&Vault<MemDisk>, &[u8]),
+    device: &str,
+    call: u64,
+    ended: (u8, &[u8]),
+    kept: &[u8],
+) -> Result<(), Fail> {
+    let mut vault = failing_vault(rt.alloc(), vault, device, call)?;
+    let (status, text) = answer(rt, &mut vault, "run", script)?;
+    assert_eq!(rt; status, ended.0, "{device} {call}");
+    assert_eq!(rt; text.as_slice(), ended.1, "{device} {call}");
+    let (_status, told) = answer_anew(rt, &mut vault, "dump", b"")?;
+    assert_eq!(rt; told.as_slice(), kept, "{device} {call}");
+    Ok(())
+}
+
+// Checks each failure of a row.
+fn check_failures<R: Threads + Wait + Sync + AllocGlobal + Abort>(
+    rt: &R,
+    vault: &Vault<MemDisk>,
+    script: &[u8],
+    row: &str,
+) -> Result<(), Fail> {
+    let [device, first, last, ended] = parts(row);
+    let text = lines(rt.alloc(), part(row, 4))?;
+    let kept = lines(rt.alloc(), part(row, 5))?;
+    let status = ended.parse::<u8>()?;
+    for call in first.parse::<u64>()?..=last.parse::<u64>()? {
+        check_failure(rt, (vault, script), device, call, (status, &text), &kept)?;
+    }
+    Ok(())
+}
+
+// The part of a row of this index.
+fn part(row: &str, index: usize) -> &str {
+    row.split('#').nth(index).unwrap_or("").trim()
+}
+
+#[test]
+fn each_call_of_a_device_may_fail(rt: HostRuntime) -> Result<(), Fail> {
+    let vault = fresh_vault(rt.alloc())?;
+    for row in FAILING.lines() {
+        check_failures(&rt, &vault, SCRIPT, row)?;
+    }
+    Ok(())
+}
+
+#[test]
+fn each_call_of_a_settling_may_fail(rt: HostRuntime) -> Result<(), Fail> {
+    let vault = kept_vault(rt.alloc(), 2, 1, 1, 40)?;
+    for row in SETTLING.lines() {
+        check_failures(&rt, &vault, READING, row)?;
+    }
+    Ok(())
+}
+
+// The other log files are cut, and not called again.
+#[test]
+fn each_cut_of_a_settling_may_fail(rt: HostRuntime) -> Result<(), Fail> {
+    let vault = fresh_vault(rt.alloc())?;
+    for bank in BANKS {
+        let text = format!(in rt.alloc(); "device {bank}\n")?;
+        let ended = (5, text.as_bytes());
+        check_failure(&rt, (&vault, SCRIPT), bank, 0, ended, b"epoch 0\n")?;
+    }
+    Ok(())
+}
+
+// The script of a hundred lines that set a value, and what is told of it: 93 lines of 40 bytes leave fewer than 400
+// bytes of the buffer free, so the first write of the log file, its second call, stands before the next one.
+fn hundred_lines(alloc: Global) -> Result<(Vec<u8>, Vec<u8>), AllocError> {
+    let mut script = b"array 1 4\n".to_vec(alloc)?;
+    let mut text = Vec::new(alloc);
+    for index in 0..100u32 {
+        script.extend_from_slice(b"0 w 1 0 1\n")?;
+        let line = if index < 93 {
+            format!(in alloc; "0.{index} ok 1:{}\n", index + 1)?
+        } else {
+            format!(in alloc; "0.{index} unrun\n")?
+        };
+        text.extend_from_slice(line.as_bytes())?;
+    }
+    text.extend_from_slice(b"device bank0\n")?;
+    Ok((script, text))
+}
+
+#[test]
+fn a_log_file_that_fails_ends_its_worker(rt: HostRuntime) -> Result<(), Fail> {
+    let (script, text) = hundred_lines(rt.alloc())?;
+    let fresh = fresh_vault(rt.alloc())?;
+    let mut vault = failing_vault(rt.alloc(), &fresh, "bank0", 1)?;
+    let (status, told) = answer(&rt, &mut vault, "run", &script)?;
+    assert_eq!(rt; status, 5);
+    assert_eq!(rt; told.as_slice(), text.as_slice());
+    check_row(&rt, &mut vault, "dump # # 0 # epoch 0|")
+}

@@ -1,0 +1,241 @@
+// Calls one after another over one vault: each begins where those before it ended.
+use super::*;
+
+const OPEN: u64 = 0xA500_0000_0000_0000;
+
+const VERSION: u64 = 0x464F_4544_5553_0001;
+
+// The savepoint of this sequence in its place, the other place closed; none of sequence 0. It has a saved epoch, so
+// many pages of which the last is the newest catalogue, and of the first log file so many bytes.
+fn save_of(
+    alloc: Global,
+    sequence: u64,
+    epoch: u64,
+    pages: u64,
+    counted: u64,
+) -> Result<Vec<u8>, Fail> {
+    let closed = page(alloc, &[])?;
+    if sequence == 0 {
+        return both(&closed, &closed);
+    }
+    let open = page(
+        alloc,
+        &[
+            (0, OPEN),
+            (1, VERSION),
+            (2, sequence),
+            (3, epoch),
+            (4, pages),
+            (5, pages),
+            (6, counted),
+        ],
+    )?;
+    if sequence % 2 == 0 {
+        return both(&closed, &open);
+    }
+    both(&open, &closed)
+}
+
+// The bytes of two places.
+fn both(first: &Vec<u8>, second: &[u8]) -> Result<Vec<u8>, Fail> {
+    let mut bytes = first.clone()?;
+    bytes.extend_from_slice(second)?;
+    Ok(bytes)
+}
+
+// The pages of an array of 4: the catalogue of epoch 0, a leaf whose value 2 was set to 5, and the catalogue of
+// epoch 1.
+fn three_pages(alloc: Global) -> Result<Vec<u8>, Fail> {
+    let storages = 0x4341_5400_0000_0001;
+    let mut bytes = page(alloc, &[(0, storages), (16, 257), (17, 4)])?;
+    bytes.extend_from_slice(&page(alloc, &[(4, 0x0000_0100_0000_0001), (5, 5)])?)?;
+    let newest = [(0, storages), (1, 1), (2, 1), (16, 257), (17, 4), (18, 2)];
+    bytes.extend_from_slice(&page(alloc, &newest)?)?;
+    Ok(bytes)
+}
+
+// What devices have whose savepoint is that of `save_of`, whether it counts the log line or not, in which commit 1:1
+// sets value 2 to 7.
+pub(super) fn kept_vault(
+    alloc: Global,
+    sequence: u64,
+    epoch: u64,
+    pages: u64,
+    counted: u64,
+) -> Result<Vault<MemDisk>, Fail> {
+    let save = save_of(alloc, sequence, epoch, pages, counted)?;
+    let snaps = three_pages(alloc)?;
+    let mut line = page(
+        alloc,
+        &[
+            (0, 0x0000_0100_0000_0001),
+            (1, 1),
+            (2, 0x101),
+            (3, 2),
+            (4, 7),
+        ],
+    )?;
+    line.truncate(40);
+    Ok(vault_of(alloc, &save, &snaps, &line, &[])?)
+}
+
+// Makes the calls of some rows one after another over a vault.
+fn check_rows<R: Threads + Wait + Sync + AllocGlobal + Abort>(
+    rt: &R,
+    vault: &mut Vault<MemDisk>,
+    rows: &str,
+) -> Result<(), Fail> {
+    for row in rows.lines() {
+        check_row(rt, vault, row)?;
+    }
+    Ok(())
+}
+
+const AFTER_RUNS_THAT_READ: &str = "\
+run # array 1 4|0 r 1 0| # 0 # 0.0 ok 1:1 0|durable 1|
+run # array 1 4|0 r 1 2| # 0 # 0.0 ok 2:1 0|durable 2|
+run # array 1 4|0 w 1 2 7|1 r 1 2| # 0 # 0.0 ok 3:1|1.0 ok 3:2 7|durable 3|
+dump # # 0 # epoch 3|1 2 7|
+run # array 1 4|0 r 1 2| # 0 # 0.0 ok 4:1 7|durable 4|
+run # array 1 4|0 r 1 2| # 0 # 0.0 ok 5:1 7|durable 5|
+dump # # 0 # epoch 5|1 2 7|
+";
+
+// The log entries become a snapshot of two pages, a leaf and a catalogue, as the next run begins.
+const AFTER_A_RUN_THAT_WROTE: &str = "\
+run # array 1 4|0 w 1 2 7; r 1 2|0 r 1 0| # 0 # 0.0 ok 1:1 7|0.1 ok 1:2 0|durable 1|
+run # array 1 5| # 1 # shape declared 1:5 kept 1:4|
+dump # # 0 # epoch 1|1 2 7|
+run --snap 2 # array 1 4|0 r 1 2| # 7 # limit snap|
+dump # # 0 # epoch 1|1 2 7|
+run --snap 3 # array 1 4|0 r 1 2| # 0 # 0.0 ok 2:1 7|durable 2|
+dump # # 0 # epoch 2|1 2 7|
+run --snap 3 # array 1 4|0 a 1 2 1; w 1 0 9| # 0 # 0.0 ok 3:1|durable 3|
+run --snap 4 # array 1 4|0 r 1 2| # 7 # limit snap|
+run --snap 5 # array 1 4|0 r 1 2; r 1 0| # 0 # 0.0 ok 4:1 8 9|durable 4|
+dump # # 0 # epoch 4|1 0 9|1 2 8|
+";
+
+// Seventeen keys of a tree become two leaves, an interior page and a catalogue.
+const AFTER_A_RUN_OVER_A_TREE: &str = "\
+run # tree 2|0 w 2 1 1; w 2 2 2; w 2 3 3; w 2 4 4; w 2 5 5; w 2 6 6; w 2 7 7; w 2 8 8; w 2 9 9; w 2 10 10; w 2 11 11; \
+w 2 12 12; w 2 13 13; w 2 14 14; w 2 15 15; w 2 16 16|0 w 2 17 0| # 0 # 0.0 ok 1:1|0.1 ok 1:2|durable 1|
+run --snap 4 # tree 2| # 7 # limit snap|
+run --snap 5 # tree 2|0 s 2 9 11; r 2 17; d 2 9; s 2 8 10| # 0 # 0.0 ok 2:1 9=9,10=10,11=11 0 8=8,10=10|durable 2|
+run # tree 2|0 s 2 8 10; s 2 16 99| # 0 # 0.0 ok 3:1 8=8,10=10 16=16,17=0|durable 3|
+";
+
+const OTHER_STORAGES: &str = "\
+run # tree 3|array 1 4|0 r 3 5; r 1 0| # 0 # 0.0 ok 1:1 - 0|durable 1|
+run # array 1 4|tree 3|0 s 3 0 9| # 0 # 0.0 ok 2:1 .|durable 2|
+run # array 1 4| # 1 # shape declared 1:4 kept 1:4,3:t|
+run # array 2 4|array 1 4|tree 3| # 1 # shape declared 1:4,2:4,3:t kept 1:4,3:t|
+run # array 3 4|tree 1| # 1 # shape declared 1:t,3:4 kept 1:4,3:t|
+run # # 1 # shape declared . kept 1:4,3:t|
+run # array 1 5|0 r 1 5| # 1 # script 2 Range|
+dump # # 0 # epoch 2|
+";
+
+const NO_STORAGES: &str = "\
+run # # 0 # durable 1|
+run # k save|join|k epoch| # 0 # k.0 save 1|durable 2|k.0 epoch 4|durable 4|
+run # tree 9| # 1 # shape declared 9:t kept .|
+dump # # 0 # epoch 4|
+";
+
+// Commits that change nothing leave nothing that counts, but a value that is set to itself does.
+const NOTHING_CHANGED: &str = "\
+run # array 1 4|tree 2|0 t 1 0 5|1 d 2 9| # 0 # 0.0 short 1:1|1.0 ok 1:2|durable 1|
+run # array 1 4|tree 2|0 w 1 0 0| # 0 # 0.0 ok 2:1|durable 2|
+run --snap 1 # array 1 4|tree 2| # 7 # limit snap|
+run # array 1 4|tree 2| # 0 # durable 3|
+dump # # 0 # epoch 3|
+";
+
+const NEAR_THE_LAST_EPOCH: &str = "\
+run # array 1 4|0 r 1 0| # 7 # 0.0 ok 1048574:1 0|limit epoch|
+dump # # 0 # epoch 1048573|
+run # array 1 4|k epoch|k save|k epoch| # 7 # k.0 limit|k.1 save 1048573|k.2 limit|limit epoch|
+run # array 1 4|0 w 1 0 1|k save|join|0 r 1 0| # 7 # 0.0 ok 1048574:1|k.0 save 1048573|limit epoch|
+dump # # 0 # epoch 1048573|
+run # array 1 4|0 r 1 0| # 7 # 0.0 ok 1048574:1 0|limit epoch|
+";
+
+const AT_THE_LAST_SEQUENCE: &str = "\
+run # array 1 4|0 w 1 2 9|k save|k save|k epoch| # 7 # 0.0 ok 2:1|k.0 limit|k.1 limit|k.2 epoch 3|limit sequence|
+dump # # 0 # epoch 1|
+run # array 1 4|0 r 1 2|join|0 r 1 2| # 7 # 0.0 ok 2:1 0|limit sequence|
+";
+
+const NO_SEQUENCE_FOR_A_SNAPSHOT: &str = "\
+run --snap 2 # array 1 4|0 r 1 0| # 7 # limit snap|
+run # array 1 4|0 r 1 0| # 7 # limit sequence|
+dump # # 0 # epoch 1|1 2 7|
+";
+
+const NO_SEQUENCE_FOR_SETTLING: &str = "\
+run # array 1 5| # 1 # shape declared 1:5 kept 1:4|
+run # array 1 4|0 r 1 0| # 7 # limit sequence|
+dump # # 0 # epoch 0|
+";
+
+const MORE_PAGES_THAN_ARE_LET_IN: &str = "\
+run --snap 2 # array 1 4|0 r 1 2| # 7 # limit snap|
+run --snap 3 # array 1 4|0 r 1 2; a 1 2 1; r 1 2| # 0 # 0.0 ok 2:1 5 6|durable 2|
+dump # # 0 # epoch 2|1 2 6|
+run --snap 4 # array 1 4| # 7 # limit snap|
+run --snap 5 # array 1 4|0 r 1 2| # 0 # 0.0 ok 3:1 6|durable 3|
+";
+
+const DAMAGED: &str = "\
+run # walk| # 1 # script 1 Word|
+run # array 1 5| # 6 # damaged bank0 40|
+";
+
+// What the vault's savepoint says at first: sequence, epoch, pages and counted bytes; and the calls.
+#[test]
+fn a_call_begins_where_the_last_one_ended(rt: HostRuntime) -> Result<(), Fail> {
+    let last = (1 << 63) - 1;
+    let cases: [(u64, u64, u64, u64, &str); 14] = [
+        (0, 0, 0, 0, AFTER_RUNS_THAT_READ),
+        (0, 0, 0, 0, AFTER_A_RUN_THAT_WROTE),
+        (0, 0, 0, 0, AFTER_A_RUN_OVER_A_TREE),
+        (0, 0, 0, 0, OTHER_STORAGES),
+        (0, 0, 0, 0, NO_STORAGES),
+        (0, 0, 0, 0, NOTHING_CHANGED),
+        (2, 1_048_573, 1, 0, NEAR_THE_LAST_EPOCH),
+        (last, 1, 1, 0, AT_THE_LAST_SEQUENCE),
+        (last, 0, 1, 40, NO_SEQUENCE_FOR_SETTLING),
+        (last, 1, 1, 40, NO_SEQUENCE_FOR_A_SNAPSHOT),
+        (
+            2,
+            0,
+            1,
+            40,
+            "run # array 1 4|0 r 1 2| # 0 # 0.0 ok 1:1 0|durable 1|",
+        ),
+        (
+            2,
+            1,
+            1,
+            40,
+            "run # array 1 4| # 0 # durable 2|\ndump # # 0 # epoch 2|1 2 7|",
+        ),
+        (2, 1, 3, 0, MORE_PAGES_THAN_ARE_LET_IN),
+        (2, 1, 1, 41, DAMAGED),
+    ];
+    for (sequence, epoch, pages, counted, rows) in cases {
+        let mut vault = kept_vault(rt.alloc(), sequence, epoch, pages, counted)?;
+        check_rows(&rt, &mut vault, rows)?;
+    }
+    Ok(())
+}
+
+// A save device of another length, with and without a script.
+#[test]
+fn a_damaged_savepoint_runs_nothing(rt: HostRuntime) -> Result<(), Fail> {
+    let mut vault = vault_of(rt.alloc(), &[0; 3], &[], &[], &[])?;
+    let row = "run # array 1 4|0 w 1 2 7; r 1 2|0 r 1 0| # 6 # damaged save 0|";
+    check_row(&rt, &mut vault, row)?;
+    check_row(&rt, &mut vault, "run # walk| # 1 # script 1 Word|")
+}

@@ -8,3 +8,4 @@ pub mod Appended
 pub mod NextSettled
 pub mod OneRun
 pub mod PlainSettled
+pub mod SnapshotsSettled

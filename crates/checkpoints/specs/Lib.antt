@@ -1,3 +1,4 @@
 pub mod Due
 pub mod SettlesInto
 pub mod Written
+pub mod SnapshotsKept

@@ -6,6 +6,7 @@
 //!   files are empty (`settles`, record `SettlesInto`). Whatever it answers, each crash of all devices since they rest
 //!   leaves the epoch and the state that were recovered (`crashes`, record `LeavesSame`); after each other answer but
 //!   a device's fault the devices are as they were (`untouched`).
+//!   Each snapshot that the devices had they have still, and one more at most, of what was kept (`snapshots`).
 //! - Its refusals have their numbers (`deep`, `limit`, `sequence`), come in this order, before any write, and come
 //!   exactly where they are due (`fits`, `last`).
 //!

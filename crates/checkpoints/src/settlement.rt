@@ -14,12 +14,13 @@ ghost use Rattle.recovery_core.specs.Images.{Images};
 ghost use Rattle.recovery_core.specs.JointCrash.{Moments, parts_of};
 ghost use Rattle.recovery_core.specs.Recovered.{Recovers, IsUp};
 ghost use Rattle.recovery_core.specs.Resting.{IsResting, HasNoRecords, AreTold};
-ghost use Rattle.recovery_core.specs.Settled.{SameDevices};
+ghost use Rattle.recovery_core.specs.Settled.{SameDevices, SaysSettled};
 ghost use Rattle.recovery_core.specs.SettleRests.{RestsSince};
 ghost use Rattle.recovery_core.specs.VaultReads.{RoseIn, AreQuiet};
 ghost use Rattle.checkpoints.specs.Due.{SomeCount, WouldBeDeep, WouldBeMany, ComposesWithin};
 ghost use Rattle.checkpoints.specs.Due.{OfSaved, IsOverLimit, IsWithin, IsStoreDue};
 ghost use Rattle.checkpoints.specs.SettlesInto.{SettlesInto};
+ghost use Rattle.checkpoints.specs.SnapshotsKept.{KeepsSnapshots};
 ghost use Rattle.checkpoints.specs.Written.{FitsDevice};
 
 use crate::due::{due_pages, saved_due};
@@ -178,6 +179,8 @@ pub fn settle<D: Disk>(
     ensures settles { IfOk result (λ s.
         SettlesInto D.tells D.clock D.image_at recovered decls.now vault.old vault.new s) }
     ensures room { 1 ≤ snap → IfOk result (λ s. s.saved.count ≤ snap) }
+    ensures snapshots { IfOk result (λ s. (found now : Images) (is : Recovers found recovered)
+        (says : SaysSettled now s) → KeepsSnapshots is.reading says.reading recovered.epoch recovered.state) }
     ensures deep { result ≡ Err (OrMemory.Fault SettleFault.Deep) → OfSaved recovered (WouldBeDeep recovered) }
     ensures limit { (have new room : ℕ) → result ≡ Err (OrMemory.Fault (SettleFault.Limit have new room))
         → OfSaved recovered (λ p. (have ≡ p.count) × (room ≡ snap) × IsOverLimit recovered p snap new) }

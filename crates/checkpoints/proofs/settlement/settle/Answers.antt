@@ -4,12 +4,16 @@ use Rattle.std.specs.FinMap.{get}
 use Rattle.std.proofs.lemmas.Result.{IfOk-weaker}
 use Rattle.serial_model.specs.declared.key.Key.{Key}
 use Rattle.log_writer.specs.declared.saved.Saved.{Saved}
-use Rattle.recovery_core.specs.Settled.{Settles, Fits, settled_saved, stores_due}
+use Rattle.recovery_core.specs.Images.{Images}
+use Rattle.recovery_core.specs.Recovered.{Recovers}
+use Rattle.recovery_core.specs.Settled.{SaysSettled, Settles, Fits, settled_saved, stores_due}
 use Rattle.recovery_core.specs.declared.recovered.Recovered.{Recovered}
 use Rattle.checkpoints.specs.Due.{OfSaved, NoneCount, IsOverLimit, IsWithin, IsStoreDue}
 use Rattle.checkpoints.specs.SettlesInto.{SettlesInto}
 use Rattle.checkpoints.proofs.OneRun.{within_not_deep, within_not_many}
+use Rattle.checkpoints.specs.SnapshotsKept.{KeepsSnapshots}
 use Rattle.checkpoints.proofs.PlainSettled.{plain_settles, plain_room}
+use Rattle.checkpoints.proofs.SnapshotsSettled.{settled_snapshots}
 use Rattle.checkpoints.proofs.settlement.settle.Goals as goal
 
 -- ---- no entry counts
@@ -28,6 +32,23 @@ returns-in-None-clause-room g c some = plain_room c.args.recovered c.args.snap s
     (λ s. Settles g.D.Disk.tells g.D.Disk.clock g.D.Disk.image_at c.args.recovered c.args.decls.now c.args.vault.now
     c.settle.new.vault s) (λ s. s.saved ≡ settled_saved c.args.recovered.saved) (λ s is. is.saved)
     c.settle.ensures.settles) c.settle.ensures.fits
+
+pub returns-in-None-clause-snapshots : goal.returns-in-None-clause-snapshots
+returns-in-None-clause-snapshots g c = IfOk-weaker c.settle.result
+    (λ s. Settles g.D.Disk.tells g.D.Disk.clock g.D.Disk.image_at c.args.recovered c.args.decls.now c.args.vault.now
+    c.settle.new.vault s)
+    (λ s. (found now : Images) (is : Recovers found c.args.recovered) (says : SaysSettled now s)
+    → KeepsSnapshots is.reading says.reading c.args.recovered.epoch c.args.recovered.state)
+    (λ s is. settled_snapshots c.args.recovered s c.requires.up
+    (plain_settles c.args.recovered s c.in-None.ensures.none is)) c.settle.ensures.settles
+
+pub returns-in-Some-clause-snapshots : goal.returns-in-Some-clause-snapshots
+returns-in-Some-clause-snapshots g c = IfOk-weaker c.settle_entries.result
+    (λ s. SettlesInto g.D.Disk.tells g.D.Disk.clock g.D.Disk.image_at c.args.recovered c.args.decls.now
+    c.args.vault.now c.settle_entries.new.vault s)
+    (λ s. (found now : Images) (is : Recovers found c.args.recovered) (says : SaysSettled now s)
+    → KeepsSnapshots is.reading says.reading c.args.recovered.epoch c.args.recovered.state)
+    (λ s is. settled_snapshots c.args.recovered s c.requires.up is) c.settle_entries.ensures.settles
 
 pub returns-in-None-clause-deep : goal.returns-in-None-clause-deep
 returns-in-None-clause-deep g c is = absurd (c.settle.ensures.never_deep is)

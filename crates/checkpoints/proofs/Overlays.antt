@@ -2,36 +2,22 @@
 use Rattle.std.proofs.Common.{◌≡◌, ℕ, Bool, true, false, List, [], ◌∷◌, Option, Some, None, inl, inr, refl, sym, ap}
 use Rattle.std.proofs.Common.{subst, ◌∙◌, arith}
 use Rattle.std.specs.Prelude.{cond}
-use Rattle.std.specs.Cmp.{IsTotalOrder, nat_cmp_total, eq_by_cmp_equiv}
+use Rattle.std.specs.Cmp.{eq_by_cmp_equiv}
 use Rattle.std.specs.Ordering.{eq_by_cmp}
 use Rattle.std.specs.FinMap.{get, get-insert, get-remove}
 use Rattle.std.specs.List.{Contains}
-use Rattle.std.proofs.lemmas.Cmp.{on_total, then_total}
-use Rattle.std.proofs.lemmas.Bool.Decides.{nat_tests}
 use Rattle.std.proofs.lemmas.Option.{same_Some}
 use Rattle.lists.specs.Elements.{in_none, in_head, in_tail, in_cases}
 use Rattle.serial_model.specs.Keys.{key_cmp}
 use Rattle.serial_model.specs.State.{State}
 use Rattle.serial_model.specs.declared.key.Key.{Key}
+use Rattle.serial_model.specs.KeyOrder.{keys_total, same_by_test}
 use Rattle.wire_form.specs.declared.bucket.Entry.{Entry}
 use Rattle.log_reducer.specs.Overlay.{put_or_remove, overlay}
 use Rattle.root_composer.specs.Storages.{change_for}
 use Rattle.recovery_core.specs.EntriesLast.{EntryMap}
 use Rattle.recovery_core.specs.EntriesRun.{AreOfTheirKeys, IsRunOf}
 use Rattle.recovery_core.specs.Recoverable.{value_over}
-
-keys_total : IsTotalOrder key_cmp
-keys_total = then_total (on_total (λ (k : Key). k.storage) nat_cmp_total) (on_total (λ (k : Key). k.key) nat_cmp_total)
-
-abbrev key_with : ℕ → ℕ → Key
-key_with s k = record { storage = s; key = k }
-
--- keys that compare alike are one
-same_keys : (a b : Key) → eq_by_cmp key_cmp a b ≡ true → a ≡ b
-same_keys a b h =
-    let s : a.storage ≡ b.storage = grind (arith, nat_tests) in
-    let k : a.key ≡ b.key = grind (arith, nat_tests) in
-    ap (λ x. key_with x a.key) s ∙ ap (key_with b.storage) k
 
 -- ---- what an overlay has at a key
 
@@ -65,7 +51,7 @@ change_some (x ∷ xs) key e is =
       | true ↦ λ same here.
           let one : x ≡ e = same_Some x e here in (
             subst (λ y. Contains (x ∷ xs) y) one (in_head x xs),
-            ap (λ (y : Entry). y.key) (sym one) ∙ sym (same_keys key x.key same),
+            ap (λ (y : Entry). y.key) (sym one) ∙ sym (same_by_test key x.key same),
           )
       | false ↦ λ other later.
           let rest = change_some xs key e later in
@@ -119,7 +105,7 @@ back old (e ∷ es) key now is =
     → now ≡ value_over (cond b (Some e) (change_for es key)) (old key)
     → value_over (cond b (Some (record { key = e.key; number = e.number; value = old e.key }))
     (change_for (before old es) key)) now ≡ old key) [
-      | true ↦ λ same here. ap old (sym (same_keys key e.key same))
+      | true ↦ λ same here. ap old (sym (same_by_test key e.key same))
       | false ↦ λ other later. back old es key now later
     ] refl is
 

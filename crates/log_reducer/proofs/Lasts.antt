@@ -1,36 +1,23 @@
 -- The values of a map that keeps the latest entry of each key are a run.
-use Rattle.std.proofs.Common.{◌≡◌, ℕ, zero, suc, List, [], ◌∷◌, Option, Some, None, inl, inr, refl, sym, ap, subst, ◌∙◌, map, arith}
+use Rattle.std.proofs.Common.{◌≡◌, zero, suc, List, [], ◌∷◌, Option, Some, None, inl, inr, refl, sym, ap, subst, ◌∙◌, map, arith}
 use Rattle.std.specs.BTreeMap as tree
 use Rattle.std.specs.BTreeMap.{BTreeMap}
-use Rattle.std.specs.Cmp.{IsTotalOrder, nat_cmp_total}
 use Rattle.std.specs.Ordering.{nat_cmp, ordering_then}
 use Rattle.std.specs.List.{Contains, AllByRecursion}
 use Rattle.std.specs.List.Sorted.{IsStrictlySortedBy}
 use Rattle.std.specs.declared.cmp.Ordering.TheVariants.{Less, Equal, Greater}
 use Rattle.std.proofs.lemmas.Bool.{cases_lt}
-use Rattle.std.proofs.lemmas.Cmp.{on_total, then_total}
-use Rattle.std.proofs.lemmas.Map.Lookups.{CmpEqualImpliesEq, exact_pairs, exact_unsigned}
 use Rattle.std.proofs.lemmas.Map.Views.{btree_map_get_iff}
 use Rattle.serial_model.specs.Keys.{key_cmp}
 use Rattle.serial_model.specs.declared.key.Key.{Key}
 use Rattle.wire_form.specs.declared.bucket.Entry.{Entry}
 use Rattle.wire_form.specs.Items.{IsFollowed, RisesAfter}
 use Rattle.serial_model.specs.Keys.{IsKeyBelow}
+use Rattle.serial_model.specs.KeyOrder.{keys_total, exact_keys}
 use Rattle.log_reducer.specs.declared.latest.Logged.{Logged}
 use Rattle.log_reducer.specs.Reduced.{entry_key, AreLast}
 use Rattle.log_reducer.specs.Latest.{kept_of, entry_in}
 use Rattle.log_reducer.proofs.KeptLemmas.{IsKept, kept_is, kept_some}
-
-keys_total : IsTotalOrder key_cmp
-keys_total = then_total (on_total (λ (k : Key). k.storage) nat_cmp_total) (on_total (λ (k : Key). k.key) nat_cmp_total)
-
-abbrev key_with : ℕ → ℕ → Key
-key_with s k = record { storage = s; key = k }
-
-keys_exact : CmpEqualImpliesEq key_cmp
-keys_exact a b e =
-    ap (λ (p : ℕ × ℕ). key_with p.0 p.1)
-    (exact_pairs nat_cmp nat_cmp exact_unsigned exact_unsigned (a.storage, a.key) (b.storage, b.key) e)
 
 -- a value of a map stands at some key
 at_key : (es : List (Key × Logged)) (r : Entry) → Contains (map entry_in (map (λ e. e.1) es)) r → (k : Key) × (f : Logged) × Contains es (k, f) × (f.entry ≡ r)
@@ -94,15 +81,15 @@ pub entries_last : (m : BTreeMap Key Logged) (all : List Logged) → tree.IsOrde
 entries_last m all ordered gets = record {
   each = λ e has.
       let some = kept_some e.entry.key None all e has refl in
-      let at = (btree_map_get_iff keys_total keys_exact m ordered e.entry.key some.0).0 (gets e.entry.key ∙ some.1) in
+      let at = (btree_map_get_iff keys_total exact_keys m ordered e.entry.key some.0).0 (gets e.entry.key ∙ some.1) in
       (some.0.entry, of_key m.entries e.entry.key some.0 at, kept_key e.entry.key some.0 some.1);
   latest = λ r has.
       let at = at_key m.entries r has in
-      let kept : kept_of at.0 None all ≡ Some at.1 = sym (gets at.0) ∙ (btree_map_get_iff keys_total keys_exact m ordered at.0 at.1).1 at.2 in
+      let kept : kept_of at.0 None all ≡ Some at.1 = sym (gets at.0) ∙ (btree_map_get_iff keys_total exact_keys m ordered at.0 at.1).1 at.2 in
       let is = kept_is at.0 None all at.1 kept in
       let key = kept_key at.0 at.1 kept in
       (at.1, inside at.0 at.1 is, at.3, λ e there same. is.new_are e there (same ∙ ap entry_key (sym at.3) ∙ key));
-  rising = rises None m.entries ordered (of_their_keys m.entries (λ k f has. kept_key k f (sym (gets k) ∙ (btree_map_get_iff keys_total keys_exact m ordered k f).1 has))) (λ l none. absurd (cc));
+  rising = rises None m.entries ordered (of_their_keys m.entries (λ k f has. kept_key k f (sym (gets k) ∙ (btree_map_get_iff keys_total exact_keys m ordered k f).1 has))) (λ l none. absurd (cc));
 }
   where
     inside : (key : Key) (f : Logged) → IsKept key None all f → Contains all f

@@ -2,36 +2,26 @@
 use Rattle.std.proofs.Common.{◌≡◌, ℕ, true, false, List, [], ◌∷◌, ◌++◌, Option, Some, None, refl, sym, ap, ◌∙◌}
 use Rattle.std.proofs.Common.{append-nil, append_assoc, arith}
 use Rattle.std.specs.Prelude.{cond, filter}
-use Rattle.std.specs.Cmp.{IsTotalOrder, nat_cmp_total, eq_by_cmp_equiv}
+use Rattle.std.specs.Cmp.{eq_by_cmp_equiv}
 use Rattle.std.specs.BTreeMap.{is_at}
 use Rattle.std.specs.FinMap.{find, from_entries, get, get-from_entries}
 use Rattle.std.specs.Map.{lookup}
-use Rattle.std.specs.Ordering.{nat_cmp, is_eq, eq_by_cmp}
+use Rattle.std.specs.Ordering.{is_eq, eq_by_cmp}
 use Rattle.std.proofs.lemmas.Bool.Decides.{nat_tests}
-use Rattle.std.proofs.lemmas.Cmp.{on_total, then_total}
 use Rattle.std.proofs.lemmas.List.Elements.{filter-append}
-use Rattle.std.proofs.lemmas.Map.Lookups.{CmpEqualImpliesEq, exact_pairs, exact_unsigned}
 use Rattle.serial_model.specs.Keys.{key_cmp}
 use Rattle.serial_model.specs.Numbers.{is_below}
 use Rattle.serial_model.specs.declared.key.Key.{Key}
 use Rattle.serial_model.specs.declared.number.Number.{Number}
+use Rattle.serial_model.specs.KeyOrder.{keys_total}
 use Rattle.wire_form.specs.declared.bucket.Entry.{Entry}
 use Rattle.recovery_core.specs.LogEntries.{is_of, greater, greatest, last_of}
 use Rattle.recovery_core.specs.EntriesLast.{EntryMap, TakesIn, is_later}
 
 -- ---- keys
 
-pub keys_total : IsTotalOrder key_cmp
-keys_total = then_total (on_total (λ (k : Key). k.storage) nat_cmp_total) (on_total (λ (k : Key). k.key) nat_cmp_total)
-
 abbrev pub key_with : ℕ → ℕ → Key
 key_with s k = record { storage = s; key = k }
-
--- keys that compare alike are one
-pub keys_exact : CmpEqualImpliesEq key_cmp
-keys_exact a b e =
-    ap (λ (p : ℕ × ℕ). key_with p.0 p.1)
-    (exact_pairs nat_cmp nat_cmp exact_unsigned exact_unsigned (a.storage, a.key) (b.storage, b.key) e)
 
 -- a test of keys may be asked either way round
 pub either_way : (a b : Key) → eq_by_cmp key_cmp a b ≡ eq_by_cmp key_cmp b a

@@ -12,11 +12,12 @@ use Rattle.std.proofs.lemmas.Bool.{cases_lt}
 use Rattle.std.proofs.lemmas.Map.Views.{btree_map_get_iff}
 use Rattle.serial_model.specs.Keys.{key_cmp, IsKeyBelow}
 use Rattle.serial_model.specs.declared.key.Key.{Key}
+use Rattle.serial_model.specs.KeyOrder.{keys_total, exact_keys}
 use Rattle.wire_form.specs.Items.{IsFollowed, RisesAfter}
 use Rattle.wire_form.specs.declared.bucket.Entry.{Entry}
 use Rattle.recovery_core.specs.EntriesLast.{EntryMap}
 use Rattle.recovery_core.specs.EntriesRun.{AreOfTheirKeys, IsRunOf, key_of}
-use Rattle.recovery_core.proofs.EntriesGreatest.{keys_total, keys_exact, get_key}
+use Rattle.recovery_core.proofs.EntriesGreatest.{get_key}
 
 -- a value of a map stands at some key
 at_key : (es : List (Key × Entry)) (e : Entry) → Contains (map (λ x. x.1) es) e → (k : Key) × Contains es (k, e)
@@ -89,7 +90,7 @@ rises last (x ∷ xs) sorted own after = (
 pub values_run : (m : BTreeMap Key Entry) (last : EntryMap) → from_entries m.entries ≡ last
     → tree.IsOrdered key_cmp m → AreOfTheirKeys last → IsRunOf last (tree.values m)
 values_run m last view ordered own =
-    let iff = btree_map_get_iff keys_total keys_exact m ordered in
+    let iff = btree_map_get_iff keys_total exact_keys m ordered in
     let gets : (key : Key) → get last key ≡ tree.get key_cmp m key =
     λ key. ap (λ (x : EntryMap). get x key) (sym view) ∙ get_key m.entries key in
     let keyed : (k : Key) (e : Entry) → Contains m.entries (k, e) → e.key ≡ k =

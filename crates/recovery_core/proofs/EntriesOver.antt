@@ -8,15 +8,15 @@ use Rattle.std.specs.List.{AllByRecursion}
 use Rattle.std.specs.List.Sorted.{IsStrictlySortedBy}
 use Rattle.std.specs.Map.{keys_of}
 use Rattle.std.specs.Ordering.{is_eq, eq_by_cmp}
-use Rattle.std.specs.declared.cmp.Ordering.{Ordering}
-use Rattle.std.specs.declared.cmp.Ordering.TheVariants.{Less, Equal, Greater}
+use Rattle.std.specs.declared.cmp.Ordering.TheVariants.{Less}
 use Rattle.serial_model.specs.Keys.{key_cmp}
 use Rattle.serial_model.specs.State.{State}
 use Rattle.serial_model.specs.declared.key.Key.{Key}
+use Rattle.serial_model.specs.KeyOrder.{keys_total, same_by_test}
 use Rattle.wire_form.specs.declared.bucket.Entry.{Entry}
 use Rattle.recovery_core.specs.Recoverable.{value_over}
 use Rattle.recovery_core.specs.EntriesLast.{EntryMap, PutsAt}
-use Rattle.recovery_core.proofs.EntriesGreatest.{keys_total, keys_exact, entry_at}
+use Rattle.recovery_core.proofs.EntriesGreatest.{entry_at}
 
 -- no entries have none at any key
 pub none_at : (es : List (Key × Entry)) (key : Key) → length es ≡ 0 → entry_at es key ≡ None
@@ -30,11 +30,6 @@ no_entry (e ∷ es) none =
     let here : cond (eq_by_cmp key_cmp e.0 e.0) (Some e.1) (entry_at es e.0) ≡ Some e.1 =
     ap (λ b. cond b (Some e.1) (entry_at es e.0)) ((eq_by_cmp_equiv keys_total).refl e.0) in
     absurd (cc (here, none e.0))
-
-is_equal : (o : Ordering) → is_eq o ≡ true → o ≡ Equal
-is_equal Less h = cc
-is_equal Equal h = refl
-is_equal Greater h = cc
 
 -- the keys of entries are above this one
 abbrev Above : Key → List (Key × Entry) → Type 0
@@ -65,7 +60,7 @@ put_more all left key e old now new so_far put = record {
         → value_over (entry_at left other) (get new other)
         ≡ value_over (entry_at ((key, e) ∷ left) other) (get now other)
     step other true test =
-        let same : other ≡ key = keys_exact other key (is_equal (key_cmp other key) test) in
+        let same : other ≡ key = same_by_test other key test in
         let rest : entry_at left other ≡ None =
         below_all other left (subst (λ k. Above k left) (sym same) so_far.sorted.0) in
         ap (λ o. value_over o (get new other)) rest ∙ put other

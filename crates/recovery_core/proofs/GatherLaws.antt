@@ -3,16 +3,15 @@ use Rattle.std.proofs.Common.{◌≡◌, ◌≢◌, ℕ, ◌+◌, ◌-◌, ◌*�
 use Rattle.std.proofs.Common.{length, get_or, Option, Some, None, refl, sym, ap, subst, ◌∙◌, arith, inl, inr}
 use Rattle.std.proofs.Common.{eqb, ◌&&◌}
 use Rattle.std.specs.Prelude.{cond, nat_le, nat_lt, ◌==◌}
-use Rattle.std.specs.Cmp.{IsTotalOrder, nat_cmp_total}
 use Rattle.std.specs.Ordering.{eq_by_cmp}
 use Rattle.std.specs.List.{AllByRecursion}
 use Rattle.std.specs.FinMap.{get, insert, get-insert}
-use Rattle.std.proofs.lemmas.Cmp.{on_total, then_total}
 use Rattle.std.proofs.lemmas.Bool.{cases_eq, cases_lt}
 use Rattle.std.proofs.lemmas.Bool.Decides.{nat_tests}
 use Rattle.serial_model.specs.Keys.{key_cmp}
 use Rattle.serial_model.specs.State.{State}
 use Rattle.serial_model.specs.declared.key.Key.{Key}
+use Rattle.serial_model.specs.KeyOrder.{keys_total}
 use Rattle.snapshot_store.specs.declared.place.Place.{Place}
 use Rattle.snapshot_store.specs.Places.{Found, Format, at_key, find, here_or_below, words_at, places_below}
 use Rattle.snapshot_store.specs.Places.{Cover, Tiles, StandsTo}
@@ -20,10 +19,6 @@ use Rattle.snapshot_store.specs.ArrayPages.{array_found, array_look}
 use Rattle.recovery_core.specs.Damage.{first_byte, FirstBad, BreaksTo}
 use Rattle.recovery_core.specs.Gather.{found_of, put_over, Puts, only_at, is_from, array_records, found_at}
 use Rattle.recovery_core.specs.Gather.{found_among, Gathered, Gathers}
-
-keys_total : IsTotalOrder key_cmp
-keys_total = then_total (on_total (λ (k : Key). k.storage) nat_cmp_total)
-    (on_total (λ (k : Key). k.key) nat_cmp_total)
 
 -- keys compare alike where both parts are equal
 same_key : (a b : Key) → eq_by_cmp key_cmp a b ≡ eqb a.storage b.storage && eqb a.key b.key

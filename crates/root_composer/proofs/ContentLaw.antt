@@ -1,15 +1,14 @@
 -- The state after composing is the overlay of the state before.
 use Rattle.std.proofs.Common.{◌≡◌, ◌≢◌, ℕ, Bool, true, false, List, [], ◌∷◌, Option, Some, None, refl, sym, ap, ◌∙◌, arith, inl, inr, eqb, ◌&&◌}
 use Rattle.std.specs.Prelude.{cond}
-use Rattle.std.specs.Cmp.{IsTotalOrder, nat_cmp_total}
 use Rattle.std.specs.Ordering.{eq_by_cmp}
 use Rattle.std.specs.FinMap.{get, get-insert, get-remove}
-use Rattle.std.proofs.lemmas.Cmp.{on_total, then_total}
 use Rattle.std.proofs.lemmas.Bool.{cases_eq}
 use Rattle.std.proofs.lemmas.Bool.Decides.{nat_tests}
 use Rattle.serial_model.specs.Keys.{key_cmp, id_of}
 use Rattle.serial_model.specs.State.{State}
 use Rattle.serial_model.specs.declared.key.Key.{Key}
+use Rattle.serial_model.specs.KeyOrder.{keys_total}
 use Rattle.root_composer.specs.Overlaid.{entry_for, overlaid, put_or_removed}
 use Rattle.wire_form.specs.Words.{number_word}
 use Rattle.snapshot_store.specs.Places.{Found}
@@ -18,9 +17,6 @@ use Rattle.wire_form.specs.declared.records.Stored.{Stored}
 use Rattle.snapshot_store.specs.Content.{value_of, value_at, IsContent}
 use Rattle.log_reducer.specs.Overlay.{put_or_remove, overlay}
 use Rattle.root_composer.specs.Storages.{part_of, change_for, EachOverlaid, has_id}
-
-keys_total : IsTotalOrder key_cmp
-keys_total = then_total (on_total (λ (k : Key). k.storage) nat_cmp_total) (on_total (λ (k : Key). k.key) nat_cmp_total)
 
 -- keys compare alike where both parts are equal
 pub same_key : (a b : Key) → eq_by_cmp key_cmp a b ≡ eqb a.storage b.storage && eqb a.key b.key

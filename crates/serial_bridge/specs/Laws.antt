@@ -2,13 +2,9 @@
 use Rattle.std.proofs.Common.{◌≡◌, ℕ, ◌+◌, ◌-◌, ◌^◌, ◌≤◌, Bool, true, false, true≢false, cond, ◌⊎◌, inl, inr, List, [], ◌∷◌, ◌++◌, refl, sym, ap, ◌∙◌, subst, arith, Option, Some, None, IsSome}
 use Rattle.std.specs.Prelude.{◌&&◌, nat_lt, nat_le, option_to_list, unwrap_or, Contains, find, filter, option_map}
 use Rattle.std.specs.Option.{option_or, option_map_or}
-use Rattle.std.specs.Cmp.{IsTotalOrder, nat_cmp_total, eq_by_cmp_equiv}
-use Rattle.std.specs.Ordering.{nat_cmp, eq_by_cmp, is_eq}
-use Rattle.std.specs.declared.cmp.Ordering.{Ordering}
-use Rattle.std.specs.declared.cmp.Ordering.TheVariants.{Less, Equal, Greater}
-use Rattle.std.specs.FinMap.{get, insert, remove, get-insert, get-remove, IsAntisymmetric}
-use Rattle.std.proofs.lemmas.Cmp.{on_total, then_total}
-use Rattle.std.proofs.lemmas.Map.Lookups.{exact_pairs, exact_unsigned}
+use Rattle.std.specs.Cmp.{eq_by_cmp_equiv}
+use Rattle.std.specs.Ordering.{eq_by_cmp}
+use Rattle.std.specs.FinMap.{get, insert, remove, get-insert, get-remove}
 use Rattle.std.proofs.lemmas.Bool.{cases_Bool, cond-true, cond-false, false_from_ne_true}
 use Rattle.std.proofs.lemmas.Bool.Decides.{nat_tests}
 use Rattle.serial_model.specs.declared.key.Key.{Key}
@@ -29,6 +25,7 @@ use Rattle.homes.specs.declared.places.Content.{Content}
 use Rattle.commit_core.specs.declared.part.Part.{Part}
 use Rattle.commit_core.specs.declared.attempt.Attempt.{Attempt}
 use Rattle.serial_model.specs.Numbers.{IsBelow, below_then}
+use Rattle.serial_model.specs.KeyOrder.{keys_total, same_by_test}
 use Rattle.commit_core.specs.Keys.{same_key, IsUpTo, content_at, written}
 use Rattle.commit_core.specs.Parts.{covers, found, IsSameOrAbsent, Vouches}
 use Rattle.commit_core.specs.Lemmas.Keys.{same_key-self, same_key-true}
@@ -41,26 +38,13 @@ use Rattle.serial_bridge.specs.Bridge.{Agrees, AttemptsStep, after_attempts, las
 
 -- ---- keys
 
-keys_total : IsTotalOrder key_cmp
-keys_total = then_total (on_total (λ (k : Key). k.storage) nat_cmp_total) (on_total (λ (k : Key). k.key) nat_cmp_total)
-
-exact_keys : IsAntisymmetric key_cmp
-exact_keys a b h =
-    ap (λ (p : ℕ × ℕ). record { storage = p.0; key = p.1 })
-    (exact_pairs nat_cmp nat_cmp exact_unsigned exact_unsigned (a.storage, a.key) (b.storage, b.key) h)
-
-is_equal : (r : Ordering) → is_eq r ≡ true → r ≡ Equal
-is_equal Less e = absurd (true≢false (sym e))
-is_equal Equal e = refl
-is_equal Greater e = absurd (true≢false (sym e))
-
 -- the map's test of keys is that of equal keys
 key_test : (q k : Key) → eq_by_cmp key_cmp q k ≡ same_key k q
 key_test q k =
     elim (cases_Bool (same_key k q)) [
       | inl hit ↦ subst (λ (x : Key). eq_by_cmp key_cmp q x ≡ true) (sym (same_key-true k q hit)) ((eq_by_cmp_equiv keys_total).refl q) ∙ sym hit
       | inr miss ↦ false_from_ne_true (eq_by_cmp key_cmp q k) (λ h.
-          true≢false (sym (subst (λ (x : Key). same_key k x ≡ true) (sym (exact_keys q k (is_equal (key_cmp q k) h))) (same_key-self k)) ∙ miss))
+          true≢false (sym (subst (λ (x : Key). same_key k x ≡ true) (sym (same_by_test q k h)) (same_key-self k)) ∙ miss))
           ∙ sym miss
     ]
 

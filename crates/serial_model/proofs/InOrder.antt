@@ -9,7 +9,7 @@ use Rattle.std.specs.Ordering.{is_lt}
 use Rattle.std.specs.declared.cmp.Ordering.TheVariants.{Less}
 use Rattle.std.specs.FinMap.{is_sorted, from_entries, from_sorted, entries, len, len-entries, get-from_entries, get-from_sorted, entries-from_sorted}
 use Rattle.std.specs.FinMap.Entries.{below_all}
-use Rattle.serial_model.proofs.KeyOrder.{keys_total}
+use Rattle.serial_model.specs.KeyOrder.{keys_total}
 use Rattle.serial_model.proofs.FromEntries.{same_state}
 use Rattle.serial_model.specs.Keys.{key_cmp}
 use Rattle.serial_model.specs.declared.key.Key.{Key}

@@ -1,4 +1,3 @@
-pub mod KeyOrder
 pub mod FromEntries
 pub mod InOrder
 pub mod Working

@@ -14,7 +14,7 @@ use Rattle.std.specs.Ordering.{nat_cmp, is_lt, is_le, ordering_then, MatchOrderi
 use Rattle.std.specs.BTreeMap.Range.{range_contains, entries_between}
 use Rattle.std.specs.FinMap.{is_sorted, from_entries, from_sorted, entries, get-from_entries, get-from_sorted, entries-from_sorted}
 use Rattle.std.specs.FinMap.Entries.{is_sorted-where_key, find-where_key}
-use Rattle.serial_model.proofs.KeyOrder.{keys_total, exact_keys}
+use Rattle.serial_model.specs.KeyOrder.{keys_total, exact_keys}
 use Rattle.serial_model.proofs.InOrder.{sorted_entries}
 use Rattle.serial_model.proofs.FromEntries.{same_state}
 use Rattle.serial_model.proofs.Working.{get-working}

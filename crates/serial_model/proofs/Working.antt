@@ -4,7 +4,7 @@ use Rattle.std.specs.Prelude.{cond, not, ◌||◌}
 use Rattle.std.specs.List.{list_any}
 use Rattle.std.specs.Ordering.{eq_by_cmp}
 use Rattle.std.specs.FinMap.{get, insert, remove, get-insert, get-remove, get-retain_keys}
-use Rattle.serial_model.proofs.KeyOrder.{keys_total, exact_keys}
+use Rattle.serial_model.specs.KeyOrder.{keys_total, exact_keys}
 use Rattle.serial_model.proofs.FromEntries.{same_state, either_way}
 use Rattle.serial_model.specs.Keys.{key_cmp}
 use Rattle.serial_model.specs.State.{State}

@@ -7,3 +7,4 @@ pub mod ReplyWords
 pub mod Lent
 pub mod Draft
 pub mod History
+pub mod KeyOrder

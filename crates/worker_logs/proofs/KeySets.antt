@@ -2,18 +2,15 @@
 use Rattle.std.proofs.Common.{◌≡◌, ◌≤◌, ◌<◌, ◌+◌, ◌++◌, ◌∷◌, inl, inr, ℕ, zero, suc, List, [], Option, Some, None}
 use Rattle.std.proofs.Common.{length, get_or, take, drop, refl, sym, ◌∙◌, ap, subst, arith}
 use Rattle.std.specs.Prelude.{slice_index_or}
-use Rattle.std.specs.Cmp.{IsTotalOrder, nat_cmp_total}
-use Rattle.std.specs.FinMap.{IsAntisymmetric}
 use Rattle.std.specs.List.{AllByRecursion, AllWithin, Contains, HoldsAt, insert}
 use Rattle.std.specs.List.Sorted.{IsNonDecreasingBy, IsPartitionPoint}
 use Rattle.std.specs.Ordering.{nat_cmp, ordering_index, ordering_reverse, ordering_then}
 use Rattle.std.specs.declared.cmp.Ordering.{Ordering}
 use Rattle.std.specs.declared.cmp.Ordering.TheVariants.{Less, Equal, Greater}
 use Rattle.std.proofs.lemmas.Bool.Decides.{nat_tests}
-use Rattle.std.proofs.lemmas.Cmp.{alike_right, on_total, ranked, then_total}
+use Rattle.std.proofs.lemmas.Cmp.{alike_right, ranked}
 use Rattle.std.proofs.lemmas.List.{append-nil, take-append-drop, take_more}
 use Rattle.std.proofs.lemmas.List.Concat.{flat_map-append}
-use Rattle.std.proofs.lemmas.Map.Lookups.{exact_pairs, exact_unsigned}
 use Rattle.std.proofs.lemmas.List.Elements.{Contains-append_left, Contains-append_right, Contains-append_cases}
 use Rattle.std.proofs.lemmas.List.Elements.{Contains-push_cases, Contains-push}
 use Rattle.lists.specs.Each.{all_append, all_drop, all_take, all_weaker}
@@ -22,14 +19,12 @@ use Rattle.serial_model.specs.Keys.{key_cmp, IsKeyBelow}
 use Rattle.serial_model.specs.State.{State}
 use Rattle.serial_model.specs.declared.key.Key.{Key}
 use Rattle.serial_model.specs.declared.op.Op.{Op}
+use Rattle.serial_model.specs.KeyOrder.{keys_total, exact_keys}
 use Rattle.wire_form.specs.Items.{IsFollowed, RisesAfter}
 use Rattle.worker_logs.specs.Changes.{AreKeysOf, written_by}
 use Rattle.worker_logs.specs.KeysWritten.{written_alone}
 
 -- ---- the order of keys
-
-keys_total : IsTotalOrder key_cmp
-keys_total = then_total (on_total (λ (k : Key). k.storage) nat_cmp_total) (on_total (λ (k : Key). k.key) nat_cmp_total)
 
 nat_less : (x y : ℕ) → x < y → nat_cmp x y ≡ Less
 nat_less x y less = grind (arith, nat_tests)
@@ -163,11 +158,6 @@ keys_there key written keys there are = record {
 }
 
 -- ---- what a search found
-
-exact_keys : IsAntisymmetric key_cmp
-exact_keys a b h =
-    ap (λ (p : ℕ × ℕ). record { storage = p.0; key = p.1 })
-    (exact_pairs nat_cmp nat_cmp exact_unsigned exact_unsigned (a.storage, a.key) (b.storage, b.key) h)
 
 -- where it found a place, the key is put there
 pub put_searched : (key : Key) (written keys slice : List Key) (i : ℕ) → slice ≡ keys → i ≤ length slice

@@ -3,14 +3,10 @@ use Rattle.std.proofs.Common.{◌≡◌, ℕ, ◌+◌, ◌-◌, ◌^◌, Bool, t
 use Rattle.std.proofs.Common.{append_assoc, refl, sym, ap, ◌∙◌, subst, Option, Some, None}
 use Rattle.std.specs.Prelude.{cond, nat_lt, nat_le, is_some, IsTrue, map, option_to_list}
 use Rattle.std.specs.Option.{option_map}
-use Rattle.std.specs.Cmp.{IsTotalOrder, nat_cmp_total, eq_by_cmp_equiv}
-use Rattle.std.specs.Ordering.{nat_cmp, eq_by_cmp, is_eq}
-use Rattle.std.specs.declared.cmp.Ordering.{Ordering}
-use Rattle.std.specs.declared.cmp.Ordering.TheVariants.{Less, Equal, Greater}
-use Rattle.std.specs.FinMap.{get, insert, remove, get-insert, get-remove, IsAntisymmetric}
+use Rattle.std.specs.Cmp.{eq_by_cmp_equiv}
+use Rattle.std.specs.Ordering.{eq_by_cmp}
+use Rattle.std.specs.FinMap.{get, insert, remove, get-insert, get-remove}
 use Rattle.std.specs.List.{All, AllByRecursion, Contains}
-use Rattle.std.proofs.lemmas.Cmp.{on_total, then_total}
-use Rattle.std.proofs.lemmas.Map.Lookups.{exact_pairs, exact_unsigned}
 use Rattle.std.proofs.lemmas.Bool.{cases_Bool}
 use Rattle.std.proofs.lemmas.List.Elements.{Contains-append_left, Contains-append_right, Contains-append_cases}
 use Rattle.std.proofs.lemmas.List.Elements.{Contains-push, recursion_from_All}
@@ -26,30 +22,12 @@ use Rattle.serial_model.specs.declared.op.Op.TheVariants.{Read, Write, Remove, A
 use Rattle.serial_model.specs.declared.reply.Reply.{Reply}
 use Rattle.serial_model.specs.declared.reply.Verdict.{Verdict}
 use Rattle.serial_model.specs.declared.reply.Verdict.TheVariants.{Done, Short, Over}
+use Rattle.serial_model.specs.KeyOrder.{keys_total, same_by_test}
 use Rattle.wire_form.specs.LogFile.{has_place_for, IsChangeOf}
 use Rattle.wire_form.specs.LogLine.{key_of}
 use Rattle.worker_logs.specs.Changes.{written_by, written_then, written_from, kept_by, write_set}
 use Rattle.worker_logs.specs.Changes.{AreKeysOf, AreChangesOf}
 use Rattle.worker_logs.specs.KeysWritten.{written_alone}
-
--- ---- keys
-
-keys_total : IsTotalOrder key_cmp
-keys_total = then_total (on_total (λ (k : Key). k.storage) nat_cmp_total) (on_total (λ (k : Key). k.key) nat_cmp_total)
-
-exact_keys : IsAntisymmetric key_cmp
-exact_keys a b h =
-    ap (λ (p : ℕ × ℕ). record { storage = p.0; key = p.1 })
-    (exact_pairs nat_cmp nat_cmp exact_unsigned exact_unsigned (a.storage, a.key) (b.storage, b.key) h)
-
-is_equal : (r : Ordering) → is_eq r ≡ true → r ≡ Equal
-is_equal Less e = absurd (true≢false (sym e))
-is_equal Equal e = refl
-is_equal Greater e = absurd (true≢false (sym e))
-
--- a key that the map takes for another is that one
-same_by_test : (q k : Key) → eq_by_cmp key_cmp q k ≡ true → q ≡ k
-same_by_test q k hit = exact_keys q k (is_equal (key_cmp q k) hit)
 
 -- ---- what the operations before have written
 

@@ -3,7 +3,7 @@ use Rattle.std.specs.Prelude.{cond}
 use Rattle.std.specs.FinMap.{get, get-insert, get-remove}
 use Rattle.std.specs.Ordering.{eq_by_cmp}
 use Rattle.serial_model.specs.Keys.{key_cmp}
-use Rattle.recovery_core.proofs.EntriesGreatest.{keys_total}
+use Rattle.serial_model.specs.KeyOrder.{keys_total}
 use Rattle.recovery_core.proofs.last_entries.put_or_remove.Goals as goal
 
 pub returns-in_ok-insert-in-Some : goal.returns-in_ok-insert-in-Some

@@ -4,7 +4,6 @@ pub mod NextReading
 pub mod NextState
 pub mod OldOrNext
 pub mod DueLemmas
-pub mod Appended
 pub mod NextSettled
 pub mod OneRun
 pub mod PlainSettled

@@ -1,9 +1,6 @@
 -- What the writing of a new snapshot leaves of all devices.
 use Rattle.std.specs.Prelude.{◌≡◌, ℕ, ◌+◌, ◌*◌, ◌^◌, ◌<◌, ◌≤◌, List, [], Option, length}
 use Rattle.std.specs.List.{AllByRecursion}
-use Rattle.lists.specs.Fronts.{IsFront}
-use Rattle.outside.specs.Disk.{Runs}
-use Rattle.outside.specs.Fronts.{AllBegin}
 use Rattle.wire_form.specs.declared.page.Page.{Page}
 use Rattle.wire_form.specs.declared.savepoint.Savepoint.{Savepoint}
 use Rattle.log_writer.specs.Points.{point_of, sequence_of}
@@ -22,11 +19,6 @@ pub record FitsDevice (page : Page) : Type 0 where
   pub whole : IsWhole page
 
 module _ {D : Type 0} (clock : D → ℕ) (image_at : D → ℕ → List ℕ → Type 0) where
-  -- whatever bytes all images began with, up to so many, each image since then begins with
-  abbrev pub KeepsFront : ℕ → D → D → Type 0
-  KeepsFront size old new = (front : List ℕ) → length front ≤ size → AllBegin (image_at old (clock old)) front
-      → Runs clock image_at old new (IsFront front)
-
   -- Devices that rested since some moments, on the newest savepoint and at most so many pages.
   pub record RestsFrom (tells : D → Option (List ℕ)) (newest : Option Savepoint) (have : ℕ) (found : Images)
       (from : Moments) (parts : Parts D) (rest : IsResting clock image_at parts) : Type 0 where

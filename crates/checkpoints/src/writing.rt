@@ -20,15 +20,13 @@ ghost use Rattle.recovery_core.specs.SettleFiles.{all_banks};
 ghost use Rattle.recovery_core.specs.SettleRests.{RestsSince};
 ghost use Rattle.recovery_core.specs.VaultReads.{RoseIn, AreQuiet};
 ghost use Rattle.checkpoints.specs.SettlesInto.{composed_saved};
-ghost use Rattle.snapshot_store.specs.declared.store.StoreFault.{StoreFault as TheStoreFault};
-ghost use Rattle.outside.specs.Faults.{Rose};
-ghost use Rattle.checkpoints.specs.Written.{KeepsFront, LeavesOldOrNext, HasWritten};
+ghost use Rattle.checkpoints.specs.Written.{LeavesOldOrNext, HasWritten};
 
 use lists::OrMemory;
 use log_writer::{Save, SaveFault, Saved};
 use outside::{Device, Disk, Vault};
 use recovery_core::{SettleFault, StoreAndCutFault, store_and_cut};
-use snapshot_store::{SnapStore, StoreFault};
+use snapshot_store::SnapStore;
 use wire_form::Page;
 
 /// The numbers of all log files.
@@ -47,38 +45,6 @@ fn fault_of(fault: StoreAndCutFault) -> SettleFault
     match fault {
         StoreAndCutFault::Store(_) => SettleFault::Device(Device::Save),
         StoreAndCutFault::Cut { bank } => SettleFault::Device(Device::Bank(bank)),
-    }
-}
-
-// Adds the pages of a new snapshot behind the others, and makes them durable.
-fn append_durably<D: Disk>(
-    store: &mut SnapStore,
-    disk: &mut D,
-    pages: &[Page],
-) -> Result<(), OrMemory<StoreFault>>
-    requires sound { store.old.sound ≡ true }
-    requires numbered { NumberedFrom (length store.old.pages + 1) pages.now }
-    requires few { length store.old.pages + length pages.now ≤ 65536 }
-    requires holds { Holds D.tells disk.old store.old.pages }
-    ensures pages { OnOk result (store.new.pages ≡ store.old.pages ++ pages.now) }
-    ensures sound { OnOk result (store.new.sound ≡ true) }
-    ensures holds { OnOk result (Holds D.tells disk.new store.new.pages) }
-    ensures durable { OnOk result (IfTold (D.tells disk.old) (λ _. AllBegin
-        (D.image_at disk.new (D.clock disk.new)) (bytes_of_pages store.new.pages))) }
-    ensures runs { KeepsFront D.clock D.image_at (512 * length store.old.pages) disk.old disk.new }
-    ensures told { is_some (D.tells disk.new) ≡ is_some (D.tells disk.old) }
-    ensures device { (fault : TheStoreFault) → result ≡ Err (OrMemory.Fault fault)
-        → Rose (D.faults disk.old) (D.faults disk.new) }
-    ensures quiet { OnOk result (D.faults disk.new ≡ D.faults disk.old) }
-    ensures untouched { result ≡ Err OrMemory.Memory → disk.new ≡ disk.old }
-{
-    match store.append(disk, pages) {
-        Ok(_) => {}
-        Err(fault) => return Err(fault),
-    }
-    match store.sync(disk) {
-        Ok(()) => Ok(()),
-        Err(fault) => Err(OrMemory::Fault(fault)),
     }
 }
 
@@ -131,7 +97,7 @@ pub(crate) fn write_snapshot<D: Disk>(
     ensures quiet { OnOk result (AreQuiet D.faults vault.old vault.new) }
     ensures untouched { result ≡ Err OrMemory.Memory → SameDevices vault.old vault.new }
 {
-    match append_durably(store, &mut vault.snaps, pages) {
+    match store.append_durably(&mut vault.snaps, pages) {
         Ok(()) => {}
         Err(OrMemory::Memory) => return Err(OrMemory::Memory),
         Err(OrMemory::Fault(_)) => return Err(OrMemory::Fault(SettleFault::Device(Device::Snaps))),

@@ -16,7 +16,7 @@ was_told (Some file) now same left is = (file, refl)
 was_told None now same left is = absurd (let here : is_some now ≡ true = ap is_some is in cc)
 
 -- a write behind some bytes leaves them
-front_torn : (front : List ℕ) (at count : ℕ) (d c : List ℕ) → length front ≤ at → Torn at count d c → IsFront front d → IsFront front c
+pub front_torn : (front : List ℕ) (at count : ℕ) (d c : List ℕ) → length front ≤ at → Torn at count d c → IsFront front d → IsFront front c
 front_torn front at count d c within torn was =
     begins_torn (length front) at count d c within torn ∙ was
 

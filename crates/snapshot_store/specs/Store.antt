@@ -5,7 +5,8 @@ use Rattle.lists.specs.Fronts.{IsFront}
 use Rattle.wire_form.specs.declared.page.Page.{Page}
 use Rattle.wire_form.specs.declared.page.PageKind.TheVariants.{Catalogue}
 use Rattle.wire_form.specs.Bytes.{bytes_of}
-use Rattle.outside.specs.Disk.{IfTold, Torn, Same, Goes, LeavesEach, Only, written}
+use Rattle.outside.specs.Disk.{IfTold, Torn, Same, Goes, LeavesEach, Only, Runs, written}
+use Rattle.outside.specs.Fronts.{AllBegin}
 
 -- a store as its users see it
 pub record StoreState : Type 0 where
@@ -65,3 +66,9 @@ pub record Syncs {D : Type 0} (tells : D → Option (List ℕ)) (clock : D → �
   pub each : LeavesEach clock image_at Same old new (clock new - 1)
   pub later : faults old ≤ faults new
   pub quiet : done ≡ true → faults new ≡ faults old
+
+-- whatever bytes all images began with, up to so many, each image since then begins with
+abbrev pub KeepsFront : {D : Type 0} → (clock : D → ℕ) → (image_at : D → ℕ → List ℕ → Type 0) → ℕ → D → D → Type 0
+KeepsFront clock image_at size old new =
+    (front : List ℕ) → length front ≤ size → AllBegin (image_at old (clock old)) front
+    → Runs clock image_at old new (IsFront front)

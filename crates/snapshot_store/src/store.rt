@@ -1,9 +1,12 @@
 // The pages of snapshots in memory, and their device.
-ghost use Rattle.std.specs.Prelude.{◌≡◌, ◌≢◌, ◌↔◌, ◌+◌, ◌-◌, ◌*◌, ◌<◌, ◌≤◌, ◌++◌, ℕ, List, Some, Err, true, false, IsTrue, is_some, length, is_ok, slice_get, IfOk, OnOk, OnErr};
+ghost use Rattle.std.specs.Prelude.{◌≡◌, ◌≢◌, ◌↔◌, ◌+◌, ◌-◌, ◌*◌, ◌<◌, ◌≤◌, ◌++◌, ℕ, List, Some, Err, true, false};
+ghost use Rattle.std.specs.Prelude.{IsTrue, is_some, length, is_ok, slice_get, IfOk, OnOk, OnErr};
 ghost use Rattle.outside.specs.Disk.{IfTold};
 ghost use Rattle.outside.specs.Faults.{Rose};
 ghost use Rattle.outside.specs.Fronts.{AllBegin, KeepsSince};
 ghost use Rattle.snapshot_store.specs.Store.{NumberedFrom, bytes_of_pages, IsWhole, Holds, WritesAt, Syncs};
+ghost use Rattle.snapshot_store.specs.Store.{KeepsFront};
+ghost use Rattle.snapshot_store.specs.declared.store.StoreFault.{StoreFault as Fault};
 
 use crate::write::add;
 use lists::OrMemory;
@@ -138,6 +141,40 @@ impl SnapStore {
                 self.sound = false;
                 Err(StoreFault::Device)
             }
+        }
+    }
+
+    /// Adds pages behind the others, and makes all durable: [`SnapStore::append`], and then [`SnapStore::sync`].
+    pub fn append_durably<D: Disk>(
+        &mut self,
+        disk: &mut D,
+        pages: &[Page],
+    ) -> Result<(), OrMemory<StoreFault>>
+        requires sound { self.old.sound ≡ true }
+        requires numbered { NumberedFrom (length self.old.pages + 1) pages.now }
+        requires few { length self.old.pages + length pages.now ≤ 65536 }
+        requires holds { Holds D.tells disk.old self.old.pages }
+        ensures pages { OnOk result (self.new.pages ≡ self.old.pages ++ pages.now) }
+        ensures sound { OnOk result (self.new.sound ≡ true) }
+        ensures holds { OnOk result (Holds D.tells disk.new self.new.pages) }
+        ensures durable { OnOk result (IfTold (D.tells disk.old) (λ _.
+            AllBegin (D.image_at disk.new (D.clock disk.new)) (bytes_of_pages self.new.pages))) }
+        ensures runs { KeepsFront D.clock D.image_at (512 * length self.old.pages) disk.old disk.new }
+        ensures told { is_some (D.tells disk.new) ≡ is_some (D.tells disk.old) }
+        ensures causes { (fault : Fault) → result ≡ Err (OrMemory.Fault fault) → fault ≡ StoreFault.Device }
+        ensures unsound { (fault : Fault) → result ≡ Err (OrMemory.Fault fault) → self.new.sound ≡ false }
+        ensures device { (fault : Fault) → result ≡ Err (OrMemory.Fault fault)
+            → Rose (D.faults disk.old) (D.faults disk.new) }
+        ensures quiet { OnOk result (D.faults disk.new ≡ D.faults disk.old) }
+        ensures untouched { result ≡ Err OrMemory.Memory → (disk.new ≡ disk.old) × (self.new ≡ self.old) }
+    {
+        match self.append(disk, pages) {
+            Ok(_) => {}
+            Err(fault) => return Err(fault),
+        }
+        match self.sync(disk) {
+            Ok(()) => Ok(()),
+            Err(fault) => Err(OrMemory::Fault(fault)),
         }
     }
 }

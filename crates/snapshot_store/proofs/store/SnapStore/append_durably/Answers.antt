@@ -1,10 +1,9 @@
-use Rattle.std.proofs.Common.{◌≡◌, ap, ◌∙◌, arith}
+use Rattle.std.proofs.Common.{◌≡◌, ap, ◌∙◌}
 use Rattle.std.specs.Prelude.{Err, is_some}
 use Rattle.lists.specs.declared.memory.OrMemory.TheVariants.{Fault}
 use Rattle.snapshot_store.specs.declared.store.StoreFault.TheVariants.{Device as Failed}
-use Rattle.recovery_core.specs.VaultReads.{some_of}
-use Rattle.checkpoints.proofs.Appended.{only_failed, write_keeps, synced_keeps}
-use Rattle.checkpoints.proofs.writing.append_durably.Goals as goal
+use Rattle.snapshot_store.proofs.Appended.{refused_failed, write_keeps, synced_keeps, some_of}
+use Rattle.snapshot_store.proofs.store.SnapStore.append_durably.Goals as goal
 
 pub returns-in-Err-clause-runs : goal.returns-in-Err-clause-runs
 returns-in-Err-clause-runs g c = write_keeps c.append.ensures.writes.moments
@@ -15,14 +14,28 @@ returns-in-Ok-sync-clause-runs g c = synced_keeps c.append.ensures.writes.moment
 pub returns-in-Err-sync-clause-runs : goal.returns-in-Err-sync-clause-runs
 returns-in-Err-sync-clause-runs g c = synced_keeps c.append.ensures.writes.moments c.sync.ensures.syncs.moments
 
+pub returns-in-Err-clause-causes : goal.returns-in-Err-clause-causes
+returns-in-Err-clause-causes g c fault is =
+    let e = c.in-Err.ensures in
+    let here : c.in-Err.fault ≡ Fault fault = cc is in
+    let failed : fault ≡ Failed = refused_failed c.in-Err.fault fault _ _ here c.requires.few
+    (λ at same. e.never_short at (ap Err same)) (λ n same. (e.limit n).0 (ap Err same)) in
+    failed
+
+pub returns-in-Err-clause-unsound : goal.returns-in-Err-clause-unsound
+returns-in-Err-clause-unsound g c fault is =
+    let e = c.in-Err.ensures in
+    let here : c.in-Err.fault ≡ Fault fault = cc is in
+    let failed : fault ≡ Failed = refused_failed c.in-Err.fault fault _ _ here c.requires.few
+    (λ at same. e.never_short at (ap Err same)) (λ n same. (e.limit n).0 (ap Err same)) in
+    e.sound.1 (ap Err (here ∙ ap (λ f. Fault f) failed))
+
 pub returns-in-Err-clause-device : goal.returns-in-Err-clause-device
 returns-in-Err-clause-device g c fault is =
     let e = c.in-Err.ensures in
     let here : c.in-Err.fault ≡ Fault fault = cc is in
-    let failed : fault ≡ Failed = only_failed fault
-    (λ at same. e.never_short at (ap Err (here ∙ ap (λ f. Fault f) same)))
-    (λ n same. let over = (e.limit n).0 (ap Err (here ∙ ap (λ f. Fault f) same)) in
-    omega (arith, over.0, over.1, c.requires.few)) in
+    let failed : fault ≡ Failed = refused_failed c.in-Err.fault fault _ _ here c.requires.few
+    (λ at same. e.never_short at (ap Err same)) (λ n same. (e.limit n).0 (ap Err same)) in
     e.device (ap Err (here ∙ ap (λ f. Fault f) failed))
 
 pub returns-in-Ok-sync-clause-durable : goal.returns-in-Ok-sync-clause-durable

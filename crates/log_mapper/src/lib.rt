@@ -3,7 +3,8 @@
 //! Promises: [`map_bank`] reads the counted bytes of a log file, each once, and gives one bucket for
 //! each storage, with the entries above one epoch and up to another (`mapped`); where the bytes are no
 //! lines of these storages it answers the first byte of the first line that isn't one (`damaged`), and
-//! that the device failed only where its count of faults rose (`device`). It only reads (`reads`).
+//! that the device failed only where its count of faults rose (`device`): after each other answer that stands still
+//! (`spared`). It only reads (`reads`).
 //!
 //! Lines and damage: docs/FORMATS.md. Design: docs/CHECKPOINT.md.
 #![tactic(auto)]

@@ -112,7 +112,7 @@ round_unlimited ran round of caused once room = elim (of_round_cases ran ran.log
 -- ---- the rounds of a script
 
 -- how many lines the rounds have
-abbrev lines_in : List Round → ℕ
+abbrev pub lines_in : List Round → ℕ
 lines_in [] = 0
 lines_in (round ∷ rounds) = length round.lines + lines_in rounds
 
@@ -163,7 +163,7 @@ length-lines_of bytes =
       count_by-le-length newline bytes,
     )
 
-few_lines : (bytes : Bytes) (script : Script) → IsTextOf bytes script → lines_in script.rounds ≤ 67108865
+pub few_lines : (bytes : Bytes) (script : Script) → IsTextOf bytes script → lines_in script.rounds ≤ 67108865
 few_lines bytes script text =
     let whole = ap length text.lines in
     omega (

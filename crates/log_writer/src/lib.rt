@@ -42,6 +42,3 @@ pub use journal::{Journal, LogFault};
 pub use laws::one_newest;
 pub use save::{Save, SaveFault, SaveOpen};
 pub use saved::Saved;
-
-#[cfg(test)]
-mod tests;

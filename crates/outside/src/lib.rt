@@ -79,6 +79,3 @@ pub use std_sink::StdSink;
 pub use std_source::StdSource;
 pub use sure_source::SureSource;
 pub use vault::{Cut, Device, Tie, Vault};
-
-#[cfg(test)]
-mod tests;

@@ -23,16 +23,9 @@ use Rattle.root_composer.specs.Overlaid.{touches, entry_for, is_between, overlai
 use Rattle.root_composer.specs.Composed.{IsMade, EachWith, all_moved}
 use Rattle.root_composer.specs.Composer.{MayName, IsLawful}
 use Rattle.root_composer.specs.ArrayWriter.{filled, put, put_all, IsPut, AnyShape, array_writer}
+use Rattle.root_composer.specs.FreshLaws.{fan_is, room_is, fits, too_wide}
 use Rattle.root_composer.proofs.MadeLemmas.{leaf_made}
 use Rattle.root_composer.proofs.OverlayLemmas.{touched_range}
-
-pub fan_is : fan ≡ 64
-unfolding fan
-fan_is = refl
-
-pub room_is : leaf_room ≡ 32
-unfolding leaf_room
-room_is = refl
 
 -- no number's word is 0
 some_number : (n : Number) → IsNumber n → 0 < number_word n
@@ -275,12 +268,6 @@ no_touch size low high (e ∷ es) all h =
     too_low low high k h = grind (arith, nat_tests)
 
 -- ---- arrays are lawful
-
-pub too_wide : (a b : ℕ) → b < a → leb a b ≡ false
-too_wide a b h = grind (arith, nat_tests)
-
-pub fits : (a b : ℕ) → a ≤ b → leb a b ≡ true
-fits a b h = grind (arith, nat_tests)
 
 leaf_kind : (size low high : ℕ) → span_of low high ≤ leaf_room → array_kind size low high ≡ ArrayLeaf (min leaf_room (size - low))
 leaf_kind size low high narrow = ap (λ b. cond b (ArrayLeaf (min leaf_room (size - low))) (ArrayInner (min fan (parts_of (size - low) (span_of low high / fan))))) (fits (span_of low high) leaf_room narrow)

@@ -23,4 +23,3 @@ pub mod TreeSteps
 pub mod BuildSteps
 pub mod WordLemmas
 pub mod TreePlaces
-pub mod FreshSnapshots

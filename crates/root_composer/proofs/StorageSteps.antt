@@ -17,12 +17,9 @@ use Rattle.lists.specs.Each.{all_weaker, all_push}
 use Rattle.root_composer.specs.declared.fault.ComposeFault.{ComposeFault}
 use Rattle.root_composer.specs.TreeCode.{TreeStands, tree_one, AddsWithin, WouldBeDeep, LeavesRest}
 use Rattle.root_composer.specs.Storages.{part_of, FitStorage, IsReady, IsWithin, made_for, compose_one, compose_storages, with_roots, StoragesMade, StoragesDeep}
+use Rattle.root_composer.specs.FreshLaws.{deepest_is}
 use Rattle.root_composer.proofs.StoragesLaw.{array_within}
 use Rattle.root_composer.proofs.TreeSteps.{none_left_out, rest_behind, rest_deep, none_rest}
-
-pub deepest_is : deepest ≡ 32
-unfolding deepest
-deepest_is = refl
 
 pub last_small : (size : ℕ) → last_index size < 4294967296
 last_small size =

@@ -10,3 +10,4 @@ pub mod Build
 pub mod Shape
 pub mod TreeCode
 pub mod Newest
+pub mod FreshLaws

@@ -38,6 +38,3 @@ pub use composing::{NewPages, compose};
 pub use fault::ComposeFault;
 pub use last::Last;
 pub use laws::root_stays;
-
-#[cfg(test)]
-mod tests;

@@ -67,6 +67,3 @@ pub fn read_script(alloc: Global, bytes: &[u8]) -> Result<Script, OrMemory<Scrip
         Err(fault) => Err(fault),
     }
 }
-
-#[cfg(test)]
-mod tests;

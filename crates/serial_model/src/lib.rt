@@ -29,6 +29,3 @@ pub use plain::{Plain, run_in, run_one};
 pub use reply::{Replies, Reply, Verdict};
 pub use rows::Rows;
 pub use state::State;
-
-#[cfg(test)]
-mod tests;

@@ -5,6 +5,7 @@
 //!   it is shorter (`short`).
 //! - [`SnapStore::append`] and [`SnapStore::sync`]: what was there stays in every crash image, whatever is
 //!   answered (`stays`), and after `Ok` of `sync` each image begins with all pages (`durable`).
+//!   [`SnapStore::append_durably`] is both in a row (`runs`, `durable`).
 //!
 //! And over each disk: pages that were read or added never change (`pages`, `kept`); a fault is answered
 //! only where the device's count of faults rose (`device`), and then the store isn't sound any more
@@ -33,6 +34,3 @@ mod write;
 pub use laws::{content_stays, one_leaf};
 pub use place::Place;
 pub use store::{SnapStore, StoreFault};
-
-#[cfg(test)]
-mod tests;

@@ -60,6 +60,3 @@ pub use page_words::{Header, Pair, SlotState, SlotWord};
 pub use record_word::{RecordWord, is_number, number_word, read_number};
 pub use records::{ArrayRecord, Stored, TreeRecord};
 pub use savepoint::{NoSavepoint, Savepoint, read_savepoint, write_savepoint};
-
-#[cfg(test)]
-mod tests;

@@ -1,0 +1,26 @@
+//! What transactions do, disks, bytes, log files and pages of snapshots, worked by hand: nothing but tests.
+//!
+//! Shows: what the theorems of the crates below leave to be looked at, that their definitions are those that are meant.
+//! `transactions` has runs one after another and their replies (serial_model). `devices` has disks, streams and vaults
+//! at work, over the system too, and each call that fails (outside). `forms` has words, pages, log lines and savepoints
+//! by their layouts, each rule broken once (wire_form). `logs` has journals and savepoints over disks in memory, and
+//! each call of them that fails (log_writer). `snapshot_pages` has pages that are added (snapshot_store), and
+//! `compositions` the pages of new snapshots, worked and pseudo-random ones (root_composer).
+//! They stand in a crate above those that they test, because a crate with tests is proved a second time.
+//! Design: docs/ARCHITECTURE.md, docs/DURABILITY.md, docs/CHECKPOINT.md. Bytes: docs/FORMATS.md.
+#![tactic(auto)]
+
+#[cfg(test)]
+mod compositions;
+#[cfg(test)]
+mod devices;
+#[cfg(test)]
+mod disks;
+#[cfg(test)]
+mod forms;
+#[cfg(test)]
+mod logs;
+#[cfg(test)]
+mod snapshot_pages;
+#[cfg(test)]
+mod transactions;

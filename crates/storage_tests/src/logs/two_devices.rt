@@ -1,0 +1,62 @@
+// A log file and the savepoint that counts it, on two devices: each call speaks of one of them, and
+// what a stop leaves of both is put together from a moment of each.
+ghost use Rattle.std.specs.Prelude.{◌≡◌, ℕ, ◌+◌, ◌<◌, ◌≤◌, List, Some, true, length, take, ◌++◌, None};
+ghost use Rattle.outside.specs.Disk.{IfTold};
+ghost use Rattle.log_writer.specs.Journal.{Reaches, IsDurable};
+ghost use Rattle.log_writer.specs.Points.{IsSaved, point_of, sequence_of};
+ghost use Rattle.log_writer.specs.Save.{IsStored, NamesOldOrNew};
+
+use crate::disks::disk;
+use super::journal::put_line;
+use super::save::{open, saved};
+use log_writer::{Journal, Save, Saved};
+use outside::Disk;
+use std::test::Fail;
+
+// Makes the lines that wait durable, stores a savepoint that may count them, and goes on with a line.
+// Whichever moment of the save since the store began a stop meets, and whichever of the log file since
+// the flush: the save names the old savepoint or the new one, and the log file has the lines.
+fn save_between<D: Disk>(
+    journal: &mut Journal,
+    bank: &mut D,
+    save: &mut Save,
+    device: &mut D,
+    saved: Saved,
+) -> bool
+    requires reaches { Reaches D.tells bank.old journal.old }
+    requires saved { IsSaved saved }
+    requires stored { save.old.down ≡ None → IsStored D.tells D.clock D.image_at device.old save.old.newest }
+    ensures both { (file : List ℕ) (made : List ℕ) → result ≡ true → D.tells bank.old ≡ Some file
+        → IsDurable D.clock D.image_at journal.old bank.old made
+        → (flushed : ℕ) × (flushed ≤ D.clock bank.new) × ((at_save at_bank : ℕ) (s b : List ℕ)
+        → D.clock device.old < at_save → at_save ≤ D.clock device.new → D.image_at device.new at_save s
+        → flushed ≤ at_bank → at_bank ≤ D.clock bank.new → D.image_at bank.new at_bank b
+        → IfTold (D.tells device.old) (λ _. NamesOldOrNew save.old.newest (point_of (sequence_of save.old.newest + 1) saved) s)
+        × (take (length (made ++ journal.old.lines)) b ≡ made ++ journal.old.lines)) }
+{
+    let Ok(_) = journal.flush(bank) else {
+        return false;
+    };
+    let Ok(()) = save.store(device, saved) else {
+        return false;
+    };
+    let Ok(()) = put_line(journal, bank) else {
+        return false;
+    };
+    journal.flush(bank).is_ok()
+}
+
+#[test]
+fn a_log_file_and_its_savepoint(rt: HostRuntime) -> Result<(), Fail> {
+    let alloc = rt.alloc();
+    let (mut bank, mut device) = (disk(alloc, &[], &[])?, disk(alloc, &[0; 1024], &[])?);
+    let mut journal = Journal::new(alloc, 1000).expect(&rt, "memory");
+    let mut save = open(&mut device).expect(&rt, "a fresh device");
+    assert_eq!(rt; put_line(&mut journal, &mut bank), Ok(()));
+    let saved = saved(1, 40);
+    if saved.is_valid() {
+        assert!(rt; save_between(&mut journal, &mut bank, &mut save, &mut device, saved));
+    }
+    assert_eq!(rt; (journal.durable(), save.sequence()), (80, 1));
+    Ok(())
+}

@@ -1,8 +1,0 @@
-// Values from outside: words, lines and pages worked by hand from the layouts.
-use super::*;
-
-mod fields;
-mod log_line;
-mod pages;
-mod savepoint;
-mod words;

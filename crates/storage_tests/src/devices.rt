@@ -15,20 +15,45 @@ use std::test::Fail;
 // How many calls `write_and_read` makes.
 const CALLS: u64 = 9;
 
+// The calls of a disk, each without what its trait says of it.
+fn cut<D: Disk>(disk: &mut D, len: u64) -> Result<(), Failed> {
+    disk.cut(len)
+}
+
+fn write<D: Disk>(disk: &mut D, at: u64, bytes: &[u8]) -> Result<(), Failed> {
+    disk.write(at, bytes)
+}
+
+fn len<D: Disk>(disk: &mut D) -> Result<u64, Failed> {
+    disk.len()
+}
+
+fn sync<D: Disk>(disk: &mut D) -> Result<(), Failed> {
+    disk.sync()
+}
+
+// How many bytes are read, and four bytes, which were dots.
+fn read<D: Disk>(disk: &mut D, at: u64) -> Result<(usize, [u8; 4]), Failed> {
+    let mut buf = [b'.'; 4];
+    let count = disk.read(at, &mut buf)?;
+    Ok((count, buf))
+}
+
 // The calls of a disk, each of which changes what the next ones give.
 fn write_and_read<D: Disk>(rt: &impl Abort, disk: &mut D) -> Result<(), Failed> {
-    disk.cut(0)?;
-    disk.write(0, b"abcdef")?;
-    let len = disk.len()?;
-    assert_eq!(rt; len, 6);
-    disk.write(4, b"xyz")?;
-    disk.cut(9)?;
-    disk.cut(6)?;
-    disk.sync()?;
-    let mut buf = [b'.'; 4];
-    assert_eq!(rt; disk.read(3, &mut buf)?, 3);
-    assert_eq!(rt; buf.as_slice(), b"dxy.".as_slice());
-    assert_eq!(rt; disk.read(7, &mut buf)?, 0);
+    cut(disk, 0)?;
+    write(disk, 0, b"abcdef")?;
+    let size = len(disk)?;
+    assert_eq!(rt; size, 6);
+    write(disk, 4, b"xyz")?;
+    cut(disk, 9)?;
+    cut(disk, 6)?;
+    sync(disk)?;
+    let (count, found) = read(disk, 3)?;
+    assert_eq!(rt; count, 3);
+    assert_eq!(rt; found.as_slice(), b"dxy.".as_slice());
+    let (count, _) = read(disk, 7)?;
+    assert_eq!(rt; count, 0);
     Ok(())
 }
 
@@ -36,48 +61,101 @@ fn mem_disk(alloc: Global, fails: &[u64]) -> Result<MemDisk, AllocError> {
     MemDisk::new(alloc, b"old".to_vec(alloc)?, fails.to_vec(alloc)?)
 }
 
+// The count of faults, and the clock.
+fn counts<D: Disk>(disk: &D) -> (u64, u64) {
+    (disk.faults(), disk.clock())
+}
+
+fn bytes(disk: &MemDisk) -> &[u8] {
+    disk.bytes()
+}
+
+fn fails(disk: &MemDisk) -> &[u64] {
+    disk.fails()
+}
+
+// Whether the last call failed, and whether it was a sync.
+fn last_call(disk: &MemDisk) -> Option<(bool, bool)> {
+    let last = disk.calls().last()?;
+    Some((last.failed, last.call == Call::Sync))
+}
+
+// The call of this number fails, at this clock, and leaves these bytes.
+fn fails_at(
+    rt: &impl Abort,
+    alloc: Global,
+    number: u64,
+    clock: u64,
+    left: &[u8],
+) -> Result<(), Fail> {
+    let mut disk = mem_disk(alloc, &[number])?;
+    let answer = write_and_read(rt, &mut disk);
+    assert_eq!(rt; answer, Err(Failed), "at {number}");
+    assert_eq!(rt; counts(&disk), (1, clock), "at {number}");
+    assert_eq!(rt; fails(&disk), [number].as_slice());
+    assert_eq!(rt; bytes(&disk), left, "at {number}");
+    assert_eq!(rt; last_call(&disk), Some((true, number == 6)), "at {number}");
+    Ok(())
+}
+
 #[test]
 fn a_memory_disk_fails_at_the_listed_call(rt: HostRuntime) -> Result<(), Fail> {
     let alloc = rt.alloc();
     // What each call of `write_and_read` finds, and so leaves where it fails.
-    let found = [
-        "old", "", "abcdef", "abcdef", "abcdxyz", "abcdxyz", "abcdxy", "abcdxy", "abcdxy",
-    ];
-    for (number, bytes) in found.iter().enumerate() {
-        let number = number as u64;
-        let mut disk = mem_disk(alloc, &[number])?;
-        assert_eq!(rt; write_and_read(&rt, &mut disk), Err(Failed), "at {number}");
-        assert_eq!(rt; disk.faults(), 1, "at {number}");
-        assert_eq!(rt; disk.clock(), 2 * (number + 1), "at {number}");
-        assert_eq!(rt; disk.fails(), [number].as_slice());
-        assert_eq!(rt; disk.bytes(), bytes.as_bytes(), "at {number}");
-        let last = disk.calls().last().ok_or("a call")?;
-        assert!(rt; last.failed, "at {number}");
-        assert!(rt; number != 6 || last.call == Call::Sync);
+    for (number, clock, found) in [
+        (0, 2, "old"),
+        (1, 4, ""),
+        (2, 6, "abcdef"),
+        (3, 8, "abcdef"),
+        (4, 10, "abcdxyz"),
+        (5, 12, "abcdxyz"),
+        (6, 14, "abcdxy"),
+        (7, 16, "abcdxy"),
+        (8, 18, "abcdxy"),
+    ] {
+        fails_at(&rt, alloc, number, clock, found.as_bytes())?;
     }
     let mut disk = mem_disk(alloc, &[CALLS])?;
-    assert_eq!(rt; write_and_read(&rt, &mut disk), Ok(()));
-    assert_eq!(rt; disk.faults(), 0);
-    assert_eq!(rt; disk.clock(), 2 * CALLS);
+    let answer = write_and_read(&rt, &mut disk);
+    assert_eq!(rt; answer, Ok(()));
+    assert_eq!(rt; counts(&disk), (0, 2 * CALLS));
+    Ok(())
+}
+
+// A disk without faults behind a fuse.
+fn fused(alloc: Global, passes: u64) -> Result<FuseDisk<MemDisk>, AllocError> {
+    let disk = mem_disk(alloc, &[])?;
+    Ok(FuseDisk::new(disk, passes))
+}
+
+// The passes that are left, and how many faults the disk behind it had.
+fn passes(disk: &FuseDisk<MemDisk>) -> (u64, u64) {
+    (disk.passes(), disk.disk().faults())
+}
+
+// After so many passes, with this clock, each call fails.
+fn burns_after(rt: &impl Abort, alloc: Global, number: u64, clock: u64) -> Result<(), Fail> {
+    let mut disk = fused(alloc, number)?;
+    let answer = write_and_read(rt, &mut disk);
+    assert_eq!(rt; answer, Err(Failed), "after {number}");
+    assert_eq!(rt; counts(&disk), (1, clock), "after {number}");
+    let again = sync(&mut disk);
+    assert_eq!(rt; again, Err(Failed), "after {number}");
+    assert_eq!(rt; counts(&disk), (2, clock), "after {number}");
+    assert_eq!(rt; passes(&disk), (0, 0), "after {number}");
     Ok(())
 }
 
 #[test]
 fn a_fuse_passes_so_many_calls(rt: HostRuntime) -> Result<(), Fail> {
-    for passes in 0..CALLS {
-        let mut disk = FuseDisk::new(mem_disk(rt.alloc(), &[])?, passes);
-        assert_eq!(rt;
-            write_and_read(&rt, &mut disk),
-            Err(Failed),
-            "after {passes}"
-        );
-        assert_eq!(rt; (disk.clock(), disk.passes()), (2 * passes, 0));
-        assert_eq!(rt; disk.sync(), Err(Failed), "after {passes}");
-        assert_eq!(rt; (disk.faults(), disk.disk().faults()), (2, 0));
+    let alloc = rt.alloc();
+    for number in 0..CALLS {
+        burns_after(&rt, alloc, number, 2 * number)?;
     }
-    let mut disk = FuseDisk::new(mem_disk(rt.alloc(), &[])?, CALLS);
-    assert_eq!(rt; write_and_read(&rt, &mut disk), Ok(()));
-    assert_eq!(rt; disk.faults(), 0);
+    let mut disk = fused(alloc, CALLS)?;
+    let answer = write_and_read(&rt, &mut disk);
+    assert_eq!(rt; answer, Ok(()));
+    assert_eq!(rt; counts(&disk), (0, 2 * CALLS));
     Ok(())
 }
 
@@ -91,9 +169,9 @@ fn a_file_is_a_disk(rt: HostRuntime) -> Result<(), Fail> {
         .truncate(true)
         .open(&rt, path)?;
     let mut disk = FileDisk::new(file);
-    assert_eq!(rt; write_and_read(&rt, &mut disk), Ok(()));
-    assert_eq!(rt; disk.clock(), 2 * CALLS);
-    assert_eq!(rt; disk.faults(), 0);
+    let answer = write_and_read(&rt, &mut disk);
+    assert_eq!(rt; answer, Ok(()));
+    assert_eq!(rt; counts(&disk), (0, 2 * CALLS));
     let kept = fs::read(&rt, path)?;
     fs::remove_file(&rt, path)?;
     assert_eq!(rt; kept.as_slice(), b"abcdxy".as_slice());
@@ -105,30 +183,43 @@ fn a_closed_way_is_a_fault(rt: HostRuntime) -> Result<(), Fail> {
     let path = "outside_read_only";
     fs::write(&rt, path, b"abc".as_slice())?;
     let mut disk = FileDisk::new(fs::open(&rt, path)?);
-    assert_eq!(rt; disk.len(), Ok(3));
-    assert_eq!(rt; disk.write(0, b"x"), Err(Failed));
+    let size = len(&mut disk);
+    assert_eq!(rt; size, Ok(3));
+    let answer = write(&mut disk, 0, b"x");
+    assert_eq!(rt; answer, Err(Failed));
     fs::remove_file(&rt, path)?;
-    assert_eq!(rt; (disk.faults(), disk.clock()), (1, 4));
+    assert_eq!(rt; counts(&disk), (1, 4));
     Ok(())
+}
+
+// What a read of two bytes answers, and two bytes, which were dots.
+fn piece<S: Source>(source: &mut S) -> (Result<usize, Failed>, [u8; 2]) {
+    let mut buf = [b'.'; 2];
+    let answer = source.read(&mut buf);
+    (answer, buf)
 }
 
 // Reads two bytes at a time, and says what came.
 fn pieces<S: Source>(alloc: Global, source: &mut S, reads: u8) -> Result<String, AllocError> {
     let mut text = String::new(alloc);
     for _ in 0..reads {
-        let mut buf = [b'.'; 2];
-        text.push_str(match source.read(&mut buf) {
+        let (answer, bytes) = piece(source);
+        text.push_str(match answer {
             Ok(0) => "end ",
             Ok(1) => "one ",
             Ok(_) => "two ",
             Err(Failed) => "failed ",
         })?;
-        for byte in buf {
+        for byte in bytes {
             text.push(char::from(byte))?;
         }
         text.push(' ')?;
     }
     Ok(text)
+}
+
+fn faults<S: Source>(source: &S) -> u64 {
+    source.faults()
 }
 
 #[test]
@@ -140,11 +231,11 @@ fn a_source_loses_nothing_to_a_fault(rt: HostRuntime) -> Result<(), Fail> {
         came.as_str(),
         "two ab failed .. two cd failed .. one e. end .. "
     );
-    assert_eq!(rt; (source.faults(), source.calls()), (2, 6));
+    assert_eq!(rt; (faults(&source), source.calls()), (2, 6));
     let mut source = SureSource::new(b"abc".to_vec(alloc)?);
     let came = pieces(alloc, &mut source, 3)?;
     assert_eq!(rt; came.as_str(), "two ab one c. end .. ");
-    assert_eq!(rt; source.faults(), 0);
+    assert_eq!(rt; faults(&source), 0);
     Ok(())
 }
 
@@ -210,7 +301,7 @@ fn a_broken_stream_is_a_fault(rt: HostRuntime) -> Result<(), Fail> {
     let mut source = StdSource::over(Faltering { call: 0 });
     let came = pieces(rt.alloc(), &mut source, 3)?;
     assert_eq!(rt; came.as_str(), "two zz failed .. two zz ");
-    assert_eq!(rt; source.faults(), 1);
+    assert_eq!(rt; faults(&source), 1);
     let mut sink = StdSink::over(Faltering { call: 0 });
     assert_eq!(rt; put(&mut sink, b"abc"), (Err(Failed), 1));
     assert_eq!(rt; put(&mut sink, b"ab"), (Ok(()), 1));
@@ -227,7 +318,7 @@ fn the_standard_streams_work(rt: HostRuntime) -> Result<(), Fail> {
         put(&mut StdSink::over(Vec::new(alloc)), b"abc"),
         (Ok(()), 0)
     );
-    assert_eq!(rt; StdSource::new(&rt).faults(), 0);
+    assert_eq!(rt; faults(&StdSource::new(&rt)), 0);
     assert_eq!(rt;
         put(&mut StdSink::new(&rt), b"a line of the test\n"),
         (Ok(()), 0)

@@ -3,8 +3,10 @@ ghost use Rattle.log_writer.specs.Journal.{Reaches, DurableStays};
 
 use crate::disks::disk;
 use log_writer::{Journal, LogFault};
-use outside::Disk;
+use outside::{Disk, MemDisk};
 use serial_model::{Change, Changes, Commit, Key, Number};
+use std::alloc::Global;
+use std::process::Abort;
 use std::test::Fail;
 use wire_form::is_loggable;
 
@@ -52,21 +54,57 @@ fn put_lines<D: Disk>(journal: &mut Journal, bank: &mut D, count: u64) -> Result
     Ok(())
 }
 
+// Makes durable what waits.
+fn flush<D: Disk>(journal: &mut Journal, bank: &mut D) -> Result<u64, LogFault>
+    requires { Reaches D.tells bank.old journal.old }
+    ensures { Reaches D.tells bank.new journal.new }
+{
+    journal.flush(bank)
+}
+
+// Makes room for a line.
+fn room<D: Disk>(journal: &mut Journal, bank: &mut D) -> Result<(), LogFault>
+    requires { Reaches D.tells bank.old journal.old }
+    ensures { Reaches D.tells bank.new journal.new }
+{
+    journal.room(bank)
+}
+
+// How many bytes wait, and how many are durable.
+fn lengths(journal: &Journal) -> (usize, u64) {
+    (journal.waiting(), journal.durable())
+}
+
+// The log file's clock, and its bytes.
+fn clock(bank: &MemDisk) -> u64 {
+    bank.clock()
+}
+
+fn bytes(bank: &MemDisk) -> &[u8] {
+    bank.bytes()
+}
+
 #[test]
 fn a_journal_ends_at_its_limit(rt: HostRuntime) -> Result<(), Fail> {
     let alloc = rt.alloc();
     let mut bank = disk(alloc, &[], &[])?;
     let mut journal = Journal::new(alloc, 1000).expect(&rt, "memory");
-    assert_eq!(rt; put_lines(&mut journal, &mut bank, 15), Ok(()));
-    assert_eq!(rt; journal.room(&mut bank), Ok(()));
-    assert_eq!(rt; put_line(&mut journal, &mut bank), Ok(()));
     let full = Err(LogFault::Limit { length: 640 });
-    assert_eq!(rt; journal.room(&mut bank), full);
-    assert_eq!(rt; (journal.waiting(), bank.clock()), (640, 0), "no flush");
-    assert_eq!(rt; journal.flush(&mut bank), Ok(640));
-    assert_eq!(rt; journal.room(&mut bank), full);
-    assert_eq!(rt; bank.bytes().len(), 640);
-    for line in bank.bytes().chunks(40) {
+    let lines = put_lines(&mut journal, &mut bank, 15);
+    assert_eq!(rt; lines, Ok(()));
+    let free = room(&mut journal, &mut bank);
+    assert_eq!(rt; free, Ok(()));
+    let line = put_line(&mut journal, &mut bank);
+    assert_eq!(rt; line, Ok(()));
+    let free = room(&mut journal, &mut bank);
+    assert_eq!(rt; free, full);
+    assert_eq!(rt; (lengths(&journal), clock(&bank)), ((640, 0), 0), "no flush");
+    let flushed = flush(&mut journal, &mut bank);
+    assert_eq!(rt; flushed, Ok(640));
+    let free = room(&mut journal, &mut bank);
+    assert_eq!(rt; free, full);
+    assert_eq!(rt; bytes(&bank).len(), 640);
+    for line in bytes(&bank).chunks(40) {
         assert_eq!(rt; line, LINE.as_slice());
     }
     Ok(())
@@ -77,46 +115,66 @@ fn a_full_buffer_is_flushed(rt: HostRuntime) -> Result<(), Fail> {
     let alloc = rt.alloc();
     let mut bank = disk(alloc, &[], &[])?;
     let mut journal = Journal::new(alloc, (1 << 40) - 1).expect(&rt, "memory");
-    assert_eq!(rt; journal.flush(&mut bank), Ok(0));
-    assert_eq!(rt; put_lines(&mut journal, &mut bank, 93), Ok(()));
-    assert_eq!(rt; (bank.clock(), journal.durable()), (0, 0));
-    assert_eq!(rt; put_line(&mut journal, &mut bank), Ok(()));
-    assert_eq!(rt; (bank.clock(), journal.durable()), (4, 3720));
-    assert_eq!(rt; journal.flush(&mut bank), Ok(3760));
-    assert_eq!(rt; journal.flush(&mut bank), Ok(3760));
-    assert_eq!(rt; bank.clock(), 8, "a flush of nothing touches nothing");
+    let flushed = flush(&mut journal, &mut bank);
+    assert_eq!(rt; flushed, Ok(0));
+    let lines = put_lines(&mut journal, &mut bank, 93);
+    assert_eq!(rt; lines, Ok(()));
+    assert_eq!(rt; (clock(&bank), lengths(&journal)), (0, (3720, 0)));
+    let line = put_line(&mut journal, &mut bank);
+    assert_eq!(rt; line, Ok(()));
+    assert_eq!(rt; (clock(&bank), lengths(&journal)), (4, (40, 3720)));
+    for _ in 0..2 {
+        let flushed = flush(&mut journal, &mut bank);
+        assert_eq!(rt; flushed, Ok(3760));
+    }
+    assert_eq!(rt; clock(&bank), 8, "a flush of nothing touches nothing");
     Ok(())
 }
 
-// A line, a flush, a line, a flush: a call of each number fails once, and what the flushes answer.
+// A line, a flush, a line, a flush, over a log file whose call of this number fails: what the flushes answer, how many
+// bytes are durable, and whether there is room for a line more. Another line would be above the limit too; that the
+// journal is down comes first.
+fn fails_at(
+    rt: &impl Abort,
+    alloc: Global,
+    number: u64,
+    answers: [Result<u64, LogFault>; 2],
+    durable: u64,
+    refusal: LogFault,
+) -> Result<(), Fail> {
+    let mut bank = disk(alloc, &[], &[number])?;
+    let mut journal = Journal::new(alloc, 479)?;
+    let line = put_line(&mut journal, &mut bank);
+    assert_eq!(rt; line, Ok(()));
+    let first = flush(&mut journal, &mut bank);
+    assert_eq!(rt; first, answers[0], "at {number}");
+    if first.is_ok() {
+        let line = put_line(&mut journal, &mut bank);
+        assert_eq!(rt; line, Ok(()));
+    }
+    let second = flush(&mut journal, &mut bank);
+    assert_eq!(rt; second, answers[1], "at {number}");
+    let (_, length) = lengths(&journal);
+    assert_eq!(rt; length, durable, "at {number}");
+    let free = room(&mut journal, &mut bank);
+    assert_eq!(rt; free, Err(refusal), "at {number}");
+    Ok(())
+}
+
 #[test]
 fn a_journal_goes_down_at_a_fault(rt: HostRuntime) -> Result<(), Fail> {
     let alloc = rt.alloc();
-    let down = Err(LogFault::Down { faults: 1 });
-    for (number, first, second, durable) in [
-        (0, Err(LogFault::Device), down, 0),
-        (1, Err(LogFault::Device), down, 0),
-        (2, Ok(40), Err(LogFault::Device), 40),
-        (3, Ok(40), Err(LogFault::Device), 40),
-        (4, Ok(40), Ok(80), 80),
+    let down = LogFault::Down { faults: 1 };
+    let full = LogFault::Limit { length: 80 };
+    let failed = Err(LogFault::Device);
+    for (number, answers, durable, refusal) in [
+        (0, [failed, Err(down)], 0, down),
+        (1, [failed, Err(down)], 0, down),
+        (2, [Ok(40), failed], 40, down),
+        (3, [Ok(40), failed], 40, down),
+        (4, [Ok(40), Ok(80)], 80, full),
     ] {
-        let mut bank = disk(alloc, &[], &[number])?;
-        let mut journal = Journal::new(alloc, 479).expect(&rt, "memory");
-        assert_eq!(rt; put_line(&mut journal, &mut bank), Ok(()));
-        assert_eq!(rt; journal.flush(&mut bank), first, "at {number}");
-        if first == Ok(40) {
-            assert_eq!(rt; put_line(&mut journal, &mut bank), Ok(()));
-        }
-        assert_eq!(rt; journal.flush(&mut bank), second, "at {number}");
-        assert_eq!(rt; journal.durable(), durable, "at {number}");
-        // Another line would be above the limit too; that it is down comes first.
-        let want = if number < 4 {
-            down
-        } else {
-            Err(LogFault::Limit { length: 80 })
-        };
-        let room = journal.room(&mut bank).map(|()| 0);
-        assert_eq!(rt; room, want, "at {number}");
+        fails_at(&rt, alloc, number, answers, durable, refusal)?;
     }
     Ok(())
 }
@@ -127,11 +185,13 @@ fn a_fault_in_making_room(rt: HostRuntime) -> Result<(), Fail> {
     let alloc = rt.alloc();
     let mut bank = disk(alloc, &[], &[0])?;
     let mut journal = Journal::new(alloc, 1 << 20).expect(&rt, "memory");
-    assert_eq!(rt; put_lines(&mut journal, &mut bank, 93), Ok(()));
-    assert_eq!(rt; put_line(&mut journal, &mut bank), Err(LogFault::Device));
-    assert_eq!(rt; (journal.waiting(), journal.durable()), (3720, 0));
-    let down = LogFault::Down { faults: 1 };
-    assert_eq!(rt; put_line(&mut journal, &mut bank), Err(down));
+    let lines = put_lines(&mut journal, &mut bank, 93);
+    assert_eq!(rt; lines, Ok(()));
+    let line = put_line(&mut journal, &mut bank);
+    assert_eq!(rt; line, Err(LogFault::Device));
+    assert_eq!(rt; lengths(&journal), (3720, 0));
+    let line = put_line(&mut journal, &mut bank);
+    assert_eq!(rt; line, Err(LogFault::Down { faults: 1 }));
     Ok(())
 }
 
@@ -141,15 +201,20 @@ fn a_log_file_begins_anew(rt: HostRuntime) -> Result<(), Fail> {
     let alloc = rt.alloc();
     let mut bank = disk(alloc, &[], &[])?;
     let mut journal = Journal::new(alloc, 1000).expect(&rt, "memory");
-    assert_eq!(rt; put_lines(&mut journal, &mut bank, 2), Ok(()));
-    assert_eq!(rt; journal.flush(&mut bank), Ok(80));
-    assert_eq!(rt; bank.cut(0), Ok(()));
+    let lines = put_lines(&mut journal, &mut bank, 2);
+    assert_eq!(rt; lines, Ok(()));
+    let flushed = flush(&mut journal, &mut bank);
+    assert_eq!(rt; flushed, Ok(80));
+    let cut = bank.cut(0);
+    assert_eq!(rt; cut, Ok(()));
     if journal.waiting() == 0 {
         journal.reset();
-        assert_eq!(rt; journal.durable(), 0);
-        assert_eq!(rt; put_line(&mut journal, &mut bank), Ok(()));
-        assert_eq!(rt; journal.flush(&mut bank), Ok(40));
+        assert_eq!(rt; lengths(&journal), (0, 0));
+        let line = put_line(&mut journal, &mut bank);
+        assert_eq!(rt; line, Ok(()));
+        let flushed = flush(&mut journal, &mut bank);
+        assert_eq!(rt; flushed, Ok(40));
     }
-    assert_eq!(rt; bank.bytes(), LINE.as_slice());
+    assert_eq!(rt; bytes(&bank), LINE.as_slice());
     Ok(())
 }

@@ -7,6 +7,7 @@ use crate::disks::disk;
 use log_writer::{Save, SaveFault, SaveOpen, Saved, one_newest};
 use outside::{Disk, MemDisk, Tie, Vault};
 use std::alloc::{AllocError, Global};
+use std::process::Abort;
 use std::test::Fail;
 use wire_form::{Savepoint, write_savepoint};
 
@@ -45,6 +46,12 @@ fn device(sequences: [u64; 2], valid: [u8; 2]) -> [u8; 1024] {
     bytes
 }
 
+// The newest sequence of a device, and what its savepoint says.
+fn load(disk: &mut MemDisk) -> Result<(u64, Option<Saved>), SaveOpen> {
+    let (save, saved) = Save::load(disk)?;
+    Ok((save.sequence(), saved))
+}
+
 #[test]
 fn which_place_counts(rt: HostRuntime) -> Result<(), Fail> {
     let alloc = rt.alloc();
@@ -59,8 +66,8 @@ fn which_place_counts(rt: HostRuntime) -> Result<(), Fail> {
         ([last, 2], [0xA5, 0xA5], last, Some(saved(0, 0))),
     ] {
         let mut disk = disk(alloc, &device(sequences, valid), &[])?;
-        let (save, saved) = Save::load(&mut disk).expect(&rt, "no damage");
-        assert_eq!(rt; (save.sequence(), saved), (sequence, found));
+        let loaded = load(&mut disk);
+        assert_eq!(rt; loaded, Ok((sequence, found)));
     }
     Ok(())
 }
@@ -76,7 +83,8 @@ fn an_open_place_without_a_savepoint(rt: HostRuntime) -> Result<(), Fail> {
         ([2, 1], [0xA5, 0xA5], 0),
     ] {
         let mut disk = disk(alloc, &device(sequences, valid), &[])?;
-        assert_eq!(rt; Save::load(&mut disk).err(), Some(SaveOpen::Damaged { at }));
+        let loaded = load(&mut disk);
+        assert_eq!(rt; loaded, Err(SaveOpen::Damaged { at }));
     }
     Ok(())
 }
@@ -86,10 +94,8 @@ fn another_length(rt: HostRuntime) -> Result<(), Fail> {
     let alloc = rt.alloc();
     for len in [0, 3, 512, 1023] {
         let mut disk = disk(alloc, &device([1, 2], [0xA5, 0xA5])[..len], &[])?;
-        assert_eq!(rt;
-            Save::load(&mut disk).err(),
-            Some(SaveOpen::Damaged { at: 0 })
-        );
+        let loaded = load(&mut disk);
+        assert_eq!(rt; loaded, Err(SaveOpen::Damaged { at: 0 }));
     }
     Ok(())
 }
@@ -149,6 +155,39 @@ fn vault(alloc: Global, bytes: &[u8], fails: &[u64]) -> Result<Vault<MemDisk>, A
     })
 }
 
+fn bytes(disk: &MemDisk) -> &[u8] {
+    disk.bytes()
+}
+
+// The third store, over a device whose call of this number fails: what comes of it, and the newest sequence behind it.
+// One tie tells of it, where it was begun.
+fn store_at(
+    rt: &impl Abort,
+    alloc: Global,
+    number: u64,
+    came: Came,
+    sequence: u64,
+) -> Result<(), Fail> {
+    let mut vault = vault(alloc, &device([1, 2], [0xA5, 0xA5]), &[number])?;
+    let answer = store_once(&mut vault, saved(7, 80));
+    assert_eq!(rt; answer, came, "at {number}");
+    let ended = if came == Came::Stored { Some(20) } else { None };
+    let tie = Tie {
+        sequence: 3,
+        snaps: 0,
+        ended,
+    };
+    if came == Came::Refused(SaveOpen::Device) {
+        assert!(rt; vault.ties.is_empty(), "at {number}");
+    } else {
+        assert_eq!(rt; vault.ties.as_slice(), [tie].as_slice(), "at {number}");
+    }
+    let mut after = disk(alloc, bytes(&vault.save), &[])?;
+    let (found, _) = load(&mut after).expect(rt, "no damage");
+    assert_eq!(rt; found, sequence, "at {number}");
+    Ok(())
+}
+
 // The third store, in the first place: the calls of loading and storing, each of which fails once.
 #[test]
 fn a_store_at_each_fault(rt: HostRuntime) -> Result<(), Fail> {
@@ -168,23 +207,7 @@ fn a_store_at_each_fault(rt: HostRuntime) -> Result<(), Fail> {
         (9, faulty, 3),
         (10, Came::Stored, 3),
     ] {
-        let mut vault = vault(alloc, &device([1, 2], [0xA5, 0xA5]), &[number])?;
-        assert_eq!(rt; store_once(&mut vault, saved(7, 80)), came, "at {number}");
-        let ended = if came == Came::Stored { Some(20) } else { None };
-        let tie = Tie {
-            sequence: 3,
-            snaps: 0,
-            ended,
-        };
-        assert!(rt; vault.ties.iter().all(|made| *made == tie), "at {number}");
-        assert_eq!(rt;
-            vault.ties.len(),
-            usize::from(came != refused),
-            "at {number}"
-        );
-        let mut after = disk(alloc, vault.save.bytes(), &[])?;
-        let (save, _) = Save::load(&mut after).expect(&rt, "no damage");
-        assert_eq!(rt; save.sequence(), sequence, "at {number}");
+        store_at(&rt, alloc, number, came, sequence)?;
     }
     Ok(())
 }
@@ -192,14 +215,12 @@ fn a_store_at_each_fault(rt: HostRuntime) -> Result<(), Fail> {
 #[test]
 fn the_last_sequence_is_a_limit(rt: HostRuntime) -> Result<(), Fail> {
     let last = (1 << 63) - 1;
-    let bytes = device([last, 2], [0xA5, 0xA5]);
-    let mut vault = vault(rt.alloc(), &bytes, &[])?;
-    assert_eq!(rt;
-        store_once(&mut vault, saved(7, 80)),
-        Came::Faulty(Err(SaveFault::Limit { sequence: last }))
-    );
+    let was = device([last, 2], [0xA5, 0xA5]);
+    let mut vault = vault(rt.alloc(), &was, &[])?;
+    let came = store_once(&mut vault, saved(7, 80));
+    assert_eq!(rt; came, Came::Faulty(Err(SaveFault::Limit { sequence: last })));
     assert!(rt; vault.ties.is_empty());
-    assert_eq!(rt; vault.save.bytes(), bytes.as_slice());
+    assert_eq!(rt; bytes(&vault.save), was.as_slice());
     Ok(())
 }
 
@@ -231,9 +252,11 @@ fn two_stores(rt: HostRuntime) -> Result<(), Fail> {
         assert_eq!(rt; stored, Ok(()));
     }
     assert_eq!(rt; save.sequence(), 2);
-    assert_eq!(rt; disk.bytes(), device([1, 2], [0xA5, 0xA5]).as_slice());
+    let want = device([1, 2], [0xA5, 0xA5]);
+    let found = bytes(&disk);
+    assert_eq!(rt; found, want.as_slice());
     assert_eq!(rt; disk.calls().len(), 3 + 6 + 6, "no place is closed twice");
-    for (at, byte) in disk.bytes()[512..].iter().enumerate() {
+    for (at, byte) in found[512..].iter().enumerate() {
         let want = match at {
             0 => 0xA5,
             8 => b'F',

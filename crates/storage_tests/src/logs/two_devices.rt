@@ -52,10 +52,12 @@ fn a_log_file_and_its_savepoint(rt: HostRuntime) -> Result<(), Fail> {
     let (mut bank, mut device) = (disk(alloc, &[], &[])?, disk(alloc, &[0; 1024], &[])?);
     let mut journal = Journal::new(alloc, 1000).expect(&rt, "memory");
     let mut save = open(&mut device).expect(&rt, "a fresh device");
-    assert_eq!(rt; put_line(&mut journal, &mut bank), Ok(()));
+    let line = put_line(&mut journal, &mut bank);
+    assert_eq!(rt; line, Ok(()));
     let saved = saved(1, 40);
     if saved.is_valid() {
-        assert!(rt; save_between(&mut journal, &mut bank, &mut save, &mut device, saved));
+        let done = save_between(&mut journal, &mut bank, &mut save, &mut device, saved);
+        assert!(rt; done);
     }
     assert_eq!(rt; (journal.durable(), save.sequence()), (80, 1));
     Ok(())

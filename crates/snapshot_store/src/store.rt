@@ -1,5 +1,5 @@
 // The pages of snapshots in memory, and their device.
-ghost use Rattle.std.specs.Prelude.{◌≡◌, ◌≢◌, ◌↔◌, ◌+◌, ◌-◌, ◌*◌, ◌<◌, ◌≤◌, ◌++◌, ℕ, List, Some, Err, true, false};
+ghost use Rattle.std.specs.Prelude.{◌≡◌, ◌≢◌, ◌↔◌, ◌⊎◌, ◌+◌, ◌-◌, ◌*◌, ◌<◌, ◌≤◌, ◌++◌, ℕ, List, Some, Err, true, false};
 ghost use Rattle.std.specs.Prelude.{IsTrue, is_some, length, is_ok, slice_get, IfOk, OnOk, OnErr};
 ghost use Rattle.outside.specs.Disk.{IfTold};
 ghost use Rattle.outside.specs.Faults.{Rose};
@@ -155,6 +155,8 @@ impl SnapStore {
         requires few { length self.old.pages + length pages.now ≤ 65536 }
         requires holds { Holds D.tells disk.old self.old.pages }
         ensures pages { OnOk result (self.new.pages ≡ self.old.pages ++ pages.now) }
+        ensures grown { OnErr result ((self.new.pages ≡ self.old.pages)
+            ⊎ (self.new.pages ≡ self.old.pages ++ pages.now)) }
         ensures sound { OnOk result (self.new.sound ≡ true) }
         ensures holds { OnOk result (Holds D.tells disk.new self.new.pages) }
         ensures durable { OnOk result (IfTold (D.tells disk.old) (λ _.

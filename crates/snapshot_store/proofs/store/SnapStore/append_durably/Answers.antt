@@ -1,4 +1,4 @@
-use Rattle.std.proofs.Common.{◌≡◌, ap, ◌∙◌}
+use Rattle.std.proofs.Common.{◌≡◌, inl, inr, ap, ◌∙◌}
 use Rattle.std.specs.Prelude.{Err, is_some}
 use Rattle.lists.specs.declared.memory.OrMemory.TheVariants.{Fault}
 use Rattle.snapshot_store.specs.declared.store.StoreFault.TheVariants.{Device as Failed}
@@ -42,3 +42,9 @@ pub returns-in-Ok-sync-clause-durable : goal.returns-in-Ok-sync-clause-durable
 returns-in-Ok-sync-clause-durable g c bytes told =
     let written = some_of (g.D.Disk.tells c.append.new.disk) (c.append.ensures.writes.told ∙ ap is_some told) in
     c.in-Ok-sync.ensures.durable written.0 written.1
+
+pub returns-in-Err-clause-grown : goal.returns-in-Err-clause-grown
+returns-in-Err-clause-grown g c = inl c.in-Err.ensures.kept
+
+pub returns-in-Err-sync-clause-grown : goal.returns-in-Err-sync-clause-grown
+returns-in-Err-sync-clause-grown g c = inr (c.sync.ensures.pages ∙ c.in-Ok.ensures.pages)

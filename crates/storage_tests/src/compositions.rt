@@ -1,5 +1,5 @@
 // Compositions worked by hand, and pseudo-random ones beside a map.
-ghost use Rattle.std.specs.Prelude.{◌^◌, ◌+◌, ◌<◌, IfOk};
+ghost use Rattle.std.specs.Prelude.{◌^◌, ◌+◌, ◌<◌, ◌≤◌, IfOk};
 ghost use Rattle.snapshot_store.specs.Content.{words_of};
 ghost use Rattle.root_composer.specs.Newest.{IsNewest};
 
@@ -15,6 +15,19 @@ use std::collections::BTreeMap;
 use std::test::Fail;
 use wire_form::{PageKind, is_page};
 
+// Why there are no pages of the next snapshot, with these changes, where so many pages are let in.
+fn refusal(
+    alloc: Global,
+    snapshots: &Snapshots,
+    changes: &[Change],
+    room: u32,
+) -> Option<OrMemory<ComposeFault>>
+    requires newest { IsNewest snapshots.now.decl snapshots.now.epoch (words_of snapshots.now.store.pages) }
+    requires room { room ≤ 65536 }
+{
+    snapshots.new_pages(alloc, changes, room).err()
+}
+
 #[test]
 fn a_tree_gets_its_first_leaf(rt: HostRuntime) -> Result<(), Fail> {
     let alloc = rt.alloc();
@@ -25,8 +38,10 @@ fn a_tree_gets_its_first_leaf(rt: HostRuntime) -> Result<(), Fail> {
         new: 2,
         room: 2,
     };
-    assert!(rt; empty.new_pages(alloc, &put, 2).err() == Some(OrMemory::Fault(full)));
-    assert!(rt; empty.new_pages(alloc, &put, 3).is_ok());
+    let refused = refusal(alloc, &empty, &put, 2);
+    assert!(rt; refused == Some(OrMemory::Fault(full)));
+    let refused = refusal(alloc, &empty, &put, 3);
+    assert!(rt; refused.is_none());
     let made = empty.next(alloc, &put).expect(&rt, "two pages");
     // The leaf has the whole range, and 5 = 7 by 1:1; the catalogue names it, and the one before.
     let mut want = [0; 64];
@@ -358,7 +373,8 @@ fn rows_past_a_full_page_take_a_third_level(rt: HostRuntime) -> Result<(), Fail>
 fn a_chain_ends_at_32_levels(rt: HostRuntime) -> Result<(), Fail> {
     let alloc = rt.alloc();
     let deep = OrMemory::Fault(ComposeFault::Deep);
-    assert!(rt; chain(alloc, 33).err() == Some(deep));
+    let refused = chain(alloc, 33).err();
+    assert!(rt; refused == Some(deep));
     // Each level takes the pages above the leaf once more, three in its place, and a catalogue: 4 to 34 pages, behind
     // the first catalogue, leaf and catalogue.
     let chain = chain(alloc, 32).expect(&rt, "32 levels");

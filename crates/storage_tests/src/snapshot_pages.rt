@@ -26,20 +26,34 @@ fn disk(alloc: Global, len: usize, fails: &[u64]) -> Result<MemDisk, AllocError>
     MemDisk::new(alloc, vec![in alloc; 0u8; len]?, fails.to_vec(alloc)?)
 }
 
+fn bytes(disk: &MemDisk) -> &[u8] {
+    disk.bytes()
+}
+
+fn faults(disk: &MemDisk) -> u64 {
+    disk.faults()
+}
+
+// Why so many pages can't be read of a device of so many bytes.
+fn refusal(alloc: Global, len: usize, count: u32) -> Result<Option<OrMemory<StoreFault>>, Fail> {
+    let mut snaps = disk(alloc, len, &[])?;
+    Ok(SnapStore::load(alloc, &mut snaps, count).err())
+}
+
 #[test]
 fn pages_come_back(rt: HostRuntime) -> Result<(), Fail> {
     let alloc = rt.alloc();
     let mut snaps = disk(alloc, 0, &[])?;
     let mut store = SnapStore::load(alloc, &mut snaps, 0).expect(&rt, "no page");
-    assert_eq!(rt;
-        store.append(&mut snaps, &[page(1, 0x0102_0304_0506_0708)]),
-        Ok(1)
-    );
+    let first = store.append(&mut snaps, &[page(1, 0x0102_0304_0506_0708)]);
+    assert_eq!(rt; first, Ok(1));
     assert_eq!(rt; store.count(), 1);
     assert!(rt; store.sound());
-    assert_eq!(rt; store.sync(&mut snaps), Ok(()));
-    assert_eq!(rt; snaps.bytes().len(), 512);
-    assert_eq!(rt; &snaps.bytes()[..8], [1, 2, 3, 4, 5, 6, 7, 8].as_slice());
+    let synced = store.sync(&mut snaps);
+    assert_eq!(rt; synced, Ok(()));
+    let found = bytes(&snaps);
+    assert_eq!(rt; found.len(), 512);
+    assert_eq!(rt; &found[..8], [1, 2, 3, 4, 5, 6, 7, 8].as_slice());
     let again = SnapStore::load(alloc, &mut snaps, 1).expect(&rt, "one page");
     assert_eq!(rt; again.count(), 1);
     assert!(rt; again.page(1) == store.page(1));
@@ -49,11 +63,7 @@ fn pages_come_back(rt: HostRuntime) -> Result<(), Fail> {
 // Five calls of the device.
 fn use_pages(alloc: Global, snaps: &mut MemDisk) -> Result<(), OrMemory<StoreFault>> {
     let mut store = SnapStore::load(alloc, snaps, 2)?;
-    store.append(snaps, &[page(3, 7)])?;
-    match store.sync(snaps) {
-        Ok(()) => Ok(()),
-        Err(fault) => Err(OrMemory::Fault(fault)),
-    }
+    store.append_durably(snaps, &[page(3, 7)])
 }
 
 #[test]
@@ -62,22 +72,25 @@ fn each_call_fails_once(rt: HostRuntime) -> Result<(), Fail> {
     for number in 0..5 {
         let mut snaps = disk(alloc, 1024, &[number])?;
         let fault = OrMemory::Fault(StoreFault::Device);
-        assert_eq!(rt; use_pages(alloc, &mut snaps), Err(fault), "at {number}");
-        assert_eq!(rt; snaps.faults(), 1, "at {number}");
+        let used = use_pages(alloc, &mut snaps);
+        assert_eq!(rt; used, Err(fault), "at {number}");
+        assert_eq!(rt; faults(&snaps), 1, "at {number}");
     }
     let mut snaps = disk(alloc, 1024, &[5])?;
-    assert_eq!(rt; use_pages(alloc, &mut snaps), Ok(()));
-    assert_eq!(rt; snaps.bytes().len(), 1536);
+    let used = use_pages(alloc, &mut snaps);
+    assert_eq!(rt; used, Ok(()));
+    assert_eq!(rt; bytes(&snaps).len(), 1536);
     Ok(())
 }
 
 #[test]
 fn refusals_have_their_numbers(rt: HostRuntime) -> Result<(), Fail> {
     let alloc = rt.alloc();
-    let mut snaps = disk(alloc, 1023, &[])?;
     let short = OrMemory::Fault(StoreFault::Short { at: 1023 });
-    assert!(rt; SnapStore::load(alloc, &mut snaps, 2).err() == Some(short));
+    let refused = refusal(alloc, 1023, 2)?;
+    assert!(rt; refused == Some(short));
     let limit = OrMemory::Fault(StoreFault::Limit { count: 65_537 });
-    assert!(rt; SnapStore::load(alloc, &mut snaps, 65_537).err() == Some(limit));
+    let refused = refusal(alloc, 1023, 65_537)?;
+    assert!(rt; refused == Some(limit));
     Ok(())
 }

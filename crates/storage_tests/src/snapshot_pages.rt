@@ -63,7 +63,11 @@ fn pages_come_back(rt: HostRuntime) -> Result<(), Fail> {
 // Five calls of the device.
 fn use_pages(alloc: Global, snaps: &mut MemDisk) -> Result<(), OrMemory<StoreFault>> {
     let mut store = SnapStore::load(alloc, snaps, 2)?;
-    store.append_durably(snaps, &[page(3, 7)])
+    store.append(snaps, &[page(3, 7)])?;
+    match store.sync(snaps) {
+        Ok(()) => Ok(()),
+        Err(fault) => Err(OrMemory::Fault(fault)),
+    }
 }
 
 #[test]

@@ -17,7 +17,7 @@ use Rattle.wire_form.specs.Items.{Rises}
 use Rattle.wire_form.specs.declared.bucket.Bucket.{Bucket}
 use Rattle.wire_form.specs.declared.bucket.Entry.{Entry}
 use Rattle.wire_form.specs.declared.savepoint.Savepoint.{Savepoint}
-use Rattle.recovery_core.specs.Damage.{FilesBreak}
+use Rattle.recovery_core.specs.Damage.{FilesBreak, FilesReadBefore}
 use Rattle.recovery_core.specs.Images.{counted_of}
 use Rattle.recovery_core.specs.LogEntries.{IsCountedFile, AreCounted, logged, counts, is_of, greatest, last_of}
 use Rattle.recovery_core.specs.EntriesLast.{EntryMap, HasLast, TakesIn, all_entries}
@@ -97,6 +97,14 @@ module _ {decls : List Decl} {p : Savepoint} {bank : ℕ → List ℕ} {from to 
       → (lines : List (List Commit)) × AreCounted decls p bank lines
       × ((key : Key) → get last key ≡ last_of key (filter (counts from to) (logged lines)))
   counted_all last so_far = (so_far.lines, record { files = so_far.files; each = so_far.each }, so_far.lasts)
+
+  -- those before the next one are lines
+  pub reads_next : (n : ℕ) (last : EntryMap) → CountedSoFar decls p bank from to n last → n < 16
+      → FilesReadBefore decls p bank n
+  reads_next n last so_far below = record {
+    file = below;
+    before = λ m lt. (get_or so_far.lines m [], so_far.each m lt);
+  }
 
   -- the next one isn't lines
   pub breaks_next : (n count at : ℕ) (last : EntryMap) → CountedSoFar decls p bank from to n last → n < 16

@@ -7,7 +7,7 @@ use Rattle.std.specs.Option.{option_map}
 use Rattle.std.proofs.lemmas.List.{nil_from_length, length-map}
 use Rattle.std.proofs.lemmas.Option.{same_Some}
 use Rattle.outside.specs.declared.vault.Device.{Device}
-use Rattle.outside.specs.declared.vault.Device.TheVariants.{Snaps, Bank}
+use Rattle.outside.specs.declared.vault.Device.TheVariants.{Save, Snaps, Bank}
 use Rattle.serial_model.specs.Keys.{id_of, key_cmp}
 use Rattle.serial_model.specs.State.{State}
 use Rattle.serial_model.specs.declared.decl.Decl.{Decl}
@@ -25,6 +25,7 @@ use Rattle.recovery_core.specs.declared.recovered.Recovered.{Recovered}
 use Rattle.recovery_core.specs.declared.newest.Snapshot.{Snapshot}
 use Rattle.recovery_core.specs.Catalogues.{HasPages, AreCatalogues, newest_epoch, newest_decls, marks_of}
 use Rattle.recovery_core.specs.Damage.{FirstBad, RootBreaks, SnapsBreak, FilesBreak, IsDamagedIn}
+use Rattle.recovery_core.specs.Damage.{FilesReadBefore, IsReadBefore}
 use Rattle.recovery_core.specs.EntriesLast.{EntryMap, PutsLast}
 use Rattle.recovery_core.specs.Images.{Images}
 use Rattle.recovery_core.specs.LogEntries.{AreCounted, counts, logged, last_of}
@@ -147,6 +148,32 @@ damaged_file found point p device n at pages cs decls point_is device_is names s
         catalogues = cs;
         snapshot = snapshot;
         files = subst (λ l. FilesBreak l p found.bank n at) same breaks;
+      },
+    )
+
+-- ---- what is read before a device that failed
+
+pub before_save : (found : Images) (device : Device) → device ≡ Save → IsReadBefore found device
+before_save found device is = subst (IsReadBefore found) (sym is) tt
+
+pub before_snaps : (found : Images) (point : Option Savepoint) (device : Device) → device ≡ Snaps → Names found.save point
+    → IsReadBefore found device
+before_snaps found point device is names = subst (IsReadBefore found) (sym is) (point, names)
+
+pub before_file : (found : Images) (point : Option Savepoint) (p : Savepoint) (device : Device) (n : ℕ)
+    (pages : List (List ℕ)) (cs : List Contents) (decls : List Decl)
+    → point ≡ Some p → device ≡ Bank n → Names found.save point → ReadsPages found.snaps p pages cs → decls
+    ≡ newest_decls cs
+    → FilesReadBefore decls p found.bank n → IsReadBefore found device
+before_file found point p device n pages cs decls point_is device_is names snapshot same before =
+    subst (IsReadBefore found) (sym device_is) (
+      p,
+      subst (Names found.save) point_is names,
+      record {
+        pages = pages;
+        catalogues = cs;
+        snapshot = snapshot;
+        files = subst (λ l. FilesReadBefore l p found.bank n) same before;
       },
     )
 

@@ -1,7 +1,7 @@
 -- Where the devices are not in their grammars: the first byte of the first part that isn't, in the order in which they
 -- are read: save, length of the snapshots, catalogues from the newest back, pages of the newest snapshot, log files.
 use Rattle.std.specs.Prelude.{◌≡◌, ◌⊎◌, ℕ, ◌+◌, ◌-◌, ◌*◌, ◌<◌, ◌≤◌, zero, suc, List, [], ◌∷◌, Option, Some}
-use Rattle.std.specs.Prelude.{None, length}
+use Rattle.std.specs.Prelude.{None, length, ⊤}
 use Rattle.outside.specs.declared.vault.Device.{Device}
 use Rattle.outside.specs.declared.vault.Device.TheVariants.{Save, Snaps, Bank}
 use Rattle.serial_model.specs.declared.decl.Decl.{Decl}
@@ -95,3 +95,24 @@ abbrev pub IsDamagedIn : Images → Device → ℕ → Type 0
 IsDamagedIn found Save at = IsDamaged found.save at
 IsDamagedIn found Snaps at = (p : Savepoint) × Names found.save (Some p) × SnapsBreak found.snaps p at
 IsDamagedIn found (Bank n) at = (p : Savepoint) × Names found.save (Some p) × LogsBreak found p n at
+
+-- ---- what is read before a device
+
+-- the log files before this one are lines, of their counted bytes
+pub record FilesReadBefore (decls : List Decl) (p : Savepoint) (bank : ℕ → List ℕ) (n : ℕ) : Type 0 where
+  pub file : n < 16
+  pub before : (m : ℕ) → m < n → (lines : List Commit) × IsCountedFile decls (counted_of (Some p) m) (bank m) lines
+
+-- the snapshots are right, and so are the log files before this one
+pub record LogsReadBefore (found : Images) (p : Savepoint) (n : ℕ) : Type 0 where
+  pub pages : List (List ℕ)
+  pub catalogues : List Contents
+  pub snapshot : ReadsPages found.snaps p pages catalogues
+  pub files : FilesReadBefore (newest_decls catalogues) p found.bank n
+
+-- All that is read before this device is in its format: nothing before the save, the save before the snapshots, also
+-- where it names no savepoint.
+abbrev pub IsReadBefore : Images → Device → Type 0
+IsReadBefore found Save = ⊤
+IsReadBefore found Snaps = (point : Option Savepoint) × Names found.save point
+IsReadBefore found (Bank n) = (p : Savepoint) × Names found.save (Some p) × LogsReadBefore found p n

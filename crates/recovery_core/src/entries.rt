@@ -10,7 +10,7 @@ ghost use Rattle.serial_model.specs.declared.key.Key.{Key};
 ghost use Rattle.serial_model.specs.declared.number.Commit.{Commit};
 ghost use Rattle.wire_form.specs.Items.{Rises};
 ghost use Rattle.wire_form.specs.declared.savepoint.Savepoint.{Savepoint};
-ghost use Rattle.recovery_core.specs.Damage.{FilesBreak};
+ghost use Rattle.recovery_core.specs.Damage.{FilesBreak, FilesReadBefore};
 ghost use Rattle.log_mapper.specs.Mapped.{AreMappedLines};
 ghost use Rattle.recovery_core.specs.EntriesRead.{Maps, MapsIn};
 ghost use Rattle.recovery_core.specs.EntriesRun.{AllMayCount};
@@ -117,6 +117,10 @@ pub(crate) fn read_entries<D: Disk>(
         → (n : ℕ) × (device ≡ Device.Bank n) × FilesBreak decls.now p found.bank n at }
     ensures device { (device : TheDevice) → result ≡ Err (OrMemory.Fault (RecoverFault.Device device))
         → RoseIn D.faults device vault.old vault.new }
+    ensures before { (device : TheDevice) → result ≡ Err (OrMemory.Fault (RecoverFault.Device device))
+        → (found : Images) → AreTold D.tells (parts_of vault.old) found
+        → (p : Savepoint) → p.lengths ≡ lengths.now
+        → (n : ℕ) × (device ≡ Device.Bank n) × FilesReadBefore decls.now p found.bank n }
     ensures quiet { OnOk result (AreQuiet D.faults vault.old vault.new) }
     ensures reads { VaultOnlyReads D.tells D.clock D.image_at D.faults vault.old vault.new }
 {

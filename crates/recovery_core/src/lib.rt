@@ -7,7 +7,8 @@
 //!
 //! Promises, over devices that tell their bytes:
 //! - [`recover`] gives what they stand for, with the storages, the snapshots and the entries that count
-//!   (`recovers`), and `Damaged` only where they are, at exactly that byte (`damaged`).
+//!   (`recovers`), and `Damaged` only where they are, at exactly that byte (`damaged`); where a device failed, what is
+//!   read before it is in its format (`before`).
 //! - [`snapshot`] gives what the snapshot of an epoch has, of those that were recovered, nothing where no catalogue
 //!   is of that epoch (`found`, `none`), and `Damaged` at the first byte of the first of its pages that isn't right
 //!   (`damaged`).

@@ -41,6 +41,8 @@ pub(crate) fn load_pages<D: Disk>(
         (length file < 512 * count) × (at ≡ length file)) }
     ensures device { (device : Device) → result ≡ Err (OrMemory.Fault (RecoverFault.Device device))
         → RoseIn D.faults device vault.old vault.new }
+    ensures only { (device : Device) → result ≡ Err (OrMemory.Fault (RecoverFault.Device device))
+        → device ≡ Device.Snaps }
     ensures quiet { OnOk result (AreQuiet D.faults vault.old vault.new) }
     ensures reads { VaultOnlyReads D.tells D.clock D.image_at D.faults vault.old vault.new }
     ensures save { vault.new.save ≡ vault.old.save }

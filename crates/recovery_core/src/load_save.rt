@@ -20,6 +20,8 @@ pub(crate) fn load_save<D: Disk>(
         → (device ≡ Device.Save) × IfTold (D.tells vault.old.save) (λ file. IsDamaged file at) }
     ensures device { (device : Device) → result ≡ Err (OrMemory.Fault (RecoverFault.Device device))
         → RoseIn D.faults device vault.old vault.new }
+    ensures only { (device : Device) → result ≡ Err (OrMemory.Fault (RecoverFault.Device device))
+        → device ≡ Device.Save }
     ensures quiet { OnOk result (AreQuiet D.faults vault.old vault.new) }
     ensures reads { VaultOnlyReads D.tells D.clock D.image_at D.faults vault.old vault.new }
     ensures snaps { vault.new.snaps ≡ vault.old.snaps }

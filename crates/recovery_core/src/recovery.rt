@@ -10,7 +10,7 @@ ghost use Rattle.log_writer.specs.Save.{Names, IsStored};
 ghost use Rattle.snapshot_store.specs.Content.{words_of};
 ghost use Rattle.snapshot_store.specs.Store.{Holds};
 ghost use Rattle.recovery_core.specs.Catalogues.{HasPages};
-ghost use Rattle.recovery_core.specs.Damage.{IsDamagedIn, SnapsBreak};
+ghost use Rattle.recovery_core.specs.Damage.{IsDamagedIn, IsReadBefore, SnapsBreak};
 ghost use Rattle.recovery_core.specs.Images.{Images};
 ghost use Rattle.recovery_core.specs.JointCrash.{parts_of};
 ghost use Rattle.recovery_core.specs.Recovered.{Recovers, IsUp};
@@ -49,6 +49,8 @@ fn load_snapshot<D: Disk>(
         → saved.now ≡ saved_of p → SnapsBreak file p at) }
     ensures device { (device : Device) → result ≡ Err (OrMemory.Fault (RecoverFault.Device device))
         → RoseIn D.faults device vault.old vault.new }
+    ensures only { (device : Device) → result ≡ Err (OrMemory.Fault (RecoverFault.Device device))
+        → device ≡ Device.Snaps }
     ensures quiet { OnOk result (AreQuiet D.faults vault.old vault.new) }
     ensures reads { VaultOnlyReads D.tells D.clock D.image_at D.faults vault.old vault.new }
 {
@@ -79,6 +81,8 @@ fn recover_fresh<D: Disk>(
         → IfTold (D.tells vault.old.snaps) (λ file. ⊥) }
     ensures device { (device : Device) → result ≡ Err (OrMemory.Fault (RecoverFault.Device device))
         → RoseIn D.faults device vault.old vault.new }
+    ensures only { (device : Device) → result ≡ Err (OrMemory.Fault (RecoverFault.Device device))
+        → device ≡ Device.Snaps }
     ensures quiet { OnOk result (AreQuiet D.faults vault.old vault.new) }
     ensures reads { VaultOnlyReads D.tells D.clock D.image_at D.faults vault.old vault.new }
 {
@@ -116,6 +120,9 @@ fn recover_saved<D: Disk>(
         → IsDamagedIn found device at }
     ensures device { (device : Device) → result ≡ Err (OrMemory.Fault (RecoverFault.Device device))
         → RoseIn D.faults device vault.old vault.new }
+    ensures before { (device : Device) → result ≡ Err (OrMemory.Fault (RecoverFault.Device device))
+        → (found : Images) → AreTold D.tells (parts_of vault.old) found → Names found.save save.newest
+        → IsReadBefore found device }
     ensures quiet { OnOk result (AreQuiet D.faults vault.old vault.new) }
     ensures reads { VaultOnlyReads D.tells D.clock D.image_at D.faults vault.old vault.new }
 {
@@ -160,6 +167,8 @@ pub fn recover<D: Disk>(
         → (found : Images) → AreTold D.tells (parts_of vault.old) found → IsDamagedIn found device at }
     ensures device { (device : Device) → result ≡ Err (OrMemory.Fault (RecoverFault.Device device))
         → RoseIn D.faults device vault.old vault.new }
+    ensures before { (device : Device) → result ≡ Err (OrMemory.Fault (RecoverFault.Device device))
+        → (found : Images) → AreTold D.tells (parts_of vault.old) found → IsReadBefore found device }
     ensures quiet { OnOk result (AreQuiet D.faults vault.old vault.new) }
     ensures reads { VaultOnlyReads D.tells D.clock D.image_at D.faults vault.old vault.new }
 {

@@ -4,7 +4,8 @@ use Rattle.recovery_core.specs.EntriesLast.{TakesIn, all_entries}
 use Rattle.recovery_core.specs.VaultReads.{RoseIn, vault_reads_none, vault_reads_then, quiet_then}
 use Rattle.recovery_core.proofs.EntriesDevices.{maps_reads, maps_damaged, maps_rose, maps_found, maps_quiet}
 use Rattle.recovery_core.proofs.EntriesFit.{none_last, more_last, mapped_count, all_may_count}
-use Rattle.recovery_core.proofs.EntriesFiles.{CountedSoFar, none_counted, counted_more, counted_all, breaks_next}
+use Rattle.recovery_core.proofs.EntriesFiles.{CountedSoFar, none_counted, counted_more, counted_all}
+use Rattle.recovery_core.proofs.EntriesFiles.{breaks_next, reads_next}
 use Rattle.recovery_core.proofs.entries.read_entries.Goals as goal
 
 pub loop-bank-init : goal.loop-bank-init
@@ -28,6 +29,13 @@ returns-in-Err-clause-damaged g c device at is found told p same =
           (maps_damaged c.args.vault.now found at c.map_in.ensures.maps c.requires.whole inv.reads below told
           (c.in-Err.is ∙ ap Err cause.1)),
     )
+
+pub returns-in-Err-clause-before : goal.returns-in-Err-clause-before
+returns-in-Err-clause-before g c device is found told p same =
+    let n = c.loop-bank.bank in
+    let below : n < 16 = omega arith in
+    let cause = c.fault_of.ensures.device device (cc) in
+    (n, cause.0, reads_next n c.loop-bank.last (c.loop-bank.invariant.so_far found told p same) below)
 
 pub returns-in-Err-clause-device : goal.returns-in-Err-clause-device
 returns-in-Err-clause-device g c device is =

@@ -1,6 +1,6 @@
 use Rattle.std.proofs.Common.{◌≡◌, ℕ, List, Option, None, sym, subst, ◌∙◌}
 use Rattle.std.specs.Prelude.{Result, IfOk}
-use Rattle.std.proofs.lemmas.Result.{IfOk-weaker, on_ok_weaker}
+use Rattle.std.proofs.lemmas.Result.{IfOk-weaker, on_ok_weaker, err_from_is_err_and}
 use Rattle.outside.specs.Disk.{IfTold, Only}
 use Rattle.outside.specs.declared.vault.Vault.{Vault}
 use Rattle.log_writer.specs.Points.{SaveState}
@@ -11,7 +11,7 @@ use Rattle.recovery_core.specs.Recovered.{Recovers}
 use Rattle.recovery_core.specs.Resting.{AreTold}
 use Rattle.recovery_core.specs.declared.recovered.Recovered.{Recovered}
 use Rattle.recovery_core.specs.VaultReads.{VaultOnlyReads, AreQuiet, told_read, rose_then, stored_read, quiet_then}
-use Rattle.recovery_core.proofs.Recovering.{says_none}
+use Rattle.recovery_core.proofs.Recovering.{says_none, before_save, before_snaps}
 use Rattle.recovery_core.proofs.recovery.recover.Goals as goal
 
 -- what was stored of the savepoint that was found is stored after further reads
@@ -52,6 +52,11 @@ returns-in-None-clause-device g c device same =
     rose_then c.recover_fresh.new.vault device c.load_save.ensures.reads c.requires.whole
     (c.recover_fresh.ensures.device device same)
 
+pub returns-in-None-clause-before : goal.returns-in-None-clause-before
+returns-in-None-clause-before g c device same found told =
+    before_snaps found c.in_ok-save.save.newest device (c.recover_fresh.ensures.only device same)
+    (c.in_ok-save.ensures.found.names found.save told.save)
+
 pub returns-in-None-clause-quiet : goal.returns-in-None-clause-quiet
 returns-in-None-clause-quiet g c =
     on_ok_weaker {P = AreQuiet g.D.Disk.faults c.load_save.new.vault c.recover_fresh.new.vault}
@@ -84,9 +89,19 @@ returns-in-Some-clause-device g c device same =
     rose_then c.recover_saved.new.vault device c.load_save.ensures.reads c.requires.whole
     (c.recover_saved.ensures.device device same)
 
+pub returns-in-Some-clause-before : goal.returns-in-Some-clause-before
+returns-in-Some-clause-before g c device same found told =
+    c.recover_saved.ensures.before device same found (told_read c.load_save.ensures.reads c.requires.whole told)
+    (c.in_ok-save.ensures.found.names found.save told.save)
+
 pub returns-in-Some-clause-quiet : goal.returns-in-Some-clause-quiet
 returns-in-Some-clause-quiet g c =
     on_ok_weaker {P = AreQuiet g.D.Disk.faults c.load_save.new.vault c.recover_saved.new.vault}
     {Q = AreQuiet g.D.Disk.faults c.args.vault.now c.recover_saved.new.vault} c.recover_saved.result
     (quiet_then c.recover_saved.new.vault c.load_save.ensures.reads c.in_ok-save.ensures.quiet)
     c.recover_saved.ensures.quiet
+
+pub returns-in_err-save-clause-before : goal.returns-in_err-save-clause-before
+returns-in_err-save-clause-before g c device same found told =
+    let p = err_from_is_err_and c.from_residual.result c.from_residual.ensures.1 in
+    before_save found device (c.in_err-save.ensures.only device (cc (same, p.1, p.2)))

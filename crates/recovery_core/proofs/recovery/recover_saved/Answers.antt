@@ -10,7 +10,7 @@ use Rattle.recovery_core.specs.EntriesRun.{AllMayCount}
 use Rattle.recovery_core.specs.LogEntries.{AreCounted}
 use Rattle.recovery_core.specs.VaultReads.{vault_reads_then, told_read, rose_then, holds_read, quiet_then}
 use Rattle.recovery_core.proofs.Recovering.{says_some, reads_pages, ids_rise, damaged_snaps, damaged_file}
-use Rattle.recovery_core.proofs.Recovering.{saved_recovers}
+use Rattle.recovery_core.proofs.Recovering.{saved_recovers, before_snaps, before_file}
 use Rattle.recovery_core.proofs.recovery.recover_saved.Goals as goal
 
 pub returns-in_err-snapshot-clause-damaged : goal.returns-in_err-snapshot-clause-damaged
@@ -20,6 +20,11 @@ returns-in_err-snapshot-clause-damaged g c device at same found told names =
     let broken = c.in_err-snapshot.ensures.damaged device at (cc (same, p.1, p.2)) in
     damaged_snaps found c.args.save.newest point.0 device at point.1 broken.0 names
     (broken.1 found.snaps told.snaps point.0 point.2)
+
+pub returns-in_err-snapshot-clause-before : goal.returns-in_err-snapshot-clause-before
+returns-in_err-snapshot-clause-before g c device same found told names =
+    let p = err_from_is_err_and c.from_residual.result c.from_residual.ensures.1 in
+    before_snaps found c.args.save.newest device (c.in_err-snapshot.ensures.only device (cc (same, p.1, p.2))) names
 
 pub read_entries-requires-clause-rising : goal.read_entries-requires-clause-rising
 read_entries-requires-clause-rising g c =
@@ -41,6 +46,20 @@ returns-in_err-entries-clause-damaged g c device at same found told names =
     damaged_file found c.args.save.newest point.0 device broken.0 at
     (words_of c.in_ok-snapshot.snapshot.store.pages) snapshot.0
     c.as_slice-decls.result.now point.1 broken.1 names pages (c.as_slice-decls.ensures ∙ snapshot.1.decls_are) broken.2
+
+pub returns-in_err-entries-clause-before : goal.returns-in_err-entries-clause-before
+returns-in_err-entries-clause-before g c device same found told names =
+    let p = err_from_is_err_and c.from_residual-in_err-entries.result c.from_residual-in_err-entries.ensures.1 in
+    let point = says_some c.args.save.newest c.args.saved c.requires.says in
+    let snapshot = c.in_ok-snapshot.ensures.snapshot in
+    let pages = reads_pages found.snaps c.args.saved point.0 snapshot.0 c.in_ok-snapshot.snapshot point.2 snapshot.1
+    (c.in_ok-snapshot.ensures.pages found.snaps told.snaps) in
+    let before = c.in_err-entries.ensures.before device (cc (same, p.1, p.2)) found
+    (told_read c.load_snapshot.ensures.reads c.requires.whole told) point.0
+    (sym (ap (λ (x : Saved). x.lengths) point.2)) in
+    before_file found c.args.save.newest point.0 device before.0
+    (words_of c.in_ok-snapshot.snapshot.store.pages) snapshot.0
+    c.as_slice-decls.result.now point.1 before.1 names pages (c.as_slice-decls.ensures ∙ snapshot.1.decls_are) before.2
 
 pub returns-in_err-entries-clause-device : goal.returns-in_err-entries-clause-device
 returns-in_err-entries-clause-device g c device same =

@@ -1,8 +1,6 @@
 // Scripts and texts that are none, worked by hand from the grammar.
 use lists::OrMemory;
-use script_grammar::{
-    FaultKind, KeeperLine, Line, LineOps, Round, ScriptFault, read_script,
-};
+use script_grammar::{FaultKind, KeeperLine, Line, LineOps, Round, ScriptFault, read_script};
 use serial_model::{Decl, Key, Op};
 use std::alloc::Global;
 use std::process::Abort;

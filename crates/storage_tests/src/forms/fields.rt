@@ -1,7 +1,7 @@
 use serial_model::{Decl, Number};
 use wire_form::{
-    ArrayRecord, PageKind, Stored, TreeRecord, array_child, array_record, child, child_range, count,
-    epoch_and_previous, fences, is_page, separator, storage, tree_record,
+    ArrayRecord, PageKind, Stored, TreeRecord, array_child, array_record, child, child_range,
+    count, epoch_and_previous, fences, is_page, separator, storage, tree_record,
 };
 
 const FIRST: Number = Number { epoch: 1, draw: 1 };

@@ -1,7 +1,5 @@
 use serial_model::Decl;
-use wire_form::{
-    Page, PageKind, Stored, catalogue_words, read_page, words_of_page, write_page,
-};
+use wire_form::{Page, PageKind, Stored, catalogue_words, read_page, words_of_page, write_page};
 
 const CATALOGUE: u64 = 0x4341_5400_0000_0000;
 // Epoch 1, draw 1.

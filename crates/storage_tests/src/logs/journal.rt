@@ -98,7 +98,11 @@ fn a_journal_ends_at_its_limit(rt: HostRuntime) -> Result<(), Fail> {
     assert_eq!(rt; line, Ok(()));
     let free = room(&mut journal, &mut bank);
     assert_eq!(rt; free, full);
-    assert_eq!(rt; (lengths(&journal), clock(&bank)), ((640, 0), 0), "no flush");
+    assert_eq!(rt;
+        (lengths(&journal), clock(&bank)),
+        ((640, 0), 0),
+        "no flush"
+    );
     let flushed = flush(&mut journal, &mut bank);
     assert_eq!(rt; flushed, Ok(640));
     let free = room(&mut journal, &mut bank);

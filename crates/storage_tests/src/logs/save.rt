@@ -218,7 +218,10 @@ fn the_last_sequence_is_a_limit(rt: HostRuntime) -> Result<(), Fail> {
     let was = device([last, 2], [0xA5, 0xA5]);
     let mut vault = vault(rt.alloc(), &was, &[])?;
     let came = store_once(&mut vault, saved(7, 80));
-    assert_eq!(rt; came, Came::Faulty(Err(SaveFault::Limit { sequence: last })));
+    assert_eq!(rt;
+        came,
+        Came::Faulty(Err(SaveFault::Limit { sequence: last }))
+    );
     assert!(rt; vault.ties.is_empty());
     assert_eq!(rt; bytes(&vault.save), was.as_slice());
     Ok(())

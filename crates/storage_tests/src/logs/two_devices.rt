@@ -6,9 +6,9 @@ ghost use Rattle.log_writer.specs.Journal.{Reaches, IsDurable};
 ghost use Rattle.log_writer.specs.Points.{IsSaved, point_of, sequence_of};
 ghost use Rattle.log_writer.specs.Save.{IsStored, NamesOldOrNew};
 
-use crate::disks::disk;
 use super::journal::put_line;
 use super::save::{open, saved};
+use crate::disks::disk;
 use log_writer::{Journal, Save, Saved};
 use outside::Disk;
 use std::test::Fail;

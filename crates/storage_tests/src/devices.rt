@@ -15,17 +15,9 @@ use std::test::Fail;
 // How many calls `write_and_read` makes.
 const CALLS: u64 = 9;
 
-// The calls of a disk, each without what its trait says of it.
+// Calls of a disk, each without what its trait says of it.
 fn cut<D: Disk>(disk: &mut D, len: u64) -> Result<(), Failed> {
     disk.cut(len)
-}
-
-fn write<D: Disk>(disk: &mut D, at: u64, bytes: &[u8]) -> Result<(), Failed> {
-    disk.write(at, bytes)
-}
-
-fn len<D: Disk>(disk: &mut D) -> Result<u64, Failed> {
-    disk.len()
 }
 
 fn sync<D: Disk>(disk: &mut D) -> Result<(), Failed> {
@@ -41,11 +33,11 @@ fn read<D: Disk>(disk: &mut D, at: u64) -> Result<(usize, [u8; 4]), Failed> {
 
 // The calls of a disk, each of which changes what the next ones give.
 fn write_and_read<D: Disk>(rt: &impl Abort, disk: &mut D) -> Result<(), Failed> {
-    cut(disk, 0)?;
-    write(disk, 0, b"abcdef")?;
-    let size = len(disk)?;
+    disk.cut(0)?;
+    disk.write(0, b"abcdef")?;
+    let size = disk.len()?;
     assert_eq!(rt; size, 6);
-    write(disk, 4, b"xyz")?;
+    disk.write(4, b"xyz")?;
     cut(disk, 9)?;
     cut(disk, 6)?;
     sync(disk)?;
@@ -183,9 +175,9 @@ fn a_closed_way_is_a_fault(rt: HostRuntime) -> Result<(), Fail> {
     let path = "outside_read_only";
     fs::write(&rt, path, b"abc".as_slice())?;
     let mut disk = FileDisk::new(fs::open(&rt, path)?);
-    let size = len(&mut disk);
+    let size = disk.len();
     assert_eq!(rt; size, Ok(3));
-    let answer = write(&mut disk, 0, b"x");
+    let answer = disk.write(0, b"x");
     assert_eq!(rt; answer, Err(Failed));
     fs::remove_file(&rt, path)?;
     assert_eq!(rt; counts(&disk), (1, 4));

@@ -35,3 +35,16 @@ fn numbers_are_texts(rt: HostRuntime) {
         assert!(rt; &digits[start..] == text.as_bytes(), "{text}");
     }
 }
+
+#[test]
+fn wide_numbers_are_texts(rt: HostRuntime) {
+    for (number, text) in [
+        (0, "0"),
+        (18_446_744_073_709_551_616, "18446744073709551616"),
+        (u128::MAX, "340282366920938463463374607431768211455"),
+    ] {
+        let mut digits = [0; 39];
+        let start = write_wide_digits(number, &mut digits);
+        assert!(rt; &digits[start..] == text.as_bytes(), "{text}");
+    }
+}

@@ -8,7 +8,8 @@ use Rattle.clap.specs.Walk.{Held, Outcome, Rule, Step, Text, Waiting, Walk, done
 use Rattle.clap.specs.Faults.{level_fault, step_fault, turn_fault, walk_fault, word_fault}
 use Rattle.clap.proofs.OnLiterals.{clap_on_literals}
 use Rattle.command_line.specs.Plain.{HasHelpFlag, IsHelpFlag}
-use Rattle.command_line.proofs.Steps.{Verb, run, dump, make, shape_of}
+use Rattle.command_line.specs.Options.{Verb, run, dump, snaps, snapshot, make}
+use Rattle.command_line.proofs.Steps.{shape_of}
 
 -- ---- the walk goes on
 
@@ -153,6 +154,8 @@ second_is (k ∷ ks) b f = tt
 abbrev pub TakesNone : Verb → Type 0
 TakesNone run = ⊤
 TakesNone dump = ⊤
+TakesNone snaps = ⊤
+TakesNone snapshot = ⊥
 TakesNone make = ⊥
 
 -- the fault of a word, by the parts of the walk
@@ -171,6 +174,11 @@ long_flag dump none true waiting position h = tt
 long_flag dump none false idle position h = tt
 long_flag dump none false (option id) position h = tt
 long_flag dump none false positional position h = tt
+long_flag snaps none true waiting position h = tt
+long_flag snaps none false idle position h = tt
+long_flag snaps none false (option id) position h = tt
+long_flag snaps none false positional position h = tt
+long_flag snapshot none t waiting position h = absurd none
 long_flag make none t waiting position h = absurd none
 
 short_flag : (v : Verb) → TakesNone v → (t : Bool) (waiting : Waiting) (position : ℕ) (h : Held) → h.skip ≡ 0
@@ -184,6 +192,11 @@ short_flag dump none true waiting position h e = tt
 short_flag dump none false idle position h e = rw e tt
 short_flag dump none false (option id) position h e = rw e tt
 short_flag dump none false positional position h e = rw e tt
+short_flag snaps none true waiting position h e = tt
+short_flag snaps none false idle position h e = rw e tt
+short_flag snaps none false (option id) position h e = rw e tt
+short_flag snaps none false positional position h e = rw e tt
+short_flag snapshot none t waiting position h e = absurd none
 short_flag make none t waiting position h e = absurd none
 
 flag_turn : (v : Verb) → TakesNone v → (w : Walk) (word : Text) → IsOpen w → IsHelpFlag word → IsFaulty (turn_fault (shape_of v) [] w word)

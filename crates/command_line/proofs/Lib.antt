@@ -2,6 +2,8 @@ pub mod Steps
 pub mod Numbers
 pub mod Runs
 pub mod Help
+pub mod Values
 pub mod Makes
+pub mod Shown
 pub mod Plain
 pub mod Rows

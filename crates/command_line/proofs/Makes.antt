@@ -1,19 +1,19 @@
 -- The words of `make`: each is a value of the next argument, but for one `--`.
-use Rattle.std.proofs.Common.{◌≡◌, ◌∙◌, refl, sym, ap, ap₂, subst, ℕ, zero, suc, ◌+◌, ◌≤◌, ◌==◌, Bool, true, false, List, [], ◌∷◌, ◌++◌, length, Option, Some, None, inl, inr, arith, append_assoc, append-nil, length-append}
-use Rattle.std.specs.Prelude.{codes, fold, slice_get, option_and_then, option_map, ◌⊎◌}
-use Rattle.std.specs.Str.{bytes_eq, chars}
+use Rattle.std.proofs.Common.{◌≡◌, ◌∙◌, refl, sym, ap, subst, ℕ, ◌+◌, ◌≤◌, ◌==◌, Bool, true, false, List, [], ◌∷◌, ◌++◌, length, Option, Some, None, inl, inr, arith, append_assoc, append-nil, length-append}
+use Rattle.std.specs.Prelude.{codes, fold, option_and_then, option_map, ◌⊎◌}
+use Rattle.std.specs.Str.{bytes_eq}
 use Rattle.clap.specs.Kinds.{Kinds}
-use Rattle.clap.specs.Lexer.{long_of, short_of}
-use Rattle.clap.specs.Walk.{Held, Row, Step, Text, Walk, idle, plain, value, after_flag, after_step, bundle_met, bundle_step, finished, long_or_other, nothing_held, rows_after, settled, short_or_plain, walk, walk_from, walked, word_met}
+use Rattle.clap.specs.Walk.{Held, Row, Step, Text, Walk, idle, after_step, finished, nothing_held, rows_after, settled, walk, walk_from, walked, word_met}
 use Rattle.clap.specs.Faults.{check_fault, defaults_fault, level_fault, settle_fault, step_fault, turn_fault, walk_fault, word_fault}
 use Rattle.clap.proofs.OnLiterals.{clap_on_literals}
-use Rattle.decimals.specs.Numbers.{number_of}
 use Rattle.command_line.specs.Options.{arguments_of, lines_range, number_in, seed_range, within, workers_range}
 use Rattle.command_line.specs.declared.command.MakeArguments.{MakeArguments}
 use Rattle.command_line.specs.declared.number.Range.{Range}
 use Rattle.command_line.proofs.Help.{IsFaulty, first_is, second_is}
 use Rattle.command_line.proofs.Runs.{joined, one_turn}
+use Rattle.command_line.specs.Options.{make}
 use Rattle.command_line.proofs.Steps.{argument_row, making}
+use Rattle.command_line.proofs.Values.{HasBad, IsBad, IsPlainWord, IsValue, bad_without, met_value, no_dash}
 
 -- ---- where the walk stands
 
@@ -38,43 +38,6 @@ after is_trailing values = record {
   stopped = None;
 }
 
--- the word is taken for a value
-abbrev pub IsValue : Bool → Text → Type 0
-IsValue is_trailing word = (is_trailing ≡ true) ⊎ (bytes_eq word (codes "--") ≡ false)
-
--- no word is a flag, so each that isn't `--` is a value
-short_value : (word flags : Text) (h : Held) (k : ℕ)
-    → after_flag making.rules idle word (bundle_met making.rules k flags 0 plain h).0 (bundle_met making.rules k flags 0 plain h).1 ≡ (h, value)
-unfolding bundle_met
-short_value word flags h zero = refl
-short_value word flags h (suc k) = go (slice_get (chars flags) 0)
-  where
-    go : (x : Option ℕ) → after_flag making.rules idle word (bundle_step making.rules x flags 0 plain h (bundle_met making.rules k)).0
-        (bundle_step making.rules x flags 0 plain h (bundle_met making.rules k)).1 ≡ (h, value)
-    go None = refl
-    go (Some x) = refl
-
-other_value : (word : Text) (long : Option (Text × Option Text)) (h : Held) → h.skip ≡ 0
-    → long_or_other making.rules idle word long h ≡ (h, value)
-other_value word (Some p) h e = refl
-other_value word None h e = go (short_of word)
-  where
-    whole : record h { skip = 0 } ≡ h
-    whole = ap (λ (n : ℕ). record h { skip = n }) (sym e)
-
-    go : (short : Option Text) → short_or_plain making.rules idle word short h ≡ (h, value)
-    go None = refl
-    go (Some flags) =
-        ap₂ (λ (n : ℕ) (g : Held). after_flag making.rules idle word (bundle_met making.rules (length flags) flags n plain g).0
-        (bundle_met making.rules (length flags) flags n plain g).1) e whole
-        ∙ short_value word flags h (length flags)
-
-met_value : (t : Bool) (position : ℕ) (word : Text) (h : Held) → h.skip ≡ 0 → IsValue t word
-    → word_met making.rules [] t idle position word h ≡ (h, value)
-met_value true position word h e is = refl
-met_value false position word h e (inl is) = absurd cc
-met_value false position word h e (inr is) = rw is (other_value word (long_of word) h e)
-
 -- ---- one word
 
 value_walk : (t : Bool) (values : List Text) (word : Text) → length values ≤ 2 → IsValue t word
@@ -85,13 +48,13 @@ value_walk true (a ∷ []) word few is = refl
 value_walk true (a ∷ b ∷ []) word few is = refl
 value_walk false [] word few is =
     let w = after false [] in
-    ap (λ (met : Held × Step). after_step making.rules word w met.0 met.1) (met_value false 1 word w.held refl is)
+    ap (λ (met : Held × Step). after_step making.rules word w met.0 met.1) (met_value make tt false 1 word w.held refl is)
 value_walk false (a ∷ []) word few is =
     let w = after false (a ∷ []) in
-    ap (λ (met : Held × Step). after_step making.rules word w met.0 met.1) (met_value false 2 word w.held refl is)
+    ap (λ (met : Held × Step). after_step making.rules word w met.0 met.1) (met_value make tt false 2 word w.held refl is)
 value_walk false (a ∷ b ∷ []) word few is =
     let w = after false (a ∷ b ∷ []) in
-    ap (λ (met : Held × Step). after_step making.rules word w met.0 met.1) (met_value false 3 word w.held refl is)
+    ap (λ (met : Held × Step). after_step making.rules word w met.0 met.1) (met_value make tt false 3 word w.held refl is)
 value_walk t (a ∷ b ∷ c ∷ more) word few is = absurd (omega arith)
 
 -- a fourth value is a fault
@@ -101,7 +64,7 @@ stray_turn false a b c word is =
     let w = after false (a ∷ b ∷ c ∷ []) in
     let strays : Held × Step → Kinds = λ met. step_fault making 4 met.0 met.1 in
     second_is (word_fault making [] false idle word w.held) (strays (word_met making.rules [] false idle 4 word w.held))
-    (subst (λ (met : Held × Step). IsFaulty (strays met)) (sym (met_value false 4 word w.held refl is)) tt)
+    (subst (λ (met : Held × Step). IsFaulty (strays met)) (sym (met_value make tt false 4 word w.held refl is)) tt)
 
 dash_walk : (values : List Text) (word : Text) → bytes_eq word (codes "--") ≡ true → walked making.rules [] (after false values) word ≡ after true values
 unfolding walked
@@ -115,16 +78,6 @@ plain_turn (a ∷ b ∷ []) d ds e few = rw (e, e) refl
 plain_turn (a ∷ b ∷ c ∷ more) d ds e few = absurd (omega arith)
 
 -- ---- three plain words
-
--- a word that begins with no hyphen
-pub record IsPlainWord (word : Text) : Type 0 where
-  pub first : ℕ
-  pub more : Text
-  pub is : word ≡ first ∷ more
-  pub no_hyphen : (first == 45) ≡ false
-
-no_dash : (word : Text) → IsPlainWord word → bytes_eq word (codes "--") ≡ false
-no_dash word p = rw (p.is, p.no_hyphen) refl
 
 turn_is : (values : List Text) (word : Text) → IsPlainWord word → length values ≤ 2 → turn_fault making [] (after false values) word ≡ []
 turn_is values word p few = ap (turn_fault making [] (after false values)) p.is ∙ plain_turn values p.first p.more p.no_hyphen few
@@ -175,22 +128,6 @@ pub three_rows_are : (a b c : Text) → IsPlainWord a → IsPlainWord b → IsPl
 three_rows_are a b c pa pb pc = ap (λ (w : Walk). finished making.rules w.held) (three_walk a b c pa pb pc)
 
 -- ---- words that are no numbers
-
--- the word is neither a number nor `--`
-pub record IsBad (word : Text) : Type 0 where
-  pub no_number : number_of word ≡ None
-  pub no_dash : bytes_eq word (codes "--") ≡ false
-
--- such a word is among these
-abbrev pub HasBad : List Text → Type 0
-HasBad [] = ⊥
-HasBad (word ∷ rest) = IsBad word ⊎ HasBad rest
-
-bad_without : (values : List Text) (word : Text) (rest : List Text) → bytes_eq word (codes "--") ≡ true → HasBad (values ++ word ∷ rest) → HasBad (values ++ rest)
-bad_without [] word rest is (inl bad) = let d = bad.no_dash in absurd cc
-bad_without [] word rest is (inr has) = has
-bad_without (v ∷ values) word rest is (inl bad) = inl bad
-bad_without (v ∷ values) word rest is (inr has) = inr (bad_without values word rest is has)
 
 -- the walk ends after at most three values, one of which is no number
 pub record EndsBadly (end : Walk) : Type 0 where

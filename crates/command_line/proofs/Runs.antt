@@ -5,30 +5,36 @@ use Rattle.clap.specs.Kinds.{Kinds, or_else}
 use Rattle.clap.specs.Walk.{default_rows, is_empty, more_values, reading_by, Held, Row, Rule, Text, Walk, finished, has_row, settled, walk, walk_from, walked, with_default, with_values, nothing_held, rows_after}
 use Rattle.clap.specs.Simple.{App, Shape, built, entered, filled, names_of, subcommand_of}
 use Rattle.clap.specs.Faults.{check_fault, defaults_fault, entered_fault, given_default_fault, settle_fault, turn_fault, walk_fault, fault_of, level_fault}
+use Rattle.clap.specs.declared.parser.matches.ValueSource.TheVariants.{DefaultValue}
 use Rattle.clap.proofs.OnLiterals.{clap_on_literals}
 use Rattle.clap.proofs.WalkLemmas.{walk_stopped}
 use Rattle.clap.proofs.FaultLemmas.{stopped_fault}
 use Rattle.command_line.specs.Commands.{option_rule, program}
-use Rattle.command_line.specs.Plain.{Choice, Setting, flag_of, sets, slots, snap, tries, words_of}
+use Rattle.command_line.specs.Options.{Verb, run, dump, snaps, snapshot, make}
+use Rattle.command_line.specs.Plain.{Choice, Setting, brief, flag_of, sets, slots, snap, tries, words_of}
 use Rattle.command_line.proofs.Numbers.{begins}
-use Rattle.command_line.proofs.Steps.{Verb, run, dump, make, word_of, shape_of, name_of, pending_at, ready, row_of, waiting_for, flag_turn, flag_walk, text_turn, text_walk, used_absent, settle_absent, between}
+use Rattle.command_line.proofs.Steps.{word_of, shape_of, name_of, pending_at, ready, row_of, waiting_for, flag_turn, flag_walk, text_turn, text_walk, used_absent, settle_absent, at_row_absent, between, brief_row, brief_rule, brief_turn, brief_walk}
 
 -- ---- the walk over the words of choices
 
 -- the name by which clap keeps a choice
 abbrev pub id_of : Choice → Text
 id_of (sets s n) = name_of s
+id_of brief = codes "brief"
 
 abbrev pub row_at : Choice → Row
 row_at (sets s n) = row_of s (decimal n)
+row_at brief = brief_row
 
 -- the choice's words were the last
 abbrev pub state : List Row → Choice → Held
 state rows (sets s n) = record { rows = rows; pending = Some (name_of s, decimal n ∷ []); skip = 0 }
+state rows brief = between (rows ++ brief_row ∷ [])
 
--- the number is not too long
+-- the number, if there is one, is not too long
 abbrev pub IsSmall : Choice → Type 0
 IsSmall (sets s n) = n < 2 ^ 64
+IsSmall brief = ⊤
 
 -- no choice is among the rows or the choices before it, and no number is too long
 abbrev pub Fresh : List Row → List Choice → Type 0
@@ -37,9 +43,11 @@ Fresh rows (c ∷ rest) = (has_row (id_of c) rows ≡ false) × IsSmall c × Fre
 
 state_settles : (rows : List Row) (c : Choice) → has_row (id_of c) rows ≡ false → settled ready.rules (state rows c) ≡ between (rows ++ row_at c ∷ [])
 state_settles rows (sets s n) absent = used_absent s (decimal n) rows absent
+state_settles rows brief absent = refl
 
 state_has_no_fault : (rows : List Row) (c : Choice) → has_row (id_of c) rows ≡ false → settle_fault ready.rules false (state rows c) ≡ []
 state_has_no_fault rows (sets s n) absent = settle_absent s (decimal n) rows absent
+state_has_no_fault rows brief absent = refl
 
 -- a word without a fault
 pub one_turn : (shape : Shape) (w v : Walk) (word : Text) (rest : List Text) → turn_fault shape [] w word ≡ [] → walked shape.rules [] w word ≡ v
@@ -69,6 +77,8 @@ choice_fault h rows (sets s n) rest none is absent small =
     (flag_turn s h ∙ ap (λ (k : Kinds). or_else k []) none) (flag_walk s h ∙ ap (waiting_for s) is)
     ∙ one_turn ready (waiting_for s (between rows)) (walk_from (state rows (sets s n))) (decimal n) (words_of rest)
     (number_turn s (between rows) n small) (number_walk s (between rows) n small)
+choice_fault h rows brief rest none is absent small =
+    one_turn ready (walk_from h) (walk_from (state rows brief)) (codes "--brief") (words_of rest) (brief_turn h rows none is absent) (brief_walk h rows is absent)
 
 choice_walk : (h : Held) (rows : List Row) (c : Choice) (rest : List Choice) → settled ready.rules h ≡ between rows → has_row (id_of c) rows ≡ false → IsSmall c
     → fold (walked ready.rules []) (walk_from h) (words_of (c ∷ rest)) ≡ fold (walked ready.rules []) (walk_from (state rows c)) (words_of rest)
@@ -76,6 +86,7 @@ choice_walk h rows (sets s n) rest is absent small =
     ap (λ (w : Walk). fold (walked ready.rules []) w (words_of rest))
     (ap (λ (w : Walk). walked ready.rules [] w (decimal n)) (flag_walk s h ∙ ap (waiting_for s) is)
     ∙ number_walk s (between rows) n small)
+choice_walk h rows brief rest is absent small = ap (λ (w : Walk). fold (walked ready.rules []) w (words_of rest)) (brief_walk h rows is absent)
 
 abbrev last_state : List Row → Choice → List Choice → Held
 last_state rows c [] = state rows c
@@ -124,7 +135,7 @@ no_faults rows (a ∷ rest) h =
 
 harmless_here : Harmless ready.rules
 unfolding Harmless
-harmless_here = (refl, (refl, (refl, tt)))
+harmless_here = (refl, (refl, (refl, (refl, tt))))
 
 same_either : (b : Bool) (rows : List Row) → cond b rows rows ≡ rows
 same_either true rows = refl
@@ -135,15 +146,32 @@ no_default : (rows : List Row) (a : Rule) → a.defaults ≡ [] → with_default
 no_default rows a none =
     ap (λ (ts : List Text). cond (has_row a.id rows) rows (default_rows a.id (reading_by a) ts rows)) none ∙ same_either (has_row a.id rows) rows
 
+-- what clap keeps of `--brief` where it isn't given
+abbrev pub absent_row : Row
+absent_row = record { id = codes "brief"; values = codes "false" ∷ []; count = None; source = Some DefaultValue; reading = reading_by brief_rule }
+
+abbrev pub default_of : Bool → List Row
+default_of true = []
+default_of false = absent_row ∷ []
+
+brief_default : (rows : List Row) → with_default rows brief_rule ≡ rows ++ default_of (has_row (codes "brief") rows)
+brief_default rows = go (has_row (codes "brief") rows) refl
+  where
+    go : (b : Bool) → has_row (codes "brief") rows ≡ b
+        → cond b rows (with_values (codes "brief") (reading_by brief_rule) DefaultValue (codes "false" ∷ []) rows) ≡ rows ++ default_of b
+    go true e = sym (append-nil rows)
+    go false e = at_row_absent (codes "brief") (more_values DefaultValue (codes "false" ∷ [])) (absent_row ∷ []) rows e
+
 abbrev number_rule : Setting → Rule
 number_rule s = filled (option_rule (name_of s))
 
--- no rule has a default
-all_defaults : (rows : List Row) → fold with_default rows ready.rules ≡ rows
+-- of all rules `--brief` alone has a default
+all_defaults : (rows : List Row) → fold with_default rows ready.rules ≡ rows ++ default_of (has_row (codes "brief") rows)
 all_defaults rows =
-    ap (λ (rs : List Row). with_default (with_default rs (number_rule slots)) (number_rule snap)) (no_default rows (number_rule tries) refl)
-    ∙ ap (λ (rs : List Row). with_default rs (number_rule snap)) (no_default rows (number_rule slots) refl)
-    ∙ no_default rows (number_rule snap) refl
+    ap (λ (rs : List Row). with_default (with_default (with_default rs (number_rule slots)) (number_rule snap)) brief_rule) (no_default rows (number_rule tries) refl)
+    ∙ ap (λ (rs : List Row). with_default (with_default rs (number_rule snap)) brief_rule) (no_default rows (number_rule slots) refl)
+    ∙ ap (λ (rs : List Row). with_default rs brief_rule) (no_default rows (number_rule snap) refl)
+    ∙ brief_default rows
 
 pub joined : (a b c d : Kinds) → a ≡ [] → b ≡ [] → c ≡ [] → d ≡ [] → or_else a (or_else [] (or_else b (or_else c d))) ≡ []
 joined a b c d ea eb ec ed = rw (ea, eb, ec, ed) refl
@@ -164,12 +192,17 @@ leaf_fault (c ∷ rest) f =
     (ap (settle_fault ready.rules false) (leaf_end c rest f) ∙ last_settles [] c rest f)
     (no_faults (settled ready.rules end).rows ready.rules harmless_here) refl
 
-pub leaf_rows : (choices : List Choice) → Fresh [] choices → rows_after ready.rules [] (words_of choices) ≡ map row_at choices
+-- the rows of choices, and that of `--brief` where it isn't among them
+abbrev pub rows_of_choices : List Choice → List Row
+rows_of_choices choices = map row_at choices ++ default_of (has_row (codes "brief") (map row_at choices))
+
+pub leaf_rows : (choices : List Choice) → Fresh [] choices → rows_after ready.rules [] (words_of choices) ≡ rows_of_choices choices
 leaf_rows [] f = refl
 leaf_rows (c ∷ rest) f =
     let end = (walk ready.rules [] nothing_held (words_of (c ∷ rest))).held in
     all_defaults (settled ready.rules end).rows
-    ∙ ap (λ (h : Held). (settled ready.rules h).rows) (leaf_end c rest f) ∙ last_rows [] c rest f
+    ∙ ap (λ (rs : List Row). rs ++ default_of (has_row (codes "brief") rs))
+    (ap (λ (h : Held). (settled ready.rules h).rows) (leaf_end c rest f) ∙ last_rows [] c rest f)
 
 -- ---- the program
 
@@ -183,6 +216,8 @@ enters : (v : Verb) → walked whole.top.rules (names_of whole) (walk_from nothi
 unfolding clap_on_literals
 enters run = refl
 enters dump = refl
+enters snaps = refl
+enters snapshot = refl
 enters make = refl
 
 program_walk : (v : Verb) (rest : List Text) → walk whole.top.rules (names_of whole) nothing_held (word_of v ∷ rest) ≡ entry v rest
@@ -198,6 +233,8 @@ program_words : (v : Verb) (rest : List Text) → walk_fault whole.top (names_of
 unfolding clap_on_literals
 program_words run rest = stopped_fault whole.top (names_of whole) (walk_from nothing_held) (codes "run", []) rest
 program_words dump rest = stopped_fault whole.top (names_of whole) (walk_from nothing_held) (codes "dump", []) rest
+program_words snaps rest = stopped_fault whole.top (names_of whole) (walk_from nothing_held) (codes "snaps", []) rest
+program_words snapshot rest = stopped_fault whole.top (names_of whole) (walk_from nothing_held) (codes "snap", []) rest
 program_words make rest = stopped_fault whole.top (names_of whole) (walk_from nothing_held) (codes "make", []) rest
 
 abbrev ended : Kinds → Walk → Kinds
@@ -211,6 +248,8 @@ ended_by : (v : Verb) (rest : List Text) → ended [] (entry v rest) ≡ or_else
 unfolding clap_on_literals
 ended_by run rest = refl
 ended_by dump rest = refl
+ended_by snaps rest = refl
+ended_by snapshot rest = refl
 ended_by make rest = refl
 
 pub program_fault : (v : Verb) (name : Text) (rest : List Text)
@@ -228,11 +267,18 @@ entered_by : (v : Verb) (rest : List Text) → entered whole (Some (word_of v, r
 unfolding clap_on_literals
 entered_by run rest = refl
 entered_by dump rest = refl
+entered_by snaps rest = refl
+entered_by snapshot rest = refl
 entered_by make rest = refl
 
 pub program_rows : (v : Verb) (name : Text) (rest : List Text)
     → subcommand_of program (name ∷ word_of v ∷ rest) ≡ Some (word_of v, rows_after (shape_of v).rules [] rest)
 program_rows v name rest = ap (λ (w : Walk). entered whole w.stopped) (program_walk v rest) ∙ entered_by v rest
+
+-- `snaps` alone is in order
+pub snaps_fault : level_fault (shape_of snaps) [] nothing_held [] false [] ≡ []
+unfolding clap_on_literals
+snaps_fault = refl
 
 -- `dump` alone is in order
 pub dump_fault : level_fault (shape_of dump) [] nothing_held [] false [] ≡ []

@@ -9,7 +9,8 @@ use Rattle.clap.specs.Faults.{settle_fault, turn_fault, use_fault}
 use Rattle.clap.specs.declared.builder.value_parser.Reading.{Reading}
 use Rattle.clap.specs.declared.parser.matches.ValueSource.TheVariants.{CommandLine}
 use Rattle.clap.proofs.OnLiterals.{clap_on_literals}
-use Rattle.command_line.specs.Commands.{argument_rule, dump_shape, make_shape, option_rule, program, run_shape}
+use Rattle.command_line.specs.Commands.{argument_rule, dump_shape, flag_rule, make_shape, option_rule, program, run_shape, snap_shape, snaps_shape}
+use Rattle.command_line.specs.Options.{Verb, run, dump, snaps, snapshot, make}
 use Rattle.command_line.specs.Plain.{Setting, tries, slots, snap, flag_of}
 
 -- `run` as clap builds it
@@ -20,25 +21,27 @@ ready = built_leaf (inherited (built program).top run_shape)
 abbrev pub making : Shape
 making = built_leaf (inherited (built program).top make_shape)
 
--- the commands
-pub data Verb : Type 0 where
-  run : Verb
-  dump : Verb
-  make : Verb
+-- `snap` as clap builds it
+abbrev pub showing : Shape
+showing = built_leaf (inherited (built program).top snap_shape)
 
 -- the word that names a command
 abbrev pub word_of : Verb → Text
 word_of run = codes "run"
 word_of dump = codes "dump"
+word_of snaps = codes "snaps"
+word_of snapshot = codes "snap"
 word_of make = codes "make"
 
 -- a command as clap builds it
 abbrev pub shape_of : Verb → Shape
 shape_of run = ready
 shape_of dump = built_leaf (inherited (built program).top dump_shape)
+shape_of snaps = built_leaf (inherited (built program).top snaps_shape)
+shape_of snapshot = showing
 shape_of make = making
 
-subs_are : (built program).subs ≡ shape_of run ∷ shape_of dump ∷ shape_of make ∷ []
+subs_are : (built program).subs ≡ shape_of run ∷ shape_of dump ∷ shape_of snaps ∷ shape_of snapshot ∷ shape_of make ∷ []
 subs_are = refl
 
 -- ---- an option with a number
@@ -130,11 +133,47 @@ settle_absent tries t rows h = rw h refl
 settle_absent slots t rows h = rw h refl
 settle_absent snap t rows h = rw h refl
 
--- ---- arguments and what is kept between options
+-- ---- `--brief`
+
+-- `--brief` as clap builds it
+abbrev pub brief_rule : Rule
+brief_rule = filled (flag_rule (codes "brief"))
+
+abbrev pub brief_row : Row
+brief_row = row_for (codes "brief") (reading_by brief_rule) (codes "true")
+
+brief_turn_is : (h : Held)
+    → turn_fault ready [] (walk_from h) (codes "--brief") ≡ or_else (or_else (settle_fault ready.rules false h) (use_fault false brief_rule [] (settled ready.rules h).rows)) []
+unfolding clap_on_literals
+brief_turn_is h = refl
+
+brief_walk_is : (h : Held) → walked ready.rules [] (walk_from h) (codes "--brief") ≡ walk_from (reacted ready.rules brief_rule [] h)
+unfolding clap_on_literals
+brief_walk_is h = refl
+
+brief_use : (rows : List Row) → has_row (codes "brief") rows ≡ false → use_fault false brief_rule [] rows ≡ []
+brief_use rows h = rw h refl
 
 -- nothing waits, and this is kept
 abbrev pub between : List Row → Held
 between rows = record { rows = rows; pending = None; skip = 0 }
+
+pub brief_turn : (h : Held) (rows : List Row) → settle_fault ready.rules false h ≡ [] → settled ready.rules h ≡ between rows
+    → has_row (codes "brief") rows ≡ false → turn_fault ready [] (walk_from h) (codes "--brief") ≡ []
+brief_turn h rows none is absent =
+    brief_turn_is h
+    ∙ ap (λ (k : Kinds). or_else (or_else k (use_fault false brief_rule [] (settled ready.rules h).rows)) []) none
+    ∙ ap (λ (k : Kinds). or_else k []) (ap (λ (g : Held). use_fault false brief_rule [] g.rows) is ∙ brief_use rows absent)
+
+pub brief_walk : (h : Held) (rows : List Row) → settled ready.rules h ≡ between rows → has_row (codes "brief") rows ≡ false
+    → walked ready.rules [] (walk_from h) (codes "--brief") ≡ walk_from (between (rows ++ brief_row ∷ []))
+brief_walk h rows is absent =
+    let after : Held → Held = λ g. record g { rows = used brief_rule [] g.rows; pending = None } in
+    brief_walk_is h
+    ∙ ap (λ (g : Held). walk_from (after g)) is
+    ∙ ap (λ (rs : List Row). walk_from (between rs)) (first_use (codes "brief") (reading_by brief_rule) (codes "true") rows absent)
+
+-- ---- arguments
 
 -- what clap keeps of an argument
 abbrev pub argument_row : Text → Text → Row

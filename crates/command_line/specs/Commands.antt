@@ -2,26 +2,42 @@
 use Rattle.std.specs.Prelude.{[], ◌∷◌, codes, true, false, Some}
 use Rattle.clap.specs.Walk.{Rule, Text}
 use Rattle.clap.specs.Simple.{App, Shape, new_rule, new_shape}
-use Rattle.clap.specs.declared.builder.action.ArgAction.TheVariants.{Set}
+use Rattle.clap.specs.declared.builder.action.ArgAction.TheVariants.{Set, SetTrue}
 
 -- an option with one value
 abbrev pub option_rule : Text → Rule
 option_rule name = record (new_rule name) { long = Some name; action = Some Set }
 
+-- an option without a value
+abbrev pub flag_rule : Text → Rule
+flag_rule name = record (new_rule name) { long = Some name; action = Some SetTrue }
+
 -- a word that has to be given
 abbrev pub argument_rule : Text → Rule
 argument_rule name = record (new_rule name) { required = true }
 
--- `run`, which has three options and no flag for help
+-- `run`, which has four options and no flag for help
 abbrev pub run_shape : Shape
 run_shape = record (new_shape (codes "run")) {
   disable_help_flag = true;
-  rules = option_rule (codes "tries") ∷ option_rule (codes "slots") ∷ option_rule (codes "snap") ∷ [];
+  rules = option_rule (codes "tries") ∷ option_rule (codes "slots") ∷ option_rule (codes "snap")
+      ∷ flag_rule (codes "brief") ∷ [];
 }
 
 -- `dump`, which has neither options nor a flag for help
 abbrev pub dump_shape : Shape
 dump_shape = record (new_shape (codes "dump")) { disable_help_flag = true }
+
+-- `snaps`, which has neither options nor a flag for help
+abbrev pub snaps_shape : Shape
+snaps_shape = record (new_shape (codes "snaps")) { disable_help_flag = true }
+
+-- `snap`, which has one argument, and neither options nor a flag for help
+abbrev pub snap_shape : Shape
+snap_shape = record (new_shape (codes "snap")) {
+  disable_help_flag = true;
+  rules = argument_rule (codes "epoch") ∷ [];
+}
 
 -- `make`, which has three arguments, and neither options nor a flag for help
 abbrev pub make_shape : Shape
@@ -39,5 +55,5 @@ program = record {
     subcommand_required = true;
     is_leaf = false;
   };
-  subs = run_shape ∷ dump_shape ∷ make_shape ∷ [];
+  subs = run_shape ∷ dump_shape ∷ snaps_shape ∷ snap_shape ∷ make_shape ∷ [];
 }

@@ -1,5 +1,5 @@
 -- The numbers of options and arguments, and what the words ask for.
-use Rattle.std.specs.Prelude.{◌≡◌, ◌≢◌, ◌⊎◌, ℕ, ◌≤◌, ◌&&◌, true, false, List, [], ◌∷◌, codes, Option, Some, None}
+use Rattle.std.specs.Prelude.{◌≡◌, ◌≢◌, ◌⊎◌, ℕ, ◌≤◌, ◌&&◌, Bool, false, List, [], ◌∷◌, codes, Option, Some, None}
 use Rattle.std.specs.Prelude.{nat_le, if◌then◌else◌, option_map, option_and_then, ⊤}
 use Rattle.std.specs.Str.{bytes_eq}
 use Rattle.decimals.specs.Numbers.{number_of}
@@ -11,7 +11,7 @@ use Rattle.clap.specs.declared.error.kind.ErrorKind.{ErrorKind}
 use Rattle.clap.specs.declared.error.kind.ErrorKind.TheVariants.{OutOfMemory}
 use Rattle.command_line.specs.Commands.{program}
 use Rattle.command_line.specs.declared.command.Command.{Command}
-use Rattle.command_line.specs.declared.command.Command.TheVariants.{Run, Dump, Make, Refused}
+use Rattle.command_line.specs.declared.command.Command.TheVariants.{Run, Dump, Snaps, Snap, Make, Refused}
 use Rattle.command_line.specs.declared.command.MakeArguments.{MakeArguments}
 use Rattle.command_line.specs.declared.command.RunOptions.{RunOptions}
 use Rattle.command_line.specs.declared.number.Range.{Range}
@@ -42,6 +42,10 @@ workers_range = record { least = 1; most = 8 }
 abbrev pub lines_range : Range
 lines_range = record { least = 1; most = 65536 }
 
+-- the epochs that a snapshot may be asked of
+abbrev pub epoch_range : Range
+epoch_range = record { least = 0; most = 1048575 }
+
 -- the number is in the range, whose ends count
 abbrev pub IsWithin : Range → ℕ → Type 0
 IsWithin range n = (range.least ≤ n) × (n ≤ range.most)
@@ -58,9 +62,9 @@ AreMadeInRange arguments = IsWithin seed_range arguments.seed × IsWithin worker
 
 -- what stands for options that are left out
 abbrev pub usual : RunOptions
-usual = record { tries = 1000; slots = 256; snap = 4096 }
+usual = record { tries = 1000; slots = 256; snap = 4096; brief = false }
 
--- ---- numbers, from the texts of their values
+-- ---- numbers and flags, from the texts of their values
 
 -- the number, if it is in the range
 abbrev pub within : Range → ℕ → Option ℕ
@@ -80,6 +84,11 @@ abbrev pub number_given : Range → Option Text → Option ℕ
 number_given range None = None
 number_given range (Some text) = number_in range text
 
+-- the flag was given
+abbrev pub is_set : Option Text → Bool
+is_set None = false
+is_set (Some text) = bytes_eq text (codes "true")
+
 -- the options of a run, if each number is in its range
 abbrev pub options_of : List Row → Option RunOptions
 options_of rows =
@@ -87,10 +96,15 @@ options_of rows =
       tries = tries;
       slots = slots;
       snap = snap;
+      brief = is_set (first_of (codes "brief") rows);
     })
     (number_or usual.snap snap_range (first_of (codes "snap") rows)))
     (number_or usual.slots slots_range (first_of (codes "slots") rows)))
     (number_or usual.tries tries_range (first_of (codes "tries") rows))
+
+-- the epoch of `snap`, if it is in its range
+abbrev pub epoch_of : List Row → Option ℕ
+epoch_of rows = number_given epoch_range (first_of (codes "epoch") rows)
 
 -- the arguments of `make`, if each number is in its range
 abbrev pub arguments_of : List Row → Option MakeArguments
@@ -116,16 +130,38 @@ abbrev pub make_with : Option MakeArguments → Command
 make_with (Some arguments) = Make arguments
 make_with None = Refused
 
--- a command of the program, by its name and what its words hold: it is `dump`, `make` with its numbers, or `run` with
--- its own
-abbrev pub asked_by : Text → List Row → Command
-asked_by name rows = if bytes_eq name (codes "dump") then Dump
-    else (if bytes_eq name (codes "make") then make_with (arguments_of rows) else run_with (options_of rows))
+-- the snapshot of this epoch, if there is one
+abbrev pub snap_with : Option ℕ → Command
+snap_with (Some epoch) = Snap epoch
+snap_with None = Refused
+
+-- the commands
+pub data Verb : Type 0 where
+  run : Verb
+  dump : Verb
+  snaps : Verb
+  snapshot : Verb
+  make : Verb
+
+-- the command of this name: clap lets only names of commands through, so one that is none of the others is `run`
+abbrev pub verb_of : Text → Verb
+verb_of name = if bytes_eq name (codes "dump") then dump
+    else (if bytes_eq name (codes "snaps") then snaps
+    else (if bytes_eq name (codes "snap") then snapshot
+    else (if bytes_eq name (codes "make") then make else run)))
+
+-- what a command asks for, by what its words hold
+abbrev pub asked_by : Verb → List Row → Command
+asked_by run rows = run_with (options_of rows)
+asked_by dump rows = Dump
+asked_by snaps rows = Snaps
+asked_by snapshot rows = snap_with (epoch_of rows)
+asked_by make rows = make_with (arguments_of rows)
 
 -- the command that the words name, if they name one
 abbrev pub asked : Option (Text × List Row) → Command
 asked None = Refused
-asked (Some p) = asked_by p.0 p.1
+asked (Some p) = asked_by (verb_of p.0) p.1
 
 -- the command, or refused where there is a kind of fault
 abbrev pub unless_fault : Kinds → Command → Command
@@ -137,15 +173,18 @@ unless_fault (k ∷ ks) command = Refused
 unfoldable pub command_of : List Text → Command
 command_of words = unless_fault (fault_of program words) (asked (subcommand_of program words))
 
--- not every number of `make`, or else of `run`, is one in its range
-abbrev pub LacksNumbers : Text → List Row → Type 0
-LacksNumbers name rows = ((bytes_eq name (codes "make") ≡ true) × (arguments_of rows ≡ None))
-    ⊎ ((bytes_eq name (codes "make") ≡ false) × (options_of rows ≡ None))
+-- the command has numbers, and not every one is in its range
+abbrev pub LacksNumbers : Verb → List Row → Type 0
+LacksNumbers run rows = options_of rows ≡ None
+LacksNumbers dump rows = ⊥
+LacksNumbers snaps rows = ⊥
+LacksNumbers snapshot rows = epoch_of rows ≡ None
+LacksNumbers make rows = arguments_of rows ≡ None
 
--- the words name no command, or they name `make` or `run`, and not every number is one in its range
+-- the words name no command, or one with numbers, of which not every one is in its range
 abbrev pub IsNoCommand : Option (Text × List Row) → Type 0
 IsNoCommand None = ⊤
-IsNoCommand (Some p) = (bytes_eq p.0 (codes "dump") ≡ false) × LacksNumbers p.0 p.1
+IsNoCommand (Some p) = LacksNumbers (verb_of p.0) p.1
 
 -- why words are refused: clap's definition has a kind of fault for them that is not want of memory
 -- (a call for help is an unknown word, option or command), or they are in order for clap, and name

@@ -9,6 +9,8 @@ pub struct RunOptions {
     pub slots: u32,
     /// How many pages of snapshots stay in memory.
     pub snap: u32,
+    /// Whether counts and sums are printed in place of a line for each transaction.
+    pub brief: bool,
 }
 
 /// The arguments of `make`.
@@ -29,6 +31,10 @@ pub enum Command {
     Run(RunOptions),
     /// To tell what the database keeps.
     Dump,
+    /// To tell which snapshots the database has.
+    Snaps,
+    /// To tell what the snapshot of this epoch has.
+    Snap(u32),
     /// To make a script.
     Make(MakeArguments),
     /// Nothing that the program does, or help.

@@ -2,8 +2,8 @@
 ghost use Rattle.std.specs.Prelude.{◌≡◌, IfOk, false, codes};
 ghost use Rattle.clap.specs.Words.{app_of, rule_of};
 ghost use Rattle.clap.specs.declared.builder.command.Command.TheViews.{out-Command};
-ghost use Rattle.command_line.specs.Commands.{argument_rule, dump_shape, make_shape, option_rule};
-ghost use Rattle.command_line.specs.Commands.{program, run_shape};
+ghost use Rattle.command_line.specs.Commands.{argument_rule, dump_shape, flag_rule, make_shape, option_rule};
+ghost use Rattle.command_line.specs.Commands.{program, run_shape, snap_shape, snaps_shape};
 
 use clap::{Arg, ArgAction, Command};
 use std::alloc::{AllocError, Global};
@@ -14,6 +14,14 @@ fn option<'a>(alloc: Global, name: &'a str) -> Arg<'a>
     ensures local { result.global ≡ false }
 {
     Arg::new(alloc, name).long(name).action(ArgAction::Set)
+}
+
+/// An option without a value.
+fn flag<'a>(alloc: Global, name: &'a str) -> Arg<'a>
+    ensures rule { rule_of result ≡ flag_rule name.entry.now }
+    ensures local { result.global ≡ false }
+{
+    Arg::new(alloc, name).long(name).action(ArgAction::SetTrue)
 }
 
 /// A word that has to be given, which is text to clap.
@@ -32,7 +40,8 @@ fn run<'a>(alloc: Global) -> Result<Command<'a>, AllocError>
         .disable_help_flag(true)
         .arg(option(alloc, "tries"))?
         .arg(option(alloc, "slots"))?
-        .arg(option(alloc, "snap"))
+        .arg(option(alloc, "snap"))?
+        .arg(flag(alloc, "brief"))
 }
 
 fn dump<'a>(alloc: Global) -> Command<'a>
@@ -40,6 +49,22 @@ fn dump<'a>(alloc: Global) -> Command<'a>
     ensures local { (out-Command result).has_globals ≡ false }
 {
     Command::new(alloc, "dump").disable_help_flag(true)
+}
+
+fn snaps<'a>(alloc: Global) -> Command<'a>
+    ensures shape { (app_of result).top ≡ snaps_shape }
+    ensures local { (out-Command result).has_globals ≡ false }
+{
+    Command::new(alloc, "snaps").disable_help_flag(true)
+}
+
+fn snap<'a>(alloc: Global) -> Result<Command<'a>, AllocError>
+    ensures shape { IfOk result (λ c. (app_of c).top ≡ snap_shape) }
+    ensures local { IfOk result (λ c. (out-Command c).has_globals ≡ false) }
+{
+    Command::new(alloc, "snap")
+        .disable_help_flag(true)
+        .arg(argument(alloc, "epoch"))
 }
 
 fn make<'a>(alloc: Global) -> Result<Command<'a>, AllocError>
@@ -58,6 +83,7 @@ pub(crate) fn program<'a>(alloc: Global) -> Result<Command<'a>, AllocError>
     ensures { IfOk result (λ c. app_of c ≡ program) }
 {
     let run = run(alloc)?;
+    let snap = snap(alloc)?;
     let make = make(alloc)?;
     Command::new(alloc, "foedus")
         .disable_help_flag(true)
@@ -65,5 +91,7 @@ pub(crate) fn program<'a>(alloc: Global) -> Result<Command<'a>, AllocError>
         .subcommand_required(true)
         .subcommand(run)?
         .subcommand(dump(alloc))?
+        .subcommand(snaps(alloc))?
+        .subcommand(snap)?
         .subcommand(make)
 }

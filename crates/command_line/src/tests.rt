@@ -3,7 +3,21 @@ use serial_model::Memory;
 use std::test::Fail;
 
 fn run(tries: u32, slots: u32, snap: u32) -> Result<Command, Memory> {
-    Ok(Command::Run(RunOptions { tries, slots, snap }))
+    Ok(Command::Run(RunOptions {
+        tries,
+        slots,
+        snap,
+        brief: false,
+    }))
+}
+
+fn brief(tries: u32, slots: u32, snap: u32) -> Result<Command, Memory> {
+    Ok(Command::Run(RunOptions {
+        tries,
+        slots,
+        snap,
+        brief: true,
+    }))
 }
 
 fn make(seed: u32, workers: u8, lines: u32) -> Result<Command, Memory> {
@@ -33,7 +47,7 @@ fn numbers_in_range(rt: HostRuntime) -> Result<(), Fail> {
 
 #[test]
 fn options_in_any_order(rt: HostRuntime) -> Result<(), Fail> {
-    let rows: [(&[&str], Result<Command, Memory>); 9] = [
+    let rows: [(&[&str], Result<Command, Memory>); 12] = [
         (&[], run(1_000, 256, 4_096)),
         (&["--tries", "7", "--slots", "8"], run(7, 8, 4_096)),
         (&["--slots", "8", "--tries", "7"], run(7, 8, 4_096)),
@@ -52,6 +66,12 @@ fn options_in_any_order(rt: HostRuntime) -> Result<(), Fail> {
         (&["--tries=5"], run(5, 256, 4_096)),
         (&["--snap=9", "--tries", "5"], run(5, 256, 9)),
         (&["--"], run(1_000, 256, 4_096)),
+        (&["--brief"], brief(1_000, 256, 4_096)),
+        (&["--brief", "--snap", "9"], brief(1_000, 256, 9)),
+        (
+            &["--tries", "7", "--brief", "--snap", "9"],
+            brief(7, 256, 9),
+        ),
     ];
     for (options, asked) in rows {
         let mut words = vec![in rt.alloc(); "any", "run"]?;
@@ -64,6 +84,36 @@ fn options_in_any_order(rt: HostRuntime) -> Result<(), Fail> {
 #[test]
 fn dump_stands_alone(rt: HostRuntime) -> Result<(), Fail> {
     assert!(rt; read_words(rt.alloc(), &["foedus", "dump"]) == Ok(Command::Dump));
+    Ok(())
+}
+
+#[test]
+fn snaps_stands_alone(rt: HostRuntime) -> Result<(), Fail> {
+    assert!(rt; read_words(rt.alloc(), &["foedus", "snaps"]) == Ok(Command::Snaps));
+    Ok(())
+}
+
+#[test]
+fn epoch_of_a_snapshot(rt: HostRuntime) -> Result<(), Fail> {
+    let rows: [(&[&str], Result<Command, Memory>); 12] = [
+        (&["0"], Ok(Command::Snap(0))),
+        (&["1048575"], Ok(Command::Snap(1_048_575))),
+        (&["--", "7"], Ok(Command::Snap(7))),
+        (&["7", "--"], Ok(Command::Snap(7))),
+        (&[], Ok(Command::Refused)),
+        (&["1048576"], Ok(Command::Refused)),
+        (&["1", "2"], Ok(Command::Refused)),
+        (&["01"], Ok(Command::Refused)),
+        (&["-1"], Ok(Command::Refused)),
+        (&["help"], Ok(Command::Refused)),
+        (&["--help"], Ok(Command::Refused)),
+        (&["1", "-h"], Ok(Command::Refused)),
+    ];
+    for (numbers, asked) in rows {
+        let mut words = vec![in rt.alloc(); "any", "snap"]?;
+        words.extend_from_slice(numbers)?;
+        assert!(rt; read_words(rt.alloc(), words.as_slice()) == asked);
+    }
     Ok(())
 }
 
@@ -124,7 +174,7 @@ fn no_numbers(rt: HostRuntime) -> Result<(), Fail> {
 
 #[test]
 fn faulty_words(rt: HostRuntime) -> Result<(), Fail> {
-    let rows: [&[&str]; 31] = [
+    let rows: [&[&str]; 37] = [
         &[],
         &["foedus"],
         &["foedus", "walk"],
@@ -149,7 +199,13 @@ fn faulty_words(rt: HostRuntime) -> Result<(), Fail> {
         &["foedus", "dump", "--help"],
         &["foedus", "dump", "run"],
         &["foedus", "dump", "--brief"],
-        &["foedus", "run", "--brief"],
+        &["foedus", "run", "--brief", "--brief"],
+        &["foedus", "run", "--brief=true"],
+        &["foedus", "run", "--brief", "true"],
+        &["foedus", "snaps", "1"],
+        &["foedus", "snaps", "--help"],
+        &["foedus", "snaps", "help"],
+        &["foedus", "snapshot", "1"],
         &["foedus", "make"],
         &["foedus", "make", "1", "2"],
         &["foedus", "make", "1", "2", "3", "4"],

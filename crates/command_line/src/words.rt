@@ -2,9 +2,10 @@
 ghost use Rattle.std.specs.Prelude.{◌≡◌, IfOk, IfSome, OnOk, map};
 ghost use Rattle.clap.specs.Words.{first_of, found_of, rows_of, subcommand_rows_of};
 ghost use Rattle.command_line.specs.Options.{AreInRange, AreMadeInRange, IsWithin, Refuses, arguments_of, asked};
-ghost use Rattle.command_line.specs.Options.{command_of, make_with, number_given, number_or, options_of};
-ghost use Rattle.command_line.specs.Options.{run_with};
-ghost use Rattle.command_line.specs.Plain.{AsksForHelp, IsPlain, IsPlainDump, IsPlainMake};
+ghost use Rattle.command_line.specs.Options.{command_of, epoch_of, epoch_range, is_set, make_with, number_given};
+ghost use Rattle.command_line.specs.Options.{number_or, options_of, run_with, snap_with};
+ghost use Rattle.command_line.specs.Plain.{AsksForHelp, IsPlain, IsPlainDump, IsPlainMake, IsPlainSnap};
+ghost use Rattle.command_line.specs.Plain.{IsPlainSnaps};
 
 use crate::command::{Command, MakeArguments, RunOptions};
 use crate::number::{Range, number_in};
@@ -41,11 +42,17 @@ const LINES: Range = Range {
     most: 65_536,
 };
 
+const EPOCH: Range = Range {
+    least: 0,
+    most: 1_048_575,
+};
+
 /// What stands for an option that is left out.
 const USUAL: RunOptions = RunOptions {
     tries: 1_000,
     slots: 256,
     snap: 4_096,
+    brief: false,
 };
 
 /// The number of an option, if it is in its range.
@@ -55,6 +62,16 @@ fn option_number(matches: &ArgMatches, name: &str, range: Range, usual: u32) -> 
     match matches.get_str(name) {
         Some(text) => number_in(range, text),
         None => Some(usual),
+    }
+}
+
+/// Whether a flag was given, which clap keeps as a text.
+fn is_set(matches: &ArgMatches, name: &str) -> bool
+    ensures { result ≡ is_set (first_of name.now (rows_of (found_of matches.now))) }
+{
+    match matches.get_str(name) {
+        Some(text) => text == "true",
+        None => false,
     }
 }
 
@@ -73,7 +90,13 @@ fn options_of(matches: &ArgMatches) -> Option<RunOptions>
     let tries = option_number(matches, "tries", TRIES, USUAL.tries)?;
     let slots = option_number(matches, "slots", SLOTS, USUAL.slots)?;
     let snap = option_number(matches, "snap", SNAP, USUAL.snap)?;
-    Some(RunOptions { tries, slots, snap })
+    let brief = is_set(matches, "brief");
+    Some(RunOptions {
+        tries,
+        slots,
+        snap,
+        brief,
+    })
 }
 
 /// The arguments of `make`, if each number is in its range.
@@ -108,6 +131,15 @@ fn make_asked(matches: &ArgMatches) -> Command
     }
 }
 
+fn snap_asked(matches: &ArgMatches) -> Command
+    ensures { result ≡ snap_with (epoch_of (rows_of (found_of matches.now))) }
+{
+    match argument_number(matches, "epoch", EPOCH) {
+        Some(epoch) => Command::Snap(epoch),
+        None => Command::Refused,
+    }
+}
+
 fn asked(matches: &ArgMatches) -> Command
     ensures { result ≡ asked (subcommand_rows_of matches.now) }
 {
@@ -116,6 +148,12 @@ fn asked(matches: &ArgMatches) -> Command
     };
     if name == "dump" {
         return Command::Dump;
+    }
+    if name == "snaps" {
+        return Command::Snaps;
+    }
+    if name == "snap" {
+        return snap_asked(found);
     }
     if name == "make" {
         return make_asked(found);
@@ -130,11 +168,16 @@ pub fn read_words(alloc: Global, words: &[&str]) -> Result<Command, Memory>
         → OnOk result (result ≡ Ok (Command.Run options)) }
     ensures plain_dump { IsPlainDump (map (λ w. w.now) words.now)
         → OnOk result (result ≡ Ok Command.Dump) }
+    ensures plain_snaps { IsPlainSnaps (map (λ w. w.now) words.now)
+        → OnOk result (result ≡ Ok Command.Snaps) }
+    ensures plain_snap { (epoch : _) → IsPlainSnap (map (λ w. w.now) words.now) epoch
+        → OnOk result (result ≡ Ok (Command.Snap epoch)) }
     ensures plain_make { (arguments : _) → IsPlainMake (map (λ w. w.now) words.now) arguments
         → OnOk result (result ≡ Ok (Command.Make arguments)) }
     ensures ranges { (options : _) → result ≡ Ok (Command.Run options) → AreInRange options }
     ensures made_ranges { (arguments : _) → result ≡ Ok (Command.Make arguments)
         → AreMadeInRange arguments }
+    ensures epoch_range { (epoch : _) → result ≡ Ok (Command.Snap epoch) → IsWithin epoch_range epoch }
     ensures refused { result ≡ Ok Command.Refused → Refuses (map (λ w. w.now) words.now) }
     ensures help { AsksForHelp (map (λ w. w.now) words.now)
         → OnOk result (result ≡ Ok Command.Refused) }

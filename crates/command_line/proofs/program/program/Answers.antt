@@ -26,5 +26,7 @@ returns c =
     let none : app_of c.subcommand_required.result ≡ bare = search rules in
     let one = c.in_ok-subcommand.ensures.shape c.in_ok-run.ensures.local ∙ ap₂ with_subcommand none c.in_ok-run.ensures.shape in
     let two = c.in_ok-subcommand-2.ensures.shape c.dump.ensures.local ∙ ap₂ with_subcommand one c.dump.ensures.shape in
-    if_ok _ _ c.subcommand-3.result c.subcommand-3.ensures
-    (λ p adds. adds.shape c.in_ok-make.ensures.local ∙ ap₂ with_subcommand two c.in_ok-make.ensures.shape)
+    let three = c.in_ok-subcommand-3.ensures.shape c.snaps.ensures.local ∙ ap₂ with_subcommand two c.snaps.ensures.shape in
+    let four = c.in_ok-subcommand-4.ensures.shape c.in_ok-snap.ensures.local ∙ ap₂ with_subcommand three c.in_ok-snap.ensures.shape in
+    if_ok _ _ c.subcommand-5.result c.subcommand-5.ensures
+    (λ p adds. adds.shape c.in_ok-make.ensures.local ∙ ap₂ with_subcommand four c.in_ok-make.ensures.shape)

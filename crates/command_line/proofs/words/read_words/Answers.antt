@@ -18,9 +18,12 @@ returns-in-Ok c =
       command = is;
       plain = λ options p. ap (λ (x : Command). Ok x) (a.plain options p);
       plain_dump = λ p. ap (λ (x : Command). Ok x) (a.plain_dump p);
+      plain_snaps = λ p. ap (λ (x : Command). Ok x) (a.plain_snaps p);
+      plain_snap = λ epoch p. ap (λ (x : Command). Ok x) (a.plain_snap epoch p);
       plain_make = λ arguments p. ap (λ (x : Command). Ok x) (a.plain_make arguments p);
       ranges = λ options h. a.ranges options (cc);
       made_ranges = λ arguments h. a.made_ranges arguments (cc);
+      epoch_range = λ epoch h. a.epoch_range epoch (cc);
       refused = λ h.
           let none : c.asked.result ≡ Refused = cc in
           refused_numbers (app_of c.in_ok-program.program) words c.in-Ok.matches c.in_ok-program.ensures e.matches (sym c.asked.ensures ∙ none);
@@ -39,9 +42,12 @@ returns c =
       command = is;
       plain = λ options p. ap (λ (x : Command). Ok x) (a.plain options p);
       plain_dump = λ p. ap (λ (x : Command). Ok x) (a.plain_dump p);
+      plain_snaps = λ p. ap (λ (x : Command). Ok x) (a.plain_snaps p);
+      plain_snap = λ epoch p. ap (λ (x : Command). Ok x) (a.plain_snap epoch p);
       plain_make = λ arguments p. ap (λ (x : Command). Ok x) (a.plain_make arguments p);
       ranges = λ options h. a.ranges options (cc);
       made_ranges = λ arguments h. a.made_ranges arguments (cc);
+      epoch_range = λ epoch h. a.epoch_range epoch (cc);
       refused = λ h. inl (kind, is_among, other);
       help = λ h. refl;
     }

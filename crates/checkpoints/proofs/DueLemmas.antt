@@ -19,7 +19,7 @@ use Rattle.recovery_core.specs.Recovered.{IsUp, HasSnapshots, SnapshotsStand, sa
 use Rattle.recovery_core.specs.SnapshotPages.{RootStandsUpTo}
 use Rattle.recovery_core.specs.declared.recovered.Recovered.{Recovered}
 use Rattle.checkpoints.specs.Due.{NoneCount, SomeCount, IsDue}
-use Rattle.checkpoints.proofs.Bounded.{stands_plain}
+use Rattle.checkpoints.specs.Bounded.{stands_plain}
 
 -- what holds of each that a list has holds of all
 all_of : {X : Type 0} (P : X → Type 0) (xs : List X) → ((x : X) → Contains xs x → P x) → AllByRecursion P xs
@@ -27,7 +27,7 @@ all_of P [] each = tt
 all_of P (x ∷ xs) each = (each x (in_head x xs), all_of P xs (λ y has. each y (in_tail y x xs has)))
 
 -- catalogues from a page on have a newest one
-newest_of : (pages : List (List ℕ)) (limit number : ℕ) (cs : List Contents) → 1 ≤ number
+pub newest_of : (pages : List (List ℕ)) (limit number : ℕ) (cs : List Contents) → 1 ≤ number
     → AreCatalogues pages limit None number cs
     → (c : Contents) × (rest : List Contents) × (cs ≡ c ∷ rest) × CatalogueAt pages number c
 newest_of pages limit number [] some chain = absurd (omega (arith, some, chain))

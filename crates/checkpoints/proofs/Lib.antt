@@ -1,10 +1,8 @@
-pub mod Bounded
-pub mod Overlays
-pub mod NextReading
 pub mod NextState
 pub mod OldOrNext
 pub mod DueLemmas
 pub mod NextSettled
 pub mod OneRun
+pub mod NewestSettled
 pub mod PlainSettled
 pub mod SnapshotsSettled

@@ -29,8 +29,8 @@ use Rattle.recovery_core.specs.SnapshotPages.{RootStandsUpTo}
 use Rattle.recovery_core.specs.StoredPages.{whole_size, has_pages}
 use Rattle.recovery_core.specs.declared.recovered.Recovered.{Recovered}
 use Rattle.checkpoints.specs.Due.{IsNextOf}
-use Rattle.checkpoints.proofs.NextReading.{roots_early, same_storages, chain-append, chain_below, newest_is}
-use Rattle.checkpoints.proofs.Overlays.{get-overlay, change_is, comes_from}
+use Rattle.checkpoints.specs.NextReading.{roots_early, same_storages, chain-append, chain_below, newest_is}
+use Rattle.checkpoints.specs.Overlays.{get-overlay, change_is, comes_from}
 
 -- what a savepoint says that names a new snapshot of this epoch, whose pages are these
 pub record NamesNext (epoch : ℕ) (all : List Page) (q : Savepoint) : Type 0 where

@@ -8,20 +8,23 @@ use Rattle.recovery_core.specs.declared.fault.SettleFault.TheVariants.{Limit}
 use Rattle.outside.specs.declared.vault.Vault.{Vault}
 use Rattle.serial_model.specs.declared.decl.Decl.{Decl}
 use Rattle.log_writer.specs.declared.saved.Saved.{Saved}
+use Rattle.serial_model.specs.Decls.{AreDecls}
+use Rattle.recovery_core.specs.Recovered.{IsUp}
 use Rattle.recovery_core.specs.Settled.{Fits, Settles, settled_saved}
 use Rattle.recovery_core.specs.declared.recovered.Recovered.{Recovered}
 use Rattle.recovery_core.specs.declared.settlement.Settled.{Settled}
 use Rattle.checkpoints.specs.Due.{NoneCount}
 use Rattle.checkpoints.specs.SettlesInto.{StaysAsRead, Follows, SettlesInto}
+use Rattle.checkpoints.proofs.NewestSettled.{plain_newest}
 
 stays : (r : Recovered) (s : Settled) (o : Option Saved) → StaysAsRead r s → Follows r s o
 stays r s None is = is
 stays r s (Some p) is = inl is
 
 pub plain_settles : {D : Type 0} {tells : D → Option (List ℕ)} {clock : D → ℕ} {image_at : D → ℕ → List ℕ → Type 0}
-    {given : List Decl} {old new : Vault D} (r : Recovered) (s : Settled) → NoneCount r
+    {given : List Decl} {old new : Vault D} (r : Recovered) (s : Settled) → IsUp r → AreDecls given → NoneCount r
     → Settles tells clock image_at r given old new s → SettlesInto tells clock image_at r given old new s
-plain_settles r s none is = record {
+plain_settles {given = given} r s up are none is = record {
   whole = is.whole;
   follows = stays r s r.saved (record { none = none; saved = is.saved; pages = is.pages; sequence = is.sequence });
   lengths = is.lengths;
@@ -34,6 +37,7 @@ plain_settles r s none is = record {
   count = is.count;
   holds = is.holds;
   durable = is.durable;
+  newest = plain_newest r s given up are is.saved is.pages is.count is.declared is.kept is.rising;
   state = is.state;
   declared = is.declared;
   kept = is.kept;

@@ -1,6 +1,6 @@
 -- What settling gives of a database: a savepoint that counts nothing of the log files, which are empty, over pages
 -- whose newest snapshot has the state that was recovered.
-use Rattle.std.specs.Prelude.{◌≡◌, ◌⊎◌, ℕ, ◌+◌, ◌<◌, ◌++◌, List, [], Option, Some, None, true}
+use Rattle.std.specs.Prelude.{◌≡◌, ◌⊎◌, ℕ, ◌+◌, ◌<◌, ◌≤◌, ◌++◌, List, [], Option, Some, None, true}
 use Rattle.std.specs.Prelude.{IfSome, IfNone, map, length, replicate}
 use Rattle.std.proofs.Common.{subst}
 use Rattle.std.specs.List.{Contains}
@@ -15,12 +15,12 @@ use Rattle.serial_model.specs.Keys.{id_of}
 use Rattle.serial_model.specs.State.{State}
 use Rattle.serial_model.specs.declared.decl.Decl.{Decl}
 use Rattle.wire_form.specs.Items.{Rises}
-use Rattle.wire_form.specs.Pages.{Contents}
+use Rattle.wire_form.specs.Pages.{Contents, decls_of}
 use Rattle.wire_form.specs.declared.bucket.Entry.{Entry}
 use Rattle.log_writer.specs.Points.{IsSaved, saved_of, sequence_of}
 use Rattle.log_writer.specs.Save.{IsStored}
 use Rattle.log_writer.specs.declared.saved.Saved.{Saved}
-use Rattle.snapshot_store.specs.Content.{words_of}
+use Rattle.snapshot_store.specs.Content.{SnapshotStands, words_of}
 use Rattle.snapshot_store.specs.Store.{bytes_of_pages, Holds}
 use Rattle.root_composer.specs.Composition.{IsComposed}
 use Rattle.recovery_core.specs.Cutting.{AreToldIn}
@@ -67,6 +67,13 @@ abbrev pub Follows : Recovered → Settled → Option Saved → Type 0
 Follows r s None = StaysAsRead r s
 Follows r s (Some p) = StaysAsRead r s ⊎ IsComposedInto r s p
 
+-- The last page that is handed on is the catalogue of a snapshot of the storages, which is no later than the saved
+-- epoch, and all that its roots lead to are pages of theirs.
+abbrev pub HasNewest : Settled → Type 0
+HasNewest s = (contents : Contents)
+    × SnapshotStands (words_of s.store.pages) (length s.store.pages) contents
+    × (s.decls ≡ decls_of contents) × (contents.epoch ≤ s.saved.epoch)
+
 -- What is handed on of a database that was recovered so, for these storages, and what its devices are then.
 pub record SettlesInto {D : Type 0} (tells : D → Option (List ℕ)) (clock : D → ℕ) (image_at : D → ℕ → List ℕ → Type 0)
     (r : Recovered) (given : List Decl) (old new : Vault D) (s : Settled) : Type 0 where
@@ -87,6 +94,7 @@ pub record SettlesInto {D : Type 0} (tells : D → Option (List ℕ)) (clock : D
   pub durable : IfTold (tells old.snaps) (λ _.
       AllBegin (image_at old.snaps (clock old.snaps)) (bytes_of_pages r.store.pages)
       → AllBegin (image_at new.snaps (clock new.snaps)) (bytes_of_pages s.store.pages))
+  pub newest : HasNewest s
   -- the state and the storages
   pub state : s.state ≡ r.state
   pub declared : IfNone r.saved (IsPermutation given s.decls)

@@ -24,7 +24,7 @@ returns-in-None-clause-settles g c = IfOk-weaker c.settle.result
     c.settle.new.vault s)
     (λ s. SettlesInto g.D.Disk.tells g.D.Disk.clock g.D.Disk.image_at c.args.recovered c.args.decls.now
     c.args.vault.now c.settle.new.vault s)
-    (λ s is. plain_settles c.args.recovered s c.in-None.ensures.none is) c.settle.ensures.settles
+    (λ s is. plain_settles c.args.recovered s c.requires.up c.requires.decls c.in-None.ensures.none is) c.settle.ensures.settles
 
 pub returns-in-None-clause-room : goal.returns-in-None-clause-room
 returns-in-None-clause-room g c some = plain_room c.args.recovered c.args.snap some c.settle.result
@@ -40,7 +40,7 @@ returns-in-None-clause-snapshots g c = IfOk-weaker c.settle.result
     (λ s. (found now : Images) (is : Recovers found c.args.recovered) (says : SaysSettled now s)
     → KeepsSnapshots is.reading says.reading c.args.recovered.epoch c.args.recovered.state)
     (λ s is. settled_snapshots c.args.recovered s c.requires.up
-    (plain_settles c.args.recovered s c.in-None.ensures.none is)) c.settle.ensures.settles
+    (plain_settles c.args.recovered s c.requires.up c.requires.decls c.in-None.ensures.none is)) c.settle.ensures.settles
 
 pub returns-in-Some-clause-snapshots : goal.returns-in-Some-clause-snapshots
 returns-in-Some-clause-snapshots g c = IfOk-weaker c.settle_entries.result

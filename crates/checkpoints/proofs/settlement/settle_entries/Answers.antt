@@ -26,6 +26,7 @@ use Rattle.recovery_core.specs.declared.recovered.Recovered.{Recovered}
 use Rattle.checkpoints.specs.Due.{IsNextOf, TheFault, IsDueRefusal}
 use Rattle.checkpoints.specs.SettlesInto.{Follows, composed_saved}
 use Rattle.checkpoints.specs.Written.{FitsDevice}
+use Rattle.checkpoints.proofs.NewestSettled.{composed_newest}
 use Rattle.checkpoints.proofs.DueLemmas.{ranges_of}
 use Rattle.checkpoints.proofs.NextState.{IsNext}
 use Rattle.checkpoints.proofs.NextSettled.{is_next, composed_ranges, next_leaves, next_goes_on, next_rests}
@@ -166,6 +167,7 @@ returns-clause-settles g c =
       count = sym counted ∙ ap (λ (x : Saved). x.count) (sym e.says.0);
       holds = e.holds;
       durable = λ bytes told was. e.durable bytes (ap tells room.same.snaps ∙ told);
+      newest = composed_newest r p (words_of slice) all _ _ next pages (ap (λ (x : Saved). x.epoch) e.says.0);
       state = refl;
       declared = subst (λ (o : Option Saved). IfNone o (IsPermutation c.args.decls.now r.decls)) (sym says) tt;
       kept = subst (λ (o : Option Saved). IfSome o (λ _. r.decls ≡ r.decls)) (sym says) refl;

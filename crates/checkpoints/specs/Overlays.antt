@@ -42,7 +42,7 @@ get-overlay s (e ∷ es) key =
 -- ---- the entry of a key
 
 -- an entry that is found is one of the run, and of the key
-change_some : (run : List Entry) (key : Key) (e : Entry) → change_for run key ≡ Some e
+pub change_some : (run : List Entry) (key : Key) (e : Entry) → change_for run key ≡ Some e
     → Contains run e × (e.key ≡ key)
 change_some [] key e is = absurd (cc is)
 change_some (x ∷ xs) key e is =
@@ -59,7 +59,7 @@ change_some (x ∷ xs) key e is =
     ] refl is
 
 -- an entry of the run is found at its key, or another one is
-change_none : (run : List Entry) (key : Key) (e : Entry) → change_for run key ≡ None → Contains run e
+pub change_none : (run : List Entry) (key : Key) (e : Entry) → change_for run key ≡ None → Contains run e
     → e.key ≡ key → ⊥
 change_none [] key e is has own = in_none e has
 change_none (x ∷ xs) key e is has own =

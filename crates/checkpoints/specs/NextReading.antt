@@ -23,7 +23,7 @@ use Rattle.root_composer.specs.Storages.{part_of, last_of, IsStorageComposed, Ar
 use Rattle.root_composer.specs.declared.last.Last.{Last}
 use Rattle.recovery_core.specs.Catalogues.{AreCatalogues, newest_epoch, newest_decls}
 use Rattle.recovery_core.specs.SnapshotPages.{epoch_in, IsPageUpTo, RootStandsUpTo}
-use Rattle.checkpoints.proofs.Bounded.{IsUpTo, found_up_to, stands_up_to}
+use Rattle.checkpoints.specs.Bounded.{IsUpTo, found_up_to, stands_up_to}
 
 -- ---- numbers of a run
 

@@ -2,6 +2,7 @@
 use Rattle.std.proofs.Common.{◌≡◌, ◌∙◌, ◌≤◌, ◌+◌, ◌++◌, sym, ap, subst, refl, ℕ, List, [], length, true, Option, None}
 use Rattle.std.proofs.Common.{arith}
 use Rattle.std.specs.Prelude.{is_some, option_to_list}
+use Rattle.std.specs.List.{Contains}
 use Rattle.lists.specs.Each.{all_weaker}
 use Rattle.outside.specs.Faults.{Rose}
 use Rattle.outside.specs.declared.vault.Vault.{Vault}
@@ -50,6 +51,8 @@ module _ {D : Type 0} {tells : D → Option (List ℕ)} {clock : D → ℕ} {ima
             (subst (λ d. SaveTold clock image_at story.point from.save low (sequence_of a.newest) d before.ties.items) (sym same.save) save_told))
             (subst (λ t. SnapsTold clock image_at story.pages from.snaps low (sequence_of a.newest) between.snaps t) (sym same.ties)
             (subst (λ d. SnapsTold clock image_at story.pages from.snaps low (sequence_of a.newest) d before.ties.items) (sym same.snaps) snaps_told)))));
+        ended = k.ended;
+        ties_stay = λ tie has. k.ties_stay tie (subst (λ l. Contains l tie) (sym same.ties) has);
       }
 
   -- marks like these are marks like those
@@ -73,6 +76,8 @@ module _ {D : Type 0} {tells : D → Option (List ℕ)} {clock : D → ℕ} {ima
     by_marks = all_weaker (IsSavedBySeen Seen a.newest) (IsSavedBySeen More a.newest)
         (λ saved is. (is.0, is.1, weaker is.0 is.1 is.2, is.3)) (stored ++ option_to_list failed) k.by_marks;
     keeper = k.keeper;
+    ended = k.ended;
+    ties_stay = k.ties_stay;
   }
 
   -- nothing was stored
@@ -96,6 +101,8 @@ module _ {D : Type 0} {tells : D → Option (List ℕ)} {clock : D → ℕ} {ima
     keeper = λ story from low tell goes point save_told snaps_told.
         subst (λ n. KeeperRan clock image_at story from low (sequence_of a.newest) n vault.save vault.save vault.snaps
         vault.snaps vault.ties.items vault.ties.items) (no_more (sequence_of a.newest)) (keeper_none save_told snaps_told);
+    ended = λ k s at. absurd cc;
+    ties_stay = λ tie has. has;
   }
     where
       no_more : (n : ℕ) → n ≡ n + 0

@@ -25,9 +25,11 @@ use Rattle.tx_script.specs.Run.{Ran}
 use Rattle.worker_logs.specs.Logs.{IsJoined, IsLog, LogGoesOn, LogRan, LogState, log_limit}
 use Rattle.worker_logs.specs.LogLaws.{log_begins}
 use Rattle.worker_logs.specs.Saves.{logs_marks}
+use Rattle.round_engine.specs.Crashes.{CarriesCrashes}
 use Rattle.round_engine.specs.Ends.{comes_to_save, durable_of, end_of, epoch_after, epoch_joined, first_device}
 use Rattle.round_engine.specs.Joins.{Joins, without_lines}
 use Rattle.round_engine.specs.Keeping.{JoinAnswers, Keeps, RunsJoin, device_told}
+use Rattle.round_engine.specs.RanRound.{LeavesVault}
 use Rattle.round_engine.specs.Phases.{ended_as, fails_device, made, refused_by}
 use Rattle.round_engine.specs.Refusals.{end_told}
 use Rattle.round_engine.specs.Saves.{NeverFall}
@@ -46,6 +48,7 @@ use Rattle.round_engine.proofs.Places.{all_from, not_save, nothing_there}
 use Rattle.round_engine.proofs.RoundCases.{before_later, below_test, mark_joined, no_device_told}
 use Rattle.round_engine.proofs.Places.{other_bank}
 use Rattle.round_engine.proofs.RoundCases.{rise_on}
+use Rattle.round_engine.proofs.CrashesLeft.{with_crashes}
 use Rattle.round_engine.proofs.Whole.{LogsTotal, SeenIn, below_8, leaves_vault}
 use Rattle.round_engine.proofs.WorkersRun.{item_at, map_at}
 
@@ -396,6 +399,19 @@ module _ {D : Type 0} {tells : D → Option (List ℕ)} {clock : D → ℕ} {ima
         (subst (λ n. result ≡ Err (ends.Device (devices.Bank (2 * n)))) here (told_down at.0 log.0 log.1 log.2))
   ]
 
+  -- what it leaves of the vault, and of the crashes
+  left : (v : LeavesVault tells clock image_at faults ran (λ w. []) old new before now)
+      × CarriesCrashes tells clock image_at (λ w. []) (v.stored ++ option_to_list v.failed) durable old new before now
+  left = with_crashes stands.whole stands.workers refl
+      (leaves_vault ran (λ w. []) old.logs old.logs old new before now runs.stored runs.failed total keeps
+      (λ w begins epochs at are told front. subst (λ es. IsFront es told) (sym (empty_at 8 w epochs are)) (front_none told))
+      (λ w below. tt) stands_new refl (told_by result runs.answer ∙ ap option_to_list (sym durable_is))
+      (λ w log refusal at has. absurd (let no = has in cc))
+      (λ w below has. inr refl)
+      (rise_on (epoch_of old.save.newest) old.stands.clock.epoch [] (runs.stored ++ option_to_list runs.failed) tt
+      (omega (arith, stands.above)) runs.at_clock)
+      (λ is. inr (asked_by result runs.answer is)))
+
   -- What the join comes to.
   pub join_alone : Joins tells clock image_at faults old new before now durable end
   join_alone = record {
@@ -405,14 +421,8 @@ module _ {D : Type 0} {tells : D → Option (List ℕ)} {clock : D → ℕ} {ima
     stands = ap (λ (r : RuntimeState). r.stands) new_is
         ∙ ap (λ (s : Standing). record s { ended = old.stands.ended || is_some end }) runs.stands;
     down = λ none. ap (λ (r : RuntimeState). r.down) new_is ∙ device_failed none;
-    leaves = leaves_vault ran (λ w. []) old.logs old.logs old new before now runs.stored runs.failed total keeps
-        (λ w begins epochs at are told front. subst (λ es. IsFront es told) (sym (empty_at 8 w epochs are)) (front_none told))
-        (λ w below. tt) stands_new refl (told_by result runs.answer ∙ ap option_to_list (sym durable_is))
-        (λ w log refusal at has. absurd (let no = has in cc))
-        (λ w below has. inr refl)
-        (rise_on (epoch_of old.save.newest) old.stands.clock.epoch [] (runs.stored ++ option_to_list runs.failed) tt
-        (omega (arith, stands.above)) runs.at_clock)
-        (λ is. inr (asked_by result runs.answer is));
+    leaves = left.0;
+    crashes = left.1;
     not_advanced = λ last.
         let same = runs.not_advanced last in (
           same.0,

@@ -18,7 +18,7 @@ use Rattle.recovery_core.specs.Story.{SaveTold, SnapsTold, Story}
 use Rattle.recovery_core.specs.Crashes.Instants.{lasts_then}
 use Rattle.round_engine.specs.Keeping.{IsSavedBySeen, Keeps}
 use Rattle.round_engine.specs.RanRound.{KeeperStored}
-use Rattle.round_engine.specs.Saves.{GoesOnWith, newest_after}
+use Rattle.round_engine.specs.Saves.{GoesOnWith, HaveEnded, newest_after}
 use Rattle.round_engine.proofs.Saved.{all_front}
 
 -- ---- stories
@@ -91,6 +91,33 @@ pub newest_then : (newest : Option Savepoint) (stored more : List Saved)
     → newest_after newest (stored ++ more) ≡ newest_after (newest_after newest stored) more
 newest_then newest [] more = refl
 newest_then newest (saved ∷ stored) more = newest_then (Some (next_of newest saved)) stored more
+
+-- the first has a tie that ended, and then each of the others
+ended_next : (newest : Option Savepoint) (saved : Saved) (stored more : List Saved) (ties : List Tie)
+    → HaveEnded newest (saved ∷ stored) ties → HaveEnded (Some (next_of newest saved)) more ties
+    → HaveEnded newest (saved ∷ more) ties
+ended_next newest saved stored more ties first then zero s at = first zero s at
+ended_next newest saved stored more ties first then (suc k) s at =
+    let is = then k s at in (is.0, is.1, is.2, is.3 ∙ sym (place_later (sequence_of newest) k), is.4)
+  where
+    place_later : (n k : ℕ) → n + 1 + suc k ≡ n + 1 + 1 + k
+    place_later n k = omega arith
+
+ended_behind : (newest : Option Savepoint) (saved : Saved) (stored : List Saved) (ties : List Tie)
+    → HaveEnded newest (saved ∷ stored) ties → HaveEnded (Some (next_of newest saved)) stored ties
+ended_behind newest saved stored ties first k s at =
+    let is = first (suc k) s at in (is.0, is.1, is.2, is.3 ∙ place_later (sequence_of newest) k, is.4)
+  where
+    place_later : (n k : ℕ) → n + 1 + suc k ≡ n + 1 + 1 + k
+    place_later n k = omega arith
+
+-- each of some has a tie that ended, and then each of more
+pub ended_then : (newest : Option Savepoint) (stored more : List Saved) (ties : List Tie) → HaveEnded newest stored ties
+    → HaveEnded (newest_after newest stored) more ties → HaveEnded newest (stored ++ more) ties
+ended_then newest [] more ties first then = then
+ended_then newest (saved ∷ stored) more ties first then =
+    ended_next newest saved stored (stored ++ more) ties first
+    (ended_then (Some (next_of newest saved)) stored more ties (ended_behind newest saved stored ties first) then)
 
 -- ---- two parts in a row
 
@@ -194,4 +221,8 @@ module _ {D : Type 0} {tells : D → Option (List ℕ)} {clock : D → ℕ} {ima
             (stored_then tells stored (more ++ option_to_list failed) a.newest b.newest before between now first.newest first.told
             (subst (λ l. KeeperStored tells clock image_at l a.newest before between) (append-nil stored) first.keeper)
             then.keeper);
+        ended = ended_then a.newest stored more now.ties.items (λ k s at.
+            let is = first.ended k s at in (is.0, is.1, then.ties_stay is.0 is.2, is.3, is.4))
+            (subst (λ n. HaveEnded n more now.ties.items) first.newest then.ended);
+        ties_stay = λ tie has. then.ties_stay tie (first.ties_stay tie has);
       }

@@ -1,7 +1,11 @@
 -- A save by marks, as one call of those that keep what was stored.
-use Rattle.std.proofs.Common.{◌≡◌, ◌∙◌, ◌+◌, ◌∷◌, sym, ap, subst, refl, ℕ, List, [], true, Option, Some, None, arith}
+use Rattle.std.proofs.Common.{◌≡◌, ◌∙◌, ◌+◌, ◌++◌, ◌∷◌, sym, ap, subst, refl, ℕ, zero, suc, List, [], true, Option, Some}
+use Rattle.std.proofs.Common.{None, arith}
 use Rattle.std.specs.Prelude.{is_some, Result, Ok, Err}
+use Rattle.std.specs.List.{Contains}
 use Rattle.std.specs.Option.{option_map}
+use Rattle.std.proofs.lemmas.List.Elements.{Contains-append_left, Contains-push}
+use Rattle.outside.specs.declared.vault.Tie.{Tie}
 use Rattle.outside.specs.declared.vault.Vault.{Vault}
 use Rattle.wire_form.specs.declared.clock.Mark.{Mark}
 use Rattle.wire_form.specs.declared.savepoint.Savepoint.{Savepoint}
@@ -12,10 +16,11 @@ use Rattle.log_writer.specs.declared.save.SaveFault.TheVariants.{Device, Down, L
 use Rattle.log_writer.specs.declared.saved.Saved.{Saved}
 use Rattle.recovery_core.specs.Rounds.{KeeperRan}
 use Rattle.recovery_core.specs.Crashes.Rounded.{keeper_none}
-use Rattle.worker_logs.specs.Saves.{SavesMarks, sequence_begun}
+use Rattle.worker_logs.specs.Saves.{SavesMarks, sequence_begun, tie_after}
 use Rattle.worker_logs.specs.SavesLaws.{keeper_saved}
 use Rattle.round_engine.specs.Keeping.{Keeps}
 use Rattle.round_engine.specs.RanRound.{KeeperStored}
+use Rattle.round_engine.specs.Saves.{HaveEnded}
 use Rattle.round_engine.proofs.Beside.{keeps_none}
 
 -- what a save stored, and what failed to be
@@ -38,6 +43,25 @@ SeenAt epoch seen at marks = (at ≡ epoch) × (marks ≡ seen)
 pub some_there : {X : Type 0} (x : Option X) → is_some x ≡ true → (y : X) × (x ≡ Some y)
 some_there None is = absurd cc
 some_there (Some y) is = (y, refl)
+
+-- the tie of a store that was done stands last
+last_ended : (newest : Option Savepoint) (saved : Saved) (snaps end : ℕ) (was ties : List Tie)
+    → ties ≡ was ++ tie_after newest snaps (Some end) ∷ [] → HaveEnded newest (saved ∷ []) ties
+last_ended newest saved snaps end was ties is zero s at = (
+  tie_after newest snaps (Some end),
+  end,
+  subst (λ l. Contains l (tie_after newest snaps (Some end))) (sym is)
+      (Contains-push was (tie_after newest snaps (Some end))),
+  sym (first (sequence_of newest)),
+  refl,
+)
+last_ended newest saved snaps end was ties is (suc k) s at = absurd cc
+
+-- the ties before it stay
+stay_before : (was ties : List Tie) (last : Tie) → ties ≡ was ++ last ∷ [] → (tie : Tie) → Contains was tie
+    → Contains ties tie
+stay_before was ties last is tie has =
+    subst (λ l. Contains l tie) (sym is) (Contains-append_left was (last ∷ []) tie has)
 
 module _ {D : Type 0} {tells : D → Option (List ℕ)} {clock : D → ℕ} {image_at : D → ℕ → List ℕ → Type 0}
     {faults : D → ℕ} {epoch : ℕ} {seen : List Mark} {old new : SaveState} {before now : Vault D} where
@@ -76,6 +100,10 @@ module _ {D : Type 0} {tells : D → Option (List ℕ)} {clock : D → ℕ} {ima
     rose = λ is. absurd (let no = is in cc);
     by_marks = ((epoch, seen, (refl, refl), saves.by_marks), tt);
     keeper = begun_stored (Ok answer) saves refl;
+    ended = last_ended old.newest saves.saved (clock before.snaps) (clock now.save) before.ties.items now.ties.items
+        saves.tied;
+    ties_stay = stay_before before.ties.items now.ties.items
+        (tie_after old.newest (clock before.snaps) (Some (clock now.save))) saves.tied;
   }
   keeps_saves (Err Device) saves up stored = record {
     newest = saves.stores.kept;
@@ -92,6 +120,9 @@ module _ {D : Type 0} {tells : D → Option (List ℕ)} {clock : D → ℕ} {ima
     rose = λ is. saves.stores.device refl;
     by_marks = ((epoch, seen, (refl, refl), saves.by_marks), tt);
     keeper = begun_stored (Err Device) saves refl;
+    ended = λ k s at. absurd cc;
+    ties_stay = stay_before before.ties.items now.ties.items (tie_after old.newest (clock before.snaps) None)
+        (saves.begun refl);
   }
   keeps_saves (Err (Down count)) saves up stored = absurd (let no = sym up ∙ (saves.stores.down count).0 refl in cc)
   keeps_saves (Err (Limit sequence)) saves up stored =

@@ -31,3 +31,5 @@ pub mod RoundWhole
 pub mod RunRound
 pub mod KeeperSteps
 pub mod JoinSteps
+pub mod Stories
+pub mod CrashesLeft

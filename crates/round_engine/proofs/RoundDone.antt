@@ -40,6 +40,7 @@ use Rattle.round_engine.proofs.LinesLeft.{LastStep, append_nothing, lines_at, lo
 use Rattle.round_engine.proofs.LinesLeft.{logs_total, logs_up}
 use Rattle.round_engine.proofs.Logged.{parts_lines, parts_logged}
 use Rattle.round_engine.proofs.PlainRun.{IsRanOf, plain_caused, plain_kept, plain_run}
+use Rattle.round_engine.proofs.CrashesLeft.{with_crashes}
 use Rattle.round_engine.proofs.Whole.{LogsTotal, SeenIn, below_8, epochs_at, first_epochs, leaves_vault, round_front}
 use Rattle.round_engine.proofs.WorkersRun.{item_at, map_at, within_of}
 
@@ -319,7 +320,13 @@ module _ {D : Type 0} {tells : D → Option (List ℕ)} {clock : D → ℕ} {ima
         → Rounds tells clock image_at faults round old new before now (Ok report)
     done fails stays decls state durable lasts end_is clock_is ended down stands_new told refused log_failed rise asked =
         let run = λ (index : ℕ). plain_run index round old.stands parts ran new.stands.state of
-        (state ∙ ap (λ (x : Standing). x.state) all.keeper.stands ∙ ap (λ (x : Standing). x.state) all.lines.first.standing) in (
+        (state ∙ ap (λ (x : Standing). x.state) all.keeper.stands ∙ ap (λ (x : Standing). x.state) all.lines.first.standing) in
+        let left = with_crashes stands.whole stands.workers
+        (length-map start (λ (log : LogState). log.mark.epoch ∷ []) ∙ start_many)
+        (leaves_vault ran (logged_at parts) start all.mid.logs old new before now stored failed total keeps
+        (round_front start)
+        (λ w below. logged_above parts old.stands w (epoch_of old.save.newest) all.lines.first.are stands.above)
+        stands_new refl told refused log_failed rise asked) in (
           record {
             ran = ran;
             logged = logged_at parts;
@@ -346,7 +353,6 @@ module _ {D : Type 0} {tells : D → Option (List ℕ)} {clock : D → ℕ} {ima
             ended = ended;
             down = down;
           },
-          leaves_vault ran (logged_at parts) start all.mid.logs old new before now stored failed total keeps (round_front start)
-              (λ w below. logged_above parts old.stands w (epoch_of old.save.newest) all.lines.first.are stands.above)
-              stands_new refl told refused log_failed rise asked,
+          left.0,
+          left.1,
         )

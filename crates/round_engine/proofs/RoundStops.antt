@@ -44,6 +44,7 @@ use Rattle.round_engine.proofs.PlainRun.{IsRanOf, plain_caused, plain_kept, plai
 use Rattle.round_engine.proofs.Places.{all_from, map_there}
 use Rattle.round_engine.proofs.RoundCases.{before_later}
 use Rattle.round_engine.proofs.RoundDone.{idled_up, logs_caused, round_marks}
+use Rattle.round_engine.proofs.CrashesLeft.{with_crashes}
 use Rattle.round_engine.proofs.Whole.{LogsTotal, SeenIn, below_8, epochs_at, first_epochs, leaves_vault, round_front}
 use Rattle.round_engine.proofs.WorkersRun.{item_at, map_at, within_of}
 
@@ -357,7 +358,19 @@ module _ {D : Type 0} {tells : D → Option (List ℕ)} {clock : D → ℕ} {ima
   pub stopped : (memory : Memory) → Rounds tells clock image_at faults round old new before now (Err memory)
   stopped memory =
       let run = λ (index : ℕ). plain_run index front old.stands eight ran mid.stands.state of
-      (ap (λ (x : Standing). x.state) standing) in (
+      (ap (λ (x : Standing). x.state) standing) in
+      let left = with_crashes stands.whole stands.workers
+      (length-map start (λ (log : LogState). log.mark.epoch ∷ []) ∙ start_many)
+      (leaves_vault ran (logged_at parts) start mid.logs old new before now [] None total keeps (round_front start)
+      (λ w below. logged_above parts old.stands w (epoch_of old.save.newest) part.first.are stands.above)
+      stands_new refl refl
+      (λ w log refusal at has.
+      let p = map_at (λ (p : Part). p.refusal) eight w refusal has in
+      elim (pad_at 8 parts w p.0 p.1) [
+        | inr none ↦ subst (λ r. IsRefusedBy r log.journal) (sym none.0 ∙ p.2) (untouched w log none.1 at)
+        | inl there ↦ subst (λ r. IsRefusedBy r log.journal) p.2 (refused_at w p.0 log there at).0
+      ])
+      (λ w below has. inl (failed_at w below has)) tt (λ is. absurd (let no = is in cc))) in (
         record {
           front = front;
           first = record {
@@ -395,14 +408,6 @@ module _ {D : Type 0} {tells : D → Option (List ℕ)} {clock : D → ℕ} {ima
           clock = refl;
           ended = refl;
         },
-        leaves_vault ran (logged_at parts) start mid.logs old new before now [] None total keeps (round_front start)
-            (λ w below. logged_above parts old.stands w (epoch_of old.save.newest) part.first.are stands.above)
-            stands_new refl refl
-            (λ w log refusal at has.
-            let p = map_at (λ (p : Part). p.refusal) eight w refusal has in
-            elim (pad_at 8 parts w p.0 p.1) [
-              | inr none ↦ subst (λ r. IsRefusedBy r log.journal) (sym none.0 ∙ p.2) (untouched w log none.1 at)
-              | inl there ↦ subst (λ r. IsRefusedBy r log.journal) p.2 (refused_at w p.0 log there at).0
-            ])
-            (λ w below has. inl (failed_at w below has)) tt (λ is. absurd (let no = is in cc)),
+        left.0,
+        left.1,
       )

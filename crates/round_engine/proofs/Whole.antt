@@ -242,4 +242,8 @@ module _ {D : Type 0} {tells : D → Option (List ℕ)} {clock : D → ℕ} {ima
     };
     logs = logs_ran;
     keeper = keeps.keeper;
+    above = above;
+    ended = keeps.ended;
+    save_told = keeps.told;
+    ties_stay = keeps.ties_stay;
   }

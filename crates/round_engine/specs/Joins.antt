@@ -1,6 +1,6 @@
 -- What a join comes to: advance of the epoch, flush and mark of every worker's log, save; the first of these that is
 -- refused ends it, and the run.
-use Rattle.std.specs.Prelude.{◌≡◌, ◌≤◌, ◌||◌, ℕ, false, List, [], Option, is_some, replicate}
+use Rattle.std.specs.Prelude.{◌≡◌, ◌≤◌, ◌||◌, ◌++◌, ℕ, false, List, [], Option, is_some, option_to_list, replicate}
 use Rattle.std.specs.List.{Contains}
 use Rattle.serial_model.specs.Numbers.{last_epoch}
 use Rattle.outside.specs.declared.vault.Device.{Device}
@@ -8,6 +8,7 @@ use Rattle.outside.specs.declared.vault.Device.TheVariants.{Bank}
 use Rattle.outside.specs.declared.vault.Vault.{Vault}
 use Rattle.log_writer.specs.Points.{sequence_of}
 use Rattle.tx_script.specs.Run.{Ran}
+use Rattle.round_engine.specs.Crashes.{CarriesCrashes}
 use Rattle.round_engine.specs.Ends.{durable_of, end_of, epoch_joined}
 use Rattle.round_engine.specs.RanRound.{LeavesVault}
 use Rattle.round_engine.specs.Standing.{RuntimeState, Standing}
@@ -47,6 +48,8 @@ pub record Joins {D : Type 0} (tells : D → Option (List ℕ)) (clock : D → �
   pub down : failed ≡ [] → new.down ≡ false
   pub leaves : LeavesVault tells clock image_at faults (without_lines old failed durable) (λ worker. []) old new
       before now
+  pub crashes : CarriesCrashes tells clock image_at (λ worker. []) (leaves.stored ++ option_to_list leaves.failed)
+      durable old new before now
   -- What lies behind a step that was refused is left out: without an advance no device is called, and without each log
   -- flushed nothing is stored.
   pub not_advanced : last_epoch ≤ old.stands.clock.epoch

@@ -7,6 +7,7 @@ use Rattle.std.specs.Option.{option_map}
 use Rattle.outside.specs.Faults.{Rose}
 use Rattle.outside.specs.declared.vault.Device.{Device as TheDevice}
 use Rattle.outside.specs.declared.vault.Device.TheVariants as devices
+use Rattle.outside.specs.declared.vault.Tie.{Tie}
 use Rattle.outside.specs.declared.vault.Vault.{Vault}
 use Rattle.serial_model.specs.Numbers.{last_epoch}
 use Rattle.script_grammar.specs.declared.lines.KeeperLine.{KeeperLine}
@@ -28,7 +29,7 @@ use Rattle.worker_logs.specs.Logs.{IsJoined, LogGoesOn, LogState}
 use Rattle.worker_logs.specs.Saves.{SavesBy, SavesMarks, logs_marks, saved_epoch}
 use Rattle.round_engine.specs.Ends.{epoch_after}
 use Rattle.round_engine.specs.RanRound.{KeeperStored}
-use Rattle.round_engine.specs.Saves.{NeverFall, newest_after, saves_told}
+use Rattle.round_engine.specs.Saves.{HaveEnded, NeverFall, newest_after, saves_told}
 use Rattle.round_engine.specs.Standing.{RuntimeState}
 use Rattle.round_engine.specs.Steps.{Blames, KeepsMark}
 use Rattle.round_engine.specs.declared.report.End.{End}
@@ -59,6 +60,8 @@ pub record Keeps {D : Type 0} (tells : D → Option (List ℕ)) (clock : D → �
   pub rose : is_some failed ≡ true → Rose (faults before.save) (faults now.save)
   pub by_marks : AllByRecursion (IsSavedBySeen Seen old.newest) (stored ++ option_to_list failed)
   pub keeper : KeeperStored tells clock image_at (stored ++ option_to_list failed) old.newest before now
+  pub ended : HaveEnded old.newest stored now.ties.items
+  pub ties_stay : (tie : Tie) → Contains before.ties.items tie → Contains now.ties.items tie
 
 -- where the maintenance thread stands on a runtime between two of its lines
 abbrev pub keeper_on : RuntimeState → Bool → KeeperAt

@@ -3,6 +3,7 @@ pub mod Begun
 pub mod Changes
 pub mod Logs
 pub mod Saves
+pub mod Crashes
 pub mod Ends
 pub mod RanRound
 pub mod Joins

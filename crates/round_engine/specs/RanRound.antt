@@ -8,6 +8,7 @@ use Rattle.lists.specs.declared.memory.Memory.{Memory}
 use Rattle.outside.specs.Vault.{disk_in}
 use Rattle.outside.specs.declared.vault.Device.{Device}
 use Rattle.outside.specs.declared.vault.Device.TheVariants.{Bank, Save}
+use Rattle.outside.specs.declared.vault.Tie.{Tie}
 use Rattle.outside.specs.declared.vault.Vault.{Vault}
 use Rattle.serial_model.specs.declared.number.Commit.{Commit}
 use Rattle.serial_model.specs.declared.op.Op.{Op}
@@ -20,6 +21,7 @@ use Rattle.log_writer.specs.declared.saved.Saved.{Saved}
 use Rattle.worker_logs.specs.Logs.{LogState}
 use Rattle.worker_logs.specs.Saves.{CountsOf}
 use Rattle.recovery_core.specs.JointCrash.{Moments}
+use Rattle.recovery_core.specs.Marks.{IsAbove}
 use Rattle.recovery_core.specs.Rounds.{KeeperRan}
 use Rattle.recovery_core.specs.Story.{Story, SaveTold, SnapsTold}
 use Rattle.recovery_core.specs.VaultReads.{RoseIn}
@@ -27,9 +29,10 @@ use Rattle.recovery_core.specs.Images.{epoch_of}
 use Rattle.tx_script.specs.Run.{LogFailed, LogRefusal, Ran, IsRun}
 use Rattle.tx_script.specs.Causes.{AllCaused, keeper_at_end, last_sequence, log_of}
 use Rattle.round_engine.specs.Changes.{AreLogged}
+use Rattle.round_engine.specs.Crashes.{CarriesCrashes}
 use Rattle.round_engine.specs.Ends.{comes_to_advance, comes_to_save, durable_of, end_of, epoch_joined}
 use Rattle.round_engine.specs.Logs.{AreLogs, IsRefusedBy, LeavesLog}
-use Rattle.round_engine.specs.Saves.{GoesOnWith, IsSavedBy, NeverFall, newest_after, saves_told}
+use Rattle.round_engine.specs.Saves.{GoesOnWith, HaveEnded, IsSavedBy, NeverFall, newest_after, saves_told}
 use Rattle.round_engine.specs.Standing.{RuntimeState, StandsOn}
 use Rattle.round_engine.specs.declared.report.Report.{Report}
 
@@ -140,6 +143,11 @@ module _ {D : Type 0} (tells : D → Option (List ℕ)) (clock : D → ℕ) (ima
     pub logs : (commits : ℕ → List Commit) (was : ℕ → List ℕ) → AreLogs tells clock image_at commits was old before
         → LogsRan ran commits logged was stored failed old new before now
     pub keeper : KeeperStored (stored ++ option_to_list failed) old.save.newest before now
+    -- What was logged is of later epochs than the savepoint before the round; each store that was done has its tie.
+    pub above : (worker : ℕ) → worker < 8 → AllByRecursion (IsAbove (epoch_of old.save.newest)) (logged worker)
+    pub ended : HaveEnded old.save.newest stored now.ties.items
+    pub save_told : is_some (tells now.save) ≡ is_some (tells before.save)
+    pub ties_stay : (tie : Tie) → Contains before.ties.items tie → Contains now.ties.items tie
 
 -- ---- a round
 
@@ -181,9 +189,13 @@ pub record StopsIn (round : Round) (old new : RuntimeState) : Type 0 where
 
 module _ {D : Type 0} (tells : D → Option (List ℕ)) (clock : D → ℕ) (image_at : D → ℕ → List ℕ → Type 0)
     (faults : D → ℕ) where
-  -- A round was run, or stopped for want of memory, over the vault.
+  -- A round was run, or stopped for want of memory, over the vault; and what was known of crashes is known still.
   abbrev pub Rounds : Round → RuntimeState → RuntimeState → Vault D → Vault D → Result Report Memory → Type 0
   Rounds round old new before now (Ok report) = (r : RanRound round old new report)
-      × LeavesVault tells clock image_at faults r.ran r.logged old new before now
+      × (v : LeavesVault tells clock image_at faults r.ran r.logged old new before now)
+      × CarriesCrashes tells clock image_at r.logged (v.stored ++ option_to_list v.failed) r.ran.durable old new before
+      now
   Rounds round old new before now (Err memory) = (r : StopsIn round old new)
-      × LeavesVault tells clock image_at faults r.ran r.logged old new before now
+      × (v : LeavesVault tells clock image_at faults r.ran r.logged old new before now)
+      × CarriesCrashes tells clock image_at r.logged (v.stored ++ option_to_list v.failed) r.ran.durable old new before
+      now

@@ -1,6 +1,7 @@
 -- What the saves of a round store.
 use Rattle.std.specs.Prelude.{◌≡◌, ◌≤◌, ◌+◌, ℕ, List, [], ◌∷◌, length, Option, Some, slice_get, ⊤}
 use Rattle.std.specs.List.{Contains}
+use Rattle.outside.specs.declared.vault.Tie.{Tie}
 use Rattle.wire_form.specs.declared.clock.Mark.{Mark}
 use Rattle.wire_form.specs.declared.savepoint.Savepoint.{Savepoint}
 use Rattle.worker_logs.specs.Saves.{SavesBy}
@@ -35,6 +36,11 @@ abbrev pub saves_told : List Answer → List ℕ
 saves_told [] = []
 saves_told (answers.Save epoch ∷ more) = epoch ∷ saves_told more
 saves_told (_ ∷ more) = saves_told more
+
+-- each of these savepoints, stored behind this one, has a tie that says when its store had ended
+abbrev pub HaveEnded : Option Savepoint → List Saved → List Tie → Type 0
+HaveEnded newest stored ties = (k : ℕ) (saved : Saved) → slice_get stored k ≡ Some saved → (tie : Tie) × (end : ℕ)
+    × Contains ties tie × (tie.sequence ≡ sequence_of newest + 1 + k) × (tie.ended ≡ Some end)
 
 -- A story goes on with what was stored after this savepoint, over the same pages.
 pub record GoesOnWith (story : Story) (newest : Option Savepoint) (stored : List Saved) : Type 0 where

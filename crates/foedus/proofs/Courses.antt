@@ -15,17 +15,21 @@ use Rattle.text_output.specs.Output.{Output}
 use Rattle.text_output.specs.Printed.{adds_as, adds_nothing}
 use Rattle.tx_script.specs.Run.{Ran}
 use Rattle.command_line.specs.declared.command.Command.{Command}
-use Rattle.command_line.specs.declared.command.Command.TheVariants.{Run, Dump, Make, Refused}
+use Rattle.command_line.specs.declared.command.Command.TheVariants.{Run, Dump, Snaps, Snap, Make, Refused}
 use Rattle.command_line.specs.declared.command.MakeArguments.{MakeArguments}
 use Rattle.command_line.specs.declared.command.RunOptions.{RunOptions}
+use Rattle.recovery_core.specs.VaultReads.{vault_reads_none}
 use Rattle.foedus.specs.Beginning.{Opening}
+use Rattle.foedus.specs.Causes.{IsInFull}
+use Rattle.foedus.specs.InBrief.{CameInBrief, up_to}
 use Rattle.foedus.specs.declared.ending.Ending.{Ending}
-use Rattle.foedus.specs.declared.ending.Ending.TheVariants.{Finished, NoScript, Shape, Usage, ReadFault, NoDevice, Damaged, AtLimit, NoMemory}
+use Rattle.foedus.specs.declared.ending.Ending.TheVariants.{Finished, NoScript, Shape, Usage, ReadFault, NoDevice, Damaged, AtLimit, NoMemory, NoSnapshot}
 use Rattle.foedus.specs.Ending.{Comes, IsNoText, IsReadOut, ReadsFirst, body_text, most_read}
 use Rattle.foedus.specs.Main.{Came}
-use Rattle.foedus.specs.OnTheWay.{AddsRun, IsUnreadOf, RunsScript}
+use Rattle.foedus.specs.OnTheWay.{AddsRun, IsUnreadOf, RunsInBrief, RunsScript}
 use Rattle.foedus.specs.Vaults.{IsUntouched, Vaults}
-use Rattle.foedus.proofs.StandsStill.{untouched_stands}
+use Rattle.foedus.proofs.StandsStill.{untouched_snapshots, untouched_stands}
+use Rattle.foedus.proofs.CrashesBegun.{stops_untouched}
 
 -- where a run would begin that never does
 abbrev pub nowhere : Opening
@@ -69,16 +73,61 @@ module _ {D : Type 0} (v : Vaults D) where
     shown = runs.shown;
   }
 
+  -- the same of a run in brief
+  pub script_in_brief : {Shows : Bytes → Ending → Type 0} (options : RunOptions) (bytes : Bytes) (left : Option Bytes) (script : Script)
+      → IsTextOf bytes script × IsAtEnd left → RunsInBrief v options.snap script Shows → CameInBrief v options bytes left Shows
+  script_in_brief options bytes left script read brief = record {
+    mid = brief.mid;
+    total = brief.total;
+    ending = brief.ending;
+    came = record {
+      rans = brief.runs.rans;
+      ending = brief.runs.ending;
+      course = record {
+        script = Some script;
+        opening = brief.runs.opening;
+        state = brief.runs.state;
+        run = (read.0, brief.runs.run);
+        comes = brief.runs.comes;
+        reads = read.1;
+      };
+      caused = brief.runs.caused;
+      full = brief.runs.full;
+      kept = brief.runs.kept;
+      shown = brief.runs.shown;
+    };
+    reads = brief.reads;
+    shown = brief.shown;
+  }
+
+  -- the same of the options that were asked for
+  pub brief_of : {Shows : Bytes → Ending → Type 0} (options asked : RunOptions) (bytes : Bytes) (left : Option Bytes) → options ≡ asked
+      → CameInBrief v options bytes left Shows → CameInBrief v asked bytes left Shows
+  brief_of {Shows = Shows} options asked bytes left same = subst (λ (o : RunOptions). CameInBrief v o bytes left Shows) same
+
+  -- what is shown of a run in brief, shown otherwise
+  pub brief_as : {options : RunOptions} {bytes : Bytes} {left : Option Bytes} {P Q : Bytes → Ending → Type 0}
+      → ((text : Bytes) (ending : Ending) → P text ending → Q text ending) → CameInBrief v options bytes left P → CameInBrief v options bytes left Q
+  brief_as has brief = record {
+    mid = brief.mid;
+    total = brief.total;
+    ending = brief.ending;
+    came = brief.came;
+    reads = brief.reads;
+    shown = has _ brief.ending brief.shown;
+  }
+
 -- the same of the command that was asked for
 pub command_as : {D : Type 0} (v : Vaults D) (command asked : Command) (bytes : Bytes) (left : Option Bytes) (old new : Output) (r : Result Ending Failed) → command ≡ asked
     → Came v command bytes left (AddsRun command old new r) → Came v asked bytes left (AddsRun asked old new r)
 command_as v command asked bytes left old new r is came = subst (λ (m : Command). Came v m bytes left (AddsRun m old new r)) is came
 
-module _ {D : Type 0} (v : Vaults D) (whole : IsWhole v.was) where
+module _ {D : Type 0} (v : Vaults D) (whole : IsWhole v.was)
+    (reads_told : (disk : D) (file : Bytes) → v.tells disk ≡ Some file → v.image_at disk (v.clock disk) file) where
   -- ---- nothing is run
 
   -- a call that read no script, and left the vault alone
-  pub nothing_run : {Shows : List Ran → Ending → Type 0} (command : Command) (bytes : Bytes) (left : Option Bytes) (ending : Ending)
+  abbrev pub nothing_run : {Shows : List Ran → Ending → Type 0} (command : Command) (bytes : Bytes) (left : Option Bytes) (ending : Ending)
       → Comes v command bytes None nowhere [] ending → ReadsFirst None ending (Some bytes) left → IsUntouched v
       → Shows [] ending → Came v command bytes left Shows
   nothing_run command bytes left ending comes reads same shown = record {
@@ -89,11 +138,60 @@ module _ {D : Type 0} (v : Vaults D) (whole : IsWhole v.was) where
     full = λ found told. tt;
     kept = record {
       stands = λ sound. untouched_stands v [] whole same;
+      snapshots = λ sound. untouched_snapshots v [] [] whole same;
       declared = λ some. absurd (some refl);
       whole = λ finished. refl;
+      stops = stops_untouched v reads_told [] nowhere whole same;
     };
     shown = shown;
   }
+
+  -- the same of a run in brief
+  nothing_in_brief : {Shows : Bytes → Ending → Type 0} (options : RunOptions) (bytes : Bytes) (left : Option Bytes) (ending : Ending)
+      → Comes (up_to v v.is) (Run options) bytes None nowhere [] ending → ReadsFirst None ending (Some bytes) left → IsUntouched v
+      → Shows [] ending → CameInBrief v options bytes left Shows
+  nothing_in_brief options bytes left ending comes reads same shown = record {
+    mid = v.is;
+    total = None;
+    ending = ending;
+    came = record {
+      rans = [];
+      ending = ending;
+      course = record { script = None; opening = nowhere; state = empty; run = (refl, refl); comes = comes; reads = reads };
+      caused = record { caused = tt; durable = tt; sequences = tt; marks = tt; draws_once = tt };
+      full = λ found told. tt;
+      kept = record {
+        stands = λ sound. untouched_stands (up_to v v.is) [] whole same;
+        snapshots = λ sound. untouched_snapshots (up_to v v.is) [] [] whole same;
+        declared = λ some. absurd (some refl);
+        whole = λ finished. refl;
+        stops = stops_untouched (up_to v v.is) reads_told [] nowhere whole same;
+      };
+      shown = (refl, refl, refl);
+    };
+    reads = vault_reads_none v.is;
+    shown = shown;
+  }
+
+  -- memory was wanted before a script was read
+  pub memory_in_brief : {Shows : Bytes → Ending → Type 0} (options : RunOptions) (bytes : Bytes) (left : Option Bytes) → IsUntouched v → Shows [] NoMemory
+      → CameInBrief v options bytes left Shows
+  memory_in_brief options bytes left same shown = nothing_in_brief options bytes left NoMemory same tt same shown
+
+  -- no script was read
+  pub unread_in_brief : {Shows : Bytes → Ending → Type 0} (options : RunOptions) (bytes : Bytes) (left : Option Bytes) (ending : Ending)
+      → IsUnreadOf bytes left ending → IsUntouched v → Shows [] ending → CameInBrief v options bytes left Shows
+  unread_in_brief options bytes left (NoScript fault) is same shown =
+      nothing_in_brief options bytes left (NoScript fault) (is.0, is.1, same) is.2 same shown
+  unread_in_brief options bytes left ReadFault is same shown = nothing_in_brief options bytes left ReadFault same tt same shown
+  unread_in_brief options bytes left NoMemory is same shown = nothing_in_brief options bytes left NoMemory same tt same shown
+  unread_in_brief options bytes left Finished is same shown = absurd is
+  unread_in_brief options bytes left Usage is same shown = absurd is
+  unread_in_brief options bytes left (Shape declared others) is same shown = absurd is
+  unread_in_brief options bytes left (NoDevice device) is same shown = absurd is
+  unread_in_brief options bytes left (Damaged device at) is same shown = absurd is
+  unread_in_brief options bytes left (AtLimit name) is same shown = absurd is
+  unread_in_brief options bytes left (NoSnapshot epoch) is same shown = absurd is
 
   -- refused words
   pub usage_came : {Shows : List Ran → Ending → Type 0} (bytes : Bytes) (left : Option Bytes) → IsUntouched v → Shows [] Usage → Came v Refused bytes left Shows
@@ -105,14 +203,16 @@ module _ {D : Type 0} (v : Vaults D) (whole : IsWhole v.was) where
   made_came arguments bytes left same shown = nothing_run (Make arguments) bytes left Finished same tt same shown
 
   -- memory may be wanted at any time
-  memory_comes : (command : Command) (bytes : Bytes) → (command ≡ Dump → ⊥) → IsUntouched v → Comes v command bytes None nowhere [] NoMemory
+  memory_comes : (command : Command) (bytes : Bytes) → IsInFull command → IsUntouched v → Comes v command bytes None nowhere [] NoMemory
   memory_comes Refused bytes other same = same
   memory_comes (Run options) bytes other same = same
   memory_comes (Make arguments) bytes other same = same
-  memory_comes Dump bytes other same = absurd (other refl)
+  memory_comes Dump bytes other same = absurd other
+  memory_comes Snaps bytes other same = absurd other
+  memory_comes (Snap epoch) bytes other same = absurd other
 
   -- want of memory before a script was read
-  pub memory_came : {Shows : List Ran → Ending → Type 0} (command : Command) (bytes : Bytes) (left : Option Bytes) → (command ≡ Dump → ⊥)
+  pub memory_came : {Shows : List Ran → Ending → Type 0} (command : Command) (bytes : Bytes) (left : Option Bytes) → IsInFull command
       → IsUntouched v → Shows [] NoMemory → Came v command bytes left Shows
   memory_came command bytes left other same shown =
       nothing_run command bytes left NoMemory (memory_comes command bytes other same) tt same shown
@@ -121,11 +221,13 @@ module _ {D : Type 0} (v : Vaults D) (whole : IsWhole v.was) where
   nothing_printed : (command : Command) → body_text command [] NoMemory ≡ []
   nothing_printed (Run options) = refl
   nothing_printed Dump = refl
+  nothing_printed Snaps = refl
+  nothing_printed (Snap epoch) = refl
   nothing_printed (Make arguments) = refl
   nothing_printed Refused = refl
 
   -- the same, over a printer
-  pub memory_ran : (command : Command) (bytes : Bytes) (left : Option Bytes) (at : Output) → (command ≡ Dump → ⊥) → IsUntouched v
+  pub memory_ran : (command : Command) (bytes : Bytes) (left : Option Bytes) (at : Output) → IsInFull command → IsUntouched v
       → Came v command bytes left (AddsRun command at at (Ok NoMemory))
   memory_ran command bytes left at other same =
       memory_came command bytes left other same (refl, adds_as (sym (nothing_printed command)) (adds_nothing at))
@@ -143,6 +245,7 @@ module _ {D : Type 0} (v : Vaults D) (whole : IsWhole v.was) where
   unread_came options bytes left (NoDevice device) is same shown = absurd is
   unread_came options bytes left (Damaged device at) is same shown = absurd is
   unread_came options bytes left (AtLimit name) is same shown = absurd is
+  unread_came options bytes left (NoSnapshot epoch) is same shown = absurd is
 
 -- ---- the bytes that were read, and all bytes of the source
 

@@ -72,9 +72,23 @@ pub record IsKept (found : Images) (decls : List Decl) (s : State) (ordered : Li
   pub workers : AllByRecursion (λ e. e.worker < 8) ordered
   pub above : AllByRecursion (λ e. first.epoch < e.number.epoch) ordered
 
--- Devices that stand for this epoch and this state, with catalogues of these storages.
-pub record StandsFor (found : Images) (decls : List Decl) (epoch : ℕ) (state : State) : Type 0 where
+-- the same over snapshots that have the same
+abbrev pub began_over : (snaps other : List ℕ) (first : Savepoint) (decls : List Decl) (s : State) → snaps ≡ other
+    → BeganIn snaps first decls s → BeganIn other first decls s
+began_over snaps other first decls s same began = record {
+  pages = began.pages;
+  catalogues = began.catalogues;
+  reads = subst (λ l. ReadsPages l first began.pages began.catalogues) same began.reads;
+  decls_are = began.decls_are;
+  content = began.content;
+}
+
+-- Devices that stand for this epoch and this state, with these pages and catalogues, which are of these storages.
+pub record StandsFor (found : Images) (pages : List (List ℕ)) (catalogues : List Contents) (decls : List Decl)
+    (epoch : ℕ) (state : State) : Type 0 where
   pub is : IsRecoverable found epoch state
+  pub pages_are : is.reading.pages ≡ pages
+  pub catalogues_are : is.reading.catalogues ≡ catalogues
   pub decls_are : newest_decls is.reading.catalogues ≡ decls
 
 -- ---- the snapshot
@@ -255,8 +269,11 @@ module _ (found : Images) (decls : List Decl) (s : State) (ordered : List Entry)
       ∙ ap (value_over (last_of key (counting reading_is))) (kept.began.content key)
 
   -- Such devices stand for the savepoint's epoch, and for the state as of it.
-  pub stands_for : StandsFor found decls point.epoch (as_of decls s ordered point.epoch)
+  pub stands_for : StandsFor found kept.began.pages kept.began.catalogues decls point.epoch
+      (as_of decls s ordered point.epoch)
   stands_for = record {
     is = record { reading = reading_is; is = reads_so; epoch_is = refl; state_is = state_so };
+    pages_are = refl;
+    catalogues_are = refl;
     decls_are = sym kept.began.decls_are;
   }

@@ -24,16 +24,18 @@ use Rattle.serial_model.specs.declared.number.Number.{Number}
 use Rattle.serial_model.specs.declared.op.Op.{Op}
 use Rattle.script_grammar.specs.Script.{Round, worker_lines}
 use Rattle.wire_form.specs.LogFile.{IsLineOf}
+use Rattle.wire_form.specs.Pages.{Contents}
 use Rattle.wire_form.specs.declared.savepoint.Savepoint.{Savepoint}
 use Rattle.log_writer.specs.Points.{point_of, sequence_of}
 use Rattle.log_writer.specs.declared.saved.Saved.{Saved}
 use Rattle.recovery_core.specs.Images.{Images, epoch_of}
 use Rattle.recovery_core.specs.JointCrash.{parts_of}
-use Rattle.recovery_core.specs.Recoverable.{ReadsBy, ReadsSaved}
+use Rattle.recovery_core.specs.Recoverable.{IsReading, IsStateOf, Reading, ReadsBy, ReadsSaved}
 use Rattle.recovery_core.specs.Recovered.{Recovers}
 use Rattle.recovery_core.specs.Resting.{AreTold}
 use Rattle.recovery_core.specs.SettleLaws.{point_says}
 use Rattle.checkpoints.specs.SettlesInto.{SettlesInto}
+use Rattle.checkpoints.specs.SnapshotsKept.{KeepsSnapshots}
 use Rattle.recovery_core.specs.VaultReads.{RoseIn}
 use Rattle.recovery_core.specs.declared.recovered.Recovered.{Recovered}
 use Rattle.recovery_core.specs.declared.settlement.Settled.{Settled}
@@ -53,18 +55,33 @@ use Rattle.round_engine.specs.Saves.{IsSavedBy, NeverFall, newest_after}
 use Rattle.round_engine.specs.Standing.{RuntimeState, StandsOn}
 use Rattle.round_engine.specs.declared.report.Report.{Report}
 use Rattle.foedus.specs.Main.{last_saved, saved_in}
+use Rattle.foedus.specs.OnTheWay.{KeptSnapshots}
 use Rattle.foedus.proofs.KeptIn.{BeganIn, SamePages}
+use Rattle.foedus.proofs.SnapshotsKept.{keeps_over}
+
+-- what the devices stood for as the run began
+pub record Stood (found : Images) (saved : ℕ) (s : State) : Type 0 where
+  pub reading : Reading
+  pub is : IsReading found reading
+  pub epoch : saved ≡ epoch_of reading.point
+  pub state : IsStateOf reading s
+
+-- a reading of these pages, of which nothing else counts
+abbrev pub over_pages : List (List ℕ) → List Contents → Reading
+over_pages pages catalogues = record { point = None; pages = pages; catalogues = catalogues; lines = [] }
 
 -- What the vault keeps after these rounds, which began with these contents as of the saved epoch: what the workers
 -- logged of the run's commits. The newest savepoint counts those up to its epoch, the last one that was saved; its
--- pages are those with which the run began.
+-- pages are those with which the run began, and their snapshots are those that the devices had, with one more at most.
 pub record KeptSoFar {D : Type 0} (tells : D → Option (List ℕ)) (clock : D → ℕ)
-    (image_at : D → ℕ → List ℕ → Type 0) (decls : List Decl) (s : State) (saved : ℕ) (rans : List Ran)
-    (ordered : List Entry) (r : RuntimeState) (vault : Vault D) : Type 0 where
+    (image_at : D → ℕ → List ℕ → Type 0) (found : Images) (decls : List Decl) (s : State) (saved : ℕ)
+    (rans : List Ran) (ordered : List Entry) (r : RuntimeState) (vault : Vault D) : Type 0 where
   pub snaps : List ℕ
   pub snaps_told : tells vault.snaps ≡ Some snaps
   pub first : Savepoint
   pub began : BeganIn snaps first decls s
+  pub was : Stood found saved s
+  pub keeps : KeepsSnapshots was.reading (over_pages began.pages began.catalogues) saved s
   pub point : Savepoint
   pub newest : r.save.newest ≡ Some point
   pub same : SamePages first point
@@ -84,12 +101,14 @@ pub record KeptSoFar {D : Type 0} (tells : D → Option (List ℕ)) (clock : D �
 pub kept_begins : {D : Type 0} {tells : D → Option (List ℕ)} {clock : D → ℕ} {image_at : D → ℕ → List ℕ → Type 0}
     {recovered : Recovered} {given : List Decl} {old new : Vault D} {settled : Settled} (found : Images)
     (first : Number) (r : RuntimeState) → SettlesInto tells clock image_at recovered given old new settled
-    → AreTold tells (parts_of old) found → Recovers found recovered
+    → AreTold tells (parts_of old) found → (recovers : Recovers found recovered)
+    → KeptSnapshots recovered settled
     → r ≡ begun settled.decls settled.state settled.save first
     → AreLogs tells clock image_at (λ worker. []) (λ worker. []) r new
     → CountsOf (λ worker. []) (λ worker. []) r.save.newest
-    → KeptSoFar tells clock image_at settled.decls settled.state settled.saved.epoch [] [] r new
-kept_begins {settled = settled} found first r settles told recovers begins logs counted =
+    → KeptSoFar tells clock image_at found settled.decls settled.state settled.saved.epoch [] [] r new
+kept_begins {recovered = recovered} {settled = settled} found first r settles told recovers snapshots begins logs
+    counted =
     let point = point_says settled.save.newest settled.saved settles.says in
     let rests = settles.rests found told recovers in
     let reading = rests.2.reading in
@@ -106,6 +125,17 @@ kept_begins {settled = settled} found first r settles told recovers begins logs 
         decls_are = rests.2.decls;
         content = rests.2.state;
       };
+      was = record {
+        reading = recovers.reading;
+        is = recovers.is;
+        epoch = settles.epoch ∙ recovers.epoch;
+        state = subst (IsStateOf recovers.reading) (sym settles.state) recovers.state;
+      };
+      keeps = keeps_over recovers.reading reading (over_pages reading.pages reading.catalogues) settled.saved.epoch
+          settled.state refl refl
+          (subst (λ e. KeepsSnapshots recovers.reading reading e settled.state) (sym settles.epoch)
+          (subst (λ (t : State). KeepsSnapshots recovers.reading reading recovered.epoch t) (sym settles.state)
+          (snapshots found rests.0 recovers rests.2)));
       point = point.0;
       newest = ap (λ (x : RuntimeState). x.save.newest) begins ∙ point.1;
       same = record { count = refl; catalogue = refl; later = omega arith };
@@ -258,15 +288,15 @@ item_at (x ∷ xs) (suc i) within = item_at xs i (omega (arith, within))
 module _ {D : Type 0} {tells : D → Option (List ℕ)} {clock : D → ℕ} {image_at : D → ℕ → List ℕ → Type 0}
     {faults : D → ℕ} where
   -- A round that was run carries on what the vault keeps, whatever ended it.
-  pub kept_more : {decls : List Decl} {s : State} {saved : ℕ} {rans : List Ran} {ordered : List Entry} {round : Round}
+  pub kept_more : {found : Images} {decls : List Decl} {s : State} {saved : ℕ} {rans : List Ran} {ordered : List Entry} {round : Round}
       {old new : RuntimeState} {before now : Vault D} {report : Report}
-      → KeptSoFar tells clock image_at decls s saved rans ordered old before
+      → KeptSoFar tells clock image_at found decls s saved rans ordered old before
       → StandsOn tells clock image_at old before → old.stands.decls ≡ decls
       → old.stands.state ≡ state_after_all decls s ordered
       → (one : RanRound round old new report)
       → LeavesVault tells clock image_at faults one.ran one.logged old new before now → (index : ℕ)
-      → KeptSoFar tells clock image_at decls s saved (rans ++ one.ran ∷ []) (ordered ++ (one.lines.run index).ordered)
-      new now
+      → KeptSoFar tells clock image_at found decls s saved (rans ++ one.ran ∷ [])
+      (ordered ++ (one.lines.run index).ordered) new now
   kept_more {decls = decls} {s = s} {saved = saved} {rans = rans} {ordered = ordered} {old = old} {new = new}
       {before = before} {now = now} kept stands decls_are state_is one leaves index =
       let ran = one.ran in
@@ -287,6 +317,8 @@ module _ {D : Type 0} {tells : D → Option (List ℕ)} {clock : D → ℕ} {ima
         snaps_told = ap tells leaves.snaps ∙ kept.snaps_told;
         first = kept.first;
         began = kept.began;
+        was = kept.was;
+        keeps = kept.keeps;
         point = to.point;
         newest = stored.newest ∙ to.newest_is;
         same = to.same;

@@ -8,7 +8,6 @@ use Rattle.recovery_core.specs.Images.{Images}
 use Rattle.recovery_core.specs.Recoverable.{IsRecoverable}
 use Rattle.recovery_core.specs.RecoverableLaws.{one_recoverable}
 use Rattle.foedus.specs.Beginning.{HasStorages, SameDecls}
-use Rattle.foedus.proofs.KeptIn.{StandsFor}
 use Rattle.foedus.proofs.OneState.{one_state}
 
 -- Devices stand for one epoch and one state.
@@ -20,14 +19,14 @@ one_kept found e f s t one other =
 
 -- Devices that keep the storages of a vault have those that were declared, as they are the same.
 pub storages_kept : {now : Images} {ds es : List Decl} {epoch : ℕ} {state : State} → SameDecls es ds
-    → StandsFor now ds epoch state → HasStorages now es
-storages_kept {ds = ds} {es = es} same stands = record {
-  reading = stands.is.reading;
-  is = stands.is.is;
-  same = there stands.is.reading.point (subst (SameDecls es) (sym stands.decls_are) same);
+    → (is : IsRecoverable now epoch state) → newest_decls is.reading.catalogues ≡ ds → HasStorages now es
+storages_kept {ds = ds} {es = es} same is decls_are = record {
+  reading = is.reading;
+  is = is.is;
+  same = there is.reading.point (subst (SameDecls es) (sym decls_are) same);
 }
   where
-    there : {X : Type 0} (point : Option X) → SameDecls es (newest_decls stands.is.reading.catalogues)
-        → IfSome point (λ _. SameDecls es (newest_decls stands.is.reading.catalogues))
-    there None is = tt
-    there (Some x) is = is
+    there : {X : Type 0} (point : Option X) → SameDecls es (newest_decls is.reading.catalogues)
+        → IfSome point (λ _. SameDecls es (newest_decls is.reading.catalogues))
+    there None same_decls = tt
+    there (Some x) same_decls = same_decls

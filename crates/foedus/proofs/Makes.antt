@@ -12,11 +12,11 @@ use Rattle.command_line.specs.declared.command.MakeArguments.{MakeArguments}
 use Rattle.foedus.specs.declared.ending.Ending.{Ending}
 use Rattle.foedus.specs.declared.ending.Ending.TheVariants.{Finished, NoMemory, Usage}
 use Rattle.foedus.specs.Causes.{AnswersDevices, AnswersFaults, Counts, IsMakeStatus}
-use Rattle.foedus.specs.Dump.{ShownText}
+use Rattle.foedus.specs.Listings.{ShownText}
 use Rattle.foedus.specs.Ending.{last_line, status_of}
 use Rattle.foedus.specs.Made.{Makes}
 use Rattle.foedus.specs.OnTheWay.{AddsRun, AddsText, TakesText, status_told}
-use Rattle.foedus.proofs.Dumps.{text_broken, text_finished, text_shown}
+use Rattle.foedus.proofs.Listed.{text_broken, text_finished, text_shown}
 use Rattle.foedus.proofs.Statuses.{faults_broke, faults_quiet, no_device_told}
 
 module _ (arguments : MakeArguments) (old new : Output) where

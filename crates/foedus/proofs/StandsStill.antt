@@ -1,13 +1,16 @@
--- A vault that tells what it told stands for what it stood for.
+-- A vault that tells what it told stands for what it stood for, and has the snapshots that it had.
 use Rattle.std.proofs.Common.{sym, subst, []}
 use Rattle.outside.specs.Vault.{IsWhole}
 use Rattle.serial_model.specs.declared.decl.Decl.{Decl}
 use Rattle.std.specs.Prelude.{List}
 use Rattle.recovery_core.specs.JointCrash.{parts_of}
 use Rattle.recovery_core.specs.Resting.{AreTold}
-use Rattle.foedus.specs.Main.{StandsThrough}
+use Rattle.serial_model.specs.History.{Entry}
+use Rattle.recovery_core.specs.Recoverable.{Reading}
+use Rattle.foedus.specs.Main.{HasEachSnapshot, StandsThrough}
 use Rattle.foedus.specs.Vaults.{IsUntouched, TellsTheSame, Vaults}
-use Rattle.foedus.proofs.KeptEnd.{told_alike}
+use Rattle.foedus.proofs.KeptEnd.{told_alike, told_reading}
+use Rattle.foedus.proofs.SnapshotsKept.{each_between, keeps_all}
 
 module _ {D : Type 0} (v : Vaults D) where
   -- one that was let alone tells what it told
@@ -21,3 +24,17 @@ module _ {D : Type 0} (v : Vaults D) where
   pub untouched_stands : (decls : List Decl) → IsWhole v.was → IsUntouched v → StandsThrough v decls [] []
   untouched_stands decls whole same =
       stands_still decls (subst (λ vault. IsWhole vault) (sym same) whole) (untouched_tells same)
+
+  -- the snapshots that it has, whatever was run
+  pub still_snapshots : (decls : List Decl) (commits : List Entry) → IsWhole v.is → TellsTheSame v
+      → HasEachSnapshot v decls commits
+  still_snapshots decls commits whole same found now epoch state reading told told_now before reads =
+      let was : Reading = before.reading in
+      each_between decls commits found now was was epoch state before.is
+      (told_reading whole (same found told) told_now before.is) (keeps_all was epoch state) before.epoch_is
+      before.state_is epoch state reading before reads
+
+  pub untouched_snapshots : (decls : List Decl) (commits : List Entry) → IsWhole v.was → IsUntouched v
+      → HasEachSnapshot v decls commits
+  untouched_snapshots decls commits whole same =
+      still_snapshots decls commits (subst (λ vault. IsWhole vault) (sym same) whole) (untouched_tells same)

@@ -1,29 +1,22 @@
 -- From texts on their way to what the sink holds, and to the answer.
 use Rattle.std.proofs.Common.{◌≡◌, inl, inr, ◌∙◌, sym, ap, subst, refl, ℕ, List, [], ◌∷◌, ◌++◌, Option, Result, Ok, Err}
 use Rattle.std.specs.Prelude.{IfOk, OnOk}
-use Rattle.std.specs.List.{AllByRecursion}
 use Rattle.std.specs.Io.KnownBytes.{Appends}
 use Rattle.outside.specs.Stream.{TakesPrefix}
 use Rattle.outside.specs.declared.fault.Failed.{Failed}
 use Rattle.std.proofs.lemmas.List.{append-nil}
 use Rattle.text_output.specs.Output.{Bytes, Output, Adds, Breaks, Prints}
 use Rattle.text_output.specs.Printed.{adds_as, adds_then, breaks_then}
-use Rattle.script_grammar.specs.declared.lines.KeeperLine.{KeeperLine}
-use Rattle.script_grammar.specs.declared.lines.KeeperLine.TheVariants as asks
-use Rattle.tx_script.specs.Causes.{AllCaused, AnswersCaused, IsAnswerTo, KeeperAt, keeper_after, keeper_before}
 use Rattle.tx_script.specs.Run.{Ran}
-use Rattle.tx_script.specs.declared.answer.Answer.{Answer}
-use Rattle.tx_script.specs.declared.answer.Answer.TheVariants as answers
 use Rattle.command_line.specs.Options.{command_of}
 use Rattle.command_line.specs.declared.command.Command.{Command}
 use Rattle.foedus.specs.declared.ending.Ending.{Ending}
-use Rattle.foedus.specs.declared.ending.Ending.TheVariants.{Finished, NoScript, Shape, Usage, ReadFault, NoDevice, Damaged, AtLimit, NoMemory}
+use Rattle.foedus.specs.declared.ending.Ending.TheVariants.{Finished, NoScript, Shape, Usage, ReadFault, NoDevice, Damaged, AtLimit, NoMemory, NoSnapshot}
 use Rattle.foedus.specs.Ending.{body_text, last_line, output_text, status_of}
-use Rattle.foedus.specs.Main.{Answers, Came, Holds, IsNoSnap, Shown, Snapshots, Streams}
+use Rattle.foedus.specs.Main.{Answers, Came, Holds, Shown, Streams}
 use Rattle.foedus.specs.OnTheWay.{AddsRun, Takes, status_told}
 use Rattle.foedus.specs.Vaults.{Vaults}
 use Rattle.foedus.proofs.Courses.{shown_as}
-use Rattle.foedus.specs.EndLaws.{cause_cases}
 
 -- ---- what the sink holds
 
@@ -55,45 +48,6 @@ module _ {D : Type 0} (v : Vaults D) where
       subst (λ (x : Ending). TakesPrefix old.held new.held (body_text command rans e ++ last_line x)) (sym added.0)
       (prefix_from old new (body_text command rans e ++ last_line ending) empty whole))
 
--- ---- no snapshot is made
-
--- an answer that has its cause makes none
-no_snap : (ran : Ran) (k : KeeperAt) (line : KeeperLine) (answer : Answer) → IsAnswerTo ran k line answer → IsNoSnap answer
-no_snap ran k line (answers.Epoch epoch) caused = tt
-no_snap ran k line (answers.Save epoch) caused = tt
-no_snap ran k asks.Epoch (answers.Snap epoch new) caused = absurd caused
-no_snap ran k asks.Save (answers.Snap epoch new) caused = absurd caused
-no_snap ran k asks.Glean (answers.Snap epoch new) caused = absurd caused
-no_snap ran k asks.Drop (answers.Snap epoch new) caused = absurd caused
-no_snap ran k line answers.Empty caused = tt
-no_snap ran k line answers.SnapFull caused = tt
-no_snap ran k line answers.Deep caused = tt
-no_snap ran k line (answers.Drop dropped kept) caused = tt
-no_snap ran k line answers.Limit caused = tt
-no_snap ran k line answers.Device caused = tt
-no_snap ran k line answers.Damaged caused = tt
-no_snap ran k line answers.Memory caused = tt
-no_snap ran k line answers.Unrun caused = tt
-
-no_snaps_of : (ran : Ran) (k : KeeperAt) (lines : List KeeperLine) (told : List Answer) → AnswersCaused ran k lines told
-    → AllByRecursion IsNoSnap told
-no_snaps_of ran k [] [] caused = tt
-no_snaps_of ran k (line ∷ lines) [] caused = tt
-no_snaps_of ran k [] (answer ∷ more) caused = absurd caused
-no_snaps_of ran k (line ∷ lines) (answer ∷ more) caused = (
-  elim (cause_cases ran k line answer caused.0) [
-    | inl unrun ↦ subst IsNoSnap (sym unrun) tt
-    | inr is ↦ no_snap ran k line answer is
-  ],
-  no_snaps_of ran (keeper_after k answer) lines more caused.1,
-)
-
--- no round makes a snapshot
-no_snapshots : (rans : List Ran) → AllByRecursion AllCaused rans → Snapshots rans
-no_snapshots [] caused = tt
-no_snapshots (ran ∷ rans) caused =
-    (no_snaps_of ran (keeper_before ran) ran.asked ran.answers caused.0.answers, no_snapshots rans caused.1)
-
 -- ---- the answer
 
 -- a whole text, at the status of an ending, which is never 4
@@ -107,6 +61,7 @@ holds_all (NoDevice device) before after text appends = appends
 holds_all (Damaged device at) before after text appends = appends
 holds_all (AtLimit name) before after text appends = appends
 holds_all NoMemory before after text appends = appends
+holds_all (NoSnapshot epoch) before after text appends = appends
 
 -- what the sink took shows the status and the text
 shows : (command : Command) (streams : Streams) (r : Result Ending Failed) (rans : List Ran) (ending : Ending)
@@ -120,10 +75,7 @@ shows command streams (Err failed) rans ending takes = record { status_is = inr 
 -- what the call came to is the answer
 pub answers_of : {D : Type 0} (v : Vaults D) (words : List Bytes) (streams : Streams) (r : Result Ending Failed)
     → Came v (command_of words) streams.bytes streams.left (Takes (command_of words) streams.held streams.holds r) → Answers v words streams (status_told r)
-answers_of v words streams r came = record {
-  came = shown_as v (shows (command_of words) streams r) came;
-  snapshots = no_snapshots came.rans came.caused.caused;
-}
+answers_of v words streams r came = shown_as v (shows (command_of words) streams r) came
 
 -- a text is printed to the same sink
 pub same_printed : {T E : Type 0} (old new : Output) (text : Bytes) (r : Result T E) → Prints old new text r → new.sink ≡ old.sink

@@ -1,5 +1,5 @@
 -- What devices did in a row of calls.
-use Rattle.std.proofs.Common.{◌≡◌, ◌∙◌, inl, inr, subst, refl, ℕ, List, [], ◌∷◌, ◌++◌, Some}
+use Rattle.std.proofs.Common.{◌≡◌, ◌∙◌, inl, inr, sym, subst, refl, arith, ℕ, List, [], ◌∷◌, ◌++◌, Option, Some}
 use Rattle.std.specs.List.{AllByRecursion, Contains}
 use Rattle.std.proofs.lemmas.Bool.{cases_lt}
 use Rattle.std.proofs.lemmas.List.{append-nil}
@@ -11,7 +11,11 @@ use Rattle.outside.specs.Vault.{IsWhole, disk_in}
 use Rattle.outside.specs.declared.vault.Device.{Device}
 use Rattle.outside.specs.declared.vault.Device.TheVariants.{Save, Snaps, Bank}
 use Rattle.outside.specs.declared.vault.Vault.{Vault}
-use Rattle.recovery_core.specs.VaultReads.{AreQuiet, RoseIn, some_of}
+use Rattle.std.proofs.lemmas.Option.{same_Some}
+use Rattle.recovery_core.specs.Images.{Images}
+use Rattle.recovery_core.specs.JointCrash.{parts_of}
+use Rattle.recovery_core.specs.Resting.{AreTold}
+use Rattle.recovery_core.specs.VaultReads.{AreQuiet, RoseIn, VaultOnlyReads, some_of}
 use Rattle.tx_script.specs.Run.{Ran}
 use Rattle.round_engine.specs.RanRound.{AreFailed}
 use Rattle.foedus.specs.Ending.{GoesOn, devices_in}
@@ -60,6 +64,13 @@ module _ {D : Type 0} {faults : D → ℕ} where
         subst (λ n. Rose n (faults rose.1)) (quiet device first.0 rose.0 first.1 rose.2) rose.4,
       )
 
+  -- a count that rose before devices were only read rose in all
+  pub rose_on : {tells : D → Option (List ℕ)} {clock : D → ℕ} {image_at : D → ℕ → List ℕ → Type 0} (a b c : Vault D) (device : Device)
+      → VaultOnlyReads tells clock image_at faults b c → RoseIn faults device a b → RoseIn faults device a c
+  rose_on a b c device reads rose =
+      let now = reads.each device rose.1 rose.3 in
+      (rose.0, now.0, rose.2, now.1, (let risen = rose.4 in let later = now.2.later in omega arith))
+
   pub failed_back : (a b c : Vault D) (failed : List Device) → IsWhole a → IsWhole b → AreQuiet faults a b → AreFailed faults failed b c → AreFailed faults failed a c
   failed_back a b c failed whole other quiet are = record {
     rose = λ device has. rose_back a b c whole other quiet device (are.rose device has);
@@ -76,3 +87,17 @@ module _ {D : Type 0} {faults : D → ℕ} where
   -- and where all stood still none of them failed
   pub failed_none : {a b : Vault D} → AreQuiet faults a b → AreFailed faults [] a b
   failed_none quiet = record { rose = λ device has. absurd (in_none device has); quiet = λ device not. quiet device }
+
+-- what devices tell that were only read they told before
+pub told_back : {D : Type 0} {tells : D → Option (List ℕ)} {clock : D → ℕ} {image_at : D → ℕ → List ℕ → Type 0} {faults : D → ℕ} (old new : Vault D) (found : Images)
+    → VaultOnlyReads tells clock image_at faults old new → AreTold tells (parts_of new) found → AreTold tells (parts_of old) found
+told_back {tells = tells} old new found reads told =
+    let save = reads.each Save old.save refl in
+    let snaps = reads.each Snaps old.snaps refl in
+    record {
+      save = sym save.2.told ∙ ap tells (sym (same_Some _ _ save.1)) ∙ told.save;
+      snaps = sym snaps.2.told ∙ ap tells (sym (same_Some _ _ snaps.1)) ∙ told.snaps;
+      bank = λ n bank there.
+          let now = reads.each (Bank n) bank there in
+          sym now.2.told ∙ told.bank n now.0 now.1;
+    }

@@ -1,21 +1,28 @@
 -- Why a call ends with its status, whatever its streams and its vault tell.
-use Rattle.std.specs.Prelude.{◌≡◌, ◌≢◌, ◌⊎◌, ℕ, ◌<◌, ◌≤◌, List, Option, ⊤}
+use Rattle.std.specs.Prelude.{◌≡◌, ◌≢◌, ◌⊎◌, ℕ, ◌<◌, ◌≤◌, List, Option, ⊤, true, false}
 use Rattle.outside.specs.declared.vault.Device.{Device}
 use Rattle.outside.specs.declared.vault.Vault.{Vault}
-use Rattle.recovery_core.specs.VaultReads.{AreQuiet, RoseIn}
+use Rattle.recovery_core.specs.Images.{Images}
+use Rattle.recovery_core.specs.JointCrash.{parts_of}
+use Rattle.recovery_core.specs.Resting.{AreTold}
+use Rattle.recovery_core.specs.VaultReads.{AreQuiet, RoseIn, VaultOnlyReads}
 use Rattle.outside.specs.Disk.{IfTold, Only}
 use Rattle.outside.specs.Faults.{Rose}
 use Rattle.script_grammar.specs.Script.{Bytes}
 use Rattle.command_line.specs.Options.{Refuses, command_of}
-use Rattle.command_line.specs.Plain.{AsksForHelp, IsPlain, IsPlainDump, IsPlainMake}
+use Rattle.command_line.specs.Plain.{AsksForHelp, IsPlain, IsPlainDump, IsPlainMake, IsPlainSnap, IsPlainSnaps}
 use Rattle.command_line.specs.declared.command.Command.{Command}
-use Rattle.command_line.specs.declared.command.Command.TheVariants.{Run, Dump, Make, Refused}
+use Rattle.command_line.specs.declared.command.Command.TheVariants.{Run, Dump, Snaps, Snap, Make, Refused}
 use Rattle.command_line.specs.declared.command.MakeArguments.{MakeArguments}
 use Rattle.command_line.specs.declared.command.RunOptions.{RunOptions}
 
--- The statuses of a dump: 0, 4 to 6, and 8.
+-- The statuses of a dump, and of a list of the snapshots: 0, 4 to 6, and 8.
 abbrev pub IsDumpStatus : ℕ → Type 0
 IsDumpStatus status = (status ≡ 0) ⊎ (((4 ≤ status) × (status ≤ 6)) ⊎ (status ≡ 8))
+
+-- The statuses of a call that tells of one snapshot: these, and 9.
+abbrev pub IsSnapStatus : ℕ → Type 0
+IsSnapStatus status = IsDumpStatus status ⊎ (status ≡ 9)
 
 -- The statuses of a run: all up to 8.
 abbrev pub IsRunStatus : ℕ → Type 0
@@ -32,6 +39,8 @@ IsMakeStatus status = (status ≡ 0) ⊎ ((status ≡ 4) ⊎ (status ≡ 8))
 -- No other status comes of a command.
 abbrev pub IsStatus : Command → ℕ → Type 0
 IsStatus Dump status = IsDumpStatus status
+IsStatus Snaps status = IsDumpStatus status
+IsStatus (Snap epoch) status = IsSnapStatus status
 IsStatus (Run options) status = IsRunStatus status
 IsStatus (Make arguments) status = IsMakeStatus status
 IsStatus Refused status = IsRefusal status
@@ -40,17 +49,37 @@ IsStatus Refused status = IsRefusal status
 abbrev pub ReadsAlone : ℕ → Type 0
 ReadsAlone status = ((1 ≤ status) × (status ≤ 3)) ⊎ (status ≡ 6)
 
--- These calls only read the vault.
+-- These calls only read the vault. Of a run in brief that ends with damage `ReadsDamage` says it: over devices that tell
+-- nothing it may be found behind the rounds, as what they left is read.
 abbrev pub ReadsOnly : Command → ℕ → Type 0
 ReadsOnly Dump status = ⊤
-ReadsOnly (Run options) status = ReadsAlone status
+ReadsOnly Snaps status = ⊤
+ReadsOnly (Snap epoch) status = ⊤
+ReadsOnly (Run options) status = ReadsAlone status × (options.brief ≡ true → status ≢ 6)
 ReadsOnly (Make arguments) status = ⊤
 ReadsOnly Refused status = ⊤
+
+-- A call that ends with damage only read the vault, where the devices tell their bytes as it began and as it returns.
+abbrev pub ReadsDamage : {D : Type 0} → (D → Option Bytes) → (D → ℕ) → (D → ℕ → Bytes → Type 0) → (D → ℕ) → ℕ → Vault D
+    → Vault D → Type 0
+ReadsDamage tells clock image_at faults status was is = status ≡ 6 → (found now : Images)
+    → AreTold tells (parts_of was) found → AreTold tells (parts_of is) now → VaultOnlyReads tells clock image_at faults was is
+
+-- These commands tell what was run line by line, or run nothing.
+abbrev pub IsInFull : Command → Type 0
+IsInFull (Run options) = options.brief ≡ false
+IsInFull Dump = ⊥
+IsInFull Snaps = ⊥
+IsInFull (Snap epoch) = ⊥
+IsInFull (Make arguments) = ⊤
+IsInFull Refused = ⊤
 
 -- These commands read no source.
 abbrev pub ReadsNoSource : Command → Type 0
 ReadsNoSource (Run options) = ⊥
 ReadsNoSource Dump = ⊤
+ReadsNoSource Snaps = ⊤
+ReadsNoSource (Snap epoch) = ⊤
 ReadsNoSource (Make arguments) = ⊤
 ReadsNoSource Refused = ⊤
 
@@ -58,6 +87,8 @@ ReadsNoSource Refused = ⊤
 abbrev pub LeavesVault : Command → Type 0
 LeavesVault (Run options) = ⊥
 LeavesVault Dump = ⊥
+LeavesVault Snaps = ⊥
+LeavesVault (Snap epoch) = ⊥
 LeavesVault (Make arguments) = ⊤
 LeavesVault Refused = ⊤
 
@@ -67,6 +98,8 @@ pub record AnswersWords (words : List Bytes) (status : ℕ) : Type 0 where
   pub usage : status ≡ 2 → Refuses words
   pub plain : (options : RunOptions) → IsPlain words options → status ≢ 2
   pub plain_dump : IsPlainDump words → status ≢ 2
+  pub plain_snaps : IsPlainSnaps words → status ≢ 2
+  pub plain_snap : (epoch : ℕ) → IsPlainSnap words epoch → status ≢ 2
   pub plain_make : (arguments : MakeArguments) → IsPlainMake words arguments → status ≢ 2
   pub refused : command_of words ≡ Refused → IsRefusal status
   pub help : AsksForHelp words → IsRefusal status

@@ -24,14 +24,14 @@ use Rattle.command_line.specs.declared.command.Command.{Command}
 use Rattle.script_maker.specs.Generator.{script_text}
 use Rattle.command_line.specs.declared.command.Command.TheVariants.{Run, Make, Refused}
 use Rattle.outside.specs.declared.vault.Device.{Device}
-use Rattle.recovery_core.specs.Damage.{IsDamagedIn}
+use Rattle.recovery_core.specs.Damage.{IsDamagedIn, IsReadBefore}
 use Rattle.recovery_core.specs.VaultReads.{RoseIn}
 use Rattle.foedus.specs.Beginning.{HasOtherShape, IsBefore, MayBegin, Opening, StandsAtLimit}
 use Rattle.foedus.specs.Devices.{device_name, device_text}
 use Rattle.foedus.specs.Vaults.{HoldsOf, IsUntouched, TellsTheSame, Vaults}
 use Rattle.foedus.specs.declared.ending.Ending.{Ending}
 use Rattle.foedus.specs.declared.ending.Ending.TheVariants.{Finished, NoScript, Shape, Usage, ReadFault, NoDevice}
-use Rattle.foedus.specs.declared.ending.Ending.TheVariants.{Damaged, AtLimit, NoMemory}
+use Rattle.foedus.specs.declared.ending.Ending.TheVariants.{Damaged, AtLimit, NoMemory, NoSnapshot}
 
 -- ---- what is told
 
@@ -46,6 +46,7 @@ status_of (NoDevice device) = 5
 status_of (Damaged device at) = 6
 status_of (AtLimit name) = 7
 status_of NoMemory = 8
+status_of (NoSnapshot epoch) = 9
 
 -- The name of a kind of fault.
 abbrev pub kind_text : FaultKind → Bytes
@@ -93,6 +94,10 @@ limit_text Snap = codes "limit snap" ++ 10 ∷ []
 limit_text Height = codes "limit height" ++ 10 ∷ []
 limit_text Sequence = codes "limit sequence" ++ 10 ∷ []
 
+-- The line that tells that no snapshot is of an epoch.
+abbrev pub no_snapshot_text : ℕ → Bytes
+no_snapshot_text epoch = codes "no snapshot " ++ decimal epoch ++ 10 ∷ []
+
 -- The last line, if the ending has one.
 abbrev pub last_line : Ending → Bytes
 last_line Finished = []
@@ -104,6 +109,7 @@ last_line (NoDevice device) = device_text device
 last_line (Damaged device at) = damaged_text device at
 last_line (AtLimit name) = limit_text name
 last_line NoMemory = codes "memory" ++ 10 ∷ []
+last_line (NoSnapshot epoch) = no_snapshot_text epoch
 
 -- What a command prints before the last line: the lines of the rounds that were run, or the script that was made.
 abbrev pub body_text : Command → List Ran → Ending → Bytes
@@ -179,7 +185,8 @@ abbrev pub RunComes : {D : Type 0} → Vaults D → ℕ → Script → Opening �
 RunComes v snap script opening rans Finished = RanOn v snap script opening rans × RanAll script rans
 RunComes v snap script opening rans (NoDevice device) = RoseIn v.faults device v.was v.is
     × ((RanOn v snap script opening rans × EndsBy (ends.Device device) rans)
-    ⊎ ((rans ≡ []) × (TellsTheSame v ⊎ BeginsOn v snap script opening)))
+    ⊎ ((rans ≡ []) × ((TellsTheSame v × HoldsOf v (λ found. IsReadBefore found device))
+    ⊎ BeginsOn v snap script opening)))
 RunComes v snap script opening rans (Damaged device at) =
     (rans ≡ []) × TellsTheSame v × HoldsOf v (λ found. IsDamagedIn found device at)
 RunComes v snap script opening rans (Shape declared kept) =

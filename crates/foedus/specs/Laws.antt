@@ -25,7 +25,7 @@ use Rattle.foedus.specs.Beginning.{HasKept, HasStorages, Opening, SameDecls}
 use Rattle.foedus.specs.EndLaws.{IsCommitted, goes_on_committed, no_draw_end}
 use Rattle.foedus.specs.declared.ending.Ending.{Ending}
 use Rattle.foedus.specs.declared.ending.Ending.TheVariants.{Finished, NoScript, Shape, Usage, ReadFault, NoDevice}
-use Rattle.foedus.specs.declared.ending.Ending.TheVariants.{Damaged, AtLimit, NoMemory}
+use Rattle.foedus.specs.declared.ending.Ending.TheVariants.{Damaged, AtLimit, NoMemory, NoSnapshot}
 use Rattle.foedus.specs.Ending.{Comes, GoesOn, RunComes}
 use Rattle.foedus.specs.Main.{Came, IsDurable, RunsOf}
 use Rattle.foedus.specs.Vaults.{NoneFailed, Vaults}
@@ -121,6 +121,7 @@ module _ {D : Type 0} (v : Vaults D) (options : RunOptions) (bytes : Bytes) (lef
           let here = has read is in absurd (reading_stands found here.reading device at here.is (comes.2 found told))
       run_done read (AtLimit name) is same comes = absurd (not_limit name same)
       run_done read NoMemory is same comes = absurd (not_memory same)
+      run_done read (NoSnapshot epoch) is same comes = absurd comes
 
       of : (o : Option Script) (e : Ending) → came.course.script ≡ o → came.ending ≡ e
           → Comes v (Run options) bytes o came.course.opening came.rans e → came.ending ≡ Finished
@@ -133,6 +134,7 @@ module _ {D : Type 0} (v : Vaults D) (options : RunOptions) (bytes : Bytes) (lef
       of None (Damaged device at) is same comes = absurd comes
       of None (AtLimit name) is same comes = absurd comes
       of None NoMemory is same comes = absurd (not_memory same)
+      of None (NoSnapshot epoch) is same comes = absurd comes
       of (Some read) e is same comes = same ∙ run_done read e is same comes
 
   -- Then each round is done.

@@ -4,8 +4,11 @@ pub mod Main
 pub mod Ending
 pub mod Causes
 pub mod Devices
-pub mod Dump
+pub mod Listings
+pub mod Snapshots
 pub mod Made
+pub mod InBrief
+pub mod Telling
 pub mod OnTheWay
 pub mod EndLaws
 pub mod Laws

@@ -1,25 +1,24 @@
 -- The main theorem: what a call of the program comes to. Where its source tells its bytes, `top` ensures `Answers`,
 -- the last definition of this file. How a call may end is a table of its own, `Comes` in Ending.antt; where a run
 -- begins stands in Beginning.antt.
-use Rattle.std.specs.Prelude.{◌≡◌, ◌⊎◌, ◌+◌, ◌-◌, ◌<◌, ◌++◌, ℕ, List, [], ◌∷◌, length, fold, flat_map, option_to_list}
-use Rattle.std.specs.Prelude.{slice_get, Option, Some, None, MatchBool, ◌==◌, ⊤}
-use Rattle.std.specs.List.{AllByRecursion}
+use Rattle.std.specs.Prelude.{◌≡◌, ◌⊎◌, ◌≤◌, ◌+◌, ◌-◌, ◌<◌, ◌++◌, ℕ, List, [], ◌∷◌, length, fold, flat_map}
+use Rattle.std.specs.Prelude.{option_to_list, slice_get, Option, Some, None, MatchBool, ◌==◌, ⊤}
+use Rattle.std.specs.List.{AllByRecursion, Contains}
 use Rattle.std.specs.Io.KnownBytes.{Appends}
 use Rattle.outside.specs.Stream.{TakesPrefix}
+use Rattle.outside.specs.declared.vault.Tie.{Tie}
 use Rattle.serial_model.specs.History.{Entry, as_of}
 use Rattle.serial_model.specs.State.{State}
 use Rattle.serial_model.specs.declared.decl.Decl.{Decl}
 use Rattle.serial_model.specs.declared.number.Commit.{Commit}
 use Rattle.script_grammar.specs.Script.{Bytes, Round, Script, IsTextOf, lines_of_worker}
 use Rattle.recovery_core.specs.Images.{Images}
-use Rattle.recovery_core.specs.JointCrash.{parts_of}
-use Rattle.recovery_core.specs.Recoverable.{IsRecoverable}
-use Rattle.recovery_core.specs.Resting.{AreTold}
+use Rattle.recovery_core.specs.JointCrash.{parts_of, CrashesNow, IsJointCrash, IsNow, IsSince, Moments}
+use Rattle.recovery_core.specs.Recoverable.{IsReading, IsRecoverable, Reading}
+use Rattle.recovery_core.specs.Resting.{AreTold, HasNoRecords, IsResting}
 use Rattle.tx_script.specs.Run.{LogFull, Ran, IsScriptRun}
 use Rattle.tx_script.specs.Causes.{AllCaused}
 use Rattle.tx_script.specs.Draws.{DrawsOnce}
-use Rattle.tx_script.specs.declared.answer.Answer.{Answer}
-use Rattle.tx_script.specs.declared.answer.Answer.TheVariants as answers
 use Rattle.wire_form.specs.LogFile.{lines_bytes}
 use Rattle.round_engine.specs.Changes.{AreLogged}
 use Rattle.round_engine.specs.Ends.{durable_of, end_of}
@@ -31,6 +30,7 @@ use Rattle.foedus.specs.declared.ending.Ending.{Ending}
 use Rattle.foedus.specs.declared.ending.Ending.TheVariants.{Finished}
 use Rattle.foedus.specs.Beginning.{HasStorages, Opening, SameDecls}
 use Rattle.foedus.specs.Ending.{Comes, ReadsFirst, output_text, status_of}
+use Rattle.foedus.specs.Snapshots.{EachSnapshot}
 use Rattle.foedus.specs.Vaults.{HoldsOf, NoneFailed, Vaults}
 
 -- ---- what is run
@@ -136,13 +136,56 @@ HasDeclared v decls = (found now : Images)
 abbrev pub IsSound : {D : Type 0} → Vaults D → Ending → Type 0
 IsSound v ending = NoneFailed v ⊎ (ending ≡ Finished)
 
--- What the vault keeps, where no device failed, and where all was done: then of all commits.
+-- The snapshots that the vault has, beside those that it had and what it stood for as the call began: each above the
+-- saved epoch is as these commits up to its epoch leave the state, each other one is as it was.
+abbrev pub HasEachSnapshot : {D : Type 0} → Vaults D → List Decl → List Entry → Type 0
+HasEachSnapshot v decls commits = (found now : Images) (epoch : ℕ) (state : State) (reading : Reading)
+    → AreTold v.tells (parts_of v.was) found → AreTold v.tells (parts_of v.is) now
+    → (before : IsRecoverable found epoch state) → IsReading now reading
+    → EachSnapshot before.reading reading epoch state decls commits
+
+-- The store of this sequence has ended, and from then on each stop leaves this epoch or a later one.
+pub record IsCovered {D : Type 0} (v : Vaults D) (from : Moments) (sequence epoch : ℕ) : Type 0 where
+  pub tie : Tie
+  pub end : ℕ
+  pub has : Contains v.is.ties.items tie
+  pub of_store : tie.sequence ≡ sequence
+  pub ended : tie.ended ≡ Some end
+  pub covers : (at : Moments) (left : Images) (later : ℕ) (state : State) → IsSince from at
+      → IsJointCrash v.clock v.image_at (parts_of v.is) at left → end ≤ at.save → IsRecoverable left later state
+      → epoch ≤ later
+
+-- What a stop of all devices leaves, whichever moments since these it meets, as their ties and cuts allow them
+-- together: an epoch from this one on, and the state as of it, after the commits up to it. Once the store of an epoch
+-- that was saved has ended, no stop leaves an earlier one; the first of these stores has the sequence behind this one. A
+-- stop as the call returns is such a stop, where rounds were run, and else where nothing was recorded before.
+pub record StandsAtStops {D : Type 0} (v : Vaults D) (decls : List Decl) (commits : List Entry) (sequence : ℕ)
+    (rans : List Ran) (from : Moments) (epoch : ℕ) (state : State) : Type 0 where
+  pub leaves : (at : Moments) (left : Images) → IsSince from at
+      → IsJointCrash v.clock v.image_at (parts_of v.is) at left → (later : ℕ) × (epoch ≤ later)
+      × IsRecoverable left later (as_of decls state commits later)
+  pub covers : (i saved : ℕ) → slice_get (flat_map saved_in rans) i ≡ Some saved
+      → IsCovered v from (sequence + 1 + i) saved
+  pub instant : HasNoRecords (parts_of v.was) ⊎ (rans ≡ [] → ⊥) → CrashesNow v.clock v.image_at (parts_of v.is)
+
+-- So it is at each stop since the call began, where nothing that counts was pending then: whatever ended the call, also
+-- where devices failed, memory was wanted, or the sink failed.
+abbrev pub StandsWhenStopped : {D : Type 0} → Vaults D → List Decl → List Entry → Opening → List Ran → Type 0
+StandsWhenStopped v decls commits opening rans = (found : Images) (from : Moments) (epoch : ℕ) (state : State)
+    → AreTold v.tells (parts_of v.was) found → IsRecoverable found epoch state
+    → IsResting v.clock v.image_at (parts_of v.was) → IsNow v.clock v.image_at (parts_of v.was) from
+    → StandsAtStops v decls commits opening.sequence rans from epoch state
+
+-- What the vault keeps, where no device failed, and where all was done: then of all commits; and what it keeps where
+-- the devices stop, at any moments of the call.
 pub record Keeps {D : Type 0} (v : Vaults D) (decls : List Decl) (commits : List Entry) (opening : Opening) (t : State)
     (rans : List Ran) (ending : Ending) : Type 0 where
   pub stands : IsSound v ending → StandsThrough v decls commits rans
+  pub snapshots : IsSound v ending → HasEachSnapshot v decls commits
   pub declared : (rans ≡ [] → ⊥) → IsSound v ending → HasDeclared v decls
   pub whole : ending ≡ Finished
       → as_of decls opening.state commits (last_saved opening.saved rans) ≡ t
+  pub stops : StandsWhenStopped v decls commits opening rans
 
 -- the same of a course
 abbrev pub KeepsCourse : {D : Type 0} (v : Vaults D) (command : Command) (bytes : Bytes) (left : Option Bytes)
@@ -189,23 +232,11 @@ pub record Shown (command : Command) (streams : Streams) (status : ℕ) (rans : 
   pub status_is : (status ≡ status_of ending) ⊎ (status ≡ 4)
   pub text : Holds status streams.held streams.holds (output_text command rans ending)
 
--- ---- snapshots
-
--- The answer to a keeper line made no snapshot.
-abbrev pub IsNoSnap : Answer → Type 0
-IsNoSnap (answers.Snap epoch new) = ⊥
-IsNoSnap answer = ⊤
-
--- No line of the run makes a snapshot. What settling makes before it, at most one, of the epoch and the state that are
--- kept then, isn't told here.
-abbrev pub Snapshots : List Ran → Type 0
-Snapshots = AllByRecursion (λ ran. AllByRecursion IsNoSnap ran.answers)
-
 -- ---- the main theorem
 
 -- What a call with these words comes to, over these streams and this vault: there are a run, from what the vault stood
--- for, and an ending, with their status and their text, and the vault keeps what that run saved (`came`); no line of
--- the run makes a snapshot (`snapshots`). Of a stop within the call nothing is said here.
-pub record Answers {D : Type 0} (v : Vaults D) (words : List Bytes) (streams : Streams) (status : ℕ) : Type 0 where
-  pub came : Came v (command_of words) streams.bytes streams.left (Shown (command_of words) streams status)
-  pub snapshots : Snapshots came.rans
+-- for, and an ending, with their status and their text, and the vault keeps what that run saved, also where its devices
+-- stop at any moment of the call, and has the snapshots that it had and those of this run.
+abbrev pub Answers : {D : Type 0} → Vaults D → List Bytes → Streams → ℕ → Type 0
+Answers v words streams status =
+    Came v (command_of words) streams.bytes streams.left (Shown (command_of words) streams status)

@@ -20,11 +20,14 @@ use Rattle.script_grammar.specs.Faults.{IsFirstFault}
 use Rattle.script_grammar.specs.Script.{Script}
 use Rattle.log_writer.specs.Points.{sequence_of}
 use Rattle.recovery_core.specs.Images.{Images}
-use Rattle.recovery_core.specs.JointCrash.{parts_of}
+use Rattle.recovery_core.specs.JointCrash.{CrashesNow, IsNow, Moments, parts_of}
 use Rattle.recovery_core.specs.Recovered.{IsUp, Recovers}
-use Rattle.recovery_core.specs.Resting.{AreTold}
+use Rattle.recovery_core.specs.Resting.{AreTold, IsResting}
+use Rattle.recovery_core.specs.Settled.{SaysSettled}
+use Rattle.recovery_core.specs.SettleGoesOn.{GoesOn}
 use Rattle.checkpoints.specs.Due.{IsStoreDue, IsWithin}
 use Rattle.checkpoints.specs.SettlesInto.{SettlesInto}
+use Rattle.checkpoints.specs.SnapshotsKept.{KeepsSnapshots}
 use Rattle.recovery_core.specs.VaultReads.{AreQuiet, VaultOnlyReads}
 use Rattle.recovery_core.specs.declared.fault.RecoverFault.{RecoverFault}
 use Rattle.recovery_core.specs.declared.fault.RecoverFault.TheVariants as recovers
@@ -46,10 +49,12 @@ use Rattle.foedus.specs.declared.ending.Ending.{Ending}
 use Rattle.foedus.specs.declared.ending.Ending.TheVariants.{NoScript, Shape, Usage, ReadFault, NoDevice, Damaged}
 use Rattle.foedus.specs.declared.ending.Ending.TheVariants.{AtLimit, NoMemory}
 use Rattle.foedus.specs.Beginning.{Opening, SameDecls}
-use Rattle.foedus.specs.Causes.{Counts, IsRunStatus, ReadsAlone, RestsAgain}
+use Rattle.foedus.specs.Causes.{Counts, ReadsAlone, RestsAgain}
 use Rattle.foedus.specs.Ending.{IsNoText, IsReadOut, RunComes, body_text, last_line, output_text, status_of}
+use Rattle.brief_output.specs.Brief.{run_in_brief}
+use Rattle.foedus.specs.InBrief.{EndsInBrief, up_to}
 use Rattle.foedus.specs.Main.{AreCaused, FilesAreFull, Holds, Keeps}
-use Rattle.foedus.specs.Vaults.{Vaults}
+use Rattle.foedus.specs.Vaults.{Vaults, vaults_of}
 
 -- ---- endings and statuses
 
@@ -95,7 +100,13 @@ IsWithout device _ = ⊥
 
 -- The statuses of the program: those of `top`. Status 5 also comes where a device can't be had.
 abbrev pub IsExit : ℕ → Type 0
-IsExit status = IsRunStatus status
+IsExit status = status ≤ 9
+
+-- What the program tells of a status other than 0 where errors are told: an explanation, of refused words what the
+-- program does; or these can't be told.
+abbrev pub Explains : ℕ → Bytes → Option Bytes → Option Bytes → ℕ → ℕ → Type 0
+Explains status usage held holds before after = (status ≡ 0 → ⊥)
+    → (text : Bytes) × (status ≡ 2 → text ≡ usage) × (Appends held holds text ⊎ Rose before after)
 
 -- The source's count stands still unless its fault is answered, and then it rose.
 abbrev pub ReadsWithCause : {T : Type 0} → ℕ → ℕ → Result T (OrMemory Failed) → Type 0
@@ -165,6 +176,8 @@ Takes command held holds (Err failed) rans ending = TakesPrefix held holds (outp
 
 -- What is recorded of stores and cuts was forgotten, and the devices are as they were.
 pub record IsForgotten {D : Type 0} (old new : Vault D) : Type 0 where
+  pub ties : new.ties.items ≡ []
+  pub cuts : new.cuts.items ≡ []
   pub save : new.save ≡ old.save
   pub snaps : new.snaps ≡ old.snaps
   pub even : new.even ≡ old.even
@@ -187,11 +200,15 @@ pub record IsOtherShape (decls : List Decl) (recovered : Recovered) (ending : En
 pub record EndsBefore {D : Type 0} (tells : D → Option Bytes) (clock : D → ℕ) (image_at : D → ℕ → Bytes → Type 0)
     (faults : D → ℕ) (snap : ℕ) (script : Script) (was is : Vault D) (ending : Ending) : Type 0 where
   pub opening : Opening
-  pub comes : RunComes (record { tells = tells; faults = faults; was = was; is = is }) snap script opening [] ending
-  pub kept : Keeps (record { tells = tells; faults = faults; was = was; is = is }) script.decls [] opening
-      opening.state [] ending
+  pub comes : RunComes (vaults_of tells clock image_at faults was is) snap script opening [] ending
+  pub kept : Keeps (vaults_of tells clock image_at faults was is) script.decls [] opening opening.state [] ending
   pub rests : RestsAgain tells clock image_at (status_of ending) was is
   pub reads : ReadsAlone (status_of ending) → VaultOnlyReads tells clock image_at faults was is
+
+-- the snapshots of what was settled are those of what was recovered, with one more at most
+abbrev pub KeptSnapshots : Recovered → Settled → Type 0
+KeptSnapshots r s = (found now : Images) (is : Recovers found r) (says : SaysSettled now s)
+    → KeepsSnapshots is.reading says.reading r.epoch r.state
 
 -- A run begins: the vault was recovered, as it reads, has the storages, and was settled; and the runtime stands on it.
 pub record BeginsRun {D : Type 0} (tells : D → Option Bytes) (clock : D → ℕ) (image_at : D → ℕ → Bytes → Type 0)
@@ -207,11 +224,17 @@ pub record BeginsRun {D : Type 0} (tells : D → Option Bytes) (clock : D → �
   pub fits : IfSome recovered.saved (IsWithin recovered snap)
   pub sequence : IsStoreDue recovered → sequence_of recovered.save.newest ≡ last_sequence → ⊥
   pub settles : SettlesInto tells clock image_at recovered decls between is settled
+  pub snapshots : KeptSnapshots recovered settled
   pub begins : r ≡ begun settled.decls settled.state settled.save (clock_after settled.saved.epoch)
   pub stands : StandsOn tells clock image_at r is
   pub logs_told : (found : Images) → AreTold tells (parts_of was) found
       → AreLogs tells clock image_at (λ worker. []) (λ worker. []) r is
   pub counts : CountsOf (λ worker. []) (λ worker. []) r.save.newest
+  pub goes_on : (found : Images) (from : Moments) → AreTold tells (parts_of was) found
+      → IsResting clock image_at (parts_of was) → IsNow clock image_at (parts_of was) from
+      → GoesOn clock image_at from recovered.epoch recovered.state (sequence_of recovered.save.newest)
+      settled.save.newest (parts_of is)
+      × CrashesNow clock image_at (parts_of is)
   pub quiet : AreQuiet faults was is
   pub whole : IsWhole was
 
@@ -230,3 +253,24 @@ pub record RunsScript {D : Type 0} (v : Vaults D) (snap : ℕ) (script : Script)
   pub full : FilesAreFull v script.decls run.ordered opening rans
   pub kept : Keeps v script.decls run.ordered opening state rans ending
   pub shown : Shows rans ending
+
+-- ---- a run in brief
+
+-- Behind rounds that were run so, the call came to an ending, of which this is shown with its text.
+pub record TellsInBrief {D : Type 0} (v : Vaults D) (mid : Vault D) (rans : List Ran) (of_run : Ending)
+    (Shows : Bytes → Ending → Type 0) : Type 0 where
+  pub total : Option ℕ
+  pub ending : Ending
+  pub ends : EndsInBrief v mid rans of_run total ending
+  pub shown : Shows (run_in_brief rans total) ending
+
+-- The same of the run of a script, which left the vault so; from then on it was only read.
+pub record RunsInBrief {D : Type 0} (v : Vaults D) (snap : ℕ) (script : Script) (Shows : Bytes → Ending → Type 0)
+    : Type 0 where
+  pub mid : Vault D
+  pub total : Option ℕ
+  pub ending : Ending
+  pub runs : RunsScript (up_to v mid) snap script
+      (λ rans of_run. EndsInBrief v mid rans of_run total ending)
+  pub reads : VaultOnlyReads v.tells v.clock v.image_at v.faults mid v.is
+  pub shown : Shows (run_in_brief runs.rans total) ending

@@ -8,12 +8,21 @@ use Rattle.recovery_core.specs.Resting.{AreTold}
 use Rattle.recovery_core.specs.VaultReads.{RoseIn}
 use Rattle.script_grammar.specs.Script.{Bytes}
 
--- What a device tells of its bytes, and its count of faults; the vault as the call began, and as it returned.
-pub record Vaults (D : Type 0) : Type 0 where
+-- What a device tells of its bytes, of its clock and its crash images at each moment, and its count of faults; the vault
+-- as the call began, and as it returned.
+pub record Vaults (D : Type 0) : Type 1 where
   pub tells : D → Option Bytes
+  pub clock : D → ℕ
+  pub image_at : D → ℕ → Bytes → Type 0
   pub faults : D → ℕ
   pub was : Vault D
   pub is : Vault D
+
+-- the same by its parts
+abbrev pub vaults_of : {D : Type 0} → (D → Option Bytes) → (D → ℕ) → (D → ℕ → Bytes → Type 0) → (D → ℕ) → Vault D
+    → Vault D → Vaults D
+vaults_of tells clock image_at faults was is =
+    record { tells = tells; clock = clock; image_at = image_at; faults = faults; was = was; is = is }
 
 -- no device was called, and nothing was recorded of them
 abbrev pub IsUntouched : {D : Type 0} → Vaults D → Type 0

@@ -2,7 +2,8 @@
 ghost use Rattle.std.specs.Prelude.{◌≡◌, [], IfOk, OnOk};
 ghost use Rattle.text_output.specs.Output.{Prints};
 ghost use Rattle.foedus.specs.Devices.{device_name, device_text};
-ghost use Rattle.foedus.specs.Ending.{damaged_text, fault_text, kind_text, last_line, limit_text, status_of};
+ghost use Rattle.foedus.specs.Ending.{damaged_text, fault_text, kind_text, last_line, limit_text};
+ghost use Rattle.foedus.specs.Ending.{no_snapshot_text, status_of};
 ghost use Rattle.foedus.specs.OnTheWay.{ending_of, status_told};
 ghost use Rattle.foedus.specs.declared.ending.Ending.TheVariants as endings;
 
@@ -42,6 +43,8 @@ pub enum Ending {
     AtLimit(LimitName),
     /// A growth was refused.
     NoMemory,
+    /// The vault has no snapshot of this epoch.
+    NoSnapshot(u32),
 }
 
 impl Ending {
@@ -59,6 +62,7 @@ impl Ending {
             Ending::Damaged { .. } => 6,
             Ending::AtLimit(_) => 7,
             Ending::NoMemory => 8,
+            Ending::NoSnapshot(_) => 9,
         }
     }
 
@@ -78,6 +82,7 @@ impl Ending {
             Ending::Damaged { device, at } => put_damaged(printer, *device, *at),
             Ending::AtLimit(name) => printer.put(limit_text(*name)),
             Ending::NoMemory => printer.put(b"memory\n"),
+            Ending::NoSnapshot(epoch) => put_no_snapshot(printer, *epoch),
         }
     }
 }
@@ -167,6 +172,14 @@ fn put_damaged<K: Sink>(printer: &mut Printer<'_, K>, device: Device, at: u64) -
     put_name(printer, device)?;
     printer.put(b" ")?;
     printer.put_number(at)?;
+    printer.put(b"\n")
+}
+
+fn put_no_snapshot<K: Sink>(printer: &mut Printer<'_, K>, epoch: u32) -> Result<(), Failed>
+    ensures { Prints printer.old printer.new (no_snapshot_text epoch) result }
+{
+    printer.put(b"no snapshot ")?;
+    printer.put_number(epoch as u64)?;
     printer.put(b"\n")
 }
 

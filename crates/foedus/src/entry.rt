@@ -1,15 +1,14 @@
 // What the program does over its streams, once they are made.
-ghost use Rattle.std.specs.Prelude.{◌≡◌, ◌⊎◌, ◌==◌, IfErr, MatchBool};
-ghost use Rattle.std.specs.Io.KnownBytes.{Appends};
+ghost use Rattle.std.specs.Prelude.{◌≡◌, IfErr};
 ghost use Rattle.std.specs.Process.{exit_status};
-ghost use Rattle.outside.specs.Faults.{Rose};
 ghost use Rattle.foedus.specs.Causes.{AnswersFaults};
-ghost use Rattle.foedus.specs.OnTheWay.{IsEarly, IsExit, TellsEnding};
+ghost use Rattle.foedus.specs.OnTheWay.{Explains, IsEarly, IsExit, TellsEnding};
 
 use crate::ending::{Ending, finish, status_told};
+use crate::explanation::{USAGE, explanation};
 use crate::files::open_vault;
 use crate::program::top;
-use outside::{OpenGate, Sink, Source};
+use outside::{Gate, Sink, Source};
 use std::alloc::{AllocError, Global};
 use std::env::{self, Env};
 use std::fs::{File, Files};
@@ -18,29 +17,6 @@ use std::process::ExitCode;
 use std::sync::Wait;
 use std::thread::Threads;
 use text_output::Printer;
-
-/// What the program does, for a person whose words were refused.
-pub(crate) const USAGE: &str = "\
-foedus runs the transactions of a script on a database and prints a line for each, or tells what the database keeps.
-
-  foedus run [--tries N] [--slots N] [--snap N] < SCRIPT
-  foedus dump
-  foedus make SEED WORKERS LINES
-
-  run         reads the script from standard input and runs it on what the folder vault keeps
-  --tries N   how often a transaction is tried: 1 to 1000000, 1000 if left out
-  --slots N   pages in memory that can change: 4 to 4096, 256 if left out
-  --snap N    snapshot pages in memory: 1 to 65536, 4096 if left out
-  dump        prints the saved epoch, and a line for each key: its storage, the key and its value;
-              keys of arrays only where the value isn't 0
-  make        prints a script of so many LINES (1 to 65536) for so many WORKERS (1 to 8), the same for the same
-              SEED (0 to 2147483647); it reads nothing and keeps nothing
-
-Options come in any order, each at most once. Of them --snap alone has an effect for now.
-A script declares arrays (array ID SIZE) and trees (tree ID), and then has a line for each
-transaction: the worker, and its operations, as in 0 w 1 2 7; r 1 2. A line join ends a round, which
-is durable then. In a round k epoch ends the epoch, and k save makes durable what has ended.
-";
 
 /// The words of the command line. Words that aren't UTF-8 ask for nothing that the program does.
 pub(crate) fn read_args(rt: &(impl Env + AllocGlobal)) -> Result<Vec<String>, Ending>
@@ -57,14 +33,15 @@ pub(crate) fn read_args(rt: &(impl Env + AllocGlobal)) -> Result<Vec<String>, En
     }
 }
 
-/// Answers the words over the database in a folder, and explains refused words on `errors`.
-pub(crate) fn run_program<R, S: Source, K: Sink, E: Sink>(
+/// Answers the words over the database in a folder, and explains a status other than 0 on `errors`.
+pub(crate) fn run_program<R, S: Source, K: Sink, E: Sink, G: Gate + Sync>(
     rt: &R,
     words: Result<Vec<String>, Ending>,
     folder: &str,
     source: &mut S,
     sink: &mut K,
     errors: &mut E,
+    gate: &G,
 ) -> ExitCode
 where
     R: Threads + Wait + Sync + Files<File = File> + AllocGlobal,
@@ -73,14 +50,14 @@ where
     ensures faults { AnswersFaults
         (record { before = S.faults source.old; after = S.faults source.new })
         (record { before = K.faults sink.old; after = K.faults sink.new }) (exit_status result) }
-    // The explanation stands where errors are told, unless they can't be; else nothing does.
-    ensures explained { MatchBool (exit_status result == 2)
-        (Appends (E.held errors.old) (E.held errors.new) USAGE.now
-        ⊎ Rose (E.faults errors.old) (E.faults errors.new))
-        (errors.new ≡ errors.old) }
+    // An explanation stands where errors are told, unless they can't be: of refused words what the program does, of all
+    // done nothing.
+    ensures explained { Explains (exit_status result) USAGE.now (E.held errors.old) (E.held errors.new)
+        (E.faults errors.old) (E.faults errors.new) }
+    ensures quiet { exit_status result ≡ 0 → errors.new ≡ errors.old }
 {
     let status = match words {
-        Ok(words) => answer_words(rt, &words, folder, source, sink),
+        Ok(words) => answer_words(rt, &words, folder, source, sink, gate),
         Err(ending) => tell(sink, ending),
     };
     explain(errors, status);
@@ -88,12 +65,13 @@ where
 }
 
 /// Calls `top` over the database in a folder.
-fn answer_words<R, S: Source, K: Sink>(
+fn answer_words<R, S: Source, K: Sink, G: Gate + Sync>(
     rt: &R,
     words: &[String],
     folder: &str,
     source: &mut S,
     sink: &mut K,
+    gate: &G,
 ) -> u8
 where
     R: Threads + Wait + Sync + Files<File = File> + AllocGlobal,
@@ -109,7 +87,7 @@ where
     let Ok(texts) = texts(rt.alloc(), words) else {
         return tell(sink, Ending::NoMemory);
     };
-    top(rt, rt.alloc(), &texts, source, sink, &mut vault, &OpenGate)
+    top(rt, rt.alloc(), &texts, source, sink, &mut vault, gate)
 }
 
 // The words as texts.
@@ -128,14 +106,15 @@ fn tell<K: Sink>(sink: &mut K, ending: Ending) -> u8
     status_told(outcome)
 }
 
-/// Explains refused words. The answer stands on standard output, so where this can't be written nothing is missing.
+/// Explains a status other than 0. The answer stands on standard output, so where this can't be written nothing is
+/// missing.
 fn explain<E: Sink>(errors: &mut E, status: u8)
-    ensures { MatchBool (status == 2)
-        (Appends (E.held errors.old) (E.held errors.new) USAGE.now
-        ⊎ Rose (E.faults errors.old) (E.faults errors.new))
-        (errors.new ≡ errors.old) }
+    ensures explained { Explains status USAGE.now (E.held errors.old) (E.held errors.new)
+        (E.faults errors.old) (E.faults errors.new) }
+    ensures quiet { status ≡ 0 → errors.new ≡ errors.old }
 {
-    if status == 2 {
-        let _ = errors.write(USAGE.as_bytes());
+    if status == 0 {
+        return;
     }
+    let _ = errors.write(explanation(status).as_bytes());
 }

@@ -1,7 +1,8 @@
 // The script of a source.
-ghost use Rattle.std.specs.Prelude.{◌≡◌, ◌⊎◌, ℕ, ◌≤◌, List, Some, length, IfOk, IfErr, MatchResult};
+ghost use Rattle.std.specs.Prelude.{◌≡◌, ◌⊎◌, ◌<◌, ◌^◌, ℕ, ◌≤◌, List, Some, length, IfOk, IfErr, MatchResult};
 ghost use Rattle.std.specs.Io.KnownBytes.{Consumes, IsAtEnd};
 ghost use Rattle.script_grammar.specs.Script.{IsScript, IsTextOf};
+ghost use Rattle.tx_script.specs.Draws.{lines_in};
 ghost use Rattle.foedus.specs.OnTheWay.{EndsWithCause, IsUnread, IsUnreadOf, ReadsWithCause};
 ghost use Rattle.foedus.specs.Ending.{TakesAtMost, most_read};
 
@@ -51,6 +52,7 @@ pub(crate) fn read_text<S: Source>(alloc: Global, source: &mut S) -> Result<Scri
         (λ script. IsTextOf bytes script × IsAtEnd (S.left source.new))
         (IsUnreadOf bytes (S.left source.new)) }
     ensures rules { IfOk result IsScript }
+    ensures few { IfOk result (λ script. lines_in script.rounds < 2 ^ 64) }
     ensures unread { IfErr result IsUnread }
     ensures cause { MatchResult result (λ _. S.faults source.new ≡ S.faults source.old)
         (EndsWithCause (S.faults source.old) (S.faults source.new)) }

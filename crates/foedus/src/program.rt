@@ -1,5 +1,5 @@
 // One call of the program.
-ghost use Rattle.std.specs.Prelude.{◌≡◌, ◌≢◌, ℕ, List, [], Some, Ok, map};
+ghost use Rattle.std.specs.Prelude.{◌≡◌, ℕ, List, [], Some, Ok, map, true};
 ghost use Rattle.command_line.specs.Options.{command_of};
 ghost use Rattle.outside.specs.Disk.{IfTold, Only};
 ghost use Rattle.outside.specs.Vault.{IsWhole};
@@ -7,14 +7,15 @@ ghost use Rattle.recovery_core.specs.Images.{Images};
 ghost use Rattle.recovery_core.specs.JointCrash.{parts_of};
 ghost use Rattle.recovery_core.specs.Resting.{AreTold};
 ghost use Rattle.recovery_core.specs.VaultReads.{VaultOnlyReads};
-ghost use Rattle.foedus.specs.Causes.{AnswersDevices, AnswersFaults, AnswersWords, IsStatus};
-ghost use Rattle.foedus.specs.Causes.{LeavesVault, ReadsNoSource, ReadsOnly, RestsAgain};
-ghost use Rattle.foedus.specs.Dump.{Dumped, IsUndisturbed, ShownText, TellsAll};
+ghost use Rattle.foedus.specs.Causes.{AnswersDevices, AnswersFaults, AnswersWords, IsInFull, IsStatus};
+ghost use Rattle.foedus.specs.Causes.{LeavesVault, ReadsDamage, ReadsNoSource, ReadsOnly, RestsAgain};
 ghost use Rattle.foedus.specs.Ending.{TakesAtMost};
+ghost use Rattle.foedus.specs.InBrief.{CameInBrief};
+ghost use Rattle.foedus.specs.Listings.{IsListing, IsUndisturbed, Listed, ShownText, TellsAll};
 ghost use Rattle.foedus.specs.Made.{Makes};
 ghost use Rattle.foedus.specs.Main.{Answers, Came, Streams};
 ghost use Rattle.foedus.specs.OnTheWay.{AddsRun, AddsText, Takes, TakesText, status_told};
-ghost use Rattle.foedus.specs.Vaults.{Vaults};
+ghost use Rattle.foedus.specs.Vaults.{Vaults, vaults_of};
 
 use crate::ending::{Ending, finish, status_told};
 use crate::run::run;
@@ -29,7 +30,7 @@ use text_output::Printer;
 /// Does what the words ask for, and answers the program's status: 0 where all was done, 1 where the
 /// bytes are no script or declare other storages than the vault keeps, 2 where the words ask for nothing, 3 where
 /// the source failed, 4 where the sink failed, 5 where a device of the vault failed, 6 where one is damaged, 7 where
-/// a limit was met and 8 for want of memory.
+/// a limit was met, 8 for want of memory and 9 where the vault has no snapshot of the epoch that is asked for.
 ///
 /// As a run begins, the save device has to have one image: nothing is pending.
 pub fn top<R: Threads + Wait + Sync, S: Source, K: Sink, D: Disk + Send + Drop, G: Gate + Sync>(
@@ -45,7 +46,7 @@ pub fn top<R: Threads + Wait + Sync, S: Source, K: Sink, D: Disk + Send + Drop, 
     requires one { (options : _) → command_of (map (λ word. word.now) words.now) ≡ Command.Run options
         → IfTold (D.tells vault.old.save) (Only D.clock D.image_at vault.old.save) }
     // What was run, printed and kept, and how the call ended: the main theorem.
-    ensures answer { command_of (map (λ word. word.now) words.now) ≢ Command.Dump
+    ensures answer { IsInFull (command_of (map (λ word. word.now) words.now))
         → (bytes : List ℕ) → S.left source.old ≡ Some bytes
         → let streams : Streams = record {
           bytes = bytes;
@@ -53,22 +54,23 @@ pub fn top<R: Threads + Wait + Sync, S: Source, K: Sink, D: Disk + Send + Drop, 
           held = K.held sink.old;
           holds = K.held sink.new;
         } in
-        let vaults : Vaults D = record {
-          tells = D.tells;
-          faults = D.faults;
-          was = vault.old;
-          is = vault.new;
-        } in
+        let vaults : Vaults D = vaults_of D.tells D.clock D.image_at D.faults vault.old vault.new in
         Answers vaults (map (λ word. word.now) words.now) streams result }
-    // What is told of what the vault keeps, and that it is told where nothing fails.
-    ensures dumped { command_of (map (λ word. word.now) words.now) ≡ Command.Dump
-        → Dumped D.tells D.faults vault.old vault.new (ShownText (K.held sink.old) (K.held sink.new) result) }
+    // The same of a run that is told in brief.
+    ensures brief { (options : _) → command_of (map (λ word. word.now) words.now) ≡ Command.Run options
+        → options.brief ≡ true → (bytes : List ℕ) → S.left source.old ≡ Some bytes
+        → CameInBrief (vaults_of D.tells D.clock D.image_at D.faults vault.old vault.new) options bytes
+        (S.left source.new) (ShownText (K.held sink.old) (K.held sink.new) result) }
+    // What is told of what the vault keeps and of its snapshots, and that it is told where nothing fails.
+    ensures listed { IsListing (command_of (map (λ word. word.now) words.now))
+        → Listed (command_of (map (λ word. word.now) words.now)) D.tells D.faults vault.old vault.new
+        (ShownText (K.held sink.old) (K.held sink.new) result) }
     // That a script is made, whatever the source tells.
     ensures made { (arguments : _) → command_of (map (λ word. word.now) words.now) ≡ Command.Make arguments
         → Makes arguments (ShownText (K.held sink.old) (K.held sink.new) result) }
-    ensures complete { command_of (map (λ word. word.now) words.now) ≡ Command.Dump
+    ensures complete { IsListing (command_of (map (λ word. word.now) words.now))
         → (found : Images) → AreTold D.tells (parts_of vault.old) found → IsUndisturbed result
-        → TellsAll found (K.held sink.old) (K.held sink.new) result }
+        → TellsAll (command_of (map (λ word. word.now) words.now)) found (K.held sink.old) (K.held sink.new) result }
     // No other status comes, and each only for its cause, whatever the streams and devices tell.
     ensures statuses { IsStatus (command_of (map (λ word. word.now) words.now)) result }
     ensures asked { AnswersWords (map (λ word. word.now) words.now) result }
@@ -83,6 +85,7 @@ pub fn top<R: Threads + Wait + Sync, S: Source, K: Sink, D: Disk + Send + Drop, 
         → vault.new ≡ vault.old }
     ensures reads { ReadsOnly (command_of (map (λ word. word.now) words.now)) result
         → VaultOnlyReads D.tells D.clock D.image_at D.faults vault.old vault.new }
+    ensures damage { ReadsDamage D.tells D.clock D.image_at D.faults result vault.old vault.new }
     ensures devices { AnswersDevices D.faults vault.old vault.new result }
     ensures rests { RestsAgain D.tells D.clock D.image_at result vault.old vault.new }
 {
@@ -106,14 +109,18 @@ fn call<R: Threads + Wait + Sync, S: Source, K: Sink, D: Disk + Drop, G: Gate + 
     requires whole { IsWhole vault.old }
     requires one { (options : _) → command_of (map (λ word. word.now) words.now) ≡ Command.Run options
         → IfTold (D.tells vault.old.save) (Only D.clock D.image_at vault.old.save) }
-    ensures came { command_of (map (λ word. word.now) words.now) ≢ Command.Dump
+    ensures came { IsInFull (command_of (map (λ word. word.now) words.now))
         → (bytes : List ℕ) → S.left source.old ≡ Some bytes
         → let command = command_of (map (λ word. word.now) words.now) in
-        Came (record { tells = D.tells; faults = D.faults; was = vault.old; is = vault.new }) command bytes
+        Came (vaults_of D.tells D.clock D.image_at D.faults vault.old vault.new) command bytes
         (S.left source.new)
         (Takes command printer.old.held printer.new.held result) }
-    ensures dumped { command_of (map (λ word. word.now) words.now) ≡ Command.Dump
-        → Dumped D.tells D.faults vault.old vault.new
+    ensures brief { (options : _) → command_of (map (λ word. word.now) words.now) ≡ Command.Run options
+        → options.brief ≡ true → (bytes : List ℕ) → S.left source.old ≡ Some bytes
+        → CameInBrief (vaults_of D.tells D.clock D.image_at D.faults vault.old vault.new) options bytes
+        (S.left source.new) (TakesText printer.old.held printer.new.held result) }
+    ensures listed { IsListing (command_of (map (λ word. word.now) words.now))
+        → Listed (command_of (map (λ word. word.now) words.now)) D.tells D.faults vault.old vault.new
         (TakesText printer.old.held printer.new.held result) }
     ensures made { (arguments : _) → command_of (map (λ word. word.now) words.now) ≡ Command.Make arguments
         → Makes arguments (TakesText printer.old.held printer.new.held result) }
@@ -128,6 +135,7 @@ fn call<R: Threads + Wait + Sync, S: Source, K: Sink, D: Disk + Drop, G: Gate + 
         → vault.new ≡ vault.old }
     ensures reads { ReadsOnly (command_of (map (λ word. word.now) words.now)) (status_told result)
         → VaultOnlyReads D.tells D.clock D.image_at D.faults vault.old vault.new }
+    ensures damage { ReadsDamage D.tells D.clock D.image_at D.faults (status_told result) vault.old vault.new }
     ensures devices { AnswersDevices D.faults vault.old vault.new (status_told result) }
     ensures rests { RestsAgain D.tells D.clock D.image_at (status_told result) vault.old vault.new }
     ensures statuses { IsStatus (command_of (map (λ word. word.now) words.now)) (status_told result) }
@@ -150,14 +158,18 @@ fn run_words<R: Threads + Wait + Sync, S: Source, K: Sink, D: Disk + Drop, G: Ga
     requires whole { IsWhole vault.old }
     requires one { (options : _) → command_of (map (λ word. word.now) words.now) ≡ Command.Run options
         → IfTold (D.tells vault.old.save) (Only D.clock D.image_at vault.old.save) }
-    ensures came { command_of (map (λ word. word.now) words.now) ≢ Command.Dump
+    ensures came { IsInFull (command_of (map (λ word. word.now) words.now))
         → (bytes : List ℕ) → S.left source.old ≡ Some bytes
         → let command = command_of (map (λ word. word.now) words.now) in
-        Came (record { tells = D.tells; faults = D.faults; was = vault.old; is = vault.new }) command bytes
+        Came (vaults_of D.tells D.clock D.image_at D.faults vault.old vault.new) command bytes
         (S.left source.new)
         (AddsRun command printer.old printer.new result) }
-    ensures dumped { command_of (map (λ word. word.now) words.now) ≡ Command.Dump
-        → Dumped D.tells D.faults vault.old vault.new
+    ensures brief { (options : _) → command_of (map (λ word. word.now) words.now) ≡ Command.Run options
+        → options.brief ≡ true → (bytes : List ℕ) → S.left source.old ≡ Some bytes
+        → CameInBrief (vaults_of D.tells D.clock D.image_at D.faults vault.old vault.new) options bytes
+        (S.left source.new) (AddsText printer.old printer.new result) }
+    ensures listed { IsListing (command_of (map (λ word. word.now) words.now))
+        → Listed (command_of (map (λ word. word.now) words.now)) D.tells D.faults vault.old vault.new
         (AddsText printer.old printer.new result) }
     ensures made { (arguments : _) → command_of (map (λ word. word.now) words.now) ≡ Command.Make arguments
         → Makes arguments (AddsText printer.old printer.new result) }
@@ -172,6 +184,7 @@ fn run_words<R: Threads + Wait + Sync, S: Source, K: Sink, D: Disk + Drop, G: Ga
         → vault.new ≡ vault.old }
     ensures reads { ReadsOnly (command_of (map (λ word. word.now) words.now)) (status_told result)
         → VaultOnlyReads D.tells D.clock D.image_at D.faults vault.old vault.new }
+    ensures damage { ReadsDamage D.tells D.clock D.image_at D.faults (status_told result) vault.old vault.new }
     ensures devices { AnswersDevices D.faults vault.old vault.new (status_told result) }
     ensures rests { RestsAgain D.tells D.clock D.image_at (status_told result) vault.old vault.new }
     ensures statuses { IsStatus (command_of (map (λ word. word.now) words.now)) (status_told result) }

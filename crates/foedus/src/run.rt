@@ -1,22 +1,30 @@
 // Runs of a script, printed round by round.
-ghost use Rattle.std.specs.Prelude.{◌≡◌, ◌≢◌, ℕ, List, [], Some, Ok};
+ghost use Rattle.std.specs.Prelude.{◌≡◌, ◌≢◌, ◌<◌, ◌^◌, ℕ, List, [], Some, Ok, true, false};
 ghost use Rattle.command_line.specs.Options.{AreInRange, AreMadeInRange};
 ghost use Rattle.script_grammar.specs.Script.{IsScript};
+ghost use Rattle.tx_script.specs.Draws.{lines_in};
+ghost use Rattle.brief_output.specs.Brief.{tally_of};
 ghost use Rattle.outside.specs.Disk.{IfTold, Only};
 ghost use Rattle.outside.specs.Vault.{IsWhole};
 ghost use Rattle.recovery_core.specs.VaultReads.{VaultOnlyReads};
-ghost use Rattle.foedus.specs.Causes.{AnswersDevices, AnswersFaults, IsStatus, LeavesVault, ReadsNoSource};
-ghost use Rattle.foedus.specs.Causes.{ReadsOnly, RestsAgain};
-ghost use Rattle.foedus.specs.Dump.{Dumped};
+ghost use Rattle.foedus.specs.Causes.{AnswersDevices, AnswersFaults, IsInFull, IsRunStatus, IsStatus};
+ghost use Rattle.foedus.specs.Causes.{LeavesVault, ReadsAlone, ReadsDamage, ReadsNoSource, ReadsOnly};
+ghost use Rattle.foedus.specs.Causes.{RestsAgain};
 ghost use Rattle.foedus.specs.Ending.{TakesAtMost};
+ghost use Rattle.foedus.specs.Listings.{IsListing, Listed};
 ghost use Rattle.foedus.specs.Made.{Makes};
 ghost use Rattle.foedus.specs.Main.{Came};
-ghost use Rattle.foedus.specs.OnTheWay.{AddsRun, AddsText, RunsScript, status_told};
+ghost use Rattle.foedus.specs.InBrief.{CameInBrief};
+ghost use Rattle.foedus.specs.OnTheWay.{AddsRun, AddsText, RunsInBrief, RunsScript, status_told};
+ghost use Rattle.foedus.specs.Telling.{TellsRun};
+ghost use Rattle.foedus.specs.Vaults.{vaults_of};
 
 use crate::begin::begin;
+use crate::brief::end_in_brief;
 use crate::ending::{Ending, ending_of};
 use crate::input::read_text;
-use crate::kept::dump;
+use crate::kept::{dump, snap, snaps};
+use crate::teller::Teller;
 use command_line::{Command, MakeArguments, RunOptions};
 use outside::{Disk, Failed, Gate, Sink, Source, Vault};
 use round_engine::round;
@@ -25,7 +33,7 @@ use std::alloc::Global;
 use std::sync::Wait;
 use std::thread::Threads;
 use text_output::Printer;
-use tx_script::{Script, put_round};
+use tx_script::Script;
 
 /// Does what the command asks for, and adds the text of what was run.
 pub(crate) fn run<R: Threads + Wait + Sync, S: Source, K: Sink, D: Disk + Drop, G: Gate + Sync>(
@@ -43,11 +51,15 @@ pub(crate) fn run<R: Threads + Wait + Sync, S: Source, K: Sink, D: Disk + Drop, 
     requires whole { IsWhole vault.old }
     requires one { (options : RunOptions) → command ≡ Command.Run options
         → IfTold (D.tells vault.old.save) (Only D.clock D.image_at vault.old.save) }
-    ensures came { command ≢ Command.Dump → (bytes : List ℕ) → S.left source.old ≡ Some bytes
-        → Came (record { tells = D.tells; faults = D.faults; was = vault.old; is = vault.new }) command bytes
+    ensures came { IsInFull command → (bytes : List ℕ) → S.left source.old ≡ Some bytes
+        → Came (vaults_of D.tells D.clock D.image_at D.faults vault.old vault.new) command bytes
         (S.left source.new)
         (AddsRun command printer.old printer.new result) }
-    ensures dumped { command ≡ Command.Dump → Dumped D.tells D.faults vault.old vault.new
+    ensures brief { (options : RunOptions) → command ≡ Command.Run options → options.brief ≡ true
+        → (bytes : List ℕ) → S.left source.old ≡ Some bytes
+        → CameInBrief (vaults_of D.tells D.clock D.image_at D.faults vault.old vault.new) options bytes
+        (S.left source.new) (AddsText printer.old printer.new result) }
+    ensures listed { IsListing command → Listed command D.tells D.faults vault.old vault.new
         (AddsText printer.old printer.new result) }
     ensures made { (arguments : MakeArguments) → command ≡ Command.Make arguments
         → Makes arguments (AddsText printer.old printer.new result) }
@@ -61,6 +73,7 @@ pub(crate) fn run<R: Threads + Wait + Sync, S: Source, K: Sink, D: Disk + Drop, 
     ensures untouched { LeavesVault command → vault.new ≡ vault.old }
     ensures reads { ReadsOnly command (status_told result)
         → VaultOnlyReads D.tells D.clock D.image_at D.faults vault.old vault.new }
+    ensures damage { ReadsDamage D.tells D.clock D.image_at D.faults (status_told result) vault.old vault.new }
     ensures devices { AnswersDevices D.faults vault.old vault.new (status_told result) }
     ensures rests { RestsAgain D.tells D.clock D.image_at (status_told result) vault.old vault.new }
     ensures statuses { IsStatus command (status_told result) }
@@ -72,6 +85,8 @@ pub(crate) fn run<R: Threads + Wait + Sync, S: Source, K: Sink, D: Disk + Drop, 
             Err(ending) => Ok(ending),
         },
         Command::Dump => dump(alloc, printer, vault),
+        Command::Snaps => snaps(alloc, printer, vault),
+        Command::Snap(epoch) => snap(alloc, printer, vault, epoch),
         Command::Make(arguments) => make(printer, arguments),
         Command::Refused => Ok(Ending::Usage),
     }
@@ -97,12 +112,125 @@ fn run_script<R: Threads + Wait + Sync, K: Sink, D: Disk + Drop, G: Gate + Sync>
     gate: &G,
 ) -> Result<Ending, Failed>
     requires rules { IsScript script.now }
+    requires few { lines_in script.now.rounds < 2 ^ 64 }
     requires ranges { AreInRange options }
     requires whole { IsWhole vault.old }
     requires one { IfTold (D.tells vault.old.save) (Only D.clock D.image_at vault.old.save) }
-    ensures runs { RunsScript (record { tells = D.tells; faults = D.faults; was = vault.old; is = vault.new })
-        options.snap script.now (AddsRun (Command.Run options) printer.old printer.new result) }
+    ensures full { options.brief ≡ false
+        → RunsScript (vaults_of D.tells D.clock D.image_at D.faults vault.old vault.new) options.snap script.now
+        (AddsRun (Command.Run options) printer.old printer.new result) }
+    ensures brief { options.brief ≡ true
+        → RunsInBrief (vaults_of D.tells D.clock D.image_at D.faults vault.old vault.new) options.snap script.now
+        (AddsText printer.old printer.new result) }
+    ensures usage { result ≢ Ok Ending.Usage }
+    ensures statuses { IsRunStatus (status_told result) }
+    ensures faults { (source : ℕ) → AnswersFaults (record { before = source; after = source })
+        (record { before = printer.old.faults; after = printer.new.faults }) (status_told result) }
     ensures reads { ReadsOnly (Command.Run options) (status_told result)
+        → VaultOnlyReads D.tells D.clock D.image_at D.faults vault.old vault.new }
+    ensures damage { ReadsDamage D.tells D.clock D.image_at D.faults (status_told result) vault.old vault.new }
+    ensures devices { AnswersDevices D.faults vault.old vault.new (status_told result) }
+    ensures rests { RestsAgain D.tells D.clock D.image_at (status_told result) vault.old vault.new }
+    ensures same { printer.new.sink ≡ printer.old.sink }
+{
+    if options.brief {
+        return run_in_brief(rt, alloc, options, script, printer, vault, gate);
+    }
+    run_in_full(rt, alloc, options, script, printer, vault, gate)
+}
+
+/// Runs a script, and adds the lines of its rounds.
+fn run_in_full<R: Threads + Wait + Sync, K: Sink, D: Disk + Drop, G: Gate + Sync>(
+    rt: &R,
+    alloc: Global,
+    options: RunOptions,
+    script: &Script,
+    printer: &mut Printer<'_, K>,
+    vault: &mut Vault<D>,
+    gate: &G,
+) -> Result<Ending, Failed>
+    requires rules { IsScript script.now }
+    requires few { lines_in script.now.rounds < 2 ^ 64 }
+    requires ranges { AreInRange options }
+    requires whole { IsWhole vault.old }
+    requires one { IfTold (D.tells vault.old.save) (Only D.clock D.image_at vault.old.save) }
+    ensures runs { RunsScript (vaults_of D.tells D.clock D.image_at D.faults vault.old vault.new) options.snap
+        script.now (AddsRun (Command.Run options) printer.old printer.new result) }
+    ensures reads { ReadsAlone (status_told result)
+        → VaultOnlyReads D.tells D.clock D.image_at D.faults vault.old vault.new }
+    ensures rests { RestsAgain D.tells D.clock D.image_at (status_told result) vault.old vault.new }
+{
+    let mut teller = Teller::new(false);
+    run_rounds(
+        rt,
+        alloc,
+        options,
+        script,
+        &mut teller,
+        printer,
+        vault,
+        gate,
+    )
+}
+
+/// Runs a script, and adds the counts and the sum of it.
+fn run_in_brief<R: Threads + Wait + Sync, K: Sink, D: Disk + Drop, G: Gate + Sync>(
+    rt: &R,
+    alloc: Global,
+    options: RunOptions,
+    script: &Script,
+    printer: &mut Printer<'_, K>,
+    vault: &mut Vault<D>,
+    gate: &G,
+) -> Result<Ending, Failed>
+    requires rules { IsScript script.now }
+    requires few { lines_in script.now.rounds < 2 ^ 64 }
+    requires ranges { AreInRange options }
+    requires whole { IsWhole vault.old }
+    requires one { IfTold (D.tells vault.old.save) (Only D.clock D.image_at vault.old.save) }
+    ensures runs { RunsInBrief (vaults_of D.tells D.clock D.image_at D.faults vault.old vault.new) options.snap
+        script.now (AddsText printer.old printer.new result) }
+    ensures damage { ReadsDamage D.tells D.clock D.image_at D.faults (status_told result) vault.old vault.new }
+    ensures devices { AnswersDevices D.faults vault.old vault.new (status_told result) }
+    ensures reads { ReadsAlone (status_told result) → status_told result ≢ 6
+        → VaultOnlyReads D.tells D.clock D.image_at D.faults vault.old vault.new }
+    ensures rests { RestsAgain D.tells D.clock D.image_at (status_told result) vault.old vault.new }
+{
+    let mut teller = Teller::new(true);
+    let ending = run_rounds(
+        rt,
+        alloc,
+        options,
+        script,
+        &mut teller,
+        printer,
+        vault,
+        gate,
+    )?;
+    end_in_brief(alloc, teller.tally, printer, vault, ending)
+}
+
+/// Runs the rounds of a script on what the vault keeps, up to one that ends the run, and has each of them told.
+fn run_rounds<R: Threads + Wait + Sync, K: Sink, D: Disk + Drop, G: Gate + Sync>(
+    rt: &R,
+    alloc: Global,
+    options: RunOptions,
+    script: &Script,
+    teller: &mut Teller,
+    printer: &mut Printer<'_, K>,
+    vault: &mut Vault<D>,
+    gate: &G,
+) -> Result<Ending, Failed>
+    requires rules { IsScript script.now }
+    requires few { lines_in script.now.rounds < 2 ^ 64 }
+    requires ranges { AreInRange options }
+    requires fresh { teller.old.tally ≡ tally_of [] }
+    requires whole { IsWhole vault.old }
+    requires one { IfTold (D.tells vault.old.save) (Only D.clock D.image_at vault.old.save) }
+    ensures runs { RunsScript (vaults_of D.tells D.clock D.image_at D.faults vault.old vault.new) options.snap
+        script.now (TellsRun teller.old.brief teller.new.tally printer.old printer.new result) }
+    ensures whole { teller.new.tally.ran ≡ true → IsWhole vault.new }
+    ensures reads { ReadsAlone (status_told result)
         → VaultOnlyReads D.tells D.clock D.image_at D.faults vault.old vault.new }
     ensures rests { RestsAgain D.tells D.clock D.image_at (status_told result) vault.old vault.new }
 {
@@ -116,7 +244,7 @@ fn run_script<R: Threads + Wait + Sync, K: Sink, D: Disk + Drop, G: Gate + Sync>
             Ok(report) => report,
             Err(_) => return Ok(Ending::NoMemory),
         };
-        put_round(printer, &report.outcomes, &report.keeper, report.durable)?;
+        teller.tell(printer, &report)?;
         if let Some(end) = report.end {
             return Ok(ending_of(end));
         }

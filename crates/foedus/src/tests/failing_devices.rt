@@ -34,7 +34,7 @@ fn failing_disk(
 }
 
 // A vault of what another holds, of which this call of this device fails.
-fn failing_vault(
+pub(super) fn failing_vault(
     alloc: Global,
     vault: &Vault<MemDisk>,
     device: &str,

@@ -9,15 +9,16 @@ use Rattle.foedus.proofs.NotBegun.{begins_over, is_read, recovery_refused, settl
 use Rattle.foedus.proofs.begin.begin.Goals as goal
 
 pub returns-in-Err-clause-ends : goal.returns-in-Err-clause-ends
-returns-in-Err-clause-ends g c = rw c.ending_of_refusal.ensures (recovery_refused c.in-Err.refusal c.requires.whole c.in-Err.ensures.reads
+returns-in-Err-clause-ends g c = rw c.ending_of_refusal.ensures (recovery_refused g.met.D.Disk.reads c.in-Err.refusal c.requires.whole c.in-Err.ensures.reads
     (λ device n is. c.in-Err.ensures.damaged device n (ap (λ (x : OrMemory RecoverFault). Err x) is))
-    (λ device is. c.in-Err.ensures.device device (ap (λ (x : OrMemory RecoverFault). Err x) is)))
+    (λ device is. c.in-Err.ensures.device device (ap (λ (x : OrMemory RecoverFault). Err x) is))
+    (λ device is. c.in-Err.ensures.before device (ap (λ (x : OrMemory RecoverFault). Err x) is)))
 
 -- the storages are others
 pub returns-in_err-check_shape-clause-ends : goal.returns-in_err-check_shape-clause-ends
 returns-in_err-check_shape-clause-ends g c =
     let p = err_from_is_err_and c.from_residual.result c.from_residual.ensures.1 in
-    rw p.1 (shape_refused c.in-Ok.recovered _ c.requires.whole c.in-Ok.ensures.reads c.in-Ok.ensures.recovers c.in-Ok.ensures.up
+    rw p.1 (shape_refused g.met.D.Disk.reads c.in-Ok.recovered _ c.requires.whole c.in-Ok.ensures.reads c.in-Ok.ensures.recovers c.in-Ok.ensures.up
     (rw (p.2) (rw c.decls.ensures at c.in_err-check_shape.ensures.other)))
 
 -- the save is as recovery left it
@@ -30,7 +31,7 @@ pub returns-in-Err-settle-clause-ends : goal.returns-in-Err-settle-clause-ends
 returns-in-Err-settle-clause-ends g c = rw c.ending_of_settling.ensures (settling_refused
     (is_read c.requires.whole c.in-Ok.ensures.reads c.in-Ok.ensures.quiet c.forget_records.ensures c.in-Ok.ensures.recovers c.in-Ok.ensures.up
     (rw c.decls.ensures at c.in_ok-check_shape.ensures.same))
-    _ c.in-Err-settle.refusal
+    _ c.in-Err-settle.refusal c.in-Err-settle.ensures.crashes
     (λ is. c.in-Err-settle.ensures.deep (ap (λ (x : OrMemory SettleFault). Err x) is))
     (λ have new room is. c.in-Err-settle.ensures.limit have new room (ap (λ (x : OrMemory SettleFault). Err x) is))
     (λ memory deep limit. c.in-Err-settle.ensures.fits (λ is. memory cc) (λ is. deep cc) (λ have new room is. limit have new room cc))
@@ -47,7 +48,7 @@ pub returns-in-Err-new-clause-ends : goal.returns-in-Err-new-clause-ends
 returns-in-Err-new-clause-ends g c = rw c.new.ensures.vault (settled_memory
     (is_read c.requires.whole c.in-Ok.ensures.reads c.in-Ok.ensures.quiet c.forget_records.ensures c.in-Ok.ensures.recovers c.in-Ok.ensures.up
     (rw c.decls.ensures at c.in_ok-check_shape.ensures.same))
-    _ c.in-Ok-settle.settled (rw c.decls-2.ensures at c.in-Ok-settle.ensures.settles))
+    _ c.in-Ok-settle.settled c.in-Ok-settle.ensures.crashes (rw c.decls-2.ensures at c.in-Ok-settle.ensures.settles) c.in-Ok-settle.ensures.snapshots)
 
 -- the run begins
 pub returns-in-Ok-new-clause-begins : goal.returns-in-Ok-new-clause-begins
@@ -55,7 +56,7 @@ returns-in-Ok-new-clause-begins g c =
     let fits = c.in-Ok-settle.ensures.fits (λ is. cc) (λ is. cc) (λ have new room is. cc) in
     begins_over (is_read c.requires.whole c.in-Ok.ensures.reads c.in-Ok.ensures.quiet c.forget_records.ensures c.in-Ok.ensures.recovers c.in-Ok.ensures.up
     (rw c.decls.ensures at c.in_ok-check_shape.ensures.same))
-    _ _ c.in-Ok-settle.settled c.in-Ok-new.runtime c.new.ensures.vault (rw c.decls-2.ensures at c.in-Ok-settle.ensures.settles) c.in-Ok-settle.ensures.quiet fits
+    _ _ c.in-Ok-settle.settled c.in-Ok-new.runtime c.in-Ok-settle.ensures.crashes c.new.ensures.vault (rw c.decls-2.ensures at c.in-Ok-settle.ensures.settles) c.in-Ok-settle.ensures.snapshots c.in-Ok-settle.ensures.quiet fits
     (λ due last. elim (c.in-Ok-settle.ensures.last last due fits) [
       | inl memory ↦ absurd cc
       | inr limit ↦ absurd cc

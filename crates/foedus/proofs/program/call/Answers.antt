@@ -2,9 +2,10 @@
 use Rattle.std.proofs.Common.{◌∙◌}
 use Rattle.std.proofs.lemmas.Result.{err_from_is_err_and}
 use Rattle.foedus.proofs.Makes.{made_broken, made_finished}
-use Rattle.foedus.proofs.Statuses.{devices_finished, faults_finished, reads_finished, rests_finished, status_finished, words_finished}
+use Rattle.foedus.proofs.Statuses.{damage_finished, devices_finished, faults_finished, reads_finished, rests_finished, status_finished, words_finished}
 use Rattle.foedus.proofs.Told.{came_broken, came_finished, same_printed}
-use Rattle.foedus.proofs.Dumps.{dump_broken, dump_finished}
+use Rattle.foedus.proofs.Courses.{brief_as}
+use Rattle.foedus.proofs.Listed.{listing_broken, listing_finished, text_broken, text_finished}
 use Rattle.foedus.proofs.program.call.Goals as goal
 
 pub returns-in_err-ending-clause-came : goal.returns-in_err-ending-clause-came
@@ -14,11 +15,24 @@ returns-in_err-ending-clause-came g c = λ other bytes told.
 pub returns-clause-came : goal.returns-clause-came
 returns-clause-came g c = λ other bytes told. came_finished _ _ _ _ _ _ _ c.requires.empty c.finish.ensures.prints c.finish.ensures.empty c.finish.ensures.same (c.in_ok-ending.ensures.came other bytes told)
 
+pub returns-in_err-ending-clause-brief : goal.returns-in_err-ending-clause-brief
+returns-in_err-ending-clause-brief g c = λ options is brief bytes told.
+    let p = err_from_is_err_and c.from_residual.result c.from_residual.ensures.1 in
+    rw p.1 (brief_as _ (text_broken _ _ _ _ c.requires.empty) (c.in_err-ending.ensures.brief options is brief bytes told))
+
+pub returns-clause-brief : goal.returns-clause-brief
+returns-clause-brief g c = λ options is brief bytes told.
+    brief_as _ (text_finished _ _ _ _ _ c.requires.empty c.finish.ensures.prints c.finish.ensures.empty c.finish.ensures.same)
+    (c.in_ok-ending.ensures.brief options is brief bytes told)
+
 pub returns-clause-asked : goal.returns-clause-asked
 returns-clause-asked g c = words_finished _ _ _ c.finish.ensures.same c.in_ok-ending.ensures.asked
 
 pub returns-clause-faults : goal.returns-clause-faults
 returns-clause-faults g c = faults_finished _ _ _ _ _ _ _ c.in_ok-ending.ensures.faults c.finish.ensures.prints c.finish.ensures.same
+
+pub returns-clause-damage : goal.returns-clause-damage
+returns-clause-damage g c = damage_finished _ _ _ _ _ _ _ _ c.finish.ensures.same c.in_ok-ending.ensures.damage
 
 pub returns-clause-devices : goal.returns-clause-devices
 returns-clause-devices g c = devices_finished _ _ _ _ _ c.finish.ensures.same c.in_ok-ending.ensures.devices
@@ -35,12 +49,12 @@ returns-clause-statuses g c = status_finished _ _ _ c.finish.ensures.same c.in_o
 pub returns-clause-same : goal.returns-clause-same
 returns-clause-same g c = same_printed _ _ _ _ c.finish.ensures.prints ∙ c.in_ok-ending.ensures.same
 
-pub returns-in_err-ending-clause-dumped : goal.returns-in_err-ending-clause-dumped
-returns-in_err-ending-clause-dumped g c = λ is.
-    let p = err_from_is_err_and c.from_residual.result c.from_residual.ensures.1 in rw p.1 (dump_broken _ _ _ _ _ _ _ _ c.requires.empty (c.in_err-ending.ensures.dumped is))
+pub returns-in_err-ending-clause-listed : goal.returns-in_err-ending-clause-listed
+returns-in_err-ending-clause-listed g c = λ is.
+    let p = err_from_is_err_and c.from_residual.result c.from_residual.ensures.1 in rw p.1 (listing_broken _ _ _ _ _ _ _ _ _ c.requires.empty (c.in_err-ending.ensures.listed is))
 
-pub returns-clause-dumped : goal.returns-clause-dumped
-returns-clause-dumped g c = λ is. dump_finished _ _ _ _ _ _ _ _ _ c.requires.empty c.finish.ensures.prints c.finish.ensures.empty c.finish.ensures.same (c.in_ok-ending.ensures.dumped is)
+pub returns-clause-listed : goal.returns-clause-listed
+returns-clause-listed g c = λ is. listing_finished _ _ _ _ _ _ _ _ _ _ c.requires.empty c.finish.ensures.prints c.finish.ensures.empty c.finish.ensures.same (c.in_ok-ending.ensures.listed is)
 
 pub returns-in_err-ending-clause-made : goal.returns-in_err-ending-clause-made
 returns-in_err-ending-clause-made g c = λ arguments is.

@@ -1,9 +1,12 @@
 -- What the words ask for was run, or nothing for want of memory.
-use Rattle.std.proofs.Common.{◌∙◌, sym, refl, arith}
+use Rattle.std.proofs.Common.{◌∙◌, sym, subst, refl, arith}
 use Rattle.foedus.proofs.Makes.{memory_made}
-use Rattle.foedus.proofs.Courses.{command_as, memory_ran}
+use Rattle.foedus.specs.Vaults.{vaults_of}
+use Rattle.foedus.proofs.Courses.{command_as, memory_ran, memory_in_brief}
+use Rattle.text_output.specs.Printed.{adds_nothing}
+use Rattle.foedus.specs.Causes.{IsInFull}
 use Rattle.recovery_core.specs.VaultReads.{vault_reads_none}
-use Rattle.foedus.proofs.Dumps.{memory_dump}
+use Rattle.foedus.proofs.Listed.{listed_asked, memory_listed}
 use Rattle.foedus.proofs.Statuses.{no_device_told, status_8, words_at_8, words_done}
 use Rattle.foedus.proofs.program.run_words.Goals as goal
 
@@ -12,25 +15,36 @@ run-requires-clause-one g c κs within = λ options is. c.requires.one options (
 
 pub returns-in-Ok-clause-came : goal.returns-in-Ok-clause-came
 returns-in-Ok-clause-came g c = λ other bytes told.
-    command_as _ _ _ bytes _ _ _ _ c.in-Ok.ensures.command (c.run.ensures.came (λ is. other (sym c.in-Ok.ensures.command ∙ is)) bytes told)
+    command_as _ _ _ bytes _ _ _ _ c.in-Ok.ensures.command (c.run.ensures.came (subst IsInFull (sym c.in-Ok.ensures.command) other) bytes told)
+
+pub returns-in-Ok-clause-brief : goal.returns-in-Ok-clause-brief
+returns-in-Ok-clause-brief g c = λ options is brief bytes told. c.run.ensures.brief options (c.in-Ok.ensures.command ∙ is) brief bytes told
 
 pub returns-in-Ok-clause-asked : goal.returns-in-Ok-clause-asked
 returns-in-Ok-clause-asked g c = words_done _ _ _ c.in-Ok.ensures.command (λ is. c.in-Ok.ensures.refused (cc is)) (λ options plain. cc (c.in-Ok.ensures.plain options plain))
     (λ plain. cc (c.in-Ok.ensures.plain_dump plain))
+    (λ plain. cc (c.in-Ok.ensures.plain_snaps plain))
+    (λ epoch plain. cc (c.in-Ok.ensures.plain_snap epoch plain))
     (λ arguments plain. cc (c.in-Ok.ensures.plain_make arguments plain))
     (λ asks. cc (c.in-Ok.ensures.help asks)) c.run.ensures.usage c.run.ensures.refused
 
 pub returns-in-Err-clause-came : goal.returns-in-Err-clause-came
-returns-in-Err-clause-came g c = λ other bytes told. memory_ran _ c.requires.whole _ bytes _ _ other refl
+returns-in-Err-clause-came g c = λ other bytes told. memory_ran (vaults_of g.D.Disk.tells g.D.Disk.clock g.D.Disk.image_at g.D.Disk.faults c.args.vault.now c.args.vault.now) c.requires.whole g.met.D.Disk.reads _ bytes _ _ other refl
+
+pub returns-in-Err-clause-brief : goal.returns-in-Err-clause-brief
+returns-in-Err-clause-brief g c = λ options is brief bytes told. memory_in_brief (vaults_of g.D.Disk.tells g.D.Disk.clock g.D.Disk.image_at g.D.Disk.faults c.args.vault.now c.args.vault.now) c.requires.whole g.met.D.Disk.reads options bytes _ refl (refl, adds_nothing _)
 
 pub returns-in-Err-clause-asked : goal.returns-in-Err-clause-asked
 returns-in-Err-clause-asked g c = words_at_8 _
 
-pub returns-in-Err-clause-dumped : goal.returns-in-Err-clause-dumped
-returns-in-Err-clause-dumped g c = λ is. memory_dump _ _ _ _ _
+pub returns-in-Err-clause-listed : goal.returns-in-Err-clause-listed
+returns-in-Err-clause-listed g c = λ is. memory_listed _ _ _ _ _ _
 
 pub returns-in-Err-clause-reads : goal.returns-in-Err-clause-reads
 returns-in-Err-clause-reads g c = λ only. vault_reads_none _
+
+pub returns-in-Err-clause-damage : goal.returns-in-Err-clause-damage
+returns-in-Err-clause-damage g c = λ six found now told told_now. vault_reads_none _
 
 pub returns-in-Err-clause-devices : goal.returns-in-Err-clause-devices
 returns-in-Err-clause-devices g c = no_device_told _ _ _ 8 (λ five. omega arith) (λ zero. omega arith)
@@ -46,3 +60,6 @@ returns-in-Ok-clause-made g c = λ arguments is. c.run.ensures.made arguments (c
 
 pub returns-in-Err-clause-made : goal.returns-in-Err-clause-made
 returns-in-Err-clause-made g c = λ arguments is. memory_made arguments _
+
+pub returns-in-Ok-clause-listed : goal.returns-in-Ok-clause-listed
+returns-in-Ok-clause-listed g c = listed_asked _ _ c.in-Ok.ensures.command c.run.ensures.listed

@@ -1,91 +1,41 @@
--- Rounds are run until one ends the run.
-use Rattle.std.proofs.Common.{◌≡◌, length, refl, arith}
-use Rattle.std.proofs.lemmas.Result.{err_from_is_err_and}
-use Rattle.text_output.specs.Printed.{adds_as, breaks_as}
-use Rattle.tx_script.specs.Run.{can_run}
-use Rattle.foedus.proofs.SameRun.{can_run_same}
-use Rattle.foedus.proofs.SoFar.{all_run, at_memory, broke, drew_once, goes_on, none_so_far, not_begun, rests_after, rests_all, rests_stopped, stopped, told_text}
+-- The run was told in brief or in full.
+use Rattle.std.proofs.Common.{inr, refl}
+use Rattle.foedus.proofs.Briefs.{faults_brief, same_brief, status_brief, usage_not_brief}
+use Rattle.foedus.proofs.Statuses.{devices_ran, faults_ran, ran_most, same_ran, usage_not_ran}
 use Rattle.foedus.proofs.run.run_script.Goals as goal
 
--- ---- the run doesn't begin
+pub returns-then-options-clause-usage : goal.returns-then-options-clause-usage
+returns-then-options-clause-usage g c = usage_not_brief _ _ _ _ _ _ c.run_in_brief.ensures.runs
 
-pub returns-in-Err-clause-runs : goal.returns-in-Err-clause-runs
-returns-in-Err-clause-runs g c = not_begun _ _ _ _ _ _ _ g.met.D.Disk.reads c.args.options _ _ c.in-Err.ending c.in-Err.ensures.ends
+pub returns-then-options-clause-faults : goal.returns-then-options-clause-faults
+returns-then-options-clause-faults g c = λ source. faults_brief _ _ _ _ _ _ _ c.run_in_brief.ensures.runs refl
 
-pub returns-in-Err-clause-reads : goal.returns-in-Err-clause-reads
-returns-in-Err-clause-reads g c = c.in-Err.ensures.ends.reads
+pub returns-then-options-clause-reads : goal.returns-then-options-clause-reads
+returns-then-options-clause-reads g c = λ reads. c.run_in_brief.ensures.reads reads.0 (reads.1 c.if-options.true)
 
-pub returns-in-Err-clause-rests : goal.returns-in-Err-clause-rests
-returns-in-Err-clause-rests g c = c.in-Err.ensures.ends.rests
+pub returns-then-options-clause-same : goal.returns-then-options-clause-same
+returns-then-options-clause-same g c = same_brief _ _ _ _ _ _ c.run_in_brief.ensures.runs
 
--- ---- before a round
+pub returns-clause-usage : goal.returns-clause-usage
+returns-clause-usage g c = usage_not_ran _ _ _ _ _ c.args.options _ c.run_in_full.ensures.runs
 
-pub loop-index-init : goal.loop-index-init
-loop-index-init g c = (none_so_far _ _ _ _ _ c.args.script.now _ c.in-Ok.runtime _ _ c.in-Ok.ensures.begins, refl, c.rounds-index-end.ensures, omega arith)
+pub returns-clause-faults : goal.returns-clause-faults
+returns-clause-faults g c = λ source. faults_ran _ _ _ _ _ _ c.args.options _ c.run_in_full.ensures.runs refl
 
-pub round-requires-clause-lines : goal.round-requires-clause-lines
-round-requires-clause-lines g c κs within =
-    let so = c.loop-index.invariant.0 in
-    can_run_same _ _ so.same c.round-lines.result (can_run c.args.script.now c.loop-index.index c.round-lines.result c.requires.rules c.round-lines.ensures)
+pub returns-clause-reads : goal.returns-clause-reads
+returns-clause-reads g c = λ reads. c.run_in_full.ensures.reads reads.0
 
-pub round-requires-clause-goes_on : goal.round-requires-clause-goes_on
-round-requires-clause-goes_on g c κs within = c.loop-index.invariant.0.unended
+pub returns-clause-devices : goal.returns-clause-devices
+returns-clause-devices g c = devices_ran _ _ _ _ _ c.args.options _ c.run_in_full.ensures.runs
 
-pub round-requires-clause-stands : goal.round-requires-clause-stands
-round-requires-clause-stands g c κs within = c.loop-index.invariant.0.stands
+pub returns-clause-same : goal.returns-clause-same
+returns-clause-same g c = same_ran _ _ _ _ _ c.args.options _ c.run_in_full.ensures.runs
 
--- ---- memory was wanted in a round
+pub returns-then-options-clause-statuses : goal.returns-then-options-clause-statuses
+returns-then-options-clause-statuses g c = status_brief _ _ _ _ _ _ c.run_in_brief.ensures.runs
 
-pub returns-in-Err-round-clause-runs : goal.returns-in-Err-round-clause-runs
-returns-in-Err-round-clause-runs g c =
-    at_memory _ _ _ _ _ _ _ g.met.D.Disk.reads c.args.options _ _ _ _ _ _ _ _ c.loop-index.invariant.0 c.in-Err-round.ensures.rounds.0 c.in-Err-round.ensures.rounds.1
+pub returns-clause-statuses : goal.returns-clause-statuses
+returns-clause-statuses g c = ran_most _ _ _ _ _ c.args.options _ c.run_in_full.ensures.runs
 
-pub returns-in-Err-round-clause-rests : goal.returns-in-Err-round-clause-rests
-returns-in-Err-round-clause-rests g c =
-    rests_stopped _ _ _ _ c.args.options.snap c.args.script.now _ g.met.D.Disk.reads _ _ _ _ _ c.in-Err-round.ensures.rounds.0 c.in-Err-round.ensures.rounds.1
-
--- ---- the sink failed
-
-pub returns-in_err-put_round-clause-runs : goal.returns-in_err-put_round-clause-runs
-returns-in_err-put_round-clause-runs g c =
-    let p = err_from_is_err_and c.from_residual.result c.from_residual.ensures.1 in
-    rw p.1 (broke _ _ _ _ _ _ _ g.met.D.Disk.reads _ c.args.options _ _ _ _ _ _ _ _ _ _ c.loop-index.invariant.0 c.round-lines.ensures
-    c.in-Ok-round.ensures.rounds.0 c.in-Ok-round.ensures.rounds.1 (drew_once _ _ _ _ c.in-Ok-round.ensures.rounds.0 c.in-Ok-round.ensures.draws_few.once) (breaks_as (told_text _ _ _ _ c.in-Ok-round.ensures.rounds.0) c.in_err-put_round.ensures))
-
--- ---- a round ended the run
-
-pub returns-in-Some-clause-runs : goal.returns-in-Some-clause-runs
-returns-in-Some-clause-runs g c = rw c.ending_of.ensures
-    (stopped _ _ _ _ _ _ _ g.met.D.Disk.reads c.args.options _ _ _ _ _ _ _ _ _ _ c.in-Some.end c.loop-index.invariant.0 c.round-lines.ensures
-    c.in-Ok-round.ensures.rounds.0 c.in-Ok-round.ensures.rounds.1 (drew_once _ _ _ _ c.in-Ok-round.ensures.rounds.0 c.in-Ok-round.ensures.draws_few.once) (adds_as (told_text _ _ _ _ c.in-Ok-round.ensures.rounds.0) c.in_ok-put_round.ensures) c.in-Some.is)
-
-pub returns-in-Some-clause-rests : goal.returns-in-Some-clause-rests
-returns-in-Some-clause-rests g c = rw c.ending_of.ensures
-    (rests_after _ _ _ _ _ _ _ g.met.D.Disk.reads _ _ _ _ _ _ _ _ _ c.in-Some.end c.loop-index.invariant.0 c.round-lines.ensures
-    c.in-Ok-round.ensures.rounds.0 c.in-Ok-round.ensures.rounds.1 (drew_once _ _ _ _ c.in-Ok-round.ensures.rounds.0 c.in-Ok-round.ensures.draws_few.once) c.in-Some.is).0
-
-pub returns-in-Some-clause-reads : goal.returns-in-Some-clause-reads
-returns-in-Some-clause-reads g c = rw c.ending_of.ensures (λ reads. absurd ((rests_after _ _ _ _ _ _ _ g.met.D.Disk.reads _ _ _ _ _ _ _ _ _ c.in-Some.end c.loop-index.invariant.0 c.round-lines.ensures
-    c.in-Ok-round.ensures.rounds.0 c.in-Ok-round.ensures.rounds.1 (drew_once _ _ _ _ c.in-Ok-round.ensures.rounds.0 c.in-Ok-round.ensures.draws_few.once) c.in-Some.is).1 reads))
-
--- ---- a round more
-
-pub loop-index-preserved : goal.loop-index-preserved
-loop-index-preserved g c = (
-  goes_on _ _ _ _ _ _ _ _ _ _ _ _ _ _ _ _ _ c.loop-index.invariant.0 c.round-lines.ensures c.in-Ok-round.ensures.rounds.0 c.in-Ok-round.ensures.rounds.1
-      (drew_once _ _ _ _ c.in-Ok-round.ensures.rounds.0 c.in-Ok-round.ensures.draws_few.once) (adds_as (told_text _ _ _ _ c.in-Ok-round.ensures.rounds.0) c.in_ok-put_round.ensures) c.in_default.is,
-  refl,
-  c.rounds-index-end.ensures,
-  omega (arith, c.loop-index-test.true),
-)
-
--- ---- all rounds were run
-
-pub returns-clause-runs : goal.returns-clause-runs
-returns-clause-runs g c =
-    let kept = c.loop-index.invariant in
-    let all : c.loop-index.index ≡ length c.args.script.now.rounds = (let test = c.loop-index-test.false in let most = kept.3 in let end = c.rounds-index-end.ensures in omega arith) in
-    all_run _ _ _ _ _ _ _ g.met.D.Disk.reads c.args.options _ _ _ _ _ kept.0 all
-
-pub returns-clause-rests : goal.returns-clause-rests
-returns-clause-rests g c = rests_all _ _ _ _ _ _ _ g.met.D.Disk.reads _ _ _ _ _ c.loop-index.invariant.0
+pub returns-clause-damage : goal.returns-clause-damage
+returns-clause-damage g c = λ six found now told told_now. c.run_in_full.ensures.reads (inr six)

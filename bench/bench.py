@@ -1,0 +1,104 @@
+#!/usr/bin/env python3
+"""Runs all measurements and prints a table of each: of scripts that `foedus make` makes and `foedus run --brief` runs,
+beside a plain C++ program that does the same map operations, writes and syncs in the same rhythm; and then those of
+measure_log.py, measure.py and dump.py.
+
+Each run begins with a fresh database, whose files were made before it, in memory or in FOLDER. Both programs have to
+print the same, and to leave the same bytes in each file. They run in turn.
+Usage: bench/bench.py PROGRAM [FOLDER], where PROGRAM is the built program, crates/foedus/out/foedus. It takes some
+minutes; with `--made` as a third word the other measurements are left out.
+"""
+import os
+import statistics
+import subprocess
+import sys
+import tempfile
+import time
+
+HERE = os.path.dirname(os.path.abspath(__file__))
+COMPILE = ["g++", "-O2", "-std=c++17", "-o"]
+TIMES = 11
+SIZES = (16384, 65536)
+
+
+def contents(folder):
+    def content(name):
+        with open(f"{folder}/{name}", "rb") as file:
+            return file.read()
+
+    return {name: content(name) for name in sorted(os.listdir(folder))}
+
+
+def timed(command, place, source, sink):
+    """Seconds that a command takes, and its peak memory in bytes."""
+    start = time.monotonic()
+    child = os.fork()
+    if child == 0:
+        os.chdir(place)
+        os.dup2(os.open(source, os.O_RDONLY), 0)
+        os.dup2(os.open(sink, os.O_WRONLY | os.O_CREAT | os.O_TRUNC), 1)
+        os.execv(command[0], command)
+    _, status, usage = os.wait4(child, 0)
+    seconds = time.monotonic() - start
+    if os.waitstatus_to_exitcode(status) != 0:
+        sys.exit(f"{' '.join(command)} ended with {status}")
+    return seconds, usage.ru_maxrss * 1024
+
+
+def over_fresh(program, command, place, source, folder):
+    """The same over a fresh database, and what it prints and leaves there."""
+    with tempfile.TemporaryDirectory(dir=folder) as around:
+        subprocess.run([program, "dump"], cwd=around, check=True, stdout=subprocess.DEVNULL)
+        seconds, peak = timed(command, f"{around}/{place}", source, f"{around}/told")
+        with open(f"{around}/told", "rb") as told:
+            return seconds, peak, (told.read(), contents(f"{around}/vault"))
+
+
+def row(name, *cells):
+    print(f"| {name} | " + " | ".join(cells) + " |")
+
+
+def made(program, lines, script):
+    """Tells how quickly a script is made, which is left in a file."""
+    times = [timed([program, "make", "7", "8", str(lines)], "/", os.devnull, script)[0] for _ in range(TIMES)]
+    size = os.path.getsize(script)
+    row(f"make 7 8 {lines}", f"{min(times):.4f}", f"{statistics.median(times):.4f}", f"{size / min(times) / 1e6:.0f} MB/s", "")
+
+
+def run_in_brief(program, plain, lines, script, folder):
+    """Tells what a run in brief takes, beside the plain program."""
+    ours, others, peaks = [], [], []
+    for _ in range(TIMES):
+        seconds, peak, left = over_fresh(program, [program, "run", "--brief"], ".", script, folder)
+        ours.append(seconds)
+        peaks.append(peak)
+        seconds, _, same = over_fresh(program, [plain], "vault", script, folder)
+        others.append(seconds)
+        if left != same:
+            sys.exit("the programs print or leave something different")
+    peak = f"{max(peaks) / os.path.getsize(script):.1f} times the script"
+    row(f"run --brief, {lines} lines", f"{min(ours):.4f}", f"{statistics.median(ours):.4f}", "", peak)
+    row("the plain program", f"{min(others):.4f}", f"{statistics.median(others):.4f}", "", "")
+    row("ratio", f"{min(ours) / min(others):.2f}", f"{statistics.median(ours) / statistics.median(others):.2f}", "", "")
+
+
+def main():
+    program = os.path.abspath(sys.argv[1])
+    folder = sys.argv[2] if len(sys.argv) > 2 else "/dev/shm"
+    row("", "least, s", "median, s", "rate", "peak memory")
+    row("---", "---", "---", "---", "---")
+    with tempfile.TemporaryDirectory() as built:
+        plain, script = f"{built}/plain_brief", f"{built}/script"
+        subprocess.run(COMPILE + [plain, f"{HERE}/plain_brief.cpp"], check=True)
+        for lines in SIZES:
+            made(program, lines, script)
+            run_in_brief(program, plain, lines, script, folder)
+    if "--made" in sys.argv:
+        return
+    for name, words in (("measure_log.py", [folder]), ("measure.py", []), ("dump.py", [])):
+        print(f"\n{name}", flush=True)
+        subprocess.run([sys.executable, f"{HERE}/{name}", program] + words, check=True)
+
+
+if __name__ == "__main__":
+    main()

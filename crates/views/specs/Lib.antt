@@ -1,0 +1,4 @@
+pub mod Sums
+pub mod Changes
+pub mod Others
+pub mod Longer

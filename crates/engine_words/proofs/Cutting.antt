@@ -1,0 +1,323 @@
+-- Views that are cut and joined: no act, and no word changes.
+use Rattle.std.proofs.Common.{◌≡◌, ℕ, suc, ◌+◌, ◌<◌, ◌≤◌, Bool, true, false, true≢false, cond, inl, inr, List, []}
+use Rattle.std.proofs.Common.{◌∷◌, ◌++◌, length, get_or, set, get_or-set_other, get_or-set_same, refl, sym, ap, ◌∙◌}
+use Rattle.std.proofs.Common.{subst, arith}
+use Rattle.std.specs.List.{AllByRecursion, Contains}
+use Rattle.std.proofs.lemmas.Bool.Decides.{nat_tests}
+use mathlib.Core.Option.{some}
+use lib.ListN.{get_elem?}
+use Rattle.atomic_table.specs.Table.{Splits, Joins}
+use Rattle.lists.specs.Elements.{in_none, in_cases, in_head, in_tail}
+use Rattle.lists.specs.Fronts.{IsFront, front_none}
+use Rattle.serial_model.specs.declared.number.Number.{Number}
+use Rattle.commit_core.specs.declared.part.Word.{Word}
+use Rattle.commit_core.specs.declared.part.Part.{Part}
+use Rattle.commit_core.specs.declared.attempt.Attempt.{Attempt}
+use Rattle.commit_core.specs.declared.attempt.Check.{Check}
+use Rattle.commit_core.specs.declared.seat.Seat.{Seat}
+use Rattle.commit_core.specs.declared.seat.Stage.{Stage}
+use Rattle.commit_core.specs.declared.seat.Stage.TheVariants.{Idle, Trying, Ended, Decided}
+use Rattle.commit_core.specs.CoreState.{is_trying}
+use Rattle.views.specs.Sums.{total, one_at, times, total-append, term_at_most}
+use Rattle.views.specs.Changes.{Change, one_splits, two_join, each_at, at_set_other}
+use Rattle.views.specs.Longer.{longer_of}
+use Rattle.engine_words.specs.declared.layout.Layout.{Layout}
+use Rattle.engine_words.specs.declared.view.Role.{Role}
+use Rattle.engine_words.specs.declared.view.Role.TheVariants.{Keeper, Worker, Note, Spent}
+use Rattle.engine_words.specs.declared.view.View.{View}
+use Rattle.engine_words.specs.Views.{IsAt, HasPart, HasNothing, sits, sits_by, makes, waits, tries, owns}
+use Rattle.engine_words.specs.Cuts.{note_view, spent_view, heard_of, learned, seated, worker_view, HasSeen}
+use Rattle.engine_words.specs.Steps.{HasTimed}
+use Rattle.engine_words.specs.declared.view.Heard.{Heard}
+use Rattle.commit_core.specs.declared.story.Story.{Story}
+use Rattle.engine_words.specs.Rule.{Shared, Tried, Own, IsKeepers, Fits, Sound, Shows}
+use Rattle.engine_words.proofs.Seats.{by_equal, at_front, own_longer}
+use Rattle.engine_words.proofs.Turns.{MadeByOne, made_by_one}
+
+-- the views before become those after, and nothing else changes
+pub record Cut (l : Layout) (views : List View) (s : Shared) (before after : List View) : Type 0 where
+  pub fits : AllByRecursion (Fits l s.story s.seats) after
+  pub keeper : total (sits 0) after ≡ total (sits 0) before
+  pub made : (worker : ℕ) → total (sits (suc worker)) after + total (makes worker) before
+      ≡ total (sits (suc worker)) before + total (makes worker) after
+  pub once : (p : ℕ) → total (sits p) views + total (sits p) after ≤ 1 + total (sits p) before
+  pub mine : (h : Number → ℕ) → total (owns h) after ≡ total (owns h) before
+  pub few : total tries after ≤ total tries before
+  pub room : total waits after ≤ total waits before
+
+cuts : (l : Layout) (words : List ℕ) (views views' before after : List View) (s : Shared) → Sound l words views s
+    → Change before after views views' → Cut l views s before after → Sound l words views' s
+cuts l words views views' before after s h change cut = record {
+  laid_out = h.laid_out;
+  first = h.first;
+  blank = h.blank;
+  valued = h.valued;
+  shown = h.shown;
+  story = h.story;
+  seats = h.seats;
+  tried = h.tried;
+  marks = h.marks;
+  small = h.small;
+  fits = change.each (Fits l s.story s.seats) h.fits cut.fits;
+  sums = record {
+    one_keeper = omega (arith, change.sums (sits 0), cut.keeper, h.sums.one_keeper);
+    made_are = λ worker. omega (
+      arith,
+      change.sums (sits (suc worker)),
+      change.sums (makes worker),
+      cut.made worker,
+      h.sums.made_are worker,
+    );
+    once = λ p. omega (arith, change.sums (sits p), cut.once p);
+    mine_are = λ k. omega (arith, change.sums (owns k), cut.mine k, h.sums.mine_are k);
+    few_open = omega (arith, change.sums tries, cut.few, h.sums.few_open);
+    room = omega (arith, change.sums waits, cut.room, h.sums.room);
+  };
+}
+
+pub splits : (l : Layout) (id : ℕ) (v left right : View)
+    → ((words : List ℕ) (views : List View) (s : Shared) → Sound l words views s → Fits l s.story s.seats v
+    → get_elem? views id ≡ some v → Cut l views s (v ∷ []) (left ∷ right ∷ []))
+    → Splits {S = Unit {0}} (λ s. Shows l s.words s.views) id v left right
+splits l id v left right go t h at =
+    let s : Shared = h.0 in (
+      s,
+      cuts l t.words t.views (set t.views id left ++ right ∷ []) (v ∷ []) (left ∷ right ∷ []) s h.1
+          (one_splits t.views id v left right at)
+          (go t.words t.views s h.1 (each_at (Fits l s.story s.seats) t.views id v h.1.fits at) at),
+    )
+
+pub joins : (l : Layout) (id other : ℕ) (v u both spent : View)
+    → ((words : List ℕ) (views : List View) (s : Shared) → Sound l words views s → Fits l s.story s.seats v
+    → Fits l s.story s.seats u → get_elem? views id ≡ some v → ((f : View → ℕ) → f u ≤ total f views)
+    → Cut l views s (v ∷ u ∷ []) (both ∷ spent ∷ []))
+    → Joins {S = Unit {0}} (λ s. Shows l s.words s.views) id v other u both spent
+joins l id other v u both spent go t h at apart next =
+    let s : Shared = h.0 in
+    let change = two_join t.views id other v u both spent at apart next in
+    let there : get_elem? t.views other ≡ some u = sym (at_set_other t.views id other both apart) ∙ next in
+    let were = change.were (Fits l s.story s.seats) h.1.fits in (
+      s,
+      cuts l t.words t.views (set (set t.views id both) other spent) (v ∷ u ∷ []) (both ∷ spent ∷ []) s h.1 change
+          (go t.words t.views s h.1 were.0 were.1.0 at (λ f. term_at_most f t.views other u there)),
+    )
+
+-- ---- notes
+
+has_nothing : HasNothing [] false Idle []
+has_nothing = record { nobody = refl; no_draw = refl; no_attempt = refl; no_commits = refl }
+
+note_fits : (l : Layout) (s : Shared) (v : View) → Fits l s.story s.seats v → Fits l s.story s.seats (note_view v)
+note_fits l s v f = record {
+  history = f.history;
+  decided = f.decided;
+  heard = λ x has. absurd (in_none x has);
+  mine = tt;
+  mine_own = λ a has. absurd (in_none a has);
+  records = λ part has. absurd (in_none part has);
+  kept = λ k x c has. absurd (in_none _ has);
+  loaded = tt;
+  own = λ p at. absurd at;
+  low = omega arith;
+  part = has_nothing;
+  keepers = λ keeper. absurd (cc);
+  met = λ met has. absurd (in_none met has);
+}
+
+pub spent_fits : (l : Layout) (s : Shared) → Fits l s.story s.seats spent_view
+spent_fits l s = record {
+  history = front_none s.story.history;
+  decided = front_none s.story.decided;
+  heard = λ x has. absurd (in_none x has);
+  mine = tt;
+  mine_own = λ a has. absurd (in_none a has);
+  records = λ part has. absurd (in_none part has);
+  kept = λ k x c has. absurd (in_none _ has);
+  loaded = tt;
+  own = λ p at. absurd at;
+  low = omega arith;
+  part = has_nothing;
+  keepers = λ keeper. absurd (cc);
+  met = λ met has. absurd (in_none met has);
+}
+
+pub notes : (l : Layout) (id : ℕ) (v : View) → Splits {S = Unit {0}} (λ s. Shows l s.words s.views) id v v (note_view v)
+notes l id v = splits l id v v (note_view v) (λ words views s h f at. record {
+  fits = (f, (note_fits l s v f, tt));
+  keeper = refl;
+  made = λ worker. refl;
+  once = λ p. omega (arith, h.sums.once p);
+  mine = λ k. refl;
+  few = omega arith;
+  room = omega arith;
+})
+
+-- a view that has seen more
+pub tried_longer : (p : ℕ) (old new : List Attempt) (checks : List Check) (checked : List Word) (mine : List Attempt)
+    (stage : Stage) → IsFront old new → Tried p old checks checked mine stage → Tried p new checks checked mine stage
+tried_longer p old new checks checked mine Idle front h = tt
+tried_longer p old new checks checked mine (Trying i) front h =
+    (h.0, record { at = at_front old new i h.0 front h.1.at; own = h.1.own; exact = h.1.exact; above = h.1.above })
+tried_longer p old new checks checked mine Ended front h = tt
+tried_longer p old new checks checked mine (Decided i) front h = (h.0, at_front old new i h.0 front h.1)
+
+-- a seat with no attempt in progress has nothing to keep to of its own commits
+pub tried_apart : (p : ℕ) (history : List Attempt) (checks : List Check) (checked : List Word) (mine more : List Attempt)
+    (stage : Stage) → is_trying stage ≡ false → Tried p history checks checked mine stage
+    → Tried p history checks checked more stage
+tried_apart p history checks checked mine more Idle none h = tt
+tried_apart p history checks checked mine more (Trying i) none h = absurd (true≢false none)
+tried_apart p history checks checked mine more Ended none h = tt
+tried_apart p history checks checked mine more (Decided i) none h = h
+
+pub heard_both : (v u : View) (m : Story) → IsFront v.history m.history → IsFront v.decided m.decided
+    → IsFront u.history m.history → IsFront u.decided m.decided → (x : Heard)
+    → Contains (heard_of v ∷ heard_of u ∷ []) x → IsFront x.history m.history × IsFront x.decided m.decided
+heard_both v u m vh vd uh ud x has = elim (in_cases x (heard_of v) (heard_of u ∷ []) has) [
+  | inl e ↦ subst (λ (y : Heard). IsFront y.history m.history × IsFront y.decided m.decided) e (vh, vd)
+  | inr later ↦ elim (in_cases x (heard_of u) [] later) [
+    | inl e ↦ subst (λ (y : Heard). IsFront y.history m.history × IsFront y.decided m.decided) e (uh, ud)
+    | inr none ↦ absurd (in_none x none)
+  ]
+]
+
+pub learns : (l : Layout) (id other : ℕ) (v u : View) → u.role ≡ Note
+    → Joins {S = Unit {0}} (λ s. Shows l s.words s.views) id v other u (learned v u) spent_view
+learns l id other v u note = joins l id other v u (learned v u) spent_view (λ words views s h f g at most.
+    let a = longer_of v.history u.history s.story.history f.history g.history in
+    let b = longer_of v.decided u.decided s.story.decided f.decided g.decided in
+    let p : HasNothing u.made u.due u.seat.stage u.mine =
+    subst (λ role. HasPart role u.made u.due u.seat.stage u.mine) note g.part in
+    let unsat : (k : ℕ) → sits k u ≡ 0 = λ k. ap (sits_by k) note in record {
+      fits = (
+        record {
+          history = a.whole;
+          decided = b.whole;
+          heard = heard_both v u s.story f.history f.decided g.history g.decided;
+          mine = f.mine;
+          mine_own = λ x has.
+              own_longer v.role v.history (learned v u).history v.decided (learned v u).decided x a.left b.left
+              (f.mine_own x has);
+          records = f.records;
+          kept = f.kept;
+          loaded = f.loaded;
+          own = λ q here.
+              let o = f.own q here in record {
+                layout = o.layout;
+                seat = o.seat;
+                tried = tried_longer q v.history (learned v u).history s.story.checks v.checked v.mine v.seat.stage a.left o.tried;
+                took = o.took;
+              };
+          low = f.low;
+          part = f.part;
+          keepers = λ keeper.
+              let was = f.keepers keeper in
+              record { epoch = was.epoch; past = was.past; parked_are = was.parked_are; parked = was.parked };
+          met = f.met;
+        },
+        (spent_fits l s, tt),
+      );
+      keeper = omega (arith, unsat 0);
+      made = λ worker. omega (arith, unsat (suc worker), ap (times worker) p.nobody);
+      once = λ k. omega (arith, unsat k, h.sums.once k);
+      mine = λ k. omega (arith, ap (total (λ (x : Attempt). k x.number)) p.no_commits);
+      few = omega arith;
+      room = omega arith;
+    })
+
+-- ---- a worker is seated
+
+pub keeper_part : (role : Role) → role ≡ Keeper → (made made' : List ℕ) (due : Bool) (stage : Stage) (mine mine' : List Attempt)
+    → HasPart role made due stage mine → HasPart role made' due stage mine'
+keeper_part Keeper e made made' due stage mine mine' h = h
+keeper_part (Worker w) e made made' due stage mine mine' h = absurd (cc)
+keeper_part Note e made made' due stage mine mine' h = absurd (cc)
+keeper_part Spent e made made' due stage mine mine' h = absurd (cc)
+
+pub seats : (l : Layout) (id : ℕ) (v : View) (worker : ℕ) → v.role ≡ Keeper → worker < 8 → times worker v.made ≡ 0
+    → Splits {S = Unit {0}} (λ s. Shows l s.words s.views) id v (seated worker v) (worker_view worker v)
+seats l id v worker is few free = splits l id v (seated worker v) (worker_view worker v) (λ words views s h f at.
+    let more : (x : ℕ) → times x (v.made ++ worker ∷ []) ≡ times x v.made + one_at x worker = λ x.
+    omega (arith, total-append (one_at x) v.made (worker ∷ [])) in
+    let alone : total (makes worker) views ≡ times worker v.made =
+    each_at (MadeByOne views) views id v (made_by_one l s views words h) at (ap (sits_by 0) is) worker in
+    let keepers = f.keepers is in
+    let parked = keepers.parked worker few free in
+    let no_part : (part : Part) → Contains (worker_view worker v).seat.kept part → ⊥ = λ part has.
+    in_none part
+    (subst (λ (x : List Part). Contains x part) (ap (λ (t : Seat). t.kept) (sym parked.is) ∙ parked.resting.kept) has) in
+    record {
+      fits = (
+        record {
+          history = f.history;
+          decided = f.decided;
+          heard = f.heard;
+          mine = f.mine;
+          mine_own = f.mine_own;
+          records = f.records;
+          kept = f.kept;
+          loaded = f.loaded;
+          own = λ p here. let o = f.own p here in record { layout = o.layout; seat = o.seat; tried = o.tried; took = o.took };
+          low = f.low;
+          part = keeper_part v.role is v.made (v.made ++ worker ∷ []) v.due v.seat.stage v.mine v.mine f.part;
+          keepers = λ keeper. record {
+            epoch = keepers.epoch;
+            past = keepers.past;
+            parked_are = keepers.parked_are;
+            parked = λ x less none. keepers.parked x less (let e = more x in omega arith);
+          };
+          met = f.met;
+        },
+        (
+          record {
+            history = f.history;
+            decided = f.decided;
+            heard = λ x has. absurd (in_none x has);
+            mine = tt;
+            mine_own = λ a has. absurd (in_none a has);
+            records = λ part has. absurd (no_part part has);
+            kept = λ k x c has. absurd (no_part _ has);
+            loaded = tt;
+            own = λ p here. record {
+              layout = (f.own 0 (subst (IsAt 0) (sym is) refl)).layout;
+              seat = sym parked.is ∙ ap s.seats (sym here);
+              tried = subst (Tried p v.history s.story.checks [] []) (ap (λ (t : Seat). t.stage) parked.is)
+                  (subst (Tried p v.history s.story.checks [] []) (sym parked.resting.stage) tt);
+              took = λ t has. absurd (in_none t has);
+            };
+            low = omega arith;
+            part = (few, refl);
+            keepers = λ keeper. absurd (cc);
+            met = λ met has. absurd (in_none met has);
+          },
+          tt,
+        ),
+      );
+      keeper = let none : one_at 0 (suc worker) ≡ 0 = grind (arith, nat_tests) in omega arith;
+      made = λ x.
+          let same : one_at (suc x) (suc worker) ≡ one_at x worker = grind (arith, nat_tests) in omega (arith, more x);
+      once = λ p.
+          by_equal p (suc worker)
+          (λ p. total (sits p) views + (sits p v + (one_at p (suc worker) + 0)) ≤ 1 + (sits p v + 0))
+          (let one : one_at (suc worker) (suc worker) ≡ 1 = grind (arith, nat_tests) in
+          omega (arith, h.sums.made_are worker, term_at_most (sits (suc worker)) views id v at))
+          (λ other.
+          let none : one_at p (suc worker) ≡ 0 = grind (arith, nat_tests) in omega (arith, h.sums.once p));
+      mine = λ k. refl;
+      few =
+          let idle : tries (worker_view worker v) ≡ 0 =
+          ap (λ (t : Seat). cond (is_trying t.stage) 1 0) (sym parked.is)
+          ∙ ap (λ (x : Stage). cond (is_trying x) 1 0) parked.resting.stage in omega arith;
+      room = omega arith;
+    })
+
+-- after the load of the clock behind a join, both have been seen
+pub seen_both : (v u joined w : View) (n : ℕ) → joined.heard ≡ heard_of v ∷ heard_of u ∷ [] → HasTimed joined n w
+    → HasSeen v w × HasSeen u w
+seen_both v u joined w n heard timed =
+    let first = timed.heard (heard_of v)
+    (subst (λ (y : List Heard). Contains y (heard_of v)) (sym heard) (in_head (heard_of v) (heard_of u ∷ []))) in
+    let next = timed.heard (heard_of u)
+    (subst (λ (y : List Heard). Contains y (heard_of u)) (sym heard)
+    (in_tail (heard_of u) (heard_of v) (heard_of u ∷ []) (in_head (heard_of u) []))) in
+    (record { history = first.0; decided = first.1 }, record { history = next.0; decided = next.1 })

@@ -1,0 +1,51 @@
+-- What the steps of the clock and of the marks tell.
+use Rattle.std.specs.Prelude.{◌≡◌, ℕ, ◌+◌, ◌<◌, ◌≤◌, List, [], ◌∷◌, ◌++◌, Option, Some, None, ⊤}
+use Rattle.atomic_table.specs.Table.{Step}
+use Rattle.commit_core.specs.declared.seat.Mark.{Mark}
+use Rattle.commit_core.specs.CoreState.{last_marked}
+use Rattle.engine_words.specs.declared.view.Met.{Met}
+use Rattle.engine_words.specs.declared.view.View.{View}
+use Rattle.engine_words.specs.Layout.{mark_at}
+use Rattle.engine_words.specs.Rule.{IsSmallMark, word_of_mark}
+use Rattle.engine_words.specs.Steps.{glanced}
+
+-- ---- the clock
+
+-- the clock is in the next epoch
+abbrev pub advanced : View → View
+advanced v = record v { epoch = v.epoch + 1; steps = v.steps + 1; loaded = None }
+
+-- the same of the step
+abbrev pub Advances : Step (Unit {0}) → View → ℕ → View → Type 0
+Advances s v n w = w ≡ advanced v
+
+-- ---- marks
+
+-- an epoch below the one that was seen, and none below an earlier mark's; or idle
+abbrev pub CanMark : View → Option ℕ → Type 0
+CanMark v None = ⊤
+CanMark v (Some e) = (e < v.epoch) × (last_marked v.seat.marks ≤ e)
+
+-- one mark more
+abbrev pub marked : Mark → View → View
+marked mark v =
+    record v { seat = record v.seat { marks = v.seat.marks ++ mark ∷ [] }; steps = v.steps + 1; loaded = None }
+
+-- the same of the step
+abbrev pub Marks : Mark → Step (Unit {0}) → View → ℕ → View → Type 0
+Marks mark s v n w = w ≡ marked mark v
+
+-- the worker's mark has this word
+abbrev pub met_at : ℕ → ℕ → Met
+met_at worker n = record { worker = worker; word = n }
+
+-- the mark of the worker was loaded, which is one that it set
+pub record HasMet (worker : ℕ) (v : View) (n : ℕ) (w : View) : Type 0 where
+  pub mark : Mark
+  pub small : IsSmallMark mark
+  pub found : n ≡ word_of_mark mark
+  pub is : w ≡ record (glanced (mark_at worker) n v) { met = v.met ++ met_at worker n ∷ [] }
+
+-- the same of the step
+abbrev pub Meets : ℕ → Step (Unit {0}) → View → ℕ → View → Type 0
+Meets worker s v n w = HasMet worker v n w

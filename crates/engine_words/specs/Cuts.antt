@@ -1,0 +1,115 @@
+-- How views are cut and joined.
+use Rattle.std.specs.Prelude.{ℕ, Bool, false, cond, List, [], ◌∷◌, ◌++◌, get_or, slice_set, None}
+use Rattle.serial_model.specs.Numbers.{is_below}
+use Rattle.commit_core.specs.declared.attempt.Attempt.{Attempt}
+use Rattle.commit_core.specs.Keys.{opening_number}
+use Rattle.views.specs.Sums.{without}
+use Rattle.views.specs.Longer.{longer}
+use Rattle.engine_words.specs.declared.layout.Layout.{Layout}
+use Rattle.engine_words.specs.declared.view.Role.{Role}
+use Rattle.engine_words.specs.declared.view.Role.TheVariants.{Keeper, Worker, Note, Spent}
+use Rattle.lists.specs.Fronts.{IsFront}
+use Rattle.engine_words.specs.declared.view.Heard.{Heard}
+use Rattle.engine_words.specs.declared.view.View.{View}
+use Rattle.engine_words.specs.Views.{bare_seat}
+
+-- a view without a seat, which has seen what v has
+abbrev pub note_view : View → View
+note_view v = record {
+  layout = v.layout;
+  role = Note;
+  made = [];
+  past = 0;
+  parked = [];
+  steps = 0;
+  epoch = 0;
+  history = v.history;
+  decided = v.decided;
+  heard = [];
+  mine = [];
+  due = false;
+  seat = bare_seat;
+  checked = [];
+  took = [];
+  reads = [];
+  refused = [];
+  last = None;
+  loaded = None;
+  met = [];
+}
+
+-- what is left of a view that was taken into another
+abbrev pub spent_view : View
+spent_view = record {
+  layout = record { first = opening_number; decls = []; opening = [] };
+  role = Spent;
+  made = [];
+  past = 0;
+  parked = [];
+  steps = 0;
+  epoch = 0;
+  history = [];
+  decided = [];
+  heard = [];
+  mine = [];
+  due = false;
+  seat = bare_seat;
+  checked = [];
+  took = [];
+  reads = [];
+  refused = [];
+  last = None;
+  loaded = None;
+  met = [];
+}
+
+-- what the view has seen
+abbrev pub heard_of : View → Heard
+heard_of v = record { history = v.history; decided = v.decided }
+
+-- v has seen what u has, too
+abbrev pub learned : View → View → View
+learned v u = record v {
+  history = longer v.history u.history;
+  decided = longer v.decided u.decided;
+  heard = heard_of v ∷ heard_of u ∷ [];
+}
+
+-- what v has seen stands at the beginning of what w has
+pub record HasSeen (v w : View) : Type 0 where
+  pub history : IsFront v.history w.history
+  pub decided : IsFront v.decided w.decided
+
+-- the keeper's view with one worker more
+abbrev pub seated : ℕ → View → View
+seated worker v = record v { made = v.made ++ worker ∷ [] }
+
+-- and that of the worker, with the seat that the keeper's view had
+abbrev pub worker_view : ℕ → View → View
+worker_view worker v = record (note_view v) { role = Worker worker; seat = get_or v.parked worker bare_seat }
+
+-- the worker of a pass
+abbrev pub worker_of : Role → ℕ
+worker_of Keeper = 0
+worker_of (Worker w) = w
+worker_of Note = 0
+worker_of Spent = 0
+
+-- one more, in order of number
+abbrev pub put_in : Attempt → List Attempt → List Attempt
+put_in a [] = a ∷ []
+put_in a (b ∷ more) = cond (is_below a.number b.number) (a ∷ b ∷ more) (b ∷ put_in a more)
+
+-- both lists, in order of number
+abbrev pub gathered : List Attempt → List Attempt → List Attempt
+gathered xs [] = xs
+gathered xs (y ∷ ys) = gathered (put_in y xs) ys
+
+-- the keeper's view with what a worker's has
+abbrev pub ended : View → View → View
+ended v u = record (learned v u) {
+  made = without (worker_of u.role) v.made;
+  mine = gathered v.mine u.mine;
+  refused = v.refused ++ u.refused;
+  parked = slice_set v.parked (worker_of u.role) u.seat;
+}

@@ -1,0 +1,11 @@
+pub mod Layout
+pub mod Views
+pub mod Rule
+pub mod Cuts
+pub mod Steps
+pub mod Reads
+pub mod Locks
+pub mod Attempts
+pub mod Clock
+pub mod Making
+pub mod Passes

@@ -1,0 +1,153 @@
+-- What a step tells the pass that makes it.
+use Rattle.std.specs.Prelude.{◌≡◌, ℕ, ◌+◌, ◌-◌, ◌/◌, ◌%◌, ◌^◌, ◌<◌, ◌==◌, Bool, true, false, not, ◌≤◌, List, [], ◌∷◌}
+use Rattle.std.specs.Prelude.{◌++◌, filter, length, nat_lt, Option, None, Some, Contains, MatchBool}
+use Rattle.atomic_table.specs.Table.{Me, Step}
+use Rattle.lists.specs.Fronts.{IsFront}
+use Rattle.serial_model.specs.declared.key.Key.{Key}
+use Rattle.serial_model.specs.declared.number.Number.{Number}
+use Rattle.serial_model.specs.Numbers.{draw_limit}
+use Rattle.homes.specs.declared.places.Content.{Content}
+use Rattle.homes.specs.declared.places.Spot.{Spot}
+use Rattle.wire_form.specs.Words.{number_word}
+use Rattle.commit_core.specs.declared.attempt.Attempt.{Attempt}
+use Rattle.commit_core.specs.Keys.{opening_number}
+use Rattle.commit_core.specs.Parts.{record_part, with_part}
+use Rattle.commit_core.specs.CoreState.{is_decided}
+use Rattle.commit_core.specs.Serial.{ReadsAreSerial, ReadsFrom, state_below}
+use Rattle.commit_core.specs.Sound.Numbers.{EachOnce}
+use Rattle.views.specs.Sums.{total}
+use Rattle.engine_words.specs.declared.view.Glance.{Glance}
+use Rattle.engine_words.specs.declared.view.Heard.{Heard}
+use Rattle.engine_words.specs.declared.view.Read.{Read}
+use Rattle.engine_words.specs.declared.view.Refused.{Refused}
+use Rattle.engine_words.specs.declared.view.Refused.TheVariants.{NumberLimit}
+use Rattle.engine_words.specs.declared.view.Role.{Role}
+use Rattle.engine_words.specs.declared.view.Role.TheVariants.{Keeper, Worker, Note, Spent}
+use Rattle.engine_words.specs.declared.view.View.{View}
+use Rattle.engine_words.specs.Layout.{clock_at, decisions_at, spot_for, IsAtKey}
+use Rattle.engine_words.specs.Rule.{IsSmall}
+
+-- a fact of the step, the view before, the number found and the view after, as a table without slots wants it
+abbrev pub told : (Step (Unit {0}) → View → ℕ → View → Type 0) → Step (Unit {0}) → Me (Unit {0}) View → ℕ
+    → Me (Unit {0}) View → Type 0
+told tells s me n now = (now.1 ≡ me.1) × tells s me.0 n now.0
+
+-- a load that found this number
+abbrev pub glance : ℕ → ℕ → ℕ → Glance
+glance step word n = record { step = step; word = word; seen = n }
+
+-- one load more, and no act
+abbrev pub glanced : ℕ → ℕ → View → View
+glanced word n v = record v { steps = v.steps + 1; last = Some (glance v.steps word n) }
+
+-- the words that were met, with this one as it was last seen or left
+abbrev pub with_read : List Read → ℕ → ℕ → List Read
+with_read reads word n = filter (λ r. not (r.word == word)) reads ++ record { word = word; seen = n } ∷ []
+
+-- one load of a word of a record
+abbrev pub read_at : ℕ → ℕ → View → View
+read_at word n v = record (glanced word n v) { reads = with_read v.reads word n }
+
+-- the place of the key's record, as the view has it
+abbrev pub spot_in : View → Key → Spot
+spot_in v k = spot_for v.layout.decls k
+
+-- the record's word of the key stands here
+abbrev pub IsKeyAt : View → Key → ℕ → Type 0
+IsKeyAt v k at = IsAtKey v.layout.decls k (spot_in v k) at
+
+-- The decided attempts, in order of number, read serially from the opening, and each read what the state below it has.
+pub record AreSerial (opening : List (Key × Content)) (history : List Attempt) (decided : List Number) : Type 0 where
+  pub run : ReadsAreSerial opening (filter (λ a. is_decided decided a.number) history)
+  pub reads : (a : Attempt) → Contains history a → is_decided decided a.number ≡ true
+      → ReadsFrom (state_below opening history decided a.number) a
+
+-- the epoch before the clock's is over, where the keeper has seated nobody; else the one that was known to be over
+abbrev pub past_at : Role → List ℕ → ℕ → ℕ → ℕ
+past_at Keeper [] past epoch = epoch - 1
+past_at Keeper (worker ∷ more) past epoch = past
+past_at (Worker w) made past epoch = past
+past_at Note made past epoch = past
+past_at Spent made past epoch = past
+
+-- the clock had this word, and these draws and decisions were made
+abbrev pub timed : List Attempt → List Number → ℕ → View → View
+timed all chosen n v = record (glanced clock_at n v) {
+  history = all;
+  decided = chosen;
+  heard = [];
+  epoch = n / 2 ^ 40;
+  past = past_at v.role v.made v.past (n / 2 ^ 40);
+}
+
+-- The clock was seen, and with it all draws and decisions: it counts the draws from the first one on. What was heard
+-- stands at their beginning.
+pub record HasTimed (v : View) (n : ℕ) (w : View) : Type 0 where
+  pub history : IsFront v.history w.history
+  pub decided : IsFront v.decided w.decided
+  pub heard : (x : Heard) → Contains v.heard x → IsFront x.history w.history × IsFront x.decided w.decided
+  pub draws : n % 2 ^ 40 ≡ v.layout.first.draw + length w.history
+  pub epoch : v.epoch ≤ n / 2 ^ 40
+  pub is : w ≡ timed w.history w.decided n v
+
+-- the same of the step
+abbrev pub Times : Step (Unit {0}) → View → ℕ → View → Type 0
+Times s v n w = HasTimed v n w
+
+-- All draws and decisions are now seen, and so many attempts count, each of which was drawn and counts once. They are
+-- serial from what stood at keys at first. Where no worker is seated, they are the keeper's own.
+pub record HasCounted (v : View) (n : ℕ) (w : View) : Type 0 where
+  pub history : IsFront v.history w.history
+  pub decided : IsFront v.decided w.decided
+  pub count : length w.decided ≡ n
+  pub drawn : (number : Number) → is_decided w.decided number ≡ true
+      → (a : Attempt) × Contains w.history a × (a.number ≡ number)
+  pub once : EachOnce w.decided
+  pub serial : AreSerial v.layout.opening w.history w.decided
+  pub all : v.role ≡ Keeper → v.made ≡ [] → (h : Number → ℕ) → total (λ a. h a.number) v.mine ≡ total h w.decided
+  pub is : w ≡ record (glanced decisions_at n v) { history = w.history; decided = w.decided }
+
+-- the clock was seen, and then the count of decisions
+abbrev pub HasAudited : View → ℕ → ℕ → View → Type 0
+HasAudited v clock n w = (timed : View) × HasTimed v clock timed × HasCounted timed n w
+
+-- the same of the step
+abbrev pub Counts : Step (Unit {0}) → View → ℕ → View → Type 0
+Counts s v n w = HasCounted v n w
+
+-- ---- the begin and the end of a transaction
+
+-- a draw is due, the clock's epoch was seen, and no word of a record was met
+abbrev pub readied : ℕ → View → View
+readied n v = record (glanced clock_at n v) { due = true; epoch = n / 2 ^ 40; reads = [] }
+
+-- one refusal more
+abbrev pub refused_for : Refused → View → View
+refused_for r v = record v { refused = v.refused ++ r ∷ [] }
+
+-- so it is, unless the clock is at the last draws
+abbrev pub Begun : View → ℕ → View → Type 0
+Begun v n w =
+    MatchBool (nat_lt (n % 2 ^ 40) draw_limit) (w ≡ readied n v)
+    (w ≡ refused_for (NumberLimit n) (glanced clock_at n v))
+
+-- the same of the step
+abbrev pub Begins : Step (Unit {0}) → View → ℕ → View → Type 0
+Begins s v n w = Begun v n w
+
+-- what was kept is dropped, and no draw is due
+abbrev pub forgot : View → View
+forgot v = record v { due = false; seat = record v.seat { kept = [] }; steps = v.steps + 1; loaded = None }
+
+-- what was refused, and this, where there is one more
+abbrev pub with_why : List Refused → Option Refused → List Refused
+with_why refused None = refused
+with_why refused (Some r) = refused ++ r ∷ []
+
+-- the same, and why, where it was refused
+abbrev pub forgot_for : Option Refused → View → View
+forgot_for why v = record (forgot v) { refused = with_why v.refused why }
+
+-- the same of the step
+abbrev pub Forgets : Option Refused → Step (Unit {0}) → View → ℕ → View → Type 0
+Forgets why s v n w = w ≡ forgot_for why v

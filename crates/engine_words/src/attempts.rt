@@ -1,0 +1,84 @@
+// Draws, checks and decisions of attempts.
+ghost use Rattle.std.specs.Prelude.{◌≡◌, ℕ};
+ghost use Rattle.commit_core.specs.Keys.{has_key};
+ghost use Rattle.engine_words.specs.Attempts.{CanDraw, HasDrawn, CanCheckWord, Checked, CanDecide, HasChosen};
+ghost use Rattle.engine_words.specs.Passes.{view, IsPassOf};
+ghost use Rattle.engine_words.specs.Steps.{spot_in, IsKeyAt};
+ghost use Rattle.engine_words.specs.Views.{IsActive};
+
+use crate::engine::{Engine, Pass};
+use crate::law::{Checking, Compared, Deciding, Drawing, Writing};
+use commit_core::commits_are_serial;
+use serial_model::{Changes, Key};
+use std::marker::Brand;
+
+/// Draws the next number for an attempt with these writes, whose keys are those locked, and with what was kept as its
+/// parts. Answers the number's word.
+pub fn draw(engine: &Engine, pass: &mut Pass, writes: &Changes) -> u64
+    requires of { IsPassOf engine.now pass.old }
+    requires pass { IsActive (view pass.old).role }
+    requires can { CanDraw writes.now (view pass.old) }
+    ensures of { IsPassOf engine.now pass.new }
+    ensures draws { HasDrawn writes.now (view pass.old) result (view pass.new) }
+{
+    draw_as::<Brand>(engine, pass, writes)
+}
+
+fn draw_as<J: Writing>(engine: &Engine, pass: &mut Pass, writes: &Changes) -> u64
+    requires of { IsPassOf engine.now pass.old }
+    requires pass { IsActive (view pass.old).role }
+    requires can { CanDraw writes.now (view pass.old) }
+    requires named { writes.now ≡ J.writes }
+    ensures of { IsPassOf engine.now pass.new }
+    ensures draws { HasDrawn writes.now (view pass.old) result (view pass.new) }
+{
+    commits_are_serial();
+    engine.table.shared.fetch_add::<Drawing<J>>(pass, 0, 1)
+}
+
+/// Loads the word of a part again, which was this one as it was seen: the part is checked where it still is, maybe with
+/// an own lock, and else the attempt failed. Answers the word that it found.
+pub fn check(engine: &Engine, pass: &mut Pass, key: Key, at: u32, word: u64, own: bool) -> u64
+    requires of { IsPassOf engine.now pass.old }
+    requires pass { IsActive (view pass.old).role }
+    requires place { IsKeyAt (view pass.old) key at }
+    requires part { CanCheckWord (view pass.old) key word }
+    requires own { own ≡ has_key (view pass.old).seat.locks key }
+    ensures of { IsPassOf engine.now pass.new }
+    ensures checks { Checked (spot_in (view pass.old) key) at word own (view pass.old) result (view pass.new) }
+{
+    check_as::<Brand>(engine, pass, key, at, word, own)
+}
+
+fn check_as<J: Compared>(
+    engine: &Engine,
+    pass: &mut Pass,
+    key: Key,
+    at: u32,
+    word: u64,
+    own: bool,
+) -> u64
+    requires of { IsPassOf engine.now pass.old }
+    requires pass { IsActive (view pass.old).role }
+    requires place { IsKeyAt (view pass.old) key at }
+    requires part { CanCheckWord (view pass.old) key word }
+    requires own { own ≡ has_key (view pass.old).seat.locks key }
+    requires named { (key ≡ J.key) × (word ≡ J.word) × (own ≡ J.own) }
+    ensures of { IsPassOf engine.now pass.new }
+    ensures checks { Checked (spot_in (view pass.old) key) at word own (view pass.old) result (view pass.new) }
+{
+    commits_are_serial();
+    engine.table.shared.load::<Checking<J>>(pass, at as usize)
+}
+
+/// Lets the attempt count, whose parts are checked.
+pub fn decide(engine: &Engine, pass: &mut Pass)
+    requires of { IsPassOf engine.now pass.old }
+    requires pass { IsActive (view pass.old).role }
+    requires checked { CanDecide (view pass.old) }
+    ensures of { IsPassOf engine.now pass.new }
+    ensures decides { (n : ℕ) × HasChosen (view pass.old) n (view pass.new) }
+{
+    commits_are_serial();
+    engine.table.shared.fetch_add::<Deciding>(pass, 1, 1);
+}

@@ -1,0 +1,48 @@
+// How a transaction begins, and ends before its draw.
+ghost use Rattle.std.specs.Prelude.{◌≡◌, true, false};
+ghost use Rattle.commit_core.specs.CoreState.{can_begin};
+ghost use Rattle.engine_words.specs.declared.view.Role.TheVariants.{Worker};
+ghost use Rattle.engine_words.specs.Passes.{view, IsPassOf};
+ghost use Rattle.engine_words.specs.Cuts.{worker_of};
+ghost use Rattle.engine_words.specs.Steps.{Begun, forgot_for};
+ghost use Rattle.engine_words.specs.Views.{IsActive};
+
+use crate::Refused;
+use crate::engine::{Engine, Pass};
+use crate::law::{Beginning, Excused, Forgetting};
+use commit_core::commits_are_serial;
+use std::marker::Brand;
+
+/// Loads the clock. A draw is due from then on, unless the clock is at the last draws: so there is room for a number
+/// for each seat that has yet to draw.
+pub fn begin(engine: &Engine, pass: &mut Pass) -> u64
+    requires of { IsPassOf engine.now pass.old }
+    requires worker { (view pass.old).role ≡ Worker (worker_of (view pass.old).role) }
+    requires once { (view pass.old).due ≡ false }
+    ensures of { IsPassOf engine.now pass.new }
+    ensures begins { Begun (view pass.old) result (view pass.new) }
+{
+    commits_are_serial();
+    engine.table.shared.load::<Beginning>(pass, 0)
+}
+
+/// Drops what was kept: the transaction is over before its draw, maybe since it was refused for this.
+pub fn forget(engine: &Engine, pass: &mut Pass, why: Option<Refused>)
+    requires of { IsPassOf engine.now pass.old }
+    requires pass { IsActive (view pass.old).role × (can_begin (view pass.old).seat.stage ≡ true) }
+    ensures of { IsPassOf engine.now pass.new }
+    ensures forgets { view pass.new ≡ forgot_for why (view pass.old) }
+{
+    forget_as::<Brand>(engine, pass, why);
+}
+
+fn forget_as<J: Excused>(engine: &Engine, pass: &mut Pass, why: Option<Refused>)
+    requires of { IsPassOf engine.now pass.old }
+    requires pass { IsActive (view pass.old).role × (can_begin (view pass.old).seat.stage ≡ true) }
+    requires named { why ≡ J.why }
+    ensures of { IsPassOf engine.now pass.new }
+    ensures forgets { view pass.new ≡ forgot_for why (view pass.old) }
+{
+    commits_are_serial();
+    engine.table.shared.load::<Forgetting<J>>(pass, 0);
+}

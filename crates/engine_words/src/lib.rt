@@ -1,0 +1,39 @@
+//! The machine of commits shown by words that threads share: what stands in the words, and what each seat knows.
+//!
+//! Promises: between any two steps of any threads, words and views show a sound state of `commit_core` (`Shows`), in
+//! which the record of each key stands at its home (`IsLaidOut`).
+//! Terms: *pass*, a seat of the table: a token of no bytes that a thread steps with; *view*, what its thread knows,
+//! which no byte of a running program has; *glance*, one load or compare_exchange, as the thread remembers it.
+//! Steps: each call is one atomic step on one word, but for `end` and `learn`, which load the clock behind a join, and
+//! `audit`, which loads two words.
+//! Layout: specs/Layout.antt, which word is which; specs/Views.antt, one view by itself; specs/Rule.antt, the rule;
+//! specs/Cuts.antt, how views are cut and joined; specs/Steps.antt, Reads, Locks, Attempts and Clock, what steps tell;
+//! specs/Making.antt, what an engine is made from.
+//! Design: docs/COMMIT.md.
+#![tactic(auto)]
+
+mod attempts;
+mod beginning;
+mod clock;
+mod counters;
+mod engine;
+mod law;
+mod layout;
+mod locking;
+mod making;
+mod places;
+mod reading;
+mod seating;
+mod view;
+
+pub use attempts::{check, decide, draw};
+pub use beginning::{begin, forget};
+pub use clock::{advance, load_mark, mark};
+pub use counters::audit;
+pub use engine::{Engine, Pass};
+pub use law::Law;
+pub use layout::Layout;
+pub use locking::{LOCK, lock, open_again, open_anew, put};
+pub use reading::{confirm, load_value, see};
+pub use seating::{end, learn, note, seat};
+pub use view::{Glance, Heard, Loaded, Met, Read, Refused, Role, SetName, Took, View};

@@ -14,7 +14,7 @@ use Rattle.serial_model.specs.declared.op.Op.{Op}
 use Rattle.script_grammar.specs.declared.fault.FaultKind.{FaultKind}
 use Rattle.script_grammar.specs.declared.fault.FaultKind.TheVariants.{Word, Number, Declared, Kind, Range}
 use Rattle.script_grammar.specs.declared.lines.KeeperLine.{KeeperLine}
-use Rattle.script_grammar.specs.declared.lines.KeeperLine.TheVariants.{Epoch, Save}
+use Rattle.script_grammar.specs.declared.lines.KeeperLine.TheVariants.{Epoch, Save, Glean}
 use Rattle.script_grammar.specs.Script.{Bytes, Line, Worker, Keeper, IsAsked, op_text, keeper_text}
 use Rattle.script_grammar.specs.Words.{passes, words, number_in, is_no_number, is_word, is_join, is_keeper_line, is_worker_line, worker_word, op_parts}
 use Rattle.script_grammar.specs.Reading.{Parts, is_fresh, may_declare, may_run, with_join, ops_in, line_at, decl_at, step}
@@ -278,9 +278,12 @@ taken_asked p line asked is short few e =
 
 taken_keeper : (p : Parts) (line : Bytes) → IsShort line → is_keeper_line line ≡ true → nat_le 65536 (length p.lines) ≡ false → IsTaken p line
 taken_keeper p line short keeper few =
-    elim (or_cases (is_word (codes "k epoch") line) (is_word (codes "k save") line) keeper) [
+    elim (or_cases (is_word (codes "k epoch") line) (is_word (codes "k save") line || is_word (codes "k glean") line) keeper) [
       | inl epoch ↦ taken_asked p line Epoch tt short few (same_text line (codes "k epoch") (sym epoch))
-      | inr save ↦ taken_asked p line Save tt short few (same_text line (codes "k save") (sym save))
+      | inr later ↦ elim (or_cases (is_word (codes "k save") line) (is_word (codes "k glean") line) later) [
+        | inl save ↦ taken_asked p line Save tt short few (same_text line (codes "k save") (sym save))
+        | inr glean ↦ taken_asked p line Glean tt short few (same_text line (codes "k glean") (sym glean))
+      ]
     ]
 
 -- too many lines are none of the maintenance thread

@@ -105,7 +105,7 @@ passes_keeper : (p : Parts) (asked : KeeperLine) → IsAsked asked → nat_lt (l
 unfolding kind_of is_too_long has_no_shape lacks_number is_too_many is_misdeclared is_of_other_kind is_out_of_range is_decl_shape
 passes_keeper p Epoch is room = record { kind = rw (lt-leb 65536 (length p.lines) (ltb-true _ _ room)) refl; past = past_line p (codes "k epoch") (Keeper Epoch) refl }
 passes_keeper p Save is room = record { kind = rw (lt-leb 65536 (length p.lines) (ltb-true _ _ room)) refl; past = past_line p (codes "k save") (Keeper Save) refl }
-passes_keeper p Glean is room = absurd is
+passes_keeper p Glean is room = record { kind = rw (lt-leb 65536 (length p.lines) (ltb-true _ _ room)) refl; past = past_line p (codes "k glean") (Keeper Glean) refl }
 passes_keeper p Drop is room = absurd is
 
 -- behind a line that may come here stands the next one

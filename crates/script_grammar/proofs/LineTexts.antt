@@ -153,24 +153,29 @@ line_found line worker ops begins number_is below found few =
 -- ---- lines of the maintenance thread
 
 -- the words decide what is asked for
-keeper_by_words : (line : Bytes) (asked : KeeperLine) (epoch save : Bool) → is_word (codes "k epoch") line ≡ epoch → is_word (codes "k save") line ≡ save
-    → cond epoch (Some Epoch) (cond save (Some Save) None) ≡ Some asked → (line ≡ keeper_text asked) × IsAsked asked
-keeper_by_words line asked true save e f found =
+keeper_by_words : (line : Bytes) (asked : KeeperLine) (epoch save glean : Bool) → is_word (codes "k epoch") line ≡ epoch
+    → is_word (codes "k save") line ≡ save → is_word (codes "k glean") line ≡ glean
+    → cond epoch (Some Epoch) (cond save (Some Save) (cond glean (Some Glean) None)) ≡ Some asked
+    → (line ≡ keeper_text asked) × IsAsked asked
+keeper_by_words line asked true save glean e f g found =
     subst (λ (a : KeeperLine). (line ≡ keeper_text a) × IsAsked a) (some_same Epoch asked found) (same_text line (codes "k epoch") (sym e), tt)
-keeper_by_words line asked false true e f found =
+keeper_by_words line asked false true glean e f g found =
     subst (λ (a : KeeperLine). (line ≡ keeper_text a) × IsAsked a) (some_same Save asked found) (same_text line (codes "k save") (sym f), tt)
-keeper_by_words line asked false false e f found = absurd cc
+keeper_by_words line asked false false true e f g found =
+    subst (λ (a : KeeperLine). (line ≡ keeper_text a) × IsAsked a) (some_same Glean asked found) (same_text line (codes "k glean") (sym g), tt)
+keeper_by_words line asked false false false e f g found = absurd cc
 
 -- a line of the maintenance thread that is read is spelled so
 keeper_takes : (line : Bytes) (asked : KeeperLine) → keeper_in line ≡ Some asked → (line ≡ keeper_text asked) × IsAsked asked
-keeper_takes line asked e = keeper_by_words line asked (is_word (codes "k epoch") line) (is_word (codes "k save") line) refl refl e
+keeper_takes line asked e = keeper_by_words line asked (is_word (codes "k epoch") line) (is_word (codes "k save") line)
+    (is_word (codes "k glean") line) refl refl refl e
 
 -- and what is spelled so is read
 keeper_again : (asked : KeeperLine) → IsAsked asked → line_at (keeper_text asked) ≡ Some (Keeper asked)
 unfolding line_at
 keeper_again Epoch is = refl
 keeper_again Save is = refl
-keeper_again Glean is = absurd is
+keeper_again Glean is = refl
 keeper_again Drop is = absurd is
 
 -- ---- both kinds of lines

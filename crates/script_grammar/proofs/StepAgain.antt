@@ -76,7 +76,7 @@ line_begins (Worker worker ops) is =
     (omega arith, rw (ne_eqb (48 + worker) 106 (λ same. omega arith)) refl, or_from (eqb (48 + worker) 97) _ (ne_eqb (48 + worker) 97 (λ same. omega arith)) (ne_eqb (48 + worker) 116 (λ same. omega arith)))
 line_begins (Keeper Epoch) is = (omega arith, refl, refl)
 line_begins (Keeper Save) is = (omega arith, refl, refl)
-line_begins (Keeper Glean) is = absurd is
+line_begins (Keeper Glean) is = (omega arith, refl, refl)
 line_begins (Keeper Drop) is = absurd is
 
 -- a worker's line that may come here is one line more

@@ -13,7 +13,7 @@ use Rattle.serial_model.specs.declared.decl.Decl.TheVariants.{Array, Tree}
 use Rattle.script_grammar.specs.declared.fault.ScriptFault.{ScriptFault}
 use Rattle.script_grammar.specs.declared.fault.Refused.{Refused}
 use Rattle.script_grammar.specs.declared.lines.KeeperLine.{KeeperLine}
-use Rattle.script_grammar.specs.declared.lines.KeeperLine.TheVariants.{Epoch, Save}
+use Rattle.script_grammar.specs.declared.lines.KeeperLine.TheVariants.{Epoch, Save, Glean}
 use Rattle.script_grammar.specs.Script.{Bytes, Line, Worker, Keeper, Round, Script, last_round}
 use Rattle.script_grammar.specs.Words.{◌>>=◌, words, is_word, worker_word, op_parts, is_join}
 
@@ -91,7 +91,8 @@ begins_keeper (b ∷ bs) = b == 107
 abbrev pub keeper_in : Bytes → Option KeeperLine
 keeper_in line =
     if is_word (codes "k epoch") line then Some Epoch
-    else (if is_word (codes "k save") line then Some Save else None)
+    else (if is_word (codes "k save") line then Some Save
+    else (if is_word (codes "k glean") line then Some Glean else None))
 
 -- a line of the maintenance thread, or else of a worker
 unfoldable pub line_at : Bytes → Option Line
@@ -203,7 +204,8 @@ Reads (Err errors.Memory) y found = ⊤
 Reads (Err (errors.Fault refused)) y found = found ≡ None
 
 -- where memory suffices, what was found is q, or there is nothing, and this is the fault that is told
-abbrev pub FindsOrTells : {X : Type 0} → Result X (OrMemory ScriptFault) → Option Parts → Option ScriptFault → Parts → Type 0
+abbrev pub FindsOrTells : {X : Type 0} → Result X (OrMemory ScriptFault) → Option Parts → Option ScriptFault → Parts
+    → Type 0
 FindsOrTells (Ok x) found told q = found ≡ Some q
 FindsOrTells (Err errors.Memory) found told q = ⊤
 FindsOrTells (Err (errors.Fault fault)) found told q = (found ≡ None) × (told ≡ Some fault)

@@ -138,11 +138,11 @@ pub record IsTransaction (decls : List Decl) (number : ℕ) (list : List Op) : T
   pub few_ops : length list ≤ 16
   pub ops : AllByRecursion (IsOp decls) list
 
--- what the maintenance thread can be asked for so far: the next epoch, and a savepoint
+-- what the maintenance thread can be asked for so far: the next epoch, a savepoint, and a snapshot from the logs
 abbrev pub IsAsked : KeeperLine → Type 0
 IsAsked Epoch = ⊤
 IsAsked Save = ⊤
-IsAsked Glean = ⊥
+IsAsked Glean = ⊤
 IsAsked Drop = ⊥
 
 -- a line by the rules

@@ -50,6 +50,9 @@ pub(crate) fn keeper_in(line: &[u8]) -> Option<KeeperLine>
     if line == b"k save".as_slice() {
         return Some(KeeperLine::Save);
     }
+    if line == b"k glean".as_slice() {
+        return Some(KeeperLine::Glean);
+    }
     None
 }
 

@@ -25,8 +25,8 @@ const WORD: &[u8] = b"\
 1 Tree 2|\
 1 trees 2|\
 1 k|\
-1 k glean|\
 1 k drop|\
+1 k gleans|\
 1 k save |\
 1 k  epoch|\
 1 k epoch 1|\

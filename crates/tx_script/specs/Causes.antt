@@ -1,7 +1,7 @@
 -- What must have happened for each outcome and each answer of a round. None comes without a cause.
 use Rattle.std.specs.Prelude.{◌≡◌, ◌<◌, ◌≤◌, ◌+◌, ◌-◌, ◌*◌, ◌^◌, ◌==◌, ◌||◌, ℕ, Bool, true, false, not, List}
 use Rattle.std.specs.Prelude.{[], ◌∷◌, length, filter, flat_map, fold, min, MatchBool, Option, Some, None}
-use Rattle.std.specs.Prelude.{is_some, option_to_list, ⊤}
+use Rattle.std.specs.Prelude.{is_some, nat_lt, option_to_list, if◌then◌else◌, ⊤}
 use Rattle.std.specs.List.{AllByRecursion, Contains, list_any}
 use Rattle.serial_model.specs.Numbers.{draw_limit, last_epoch}
 use Rattle.outside.specs.declared.vault.Device.{Device}
@@ -12,7 +12,7 @@ use Rattle.tx_script.specs.declared.answer.Answer.{Answer}
 use Rattle.tx_script.specs.declared.answer.Answer.TheVariants as answers
 use Rattle.tx_script.specs.declared.outcome.Outcome.{Outcome}
 use Rattle.tx_script.specs.declared.outcome.Outcome.TheVariants.{Committed, Conflict, Full, Wide, Limit, Unrun}
-use Rattle.tx_script.specs.Run.{LogRefusal, LogFailed, LogFull, Ran}
+use Rattle.tx_script.specs.Run.{LogFiles, LogRefusal, LogFailed, LogFull, Ran}
 
 -- ---- logs
 
@@ -24,19 +24,26 @@ log_limit = 2 ^ 40 - 1
 abbrev pub longest_line : ℕ
 longest_line = 400
 
--- the log file that this worker's lines go to
-abbrev pub log_of : ℕ → Device
-log_of worker = devices.Bank (2 * worker)
+-- a worker's log file of odd number, or of even number
+abbrev pub file_of : Bool → ℕ → Device
+file_of odd worker = devices.Bank (if odd then 2 * worker + 1 else 2 * worker)
+
+-- the log file that this worker's lines go to, and its closed one
+abbrev pub log_of : LogFiles → ℕ → Device
+log_of files worker = file_of files.odd worker
+
+abbrev pub closed_of : LogFiles → ℕ → Device
+closed_of files worker = file_of (not files.odd) worker
 
 -- What refused the logs of the workers from this one on: a log file that failed is one of the devices that did, and
 -- one that is full might get longer than it may with one line more.
-abbrev pub LogsCaused : List Device → ℕ → List (Option LogRefusal) → Type 0
-LogsCaused failed worker [] = ⊤
-LogsCaused failed worker (None ∷ logs) = LogsCaused failed (worker + 1) logs
-LogsCaused failed worker (Some LogFailed ∷ logs) = Contains failed (log_of worker)
-    × LogsCaused failed (worker + 1) logs
-LogsCaused failed worker (Some (LogFull size) ∷ logs) = (log_limit < size + longest_line)
-    × LogsCaused failed (worker + 1) logs
+abbrev pub LogsCaused : LogFiles → List Device → ℕ → List (Option LogRefusal) → Type 0
+LogsCaused files failed worker [] = ⊤
+LogsCaused files failed worker (None ∷ logs) = LogsCaused files failed (worker + 1) logs
+LogsCaused files failed worker (Some LogFailed ∷ logs) = Contains failed (log_of files worker)
+    × LogsCaused files failed (worker + 1) logs
+LogsCaused files failed worker (Some (LogFull size) ∷ logs) = (log_limit < size + longest_line)
+    × LogsCaused files failed (worker + 1) logs
 
 -- ---- workers' lines
 
@@ -76,24 +83,38 @@ abbrev pub last_sequence : ℕ
 last_sequence = 2 ^ 63 - 1
 
 -- Where the maintenance thread stands between two of its lines: the clock's epoch, the newest savepoint's sequence,
--- and whether an answer of the round was a refusal after which no line is run.
+-- how many pages of snapshots there are, whether bytes of the closed log files count, and whether an answer of the
+-- round was a refusal after which no line is run.
 pub record KeeperAt : Type 0 where
   pub epoch : ℕ
   pub sequence : ℕ
+  pub pages : ℕ
+  pub counted : Bool
   pub refused : Bool
 
 -- where it stands after an answer
 abbrev pub keeper_after : KeeperAt → Answer → KeeperAt
 keeper_after k (answers.Epoch epoch) = record k { epoch = epoch }
 keeper_after k (answers.Save epoch) = record k { sequence = k.sequence + 1 }
+keeper_after k (answers.Snap epoch new) = record k { pages = k.pages + new; counted = false }
 keeper_after k answers.Device = record k { refused = true }
 keeper_after k answers.Damaged = record k { refused = true }
 keeper_after k answers.Memory = record k { refused = true }
 keeper_after k _ = k
 
+-- some byte is counted
+abbrev pub some_counted : List ℕ → Bool
+some_counted counted = list_any (λ n. nat_lt 0 n) counted
+
 -- where it stands as a round begins
 abbrev pub keeper_before : Ran → KeeperAt
-keeper_before ran = record { epoch = ran.begin.epoch; sequence = ran.sequence; refused = false }
+keeper_before ran = record {
+  epoch = ran.begin.epoch;
+  sequence = ran.sequence;
+  pages = ran.pages;
+  counted = some_counted ran.files.counted;
+  refused = false;
+}
 
 -- where it stands after the round's lines
 abbrev pub keeper_at_end : Ran → KeeperAt
@@ -110,8 +131,16 @@ AreMarksOf (mine ∷ marks) (mark ∷ seen) = Contains mine mark × AreMarksOf m
 AreMarksOf [] (mark ∷ seen) = ⊥
 AreMarksOf (mine ∷ marks) [] = ⊥
 
+-- A device that a snapshot is made over failed: that of the snapshots, or a closed log file.
+abbrev pub IsGleanDevice : Ran → Device → Type 0
+IsGleanDevice ran devices.Save = ⊥
+IsGleanDevice ran devices.Snaps = ⊤
+IsGleanDevice ran (devices.Bank number) =
+    (worker : ℕ) × (worker < 8) × (devices.Bank number ≡ closed_of ran.files worker)
+
 -- The cause of an answer to a line that is run, as the maintenance thread stands before it. A save names the saved
--- epoch by the marks that it saw.
+-- epoch by the marks that it saw. A snapshot is one of the epoch at which the closed log files were closed, and is made
+-- where bytes of them count, no page of it stands too deep, and its new pages are let in beside those that there are.
 abbrev pub IsAnswerTo : Ran → KeeperAt → KeeperLine → Answer → Type 0
 IsAnswerTo ran k asks.Epoch (answers.Epoch epoch) = (k.epoch < last_epoch) × (epoch ≡ k.epoch + 1)
 IsAnswerTo ran k asks.Epoch answers.Limit = k.epoch ≡ last_epoch
@@ -119,6 +148,17 @@ IsAnswerTo ran k asks.Save (answers.Save epoch) = (k.sequence < last_sequence) �
     × AreMarksOf ran.marks seen × (epoch ≡ saved_epoch k.epoch seen)
 IsAnswerTo ran k asks.Save answers.Limit = k.sequence ≡ last_sequence
 IsAnswerTo ran k asks.Save answers.Device = (k.sequence < last_sequence) × Contains ran.devices devices.Save
+IsAnswerTo ran k asks.Glean answers.Empty = k.counted ≡ false
+IsAnswerTo ran k asks.Glean (answers.Snap epoch new) = (k.counted ≡ true) × (epoch ≡ ran.files.closed_at)
+    × Contains ran.gleans (Some new) × (k.pages + new ≤ ran.room)
+IsAnswerTo ran k asks.Glean answers.SnapFull = (k.counted ≡ true) × (new : ℕ) × Contains ran.gleans (Some new)
+    × (ran.room < k.pages + new)
+IsAnswerTo ran k asks.Glean answers.Deep = (k.counted ≡ true) × Contains ran.gleans None
+IsAnswerTo ran k asks.Glean answers.Device = (k.counted ≡ true) × (device : Device) × Contains ran.devices device
+    × IsGleanDevice ran device
+IsAnswerTo ran k asks.Glean answers.Damaged = (k.counted ≡ true) × (worker : ℕ) × (worker < 8) × (at : ℕ)
+    × (ran.damaged ≡ Some (closed_of ran.files worker, at))
+IsAnswerTo ran k asks.Glean answers.Memory = k.counted ≡ true
 IsAnswerTo ran k line answer = ⊥
 
 -- The cause of an answer: after a refusal that no line is run.
@@ -137,7 +177,7 @@ AnswersCaused ran k (line ∷ lines) [] = ⊥
 
 -- each outcome, each answer and each refusal of a log has its cause
 pub record AllCaused (ran : Ran) : Type 0 where
-  pub logs : LogsCaused ran.devices 0 ran.logs
+  pub logs : LogsCaused ran.files ran.devices 0 ran.logs
   pub outcomes : WorkersCaused ran ran.logs ran.outcomes
   pub answers : AnswersCaused ran (keeper_before ran) ran.asked ran.answers
 

@@ -25,22 +25,40 @@ pub data LogRefusal : Type 0 where
   LogFailed : LogRefusal
   LogFull : ℕ → LogRefusal
 
--- What came of a round: the number that the clock would give at its begin and at its end, each worker's outcomes in
--- the order of its lines, for workers 0 to 7, what its keeper lines asked for and the answers to them in their
--- order, and the epoch that was made durable. Beside what is printed: the sequence of the newest savepoint at its
--- begin; of each worker the epochs of the marks that it had while the lines ran, none for an idle one, the first
--- being that at the begin, and what refused its log, if anything did; and the devices that failed.
+-- The log files at the begin of a round: of each worker that of odd number grows, or that of even number; the other
+-- one is closed, and counts so many bytes, with all its worker's commits since the swap before up to an epoch.
+pub record LogFiles : Type 0 where
+  pub odd : Bool
+  pub counted : List ℕ
+  pub closed_at : ℕ
+
+-- What came of a round.
 pub record Ran : Type 0 where
+  -- the number that the clock would give at its begin and at its end
   pub begin : Number
   pub end : Number
+  -- each worker's outcomes in the order of its lines, for workers 0 to 7
   pub outcomes : List (List Outcome)
+  -- what its keeper lines asked for and the answers to them, in their order
   pub asked : List KeeperLine
   pub answers : List Answer
+  -- the epoch that was made durable
   pub durable : Option ℕ
+  -- Beside what is printed. At its begin: the sequence of the newest savepoint, how many pages of snapshots there are
+  -- and how many are let in, and the log files.
   pub sequence : ℕ
+  pub pages : ℕ
+  pub room : ℕ
+  pub files : LogFiles
+  -- of each worker the epochs of the marks that it had while the lines ran, none for an idle one, the first being that
+  -- at the begin, and what refused its log, if anything did
   pub marks : List (List (Option ℕ))
   pub logs : List (Option LogRefusal)
+  -- what its gleans found that the next snapshot comes to: so many pages, or none where one would stand too deep
+  pub gleans : List (Option ℕ)
+  -- the devices that failed, and one that was found damaged, with the byte from which on it is
   pub devices : List Device
+  pub damaged : Option (Device × ℕ)
 
 -- for each list of lines one of outcomes, of the same length
 abbrev pub OneForEach : List (List (List Op)) → List (List Outcome) → Type 0

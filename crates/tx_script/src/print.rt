@@ -7,7 +7,8 @@ ghost use Rattle.serial_model.specs.Lent.{reply_lent};
 ghost use Rattle.text_output.specs.Output.{Prints};
 ghost use Rattle.tx_script.specs.Flat.{outcome_lent};
 ghost use Rattle.tx_script.specs.Text.{answer_line, answer_text, answers_text, durable_text, lines_text};
-ghost use Rattle.tx_script.specs.Text.{more_rows_text, number_text, outcome_line, outcome_text, pair_text, replies_text};
+ghost use Rattle.tx_script.specs.Text.{more_rows_text, number_text, outcome_line, outcome_text};
+ghost use Rattle.tx_script.specs.Text.{pair_text, replies_text};
 ghost use Rattle.tx_script.specs.Text.{reply_text, rows_text, verdict_text, worker_text, workers_text};
 
 use crate::{Answer, Answers, LentOutcome, LentOutcomes, Outcome, Outcomes, RoundOutcomes};

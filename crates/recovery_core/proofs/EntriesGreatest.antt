@@ -143,6 +143,22 @@ replaced o p so_far e later updates has key =
     ∙ ap (λ x. kept_at key x e) (has key)
     ∙ sym (last_of-push key so_far e)
 
+-- the new entry took its place, and the earlier one was put back
+pub put_back : (o p q : Key → Option Entry) (so_far : List Entry) (e f : Entry) → o e.key ≡ Some f
+    → is_below f.number e.number ≡ false
+    → ((key : Key) → p key ≡ cond (is_eq (key_cmp e.key key)) (Some e) (o key))
+    → ((key : Key) → q key ≡ cond (is_eq (key_cmp e.key key)) (Some f) (p key))
+    → ((key : Key) → o key ≡ last_of key so_far) → (key : Key) → q key ≡ last_of key (so_far ++ e ∷ [])
+put_back o p q so_far e f was earlier first second has key =
+    second key
+    ∙ ap (λ x. cond (is_eq (key_cmp e.key key)) (Some f) x) (first key)
+    ∙ ap (λ b. cond b (Some f) (cond b (Some e) (o key))) (sym (is_of-compared key e))
+    ∙ (elim (is_of key e) as (λ b. is_of key e ≡ b → cond b (Some f) (cond b (Some e) (o key)) ≡ o key) [
+      | true ↦ λ t. sym was ∙ ap o (is_of-key key e t)
+      | false ↦ λ t. refl
+    ] refl)
+    ∙ stays o so_far e (ap (λ x. is_later x e) was ∙ earlier) has key
+
 -- ---- more entries
 
 -- no entry

@@ -5,7 +5,7 @@ ghost use Rattle.std.specs.FinMap as finite;
 ghost use Rattle.serial_model.specs.Keys.{key_cmp};
 ghost use Rattle.serial_model.specs.Numbers.{is_below};
 ghost use Rattle.serial_model.specs.declared.key.Key.{Key as TheKey};
-ghost use Rattle.recovery_core.specs.EntriesLast.{TakesIn, is_later, all_entries, PutsAt, PutsLast};
+ghost use Rattle.recovery_core.specs.EntriesLast.{TakesIn, all_entries, PutsAt, PutsLast};
 ghost use Rattle.recovery_core.specs.EntriesRun.{AreOfTheirKeys, IsRunOf};
 
 use lists::{Memory, Sequence};
@@ -58,24 +58,18 @@ impl LastEntries {
         Ok(Sequence::from_vec(entries_of(alloc, &self.map)?))
     }
 
-    // Whether the entry comes after the last one of its key so far, if there is one. Of equal numbers
+    // The entry stays where it comes after the last one of its key so far; else that one is put back. Of equal numbers
     // the entry that was taken in first stays: it is the one of the lower log file.
-    fn is_later(&self, entry: &Entry) -> bool
-        ensures { result ≡ is_later (finite.get self.now entry.now.key) entry.now }
-    {
-        match self.map.get(&entry.key) {
-            Some(so_far) => is_below(so_far.number, entry.number),
-            None => true,
-        }
-    }
-
     fn take_in(&mut self, entry: Entry) -> Result<(), Memory>
         ensures { OnOk result (TakesIn self.old self.new (entry ∷ [])) }
     {
-        if !self.is_later(&entry) {
+        let Some(so_far) = self.map.insert(entry.key, entry)? else {
+            return Ok(());
+        };
+        if is_below(so_far.number, entry.number) {
             return Ok(());
         }
-        self.map.insert(entry.key, entry)?;
+        self.map.insert(entry.key, so_far)?;
         Ok(())
     }
 

@@ -3,6 +3,7 @@ ghost use Rattle.std.specs.Prelude.{◌<◌, IfOk, IfSome, vec_len, vec_capacity
 ghost use Rattle.outside.specs.Disk.{IfTold, Only};
 ghost use Rattle.log_writer.specs.Journal.{Reaches};
 ghost use Rattle.log_writer.specs.Save.{IsStored};
+ghost use Rattle.worker_logs.specs.Saves.{IsBeside};
 
 use crate::disks::disk;
 use log_writer::{LogFault, Save};
@@ -11,7 +12,7 @@ use serial_model::{Change, Changes, Commit, Decl, Key, Memory, Number, Op, Plain
 use std::alloc::{AllocError, Global};
 use std::test::Fail;
 use wire_form::{Savepoint, is_loggable, read_savepoint, write_savepoint};
-use worker_logs::{Savepoints, WorkerLog, WriteSet};
+use worker_logs::{Beside, Side, WorkerLog, WriteSet, save_marks};
 
 fn key(storage: u8, key: u64) -> Key {
     Key { storage, key }
@@ -161,7 +162,13 @@ fn save_device(alloc: Global) -> Result<MemDisk, AllocError>
 }
 
 // What is stored at epoch 5 of the clock, once each worker put so many lines and was marked.
-fn stored(alloc: Global, workers: &[(usize, u32); 8]) -> Result<Option<(u32, Savepoint)>, Memory> {
+fn stored(
+    alloc: Global,
+    workers: &[(usize, u32); 8],
+    beside: &Beside,
+) -> Result<Option<(u32, Savepoint)>, Memory>
+    requires { IsBeside beside.now }
+{
     let (mut logs, mut even) = (Vec::new(alloc), Vec::new(alloc));
     for (lines, clock) in workers {
         let mut bank = disk(alloc, &[], &[])?;
@@ -178,47 +185,72 @@ fn stored(alloc: Global, workers: &[(usize, u32); 8]) -> Result<Option<(u32, Sav
         ties,
         cuts: Vec::new(alloc),
     };
-    Ok(store(&logs, &mut vault))
+    Ok(store(&logs, beside, &mut vault))
 }
 
-// The savepoints of a save device that has one.
-fn open<D: Disk>(device: &mut D) -> Option<Savepoints>
+// The savepoints of a save device.
+fn open<D: Disk>(device: &mut D) -> Option<Save>
     requires settled { IfTold (D.tells device.old) (Only D.clock D.image_at device.old) }
     ensures stored { IfSome result (λ s. IsStored D.tells D.clock D.image_at device.new s.newest) }
 {
-    let Ok((save, found)) = Save::load(device) else {
+    let Ok((save, _)) = Save::load(device) else {
         return None;
     };
-    let saved = found?;
-    Some(Savepoints::new(save, saved))
+    Some(save)
 }
 
 // Stores the next savepoint: the saved epoch, and what the second place then has.
-fn store<D: Disk>(logs: &[WorkerLog], vault: &mut Vault<D>) -> Option<(u32, Savepoint)>
+fn store<D: Disk>(
+    logs: &[WorkerLog],
+    beside: &Beside,
+    vault: &mut Vault<D>,
+) -> Option<(u32, Savepoint)>
+    requires beside { IsBeside beside.now }
     requires settled { IfTold (D.tells vault.old.save) (Only D.clock D.image_at vault.old.save) }
     requires room { vec_len vault.old.ties < vec_capacity vault.old.ties }
 {
     if logs.len() != 8 {
         return None;
     }
-    let mut savepoints = open(&mut vault.save)?;
-    let epoch = savepoints.save_marks(5, logs, vault).ok()?;
+    let mut save = open(&mut vault.save)?;
+    let epoch = save_marks(&mut save, 5, logs, beside, vault).ok()?;
     let mut place = [0; 512];
     vault.save.read(512, &mut place).ok()?;
     let point = read_savepoint(1, &place).ok()??;
     Some((epoch, point))
 }
 
+// Three pages, and so many bytes of worker 1's closed log file.
+fn beside(growing: Side, closed: u32) -> Beside
+    ensures { IsBeside result }
+{
+    Beside {
+        growing,
+        closed: [0, u64::from(closed), 0, 0, 0, 0, 0, 0],
+        count: 3,
+    }
+}
+
 #[test]
 fn what_a_save_counts(rt: HostRuntime) -> Result<(), Fail> {
     let alloc = rt.alloc();
-    // Workers 0, 1 and 7: lines that they put, and the epoch of the clock at which they were marked.
-    for (first, second, last, epoch, lengths) in [
-        ((0, 0), (0, 0), (0, 0), 4, [0, 0, 0]),
-        ((2, 5), (0, 0), (0, 0), 4, [80, 0, 0]),
-        ((2, 5), (1, 3), (0, 0), 2, [80, 40, 0]),
-        ((2, 3), (1, 5), (3, 4), 2, [80, 40, 120]),
-        ((0, 5), (0, 5), (1, 1), 0, [0, 0, 40]),
+    // Which log files grow, and how many bytes of worker 1's closed one count; workers 0, 1 and 7: lines that they put,
+    // and the epoch of the clock at which they were marked; the saved epoch, and lengths of the log files 0 to 3 and 14.
+    for (growing, closed, first, second, last, epoch, lengths) in [
+        (Side::Even, 0, (0, 0), (0, 0), (0, 0), 4, [0, 0, 0, 0, 0]),
+        (Side::Even, 0, (2, 5), (0, 0), (0, 0), 4, [80, 0, 0, 0, 0]),
+        (Side::Even, 0, (2, 5), (1, 3), (0, 0), 2, [80, 0, 40, 0, 0]),
+        (
+            Side::Even,
+            64,
+            (2, 3),
+            (1, 5),
+            (3, 4),
+            2,
+            [80, 0, 40, 64, 120],
+        ),
+        (Side::Even, 0, (0, 5), (0, 5), (1, 1), 0, [0, 0, 0, 0, 40]),
+        (Side::Odd, 64, (2, 5), (1, 3), (3, 5), 2, [0, 80, 64, 40, 0]),
     ] {
         let mut workers = [(0, 0); 8];
         workers[0] = first;
@@ -226,17 +258,22 @@ fn what_a_save_counts(rt: HostRuntime) -> Result<(), Fail> {
         workers[7] = last;
         let mut counted = [0; 16];
         counted[0] = lengths[0];
-        counted[2] = lengths[1];
-        counted[14] = lengths[2];
+        counted[1] = lengths[1];
+        counted[2] = lengths[2];
+        counted[3] = lengths[3];
+        counted[14] = lengths[4];
+        if growing == Side::Odd {
+            counted[15] = 120;
+        }
         let point = Savepoint {
             sequence: 2,
             epoch,
-            catalogue: 1,
-            count: 1,
+            catalogue: 3,
+            count: 3,
             lengths: counted,
         };
         assert_eq!(rt;
-            stored(alloc, &workers)?,
+            stored(alloc, &workers, &beside(growing, closed))?,
             Some((epoch, point)),
             "at {workers:?}"
         );

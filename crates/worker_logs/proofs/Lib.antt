@@ -4,3 +4,4 @@ pub mod InTurn
 pub mod Lengths
 pub mod LogLines
 pub mod Saving
+pub mod Turns

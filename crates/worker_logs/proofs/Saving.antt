@@ -9,6 +9,7 @@ use Rattle.log_writer.specs.declared.save.SaveFault.{SaveFault}
 use Rattle.log_writer.specs.declared.save.SaveFault.TheVariants.{Device, Down, Limit}
 use Rattle.log_writer.specs.declared.saved.Saved.{Saved}
 use Rattle.worker_logs.specs.Saves.{SavesBy, SavesMarks, tie_after}
+use Rattle.worker_logs.specs.declared.savepoints.Beside.{Beside}
 
 -- ---- what a store does, whatever the save answers then
 
@@ -61,16 +62,16 @@ module _ {D : Type 0} {tells : D → Option (List ℕ)} {clock : D → ℕ} {ima
     untouched = λ other. stores.untouched (λ is. other (let same : fault ≡ Device = cc in ap Err same));
   }
 
-  module _ {T : Type 0} {epoch : ℕ} {seen : List Mark} {before now : Vault D} where
+  module _ {T : Type 0} {epoch : ℕ} {seen : List Mark} {beside : Beside} {before now : Vault D} where
     -- a save that was done
-    pub saves_given : (given : T) → SavesBy epoch seen old.newest saved
+    pub saves_given : (given : T) → SavesBy epoch seen beside saved
         → (let answer : Result T SaveFault = Ok given in
         Stores tells clock image_at faults saved old new before.save now.save answer)
         → now.ties.items ≡ before.ties.items ++ tie_after old.newest (clock before.snaps) (Some (clock now.save)) ∷ []
         → sequence_of old.newest < 2 ^ 63 → vec_capacity now.ties ≡ vec_capacity before.ties
         → (now.snaps ≡ before.snaps) × (now.even ≡ before.even) × (now.odd ≡ before.odd) × (now.cuts ≡ before.cuts)
         → let result : Result ℕ SaveFault = Ok saved.epoch in
-        SavesMarks tells clock image_at faults epoch seen old new before now result
+        SavesMarks tells clock image_at faults epoch seen beside old new before now result
     saves_given given by_marks stores tied counted capacity others = record {
       saved = saved;
       by_marks = by_marks;
@@ -88,7 +89,7 @@ module _ {D : Type 0} {tells : D → Option (List ℕ)} {clock : D → ℕ} {ima
     }
 
     -- and one that was refused
-    pub saves_refused : (fault : SaveFault) → SavesBy epoch seen old.newest saved
+    pub saves_refused : (fault : SaveFault) → SavesBy epoch seen beside saved
         → (let answer : Result T SaveFault = Err fault in
         Stores tells clock image_at faults saved old new before.save now.save answer)
         → (fault ≡ Device → now.ties.items
@@ -97,7 +98,7 @@ module _ {D : Type 0} {tells : D → Option (List ℕ)} {clock : D → ℕ} {ima
         → sequence_of old.newest < 2 ^ 63 → vec_capacity now.ties ≡ vec_capacity before.ties
         → (now.snaps ≡ before.snaps) × (now.even ≡ before.even) × (now.odd ≡ before.odd) × (now.cuts ≡ before.cuts)
         → let result : Result ℕ SaveFault = Err fault in
-        SavesMarks tells clock image_at faults epoch seen old new before now result
+        SavesMarks tells clock image_at faults epoch seen beside old new before now result
     saves_refused fault by_marks stores begun untied counted capacity others = record {
       saved = saved;
       by_marks = by_marks;

@@ -5,6 +5,7 @@ use Rattle.std.specs.List.{AllByRecursion, Contains, flat_map}
 use Rattle.std.proofs.lemmas.List.{append-nil}
 use Rattle.std.proofs.lemmas.List.Elements.{Contains-append_cases}
 use Rattle.lists.specs.Elements.{in_cases, in_none}
+use Rattle.lists.specs.Fronts.{front_none}
 use Rattle.outside.specs.Growth.{grows_none}
 use Rattle.serial_model.specs.declared.number.Commit.{Commit}
 use Rattle.wire_form.specs.LogFile.{lines_bytes}
@@ -13,7 +14,7 @@ use Rattle.wire_form.specs.declared.clock.Mark.{Mark}
 use Rattle.recovery_core.specs.Marks.{Marks}
 use Rattle.recovery_core.specs.Rounds.{WorkerRan}
 use Rattle.recovery_core.specs.Crashes.Marking.{lines_more, mark_put, mark_set}
-use Rattle.worker_logs.specs.Logs.{LogState, idle_log, MarkSays, IsMarkOf, epoch_with, set_mark}
+use Rattle.worker_logs.specs.Logs.{LogState, idle_log, reset_log, MarkSays, IsMarkOf, epoch_with, set_mark}
 use Rattle.worker_logs.specs.Logs.{IsEpochPassed, IsPassed}
 use Rattle.worker_logs.specs.Logs.{IsLog, LogRan}
 
@@ -45,6 +46,11 @@ marks_tell commits durable (m ∷ ms) epoch size had has =
           (this.0, omega (arith, this.1, had.0.within))
       | inr later ↦ marks_tell commits durable ms epoch size had.1 later
     ]
+
+-- of no commit a mark says what it counts, which is nothing
+says_none : (marked : Option ℕ) → MarkSays [] 0 marked
+says_none None = λ epoch. mark_set [] epoch
+says_none (Some epoch) = mark_set [] epoch
 
 -- a mark that a commit may follow says of it what it said before
 says_put : (commits : List Commit) (c : Commit) (marked : Option ℕ) (size : ℕ) → MarkSays commits size marked
@@ -137,6 +143,18 @@ module _ {D : Type 0} {tells : D → Option (List ℕ)} {clock : D → ℕ} {ima
         had = marks_put_behind commits durable c marks ran.had passed;
         last = (ran.last.0, ran.last.1 ∙ ap (λ m. ran.last.0 ++ m ∷ []) (sym mark));
       }
+
+  -- The log of a log file that is empty, as far as it tells, has no commit, whatever its mark's epoch is.
+  pub log_resets : (log : LogState) {bank : D} → (log.journal.down ≡ None → tells bank ≡ Some [])
+      → IsLog tells clock image_at [] [] (reset_log log) bank
+  log_resets log empty = record {
+    journal_of = record {
+      durable = record { size = refl; begins = λ content image. front_none content };
+      told = empty;
+    };
+    lines = refl;
+    mark = record { says = says_none log.mark.epoch; within = omega arith };
+  }
 
   -- A log whose mark counts all that is durable, as no line waits, may be set idle.
   pub log_idles : {commits : List Commit} {durable : List ℕ} {log : LogState} {bank : D}

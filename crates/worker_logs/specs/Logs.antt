@@ -38,6 +38,13 @@ fresh_log epoch = record {
 abbrev pub idle_log : LogState → LogState
 idle_log log = record log { mark = record log.mark { epoch = None } }
 
+-- the log of a worker's other log file, which is empty
+abbrev pub reset_log : LogState → LogState
+reset_log log = record {
+  journal = record log.journal { durable = 0; lines = [] };
+  mark = record log.mark { length = 0 };
+}
+
 -- A log that was flushed and then marked, at this epoch of the clock: no line waits, and its mark counts all that is
 -- durable, up to the epoch before.
 pub record IsJoined (clock : ℕ) (log : LogState) : Type 0 where

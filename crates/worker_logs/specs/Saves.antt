@@ -1,8 +1,8 @@
 -- What a save by the workers' marks stores, and what it counts.
-use Rattle.std.specs.Prelude.{◌≡◌, ◌≢◌, ◌<◌, ◌≤◌, ◌+◌, ◌-◌, ◌*◌, ◌^◌, ◌++◌, ℕ, List, [], ◌∷◌, length, map, flat_map}
-use Rattle.std.specs.Prelude.{fold, min, Option, Some, None, option_to_list, Result, Ok, Err, IfOk, OnOk, OnErr}
+use Rattle.std.specs.Prelude.{◌≡◌, ◌≢◌, ◌⊎◌, ◌<◌, ◌≤◌, ◌+◌, ◌-◌, ◌*◌, ◌^◌, ◌++◌, ℕ, List, [], ◌∷◌, length, map}
+use Rattle.std.specs.Prelude.{flat_map, fold, min, Option, Some, None, option_to_list, Result, Ok, Err, IfOk, OnOk, OnErr}
 use Rattle.std.specs.Prelude.{vec_capacity}
-use Rattle.std.specs.Option.{option_map}
+use Rattle.std.specs.List.{AllByRecursion}
 use Rattle.outside.specs.declared.vault.Tie.{Tie}
 use Rattle.outside.specs.declared.vault.Vault.{Vault}
 use Rattle.serial_model.specs.declared.number.Commit.{Commit}
@@ -16,11 +16,9 @@ use Rattle.log_writer.specs.declared.saved.Saved.{Saved}
 use Rattle.recovery_core.specs.Images.{epoch_of, counted_of}
 use Rattle.recovery_core.specs.Marks.{Marks}
 use Rattle.worker_logs.specs.Logs.{LogState}
-
--- it is known what the newest savepoint says
-pub record IsKnown (newest : Option Savepoint) (saved : Saved) : Type 0 where
-  pub says : Some saved ≡ option_map saved_of newest
-  pub ranges : IsSaved saved
+use Rattle.worker_logs.specs.declared.savepoints.Beside.{Beside}
+use Rattle.worker_logs.specs.declared.savepoints.Side.{Side}
+use Rattle.worker_logs.specs.declared.savepoints.Side.TheVariants.{Even, Odd}
 
 -- the marks of the logs
 abbrev pub logs_marks : List LogState → List Mark
@@ -30,14 +28,40 @@ logs_marks logs = map (λ log. log.mark) logs
 abbrev pub saved_epoch : ℕ → List (Option ℕ) → ℕ
 saved_epoch epoch marks = fold min (epoch - 1) (flat_map option_to_list marks)
 
--- What is saved at an epoch of the clock by the marks of workers 0 to 7: the saved epoch, the pages and the
--- catalogue of the savepoint before it, and of each growing log file the length that its worker's mark counts. Of a
--- closed one nothing counts.
-pub record SavesBy (clock : ℕ) (seen : List Mark) (newest : Option Savepoint) (saved : Saved) : Type 0 where
+-- numbers of log files of even and of odd number, in turn
+abbrev pub in_turn : List ℕ → List ℕ → List ℕ
+in_turn (n ∷ even) (m ∷ odd) = n ∷ m ∷ in_turn even odd
+in_turn _ _ = []
+
+-- and of growing and of closed ones
+abbrev pub lengths_by : Side → List ℕ → List ℕ → List ℕ
+lengths_by Even growing closed = in_turn growing closed
+lengths_by Odd growing closed = in_turn closed growing
+
+-- the number of a worker's growing log file, and of its closed one
+abbrev pub growing_number : Side → ℕ → ℕ
+growing_number Even worker = 2 * worker
+growing_number Odd worker = 2 * worker + 1
+
+abbrev pub closed_number : Side → ℕ → ℕ
+closed_number Even worker = 2 * worker + 1
+closed_number Odd worker = 2 * worker
+
+-- a savepoint has room for what counts beside the growing log files
+pub record IsBeside (beside : Beside) : Type 0 where
+  pub workers : length beside.closed ≡ 8
+  pub counted : AllByRecursion (λ n. n < 2 ^ 40) beside.closed
+  pub some_page : 1 ≤ beside.count
+  pub most_pages : beside.count ≤ 65536
+
+-- What is saved at an epoch of the clock by the marks of workers 0 to 7: the saved epoch, all pages, the last of which
+-- is the newest catalogue, and of each growing log file the length that its worker's mark counts. Of a closed one
+-- counts what counts beside.
+pub record SavesBy (clock : ℕ) (seen : List Mark) (beside : Beside) (saved : Saved) : Type 0 where
   pub epoch : saved.epoch ≡ saved_epoch clock (map (λ m. m.epoch) seen)
-  pub lengths : saved.lengths ≡ flat_map (λ m. m.length ∷ 0 ∷ []) seen
-  pub catalogue : Some saved.catalogue ≡ option_map (λ p. p.catalogue) newest
-  pub count : Some saved.count ≡ option_map (λ p. p.count) newest
+  pub lengths : saved.lengths ≡ lengths_by beside.growing (map (λ m. m.length) seen) beside.closed
+  pub catalogue : saved.catalogue ≡ beside.count
+  pub count : saved.count ≡ beside.count
 
 -- the tie of a store behind this savepoint
 abbrev pub tie_after : Option Savepoint → ℕ → Option ℕ → Tie
@@ -46,10 +70,10 @@ tie_after newest snaps ended = record { sequence = sequence_of newest + 1; snaps
 -- A save at an epoch of the clock by these marks: what they allow is stored, with its tie, and nothing else of the
 -- vault is touched. It answers the saved epoch.
 pub record SavesMarks {D : Type 0} (tells : D → Option (List ℕ)) (clock : D → ℕ) (image_at : D → ℕ → List ℕ → Type 0)
-    (faults : D → ℕ) (epoch : ℕ) (seen : List Mark) (old new : SaveState) (before now : Vault D)
+    (faults : D → ℕ) (epoch : ℕ) (seen : List Mark) (beside : Beside) (old new : SaveState) (before now : Vault D)
     (result : Result ℕ SaveFault) : Type 0 where
   pub saved : Saved
-  pub by_marks : SavesBy epoch seen old.newest saved
+  pub by_marks : SavesBy epoch seen beside saved
   pub stores : Stores tells clock image_at faults saved old new before.save now.save result
   pub told : IfOk result (λ answer. answer ≡ saved.epoch)
   pub counted : sequence_of old.newest < 2 ^ 63
@@ -71,9 +95,16 @@ sequence_begun newest (Err Device) = sequence_of newest + 1
 sequence_begun newest (Err (Down faults)) = sequence_of newest
 sequence_begun newest (Err (Limit sequence)) = sequence_of newest
 
--- The newest savepoint counts of each growing log file bytes that are durable and whole lines, behind which no
--- commit has an epoch up to its own, and nothing of the closed ones.
-pub record CountsOf (commits : ℕ → List Commit) (durable : ℕ → List ℕ) (newest : Option Savepoint) : Type 0 where
-  pub growing : (worker : ℕ) → worker < 8 → Marks (commits worker) (epoch_of newest) (counted_of newest (2 * worker))
-      × (counted_of newest (2 * worker) ≤ length (durable worker))
-  pub closed : (worker : ℕ) → worker < 8 → counted_of newest (2 * worker + 1) ≡ 0
+-- A savepoint counts so many bytes of a log file of these commits: bytes that are durable and whole lines, behind which
+-- no commit has an epoch up to its own.
+abbrev pub IsCounted : List Commit → List ℕ → ℕ → ℕ → Type 0
+IsCounted commits durable epoch size = Marks commits epoch size × (size ≤ length durable)
+
+-- The newest savepoint counts of each growing log file what covers its worker's commits since the swap, and of each
+-- closed one what covers those before it, or nothing.
+pub record CountsOf (side : Side) (commits gone : ℕ → List Commit) (durable closed : ℕ → List ℕ)
+    (newest : Option Savepoint) : Type 0 where
+  pub growing : (worker : ℕ) → worker < 8
+      → IsCounted (commits worker) (durable worker) (epoch_of newest) (counted_of newest (growing_number side worker))
+  pub before : (worker : ℕ) → worker < 8 → (counted_of newest (closed_number side worker) ≡ 0)
+      ⊎ IsCounted (gone worker) (closed worker) (epoch_of newest) (counted_of newest (closed_number side worker))

@@ -1,8 +1,9 @@
 -- What a save by marks counts, and what it is to those who know the save device.
-use Rattle.std.proofs.Common.{◌≡◌, ◌≤◌, ◌<◌, ◌+◌, ◌-◌, ◌*◌, ◌∷◌, ℕ, zero, suc, List, [], Option}
+use Rattle.std.proofs.Common.{◌≡◌, ◌≤◌, ◌<◌, ◌+◌, ◌-◌, ◌*◌, ◌∷◌, ◌⊎◌, inl, inr, ℕ, zero, suc, List, [], Option}
 use Rattle.std.proofs.Common.{Some, None, length, get_or, drop, refl, sym, ◌∙◌, ap, subst, arith}
 use Rattle.std.specs.Prelude.{fold, min, map, flat_map, option_to_list, slice_get, is_some, Result, Ok, Err, true}
 use Rattle.std.specs.List.{AllByRecursion}
+use Rattle.std.proofs.lemmas.List.{length-map}
 use Rattle.std.proofs.lemmas.Option.{same_Some}
 use Rattle.outside.specs.Fronts.{AllBegin}
 use Rattle.outside.specs.Moments.{runs_weaker}
@@ -22,8 +23,13 @@ use Rattle.recovery_core.specs.Rounds.{KeeperRan}
 use Rattle.recovery_core.specs.Story.{Story}
 use Rattle.recovery_core.specs.Crashes.Rounded.{keeper_stores}
 use Rattle.recovery_core.specs.Crashes.SaveSteps.{save_stored, save_failed}
-use Rattle.worker_logs.specs.Logs.{MarkSays, IsMarkOf}
-use Rattle.worker_logs.specs.Saves.{saved_epoch, sequence_begun, SavesBy, SavesMarks, CountsOf}
+use Rattle.worker_logs.specs.Logs.{LogState, MarkSays, IsLog, IsMarkOf}
+use Rattle.worker_logs.specs.LogLaws.{log_idles}
+use Rattle.worker_logs.specs.Saves.{saved_epoch, sequence_begun, IsCounted, SavesBy, SavesMarks, CountsOf}
+use Rattle.worker_logs.specs.Saves.{closed_number, growing_number, in_turn, lengths_by}
+use Rattle.worker_logs.specs.declared.savepoints.Beside.{Beside}
+use Rattle.worker_logs.specs.declared.savepoints.Side.{Side}
+use Rattle.worker_logs.specs.declared.savepoints.Side.TheVariants.{Even, Odd}
 
 -- ---- the saved epoch
 
@@ -67,24 +73,37 @@ says_less commits size less (Some epoch) says within = record {
   rest = above_less less epoch (drop says.front commits) (within epoch refl) says.rest;
 }
 
--- the lengths of growing and of closed log files, in turn
-abbrev both_lengths : Mark → List ℕ
-both_lengths m = m.length ∷ 0 ∷ []
-
-growing_length : (seen : List Mark) (worker : ℕ) (m : Mark) → slice_get seen worker ≡ Some m
-    → get_or (flat_map both_lengths seen) (2 * worker) 0 ≡ m.length
-growing_length [] worker m is = absurd cc
-growing_length (x ∷ xs) zero m is = ap (λ (m : Mark). m.length) (same_Some x m is)
-growing_length (x ∷ xs) (suc worker) m is =
+-- the numbers of two lists that stand in turn, one of each
+in_turn_even : (even odd : List ℕ) (worker n : ℕ) → slice_get even worker ≡ Some n → length even ≡ length odd
+    → get_or (in_turn even odd) (2 * worker) 0 ≡ n
+in_turn_even [] odd worker n is same = absurd cc
+in_turn_even (x ∷ xs) [] worker n is same = absurd (omega (arith, same))
+in_turn_even (x ∷ xs) (y ∷ ys) zero n is same = same_Some x n is
+in_turn_even (x ∷ xs) (y ∷ ys) (suc worker) n is same =
     let next : 2 * suc worker ≡ suc (suc (2 * worker)) = omega arith in
-    subst (λ k. get_or (flat_map both_lengths (x ∷ xs)) k 0 ≡ m.length) (sym next) (growing_length xs worker m is)
+    subst (λ k. get_or (in_turn (x ∷ xs) (y ∷ ys)) k 0 ≡ n) (sym next)
+    (in_turn_even xs ys worker n is (omega (arith, same)))
 
-closed_length : (seen : List Mark) (worker : ℕ) → get_or (flat_map both_lengths seen) (2 * worker + 1) 0 ≡ 0
-closed_length [] worker = refl
-closed_length (x ∷ xs) zero = refl
-closed_length (x ∷ xs) (suc worker) =
+in_turn_odd : (even odd : List ℕ) (worker n : ℕ) → slice_get odd worker ≡ Some n → length even ≡ length odd
+    → get_or (in_turn even odd) (2 * worker + 1) 0 ≡ n
+in_turn_odd even [] worker n is same = absurd cc
+in_turn_odd [] (y ∷ ys) worker n is same = absurd (omega (arith, same))
+in_turn_odd (x ∷ xs) (y ∷ ys) zero n is same = same_Some y n is
+in_turn_odd (x ∷ xs) (y ∷ ys) (suc worker) n is same =
     let next : 2 * suc worker + 1 ≡ suc (suc (2 * worker + 1)) = omega arith in
-    subst (λ k. get_or (flat_map both_lengths (x ∷ xs)) k 0 ≡ 0) (sym next) (closed_length xs worker)
+    subst (λ k. get_or (in_turn (x ∷ xs) (y ∷ ys)) k 0 ≡ n) (sym next)
+    (in_turn_odd xs ys worker n is (omega (arith, same)))
+
+growing_length : (side : Side) (growing closed : List ℕ) (worker n : ℕ) → slice_get growing worker ≡ Some n
+    → length growing ≡ length closed → get_or (lengths_by side growing closed) (growing_number side worker) 0 ≡ n
+growing_length Even growing closed worker n is same = in_turn_even growing closed worker n is same
+growing_length Odd growing closed worker n is same = in_turn_odd closed growing worker n is (sym same)
+
+-- of a closed log file counts what counts beside
+pub closed_length : (side : Side) (growing closed : List ℕ) (worker n : ℕ) → slice_get closed worker ≡ Some n
+    → length growing ≡ length closed → get_or (lengths_by side growing closed) (closed_number side worker) 0 ≡ n
+closed_length Even growing closed worker n is same = in_turn_odd growing closed worker n is same
+closed_length Odd growing closed worker n is same = in_turn_even closed growing worker n is (sym same)
 
 -- an index within a list has an element
 item_at : {X : Type 0} (xs : List X) (i : ℕ) → i < length xs → (x : X) × (slice_get xs i ≡ Some x)
@@ -92,37 +111,62 @@ item_at [] i within = absurd (omega (arith, within))
 item_at (x ∷ xs) zero within = (x, refl)
 item_at (x ∷ xs) (suc i) within = item_at xs i (omega (arith, within))
 
--- the epochs of marks
-epoch_at : (seen : List Mark) (worker : ℕ) (m : Mark) → slice_get seen worker ≡ Some m
-    → slice_get (map (λ (m : Mark). m.epoch) seen) worker ≡ Some m.epoch
-epoch_at [] worker m is = absurd cc
-epoch_at (x ∷ xs) zero m is = ap (λ (m : Mark). Some m.epoch) (same_Some x m is)
-epoch_at (x ∷ xs) (suc worker) m is = epoch_at xs worker m is
+-- what a function gives of an element
+map_at : {X Y : Type 0} (f : X → Y) (xs : List X) (i : ℕ) (x : X) → slice_get xs i ≡ Some x
+    → slice_get (map f xs) i ≡ Some (f x)
+map_at f [] i x is = absurd cc
+map_at f (y ∷ ys) zero x is = ap (λ z. Some (f z)) (same_Some y x is)
+map_at f (y ∷ ys) (suc i) x is = map_at f ys i x is
 
 -- What is saved by eight marks, each of which says what it counts of its worker's commits, counts of each growing log
--- file durable bytes that cover the commits up to the saved epoch.
-pub counts_saved : {clock sequence : ℕ} {seen : List Mark} {newest : Option Savepoint} {saved : Saved}
-    (commits : ℕ → List Commit) (durable : ℕ → List ℕ)
-    → length seen ≡ 8 → SavesBy clock seen newest saved
+-- file durable bytes that cover the commits up to the saved epoch; so it does of each closed one of which bytes count,
+-- where they cover all its commits.
+pub counts_saved : {clock sequence : ℕ} {seen : List Mark} {beside : Beside} {saved : Saved}
+    (commits gone : ℕ → List Commit) (durable closed : ℕ → List ℕ)
+    → length seen ≡ 8 → length beside.closed ≡ 8 → SavesBy clock seen beside saved
     → ((worker : ℕ) (m : Mark) → slice_get seen worker ≡ Some m → IsMarkOf (commits worker) (durable worker) m)
-    → CountsOf commits durable (Some (point_of sequence saved))
-counts_saved {clock = clock} {seen = seen} {saved = saved} commits durable eight saves says = record {
-  growing = λ worker below.
-      let item = item_at seen worker (omega (arith, eight, below)) in
-      let m = item.0 in
-      let is = says worker m item.1 in
-      let size : get_or saved.lengths (2 * worker) 0 ≡ m.length =
-      ap (λ l. get_or l (2 * worker) 0) saves.lengths ∙ growing_length seen worker m item.1 in
-      let least = says_less (commits worker) m.length saved.epoch m.epoch is.says (λ epoch marked.
-      let at : slice_get (map (λ (m : Mark). m.epoch) seen) worker ≡ Some (Some epoch) =
-      epoch_at seen worker m item.1 ∙ ap Some marked in
-      let less = least_of_marks (clock - 1) worker epoch (map (λ (m : Mark). m.epoch) seen) at in
-      omega (arith, less, saves.epoch)) in (
-        subst (λ k. Marks (commits worker) saved.epoch k) (sym size) least,
-        omega (arith, size, is.within),
-      );
-  closed = λ worker below. ap (λ l. get_or l (2 * worker + 1) 0) saves.lengths ∙ closed_length seen worker;
-}
+    → ((worker n : ℕ) → slice_get beside.closed worker ≡ Some n
+    → (n ≡ 0) ⊎ ((epoch : ℕ) → IsCounted (gone worker) (closed worker) epoch n))
+    → CountsOf beside.growing commits gone durable closed (Some (point_of sequence saved))
+counts_saved {clock = clock} {seen = seen} {beside = beside} {saved = saved} commits gone durable closed eight
+    closed_eight saves says counted =
+    let marked : List ℕ = map (λ (m : Mark). m.length) seen in
+    let same : length marked ≡ length beside.closed = length-map seen (λ (m : Mark). m.length) ∙ eight ∙ sym closed_eight in
+    record {
+      growing = λ worker below.
+          let item = item_at seen worker (omega (arith, eight, below)) in
+          let m = item.0 in
+          let is = says worker m item.1 in
+          let size : get_or saved.lengths (growing_number beside.growing worker) 0 ≡ m.length =
+          ap (λ l. get_or l (growing_number beside.growing worker) 0) saves.lengths
+          ∙ growing_length beside.growing marked beside.closed worker m.length
+          (map_at (λ (m : Mark). m.length) seen worker m item.1) same in
+          let least = says_less (commits worker) m.length saved.epoch m.epoch is.says (λ epoch marked.
+          let at : slice_get (map (λ (m : Mark). m.epoch) seen) worker ≡ Some (Some epoch) =
+          map_at (λ (m : Mark). m.epoch) seen worker m item.1 ∙ ap Some marked in
+          let less = least_of_marks (clock - 1) worker epoch (map (λ (m : Mark). m.epoch) seen) at in
+          omega (arith, less, saves.epoch)) in (
+            subst (λ k. Marks (commits worker) saved.epoch k) (sym size) least,
+            omega (arith, size, is.within),
+          );
+      before = λ worker below.
+          let item = item_at beside.closed worker (omega (arith, closed_eight, below)) in
+          let size : get_or saved.lengths (closed_number beside.growing worker) 0 ≡ item.0 =
+          ap (λ l. get_or l (closed_number beside.growing worker) 0) saves.lengths
+          ∙ closed_length beside.growing marked beside.closed worker item.0 item.1 same in
+          elim (counted worker item.0 item.1) [
+            | inl none ↦ inl (size ∙ none)
+            | inr some ↦ inr (subst (IsCounted (gone worker) (closed worker) saved.epoch) (sym size) (some saved.epoch))
+          ];
+    }
+
+-- A log file that is closed behind its log's last flush and mark is covered by that mark, up to any epoch.
+pub closed_covers : {D : Type 0} {tells : D → Option (List ℕ)} {clock : D → ℕ} {image_at : D → ℕ → List ℕ → Type 0}
+    {commits : List Commit} {durable : List ℕ} {log : LogState} {bank : D} (epoch : ℕ)
+    → IsLog tells clock image_at commits durable log bank → log.journal.lines ≡ []
+    → log.mark.length ≡ log.journal.durable → IsCounted commits durable epoch log.mark.length
+closed_covers epoch is none counts =
+    let idle = log_idles is none counts in (idle.mark.says epoch, idle.mark.within)
 
 -- ---- one who knows the save device
 
@@ -133,7 +177,7 @@ told_still before (Some bytes) file told same = (bytes, refl)
 told_still before None file told same = absurd (let there : is_some before ≡ true = ap is_some told in cc)
 
 -- where the pages are those of the savepoint before it, each image of the snapshots begins with them
-begins_same : {D : Type 0} {clock : D → ℕ} {image_at : D → ℕ → List ℕ → Type 0} {story : Story} {from : Moments}
+pub begins_same : {D : Type 0} {clock : D → ℕ} {image_at : D → ℕ → List ℕ → Type 0} {story : Story} {from : Moments}
     {low s high : ℕ} {save_was save snaps_was snaps : D} {ties_was ties : List Tie}
     → KeeperRan clock image_at story from low s high save_was save snaps_was snaps ties_was ties
     → story.pages (high + 1) ≡ story.pages high
@@ -145,19 +189,20 @@ begins_same {clock = clock} {image_at = image_at} {high = high} {snaps = snaps} 
 
 module _ {D : Type 0} {tells : D → Option (List ℕ)} {clock : D → ℕ} {image_at : D → ℕ → List ℕ → Type 0}
     {faults : D → ℕ} {story : Story} {from : Moments} {low s : ℕ} {save_was snaps_was : D} {ties_was : List Tie}
-    {epoch : ℕ} {seen : List Mark} {old new : SaveState} {before now : Vault D} where
-  -- A save is one savepoint more in the story, over the same pages, once its store was begun.
+    {epoch : ℕ} {seen : List Mark} {beside : Beside} {old new : SaveState} {before now : Vault D} where
+  -- A save is one savepoint more in the story, over pages with which each image of the snapshots begins, once its store
+  -- was begun.
   pub keeper_saved : {result : Result ℕ SaveFault} {file : List ℕ}
-      (saves : SavesMarks tells clock image_at faults epoch seen old new before now result)
+      (saves : SavesMarks tells clock image_at faults epoch seen beside old new before now result)
       → tells before.save ≡ Some file
       → story.point (sequence_of old.newest) ≡ old.newest
       → story.point (sequence_of old.newest + 1) ≡ Some (next_point old saves.saved)
-      → story.pages (sequence_of old.newest + 1) ≡ story.pages (sequence_of old.newest)
+      → AllBegin (image_at before.snaps (clock before.snaps)) (story.pages (sequence_of old.newest + 1))
       → KeeperRan clock image_at story from low s (sequence_of old.newest) save_was before.save snaps_was before.snaps
       ties_was before.ties.items
       → KeeperRan clock image_at story from low s (sequence_begun old.newest result) save_was now.save snaps_was
       now.snaps ties_was now.ties.items
-  keeper_saved {result = Ok answer} {file = file} saves told newest_is next_is pages_are ran =
+  keeper_saved {result = Ok answer} {file = file} saves told newest_is next_is begins ran =
       let p = next_point old saves.saved in
       let runs = runs_weaker (λ c named. subst (λ x. NamesOldOrNew x p c) (sym newest_is) named)
       (saves.stores.any_moment file told) in
@@ -167,16 +212,16 @@ module _ {D : Type 0} {tells : D → Option (List ℕ)} {clock : D → ℕ} {ima
       (subst (λ x. Names now_told.0 x) saves.stores.newest stands.names) saves.tied in
       subst (λ snaps. KeeperRan clock image_at story from low s (sequence_of old.newest + 1) save_was now.save snaps_was
       snaps ties_was now.ties.items) (sym saves.snaps)
-      (keeper_stores (Some (clock now.save)) ran save runs (begins_same ran pages_are) saves.tied)
-  keeper_saved {result = Err Device} {file = file} saves told newest_is next_is pages_are ran =
+      (keeper_stores (Some (clock now.save)) ran save runs begins saves.tied)
+  keeper_saved {result = Err Device} {file = file} saves told newest_is next_is begins ran =
       let p = next_point old saves.saved in
       let runs = runs_weaker (λ c named. subst (λ x. NamesOldOrNew x p c) (sym newest_is) named)
       (saves.stores.any_moment file told) in
       let save = save_failed p (clock before.snaps) ran.save_told next_is refl runs (saves.begun refl) in
       subst (λ snaps. KeeperRan clock image_at story from low s (sequence_of old.newest + 1) save_was now.save snaps_was
       snaps ties_was now.ties.items) (sym saves.snaps)
-      (keeper_stores None ran save runs (begins_same ran pages_are) (saves.begun refl))
-  keeper_saved {result = Err (Down count)} saves told newest_is next_is pages_are ran =
+      (keeper_stores None ran save runs begins (saves.begun refl))
+  keeper_saved {result = Err (Down count)} saves told newest_is next_is begins ran =
       rw (saves.untied (λ is. cc)) ran
-  keeper_saved {result = Err (Limit sequence)} saves told newest_is next_is pages_are ran =
+  keeper_saved {result = Err (Limit sequence)} saves told newest_is next_is begins ran =
       rw (saves.untied (λ is. cc)) ran

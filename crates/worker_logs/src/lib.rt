@@ -15,15 +15,16 @@
 //!   `specs/Moves.antt`, which carries `LogRan` of `specs/Logs.antt` from one call to the next; a commit that is put
 //!   carries it by the law `log_put`). A refusal has its cause (`moves`, `full`, `not_full`).
 //! - [`flush_all`] flushes and marks all logs, up to the first that refuses (`flushes`, by `FlushesAll`).
-//! - [`Savepoints::save_marks`] stores the savepoint that the marks allow: the least of their epochs and of the clock's
-//!   less 1, and of each growing log file the length that its mark counts (`saves`, by `SavesMarks` in
-//!   `specs/Saves.antt`). What it stores covers each worker's commits up to its epoch (the law `counts_saved`), and to
-//!   one that knows the save device it is one savepoint more (`keeper_saved`).
+//! - [`save_marks`] stores the savepoint that the marks allow: the least of their epochs and of the clock's less 1, of
+//!   each growing log file the length that its mark counts, and of the closed ones and the pages what it is given
+//!   (`saves`, by `SavesMarks` in `specs/Saves.antt`). What it stores covers each worker's commits up to its epoch (the
+//!   law `counts_saved`), and to one that knows the save device it is one savepoint more (`keeper_saved`).
+//! - [`WorkerLog::reset`] begins the log of the other, empty log file once it grows (`resets`); by the law `log_resets`
+//!   it has no commit.
 //!
 //! No call takes memory but [`WorkerLog::new`].
 //!
-//! Invariants: a log's journal has the limit of a log file, and its mark counts no more (`IsLogState`); what the newest
-//! savepoint says is known (`IsKnown`).
+//! Invariants: a log's journal has the limit of a log file, and its mark counts no more (`IsLogState`).
 //!
 //! Terms: a *mark* is an epoch with the length of a log file that has all its worker's commits up to that epoch. An
 //! *idle* worker has no line in a round: its mark names no epoch, and holds none back. Epochs, marks and group commit
@@ -36,6 +37,6 @@ mod worker_log;
 mod write_set;
 
 pub use flushing::flush_all;
-pub use savepoints::Savepoints;
+pub use savepoints::{Beside, Side, marked_lengths, save_marks};
 pub use worker_log::WorkerLog;
 pub use write_set::WriteSet;

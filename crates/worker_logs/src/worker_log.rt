@@ -2,7 +2,7 @@
 ghost use Rattle.std.specs.Prelude.{◌≡◌, ◌≢◌, ◌↔◌, ◌+◌, ◌-◌, ◌^◌, ◌<◌, ◌≤◌, ℕ, [], ◌++◌, false, Err, IfOk, OnOk, OnErr};
 ghost use Rattle.log_writer.specs.Journal.{free, end_of, Reaches};
 ghost use Rattle.wire_form.specs.LogLine.{IsLoggable, IsLogLine, line_bytes};
-ghost use Rattle.worker_logs.specs.Logs.{fresh_log, idle_log, IsJoined, IsUpTo};
+ghost use Rattle.worker_logs.specs.Logs.{fresh_log, idle_log, reset_log, IsJoined, IsUpTo};
 ghost use Rattle.worker_logs.specs.Moves.{MovesLog, refusal};
 
 use log_writer::{Journal, LogFault};
@@ -142,6 +142,16 @@ impl WorkerLog {
         ensures mark { self.new.mark ≡ self.old.mark }
     {
         self.journal.put(commit);
+    }
+
+    /// The worker's other log file, which is empty, grows from now on. The mark keeps its epoch: of the commits up to
+    /// it none is in that log file.
+    pub fn reset(&mut self)
+        requires flushed { self.old.journal.lines ≡ [] }
+        ensures resets { self.new ≡ reset_log self.old }
+    {
+        self.journal.reset();
+        self.mark.length = 0;
     }
 
     /// The worker has no line in this round, and holds no epoch back. Its mark still counts all its commits.

@@ -1,6 +1,6 @@
 use Rattle.std.proofs.Common.{[], arith}
 use Rattle.worker_logs.proofs.Lengths.{lengths_end, lengths_from}
-use Rattle.worker_logs.proofs.savepoints.lengths.Goals as goal
+use Rattle.worker_logs.proofs.savepoints.marked_lengths.Goals as goal
 
 pub returns-clause-lengths : goal.returns-clause-lengths
 returns-clause-lengths c =

@@ -1,0 +1,2 @@
+pub mod Glean
+pub mod GleanLaws

@@ -1,0 +1,172 @@
+// A glean.
+ghost use Rattle.std.specs.Prelude.{◌≡◌, ◌≢◌, ◌<◌, ◌≤◌, ◌+◌, ◌*◌, ◌++◌, ◌↔◌, ℕ, List, Some, Ok, Err, IfOk, OnOk, OnErr};
+ghost use Rattle.std.specs.Prelude.{length};
+ghost use Rattle.std.specs.Prelude.{is_some, slice_get, false, true};
+ghost use Rattle.outside.specs.Disk.{IfTold};
+ghost use Rattle.outside.specs.Reads.{OnlyReads};
+ghost use Rattle.outside.specs.Faults.{Rose};
+ghost use Rattle.outside.specs.Fronts.{AllBegin};
+ghost use Rattle.outside.specs.declared.vault.Device.TheVariants as devices;
+ghost use Rattle.wire_form.specs.Pages.{Contents};
+ghost use Rattle.wire_form.specs.declared.page.Page.{Page};
+ghost use Rattle.snapshot_store.specs.Content.{words_of};
+ghost use Rattle.snapshot_store.specs.Store.{bytes_of_pages, Holds, KeepsFront, NumberedFrom};
+ghost use Rattle.snapshot_store.specs.declared.store.StoreFault.{StoreFault as TheStoreFault};
+ghost use Rattle.gleaner.specs.Glean.{CanGlean, IsDamagedFile, IsGleaned, Refuses};
+ghost use Rattle.gleaner.specs.Glean.{CanReduce, Composes, ComposesDeep, ComposesMany, WouldBeDeep, WouldBeMany};
+ghost use Rattle.gleaner.specs.Glean.{bank_of as number_of, none_counted};
+
+use crate::closed::{Closed, Newest, count_nothing};
+use crate::mapping::map_closed;
+use lists::OrMemory;
+use log_reducer::reduce;
+use outside::{Device, Disk};
+use root_composer::{ComposeFault, NewPages, compose};
+use serial_model::Decl;
+use snapshot_store::{SnapStore, StoreFault};
+use std::alloc::Global;
+use wire_form::Bucket;
+
+/// What a glean answers.
+#[derive(Clone, Copy, Debug, PartialEq, Eq)]
+pub enum Gleaned {
+    /// No byte of the closed log files counts.
+    Empty,
+    /// A snapshot of this epoch was added, in so many pages with its catalogue.
+    Snap { epoch: u32, new: u32 },
+}
+
+/// Why no snapshot was made.
+#[derive(Clone, Copy, Debug, PartialEq, Eq)]
+pub enum GleanFault {
+    /// The device's count of faults rose.
+    Device(Device),
+    /// The closed log file is out of its format from this byte on.
+    Damaged { device: Device, at: u64 },
+    /// A page would stand below 32 others.
+    Deep,
+    /// With the new pages there would be more than are let in.
+    Limit { have: u32, new: u64, room: u32 },
+}
+
+/// Adds the snapshot that the counted bytes of the closed log files make of the newest one. Before any write it refuses
+/// damage, [`GleanFault::Deep`] and [`GleanFault::Limit`], in this order, and so does want of memory.
+pub fn glean<D: Disk>(
+    alloc: Global,
+    snaps: &mut D,
+    files: &mut [D],
+    store: &mut SnapStore,
+    decls: &[Decl],
+    newest: Newest,
+    closed: &Closed,
+    room: u32,
+) -> Result<Gleaned, OrMemory<GleanFault>>
+    requires can { none_counted closed.now.lengths ≢ true
+        → (contents : Contents) × CanGlean (words_of store.old.pages) decls.now newest closed.now contents }
+    requires workers { length files.old ≡ 8 }
+    requires room { room ≤ 65536 }
+    requires sound { store.old.sound ≡ true }
+    requires holds { Holds D.tells snaps.old store.old.pages }
+    ensures none { (result ≡ Ok Gleaned.Empty) ↔ (none_counted closed.now.lengths ≡ true) }
+    ensures untouched { none_counted closed.now.lengths ≡ true
+        → (snaps.new ≡ snaps.old) × (files.new ≡ files.old) × (store.new ≡ store.old) }
+    ensures gleaned { (epoch new : ℕ) → result ≡ Ok (Gleaned.Snap epoch new) → (epoch ≡ closed.now.epoch)
+        × IsGleaned D.tells (words_of store.old.pages) decls.now newest closed.now files.old (words_of store.new.pages)
+        new room }
+    ensures durable { OnOk result (IfTold (D.tells snaps.old) (λ _.
+        none_counted closed.now.lengths ≢ true
+        → AllBegin (D.image_at snaps.new (D.clock snaps.new)) (bytes_of_pages store.new.pages))) }
+    ensures sound { OnOk result (store.new.sound ≡ true) }
+    ensures holds { OnOk result (Holds D.tells snaps.new store.new.pages) }
+    ensures damaged { (device : Device) (at : ℕ) → result ≡ Err (OrMemory.Fault (GleanFault.Damaged device at))
+        → IsDamagedFile D.tells closed.now decls.now newest.epoch files.old device at }
+    ensures device { (device : Device) → result ≡ Err (OrMemory.Fault (GleanFault.Device device))
+        → Refuses D.faults closed.now snaps.old snaps.new files.old files.new device }
+    ensures deep { result ≡ Err (OrMemory.Fault GleanFault.Deep)
+        → WouldBeDeep D.tells (words_of store.old.pages) decls.now newest closed.now files.old }
+    ensures limit { (have new most : ℕ) → result ≡ Err (OrMemory.Fault (GleanFault.Limit have new most))
+        → (have ≡ length store.old.pages) × (most ≡ room) × (room < have + new)
+        × WouldBeMany D.tells (words_of store.old.pages) decls.now newest closed.now files.old new }
+    ensures kept { OnErr result (result ≢ Err (OrMemory.Fault (GleanFault.Device devices.Snaps))
+        → (snaps.new ≡ snaps.old) × (store.new ≡ store.old)) }
+    ensures unsound { result ≡ Err (OrMemory.Fault (GleanFault.Device devices.Snaps)) → store.new.sound ≡ false }
+    ensures grows { (more : List Page) × (store.new.pages ≡ store.old.pages ++ more) }
+    // Whatever it answers: images begin with what was durable of the pages, and no other count of faults rose.
+    ensures front { KeepsFront D.clock D.image_at (512 * length store.old.pages) snaps.old snaps.new }
+    ensures told { is_some (D.tells snaps.new) ≡ is_some (D.tells snaps.old) }
+    ensures quiet_snaps { result ≢ Err (OrMemory.Fault (GleanFault.Device devices.Snaps))
+        → D.faults snaps.new ≡ D.faults snaps.old }
+    ensures quiet_files { (worker : ℕ) (was is : D) → slice_get files.old worker ≡ Some was
+        → slice_get files.new worker ≡ Some is
+        → result ≢ Err (OrMemory.Fault (GleanFault.Device (devices.Bank (number_of closed.now.odd worker))))
+        → D.faults is ≡ D.faults was }
+    ensures reads { (worker : ℕ) (was is : D) → slice_get files.old worker ≡ Some was
+        → slice_get files.new worker ≡ Some is → OnlyReads D.tells D.clock D.image_at D.faults was is }
+    ensures length { length files.new ≡ length files.old }
+{
+    if count_nothing(&closed.lengths) {
+        return Ok(Gleaned::Empty);
+    }
+    let buckets = match map_closed(alloc, files, closed, decls, newest.epoch) {
+        Ok(buckets) => buckets,
+        Err(fault) => return Err(fault),
+    };
+    let pages = match pages_of(alloc, store, newest, &buckets, closed.epoch, room) {
+        Ok(pages) => pages,
+        Err(fault) => return Err(fault),
+    };
+    match store.append_durably(snaps, pages.as_slice()) {
+        Ok(()) => {}
+        Err(fault) => return Err(fault_of_store(fault)),
+    }
+    Ok(Gleaned::Snap {
+        epoch: closed.epoch,
+        new: pages.len() as u32,
+    })
+}
+
+// The pages of the snapshot that the last entries of these buckets make of the newest one.
+fn pages_of(
+    alloc: Global,
+    store: &SnapStore,
+    newest: Newest,
+    buckets: &[Bucket],
+    epoch: u32,
+    room: u32,
+) -> Result<NewPages, OrMemory<GleanFault>>
+    requires can { (contents : Contents) × CanReduce (words_of store.now.pages) newest buckets.now epoch contents }
+    requires room { room ≤ 65536 }
+    ensures composed { IfOk result (λ pages.
+        Composes (words_of store.now.pages) newest buckets.now epoch (words_of pages) (length pages)) }
+    ensures numbered { IfOk result (λ pages. NumberedFrom (length store.now.pages + 1) pages) }
+    ensures within { IfOk result (λ pages. length store.now.pages + length pages ≤ room) }
+    ensures deep { result ≡ Err (OrMemory.Fault GleanFault.Deep)
+        → ComposesDeep (words_of store.now.pages) newest buckets.now }
+    ensures limit { (have new most : ℕ) → result ≡ Err (OrMemory.Fault (GleanFault.Limit have new most))
+        → (have ≡ length store.now.pages) × (most ≡ room) × (room < have + new)
+        × ComposesMany (words_of store.now.pages) newest buckets.now epoch new }
+    ensures only { ((device : Device) → result ≢ Err (OrMemory.Fault (GleanFault.Device device)))
+        × ((device : Device) (at : ℕ) → result ≢ Err (OrMemory.Fault (GleanFault.Damaged device at))) }
+{
+    let run = reduce(alloc, buckets)?;
+    match compose(alloc, store, newest.page, &run, epoch, room) {
+        Ok(pages) => Ok(pages),
+        Err(OrMemory::Memory) => Err(OrMemory::Memory),
+        Err(OrMemory::Fault(ComposeFault::Deep)) => Err(OrMemory::Fault(GleanFault::Deep)),
+        Err(OrMemory::Fault(ComposeFault::Limit { have, new, room })) => {
+            Err(OrMemory::Fault(GleanFault::Limit { have, new, room }))
+        }
+    }
+}
+
+// What a fault of the snapshots is to a glean.
+fn fault_of_store(fault: OrMemory<StoreFault>) -> OrMemory<GleanFault>
+    ensures memory { (fault ≡ OrMemory.Memory) → result ≡ OrMemory.Memory }
+    ensures failed { (failed : TheStoreFault) → fault ≡ OrMemory.Fault failed
+        → result ≡ OrMemory.Fault (GleanFault.Device devices.Snaps) }
+{
+    match fault {
+        OrMemory::Fault(_) => OrMemory::Fault(GleanFault::Device(Device::Snaps)),
+        OrMemory::Memory => OrMemory::Memory,
+    }
+}

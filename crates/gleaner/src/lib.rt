@@ -1,0 +1,23 @@
+//! A glean: what the closed log files have becomes the next snapshot.
+//!
+//! Promises:
+//! - [`glean`] does nothing exactly where no byte of the closed log files counts (`none`). Else it maps their counted
+//!   bytes, keeps the last entry of each key, and adds the pages of a snapshot of the epoch at which they were closed:
+//!   its content is the newest one's under these entries (`gleaned`, by `IsGleaned` in `specs/Glean.antt`). The pages
+//!   are durable once it has answered (`durable`).
+//! - Before any write it refuses, in this order: damage, at a byte of a closed log file (`damaged`); a page that would
+//!   stand below 32 others (`deep`); more pages than are let in, at exactly their number (`limit`); want of memory.
+//! - It only reads the closed log files (`reads`), and a device failed only where its count of faults rose (`device`).
+//!
+//! Terms: *closed*, of a log file, that no journal writes it; *counted*, of bytes of a log file, that the newest
+//! savepoint counts them.
+//!
+//! Design: docs/CHECKPOINT.md.
+#![tactic(auto)]
+
+mod closed;
+mod gleaning;
+mod mapping;
+
+pub use closed::{Closed, Newest};
+pub use gleaning::{GleanFault, Gleaned, glean};

@@ -1,15 +1,15 @@
 -- The end that is told is the first refusal of the round, by the phases that it went through.
 use Rattle.std.proofs.Common.{◌≡◌, ◌∙◌, ◌⊎◌, inl, inr, sym, ap, refl, ℕ}
 use Rattle.std.proofs.Common.{Bool, true, false, not, Option, Some, None}
-use Rattle.std.specs.Prelude.{◌||◌, ◌==◌, is_some, nat_lt, Result, Ok, Err}
+use Rattle.std.specs.Prelude.{◌||◌, ◌==◌, is_some, nat_lt, ⊤}
 use Rattle.std.specs.Option.{option_map}
 use Rattle.serial_model.specs.Numbers.{last_epoch}
 use Rattle.outside.specs.declared.vault.Device.{Device}
 use Rattle.tx_script.specs.Run.{Ran}
 use Rattle.tx_script.specs.Causes.{keeper_at_end, last_sequence, leaves_join_out}
-use Rattle.round_engine.specs.Ends.{bank_end, comes_to_advance, draw_end, end_of, epoch_end, first_device, first_of}
-use Rattle.round_engine.specs.Ends.{full_length, limit_at, save_limited, sequence_end, where_true}
-use Rattle.round_engine.specs.Refusals.{end_told, leaves_out, lines_refused}
+use Rattle.round_engine.specs.Ends.{bank_end, comes_to_advance, damaged_end, draw_end, end_of, epoch_end, first_device}
+use Rattle.round_engine.specs.Ends.{first_of, full_length, limit_at, memory_end, save_limited, sequence_end, where_true}
+use Rattle.round_engine.specs.Refusals.{damage_in, end_told, leaves_out, lines_refused, memory_in}
 use Rattle.round_engine.specs.declared.report.End.{End}
 use Rattle.round_engine.specs.declared.report.End.TheVariants as ends
 use Rattle.round_engine.specs.declared.report.LimitName.TheVariants.{Bank, Draw, Epoch, Height, Sequence, Snap}
@@ -19,6 +19,9 @@ use Rattle.round_engine.specs.declared.rounds.Refused.{Refused}
 pub record IsRefusedAs (ran : Ran) (refused : Refused) : Type 0 where
   pub draw : draw_end ran ≡ option_map (limit_at Draw) refused.draw
   pub full : refused.device ≡ None → full_length ran.logs ≡ refused.full
+  pub damage : refused.device ≡ None → damaged_end ran ≡ damage_in refused.keeper
+  pub memory : refused.device ≡ None → damaged_end ran ≡ None → memory_end ran ≡ memory_in refused.keeper
+  pub sequence : refused.sequence ≡ where_true (save_limited ran.asked ran.answers) (keeper_at_end ran).sequence
   pub leaves : leaves_join_out ran ≡ leaves_out refused
 
 -- ---- the first of some
@@ -26,9 +29,6 @@ pub record IsRefusedAs (ran : Ran) (refused : Refused) : Type 0 where
 pub first_none : {X : Type 0} (x : Option X) → first_of x None ≡ x
 first_none None = refl
 first_none (Some x) = refl
-
-pub first_some : {X : Type 0} (x : X) (y z : Option X) → first_of (Some x) y ≡ first_of (Some x) z
-first_some x y z = refl
 
 pub some_first : {X : Type 0} (x y : Option X) → is_some y ≡ true → is_some (first_of x y) ≡ true
 some_first None y is = is
@@ -38,10 +38,10 @@ pub some_map : {X Y : Type 0} (f : X → Y) (x : Option X) → is_some x ≡ tru
 some_map f None is = absurd cc
 some_map f (Some x) is = refl
 
--- something stands in front of what is behind it
-pub in_front : {X : Type 0} (x y z : Option X) → is_some x ≡ true → first_of x y ≡ first_of x z
-in_front None y z is = absurd cc
-in_front (Some x) y z is = refl
+-- the end by all its parts
+abbrev pub first_end : Option End → Option End → Option End → Option End → Option End → Option End → Option End → Option End
+first_end device damage epoch draw full sequence memory =
+    first_of device (first_of damage (first_of epoch (first_of draw (first_of full (first_of sequence memory)))))
 
 -- ---- a join that was left out
 
@@ -49,55 +49,123 @@ in_front (Some x) y z is = refl
 pub no_epoch : (ran : Ran) → leaves_join_out ran ≡ true → epoch_end ran ≡ None
 no_epoch ran out = rw out refl
 
-pub left_out_end : (device : Option Device) (draw full : Option ℕ) (epoch draws bank sequence : Option End)
-    → epoch ≡ None → draws ≡ option_map (limit_at Draw) draw → (device ≡ None → bank ≡ option_map (limit_at Bank) full)
-    → (is_some device || is_some full) ≡ true
-    → first_of (option_map ends.Device device) (first_of (option_map (limit_at Draw) draw) (option_map (limit_at Bank) full))
-    ≡ first_of (option_map ends.Device device) (first_of epoch (first_of draws (first_of bank sequence)))
-left_out_end (Some device) draw full epoch draws bank sequence none draws_is bank_is out = refl
-left_out_end None draw None epoch draws bank sequence none draws_is bank_is out = absurd cc
-left_out_end None draw (Some size) epoch draws bank sequence none draws_is bank_is out =
-    rw (none, draws_is, bank_is refl) (ap (first_of (option_map (limit_at Draw) draw)) refl)
+-- and none of the sequence but by lines
+pub or_none : (b : Bool) → (b || false) ≡ b
+or_none true = refl
+or_none false = refl
+
+pub map_where : {X Y : Type 0} (f : X → Y) (b : Bool) (x : X) → option_map f (where_true b x) ≡ where_true b (f x)
+map_where f true x = refl
+map_where f false x = refl
+
+pub lines_sequence : (ran : Ran) (refused : Refused) → IsRefusedAs ran refused → leaves_join_out ran ≡ true
+    → sequence_end ran ≡ option_map (limit_at Sequence) refused.sequence
+lines_sequence ran refused is out =
+    rw out
+    (ap (λ b. where_true b (limit_at Sequence (keeper_at_end ran).sequence)) (or_none (save_limited ran.asked ran.answers))
+    ∙ sym (ap (option_map (limit_at Sequence)) is.sequence
+    ∙ map_where (limit_at Sequence) (save_limited ran.asked ran.answers) (keeper_at_end ran).sequence))
+
+pub left_out_end : (device : Option Device) (damage told_damage epoch draw full told_full sequence memory told_memory : Option End)
+    → epoch ≡ None → (device ≡ None → told_damage ≡ damage) → (device ≡ None → told_full ≡ full)
+    → (device ≡ None → told_damage ≡ None → told_memory ≡ memory)
+    → first_of (option_map ends.Device device) (first_of damage (first_of draw (first_of full (first_of sequence memory))))
+    ≡ first_end (option_map ends.Device device) told_damage epoch draw told_full sequence told_memory
+left_out_end (Some device) damage told_damage epoch draw full told_full sequence memory told_memory none is_damage is_full
+    is_memory = refl
+left_out_end None damage told_damage epoch draw full told_full sequence memory told_memory none is_damage is_full is_memory =
+    rw (none, is_full refl) (by_damage damage told_damage (is_damage refl) (λ no. is_memory refl no))
+  where
+    by_damage : (damage told : Option End) → told ≡ damage → (told ≡ None → told_memory ≡ memory)
+        → first_of damage (first_of draw (first_of full (first_of sequence memory)))
+        ≡ first_of told (first_of draw (first_of full (first_of sequence told_memory)))
+    by_damage None None is same = rw (same refl) refl
+    by_damage None (Some told) is same = absurd cc
+    by_damage (Some damage) None is same = absurd cc
+    by_damage (Some damage) (Some told) is same = sym is
 
 pub end_left_out : (ran : Ran) (refused : Refused) → IsRefusedAs ran refused → first_device ran.devices ≡ refused.device
     → leaves_out refused ≡ true → lines_refused refused ≡ end_of ran
 end_left_out ran refused is device out =
-    left_out_end refused.device refused.draw refused.full (epoch_end ran) (draw_end ran) (bank_end ran) (sequence_end ran)
-    (no_epoch ran (is.leaves ∙ out)) is.draw (λ none. ap (option_map (limit_at Bank)) (is.full none)) out
-    ∙ ap (λ d. first_of (option_map ends.Device d) (first_of (epoch_end ran) (first_of (draw_end ran)
-    (first_of (bank_end ran) (sequence_end ran))))) (sym device)
+    left_out_end refused.device (damage_in refused.keeper) (damaged_end ran) (epoch_end ran)
+    (option_map (limit_at Draw) refused.draw) (option_map (limit_at Bank) refused.full) (bank_end ran)
+    (option_map (limit_at Sequence) refused.sequence) (memory_in refused.keeper) (memory_end ran)
+    (no_epoch ran (is.leaves ∙ out)) is.damage (λ none. ap (option_map (limit_at Bank)) (is.full none)) is.memory
+    ∙ ap (λ d. first_end d (damaged_end ran) (epoch_end ran) (option_map (limit_at Draw) refused.draw) (bank_end ran)
+    (option_map (limit_at Sequence) refused.sequence) (memory_end ran)) (ap (option_map ends.Device) (sym device))
+    ∙ ap (λ d. first_end (option_map ends.Device (first_device ran.devices)) (damaged_end ran) (epoch_end ran) d (bank_end ran)
+    (option_map (limit_at Sequence) refused.sequence) (memory_end ran)) (sym is.draw)
+    ∙ ap (λ s. first_end (option_map ends.Device (first_device ran.devices)) (damaged_end ran) (epoch_end ran) (draw_end ran)
+    (bank_end ran) s (memory_end ran)) (sym (lines_sequence ran refused is (is.leaves ∙ out)))
+
+-- What the maintenance thread's lines may be refused by: no limit; and a device is told as one.
+abbrev pub IsKeeperEnd : Option Device → Option End → Type 0
+IsKeeperEnd device None = ⊤
+IsKeeperEnd device (Some (ends.Device d)) = is_some device ≡ true
+IsKeeperEnd device (Some (ends.Damaged d at)) = ⊤
+IsKeeperEnd device (Some (ends.Limit name number)) = ⊥
+IsKeeperEnd device (Some ends.Memory) = ⊤
 
 -- something ended the run
-pub left_out_some : (refused : Refused) → leaves_out refused ≡ true → is_some (lines_refused refused) ≡ true
-left_out_some refused out = some_of refused.device refused.full (option_map (limit_at Draw) refused.draw) out
+pub left_out_some : (refused : Refused) → IsKeeperEnd refused.device refused.keeper → leaves_out refused ≡ true
+    → is_some (lines_refused refused) ≡ true
+left_out_some refused keeper out =
+    some_of refused.device refused.full refused.keeper (option_map (limit_at Draw) refused.draw)
+    (option_map (limit_at Sequence) refused.sequence) keeper out
   where
-    some_of : (device : Option Device) (full : Option ℕ) (draw : Option End) → (is_some device || is_some full) ≡ true
-        → is_some (first_of (option_map ends.Device device) (first_of draw (option_map (limit_at Bank) full))) ≡ true
-    some_of (Some device) full draw out = refl
-    some_of None None draw out = absurd cc
-    some_of None (Some size) draw out = some_first draw (Some (limit_at Bank size)) refl
+    in_full : (damage draw rest : Option End) (size : ℕ)
+        → is_some (first_of damage (first_of draw (first_of (Some (limit_at Bank size)) rest))) ≡ true
+    in_full (Some damage) draw rest size = refl
+    in_full None (Some draw) rest size = refl
+    in_full None None rest size = refl
+
+    in_memory : (draw sequence : Option End) → is_some (first_of draw (first_of sequence (Some ends.Memory))) ≡ true
+    in_memory (Some draw) sequence = refl
+    in_memory None (Some sequence) = refl
+    in_memory None None = refl
+
+    some_of : (device : Option Device) (full : Option ℕ) (keeper draw sequence : Option End) → IsKeeperEnd device keeper
+        → (is_some device || is_some full || is_some keeper) ≡ true
+        → is_some (first_of (option_map ends.Device device) (first_of (damage_in keeper) (first_of draw
+        (first_of (option_map (limit_at Bank) full) (first_of sequence (memory_in keeper)))))) ≡ true
+    some_of (Some device) full keeper draw sequence is out = refl
+    some_of None (Some size) keeper draw sequence ends out = in_full (damage_in keeper) draw (first_of sequence (memory_in keeper)) size
+    some_of None None None draw sequence is out = absurd cc
+    some_of None None (Some (ends.Device d)) draw sequence is out = absurd cc
+    some_of None None (Some (ends.Damaged d at)) draw sequence is out = refl
+    some_of None None (Some (ends.Limit name number)) draw sequence is out = absurd is
+    some_of None None (Some ends.Memory) draw sequence is out = in_memory draw sequence
 
 -- ---- a join that was made
 
 -- nothing that leaves the join out was refused
-pub nothing : (refused : Refused) → leaves_out refused ≡ false → (refused.device ≡ None) × (refused.full ≡ None)
-nothing refused out = none_of refused.device refused.full out
-  where
-    none_of : (device : Option Device) (full : Option ℕ) → (is_some device || is_some full) ≡ false
-        → (device ≡ None) × (full ≡ None)
-    none_of None None out = (refl, refl)
-    none_of None (Some size) out = absurd cc
-    none_of (Some device) full out = absurd cc
+pub record NoneRefused (refused : Refused) : Type 0 where
+  pub device : refused.device ≡ None
+  pub full : refused.full ≡ None
+  pub keeper : refused.keeper ≡ None
 
--- what its join answered, and the devices that it failed by
-pub record IsJoinedAs (ran : Ran) (result : Result ℕ End) : Type 0 where
+pub nothing : (refused : Refused) → leaves_out refused ≡ false → NoneRefused refused
+nothing refused out =
+    let none = none_of refused.device refused.full refused.keeper out in
+    record { device = none.0; full = none.1; keeper = none.2 }
+  where
+    none_of : (device : Option Device) (full : Option ℕ) (keeper : Option End)
+        → (is_some device || is_some full || is_some keeper) ≡ false
+        → (device ≡ None) × (full ≡ None) × (keeper ≡ None)
+    none_of None None None out = (refl, refl, refl)
+    none_of None None (Some end) out = absurd cc
+    none_of None (Some size) keeper out = absurd cc
+    none_of (Some device) full keeper out = absurd cc
+
+-- what its join was refused, or the swap behind it, and the devices that failed
+pub record IsJoinedAs (ran : Ran) (refusal : Option End) : Type 0 where
   pub device : (first_device ran.devices ≡ None)
-      ⊎ ((device : Device) × (result ≡ Err (ends.Device device)) × (first_device ran.devices ≡ Some device))
-  pub limit : first_device ran.devices ≡ None → (end : End) → result ≡ Err end
+      ⊎ ((device : Device) × (refusal ≡ Some (ends.Device device)) × (first_device ran.devices ≡ Some device))
+  pub limit : first_device ran.devices ≡ None → (end : End) → refusal ≡ Some end
       → ((end ≡ limit_at Epoch ran.end.epoch) × (nat_lt ran.end.epoch last_epoch ≡ false))
       ⊎ ((end ≡ limit_at Sequence (keeper_at_end ran).sequence) × (nat_lt ran.end.epoch last_epoch ≡ true)
       × (((keeper_at_end ran).sequence == last_sequence) ≡ true))
-  pub done : (epoch : ℕ) → result ≡ Ok epoch → (nat_lt ran.end.epoch last_epoch ≡ true)
+  pub done : refusal ≡ None → (nat_lt ran.end.epoch last_epoch ≡ true)
       × (((keeper_at_end ran).sequence == last_sequence) ≡ false) × (save_limited ran.asked ran.answers ≡ false)
       × (first_device ran.devices ≡ None)
 
@@ -105,44 +173,65 @@ module _ (ran : Ran) (refused : Refused) (is : IsRefusedAs ran refused) (out : l
   made_advance : comes_to_advance ran ≡ true
   made_advance = ap not (is.leaves ∙ out)
 
-  lines_draw_alone : lines_refused refused ≡ option_map (limit_at Draw) refused.draw
-  lines_draw_alone =
+  -- limits of lines alone are left
+  abbrev draws : Option End
+  draws = option_map (limit_at Draw) refused.draw
+
+  abbrev sequences : Option End
+  sequences = option_map (limit_at Sequence) refused.sequence
+
+  lines_alone : lines_refused refused ≡ first_of draws sequences
+  lines_alone =
       let none = nothing refused out in
-      ap (λ d. first_of (option_map ends.Device d) (first_of (option_map (limit_at Draw) refused.draw)
-      (option_map (limit_at Bank) refused.full))) none.0
-      ∙ ap (λ f. first_of (option_map (limit_at Draw) refused.draw) (option_map (limit_at Bank) f)) none.1
-      ∙ first_none (option_map (limit_at Draw) refused.draw)
+      ap (λ d. first_of (option_map ends.Device d) (first_of (damage_in refused.keeper) (first_of draws
+      (first_of (option_map (limit_at Bank) refused.full) (first_of sequences (memory_in refused.keeper)))))) none.device
+      ∙ ap (λ k. first_of (damage_in k) (first_of draws
+      (first_of (option_map (limit_at Bank) refused.full) (first_of sequences (memory_in k))))) none.keeper
+      ∙ ap (λ f. first_of draws (first_of (option_map (limit_at Bank) f) (first_of sequences None))) none.full
+      ∙ ap (first_of draws) (first_none sequences)
 
   no_bank : bank_end ran ≡ None
   no_bank =
       let none = nothing refused out in
-      ap (option_map (limit_at Bank)) (is.full none.0 ∙ none.1)
+      ap (option_map (limit_at Bank)) (is.full none.device ∙ none.full)
+
+  no_damage : damaged_end ran ≡ None
+  no_damage =
+      let none = nothing refused out in
+      is.damage none.device ∙ ap damage_in none.keeper
+
+  no_memory : memory_end ran ≡ None
+  no_memory =
+      let none = nothing refused out in
+      is.memory none.device no_damage ∙ ap memory_in none.keeper
 
   -- the end of a round whose devices are all up
-  up_end : first_device ran.devices ≡ None → end_of ran
-      ≡ first_of (epoch_end ran) (first_of (option_map (limit_at Draw) refused.draw) (sequence_end ran))
+  up_end : first_device ran.devices ≡ None → end_of ran ≡ first_of (epoch_end ran) (first_of draws (sequence_end ran))
   up_end up =
-      ap (λ d. first_of (option_map ends.Device d)
-      (first_of (epoch_end ran) (first_of (draw_end ran) (first_of (bank_end ran) (sequence_end ran))))) up
-      ∙ ap (λ b. first_of (epoch_end ran) (first_of (draw_end ran) (first_of b (sequence_end ran)))) no_bank
-      ∙ ap (λ d. first_of (epoch_end ran) (first_of d (sequence_end ran))) is.draw
+      ap (λ d. first_end (option_map ends.Device d) (damaged_end ran) (epoch_end ran) (draw_end ran) (bank_end ran)
+      (sequence_end ran) (memory_end ran)) up
+      ∙ ap (λ d. first_end None d (epoch_end ran) (draw_end ran) (bank_end ran) (sequence_end ran) (memory_end ran)) no_damage
+      ∙ ap (λ d. first_end None None (epoch_end ran) d (bank_end ran) (sequence_end ran) (memory_end ran)) is.draw
+      ∙ ap (λ b. first_end None None (epoch_end ran) draws b (sequence_end ran) (memory_end ran)) no_bank
+      ∙ ap (λ m. first_end None None (epoch_end ran) draws None (sequence_end ran) m) no_memory
+      ∙ ap (λ s. first_of (epoch_end ran) (first_of draws s)) (first_none (sequence_end ran))
 
   epoch_reached : (b : Bool) → nat_lt ran.end.epoch last_epoch ≡ b
       → epoch_end ran ≡ where_true (not b) (limit_at Epoch ran.end.epoch)
   epoch_reached b test = rw (made_advance, test) refl
 
-  pub end_done : (epoch : ℕ) → IsJoinedAs ran (Ok epoch) → end_told refused None ≡ end_of ran
-  end_done epoch joined =
-      let done = joined.done epoch refl in
-      lines_draw_alone ∙ sym (up_end done.3
-      ∙ ap (λ e. first_of e (first_of (option_map (limit_at Draw) refused.draw) (sequence_end ran)))
-      (epoch_reached true done.0)
-      ∙ ap (first_of (option_map (limit_at Draw) refused.draw)) (no_sequence done.0 done.1 done.2)
-      ∙ first_none (option_map (limit_at Draw) refused.draw))
-    where
-      no_sequence : nat_lt ran.end.epoch last_epoch ≡ true → ((keeper_at_end ran).sequence == last_sequence) ≡ false
-          → save_limited ran.asked ran.answers ≡ false → sequence_end ran ≡ None
-      no_sequence below other limited = rw (limited, made_advance, below, other) refl
+  no_sequence : nat_lt ran.end.epoch last_epoch ≡ true → ((keeper_at_end ran).sequence == last_sequence) ≡ false
+      → save_limited ran.asked ran.answers ≡ false → sequence_end ran ≡ None
+  no_sequence below other limited = rw (limited, made_advance, below, other) refl
+
+  pub end_done : IsJoinedAs ran None → end_told refused None ≡ end_of ran
+  end_done joined =
+      let done = joined.done refl in
+      let none : sequences ≡ None = ap (option_map (limit_at Sequence))
+      (is.sequence ∙ ap (λ b. where_true b (keeper_at_end ran).sequence) done.2) in
+      lines_alone ∙ ap (first_of draws) none ∙ sym (up_end done.3
+      ∙ ap (λ e. first_of e (first_of draws (sequence_end ran))) (epoch_reached true done.0)
+      ∙ ap (first_of draws) (no_sequence done.0 done.1 done.2))
 
   -- a device is told as it is
   told_device : (end : End) (device : Device) → end ≡ ends.Device device → end_told refused (Some end) ≡ Some (ends.Device device)
@@ -152,10 +241,20 @@ module _ (ran : Ran) (refused : Refused) (is : IsRefusedAs ran refused) (out : l
       → end_told refused (Some end) ≡ Some (limit_at Epoch number)
   told_limit end number is = ap (λ e. end_told refused (Some e)) is
 
-  told_sequence : (end : End) (number : ℕ) → end ≡ limit_at Sequence number
-      → end_told refused (Some end) ≡ first_of (option_map (limit_at Draw) refused.draw) (Some (limit_at Sequence number))
-  told_sequence end number is = ap (λ e. end_told refused (Some e)) is
-      ∙ ap (λ r. first_of r (Some (limit_at Sequence number))) lines_draw_alone
+  -- the same sequence was met by a line, or by none
+  first_same : (draw : Option End) (b : Bool) (number : ℕ)
+      → first_of (first_of draw (option_map (limit_at Sequence) (where_true b number))) (Some (limit_at Sequence number))
+      ≡ first_of draw (Some (limit_at Sequence number))
+  first_same None true number = refl
+  first_same None false number = refl
+  first_same (Some draw) b number = refl
+
+  told_sequence : (end : End) → end ≡ limit_at Sequence (keeper_at_end ran).sequence
+      → end_told refused (Some end) ≡ first_of draws (Some (limit_at Sequence (keeper_at_end ran).sequence))
+  told_sequence end this = ap (λ e. end_told refused (Some e)) this
+      ∙ ap (λ r. first_of r (Some (limit_at Sequence (keeper_at_end ran).sequence))) lines_alone
+      ∙ ap (λ s. first_of (first_of draws (option_map (limit_at Sequence) s)) (Some (limit_at Sequence (keeper_at_end ran).sequence))) is.sequence
+      ∙ first_same draws (save_limited ran.asked ran.answers) (keeper_at_end ran).sequence
 
   or_true : (b : Bool) → (b || true) ≡ true
   or_true true = refl
@@ -165,29 +264,25 @@ module _ (ran : Ran) (refused : Refused) (is : IsRefusedAs ran refused) (out : l
       → sequence_end ran ≡ Some (limit_at Sequence (keeper_at_end ran).sequence)
   met_sequence below at = rw (made_advance, below, at, or_true (save_limited ran.asked ran.answers)) refl
 
-  pub end_refused : (end : End) → IsJoinedAs ran (Err end) → end_told refused (Some end) ≡ end_of ran
+  pub end_refused : (end : End) → IsJoinedAs ran (Some end) → end_told refused (Some end) ≡ end_of ran
   end_refused end joined = elim joined.device [
     | inr failed ↦
-        told_device end failed.0 (err_is end (ends.Device failed.0) failed.1)
-        ∙ sym (ap (λ d. first_of (option_map ends.Device d)
-        (first_of (epoch_end ran) (first_of (draw_end ran) (first_of (bank_end ran) (sequence_end ran))))) failed.2)
+        told_device end failed.0 (some_is end (ends.Device failed.0) failed.1)
+        ∙ sym (ap (λ d. first_end (option_map ends.Device d) (damaged_end ran) (epoch_end ran) (draw_end ran) (bank_end ran)
+        (sequence_end ran) (memory_end ran)) failed.2)
     | inl up ↦ elim (joined.limit up end refl) [
       | inl epoch ↦
           told_limit end ran.end.epoch epoch.0
-          ∙ sym (up_end up
-          ∙ ap (λ e. first_of e (first_of (option_map (limit_at Draw) refused.draw) (sequence_end ran)))
-          (epoch_reached false epoch.1))
+          ∙ sym (up_end up ∙ ap (λ e. first_of e (first_of draws (sequence_end ran))) (epoch_reached false epoch.1))
       | inr last ↦
-          told_sequence end (keeper_at_end ran).sequence last.0
-          ∙ sym (up_end up
-          ∙ ap (λ e. first_of e (first_of (option_map (limit_at Draw) refused.draw) (sequence_end ran)))
-          (epoch_reached true last.1)
-          ∙ ap (first_of (option_map (limit_at Draw) refused.draw)) (met_sequence last.1 last.2))
+          told_sequence end last.0
+          ∙ sym (up_end up ∙ ap (λ e. first_of e (first_of draws (sequence_end ran))) (epoch_reached true last.1)
+          ∙ ap (first_of draws) (met_sequence last.1 last.2))
     ]
   ]
     where
-      err_is : (a b : End) → ◌≡◌ {A = Result ℕ End} (Err a) (Err b) → a ≡ b
-      err_is a b is = cc
+      some_is : (a b : End) → Some a ≡ Some b → a ≡ b
+      some_is a b is = cc
 
 -- a refusal of the join is told, or one of the lines
 pub told_some : (refused : Refused) (end : End) → is_some (end_told refused (Some end)) ≡ true

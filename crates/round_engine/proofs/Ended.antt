@@ -1,5 +1,5 @@
 -- Which refusal a round is told to end by: the first one of all.
-use Rattle.std.proofs.Common.{◌≡◌, ◌∙◌, ◌≤◌, ◌<◌, ◌+◌, ◌*◌, ◌⊎◌, ◌++◌, ◌∷◌, inl, inr, sym, ap, refl, ℕ}
+use Rattle.std.proofs.Common.{◌≡◌, ◌∙◌, ◌≤◌, ◌<◌, ◌+◌, ◌⊎◌, ◌++◌, ◌∷◌, inl, inr, sym, ap, refl, ℕ}
 use Rattle.std.proofs.Common.{List, [], map, Bool, true, false, cond, Option, Some, None, arith}
 use Rattle.std.specs.Prelude.{◌||◌, MatchBool, fold, is_some, nat_le}
 use Rattle.std.proofs.lemmas.Bool.Decides.{nat_tests}
@@ -12,97 +12,156 @@ use Rattle.tx_script.specs.declared.answer.Answer.{Answer}
 use Rattle.tx_script.specs.declared.answer.Answer.TheVariants as answers
 use Rattle.tx_script.specs.Run.{Ran}
 use Rattle.tx_script.specs.Causes.{AnswerCause, AnswersCaused, IsAnswerTo, KeeperAt, keeper_after, last_sequence}
-use Rattle.round_engine.specs.Ends.{earlier, first_device, first_of, full_length, save_limited}
+use Rattle.worker_logs.specs.Saves.{growing_number}
+use Rattle.worker_logs.specs.declared.savepoints.Side.{Side}
+use Rattle.round_engine.specs.Ends.{device_place, earlier, first_device, first_of, full_length, save_limited}
 use Rattle.round_engine.specs.Keeping.{is_refusal}
-use Rattle.round_engine.specs.Refusals.{first_failed, first_full}
+use Rattle.round_engine.specs.Refusals.{first_failed, first_full, first_told}
 use Rattle.round_engine.specs.Workers.{refusal_of, refused_as}
 use Rattle.round_engine.specs.declared.workers.LogEnd.{LogEnd}
+use Rattle.round_engine.proofs.Numbered.{growing_least}
 
 -- ---- the devices that failed
 
 -- the growing log files whose journals are down, of the workers from this one on
-abbrev pub banks_down : ℕ → List Bool → List Device
-banks_down worker [] = []
-banks_down worker (true ∷ more) = devices.Bank (2 * worker) ∷ banks_down (worker + 1) more
-banks_down worker (false ∷ more) = banks_down (worker + 1) more
+abbrev pub banks_down : Side → ℕ → List Bool → List Device
+banks_down side worker [] = []
+banks_down side worker (true ∷ more) = devices.Bank (growing_number side worker) ∷ banks_down side (worker + 1) more
+banks_down side worker (false ∷ more) = banks_down side (worker + 1) more
 
--- the devices that failed: those, and the save
-abbrev pub devices_down : List Bool → Bool → List Device
-devices_down logs true = banks_down 0 logs ++ devices.Save ∷ []
-devices_down logs false = banks_down 0 logs
+-- the devices that failed: the save, those that are told besides, and the growing log files
+abbrev pub devices_down : Side → List Bool → Bool → List Device → List Device
+devices_down side logs true others = devices.Save ∷ others ++ banks_down side 0 logs
+devices_down side logs false others = others ++ banks_down side 0 logs
 
--- the first of those log files
-abbrev pub first_down : ℕ → List Bool → Option Device
-first_down worker [] = None
-first_down worker (true ∷ more) = Some (devices.Bank (2 * worker))
-first_down worker (false ∷ more) = first_down (worker + 1) more
+-- the first of the growing log files
+abbrev pub first_down : Side → ℕ → List Bool → Option Device
+first_down side worker [] = None
+first_down side worker (true ∷ more) = Some (devices.Bank (growing_number side worker))
+first_down side worker (false ∷ more) = first_down side (worker + 1) more
 
 -- it is one of the workers from this one on
-pub down_from : (worker : ℕ) (logs : List Bool) → (first_down worker logs ≡ None)
-    ⊎ ((v : ℕ) × (worker ≤ v) × (first_down worker logs ≡ Some (devices.Bank (2 * v))))
-down_from worker [] = inl refl
-down_from worker (true ∷ more) = inr (worker, omega arith, refl)
-down_from worker (false ∷ more) = elim (down_from (worker + 1) more) [
+pub down_from : (side : Side) (worker : ℕ) (logs : List Bool) → (first_down side worker logs ≡ None)
+    ⊎ ((v : ℕ) × (worker ≤ v) × (first_down side worker logs ≡ Some (devices.Bank (growing_number side v))))
+down_from side worker [] = inl refl
+down_from side worker (true ∷ more) = inr (worker, omega arith, refl)
+down_from side worker (false ∷ more) = elim (down_from side (worker + 1) more) [
   | inl none ↦ inl none
   | inr one ↦ inr (one.0, omega (arith, one.1), one.2)
 ]
 
-pub above_test : (m : ℕ) → 0 < m → nat_le m 0 ≡ false
-above_test m some = grind (arith, nat_tests, some)
-
 pub at_most_test : (m n : ℕ) → m ≤ n → nat_le m n ≡ true
 at_most_test m n le = grind (arith, nat_tests, le)
 
+pub above_test : (m n : ℕ) → n < m → nat_le m n ≡ false
+above_test m n less = grind (arith, nat_tests, less)
+
 -- of log files the one of the lower number is told
-pub first_banks : (worker : ℕ) (logs : List Bool) → first_device (banks_down worker logs) ≡ first_down worker logs
-first_banks worker [] = refl
-first_banks worker (false ∷ more) = first_banks (worker + 1) more
-first_banks worker (true ∷ more) =
-    ap (λ d. Some (earlier (devices.Bank (2 * worker)) d)) (first_banks (worker + 1) more)
-    ∙ elim (down_from (worker + 1) more) [
-      | inl none ↦ ap (λ d. Some (earlier (devices.Bank (2 * worker)) d)) none
-      | inr one ↦ ap (λ d. Some (earlier (devices.Bank (2 * worker)) d)) one.2
-          ∙ ap (λ b. Some (cond b (devices.Bank (2 * worker)) (devices.Bank (2 * one.0))))
-          (at_most_test (2 * worker + 2) (2 * one.0 + 2) (omega (arith, one.1)))
+pub first_banks : (side : Side) (worker : ℕ) (logs : List Bool)
+    → first_device (banks_down side worker logs) ≡ first_down side worker logs
+first_banks side worker [] = refl
+first_banks side worker (false ∷ more) = first_banks side (worker + 1) more
+first_banks side worker (true ∷ more) =
+    let this : Device = devices.Bank (growing_number side worker) in
+    ap (λ d. Some (earlier this d)) (first_banks side (worker + 1) more)
+    ∙ elim (down_from side (worker + 1) more) [
+      | inl none ↦ ap (λ d. Some (earlier this d)) none
+      | inr one ↦
+          let less = growing_least side worker one.0 (omega (arith, one.1)) in
+          ap (λ d. Some (earlier this d)) one.2
+          ∙ ap (λ b. Some (cond b this (devices.Bank (growing_number side one.0))))
+          (at_most_test (growing_number side worker + 2) (growing_number side one.0 + 2) (omega (arith, less)))
     ]
 
--- and before all of them the save
-pub first_save : (worker : ℕ) (logs : List Bool) → first_device (banks_down worker logs ++ devices.Save ∷ []) ≡ Some devices.Save
-first_save worker [] = refl
-first_save worker (false ∷ more) = first_save (worker + 1) more
-first_save worker (true ∷ more) = ap (λ d. Some (earlier (devices.Bank (2 * worker)) d)) (first_save (worker + 1) more)
-    ∙ ap (λ b. Some (cond b (devices.Bank (2 * worker)) devices.Save)) (above_test (2 * worker + 2) (omega arith))
+-- ---- the first of two lists of devices
 
-pub first_of_down : (logs : List Bool) (save : Bool)
-    → first_device (devices_down logs save) ≡ cond save (Some devices.Save) (first_down 0 logs)
-first_of_down logs true = first_save 0 logs
-first_of_down logs false = first_banks 0 logs
+-- which of three is told, by tests of two each
+pub first_of_three : (d e f : Device) (a b c : Bool) → (a ≡ true → b ≡ true → c ≡ true)
+    → (a ≡ false → b ≡ false → c ≡ false)
+    → cond a (cond c d f) (cond b e f) ≡ cond b (cond a d e) (cond c d f)
+first_of_three d e f true true c up down = rw (up refl refl) refl
+first_of_three d e f true false c up down = refl
+first_of_three d e f false true c up down = refl
+first_of_three d e f false false c up down = rw (down refl refl) refl
+
+pub up_test : (m n o : ℕ) → nat_le m n ≡ true → nat_le n o ≡ true → nat_le m o ≡ true
+up_test m n o first next = grind (arith, nat_tests, first, next)
+
+pub down_test : (m n o : ℕ) → nat_le m n ≡ false → nat_le n o ≡ false → nat_le m o ≡ false
+down_test m n o first next = grind (arith, nat_tests, first, next)
+
+-- the earlier of the earlier of two and a third
+pub earlier_then : (d e : Device) (other : Option Device)
+    → earlier (earlier d (Some e)) other ≡ earlier d (Some (earlier e other))
+earlier_then d e None = refl
+earlier_then d e (Some f) =
+    of_first (nat_le (device_place d) (device_place e))
+    ∙ first_of_three d e f (nat_le (device_place d) (device_place e)) (nat_le (device_place e) (device_place f))
+    (nat_le (device_place d) (device_place f))
+    (up_test (device_place d) (device_place e) (device_place f)) (down_test (device_place d) (device_place e) (device_place f))
+    ∙ sym (of_second (nat_le (device_place e) (device_place f)))
+  where
+    of_first : (a : Bool) → earlier (cond a d e) (Some f)
+        ≡ cond a (cond (nat_le (device_place d) (device_place f)) d f) (cond (nat_le (device_place e) (device_place f)) e f)
+    of_first true = refl
+    of_first false = refl
+
+    of_second : (b : Bool) → earlier d (Some (cond b e f))
+        ≡ cond b (cond (nat_le (device_place d) (device_place e)) d e) (cond (nat_le (device_place d) (device_place f)) d f)
+    of_second true = refl
+    of_second false = refl
+
+pub first_append : (xs ys : List Device) → first_device (xs ++ ys) ≡ first_told (first_device xs) (first_device ys)
+first_append [] ys = refl
+first_append (x ∷ xs) ys = ap (λ d. Some (earlier x d)) (first_append xs ys) ∙ ap Some (by_first (first_device xs))
+  where
+    by_first : (first : Option Device) → earlier x (first_told first (first_device ys))
+        ≡ earlier (earlier x first) (first_device ys)
+    by_first None = refl
+    by_first (Some e) = sym (earlier_then x e (first_device ys))
+
+-- the save comes before all others
+pub save_first : (other : Option Device) → earlier devices.Save other ≡ devices.Save
+save_first None = refl
+save_first (Some d) = ap (λ b. cond b devices.Save d) (at_most_test 0 (device_place d) (omega arith))
+
+-- the device that the store and a glean are told as failed by
+abbrev pub keeper_device : Bool → List Device → Option Device
+keeper_device true others = Some devices.Save
+keeper_device false others = first_device others
+
+pub first_of_down : (side : Side) (logs : List Bool) (save : Bool) (others : List Device)
+    → first_device (devices_down side logs save others) ≡ first_told (keeper_device save others) (first_down side 0 logs)
+first_of_down side logs true others = ap Some (save_first (first_device (others ++ banks_down side 0 logs)))
+    ∙ sym (ap Some (save_first (first_down side 0 logs)))
+first_of_down side logs false others = first_append others (banks_down side 0 logs)
+    ∙ ap (first_told (first_device others)) (first_banks side 0 logs)
 
 -- ---- what is found of the logs
 
-pub failed_down : (worker : ℕ) (ends : List LogEnd)
-    → first_failed worker ends ≡ first_down worker (map (λ (e : LogEnd). e.failed) ends)
-failed_down worker [] = refl
-failed_down worker (end ∷ ends) = elim end.failed as (λ b. cond b (Some (devices.Bank (2 * worker))) (first_failed (worker + 1) ends)
-    ≡ first_down worker (b ∷ map (λ (e : LogEnd). e.failed) ends)) [
+pub failed_down : (side : Side) (worker : ℕ) (ends : List LogEnd)
+    → first_failed side worker ends ≡ first_down side worker (map (λ (e : LogEnd). e.failed) ends)
+failed_down side worker [] = refl
+failed_down side worker (end ∷ ends) = elim end.failed as (λ b. cond b (Some (devices.Bank (growing_number side worker)))
+    (first_failed side (worker + 1) ends) ≡ first_down side worker (b ∷ map (λ (e : LogEnd). e.failed) ends)) [
       | true ↦ refl
-      | false ↦ failed_down (worker + 1) ends
+      | false ↦ failed_down side (worker + 1) ends
     ]
 
 -- a full log is told where none failed
-pub full_at : (worker : ℕ) (failed : Bool) (full : Option ℕ) (ends : List LogEnd)
-    → cond failed (Some (devices.Bank (2 * worker))) (first_failed (worker + 1) ends) ≡ None
-    → (first_failed (worker + 1) ends ≡ None → full_length (map refusal_of ends) ≡ first_full ends)
+pub full_at : (side : Side) (worker : ℕ) (failed : Bool) (full : Option ℕ) (ends : List LogEnd)
+    → cond failed (Some (devices.Bank (growing_number side worker))) (first_failed side (worker + 1) ends) ≡ None
+    → (first_failed side (worker + 1) ends ≡ None → full_length (map refusal_of ends) ≡ first_full ends)
     → full_length (refused_as failed full ∷ map refusal_of ends) ≡ first_of full (first_full ends)
-full_at worker true full ends none rest = absurd cc
-full_at worker false None ends none rest = rest none
-full_at worker false (Some size) ends none rest = refl
+full_at side worker true full ends none rest = absurd cc
+full_at side worker false None ends none rest = rest none
+full_at side worker false (Some size) ends none rest = refl
 
-pub full_is_first : (worker : ℕ) (ends : List LogEnd) → first_failed worker ends ≡ None
+pub full_is_first : (side : Side) (worker : ℕ) (ends : List LogEnd) → first_failed side worker ends ≡ None
     → full_length (map refusal_of ends) ≡ first_full ends
-full_is_first worker [] none = refl
-full_is_first worker (end ∷ ends) none =
-    full_at worker end.failed end.full ends none (λ rest. full_is_first (worker + 1) ends rest)
+full_is_first side worker [] none = refl
+full_is_first side worker (end ∷ ends) none =
+    full_at side worker end.failed end.full ends none (λ rest. full_is_first side (worker + 1) ends rest)
 
 pub or_true : (b : Bool) → (b || true) ≡ true
 or_true true = refl
@@ -112,20 +171,20 @@ pub or_false : (b : Bool) → (b || false) ≡ b
 or_false true = refl
 or_false false = refl
 
-pub refused_at : (worker : ℕ) (failed : Bool) (full : Option ℕ) (ends : List LogEnd)
-    → list_any is_some (map refusal_of ends) ≡ (is_some (first_failed (worker + 1) ends) || is_some (first_full ends))
+pub refused_at : (side : Side) (worker : ℕ) (failed : Bool) (full : Option ℕ) (ends : List LogEnd)
+    → list_any is_some (map refusal_of ends) ≡ (is_some (first_failed side (worker + 1) ends) || is_some (first_full ends))
     → list_any is_some (refused_as failed full ∷ map refusal_of ends)
-    ≡ (is_some (cond failed (Some (devices.Bank (2 * worker))) (first_failed (worker + 1) ends))
+    ≡ (is_some (cond failed (Some (devices.Bank (growing_number side worker))) (first_failed side (worker + 1) ends))
     || is_some (first_of full (first_full ends)))
-refused_at worker true full ends rest = refl
-refused_at worker false None ends rest = rest
-refused_at worker false (Some size) ends rest = sym (or_true (is_some (first_failed (worker + 1) ends)))
+refused_at side worker true full ends rest = refl
+refused_at side worker false None ends rest = rest
+refused_at side worker false (Some size) ends rest = sym (or_true (is_some (first_failed side (worker + 1) ends)))
 
 -- a log was refused where one failed, or one is full
-pub refused_any : (worker : ℕ) (ends : List LogEnd)
-    → list_any is_some (map refusal_of ends) ≡ (is_some (first_failed worker ends) || is_some (first_full ends))
-refused_any worker [] = refl
-refused_any worker (end ∷ ends) = refused_at worker end.failed end.full ends (refused_any (worker + 1) ends)
+pub refused_any : (side : Side) (worker : ℕ) (ends : List LogEnd)
+    → list_any is_some (map refusal_of ends) ≡ (is_some (first_failed side worker ends) || is_some (first_full ends))
+refused_any side worker [] = refl
+refused_any side worker (end ∷ ends) = refused_at side worker end.failed end.full ends (refused_any side (worker + 1) ends)
 
 -- ---- what is found of the answers
 

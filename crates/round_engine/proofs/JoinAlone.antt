@@ -1,60 +1,74 @@
 -- A join by itself: a round without lines.
-use Rattle.std.proofs.Common.{◌≡◌, ◌≢◌, ◌∙◌, ◌≤◌, ◌<◌, ◌+◌, ◌*◌, ◌⊎◌, ◌++◌, ◌∷◌, inl, inr, sym, ap, subst, refl, ℕ, zero, suc}
-use Rattle.std.proofs.Common.{List, [], length, map, Bool, true, false, cond, not, Option, Some, None, arith}
-use Rattle.std.specs.Prelude.{◌||◌, flat_map, is_some, nat_lt, option_to_list, replicate, slice_get, Result, Ok, Err}
+use Rattle.std.proofs.Common.{◌≡◌, ◌∙◌, ◌<◌, ◌⊎◌, ◌++◌, ◌∷◌, inl, inr, sym, ap, subst, refl, ℕ, zero, suc, List, []}
+use Rattle.std.proofs.Common.{length, map, Bool, true, false, cond, not, Option, Some, None, arith}
+use Rattle.std.specs.Prelude.{◌||◌, ◌&&◌, flat_map, is_some, nat_lt, option_to_list, replicate, slice_get}
+use Rattle.std.specs.Prelude.{Result, Ok, Err}
 use Rattle.std.specs.List.{AllByRecursion, Contains}
-use Rattle.std.proofs.lemmas.Bool.{cases_eq, cases_lt}
+use Rattle.std.proofs.lemmas.Bool.{cases_Bool, cases_eq}
 use Rattle.std.proofs.lemmas.List.{append-nil}
 use Rattle.std.proofs.lemmas.List.Elements.{Contains-push}
 use Rattle.std.proofs.lemmas.Option.{same_Some}
-use Rattle.lists.specs.Each.{all_at}
+use Rattle.lists.specs.Each.{all_at, all_weaker}
 use Rattle.lists.specs.Elements.{in_cases, in_head, in_none}
 use Rattle.lists.specs.Fronts.{IsFront, front_none}
-use Rattle.outside.specs.Cuts.{disk_in-even}
+use Rattle.outside.specs.Faults.{Rose}
+use Rattle.outside.specs.Reads.{OnlyReads}
+use Rattle.outside.specs.Vault.{disk_in}
 use Rattle.outside.specs.declared.vault.Device.{Device}
 use Rattle.outside.specs.declared.vault.Device.TheVariants as devices
 use Rattle.outside.specs.declared.vault.Vault.{Vault}
 use Rattle.serial_model.specs.Numbers.{last_epoch}
 use Rattle.serial_model.specs.declared.number.Commit.{Commit}
 use Rattle.wire_form.specs.declared.clock.Mark.{Mark}
-use Rattle.log_writer.specs.Points.{sequence_of}
-use Rattle.log_writer.specs.declared.saved.Saved.{Saved}
-use Rattle.recovery_core.specs.Images.{epoch_of}
-use Rattle.tx_script.specs.Causes.{last_sequence}
+use Rattle.log_writer.specs.Points.{SaveState, sequence_of}
+use Rattle.snapshot_store.specs.Store.{StoreState}
+use Rattle.recovery_core.specs.Images.{counted_of, epoch_of}
+use Rattle.recovery_core.specs.VaultReads.{RoseIn, reads_none}
+use Rattle.tx_script.specs.Causes.{some_counted}
 use Rattle.tx_script.specs.Run.{Ran}
-use Rattle.worker_logs.specs.Logs.{IsJoined, IsLog, LogGoesOn, LogRan, LogState, log_limit}
+use Rattle.tx_script.specs.declared.answer.Answer.TheVariants as answers
 use Rattle.worker_logs.specs.LogLaws.{log_begins}
-use Rattle.worker_logs.specs.Saves.{logs_marks}
+use Rattle.worker_logs.specs.Logs.{IsLog, LogGoesOn, LogRan, LogState, log_limit, reset_log}
+use Rattle.worker_logs.specs.Saves.{closed_number, growing_number, logs_marks}
 use Rattle.round_engine.specs.Crashes.{CarriesCrashes}
-use Rattle.round_engine.specs.Ends.{comes_to_save, durable_of, end_of, epoch_after, epoch_joined, first_device}
+use Rattle.round_engine.specs.Ends.{closed_failed, comes_to_swap, durable_of, end_of}
+use Rattle.round_engine.specs.Ends.{epoch_joined, first_device, first_of}
+use Rattle.round_engine.specs.Ends.{swaps}
+use Rattle.round_engine.specs.Gleans.{RoundGleans}
 use Rattle.round_engine.specs.Joins.{Joins, without_lines}
-use Rattle.round_engine.specs.Keeping.{JoinAnswers, Keeps, RunsJoin, device_told}
-use Rattle.round_engine.specs.RanRound.{LeavesVault}
-use Rattle.round_engine.specs.Phases.{ended_as, fails_device, made, refused_by}
+use Rattle.round_engine.specs.Keeping.{IsSavedBySeen, JoinAnswers, Keeps, MarksOf, device_told}
+use Rattle.round_engine.specs.Phases.{JoinsAndSwaps, ended_as, fails_device, made, refused_by}
+use Rattle.round_engine.specs.RanRound.{LeavesVault, SwapsFiles}
 use Rattle.round_engine.specs.Refusals.{end_told}
-use Rattle.round_engine.specs.Saves.{NeverFall}
-use Rattle.round_engine.specs.Standing.{IsMarkBefore, IsReady, RuntimeState, Standing, StandsOn}
+use Rattle.round_engine.specs.Saves.{AreSaved, NeverFall}
+use Rattle.round_engine.specs.Sides.{closed_in, closed_numbers, growing_in, other_side}
+use Rattle.round_engine.specs.Standing.{beside_of, IsMarkBefore, RuntimeState, Standing, StandsOn}
+use Rattle.round_engine.specs.Swaps.{CutsBanks}
 use Rattle.round_engine.specs.declared.report.End.{End}
 use Rattle.round_engine.specs.declared.report.End.TheVariants as ends
 use Rattle.round_engine.specs.declared.report.LimitName.TheVariants.{Bank, Draw, Epoch, Height, Sequence, Snap}
 use Rattle.round_engine.specs.declared.rounds.Refused.{Refused}
-use Rattle.round_engine.proofs.Beside.{keeps_seen}
-use Rattle.round_engine.proofs.Devices.{are_down, down_at, in_banks, in_down}
-use Rattle.round_engine.proofs.Ended.{devices_down, first_down, first_of_down}
-use Rattle.round_engine.proofs.EndTold.{IsJoinedAs, IsRefusedAs, end_done, end_refused}
-use Rattle.round_engine.proofs.JoinedAs.{bank_told, durable_by, joined_as, none_is_down, one_is_down}
-use Rattle.round_engine.proofs.LogsLeft.{Leaves, rise_then}
-use Rattle.round_engine.proofs.Places.{all_from, not_save, nothing_there}
-use Rattle.round_engine.proofs.RoundCases.{before_later, below_test, mark_joined, no_device_told}
-use Rattle.round_engine.proofs.Places.{other_bank}
-use Rattle.round_engine.proofs.RoundCases.{rise_on}
 use Rattle.round_engine.proofs.CrashesLeft.{with_crashes}
-use Rattle.round_engine.proofs.Whole.{LogsTotal, SeenIn, below_8, leaves_vault}
-use Rattle.round_engine.proofs.WorkersRun.{item_at, map_at}
+use Rattle.round_engine.proofs.Devices.{IsBeside, are_down, bank_down, beside_not_growing}
+use Rattle.round_engine.proofs.Ended.{devices_down, first_down}
+use Rattle.round_engine.proofs.EndTold.{IsJoinedAs, IsRefusedAs, end_done, end_refused}
+use Rattle.round_engine.proofs.JoinEnds.{JoinFacts, and_parts, asked_by, banks_told, clock_is, closed_same, cut_quiet, cut_rose}
+use Rattle.round_engine.proofs.JoinEnds.{cut_uncut, done_at, joined_many, joined_side, leaves, now_many, pre_whole, rests, stands_new}
+use Rattle.round_engine.proofs.JoinEnds.{step, stored_told, tried_done, up_there, nothing as join_nothing}
+use Rattle.round_engine.proofs.JoinedAs.{bank_told, below_test, closed_is_cut, cut_device, cut_end, durable_by, joined_as}
+use Rattle.round_engine.proofs.LogsLeft.{Leaves, rise_then}
+use Rattle.round_engine.proofs.Numbered.{closed_at, closed_many, growing_many}
+use Rattle.round_engine.proofs.Places.{not_save, other_bank}
+use Rattle.round_engine.proofs.RoundJoined.{cut_in, device_up, done_first, in_cut, not_not, up_first}
+use Rattle.round_engine.proofs.RoundKept.{after_up}
+use Rattle.round_engine.proofs.RoundKept.{rise_on}
+use Rattle.round_engine.proofs.Turned.{TurnsBehind, keeps_onto, turned_files, turned_if, turned_parts, turns_behind}
+use Rattle.round_engine.proofs.Whole.{LogsTotal, SeenIn, leaves_vault}
+use Rattle.round_engine.proofs.WorkersRun.{item_at, map_at, within_of}
 
 -- nothing was refused in lines
 abbrev pub none_refused : Refused
-none_refused = record { device = None; draw = None; full = None }
+none_refused = record { device = None; keeper = None; draw = None; full = None; sequence = None }
 
 -- what the join was refused by is told
 pub told_alone : (end : End) → end_told none_refused (Some end) ≡ Some end
@@ -80,43 +94,27 @@ empty_at zero w epochs at = absurd cc
 empty_at (suc n) zero epochs at = sym (same_Some [] epochs at)
 empty_at (suc n) (suc w) epochs at = empty_at n w epochs at
 
-pub or_true_not : (b : Bool) → (b || true) ≡ false → ⊥
-or_true_not true is = absurd cc
-or_true_not false is = absurd cc
-
--- the join never sets the clock back
-pub after_up_by : (b : Bool) (epoch : ℕ) → epoch ≤ cond b (epoch + 1) epoch
-after_up_by true epoch = omega arith
-after_up_by false epoch = omega arith
-
-pub after_up : (epoch : ℕ) → epoch ≤ epoch_after epoch
-after_up epoch = after_up_by (nat_lt epoch last_epoch) epoch
-
-pub not_snaps : (i : ℕ) → Contains (devices.Snaps ∷ []) (devices.Bank (2 * i)) → ⊥
-not_snaps i has = elim (in_cases (devices.Bank (2 * i)) devices.Snaps [] has) [
+-- the join answers that this log file failed, or it doesn't
+pub told_or : (result : Result ℕ End) (number : ℕ) → (result ≡ Err (ends.Device (devices.Bank number)))
+    ⊎ (Contains (device_told result) (devices.Bank number) → ⊥)
+told_or (Ok epoch) number = inr (λ has. in_none (devices.Bank number) has)
+told_or (Err (ends.Limit name limit)) number = inr (λ has. in_none (devices.Bank number) has)
+told_or (Err (ends.Damaged device at)) number = inr (λ has. in_none (devices.Bank number) has)
+told_or (Err ends.Memory) number = inr (λ has. in_none (devices.Bank number) has)
+told_or (Err (ends.Device devices.Save)) number = inr (λ has. not_save number has)
+told_or (Err (ends.Device devices.Snaps)) number = inr (λ has. elim (in_cases (devices.Bank number) devices.Snaps [] has) [
   | inl same ↦ absurd (let no = same in cc)
-  | inr none ↦ in_none (devices.Bank (2 * i)) none
+  | inr none ↦ in_none (devices.Bank number) none
+])
+told_or (Err (ends.Device (devices.Bank n))) number = elim (cases_eq n number) [
+  | inl same ↦ inl (ap (λ m. Err (ends.Device (devices.Bank m))) same)
+  | inr other ↦ inr (λ has. other_bank number n other has)
 ]
 
-pub other_number : (number w : ℕ) → number ≢ 2 * w → Contains (devices.Bank number ∷ []) (devices.Bank (2 * w)) → ⊥
-other_number number w differs has = elim (in_cases (devices.Bank (2 * w)) (devices.Bank number) [] has) [
-  | inl same ↦ differs cc
-  | inr none ↦ in_none (devices.Bank (2 * w)) none
-]
-
--- the join answers that a log file failed, or it doesn't
-pub told_or : (result : Result ℕ End) (w : ℕ) → (result ≡ Err (ends.Device (devices.Bank (2 * w))))
-    ⊎ (Contains (device_told result) (devices.Bank (2 * w)) → ⊥)
-told_or (Ok epoch) w = inr (λ has. in_none (devices.Bank (2 * w)) has)
-told_or (Err (ends.Limit name number)) w = inr (λ has. in_none (devices.Bank (2 * w)) has)
-told_or (Err (ends.Damaged device at)) w = inr (λ has. in_none (devices.Bank (2 * w)) has)
-told_or (Err ends.Memory) w = inr (λ has. in_none (devices.Bank (2 * w)) has)
-told_or (Err (ends.Device devices.Save)) w = inr (λ has. not_save w has)
-told_or (Err (ends.Device devices.Snaps)) w = inr (λ has. not_snaps w has)
-told_or (Err (ends.Device (devices.Bank number))) w = elim (cases_eq number (2 * w)) [
-  | inl same ↦ inl (ap (λ n. Err (ends.Device (devices.Bank n))) same)
-  | inr other ↦ inr (λ has. other_number number w other has)
-]
+pub or_false_parts : (a : Bool) (end : Option End) → (a || is_some end) ≡ false → (a ≡ false) × (end ≡ None)
+or_false_parts false None is = (refl, refl)
+or_false_parts false (Some end) is = absurd cc
+or_false_parts true end is = absurd cc
 
 module _ {D : Type 0} {tells : D → Option (List ℕ)} {clock : D → ℕ} {image_at : D → ℕ → List ℕ → Type 0} where
   -- what a join makes of a log, for whoever knows what it had before
@@ -138,299 +136,361 @@ module _ {D : Type 0} {tells : D → Option (List ℕ)} {clock : D → ℕ} {ima
         behind_join = subst (λ l. Contains l new.mark) (sym went.ran.last.1) (Contains-push went.ran.last.0 new.mark);
       }
 
+-- neither the join nor the swap ends a run
+pub ended_still : {D : Type 0} {tells : D → Option (List ℕ)} {clock : D → ℕ} {image_at : D → ℕ → List ℕ → Type 0}
+    {faults : D → ℕ} {old swapped : RuntimeState} {before now : Vault D} {durable : Option ℕ} {end : Option End}
+    → JoinsAndSwaps tells clock image_at faults old swapped before now durable end → swapped.stands.ended ≡ old.stands.ended
+ended_still {tells = tells} {clock = clock} {image_at = image_at} {faults = faults} {old = old} {swapped = swapped} {now = now} js =
+    let turns = turns_behind tells clock image_at faults old.stands.clock.epoch js.result js.joined swapped js.between now js.cut_end
+    (λ e is. (subst (JoinAnswers old js.joined js.joins.stored js.joins.failed) is js.joins.answer).2) js.swaps in
+    ap (λ (r : RuntimeState). r.stands.ended) turns.new_is
+    ∙ ap (λ (s : Standing). s.ended) (turned_parts (turns.tried && not (is_some turns.cut)) old.stands.clock.epoch js.joined).0
+    ∙ ap (λ (s : Standing). s.ended) js.joins.stands
+
 module _ {D : Type 0} {tells : D → Option (List ℕ)} {clock : D → ℕ} {image_at : D → ℕ → List ℕ → Type 0}
     {faults : D → ℕ} {old new : RuntimeState} {before now : Vault D}
-    (stands : StandsOn tells clock image_at old before) (up : old.down ≡ false) (result : Result ℕ End) (joined : RuntimeState)
-    (runs : RunsJoin tells clock image_at faults old joined before now result)
-    (durable : Option ℕ) (end : Option End) (durable_is : durable ≡ made result) (end_is : end ≡ refused_by result)
-    (new_is : new ≡ ended_as joined (old.stands.ended || is_some end) (fails_device result)) where
+    (stands : StandsOn tells clock image_at old before) (up : old.down ≡ false)
+    (durable : Option ℕ) (end : Option End) (swapped : RuntimeState)
+    (js : JoinsAndSwaps tells clock image_at faults old swapped before now durable end)
+    (new_is : new ≡ ended_as swapped (old.stands.ended || is_some end) (fails_device end)) where
+  turns : TurnsBehind tells clock image_at faults old.stands.clock.epoch js.result js.joined swapped js.between now js.cut_end
+  turns = turns_behind tells clock image_at faults old.stands.clock.epoch js.result js.joined swapped js.between now js.cut_end
+      (λ e is. (subst (JoinAnswers old js.joined js.joins.stored js.joins.failed) is js.joins.answer).2) js.swaps
+
+  store_up : old.store.sound ≡ true
+  store_up = (stands.up up).store
+
+  facts : JoinFacts tells clock image_at faults old.side old js.joined swapped before js.between now js.result js.cut_end
+  facts = record {
+    side_is = refl;
+    whole = stands.whole;
+    many = stands.workers;
+    limits = λ w log at. all_at (λ (l : LogState). l.journal.limit ≡ log_limit) old.logs w log stands.limits at;
+    marked = λ w log at. all_at (λ (l : LogState). IsMarkBefore old.stands.clock.epoch l.mark.epoch) old.logs w log stands.marked at;
+    above = stands.above;
+    closed = stands.closed;
+    room = stands.most_pages;
+    sound = store_up;
+    snapshot = stands.snapshot store_up;
+    runs = js.joins;
+    turns = turns;
+    few = js.counted;
+  }
+
+  abbrev logs : List LogState
+  logs = js.joined.logs
+
+  abbrev others : List Device
+  others = cut_device turns.cut
+
   abbrev failed : List Device
-  failed = devices_down (are_down new.logs) (is_some runs.failed)
+  failed = devices_down old.side (are_down logs) (is_some js.joins.failed) others
 
   abbrev ran : Ran
   ran = without_lines old failed durable
 
-  new_logs : new.logs ≡ joined.logs
-  new_logs = ap (λ (r : RuntimeState). r.logs) new_is
+  abbrev turned_b : Bool
+  turned_b = turns.tried && not (is_some turns.cut)
 
-  new_many : length new.logs ≡ 8
-  new_many = ap length new_logs ∙ runs.logs_length ∙ stands.workers
+  -- ---- the runtime in the end, by its parts
 
-  now_many : length now.even.items ≡ 8
-  now_many = runs.even_length ∙ stands.whole.even
+  parts_are : (swapped.stands ≡ js.joined.stands) × (swapped.save ≡ js.joined.save) × (swapped.store ≡ js.joined.store)
+      × (swapped.room ≡ js.joined.room)
+  parts_are =
+      let parts = turned_parts turned_b old.stands.clock.epoch js.joined in (
+        ap (λ (r : RuntimeState). r.stands) turns.new_is ∙ parts.0,
+        ap (λ (r : RuntimeState). r.save) turns.new_is ∙ parts.1,
+        ap (λ (r : RuntimeState). r.store) turns.new_is ∙ parts.2,
+        ap (λ (r : RuntimeState). r.room) turns.new_is ∙ parts.3,
+      )
 
-  -- the clock behind the join
-  joined_epoch : joined.stands.clock.epoch ≡ epoch_joined ran
-  joined_epoch = ap (λ (x : Standing). x.clock.epoch) runs.stands
+  new_stands : new.stands ≡ record js.joined.stands { ended = old.stands.ended || is_some end }
+  new_stands = ap (λ (r : RuntimeState). r.stands) new_is
+      ∙ ap (λ (s : Standing). record s { ended = old.stands.ended || is_some end }) parts_are.0
 
-  up_at : (i : ℕ) (b : Bool) → slice_get (are_down joined.logs) i ≡ Some b
-      → (Contains (device_told result) (devices.Bank (2 * i)) → ⊥) → b ≡ false
-  up_at i b at not =
-      let log = map_at (λ (l : LogState). is_some l.journal.down) joined.logs i b at in
-      sym log.2 ∙ ap is_some (runs.up i log.0 log.1 not)
+  new_save : new.save ≡ js.joined.save
+  new_save = ap (λ (r : RuntimeState). r.save) new_is ∙ parts_are.1
 
-  all_up : ((i : ℕ) → Contains (device_told result) (devices.Bank (2 * i)) → ⊥) → first_down 0 (are_down joined.logs) ≡ None
-  all_up not = none_is_down 0 (are_down joined.logs) (λ i b at. up_at i b at (not i))
+  new_store : new.store ≡ old.store
+  new_store = ap (λ (r : RuntimeState). r.store) new_is ∙ parts_are.2 ∙ ap (λ (r : RuntimeState). r.store) js.joins.alone
 
-  one_down : (number worker : ℕ) → worker < 8 → number ≡ 2 * worker → device_told result ≡ devices.Bank number ∷ []
-      → first_down 0 (are_down joined.logs) ≡ Some (devices.Bank number)
-  one_down number worker below is told =
-      let log = item_at joined.logs worker (omega (arith, below, runs.logs_length, stands.workers)) in
-      let has : Contains (device_told result) (devices.Bank (2 * worker)) =
-      subst (λ l. Contains l (devices.Bank (2 * worker))) (sym told)
-      (subst (λ n. Contains (devices.Bank n ∷ []) (devices.Bank (2 * worker))) (sym is) (in_head (devices.Bank (2 * worker)) [])) in
-      one_is_down 0 worker worker (are_down joined.logs) (omega arith) (down_at joined.logs worker log.0 log.1 (runs.fell worker log.0 log.1 has))
-      (λ i b differs at. up_at i b at (λ other. other_bank i worker number differs is
-      (subst (λ l. Contains l (devices.Bank (2 * i))) told other)))
-      ∙ ap (λ n. Some (devices.Bank n)) (sym is)
+  new_room : new.room ≡ old.room
+  new_room = ap (λ (r : RuntimeState). r.room) new_is ∙ parts_are.3 ∙ ap (λ (r : RuntimeState). r.room) js.joins.alone
 
-  banks_of : (r : Result ℕ End) → result ≡ r → JoinAnswers old joined runs.stored runs.failed r
-      → first_down 0 (are_down joined.logs) ≡ bank_told r
-  banks_of (Ok epoch) at is = all_up (λ i has. in_none (devices.Bank (2 * i)) (subst (λ r. Contains (device_told r) (devices.Bank (2 * i))) at has))
-  banks_of (Err (ends.Limit name number)) at is =
-      all_up (λ i has. in_none (devices.Bank (2 * i)) (subst (λ r. Contains (device_told r) (devices.Bank (2 * i))) at has))
-  banks_of (Err (ends.Damaged device place)) at is =
-      all_up (λ i has. in_none (devices.Bank (2 * i)) (subst (λ r. Contains (device_told r) (devices.Bank (2 * i))) at has))
-  banks_of (Err ends.Memory) at is =
-      all_up (λ i has. in_none (devices.Bank (2 * i)) (subst (λ r. Contains (device_told r) (devices.Bank (2 * i))) at has))
-  banks_of (Err (ends.Device devices.Save)) at is =
-      all_up (λ i has. not_save i (subst (λ r. Contains (device_told r) (devices.Bank (2 * i))) at has))
-  banks_of (Err (ends.Device devices.Snaps)) at is = absurd is
-  banks_of (Err (ends.Device (devices.Bank number))) at is = one_down number is.1 is.2 is.3 (ap device_told at)
+  joined_counted : js.joined.counted ≡ old.counted
+  joined_counted = ap (λ (r : RuntimeState). r.counted) js.joins.alone
 
-  joined_so : IsJoinedAs ran result
-  joined_so = joined_as ran old joined runs.stored runs.failed (are_down new.logs) refl refl
-      (first_of_down (are_down new.logs) (is_some runs.failed)) (λ is. absurd (let no = is in cc)) result
-      (subst (λ l. first_down 0 (are_down l) ≡ bank_told result) (sym new_logs) (banks_of result refl runs.answer)) runs.answer
+  now_snaps : now.snaps ≡ before.snaps
+  now_snaps = (leaves facts).saves.snaps ∙ js.joins.snaps
+
+  -- ---- the swap, as the run tells it
+
+  comes_is : comes_to_swap ran ≡ turns.tried
+  comes_is = ap (λ d. is_some d && not (some_counted old.counted)) js.durable_is
+      ∙ ap (λ c. is_some (made js.result) && not (some_counted c)) (sym joined_counted)
+      ∙ sym turns.tried_is
+
+  done_none : turns.tried ≡ true → (js.joins.failed ≡ None) × (first_down old.side 0 (are_down logs) ≡ None)
+  unfolding facts turns
+  done_none tried =
+      let done = tried_done facts tried in
+      ((done_at facts done.0 done.1).none, banks_told facts ∙ ap bank_told done.1)
+
+  cut_closed : (n : ℕ) → turns.cut ≡ Some n → (w : ℕ) × (n ≡ closed_number old.side w)
+  unfolding facts turns
+  cut_closed n is = let at = (cut_rose facts n is).0 in (at.0, at.2)
+
+  joined_so : IsJoinedAs ran (first_of (refused_by js.result) (cut_end turns.cut))
+  unfolding facts turns
+  joined_so = joined_as ran old js.joined js.joins.stored js.joins.failed old.side (are_down logs) turns.cut refl refl cut_closed refl
+      refl (λ is. absurd (let no = is in cc)) js.result (cut_uncut facts) (banks_told facts) js.joins.answer
+
+  end_is : end ≡ first_of (refused_by js.result) (cut_end turns.cut)
+  end_is = js.end_is ∙ ap (first_of (refused_by js.result)) turns.end_is
+
+  refused_by_so : IsJoinedAs ran end
+  refused_by_so = subst (IsJoinedAs ran) (sym end_is) joined_so
 
   refused_none : IsRefusedAs ran none_refused
-  refused_none = record { draw = refl; full = λ none. refl; leaves = refl }
+  refused_none = record {
+    draw = refl;
+    full = λ none. refl;
+    damage = λ none. refl;
+    memory = λ none undamaged. refl;
+    sequence = refl;
+    leaves = refl;
+  }
 
-  end_so : (r : Result ℕ End) → IsJoinedAs ran r → refused_by r ≡ end_of ran
-  end_so (Ok epoch) is = end_done ran none_refused refused_none refl epoch is
-  end_so (Err e) is = sym (told_alone e) ∙ end_refused ran none_refused refused_none refl e is
+  end_so : (x : Option End) → IsJoinedAs ran x → x ≡ end_of ran
+  end_so None is = end_done ran none_refused refused_none refl is
+  end_so (Some e) is = sym (told_alone e) ∙ end_refused ran none_refused refused_none refl e is
 
   durable_so : durable ≡ durable_of ran
-  durable_so = durable_is ∙ durable_by ran old joined runs.stored runs.failed (are_down new.logs) refl refl
-      (first_of_down (are_down new.logs) (is_some runs.failed)) (λ is. absurd (let no = is in cc)) result runs.answer joined_so refl
+  unfolding facts turns
+  durable_so = js.durable_is ∙ durable_by ran old js.joined js.joins.stored js.joins.failed old.side (are_down logs) turns.cut
+      refl refl cut_closed refl refl (λ is. absurd (let no = is in cc)) js.result (cut_uncut facts) (banks_told facts) js.joins.answer refl
 
-  keeps : Keeps tells clock image_at faults (SeenIn old.stands.clock.epoch (epoch_joined ran) old.logs new.logs) runs.stored
-      runs.failed old.save new.save before now
-  keeps = subst (λ s. Keeps tells clock image_at faults (SeenIn old.stands.clock.epoch (epoch_joined ran) old.logs new.logs)
-      runs.stored runs.failed old.save s before now) (sym (ap (λ (r : RuntimeState). r.save) new_is))
-      (keeps_seen (λ at seen is. (
-        omega (arith, is.0, joined_epoch, after_up old.stands.clock.epoch),
-        omega (arith, is.1, joined_epoch),
-        inr (is.2 ∙ ap logs_marks (sym new_logs)),
-      )) runs.keeps)
+  swaps_is : swaps ran ≡ turned_b
+  swaps_is = ap (λ b. b && not (closed_failed ran)) comes_is ∙ elim (cases_Bool turns.tried) [
+    | inl tried ↦
+        let no = done_none tried in
+        ap (λ b. turns.tried && not b) (closed_is_cut ran old js.joined js.joins.stored js.joins.failed old.side (are_down logs)
+        turns.cut refl refl cut_closed refl refl (λ is. absurd (let bad = is in cc)) no.0 no.1)
+    | inr not_tried ↦ ap (λ b. b && not (closed_failed ran)) not_tried ∙ sym (ap (λ b. b && not (is_some turns.cut)) not_tried)
+  ]
 
-  total : LogsTotal tells clock image_at faults (λ w. []) old.logs old.logs old.logs new.logs before.even.items now.even.items
+  stands_made : StandsOn tells clock image_at new now
+  stands_made = stands_new facts new (old.stands.ended || is_some end) (fails_device end) new_is
+      (λ quiet. up_first (refused_by js.result) (cut_end turns.cut) (ap fails_device (sym end_is) ∙ quiet))
+      (λ on.
+      let none = (or_false_parts old.stands.ended end on).1 in
+      let done = done_first js.result (cut_end turns.cut) (sym end_is ∙ none) in
+      (ap fails_device none, done.0, done.1))
+
+  -- ---- what was kept
+
+  keeps_made : Keeps tells clock image_at faults js.joins.stored js.joins.failed old new before now
+  keeps_made = keeps_onto (leaves facts).saves new_save (ap (λ (r : RuntimeState). r.store) new_is ∙ parts_are.2) js.joins.keeps
+
+  joined_epoch : js.joined.stands.clock.epoch ≡ epoch_joined ran
+  joined_epoch = clock_is facts
+
+  abbrev Seen : ℕ → List Mark → Type 0
+  Seen = SeenIn old.stands.clock.epoch (epoch_joined ran) old.logs logs
+
+  saves_made : AreSaved (IsSavedBySeen Seen) (beside_of old) [] (js.joins.stored ++ option_to_list js.joins.failed)
+  saves_made = record {
+    lines = [];
+    rest = js.joins.stored ++ option_to_list js.joins.failed;
+    all = refl;
+    told = refl;
+    behind = all_weaker (IsSavedBySeen (MarksOf js.joined js.joined.stands.clock.epoch js.joined.stands.clock.epoch) (beside_of old))
+        (IsSavedBySeen Seen (beside_of old))
+        (λ saved is. (
+          is.0,
+          is.1,
+          (
+            omega (arith, is.2.0, joined_epoch, after_up (nat_lt old.stands.clock.epoch last_epoch) old.stands.clock.epoch),
+            omega (arith, is.2.1, joined_epoch),
+            inr is.2.2,
+          ),
+          is.3,
+        ))
+        (js.joins.stored ++ option_to_list js.joins.failed) js.joins.by_marks;
+  }
+
+  total : LogsTotal tells clock image_at faults (λ w. []) old.logs old.logs old.logs logs (growing_in old.side before)
+      (growing_in old.side now)
   total = record {
     old_many = stands.workers;
     start_many = stands.workers;
     mid_many = stands.workers;
-    new_many = new_many;
-    before_many = stands.whole.even;
-    now_many = now_many;
+    new_many = joined_many facts;
+    before_many = growing_many old.side before stands.whole;
+    now_many = now_many facts;
     each = λ w begins was lines log bank_was bank at_begins at_was at_lines at_log at_bank_was at_bank.
         let same = same_Some was begins (sym at_was ∙ at_begins) in
         let same_lines = same_Some was lines (sym at_was ∙ at_lines) in
-        let step = runs.each w was log bank_was bank at_was (ap (λ l. slice_get l w) (sym new_logs) ∙ at_log) at_bank_was at_bank in
+        let made = step facts w was log bank_was bank at_was at_log at_bank_was at_bank in
         let marked = all_at (λ (l : LogState). IsMarkBefore old.stands.clock.epoch l.mark.epoch) old.logs w was stands.marked at_was in
         record {
           leaves = λ commits durable is.
               subst (λ (x : LogState). Leaves tells clock image_at commits [] durable x.mark.epoch lines log bank_was bank) same
               (subst (λ x. Leaves tells clock image_at commits [] durable was.mark.epoch x log bank_was bank) same_lines
-              (join_leaves marked step.goes commits durable is));
-          blames = step.blames;
-          reaches = step.reaches;
+              (join_leaves marked made.goes commits durable is));
+          blames = made.blames;
+          reaches = made.reaches;
         };
   }
 
-  told_by : (r : Result ℕ End) → JoinAnswers old joined runs.stored runs.failed r
-      → map (λ (s : Saved). s.epoch) runs.stored ≡ option_to_list (made r)
-  told_by (Ok epoch) is = is.3
-  told_by (Err (ends.Limit Epoch number)) is = ap (map (λ (s : Saved). s.epoch)) is.2
-  told_by (Err (ends.Limit Sequence number)) is = ap (map (λ (s : Saved). s.epoch)) is.3
-  told_by (Err (ends.Device devices.Save)) is = ap (map (λ (s : Saved). s.epoch)) is.2
-  told_by (Err (ends.Device (devices.Bank number))) is = ap (map (λ (s : Saved). s.epoch)) is.4
-  told_by (Err (ends.Device devices.Snaps)) is = absurd is
-  told_by (Err (ends.Damaged device at)) is = absurd is
-  told_by (Err (ends.Limit Draw number)) is = absurd is
-  told_by (Err (ends.Limit Bank number)) is = absurd is
-  told_by (Err (ends.Limit Snap number)) is = absurd is
-  told_by (Err (ends.Limit Height number)) is = absurd is
-  told_by (Err ends.Memory) is = absurd is
+  -- ---- the closed log files
 
-  asked_by : (r : Result ℕ End) → JoinAnswers old joined runs.stored runs.failed r → is_some runs.failed ≡ true
-      → (comes_to_save ran ≡ true) × (sequence_of old.save.newest < last_sequence)
-  asked_by (Ok epoch) is some = absurd (let no = sym some ∙ ap is_some is.4 in cc)
-  asked_by (Err (ends.Limit Epoch number)) is some = absurd (let no = sym some ∙ ap is_some is.3 in cc)
-  asked_by (Err (ends.Limit Sequence number)) is some = absurd (let no = sym some ∙ ap is_some is.4 in cc)
-  asked_by (Err (ends.Device devices.Save)) is some = (below_test old.stands.clock.epoch last_epoch is.0, is.1)
-  asked_by (Err (ends.Device (devices.Bank number))) is some = absurd (let no = sym some ∙ ap is_some is.5 in cc)
-  asked_by (Err (ends.Device devices.Snaps)) is some = absurd is
-  asked_by (Err (ends.Damaged device at)) is some = absurd is
-  asked_by (Err (ends.Limit Draw number)) is some = absurd is
-  asked_by (Err (ends.Limit Bank number)) is some = absurd is
-  asked_by (Err (ends.Limit Snap number)) is some = absurd is
-  asked_by (Err (ends.Limit Height number)) is some = absurd is
-  asked_by (Err ends.Memory) is some = absurd is
-
-  no_failure : (r : Result ℕ End) → JoinAnswers old joined runs.stored runs.failed r → fails_device r ≡ false
-      → is_some runs.failed ≡ false
-  no_failure (Ok epoch) is up = ap is_some is.4
-  no_failure (Err (ends.Limit Epoch number)) is up = ap is_some is.3
-  no_failure (Err (ends.Limit Sequence number)) is up = ap is_some is.4
-  no_failure (Err (ends.Device device)) is up = absurd cc
-  no_failure (Err (ends.Damaged device at)) is up = absurd is
-  no_failure (Err (ends.Limit Draw number)) is up = absurd is
-  no_failure (Err (ends.Limit Bank number)) is up = absurd is
-  no_failure (Err (ends.Limit Snap number)) is up = absurd is
-  no_failure (Err (ends.Limit Height number)) is up = absurd is
-  no_failure (Err ends.Memory) is up = absurd is
-
-  -- a run that goes on behind the join is ready for a round
-  ready_again : (r : Result ℕ End) → result ≡ r → JoinAnswers old joined runs.stored runs.failed r
-      → (old.stands.ended || is_some end) ≡ false → IsReady new
-  ready_again (Err e) at is on = absurd (let some = ap is_some (end_is ∙ ap refused_by at) in
-      let no = sym (ap (λ b. old.stands.ended || b) some) ∙ on in or_true_not old.stands.ended no)
-  ready_again (Ok epoch) at is on =
-      let clock_now : new.stands.clock.epoch ≡ epoch + 1 =
-      ap (λ (r : RuntimeState). r.stands.clock.epoch) new_is ∙ ap (λ (x : Standing). x.clock.epoch) runs.stands
-      ∙ ap (λ b. cond b (old.stands.clock.epoch + 1) old.stands.clock.epoch)
-      (below_test old.stands.clock.epoch last_epoch is.0) ∙ ap (λ n. n + 1) (sym is.2) in
+  files_made : SwapsFiles tells clock image_at faults ran logs old new before now
+  unfolding facts turns
+  files_made =
+      let files = turned_files turned_b old.stands.clock.epoch js.joined in
+      let told = new_is ∙ ap (λ r. ended_as r (old.stands.ended || is_some end) (fails_device end)) turns.new_is in
       record {
-        up = ap (λ (r : RuntimeState). r.down) new_is ∙ ap fails_device at;
-        logs = subst (λ l. AllByRecursion (IsJoined new.stands.clock.epoch) l) (sym new_logs)
-            (subst (λ e. AllByRecursion (IsJoined e) joined.logs) (sym clock_now) is.5);
+        between = js.between;
+        reads = λ w was is at there.
+            let same : is ≡ was = same_Some is was (sym there ∙ closed_at old.side js.between w ∙ ap (λ l. slice_get l w) (closed_same facts)
+            ∙ sym (closed_at old.side before w) ∙ at) in
+            subst (λ d. OnlyReads tells clock image_at faults was d) (sym same) (reads_none was);
+        uncut = ap (λ c. c.items) js.joins.cuts;
+        left = λ no. (turns.left (sym comes_is ∙ no)).1;
+        cut = λ is.
+            let tried = sym comes_is ∙ is in (
+              turns.cut,
+              not_not (is_some turns.cut) ∙ sym (ap not (swaps_is ∙ ap (λ b. b && not (is_some turns.cut)) tried)),
+              subst (λ (s : SaveState). CutsBanks tells clock image_at faults (sequence_of s.newest) (closed_numbers old.side) turns.cut
+                  js.between now) (sym new_save)
+                  (subst (λ s. CutsBanks tells clock image_at faults (sequence_of js.joined.save.newest) (closed_numbers s) turns.cut
+                  js.between now) (joined_side facts) (turns.cuts tried)),
+            );
+        nothing = λ is w below. ap (λ (s : SaveState). counted_of s.newest (closed_number old.side w)) new_save
+            ∙ join_nothing facts (sym comes_is ∙ is) w below;
+        side = ap (λ (r : RuntimeState). r.side) told ∙ files.0 ∙ ap (λ s. cond turned_b (other_side s) s) (joined_side facts)
+            ∙ sym (ap (λ b. cond b (other_side old.side) old.side) swaps_is);
+        counted = ap (λ (r : RuntimeState). r.counted) told ∙ files.1
+            ∙ ap (cond turned_b (map (λ (m : Mark). m.length) (logs_marks logs))) joined_counted
+            ∙ sym (ap (λ b. cond b (map (λ (m : Mark). m.length) (logs_marks logs)) old.counted) swaps_is);
+        closed_at = ap (λ (r : RuntimeState). r.closed_at) told ∙ files.2
+            ∙ ap (cond turned_b old.stands.clock.epoch) (ap (λ (r : RuntimeState). r.closed_at) js.joins.alone)
+            ∙ sym (ap (λ b. cond b old.stands.clock.epoch old.closed_at) swaps_is);
+        logs_are = ap (λ (r : RuntimeState). r.logs) told ∙ files.3 ∙ sym (ap (λ b. cond b (map reset_log logs) logs) swaps_is);
       }
 
-  mark_new : (w : ℕ) (was log : LogState) → slice_get old.logs w ≡ Some was → slice_get new.logs w ≡ Some log
-      → (log.journal.limit ≡ was.journal.limit) × IsMarkBefore new.stands.clock.epoch log.mark.epoch
-  mark_new w was log at there =
-      let below = below_8 old.logs w was at stands.workers in
-      let bank_was = item_at before.even.items w (omega (arith, below, stands.whole.even)) in
-      let bank = item_at now.even.items w (omega (arith, below, now_many)) in
-      let step = runs.each w was log bank_was.0 bank.0 at (ap (λ l. slice_get l w) (sym new_logs) ∙ there) bank_was.1 bank.1 in
-      let marked = all_at (λ (l : LogState). IsMarkBefore old.stands.clock.epoch l.mark.epoch) old.logs w was stands.marked at in
-      let clock_is : new.stands.clock.epoch ≡ joined.stands.clock.epoch = ap (λ (r : RuntimeState). r.stands.clock.epoch) new_is in (
-        step.limit,
-        elim (cases_lt old.stands.clock.epoch last_epoch) [
-          | inr last ↦
-              let same = runs.not_advanced last in
-              let logs : new.logs ≡ old.logs = new_logs ∙ ap (λ (r : RuntimeState). r.logs) same.1 in
-              let is : was ≡ log = same_Some was log (sym at ∙ ap (λ l. slice_get l w) (sym logs) ∙ there) in
-              subst (λ (x : LogState). IsMarkBefore new.stands.clock.epoch x.mark.epoch) is
-              (before_later was.mark.epoch old.stands.clock.epoch new.stands.clock.epoch
-              (omega (arith, clock_is, ap (λ (r : RuntimeState). r.stands.clock.epoch) same.1)) marked)
-          | inl less ↦
-              let next : joined.stands.clock.epoch ≡ old.stands.clock.epoch + 1 =
-              ap (λ (x : Standing). x.clock.epoch) runs.stands
-              ∙ ap (λ b. cond b (old.stands.clock.epoch + 1) old.stands.clock.epoch)
-              (below_test old.stands.clock.epoch last_epoch less) in
-              mark_joined was log old.stands.clock.epoch old.stands.clock.epoch new.stands.clock.epoch step.mark marked
-              (omega arith) (omega (arith, clock_is, next))
-        ],
+  closed_still : (w : ℕ) (was is : D) → slice_get (closed_in old.side before) w ≡ Some was
+      → slice_get (closed_in old.side js.between) w ≡ Some is → is ≡ was
+  closed_still w was is at there = same_Some is was (sym there ∙ ap (λ l. slice_get l w) (closed_same facts) ∙ at)
+
+  rose_made : (device : Device) → Contains others device → IsBeside old.side device × RoseIn faults device before now
+  unfolding facts turns
+  rose_made device has =
+      let at = in_cut turns.cut device has in
+      let cut = cut_rose facts at.0 at.1 in
+      let w = cut.0.0 in
+      let number = cut.0.2 in
+      let rose = cut.1 in
+      let was = item_at (closed_in old.side before) w (omega (arith, cut.0.1, closed_many old.side before stands.whole)) in
+      let mid_there : slice_get (closed_in old.side js.between) w ≡ Some rose.0 =
+      sym (closed_at old.side js.between w) ∙ ap (λ n. disk_in js.between (devices.Bank n)) (sym number) ∙ rose.2 in
+      let same = closed_still w was.0 rose.0 was.1 mid_there in
+      subst (λ d. IsBeside old.side d × RoseIn faults d before now) at.2 (
+        (w, number),
+        (
+          was.0,
+          rose.1,
+          ap (λ n. disk_in before (devices.Bank n)) number ∙ closed_at old.side before w ∙ was.1,
+          rose.3,
+          subst (λ d. Rose (faults d) (faults rose.1)) same rose.4,
+        ),
       )
 
-  stands_new : StandsOn tells clock image_at new now
-  stands_new = record {
-    whole = record { even = now_many; odd = ap (λ v. length v.items) keeps.odd ∙ stands.whole.odd };
-    workers = new_many;
-    limits = all_from (λ (l : LogState). l.journal.limit ≡ log_limit) new.logs (λ w log at.
-        let was = item_at old.logs w (omega (arith, below_8 new.logs w log at new_many, stands.workers)) in
-        (mark_new w was.0 log was.1 at).0
-        ∙ all_at (λ (l : LogState). l.journal.limit ≡ log_limit) old.logs w was.0 stands.limits was.1);
-    above = subst (λ (r : RuntimeState). epoch_of r.save.newest < r.stands.clock.epoch) (sym new_is) (runs.above stands.above);
-    marked = all_from (λ (l : LogState). IsMarkBefore new.stands.clock.epoch l.mark.epoch) new.logs (λ w log at.
-        let was = item_at old.logs w (omega (arith, below_8 new.logs w log at new_many, stands.workers)) in
-        (mark_new w was.0 log was.1 at).1);
-    up = λ is. record {
-      save = nothing_there new.save.down (keeps.down ∙ no_failure result runs.answer
-          (sym (ap (λ (r : RuntimeState). r.down) new_is) ∙ is));
-      logs = all_from (λ (l : LogState). l.journal.down ≡ None) new.logs (λ w log at.
-          runs.up w log (ap (λ l. slice_get l w) (sym new_logs) ∙ at)
-          (no_device_told result (sym (ap (λ (r : RuntimeState). r.down) new_is) ∙ is) (devices.Bank (2 * w))));
-    };
-    goes_on = λ on. ready_again result refl runs.answer (sym (ap (λ (r : RuntimeState). r.stands.ended) new_is) ∙ on);
-    stored = keeps.stands;
-    reaches = λ w log bank at there.
-        let below = below_8 new.logs w log at new_many in
-        let was = item_at old.logs w (omega (arith, below, stands.workers)) in
-        let bank_was = item_at before.even.items w (omega (arith, below, stands.whole.even)) in
-        (runs.each w was.0 log bank_was.0 bank was.1 (ap (λ l. slice_get l w) (sym new_logs) ∙ at) bank_was.1
-        (sym (disk_in-even now w) ∙ there)).reaches;
+  quiet_made : (w : ℕ) (was is : D) → slice_get (closed_in old.side before) w ≡ Some was
+      → slice_get (closed_in old.side now) w ≡ Some is → (Contains others (devices.Bank (closed_number old.side w)) → ⊥)
+      → faults is ≡ faults was
+  unfolding facts turns
+  quiet_made w was is at there not =
+      let below : w < 8 = omega (arith, within_of (closed_in old.side before) w was at, closed_many old.side before stands.whole) in
+      let mid_bank = item_at (closed_in old.side js.between) w (omega (arith, below, closed_many old.side js.between (pre_whole facts))) in
+      cut_quiet facts (closed_number old.side w) (λ is. not (cut_in turns.cut (closed_number old.side w) is)) mid_bank.0 is
+      (closed_at old.side js.between w ∙ mid_bank.1) (closed_at old.side now w ∙ there)
+      ∙ ap faults (closed_still w was mid_bank.0 at mid_bank.1)
+
+  -- nothing was gleaned
+  gleans_none : RoundGleans tells [] [] None old new before now
+  gleans_none = record {
+    told = ap (λ d. is_some (tells d)) now_snaps;
+    found = λ what has. absurd (in_none what has);
+    made = λ epoch count has. absurd (in_none (answers.Snap epoch count) has);
+    kept = λ not sound. (new_store, now_snaps);
+    damage = λ device at is. absurd cc;
+    undamaged = λ not. refl;
+    many = λ sound. ap (λ (s : StoreState). length s.pages) new_store;
   }
 
-  by_result : (r : Result ℕ End) → first_device failed ≡ None → IsJoinedAs ran r → fails_device r ≡ false
-  by_result (Ok epoch) none is = refl
-  by_result (Err (ends.Device device)) none is = elim is.device [
-    | inl quiet ↦ elim (is.limit quiet (ends.Device device) refl) [
-      | inl epoch ↦ absurd (let no = epoch.0 in cc)
-      | inr sequence ↦ absurd (let no = sequence.0 in cc)
-    ]
-    | inr told ↦ absurd (let no = sym none ∙ told.2 in cc)
-  ]
-  by_result (Err (ends.Damaged device at)) none is = refl
-  by_result (Err (ends.Limit name number)) none is = refl
-  by_result (Err ends.Memory) none is = refl
-
-  device_failed : failed ≡ [] → fails_device result ≡ false
-  device_failed none = by_result result (ap first_device none) joined_so
-
-  -- a log that is down in the end is told
-  told_down : (w : ℕ) (log : LogState) → slice_get new.logs w ≡ Some log → is_some log.journal.down ≡ true
-      → result ≡ Err (ends.Device (devices.Bank (2 * w)))
-  told_down w log at down = elim (told_or result w) [
-    | inl told ↦ told
-    | inr not ↦ absurd (let no = sym down ∙ ap is_some (runs.up w log (ap (λ l. slice_get l w) (sym new_logs) ∙ at) not) in cc)
-  ]
-
   -- a log file that failed is the one that the join answered
-  bank_result : (number : ℕ) → Contains failed (devices.Bank number) → result ≡ Err (ends.Device (devices.Bank number))
-  bank_result number has = elim (in_down (are_down new.logs) (is_some runs.failed) (devices.Bank number) has) [
-    | inr is ↦ absurd (let no = is.0 in cc)
-    | inl bank ↦
-        let at = in_banks 0 (are_down new.logs) (devices.Bank number) bank in
-        let log = map_at (λ (l : LogState). is_some l.journal.down) new.logs at.0 true at.3 in
-        let here : at.0 ≡ at.1 = omega (arith, at.2) in
-        subst (λ d. result ≡ Err (ends.Device d)) at.4
-        (subst (λ n. result ≡ Err (ends.Device (devices.Bank (2 * n)))) here (told_down at.0 log.0 log.1 log.2))
-  ]
+  bank_result : (w : ℕ) → w < 8 → Contains failed (devices.Bank (growing_number old.side w))
+      → js.result ≡ Err (ends.Device (devices.Bank (growing_number old.side w)))
+  unfolding facts
+  bank_result w below has =
+      let here = bank_down old.side (are_down logs) (is_some js.joins.failed) others w
+      (beside_not_growing old.side others w (λ device there. (rose_made device there).0)) has in
+      let log = map_at (λ (l : LogState). is_some l.journal.down) logs w true here in
+      elim (told_or js.result (growing_number old.side w)) [
+        | inl told ↦ told
+        | inr not ↦ absurd (let no = sym log.2 ∙ ap is_some (up_there facts w log.0 log.1 not) in cc)
+      ]
 
   -- what it leaves of the vault, and of the crashes
-  left : (v : LeavesVault tells clock image_at faults ran (λ w. []) old new before now)
-      × CarriesCrashes tells clock image_at (λ w. []) (v.stored ++ option_to_list v.failed) durable old new before now
-  left = with_crashes stands.whole stands.workers refl
-      (leaves_vault ran (λ w. []) old.logs old.logs old new before now runs.stored runs.failed total keeps
+  left : ((disk : D) (file : List ℕ) → tells disk ≡ Some file → image_at disk (clock disk) file)
+      → (v : LeavesVault tells clock image_at faults ran (λ w. []) old new before now)
+      × CarriesCrashes tells clock image_at (λ w. []) (v.stored ++ option_to_list v.failed) ran old new before now
+  unfolding files_made facts turns
+  left reads = with_crashes reads stands refl (λ epoch is. sym durable_so ∙ is)
+      (leaves_vault ran (λ w. []) old.logs old.logs logs old new before now js.joins.stored js.joins.failed total saves_made
+      keeps_made.newest
       (λ w begins epochs at are told front. subst (λ es. IsFront es told) (sym (empty_at 8 w epochs are)) (front_none told))
-      (λ w below. tt) stands_new refl (told_by result runs.answer ∙ ap option_to_list (sym durable_is))
+      (λ w below. tt) stands.whole stands.closed.workers files_made (pre_whole facts)
+      (λ is. rests facts (sym comes_is ∙ (and_parts (comes_to_swap ran) (not (closed_failed ran)) is).0))
+      others keeps_made stands_made refl (λ device has. (rose_made device has).0) (λ device has. (rose_made device has).1)
+      (λ not. ap faults now_snaps) quiet_made gleans_none (λ what has. absurd (in_none what has)) (λ not. ap (λ (s : StoreState). s.sound) new_store ∙ store_up) new_room
+      (stored_told facts ∙ ap option_to_list (sym js.durable_is))
       (λ w log refusal at has. absurd (let no = has in cc))
       (λ w below has. inr refl)
-      (rise_on (epoch_of old.save.newest) old.stands.clock.epoch [] (runs.stored ++ option_to_list runs.failed) tt
-      (omega (arith, stands.above)) runs.at_clock)
-      (λ is. inr (asked_by result runs.answer is)))
+      (rise_on (epoch_of old.save.newest) old.stands.clock.epoch [] (js.joins.stored ++ option_to_list js.joins.failed) tt
+      (omega (arith, stands.above)) js.joins.at_clock)
+      (λ is. let by = asked_by facts is in inr (below_test old.stands.clock.epoch last_epoch by.0, by.1)))
 
   -- What the join comes to.
-  pub join_alone : Joins tells clock image_at faults old new before now durable end
-  join_alone = record {
+  pub join_alone : ((disk : D) (file : List ℕ) → tells disk ≡ Some file → image_at disk (clock disk) file)
+      → Joins tells clock image_at faults old new before now durable end
+  unfolding files_made facts turns
+  join_alone reads = record {
     failed = failed;
-    end_is = end_is ∙ end_so result joined_so;
+    end_is = end_so end refused_by_so;
     durable_is = durable_so;
-    stands = ap (λ (r : RuntimeState). r.stands) new_is
-        ∙ ap (λ (s : Standing). record s { ended = old.stands.ended || is_some end }) runs.stands;
-    down = λ none. ap (λ (r : RuntimeState). r.down) new_is ∙ device_failed none;
-    leaves = left.0;
-    crashes = left.1;
+    stands = new_stands ∙ ap (λ (s : Standing). record s { ended = old.stands.ended || is_some end }) js.joins.stands;
+    down = λ none. ap (λ (r : RuntimeState). r.down) new_is ∙ device_up ran end refused_by_so (ap first_device none);
+    leaves = (left reads).0;
+    crashes = (left reads).1;
     not_advanced = λ last.
-        let same = runs.not_advanced last in (
-          same.0,
-          new_logs ∙ ap (λ (r : RuntimeState). r.logs) same.1,
-          ap (λ (r : RuntimeState). r.save) new_is ∙ ap (λ (r : RuntimeState). r.save) same.1,
+        let same = js.joins.not_advanced last in
+        let untried : turns.tried ≡ false = elim (cases_Bool turns.tried) [
+          | inl tried ↦
+              let done = tried_done facts tried in
+              absurd (omega (arith, (done_at facts done.0 done.1).less, last))
+          | inr not ↦ not
+        ] in
+        let unturned : swapped ≡ js.joined = turns.new_is
+        ∙ ap (λ b. turned_if (b && not (is_some turns.cut)) old.stands.clock.epoch js.joined) untried in (
+          (turns.left untried).1 ∙ same.0,
+          ap (λ (r : RuntimeState). r.logs) (new_is ∙ ap (λ r. ended_as r (old.stands.ended || is_some end) (fails_device end)) unturned)
+              ∙ ap (λ (r : RuntimeState). r.logs) same.1,
+          new_save ∙ ap (λ (r : RuntimeState). r.save) same.1,
         );
-    not_flushed = λ number has.
-        let told = bank_result number has in
-        let same = runs.not_flushed number told in
-        (same.0, ap (λ (r : RuntimeState). r.save) new_is ∙ same.2);
+    not_flushed = λ w below has.
+        let same = js.joins.not_flushed (growing_number old.side w) (bank_result w below has) in
+        ((leaves facts).saves.save ∙ same.0, new_save ∙ same.2);
   }

@@ -1,5 +1,5 @@
 -- The steps of a join, one after another.
-use Rattle.std.proofs.Common.{◌≡◌, ◌≢◌, ◌∙◌, ◌<◌, ◌+◌, ◌-◌, ◌*◌, ◌++◌, ◌∷◌, inl, inr, sym, ap, subst, refl, ℕ, List, [], length, map}
+use Rattle.std.proofs.Common.{◌≡◌, ◌≢◌, ◌∙◌, ◌≤◌, ◌<◌, ◌+◌, ◌-◌, ◌++◌, ◌∷◌, inl, inr, sym, ap, subst, refl, ℕ, List, [], length, map}
 use Rattle.std.proofs.Common.{true, cond, Option, Some, None, arith}
 use Rattle.std.specs.Prelude.{flat_map, fold, is_some, min, option_to_list, slice_get, Result, Ok, Err}
 use Rattle.std.specs.List.{AllByRecursion, Contains}
@@ -20,24 +20,27 @@ use Rattle.log_writer.specs.declared.save.SaveFault.TheVariants.{Device, Down, L
 use Rattle.log_writer.specs.declared.saved.Saved.{Saved}
 use Rattle.recovery_core.specs.Images.{epoch_of}
 use Rattle.tx_script.specs.Causes.{last_sequence}
-use Rattle.worker_logs.specs.FlushAll.{FlushesAll}
+use Rattle.worker_logs.specs.FlushAll.{FlushesAll, MarksLog}
 use Rattle.worker_logs.specs.Logs.{IsJoined, LogGoesOn, LogState}
 use Rattle.worker_logs.specs.Moves.{MovesLog}
-use Rattle.worker_logs.specs.Saves.{SavesMarks, logs_marks, saved_epoch}
+use Rattle.worker_logs.specs.Saves.{growing_number, SavesBy, SavesMarks, logs_marks, saved_epoch}
+use Rattle.worker_logs.specs.declared.savepoints.Beside.{Beside}
+use Rattle.worker_logs.specs.declared.savepoints.Side.{Side}
+use Rattle.worker_logs.specs.declared.savepoints.Side.TheVariants.{Even, Odd}
 use Rattle.round_engine.specs.Ends.{epoch_after}
-use Rattle.round_engine.specs.Keeping.{JoinAnswers, JoinsLog, Keeps, MarksOf, RunsJoin, device_told, join_answer}
-use Rattle.round_engine.specs.Phases.{SameBeside}
-use Rattle.round_engine.specs.Standing.{RuntimeState, Standing}
+use Rattle.round_engine.specs.Keeping.{CanKeep, IsSavedBySeen, JoinAnswers, JoinsLog, MarksOf, RunsJoin, at_epoch, device_told, join_answer}
+use Rattle.round_engine.specs.Sides.{SameButGrowing, closed_in, growing_in}
+use Rattle.round_engine.specs.Standing.{AreClosed, beside_of, HasSnapshot, RuntimeState, Standing}
 use Rattle.round_engine.specs.Steps.{AreLogsUp, IsLogUp}
 use Rattle.round_engine.specs.declared.report.End.{End}
 use Rattle.round_engine.specs.declared.report.End.TheVariants as ends
 use Rattle.round_engine.specs.declared.report.LimitName.TheVariants.{Epoch}
-use Rattle.round_engine.proofs.Beside.{keeps_from, keeps_none, keeps_seen}
-use Rattle.round_engine.proofs.KeeperSteps.{sequence_left}
-use Rattle.round_engine.proofs.KeepingSaves.{failed_of, keeps_saves, stored_of}
+use Rattle.round_engine.proofs.Beside.{keeps_from, keeps_none}
+use Rattle.round_engine.proofs.JoinedAs.{below_test, sequence_left}
+use Rattle.round_engine.proofs.KeepingSaves.{failed_of, keeps_saves, stored_of, with_save}
 use Rattle.round_engine.proofs.LogsLeft.{goes_none}
+use Rattle.round_engine.proofs.Numbered.{closed_many, growing_many, same_growing, whole_of}
 use Rattle.round_engine.proofs.Places.{all_from, not_save}
-use Rattle.round_engine.proofs.RoundCases.{below_test}
 use Rattle.round_engine.proofs.Takes.{blames_move, blames_none}
 use Rattle.round_engine.proofs.Whole.{below_8}
 use Rattle.round_engine.proofs.WorkersRun.{item_at}
@@ -68,22 +71,29 @@ joined_saved e logs all = least_joined e (e + 1 - 1) logs (back e) all
 
 -- ---- the device that is told
 
-pub this_bank : (w worker : ℕ) → Contains (devices.Bank (2 * worker) ∷ []) (devices.Bank (2 * w)) → w ≡ worker
-this_bank w worker has = elim (in_cases (devices.Bank (2 * w)) (devices.Bank (2 * worker)) [] has) [
-  | inl same ↦ let n : 2 * worker ≡ 2 * w = cc in omega (arith, n)
-  | inr none ↦ absurd (in_none (devices.Bank (2 * w)) none)
-]
+pub this_bank : (side : Side) (w worker : ℕ)
+    → Contains (devices.Bank (growing_number side worker) ∷ []) (devices.Bank (growing_number side w)) → w ≡ worker
+this_bank side w worker has =
+    elim (in_cases (devices.Bank (growing_number side w)) (devices.Bank (growing_number side worker)) [] has) [
+      | inl same ↦
+          let n : growing_number side worker ≡ growing_number side w = let is = same in cc in
+          sym (same_growing side worker w n)
+      | inr none ↦ absurd (in_none (devices.Bank (growing_number side w)) none)
+    ]
 
-pub bank_told_is : (w worker : ℕ) → ◌≡◌ {A = Result ℕ End} (Err (ends.Device (devices.Bank (2 * worker))))
-    (Err (ends.Device (devices.Bank (2 * w)))) → w ≡ worker
-bank_told_is w worker told = let n : 2 * worker ≡ 2 * w = cc in omega (arith, n)
+pub bank_told_is : (side : Side) (w worker : ℕ)
+    → ◌≡◌ {A = Result ℕ End} (Err (ends.Device (devices.Bank (growing_number side worker))))
+    (Err (ends.Device (devices.Bank (growing_number side w)))) → w ≡ worker
+bank_told_is side w worker told =
+    let n : growing_number side worker ≡ growing_number side w = let is = told in cc in
+    sym (same_growing side worker w n)
 
--- a save names no growing log file
-pub no_bank : (result : Result ℕ SaveFault) (w : ℕ) → Contains (device_told (join_answer result)) (devices.Bank (2 * w)) → ⊥
-no_bank (Ok epoch) w has = in_none (devices.Bank (2 * w)) has
-no_bank (Err (Limit sequence)) w has = in_none (devices.Bank (2 * w)) has
-no_bank (Err Device) w has = not_save w has
-no_bank (Err (Down count)) w has = not_save w has
+-- a save names no log file
+pub no_bank : (result : Result ℕ SaveFault) (number : ℕ) → Contains (device_told (join_answer result)) (devices.Bank number) → ⊥
+no_bank (Ok epoch) number has = in_none (devices.Bank number) has
+no_bank (Err (Limit sequence)) number has = in_none (devices.Bank number) has
+no_bank (Err Device) number has = not_save number has
+no_bank (Err (Down count)) number has = not_save number has
 
 pub no_told : (result : Result ℕ SaveFault) (number : ℕ) → join_answer result ≡ Err (ends.Device (devices.Bank number)) → ⊥
 no_told (Ok epoch) number is = absurd (let no = is in cc)
@@ -137,13 +147,30 @@ module _ {D : Type 0} {tells : D → Option (List ℕ)} {clock : D → ℕ} {ima
 
 -- ---- the join
 
+-- the runtime behind the advance, with these logs
+abbrev pub flushed_with : RuntimeState → List LogState → RuntimeState
+flushed_with r logs = record (at_epoch r (r.stands.clock.epoch + 1)) { logs = logs }
+
+-- what was stored by the marks of the logs at an epoch of the clock
+pub by_marks_of : (r : RuntimeState) (epoch : ℕ) (saved : Saved) (result : Result ℕ SaveFault) (beside : Beside)
+    → SavesBy epoch (logs_marks r.logs) beside saved
+    → AllByRecursion (IsSavedBySeen (MarksOf r epoch epoch) beside) (stored_of saved result ++ option_to_list (failed_of saved result))
+by_marks_of r epoch saved (Ok answer) beside by = ((epoch, logs_marks r.logs, (omega arith, omega arith, refl), by), tt)
+by_marks_of r epoch saved (Err Device) beside by = ((epoch, logs_marks r.logs, (omega arith, omega arith, refl), by), tt)
+by_marks_of r epoch saved (Err (Down count)) beside by = tt
+by_marks_of r epoch saved (Err (Limit sequence)) beside by = tt
+
 module _ {D : Type 0} (tells : D → Option (List ℕ)) (clock : D → ℕ) (image_at : D → ℕ → List ℕ → Type 0)
     (faults : D → ℕ) (old : RuntimeState) (before : Vault D)
-    (whole : IsWhole before) (ups : AreLogsUp tells old.logs before.even.items) (workers : length old.logs ≡ 8)
+    (whole : IsWhole before) (ups : AreLogsUp tells old.logs (growing_in old.side before)) (workers : length old.logs ≡ 8)
     (up : old.save.down ≡ None) (stored : IsStored tells clock image_at before.save old.save.newest) where
+  -- a worker's log and its log file
+  bank_of : (w : ℕ) → w < 8 → (bank : D) × (slice_get (growing_in old.side before) w ≡ Some bank)
+  bank_of w below = item_at (growing_in old.side before) w (omega (arith, below, growing_many old.side before whole))
+
   each_up : (w : ℕ) (log : LogState) → slice_get old.logs w ≡ Some log → log.journal.down ≡ None
   each_up w log at =
-      let bank = item_at before.even.items w (omega (arith, below_8 old.logs w log at workers, whole.even)) in
+      let bank = bank_of w (below_8 old.logs w log at workers) in
       (ups w log bank.0 at bank.1).up
 
   -- The epoch was the last one.
@@ -153,47 +180,82 @@ module _ {D : Type 0} (tells : D → Option (List ℕ)) (clock : D → ℕ) (ima
       subst (λ e. RunsJoin tells clock image_at faults old old before before (Err e)) (sym is) (record {
         stored = [];
         failed = None;
-        keeps = keeps_none old.save before up stored;
+        keeps = keeps_none old before up stored;
+        by_marks = tt;
         at_clock = tt;
         answer = (omega (arith, last), refl, refl, refl);
+        alone = refl;
         stands = ap (λ e. record old.stands { clock = record old.stands.clock { epoch = e } })
             (sym (epoch_stays old.stands.clock.epoch last));
+        snaps = refl;
+        closed = refl;
+        cuts = refl;
         above = λ low. omega (arith, low, epoch_stays old.stands.clock.epoch last);
         logs_length = refl;
-        even_length = refl;
+        growing_length = refl;
         each = λ w was log bank_was bank at there bank_at bank_there.
             left_join (ups w was bank_was at bank_at) (same_Some log was (sym there ∙ at)) (same_Some bank bank_was (sym bank_there ∙ bank_at));
         up = λ w log at none. each_up w log at;
-        fell = λ w log at has. absurd (in_none (devices.Bank (2 * w)) has);
+        fell = λ w log at has. absurd (in_none (devices.Bank (growing_number old.side w)) has);
         waited = λ w was said at none. absurd (let no = said in cc);
         not_advanced = λ le. (refl, refl);
         not_flushed = λ number said. absurd (let no = said in cc);
       })
 
-  module _ (new : RuntimeState) (now : Vault D) (less : old.stands.clock.epoch < last_epoch)
-      (stands : new.stands ≡ record old.stands { clock = record old.stands.clock { epoch = old.stands.clock.epoch + 1 } }) where
-    clock_is : new.stands.clock.epoch ≡ old.stands.clock.epoch + 1
-    clock_is = ap (λ (s : Standing). s.clock.epoch) stands
+  module _ (logs : List LogState) (less : old.stands.clock.epoch < last_epoch) where
+    abbrev mid : RuntimeState
+    mid = flushed_with old logs
 
-    stands_is : new.stands ≡ record old.stands { clock = record old.stands.clock { epoch = epoch_after old.stands.clock.epoch } }
-    stands_is = stands ∙ ap (λ e. record old.stands { clock = record old.stands.clock { epoch = e } })
+    stands_is : mid.stands ≡ record old.stands { clock = record old.stands.clock { epoch = epoch_after old.stands.clock.epoch } }
+    stands_is = ap (λ e. record old.stands { clock = record old.stands.clock { epoch = e } })
         (sym (epoch_next old.stands.clock.epoch less))
 
+    -- what a save finds behind the flush
+    pub can_save : AreClosed old → old.room ≤ 65536 → old.store.sound ≡ true → HasSnapshot tells old before.snaps
+        → (now : Vault D) → SameButGrowing old.side before now → length logs ≡ length old.logs
+        → length (growing_in old.side now) ≡ length (growing_in old.side before)
+        → CanKeep tells clock image_at (flushed_with old logs) now
+    can_save closed room sound snapshot now same many banks = record {
+      whole = whole_of old.side now (banks ∙ growing_many old.side before whole)
+          (ap length same.closed ∙ closed_many old.side before whole);
+      workers = many ∙ workers;
+      up = up;
+      stored = subst (λ d. IsStored tells clock image_at d old.save.newest) (sym same.save) stored;
+      closed = record { workers = closed.workers; counted = closed.counted; before = omega (arith, closed.before) };
+      most_pages = room;
+      sound = sound;
+      snapshot = subst (HasSnapshot tells (flushed_with old logs)) (sym same.snaps) (record {
+        holds = snapshot.holds;
+        contents = snapshot.contents;
+        stands = snapshot.stands;
+        decls = snapshot.decls;
+        up_to = snapshot.up_to;
+        earlier = snapshot.earlier;
+        let_in = snapshot.let_in;
+      });
+    }
+
     -- A log refused to be flushed: what comes behind it is left out.
-    pub not_flushed : {T : Type 0} (worker : ℕ) (result : Result T ℕ) → result ≡ Err worker → new.save ≡ old.save
-        → SameBeside before now → now.ties ≡ before.ties
-        → (flushes : FlushesAll tells clock image_at faults (old.stands.clock.epoch + 1) old.logs new.logs before.even.items
-        now.even.items result)
-        → RunsJoin tells clock image_at faults old new before now (Err (ends.Device (devices.Bank (2 * worker))))
-    not_flushed worker result said save beside ties flushes =
+    pub not_flushed : {T : Type 0} (now : Vault D) (worker : ℕ) (result : Result T ℕ) → result ≡ Err worker
+        → SameButGrowing old.side before now
+        → (flushes : FlushesAll tells clock image_at faults (old.stands.clock.epoch + 1) old.logs logs (growing_in old.side before)
+        (growing_in old.side now) result)
+        → RunsJoin tells clock image_at faults old (flushed_with old logs) before now
+        (Err (ends.Device (devices.Bank (growing_number old.side worker))))
+    not_flushed now worker result said same flushes =
         let within : worker < 8 = omega (arith, flushes.within worker said, workers) in
-        let was_at = λ (w : ℕ) (log : LogState) (at : slice_get new.logs w ≡ Some log).
-        item_at old.logs w (omega (arith, below_8 new.logs w log at (flushes.as_many_logs ∙ workers), workers)) in
-        let bank_at = λ (w : ℕ) (log : LogState) (at : slice_get new.logs w ≡ Some log).
-        item_at before.even.items w (omega (arith, below_8 new.logs w log at (flushes.as_many_logs ∙ workers), whole.even)) in
-        let now_at = λ (w : ℕ) (log : LogState) (at : slice_get new.logs w ≡ Some log).
-        item_at now.even.items w (omega (arith, below_8 new.logs w log at (flushes.as_many_logs ∙ workers), whole.even, flushes.as_many_banks)) in
-        let fell : (log : LogState) → slice_get new.logs worker ≡ Some log → is_some log.journal.down ≡ true = λ log at.
+        let was_at = λ (w : ℕ) (log : LogState) (at : slice_get logs w ≡ Some log).
+        item_at old.logs w (omega (arith, below_8 logs w log at (flushes.as_many_logs ∙ workers), workers)) in
+        let bank_at = λ (w : ℕ) (log : LogState) (at : slice_get logs w ≡ Some log).
+        bank_of w (below_8 logs w log at (flushes.as_many_logs ∙ workers)) in
+        let now_at = λ (w : ℕ) (log : LogState) (at : slice_get logs w ≡ Some log).
+        item_at (growing_in old.side now) w (omega (
+          arith,
+          below_8 logs w log at (flushes.as_many_logs ∙ workers),
+          growing_many old.side before whole,
+          flushes.as_many_banks,
+        )) in
+        let fell : (log : LogState) → slice_get logs worker ≡ Some log → is_some log.journal.down ≡ true = λ log at.
         let was = was_at worker log at in
         let refuses = flushes.failed worker said was.0 log (bank_at worker log at).0 (now_at worker log at).0 was.1 at
         (bank_at worker log at).1 (now_at worker log at).1 in
@@ -201,16 +263,19 @@ module _ {D : Type 0} (tells : D → Option (List ℕ)) (clock : D → ℕ) (ima
         record {
           stored = [];
           failed = None;
-          keeps = subst (λ s. Keeps tells clock image_at faults (MarksOf new new.stands.clock.epoch new.stands.clock.epoch) [] None
-              old.save s before now) (sym save)
-              (keeps_from beside refl (keeps_none old.save now up
-              (subst (λ d. IsStored tells clock image_at d old.save.newest) (sym beside.save) stored)));
+          keeps = keeps_from {b = mid} (record { save = same.save; snaps = same.snaps; ties = ap (λ v. v.items) same.ties }) refl refl
+              (keeps_none mid now up (subst (λ d. IsStored tells clock image_at d old.save.newest) (sym same.save) stored));
+          by_marks = tt;
           at_clock = tt;
           answer = (less, worker, within, refl, refl, refl);
+          alone = refl;
           stands = stands_is;
-          above = λ low. omega (arith, low, ap (λ (s : SaveState). epoch_of s.newest) save, clock_is);
+          snaps = same.snaps;
+          closed = same.closed;
+          cuts = same.cuts;
+          above = λ low. omega (arith, low);
           logs_length = flushes.as_many_logs;
-          even_length = flushes.as_many_banks;
+          growing_length = flushes.as_many_banks;
           each = λ w was log bank_was bank at there bank_there bank_now. elim (cases_lt w worker) [
             | inl front ↦ moves_join None (ups w was bank_was at bank_there)
                 (flushes.done w (rw said front) was log bank_was bank at there bank_there bank_now).moves
@@ -232,71 +297,73 @@ module _ {D : Type 0} (tells : D → Option (List ℕ)) (clock : D → ℕ) (ima
                     let marks = flushes.done w (rw said front) was.0 log bank.0 bank_now.0 was.1 at bank.1 bank_now.1 in
                     marks.moves.stays_up (λ is. cc) ∙ each_up w was.0 was.1
                 | inr behind ↦ elim (cases_eq w worker) [
-                  | inl same ↦ absurd (none (subst (λ n. Contains (devices.Bank (2 * worker) ∷ []) (devices.Bank (2 * n))) (sym same)
-                      (in_head (devices.Bank (2 * worker)) [])))
+                  | inl this ↦ absurd (none (subst (λ n. Contains (devices.Bank (growing_number old.side worker) ∷ [])
+                      (devices.Bank (growing_number old.side n))) (sym this) (in_head (devices.Bank (growing_number old.side worker)) [])))
                   | inr other ↦
                       let left = flushes.left worker w said (omega (arith, behind, other)) was.0 log bank.0 bank_now.0 was.1 at bank.1 bank_now.1 in
                       ap (λ (l : LogState). l.journal.down) left.0 ∙ each_up w was.0 was.1
                 ]
               ];
-          fell = λ w log at has. fell log (ap (slice_get new.logs) (sym (this_bank w worker has)) ∙ at);
+          fell = λ w log at has. fell log (ap (slice_get logs) (sym (this_bank old.side w worker has)) ∙ at);
           waited = λ w was told at none.
-              let same : w ≡ worker = bank_told_is w worker told in
-              let log = item_at new.logs worker (omega (arith, within, flushes.as_many_logs, workers)) in
+              let this : w ≡ worker = bank_told_is old.side w worker told in
+              let log = item_at logs worker (omega (arith, within, flushes.as_many_logs, workers)) in
               let bank = bank_at worker log.0 log.1 in
               let bank_now = now_at worker log.0 log.1 in
-              let kept = (flushes.failed worker said was log.0 bank.0 bank_now.0 (ap (slice_get old.logs) (sym same) ∙ at) log.1 bank.1
+              let kept = (flushes.failed worker said was log.0 bank.0 bank_now.0 (ap (slice_get old.logs) (sym this) ∙ at) log.1 bank.1
               bank_now.1).nothing none in
               let down = sym (fell log.0 log.1) ∙ ap (λ j. is_some j.down) kept ∙ ap is_some (each_up w was at) in
               absurd (let no = down in cc);
           not_advanced = λ last. absurd (omega (arith, less, last));
-          not_flushed = λ number told. (beside.save, ties, save);
+          not_flushed = λ number told. (same.save, same.ties, refl);
         }
 
     -- All logs were flushed and marked, and a savepoint was asked for.
     module _ {T : Type 0} (between : Vault D) (flushed : Result T ℕ) (done : T) (said : flushed ≡ Ok done)
-        (beside : SameBeside before between)
-        (flushes : FlushesAll tells clock image_at faults (old.stands.clock.epoch + 1) old.logs new.logs before.even.items
-        between.even.items flushed) where
-      all_joined : AllByRecursion (IsJoined (old.stands.clock.epoch + 1)) new.logs
-      all_joined = all_from (IsJoined (old.stands.clock.epoch + 1)) new.logs (λ w log at.
-          let below = below_8 new.logs w log at (flushes.as_many_logs ∙ workers) in
+        (same : SameButGrowing old.side before between)
+        (flushes : FlushesAll tells clock image_at faults (old.stands.clock.epoch + 1) old.logs logs (growing_in old.side before)
+        (growing_in old.side between) flushed) (save : SaveState) (now : Vault D) where
+      marks_at : (w : ℕ) (log : LogState) → slice_get logs w ≡ Some log
+          → (was : LogState) × (bank : D) × (bank_now : D) × (slice_get old.logs w ≡ Some was)
+          × MarksLog tells clock image_at faults (old.stands.clock.epoch + 1) was log bank bank_now
+      marks_at w log at =
+          let below = below_8 logs w log at (flushes.as_many_logs ∙ workers) in
           let was = item_at old.logs w (omega (arith, below, workers)) in
-          let bank = item_at before.even.items w (omega (arith, below, whole.even)) in
-          let bank_now = item_at between.even.items w (omega (arith, below, whole.even, flushes.as_many_banks)) in
-          (flushes.done w (rw said tt) was.0 log bank.0 bank_now.0 was.1 at bank.1 bank_now.1).joined)
+          let bank = bank_of w below in
+          let bank_now = item_at (growing_in old.side between) w
+          (omega (arith, below, growing_many old.side before whole, flushes.as_many_banks)) in
+          (was.0, bank.0, bank_now.0, was.1, flushes.done w (rw said tt) was.0 log bank.0 bank_now.0 was.1 at bank.1 bank_now.1)
 
-      left_up : (w : ℕ) (log : LogState) → slice_get new.logs w ≡ Some log → log.journal.down ≡ None
+      all_joined : AllByRecursion (IsJoined (old.stands.clock.epoch + 1)) logs
+      all_joined = all_from (IsJoined (old.stands.clock.epoch + 1)) logs (λ w log at. (marks_at w log at).4.joined)
+
+      left_up : (w : ℕ) (log : LogState) → slice_get logs w ≡ Some log → log.journal.down ≡ None
       left_up w log at =
-          let below = below_8 new.logs w log at (flushes.as_many_logs ∙ workers) in
-          let was = item_at old.logs w (omega (arith, below, workers)) in
-          let bank = item_at before.even.items w (omega (arith, below, whole.even)) in
-          let bank_now = item_at between.even.items w (omega (arith, below, whole.even, flushes.as_many_banks)) in
-          (flushes.done w (rw said tt) was.0 log bank.0 bank_now.0 was.1 at bank.1 bank_now.1).moves.stays_up (λ is. cc)
-          ∙ each_up w was.0 was.1
+          let marks = marks_at w log at in
+          marks.4.moves.stays_up (λ is. cc) ∙ each_up w marks.0 marks.3
+
+      abbrev Saves : Result ℕ SaveFault → Type 0
+      Saves result = SavesMarks tells clock image_at faults (old.stands.clock.epoch + 1) (logs_marks logs) (beside_of old)
+          old.save save between now result
 
       -- the savepoint is of the epoch that ended
-      saved_is : (result : Result ℕ SaveFault)
-          (saves : SavesMarks tells clock image_at faults (old.stands.clock.epoch + 1) (logs_marks new.logs) old.save new.save between now result)
-          → saves.saved.epoch ≡ old.stands.clock.epoch
-      saved_is result saves = saves.by_marks.epoch ∙ joined_saved old.stands.clock.epoch new.logs all_joined
+      saved_is : (result : Result ℕ SaveFault) (saves : Saves result) → saves.saved.epoch ≡ old.stands.clock.epoch
+      saved_is result saves = saves.by_marks.epoch ∙ joined_saved old.stands.clock.epoch logs all_joined
 
-      below_last : (result : Result ℕ SaveFault)
-          (saves : SavesMarks tells clock image_at faults (old.stands.clock.epoch + 1) (logs_marks new.logs) old.save new.save between now result)
+      below_last : (result : Result ℕ SaveFault) (saves : Saves result)
           → ((sequence : ℕ) → result ≡ Err (Limit sequence) → ⊥) → sequence_of old.save.newest < last_sequence
       below_last result saves not_limit = sequence_left (sequence_of old.save.newest) saves.counted
           (λ last. not_limit (sequence_of old.save.newest) ((saves.stores.limit (sequence_of old.save.newest)).1 (up, refl, last)))
 
-      answer_of : (result : Result ℕ SaveFault)
-          (saves : SavesMarks tells clock image_at faults (old.stands.clock.epoch + 1) (logs_marks new.logs) old.save new.save between now result)
-          → JoinAnswers old new (stored_of saves.saved result) (failed_of saves.saved result) (join_answer result)
+      answer_of : (result : Result ℕ SaveFault) (saves : Saves result)
+          → JoinAnswers old (with_save mid save) (stored_of saves.saved result) (failed_of saves.saved result) (join_answer result)
       answer_of (Ok epoch) saves = (
         less,
         below_last (Ok epoch) saves (λ sequence is. absurd (let no = is in cc)),
         saves.told ∙ saved_is (Ok epoch) saves,
         ap (λ n. n ∷ []) (sym saves.told),
         refl,
-        subst (λ n. AllByRecursion (IsJoined (n + 1)) new.logs) (sym (saves.told ∙ saved_is (Ok epoch) saves)) all_joined,
+        subst (λ n. AllByRecursion (IsJoined (n + 1)) logs) (sym (saves.told ∙ saved_is (Ok epoch) saves)) all_joined,
       )
       answer_of (Err Device) saves =
           (less, below_last (Err Device) saves (λ sequence is. absurd (let no = is in cc)), refl, refl)
@@ -304,33 +371,49 @@ module _ {D : Type 0} (tells : D → Option (List ℕ)) (clock : D → ℕ) (ima
       answer_of (Err (Limit sequence)) saves =
           let met = (saves.stores.limit sequence).0 refl in (less, met.1, met.2, refl, refl)
 
-      above_of : (result : Result ℕ SaveFault)
-          (saves : SavesMarks tells clock image_at faults (old.stands.clock.epoch + 1) (logs_marks new.logs) old.save new.save between now result)
-          → epoch_of old.save.newest < old.stands.clock.epoch → epoch_of new.save.newest < new.stands.clock.epoch
-      above_of (Ok epoch) saves low =
-          omega (arith, ap epoch_of saves.stores.newest, saved_is (Ok epoch) saves, clock_is)
-      above_of (Err fault) saves low = omega (arith, ap epoch_of saves.stores.kept, low, clock_is)
+      above_of : (result : Result ℕ SaveFault) (saves : Saves result)
+          → epoch_of old.save.newest < old.stands.clock.epoch → epoch_of save.newest < old.stands.clock.epoch + 1
+      above_of (Ok epoch) saves low = omega (arith, ap epoch_of saves.stores.newest, saved_is (Ok epoch) saves)
+      above_of (Err fault) saves low = omega (arith, ap epoch_of saves.stores.kept, low)
 
-      pub joined : (result : Result ℕ SaveFault)
-          (saves : SavesMarks tells clock image_at faults (old.stands.clock.epoch + 1) (logs_marks new.logs) old.save new.save between now result)
-          → RunsJoin tells clock image_at faults old new before now (join_answer result)
+      growing_same : (result : Result ℕ SaveFault) → Saves result → growing_in old.side now ≡ growing_in old.side between
+      growing_same result saves = in_both old.side saves.even saves.odd
+        where
+          in_both : (side : Side) → now.even ≡ between.even → now.odd ≡ between.odd → growing_in side now ≡ growing_in side between
+          in_both Even even odd = ap (λ v. v.items) even
+          in_both Odd even odd = ap (λ v. v.items) odd
+
+      closed_same : (result : Result ℕ SaveFault) → Saves result → closed_in old.side now ≡ closed_in old.side between
+      closed_same result saves = in_both old.side saves.even saves.odd
+        where
+          in_both : (side : Side) → now.even ≡ between.even → now.odd ≡ between.odd → closed_in side now ≡ closed_in side between
+          in_both Even even odd = ap (λ v. v.items) odd
+          in_both Odd even odd = ap (λ v. v.items) even
+
+      pub joined : (result : Result ℕ SaveFault) (saves : Saves result)
+          → RunsJoin tells clock image_at faults old (with_save (flushed_with old logs) save) before now (join_answer result)
       joined result saves = record {
         stored = stored_of saves.saved result;
         failed = failed_of saves.saved result;
-        keeps = keeps_from beside refl (keeps_seen (λ at seen is. (omega (arith, is.0, clock_is), omega (arith, is.0, clock_is), is.1))
-            (keeps_saves result saves up (subst (λ d. IsStored tells clock image_at d old.save.newest) (sym beside.save) stored)));
+        keeps = keeps_from {b = mid} (record { save = same.save; snaps = same.snaps; ties = ap (λ v. v.items) same.ties }) refl refl
+            (keeps_saves mid result saves up (subst (λ d. IsStored tells clock image_at d old.save.newest) (sym same.save) stored));
+        by_marks = by_marks_of (with_save mid save) (old.stands.clock.epoch + 1) saves.saved result (beside_of old) saves.by_marks;
         at_clock = at_clock_of old.stands.clock.epoch result saves.saved (saved_is result saves);
         answer = answer_of result saves;
+        alone = refl;
         stands = stands_is;
+        snaps = saves.snaps ∙ same.snaps;
+        closed = closed_same result saves ∙ same.closed;
+        cuts = saves.cuts ∙ same.cuts;
         above = above_of result saves;
         logs_length = flushes.as_many_logs;
-        even_length = ap (λ v. length v.items) saves.even ∙ flushes.as_many_banks;
+        growing_length = ap length (growing_same result saves) ∙ flushes.as_many_banks;
         each = λ w was log bank_was bank at there bank_there bank_now. moves_join None (ups w was bank_was at bank_there)
             (flushes.done w (rw said tt) was log bank_was bank at there bank_there
-            (ap (λ v. slice_get v.items w) (sym saves.even) ∙ bank_now)).moves;
+            (ap (λ l. slice_get l w) (sym (growing_same result saves)) ∙ bank_now)).moves;
         up = λ w log at none. left_up w log at;
-        fell = λ w log at has. absurd (no_bank result w has);
-        waited = λ w was told at none. absurd (no_told result (2 * w) told);
+        fell = λ w log at has. absurd (no_bank result (growing_number old.side w) has);
+        waited = λ w was told at none. absurd (no_told result (growing_number old.side w) told);
         not_advanced = λ last. absurd (omega (arith, less, last));
         not_flushed = λ number told. absurd (no_told result number told);
       }

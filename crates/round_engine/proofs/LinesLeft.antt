@@ -7,7 +7,6 @@ use Rattle.std.proofs.lemmas.Bool.{cases_lt}
 use Rattle.std.proofs.lemmas.Option.{same_Some}
 use Rattle.lists.specs.Each.{all_at, all_weaker}
 use Rattle.lists.specs.Fronts.{IsFront}
-use Rattle.outside.specs.Cuts.{disk_in-even}
 use Rattle.outside.specs.declared.vault.Vault.{Vault}
 use Rattle.serial_model.specs.declared.number.Commit.{Commit}
 use Rattle.serial_model.specs.declared.op.Op.{Op}
@@ -17,10 +16,12 @@ use Rattle.recovery_core.specs.Marks.{IsAbove}
 use Rattle.worker_logs.specs.Logs.{IsJoined, LogGoesOn, LogState, log_limit}
 use Rattle.round_engine.specs.Parts.{AreLoggedAt, AreParts, IsPart, Part, logged_at}
 use Rattle.round_engine.specs.Plainly.{after_lines}
+use Rattle.round_engine.specs.Sides.{growing_in}
 use Rattle.round_engine.specs.Standing.{AreUp, RuntimeState, Standing, StandsOn}
 use Rattle.round_engine.specs.Steps.{AreLogsUp, Blames, KeepsMark, LogTakes}
 use Rattle.round_engine.specs.Workers.{RunsFirst, idled}
 use Rattle.round_engine.proofs.LogsLeft.{Leaves, goes_none, logged_epochs, worker_leaves}
+use Rattle.round_engine.proofs.Numbered.{growing_at}
 use Rattle.round_engine.proofs.SoFar.{lines_epoch}
 use Rattle.round_engine.proofs.Takes.{blames_none, takes_none}
 use Rattle.round_engine.proofs.Whole.{LogsTotal, below_8}
@@ -89,11 +90,11 @@ append_nothing (x ∷ xs) ys is = absurd cc
 -- the logs as they are where nothing is down
 pub logs_up : {D : Type 0} {tells : D → Option (List ℕ)} {clock : D → ℕ} {image_at : D → ℕ → List ℕ → Type 0}
     {r : RuntimeState} {vault : Vault D} → StandsOn tells clock image_at r vault → AreUp r
-    → AreLogsUp tells r.logs vault.even.items
+    → AreLogsUp tells r.logs (growing_in r.side vault)
 logs_up {r = r} {vault = vault} stands up w log bank at bank_at = record {
   up = all_at (λ (l : LogState). l.journal.down ≡ None) r.logs w log up.logs at;
   limit = all_at (λ (l : LogState). l.journal.limit ≡ log_limit) r.logs w log stands.limits at;
-  reaches = stands.reaches w log bank at (disk_in-even vault w ∙ bank_at);
+  reaches = stands.reaches w log bank at (growing_at r.side vault w ∙ bank_at);
 }
 
 module _ {D : Type 0} (tells : D → Option (List ℕ)) (clock : D → ℕ) (image_at : D → ℕ → List ℕ → Type 0)

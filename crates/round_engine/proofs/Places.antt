@@ -1,7 +1,7 @@
 -- Elements of a list by their places, and the device that a list of one has.
-use Rattle.std.proofs.Common.{◌≡◌, ◌*◌, ◌≢◌, ◌∷◌, inl, inr, sym, ap, refl, ℕ, zero, suc, List, []}
-use Rattle.std.proofs.Common.{map, false, Option, Some, None, arith}
-use Rattle.std.specs.Prelude.{is_some, slice_get}
+use Rattle.std.proofs.Common.{◌≡◌, ◌≢◌, ◌∷◌, ◌++◌, inl, inr, sym, ap, refl, ℕ, zero, suc, List, []}
+use Rattle.std.proofs.Common.{get_or, map, Bool, true, false, Option, Some, None}
+use Rattle.std.specs.Prelude.{◌||◌, is_some, slice_get}
 use Rattle.std.specs.List.{AllByRecursion, Contains, list_any}
 use Rattle.std.proofs.lemmas.Option.{same_Some}
 use Rattle.lists.specs.Elements.{in_cases, in_none}
@@ -13,6 +13,10 @@ pub all_from : {X : Type 0} (P : X → Type 0) (xs : List X) → ((i : ℕ) (x :
     → AllByRecursion P xs
 all_from P [] each = tt
 all_from P (x ∷ xs) each = (each 0 x refl, all_from P xs (λ i y at. each (suc i) y at))
+
+pub all_front : {X : Type 0} (P : X → Type 0) (xs ys : List X) → AllByRecursion P (xs ++ ys) → AllByRecursion P xs
+all_front P [] ys all = tt
+all_front P (x ∷ xs) ys all = (all.0, all_front P xs ys all.1)
 
 -- a refusal among none
 pub none_refused : (refusals : List (Option LogRefusal)) → list_any is_some refusals ≡ false → (i : ℕ) (r : Option LogRefusal)
@@ -32,14 +36,25 @@ map_there f [] i x is = absurd cc
 map_there f (y ∷ xs) zero x is = ap (λ z. Some (f z)) (same_Some y x is)
 map_there f (y ∷ xs) (suc i) x is = map_there f xs i x is
 
-pub not_save : (i : ℕ) → Contains (devices.Save ∷ []) (devices.Bank (2 * i)) → ⊥
-not_save i has = elim (in_cases (devices.Bank (2 * i)) devices.Save [] has) [
+pub not_save : (number : ℕ) → Contains (devices.Save ∷ []) (devices.Bank number) → ⊥
+not_save number has = elim (in_cases (devices.Bank number) devices.Save [] has) [
   | inl same ↦ absurd (let no = same in cc)
-  | inr none ↦ in_none (devices.Bank (2 * i)) none
+  | inr none ↦ in_none (devices.Bank number) none
 ]
 
-pub other_bank : (i w number : ℕ) → i ≢ w → number ≡ 2 * w → Contains (devices.Bank number ∷ []) (devices.Bank (2 * i)) → ⊥
-other_bank i w number differs is has = elim (in_cases (devices.Bank (2 * i)) (devices.Bank number) [] has) [
-  | inl same ↦ let n : number ≡ 2 * i = cc in differs (omega (arith, n, is))
-  | inr none ↦ in_none (devices.Bank (2 * i)) none
+pub other_bank : (i number : ℕ) → number ≢ i → Contains (devices.Bank number ∷ []) (devices.Bank i) → ⊥
+other_bank i number differs has = elim (in_cases (devices.Bank i) (devices.Bank number) [] has) [
+  | inl same ↦ differs cc
+  | inr none ↦ in_none (devices.Bank i) none
 ]
+
+pub or_parts : (a b : Bool) → (a || b) ≡ false → (a ≡ false) × (b ≡ false)
+or_parts false false none = (refl, refl)
+or_parts false true none = absurd cc
+or_parts true b none = absurd cc
+
+-- an element by its place, as code reads it
+pub read_at : {X : Type 0} (xs : List X) (i : ℕ) (x default : X) → slice_get xs i ≡ Some x → get_or xs i default ≡ x
+read_at [] i x default is = absurd cc
+read_at (y ∷ xs) zero x default is = same_Some y x is
+read_at (y ∷ xs) (suc i) x default is = read_at xs i x default is

@@ -1,47 +1,56 @@
 -- A round on the plain map, put together from its phases.
-use Rattle.std.proofs.Common.{◌≡◌, ◌∙◌, ◌≤◌, ◌<◌, ◌+◌, ◌*◌, ◌⊎◌, ◌++◌, ◌∷◌, inl, inr, sym, ap, subst, refl, ℕ}
-use Rattle.std.proofs.Common.{suc, List, [], length, map, Bool, true, false, cond, Option, Some, None, arith}
-use Rattle.std.specs.Prelude.{◌||◌, is_some, option_to_list, slice_get, Ok}
+use Rattle.std.proofs.Common.{◌≡◌, ◌∙◌, ◌≤◌, ◌<◌, ◌+◌, ◌⊎◌, ◌++◌, ◌∷◌, inl, inr, sym, ap, subst, refl, ℕ}
+use Rattle.std.proofs.Common.{suc, List, [], length, map, Bool, true, false, Option, Some, None, arith}
+use Rattle.std.specs.Prelude.{is_some, option_to_list, slice_get, Ok}
 use Rattle.std.specs.Option.{option_map}
 use Rattle.std.specs.List.{Contains}
 use Rattle.std.proofs.lemmas.List.{length-map}
 use Rattle.std.proofs.lemmas.Option.{same_Some}
 use Rattle.lists.specs.Each.{all_at}
+use Rattle.outside.specs.Vault.{IsWhole}
 use Rattle.outside.specs.declared.vault.Device.{Device}
 use Rattle.outside.specs.declared.vault.Device.TheVariants as devices
 use Rattle.outside.specs.declared.vault.Vault.{Vault}
 use Rattle.serial_model.specs.declared.op.Op.{Op}
 use Rattle.script_grammar.specs.Script.{Round, keeper_lines, lines_of_worker}
 use Rattle.wire_form.specs.declared.clock.Mark.{Mark}
-use Rattle.log_writer.specs.Points.{SaveState, sequence_of}
+use Rattle.log_writer.specs.Points.{sequence_of}
 use Rattle.log_writer.specs.declared.saved.Saved.{Saved}
 use Rattle.recovery_core.specs.Images.{epoch_of}
-use Rattle.tx_script.specs.Run.{AdvancesTo, LogFailed, LogFull, LogRefusal, Ran}
+use Rattle.recovery_core.specs.VaultReads.{RoseIn}
+use Rattle.tx_script.specs.Run.{AdvancesTo, LogFailed, LogFiles, LogFull, LogRefusal, Ran}
 use Rattle.tx_script.specs.Causes.{AllCaused, AnswersCaused, AreMarksOf, KeeperAt, LogsCaused, keeper_at_end, keeper_before}
-use Rattle.tx_script.specs.Causes.{last_sequence, log_limit as file_limit, log_of}
+use Rattle.tx_script.specs.Causes.{last_sequence, log_limit as file_limit, log_of, longest_line, some_counted}
 use Rattle.worker_logs.specs.Logs.{IsJoined, LogState, log_limit}
-use Rattle.worker_logs.specs.Saves.{logs_marks}
+use Rattle.worker_logs.specs.Saves.{closed_number, growing_number, logs_marks}
+use Rattle.worker_logs.specs.declared.savepoints.Side.{Side}
+use Rattle.worker_logs.specs.declared.savepoints.Side.TheVariants.{Even, Odd}
 use Rattle.round_engine.specs.Changes.{AreLogged}
-use Rattle.round_engine.specs.Ends.{comes_to_advance, comes_to_save, durable_of, end_of, epoch_joined, where_true}
-use Rattle.round_engine.specs.Keeping.{Keeps, keeper_on}
+use Rattle.round_engine.specs.Crashes.{CarriesCrashes}
+use Rattle.round_engine.specs.Ends.{comes_to_advance, comes_to_save, durable_of, end_of, epoch_joined, swaps, where_true}
+use Rattle.round_engine.specs.Gleans.{RoundGleans}
+use Rattle.round_engine.specs.Keeping.{IsSavedBySeen, Keeps, keeper_on}
 use Rattle.round_engine.specs.Parts.{Part, logged_at}
-use Rattle.round_engine.specs.Phases.{RunsAll}
-use Rattle.round_engine.specs.RanRound.{AreRoundMarks, Rounds}
-use Rattle.round_engine.specs.Saves.{NeverFall, saves_told}
-use Rattle.round_engine.specs.Standing.{IsReady, RuntimeState, Standing, StandsOn}
+use Rattle.round_engine.specs.Phases.{RoomAlone, RunsAll}
+use Rattle.round_engine.specs.RanRound.{AreRoundMarks, LeavesVault, Rounds, SwapsFiles}
+use Rattle.round_engine.specs.Saves.{AreSaved, NeverFall, saves_told}
+use Rattle.round_engine.specs.Sides.{closed_in, growing_in, is_odd}
+use Rattle.round_engine.specs.Standing.{beside_of, files_of, IsReady, RuntimeState, Standing, StandsOn}
 use Rattle.round_engine.specs.Logs.{IsRefusedBy}
 use Rattle.round_engine.specs.Steps.{AreLogsUp, IsLogUp, KeepsMark}
 use Rattle.round_engine.specs.Workers.{idled}
 use Rattle.round_engine.specs.declared.report.End.{End}
 use Rattle.round_engine.specs.declared.report.Report.{Report}
-use Rattle.round_engine.proofs.Devices.{are_down, at_first, bank_in, banks_in, down_at, save_in}
+use Rattle.round_engine.proofs.Beside.{SameSaves}
+use Rattle.round_engine.proofs.CrashesLeft.{with_crashes}
+use Rattle.round_engine.proofs.Devices.{are_down, at_first, bank_in, banks_in, down_at, IsBeside, others_in, save_in}
 use Rattle.round_engine.proofs.Ended.{devices_down}
 use Rattle.round_engine.proofs.LinesLeft.{LastStep, append_nothing, lines_at, logged_above, logged_none}
 use Rattle.round_engine.proofs.LinesLeft.{logs_total, logs_up}
 use Rattle.round_engine.proofs.Logged.{parts_lines, parts_logged}
+use Rattle.round_engine.proofs.Numbered.{closed_many, growing_many, log_of_is, whole_of}
 use Rattle.round_engine.proofs.PlainRun.{IsRanOf, plain_caused, plain_kept, plain_run}
-use Rattle.round_engine.proofs.CrashesLeft.{with_crashes}
-use Rattle.round_engine.proofs.Whole.{LogsTotal, SeenIn, below_8, epochs_at, first_epochs, leaves_vault, round_front}
+use Rattle.round_engine.proofs.Whole.{IsAtRest, LogsTotal, SeenIn, below_8, epochs_at, first_epochs, leaves_vault, round_front}
 use Rattle.round_engine.proofs.WorkersRun.{item_at, map_at, within_of}
 
 -- ---- lists that agree
@@ -103,27 +112,15 @@ round_marks (ops ∷ lines) log first last = record {
 
 -- ---- what the lines were refused
 
-pub both_or : (failed : Option Device) (full : Option ℕ) (b : Bool)
-    → ((is_some failed || is_some full) || b) ≡ (is_some (cond b (Some devices.Save) failed) || is_some full)
-both_or None None true = refl
-both_or None None false = refl
-both_or None (Some size) true = refl
-both_or None (Some size) false = refl
-both_or (Some device) full true = refl
-both_or (Some device) full false = refl
-
 pub map_true : {X : Type 0} (f : X → End) (b : Bool) (x : X) → where_true b (f x) ≡ option_map f (where_true b x)
 map_true f true x = refl
 map_true f false x = refl
 
-pub no_device : (b : Bool) (failed : Option Device) → cond b (Some devices.Save) failed ≡ None → (b ≡ false) × (failed ≡ None)
-no_device true failed none = absurd cc
-no_device false failed none = (refl, none)
-
 -- ---- the run that is told
 
-abbrev pub ran_of : Round → RuntimeState → List LogState → RuntimeState → RuntimeState → List Part → Option Saved → Report → Ran
-ran_of round old start kept new parts failed report = record {
+abbrev pub ran_of : Round → RuntimeState → List LogState → RuntimeState → List LogState → List Part → Option Saved
+    → List Device → List (Option ℕ) → Option (Device × ℕ) → Report → Ran
+ran_of round old start kept logs parts failed others gleans damaged report = record {
   begin = old.stands.clock;
   end = kept.stands.clock;
   outcomes = report.outcomes;
@@ -131,27 +128,32 @@ ran_of round old start kept new parts failed report = record {
   answers = report.keeper;
   durable = report.durable;
   sequence = sequence_of old.save.newest;
+  pages = length old.store.pages;
+  room = old.room;
+  files = files_of old;
   marks = first_epochs start;
   logs = map (λ (p : Part). p.refusal) parts;
-  devices = devices_down (are_down new.logs) (is_some failed);
+  gleans = gleans;
+  devices = devices_down old.side (are_down logs) (is_some failed) others;
+  damaged = damaged;
 }
 
 -- the causes of refusals of logs
-pub logs_caused : (failed : List Device) (worker : ℕ) (refusals : List (Option LogRefusal))
-    → ((i : ℕ) → slice_get refusals i ≡ Some (Some LogFailed) → Contains failed (log_of (worker + i)))
-    → ((i size : ℕ) → slice_get refusals i ≡ Some (Some (LogFull size)) → file_limit < size + 400)
-    → LogsCaused failed worker refusals
-logs_caused failed worker [] devices_in full = tt
-logs_caused failed worker (None ∷ refusals) devices_in full =
-    logs_caused failed (worker + 1) refusals
-    (λ i at. subst (λ n. Contains failed (log_of n)) (next worker i) (devices_in (suc i) at)) (λ i size at. full (suc i) size at)
+pub logs_caused : (files : LogFiles) (failed : List Device) (worker : ℕ) (refusals : List (Option LogRefusal))
+    → ((i : ℕ) → slice_get refusals i ≡ Some (Some LogFailed) → Contains failed (log_of files (worker + i)))
+    → ((i size : ℕ) → slice_get refusals i ≡ Some (Some (LogFull size)) → file_limit < size + longest_line)
+    → LogsCaused files failed worker refusals
+logs_caused files failed worker [] devices_in full = tt
+logs_caused files failed worker (None ∷ refusals) devices_in full =
+    logs_caused files failed (worker + 1) refusals
+    (λ i at. subst (λ n. Contains failed (log_of files n)) (next worker i) (devices_in (suc i) at)) (λ i size at. full (suc i) size at)
   where
     next : (worker i : ℕ) → worker + suc i ≡ (worker + 1) + i
     next worker i = omega arith
-logs_caused failed worker (Some LogFailed ∷ refusals) devices_in full = (
-  subst (λ n. Contains failed (log_of n)) (first worker) (devices_in 0 refl),
-  logs_caused failed (worker + 1) refusals
-      (λ i at. subst (λ n. Contains failed (log_of n)) (next worker i) (devices_in (suc i) at)) (λ i size at. full (suc i) size at),
+logs_caused files failed worker (Some LogFailed ∷ refusals) devices_in full = (
+  subst (λ n. Contains failed (log_of files n)) (first worker) (devices_in 0 refl),
+  logs_caused files failed (worker + 1) refusals
+      (λ i at. subst (λ n. Contains failed (log_of files n)) (next worker i) (devices_in (suc i) at)) (λ i size at. full (suc i) size at),
 )
   where
     first : (worker : ℕ) → worker + 0 ≡ worker
@@ -159,19 +161,89 @@ logs_caused failed worker (Some LogFailed ∷ refusals) devices_in full = (
 
     next : (worker i : ℕ) → worker + suc i ≡ (worker + 1) + i
     next worker i = omega arith
-logs_caused failed worker (Some (LogFull size) ∷ refusals) devices_in full = (
+logs_caused files failed worker (Some (LogFull size) ∷ refusals) devices_in full = (
   full 0 size refl,
-  logs_caused failed (worker + 1) refusals
-      (λ i at. subst (λ n. Contains failed (log_of n)) (next worker i) (devices_in (suc i) at)) (λ i size at. full (suc i) size at),
+  logs_caused files failed (worker + 1) refusals
+      (λ i at. subst (λ n. Contains failed (log_of files n)) (next worker i) (devices_in (suc i) at)) (λ i size at. full (suc i) size at),
 )
   where
     next : (worker i : ℕ) → worker + suc i ≡ (worker + 1) + i
     next worker i = omega arith
 
-abbrev pub at_keeper : ℕ → ℕ → KeeperAt
-at_keeper epoch sequence = record { epoch = epoch; sequence = sequence; refused = false }
-
 -- ---- the end of a round, however its join went
+
+-- ---- the vault as the lines of a round find it
+
+pub same_closed_in : {D : Type 0} (side : Side) (old new : Vault D) → RoomAlone old new → closed_in side new ≡ closed_in side old
+same_closed_in Even old new room = ap (λ v. v.items) room.odd
+same_closed_in Odd old new room = ap (λ v. v.items) room.even
+
+-- where the maintenance thread stands, by its parts
+abbrev pub keeper_of : ℕ → RuntimeState → KeeperAt
+keeper_of epoch r = record {
+  epoch = epoch;
+  sequence = sequence_of r.save.newest;
+  pages = length r.store.pages;
+  counted = some_counted r.counted;
+  refused = false;
+}
+
+module _ {D : Type 0} (tells : D → Option (List ℕ)) (clock : D → ℕ) (image_at : D → ℕ → List ℕ → Type 0)
+    (faults : D → ℕ) (round : Round) (old : RuntimeState) (start : List LogState) (new : RuntimeState)
+    (before now : Vault D) (report : Report)
+    (all : RunsAll tells clock image_at faults round (record old { logs = start }) new before now report) where
+  -- the run that is told, with these logs in the end
+  abbrev pub ran_with : List LogState → Option Saved → List Device → Ran
+  ran_with logs failed others = ran_of round old start all.kept logs all.lines.parts failed others all.keeper.gleans
+      all.keeper.damaged report
+
+  -- What is known of a round in the end, with these logs before the swap.
+  pub record RoundEnds (logs : List LogState) (stored : List Saved) (failed : Option Saved) (others : List Device) : Type 0 where
+    pub logs_many : length logs ≡ 8
+    pub now_many : length (growing_in old.side now) ≡ 8
+    pub keeps : Keeps tells clock image_at faults stored failed old new before now
+    pub saves : AreSaved (IsSavedBySeen (SeenIn old.stands.clock.epoch (epoch_joined (ran_with logs failed others)) all.mid.logs logs))
+        (beside_of old) report.keeper (stored ++ option_to_list failed)
+    pub last : (w : ℕ) (lines log : LogState) (was is : D) → slice_get all.mid.logs w ≡ Some lines
+        → slice_get logs w ≡ Some log → slice_get (growing_in old.side all.between) w ≡ Some was
+        → slice_get (growing_in old.side now) w ≡ Some is
+        → LastStep tells clock image_at faults old.stands.clock.epoch lines log was is
+    pub fails : is_some all.keeper.failed ≡ true → is_some failed ≡ true
+    pub told_others : (device : Device) → all.keeper.broken ≡ Some device → Contains others device
+    pub beside : (device : Device) → Contains others device → IsBeside old.side device
+    pub rose_others : (device : Device) → Contains others device → RoseIn faults device before now
+    pub quiet_snaps : (Contains others devices.Snaps → ⊥) → faults now.snaps ≡ faults before.snaps
+    pub quiet_closed : (w : ℕ) (was is : D) → slice_get (closed_in old.side before) w ≡ Some was
+        → slice_get (closed_in old.side now) w ≡ Some is → (Contains others (devices.Bank (closed_number old.side w)) → ⊥)
+        → faults is ≡ faults was
+    pub stays : (w : ℕ) (lines log : LogState) → slice_get all.mid.logs w ≡ Some lines → slice_get logs w ≡ Some log
+        → is_some lines.journal.down ≡ true → is_some log.journal.down ≡ true
+    pub files : SwapsFiles tells clock image_at faults (ran_with logs failed others) logs old new before now
+    pub between_whole : IsWhole files.between
+    pub rests : swaps (ran_with logs failed others) ≡ true → (w : ℕ) (log : LogState) → slice_get logs w ≡ Some log → IsAtRest log
+    pub decls : new.stands.decls ≡ all.kept.stands.decls
+    pub state : new.stands.state ≡ all.kept.stands.state
+    pub durable : report.durable ≡ durable_of (ran_with logs failed others)
+    pub lasts : report.end ≡ None → report.durable ≡ Some all.kept.stands.clock.epoch
+    pub end_is : report.end ≡ end_of (ran_with logs failed others)
+    pub clock_is : new.stands.clock
+        ≡ record { epoch = epoch_joined (ran_with logs failed others); draw = all.kept.stands.clock.draw }
+    pub ended : new.stands.ended ≡ is_some report.end
+    pub down : (ran_with logs failed others).devices ≡ [] → new.down ≡ false
+    pub stands : StandsOn tells clock image_at new now
+    pub gleans : RoundGleans tells report.keeper all.keeper.gleans all.keeper.damaged old new before now
+    pub sound : (Contains (ran_with logs failed others).devices devices.Snaps → ⊥) → new.store.sound ≡ true
+    pub room : new.room ≡ old.room
+    pub told : map (λ (s : Saved). s.epoch) stored ≡ saves_told report.keeper ++ option_to_list report.durable
+    pub refused : (w : ℕ) (log : LogState) (refusal : Option LogRefusal) → slice_get logs w ≡ Some log
+        → slice_get (map (λ (p : Part). p.refusal) all.lines.parts) w ≡ Some refusal → IsRefusedBy refusal log.journal
+    pub log_failed : (w : ℕ) → w < 8 → Contains (ran_with logs failed others).devices (log_of (files_of old) w)
+        → (slice_get (map (λ (p : Part). p.refusal) all.lines.parts) w ≡ Some (Some LogFailed))
+        ⊎ (comes_to_advance (ran_with logs failed others) ≡ true)
+    pub rise : NeverFall (epoch_of old.save.newest) (map (λ (s : Saved). s.epoch) (stored ++ option_to_list failed))
+    pub asked : is_some failed ≡ true → ((keeper_at_end (ran_with logs failed others)).refused ≡ true)
+        ⊎ ((comes_to_save (ran_with logs failed others) ≡ true)
+        × ((keeper_at_end (ran_with logs failed others)).sequence < last_sequence))
 
 module _ {D : Type 0} {tells : D → Option (List ℕ)} {clock : D → ℕ} {image_at : D → ℕ → List ℕ → Type 0}
     {faults : D → ℕ} {round : Round} {old : RuntimeState} {start : List LogState} {new : RuntimeState}
@@ -184,7 +256,31 @@ module _ {D : Type 0} {tells : D → Option (List ℕ)} {clock : D → ℕ} {ima
   abbrev parts : List Part
   parts = all.lines.parts
 
-  pub start_up : AreLogsUp tells start before.even.items
+  pub before_many : length (growing_in old.side before) ≡ 8
+  before_many = growing_many old.side before stands.whole
+
+  pub between_many : length (growing_in old.side all.between) ≡ 8
+  between_many = all.lines.first.banks_length ∙ before_many
+
+  -- the lines touched nothing beside the growing log files
+  pub same_saves : SameSaves before all.between
+  same_saves = record {
+    save = all.beside.save ∙ all.room.save;
+    snaps = all.beside.snaps ∙ all.room.snaps;
+    ties = ap (λ v. v.items) all.beside.ties ∙ all.room.ties;
+  }
+
+  pub closed_mid : closed_in old.side all.between ≡ closed_in old.side before
+  closed_mid = all.beside.closed ∙ same_closed_in old.side before all.lent all.room
+
+  pub cuts_mid : all.between.cuts.items ≡ before.cuts.items
+  cuts_mid = ap (λ v. v.items) all.beside.cuts ∙ all.room.cuts
+
+  pub between_whole : IsWhole all.between
+  between_whole = whole_of old.side all.between between_many
+      (ap length closed_mid ∙ closed_many old.side before stands.whole)
+
+  pub start_up : AreLogsUp tells start (growing_in old.side before)
   start_up w log bank at bank_at =
       let was = item_at old.logs w (omega (arith, below_8 start w log at start_many, stands.workers)) in
       let up = logs_up stands (stands.up ready.up) w was.0 bank was.1 bank_at in
@@ -199,13 +295,8 @@ module _ {D : Type 0} {tells : D → Option (List ℕ)} {clock : D → ℕ} {ima
   mid_decls = ap (λ (x : Standing). x.decls) all.lines.first.standing ∙ (plain_kept parts old.stands).0
 
   -- where the maintenance thread began
-  pub keeper_start : keeper_on all.mid false ≡ record {
-    epoch = old.stands.clock.epoch;
-    sequence = sequence_of old.save.newest;
-    refused = false;
-  }
-  keeper_start = ap (λ e. at_keeper e (sequence_of all.mid.save.newest)) mid_epoch
-      ∙ ap (λ (x : SaveState). at_keeper old.stands.clock.epoch (sequence_of x.newest)) all.save
+  pub keeper_start : keeper_on all.mid false ≡ keeper_of old.stands.clock.epoch old
+  keeper_start = ap (λ (r : RuntimeState). keeper_on r false) all.alone ∙ ap (λ e. keeper_of e old) mid_epoch
 
   -- each worker's mark is of the epoch of the one that it had at the begin
   pub same_marks : (i : ℕ) (begins log : LogState) → slice_get start i ≡ Some begins → slice_get all.mid.logs i ≡ Some log
@@ -213,8 +304,8 @@ module _ {D : Type 0} {tells : D → Option (List ℕ)} {clock : D → ℕ} {ima
   same_marks i begins log at there =
       let below = below_8 start i begins at start_many in
       let was = item_at old.logs i (omega (arith, below, stands.workers)) in
-      let bank = item_at before.even.items i (omega (arith, below, stands.whole.even)) in
-      let mid_bank = item_at all.between.even.items i (omega (arith, below, stands.whole.even, all.lines.first.banks_length)) in
+      let bank = item_at (growing_in old.side before) i (omega (arith, below, before_many)) in
+      let mid_bank = item_at (growing_in old.side all.between) i (omega (arith, below, between_many)) in
       let one = lines_at i all.lines.first start_up at there bank.1 mid_bank.1 in
       let is : idled (lines_of_worker round i) was.0 ≡ begins = same_Some _ begins (sym (idle i was.0 was.1) ∙ at) in
       let joined = all_at (IsJoined old.stands.clock.epoch) old.logs i was.0 ready.logs was.1 in
@@ -222,16 +313,47 @@ module _ {D : Type 0} {tells : D → Option (List ℕ)} {clock : D → ℕ} {ima
       mark_kept (lines_of_worker round i) old.stands.clock.epoch was.0 begins log is joined one.mark
       (λ none. all.lines.idle i p.0 begins log p.1 (all.lines.lines_each i p.0 p.1 ∙ none) at there)
 
-  module _ (stored : List Saved) (failed : Option Saved)
-      (keeps : Keeps tells clock image_at faults (SeenIn old.stands.clock.epoch
-      (epoch_joined (ran_of round old start all.kept new all.lines.parts failed report)) all.mid.logs new.logs) stored failed
-      old.save new.save before now)
-      (last : (w : ℕ) (lines log : LogState) (was is : D) → slice_get all.mid.logs w ≡ Some lines
-      → slice_get new.logs w ≡ Some log → slice_get all.between.even.items w ≡ Some was
-      → slice_get now.even.items w ≡ Some is → LastStep tells clock image_at faults old.stands.clock.epoch lines log was is)
-      (new_many : length new.logs ≡ 8) (now_many : length now.even.items ≡ 8) where
+  -- the causes of answers, of the run that is told
+  pub answers_caused : (logs : List LogState) (failed : Option Saved) (others : List Device)
+      → (is_some all.keeper.failed ≡ true → is_some failed ≡ true)
+      → ((device : Device) → all.keeper.broken ≡ Some device → Contains others device)
+      → AnswersCaused (ran_with tells clock image_at faults round old start new before now report all logs failed others)
+      (keeper_before (ran_with tells clock image_at faults round old start new before now report all logs failed others))
+      (keeper_lines round) report.keeper
+  answers_caused logs failed others fails told =
+      let ran : Ran = ran_with tells clock image_at faults round old start new before now report all logs failed others in
+      subst (λ k. AnswersCaused ran k (keeper_lines round) report.keeper) keeper_start
+      (all.keeper.caused ran (record {
+        marks = marks_of start all.mid.logs (start_many ∙ sym (all.lines.first.logs_length ∙ start_many)) same_marks;
+        odd = ap (λ (r : RuntimeState). is_odd r.side) (sym all.alone);
+        closed_at = ap (λ (r : RuntimeState). r.closed_at) (sym all.alone);
+        room = ap (λ (r : RuntimeState). r.room) (sym all.alone);
+        gleans_are = λ what has. has;
+        damage = λ damage is. is;
+        store = λ is. subst (λ b. Contains (devices_down old.side (are_down logs) b others) devices.Save) (sym (fails is))
+            (save_in old.side (are_down logs) others);
+        device = λ device is. others_in old.side (are_down logs) (is_some failed) others device (told device is);
+      }))
+
+  left_below : (i : ℕ) (p : Part) → slice_get parts i ≡ Some p → i < 8
+  left_below i p at = omega (arith, within_of parts i p at, all.lines.first.count)
+
+  left_of : (i : ℕ) (p : Part) → slice_get parts i ≡ Some p
+      → (begins : LogState) × (log : LogState)
+      × LeftAt old.stands.clock.epoch p begins log × (slice_get all.mid.logs i ≡ Some log) × (begins.journal.limit ≡ log_limit)
+  left_of i p at =
+      let below = left_below i p at in
+      let begins = item_at start i (omega (arith, below, start_many)) in
+      let log = item_at all.mid.logs i (omega (arith, below, start_many, all.lines.first.logs_length)) in
+      let bank = item_at (growing_in old.side before) i (omega (arith, below, before_many)) in
+      let mid_bank = item_at (growing_in old.side all.between) i (omega (arith, below, between_many)) in
+      let left = all.lines.first.each i p begins.0 log.0 bank.0 mid_bank.0 at begins.1 log.1 bank.1 mid_bank.1 in
+      (begins.0, log.0, record { refused = left.refused; limit = left.limit }, log.1, (start_up i begins.0 bank.0 begins.1 bank.1).limit)
+
+  module _ (logs : List LogState) (stored : List Saved) (failed : Option Saved) (others : List Device)
+      (ends : RoundEnds tells clock image_at faults round old start new before now report all logs stored failed others) where
     abbrev ran : Ran
-    ran = ran_of round old start all.kept new parts failed report
+    ran = ran_with tells clock image_at faults round old start new before now report all logs failed others
 
     of : IsRanOf round old.stands parts ran
     of = record {
@@ -245,94 +367,67 @@ module _ {D : Type 0} {tells : D → Option (List ℕ)} {clock : D → ℕ} {ima
       epoch = subst (λ e. AdvancesTo e report.keeper all.kept.stands.clock.epoch) mid_epoch all.keeper.advances;
     }
 
-    pub total : LogsTotal tells clock image_at faults (logged_at parts) start old.logs all.mid.logs new.logs before.even.items
-        now.even.items
-    total = logs_total all.lines.first start_up start_many stands.workers new_many stands.whole.even now_many some ready.logs
+    total : LogsTotal tells clock image_at faults (logged_at parts) start old.logs all.mid.logs logs (growing_in old.side before)
+        (growing_in old.side now)
+    total = logs_total all.lines.first start_up start_many stands.workers ends.logs_many before_many ends.now_many some ready.logs
         idle
         (λ w none. logged_none parts old.stands w all.lines.first.are
         (λ p at. append_nothing p.ran p.left (all.lines.lines_each w p at ∙ none)))
-        last
-
-    pub answers_caused : (is_some all.keeper.failed ≡ true → is_some failed ≡ true)
-        → AnswersCaused ran (keeper_before ran) (keeper_lines round) report.keeper
-    answers_caused fails = subst (λ k. AnswersCaused ran k (keeper_lines round) report.keeper) keeper_start
-        (all.keeper.caused ran (marks_of start all.mid.logs (start_many ∙ sym (all.lines.first.logs_length ∙ start_many)) same_marks)
-        (λ is. subst (λ b. Contains (devices_down (are_down new.logs) b) devices.Save) (sym (fails is))
-        (save_in (are_down new.logs))))
-
-    left_below : (i : ℕ) (p : Part) → slice_get parts i ≡ Some p → i < 8
-    left_below i p at = omega (arith, within_of parts i p at, all.lines.first.count)
-
-    left_of : (i : ℕ) (p : Part) → slice_get parts i ≡ Some p
-        → (begins : LogState) × (log : LogState)
-        × LeftAt old.stands.clock.epoch p begins log × (slice_get all.mid.logs i ≡ Some log) × (begins.journal.limit ≡ log_limit)
-    left_of i p at =
-        let below = left_below i p at in
-        let begins = item_at start i (omega (arith, below, start_many)) in
-        let log = item_at all.mid.logs i (omega (arith, below, start_many, all.lines.first.logs_length)) in
-        let bank = item_at before.even.items i (omega (arith, below, stands.whole.even)) in
-        let mid_bank = item_at all.between.even.items i (omega (arith, below, stands.whole.even, all.lines.first.banks_length)) in
-        let left = all.lines.first.each i p begins.0 log.0 bank.0 mid_bank.0 at begins.1 log.1 bank.1 mid_bank.1 in
-        (begins.0, log.0, record { refused = left.refused; limit = left.limit }, log.1, (start_up i begins.0 bank.0 begins.1 bank.1).limit)
+        ends.last
 
     -- all causes
-    caused : (is_some all.keeper.failed ≡ true → is_some failed ≡ true)
-        → ((w : ℕ) (lines log : LogState) → slice_get all.mid.logs w ≡ Some lines → slice_get new.logs w ≡ Some log
-        → is_some lines.journal.down ≡ true → is_some log.journal.down ≡ true)
-        → AllCaused ran
-    caused fails stays = record {
-      logs = logs_caused ran.devices 0 ran.logs
+    caused : AllCaused ran
+    caused = record {
+      logs = logs_caused ran.files ran.devices 0 ran.logs
           (λ i at.
           let p = map_at (λ (p : Part). p.refusal) parts i (Some LogFailed) at in
           let left = left_of i p.0 p.1 in
           let down = subst (λ r. IsRefusedBy r left.1.journal) p.2 left.2.refused in
-          let log = item_at new.logs i (omega (arith, left_below i p.0 p.1, new_many)) in
-          subst (λ n. Contains ran.devices (log_of n)) (at_first i)
-          (banks_in (are_down new.logs) (is_some failed) (devices.Bank (2 * i))
-          (bank_in 0 i i (are_down new.logs) (omega arith) (down_at new.logs i log.0 log.1 (stays i left.1 log.0 left.3 log.1 down)))))
+          let log = item_at logs i (omega (arith, left_below i p.0 p.1, ends.logs_many)) in
+          subst (λ n. Contains ran.devices (log_of ran.files n)) (at_first i)
+          (subst (Contains ran.devices) (sym (log_of_is old.side ran.files i refl))
+          (banks_in old.side (are_down logs) (is_some failed) others (devices.Bank (growing_number old.side i))
+          (bank_in old.side 0 i i (are_down logs) (omega arith) (down_at logs i log.0 log.1
+          (ends.stays i left.1 log.0 left.3 log.1 down))))))
           (λ i size at.
           let p = map_at (λ (p : Part). p.refusal) parts i (Some (LogFull size)) at in
           let left = left_of i p.0 p.1 in
           let full = subst (λ r. IsRefusedBy r left.1.journal) p.2 left.2.refused in
           omega (arith, full.1, left.2.limit, left.4));
       outcomes = plain_caused round old.stands parts ran of all.lines.first.are;
-      answers = answers_caused fails;
+      answers = answers_caused logs failed others ends.fails ends.told_others;
     }
 
-    -- A round that was run and joined, or not joined.
-    pub done : (is_some all.keeper.failed ≡ true → is_some failed ≡ true)
-        → ((w : ℕ) (lines log : LogState) → slice_get all.mid.logs w ≡ Some lines → slice_get new.logs w ≡ Some log
-        → is_some lines.journal.down ≡ true → is_some log.journal.down ≡ true)
-        → new.stands.decls ≡ all.kept.stands.decls → new.stands.state ≡ all.kept.stands.state
-        → report.durable ≡ durable_of ran → (report.end ≡ None → report.durable ≡ Some ran.end.epoch)
-        → report.end ≡ end_of ran
-        → new.stands.clock ≡ record { epoch = epoch_joined ran; draw = ran.end.draw }
-        → new.stands.ended ≡ is_some report.end → (ran.devices ≡ [] → new.down ≡ false)
-        → StandsOn tells clock image_at new now
-        → map (λ (s : Saved). s.epoch) stored ≡ saves_told report.keeper ++ option_to_list report.durable
-        → ((w : ℕ) (log : LogState) (refusal : Option LogRefusal) → slice_get new.logs w ≡ Some log
-        → slice_get ran.logs w ≡ Some refusal → IsRefusedBy refusal log.journal)
-        → ((w : ℕ) → w < 8 → Contains ran.devices (log_of w)
-        → (slice_get ran.logs w ≡ Some (Some LogFailed)) ⊎ (comes_to_advance ran ≡ true))
-        → NeverFall (epoch_of old.save.newest) (map (λ (s : Saved). s.epoch) (stored ++ option_to_list failed))
-        → (is_some failed ≡ true → ((keeper_at_end ran).refused ≡ true)
-        ⊎ ((comes_to_save ran ≡ true) × ((keeper_at_end ran).sequence < last_sequence)))
-        → Rounds tells clock image_at faults round old new before now (Ok report)
-    done fails stays decls state durable lasts end_is clock_is ended down stands_new told refused log_failed rise asked =
-        let run = λ (index : ℕ). plain_run index round old.stands parts ran new.stands.state of
-        (state ∙ ap (λ (x : Standing). x.state) all.keeper.stands ∙ ap (λ (x : Standing). x.state) all.lines.first.standing) in
-        let left = with_crashes stands.whole stands.workers
-        (length-map start (λ (log : LogState). log.mark.epoch ∷ []) ∙ start_many)
-        (leaves_vault ran (logged_at parts) start all.mid.logs old new before now stored failed total keeps
+    -- what it leaves of the vault, and of the crashes
+    left : ((disk : D) (file : List ℕ) → tells disk ≡ Some file → image_at disk (clock disk) file)
+        → (v : LeavesVault tells clock image_at faults ran (logged_at parts) old new before now)
+        × CarriesCrashes tells clock image_at (logged_at parts) (v.stored ++ option_to_list v.failed) ran old new before now
+    left reads = with_crashes reads stands (length-map start (λ (log : LogState). log.mark.epoch ∷ []) ∙ start_many)
+        (λ epoch is. sym ends.durable ∙ is)
+        (leaves_vault ran (logged_at parts) start all.mid.logs logs old new before now stored failed total ends.saves ends.keeps.newest
         (round_front start)
         (λ w below. logged_above parts old.stands w (epoch_of old.save.newest) all.lines.first.are stands.above)
-        stands_new refl told refused log_failed rise asked) in (
+        stands.whole stands.closed.workers ends.files ends.between_whole ends.rests
+        others ends.keeps ends.stands refl ends.beside ends.rose_others ends.quiet_snaps ends.quiet_closed
+        ends.gleans (λ what has. ap (λ (r : RuntimeState). some_counted r.counted) (sym all.alone)
+        ∙ all.keeper.needs.found what has) ends.sound ends.room ends.told ends.refused ends.log_failed ends.rise ends.asked)
+
+    -- A round that was run and joined, or not joined.
+    pub done : ((disk : D) (file : List ℕ) → tells disk ≡ Some file → image_at disk (clock disk) file)
+        → Rounds tells clock image_at faults round old new before now (Ok report)
+    done reads =
+        let made = left reads in
+        let run = λ (index : ℕ). plain_run index round old.stands parts ran new.stands.state of
+        (ends.state ∙ ap (λ (x : Standing). x.state) all.keeper.stands ∙ ap (λ (x : Standing). x.state) all.lines.first.standing) in (
           record {
             ran = ran;
             logged = logged_at parts;
-            reports = record { outcomes = refl; answers = refl; durable = refl; end = end_is };
+            reports = record { outcomes = refl; answers = refl; durable = refl; end = ends.end_is };
             begins = record {
               sequence = refl;
+              pages = refl;
+              room = refl;
+              files = refl;
               workers = length-map start (λ (log : LogState). log.mark.epoch ∷ []) ∙ start_many;
               marks = λ w log epochs at are.
                   subst (AreRoundMarks (lines_of_worker round w) log.mark.epoch old.stands.clock.epoch all.kept.stands.clock.epoch)
@@ -340,19 +435,19 @@ module _ {D : Type 0} {tells : D → Option (List ℕ)} {clock : D → ℕ} {ima
                   (round_marks (lines_of_worker round w) log old.stands.clock.epoch all.kept.stands.clock.epoch);
             };
             lines = record {
-              decls = decls ∙ ap (λ (x : Standing). x.decls) all.keeper.stands ∙ mid_decls;
+              decls = ends.decls ∙ ap (λ (x : Standing). x.decls) all.keeper.stands ∙ mid_decls;
               run = λ index. (run index).0;
-              caused = caused fails stays;
+              caused = caused;
               lines_are = λ w below. parts_lines parts old.stands w all.lines.first.are;
               logged_are = λ index w below. subst (λ es. AreLogged old.stands.decls w old.stands.state es (logged_at parts w))
                   (sym (run index).1) (parts_logged index 0 w w parts old.stands all.lines.first.are (omega arith));
             };
-            durable = durable;
-            lasts = lasts;
-            clock = clock_is;
-            ended = ended;
-            down = down;
+            durable = ends.durable;
+            lasts = ends.lasts;
+            clock = ends.clock_is;
+            ended = ends.ended;
+            down = ends.down;
           },
-          left.0,
-          left.1,
+          made.0,
+          made.1,
         )

@@ -1,51 +1,61 @@
 -- A round on the plain map that stopped for want of memory: a front of it was run.
-use Rattle.std.proofs.Common.{◌≡◌, ◌∙◌, ◌≤◌, ◌<◌, ◌+◌, ◌*◌, ◌⊎◌, ◌++◌, ◌∷◌, inl, inr, sym, ap, subst, refl, ℕ, zero, suc, List, []}
+use Rattle.std.proofs.Common.{◌≡◌, ◌∙◌, ◌≤◌, ◌<◌, ◌+◌, ◌⊎◌, ◌++◌, ◌∷◌, inl, inr, sym, ap, subst, refl, ℕ, zero, suc, List, []}
 use Rattle.std.proofs.Common.{length, map, true, false, Option, Some, None, arith}
-use Rattle.std.specs.Prelude.{is_some, slice_get, Err}
-use Rattle.std.specs.List.{Contains, filter_map}
+use Rattle.std.specs.Prelude.{option_to_list, ◌^◌, is_some, slice_get, Err}
+use Rattle.std.specs.List.{AllByRecursion, Contains, filter_map}
 use Rattle.std.proofs.lemmas.Bool.{cases_lt}
 use Rattle.std.proofs.lemmas.List.{append-nil, length-map}
 use Rattle.std.proofs.lemmas.Option.{same_Some}
 use Rattle.lists.specs.Each.{all_at}
+use Rattle.lists.specs.Elements.{in_none}
 use Rattle.lists.specs.Fronts.{IsFront, front_none}
 use Rattle.lists.specs.declared.memory.Memory.{Memory}
-use Rattle.outside.specs.Cuts.{disk_in-even}
+use Rattle.outside.specs.Reads.{OnlyReads}
+use Rattle.outside.specs.Vault.{IsWhole, disk_in}
+use Rattle.outside.specs.declared.vault.Device.{Device}
 use Rattle.outside.specs.declared.vault.Device.TheVariants as devices
 use Rattle.outside.specs.declared.vault.Vault.{Vault}
 use Rattle.serial_model.specs.declared.op.Op.{Op}
 use Rattle.script_grammar.specs.Script.{Line, Round, keeper_lines, lines_of_worker, ops_of_worker}
 use Rattle.script_grammar.specs.Script.{worker_lines}
 use Rattle.log_writer.specs.Points.{SaveState, sequence_of}
-use Rattle.recovery_core.specs.Images.{epoch_of}
 use Rattle.log_writer.specs.Save.{IsStored}
+use Rattle.snapshot_store.specs.Store.{StoreState}
+use Rattle.recovery_core.specs.Images.{epoch_of}
+use Rattle.recovery_core.specs.VaultReads.{reads_none}
 use Rattle.tx_script.specs.Causes.{LogsCaused, log_of}
 use Rattle.tx_script.specs.Run.{LogFailed, LogFull, Ran}
+use Rattle.tx_script.specs.declared.answer.Answer.TheVariants as answers
 use Rattle.wire_form.specs.declared.clock.Mark.{Mark}
 use Rattle.worker_logs.specs.Logs.{IsJoined, LogState, log_limit}
+use Rattle.worker_logs.specs.Saves.{growing_number}
+use Rattle.round_engine.specs.Crashes.{CarriesCrashes}
 use Rattle.round_engine.specs.Changes.{AreLogged}
+use Rattle.round_engine.specs.Gleans.{RoundGleans}
 use Rattle.round_engine.specs.Keeping.{Keeps}
 use Rattle.round_engine.specs.Logs.{IsRefusedBy}
 use Rattle.round_engine.specs.Parts.{AreParts, Part, after_parts, lines_in, logged_at, outcomes_of}
 use Rattle.round_engine.specs.Phases.{RunsSome}
 use Rattle.round_engine.specs.Plainly.{after_lines}
-use Rattle.round_engine.specs.RanRound.{AreRoundMarks, Rounds}
-use Rattle.round_engine.specs.Ends.{epoch_joined}
-use Rattle.round_engine.specs.Standing.{IsMarkBefore, IsReady, RuntimeState, Standing, StandsOn}
+use Rattle.round_engine.specs.RanRound.{AreRoundMarks, LeavesVault, Rounds, SwapsFiles}
+use Rattle.round_engine.specs.Sides.{closed_in, growing_in}
+use Rattle.round_engine.specs.Standing.{files_of, HasSnapshot, IsMarkBefore, IsReady, RuntimeState, Standing, StandsOn}
 use Rattle.round_engine.specs.Steps.{AreLogsUp, IsLogUp, KeepsMark}
 use Rattle.round_engine.specs.Workers.{idled}
-use Rattle.round_engine.proofs.Beside.{keeps_from, keeps_none}
-use Rattle.round_engine.proofs.Devices.{are_down, at_first, bank_down, bank_in, down_at, save_down}
+use Rattle.round_engine.proofs.CrashesLeft.{with_crashes}
+use Rattle.round_engine.proofs.Beside.{SameSaves, keeps_from, keeps_none}
+use Rattle.round_engine.proofs.Devices.{are_down, at_first, bank_down, bank_in, down_at, in_banks, save_down}
 use Rattle.round_engine.proofs.Ended.{devices_down}
 use Rattle.round_engine.proofs.Fronts.{lines_from, no_keepers, ran_at, ran_of as run_of}
 use Rattle.round_engine.proofs.LinesLeft.{LastStep, front_nothing, last_none, lines_at, logged_above, logged_none}
 use Rattle.round_engine.proofs.LinesLeft.{logs_total, logs_up}
 use Rattle.round_engine.proofs.Logged.{parts_lines, parts_logged}
+use Rattle.round_engine.proofs.Numbered.{closed_at, closed_many, growing_at, growing_many, log_of_is, whole_of}
 use Rattle.round_engine.proofs.PlainRun.{IsRanOf, plain_caused, plain_kept, plain_run}
 use Rattle.round_engine.proofs.Places.{all_from, map_there}
-use Rattle.round_engine.proofs.RoundCases.{before_later}
-use Rattle.round_engine.proofs.RoundDone.{idled_up, logs_caused, round_marks}
-use Rattle.round_engine.proofs.CrashesLeft.{with_crashes}
-use Rattle.round_engine.proofs.Whole.{LogsTotal, SeenIn, below_8, epochs_at, first_epochs, leaves_vault, round_front}
+use Rattle.round_engine.proofs.JoinEnds.{before_later}
+use Rattle.round_engine.proofs.RoundDone.{idled_up, logs_caused, round_marks, same_closed_in}
+use Rattle.round_engine.proofs.Whole.{LogsTotal, below_8, epochs_at, first_epochs, leaves_vault, round_front}
 use Rattle.round_engine.proofs.WorkersRun.{item_at, map_at, within_of}
 
 -- ---- eight parts
@@ -192,15 +202,49 @@ module _ {D : Type 0} {tells : D → Option (List ℕ)} {clock : D → ℕ} {ima
     answers = [];
     durable = None;
     sequence = sequence_of old.save.newest;
+    pages = length old.store.pages;
+    room = old.room;
+    files = files_of old;
     marks = first_epochs start;
     logs = map (λ (p : Part). p.refusal) eight;
-    devices = devices_down (are_down mid.logs) false;
+    gleans = [];
+    devices = devices_down old.side (are_down mid.logs) false [];
+    damaged = None;
   }
 
   few : length parts ≤ 8
   few = omega (arith, part.first.count, part.within)
 
-  start_up : AreLogsUp tells start before.even.items
+  before_many : length (growing_in old.side before) ≡ 8
+  before_many = growing_many old.side before stands.whole
+
+  mid_side : mid.side ≡ old.side
+  mid_side = ap (λ (r : RuntimeState). r.side) part.alone
+
+  mid_save : mid.save ≡ old.save
+  mid_save = ap (λ (r : RuntimeState). r.save) part.alone
+
+  mid_store : mid.store ≡ old.store
+  mid_store = ap (λ (r : RuntimeState). r.store) part.alone
+
+  -- nothing but the growing log files was touched
+  same_saves : SameSaves before now
+  same_saves = record {
+    save = part.beside.save ∙ part.room.save;
+    snaps = part.beside.snaps ∙ part.room.snaps;
+    ties = ap (λ v. v.items) part.beside.ties ∙ part.room.ties;
+  }
+
+  closed_same : closed_in old.side now ≡ closed_in old.side before
+  closed_same = part.beside.closed ∙ same_closed_in old.side before part.lent part.room
+
+  now_many : length (growing_in old.side now) ≡ 8
+  now_many = part.first.banks_length ∙ before_many
+
+  now_whole : IsWhole now
+  now_whole = whole_of old.side now now_many (ap length closed_same ∙ closed_many old.side before stands.whole)
+
+  start_up : AreLogsUp tells start (growing_in old.side before)
   start_up w log bank at bank_at =
       let was = item_at old.logs w (omega (arith, below_8 start w log at start_many, stands.workers)) in
       let up = logs_up stands (stands.up ready.up) w was.0 bank was.1 bank_at in
@@ -237,10 +281,10 @@ module _ {D : Type 0} {tells : D → Option (List ℕ)} {clock : D → ℕ} {ima
     epoch = ap (λ (x : Standing). x.clock.epoch) standing ∙ (plain_kept eight old.stands).1;
   }
 
-  total : LogsTotal tells clock image_at faults (logged_at parts) start old.logs mid.logs mid.logs before.even.items
-      now.even.items
-  total = logs_total part.first start_up start_many stands.workers (part.first.logs_length ∙ start_many) stands.whole.even
-      (part.first.banks_length ∙ stands.whole.even) some ready.logs idle
+  total : LogsTotal tells clock image_at faults (logged_at parts) start old.logs mid.logs mid.logs (growing_in old.side before)
+      (growing_in old.side now)
+  total = logs_total part.first start_up start_many stands.workers (part.first.logs_length ∙ start_many) before_many
+      (part.first.banks_length ∙ before_many) some ready.logs idle
       (λ w none. logged_none parts old.stands w part.first.are
       (λ p at. front_nothing p.ran (lines_of_worker round w) (part.fronts w p at).0 none))
       (λ w lines log was is at there bank bank_now.
@@ -249,13 +293,11 @@ module _ {D : Type 0} {tells : D → Option (List ℕ)} {clock : D → ℕ} {ima
       (subst (λ x. LastStep tells clock image_at faults old.stands.clock.epoch lines lines was x)
       (same_Some was is (sym bank ∙ bank_now)) (last_none old.stands.clock.epoch lines was)))
 
-  keeps : Keeps tells clock image_at faults (SeenIn old.stands.clock.epoch (epoch_joined ran) mid.logs mid.logs) [] None old.save
-      mid.save before now
-  keeps = keeps_from part.beside part.save
-      (subst (λ s. Keeps tells clock image_at faults (SeenIn old.stands.clock.epoch (epoch_joined ran) mid.logs mid.logs) [] None s s
-      now now) (sym part.save)
-      (keeps_none old.save now (stands.up ready.up).save
-      (subst (λ d. IsStored tells clock image_at d old.save.newest) (sym part.beside.save)
+  keeps : Keeps tells clock image_at faults [] None old new before now
+  keeps = keeps_from same_saves mid_save mid_store
+      (keeps_none new now (ap (λ (s : SaveState). s.down) mid_save ∙ (stands.up ready.up).save)
+      (subst (λ d. IsStored tells clock image_at d new.save.newest) (sym same_saves.save)
+      (subst (λ (s : SaveState). IsStored tells clock image_at before.save s.newest) (sym mid_save)
       (stands.stored (stands.up ready.up).save))))
 
   -- what a part tells of its log
@@ -264,8 +306,8 @@ module _ {D : Type 0} {tells : D → Option (List ℕ)} {clock : D → ℕ} {ima
   refused_at w p log at there =
       let below : w < 8 = omega (arith, within_of parts w p at, few) in
       let begins = item_at start w (omega (arith, below, start_many)) in
-      let bank = item_at before.even.items w (omega (arith, below, stands.whole.even)) in
-      let mid_bank = item_at now.even.items w (omega (arith, below, stands.whole.even, part.first.banks_length)) in
+      let bank = item_at (growing_in old.side before) w (omega (arith, below, before_many)) in
+      let mid_bank = item_at (growing_in old.side now) w (omega (arith, below, before_many, part.first.banks_length)) in
       let left = part.first.each w p begins.0 log bank.0 mid_bank.0 at begins.1 there bank.1 mid_bank.1 in
       (left.refused, left.limit ∙ (start_up w begins.0 bank.0 begins.1 bank.1).limit)
 
@@ -273,25 +315,26 @@ module _ {D : Type 0} {tells : D → Option (List ℕ)} {clock : D → ℕ} {ima
   untouched : (w : ℕ) (log : LogState) → length parts ≤ w → slice_get mid.logs w ≡ Some log → log.journal.down ≡ None
   untouched w log past at =
       let below = below_8 mid.logs w log at (part.first.logs_length ∙ start_many) in
-      let bank = item_at before.even.items w (omega (arith, below, stands.whole.even)) in
+      let bank = item_at (growing_in old.side before) w (omega (arith, below, before_many)) in
       (start_up w log bank.0 (sym (part.first.rest_logs w (omega (arith, past, part.first.count))) ∙ at) bank.1).up
 
-  failed_at : (w : ℕ) → w < 8 → Contains ran.devices (devices.Bank (2 * w)) → slice_get ran.logs w ≡ Some (Some LogFailed)
+  failed_at : (w : ℕ) → w < 8 → Contains ran.devices (devices.Bank (growing_number old.side w)) → slice_get ran.logs w ≡ Some (Some LogFailed)
   failed_at w below has =
-      let at = map_at (λ (l : LogState). is_some l.journal.down) mid.logs w true (bank_down (are_down mid.logs) false w has) in
+      let at = map_at (λ (l : LogState). is_some l.journal.down) mid.logs w true (bank_down old.side (are_down mid.logs) false [] w
+      (λ none. in_none (devices.Bank (growing_number old.side w)) none) has) in
       elim (cases_lt w (length parts)) [
         | inr past ↦ absurd (let no = sym at.2 ∙ ap is_some (untouched w at.0 past at.1) in cc)
         | inl within ↦
             let p = item_at parts w within in
             let begins = item_at start w (omega (arith, below, start_many)) in
-            let bank = item_at before.even.items w (omega (arith, below, stands.whole.even)) in
-            let mid_bank = item_at now.even.items w (omega (arith, below, stands.whole.even, part.first.banks_length)) in
+            let bank = item_at (growing_in old.side before) w (omega (arith, below, before_many)) in
+            let mid_bank = item_at (growing_in old.side now) w (omega (arith, below, before_many, part.first.banks_length)) in
             let left = part.first.each w p.0 begins.0 at.0 bank.0 mid_bank.0 p.1 begins.1 at.1 bank.1 mid_bank.1 in
             map_there (λ (q : Part). q.refusal) eight w p.0 (pad_some 8 parts w p.0 few p.1) ∙ ap Some (left.failed at.2)
       ]
 
-  logs_caused_so : LogsCaused ran.devices 0 ran.logs
-  logs_caused_so = logs_caused ran.devices 0 ran.logs
+  logs_caused_so : LogsCaused ran.files ran.devices 0 ran.logs
+  logs_caused_so = logs_caused ran.files ran.devices 0 ran.logs
       (λ i at.
       let p = map_at (λ (p : Part). p.refusal) eight i (Some LogFailed) at in
       elim (pad_at 8 parts i p.0 p.1) [
@@ -299,8 +342,9 @@ module _ {D : Type 0} {tells : D → Option (List ℕ)} {clock : D → ℕ} {ima
         | inl there ↦
             let log = item_at mid.logs i (omega (arith, within_of parts i p.0 there, few, part.first.logs_length, start_many)) in
             let down = subst (λ r. IsRefusedBy r log.0.journal) p.2 (refused_at i p.0 log.0 there log.1).0 in
-            subst (λ n. Contains ran.devices (log_of n)) (at_first i)
-            (bank_in 0 i i (are_down mid.logs) (omega arith) (down_at mid.logs i log.0 log.1 down))
+            subst (λ n. Contains ran.devices (log_of ran.files n)) (at_first i)
+            (subst (Contains ran.devices) (sym (log_of_is old.side ran.files i refl))
+            (bank_in old.side 0 i i (are_down mid.logs) (omega arith) (down_at mid.logs i log.0 log.1 down)))
       ])
       (λ i size at.
       let p = map_at (λ (p : Part). p.refusal) eight i (Some (LogFull size)) at in
@@ -315,21 +359,18 @@ module _ {D : Type 0} {tells : D → Option (List ℕ)} {clock : D → ℕ} {ima
 
   stands_new : StandsOn tells clock image_at new now
   stands_new = record {
-    whole = record {
-      even = part.first.banks_length ∙ stands.whole.even;
-      odd = ap (λ v. length v.items) part.beside.odd ∙ stands.whole.odd;
-    };
+    whole = now_whole;
     workers = part.first.logs_length ∙ start_many;
     limits = all_from (λ (l : LogState). l.journal.limit ≡ log_limit) mid.logs (λ w log at.
         let below = below_8 mid.logs w log at (part.first.logs_length ∙ start_many) in
         let begins = item_at start w (omega (arith, below, start_many)) in
-        let was = item_at before.even.items w (omega (arith, below, stands.whole.even)) in
-        let bank = item_at now.even.items w (omega (arith, below, stands.whole.even, part.first.banks_length)) in
+        let was = item_at (growing_in old.side before) w (omega (arith, below, before_many)) in
+        let bank = item_at (growing_in old.side now) w (omega (arith, below, before_many, part.first.banks_length)) in
         (lines_at w part.first start_up begins.1 at was.1 bank.1).limit ∙ (start_up w begins.0 was.0 begins.1 was.1).limit);
     above = omega (
       arith,
       stands.above,
-      ap (λ (x : SaveState). epoch_of x.newest) part.save,
+      ap (λ (x : SaveState). epoch_of x.newest) mid_save,
       ap (λ (x : Standing). x.clock.epoch) standing,
       (plain_kept eight old.stands).1,
     );
@@ -337,40 +378,122 @@ module _ {D : Type 0} {tells : D → Option (List ℕ)} {clock : D → ℕ} {ima
         let below = below_8 mid.logs w log at (part.first.logs_length ∙ start_many) in
         let begins = item_at start w (omega (arith, below, start_many)) in
         let was = item_at old.logs w (omega (arith, below, stands.workers)) in
-        let bank = item_at before.even.items w (omega (arith, below, stands.whole.even)) in
-        let mid_bank = item_at now.even.items w (omega (arith, below, stands.whole.even, part.first.banks_length)) in
+        let bank = item_at (growing_in old.side before) w (omega (arith, below, before_many)) in
+        let mid_bank = item_at (growing_in old.side now) w (omega (arith, below, before_many, part.first.banks_length)) in
         let joined = all_at (IsJoined old.stands.clock.epoch) old.logs w was.0 ready.logs was.1 in
         let is : idled (lines_of_worker round w) was.0 ≡ begins.0 = same_Some _ begins.0 (sym (idle w was.0 was.1) ∙ begins.1) in
         before_later log.mark.epoch old.stands.clock.epoch mid.stands.clock.epoch
         (omega (arith, ap (λ (x : Standing). x.clock.epoch) standing, (plain_kept eight old.stands).1))
         (mark_stopped (lines_of_worker round w) was.0 begins.0 log old.stands.clock.epoch some joined is
         (lines_at w part.first start_up begins.1 at bank.1 mid_bank.1).mark));
+    closed = record {
+      workers = ap (λ (r : RuntimeState). length r.counted) part.alone ∙ stands.closed.workers;
+      counted = subst (λ (r : RuntimeState). AllByRecursion (λ n. n < 2 ^ 40) r.counted) (sym part.alone) stands.closed.counted;
+      before = omega (
+        arith,
+        ap (λ (r : RuntimeState). r.closed_at) part.alone,
+        stands.closed.before,
+        ap (λ (x : Standing). x.clock.epoch) standing,
+        (plain_kept eight old.stands).1,
+      );
+    };
+    most_pages = omega (arith, ap (λ (r : RuntimeState). r.room) part.alone, stands.most_pages);
     up = λ up. absurd (let no = up in cc);
     goes_on = λ on. absurd (let no = on in cc);
     stored = keeps.stands;
+    snapshot = λ sound.
+        let has = stands.snapshot (stands.up ready.up).store in
+        subst (λ d. HasSnapshot tells new d) (sym same_saves.snaps)
+        (subst (λ (r : RuntimeState). HasSnapshot tells (record r { stands = record r.stands { ended = true }; down = true }) before.snaps)
+        (sym part.alone) (record {
+          holds = has.holds;
+          contents = has.contents;
+          stands = has.stands;
+          decls = ap (λ (x : Standing). x.decls) standing ∙ (plain_kept eight old.stands).0 ∙ has.decls;
+          up_to = has.up_to;
+          earlier = has.earlier;
+          let_in = has.let_in;
+        }));
     reaches = λ w log bank at there.
         let below = below_8 mid.logs w log at (part.first.logs_length ∙ start_many) in
         let begins = item_at start w (omega (arith, below, start_many)) in
-        let was = item_at before.even.items w (omega (arith, below, stands.whole.even)) in
-        (lines_at w part.first start_up begins.1 at was.1 (sym (disk_in-even now w) ∙ there)).reaches;
+        let was = item_at (growing_in old.side before) w (omega (arith, below, before_many)) in
+        (lines_at w part.first start_up begins.1 at was.1 (sym (growing_at old.side now w)
+        ∙ ap (λ s. disk_in now (devices.Bank (growing_number s w))) (sym mid_side) ∙ there)).reaches;
   }
 
-  pub stopped : (memory : Memory) → Rounds tells clock image_at faults round old new before now (Err memory)
-  stopped memory =
-      let run = λ (index : ℕ). plain_run index front old.stands eight ran mid.stands.state of
-      (ap (λ (x : Standing). x.state) standing) in
-      let left = with_crashes stands.whole stands.workers
-      (length-map start (λ (log : LogState). log.mark.epoch ∷ []) ∙ start_many)
-      (leaves_vault ran (logged_at parts) start mid.logs old new before now [] None total keeps (round_front start)
+  -- nothing of the vault but the growing log files
+  files : SwapsFiles tells clock image_at faults ran mid.logs old new before now
+  files = record {
+    between = now;
+    reads = λ w was is at there.
+        let same : is ≡ was = same_Some is was (sym there ∙ closed_at old.side now w ∙ ap (λ l. slice_get l w) closed_same
+        ∙ sym (closed_at old.side before w) ∙ at) in
+        subst (λ d. OnlyReads tells clock image_at faults was d) (sym same) (reads_none was);
+    uncut = ap (λ v. v.items) part.beside.cuts ∙ part.room.cuts;
+    left = λ no. refl;
+    cut = λ is. absurd (let no = is in cc);
+    nothing = λ is w below. absurd (let no = is in cc);
+    side = mid_side;
+    counted = ap (λ (r : RuntimeState). r.counted) part.alone;
+    closed_at = ap (λ (r : RuntimeState). r.closed_at) part.alone;
+    logs_are = refl;
+  }
+
+  gleans_none : RoundGleans tells [] [] None old new before now
+  gleans_none = record {
+    told = ap (λ d. is_some (tells d)) same_saves.snaps;
+    found = λ what has. absurd (in_none what has);
+    made = λ epoch count has. absurd (in_none (answers.Snap epoch count) has);
+    kept = λ not sound. (mid_store, same_saves.snaps);
+    damage = λ device at is. absurd cc;
+    undamaged = λ not. refl;
+    many = λ sound. ap (λ (s : StoreState). length s.pages) mid_store;
+  }
+
+  -- just growing log files failed
+  only_log : (device : Device) → Contains ran.devices device → (w : ℕ) × (w < 8) × (device ≡ log_of ran.files w)
+  only_log device has =
+      let at = in_banks old.side 0 (are_down mid.logs) device has in
+      let here : at.0 ≡ at.1 = omega (arith, at.2) in
+      let log = map_at (λ (l : LogState). is_some l.journal.down) mid.logs at.1 true
+      (subst (λ k. slice_get (are_down mid.logs) k ≡ Some true) here at.3) in (
+        at.1,
+        below_8 mid.logs at.1 log.0 log.1 (part.first.logs_length ∙ start_many),
+        sym at.4 ∙ sym (log_of_is old.side ran.files at.1 refl),
+      )
+
+  -- what it leaves of the vault, and of the crashes
+  left : ((disk : D) (file : List ℕ) → tells disk ≡ Some file → image_at disk (clock disk) file)
+      → (v : LeavesVault tells clock image_at faults ran (logged_at parts) old new before now)
+      × CarriesCrashes tells clock image_at (logged_at parts) (v.stored ++ option_to_list v.failed) ran old new before now
+  unfolding files
+  left reads = with_crashes reads stands (length-map start (λ (log : LogState). log.mark.epoch ∷ []) ∙ start_many)
+      (λ epoch is. absurd (let no = is in cc))
+      (leaves_vault ran (logged_at parts) start mid.logs mid.logs old new before now [] None total
+      (record { lines = []; rest = []; all = refl; told = refl; behind = tt }) keeps.newest (round_front start)
       (λ w below. logged_above parts old.stands w (epoch_of old.save.newest) part.first.are stands.above)
-      stands_new refl refl
+      stands.whole stands.closed.workers files now_whole (λ is. absurd (let no = is in cc))
+      [] keeps stands_new refl (λ device has. absurd (in_none device has)) (λ device has. absurd (in_none device has))
+      (λ not. ap faults same_saves.snaps)
+      (λ w was is at there not. ap faults (same_Some is was (sym there ∙ ap (λ l. slice_get l w) closed_same ∙ at)))
+      gleans_none (λ what has. absurd (in_none what has)) (λ not. ap (λ (s : StoreState). s.sound) mid_store ∙ (stands.up ready.up).store)
+      (ap (λ (r : RuntimeState). r.room) part.alone) refl
       (λ w log refusal at has.
       let p = map_at (λ (p : Part). p.refusal) eight w refusal has in
       elim (pad_at 8 parts w p.0 p.1) [
         | inr none ↦ subst (λ r. IsRefusedBy r log.journal) (sym none.0 ∙ p.2) (untouched w log none.1 at)
         | inl there ↦ subst (λ r. IsRefusedBy r log.journal) p.2 (refused_at w p.0 log there at).0
       ])
-      (λ w below has. inl (failed_at w below has)) tt (λ is. absurd (let no = is in cc))) in (
+      (λ w below has. inl (failed_at w below (subst (Contains ran.devices) (log_of_is old.side ran.files w refl) has))) tt (λ is. absurd (let no = is in cc)))
+
+  pub stopped : ((disk : D) (file : List ℕ) → tells disk ≡ Some file → image_at disk (clock disk) file)
+      → (memory : Memory) → Rounds tells clock image_at faults round old new before now (Err memory)
+  unfolding files
+  stopped reads memory =
+      let made = left reads in
+      let run = λ (index : ℕ). plain_run index front old.stands eight ran mid.stands.state of
+      (ap (λ (x : Standing). x.state) standing) in (
         record {
           front = front;
           first = record {
@@ -381,6 +504,9 @@ module _ {D : Type 0} {tells : D → Option (List ℕ)} {clock : D → ℕ} {ima
           logged = logged_at parts;
           begins = record {
             sequence = refl;
+            pages = refl;
+            room = refl;
+            files = refl;
             workers = length-map start (λ (log : LogState). log.mark.epoch ∷ []) ∙ start_many;
             marks = λ w log epochs at are.
                 subst (AreRoundMarks (lines_of_worker round w) log.mark.epoch old.stands.clock.epoch mid.stands.clock.epoch)
@@ -402,12 +528,14 @@ module _ {D : Type 0} {tells : D → Option (List ℕ)} {clock : D → ℕ} {ima
                 (parts_logged index 0 w w eight old.stands (pad_are 8 parts old.stands part.first.are) (omega arith)));
           };
           unanswered = refl;
-          unstored = λ has. let no = save_down (are_down mid.logs) false has in cc;
-          log_failed = failed_at;
+          unstored = λ has. let no = save_down old.side (are_down mid.logs) false []
+              (λ none. in_none devices.Save none) has in cc;
+          only_logs = λ device has. only_log device has;
+          log_failed = λ w below has. failed_at w below (subst (Contains ran.devices) (log_of_is old.side ran.files w refl) has);
           durable = refl;
           clock = refl;
           ended = refl;
         },
-        left.0,
-        left.1,
+        made.0,
+        made.1,
       )

@@ -1,7 +1,7 @@
 -- A round that was run to its end, whichever way its join went; and what the plain map gives besides.
-use Rattle.std.proofs.Common.{◌≡◌, ◌∙◌, ◌≤◌, ◌∷◌, inl, inr, sym, ap, subst, refl, ℕ, List, [], length, Bool, true, false}
+use Rattle.std.proofs.Common.{◌≡◌, ◌∙◌, ◌≤◌, ◌∷◌, inl, inr, sym, ap, subst, refl, ℕ, List, [], length}
 use Rattle.std.proofs.Common.{Option, Some, None, arith}
-use Rattle.std.specs.Prelude.{◌||◌, flat_map, is_some, slice_get, Ok}
+use Rattle.std.specs.Prelude.{flat_map, slice_get, Result, Ok, Err}
 use Rattle.std.specs.List.{AllByRecursion}
 use Rattle.std.proofs.lemmas.Option.{same_Some}
 use Rattle.lists.specs.Each.{all_at}
@@ -10,42 +10,27 @@ use Rattle.serial_model.specs.declared.op.Op.{Op}
 use Rattle.script_grammar.specs.Script.{Round, lines_of_worker, worker_lines}
 use Rattle.tx_script.specs.Run.{AdvancesTo, Ran, entries_of_workers}
 use Rattle.worker_logs.specs.Logs.{IsJoined, LogState}
+use Rattle.round_engine.specs.Keeping.{CanKeep}
 use Rattle.round_engine.specs.Parts.{outcomes_of}
-use Rattle.round_engine.specs.Phases.{RunsAll, ended_as}
+use Rattle.round_engine.specs.Phases.{RunsAll, SwapsBehind}
 use Rattle.round_engine.specs.Plainly.{AreConsecutive, DrawsFew, DrawsTo}
 use Rattle.round_engine.specs.RanRound.{Rounds}
 use Rattle.round_engine.specs.Standing.{IsReady, RuntimeState, Standing, StandsOn}
+use Rattle.round_engine.specs.Sides.{growing_in}
 use Rattle.round_engine.specs.Steps.{AreLogsUp, IsLogUp}
+use Rattle.round_engine.specs.Swaps.{turned_unless}
 use Rattle.round_engine.specs.Workers.{idled}
+use Rattle.round_engine.specs.declared.report.End.{End}
 use Rattle.round_engine.specs.declared.report.Report.{Report}
 use Rattle.round_engine.proofs.Drawn.{parts_draw}
 use Rattle.round_engine.proofs.PlainRun.{IsRanOf, plain_consecutive, plain_few, plain_kept}
 use Rattle.round_engine.proofs.LinesLeft.{logs_up}
 use Rattle.round_engine.proofs.Places.{all_from}
-use Rattle.round_engine.proofs.RoundCases.{joined_round, left_out}
+use Rattle.round_engine.proofs.RoundCases.{left_out}
 use Rattle.round_engine.proofs.RoundDone.{idled_up, ran_of}
+use Rattle.round_engine.proofs.RoundJoined.{joined_round}
 use Rattle.round_engine.proofs.Whole.{below_8}
 use Rattle.round_engine.proofs.WorkersRun.{item_at}
-
--- ---- the end of a run
-
-pub or_none : (b : Bool) → b ≡ (b || false)
-or_none true = refl
-or_none false = refl
-
-pub or_some : (b : Bool) → true ≡ (b || true)
-or_some true = refl
-or_some false = refl
-
--- a runtime that goes on as it did
-pub goes_on_as : (r : RuntimeState) (ended : Bool) → r.stands.ended ≡ ended → r.down ≡ false
-    → r ≡ ended_as r (ended || false) false
-goes_on_as r ended same up =
-    ap (λ d. ended_as r r.stands.ended d) up ∙ ap (λ b. ended_as r b false) (same ∙ or_none ended)
-
--- an end is one
-pub or_there : {X : Type 0} (b : Bool) (x : Option X) → is_some x ≡ true → true ≡ (b || is_some x)
-or_there b x is = or_some b ∙ ap (λ y. b || y) (sym is)
 
 -- ---- the logs as a round begins
 
@@ -58,7 +43,7 @@ module _ {D : Type 0} {tells : D → Option (List ℕ)} {clock : D → ℕ} {ima
     (stands : StandsOn tells clock image_at old before) (ready : IsReady old) (start_many : length start ≡ 8)
     (idle : (w : ℕ) (log : LogState) → slice_get old.logs w ≡ Some log
     → slice_get start w ≡ Some (idled (lines_of_worker round w) log)) where
-  pub start_ups : AreLogsUp tells start before.even.items
+  pub start_ups : AreLogsUp tells start (growing_in old.side before)
   start_ups w log bank at bank_at =
       let was = item_at old.logs w (omega (arith, below_8 start w log at start_many, stands.workers)) in
       let up = logs_up stands (stands.up ready.up) w was.0 bank was.1 bank_at in
@@ -72,6 +57,30 @@ module _ {D : Type 0} {tells : D → Option (List ℕ)} {clock : D → ℕ} {ima
       let same : idled (lines_of_worker round w) was.0 ≡ log = same_Some _ log (sym (idle w was.0 was.1) ∙ at) in
       subst (λ (l : LogState). l.journal.lines ≡ []) same (idled_flushed (lines_of_worker round w) was.0 joined.flushed))
 
+  -- and the stores are up
+  pub start_can : CanKeep tells clock image_at (record old { logs = start }) before
+  start_can =
+      let up = stands.up ready.up in
+      let has = stands.snapshot up.store in
+      record {
+        whole = stands.whole;
+        workers = start_many;
+        up = up.save;
+        stored = stands.stored up.save;
+        closed = record { workers = stands.closed.workers; counted = stands.closed.counted; before = stands.closed.before };
+        most_pages = stands.most_pages;
+        sound = up.store;
+        snapshot = record {
+          holds = has.holds;
+          contents = has.contents;
+          stands = has.stands;
+          decls = has.decls;
+          up_to = has.up_to;
+          earlier = has.earlier;
+          let_in = has.let_in;
+        };
+      }
+
 -- ---- a round
 
 module _ {D : Type 0} {tells : D → Option (List ℕ)} {clock : D → ℕ} {image_at : D → ℕ → List ℕ → Type 0}
@@ -82,21 +91,39 @@ module _ {D : Type 0} {tells : D → Option (List ℕ)} {clock : D → ℕ} {ima
     (idle : (w : ℕ) (log : LogState) → slice_get old.logs w ≡ Some log
     → slice_get start w ≡ Some (idled (lines_of_worker round w) log))
     (all : RunsAll tells clock image_at faults round (record old { logs = start }) new before now report) where
-  pub whole : Rounds tells clock image_at faults round old new before now (Ok report)
-  whole = elim all.join [
-    | inl out ↦ left_out stands ready some start_many idle all out.0 out.1 out.2 out.3 out.4
-    | inr is ↦ joined_round stands ready some start_many idle all is.0 is.1 is.2 is.3 is.4 is.5 is.6
+  pub whole : ((disk : D) (file : List ℕ) → tells disk ≡ Some file → image_at disk (clock disk) file)
+      → Rounds tells clock image_at faults round old new before now (Ok report)
+  whole reads = elim all.join [
+    | inl out ↦ left_out stands ready some start_many idle all out.0 out.1 out.2 out.3 out.4 reads
+    | inr is ↦ joined_round stands ready some start_many idle all is.0 is.1 is.2 is.3 is.4 is.5 reads
   ]
 
-  -- the join draws nothing
+  -- neither the join nor the swap draws anything
+  swap_draws : (result : Result ℕ End) (joined swapped : RuntimeState) (between : Vault D) (cut_end : Option End)
+      → SwapsBehind tells clock image_at faults result joined swapped between now cut_end
+      → swapped.stands.clock.draw ≡ joined.stands.clock.draw
+  swap_draws (Err end) joined swapped between cut_end swaps = ap (λ (r : RuntimeState). r.stands.clock.draw) swaps.0
+  swap_draws (Ok epoch) joined swapped between cut_end swaps = elim swaps [
+    | inl some ↦ ap (λ (r : RuntimeState). r.stands.clock.draw) some.1
+    | inr tried ↦ ap (λ (r : RuntimeState). r.stands.clock.draw) tried.3 ∙ by_cut tried.1
+  ]
+    where
+      by_cut : (cut : Option ℕ) → (turned_unless cut epoch joined).stands.clock.draw ≡ joined.stands.clock.draw
+      by_cut None = refl
+      by_cut (Some n) = refl
+
   drawn : new.stands.clock.draw ≡ all.kept.stands.clock.draw
   drawn = elim all.join [
     | inl out ↦ ap (λ (r : RuntimeState). r.stands.clock.draw) out.4
-    | inr is ↦ ap (λ (r : RuntimeState). r.stands.clock.draw) is.6 ∙ ap (λ (s : Standing). s.clock.draw) is.3.stands
+    | inr is ↦
+        let js = is.3 in
+        ap (λ (r : RuntimeState). r.stands.clock.draw) is.5
+        ∙ swap_draws js.result js.joined is.1 js.between js.cut_end js.swaps
+        ∙ ap (λ (s : Standing). s.clock.draw) js.joins.stands
   ]
 
   abbrev ran : Ran
-  ran = ran_of round old start all.kept new all.lines.parts None report
+  ran = ran_of round old start all.kept start all.lines.parts None [] [] None report
 
   of : IsRanOf round old.stands all.lines.parts ran
   of = record {

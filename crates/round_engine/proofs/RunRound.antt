@@ -1,119 +1,225 @@
 -- The phases of a round, put together from its calls.
-use Rattle.std.proofs.Common.{◌≡◌, ◌∙◌, sym, ap, subst, refl, ℕ, List, [], length, false, Option, None, arith}
-use Rattle.std.specs.Prelude.{is_some, Err}
-use Rattle.std.specs.List.{list_any}
+use Rattle.std.proofs.Common.{◌≡◌, ◌∙◌, ◌<◌, sym, ap, subst, refl, ℕ, List, [], length, false, true}
+use Rattle.std.proofs.Common.{Option, None, arith}
+use Rattle.std.specs.Prelude.{◌^◌, is_some, Err}
+use Rattle.std.specs.List.{AllByRecursion}
 use Rattle.std.proofs.lemmas.List.{length-map}
 use Rattle.lists.specs.declared.memory.Memory.{Memory}
 use Rattle.outside.specs.Vault.{IsWhole}
 use Rattle.outside.specs.declared.vault.Vault.{Vault}
 use Rattle.script_grammar.specs.Script.{Round, keeper_lines}
-use Rattle.tx_script.specs.Causes.{KeeperAt}
+use Rattle.log_writer.specs.Save.{IsStored}
 use Rattle.tx_script.specs.declared.answer.Answer.{Answer}
 use Rattle.tx_script.specs.declared.outcome.Outcome.{Outcome}
 use Rattle.worker_logs.specs.Logs.{LogState}
-use Rattle.round_engine.specs.Keeping.{RunsKeeper, is_refusal, keeper_on}
+use Rattle.worker_logs.specs.declared.savepoints.Side.{Side}
+use Rattle.worker_logs.specs.declared.savepoints.Side.TheVariants.{Even, Odd}
+use Rattle.round_engine.specs.Keeping.{CanKeep, RunsKeeper}
 use Rattle.round_engine.specs.Parts.{Part}
-use Rattle.round_engine.specs.Phases.{IsReadyToJoin, RunsSome, SameBeside}
-use Rattle.round_engine.specs.Refusals.{device_refused, first_failed, leaves_out}
-use Rattle.round_engine.specs.Standing.{RuntimeState, Standing}
+use Rattle.round_engine.specs.Phases.{IsReadyToJoin, RoomAlone, RunsSome}
+use Rattle.round_engine.specs.Refusals.{device_in, device_refused, first_failed, leaves_out}
+use Rattle.round_engine.specs.Saves.{beside_at_end}
+use Rattle.round_engine.specs.Sides.{SameButGrowing, closed_in, growing_in}
+use Rattle.round_engine.specs.Standing.{AreClosed, beside_of, HasSnapshot, RuntimeState, Standing}
 use Rattle.round_engine.specs.Steps.{AreLogsUp}
 use Rattle.round_engine.specs.Workers.{RunsFirst, RunsWorkers, WorkersSoFar, refusal_of}
+use Rattle.round_engine.specs.declared.report.End.{End}
 use Rattle.round_engine.specs.declared.rounds.Refused.{Refused}
 use Rattle.round_engine.specs.declared.workers.LogEnd.{LogEnd}
 use Rattle.round_engine.proofs.Devices.{are_down}
-use Rattle.round_engine.proofs.Ended.{failed_down, first_down, refused_end}
+use Rattle.round_engine.proofs.Ended.{failed_down, first_down}
+use Rattle.round_engine.proofs.EndTold.{nothing}
 use Rattle.round_engine.proofs.JoinedAs.{none_down_at}
 use Rattle.round_engine.proofs.LinesLeft.{lines_at}
+use Rattle.round_engine.proofs.Numbered.{closed_many, growing_many, whole_of}
 use Rattle.round_engine.proofs.Places.{map_there, nothing_there}
-use Rattle.round_engine.proofs.RoundCases.{or_parts}
-use Rattle.round_engine.proofs.RoundDone.{map_same, no_device}
+use Rattle.round_engine.proofs.PlainRun.{plain_kept}
+use Rattle.round_engine.proofs.RoundDone.{map_same, same_closed_in}
+use Rattle.round_engine.proofs.RoundKept.{counted_few, first_told_none, none_told}
+use Rattle.round_engine.proofs.Saved.{IsOver, over_begin, over_end}
 use Rattle.round_engine.proofs.Whole.{below_8}
 use Rattle.round_engine.proofs.WorkersRun.{item_at, within_of, workers_begin}
+
+pub same_growing_in : {D : Type 0} (side : Side) (old new : Vault D) → RoomAlone old new → growing_in side new ≡ growing_in side old
+same_growing_in Even old new room = ap (λ v. v.items) room.even
+same_growing_in Odd old new room = ap (λ v. v.items) room.odd
 
 module _ {D : Type 0} (tells : D → Option (List ℕ)) (clock : D → ℕ) (image_at : D → ℕ → List ℕ → Type 0)
     (faults : D → ℕ) (round : Round) where
   -- no line was run
-  pub some_none : (r : RuntimeState) {before now : Vault D} → SameBeside before now → now.even ≡ before.even
+  pub some_none : (r : RuntimeState) (before now : Vault D) → RoomAlone before now
       → RunsSome tells clock image_at faults round r r before now
-  some_none r {before = before} {now = now} same even =
-      let b : WorkersSoFar tells clock image_at faults round 0 r.stands r.stands [] [] r.logs r.logs before.even.items
-      before.even.items = workers_begin round r.stands r.logs before.even.items in
+  some_none r before now room =
+      let banks = growing_in r.side before in
+      let b : WorkersSoFar tells clock image_at faults round 0 r.stands r.stands [] [] r.logs r.logs banks banks =
+      workers_begin round r.stands r.logs banks in
       record {
         parts = b.parts;
         worker = 0;
         within = omega arith;
         fronts = λ i p at. absurd (omega (arith, within_of b.parts i p at, b.first.count));
-        first = subst (λ e. RunsFirst tells clock image_at faults round 0 r.stands r.stands b.parts r.logs r.logs before.even.items e.items)
-            (sym even) b.first;
-        save = refl;
-        beside = same;
+        first = subst (λ e. RunsFirst tells clock image_at faults round 0 r.stands r.stands b.parts r.logs r.logs banks e)
+            (sym (same_growing_in r.side before now room)) b.first;
+        alone = refl;
+        lent = now;
+        room = room;
+        beside = record { save = refl; snaps = refl; closed = refl; ties = refl; cuts = refl };
       }
 
   -- some lines were run
-  pub some_lines : {old new : RuntimeState} {before now : Vault D} (memory : Memory)
-      → RunsWorkers tells clock image_at faults round old.stands new.stands old.logs new.logs before.even.items now.even.items
-      (Err memory)
-      → new.save ≡ old.save → SameBeside before now
+  pub some_lines : (old new : RuntimeState) (before lent now : Vault D) (memory : Memory)
+      → RunsWorkers tells clock image_at faults round old.stands new.stands old.logs new.logs (growing_in old.side lent)
+      (growing_in old.side now) (Err memory)
+      → new ≡ record old { stands = new.stands; logs = new.logs } → RoomAlone before lent → SameButGrowing old.side lent now
       → RunsSome tells clock image_at faults round old new before now
-  some_lines memory runs save same = record {
+  some_lines old new before lent now memory runs alone room same = record {
     parts = runs.0;
     worker = runs.2;
     within = runs.3;
     fronts = runs.1;
-    first = runs.4;
-    save = save;
+    first = subst (λ b. RunsFirst tells clock image_at faults round runs.2 old.stands new.stands runs.0 old.logs new.logs b
+        (growing_in old.side now)) (same_growing_in old.side before lent room) runs.4;
+    alone = alone;
+    lent = lent;
+    room = room;
     beside = same;
   }
 
 module _ {D : Type 0} {tells : D → Option (List ℕ)} {clock : D → ℕ} {image_at : D → ℕ → List ℕ → Type 0}
-    {faults : D → ℕ} {round : Round} {s : Standing} {logs_was : List LogState} {mid kept : RuntimeState}
-    {before between after : Vault D} {outcomes : List (List Outcome)} {ends : List LogEnd} {said : List Answer}
-    (logs_up : AreLogsUp tells logs_was before.even.items) (workers : length logs_was ≡ 8) (whole : IsWhole before)
-    (lines : WorkersSoFar tells clock image_at faults round 8 s mid.stands outcomes ends logs_was mid.logs
-    before.even.items between.even.items)
-    (beside : SameBeside before between)
-    (keeper : RunsKeeper tells clock image_at faults (keeper_lines round) said mid kept between after) where
-  first_is : first_failed 0 ends ≡ first_down 0 (are_down mid.logs)
-  first_is = failed_down 0 ends
-      ∙ ap (first_down 0) (map_same (λ (e : LogEnd). e.failed) (λ (l : LogState). is_some l.journal.down) ends mid.logs
+    {faults : D → ℕ} {round : Round} {r mid : RuntimeState} {before lent between : Vault D}
+    {outcomes : List (List Outcome)} {ends : List LogEnd}
+    (logs_up : AreLogsUp tells r.logs (growing_in r.side before)) (ready : CanKeep tells clock image_at r before)
+    (lines : WorkersSoFar tells clock image_at faults round 8 r.stands mid.stands outcomes ends r.logs mid.logs
+    (growing_in r.side before) (growing_in r.side between))
+    (alone : mid ≡ record r { stands = mid.stands; logs = mid.logs }) (room : RoomAlone before lent)
+    (beside : SameButGrowing r.side lent between) where
+  before_many : length (growing_in r.side before) ≡ 8
+  before_many = growing_many r.side before ready.whole
+
+  mid_side : mid.side ≡ r.side
+  mid_side = ap (λ (x : RuntimeState). x.side) alone
+
+  -- the clock and the storages behind the lines
+  mid_kept : (mid.stands.decls ≡ r.stands.decls) × (mid.stands.clock.epoch ≡ r.stands.clock.epoch)
+  mid_kept =
+      let plain = plain_kept lines.parts r.stands in (
+        ap (λ (x : Standing). x.decls) lines.first.standing ∙ plain.0,
+        ap (λ (x : Standing). x.clock.epoch) lines.first.standing ∙ plain.1,
+      )
+
+  first_is : first_failed r.side 0 ends ≡ first_down r.side 0 (are_down mid.logs)
+  first_is = failed_down r.side 0 ends
+      ∙ ap (first_down r.side 0) (map_same (λ (e : LogEnd). e.failed) (λ (l : LogState). is_some l.journal.down) ends mid.logs
       ends_many lines.ends_failed)
     where
       ends_many : length ends ≡ length mid.logs
       ends_many = sym (length-map ends refusal_of) ∙ ap length lines.ends_are
           ∙ length-map lines.parts (λ (p : Part). p.refusal) ∙ lines.first.count
-          ∙ sym workers ∙ sym lines.first.logs_length
+          ∙ sym ready.workers ∙ sym lines.first.logs_length
 
-  lines_up : first_failed 0 ends ≡ None → AreLogsUp tells mid.logs between.even.items
+  lines_up : first_failed r.side 0 ends ≡ None → AreLogsUp tells mid.logs (growing_in r.side between)
   lines_up none w log bank at bank_at =
-      let below = below_8 mid.logs w log at (lines.first.logs_length ∙ workers) in
-      let begins = item_at logs_was w (omega (arith, below, workers)) in
-      let was = item_at before.even.items w (omega (arith, below, whole.even)) in
+      let below = below_8 mid.logs w log at (lines.first.logs_length ∙ ready.workers) in
+      let begins = item_at r.logs w (omega (arith, below, ready.workers)) in
+      let was = item_at (growing_in r.side before) w (omega (arith, below, before_many)) in
       let one = lines_at w lines.first logs_up begins.1 at was.1 bank_at in
       record {
-        up = nothing_there log.journal.down (none_down_at 0 (are_down mid.logs) w (is_some log.journal.down)
+        up = nothing_there log.journal.down (none_down_at r.side 0 (are_down mid.logs) w (is_some log.journal.down)
             (sym first_is ∙ none) (map_there (λ (l : LogState). is_some l.journal.down) mid.logs w log at));
         limit = one.limit ∙ (logs_up w begins.0 was.0 begins.1 was.1).limit;
         reaches = one.reaches;
       }
 
-  -- Nothing that leaves the join out was refused: the logs and the store are up.
-  pub ready_to_join : (refused : Refused) → refused.device ≡ device_refused said ends → leaves_out refused ≡ false
-      → IsReadyToJoin tells clock image_at faults kept after
-  ready_to_join refused device_is out =
-      let parts = or_parts (is_some refused.device) (is_some refused.full) out in
-      let device = no_device (list_any is_refusal said) (first_failed 0 ends)
-      (sym device_is ∙ nothing_there refused.device parts.0) in
-      let none : is_some keeper.failed ≡ false = sym (ap (λ (k : KeeperAt). k.refused) keeper.at_end)
-      ∙ refused_end said (keeper_on mid false) ∙ device.0 in
-      let up : kept.save.down ≡ None = nothing_there kept.save.down (keeper.keeps.down ∙ none) in
-      record {
-        whole = record {
-          even = ap (λ v. length v.items) keeper.even ∙ lines.first.banks_length ∙ whole.even;
-          odd = ap (λ v. length v.items) keeper.keeps.odd ∙ ap (λ v. length v.items) beside.odd ∙ whole.odd;
-        };
-        workers = ap length keeper.logs ∙ lines.first.logs_length ∙ workers;
-        logs = subst (λ l. AreLogsUp tells l after.even.items) (sym keeper.logs)
-            (subst (λ v. AreLogsUp tells mid.logs v.items) (sym keeper.even) (lines_up device.1));
-        up = up;
-        stored = keeper.keeps.stands up;
-      }
+  mid_snapshot : HasSnapshot tells mid between.snaps
+  mid_snapshot =
+      subst (λ x. HasSnapshot tells x between.snaps) (sym alone)
+      (subst (HasSnapshot tells (record r { stands = mid.stands; logs = mid.logs })) (sym (beside.snaps ∙ room.snaps)) (record {
+        holds = ready.snapshot.holds;
+        contents = ready.snapshot.contents;
+        stands = ready.snapshot.stands;
+        decls = mid_kept.0 ∙ ready.snapshot.decls;
+        up_to = ready.snapshot.up_to;
+        earlier = ready.snapshot.earlier;
+        let_in = ready.snapshot.let_in;
+      }))
+
+  between_whole : IsWhole between
+  between_whole = whole_of r.side between (lines.first.banks_length ∙ before_many)
+      (ap length (beside.closed ∙ same_closed_in r.side before lent room) ∙ closed_many r.side before ready.whole)
+
+  -- what the maintenance thread's lines find
+  pub can_keep : CanKeep tells clock image_at mid between
+  can_keep = record {
+    whole = between_whole;
+    workers = lines.first.logs_length ∙ ready.workers;
+    up = ap (λ (x : RuntimeState). x.save.down) alone ∙ ready.up;
+    stored = subst (λ (x : RuntimeState). IsStored tells clock image_at between.save x.save.newest) (sym alone)
+        (subst (λ d. IsStored tells clock image_at d r.save.newest) (sym (beside.save ∙ room.save)) ready.stored);
+    closed = record {
+      workers = ap (λ (x : RuntimeState). length x.counted) alone ∙ ready.closed.workers;
+      counted = subst (λ (x : RuntimeState). AllByRecursion (λ n. n < 2 ^ 40) x.counted) (sym alone) ready.closed.counted;
+      before = omega (arith, ap (λ (x : RuntimeState). x.closed_at) alone, ready.closed.before, mid_kept.1);
+    };
+    most_pages = omega (arith, ap (λ (x : RuntimeState). x.room) alone, ready.most_pages);
+    sound = ap (λ (x : RuntimeState). x.store.sound) alone ∙ ready.sound;
+    snapshot = mid_snapshot;
+  }
+
+  module _ {kept : RuntimeState} {after : Vault D} {said : List Answer} {refusal : Option End}
+      (keeper : RunsKeeper tells clock image_at faults (keeper_lines round) said refusal mid kept between after) where
+    kept_side : kept.side ≡ r.side
+    kept_side = keeper.leaves.side ∙ mid_side
+
+    growing_kept : growing_in r.side after ≡ growing_in r.side between
+    growing_kept = subst (λ s. growing_in s after ≡ growing_in s between) mid_side keeper.leaves.over.growing
+
+    after_whole : IsWhole after
+    after_whole = whole_of r.side after (ap length growing_kept ∙ lines.first.banks_length ∙ before_many)
+        (subst (λ s. length (closed_in s after) ≡ length (closed_in s between)) mid_side keeper.leaves.over.many
+        ∙ ap length (beside.closed ∙ same_closed_in r.side before lent room) ∙ closed_many r.side before ready.whole)
+
+    kept_counted : kept.counted ≡ (beside_at_end (beside_of r) said).closed
+    kept_counted = keeper.leaves.counted ∙ ap (λ (x : RuntimeState). (beside_at_end (beside_of x) said).closed) alone
+
+    kept_closed : AreClosed kept
+    kept_closed =
+        let over : IsOver r.side r.counted (beside_at_end (beside_of r) said) =
+        over_end said (beside_of r) (over_begin r.side r.counted (length r.store.pages) ready.closed.workers) in
+        record {
+          workers = ap length kept_counted ∙ over.workers;
+          counted = subst (AllByRecursion (λ n. n < 2 ^ 40)) (sym kept_counted)
+              (counted_few r.side r.counted (beside_at_end (beside_of r) said) ready.closed.counted over);
+          before = omega (
+            arith,
+            keeper.leaves.closed_at,
+            ap (λ (x : RuntimeState). x.closed_at) alone,
+            ready.closed.before,
+            keeper.later,
+            mid_kept.1,
+          );
+        }
+
+    -- Nothing that leaves the join out was refused: the logs and the stores are up.
+    pub ready_to_join : (refused : Refused) → refused.device ≡ device_refused r.side refusal ends → refused.keeper ≡ refusal
+        → leaves_out refused ≡ false → IsReadyToJoin tells clock image_at faults kept after
+    ready_to_join refused device_is keeper_is out =
+        let none = nothing refused out in
+        let told = none_told keeper.failed keeper.broken keeper.damaged said (sym keeper.refusal_is ∙ sym keeper_is ∙ none.keeper) in
+        let no_device = first_told_none (device_in refusal) (first_failed r.side 0 ends) (sym device_is ∙ none.device) in
+        let up : kept.save.down ≡ None = nothing_there kept.save.down (keeper.keeps.down ∙ ap is_some told.failed_none) in
+        let sound_kept : kept.store.sound ≡ true =
+        keeper.leaves.sound (λ is. absurd (let no = sym told.broken_none ∙ is in cc))
+        (ap (λ (x : RuntimeState). x.store.sound) alone ∙ ready.sound) in
+        record {
+          whole = after_whole;
+          workers = ap length keeper.logs ∙ lines.first.logs_length ∙ ready.workers;
+          logs = subst (λ s. AreLogsUp tells kept.logs (growing_in s after)) (sym kept_side)
+              (subst (λ l. AreLogsUp tells l (growing_in r.side after)) (sym keeper.logs)
+              (subst (AreLogsUp tells mid.logs) (sym growing_kept) (lines_up no_device.1)));
+          closed = kept_closed;
+          most_pages = omega (arith, keeper.leaves.room, ap (λ (x : RuntimeState). x.room) alone, ready.most_pages);
+          sound = sound_kept;
+          snapshot = keeper.leaves.snapshot (λ was. mid_snapshot) sound_kept;
+          up = up;
+          stored = keeper.keeps.stands up;
+        }

@@ -1,9 +1,8 @@
 -- A story that goes on with what a round stored, and what was known of the one before it.
-use Rattle.std.proofs.Common.{◌≡◌, ◌∙◌, ◌≤◌, ◌<◌, ◌+◌, ◌-◌, ◌*◌, ◌/◌, ◌%◌, ◌⊎◌, inl, inr, sym, ap, subst, refl, ℕ}
-use Rattle.std.proofs.Common.{true, false, List, [], Option, Some, length, take, arith}
+use Rattle.std.proofs.Common.{◌≡◌, ◌∙◌, ◌≤◌, ◌<◌, ◌+◌, ◌-◌, sym, ap, subst, refl, ℕ}
+use Rattle.std.proofs.Common.{true, false, List, Option, Some, length, take, arith}
 use Rattle.std.specs.Prelude.{if◌then◌else◌, nat_le, slice_get}
 use Rattle.std.specs.Option.{option_map}
-use Rattle.std.proofs.lemmas.Bool.{cases_eq}
 use Rattle.std.proofs.lemmas.Bool.Decides.{nat_tests}
 use Rattle.lists.specs.Fronts.{IsFront}
 use Rattle.outside.specs.Fronts.{AllBegin}
@@ -12,31 +11,11 @@ use Rattle.wire_form.specs.declared.savepoint.Savepoint.{Savepoint}
 use Rattle.log_writer.specs.Points.{point_of, sequence_of}
 use Rattle.log_writer.specs.Save.{Names}
 use Rattle.log_writer.specs.declared.saved.Saved.{Saved}
-use Rattle.recovery_core.specs.Images.{counted_of}
+use Rattle.recovery_core.specs.Images.{count_of, counted_of}
 use Rattle.recovery_core.specs.JointCrash.{Moments, Parts}
-use Rattle.recovery_core.specs.Story.{AreOpen, BankOpen, BankTold, IsTold, SaveTold, SnapsTold, Story}
-use Rattle.round_engine.specs.Crashes.{IsSameUpTo, of_growing}
+use Rattle.recovery_core.specs.Story.{BankOpen, BankTold, IsTold, SaveTold, SnapsTold, Story}
+use Rattle.round_engine.specs.Crashes.{BankShut, IsSameUpTo}
 use Rattle.round_engine.specs.Saves.{GoesOnWith}
-
--- ---- log files by their numbers
-
--- a number is that of a growing log file, or of a closed one
-pub halves : (n : ℕ) → ((w : ℕ) × (n ≡ 2 * w)) ⊎ ((w : ℕ) × (n ≡ 2 * w + 1))
-halves n = elim (cases_eq (n % 2) 0) [
-  | inl even ↦ inl (n / 2, omega (arith, even))
-  | inr odd ↦ inr (n / 2, omega (arith, odd))
-]
-
-pub growing_at : (durable : ℕ → List ℕ) (w : ℕ) → of_growing durable (2 * w) ≡ durable w
-growing_at durable w =
-    let rest : (2 * w) % 2 ≡ 0 = omega arith in
-    let half : (2 * w) / 2 ≡ w = omega arith in
-    rw (rest, half) refl
-
-pub closed_at : (durable : ℕ → List ℕ) (w : ℕ) → of_growing durable (2 * w + 1) ≡ []
-closed_at durable w =
-    let rest : (2 * w + 1) % 2 ≡ 1 = omega arith in
-    rw rest refl
 
 -- ---- what was known of a story is known of one that is the same up to there
 
@@ -78,7 +57,7 @@ module _ {D : Type 0} {clock : D → ℕ} {image_at : D → ℕ → List ℕ →
         ∙ sym (same.counted k n at_most);
   }
 
-  open_same : {bank : D} {IsCut : ℕ → ℕ → Type 0} {made : List ℕ} (n : ℕ)
+  pub open_same : {bank : D} {IsCut : ℕ → ℕ → Type 0} {made : List ℕ} (n : ℕ)
       → BankOpen clock image_at (λ k. story.counted k n) (from.bank n) low high bank IsCut made
       → BankOpen clock image_at (λ k. after.counted k n) (from.bank n) low high bank IsCut made
   open_same {made = made} n opened = record {
@@ -87,6 +66,17 @@ module _ {D : Type 0} {clock : D → ℕ} {image_at : D → ℕ → List ℕ →
     agrees = opened.agrees;
     counts = λ k at_least at_most last. subst (λ l. IsFront l made) (sym (same.counted k n at_most))
         (opened.counts k at_least at_most last);
+  }
+
+  pub shut_same : {bank : D} {IsCut : ℕ → ℕ → Type 0} {made : List ℕ} (n : ℕ)
+      → BankShut clock image_at (λ k. story.counted k n) (from.bank n) low high bank IsCut made
+      → BankShut clock image_at (λ k. after.counted k n) (from.bank n) low high bank IsCut made
+  shut_same {made = made} n shut = record {
+    past = shut.past;
+    now = shut.now;
+    agrees = shut.agrees;
+    counts = λ k at_least at_most last. subst (λ l. IsFront l made) (sym (same.counted k n at_most))
+        (shut.counts k at_least at_most last);
   }
 
   pub told_same : {parts : Parts D} → IsTold clock image_at story from low high parts
@@ -102,24 +92,24 @@ module _ {D : Type 0} {clock : D → ℕ} {image_at : D → ℕ → List ℕ →
     allowed = told.allowed;
   }
 
-  pub opened_same : (parts : Parts D) (made : ℕ → List ℕ) → AreOpen clock image_at story from low high parts made
-      → AreOpen clock image_at after from low high parts made
-  opened_same parts made opened n bank there = open_same n (opened n bank there)
-
 -- ---- the story that goes on
 
 -- the savepoint of a sequence behind this one, of those that were stored then
 abbrev pub point_begun : ℕ → List Saved → ℕ → Option Savepoint
 point_begun last begun k = option_map (point_of k) (slice_get begun (k - (last + 1)))
 
--- Up to a sequence it is the old one; then these were stored, over the same pages, and count of the growing log files
--- what is durable in the end.
-unfoldable pub story_after : Story → ℕ → List Saved → (ℕ → List ℕ) → Story
-story_after story last begun durable = record {
+-- how many pages one of them counts
+abbrev pub count_begun : ℕ → List Saved → ℕ → ℕ
+count_begun last begun k = count_of (point_begun last begun k)
+
+-- Up to a sequence it is the old one; then these were stored, each over so many of these pages, and count of the log
+-- files what is durable in the end.
+unfoldable pub story_after : Story → ℕ → List Saved → (ℕ → List ℕ) → (ℕ → List ℕ) → Story
+story_after story last begun bytes durable = record {
   point = λ k. if nat_le k last then story.point k else point_begun last begun k;
-  pages = λ k. if nat_le k last then story.pages k else story.pages last;
+  pages = λ k. if nat_le k last then story.pages k else bytes (count_begun last begun k);
   counted = λ k n. if nat_le k last then story.counted k n
-      else take (counted_of (point_begun last begun k) n) (of_growing durable n);
+      else take (counted_of (point_begun last begun k) n) (durable n);
 }
 
 le_up_to : (k last : ℕ) → k ≤ last → nat_le k last ≡ true
@@ -128,32 +118,33 @@ le_up_to k last less = grind (arith, nat_tests)
 le_behind : (k last : ℕ) → last < k → nat_le k last ≡ false
 le_behind k last less = grind (arith, nat_tests)
 
-module _ (story : Story) (last : ℕ) (begun : List Saved) (durable : ℕ → List ℕ) where
-  point_old : (k : ℕ) → k ≤ last → (story_after story last begun durable).point k ≡ story.point k
+module _ (story : Story) (last : ℕ) (begun : List Saved) (bytes durable : ℕ → List ℕ) where
+  point_old : (k : ℕ) → k ≤ last → (story_after story last begun bytes durable).point k ≡ story.point k
   unfolding story_after
   point_old k less = rw (le_up_to k last less) refl
 
-  pages_old : (k : ℕ) → k ≤ last → (story_after story last begun durable).pages k ≡ story.pages k
+  pages_old : (k : ℕ) → k ≤ last → (story_after story last begun bytes durable).pages k ≡ story.pages k
   unfolding story_after
   pages_old k less = rw (le_up_to k last less) refl
 
-  counted_old : (k n : ℕ) → k ≤ last → (story_after story last begun durable).counted k n ≡ story.counted k n
+  counted_old : (k n : ℕ) → k ≤ last → (story_after story last begun bytes durable).counted k n ≡ story.counted k n
   unfolding story_after
   counted_old k n less = rw (le_up_to k last less) refl
 
-  pub same_before : IsSameUpTo last story (story_after story last begun durable)
+  pub same_before : IsSameUpTo last story (story_after story last begun bytes durable)
   same_before = record { point = point_old; pages = pages_old; counted = counted_old }
 
-  pub point_behind : (k : ℕ) → last < k → (story_after story last begun durable).point k ≡ point_begun last begun k
+  pub point_behind : (k : ℕ) → last < k → (story_after story last begun bytes durable).point k ≡ point_begun last begun k
   unfolding story_after
   point_behind k less = rw (le_behind k last less) refl
 
-  pub pages_behind : (k : ℕ) → last < k → (story_after story last begun durable).pages k ≡ story.pages last
+  pub pages_behind : (k : ℕ) → last < k → (story_after story last begun bytes durable).pages k
+      ≡ bytes (count_begun last begun k)
   unfolding story_after
   pages_behind k less = rw (le_behind k last less) refl
 
-  pub counted_behind : (k n : ℕ) → last < k → (story_after story last begun durable).counted k n
-      ≡ take (counted_of (point_begun last begun k) n) (of_growing durable n)
+  pub counted_behind : (k n : ℕ) → last < k → (story_after story last begun bytes durable).counted k n
+      ≡ take (counted_of (point_begun last begun k) n) (durable n)
   unfolding story_after
   counted_behind k n less = rw (le_behind k last less) refl
 
@@ -167,16 +158,17 @@ module _ (story : Story) (last : ℕ) (begun : List Saved) (durable : ℕ → Li
       ∙ ap (option_map (point_of (last + 1 + k))) at
 
   pub point_next : (k : ℕ) (saved : Saved) → slice_get begun k ≡ Some saved
-      → (story_after story last begun durable).point (last + 1 + k) ≡ Some (point_of (last + 1 + k) saved)
+      → (story_after story last begun bytes durable).point (last + 1 + k) ≡ Some (point_of (last + 1 + k) saved)
   point_next k saved at = point_behind (last + 1 + k) (omega arith) ∙ begun_at k saved at
 
-  pub pages_next : (k : ℕ) → (story_after story last begun durable).pages (last + 1 + k)
-      ≡ (story_after story last begun durable).pages last
-  pages_next k = pages_behind (last + 1 + k) (omega arith) ∙ sym (pages_old last (omega arith))
+  pub pages_next : (k : ℕ) (saved : Saved) → slice_get begun k ≡ Some saved
+      → (story_after story last begun bytes durable).pages (last + 1 + k) ≡ bytes saved.count
+  pages_next k saved at = pages_behind (last + 1 + k) (omega arith)
+      ∙ ap (λ (p : Option Savepoint). bytes (count_of p)) (begun_at k saved at)
 
-pub goes_after : (story : Story) (newest : Option Savepoint) (begun : List Saved) (durable : ℕ → List ℕ)
-    → GoesOnWith (story_after story (sequence_of newest) begun durable) newest begun
-goes_after story newest begun durable = record {
-  point = λ k saved at. point_next story (sequence_of newest) begun durable k saved at;
-  pages = λ k saved at. pages_next story (sequence_of newest) begun durable k;
+pub goes_after : (story : Story) (newest : Option Savepoint) (begun : List Saved) (bytes durable : ℕ → List ℕ)
+    → GoesOnWith (story_after story (sequence_of newest) begun bytes durable) newest bytes begun
+goes_after story newest begun bytes durable = record {
+  point = point_next story (sequence_of newest) begun bytes durable;
+  pages = pages_next story (sequence_of newest) begun bytes durable;
 }

@@ -1,6 +1,6 @@
--- Which refusal ends a run after a round: devices first, then limits in the order of their names.
-use Rattle.std.specs.Prelude.{◌+◌, ◌==◌, ◌&&◌, ◌||◌, ℕ, Bool, true, false, not, List, []}
-use Rattle.std.specs.Prelude.{◌∷◌, nat_le, nat_lt, if◌then◌else◌, Option, Some, None}
+-- Which refusal ends a run after a round: devices first, then damage, limits in the order of their names, and memory.
+use Rattle.std.specs.Prelude.{◌+◌, ◌%◌, ◌==◌, ◌&&◌, ◌||◌, ℕ, Bool, true, false, not, List, []}
+use Rattle.std.specs.Prelude.{◌∷◌, nat_le, nat_lt, if◌then◌else◌, is_some, Option, Some, None}
 use Rattle.std.specs.Option.{option_map}
 use Rattle.std.specs.List.{list_any}
 use Rattle.serial_model.specs.Numbers.{last_epoch}
@@ -10,7 +10,7 @@ use Rattle.script_grammar.specs.declared.lines.KeeperLine.{KeeperLine}
 use Rattle.script_grammar.specs.declared.lines.KeeperLine.TheVariants as asks
 use Rattle.tx_script.specs.declared.answer.Answer.{Answer}
 use Rattle.tx_script.specs.declared.answer.Answer.TheVariants as answers
-use Rattle.tx_script.specs.Run.{LogRefusal, LogFailed, LogFull, Ran, is_limit}
+use Rattle.tx_script.specs.Run.{LogFiles, LogRefusal, LogFailed, LogFull, Ran, is_limit}
 use Rattle.tx_script.specs.Causes.{keeper_at_end, last_sequence, leaves_join_out}
 use Rattle.round_engine.specs.declared.report.End.{End}
 use Rattle.round_engine.specs.declared.report.End.TheVariants as ends
@@ -23,11 +23,6 @@ use Rattle.round_engine.specs.declared.report.LimitName.TheVariants.{Epoch, Draw
 abbrev pub first_of : {X : Type 0} → Option X → Option X → Option X
 first_of (Some x) later = Some x
 first_of None later = later
-
--- there are none
-abbrev pub is_empty : {X : Type 0} → List X → Bool
-is_empty [] = true
-is_empty (x ∷ xs) = false
 
 -- a thing where the test holds
 abbrev pub where_true : {X : Type 0} → Bool → X → Option X
@@ -54,6 +49,10 @@ first_device (device ∷ more) = Some (earlier device (first_device more))
 -- a device failed
 abbrev pub device_end : List Device → Option End
 device_end failed = option_map ends.Device (first_device failed)
+
+-- a closed log file isn't in its format from a byte on
+abbrev pub damaged_end : Ran → Option End
+damaged_end ran = option_map (λ (d : Device × ℕ). ends.Damaged d.0 d.1) ran.damaged
 
 -- the length of the first log that is full
 abbrev pub full_length : List (Option LogRefusal) → Option ℕ
@@ -98,10 +97,18 @@ sequence_end ran = where_true
     (save_limited ran.asked ran.answers || (comes_to_save ran && ((keeper_at_end ran).sequence == last_sequence)))
     (limit_at Sequence (keeper_at_end ran).sequence)
 
+-- a line that asked for a snapshot wanted memory
+abbrev pub wants_memory : Answer → Bool
+wants_memory answers.Memory = true
+wants_memory _ = false
+
+abbrev pub memory_end : Ran → Option End
+memory_end ran = where_true (list_any wants_memory ran.answers) ends.Memory
+
 -- The refusal that ends the run after a round, if one does.
 abbrev pub end_of : Ran → Option End
-end_of ran = first_of (device_end ran.devices) (first_of (epoch_end ran)
-    (first_of (draw_end ran) (first_of (bank_end ran) (sequence_end ran))))
+end_of ran = first_of (device_end ran.devices) (first_of (damaged_end ran) (first_of (epoch_end ran)
+    (first_of (draw_end ran) (first_of (bank_end ran) (first_of (sequence_end ran) (memory_end ran))))))
 
 -- ---- the join
 
@@ -117,7 +124,30 @@ epoch_joined ran = if comes_to_advance ran then epoch_after ran.end.epoch else r
 abbrev pub has_sequence : Ran → Bool
 has_sequence ran = nat_lt (keeper_at_end ran).sequence last_sequence
 
+-- a closed log file
+abbrev pub is_closed : LogFiles → Device → Bool
+is_closed files devices.Save = false
+is_closed files devices.Snaps = false
+is_closed files (devices.Bank number) = number % 2 == (if files.odd then 0 else 1)
+
+-- one that failed, and another device that did
+abbrev pub closed_failed : Ran → Bool
+closed_failed ran = list_any (is_closed ran.files) ran.devices
+
+abbrev pub other_failed : Ran → Bool
+other_failed ran = list_any (λ device. not (is_closed ran.files device)) ran.devices
+
 -- What the join makes durable: the round's last epoch, exactly where it comes to its save, no device failed, and the
--- savepoint is not the last.
+-- savepoint is not the last. A closed log file that fails behind the save takes nothing back.
 abbrev pub durable_of : Ran → Option ℕ
-durable_of ran = where_true (comes_to_save ran && (has_sequence ran && is_empty ran.devices)) ran.end.epoch
+durable_of ran = where_true (comes_to_save ran && (has_sequence ran && not (other_failed ran))) ran.end.epoch
+
+-- ---- the swap
+
+-- The join comes to its swap: it has saved, and nothing of the closed log files counts.
+abbrev pub comes_to_swap : Ran → Bool
+comes_to_swap ran = is_some ran.durable && not (keeper_at_end ran).counted
+
+-- And it is done: the log files that were closed grow, and those that grew are closed.
+abbrev pub swaps : Ran → Bool
+swaps ran = comes_to_swap ran && not (closed_failed ran)

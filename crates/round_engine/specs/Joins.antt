@@ -1,6 +1,7 @@
--- What a join comes to: advance of the epoch, flush and mark of every worker's log, save; the first of these that is
--- refused ends it, and the run.
-use Rattle.std.specs.Prelude.{◌≡◌, ◌≤◌, ◌||◌, ◌++◌, ℕ, false, List, [], Option, is_some, option_to_list, replicate}
+-- What a join comes to: advance of the epoch, flush and mark of every worker's log, save, swap; the first of these that
+-- is refused ends it, and the run.
+use Rattle.std.specs.Prelude.{◌≡◌, ◌<◌, ◌≤◌, ◌||◌, ◌++◌, ℕ, false, List, [], Option, None, is_some, length}
+use Rattle.std.specs.Prelude.{option_to_list, replicate}
 use Rattle.std.specs.List.{Contains}
 use Rattle.serial_model.specs.Numbers.{last_epoch}
 use Rattle.outside.specs.declared.vault.Device.{Device}
@@ -8,10 +9,11 @@ use Rattle.outside.specs.declared.vault.Device.TheVariants.{Bank}
 use Rattle.outside.specs.declared.vault.Vault.{Vault}
 use Rattle.log_writer.specs.Points.{sequence_of}
 use Rattle.tx_script.specs.Run.{Ran}
+use Rattle.worker_logs.specs.Saves.{growing_number}
 use Rattle.round_engine.specs.Crashes.{CarriesCrashes}
 use Rattle.round_engine.specs.Ends.{durable_of, end_of, epoch_joined}
 use Rattle.round_engine.specs.RanRound.{LeavesVault}
-use Rattle.round_engine.specs.Standing.{RuntimeState, Standing}
+use Rattle.round_engine.specs.Standing.{files_of, RuntimeState, Standing}
 use Rattle.round_engine.specs.declared.report.End.{End}
 
 -- A join is told as a round without lines, in which these devices failed and this epoch was made durable.
@@ -24,9 +26,14 @@ without_lines r failed durable = record {
   answers = [];
   durable = durable;
   sequence = sequence_of r.save.newest;
+  pages = length r.store.pages;
+  room = r.room;
+  files = files_of r;
   marks = replicate 8 [];
   logs = [];
+  gleans = [];
   devices = failed;
+  damaged = None;
 }
 
 -- where the engine stands after it
@@ -49,9 +56,10 @@ pub record Joins {D : Type 0} (tells : D → Option (List ℕ)) (clock : D → �
   pub leaves : LeavesVault tells clock image_at faults (without_lines old failed durable) (λ worker. []) old new
       before now
   pub crashes : CarriesCrashes tells clock image_at (λ worker. []) (leaves.stored ++ option_to_list leaves.failed)
-      durable old new before now
+      (without_lines old failed durable) old new before now
   -- What lies behind a step that was refused is left out: without an advance no device is called, and without each log
   -- flushed nothing is stored.
   pub not_advanced : last_epoch ≤ old.stands.clock.epoch
       → (now ≡ before) × (new.logs ≡ old.logs) × (new.save ≡ old.save)
-  pub not_flushed : (number : ℕ) → Contains failed (Bank number) → (now.save ≡ before.save) × (new.save ≡ old.save)
+  pub not_flushed : (worker : ℕ) → worker < 8 → Contains failed (Bank (growing_number old.side worker))
+      → (now.save ≡ before.save) × (new.save ≡ old.save)

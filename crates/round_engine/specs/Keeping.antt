@@ -1,10 +1,12 @@
 -- What the maintenance thread's lines and the join do.
-use Rattle.std.specs.Prelude.{◌≡◌, ◌<◌, ◌≤◌, ◌*◌, ◌+◌, ◌++◌, ℕ, Bool, true, false, List, [], ◌∷◌, fold, length, map}
+use Rattle.std.specs.Prelude.{◌≡◌, ◌<◌, ◌≤◌, ◌+◌, ◌++◌, ℕ, Bool, true, false, List, [], ◌∷◌, fold, length, map}
 use Rattle.std.specs.Prelude.{Option, Some, None, is_some, option_to_list, slice_get, vec_capacity, vec_len, ⊤}
 use Rattle.std.specs.Prelude.{Result, Ok, Err}
-use Rattle.std.specs.List.{AllByRecursion, Contains}
-use Rattle.std.specs.Option.{option_map}
+use Rattle.std.specs.List.{AllByRecursion, Contains, list_any}
+use Rattle.lists.specs.declared.memory.OrMemory.{OrMemory}
+use Rattle.lists.specs.declared.memory.OrMemory.TheVariants as or
 use Rattle.outside.specs.Faults.{Rose}
+use Rattle.outside.specs.Vault.{IsWhole}
 use Rattle.outside.specs.declared.vault.Device.{Device as TheDevice}
 use Rattle.outside.specs.declared.vault.Device.TheVariants as devices
 use Rattle.outside.specs.declared.vault.Tie.{Tie}
@@ -13,61 +15,67 @@ use Rattle.serial_model.specs.Numbers.{last_epoch}
 use Rattle.script_grammar.specs.declared.lines.KeeperLine.{KeeperLine}
 use Rattle.script_grammar.specs.declared.lines.KeeperLine.TheVariants as asks
 use Rattle.wire_form.specs.declared.clock.Mark.{Mark}
-use Rattle.wire_form.specs.declared.savepoint.Savepoint.{Savepoint}
+use Rattle.wire_form.specs.declared.page.Page.{Page}
 use Rattle.log_writer.specs.Journal.{Reaches}
-use Rattle.log_writer.specs.Points.{SaveState, sequence_of}
+use Rattle.log_writer.specs.Points.{sequence_of}
 use Rattle.log_writer.specs.Save.{IsStored}
 use Rattle.log_writer.specs.declared.save.SaveFault.{SaveFault}
 use Rattle.log_writer.specs.declared.save.SaveFault.TheVariants.{Device, Down, Limit}
 use Rattle.log_writer.specs.declared.saved.Saved.{Saved}
+use Rattle.gleaner.specs.declared.gleaning.GleanFault.{GleanFault}
+use Rattle.gleaner.specs.declared.gleaning.GleanFault.TheVariants as glean_faults
+use Rattle.gleaner.specs.declared.gleaning.Gleaned.{Gleaned}
+use Rattle.gleaner.specs.declared.gleaning.Gleaned.TheVariants.{Empty, Snap}
 use Rattle.recovery_core.specs.Images.{epoch_of}
 use Rattle.tx_script.specs.Run.{AdvancesTo, Ran}
-use Rattle.tx_script.specs.Causes.{AnswersCaused, AreMarksOf, KeeperAt, keeper_after, last_sequence}
+use Rattle.tx_script.specs.Causes.{AnswersCaused, AreMarksOf, KeeperAt, keeper_after, last_sequence, some_counted}
 use Rattle.tx_script.specs.declared.answer.Answer.{Answer}
 use Rattle.tx_script.specs.declared.answer.Answer.TheVariants as answers
 use Rattle.worker_logs.specs.Logs.{IsJoined, LogGoesOn, LogState}
-use Rattle.worker_logs.specs.Saves.{SavesBy, SavesMarks, logs_marks, saved_epoch}
-use Rattle.round_engine.specs.Ends.{epoch_after}
+use Rattle.worker_logs.specs.Saves.{SavesBy, SavesMarks, growing_number, logs_marks, saved_epoch}
+use Rattle.worker_logs.specs.declared.savepoints.Beside.{Beside}
+use Rattle.round_engine.specs.Ends.{epoch_after, wants_memory, where_true}
+use Rattle.round_engine.specs.Gleans.{Gleans, LeaveGleans, RoundGleans}
 use Rattle.round_engine.specs.RanRound.{KeeperStored}
-use Rattle.round_engine.specs.Saves.{HaveEnded, NeverFall, newest_after, saves_told}
-use Rattle.round_engine.specs.Standing.{RuntimeState}
+use Rattle.round_engine.specs.Saves.{AreSavedIn, beside_at_end, HaveEnded, NeverFall, newest_after, saves_told}
+use Rattle.round_engine.specs.Sides.{closed_in, growing_in, is_odd}
+use Rattle.round_engine.specs.Standing.{AreClosed, beside_of, HasSnapshot, RuntimeState}
 use Rattle.round_engine.specs.Steps.{Blames, KeepsMark}
 use Rattle.round_engine.specs.declared.report.End.{End}
 use Rattle.round_engine.specs.declared.report.End.TheVariants as ends
 use Rattle.round_engine.specs.declared.report.LimitName.TheVariants.{Epoch, Sequence}
 
 -- it is saved at such an epoch of the clock by such marks
-abbrev pub IsSavedBySeen : (ℕ → List Mark → Type 0) → Option Savepoint → Saved → Type 0
-IsSavedBySeen Seen newest saved = (clock : ℕ) × (seen : List Mark) × Seen clock seen × SavesBy clock seen newest saved
+abbrev pub IsSavedBySeen : (ℕ → List Mark → Type 0) → Beside → Saved → Type 0
+IsSavedBySeen Seen beside saved = (clock : ℕ) × (seen : List Mark) × Seen clock seen × SavesBy clock seen beside saved
 
--- The devices beside the growing log files since a moment: these savepoints were stored, one after another, and the
--- store of one more failed, if it did.
+-- The save, the snapshots and the ties since a moment: these savepoints were stored, one after another, and the store
+-- of one more failed, if it did.
 pub record Keeps {D : Type 0} (tells : D → Option (List ℕ)) (clock : D → ℕ) (image_at : D → ℕ → List ℕ → Type 0)
-    (faults : D → ℕ) (Seen : ℕ → List Mark → Type 0) (stored : List Saved) (failed : Option Saved) (old new : SaveState)
-    (before now : Vault D) : Type 0 where
-  pub newest : new.newest ≡ newest_after old.newest stored
-  pub catalogue : option_map (λ (p : Savepoint). p.catalogue) new.newest
-      ≡ option_map (λ (p : Savepoint). p.catalogue) old.newest
-  pub count : option_map (λ (p : Savepoint). p.count) new.newest ≡ option_map (λ (p : Savepoint). p.count) old.newest
-  pub down : is_some new.down ≡ is_some failed
-  pub stands : new.down ≡ None → IsStored tells clock image_at now.save new.newest
+    (faults : D → ℕ) (stored : List Saved) (failed : Option Saved) (old new : RuntimeState) (before now : Vault D)
+    : Type 0 where
+  pub newest : new.save.newest ≡ newest_after old.save.newest stored
+  pub down : is_some new.save.down ≡ is_some failed
+  pub stands : new.save.down ≡ None → IsStored tells clock image_at now.save new.save.newest
   pub told : is_some (tells now.save) ≡ is_some (tells before.save)
-  pub snaps : now.snaps ≡ before.snaps
-  pub odd : now.odd ≡ before.odd
-  pub cuts : now.cuts.items ≡ before.cuts.items
+  pub snaps_told : is_some (tells now.snaps) ≡ is_some (tells before.snaps)
   pub later : faults before.save ≤ faults now.save
   pub quiet : failed ≡ None → faults now.save ≡ faults before.save
   pub rose : is_some failed ≡ true → Rose (faults before.save) (faults now.save)
-  pub by_marks : AllByRecursion (IsSavedBySeen Seen old.newest) (stored ++ option_to_list failed)
-  pub keeper : KeeperStored tells clock image_at (stored ++ option_to_list failed) old.newest before now
-  pub ended : HaveEnded old.newest stored now.ties.items
+  pub ended : HaveEnded old.save.newest stored now.ties.items
   pub ties_stay : (tie : Tie) → Contains before.ties.items tie → Contains now.ties.items tie
+  pub grows : (more : List Page) × (new.store.pages ≡ old.store.pages ++ more)
+  pub counts : AllByRecursion (λ (s : Saved). s.count ≤ length new.store.pages) (stored ++ option_to_list failed)
+  pub keeper : KeeperStored tells clock image_at (stored ++ option_to_list failed) old.save.newest old.store new.store
+      before now
 
 -- where the maintenance thread stands on a runtime between two of its lines
 abbrev pub keeper_on : RuntimeState → Bool → KeeperAt
 keeper_on r refused = record {
   epoch = r.stands.clock.epoch;
   sequence = sequence_of r.save.newest;
+  pages = length r.store.pages;
+  counted = some_counted r.counted;
   refused = refused;
 }
 
@@ -88,15 +96,84 @@ abbrev pub last_epoch_of : ℕ → List ℕ → ℕ
 last_epoch_of low [] = low
 last_epoch_of low (n ∷ more) = last_epoch_of n more
 
+-- an answer behind which no line is run
+abbrev pub is_refusal : Answer → Bool
+is_refusal answers.Device = true
+is_refusal answers.Damaged = true
+is_refusal answers.Memory = true
+is_refusal _ = false
+
+-- what a save refuses that is answered so
+abbrev pub save_refusal : Answer → Option End
+save_refusal answers.Device = Some (ends.Device devices.Save)
+save_refusal _ = None
+
+-- and a glean
+abbrev pub glean_refusal : Result Gleaned (OrMemory GleanFault) → Option End
+glean_refusal (Err (or.Fault (glean_faults.Device device))) = Some (ends.Device device)
+glean_refusal (Err (or.Fault (glean_faults.Damaged device at))) = Some (ends.Damaged device at)
+glean_refusal (Err or.Memory) = Some ends.Memory
+glean_refusal _ = None
+
+-- The first refusal behind which none of its lines was run: a store that failed, a device that a glean told as failed,
+-- damage, or want of memory.
+abbrev pub refusal_told : Option Saved → Option TheDevice → Option (TheDevice × ℕ) → List Answer → Option End
+refusal_told (Some saved) broken damaged said = Some (ends.Device devices.Save)
+refusal_told None (Some device) damaged said = Some (ends.Device device)
+refusal_told None None (Some damage) said = Some (ends.Damaged damage.0 damage.1)
+refusal_told None None None said = where_true (list_any wants_memory said) ends.Memory
+
+-- What the causes of the answers rest on, of what was run: the marks, the log files and the pages that were let in at
+-- its begin, what was found by gleans, and the devices that failed.
+pub record RestsOn (r : RuntimeState) (gleans : List (Option ℕ)) (failed : Option Saved) (broken : Option TheDevice)
+    (damaged : Option (TheDevice × ℕ)) (ran : Ran) : Type 0 where
+  pub marks : AreMarksOf ran.marks (map (λ (m : Mark). m.epoch) (logs_marks r.logs))
+  pub odd : ran.files.odd ≡ is_odd r.side
+  pub closed_at : ran.files.closed_at ≡ r.closed_at
+  pub room : ran.room ≡ r.room
+  pub gleans_are : (what : Option ℕ) → Contains gleans what → Contains ran.gleans what
+  pub damage : (damage : TheDevice × ℕ) → damaged ≡ Some damage → ran.damaged ≡ Some damage
+  pub store : is_some failed ≡ true → Contains ran.devices devices.Save
+  pub device : (device : TheDevice) → broken ≡ Some device → Contains ran.devices device
+
+-- What a line of the maintenance thread that is run finds: the stores are up, and a newest snapshot stands.
+pub record CanKeep {D : Type 0} (tells : D → Option (List ℕ)) (clock : D → ℕ) (image_at : D → ℕ → List ℕ → Type 0)
+    (r : RuntimeState) (vault : Vault D) : Type 0 where
+  pub whole : IsWhole vault
+  pub workers : length r.logs ≡ 8
+  pub up : r.save.down ≡ None
+  pub stored : IsStored tells clock image_at vault.save r.save.newest
+  pub closed : AreClosed r
+  pub most_pages : r.room ≤ 65536
+  pub sound : r.store.sound ≡ true
+  pub snapshot : HasSnapshot tells r vault.snaps
+
+-- Gleans find, make, and are refused something only where bytes of the closed log files count.
+pub record NeedCounted (r : RuntimeState) (said : List Answer) (gleans : List (Option ℕ)) (broken : Option TheDevice)
+    (damaged : Option (TheDevice × ℕ)) : Type 0 where
+  pub found : (what : Option ℕ) → Contains gleans what → some_counted r.counted ≡ true
+  pub made : (epoch count : ℕ) → Contains said (answers.Snap epoch count) → some_counted r.counted ≡ true
+  pub damage : is_some damaged ≡ true → some_counted r.counted ≡ true
+  pub device : is_some broken ≡ true → some_counted r.counted ≡ true
+
 -- The lines of the maintenance thread were run and answered, each with its cause. They touch neither the logs nor the
 -- engine but for its epoch.
 pub record RunsKeeper {D : Type 0} (tells : D → Option (List ℕ)) (clock : D → ℕ) (image_at : D → ℕ → List ℕ → Type 0)
-    (faults : D → ℕ) (lines : List KeeperLine) (said : List Answer) (old new : RuntimeState)
+    (faults : D → ℕ) (lines : List KeeperLine) (said : List Answer) (refusal : Option End) (old new : RuntimeState)
     (before now : Vault D) : Type 0 where
   pub stored : List Saved
   pub failed : Option Saved
-  pub keeps : Keeps tells clock image_at faults (MarksOf old old.stands.clock.epoch new.stands.clock.epoch) stored
-      failed old.save new.save before now
+  pub gleans : List (Option ℕ)
+  pub broken : Option TheDevice
+  pub damaged : Option (TheDevice × ℕ)
+  pub keeps : Keeps tells clock image_at faults stored failed old new before now
+  pub by_lines : AreSavedIn (IsSavedBySeen (MarksOf old old.stands.clock.epoch new.stands.clock.epoch)) (beside_of old)
+      said stored
+  pub by_failed : AllByRecursion (IsSavedBySeen (MarksOf old old.stands.clock.epoch new.stands.clock.epoch)
+      (beside_at_end (beside_of old) said)) (option_to_list failed)
+  pub gleaned : RoundGleans tells said gleans damaged old new before now
+  pub leaves : LeaveGleans tells clock image_at faults said broken old new before now
+  pub needs : NeedCounted old said gleans broken damaged
   pub rise : epoch_of old.save.newest ≤ epoch_now old
       → NeverFall (epoch_of old.save.newest) (map (λ (s : Saved). s.epoch) (stored ++ option_to_list failed))
       × (last_epoch_of (epoch_of old.save.newest) (map (λ (s : Saved). s.epoch) (stored ++ option_to_list failed))
@@ -107,19 +184,26 @@ pub record RunsKeeper {D : Type 0} (tells : D → Option (List ℕ)) (clock : D 
   }
   pub logs : new.logs ≡ old.logs
   pub is_down : new.down ≡ old.down
-  pub even : now.even ≡ before.even
   pub count : length said ≡ length lines
   pub advances : AdvancesTo old.stands.clock.epoch said new.stands.clock.epoch
-  pub at_end : answers_end (keeper_on old false) said ≡ keeper_on new (is_some failed)
+  pub at_end : answers_end (keeper_on old false) said
+      ≡ record (keeper_on new (list_any is_refusal said)) { pages = (beside_at_end (beside_of old) said).count }
+  pub refused : is_some refusal ≡ list_any is_refusal said
+  pub refusal_is : refusal ≡ refusal_told failed broken damaged said
   pub told : map (λ (s : Saved). s.epoch) stored ≡ saves_told said
-  pub caused : (ran : Ran) → AreMarksOf ran.marks (map (λ (m : Mark). m.epoch) (logs_marks old.logs))
-      → (is_some failed ≡ true → Contains ran.devices devices.Save)
+  pub caused : (ran : Ran) → RestsOn old gleans failed broken damaged ran
       → AnswersCaused ran (keeper_on old false) lines said
   pub above : epoch_of old.save.newest < old.stands.clock.epoch → epoch_of new.save.newest < new.stands.clock.epoch
   pub ties : vec_len now.ties ≤ vec_len before.ties + length lines
   pub capacity : vec_capacity now.ties ≡ vec_capacity before.ties
+  pub cut_room : now.cuts ≡ before.cuts
 
 -- ---- one line
+
+-- a save met the last sequence
+abbrev pub is_limited : KeeperLine → Answer → Bool
+is_limited asks.Save answers.Limit = true
+is_limited line answer = false
 
 -- what a save is answered
 abbrev pub save_answer : Result ℕ SaveFault → Answer
@@ -132,12 +216,29 @@ save_answer (Err (Down count)) = answers.Device
 pub record StepsSave {D : Type 0} (tells : D → Option (List ℕ)) (clock : D → ℕ) (image_at : D → ℕ → List ℕ → Type 0)
     (faults : D → ℕ) (answer : Answer) (old new : RuntimeState) (before now : Vault D) : Type 0 where
   pub result : Result ℕ SaveFault
-  pub saves : SavesMarks tells clock image_at faults old.stands.clock.epoch (logs_marks old.logs) old.save new.save
-      before now result
+  pub saves : SavesMarks tells clock image_at faults old.stands.clock.epoch (logs_marks old.logs) (beside_of old)
+      old.save new.save before now result
   pub answer_is : answer ≡ save_answer result
-  pub stands : new.stands ≡ old.stands
-  pub logs : new.logs ≡ old.logs
-  pub is_down : new.down ≡ old.down
+  pub alone : new ≡ record old { save = new.save }
+
+-- what a glean is answered
+abbrev pub glean_answer : Result Gleaned (OrMemory GleanFault) → Answer
+glean_answer (Ok (Snap epoch new)) = answers.Snap epoch new
+glean_answer (Ok Empty) = answers.Empty
+glean_answer (Err (or.Fault (glean_faults.Device device))) = answers.Device
+glean_answer (Err (or.Fault (glean_faults.Damaged device at))) = answers.Damaged
+glean_answer (Err (or.Fault glean_faults.Deep)) = answers.Deep
+glean_answer (Err (or.Fault (glean_faults.Limit have new room))) = answers.SnapFull
+glean_answer (Err or.Memory) = answers.Memory
+
+-- A glean by a line of the maintenance thread.
+pub record StepsGlean {D : Type 0} (tells : D → Option (List ℕ)) (clock : D → ℕ) (image_at : D → ℕ → List ℕ → Type 0)
+    (faults : D → ℕ) (answer : Answer) (refusal : Option End) (old new : RuntimeState) (before now : Vault D)
+    : Type 0 where
+  pub result : Result Gleaned (OrMemory GleanFault)
+  pub gleans : Gleans tells clock image_at faults old new before now result
+  pub answer_is : answer ≡ glean_answer result
+  pub refusal_is : refusal ≡ glean_refusal result
 
 -- the runtime at this epoch of the clock
 abbrev pub at_epoch : RuntimeState → ℕ → RuntimeState
@@ -158,21 +259,22 @@ StepsEpoch _ old new = ⊥
 
 module _ {D : Type 0} (tells : D → Option (List ℕ)) (clock : D → ℕ) (image_at : D → ℕ → List ℕ → Type 0)
     (faults : D → ℕ) where
-  -- A line of the maintenance thread is answered: behind a refusal it isn't run.
-  abbrev pub StepsKeeper : Bool → KeeperLine → Answer → RuntimeState → RuntimeState → Vault D → Vault D → Type 0
-  StepsKeeper true line answer old new before now = (answer ≡ answers.Unrun) × (new ≡ old) × (now ≡ before)
-  StepsKeeper false asks.Epoch answer old new before now = StepsEpoch answer old new × (now ≡ before)
-  StepsKeeper false asks.Save answer old new before now =
-      StepsSave tells clock image_at faults answer old new before now
-  StepsKeeper false asks.Glean answer old new before now = ⊥
-  StepsKeeper false asks.Drop answer old new before now = ⊥
+  -- A line of the maintenance thread is answered, which refuses the lines behind it or doesn't.
+  abbrev pub StepsLine : KeeperLine → Answer → Option End → RuntimeState → RuntimeState → Vault D → Vault D → Type 0
+  StepsLine asks.Epoch answer refusal old new before now =
+      StepsEpoch answer old new × (now ≡ before) × (refusal ≡ None)
+  StepsLine asks.Save answer refusal old new before now =
+      StepsSave tells clock image_at faults answer old new before now × (refusal ≡ save_refusal answer)
+  StepsLine asks.Glean answer refusal old new before now =
+      StepsGlean tells clock image_at faults answer refusal old new before now
+  StepsLine asks.Drop answer refusal old new before now = ⊥
 
--- an answer behind which no line is run
-abbrev pub is_refusal : Answer → Bool
-is_refusal answers.Device = true
-is_refusal answers.Damaged = true
-is_refusal answers.Memory = true
-is_refusal _ = false
+  -- Behind a refusal a line isn't run.
+  abbrev pub StepsKeeper : Option End → KeeperLine → Answer → Option End → RuntimeState → RuntimeState → Vault D
+      → Vault D → Type 0
+  StepsKeeper (Some end) line answer refusal old new before now =
+      (answer ≡ answers.Unrun) × (refusal ≡ Some end) × (new ≡ old) × (now ≡ before)
+  StepsKeeper None line answer refusal old new before now = StepsLine line answer refusal old new before now
 
 -- ---- the join
 
@@ -198,7 +300,7 @@ JoinAnswers old new stored failed (Err (ends.Limit Sequence number)) = (old.stan
 JoinAnswers old new stored failed (Err (ends.Device devices.Save)) = (old.stands.clock.epoch < last_epoch)
     × (sequence_of old.save.newest < last_sequence) × (stored ≡ []) × (is_some failed ≡ true)
 JoinAnswers old new stored failed (Err (ends.Device (devices.Bank number))) = (old.stands.clock.epoch < last_epoch)
-    × (worker : ℕ) × (worker < 8) × (number ≡ 2 * worker) × (stored ≡ []) × (failed ≡ None)
+    × (worker : ℕ) × (worker < 8) × (number ≡ growing_number old.side worker) × (stored ≡ []) × (failed ≡ None)
 JoinAnswers old new stored failed (Err _) = ⊥
 
 -- what a save comes to in a join
@@ -219,26 +321,33 @@ pub record RunsJoin {D : Type 0} (tells : D → Option (List ℕ)) (clock : D �
     (faults : D → ℕ) (old new : RuntimeState) (before now : Vault D) (result : Result ℕ End) : Type 0 where
   pub stored : List Saved
   pub failed : Option Saved
-  pub keeps : Keeps tells clock image_at faults (MarksOf new new.stands.clock.epoch new.stands.clock.epoch) stored
-      failed old.save new.save before now
+  pub keeps : Keeps tells clock image_at faults stored failed old new before now
+  pub by_marks : AllByRecursion (IsSavedBySeen (MarksOf new new.stands.clock.epoch new.stands.clock.epoch)
+      (beside_of old)) (stored ++ option_to_list failed)
   pub at_clock : AllByRecursion (λ (s : Saved). s.epoch ≡ old.stands.clock.epoch) (stored ++ option_to_list failed)
   pub answer : JoinAnswers old new stored failed result
+  pub alone : new ≡ record old { stands = new.stands; save = new.save; logs = new.logs }
   pub stands : new.stands ≡ record old.stands {
     clock = record old.stands.clock { epoch = epoch_after old.stands.clock.epoch };
   }
+  pub snaps : now.snaps ≡ before.snaps
+  pub closed : closed_in old.side now ≡ closed_in old.side before
+  pub cuts : now.cuts ≡ before.cuts
   pub above : epoch_of old.save.newest < old.stands.clock.epoch → epoch_of new.save.newest < new.stands.clock.epoch
   pub logs_length : length new.logs ≡ length old.logs
-  pub even_length : length now.even.items ≡ length before.even.items
+  pub growing_length : length (growing_in old.side now) ≡ length (growing_in old.side before)
   pub each : (worker : ℕ) (was log : LogState) (bank_was bank : D) → slice_get old.logs worker ≡ Some was
-      → slice_get new.logs worker ≡ Some log → slice_get before.even.items worker ≡ Some bank_was
-      → slice_get now.even.items worker ≡ Some bank
+      → slice_get new.logs worker ≡ Some log → slice_get (growing_in old.side before) worker ≡ Some bank_was
+      → slice_get (growing_in old.side now) worker ≡ Some bank
       → JoinsLog tells clock image_at faults old.stands.clock.epoch was log bank_was bank
   -- a log is down just where its device is told
   pub up : (worker : ℕ) (log : LogState) → slice_get new.logs worker ≡ Some log
-      → (Contains (device_told result) (devices.Bank (2 * worker)) → ⊥) → log.journal.down ≡ None
+      → (Contains (device_told result) (devices.Bank (growing_number old.side worker)) → ⊥) → log.journal.down ≡ None
   pub fell : (worker : ℕ) (log : LogState) → slice_get new.logs worker ≡ Some log
-      → Contains (device_told result) (devices.Bank (2 * worker)) → is_some log.journal.down ≡ true
-  pub waited : (worker : ℕ) (was : LogState) → result ≡ Err (ends.Device (devices.Bank (2 * worker)))
+      → Contains (device_told result) (devices.Bank (growing_number old.side worker))
+      → is_some log.journal.down ≡ true
+  pub waited : (worker : ℕ) (was : LogState)
+      → result ≡ Err (ends.Device (devices.Bank (growing_number old.side worker)))
       → slice_get old.logs worker ≡ Some was → was.journal.lines ≡ [] → ⊥
   pub not_advanced : last_epoch ≤ old.stands.clock.epoch → (now ≡ before) × (new ≡ old)
   pub not_flushed : (number : ℕ) → result ≡ Err (ends.Device (devices.Bank number))

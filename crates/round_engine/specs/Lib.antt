@@ -1,10 +1,14 @@
+pub mod Sides
 pub mod Standing
 pub mod Begun
 pub mod Changes
 pub mod Logs
 pub mod Saves
-pub mod Crashes
 pub mod Ends
+pub mod Gleans
+pub mod Swaps
+pub mod Crashes
+pub mod GleanStops
 pub mod RanRound
 pub mod Joins
 pub mod Plainly

@@ -1,16 +1,19 @@
--- What a round leaves of each worker's log and its log file.
-use Rattle.std.specs.Prelude.{◌≡◌, ◌<◌, ◌*◌, ◌+◌, ◌++◌, ℕ, List, flat_map, map, option_to_list, true}
+-- What a round leaves of each worker's log and its log files.
+use Rattle.std.specs.Prelude.{◌≡◌, ◌<◌, ◌⊎◌, ◌+◌, ◌++◌, ℕ, List, flat_map, length, map, option_to_list, true}
 use Rattle.std.specs.Prelude.{Option, Some, None, is_some, slice_get}
 use Rattle.lists.specs.Fronts.{IsFront}
+use Rattle.outside.specs.Fronts.{AllBegin}
 use Rattle.outside.specs.Vault.{disk_in}
 use Rattle.outside.specs.declared.vault.Device.TheVariants.{Bank}
 use Rattle.outside.specs.declared.vault.Vault.{Vault}
 use Rattle.serial_model.specs.declared.number.Commit.{Commit}
+use Rattle.wire_form.specs.LogFile.{lines_bytes}
 use Rattle.wire_form.specs.declared.clock.Mark.{Mark}
 use Rattle.log_writer.specs.Journal.{JournalState, end_of}
 use Rattle.tx_script.specs.Causes.{longest_line}
 use Rattle.tx_script.specs.Run.{LogRefusal, LogFailed, LogFull}
 use Rattle.worker_logs.specs.Logs.{IsLog, LogRan, LogState}
+use Rattle.worker_logs.specs.Saves.{closed_number, growing_number}
 use Rattle.round_engine.specs.Saves.{NeverFall}
 use Rattle.round_engine.specs.Standing.{RuntimeState}
 
@@ -26,8 +29,22 @@ module _ {D : Type 0} (tells : D → Option (List ℕ)) (clock : D → ℕ) (ima
   -- the workers' logs are those of these commits, of which these bytes are durable
   abbrev pub AreLogs : (ℕ → List Commit) → (ℕ → List ℕ) → RuntimeState → Vault D → Type 0
   AreLogs commits durable r vault = (worker : ℕ) (log : LogState) (bank : D) → slice_get r.logs worker ≡ Some log
-      → disk_in vault (Bank (2 * worker)) ≡ Some bank
+      → disk_in vault (Bank (growing_number r.side worker)) ≡ Some bank
       → IsLog tells clock image_at (commits worker) (durable worker) log bank
+
+  -- A closed log file has the lines of these commits: each image begins with them, and so do the bytes that it tells.
+  -- All of them count, or nothing does.
+  pub record IsClosedFile (commits : List Commit) (bytes : List ℕ) (counted : ℕ) (bank : D) : Type 0 where
+    pub lines : lines_bytes commits ≡ bytes
+    pub begins : AllBegin (image_at bank (clock bank)) bytes
+    pub told : (file : List ℕ) × (tells bank ≡ Some file) × IsFront bytes file
+    pub counts : (counted ≡ 0) ⊎ (counted ≡ length bytes)
+
+  -- so it is with each worker's
+  abbrev pub AreClosedFiles : (ℕ → List Commit) → (ℕ → List ℕ) → RuntimeState → Vault D → Type 0
+  AreClosedFiles commits bytes r vault = (worker counted : ℕ) (bank : D) → slice_get r.counted worker ≡ Some counted
+      → disk_in vault (Bank (closed_number r.side worker)) ≡ Some bank
+      → IsClosedFile (commits worker) (bytes worker) counted bank
 
 -- What refused a log tells of its journal: it is down, or with one line more its file might get longer than it may;
 -- else it is up.

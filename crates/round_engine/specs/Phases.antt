@@ -1,19 +1,22 @@
 -- The phases of a round on the plain map: the workers' lines, those of the maintenance thread, and the join.
-use Rattle.std.specs.Prelude.{◌≡◌, ◌≤◌, ◌⊎◌, ℕ, Bool, true, false, List, length, Option, Some, None, is_some}
+use Rattle.std.specs.Prelude.{◌≡◌, ◌<◌, ◌≤◌, ◌^◌, ◌⊎◌, ℕ, Bool, true, false, List, length, Option, Some, None, is_some}
 use Rattle.std.specs.Prelude.{Result, Ok, Err}
 use Rattle.lists.specs.declared.memory.Memory.{Memory}
 use Rattle.outside.specs.Vault.{IsWhole}
 use Rattle.outside.specs.declared.vault.Vault.{Vault}
 use Rattle.script_grammar.specs.Script.{Round, keeper_lines}
 use Rattle.log_writer.specs.Save.{IsStored}
-use Rattle.std.specs.List.{list_any}
+use Rattle.std.specs.List.{AllByRecursion, list_any}
 use Rattle.tx_script.specs.Run.{is_limit}
-use Rattle.round_engine.specs.Ends.{where_true}
+use Rattle.log_writer.specs.Points.{sequence_of}
+use Rattle.round_engine.specs.Ends.{first_of, save_limited, where_true}
 use Rattle.round_engine.specs.Keeping.{RunsJoin, RunsKeeper}
 use Rattle.round_engine.specs.Parts.{Part}
 use Rattle.round_engine.specs.Refusals.{device_refused, end_told, first_full, leaves_out, lines_refused, names_device}
-use Rattle.round_engine.specs.Standing.{RuntimeState}
+use Rattle.round_engine.specs.Sides.{growing_in, SameButGrowing}
+use Rattle.round_engine.specs.Standing.{AreClosed, HasSnapshot, RuntimeState}
 use Rattle.round_engine.specs.Steps.{AreLogsUp}
+use Rattle.round_engine.specs.Swaps.{SwapsAt}
 use Rattle.round_engine.specs.Workers.{AreFirstLines, RunsFirst, WorkersSoFar}
 use Rattle.round_engine.specs.declared.report.End.{End}
 use Rattle.round_engine.specs.declared.report.Report.{Report}
@@ -33,17 +36,26 @@ abbrev pub refused_by : Result ℕ End → Option End
 refused_by (Ok epoch) = None
 refused_by (Err end) = Some end
 
-abbrev pub fails_device : Result ℕ End → Bool
-fails_device (Ok epoch) = false
-fails_device (Err end) = names_device end
+abbrev pub fails_device : Option End → Bool
+fails_device None = false
+fails_device (Some end) = names_device end
 
--- the devices beside the growing log files are as they were, and so is what was recorded of them
-pub record SameBeside {D : Type 0} (old new : Vault D) : Type 0 where
+-- the devices are as they were, and so is what was recorded of them
+pub record RoomAlone {D : Type 0} (old new : Vault D) : Type 0 where
   pub save : new.save ≡ old.save
   pub snaps : new.snaps ≡ old.snaps
+  pub even : new.even ≡ old.even
   pub odd : new.odd ≡ old.odd
   pub ties : new.ties.items ≡ old.ties.items
   pub cuts : new.cuts.items ≡ old.cuts.items
+
+-- The swap stands behind a save that was made.
+abbrev pub SwapsBehind : {D : Type 0} → (D → Option (List ℕ)) → (D → ℕ) → (D → ℕ → List ℕ → Type 0) → (D → ℕ)
+    → Result ℕ End → RuntimeState → RuntimeState → Vault D → Vault D → Option End → Type 0
+SwapsBehind tells clock image_at faults (Ok epoch) old new before now end =
+    SwapsAt tells clock image_at faults epoch old new before now end
+SwapsBehind tells clock image_at faults (Err refusal) old new before now end =
+    (new ≡ old) × (now ≡ before) × (end ≡ None)
 
 module _ {D : Type 0} (tells : D → Option (List ℕ)) (clock : D → ℕ) (image_at : D → ℕ → List ℕ → Type 0)
     (faults : D → ℕ) where
@@ -51,34 +63,55 @@ module _ {D : Type 0} (tells : D → Option (List ℕ)) (clock : D → ℕ) (ima
   pub record IsReadyToJoin (r : RuntimeState) (vault : Vault D) : Type 0 where
     pub whole : IsWhole vault
     pub workers : length r.logs ≡ 8
-    pub logs : AreLogsUp tells r.logs vault.even.items
+    pub logs : AreLogsUp tells r.logs (growing_in r.side vault)
+    pub closed : AreClosed r
+    pub most_pages : r.room ≤ 65536
+    pub sound : r.store.sound ≡ true
+    pub snapshot : HasSnapshot tells r vault.snaps
     pub up : r.save.down ≡ None
     pub stored : IsStored tells clock image_at vault.save r.save.newest
+
+  -- The join was made, with the swap behind its save: what it made durable, and what was refused.
+  pub record JoinsAndSwaps (old new : RuntimeState) (before now : Vault D) (durable : Option ℕ) (end : Option End)
+      : Type 0 where
+    pub result : Result ℕ End
+    pub joined : RuntimeState
+    pub between : Vault D
+    pub joins : RunsJoin tells clock image_at faults old joined before between result
+    pub cut_end : Option End
+    pub swaps : SwapsBehind tells clock image_at faults result joined new between now cut_end
+    pub counted : AllByRecursion (λ n. n < 2 ^ 40) new.counted
+    pub durable_is : durable ≡ made result
+    pub end_is : end ≡ first_of (refused_by result) cut_end
 
   -- The join was left out, or made.
   abbrev pub JoinsAs : Refused → RuntimeState → RuntimeState → Vault D → Vault D → Option ℕ → Option End → Type 0
   JoinsAs refused old new before now durable end =
       ((leaves_out refused ≡ true) × (now ≡ before) × (durable ≡ None) × (end ≡ lines_refused refused)
       × (new ≡ ended_as old (is_some end) (is_some refused.device)))
-      ⊎ ((leaves_out refused ≡ false) × (result : Result ℕ End) × (joined : RuntimeState)
-      × RunsJoin tells clock image_at faults old joined before now result
-      × (durable ≡ made result) × (end ≡ end_told refused (refused_by result))
-      × (new ≡ ended_as joined (is_some end) (fails_device result)))
+      ⊎ ((leaves_out refused ≡ false) × (joined : RuntimeState) × (refusal : Option End)
+      × JoinsAndSwaps old joined before now durable refusal × (end ≡ end_told refused refusal)
+      × (new ≡ ended_as joined (is_some end) (fails_device refusal)))
 
   -- The phases of a round that was run to its end.
   pub record RunsAll (round : Round) (old new : RuntimeState) (before now : Vault D) (report : Report) : Type 0 where
     pub mid : RuntimeState
+    pub lent : Vault D
     pub between : Vault D
     pub kept : RuntimeState
     pub after : Vault D
     pub ends : List LogEnd
     pub refused : Refused
     pub lines : WorkersSoFar tells clock image_at faults round 8 old.stands mid.stands report.outcomes ends
-        old.logs mid.logs before.even.items between.even.items
-    pub save : mid.save ≡ old.save
-    pub beside : SameBeside before between
-    pub keeper : RunsKeeper tells clock image_at faults (keeper_lines round) report.keeper mid kept between after
-    pub device_is : refused.device ≡ device_refused report.keeper ends
+        old.logs mid.logs (growing_in old.side before) (growing_in old.side between)
+    pub alone : mid ≡ record old { stands = mid.stands; logs = mid.logs }
+    pub room : RoomAlone before lent
+    pub beside : SameButGrowing old.side lent between
+    pub keeper : RunsKeeper tells clock image_at faults (keeper_lines round) report.keeper refused.keeper mid kept
+        between after
+    pub device_is : refused.device ≡ device_refused old.side refused.keeper ends
+    pub sequence_is : refused.sequence ≡ where_true (save_limited (keeper_lines round) report.keeper)
+        (sequence_of kept.save.newest)
     pub draw_is : refused.draw ≡ where_true (list_any (list_any is_limit) report.outcomes) kept.stands.clock.draw
     pub full_is : refused.full ≡ first_full ends
     pub join : JoinsAs refused kept new after now report.durable report.end
@@ -90,9 +123,11 @@ module _ {D : Type 0} (tells : D → Option (List ℕ)) (clock : D → ℕ) (ima
     pub within : worker ≤ 8
     pub fronts : AreFirstLines round parts
     pub first : RunsFirst tells clock image_at faults round worker old.stands new.stands parts
-        old.logs new.logs before.even.items now.even.items
-    pub save : new.save ≡ old.save
-    pub beside : SameBeside before now
+        old.logs new.logs (growing_in old.side before) (growing_in old.side now)
+    pub alone : new ≡ record old { stands = new.stands; logs = new.logs }
+    pub lent : Vault D
+    pub room : RoomAlone before lent
+    pub beside : SameButGrowing old.side lent now
 
   abbrev pub RunsPhases : Round → RuntimeState → RuntimeState → Vault D → Vault D → Result Report Memory → Type 0
   RunsPhases round old new before now (Ok report) = RunsAll round old new before now report

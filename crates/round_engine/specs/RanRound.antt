@@ -1,39 +1,48 @@
 -- What a round comes to on a runtime, whichever its engine is.
-use Rattle.std.specs.Prelude.{◌≡◌, ◌↔◌, ◌⊎◌, ◌≤◌, ◌<◌, ◌+◌, ◌++◌, ◌*◌, ℕ, List, [], ◌∷◌, length, map}
-use Rattle.std.specs.Prelude.{false, true, Option, Some}
+use Rattle.std.specs.Prelude.{◌≡◌, ◌↔◌, ◌⊎◌, ◌≤◌, ◌<◌, ◌+◌, ◌++◌, ℕ, List, [], ◌∷◌, length, map, not}
+use Rattle.std.specs.Prelude.{false, true, if◌then◌else◌, Option, Some}
 use Rattle.std.specs.Prelude.{None, is_some, option_to_list, slice_get, Result, Ok, Err}
 use Rattle.std.specs.List.{AllByRecursion, Contains}
 use Rattle.lists.specs.Fronts.{IsFront}
 use Rattle.lists.specs.declared.memory.Memory.{Memory}
+use Rattle.outside.specs.Fronts.{AllBegin}
+use Rattle.outside.specs.Reads.{OnlyReads}
 use Rattle.outside.specs.Vault.{disk_in}
 use Rattle.outside.specs.declared.vault.Device.{Device}
-use Rattle.outside.specs.declared.vault.Device.TheVariants.{Bank, Save}
+use Rattle.outside.specs.declared.vault.Device.TheVariants.{Bank, Save, Snaps}
 use Rattle.outside.specs.declared.vault.Tie.{Tie}
 use Rattle.outside.specs.declared.vault.Vault.{Vault}
 use Rattle.serial_model.specs.declared.number.Commit.{Commit}
 use Rattle.serial_model.specs.declared.op.Op.{Op}
 use Rattle.script_grammar.specs.Script.{Round, keeper_lines, lines_of_worker}
-use Rattle.wire_form.specs.LogFile.{IsLineOf}
+use Rattle.wire_form.specs.LogFile.{IsLineOf, lines_bytes}
 use Rattle.wire_form.specs.declared.clock.Mark.{Mark}
+use Rattle.wire_form.specs.declared.page.Page.{Page}
 use Rattle.wire_form.specs.declared.savepoint.Savepoint.{Savepoint}
 use Rattle.log_writer.specs.Points.{sequence_of}
 use Rattle.log_writer.specs.declared.saved.Saved.{Saved}
-use Rattle.worker_logs.specs.Logs.{LogState}
-use Rattle.worker_logs.specs.Saves.{CountsOf}
+use Rattle.snapshot_store.specs.Store.{bytes_of_pages, StoreState}
+use Rattle.worker_logs.specs.Logs.{LogState, reset_log}
+use Rattle.worker_logs.specs.Saves.{closed_number, CountsOf, growing_number, logs_marks}
 use Rattle.recovery_core.specs.JointCrash.{Moments}
-use Rattle.recovery_core.specs.Marks.{IsAbove}
 use Rattle.recovery_core.specs.Rounds.{KeeperRan}
 use Rattle.recovery_core.specs.Story.{Story, SaveTold, SnapsTold}
 use Rattle.recovery_core.specs.VaultReads.{RoseIn}
-use Rattle.recovery_core.specs.Images.{epoch_of}
+use Rattle.recovery_core.specs.Images.{counted_of, epoch_of}
+use Rattle.recovery_core.specs.Marks.{IsAbove}
 use Rattle.tx_script.specs.Run.{LogFailed, LogRefusal, Ran, IsRun}
-use Rattle.tx_script.specs.Causes.{AllCaused, keeper_at_end, last_sequence, log_of}
+use Rattle.tx_script.specs.Causes.{AllCaused, keeper_at_end, last_sequence, log_of, some_counted}
 use Rattle.round_engine.specs.Changes.{AreLogged}
 use Rattle.round_engine.specs.Crashes.{CarriesCrashes}
-use Rattle.round_engine.specs.Ends.{comes_to_advance, comes_to_save, durable_of, end_of, epoch_joined}
-use Rattle.round_engine.specs.Logs.{AreLogs, IsRefusedBy, LeavesLog}
-use Rattle.round_engine.specs.Saves.{GoesOnWith, HaveEnded, IsSavedBy, NeverFall, newest_after, saves_told}
-use Rattle.round_engine.specs.Standing.{RuntimeState, StandsOn}
+use Rattle.round_engine.specs.Ends.{comes_to_advance, comes_to_save, comes_to_swap, durable_of, end_of, epoch_joined}
+use Rattle.round_engine.specs.Ends.{swaps}
+use Rattle.round_engine.specs.Gleans.{RoundGleans}
+use Rattle.round_engine.specs.Logs.{AreClosedFiles, AreLogs, IsRefusedBy, LeavesLog}
+use Rattle.round_engine.specs.Saves.{ArePages, AreSaved, beside_at_end, GoesOnWith, IsSavedBy, NeverFall, newest_after}
+use Rattle.round_engine.specs.Saves.{HaveEnded, saves_told}
+use Rattle.round_engine.specs.Sides.{closed_numbers, other_side}
+use Rattle.round_engine.specs.Standing.{beside_of, files_of, RuntimeState, StandsOn}
+use Rattle.round_engine.specs.Swaps.{CutsBanks, behind_swap, since_swap}
 use Rattle.round_engine.specs.declared.report.Report.{Report}
 
 -- ---- what was run
@@ -57,6 +66,9 @@ pub record AreRoundMarks (lines : List (List Op)) (had : Option ℕ) (first last
 -- how the record of what was run begins
 pub record Begins (round : Round) (old : RuntimeState) (ran : Ran) : Type 0 where
   pub sequence : ran.sequence ≡ sequence_of old.save.newest
+  pub pages : ran.pages ≡ length old.store.pages
+  pub room : ran.room ≡ old.room
+  pub files : ran.files ≡ files_of old
   pub workers : length ran.marks ≡ 8
   pub marks : (worker : ℕ) (log : LogState) (epochs : List (Option ℕ)) → slice_get old.logs worker ≡ Some log
       → slice_get ran.marks worker ≡ Some epochs
@@ -97,57 +109,105 @@ pub record HasStored (ran : Ran) (old new : RuntimeState) (stored : List Saved) 
       ⊎ ((comes_to_save ran ≡ true) × ((keeper_at_end ran).sequence < last_sequence))
 
 module _ {D : Type 0} (tells : D → Option (List ℕ)) (clock : D → ℕ) (image_at : D → ℕ → List ℕ → Type 0) where
-  -- The logs: each worker's part of the round, over its own log file; what was stored counts marks that they had,
-  -- and the newest savepoint counts what is durable.
-  pub record LogsRan (ran : Ran) (commits logged : ℕ → List Commit) (was : ℕ → List ℕ)
-      (stored : List Saved) (failed : Option Saved)
+  -- The logs: each worker's part of the round, over its own log file, up to the swap; what was stored counts marks that
+  -- they had, and what counted beside as it was stored, and the newest savepoint counts what is durable. Behind a swap
+  -- the closed files have what was logged, and the growing ones nothing. The closed ones had these commits and bytes,
+  -- and they have them still unless a swap was begun and not done: then nothing of them counts.
+  pub record LogsRan (ran : Ran) (commits logged gone : ℕ → List Commit) (was closed : ℕ → List ℕ)
+      (stored : List Saved) (failed : Option Saved) (logs : List LogState)
       (old new : RuntimeState) (before now : Vault D) : Type 0 where
     pub durable : ℕ → List ℕ
     pub marks : ℕ → List Mark
     pub each : (worker : ℕ) (log_was log : LogState) (bank_was bank : D) (epochs : List (Option ℕ))
-        → slice_get old.logs worker ≡ Some log_was → slice_get new.logs worker ≡ Some log
-        → disk_in before (Bank (2 * worker)) ≡ Some bank_was → disk_in now (Bank (2 * worker)) ≡ Some bank
+        → slice_get old.logs worker ≡ Some log_was → slice_get logs worker ≡ Some log
+        → disk_in before (Bank (growing_number old.side worker)) ≡ Some bank_was
+        → disk_in now (Bank (growing_number old.side worker)) ≡ Some bank
         → slice_get ran.marks worker ≡ Some epochs
         → LeavesLog tells clock image_at (commits worker) (logged worker) (was worker) (durable worker) (marks worker)
         epochs bank_was bank log
-    pub saved : AllByRecursion (IsSavedBy ran.begin.epoch (epoch_joined ran) marks old.save.newest)
+    pub saved : AreSaved (IsSavedBy ran.begin.epoch (epoch_joined ran) marks) (beside_of old) ran.answers
         (stored ++ option_to_list failed)
-    pub counts : CountsOf commits was old.save.newest → CountsOf (λ w. commits w ++ logged w) durable new.save.newest
+    pub counts_here : CountsOf old.side commits gone was closed old.save.newest
+        → CountsOf old.side (λ w. commits w ++ logged w) gone durable closed new.save.newest
+    pub counts : CountsOf old.side commits gone was closed old.save.newest
+        → CountsOf new.side (since_swap (swaps ran) (λ w. commits w ++ logged w))
+        (behind_swap (swaps ran) (λ w. commits w ++ logged w) gone) (since_swap (swaps ran) durable)
+        (behind_swap (swaps ran) durable closed) new.save.newest
+    pub are_logs : AreLogs tells clock image_at (since_swap (swaps ran) (λ w. commits w ++ logged w))
+        (since_swap (swaps ran) durable) new now
+    pub closed_whole : swaps ran ≡ true → (worker counted : ℕ) → slice_get new.counted worker ≡ Some counted
+        → counted ≡ length (lines_bytes (commits worker ++ logged worker))
+    pub are_closed : (comes_to_swap ran ≡ true → swaps ran ≡ true)
+        → AreClosedFiles tells clock image_at (behind_swap (swaps ran) (λ w. commits w ++ logged w) gone)
+        (behind_swap (swaps ran) durable closed) new now
 
-  -- The save, the snapshots and the ties: the savepoints were stored one after another behind this one, over the same
-  -- pages.
-  abbrev pub KeeperStored : List Saved → Option Savepoint → Vault D → Vault D → Type 0
-  KeeperStored begun newest before now = (story : Story) (from : Moments) (low : ℕ) → is_some (tells before.save) ≡ true
-      → GoesOnWith story newest begun → story.point (sequence_of newest) ≡ newest
+  -- The save, the snapshots and the ties: the savepoints were stored one after another behind this one, each over as
+  -- many of the pages as it counts. What was saved before is of the pages that there were, and these are durable.
+  abbrev pub KeeperStored : List Saved → Option Savepoint → StoreState → StoreState → Vault D → Vault D → Type 0
+  KeeperStored begun newest store_was store before now = (story : Story) (from : Moments) (low : ℕ)
+      (bytes : ℕ → List ℕ) → is_some (tells before.save) ≡ true → is_some (tells before.snaps) ≡ true
+      → GoesOnWith story newest bytes begun → ArePages bytes store.pages → story.point (sequence_of newest) ≡ newest
+      → ((k : ℕ) → low ≤ k → k ≤ sequence_of newest → IsFront (story.pages k) (bytes_of_pages store_was.pages))
+      → AllBegin (image_at before.snaps (clock before.snaps)) (bytes_of_pages store_was.pages)
       → SaveTold clock image_at story.point from.save low (sequence_of newest) before.save before.ties.items
       → SnapsTold clock image_at story.pages from.snaps low (sequence_of newest) before.snaps before.ties.items
       → KeeperRan clock image_at story from low (sequence_of newest) (sequence_of newest + length begun)
       before.save now.save before.snaps now.snaps before.ties.items now.ties.items
+      × (store.sound ≡ true → AllBegin (image_at now.snaps (clock now.snaps)) (bytes_of_pages store.pages))
 
-  -- What a round left of the vault: the growing log files by their workers' parts, the save by the keeper's, and the
-  -- other devices as they were. Nothing is said of the order in which the workers ran.
+  -- The closed log files: they were only read, up to the swap, which empties them one after another. Then they grow,
+  -- with empty logs, and those that grew are closed; what counts of these is what the newest savepoint counts. It
+  -- counts nothing of those that are cut.
+  pub record SwapsFiles (faults : D → ℕ) (ran : Ran) (logs : List LogState) (old new : RuntimeState)
+      (before now : Vault D) : Type 0 where
+    pub between : Vault D
+    pub reads : (worker : ℕ) (was is : D) → disk_in before (Bank (closed_number old.side worker)) ≡ Some was
+        → disk_in between (Bank (closed_number old.side worker)) ≡ Some is
+        → OnlyReads tells clock image_at faults was is
+    pub uncut : between.cuts.items ≡ before.cuts.items
+    pub left : comes_to_swap ran ≡ false → now ≡ between
+    pub cut : comes_to_swap ran ≡ true → (failed : Option ℕ) × (is_some failed ≡ not (swaps ran))
+        × CutsBanks tells clock image_at faults (sequence_of new.save.newest) (closed_numbers old.side) failed between
+        now
+    pub nothing : comes_to_swap ran ≡ true → (worker : ℕ) → worker < 8
+        → counted_of new.save.newest (closed_number old.side worker) ≡ 0
+    pub side : new.side ≡ (if swaps ran then other_side old.side else old.side)
+    pub counted : new.counted ≡ (if swaps ran then map (λ (m : Mark). m.length) (logs_marks logs)
+        else (beside_at_end (beside_of old) ran.answers).closed)
+    pub closed_at : new.closed_at ≡ (if swaps ran then ran.end.epoch else old.closed_at)
+    pub logs_are : new.logs ≡ (if swaps ran then map reset_log logs else logs)
+
+  -- What a round left of the vault: the growing log files by their workers' parts, the save and the snapshots by the
+  -- keeper's, and the closed ones by its gleans and the swap. What was logged is above the savepoint at the begin.
+  -- Nothing is said of the order in which the workers ran.
   pub record LeavesVault (faults : D → ℕ) (ran : Ran) (logged : ℕ → List Commit)
       (old new : RuntimeState) (before now : Vault D) : Type 0 where
     pub stands : StandsOn tells clock image_at new now
-    pub snaps : now.snaps ≡ before.snaps
-    pub odd : now.odd ≡ before.odd
-    pub cuts : now.cuts.items ≡ before.cuts.items
     pub failed_are : AreFailed faults ran.devices before now
-    pub refused : (worker : ℕ) (log : LogState) (refusal : Option LogRefusal) → slice_get new.logs worker ≡ Some log
+    pub logs : List LogState
+    pub files : SwapsFiles faults ran logs old new before now
+    pub gleans : RoundGleans tells ran.answers ran.gleans ran.damaged old new before now
+    pub needed : (what : Option ℕ) → Contains ran.gleans what → some_counted old.counted ≡ true
+    pub sound : (Contains ran.devices Snaps → ⊥) → new.store.sound ≡ true
+    pub room : new.room ≡ old.room
+    pub refused : (worker : ℕ) (log : LogState) (refusal : Option LogRefusal) → slice_get logs worker ≡ Some log
         → slice_get ran.logs worker ≡ Some refusal → IsRefusedBy refusal log.journal
-    pub log_failed : (worker : ℕ) → worker < 8 → Contains ran.devices (log_of worker)
+    pub log_failed : (worker : ℕ) → worker < 8 → Contains ran.devices (log_of ran.files worker)
         → (slice_get ran.logs worker ≡ Some (Some LogFailed)) ⊎ (comes_to_advance ran ≡ true)
     pub stored : List Saved
     pub failed : Option Saved
     pub has_stored : HasStored ran old new stored failed
-    pub logs : (commits : ℕ → List Commit) (was : ℕ → List ℕ) → AreLogs tells clock image_at commits was old before
-        → LogsRan ran commits logged was stored failed old new before now
-    pub keeper : KeeperStored (stored ++ option_to_list failed) old.save.newest before now
-    -- What was logged is of later epochs than the savepoint before the round; each store that was done has its tie.
-    pub above : (worker : ℕ) → worker < 8 → AllByRecursion (IsAbove (epoch_of old.save.newest)) (logged worker)
     pub ended : HaveEnded old.save.newest stored now.ties.items
-    pub save_told : is_some (tells now.save) ≡ is_some (tells before.save)
     pub ties_stay : (tie : Tie) → Contains before.ties.items tie → Contains now.ties.items tie
+    pub save_told : is_some (tells now.save) ≡ is_some (tells before.save)
+    pub snaps_told : is_some (tells now.snaps) ≡ is_some (tells before.snaps)
+    pub grows : (more : List Page) × (new.store.pages ≡ old.store.pages ++ more)
+    pub above : (worker : ℕ) → worker < 8 → AllByRecursion (IsAbove (epoch_of old.save.newest)) (logged worker)
+    pub runs : (commits gone : ℕ → List Commit) (was closed : ℕ → List ℕ)
+        → AreLogs tells clock image_at commits was old before
+        → AreClosedFiles tells clock image_at gone closed old before
+        → LogsRan ran commits logged gone was closed stored failed logs old new before now
+    pub keeper : KeeperStored (stored ++ option_to_list failed) old.save.newest old.store new.store before now
 
 -- ---- a round
 
@@ -181,7 +241,9 @@ pub record StopsIn (round : Round) (old new : RuntimeState) : Type 0 where
   pub lines : RunsLines front old new ran logged
   pub unanswered : ran.answers ≡ []
   pub unstored : Contains ran.devices Save → ⊥
-  pub log_failed : (worker : ℕ) → worker < 8 → Contains ran.devices (log_of worker)
+  pub only_logs : (device : Device) → Contains ran.devices device
+      → (worker : ℕ) × (worker < 8) × (device ≡ log_of ran.files worker)
+  pub log_failed : (worker : ℕ) → worker < 8 → Contains ran.devices (log_of ran.files worker)
       → slice_get ran.logs worker ≡ Some (Some LogFailed)
   pub durable : ran.durable ≡ None
   pub clock : new.stands.clock ≡ ran.end
@@ -193,9 +255,7 @@ module _ {D : Type 0} (tells : D → Option (List ℕ)) (clock : D → ℕ) (ima
   abbrev pub Rounds : Round → RuntimeState → RuntimeState → Vault D → Vault D → Result Report Memory → Type 0
   Rounds round old new before now (Ok report) = (r : RanRound round old new report)
       × (v : LeavesVault tells clock image_at faults r.ran r.logged old new before now)
-      × CarriesCrashes tells clock image_at r.logged (v.stored ++ option_to_list v.failed) r.ran.durable old new before
-      now
+      × CarriesCrashes tells clock image_at r.logged (v.stored ++ option_to_list v.failed) r.ran old new before now
   Rounds round old new before now (Err memory) = (r : StopsIn round old new)
       × (v : LeavesVault tells clock image_at faults r.ran r.logged old new before now)
-      × CarriesCrashes tells clock image_at r.logged (v.stored ++ option_to_list v.failed) r.ran.durable old new before
-      now
+      × CarriesCrashes tells clock image_at r.logged (v.stored ++ option_to_list v.failed) r.ran old new before now

@@ -1,10 +1,14 @@
 -- What the saves of a round store.
-use Rattle.std.specs.Prelude.{◌≡◌, ◌≤◌, ◌+◌, ℕ, List, [], ◌∷◌, length, Option, Some, slice_get, ⊤}
-use Rattle.std.specs.List.{Contains}
+use Rattle.std.specs.Prelude.{◌≡◌, ◌≤◌, ◌+◌, ◌++◌, ℕ, List, [], ◌∷◌, fold, length, replicate, take}
+use Rattle.std.specs.Prelude.{Option, Some, slice_get, ⊤}
+use Rattle.std.specs.List.{AllByRecursion, Contains}
 use Rattle.outside.specs.declared.vault.Tie.{Tie}
 use Rattle.wire_form.specs.declared.clock.Mark.{Mark}
+use Rattle.wire_form.specs.declared.page.Page.{Page}
 use Rattle.wire_form.specs.declared.savepoint.Savepoint.{Savepoint}
+use Rattle.snapshot_store.specs.Store.{bytes_of_pages}
 use Rattle.worker_logs.specs.Saves.{SavesBy}
+use Rattle.worker_logs.specs.declared.savepoints.Beside.{Beside}
 use Rattle.log_writer.specs.Points.{point_of, sequence_of}
 use Rattle.log_writer.specs.declared.saved.Saved.{Saved}
 use Rattle.recovery_core.specs.Story.{Story}
@@ -17,9 +21,37 @@ pub record AreSeen (marks : ℕ → List Mark) (seen : List Mark) : Type 0 where
   pub each : (worker : ℕ) (mark : Mark) → slice_get seen worker ≡ Some mark → Contains (marks worker) mark
 
 -- it is saved by marks that the workers had in the round, at an epoch of the clock from the first to the last of these
-abbrev pub IsSavedBy : ℕ → ℕ → (ℕ → List Mark) → Option Savepoint → Saved → Type 0
-IsSavedBy first last marks newest saved = (clock : ℕ) × (first ≤ clock) × (clock ≤ last) × (seen : List Mark)
-    × AreSeen marks seen × SavesBy clock seen newest saved
+abbrev pub IsSavedBy : ℕ → ℕ → (ℕ → List Mark) → Beside → Saved → Type 0
+IsSavedBy first last marks beside saved = (clock : ℕ) × (first ≤ clock) × (clock ≤ last) × (seen : List Mark)
+    × AreSeen marks seen × SavesBy clock seen beside saved
+
+-- ---- what counts beside the growing log files
+
+-- Behind a new snapshot nothing of the closed log files counts any more, and its pages do.
+abbrev pub beside_after : Beside → Answer → Beside
+beside_after b (answers.Snap epoch new) = record b { closed = replicate 8 0; count = b.count + new }
+beside_after b _ = b
+
+abbrev pub beside_at_end : Beside → List Answer → Beside
+beside_at_end b said = fold beside_after b said
+
+-- The saves that these answers tell, each stored with what counted beside as it was answered.
+abbrev pub AreSavedIn : (Beside → Saved → Type 0) → Beside → List Answer → List Saved → Type 0
+AreSavedIn By b [] stored = stored ≡ []
+AreSavedIn By b (answers.Save epoch ∷ more) stored = (saved : Saved) × (rest : List Saved)
+    × (stored ≡ saved ∷ rest) × By b saved × AreSavedIn By b more rest
+AreSavedIn By b (answer ∷ more) stored = AreSavedIn By (beside_after b answer) more stored
+
+-- What was stored: by the lines as they were answered, and then what counted beside behind them all.
+pub record AreSaved (By : Beside → Saved → Type 0) (b : Beside) (said : List Answer) (begun : List Saved)
+    : Type 0 where
+  pub lines : List Saved
+  pub rest : List Saved
+  pub all : begun ≡ lines ++ rest
+  pub told : AreSavedIn By b said lines
+  pub behind : AllByRecursion (By (beside_at_end b said)) rest
+
+-- ---- one savepoint after another
 
 -- from this number on they never fall
 abbrev pub NeverFall : ℕ → List ℕ → Type 0
@@ -37,14 +69,20 @@ saves_told [] = []
 saves_told (answers.Save epoch ∷ more) = epoch ∷ saves_told more
 saves_told (_ ∷ more) = saves_told more
 
--- each of these savepoints, stored behind this one, has a tie that says when its store had ended
+-- each savepoint that was stored has a tie that says when its store had ended
 abbrev pub HaveEnded : Option Savepoint → List Saved → List Tie → Type 0
-HaveEnded newest stored ties = (k : ℕ) (saved : Saved) → slice_get stored k ≡ Some saved → (tie : Tie) × (end : ℕ)
-    × Contains ties tie × (tie.sequence ≡ sequence_of newest + 1 + k) × (tie.ended ≡ Some end)
+HaveEnded newest stored ties = (k : ℕ) (saved : Saved) → slice_get stored k ≡ Some saved
+    → (tie : Tie) × (end : ℕ) × Contains ties tie × (tie.sequence ≡ sequence_of newest + 1 + k)
+    × (tie.ended ≡ Some end)
 
--- A story goes on with what was stored after this savepoint, over the same pages.
-pub record GoesOnWith (story : Story) (newest : Option Savepoint) (stored : List Saved) : Type 0 where
+-- the bytes of so many pages, for each number of them
+abbrev pub ArePages : (ℕ → List ℕ) → List Page → Type 0
+ArePages bytes pages = (n : ℕ) → n ≤ length pages → bytes n ≡ bytes_of_pages (take n pages)
+
+-- A story goes on with what was stored after this savepoint, each over the bytes of as many pages as it counts.
+pub record GoesOnWith (story : Story) (newest : Option Savepoint) (bytes : ℕ → List ℕ) (stored : List Saved)
+    : Type 0 where
   pub point : (k : ℕ) (saved : Saved) → slice_get stored k ≡ Some saved
       → story.point (sequence_of newest + 1 + k) ≡ Some (point_of (sequence_of newest + 1 + k) saved)
   pub pages : (k : ℕ) (saved : Saved) → slice_get stored k ≡ Some saved
-      → story.pages (sequence_of newest + 1 + k) ≡ story.pages (sequence_of newest)
+      → story.pages (sequence_of newest + 1 + k) ≡ bytes saved.count

@@ -1,5 +1,6 @@
 -- Where a runtime stands between two calls.
-use Rattle.std.specs.Prelude.{◌≡◌, ◌<◌, ◌≤◌, ◌*◌, ℕ, Bool, false, List, Option, Some, None, length, slice_get, ⊤}
+use Rattle.std.specs.Prelude.{◌≡◌, ◌<◌, ◌≤◌, ◌^◌, ℕ, Bool, false, true, not, List, Option, Some, None, length}
+use Rattle.std.specs.Prelude.{slice_get, ⊤}
 use Rattle.std.specs.List.{AllByRecursion}
 use Rattle.serial_model.specs.Numbers.{draw_limit, last_epoch}
 use Rattle.outside.specs.Vault.{disk_in, IsWhole}
@@ -8,11 +9,20 @@ use Rattle.outside.specs.declared.vault.Vault.{Vault}
 use Rattle.serial_model.specs.State.{State}
 use Rattle.serial_model.specs.declared.decl.Decl.{Decl}
 use Rattle.serial_model.specs.declared.number.Number.{Number}
+use Rattle.wire_form.specs.Pages.{Contents, decls_of}
 use Rattle.log_writer.specs.Journal.{Reaches}
 use Rattle.log_writer.specs.Points.{SaveState}
 use Rattle.log_writer.specs.Save.{IsStored}
+use Rattle.snapshot_store.specs.Content.{SnapshotStands, words_of}
+use Rattle.snapshot_store.specs.Store.{Holds, StoreState}
 use Rattle.recovery_core.specs.Images.{epoch_of}
 use Rattle.worker_logs.specs.Logs.{IsJoined, LogState, log_limit}
+use Rattle.worker_logs.specs.Saves.{growing_number}
+use Rattle.worker_logs.specs.declared.savepoints.Beside.{Beside}
+use Rattle.worker_logs.specs.declared.savepoints.Side.{Side}
+use Rattle.tx_script.specs.Causes.{some_counted}
+use Rattle.tx_script.specs.Run.{LogFiles}
+use Rattle.round_engine.specs.Sides.{is_odd}
 
 -- the storages and their contents, the number that the next commit gets, and whether a round ended the run
 pub record Standing : Type 0 where
@@ -21,13 +31,29 @@ pub record Standing : Type 0 where
   pub clock : Number
   pub ended : Bool
 
--- where the engine stands, the store of savepoints, the logs of workers 0 to 7, and whether a device failed, or memory
--- was wanted in a round
 pub record RuntimeState : Type 0 where
+  -- where the engine stands
   pub stands : Standing
+  -- the stores of savepoints and of snapshot pages, and how many pages are let in
   pub save : SaveState
+  pub store : StoreState
+  pub room : ℕ
+  -- which log files grow; of each worker's closed one how many bytes count; and the epoch at which they were closed
+  pub side : Side
+  pub counted : List ℕ
+  pub closed_at : ℕ
+  -- the logs of workers 0 to 7
   pub logs : List LogState
+  -- whether a device failed, or memory was wanted in a round
   pub down : Bool
+
+-- what a savepoint counts beside the growing log files
+abbrev pub beside_of : RuntimeState → Beside
+beside_of r = record { growing = r.side; closed = r.counted; count = length r.store.pages }
+
+-- the log files as a round finds them
+abbrev pub files_of : RuntimeState → LogFiles
+files_of r = record { odd = is_odd r.side; counted = r.counted; closed_at = r.closed_at }
 
 -- the clock's number is one of a commit, unless the draws are used up
 pub record IsClock (clock : Number) : Type 0 where
@@ -36,9 +62,10 @@ pub record IsClock (clock : Number) : Type 0 where
   pub some_draw : 1 ≤ clock.draw
   pub most_draw : clock.draw ≤ draw_limit
 
--- the store is up, and so are the journals
+-- the stores are up, and so are the journals
 pub record AreUp (r : RuntimeState) : Type 0 where
   pub save : r.save.down ≡ None
+  pub store : r.store.sound ≡ true
   pub logs : AllByRecursion (λ log. log.journal.down ≡ None) r.logs
 
 -- While the run goes on nothing is down, and each log was joined: no line waits, and its mark counts all that is
@@ -55,11 +82,31 @@ IsMarkBefore clock (Some epoch) = epoch < clock
 -- each growing log file reaches to what its journal made durable
 abbrev pub LogsReach : {D : Type 0} → (D → Option (List ℕ)) → RuntimeState → Vault D → Type 0
 LogsReach {D} tells r vault = (worker : ℕ) (log : LogState) (bank : D) → slice_get r.logs worker ≡ Some log
-    → disk_in vault (Bank (2 * worker)) ≡ Some bank → Reaches tells bank log.journal
+    → disk_in vault (Bank (growing_number r.side worker)) ≡ Some bank → Reaches tells bank log.journal
+
+-- Of each worker's closed log file a length counts that a savepoint has room for. They were closed at an epoch before
+-- the clock's.
+pub record AreClosed (r : RuntimeState) : Type 0 where
+  pub workers : length r.counted ≡ 8
+  pub counted : AllByRecursion (λ n. n < 2 ^ 40) r.counted
+  pub before : r.closed_at < r.stands.clock.epoch
+
+-- The last page is the catalogue of a snapshot that stands, which has the storages. It is no later than the epoch at
+-- which the closed log files were closed, and where bytes of these count it is earlier. The device begins with the
+-- pages, as far as it tells, and they are within what is let in.
+pub record HasSnapshot {D : Type 0} (tells : D → Option (List ℕ)) (r : RuntimeState) (snaps : D) : Type 0 where
+  pub holds : Holds tells snaps r.store.pages
+  pub contents : Contents
+  pub stands : SnapshotStands (words_of r.store.pages) (length r.store.pages) contents
+  pub decls : r.stands.decls ≡ decls_of contents
+  pub up_to : contents.epoch ≤ r.closed_at
+  pub earlier : some_counted r.counted ≡ true → contents.epoch < r.closed_at
+  pub let_in : length r.store.pages ≤ r.room
 
 -- A runtime has eight logs of their limit, and its clock is above the saved epoch and the marks. The devices are as
 -- its calls left them, as far as they tell their bytes: the save device has the newest savepoint, unless a store
--- failed, and each growing log file reaches to what its journal made durable.
+-- failed, the snapshots have all pages, unless they failed, and each growing log file reaches to what its journal made
+-- durable.
 pub record StandsOn {D : Type 0} (tells : D → Option (List ℕ)) (clock : D → ℕ) (image_at : D → ℕ → List ℕ → Type 0)
     (r : RuntimeState) (vault : Vault D) : Type 0 where
   pub whole : IsWhole vault
@@ -67,7 +114,10 @@ pub record StandsOn {D : Type 0} (tells : D → Option (List ℕ)) (clock : D �
   pub limits : AllByRecursion (λ log. log.journal.limit ≡ log_limit) r.logs
   pub above : epoch_of r.save.newest < r.stands.clock.epoch
   pub marked : AllByRecursion (λ log. IsMarkBefore r.stands.clock.epoch log.mark.epoch) r.logs
+  pub closed : AreClosed r
+  pub most_pages : r.room ≤ 65536
   pub up : r.down ≡ false → AreUp r
   pub goes_on : r.stands.ended ≡ false → IsReady r
   pub stored : r.save.down ≡ None → IsStored tells clock image_at vault.save r.save.newest
+  pub snapshot : r.store.sound ≡ true → HasSnapshot tells r vault.snaps
   pub reaches : LogsReach tells r vault

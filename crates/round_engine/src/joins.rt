@@ -1,25 +1,30 @@
-// The end of a round: an epoch more, all logs durable and marked, and a savepoint that counts them.
-ghost use Rattle.std.specs.Prelude.{◌≡◌, ◌<◌, ◌*◌, ◌+◌, ◌≤◌, None, false, length, vec_len, vec_capacity};
+// The end of a round: an epoch more, all logs durable and marked, a savepoint that counts them, and the swap behind it.
+ghost use Rattle.std.specs.Prelude.{◌≡◌, ◌<◌, ◌+◌, ◌≤◌, ◌||◌, None, is_some, false, true, length};
+ghost use Rattle.std.specs.Prelude.{vec_len, vec_capacity};
 ghost use Rattle.outside.specs.Vault.{IsWhole};
-ghost use Rattle.outside.specs.declared.vault.Device.TheVariants as devices;
 ghost use Rattle.log_writer.specs.Save.{IsStored};
 ghost use Rattle.round_engine.specs.Joins.{Joins};
 ghost use Rattle.worker_logs.specs.FlushAll.{AllReach, FlushesAll};
 ghost use Rattle.round_engine.specs.Keeping.{Advances, RunsJoin, join_answer};
-ghost use Rattle.round_engine.specs.Standing.{StandsOn};
+ghost use Rattle.round_engine.specs.Phases.{JoinsAndSwaps, ended_as, fails_device};
+ghost use Rattle.round_engine.specs.Sides.{SameButGrowing, growing_in};
+ghost use Rattle.round_engine.specs.Standing.{AreClosed, HasSnapshot, StandsOn};
 ghost use Rattle.round_engine.specs.Steps.{AreLogsUp};
 
 use crate::keeper::save_marked;
-use crate::rounds::is_device;
+use crate::rounds::names_device;
+use crate::sides::growing_number;
+use crate::swaps::swap;
 use crate::{End, LimitName, Runtime};
 use log_writer::SaveFault;
 use outside::{Device, Disk, Vault};
 use serial_model::LAST_EPOCH;
-use worker_logs::flush_all;
+use worker_logs::{Side, WorkerLog, flush_all};
 
 /// Ends a round: the epoch is advanced, every worker's log is flushed and marked, and a savepoint is stored that
-/// counts what is marked. Answers the epoch that this made durable, or the refusal that ends the run: what comes
-/// behind a step that was refused is left out.
+/// counts what is marked; then, where nothing of the closed log files counts, these are emptied and grow from then on,
+/// and those that grew are closed. Answers the epoch that this made durable, and the refusal that ends the run, if
+/// there is one: what comes behind a step that was refused is left out.
 pub fn join_round<D: Disk>(
     runtime: &mut Runtime,
     vault: &mut Vault<D>,
@@ -31,53 +36,93 @@ pub fn join_round<D: Disk>(
     ensures joins { Joins D.tells D.clock D.image_at D.faults runtime.old runtime.new
         vault.old vault.new result.0 result.1 }
 {
-    match join_logs(runtime, vault) {
-        Ok(epoch) => (Some(epoch), None),
-        Err(end) => (None, runtime.end_with(Some(end), is_device(end))),
-    }
+    let (durable, end) = join_logs(runtime, vault);
+    (durable, runtime.end_joined(end))
 }
 
-// The steps of a join: each is made only once those before it are done. The marks name the epoch that ended, so
-// they are set behind the advance; they count what is durable, so they are set behind the flush; and the savepoint
-// counts what is marked.
-pub(crate) fn join_logs<D: Disk>(runtime: &mut Runtime, vault: &mut Vault<D>) -> Result<u32, End>
+// A join, and the swap behind its save. Answers what was made durable, and what was refused.
+pub(crate) fn join_logs<D: Disk>(
+    runtime: &mut Runtime,
+    vault: &mut Vault<D>,
+) -> (Option<u32>, Option<End>)
     requires whole { IsWhole vault.old }
-    requires logs { AreLogsUp D.tells runtime.old.logs vault.old.even.items }
+    requires logs { AreLogsUp D.tells runtime.old.logs (growing_in runtime.old.side vault.old) }
     requires workers { length runtime.old.logs ≡ 8 }
     requires up { runtime.old.save.down ≡ None }
     requires stored { IsStored D.tells D.clock D.image_at vault.old.save runtime.old.save.newest }
+    requires closed { AreClosed runtime.old }
+    requires sound { runtime.old.store.sound ≡ true }
+    requires snapshot { HasSnapshot D.tells runtime.old vault.old.snaps }
+    requires room { runtime.old.room ≤ 65536 }
+    requires tie_room { vec_len vault.old.ties < vec_capacity vault.old.ties }
+    requires cut_room { vec_len vault.old.cuts + 8 ≤ vec_capacity vault.old.cuts }
+    ensures runs { JoinsAndSwaps D.tells D.clock D.image_at D.faults runtime.old runtime.new
+        vault.old vault.new result.0 result.1 }
+{
+    match save_joined(runtime, vault) {
+        Ok(epoch) => (Some(epoch), swap(runtime, vault, epoch)),
+        Err(end) => (None, Some(end)),
+    }
+}
+
+// The steps of a join up to its save: each is made only once those before it are done. The marks name the epoch that
+// ended, so they are set behind the advance; they count what is durable, so they are set behind the flush; and the
+// savepoint counts what is marked.
+fn save_joined<D: Disk>(runtime: &mut Runtime, vault: &mut Vault<D>) -> Result<u32, End>
+    requires whole { IsWhole vault.old }
+    requires logs { AreLogsUp D.tells runtime.old.logs (growing_in runtime.old.side vault.old) }
+    requires workers { length runtime.old.logs ≡ 8 }
+    requires up { runtime.old.save.down ≡ None }
+    requires stored { IsStored D.tells D.clock D.image_at vault.old.save runtime.old.save.newest }
+    requires closed { AreClosed runtime.old }
+    requires sound { runtime.old.store.sound ≡ true }
+    requires snapshot { HasSnapshot D.tells runtime.old vault.old.snaps }
+    requires room { runtime.old.room ≤ 65536 }
     requires tie_room { vec_len vault.old.ties < vec_capacity vault.old.ties }
     ensures runs { RunsJoin D.tells D.clock D.image_at D.faults runtime.old runtime.new
         vault.old vault.new result }
-    ensures down { runtime.new.down ≡ runtime.old.down }
+    ensures cuts { vault.new.cuts ≡ vault.old.cuts }
 {
     runtime.advance()?;
     if let Err(worker) = flush_logs(runtime, vault) {
-        return Err(End::Device(bank_of(worker)));
+        let number = growing_number(runtime.side, worker);
+        return Err(End::Device(Device::Bank(number)));
     }
     end_of_save(save_marked(runtime, vault))
 }
 
 // Flushes and marks all logs, up to the first that refuses.
 fn flush_logs<D: Disk>(runtime: &mut Runtime, vault: &mut Vault<D>) -> Result<(), usize>
-    requires as_many { length vault.old.even.items ≡ length runtime.old.logs }
-    requires reaches { AllReach D.tells runtime.old.logs vault.old.even.items }
+    requires as_many { length (growing_in runtime.old.side vault.old) ≡ length runtime.old.logs }
+    requires reaches { AllReach D.tells runtime.old.logs (growing_in runtime.old.side vault.old) }
     ensures flushes { FlushesAll D.tells D.clock D.image_at D.faults runtime.old.stands.clock.epoch
-        runtime.old.logs runtime.new.logs vault.old.even.items vault.new.even.items result }
-    ensures stands { runtime.new.stands ≡ runtime.old.stands }
-    ensures saves { runtime.new.save ≡ runtime.old.save }
-    ensures down { runtime.new.down ≡ runtime.old.down }
-    ensures save { vault.new.save ≡ vault.old.save }
-    ensures snaps { vault.new.snaps ≡ vault.old.snaps }
-    ensures odd { vault.new.odd ≡ vault.old.odd }
-    ensures ties { vault.new.ties ≡ vault.old.ties }
-    ensures cuts { vault.new.cuts ≡ vault.old.cuts }
+        runtime.old.logs runtime.new.logs (growing_in runtime.old.side vault.old)
+        (growing_in runtime.old.side vault.new) result }
+    ensures alone { runtime.new ≡ record runtime.old { logs = runtime.new.logs } }
+    ensures vault { SameButGrowing runtime.old.side vault.old vault.new }
 {
-    flush_all(
-        &mut runtime.logs,
-        &mut vault.even,
-        runtime.engine.clock.epoch,
-    )
+    let clock = runtime.engine.clock.epoch;
+    flush_side(&mut runtime.logs, runtime.side, vault, clock)
+}
+
+// Flushes and marks logs over the side that grows.
+fn flush_side<D: Disk>(
+    logs: &mut [WorkerLog],
+    side: Side,
+    vault: &mut Vault<D>,
+    clock: u32,
+) -> Result<(), usize>
+    requires as_many { length (growing_in side vault.old) ≡ length logs.old }
+    requires reaches { AllReach D.tells logs.old (growing_in side vault.old) }
+    requires clock { 1 ≤ clock }
+    ensures flushes { FlushesAll D.tells D.clock D.image_at D.faults clock
+        logs.old logs.new (growing_in side vault.old) (growing_in side vault.new) result }
+    ensures vault { SameButGrowing side vault.old vault.new }
+{
+    match side {
+        Side::Even => flush_all(logs, &mut vault.even, clock),
+        Side::Odd => flush_all(logs, &mut vault.odd, clock),
+    }
 }
 
 // What a save comes to in a join.
@@ -91,14 +136,6 @@ fn end_of_save(saved: Result<u32, SaveFault>) -> Result<u32, End>
     }
 }
 
-/// The growing log file of a worker.
-pub(crate) fn bank_of(worker: usize) -> Device
-    requires { worker < 8 }
-    ensures { result ≡ devices.Bank (2 * worker) }
-{
-    Device::Bank(2 * worker as u8)
-}
-
 impl Runtime {
     /// Advances the epoch, unless it is the last one.
     pub(crate) fn advance(&mut self) -> Result<(), End>
@@ -110,6 +147,16 @@ impl Runtime {
         }
         self.engine.clock.epoch += 1;
         Ok(())
+    }
+
+    // What ends the run behind a join, if anything does. One that had ended before stays so.
+    fn end_joined(&mut self, end: Option<End>) -> Option<End>
+        ensures runtime { self.new ≡ ended_as self.old (self.old.stands.ended || is_some end) (fails_device end) }
+        ensures end { result ≡ end }
+    {
+        self.engine.ended = self.engine.ended || end.is_some();
+        self.down = names_device(end);
+        end
     }
 }
 

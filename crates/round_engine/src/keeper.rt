@@ -1,18 +1,23 @@
 // The lines of the maintenance thread in a round.
-ghost use Rattle.std.specs.Prelude.{◌≡◌, ◌≤◌, ◌<◌, ◌+◌, ◌||◌, [], None, Some, false, length, option_map};
+ghost use Rattle.std.specs.Prelude.{◌≡◌, ◌≤◌, ◌<◌, ◌+◌, ◌||◌, [], None, Some, length, option_map};
 ghost use Rattle.std.specs.Prelude.{slice_get, vec_capacity, vec_len};
-ghost use Rattle.std.specs.List.{list_any};
 ghost use Rattle.script_grammar.specs.Script.{IsAsked, keeper_line_of, keeper_lines};
-ghost use Rattle.log_writer.specs.Save.{IsStored};
 ghost use Rattle.tx_script.specs.Run.{CanRun};
 ghost use Rattle.worker_logs.specs.Saves.{SavesMarks, logs_marks};
-ghost use Rattle.round_engine.specs.Keeping.{RunsKeeper, StepsEpoch, StepsKeeper, StepsSave};
-ghost use Rattle.round_engine.specs.Keeping.{is_refusal as refuses};
+ghost use Rattle.round_engine.specs.Ends.{save_limited};
+ghost use Rattle.round_engine.specs.Keeping.{CanKeep, RunsKeeper, StepsEpoch, StepsGlean, StepsKeeper, StepsLine};
+ghost use Rattle.round_engine.specs.Keeping.{StepsSave, glean_answer, glean_refusal, is_limited, save_refusal};
+ghost use Rattle.round_engine.specs.Standing.{beside_of};
 
-use crate::Runtime;
+use crate::gleans::glean_closed;
+use crate::{End, Runtime};
+use gleaner::{GleanFault, Gleaned};
+use lists::OrMemory;
 use log_writer::SaveFault;
-use outside::{Disk, Gate, Vault};
+use outside::{Device, Disk, Gate, Vault};
+use std::alloc::Global;
 use tx_script::{Answer, KeeperLine, Line, LineOps, Round};
+use worker_logs::{Beside, save_marks};
 
 /// The maintenance thread, as a gate is told of it.
 const KEEPER: u8 = 255;
@@ -31,69 +36,85 @@ pub(crate) fn keeper_count(round: &Round<'_>) -> usize
     count
 }
 
+/// What the maintenance thread's lines were refused.
+#[derive(Clone, Copy)]
+pub(crate) struct KeeperEnd {
+    /// The refusal behind which none of them was run.
+    pub(crate) refusal: Option<End>,
+    /// Whether one asked for a save behind the last sequence.
+    pub(crate) limited: bool,
+}
+
 /// Runs the lines of the maintenance thread, and adds their answers. Behind a refused one none is run.
 pub(crate) fn run_keeper<D: Disk, G: Gate>(
+    alloc: Global,
     runtime: &mut Runtime,
     vault: &mut Vault<D>,
     round: &Round<'_>,
     gate: &G,
     answers: &mut Vec<Answer>,
-)
+) -> KeeperEnd
     requires lines { CanRun runtime.old.stands.decls round.now }
     requires none { answers.old.items ≡ [] }
     requires answer_room { length (keeper_lines round.now) ≤ vec_capacity answers.old }
-    requires workers { length runtime.old.logs ≡ 8 }
-    requires up { runtime.old.save.down ≡ None }
-    requires stored { IsStored D.tells D.clock D.image_at vault.old.save runtime.old.save.newest }
+    requires ready { CanKeep D.tells D.clock D.image_at runtime.old vault.old }
     requires tie_room { vec_len vault.old.ties + length (keeper_lines round.now) ≤ vec_capacity vault.old.ties }
     ensures runs { RunsKeeper D.tells D.clock D.image_at D.faults (keeper_lines round.now) answers.new.items
-        runtime.old runtime.new vault.old vault.new }
+        result.refusal runtime.old runtime.new vault.old vault.new }
+    ensures limited { result.limited ≡ save_limited (keeper_lines round.now) answers.new.items }
 {
     let mut line_ops = LineOps::new();
     let mut count = 0;
-    let mut refused = false;
+    let mut end = KeeperEnd {
+        refusal: None,
+        limited: false,
+    };
     for index in 0..round.len() {
         if let Some(line) = keeper_line(round, index, &mut line_ops) {
-            let answer = answer_line(runtime, vault, gate, line, count, refused);
-            refused = refused_after(refused, answer);
+            let answer = answer_line(alloc, runtime, vault, gate, line, count, &mut end);
             answers.push_reserved(answer);
             count += 1;
         }
     }
-}
-
-// Whether no line is run behind the answer.
-fn refused_after(refused: bool, answer: Answer) -> bool
-    ensures { result ≡ (refused || refuses answer) }
-{
-    refused || is_refusal(answer)
+    end
 }
 
 // Answers a line: it is not run behind a refusal.
 fn answer_line<D: Disk, G: Gate>(
+    alloc: Global,
     runtime: &mut Runtime,
     vault: &mut Vault<D>,
     gate: &G,
     line: KeeperLine,
     count: u32,
-    refused: bool,
+    end: &mut KeeperEnd,
 ) -> Answer
     requires can { IsAsked line }
-    requires workers { length runtime.old.logs ≡ 8 }
-    requires up { refused ≡ false → runtime.old.save.down ≡ None }
-    requires stored { refused ≡ false
-        → IsStored D.tells D.clock D.image_at vault.old.save runtime.old.save.newest }
+    requires ready { end.old.refusal ≡ None → CanKeep D.tells D.clock D.image_at runtime.old vault.old }
     requires tie_room { vec_len vault.old.ties < vec_capacity vault.old.ties }
-    ensures steps { StepsKeeper D.tells D.clock D.image_at D.faults refused line result
+    ensures steps { StepsKeeper D.tells D.clock D.image_at D.faults end.old.refusal line result end.new.refusal
         runtime.old runtime.new vault.old vault.new }
+    ensures limited { end.new.limited ≡ (end.old.limited || is_limited line result) }
 {
-    if refused {
+    if end.refusal.is_some() {
         return Answer::Unrun;
     }
     gate.before(KEEPER, count);
-    let answer = run_line(runtime, vault, line);
+    let (answer, refusal) = run_line(alloc, runtime, vault, line);
     gate.after(KEEPER, count);
+    end.refusal = refusal;
+    end.limited = end.limited || met_limit(line, answer);
     answer
+}
+
+// Whether a save met the last sequence.
+fn met_limit(line: KeeperLine, answer: Answer) -> bool
+    ensures { result ≡ is_limited line answer }
+{
+    match line {
+        KeeperLine::Save => matches!(answer, Answer::Limit),
+        KeeperLine::Epoch | KeeperLine::Glean | KeeperLine::Drop => false,
+    }
 }
 
 // What the line asks for, where it is the maintenance thread's.
@@ -110,34 +131,24 @@ fn keeper_line(round: &Round<'_>, index: usize, line_ops: &mut LineOps) -> Optio
     }
 }
 
-/// Whether an answer is a refusal behind which no line is run.
-pub(crate) fn is_refusal(answer: Answer) -> bool
-    ensures { result ≡ refuses answer }
-{
-    matches!(answer, Answer::Device | Answer::Damaged | Answer::Memory)
-}
-
-/// Whether one of the answers is such a refusal.
-pub(crate) fn has_refused(answers: &[Answer]) -> bool
-    ensures { result ≡ list_any refuses answers.now }
-{
-    answers.iter().any(|answer| is_refusal(*answer))
-}
-
-// Runs a line.
-fn run_line<D: Disk>(runtime: &mut Runtime, vault: &mut Vault<D>, line: KeeperLine) -> Answer
+// Runs a line. Answers it, and tells the refusal behind which no line is run, if it is one.
+fn run_line<D: Disk>(
+    alloc: Global,
+    runtime: &mut Runtime,
+    vault: &mut Vault<D>,
+    line: KeeperLine,
+) -> (Answer, Option<End>)
     requires can { IsAsked line }
-    requires workers { length runtime.old.logs ≡ 8 }
-    requires up { runtime.old.save.down ≡ None }
-    requires stored { IsStored D.tells D.clock D.image_at vault.old.save runtime.old.save.newest }
+    requires ready { CanKeep D.tells D.clock D.image_at runtime.old vault.old }
     requires tie_room { vec_len vault.old.ties < vec_capacity vault.old.ties }
-    ensures steps { StepsKeeper D.tells D.clock D.image_at D.faults false line result
+    ensures steps { StepsLine D.tells D.clock D.image_at D.faults line result.0 result.1
         runtime.old runtime.new vault.old vault.new }
 {
     match line {
-        KeeperLine::Epoch => advance_line(runtime),
+        KeeperLine::Epoch => (advance_line(runtime), None),
         KeeperLine::Save => save_line(runtime, vault),
-        KeeperLine::Glean | KeeperLine::Drop => unreachable!(),
+        KeeperLine::Glean => glean_line(alloc, runtime, vault),
+        KeeperLine::Drop => unreachable!(),
     }
 }
 
@@ -154,37 +165,86 @@ fn advance_line(runtime: &mut Runtime) -> Answer
 }
 
 // Answers the epoch that was saved.
-fn save_line<D: Disk>(runtime: &mut Runtime, vault: &mut Vault<D>) -> Answer
-    requires workers { length runtime.old.logs ≡ 8 }
-    requires up { runtime.old.save.down ≡ None }
-    requires stored { IsStored D.tells D.clock D.image_at vault.old.save runtime.old.save.newest }
+fn save_line<D: Disk>(runtime: &mut Runtime, vault: &mut Vault<D>) -> (Answer, Option<End>)
+    requires ready { CanKeep D.tells D.clock D.image_at runtime.old vault.old }
     requires tie_room { vec_len vault.old.ties < vec_capacity vault.old.ties }
-    ensures { StepsSave D.tells D.clock D.image_at D.faults result
+    ensures steps { StepsSave D.tells D.clock D.image_at D.faults result.0
         runtime.old runtime.new vault.old vault.new }
+    ensures refusal { result.1 ≡ save_refusal result.0 }
 {
     match save_marked(runtime, vault) {
-        Ok(epoch) => Answer::Save { epoch },
-        Err(SaveFault::Limit { .. }) => Answer::Limit,
-        Err(SaveFault::Device | SaveFault::Down { .. }) => Answer::Device,
+        Ok(epoch) => (Answer::Save { epoch }, None),
+        Err(SaveFault::Limit { .. }) => (Answer::Limit, None),
+        Err(SaveFault::Device | SaveFault::Down { .. }) => {
+            (Answer::Device, Some(End::Device(Device::Save)))
+        }
     }
 }
 
-/// Stores what the logs' marks allow.
+// Answers the snapshot that was made, or why none was.
+fn glean_line<D: Disk>(
+    alloc: Global,
+    runtime: &mut Runtime,
+    vault: &mut Vault<D>,
+) -> (Answer, Option<End>)
+    requires ready { CanKeep D.tells D.clock D.image_at runtime.old vault.old }
+    ensures steps { StepsGlean D.tells D.clock D.image_at D.faults result.0 result.1
+        runtime.old runtime.new vault.old vault.new }
+{
+    told_of_glean(glean_closed(alloc, runtime, vault))
+}
+
+// What is told of a glean: the answer, and the refusal behind which no line is run.
+fn told_of_glean(gleaned: Result<Gleaned, OrMemory<GleanFault>>) -> (Answer, Option<End>)
+    ensures answer { result.0 ≡ glean_answer gleaned }
+    ensures refusal { result.1 ≡ glean_refusal gleaned }
+{
+    match gleaned {
+        Ok(Gleaned::Empty) => (Answer::Empty, None),
+        Ok(Gleaned::Snap { epoch, new }) => (Answer::Snap { epoch, new }, None),
+        Err(OrMemory::Fault(GleanFault::Deep)) => (Answer::Deep, None),
+        Err(OrMemory::Fault(GleanFault::Limit { .. })) => (Answer::SnapFull, None),
+        Err(OrMemory::Fault(GleanFault::Device(device))) => {
+            (Answer::Device, Some(End::Device(device)))
+        }
+        Err(OrMemory::Fault(GleanFault::Damaged { device, at })) => {
+            (Answer::Damaged, Some(End::Damaged { device, at }))
+        }
+        Err(OrMemory::Memory) => (Answer::Memory, Some(End::Memory)),
+    }
+}
+
+/// Stores what the logs' marks allow, and what counts beside them.
 pub(crate) fn save_marked<D: Disk>(
     runtime: &mut Runtime,
     vault: &mut Vault<D>,
 ) -> Result<u32, SaveFault>
-    requires workers { length runtime.old.logs ≡ 8 }
-    requires up { runtime.old.save.down ≡ None }
-    requires stored { IsStored D.tells D.clock D.image_at vault.old.save runtime.old.save.newest }
+    requires ready { CanKeep D.tells D.clock D.image_at runtime.old vault.old }
     requires tie_room { vec_len vault.old.ties < vec_capacity vault.old.ties }
     ensures saves { SavesMarks D.tells D.clock D.image_at D.faults runtime.old.stands.clock.epoch
-        (logs_marks runtime.old.logs) runtime.old.save runtime.new.save vault.old vault.new result }
-    ensures stands { runtime.new.stands ≡ runtime.old.stands }
-    ensures logs { runtime.new.logs ≡ runtime.old.logs }
-    ensures down { runtime.new.down ≡ runtime.old.down }
+        (logs_marks runtime.old.logs) (beside_of runtime.old) runtime.old.save runtime.new.save
+        vault.old vault.new result }
+    ensures alone { runtime.new ≡ record runtime.old { save = runtime.new.save } }
 {
-    runtime
-        .save
-        .save_marks(runtime.engine.clock.epoch, &runtime.logs, vault)
+    let beside = runtime.beside();
+    save_marks(
+        &mut runtime.save,
+        runtime.engine.clock.epoch,
+        &runtime.logs,
+        &beside,
+        vault,
+    )
+}
+
+impl Runtime {
+    // What counts beside the growing log files.
+    fn beside(&self) -> Beside
+        ensures { result ≡ beside_of self.now }
+    {
+        Beside {
+            growing: self.side,
+            closed: self.counted,
+            count: self.store.count(),
+        }
+    }
 }

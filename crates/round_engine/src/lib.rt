@@ -6,11 +6,7 @@
 //!   what they changed; the join makes the round's last epoch durable or ends the run, with the first refusal
 //!   (`rounds`, by `RanRound`). Of the vault, each log file grew by its worker's lines and its marks count what is
 //!   durable; the savepoints stored are those that are told (`rounds`, by `LeavesVault`). After want of memory a
-//!   front of the workers' lines was run, nothing was stored, and the run has ended (`rounds`, by `StopsIn`). And
-//!   whatever it answers, each joint crash of moments since a run began, those within the round too, finds a savepoint
-//!   that it could find before or one that the round stored, with all that it counts; a stop as it returns is such a
-//!   crash, none is lost, and none from then on stands for an earlier epoch than the one that was made durable
-//!   (`rounds`, by `CarriesCrashes`).
+//!   front of the workers' lines was run, nothing was stored, and the run has ended (`rounds`, by `StopsIn`).
 //! - [`join_round`]: the same of a round without lines (`joins`, by `Joins`).
 //! - [`Runtime::new`] begins in the settled state, in the epoch after the saved one, with empty logs (`begins`).
 //!
@@ -25,13 +21,18 @@
 //! after another's, and the growing log files are those of even number.
 #![tactic(auto)]
 
+mod gleans;
 mod joins;
 mod keeper;
 mod report;
 mod rounds;
 mod runtime;
+mod sides;
+mod swaps;
 mod workers;
 
+pub use gleaner::{GleanFault, Gleaned};
+pub use gleans::glean;
 pub use joins::join_round;
 pub use report::{End, LimitName, Report};
 pub use rounds::round;

@@ -1,28 +1,32 @@
 // One round on the plain map, over a vault.
-ghost use Rattle.std.specs.Prelude.{◌≡◌, ◌≤◌, ◌<◌, ◌+◌, ℕ, [], None, false, IfOk, OnOk, flat_map, is_some};
-ghost use Rattle.std.specs.Prelude.{Some, length, slice_get, vec_capacity, vec_len};
+ghost use Rattle.std.specs.Prelude.{◌≡◌, ◌≤◌, ◌<◌, ◌+◌, ℕ, [], false, IfOk, OnOk, flat_map, is_some};
+ghost use Rattle.std.specs.Prelude.{Some, length, option_map, slice_get, vec_capacity, vec_len};
 ghost use Rattle.std.specs.List.{AllByRecursion, list_any};
 ghost use Rattle.outside.specs.Vault.{IsWhole};
 ghost use Rattle.script_grammar.specs.Script.{lines_of_worker, worker_lines};
+ghost use Rattle.log_writer.specs.Points.{sequence_of};
 ghost use Rattle.tx_script.specs.Run.{CanRun, entries_of_workers, is_limit};
+ghost use Rattle.worker_logs.specs.Logs.{LogState};
 ghost use Rattle.round_engine.specs.Plainly.{AreConsecutive, DrawsFew, DrawsTo};
 ghost use Rattle.round_engine.specs.RanRound.{Rounds};
-ghost use Rattle.round_engine.specs.Ends.{where_true};
-ghost use Rattle.round_engine.specs.Phases.{IsReadyToJoin, JoinsAs, RunsPhases, ended_as, fails_device, made};
-ghost use Rattle.round_engine.specs.Phases.{refused_by};
+ghost use Rattle.round_engine.specs.Ends.{device_place, limit_at, where_true};
+ghost use Rattle.round_engine.specs.Phases.{IsReadyToJoin, JoinsAs, RoomAlone, RunsPhases, ended_as, fails_device};
+ghost use Rattle.round_engine.specs.Refusals.{damage_in as damage_of_end, device_in as device_of_end};
 ghost use Rattle.round_engine.specs.Refusals.{device_refused as device_of, end_told, first_failed as failed_from};
-ghost use Rattle.round_engine.specs.Refusals.{first_full as full_of, is_sequence as met_sequence, leaves_out};
-ghost use Rattle.round_engine.specs.Refusals.{lines_refused as lines_end};
-ghost use Rattle.round_engine.specs.Refusals.{names_device};
-ghost use Rattle.log_writer.specs.Save.{IsStored};
+ghost use Rattle.round_engine.specs.Refusals.{first_full as full_of, first_told as told_first, leaves_out};
+ghost use Rattle.round_engine.specs.Refusals.{is_sequence as met_sequence, lines_refused as lines_end};
+ghost use Rattle.round_engine.specs.Refusals.{memory_in as memory_of_end};
+ghost use Rattle.round_engine.specs.Sides.{SameButGrowing, growing_in};
+ghost use Rattle.round_engine.specs.Keeping.{CanKeep};
 ghost use Rattle.round_engine.specs.Standing.{StandsOn};
 ghost use Rattle.round_engine.specs.Steps.{AreLogsUp};
 ghost use Rattle.round_engine.specs.Workers.{RunsWorkers, idled};
-ghost use Rattle.worker_logs.specs.Logs.{LogState};
+ghost use Rattle.round_engine.specs.declared.report.End.TheVariants as ends;
 
-use crate::joins::{bank_of, join_logs, limit};
-use crate::keeper::{has_refused, keeper_count, run_keeper};
+use crate::joins::{join_logs, limit};
+use crate::keeper::{KeeperEnd, keeper_count, run_keeper};
 use crate::runtime::WORKERS;
+use crate::sides::growing_number;
 use crate::workers::{LogEnd, WorkersRan, idle_without_lines, run_workers};
 use crate::{End, LimitName, Report, Runtime};
 use outside::{Device, Disk, Gate, Vault};
@@ -31,13 +35,15 @@ use std::alloc::Global;
 use std::sync::Wait;
 use std::thread::Threads;
 use tx_script::{Answer, Answers, Outcomes, Round, RoundOutcomes};
+use worker_logs::Side;
 
 /// Runs worker 0's lines, then worker 1's and on, each line between the gate's two calls, then those of the
-/// maintenance thread; then the round is joined: the epoch is advanced, the logs are made durable, and a savepoint
-/// counts them. The growing log files are lent to their workers meanwhile.
+/// maintenance thread; then the round is joined: the epoch is advanced, the logs are made durable, a savepoint counts
+/// them, and where nothing of the closed log files counts, these grow from then on. The growing log files are lent to
+/// their workers meanwhile.
 ///
 /// From the line on at which its log is refused a worker runs none. Then, and where the maintenance thread was
-/// refused by a device, the join is left out, and the run ends.
+/// refused by a device, by damage or by want of memory, the join is left out, and the run ends.
 ///
 /// After want of memory a front of the round has been run, and no further round is.
 pub fn round<R: Threads + Wait + Sync, D: Disk + Drop, G: Gate + Sync>(
@@ -85,9 +91,7 @@ fn idle_logs(runtime: &mut Runtime, round: &Round<'_>)
     ensures idle { (worker : ℕ) (log : LogState) → slice_get runtime.old.logs worker ≡ Some log
         → slice_get runtime.new.logs worker ≡ Some (idled (lines_of_worker round.now worker) log) }
     ensures length { length runtime.new.logs ≡ length runtime.old.logs }
-    ensures stands { runtime.new.stands ≡ runtime.old.stands }
-    ensures save { runtime.new.save ≡ runtime.old.save }
-    ensures down { runtime.new.down ≡ runtime.old.down }
+    ensures alone { runtime.new ≡ record runtime.old { logs = runtime.new.logs } }
 {
     idle_without_lines(&mut runtime.logs, round);
 }
@@ -102,20 +106,17 @@ fn run_round<D: Disk + Drop, G: Gate>(
     gate: &G,
 ) -> Result<Report, Memory>
     requires lines { CanRun runtime.old.stands.decls round.now }
-    requires whole { IsWhole vault.old }
-    requires logs { AreLogsUp D.tells runtime.old.logs vault.old.even.items }
+    requires ready { CanKeep D.tells D.clock D.image_at runtime.old vault.old }
+    requires logs { AreLogsUp D.tells runtime.old.logs (growing_in runtime.old.side vault.old) }
     requires flushed { AllByRecursion (λ log. log.journal.lines ≡ []) runtime.old.logs }
-    requires workers { length runtime.old.logs ≡ 8 }
-    requires up { runtime.old.save.down ≡ None }
-    requires stored { IsStored D.tells D.clock D.image_at vault.old.save runtime.old.save.newest }
     ensures phases { RunsPhases D.tells D.clock D.image_at D.faults round.now runtime.old runtime.new
         vault.old vault.new result }
 {
     let asked = keeper_count(round);
     let mut answers = make_room(alloc, vault, asked)?;
     let ran = run_lent(alloc, runtime, vault, round, gate)?;
-    run_keeper(runtime, vault, round, gate, &mut answers);
-    let refused = Refused::in_lines(runtime, &ran, answers.as_slice());
+    let keeper = run_keeper(alloc, runtime, vault, round, gate, &mut answers);
+    let refused = Refused::in_lines(runtime, &ran, keeper);
     let (durable, end) = join(runtime, vault, refused);
     Ok(Report {
         outcomes: ran.outcomes,
@@ -125,7 +126,7 @@ fn run_round<D: Disk + Drop, G: Gate>(
     })
 }
 
-// Makes room for so many answers, for the record of their stores and the join's, and for that of a cut of each growing
+// Makes room for so many answers, for the record of their stores and the join's, and for that of a cut of each closed
 // log file.
 fn make_room<D: Disk>(
     alloc: Global,
@@ -135,12 +136,8 @@ fn make_room<D: Disk>(
     requires few { asked ≤ 65536 }
     ensures answers { IfOk result (λ answers. (answers.items ≡ []) × (asked ≤ vec_capacity answers)) }
     ensures tie_room { OnOk result (vec_len vault.new.ties + asked + 1 ≤ vec_capacity vault.new.ties) }
-    ensures even { vault.new.even ≡ vault.old.even }
-    ensures save { vault.new.save ≡ vault.old.save }
-    ensures snaps { vault.new.snaps ≡ vault.old.snaps }
-    ensures odd { vault.new.odd ≡ vault.old.odd }
-    ensures ties { vault.new.ties.items ≡ vault.old.ties.items }
-    ensures cuts { vault.new.cuts.items ≡ vault.old.cuts.items }
+    ensures cut_room { OnOk result (vec_len vault.new.cuts + 8 ≤ vec_capacity vault.new.cuts) }
+    ensures alone { RoomAlone vault.old vault.new }
 {
     let answers = Vec::with_capacity(alloc, asked)?;
     vault.ties.reserve(asked + 1)?;
@@ -159,17 +156,15 @@ fn run_lent<D: Disk + Drop, G: Gate>(
     requires lines { CanRun runtime.old.stands.decls round.now }
     requires whole { IsWhole vault.old }
     requires workers { length runtime.old.logs ≡ 8 }
-    requires up { AreLogsUp D.tells runtime.old.logs vault.old.even.items }
+    requires up { AreLogsUp D.tells runtime.old.logs (growing_in runtime.old.side vault.old) }
     requires flushed { AllByRecursion (λ log. log.journal.lines ≡ []) runtime.old.logs }
     ensures runs { RunsWorkers D.tells D.clock D.image_at D.faults round.now
         runtime.old.stands runtime.new.stands runtime.old.logs runtime.new.logs
-        vault.old.even.items vault.new.even.items result }
-    ensures runtime { (runtime.new.save ≡ runtime.old.save) × (runtime.new.down ≡ runtime.old.down) }
-    ensures vault { (vault.new.save ≡ vault.old.save) × (vault.new.snaps ≡ vault.old.snaps)
-        × (vault.new.odd ≡ vault.old.odd) × (vault.new.ties ≡ vault.old.ties)
-        × (vault.new.cuts ≡ vault.old.cuts) }
+        (growing_in runtime.old.side vault.old) (growing_in runtime.old.side vault.new) result }
+    ensures runtime { runtime.new ≡ record runtime.old { stands = runtime.new.stands; logs = runtime.new.logs } }
+    ensures vault { SameButGrowing runtime.old.side vault.old vault.new }
 {
-    let mut growing = std::mem::replace(&mut vault.even, Vec::new(alloc));
+    let mut growing = lend(alloc, runtime.side, vault);
     let ran = run_workers(
         alloc,
         &mut runtime.engine,
@@ -178,30 +173,59 @@ fn run_lent<D: Disk + Drop, G: Gate>(
         round,
         gate,
     );
-    vault.even = growing;
+    give_back(runtime.side, vault, growing);
     ran
+}
+
+// The growing log files, out of the vault.
+fn lend<D: Disk + Drop>(alloc: Global, side: Side, vault: &mut Vault<D>) -> Vec<D>
+    ensures growing { result.items ≡ growing_in side vault.old }
+    ensures vault { SameButGrowing side vault.old vault.new }
+{
+    match side {
+        Side::Even => std::mem::replace(&mut vault.even, Vec::new(alloc)),
+        Side::Odd => std::mem::replace(&mut vault.odd, Vec::new(alloc)),
+    }
+}
+
+// Puts the growing log files into the vault.
+fn give_back<D: Disk + Drop>(side: Side, vault: &mut Vault<D>, growing: Vec<D>)
+    ensures growing { growing_in side vault.new ≡ growing.items }
+    ensures vault { SameButGrowing side vault.old vault.new }
+{
+    match side {
+        Side::Even => vault.even = growing,
+        Side::Odd => vault.odd = growing,
+    }
 }
 
 // What the lines of a round were refused, each kind by itself.
 #[derive(Clone, Copy)]
 struct Refused {
     device: Option<Device>,
+    keeper: Option<End>,
     draw: Option<u64>,
     full: Option<u64>,
+    sequence: Option<u64>,
 }
 
 impl Refused {
-    fn in_lines(runtime: &Runtime, ran: &WorkersRan, answers: &[Answer]) -> Self
+    fn in_lines(runtime: &Runtime, ran: &WorkersRan, keeper: KeeperEnd) -> Self
         requires { length ran.now.logs.items ≤ 8 }
-        ensures device { result.device ≡ device_of answers.now ran.now.logs.items }
+        ensures device { result.device ≡ device_of runtime.now.side keeper.refusal ran.now.logs.items }
+        ensures keeper { result.keeper ≡ keeper.refusal }
         ensures draw { result.draw ≡ where_true (list_any (list_any is_limit) ran.now.outcomes)
             runtime.now.stands.clock.draw }
         ensures full { result.full ≡ full_of ran.now.logs.items }
+        ensures sequence { result.sequence ≡ where_true keeper.limited (sequence_of runtime.now.save.newest) }
     {
+        let log = first_failed(runtime.side, ran.logs.as_slice());
         Refused {
-            device: device_refused(answers, ran.logs.as_slice()),
+            device: first_told(device_in(keeper.refusal), log),
+            keeper: keeper.refusal,
             draw: draw_refused(runtime, ran.outcomes.as_slice()),
             full: first_full(ran.logs.as_slice()),
+            sequence: sequence_refused(runtime, keeper.limited),
         }
     }
 
@@ -209,12 +233,13 @@ impl Refused {
     fn leaves_join_out(&self) -> bool
         ensures { result ≡ leaves_out self.now }
     {
-        self.device.is_some() || self.full.is_some()
+        self.device.is_some() || self.full.is_some() || self.keeper.is_some()
     }
 }
 
 // Joins the round, unless its lines were refused in a way that leaves that out. Answers the epoch that was made
-// durable, and the first refusal of all: devices, then the epoch, the draws, a full log file and the sequence.
+// durable, and the first refusal of all: devices, then damage, the epoch, the draws, a full log file, the sequence, and
+// memory.
 fn join<D: Disk>(
     runtime: &mut Runtime,
     vault: &mut Vault<D>,
@@ -223,6 +248,7 @@ fn join<D: Disk>(
     requires ready { leaves_out refused ≡ false → IsReadyToJoin D.tells D.clock D.image_at D.faults
         runtime.old vault.old }
     requires tie_room { vec_len vault.old.ties < vec_capacity vault.old.ties }
+    requires cut_room { vec_len vault.old.cuts + 8 ≤ vec_capacity vault.old.cuts }
     ensures joins { JoinsAs D.tells D.clock D.image_at D.faults refused runtime.old runtime.new
         vault.old vault.new result.0 result.1 }
 {
@@ -230,37 +256,16 @@ fn join<D: Disk>(
         let end = runtime.end_with(first_refusal(refused, None), refused.device.is_some());
         return (None, end);
     }
-    let joined = join_logs(runtime, vault);
-    end_joined(runtime, refused, joined)
-}
-
-// Ends the run if the lines or the join were refused. Answers what was made durable, and the first refusal of all.
-fn end_joined(
-    runtime: &mut Runtime,
-    refused: Refused,
-    joined: Result<u32, End>,
-) -> (Option<u32>, Option<End>)
-    ensures durable { result.0 ≡ made joined }
-    ensures end { result.1 ≡ end_told refused (refused_by joined) }
-    ensures runtime { runtime.new ≡ ended_as runtime.old (is_some result.1) (fails_device joined) }
-{
-    match joined {
-        Ok(epoch) => (
-            Some(epoch),
-            runtime.end_with(first_refusal(refused, None), false),
-        ),
-        Err(end) => (
-            None,
-            runtime.end_with(first_refusal(refused, Some(end)), is_device(end)),
-        ),
-    }
+    let (durable, end) = join_logs(runtime, vault);
+    let down = names_device(end);
+    (durable, runtime.end_with(first_refusal(refused, end), down))
 }
 
 /// Whether it is a device that failed.
-pub(crate) fn is_device(end: End) -> bool
-    ensures { result ≡ names_device end }
+pub(crate) fn names_device(end: Option<End>) -> bool
+    ensures { result ≡ fails_device end }
 {
-    matches!(end, End::Device(_))
+    matches!(end, Some(End::Device(_)))
 }
 
 impl Runtime {
@@ -275,8 +280,8 @@ impl Runtime {
     }
 }
 
-// The first of the lines' refusals and the join's. A keeper line that met the last sequence needs no place of its own:
-// the join's save meets it again, or something told before it kept the join from that.
+// The first of the lines' refusals and the join's. What the join was refused comes before what the lines were behind
+// which it was made, but for the last sequence, behind a line that was refused a number.
 fn first_refusal(refused: Refused, joined: Option<End>) -> Option<End>
     ensures { result ≡ end_told refused joined }
 {
@@ -294,10 +299,58 @@ fn first_refusal(refused: Refused, joined: Option<End>) -> Option<End>
 fn lines_refused(refused: Refused) -> Option<End>
     ensures { result ≡ lines_end refused }
 {
-    let device = refused.device.map(End::Device);
-    let draw = refused.draw.map(|number| limit(LimitName::Draw, number));
-    let full = refused.full.map(|length| limit(LimitName::Bank, length));
-    device.or(draw).or(full)
+    let draw = by_limit(LimitName::Draw, refused.draw);
+    let full = by_limit(LimitName::Bank, refused.full);
+    let sequence = by_limit(LimitName::Sequence, refused.sequence);
+    let limits = draw.or(full).or(sequence);
+    by_device(refused.device)
+        .or(damage_in(refused.keeper))
+        .or(limits)
+        .or(memory_in(refused.keeper))
+}
+
+// The refusal by a device, if one failed.
+fn by_device(device: Option<Device>) -> Option<End>
+    ensures { result ≡ option_map ends.Device device }
+{
+    device.map(End::Device)
+}
+
+// The refusal by a limit of this name, if it was met.
+fn by_limit(name: LimitName, met: Option<u64>) -> Option<End>
+    ensures { result ≡ option_map (limit_at name) met }
+{
+    met.map(|number| limit(name, number))
+}
+
+// The device that failed, of what the maintenance thread's lines were refused.
+fn device_in(refusal: Option<End>) -> Option<Device>
+    ensures { result ≡ device_of_end refusal }
+{
+    match refusal {
+        Some(End::Device(device)) => Some(device),
+        Some(End::Damaged { .. } | End::Limit { .. } | End::Memory) | None => None,
+    }
+}
+
+// The damage that was found.
+fn damage_in(refusal: Option<End>) -> Option<End>
+    ensures { result ≡ damage_of_end refusal }
+{
+    match refusal {
+        Some(End::Damaged { .. }) => refusal,
+        Some(End::Device(_) | End::Limit { .. } | End::Memory) | None => None,
+    }
+}
+
+// The want of memory.
+fn memory_in(refusal: Option<End>) -> Option<End>
+    ensures { result ≡ memory_of_end refusal }
+{
+    match refusal {
+        Some(End::Memory) => refusal,
+        Some(End::Device(_) | End::Damaged { .. } | End::Limit { .. }) | None => None,
+    }
 }
 
 // Whether it is the last sequence that was met.
@@ -313,15 +366,38 @@ fn is_sequence(end: End) -> bool
     )
 }
 
-// The device that lines were refused by: the save, or the first growing log file that failed.
-fn device_refused(answers: &[Answer], logs: &[LogEnd]) -> Option<Device>
-    requires { length logs.now ≤ 8 }
-    ensures { result ≡ device_of answers.now logs.now }
+// The one of two devices that is told first, if both failed.
+fn first_told(device: Option<Device>, other: Option<Device>) -> Option<Device>
+    ensures { result ≡ told_first device other }
 {
-    if has_refused(answers) {
-        return Some(Device::Save);
+    let (Some(one), Some(two)) = (device, other) else {
+        return device.or(other);
+    };
+    if place_of(one) <= place_of(two) {
+        return device;
     }
-    first_failed(logs)
+    other
+}
+
+// Where a device stands in the order in which faults are told.
+fn place_of(device: Device) -> u16
+    ensures { result ≡ device_place device }
+{
+    match device {
+        Device::Save => 0,
+        Device::Snaps => 1,
+        Device::Bank(number) => u16::from(number) + 2,
+    }
+}
+
+// The sequence at which lines were refused a save.
+fn sequence_refused(runtime: &Runtime, limited: bool) -> Option<u64>
+    ensures { result ≡ where_true limited (sequence_of runtime.now.save.newest) }
+{
+    if limited {
+        return Some(runtime.save.sequence());
+    }
+    None
 }
 
 // The draw at which lines were refused a number.
@@ -335,13 +411,13 @@ fn draw_refused(runtime: &Runtime, outcomes: &[Outcomes]) -> Option<u64>
 }
 
 // The first growing log file that failed.
-fn first_failed(logs: &[LogEnd]) -> Option<Device>
+fn first_failed(side: Side, logs: &[LogEnd]) -> Option<Device>
     requires { length logs.now ≤ 8 }
-    ensures { result ≡ failed_from 0 logs.now }
+    ensures { result ≡ failed_from side 0 logs.now }
 {
     for worker in 0..logs.len() {
         if logs[worker].failed {
-            return Some(bank_of(worker));
+            return Some(Device::Bank(growing_number(side, worker)));
         }
     }
     None

@@ -1,22 +1,30 @@
 // The engine with its clock, the store of savepoints and the workers' logs.
-ghost use Rattle.std.specs.Prelude.{◌≡◌, ◌≤◌, ◌*◌, ℕ, [], Some, None, IfOk, replicate};
+ghost use Rattle.std.specs.Prelude.{◌≡◌, ◌≤◌, ℕ, [], Some, None, true, IfOk, length, replicate};
+ghost use Rattle.std.specs.Option.{option_map};
 ghost use Rattle.outside.specs.Vault.{IsWhole, disk_in};
 ghost use Rattle.outside.specs.declared.vault.Device.TheVariants as devices;
 ghost use Rattle.serial_model.specs.Numbers.{IsConfig};
+ghost use Rattle.wire_form.specs.Pages.{Contents, decls_of};
+ghost use Rattle.log_writer.specs.Points.{saved_of};
 ghost use Rattle.log_writer.specs.Save.{IsStored};
+ghost use Rattle.snapshot_store.specs.Content.{SnapshotStands, words_of};
+ghost use Rattle.snapshot_store.specs.Store.{Holds};
 ghost use Rattle.tx_script.specs.Run.{clock_after};
 ghost use Rattle.worker_logs.specs.Logs.{fresh_log};
-ghost use Rattle.worker_logs.specs.Saves.{CountsOf, IsKnown};
+ghost use Rattle.worker_logs.specs.Saves.{CountsOf};
+ghost use Rattle.worker_logs.specs.declared.savepoints.Side.TheVariants.{Even};
 ghost use Rattle.round_engine.specs.Begun.{begun};
-ghost use Rattle.round_engine.specs.Logs.{AreLogs};
+ghost use Rattle.round_engine.specs.Logs.{AreClosedFiles, AreLogs};
 ghost use Rattle.round_engine.specs.Standing.{StandsOn};
 
+use log_writer::Save;
 use outside::{Disk, Vault};
 use recovery_core::Settled;
 use serial_model::{Config, Memory, Number, Plain};
+use snapshot_store::SnapStore;
 use std::alloc::Global;
 use std::marker::Model;
-use worker_logs::{Savepoints, WorkerLog};
+use worker_logs::{Side, WorkerLog};
 
 /// How many workers there are.
 pub(crate) const WORKERS: usize = 8;
@@ -52,7 +60,17 @@ impl Model for Engine {
 pub struct Runtime {
     pub(crate) engine: Engine,
     /// The store of savepoints.
-    pub(crate) save: Savepoints,
+    pub(crate) save: Save,
+    /// The pages of snapshots.
+    pub(crate) store: SnapStore,
+    /// How many pages are let in.
+    pub(crate) room: u32,
+    /// Which log files grow.
+    pub(crate) side: Side,
+    /// How many bytes of each worker's closed log file count.
+    pub(crate) counted: [u64; 8],
+    /// The epoch at which they were closed: none of their commits is of a later one.
+    pub(crate) closed_at: u32,
     /// The workers' logs.
     pub(crate) logs: Vec<WorkerLog>,
     /// Whether a device failed, or memory was wanted in a round.
@@ -69,7 +87,17 @@ impl Model for Runtime {
 
     ghost coded = { Prim.hlevel (codes, finite.code {R = key_cmp} coded_key coded_ℕ) };
 
-    ghost view = { λ r. record { stands = r.engine; save = r.save; logs = r.logs.items; down = r.down } };
+    ghost view = { λ r. record {
+      stands = r.engine;
+      save = r.save;
+      store = r.store;
+      room = r.room;
+      side = r.side;
+      counted = r.counted;
+      closed_at = r.closed_at;
+      logs = r.logs.items;
+      down = r.down;
+    } };
 }
 
 impl Runtime {
@@ -85,20 +113,28 @@ impl Runtime {
         requires first { config.first ≡ clock_after settled.saved.epoch }
         requires pages { settled.saved.count ≤ config.snap }
         requires whole { IsWhole vault.old }
-        requires known { IsKnown settled.save.newest settled.saved }
+        requires known { Some settled.saved ≡ option_map saved_of settled.save.newest }
         requires nothing { settled.saved.lengths ≡ replicate 16 0 }
         requires up { settled.save.down ≡ None }
         requires stored { IsStored D.tells D.clock D.image_at vault.old.save settled.save.newest }
-        ensures begins { IfOk result (λ runtime.
-            runtime ≡ begun settled.decls settled.state settled.save config.first) }
+        requires sound { settled.store.sound ≡ true }
+        requires count { length settled.store.pages ≡ settled.saved.count }
+        requires holds { Holds D.tells vault.old.snaps settled.store.pages }
+        requires snapshot { (contents : Contents)
+            × SnapshotStands (words_of settled.store.pages) (length settled.store.pages) contents
+            × (settled.decls ≡ decls_of contents) × (contents.epoch ≤ settled.saved.epoch) }
+        ensures begins { IfOk result (λ runtime. runtime
+            ≡ begun settled.decls settled.state settled.save settled.store config.snap config.first) }
         ensures stands { IfOk result (λ runtime.
             StandsOn D.tells D.clock D.image_at runtime vault.new) }
         // Over log files that are empty as far as they tell, which a settling leaves.
-        ensures logs { ((worker : ℕ) (bank : D) → disk_in vault.old (devices.Bank (2 * worker)) ≡ Some bank
+        ensures logs { ((number : ℕ) (bank : D) → disk_in vault.old (devices.Bank number) ≡ Some bank
             → D.tells bank ≡ Some [])
             → IfOk result (λ runtime.
-            AreLogs D.tells D.clock D.image_at (λ worker. []) (λ worker. []) runtime vault.new) }
-        ensures counts { IfOk result (λ runtime. CountsOf (λ worker. []) (λ worker. []) runtime.save.newest) }
+            AreLogs D.tells D.clock D.image_at (λ worker. []) (λ worker. []) runtime vault.new
+            × AreClosedFiles D.tells D.clock D.image_at (λ worker. []) (λ worker. []) runtime vault.new) }
+        ensures counts { IfOk result (λ runtime.
+            CountsOf Even (λ worker. []) (λ worker. []) (λ worker. []) (λ worker. []) runtime.save.newest) }
         ensures vault { vault.new ≡ vault.old }
     {
         let _vault = &vault.ties;
@@ -124,25 +160,30 @@ impl Runtime {
 fn begin(alloc: Global, settled: Settled, config: Config) -> Result<Runtime, Memory>
     requires config { IsConfig config }
     requires first { config.first ≡ clock_after settled.saved.epoch }
-    requires known { IsKnown settled.save.newest settled.saved }
-    ensures { IfOk result (λ runtime.
-        runtime ≡ begun settled.decls settled.state settled.save config.first) }
+    ensures { IfOk result (λ runtime. runtime
+        ≡ begun settled.decls settled.state settled.save settled.store config.snap config.first) }
 {
     let Settled {
         save,
-        saved,
+        store,
+        saved: _,
         decls,
         state,
-        store: _,
     } = settled;
-    let logs = new_logs(alloc, config.first.epoch - 1)?;
+    let closed_at = config.first.epoch - 1;
+    let logs = new_logs(alloc, closed_at)?;
     Ok(Runtime {
         engine: Engine {
             plain: Plain { decls, state },
             clock: config.first,
             ended: false,
         },
-        save: Savepoints::new(save, saved),
+        save,
+        store,
+        room: config.snap,
+        side: Side::Even,
+        counted: [0; 8],
+        closed_at,
         logs,
         down: false,
     })

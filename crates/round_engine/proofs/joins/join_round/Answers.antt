@@ -1,31 +1,25 @@
 -- The steps of a join are a join.
-use Rattle.std.proofs.Common.{◌∙◌, ap, refl, true, Some, None, Ok, Err}
-use Rattle.std.specs.Prelude.{is_some}
-use Rattle.round_engine.specs.Phases.{ended_as}
-use Rattle.round_engine.specs.Refusals.{names_device}
-use Rattle.round_engine.specs.Standing.{RuntimeState, Standing}
-use Rattle.round_engine.proofs.JoinAlone.{join_alone}
-use Rattle.round_engine.proofs.RoundWhole.{goes_on_as, or_there}
+use Rattle.std.proofs.Common.{◌∙◌, ap, subst, sym}
+use Rattle.std.specs.Prelude.{◌||◌, is_some}
+use Rattle.round_engine.specs.Joins.{Joins}
+use Rattle.round_engine.specs.Phases.{ended_as, fails_device}
+use Rattle.round_engine.specs.Standing.{RuntimeState}
+use Rattle.round_engine.proofs.JoinAlone.{ended_still, join_alone}
 use Rattle.round_engine.proofs.joins.join_round.Goals as goal
 
-pub join_logs-requires-clause-stored : goal.join_logs-requires-clause-stored
-join_logs-requires-clause-stored g c = c.requires.stands.stored (c.requires.stands.up c.requires.up).save
+pub join_logs-durable-requires-clause-stored : goal.join_logs-durable-requires-clause-stored
+join_logs-durable-requires-clause-stored g c = c.requires.stands.stored (c.requires.stands.up c.requires.up).save
 
-pub returns-in-Ok : goal.returns-in-Ok
-returns-in-Ok g c = record {
-  joins = join_alone c.requires.stands c.requires.up (Ok c.in-Ok.epoch) c.join_logs.new.runtime c.in-Ok.ensures.runs
-      (Some c.in-Ok.epoch) None refl refl
-      (goes_on_as c.join_logs.new.runtime c.args.runtime.now.stands.ended
-      (ap (λ (s : Standing). s.ended) c.in-Ok.ensures.runs.stands) (c.in-Ok.ensures.down ∙ c.requires.up));
-}
-
-pub returns-in-Err : goal.returns-in-Err
-returns-in-Err g c =
-    let joined : RuntimeState = c.join_logs.new.runtime in
+pub returns : goal.returns
+returns g c =
+    let swapped : RuntimeState = c.join_logs-durable.new.runtime in
+    let durable = c.join_logs-durable.result.0 in
+    let end = c.join_logs-durable.result.1 in
+    let js = c.join_logs-durable.ensures.runs in
     record {
-      joins = join_alone c.requires.stands c.requires.up (Err c.in-Err.end) joined c.in-Err.ensures.runs None c.end_with.result refl
-          c.end_with.ensures.end
-          (c.end_with.ensures.runtime ∙ ap (λ d. ended_as joined true d) c.is_device.ensures
-          ∙ ap (λ b. ended_as joined b (names_device c.in-Err.end))
-          (or_there c.args.runtime.now.stands.ended c.end_with.result (ap is_some c.end_with.ensures.end)));
+      joins = subst (λ e. Joins g.D.Disk.tells g.D.Disk.clock g.D.Disk.image_at g.D.Disk.faults c.args.runtime.now
+          c.end_joined.new.self c.args.vault.now c.join_logs-durable.new.vault durable e) (sym c.end_joined.ensures.end)
+          (join_alone c.requires.stands c.requires.up durable end swapped js
+          (c.end_joined.ensures.runtime
+          ∙ ap (λ b. ended_as swapped (b || is_some end) (fails_device end)) (ended_still js)) g.met.D.Disk.reads);
     }

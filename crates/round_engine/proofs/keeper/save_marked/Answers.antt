@@ -11,4 +11,4 @@ save_marks-requires-clause-stored g c up =
     let same : c.runtime-inside.inside.0.1.0 ≡ c.args.runtime.now.save =
     ap (λ (i : Inside). i.save) c.runtime-inside.view_is ∙ ap (λ (r : RuntimeState). r.save) c.runtime.view_is in
     subst (λ (s : SaveState). IsStored g.D.Disk.tells g.D.Disk.clock g.D.Disk.image_at c.args.vault.now.save s.newest) (sym same)
-    c.requires.stored
+    c.requires.ready.stored

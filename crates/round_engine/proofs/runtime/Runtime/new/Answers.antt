@@ -1,31 +1,45 @@
 -- A runtime begins with empty logs.
-use Rattle.std.proofs.Common.{ap, subst, sym, []}
+use Rattle.std.proofs.Common.{◌∙◌, ap, arith, subst, sym, []}
 use Rattle.std.proofs.lemmas.Result.{IfOk-weaker}
 use Rattle.serial_model.specs.declared.number.Number.{Number}
 use Rattle.worker_logs.specs.Saves.{CountsOf}
-use Rattle.round_engine.specs.Logs.{AreLogs}
+use Rattle.worker_logs.specs.declared.savepoints.Side.TheVariants.{Even}
+use Rattle.round_engine.specs.Logs.{AreClosedFiles, AreLogs}
 use Rattle.round_engine.specs.Standing.{RuntimeState, StandsOn}
 use Rattle.round_engine.proofs.Beginning.{begun_counts, begun_logs, begun_stands}
 use Rattle.round_engine.proofs.runtime.Runtime.new.Goals as goal
 
 pub returns-clause-stands : goal.returns-clause-stands
 returns-clause-stands g c =
+    let snapshot = c.requires.snapshot in
     IfOk-weaker c.begin.result _ _ (λ runtime is.
     subst (λ (r : RuntimeState). StandsOn g.D.Disk.tells g.D.Disk.clock g.D.Disk.image_at r c.args.vault.now) (sym is)
-    (begun_stands c.args.settled.decls c.args.settled.state c.args.settled.save c.args.settled.saved c.args.config.first
-    c.args.vault.now c.requires.known (ap (λ (n : Number). n.epoch) c.requires.first) c.requires.whole c.requires.up
-    c.requires.stored)) c.begin.ensures
+    (begun_stands c.args.settled.decls c.args.settled.state c.args.settled.save c.args.settled.store c.args.config.snap
+    c.args.settled.saved c.args.config.first c.args.vault.now c.requires.known
+    (ap (λ (n : Number). n.epoch) c.requires.first) c.requires.whole c.requires.up c.requires.stored
+    (record {
+      sound = c.requires.sound;
+      holds = c.requires.holds;
+      contents = snapshot.0;
+      stands = snapshot.1;
+      decls_are = snapshot.2;
+      up_to = snapshot.3;
+      let_in = omega (arith, c.requires.count, c.requires.pages);
+      most = c.requires.config.most_snap;
+    }))) c.begin.ensures
 
 pub returns-clause-logs : goal.returns-clause-logs
 returns-clause-logs g c empty =
     IfOk-weaker c.begin.result _ _ (λ runtime is.
     subst (λ (r : RuntimeState). AreLogs g.D.Disk.tells g.D.Disk.clock g.D.Disk.image_at (λ worker. []) (λ worker. []) r
+    c.args.vault.now × AreClosedFiles g.D.Disk.tells g.D.Disk.clock g.D.Disk.image_at (λ worker. []) (λ worker. []) r
     c.args.vault.now) (sym is)
-    (begun_logs c.args.settled.decls c.args.settled.state c.args.settled.save c.args.config.first c.args.vault.now empty))
-    c.begin.ensures
+    (begun_logs c.args.settled.decls c.args.settled.state c.args.settled.save c.args.settled.store c.args.config.snap
+    c.args.config.first c.args.vault.now empty)) c.begin.ensures
 
 pub returns-clause-counts : goal.returns-clause-counts
 returns-clause-counts g c =
     IfOk-weaker c.begin.result _ _ (λ runtime is.
-    subst (λ (r : RuntimeState). CountsOf (λ worker. []) (λ worker. []) r.save.newest) (sym is)
-    (begun_counts c.args.settled.save.newest c.args.settled.saved c.requires.known c.requires.nothing)) c.begin.ensures
+    subst (λ (r : RuntimeState). CountsOf Even (λ worker. []) (λ worker. []) (λ worker. []) (λ worker. []) r.save.newest)
+    (sym is) (begun_counts c.args.settled.save.newest c.args.settled.saved c.requires.known c.requires.nothing))
+    c.begin.ensures

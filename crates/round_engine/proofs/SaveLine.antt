@@ -1,0 +1,213 @@
+-- A line of the maintenance thread that asks for a save.
+use Rattle.std.proofs.Common.{◌≡◌, ◌∙◌, ◌≤◌, ◌<◌, ◌+◌, ◌-◌, ◌++◌, ◌∷◌, inl, inr, sym, ap, subst, refl, ℕ, List, [], length, map}
+use Rattle.std.proofs.Common.{length-append, true, false, Option, Some, None, arith}
+use Rattle.std.specs.Prelude.{◌^◌, is_some, vec_len, Result, Ok, Err}
+use Rattle.std.proofs.lemmas.Bool.{cases_eq}
+use Rattle.outside.specs.declared.vault.Device.TheVariants as devices
+use Rattle.outside.specs.declared.vault.Tie.{Tie}
+use Rattle.outside.specs.declared.vault.Vault.{Vault}
+use Rattle.script_grammar.specs.declared.lines.KeeperLine.TheVariants as asks
+use Rattle.wire_form.specs.declared.clock.Mark.{Mark}
+use Rattle.log_writer.specs.Points.{SaveState, sequence_of}
+use Rattle.log_writer.specs.declared.save.SaveFault.{SaveFault}
+use Rattle.log_writer.specs.declared.save.SaveFault.TheVariants.{Device, Down, Limit}
+use Rattle.log_writer.specs.declared.saved.Saved.{Saved}
+use Rattle.recovery_core.specs.Images.{epoch_of}
+use Rattle.tx_script.specs.Run.{Ran}
+use Rattle.tx_script.specs.Causes.{last_sequence}
+use Rattle.tx_script.specs.declared.answer.Answer.{Answer}
+use Rattle.tx_script.specs.declared.answer.Answer.TheVariants as answers
+use Rattle.worker_logs.specs.Saves.{SavesMarks, logs_marks, tie_after}
+use Rattle.worker_logs.specs.SavesLaws.{saved_epoch_less}
+use Rattle.worker_logs.specs.declared.savepoints.Side.{Side}
+use Rattle.worker_logs.specs.declared.savepoints.Side.TheVariants.{Even, Odd}
+use Rattle.round_engine.specs.Keeping.{CanKeep, IsSavedBySeen, keeper_on, MarksOf, RestsOn, RunsKeeper, save_answer, save_refusal}
+use Rattle.round_engine.specs.Keeping.{StepsSave}
+use Rattle.round_engine.specs.Sides.{closed_in, growing_in}
+use Rattle.round_engine.specs.Standing.{beside_of, RuntimeState}
+use Rattle.round_engine.specs.declared.report.End.{End}
+use Rattle.round_engine.proofs.KeepingSaves.{keeps_saves, with_save}
+use Rattle.round_engine.proofs.PlainLine.{gleans_none, IsPlain, leaves_none, needs_none, plain_line, TellsNone, Ungleaned}
+
+-- both sides are as they were
+pub growing_same : {D : Type 0} (side : Side) (was is : Vault D) → is.even ≡ was.even → is.odd ≡ was.odd
+    → growing_in side is ≡ growing_in side was
+growing_same Even was is even odd = ap (λ v. v.items) even
+growing_same Odd was is even odd = ap (λ v. v.items) odd
+
+pub closed_same : {D : Type 0} (side : Side) (was is : Vault D) → is.even ≡ was.even → is.odd ≡ was.odd
+    → closed_in side is ≡ closed_in side was
+closed_same Even was is even odd = ap (λ v. v.items) odd
+closed_same Odd was is even odd = ap (λ v. v.items) even
+
+-- the sequence of a store that was not refused for it
+pub sequence_left : (n : ℕ) → n < 2 ^ 63 → (n ≡ 2 ^ 63 - 1 → ⊥) → n < last_sequence
+sequence_left n counted differs = elim (cases_eq n (2 ^ 63 - 1)) [
+  | inl same ↦ absurd (differs same)
+  | inr other ↦ omega (arith, counted, other)
+]
+
+longer : {D : Type 0} (vault now : Vault D) (tie : Tie) → now.ties.items ≡ vault.ties.items ++ tie ∷ []
+    → vec_len now.ties ≡ vec_len vault.ties + 1
+longer vault now tie tied = now.ties.ok.0 ∙ ap length tied ∙ length-append vault.ties.items (tie ∷ [])
+    ∙ ap (λ n. n + 1) (sym vault.ties.ok.0)
+
+tells_save : (epoch : ℕ) → TellsNone (answers.Save epoch)
+tells_save epoch = record { none = refl; beside = λ b. refl }
+
+tells_device : TellsNone answers.Device
+tells_device = record { none = refl; beside = λ b. refl }
+
+limit_plain : IsPlain answers.Limit
+limit_plain = record {
+  tells = record { none = refl; beside = λ b. refl };
+  unsaved = refl;
+  none_in = λ By b. refl;
+  goes_on = refl;
+  remembers = refl;
+}
+
+module _ {D : Type 0} {tells : D → Option (List ℕ)} {clock : D → ℕ} {image_at : D → ℕ → List ℕ → Type 0} (faults : D → ℕ)
+    (r : RuntimeState) (vault : Vault D) (ready : CanKeep tells clock image_at r vault) where
+  module _ (save : SaveState) (now : Vault D) where
+    abbrev Saves : Result ℕ SaveFault → Type 0
+    Saves result = SavesMarks tells clock image_at faults r.stands.clock.epoch (logs_marks r.logs) (beside_of r) r.save save
+        vault now result
+
+    -- the last sequence was not met where nothing else says so
+    below_last : (result : Result ℕ SaveFault) (saves : Saves result)
+        → ((sequence : ℕ) → result ≡ Err (Limit sequence) → ⊥) → sequence_of r.save.newest < last_sequence
+    below_last result saves not_limit = sequence_left (sequence_of r.save.newest) saves.counted
+        (λ last. not_limit (sequence_of r.save.newest) ((saves.stores.limit (sequence_of r.save.newest)).1 (ready.up, refl, last)))
+
+    ungleaned : (result : Result ℕ SaveFault) (saves : Saves result) → Ungleaned r (with_save r save) vault now
+    ungleaned result saves = record {
+      store = refl;
+      decls = refl;
+      room = refl;
+      side = refl;
+      counted = refl;
+      closed_at = refl;
+      snaps = saves.snaps;
+      growing = growing_same r.side vault now saves.even saves.odd;
+      closed = closed_same r.side vault now saves.even saves.odd;
+      cuts = ap (λ c. c.items) saves.cuts;
+    }
+
+    -- it was saved by the marks that the logs have
+    by_marks : (result : Result ℕ SaveFault) (saves : Saves result)
+        → IsSavedBySeen (MarksOf r r.stands.clock.epoch r.stands.clock.epoch) (beside_of r) saves.saved
+    by_marks result saves =
+        (r.stands.clock.epoch, logs_marks r.logs, (omega arith, omega arith, refl), saves.by_marks)
+
+    saved_line : (epoch : ℕ) (saves : Saves (Ok epoch))
+        → RunsKeeper tells clock image_at faults (asks.Save ∷ []) (answers.Save epoch ∷ []) None r (with_save r save) vault now
+    saved_line epoch saves =
+        let long = longer vault now (tie_after r.save.newest (clock vault.snaps) (Some (clock now.save))) saves.tied in
+        record {
+          stored = saves.saved ∷ [];
+          failed = None;
+          gleans = [];
+          broken = None;
+          damaged = None;
+          keeps = keeps_saves r (Ok epoch) saves ready.up ready.stored;
+          by_lines = (saves.saved, [], refl, by_marks (Ok epoch) saves, refl);
+          by_failed = tt;
+          gleaned = gleans_none tells clock image_at faults (answers.Save epoch) (tells_save epoch) (ungleaned (Ok epoch) saves);
+          leaves = leaves_none tells clock image_at faults (answers.Save epoch) (tells_save epoch) (ungleaned (Ok epoch) saves);
+          needs = needs_none tells clock image_at faults (answers.Save epoch) (tells_save epoch) (ungleaned (Ok epoch) saves);
+          rise = λ low. ((omega (arith, low, saves.by_marks.epoch), tt), omega (arith, saves.by_marks.epoch));
+          later = omega arith;
+          stands = refl;
+          logs = refl;
+          is_down = refl;
+          count = refl;
+          advances = refl;
+          at_end = ap (λ q. record (keeper_on r false) { sequence = q }) (sym (ap sequence_of saves.stores.newest));
+          refused = refl;
+          refusal_is = refl;
+          told = ap (λ e. e ∷ []) (sym saves.told);
+          caused = λ ran rests. (
+            (
+              below_last (Ok epoch) saves (λ sequence is. absurd (let no = is in cc)),
+              map (λ (m : Mark). m.epoch) (logs_marks r.logs),
+              rests.marks,
+              saves.told ∙ saves.by_marks.epoch,
+            ),
+            tt,
+          );
+          above = λ low. omega (
+            arith,
+            low,
+            ap epoch_of saves.stores.newest,
+            saves.by_marks.epoch,
+            saved_epoch_less r.stands.clock.epoch (map (λ (m : Mark). m.epoch) (logs_marks r.logs)),
+          );
+          ties = omega (arith, long);
+          capacity = saves.capacity;
+          cut_room = saves.cuts;
+        }
+
+    failed_line : (saves : Saves (Err Device))
+        → RunsKeeper tells clock image_at faults (asks.Save ∷ []) (answers.Device ∷ []) (save_refusal answers.Device)
+        r (with_save r save) vault now
+    failed_line saves =
+        let long = longer vault now (tie_after r.save.newest (clock vault.snaps) None) (saves.begun refl) in
+        record {
+          stored = [];
+          failed = Some saves.saved;
+          gleans = [];
+          broken = None;
+          damaged = None;
+          keeps = keeps_saves r (Err Device) saves ready.up ready.stored;
+          by_lines = refl;
+          by_failed = (by_marks (Err Device) saves, tt);
+          gleaned = gleans_none tells clock image_at faults answers.Device tells_device (ungleaned (Err Device) saves);
+          leaves = leaves_none tells clock image_at faults answers.Device tells_device (ungleaned (Err Device) saves);
+          needs = needs_none tells clock image_at faults answers.Device tells_device (ungleaned (Err Device) saves);
+          rise = λ low. ((omega (arith, low, saves.by_marks.epoch), tt), omega (arith, saves.by_marks.epoch));
+          later = omega arith;
+          stands = refl;
+          logs = refl;
+          is_down = refl;
+          count = refl;
+          advances = refl;
+          at_end = ap (λ n. record (keeper_on r true) { sequence = sequence_of n }) (sym saves.stores.kept);
+          refused = refl;
+          refusal_is = refl;
+          told = refl;
+          caused = λ ran rests. (
+            (below_last (Err Device) saves (λ sequence is. absurd (let no = is in cc)), rests.store refl),
+            tt,
+          );
+          above = λ low. omega (arith, low, ap epoch_of saves.stores.kept);
+          ties = omega (arith, long);
+          capacity = saves.capacity;
+          cut_room = saves.cuts;
+        }
+
+  by_result : (save : SaveState) (now : Vault D) (result : Result ℕ SaveFault) (saves : Saves save now result)
+      → RunsKeeper tells clock image_at faults (asks.Save ∷ []) (save_answer result ∷ []) (save_refusal (save_answer result))
+      r (with_save r save) vault now
+  by_result save now (Ok epoch) saves = saved_line save now epoch saves
+  by_result save now (Err Device) saves = failed_line save now saves
+  by_result save now (Err (Down count)) saves = absurd (let no = sym ready.up ∙ (saves.stores.down count).0 refl in cc)
+  by_result save now (Err (Limit sequence)) saves =
+      let met = (saves.stores.limit sequence).0 refl in
+      subst (λ s. RunsKeeper tells clock image_at faults (asks.Save ∷ []) (answers.Limit ∷ []) None r (with_save r s) vault now)
+      (sym (saves.stores.untouched (λ is. cc)).0)
+      (subst (λ v. RunsKeeper tells clock image_at faults (asks.Save ∷ []) (answers.Limit ∷ []) None r r vault v)
+      (sym (saves.untied (λ is. cc)))
+      (plain_line r vault ready asks.Save answers.Limit r.stands.clock.epoch limit_plain (omega arith) refl refl
+      (λ ran. sym met.1 ∙ met.2)))
+
+  -- A save is answered.
+  pub save_line : (answer : Answer) {new : RuntimeState} {now : Vault D}
+      → StepsSave tells clock image_at faults answer r new vault now
+      → RunsKeeper tells clock image_at faults (asks.Save ∷ []) (answer ∷ []) (save_refusal answer) r new vault now
+  save_line answer {new} {now} step =
+      subst (λ a. RunsKeeper tells clock image_at faults (asks.Save ∷ []) (a ∷ []) (save_refusal a) r new vault now)
+      (sym step.answer_is)
+      (subst (λ s. RunsKeeper tells clock image_at faults (asks.Save ∷ []) (save_answer step.result ∷ [])
+      (save_refusal (save_answer step.result)) r s vault now) (sym step.alone)
+      (by_result new.save now step.result step.saves))

@@ -1,0 +1,46 @@
+-- What gleaner says of these log files.
+use Rattle.std.proofs.Common.{◌≡◌, ◌≢◌, ◌∙◌, ◌++◌, ap, arith, drop, false, length, List, subst, sym, take, true}
+use Rattle.gleaner.specs.Glean.{none_counted}
+use Rattle.round_engine.specs.Gleans.{GleansFiles}
+use Rattle.round_engine.proofs.GleanCall.{files_back}
+use Rattle.round_engine.proofs.GleanLine.{bytes_sized}
+use Rattle.round_engine.proofs.gleans.glean_files.Goals as goal
+
+pub returns : goal.returns
+returns g c =
+    let e = c.glean-gleaned.ensures in
+    let was = c.deref_mut.ensures.value in
+    let size : length c.glean-gleaned.new.files ≡ length c.args.files.now.items = e.length ∙ ap length was in
+    let back = files_back c.args.files.now.len c.glean-gleaned.new.files c.args.files.now.items size c.args.files.now.ok.0 in
+    record {
+      gleans = subst (λ l. GleansFiles g.D.Disk.tells g.D.Disk.clock g.D.Disk.image_at g.D.Disk.faults c.args.decls.now
+          c.args.newest c.args.closed.now c.args.room c.args.store.now c.glean-gleaned.new.store c.args.snaps.now
+          c.glean-gleaned.new.snaps c.args.files.now.items l c.glean-gleaned.result) (sym back)
+          (subst (λ l. GleansFiles g.D.Disk.tells g.D.Disk.clock g.D.Disk.image_at g.D.Disk.faults c.args.decls.now
+          c.args.newest c.args.closed.now c.args.room c.args.store.now c.glean-gleaned.new.store c.args.snaps.now
+          c.glean-gleaned.new.snaps l c.glean-gleaned.new.files c.glean-gleaned.result) was
+          (record {
+            none = λ none. let same = e.untouched none in (e.none.1 none, same.0, same.1, same.2);
+            some = λ some is. let none = e.none.0 is in absurd (let no = sym some ∙ none in cc);
+            gleaned = e.gleaned;
+            durable = e.durable;
+            sound = e.sound;
+            holds = e.holds;
+            damaged = e.damaged;
+            device = e.device;
+            deep = e.deep;
+            limit = e.limit;
+            kept = e.kept;
+            unsound = e.unsound;
+            grows = e.grows;
+            front = e.front;
+            told = e.told;
+            quiet_snaps = e.quiet_snaps;
+            quiet_files = e.quiet_files;
+            reads = e.reads;
+            many = e.length;
+            sized = omega (arith, bytes_sized c.args.store.now.pages c.pages_fit.ensures.whole);
+            whole = c.pages_fit-2.ensures.whole;
+            fit = c.pages_fit-2.ensures.fit;
+          }));
+    }

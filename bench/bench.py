@@ -1,7 +1,7 @@
 #!/usr/bin/env python3
 """Runs all measurements and prints a table of each: of scripts that `foedus make` makes and `foedus run --brief` runs,
 beside a plain C++ program that does the same map operations, writes and syncs in the same rhythm; and then those of
-measure_log.py, measure.py and dump.py.
+measure_log.py, measure_glean.py, measure.py and dump.py.
 
 Each run begins with a fresh database, whose files were made before it, in memory or in FOLDER. Both programs have to
 print the same, and to leave the same bytes in each file. They run in turn. Peak memory is what GNU time tells of one
@@ -122,7 +122,8 @@ def main():
             run_in_brief(program, plain, lines, script, folder)
     if "--made" in sys.argv:
         return
-    for name, words in (("measure_log.py", [folder]), ("measure.py", []), ("dump.py", [])):
+    others = ("measure_log.py", [folder]), ("measure_glean.py", [folder]), ("measure.py", []), ("dump.py", [])
+    for name, words in others:
         print(f"\n{name}", flush=True)
         subprocess.run([sys.executable, f"{HERE}/{name}", program] + words, check=True)
 

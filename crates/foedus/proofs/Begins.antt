@@ -1,5 +1,5 @@
 -- Where a run begins, and which limit keeps it from that, from what was recovered and settled.
-use Rattle.std.proofs.Common.{◌≡◌, ◌⊎◌, inl, inr, ◌∙◌, sym, ap, subst, refl, ℕ, ◌+◌, ◌<◌, ◌≤◌, List, [], Option, Some}
+use Rattle.std.proofs.Common.{◌≡◌, ◌⊎◌, inl, inr, ◌∙◌, sym, ap, subst, refl, ℕ, ◌+◌, ◌<◌, ◌≤◌, List, [], ◌++◌, Option, Some}
 use Rattle.std.proofs.Common.{None, arith}
 use Rattle.std.specs.Prelude.{IfSome, filter}
 use Rattle.std.specs.Option.{option_map}
@@ -14,14 +14,14 @@ use Rattle.wire_form.specs.declared.bucket.Entry.{Entry}
 use Rattle.wire_form.specs.declared.savepoint.Savepoint.{Savepoint}
 use Rattle.log_writer.specs.Points.{saved_of, sequence_of}
 use Rattle.log_writer.specs.declared.saved.Saved.{Saved}
-use Rattle.snapshot_store.specs.Content.{CatalogueAt, deepest}
-use Rattle.root_composer.specs.Composition.{IsTooDeep, WouldCompose, level_count, new_count}
+use Rattle.snapshot_store.specs.Content.{CatalogueAt, deepest, words_of}
+use Rattle.root_composer.specs.Composition.{IsComposed, IsTooDeep, WouldCompose, level_count, new_count}
 use Rattle.recovery_core.specs.Catalogues.{newest_epoch}
 use Rattle.recovery_core.specs.Images.{Images, count_of, epoch_of}
 use Rattle.recovery_core.specs.LogEntries.{counts, last_of, logged}
 use Rattle.recovery_core.specs.Recoverable.{Reading, ReadsBy}
 use Rattle.recovery_core.specs.Recovered.{Recovers}
-use Rattle.recovery_core.specs.Settled.{stores_due}
+use Rattle.recovery_core.specs.Settled.{settled_pages, stores_due}
 use Rattle.recovery_core.specs.declared.recovered.Recovered.{Recovered}
 use Rattle.recovery_core.specs.declared.settlement.Settled.{Settled}
 use Rattle.checkpoints.specs.Due.{ComposesWithin, IsDue, IsOverLimit, IsStoreDue, IsWithin, NoneCount, OfSaved, SomeCount}
@@ -31,6 +31,7 @@ use Rattle.tx_script.specs.Causes.{last_sequence}
 use Rattle.round_engine.specs.declared.report.LimitName.TheVariants.{Height, Snap, Sequence}
 use Rattle.foedus.specs.Beginning.{FitsIn, HasNoEntries, HasRoom, IsSnapshotDue, MayBegin, Opening, SameDecls}
 use Rattle.foedus.specs.Beginning.{StandsAtLimit, StoresFirst}
+use Rattle.foedus.specs.RanOver.{AreSettled}
 
 -- ---- what is there or not
 
@@ -223,6 +224,47 @@ may_begin snap decls found r opening stored recovers saved same fits left state 
         sequence ∙ ap (λ n. n + stored) at,
       );
     }
+
+-- What settling left of the pages.
+pub begins_with : (decls : List Decl) (found : Images) (r : Recovered) (s : Settled) (recovers : Recovers found r)
+    → r.saved ≡ option_map saved_of r.save.newest → SameDecls decls s.decls → Follows r s r.saved
+    → AreSettled decls recovers.reading (words_of s.store.pages)
+begins_with decls found r s recovers saved same follows = by_saved r.saved refl follows
+  where
+    says : r.saved ≡ option_map saved_of recovers.reading.point
+    says = saved ∙ ap (option_map saved_of) recovers.point
+
+    stays : StaysAsRead r s → AreSettled decls recovers.reading (words_of s.store.pages)
+    stays is = inl (
+      none_there found r recovers says is.none,
+      s.decls,
+      same,
+      is.pages ∙ ap (λ (o : Option Saved). settled_pages o (words_of r.store.pages) s.decls) says
+          ∙ ap (λ ps. settled_pages (option_map saved_of recovers.reading.point) ps s.decls) recovers.pages,
+    )
+
+    by_saved : (o : Option Saved) → r.saved ≡ o → Follows r s o → AreSettled decls recovers.reading (words_of s.store.pages)
+    by_saved None none is = stays is
+    by_saved (Some p) some is = elim is [
+      | inl as_read ↦ stays as_read
+      | inr composed ↦
+          let q = point_of recovers.reading.point p (sym says ∙ some) in
+          let due = due_there found r recovers says q.0 composed.run composed.contents q.1
+          (subst (λ (x : Saved). IsDue r x composed.run composed.contents) q.2 composed.due) in
+          inr (
+            q.0,
+            composed.run,
+            composed.contents,
+            due,
+            composed.made,
+            subst (λ ps. IsComposed composed.run q.0.epoch q.0.catalogue composed.contents ps composed.made) recovers.pages
+                (subst (λ e. IsComposed composed.run e q.0.catalogue composed.contents (words_of r.store.pages) composed.made)
+                (recovers.epoch ∙ ap epoch_of q.1)
+                (subst (λ (x : Saved). IsComposed composed.run r.epoch x.catalogue composed.contents (words_of r.store.pages)
+                composed.made) q.2 composed.composed)),
+            composed.pages ∙ ap (λ ps. ps ++ composed.made) recovers.pages,
+          )
+    ]
 
 -- ---- a limit is in its way
 

@@ -93,18 +93,18 @@ module _ {D : Type 0} (v : Vaults D) (mid : Vault D) (found now : Images) where
       absurd (not_refused ends.0 ending ends.1
       (ends.2 ∙ ap (λ (x : Ending). ending_behind x ends.0) finished) told e state stands not_device not_memory)
 
-module _ {D : Type 0} (v : Vaults D) (options : RunOptions) (bytes : Bytes) (left : Option Bytes)
+module _ {D : Type 0} (v : Vaults D) (options : RunOptions) (had left : Option Bytes)
     (Shows : Bytes → Ending → Type 0) where
   -- all was done, and the sum is that of the state after all commits
-  pub record IsDoneInBrief (brief : CameInBrief v options bytes left Shows) : Type 0 where
+  pub record IsDoneInBrief (brief : CameInBrief v options had left Shows) : Type 0 where
     pub ending : brief.ending ≡ Finished
     pub total : brief.total ≡ Some (total_of brief.came.course.state)
 
   -- With a script, a vault in its formats that has the script's storages, no device or stream that fails, no limit
   -- that is met, and memory, all is done. (That no device ends the call follows of `NoneFailed`: status 5 comes only
   -- where a count rose.)
-  pub brief_is_done : (brief : CameInBrief v options bytes left Shows) (script : Script) (found now : Images)
-      → IsTextOf bytes script → AreTold v.tells (parts_of v.was) found → AreTold v.tells (parts_of v.is) now
+  pub brief_is_done : (brief : CameInBrief v options had left Shows) (script : Script) (found now : Images)
+      → IsTextOf brief.came.bytes script → AreTold v.tells (parts_of v.was) found → AreTold v.tells (parts_of v.is) now
       → ((read : Script) → brief.came.course.script ≡ Some read → HasStorages found read.decls) → NoneFailed v
       → ((device : Device) → brief.ending ≡ NoDevice device → ⊥) → (brief.ending ≡ ReadFault → ⊥)
       → ((name : LimitName) → brief.ending ≡ AtLimit name → ⊥) → (brief.ending ≡ NoMemory → ⊥) → IsDoneInBrief brief
@@ -118,20 +118,20 @@ module _ {D : Type 0} (v : Vaults D) (options : RunOptions) (bytes : Bytes) (lef
         | inl same ↦ same ∙ is
         | inr finished ↦ absurd (other (sym is ∙ finished.0))
       ] in
-      let finished : came.ending ≡ Finished = all_is_done (up_to v brief.mid) options bytes left _ came script found text
+      let finished : came.ending ≡ Finished = all_is_done (up_to v brief.mid) options had left _ came script found text
       told has still (λ is. not_read (ended ReadFault is (λ same. cc)))
       (λ name is. not_limit name (ended (AtLimit name) is (λ same. cc)))
       (λ is. not_memory (ended NoMemory is (λ same. cc))) in
-      let comes : Comes (up_to v brief.mid) (Run options) bytes course.script course.opening came.rans Finished =
-      subst (λ (e : Ending). Comes (up_to v brief.mid) (Run options) bytes course.script course.opening came.rans e)
+      let comes : Comes (up_to v brief.mid) (Run options) came.bytes course.script course.opening came.rans Finished =
+      subst (λ (e : Ending). Comes (up_to v brief.mid) (Run options) came.bytes course.script course.opening came.rans e)
       finished course.comes in
       let here = told_back brief.mid v.is now brief.reads told_now in
-      let first = opened v brief.mid found now options bytes course.script course.opening came.rans told comes in
+      let first = opened v brief.mid found now options came.bytes course.script course.opening came.rans told comes in
       let epoch : ℕ = last_saved course.opening.saved came.rans in
       let stands : IsRecoverable now epoch course.state =
       subst (λ (s : State). IsRecoverable now epoch s) (came.kept.whole finished)
       (came.kept.stands (inr finished) found now course.opening.saved course.opening.state told here first) in
       let both = summed v brief.mid found now came.rans came.ending brief.total brief.ending came.shown finished
-      (has_rounds v brief.mid found now options bytes course.script course.opening came.rans course.state course.run
+      (has_rounds v brief.mid found now options came.bytes course.script course.opening came.rans course.state course.run
       comes) here told_now epoch course.state stands not_device not_memory in
       record { ending = both.0; total = both.1 }

@@ -31,14 +31,14 @@ use Rattle.command_line.specs.declared.command.RunOptions.{RunOptions}
 use Rattle.foedus.specs.Beginning.{Opening}
 use Rattle.foedus.specs.declared.ending.Ending.{Ending}
 use Rattle.foedus.specs.declared.ending.Ending.TheVariants.{Finished, NoScript, Shape, Usage, ReadFault, NoDevice, Damaged, AtLimit, NoMemory, NoSnapshot}
-use Rattle.foedus.specs.Causes.{AnswersDevices, AnswersFaults, Counts, ReadsAlone, ReadsDamage, RestsAgain}
+use Rattle.foedus.specs.Causes.{AnswersDevices, AnswersFaults, Counts, IsReadStatus, ReadsDamage, RestsAgain}
 use Rattle.foedus.specs.Ending.{RunComes, last_line, status_of}
 use Rattle.foedus.specs.InBrief.{CameInBrief, EndsInBrief, IsUnreadable, ending_behind, up_to}
 use Rattle.foedus.specs.OnTheWay.{AddsRun, AddsText, RunsInBrief, RunsScript, TakesText, TellsInBrief, ending_of_refusal, status_told}
 use Rattle.foedus.specs.Telling.{TellsRun}
 use Rattle.foedus.specs.Vaults.{Vaults, vaults_of}
 use Rattle.foedus.proofs.Courses.{script_came}
-use Rattle.foedus.proofs.NotBegun.{not_alone, one_read}
+use Rattle.foedus.proofs.NotBegun.{one_read}
 use Rattle.foedus.proofs.Statuses.{device_ended, faults_broke, faults_quiet, no_device_told, quiet_finished, ran_not_3, ran_not_usage, run_status, status_of-not_4}
 use Rattle.foedus.proofs.VaultsLater.{quiet_two, rose_back, rose_on, told_back}
 
@@ -346,6 +346,7 @@ module _ {D : Type 0} (tells : D → Option Bytes) (clock : D → ℕ) (image_at
           comes = runs.comes;
           caused = runs.caused;
           full = runs.full;
+          files = runs.files;
           kept = runs.kept;
           shown = subst (λ (x : Ending). EndsInBrief call mid runs.rans x e.total e.ending) (sym shown.0) e.ends;
         };
@@ -373,6 +374,7 @@ module _ {D : Type 0} (tells : D → Option Bytes) (clock : D → ℕ) (image_at
         comes = runs.comes;
         caused = runs.caused;
         full = runs.full;
+        files = runs.files;
         kept = runs.kept;
         shown = subst (λ (x : Ending). EndsInBrief call mid runs.rans x e.total e.ending) (sym shown.0) e.ends;
       }) whole (λ some. left (ap (λ (t : Tally). t.ran) shown.1.1 ∙ some)) reads)
@@ -382,19 +384,19 @@ module _ {D : Type 0} (tells : D → Option Bytes) (clock : D → ℕ) (image_at
       → RunsScript (vaults_of tells clock image_at faults was mid) snap script (TellsRun true tally old at (Ok of_run))
       → VaultOnlyReads tells clock image_at faults mid is
       → ((rans : List Ran) → tally ≡ tally_of rans → TellsInBrief call mid rans of_run (AddsText at new r))
-      → (ReadsAlone (status_of of_run) → VaultOnlyReads tells clock image_at faults was mid)
-      → ReadsAlone (status_told r) → status_told r ≢ 6 → VaultOnlyReads tells clock image_at faults was is
-  brief_reads snap script tally old at new of_run (Err failed) runs reads ends alone four not_6 = absurd (not_alone 4 (omega arith) (λ six. omega arith) four)
-  brief_reads snap script tally old at new of_run (Ok came) runs reads ends alone reading not_6 =
+      → (IsReadStatus (status_of of_run) → VaultOnlyReads tells clock image_at faults was mid)
+      → IsReadStatus (status_told r) → VaultOnlyReads tells clock image_at faults was is
+  brief_reads snap script tally old at new of_run (Err failed) runs reads ends alone four = absurd (omega (arith, four.1))
+  brief_reads snap script tally old at new of_run (Ok came) runs reads ends alone reading =
       let shown = runs.shown in
       let e = ends runs.rans shown.1.1 in
       let told = e.shown in
       elim (ends_cases call mid runs.rans of_run e.total e.ending e.ends) [
-        | inl same ↦ vault_reads_then (alone (subst (λ (x : Ending). ReadsAlone (status_of x)) (sym told.0 ∙ same) reading)) reads
+        | inl same ↦ vault_reads_then (alone (subst (λ (x : Ending). IsReadStatus (status_of x)) (sym told.0 ∙ same) reading)) reads
         | inr other ↦ absurd (elim (unreadable_status call mid e.ending other.1) [
-          | inl five ↦ not_alone (status_of came) (let n = sym (ap status_of told.0) ∙ five in omega arith) not_6 reading
-          | inr (inl six) ↦ not_6 (sym (ap status_of told.0) ∙ six)
-          | inr (inr eight) ↦ not_alone (status_of came) (let n = sym (ap status_of told.0) ∙ eight in omega arith) not_6 reading
+          | inl five ↦ let n = sym (ap status_of told.0) ∙ five in omega (arith, reading.1)
+          | inr (inl six) ↦ let n = sym (ap status_of told.0) ∙ six in omega (arith, reading.1)
+          | inr (inr eight) ↦ let n = sym (ap status_of told.0) ∙ eight in omega (arith, reading.1)
         ])
       ]
 
@@ -427,14 +429,14 @@ module _ {D : Type 0} (tells : D → Option Bytes) (clock : D → ℕ) (image_at
       → RunsScript (vaults_of tells clock image_at faults was mid) snap script (TellsRun true tally old at (Ok of_run))
       → VaultOnlyReads tells clock image_at faults mid is
       → ((rans : List Ran) → tally ≡ tally_of rans → TellsInBrief call mid rans of_run (AddsText at new r))
-      → (ReadsAlone (status_of of_run) → VaultOnlyReads tells clock image_at faults was mid) → ReadsDamage tells clock image_at faults (status_told r) was is
+      → ReadsDamage tells clock image_at faults (status_of of_run) was mid → ReadsDamage tells clock image_at faults (status_told r) was is
   brief_damage snap script tally old at new of_run (Err failed) runs reads ends alone six found now told told_now = absurd (omega arith)
   brief_damage snap script tally old at new of_run (Ok came) runs reads ends alone six found now told told_now =
       let shown = runs.shown in
       let e = ends runs.rans shown.1.1 in
       let shows = e.shown in
       elim (ends_cases call mid runs.rans of_run e.total e.ending e.ends) [
-        | inl same ↦ vault_reads_then (alone (inr (ap status_of (sym same ∙ shows.0) ∙ six))) reads
+        | inl same ↦ vault_reads_then (alone (ap status_of (sym same ∙ shows.0) ∙ six) found now told (told_back mid is now reads told_now)) reads
         | inr other ↦ absurd (sound_behind snap script tally old at of_run runs other.0 found now told (told_back mid is now reads told_now) e.ending other.1
             (ap status_of shows.0 ∙ six))
       ]
@@ -484,6 +486,7 @@ full_done v script tally options snap old new (Ok came) runs = record {
   comes = runs.comes;
   caused = runs.caused;
   full = runs.full;
+  files = runs.files;
   kept = runs.kept;
   shown = runs.shown;
 }
@@ -496,6 +499,7 @@ full_done v script tally options snap old new (Err failed) runs = record {
   comes = runs.comes;
   caused = runs.caused;
   full = runs.full;
+  files = runs.files;
   kept = runs.kept;
   shown = runs.shown;
 }

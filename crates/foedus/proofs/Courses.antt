@@ -1,11 +1,16 @@
 -- How a call goes that runs nothing, or the rounds of one script.
-use Rattle.std.proofs.Common.{◌≡◌, ◌⊎◌, inl, inr, ◌∙◌, sym, ap, subst, refl, ◌+◌, ◌<◌, ◌≤◌, List, [], ◌++◌, length, Option, Some, None, Result, arith, length-append, Ok}
+use Rattle.std.proofs.Common.{◌≡◌, ℕ, ◌∷◌, ◌⊎◌, inl, inr, ◌∙◌, sym, ap, subst, refl, ◌+◌, ◌<◌, ◌≤◌, List, [], ◌++◌}
+use Rattle.std.proofs.Common.{length, Option, Some, None, Result, arith, length-append, Ok, Err}
 use Rattle.std.specs.FinMap.{empty}
 use Rattle.std.specs.Io.KnownBytes.{Consumes, IsAtEnd}
 use Rattle.std.proofs.lemmas.Bool.{lt-ltb}
 use Rattle.std.proofs.lemmas.List.{append-nil}
 use Rattle.outside.specs.Vault.{IsWhole}
+use Rattle.outside.specs.declared.vault.Vault.{Vault}
 use Rattle.outside.specs.declared.fault.Failed.{Failed}
+use Rattle.serial_model.specs.History.{Entry}
+use Rattle.serial_model.specs.State.{State}
+use Rattle.serial_model.specs.declared.decl.Decl.{Decl}
 use Rattle.text_output.specs.Output.{Output}
 use Rattle.script_grammar.specs.Faults.{IsFirstFault, fault_of}
 use Rattle.script_grammar.specs.Script.{Bytes, Script, IsTextOf}
@@ -18,35 +23,47 @@ use Rattle.command_line.specs.declared.command.Command.{Command}
 use Rattle.command_line.specs.declared.command.Command.TheVariants.{Run, Dump, Snaps, Snap, Make, Refused}
 use Rattle.command_line.specs.declared.command.MakeArguments.{MakeArguments}
 use Rattle.command_line.specs.declared.command.RunOptions.{RunOptions}
-use Rattle.recovery_core.specs.VaultReads.{vault_reads_none}
+use Rattle.recovery_core.specs.VaultReads.{VaultOnlyReads, vault_reads_none}
 use Rattle.foedus.specs.Beginning.{Opening}
 use Rattle.foedus.specs.Causes.{IsInFull}
-use Rattle.foedus.specs.InBrief.{CameInBrief, up_to}
+use Rattle.foedus.specs.InBrief.{CameInBrief, EndsInBrief, up_to}
 use Rattle.foedus.specs.declared.ending.Ending.{Ending}
 use Rattle.foedus.specs.declared.ending.Ending.TheVariants.{Finished, NoScript, Shape, Usage, ReadFault, NoDevice, Damaged, AtLimit, NoMemory, NoSnapshot}
 use Rattle.foedus.specs.Ending.{Comes, IsNoText, IsReadOut, ReadsFirst, body_text, most_read}
-use Rattle.foedus.specs.Main.{Came}
-use Rattle.foedus.specs.OnTheWay.{AddsRun, IsUnreadOf, RunsInBrief, RunsScript}
-use Rattle.foedus.specs.Vaults.{IsUntouched, Vaults}
-use Rattle.foedus.proofs.StandsStill.{untouched_snapshots, untouched_stands}
+use Rattle.foedus.specs.Main.{AreBytes, Came, Keeps, StandsWhenStopped}
+use Rattle.foedus.specs.OnTheWay.{AddsRun, IsUnreadOf, ReadsText, RunsInBrief, RunsScript}
+use Rattle.foedus.specs.Vaults.{IsUntouched, Vaults, vaults_of}
+use Rattle.foedus.proofs.StandsStill.{none_over, untouched_snapshots, untouched_stands}
 use Rattle.foedus.proofs.CrashesBegun.{stops_untouched}
 
 -- where a run would begin that never does
 abbrev pub nowhere : Opening
 nowhere = record { state = empty; saved = 0; sequence = 0 }
 
+-- bytes of a source, where nothing is read of it
+abbrev pub bytes_of : Option Bytes → Bytes
+bytes_of (Some told) = told
+bytes_of None = []
+
+are_bytes_of : (had : Option Bytes) → AreBytes had (bytes_of had)
+are_bytes_of (Some told) = refl
+are_bytes_of None = tt
+
 module _ {D : Type 0} (v : Vaults D) where
   -- ---- what is shown of a run and its ending
 
   -- what is shown, shown otherwise
-  abbrev pub shown_as : {command : Command} {bytes : Bytes} {left : Option Bytes} {P Q : List Ran → Ending → Type 0}
-      → ((rans : List Ran) (ending : Ending) → P rans ending → Q rans ending) → Came v command bytes left P → Came v command bytes left Q
+  abbrev pub shown_as : {command : Command} {had left : Option Bytes} {P Q : List Ran → Ending → Type 0}
+      → ((rans : List Ran) (ending : Ending) → P rans ending → Q rans ending) → Came v command had left P → Came v command had left Q
   shown_as has came = record {
+    bytes = came.bytes;
+    are_bytes = came.are_bytes;
     rans = came.rans;
     ending = came.ending;
     course = came.course;
     caused = came.caused;
     full = came.full;
+    files = came.files;
     kept = came.kept;
     shown = has came.rans came.ending came.shown;
   }
@@ -54,153 +71,188 @@ module _ {D : Type 0} (v : Vaults D) where
   -- ---- a script is run
 
   -- the run of a script that was read out
-  pub script_came : {Shows : List Ran → Ending → Type 0} (options : RunOptions) (bytes : Bytes) (left : Option Bytes) (script : Script)
-      → IsTextOf bytes script × IsAtEnd left → RunsScript v options.snap script Shows → Came v (Run options) bytes left Shows
-  script_came options bytes left script read runs = record {
+  pub script_came : {Shows : List Ran → Ending → Type 0} (options : RunOptions) (had left : Option Bytes) (script : Script)
+      → ReadsText had left (Ok script) → RunsScript v options.snap script Shows → Came v (Run options) had left Shows
+  script_came options had left script text runs = record {
+    bytes = text.bytes;
+    are_bytes = text.are_bytes;
     rans = runs.rans;
     ending = runs.ending;
     course = record {
       script = Some script;
       opening = runs.opening;
       state = runs.state;
-      run = (read.0, runs.run);
+      run = (text.read.0, runs.run);
       comes = runs.comes;
-      reads = read.1;
+      reads = text.read.1;
     };
     caused = runs.caused;
     full = runs.full;
+    files = runs.files;
     kept = runs.kept;
     shown = runs.shown;
   }
 
+  -- what a stop leaves behind a run in brief, also while the sum is read
+  stops_behind : (mid : Vault D) (rans : List Ran) (of_run : Ending) (total : Option ℕ) (ending : Ending) (decls : List Decl)
+      (commits : List Entry) (opening : Opening) (t : State) → EndsInBrief v mid rans of_run total ending
+      → VaultOnlyReads v.tells v.clock v.image_at v.faults mid v.is
+      → Keeps (up_to v mid) decls commits opening t rans of_run → StandsWhenStopped v decls commits opening rans
+  stops_behind mid [] of_run total ending decls commits opening t ends reads kept = subst (λ (x : Vault D).
+      StandsWhenStopped (vaults_of v.tells v.clock v.image_at v.faults v.was x) decls commits opening []) (sym ends.2)
+      kept.stops
+  stops_behind mid (ran ∷ rans) of_run total ending decls commits opening t ends reads kept =
+      kept.through_reads (λ none. cc) v.is reads
+
   -- the same of a run in brief
-  pub script_in_brief : {Shows : Bytes → Ending → Type 0} (options : RunOptions) (bytes : Bytes) (left : Option Bytes) (script : Script)
-      → IsTextOf bytes script × IsAtEnd left → RunsInBrief v options.snap script Shows → CameInBrief v options bytes left Shows
-  script_in_brief options bytes left script read brief = record {
+  pub script_in_brief : {Shows : Bytes → Ending → Type 0} (options : RunOptions) (had left : Option Bytes) (script : Script)
+      → ReadsText had left (Ok script) → RunsInBrief v options.snap script Shows → CameInBrief v options had left Shows
+  script_in_brief options had left script text brief = record {
     mid = brief.mid;
     total = brief.total;
     ending = brief.ending;
     came = record {
+      bytes = text.bytes;
+      are_bytes = text.are_bytes;
       rans = brief.runs.rans;
       ending = brief.runs.ending;
       course = record {
         script = Some script;
         opening = brief.runs.opening;
         state = brief.runs.state;
-        run = (read.0, brief.runs.run);
+        run = (text.read.0, brief.runs.run);
         comes = brief.runs.comes;
-        reads = read.1;
+        reads = text.read.1;
       };
       caused = brief.runs.caused;
       full = brief.runs.full;
+      files = brief.runs.files;
       kept = brief.runs.kept;
       shown = brief.runs.shown;
     };
     reads = brief.reads;
+    stops = stops_behind brief.mid brief.runs.rans brief.runs.ending brief.total brief.ending _ _ _ _ brief.runs.shown
+        brief.reads brief.runs.kept;
     shown = brief.shown;
   }
 
   -- the same of the options that were asked for
-  pub brief_of : {Shows : Bytes → Ending → Type 0} (options asked : RunOptions) (bytes : Bytes) (left : Option Bytes) → options ≡ asked
-      → CameInBrief v options bytes left Shows → CameInBrief v asked bytes left Shows
-  brief_of {Shows = Shows} options asked bytes left same = subst (λ (o : RunOptions). CameInBrief v o bytes left Shows) same
+  pub brief_of : {Shows : Bytes → Ending → Type 0} (options asked : RunOptions) (had left : Option Bytes) → options ≡ asked
+      → CameInBrief v options had left Shows → CameInBrief v asked had left Shows
+  brief_of {Shows = Shows} options asked had left same = subst (λ (o : RunOptions). CameInBrief v o had left Shows) same
 
   -- what is shown of a run in brief, shown otherwise
-  pub brief_as : {options : RunOptions} {bytes : Bytes} {left : Option Bytes} {P Q : Bytes → Ending → Type 0}
-      → ((text : Bytes) (ending : Ending) → P text ending → Q text ending) → CameInBrief v options bytes left P → CameInBrief v options bytes left Q
+  pub brief_as : {options : RunOptions} {had left : Option Bytes} {P Q : Bytes → Ending → Type 0}
+      → ((text : Bytes) (ending : Ending) → P text ending → Q text ending) → CameInBrief v options had left P → CameInBrief v options had left Q
   brief_as has brief = record {
     mid = brief.mid;
     total = brief.total;
     ending = brief.ending;
     came = brief.came;
     reads = brief.reads;
+    stops = brief.stops;
     shown = has _ brief.ending brief.shown;
   }
 
 -- the same of the command that was asked for
-pub command_as : {D : Type 0} (v : Vaults D) (command asked : Command) (bytes : Bytes) (left : Option Bytes) (old new : Output) (r : Result Ending Failed) → command ≡ asked
-    → Came v command bytes left (AddsRun command old new r) → Came v asked bytes left (AddsRun asked old new r)
-command_as v command asked bytes left old new r is came = subst (λ (m : Command). Came v m bytes left (AddsRun m old new r)) is came
+pub command_as : {D : Type 0} (v : Vaults D) (command asked : Command) (had left : Option Bytes) (old new : Output) (r : Result Ending Failed) → command ≡ asked
+    → Came v command had left (AddsRun command old new r) → Came v asked had left (AddsRun asked old new r)
+command_as v command asked had left old new r is came = subst (λ (m : Command). Came v m had left (AddsRun m old new r)) is came
 
 module _ {D : Type 0} (v : Vaults D) (whole : IsWhole v.was)
     (reads_told : (disk : D) (file : Bytes) → v.tells disk ≡ Some file → v.image_at disk (v.clock disk) file) where
   -- ---- nothing is run
 
   -- a call that read no script, and left the vault alone
-  abbrev pub nothing_run : {Shows : List Ran → Ending → Type 0} (command : Command) (bytes : Bytes) (left : Option Bytes) (ending : Ending)
-      → Comes v command bytes None nowhere [] ending → ReadsFirst None ending (Some bytes) left → IsUntouched v
-      → Shows [] ending → Came v command bytes left Shows
-  nothing_run command bytes left ending comes reads same shown = record {
+  abbrev pub nothing_run : {Shows : List Ran → Ending → Type 0} (command : Command) (had left : Option Bytes) (bytes : Bytes) (ending : Ending)
+      → AreBytes had bytes → Comes v command bytes None nowhere [] ending → ReadsFirst None ending had left → IsUntouched v
+      → Shows [] ending → Came v command had left Shows
+  nothing_run command had left bytes ending are comes reads same shown = record {
+    bytes = bytes;
+    are_bytes = are;
     rans = [];
     ending = ending;
     course = record { script = None; opening = nowhere; state = empty; run = (refl, refl); comes = comes; reads = reads };
     caused = record { caused = tt; durable = tt; sequences = tt; marks = tt; draws_once = tt };
     full = λ found told. tt;
+    files = none_over;
     kept = record {
       stands = λ sound. untouched_stands v [] whole same;
       snapshots = λ sound. untouched_snapshots v [] [] whole same;
       declared = λ some. absurd (some refl);
       whole = λ finished. refl;
       stops = stops_untouched v reads_told [] nowhere whole same;
+      through_reads = λ some. absurd (some refl);
     };
     shown = shown;
   }
 
   -- the same of a run in brief
-  nothing_in_brief : {Shows : Bytes → Ending → Type 0} (options : RunOptions) (bytes : Bytes) (left : Option Bytes) (ending : Ending)
-      → Comes (up_to v v.is) (Run options) bytes None nowhere [] ending → ReadsFirst None ending (Some bytes) left → IsUntouched v
-      → Shows [] ending → CameInBrief v options bytes left Shows
-  nothing_in_brief options bytes left ending comes reads same shown = record {
+  nothing_in_brief : {Shows : Bytes → Ending → Type 0} (options : RunOptions) (had left : Option Bytes) (bytes : Bytes) (ending : Ending)
+      → AreBytes had bytes → Comes (up_to v v.is) (Run options) bytes None nowhere [] ending → ReadsFirst None ending had left
+      → IsUntouched v
+      → Shows [] ending → CameInBrief v options had left Shows
+  nothing_in_brief options had left bytes ending are comes reads same shown = record {
     mid = v.is;
     total = None;
     ending = ending;
     came = record {
+      bytes = bytes;
+      are_bytes = are;
       rans = [];
       ending = ending;
       course = record { script = None; opening = nowhere; state = empty; run = (refl, refl); comes = comes; reads = reads };
       caused = record { caused = tt; durable = tt; sequences = tt; marks = tt; draws_once = tt };
       full = λ found told. tt;
+      files = none_over;
       kept = record {
         stands = λ sound. untouched_stands (up_to v v.is) [] whole same;
         snapshots = λ sound. untouched_snapshots (up_to v v.is) [] [] whole same;
         declared = λ some. absurd (some refl);
         whole = λ finished. refl;
         stops = stops_untouched (up_to v v.is) reads_told [] nowhere whole same;
+        through_reads = λ some. absurd (some refl);
       };
       shown = (refl, refl, refl);
     };
     reads = vault_reads_none v.is;
+    stops = stops_untouched v reads_told [] nowhere whole same;
     shown = shown;
   }
 
   -- memory was wanted before a script was read
-  pub memory_in_brief : {Shows : Bytes → Ending → Type 0} (options : RunOptions) (bytes : Bytes) (left : Option Bytes) → IsUntouched v → Shows [] NoMemory
-      → CameInBrief v options bytes left Shows
-  memory_in_brief options bytes left same shown = nothing_in_brief options bytes left NoMemory same tt same shown
+  pub memory_in_brief : {Shows : Bytes → Ending → Type 0} (options : RunOptions) (had left : Option Bytes) → IsUntouched v → Shows [] NoMemory
+      → CameInBrief v options had left Shows
+  memory_in_brief options had left same shown =
+      nothing_in_brief options had left (bytes_of had) NoMemory (are_bytes_of had) same tt same shown
 
   -- no script was read
-  pub unread_in_brief : {Shows : Bytes → Ending → Type 0} (options : RunOptions) (bytes : Bytes) (left : Option Bytes) (ending : Ending)
-      → IsUnreadOf bytes left ending → IsUntouched v → Shows [] ending → CameInBrief v options bytes left Shows
-  unread_in_brief options bytes left (NoScript fault) is same shown =
-      nothing_in_brief options bytes left (NoScript fault) (is.0, is.1, same) is.2 same shown
-  unread_in_brief options bytes left ReadFault is same shown = nothing_in_brief options bytes left ReadFault same tt same shown
-  unread_in_brief options bytes left NoMemory is same shown = nothing_in_brief options bytes left NoMemory same tt same shown
-  unread_in_brief options bytes left Finished is same shown = absurd is
-  unread_in_brief options bytes left Usage is same shown = absurd is
-  unread_in_brief options bytes left (Shape declared others) is same shown = absurd is
-  unread_in_brief options bytes left (NoDevice device) is same shown = absurd is
-  unread_in_brief options bytes left (Damaged device at) is same shown = absurd is
-  unread_in_brief options bytes left (AtLimit name) is same shown = absurd is
-  unread_in_brief options bytes left (NoSnapshot epoch) is same shown = absurd is
+  pub unread_in_brief : {Shows : Bytes → Ending → Type 0} (options : RunOptions) (had left : Option Bytes) (ending : Ending)
+      → ReadsText had left (Err ending) → IsUntouched v → Shows [] ending → CameInBrief v options had left Shows
+  unread_in_brief {Shows = Shows} options had left ending text same shown = of ending text.read shown
+    where
+      of : (e : Ending) → IsUnreadOf text.bytes had left e → Shows [] e → CameInBrief v options had left Shows
+      of (NoScript fault) is shown =
+          nothing_in_brief options had left text.bytes (NoScript fault) text.are_bytes (is.0, is.1, same) is.2 same shown
+      of ReadFault is shown = nothing_in_brief options had left text.bytes ReadFault text.are_bytes same tt same shown
+      of NoMemory is shown = nothing_in_brief options had left text.bytes NoMemory text.are_bytes same tt same shown
+      of Finished is shown = absurd is
+      of Usage is shown = absurd is
+      of (Shape declared others) is shown = absurd is
+      of (NoDevice device) is shown = absurd is
+      of (Damaged device at) is shown = absurd is
+      of (AtLimit name) is shown = absurd is
+      of (NoSnapshot epoch) is shown = absurd is
 
   -- refused words
-  pub usage_came : {Shows : List Ran → Ending → Type 0} (bytes : Bytes) (left : Option Bytes) → IsUntouched v → Shows [] Usage → Came v Refused bytes left Shows
-  usage_came bytes left same shown = nothing_run Refused bytes left Usage same tt same shown
+  pub usage_came : {Shows : List Ran → Ending → Type 0} (had left : Option Bytes) → IsUntouched v → Shows [] Usage → Came v Refused had left Shows
+  usage_came had left same shown = nothing_run Refused had left (bytes_of had) Usage (are_bytes_of had) same tt same shown
 
   -- a script was made
-  pub made_came : {Shows : List Ran → Ending → Type 0} (arguments : MakeArguments) (bytes : Bytes) (left : Option Bytes) → IsUntouched v → Shows [] Finished
-      → Came v (Make arguments) bytes left Shows
-  made_came arguments bytes left same shown = nothing_run (Make arguments) bytes left Finished same tt same shown
+  pub made_came : {Shows : List Ran → Ending → Type 0} (arguments : MakeArguments) (had left : Option Bytes) → IsUntouched v → Shows [] Finished
+      → Came v (Make arguments) had left Shows
+  made_came arguments had left same shown =
+      nothing_run (Make arguments) had left (bytes_of had) Finished (are_bytes_of had) same tt same shown
 
   -- memory may be wanted at any time
   memory_comes : (command : Command) (bytes : Bytes) → IsInFull command → IsUntouched v → Comes v command bytes None nowhere [] NoMemory
@@ -212,10 +264,11 @@ module _ {D : Type 0} (v : Vaults D) (whole : IsWhole v.was)
   memory_comes (Snap epoch) bytes other same = absurd other
 
   -- want of memory before a script was read
-  pub memory_came : {Shows : List Ran → Ending → Type 0} (command : Command) (bytes : Bytes) (left : Option Bytes) → IsInFull command
-      → IsUntouched v → Shows [] NoMemory → Came v command bytes left Shows
-  memory_came command bytes left other same shown =
-      nothing_run command bytes left NoMemory (memory_comes command bytes other same) tt same shown
+  pub memory_came : {Shows : List Ran → Ending → Type 0} (command : Command) (had left : Option Bytes) → IsInFull command
+      → IsUntouched v → Shows [] NoMemory → Came v command had left Shows
+  memory_came command had left other same shown =
+      nothing_run command had left (bytes_of had) NoMemory (are_bytes_of had) (memory_comes command (bytes_of had) other same)
+      tt same shown
 
   -- then nothing is printed before the last line
   nothing_printed : (command : Command) → body_text command [] NoMemory ≡ []
@@ -227,25 +280,28 @@ module _ {D : Type 0} (v : Vaults D) (whole : IsWhole v.was)
   nothing_printed Refused = refl
 
   -- the same, over a printer
-  pub memory_ran : (command : Command) (bytes : Bytes) (left : Option Bytes) (at : Output) → IsInFull command → IsUntouched v
-      → Came v command bytes left (AddsRun command at at (Ok NoMemory))
-  memory_ran command bytes left at other same =
-      memory_came command bytes left other same (refl, adds_as (sym (nothing_printed command)) (adds_nothing at))
+  pub memory_ran : (command : Command) (had left : Option Bytes) (at : Output) → IsInFull command → IsUntouched v
+      → Came v command had left (AddsRun command at at (Ok NoMemory))
+  memory_ran command had left at other same =
+      memory_came command had left other same (refl, adds_as (sym (nothing_printed command)) (adds_nothing at))
 
   -- a run that read no script
-  pub unread_came : {Shows : List Ran → Ending → Type 0} (options : RunOptions) (bytes : Bytes) (left : Option Bytes) (ending : Ending)
-      → IsUnreadOf bytes left ending → IsUntouched v → Shows [] ending → Came v (Run options) bytes left Shows
-  unread_came options bytes left (NoScript fault) is same shown =
-      nothing_run (Run options) bytes left (NoScript fault) (is.0, is.1, same) is.2 same shown
-  unread_came options bytes left ReadFault is same shown = nothing_run (Run options) bytes left ReadFault same tt same shown
-  unread_came options bytes left NoMemory is same shown = nothing_run (Run options) bytes left NoMemory same tt same shown
-  unread_came options bytes left Finished is same shown = absurd is
-  unread_came options bytes left Usage is same shown = absurd is
-  unread_came options bytes left (Shape declared others) is same shown = absurd is
-  unread_came options bytes left (NoDevice device) is same shown = absurd is
-  unread_came options bytes left (Damaged device at) is same shown = absurd is
-  unread_came options bytes left (AtLimit name) is same shown = absurd is
-  unread_came options bytes left (NoSnapshot epoch) is same shown = absurd is
+  pub unread_came : {Shows : List Ran → Ending → Type 0} (options : RunOptions) (had left : Option Bytes) (ending : Ending)
+      → ReadsText had left (Err ending) → IsUntouched v → Shows [] ending → Came v (Run options) had left Shows
+  unread_came {Shows = Shows} options had left ending text same shown = of ending text.read shown
+    where
+      of : (e : Ending) → IsUnreadOf text.bytes had left e → Shows [] e → Came v (Run options) had left Shows
+      of (NoScript fault) is shown =
+          nothing_run (Run options) had left text.bytes (NoScript fault) text.are_bytes (is.0, is.1, same) is.2 same shown
+      of ReadFault is shown = nothing_run (Run options) had left text.bytes ReadFault text.are_bytes same tt same shown
+      of NoMemory is shown = nothing_run (Run options) had left text.bytes NoMemory text.are_bytes same tt same shown
+      of Finished is shown = absurd is
+      of Usage is shown = absurd is
+      of (Shape declared others) is shown = absurd is
+      of (NoDevice device) is shown = absurd is
+      of (Damaged device at) is shown = absurd is
+      of (AtLimit name) is shown = absurd is
+      of (NoSnapshot epoch) is shown = absurd is
 
 -- ---- the bytes that were read, and all bytes of the source
 
@@ -296,6 +352,40 @@ fault_of_all bytes front (Some rest) fault consumed (inr long) first =
 
 -- bytes that are no script, once they were read out
 pub no_script_read : (bytes front : Bytes) (left : Option Bytes) (fault : ScriptFault) → Consumes (Some bytes) left front → IsAtEnd left ⊎ (length front ≡ most_read) → IsNoText front → IsFirstFault front fault
-    → IsUnreadOf bytes left (NoScript fault)
+    → IsUnreadOf bytes (Some bytes) left (NoScript fault)
 no_script_read bytes front left fault consumed out none first =
     (no_text_of_all bytes front left consumed out none, fault_of_all bytes front left fault consumed out first, read_out bytes front left consumed out)
+
+-- ---- what is read of any source
+
+-- the script of what was read out
+pub text_read : (had left : Option Bytes) (front : Bytes) (script : Script) → Consumes had left front
+    → IsAtEnd left ⊎ (length front ≡ most_read) → IsTextOf front script → ReadsText had left (Ok script)
+text_read (Some told) left front script consumed out text = record {
+  bytes = told;
+  are_bytes = refl;
+  read = text_of_all told front left script consumed out text;
+}
+text_read None left front script consumed (inl end) text = record { bytes = front; are_bytes = tt; read = (text, end) }
+text_read None left front script consumed (inr long) text = absurd (let size = text.size in omega (arith, size, long))
+
+-- bytes that are no script
+pub fault_read : (had left : Option Bytes) (front : Bytes) (fault : ScriptFault) → Consumes had left front
+    → IsAtEnd left ⊎ (length front ≡ most_read) → IsNoText front → IsFirstFault front fault
+    → ReadsText had left (Err (NoScript fault))
+fault_read (Some told) left front fault consumed out none first = record {
+  bytes = told;
+  are_bytes = refl;
+  read = no_script_read told front left fault consumed out none first;
+}
+fault_read None left front fault consumed (inl end) none first =
+    record { bytes = front; are_bytes = tt; read = (none, first, inl end) }
+fault_read None left front fault consumed (inr long) none first =
+    record { bytes = front; are_bytes = tt; read = (none, first, inr (front, tt, long)) }
+
+-- the source failed, or memory was wanted
+pub failed_read : (had left : Option Bytes) → ReadsText had left (Err ReadFault)
+failed_read had left = record { bytes = bytes_of had; are_bytes = are_bytes_of had; read = tt }
+
+pub memory_read : (had left : Option Bytes) → ReadsText had left (Err NoMemory)
+memory_read had left = record { bytes = bytes_of had; are_bytes = are_bytes_of had; read = tt }

@@ -1,7 +1,7 @@
 -- What is known of the crashes of all devices since a call began, after the rounds that were run so far.
-use Rattle.std.proofs.Common.{◌≡◌, ◌∙◌, ◌≤◌, ◌<◌, ◌+◌, ◌-◌, ◌⊎◌, inl, inr, ap, subst, refl, ℕ, zero, suc, true}
-use Rattle.std.proofs.Common.{List, [], ◌∷◌, ◌++◌, Option, Some, None, length, arith}
-use Rattle.std.specs.Prelude.{flat_map, is_some, map, slice_get}
+use Rattle.std.proofs.Common.{◌≡◌, ◌∙◌, ◌≤◌, ◌<◌, ◌+◌, ◌-◌, ◌⊎◌, inl, inr, ap, subst, refl, ℕ, zero, suc}
+use Rattle.std.proofs.Common.{List, [], ◌∷◌, ◌++◌, Option, Some, length, arith}
+use Rattle.std.specs.Prelude.{flat_map, map, slice_get}
 use Rattle.std.specs.List.{Contains}
 use Rattle.std.proofs.lemmas.Grind.{flat_map-append}
 use Rattle.std.proofs.lemmas.List.{append-nil}
@@ -12,7 +12,7 @@ use Rattle.outside.specs.Vault.{IsWhole, disk_in}
 use Rattle.outside.specs.declared.vault.Device.TheVariants.{Bank}
 use Rattle.outside.specs.declared.vault.Tie.{Tie}
 use Rattle.outside.specs.declared.vault.Vault.{Vault}
-use Rattle.serial_model.specs.History.{Entry, EpochsNeverFall, Rises, as_of}
+use Rattle.serial_model.specs.History.{Entry, as_of}
 use Rattle.serial_model.specs.State.{State}
 use Rattle.serial_model.specs.declared.decl.Decl.{Decl}
 use Rattle.serial_model.specs.declared.number.Commit.{Commit}
@@ -21,15 +21,14 @@ use Rattle.log_writer.specs.Points.{point_of, sequence_of}
 use Rattle.log_writer.specs.Save.{Names}
 use Rattle.log_writer.specs.declared.saved.Saved.{Saved}
 use Rattle.recovery_core.specs.Images.{Images, epoch_of}
-use Rattle.recovery_core.specs.JointCrash.{CrashesNow, HasCut, IsJointCrash, IsSince, Moments, parts_of}
+use Rattle.recovery_core.specs.JointCrash.{CrashesNow, IsJointCrash, IsSince, Moments, parts_of}
 use Rattle.recovery_core.specs.Recoverable.{IsRecoverable}
 use Rattle.recovery_core.specs.RecoverableLaws.{one_recoverable}
-use Rattle.recovery_core.specs.Story.{AreOpen, IsTold, StandsFor, Story}
+use Rattle.recovery_core.specs.Story.{IsTold, StandsFor, Story}
 use Rattle.recovery_core.specs.Crashes.Standing.{crash_covers, crash_stands}
 use Rattle.recovery_core.specs.VaultReads.{some_of}
 use Rattle.tx_script.specs.Run.{Ran}
-use Rattle.round_engine.specs.Crashes.{IsSameUpTo, of_growing}
-use Rattle.round_engine.specs.Logs.{AreLogs}
+use Rattle.round_engine.specs.Crashes.{IsSameUpTo, KnowsBefore, StaysReady}
 use Rattle.round_engine.specs.Saves.{NeverFall, newest_after}
 use Rattle.round_engine.specs.Standing.{RuntimeState}
 use Rattle.foedus.specs.Main.{saved_in}
@@ -56,34 +55,29 @@ pub record CrashesKept {D : Type 0} (clock : D → ℕ) (image_at : D → ℕ �
   pub story : Story
   pub low : ℕ
   pub high : ℕ
-  pub commits : ℕ → List Commit
-  pub durable : ℕ → List ℕ
-  pub points : PointsKept story low settled high decls saved s ordered commits durable
+  pub points : PointsKept story low settled high decls saved s ordered
   pub told : IsTold clock image_at story from low high (parts_of vault)
+  pub stays : StaysReady clock image_at story low high (parts_of vault)
   pub instant : CrashesNow clock image_at (parts_of vault)
   pub stored : (i epoch : ℕ) → slice_get (flat_map saved_in rans) i ≡ Some epoch
       → StoredAt story vault.ties.items settled high i epoch
 
--- The same as the next round begins on a runtime: its logs are those of the commits, and no cut is later than the
--- savepoint with which the run began.
+-- The same as the next round begins on a runtime, whose growing and closed log files have these commits.
 pub record KeptBefore {D : Type 0} (tells : D → Option (List ℕ)) (clock : D → ℕ) (image_at : D → ℕ → List ℕ → Type 0)
     (from : Moments) (decls : List Decl) (settled saved : ℕ) (s : State) (rans : List Ran) (ordered : List Entry)
-    (r : RuntimeState) (vault : Vault D) : Type 0 where
+    (commits gone : ℕ → List Commit) (r : RuntimeState) (vault : Vault D) : Type 0 where
   pub kept : CrashesKept clock image_at from decls settled saved s rans ordered vault
-  pub opened : AreOpen clock image_at kept.story from kept.low kept.high (parts_of vault) (of_growing kept.durable)
-  pub newest_is : kept.story.point (sequence_of r.save.newest) ≡ r.save.newest
-  pub up : r.save.down ≡ None → kept.high ≡ sequence_of r.save.newest
+  pub durable : ℕ → List ℕ
+  pub closed : ℕ → List ℕ
+  pub knows : KnowsBefore tells clock image_at kept.story from kept.low commits gone durable closed r vault
+  pub high_is : kept.high ≡ sequence_of r.save.newest
   pub many : sequence_of r.save.newest ≡ settled + length (flat_map saved_in rans)
-  pub tells_save : is_some (tells vault.save) ≡ true
-  pub logs : AreLogs tells clock image_at kept.commits kept.durable r vault
-  pub cuts : (n began after : ℕ) → HasCut vault.cuts.items (Bank n) began after → after ≤ settled
 
 -- ---- what each crash leaves
 
 module _ {D : Type 0} {clock : D → ℕ} {image_at : D → ℕ → List ℕ → Type 0} {from : Moments} {decls : List Decl}
     {settled saved : ℕ} {s : State} {rans : List Ran} {ordered : List Entry} {vault : Vault D}
-    (kept : CrashesKept clock image_at from decls settled saved s rans ordered vault) (whole : IsWhole vault)
-    (rises : Rises ordered) (falls : EpochsNeverFall ordered) where
+    (kept : CrashesKept clock image_at from decls settled saved s rans ordered vault) (whole : IsWhole vault) where
   found_at : (left : Images) (k : ℕ) → StandsFor clock image_at kept.story (parts_of vault) left k
       → FoundAt kept.story left k
   found_at left k stands = record {
@@ -100,7 +94,7 @@ module _ {D : Type 0} {clock : D → ℕ} {image_at : D → ℕ → List ℕ →
       × IsRecoverable left later (as_of decls s ordered later)
   crash_leaves at left since crash =
       let k = crash_stands kept.told since crash in
-      let is = left_at kept.points rises falls left k.0 k.1 k.2 (found_at left k.0 k.3) in
+      let is = left_at kept.points left k.0 k.1 k.2 (found_at left k.0 k.3) in
       (is.epoch, is.least, is.is)
 
   -- and no earlier one than was saved by then
@@ -111,7 +105,7 @@ module _ {D : Type 0} {clock : D → ℕ} {image_at : D → ℕ → List ℕ →
   crash_covered i epoch place at left later state since crash past that =
       let k = crash_covers place.tie place.end kept.told since crash place.has place.ended past in
       let behind : settled < k.0 = omega (arith, k.3, place.of_store) in
-      let is = left_at kept.points rises falls left k.0 k.1 k.2 (found_at left k.0 k.4) in
+      let is = left_at kept.points left k.0 k.1 k.2 (found_at left k.0 k.4) in
       let same = one_recoverable left is.epoch later (as_of decls s ordered is.epoch) state is.is that in
       let rise = kept.points.rise (settled + 1 + i) k.0 (omega arith) (omega (arith, k.3, place.of_store)) k.2 in
       omega (arith, place.least, rise, is.of_point behind, same.0)

@@ -1,55 +1,43 @@
 -- One round more carries on what is known of the crashes of all devices.
-use Rattle.std.proofs.Common.{◌≡◌, ◌∙◌, ◌≤◌, ◌<◌, ◌+◌, ◌-◌, ◌*◌, ◌/◌, ◌%◌, inl, inr, sym, ap, subst, refl, ℕ, true}
-use Rattle.std.proofs.Common.{List, []}
-use Rattle.std.proofs.Common.{◌∷◌, ◌++◌, Option, Some, None, length, arith}
+use Rattle.std.proofs.Common.{◌≡◌, ◌∙◌, ◌≤◌, ◌<◌, ◌+◌, ◌-◌, inl, inr, sym, ap, subst, refl, ℕ, true, arith}
+use Rattle.std.proofs.Common.{List, [], ◌∷◌, ◌++◌, Option, Some, None, length}
 use Rattle.std.specs.Prelude.{flat_map, is_some, map, option_to_list, slice_get}
-use Rattle.std.specs.Option.{option_map}
 use Rattle.std.specs.List.{AllByRecursion}
 use Rattle.std.proofs.lemmas.Bool.{cases_lt}
 use Rattle.std.proofs.lemmas.List.{append-nil, length-append, length-map}
-use Rattle.std.proofs.lemmas.Option.{same_Some, slice_get_past}
-use Rattle.lists.specs.Each.{all_append, all_at, all_weaker}
-use Rattle.lists.specs.Fronts.{IsFront, front_from}
-use Rattle.outside.specs.Cuts.{whole_bank}
-use Rattle.outside.specs.Vault.{disk_in}
-use Rattle.outside.specs.declared.vault.Device.TheVariants.{Bank}
+use Rattle.std.proofs.lemmas.Option.{slice_get_past}
+use Rattle.lists.specs.Each.{all_append, all_weaker}
 use Rattle.outside.specs.declared.vault.Vault.{Vault}
-use Rattle.serial_model.specs.History.{Entry, state_after_all}
+use Rattle.serial_model.specs.History.{Entry, EpochsNeverFall, Rises, as_of, state_after_all}
 use Rattle.serial_model.specs.State.{State}
 use Rattle.serial_model.specs.declared.decl.Decl.{Decl}
 use Rattle.serial_model.specs.declared.number.Commit.{Commit}
 use Rattle.script_grammar.specs.Script.{Round}
-use Rattle.wire_form.specs.LogFile.{IsLineOf, lines_bytes}
+use Rattle.wire_form.specs.LogFile.{IsLineOf}
 use Rattle.wire_form.specs.declared.savepoint.Savepoint.{Savepoint}
-use Rattle.log_writer.specs.Points.{point_of, sequence_of}
+use Rattle.log_writer.specs.Points.{sequence_of}
 use Rattle.log_writer.specs.declared.saved.Saved.{Saved}
-use Rattle.recovery_core.specs.Images.{counted_of, epoch_of}
-use Rattle.recovery_core.specs.JointCrash.{HasCut, Moments, parts_of}
-use Rattle.recovery_core.specs.Story.{AreOpen, IsTold}
-use Rattle.recovery_core.specs.VaultReads.{some_of}
+use Rattle.recovery_core.specs.Images.{Images, epoch_of}
+use Rattle.recovery_core.specs.JointCrash.{Moments, parts_of}
+use Rattle.recovery_core.specs.Recoverable.{IsRecoverable, Reading}
+use Rattle.recovery_core.specs.Story.{IsTold, Story}
+use Rattle.tx_script.specs.Causes.{AllCaused}
 use Rattle.tx_script.specs.Run.{Ran}
 use Rattle.tx_script.specs.declared.answer.Answer.{Answer}
-use Rattle.worker_logs.specs.Saves.{CountsOf}
 use Rattle.round_engine.specs.Changes.{AreLogged}
-use Rattle.round_engine.specs.Crashes.{CarriesCrashes, IsOver, KnowsBefore, LeavesCrashes, of_growing}
-use Rattle.round_engine.specs.RanRound.{LeavesVault, RanRound, StopsIn}
+use Rattle.round_engine.specs.Crashes.{CarriesCrashes, LeavesCrashes, StaysReady}
+use Rattle.round_engine.specs.Ends.{comes_to_swap, swaps}
+use Rattle.round_engine.specs.RanRound.{LeavesVault, StopsIn}
 use Rattle.round_engine.specs.Saves.{saves_told}
-use Rattle.round_engine.specs.Standing.{RuntimeState, StandsOn}
-use Rattle.round_engine.specs.declared.report.Report.{Report}
+use Rattle.round_engine.specs.Standing.{RuntimeState, StandsOn, files_of}
+use Rattle.round_engine.specs.Swaps.{behind_swap, since_swap}
 use Rattle.foedus.specs.Main.{saved_in}
-use Rattle.foedus.proofs.CrashPoints.{CountsAt, PointsKept}
+use Rattle.foedus.proofs.CrashPoints.{FoundAt, PointsKept}
 use Rattle.foedus.proofs.CrashesKept.{CrashesKept, KeptBefore, StoredAt, at_front, either_at, epoch_at, found_before}
-use Rattle.foedus.proofs.CrashesKept.{never_from, newest_length, rise_at, saved_push, saved_with}
-use Rattle.foedus.proofs.KeptEnd.{has_log}
-use Rattle.foedus.proofs.KeptIn.{BeganIn, SamePages}
-use Rattle.foedus.proofs.KeptRounds.{item_at, logged_then, of_round}
-
--- the bytes of a growing log file by its number
-growing_at : (durable : ℕ → List ℕ) (w : ℕ) → of_growing durable (2 * w) ≡ durable w
-growing_at durable w =
-    let rest : (2 * w) % 2 ≡ 0 = omega arith in
-    let half : (2 * w) / 2 ≡ w = omega arith in
-    rw (rest, half) refl
+use Rattle.foedus.proofs.CrashesKept.{newest_length, rise_at, saved_push, saved_with}
+use Rattle.foedus.proofs.KeptBegun.{Begun, begun_at, begun_stands, least_begun}
+use Rattle.foedus.proofs.KeptEpochs.{as_of-more}
+use Rattle.foedus.proofs.KeptParts.{KeptParts}
 
 -- nothing failed where the store is up
 none_failed : (down : Option ℕ) (failed : Option Saved) → is_some down ≡ is_some failed → down ≡ None → failed ≡ None
@@ -57,21 +45,27 @@ none_failed None None same none = refl
 none_failed None (Some saved) same none = absurd cc
 none_failed (Some count) failed same none = absurd cc
 
--- ---- what a round leaves
-
 module _ {D : Type 0} {tells : D → Option (List ℕ)} {clock : D → ℕ} {image_at : D → ℕ → List ℕ → Type 0}
-    {faults : D → ℕ}
-    {from : Moments} {decls : List Decl} {settled saved : ℕ} {s : State} {rans : List Ran} {ordered : List Entry}
-    {old new : RuntimeState} {before now : Vault D} {ran : Ran} {logged : ℕ → List Commit}
-    (ready : KeptBefore tells clock image_at from decls settled saved s rans ordered old before)
-    (up : old.save.down ≡ None)
+    {faults : D → ℕ} {from : Moments} {reading : Reading} {decls : List Decl} {settled saved : ℕ} {s : State}
+    {rans : List Ran} {ordered : List Entry} {since last_saved : ℕ} {older gone commits logged : ℕ → List Commit}
+    {other more : ℕ → List ℕ} {old new : RuntimeState} {before now : Vault D} {ran : Ran} (run : List Entry)
+    (parts : KeptParts reading decls saved s ordered old.side old.counted since old.closed_at older gone commits other
+    more old.store.pages old.save.newest last_saved)
+    (stands : StandsOn tells clock image_at old before) (decls_are : old.stands.decls ≡ decls)
+    (own_logged : (w : ℕ) → w < 8 → AreLogged decls w (state_after_all decls s ordered) run (logged w))
+    (own_lines : (w : ℕ) → w < 8 → AllByRecursion (IsLineOf decls) (logged w))
+    (workers : AllByRecursion (λ e. e.worker < 8) run)
+    (later : AllByRecursion (λ e. old.stands.clock.epoch ≤ e.number.epoch) run)
+    (caused : AllCaused ran) (files_are : ran.files ≡ files_of old)
     (leaves : LeavesVault tells clock image_at faults ran logged old new before now)
-    (carries : CarriesCrashes tells clock image_at logged (leaves.stored ++ option_to_list leaves.failed) ran.durable
-    old new before now) where
+    (rises : Rises (ordered ++ run)) (falls : EpochsNeverFall (ordered ++ run))
+    (ready : KeptBefore tells clock image_at from decls settled saved s rans ordered commits gone old before)
+    (carries : CarriesCrashes tells clock image_at logged (leaves.stored ++ option_to_list leaves.failed) ran old new
+    before now) where
   abbrev was : CrashesKept clock image_at from decls settled saved s rans ordered before
   was = ready.kept
 
-  abbrev points : PointsKept was.story was.low settled was.high decls saved s ordered was.commits was.durable
+  abbrev points : PointsKept was.story was.low settled was.high decls saved s ordered
   points = was.points
 
   abbrev last : ℕ
@@ -80,218 +74,136 @@ module _ {D : Type 0} {tells : D → Option (List ℕ)} {clock : D → ℕ} {ima
   abbrev begun : List Saved
   begun = leaves.stored ++ option_to_list leaves.failed
 
-  abbrev high_is : was.high ≡ last
-  high_is = ready.up up
+  abbrev carried : LeavesCrashes tells clock image_at was.story from was.low commits logged gone ready.durable
+      ready.closed begun ran old new before now
+  carried = carries was.story from was.low commits gone ready.durable ready.closed ready.knows
 
-  abbrev known : KnowsBefore tells clock image_at was.story from was.low was.commits was.durable old before
-  known = record {
-    knows = record {
-      told = subst (λ h. IsTold clock image_at was.story from was.low h (parts_of before)) high_is was.told;
-      opened = subst (λ h. AreOpen clock image_at was.story from was.low h (parts_of before) (of_growing was.durable))
-          high_is ready.opened;
-    };
-    newest_is = ready.newest_is;
-    tells_save = ready.tells_save;
-    logs = ready.logs;
-  }
-
-  abbrev left : LeavesCrashes tells clock image_at was.story from was.low was.commits logged was.durable begun
-      ran.durable old new before now
-  left = carries was.story from was.low was.commits was.durable known
-
-  -- ---- savepoints
-
-  -- the newest one before
-  pub record NewestWas : Type 0 where
-    pub point : Savepoint
-    pub is : old.save.newest ≡ Some point
-    pub same : SamePages points.first point
+  abbrev after : Story
+  after = carried.after
 
   settled_least : settled ≤ last
-  settled_least = omega (arith, points.reaches, high_is)
+  settled_least = omega (arith, points.reaches, ready.high_is)
 
-  newest_was : NewestWas
-  newest_was =
-      let at = point_newest last settled_least (omega (arith, high_is)) in
-      record { point = at.0; is = sym ready.newest_is ∙ at.1; same = at.2 }
-    where
-      point_newest : (k : ℕ) → settled ≤ k → k ≤ was.high → (p : Savepoint) × (was.story.point k ≡ Some p)
-          × SamePages points.first p
-      point_newest k at_least at_most = elim (cases_lt settled k) [
-        | inl later ↦ let at = points.later k later at_most in (at.point, at.is, at.same)
-        | inr first ↦
-            let same : settled ≡ k = omega (arith, at_least, first) in (
-              points.first,
-              subst (λ j. was.story.point j ≡ Some points.first) same points.first_is,
-              record { count = refl; catalogue = refl; later = omega arith },
-            )
-      ]
+  abbrev BegunHere : ℕ → Type 0
+  BegunHere = Begun run parts stands decls_are own_logged own_lines workers later caused files_are leaves rises falls
+      was.story from was.low ready.knows carried
 
-  -- those that were begun in the round
-  pub record Behind (k : ℕ) : Type 0 where
-    pub said : Saved
-    pub at : slice_get begun (k - (last + 1)) ≡ Some said
-    pub point : left.after.point k ≡ Some (point_of k said)
-    pub pages : left.after.pages k ≡ left.after.pages last
+  here : (k : ℕ) → last < k → k ≤ last + length begun → BegunHere k
+  here = begun_at run parts stands decls_are own_logged own_lines workers later caused files_are leaves rises falls
+      was.story from was.low ready.knows carried
 
-  behind : (k : ℕ) → last < k → k ≤ last + length begun → Behind k
-  behind k later within =
-      let item = item_at begun (k - (last + 1)) (omega (arith, later, within)) in
-      let same : last + 1 + (k - (last + 1)) ≡ k = omega (arith, later) in
-      record {
-        said = item.0;
-        at = item.1;
-        point = subst (λ n. left.after.point n ≡ Some (point_of n item.0)) same
-            (left.goes_on.point (k - (last + 1)) item.0 item.1);
-        pages = subst (λ n. left.after.pages n ≡ left.after.pages last) same
-            (left.goes_on.pages (k - (last + 1)) item.0 item.1);
-      }
+  -- ---- epochs never fall
 
-  cuts_now : (n began after : ℕ) → HasCut now.cuts.items (Bank n) began after → after ≤ settled
-  cuts_now n began after has = ready.cuts n began after (subst (λ l. HasCut l (Bank n) began after) leaves.cuts has)
+  least_here : (k : ℕ) → (x : BegunHere k) → epoch_of old.save.newest ≤ x.said.epoch
+  least_here = least_begun run parts stands decls_are own_logged own_lines workers later caused files_are leaves rises
+      falls was.story from was.low ready.knows carried
 
-  -- what one of them counts of a growing log file
-  begins_at : (k w : ℕ) → settled < k → k ≤ last + length begun → w < 8
-      → IsFront (left.after.counted k (2 * w)) (left.durable w)
-  begins_at k w later within below =
-      let bank = some_of (disk_in now (Bank (2 * w))) (whole_bank leaves.stands.whole (2 * w) (omega (arith, below))) in
-      subst (λ l. IsFront (left.after.counted k (2 * w)) l) (growing_at left.durable w)
-      ((left.knows.opened (2 * w) bank.0 bank.1).counts k (omega (arith, points.within, later)) within
-      (λ began after cut. omega (arith, cuts_now (2 * w) began after cut, later)))
-
-  sized_at : (k w : ℕ) (p : Savepoint) → settled < k → k ≤ last + length begun → w < 8 → left.after.point k ≡ Some p
-      → length (left.after.counted k (2 * w)) ≡ counted_of (Some p) (2 * w)
-  sized_at k w p later within below is =
-      let bank = some_of (disk_in now (Bank (2 * w))) (whole_bank leaves.stands.whole (2 * w) (omega (arith, below))) in
-      left.knows.told.sized (2 * w) k bank.0 bank.1 (omega (arith, points.within, later)) within
-      ∙ ap (λ (o : Option Savepoint). counted_of o (2 * w)) is
-
-  counts_before : (k : ℕ) → settled < k → k ≤ last
-      → CountsAt left.after (λ w. was.commits w ++ logged w) left.durable points.first k
-  counts_before k later less =
-      let at = points.later k later (omega (arith, less, high_is)) in
-      let is : left.after.point k ≡ Some at.point = left.same.point k less ∙ at.is in
-      let rise = points.rise k last (omega (arith, later)) less (omega (arith, high_is)) in
-      record {
-        point = at.point;
-        is = is;
-        same = at.same;
-        counts = left.still (Some at.point) (omega (arith, rise, ap epoch_of at.is, ap epoch_of ready.newest_is))
-            at.counts;
-        begins = λ w below. begins_at k w later (omega (arith, less)) below;
-        sized = λ w below. sized_at k w at.point later (omega (arith, less)) below is;
-      }
-
-  -- its epoch isn't below that of the newest one before
-  least_behind : (k : ℕ) → (x : Behind k) → epoch_of old.save.newest ≤ x.said.epoch
-  least_behind k x = never_from (epoch_of old.save.newest) (map (λ (t : Saved). t.epoch) begun) left.rise
-      (k - (last + 1)) x.said.epoch (epoch_at begun (k - (last + 1)) x.said x.at)
-
-  same_behind : (k : ℕ) → (x : Behind k) → SamePages points.first (point_of k x.said)
-  same_behind k x =
-      let over : IsOver old.save.newest x.said =
-      all_at (IsOver old.save.newest) begun (k - (last + 1)) x.said left.over x.at in
-      let newest = newest_was in
-      record {
-        count = same_Some x.said.count newest.point.count
-            (over.count ∙ ap (option_map (λ (p : Savepoint). p.count)) newest.is) ∙ newest.same.count;
-        catalogue = same_Some x.said.catalogue newest.point.catalogue
-            (over.catalogue ∙ ap (option_map (λ (p : Savepoint). p.catalogue)) newest.is) ∙ newest.same.catalogue;
-        later = omega (arith, newest.same.later, ap epoch_of newest.is, least_behind k x);
-      }
-
-  counts_behind : (k : ℕ) → last < k → k ≤ last + length begun
-      → CountsAt left.after (λ w. was.commits w ++ logged w) left.durable points.first k
-  counts_behind k later within =
-      let x = behind k later within in
-      let same : last + 1 + (k - (last + 1)) ≡ k = omega (arith, later) in
-      record {
-        point = point_of k x.said;
-        is = x.point;
-        same = same_behind k x;
-        counts = subst (λ n. CountsOf (λ w. was.commits w ++ logged w) left.durable (Some (point_of n x.said))) same
-            (left.counts (k - (last + 1)) x.said x.at);
-        begins = λ w below. begins_at k w (omega (arith, later, settled_least)) within below;
-        sized = λ w below. sized_at k w (point_of k x.said) (omega (arith, later, settled_least)) within below x.point;
-      }
-
-  counts_now : (k : ℕ) → settled < k → k ≤ last + length begun
-      → CountsAt left.after (λ w. was.commits w ++ logged w) left.durable points.first k
-  counts_now k later within = elim (cases_lt last k) [
-    | inl after ↦ counts_behind k after within
-    | inr less ↦ counts_before k later less
-  ]
-
-  pages_now : (k : ℕ) → settled ≤ k → k ≤ last + length begun → left.after.pages k ≡ left.after.pages settled
-  pages_now k at_least within = elim (cases_lt last k) [
-    | inl after ↦ (behind k after within).pages ∙ pages_up_to last settled_least (omega arith)
-    | inr less ↦ pages_up_to k at_least less
-  ]
-    where
-      pages_up_to : (j : ℕ) → settled ≤ j → j ≤ last → left.after.pages j ≡ left.after.pages settled
-      pages_up_to j at_least less = left.same.pages j less ∙ points.pages j at_least (omega (arith, less, high_is))
-          ∙ sym (left.same.pages settled settled_least)
-
-  -- epochs never fall
-  up_to_newest : (j : ℕ) → settled ≤ j → j ≤ last → epoch_of (left.after.point j) ≤ epoch_of old.save.newest
+  up_to_newest : (j : ℕ) → settled ≤ j → j ≤ last → epoch_of (after.point j) ≤ epoch_of old.save.newest
   up_to_newest j at_least less =
       omega (
         arith,
-        points.rise j last at_least less (omega (arith, high_is)),
-        ap epoch_of (left.same.point j less),
-        ap epoch_of ready.newest_is,
+        points.rise j last at_least less (omega (arith, ready.high_is)),
+        ap epoch_of (carried.same.point j less),
+        ap epoch_of ready.knows.newest_is,
       )
 
   rise_now : (j k : ℕ) → settled ≤ j → j ≤ k → k ≤ last + length begun
-      → epoch_of (left.after.point j) ≤ epoch_of (left.after.point k)
+      → epoch_of (after.point j) ≤ epoch_of (after.point k)
   rise_now j k at_least less within = elim (cases_lt last k) [
-    | inr before ↦ omega (
+    | inr first ↦ omega (
       arith,
-      points.rise j k at_least less (omega (arith, before, high_is)),
-      ap epoch_of (left.same.point j (omega (arith, less, before))),
-      ap epoch_of (left.same.point k before),
+      points.rise j k at_least less (omega (arith, first, ready.high_is)),
+      ap epoch_of (carried.same.point j (omega (arith, less, first))),
+      ap epoch_of (carried.same.point k first),
     )
-    | inl after ↦ elim (cases_lt last j) [
+    | inl behind ↦ elim (cases_lt last j) [
       | inr first ↦ omega (
         arith,
         up_to_newest j at_least first,
-        least_behind k (behind k after within),
-        ap epoch_of (behind k after within).point,
+        least_here k (here k behind within),
+        ap epoch_of (here k behind within).point,
       )
-      | inl later ↦ both j k later less within (behind j later (omega (arith, less, within))) (behind k after within)
+      | inl past ↦ both j k past less within (here j past (omega (arith, less, within))) (here k behind within)
     ]
   ]
     where
-      both : (j k : ℕ) → last < j → j ≤ k → k ≤ last + length begun → (x : Behind j) → (y : Behind k)
-          → epoch_of (left.after.point j) ≤ epoch_of (left.after.point k)
-      both j k later less within x y =
-          let rises = rise_at (epoch_of old.save.newest) (map (λ (t : Saved). t.epoch) begun) left.rise (j - (last + 1))
-          (k - (last + 1)) x.said.epoch y.said.epoch (omega (arith, less))
+      both : (j k : ℕ) → last < j → j ≤ k → k ≤ last + length begun → (x : BegunHere j) → (y : BegunHere k)
+          → epoch_of (after.point j) ≤ epoch_of (after.point k)
+      both j k past less within x y =
+          let rises_so = rise_at (epoch_of old.save.newest) (map (λ (t : Saved). t.epoch) begun) carried.rise
+          (j - (last + 1)) (k - (last + 1)) x.said.epoch y.said.epoch (omega (arith, less))
           (epoch_at begun (j - (last + 1)) x.said x.at) (epoch_at begun (k - (last + 1)) y.said y.at) in
-          omega (arith, rises, ap epoch_of x.point, ap epoch_of y.point)
+          omega (arith, rises_so, ap epoch_of x.point, ap epoch_of y.point)
+
+  -- ---- what each stands for
+
+  newest_above : epoch_of old.save.newest < old.stands.clock.epoch
+  newest_above = stands.above
+
+  later_now : (k : ℕ) (left : Images) → settled < k → k ≤ last + length begun → FoundAt after left k
+      → IsRecoverable left (epoch_of (after.point k)) (as_of decls s (ordered ++ run) (epoch_of (after.point k)))
+  later_now k left past within found = elim (cases_lt last k) [
+    | inl behind ↦ begun_stands run parts stands decls_are own_logged own_lines workers later caused files_are leaves
+        rises falls was.story from was.low ready.knows carried k behind within left found
+    | inr first ↦
+        let point : after.point k ≡ was.story.point k = carried.same.point k first in
+        let up = up_to_newest k (omega (arith, past)) first in
+        let is = points.later k left past (omega (arith, first, ready.high_is))
+        (found_before left k carried.same first found) in
+        subst (λ (t : State). IsRecoverable left (epoch_of (after.point k)) t)
+        (sym (as_of-more decls s ordered run (epoch_of (after.point k))
+        (all_weaker (λ (e : Entry). old.stands.clock.epoch ≤ e.number.epoch)
+        (λ (e : Entry). epoch_of (after.point k) < e.number.epoch)
+        (λ e from_clock. omega (arith, from_clock, up, newest_above)) run later)))
+        (subst (λ (o : Option Savepoint). IsRecoverable left (epoch_of o) (as_of decls s ordered (epoch_of o)))
+        (sym point) is)
+  ]
+
+  points_now : PointsKept after was.low settled (last + length begun) decls saved s (ordered ++ run)
+  points_now = record {
+    within = points.within;
+    reaches = omega (arith, settled_least);
+    first_epoch = ap epoch_of (carried.same.point settled settled_least) ∙ points.first_epoch;
+    old = λ k left at_least at_most found. points.old k left at_least at_most
+        (found_before left k carried.same (omega (arith, at_most, settled_least)) found);
+    later = later_now;
+    rise = rise_now;
+    above = all_append (λ (e : Entry). saved < e.number.epoch) ordered run points.above
+        (all_weaker (λ (e : Entry). old.stands.clock.epoch ≤ e.number.epoch)
+        (λ (e : Entry). saved < e.number.epoch)
+        (λ e from_clock. (let up = up_to_newest settled (omega arith) settled_least in
+        omega (
+          arith,
+          from_clock,
+          up,
+          newest_above,
+          points.first_epoch,
+          ap epoch_of (carried.same.point settled settled_least),
+        ))) run later);
+  }
 
   -- ---- what was saved
 
   -- an epoch that was saved before
   stored_still : (i epoch : ℕ) → StoredAt was.story before.ties.items settled was.high i epoch
-      → StoredAt left.after now.ties.items settled (last + length begun) i epoch
+      → StoredAt after now.ties.items settled (last + length begun) i epoch
   stored_still i epoch at = record {
     tie = at.tie;
     end = at.end;
     has = leaves.ties_stay at.tie at.has;
     of_store = at.of_store;
     ended = at.ended;
-    within = omega (arith, at.within, high_is);
+    within = omega (arith, at.within, ready.high_is);
     least = omega (
       arith,
       at.least,
-      ap epoch_of (left.same.point (settled + 1 + i) (omega (arith, at.within, high_is))),
+      ap epoch_of (carried.same.point (settled + 1 + i) (omega (arith, at.within, ready.high_is))),
     );
   }
 
   -- and one of this round
   stored_here : (j epoch : ℕ) → slice_get (saved_in ran) j ≡ Some epoch
-      → StoredAt left.after now.ties.items settled (last + length begun) (length (flat_map saved_in rans) + j) epoch
+      → StoredAt after now.ties.items settled (last + length begun) (length (flat_map saved_in rans) + j) epoch
   stored_here j epoch at =
       let here : slice_get (map (λ (t : Saved). t.epoch) leaves.stored) j ≡ Some epoch =
       ap (λ l. slice_get l j) leaves.has_stored.epochs ∙ at in
@@ -300,7 +212,7 @@ module _ {D : Type 0} {tells : D → Option (List ℕ)} {clock : D → ℕ} {ima
       let many = ready.many in
       let place : last + 1 + j ≡ settled + 1 + (length (flat_map saved_in rans) + j) = omega (arith, many) in
       let front = at_front leaves.stored (option_to_list leaves.failed) j said.0 said.1 in
-      let is = left.goes_on.point j said.0 front in
+      let is = carried.goes_on.point j said.0 front in
       let below = below_length begun j said.0 front in
       record {
         tie = tied.0;
@@ -309,7 +221,7 @@ module _ {D : Type 0} {tells : D → Option (List ℕ)} {clock : D → ℕ} {ima
         of_store = tied.3 ∙ place;
         ended = tied.4;
         within = omega (arith, place, below);
-        least = subst (λ n. epoch ≤ epoch_of (left.after.point n)) place (omega (arith, ap epoch_of is, said.2));
+        least = subst (λ n. epoch ≤ epoch_of (after.point n)) place (omega (arith, ap epoch_of is, said.2));
       }
     where
       below_length : {X : Type 0} (xs : List X) (i : ℕ) (x : X) → slice_get xs i ≡ Some x → i < length xs
@@ -319,179 +231,125 @@ module _ {D : Type 0} {tells : D → Option (List ℕ)} {clock : D → ℕ} {ima
       ]
 
   stored_now : (i epoch : ℕ) → slice_get (flat_map saved_in (rans ++ ran ∷ [])) i ≡ Some epoch
-      → StoredAt left.after now.ties.items settled (last + length begun) i epoch
+      → StoredAt after now.ties.items settled (last + length begun) i epoch
   stored_now i epoch at = elim (either_at (flat_map saved_in rans) (saved_in ran) i epoch
       (ap (λ l. slice_get l i) (sym (saved_push rans ran)) ∙ at)) [
         | inl before ↦ stored_still i epoch (was.stored i epoch before)
-        | inr here ↦ subst (λ n. StoredAt left.after now.ties.items settled (last + length begun) n epoch) (sym here.1)
+        | inr here ↦ subst (λ n. StoredAt after now.ties.items settled (last + length begun) n epoch) (sym here.1)
             (stored_here here.0 epoch here.2)
       ]
 
--- ---- one round more
+  -- ---- one round more
 
-module _ {D : Type 0} {tells : D → Option (List ℕ)} {clock : D → ℕ} {image_at : D → ℕ → List ℕ → Type 0}
-    {faults : D → ℕ}
-    {from : Moments} {decls : List Decl} {settled saved : ℕ} {s : State} {rans : List Ran} {ordered : List Entry}
-    {old new : RuntimeState} {before now : Vault D} where
   -- what is known after a round, whatever ended it
-  pub crashes_more : {round : Round} {report : Report} (index : ℕ)
-      → (ready : KeptBefore tells clock image_at from decls settled saved s rans ordered old before)
-      → StandsOn tells clock image_at old before → old.save.down ≡ None → old.stands.decls ≡ decls
-      → old.stands.state ≡ state_after_all decls s ordered
-      → (one : RanRound round old new report)
-      → (leaves : LeavesVault tells clock image_at faults one.ran one.logged old new before now)
-      → CarriesCrashes tells clock image_at one.logged (leaves.stored ++ option_to_list leaves.failed) one.ran.durable
-      old new before now
-      → KeptBefore tells clock image_at from decls settled saved s (rans ++ one.ran ∷ [])
-      (ordered ++ (one.lines.run index).ordered) new now
-  crashes_more index ready stands up decls_are state_is one leaves carries =
-      let run = one.lines.run index in
-      let was = ready.kept in
-      let points = was.points in
-      let begun : List Saved = leaves.stored ++ option_to_list leaves.failed in
-      let last : ℕ = sequence_of old.save.newest in
-      let after = left ready up leaves carries in
-      let newest = newest_was ready up leaves carries in
-      let of = of_round run in
-      let settled_first = settled_least ready up leaves carries in
+  pub crashes_more : CrashesKept clock image_at from decls settled saved s (rans ++ ran ∷ []) (ordered ++ run) now
+  crashes_more = record {
+    story = after;
+    low = was.low;
+    high = last + length begun;
+    points = points_now;
+    told = carried.told;
+    stays = carried.stays;
+    instant = carried.instant;
+    stored = stored_now;
+  }
+
+  -- and as the next one begins
+  pub ready_more : new.save.down ≡ None → new.store.sound ≡ true → (comes_to_swap ran ≡ true → swaps ran ≡ true)
+      → KeptBefore tells clock image_at from decls settled saved s (rans ++ ran ∷ []) (ordered ++ run)
+      (since_swap (swaps ran) (λ w. commits w ++ logged w)) (behind_swap (swaps ran) (λ w. commits w ++ logged w) gone)
+      new now
+  unfolding crashes_more
+  ready_more up sound done =
+      let none = none_failed new.save.down leaves.failed leaves.has_stored.down up in
+      let all : begun ≡ leaves.stored =
+      ap (λ o. leaves.stored ++ option_to_list o) none ∙ append-nil leaves.stored in
+      let is_high : sequence_of new.save.newest ≡ last + length begun = omega (
+        arith,
+        ap length all,
+        newest_length old.save.newest leaves.stored,
+        ap sequence_of leaves.has_stored.newest,
+      ) in
       record {
-        kept = record {
-          story = after.after;
-          low = was.low;
-          high = last + length begun;
-          commits = λ w. was.commits w ++ one.logged w;
-          durable = after.durable;
-          points = record {
-            within = points.within;
-            reaches = omega (arith, settled_first);
-            old = λ k images at_least at_most found. points.old k images at_least at_most
-                (found_before images k after.same (omega (arith, at_most, settled_first)) found);
-            pages = pages_now ready up leaves carries;
-            first = points.first;
-            first_is = after.same.point settled settled_first ∙ points.first_is;
-            first_epoch = points.first_epoch;
-            began = subst (λ l. BeganIn l points.first decls s) (sym (after.same.pages settled settled_first))
-                points.began;
-            later = counts_now ready up leaves carries;
-            rise = rise_now ready up leaves carries;
-            lines = λ w below.
-                let has = has_log leaves.stands w below in
-                front_from (after.durable w) has.log.journal.lines (lines_bytes (was.commits w ++ one.logged w))
-                (sym (after.logs w has.log has.bank has.at has.there).lines);
-            lines_are = λ w below. all_append (IsLineOf decls) (was.commits w) (one.logged w) (points.lines_are w below)
-                (subst (λ ds. AllByRecursion (IsLineOf ds) (one.logged w)) decls_are (one.lines.lines_are w below));
-            logged_are = λ w below. logged_then decls w s ordered run.ordered (was.commits w) (one.logged w)
-                (points.logged_are w below)
-                (subst (λ t. AreLogged decls w t run.ordered (one.logged w)) state_is
-                (subst (λ ds. AreLogged ds w old.stands.state run.ordered (one.logged w)) decls_are
-                (one.lines.logged_are index w below)));
-            workers = all_append (λ (e : Entry). e.worker < 8) ordered run.ordered points.workers of.workers;
-            above = all_append (λ (e : Entry). points.first.epoch < e.number.epoch) ordered run.ordered points.above
-                (all_weaker (λ (e : Entry). old.stands.clock.epoch ≤ e.number.epoch)
-                (λ (e : Entry). points.first.epoch < e.number.epoch)
-                (λ e later. omega (arith, later, stands.above, newest.same.later, ap epoch_of newest.is)) run.ordered
-                of.later);
-          };
-          told = after.knows.told;
-          instant = after.instant;
-          stored = stored_now ready up leaves carries;
-        };
-        opened = after.knows.opened;
-        newest_is = after.newest_is;
-        up = λ is.
-            let none = none_failed new.save.down leaves.failed leaves.has_stored.down is in
-            let all : begun ≡ leaves.stored =
-            ap (λ o. leaves.stored ++ option_to_list o) none ∙ append-nil leaves.stored in
-            omega (
-              arith,
-              ap length all,
-              newest_length old.save.newest leaves.stored,
-              ap sequence_of leaves.has_stored.newest,
-            );
+        kept = crashes_more;
+        durable = since_swap (swaps ran) carried.durable;
+        closed = behind_swap (swaps ran) carried.durable ready.closed;
+        knows = carried.next is_high sound done;
+        high_is = sym is_high;
         many =
-            let here : length leaves.stored ≡ length (saved_in one.ran) =
+            let stored_many : length leaves.stored ≡ length (saved_in ran) =
             sym (length-map leaves.stored (λ (t : Saved). t.epoch)) ∙ ap length leaves.has_stored.epochs in
             omega (
               arith,
               ready.many,
-              here,
+              stored_many,
               newest_length old.save.newest leaves.stored,
               ap sequence_of leaves.has_stored.newest,
-              ap length (saved_push rans one.ran),
-              length-append (flat_map saved_in rans) (saved_in one.ran),
+              ap length (saved_push rans ran),
+              length-append (flat_map saved_in rans) (saved_in ran),
             );
-        tells_save = leaves.save_told ∙ ready.tells_save;
-        logs = after.logs;
-        cuts = cuts_now ready up leaves carries;
       }
 
-  -- ---- memory was wanted
+-- ---- memory was wanted
 
+nothing_begun : (stored : List Saved) (failed : Option Saved) → map (λ (t : Saved). t.epoch) stored ≡ []
+    → (is_some failed ≡ true → ⊥) → stored ++ option_to_list failed ≡ []
+nothing_begun [] None none not = refl
+nothing_begun [] (Some x) none not = absurd (not refl)
+nothing_begun (x ∷ stored) failed none not = absurd cc
+
+module _ {D : Type 0} {tells : D → Option (List ℕ)} {clock : D → ℕ} {image_at : D → ℕ → List ℕ → Type 0}
+    {faults : D → ℕ} {from : Moments} {decls : List Decl} {settled saved : ℕ} {s : State} {rans : List Ran}
+    {ordered : List Entry} {commits gone : ℕ → List Commit} {old new : RuntimeState} {before now : Vault D} where
   -- A round that stopped for want of memory saved nothing: each crash stands for what it stood for before.
   pub crashes_stopped : {round : Round}
-      → (ready : KeptBefore tells clock image_at from decls settled saved s rans ordered old before)
-      → StandsOn tells clock image_at old before → old.save.down ≡ None → (stop : StopsIn round old new)
+      → (ready : KeptBefore tells clock image_at from decls settled saved s rans ordered commits gone old before)
+      → (stop : StopsIn round old new)
       → (leaves : LeavesVault tells clock image_at faults stop.ran stop.logged old new before now)
       → CarriesCrashes tells clock image_at stop.logged (leaves.stored ++ option_to_list leaves.failed)
-      stop.ran.durable old new before now
+      stop.ran old new before now
       → CrashesKept clock image_at from decls settled saved s rans ordered now
-  crashes_stopped ready stands up stop leaves carries =
+  crashes_stopped ready stop leaves carries =
       let was = ready.kept in
       let points = was.points in
       let begun : List Saved = leaves.stored ++ option_to_list leaves.failed in
       let last : ℕ = sequence_of old.save.newest in
-      let after = left ready up leaves carries in
-      let high : was.high ≡ last = ready.up up in
-      let settled_first = settled_least ready up leaves carries in
+      let carried : LeavesCrashes tells clock image_at was.story from was.low commits stop.logged gone ready.durable
+      ready.closed begun stop.ran old new before now =
+      carries was.story from was.low commits gone ready.durable ready.closed ready.knows in
+      let high : was.high ≡ last = ready.high_is in
       let none : begun ≡ [] = nothing_begun leaves.stored leaves.failed
       (leaves.has_stored.epochs
       ∙ ap (λ (told : List Answer). saves_told told ++ option_to_list stop.ran.durable) stop.unanswered
       ∙ ap option_to_list stop.durable)
       (λ fails. stop.unstored (leaves.has_stored.fails.0 fails)) in
       let same : last + length begun ≡ last = omega (arith, ap length none) in
+      let settled_first : settled ≤ last = omega (arith, points.reaches, high) in
       record {
-        story = after.after;
+        story = carried.after;
         low = was.low;
         high = last;
-        commits = was.commits;
-        durable = was.durable;
         points = record {
           within = points.within;
           reaches = settled_first;
-          old = λ k images at_least at_most found. points.old k images at_least at_most
-              (found_before images k after.same (omega (arith, at_most, settled_first)) found);
-          pages = λ k at_least less. after.same.pages k less ∙ points.pages k at_least (omega (arith, less, high))
-              ∙ sym (after.same.pages settled settled_first);
-          first = points.first;
-          first_is = after.same.point settled settled_first ∙ points.first_is;
-          first_epoch = points.first_epoch;
-          began = subst (λ l. BeganIn l points.first decls s) (sym (after.same.pages settled settled_first))
-              points.began;
-          later = λ k later less.
-              let at = points.later k later (omega (arith, less, high)) in
-              record {
-                point = at.point;
-                is = after.same.point k less ∙ at.is;
-                same = at.same;
-                counts = at.counts;
-                begins = λ w below. subst (λ l. IsFront l (was.durable w)) (sym (after.same.counted k (2 * w) less))
-                    (at.begins w below);
-                sized = λ w below. ap length (after.same.counted k (2 * w) less) ∙ at.sized w below;
-              };
+          first_epoch = ap epoch_of (carried.same.point settled settled_first) ∙ points.first_epoch;
+          old = λ k left at_least at_most found. points.old k left at_least at_most
+              (found_before left k carried.same (omega (arith, at_most, settled_first)) found);
+          later = λ k left past less found.
+              subst (λ (o : Option Savepoint). IsRecoverable left (epoch_of o) (as_of decls s ordered (epoch_of o)))
+              (sym (carried.same.point k less)) (points.later k left past (omega (arith, less, high))
+              (found_before left k carried.same less found));
           rise = λ j k at_least less within. omega (
             arith,
             points.rise j k at_least less (omega (arith, within, high)),
-            ap epoch_of (after.same.point j (omega (arith, less, within))),
-            ap epoch_of (after.same.point k within),
+            ap epoch_of (carried.same.point j (omega (arith, less, within))),
+            ap epoch_of (carried.same.point k within),
           );
-          lines = points.lines;
-          lines_are = points.lines_are;
-          logged_are = points.logged_are;
-          workers = points.workers;
           above = points.above;
         };
-        told = subst (λ h. IsTold clock image_at after.after from was.low h (parts_of now)) same after.knows.told;
-        instant = after.instant;
+        told = subst (λ h. IsTold clock image_at carried.after from was.low h (parts_of now)) same carried.told;
+        stays = subst (λ h. StaysReady clock image_at carried.after was.low h (parts_of now)) same carried.stays;
+        instant = carried.instant;
         stored = λ i epoch at.
             let is = was.stored i epoch at in
             record {
@@ -504,13 +362,7 @@ module _ {D : Type 0} {tells : D → Option (List ℕ)} {clock : D → ℕ} {ima
               least = omega (
                 arith,
                 is.least,
-                ap epoch_of (after.same.point (settled + 1 + i) (omega (arith, is.within, high))),
+                ap epoch_of (carried.same.point (settled + 1 + i) (omega (arith, is.within, high))),
               );
             };
       }
-    where
-      nothing_begun : (stored : List Saved) (failed : Option Saved) → map (λ (t : Saved). t.epoch) stored ≡ []
-          → (is_some failed ≡ true → ⊥) → stored ++ option_to_list failed ≡ []
-      nothing_begun [] None none not = refl
-      nothing_begun [] (Some x) none not = absurd (not refl)
-      nothing_begun (x ∷ stored) failed none not = absurd cc

@@ -17,19 +17,17 @@ use Rattle.serial_model.specs.Numbers.{last_epoch}
 use Rattle.serial_model.specs.State.{State}
 use Rattle.serial_model.specs.declared.number.Number.{Number}
 use Rattle.script_grammar.specs.Script.{Round, Script}
-use Rattle.script_grammar.specs.declared.lines.KeeperLine.{KeeperLine}
-use Rattle.script_grammar.specs.declared.lines.KeeperLine.TheVariants as asks
-use Rattle.tx_script.specs.Causes.{AllCaused, AnswersCaused, IsAnswerTo, KeeperAt, LogsCaused}
-use Rattle.tx_script.specs.Causes.{keeper_after, keeper_at_end, keeper_before, leaves_join_out, log_of}
-use Rattle.tx_script.specs.Run.{IsBetween, IsScriptRun, LogFailed, LogFull, LogRefusal, Ran, RunsClocks}
+use Rattle.tx_script.specs.Causes.{AllCaused, LogsCaused, keeper_at_end, leaves_join_out, log_of}
+use Rattle.tx_script.specs.Run.{IsBetween, IsScriptRun, LogFailed, LogFiles, LogFull, LogRefusal, Ran, RunsClocks}
 use Rattle.tx_script.specs.Run.{AdvancesTo, clock_after, entries_of, entries_of_round, joined}
 use Rattle.tx_script.specs.declared.answer.Answer.{Answer}
 use Rattle.tx_script.specs.declared.answer.Answer.TheVariants as answers
-use Rattle.round_engine.specs.Ends.{bank_end, comes_to_advance, device_end, end_of, epoch_end, epoch_joined, first_of}
+use Rattle.round_engine.specs.Ends.{bank_end, comes_to_advance, damaged_end, device_end, end_of, epoch_end, epoch_joined, first_of}
 use Rattle.round_engine.specs.Ends.{full_length, limit_at, where_true}
 use Rattle.round_engine.specs.Saves.{saves_told}
 use Rattle.round_engine.specs.declared.report.End.{End}
 use Rattle.round_engine.specs.declared.report.LimitName.TheVariants.{Bank, Epoch}
+use Rattle.foedus.specs.EndLaws.{goes_on_answered}
 use Rattle.foedus.specs.Main.{last_saved, saved_in}
 
 -- ---- where nothing ends a run
@@ -47,48 +45,13 @@ nothing_failed : {X : Type 0} (x : X) (xs : List X) → xs ≡ [] → Contains x
 nothing_failed x xs none has = in_none x (subst (λ l. Contains l x) none has)
 
 -- no log was refused
-logs_none : (failed : List Device) (worker : ℕ) (logs : List (Option LogRefusal)) → failed ≡ []
-    → LogsCaused failed worker logs → full_length logs ≡ None → list_any is_some logs ≡ false
-logs_none failed worker [] none caused full = refl
-logs_none failed worker (None ∷ logs) none caused full = logs_none failed (worker + 1) logs none caused full
-logs_none failed worker (Some LogFailed ∷ logs) none caused full =
-    absurd (nothing_failed (log_of worker) failed none caused.0)
-logs_none failed worker (Some (LogFull size) ∷ logs) none caused full = absurd cc
-
--- an answer after which no line is run has a device for its cause
-still_up : (ran : Ran) (k : KeeperAt) (line : KeeperLine) (answer : Answer) → ran.devices ≡ [] → k.refused ≡ false
-    → IsAnswerTo ran k line answer → (keeper_after k answer).refused ≡ false
-still_up ran k line (answers.Epoch epoch) none up caused = up
-still_up ran k line (answers.Save epoch) none up caused = up
-still_up ran k line (answers.Snap epoch new) none up caused = up
-still_up ran k line answers.Empty none up caused = up
-still_up ran k line answers.SnapFull none up caused = up
-still_up ran k line answers.Deep none up caused = up
-still_up ran k line (answers.Drop dropped kept) none up caused = up
-still_up ran k line answers.Limit none up caused = up
-still_up ran k line answers.Unrun none up caused = up
-still_up ran k asks.Save answers.Device none up caused = absurd (nothing_failed _ ran.devices none caused.1)
-still_up ran k asks.Epoch answers.Device none up caused = absurd caused
-still_up ran k asks.Glean answers.Device none up caused = absurd caused
-still_up ran k asks.Drop answers.Device none up caused = absurd caused
-still_up ran k asks.Save answers.Damaged none up caused = absurd caused
-still_up ran k asks.Epoch answers.Damaged none up caused = absurd caused
-still_up ran k asks.Glean answers.Damaged none up caused = absurd caused
-still_up ran k asks.Drop answers.Damaged none up caused = absurd caused
-still_up ran k asks.Save answers.Memory none up caused = absurd caused
-still_up ran k asks.Epoch answers.Memory none up caused = absurd caused
-still_up ran k asks.Glean answers.Memory none up caused = absurd caused
-still_up ran k asks.Drop answers.Memory none up caused = absurd caused
-
-all_up : (ran : Ran) (k : KeeperAt) (lines : List KeeperLine) (told : List Answer) → ran.devices ≡ []
-    → k.refused ≡ false → AnswersCaused ran k lines told → (fold keeper_after k told).refused ≡ false
-all_up ran k [] [] none up caused = up
-all_up ran k (line ∷ lines) [] none up caused = absurd caused
-all_up ran k [] (answer ∷ more) none up caused = absurd caused
-all_up ran k (line ∷ lines) (answer ∷ more) none up caused =
-    let is : IsAnswerTo ran k line answer =
-    subst (λ b. MatchBool b (answer ≡ answers.Unrun) (IsAnswerTo ran k line answer)) up caused.0 in
-    all_up ran (keeper_after k answer) lines more none (still_up ran k line answer none up is) caused.1
+logs_none : (files : LogFiles) (failed : List Device) (worker : ℕ) (logs : List (Option LogRefusal)) → failed ≡ []
+    → LogsCaused files failed worker logs → full_length logs ≡ None → list_any is_some logs ≡ false
+logs_none files failed worker [] none caused full = refl
+logs_none files failed worker (None ∷ logs) none caused full = logs_none files failed (worker + 1) logs none caused full
+logs_none files failed worker (Some LogFailed ∷ logs) none caused full =
+    absurd (nothing_failed (log_of files worker) failed none caused.0)
+logs_none files failed worker (Some (LogFull size) ∷ logs) none caused full = absurd cc
 
 -- an epoch that no limit was told of is below the last
 below_last : (test : Bool) (e : End) → cond (not test) (Some e) None ≡ None → test ≡ true
@@ -110,14 +73,14 @@ pub record JoinedOn (ran : Ran) : Type 0 where
 pub joined_where_none : (ran : Ran) → AllCaused ran → end_of ran ≡ None → JoinedOn ran
 joined_where_none ran caused none =
     let a = both_none (device_end ran.devices) _ none in
-    let b = both_none (epoch_end ran) _ a.1 in
+    let w = both_none (damaged_end ran) _ a.1 in
+    let b = both_none (epoch_end ran) _ w.1 in
     let c = both_none _ _ b.1 in
     let d = both_none (bank_end ran) _ c.1 in
     let quiet : ran.devices ≡ [] = no_device ran.devices a.0 in
     let room : full_length ran.logs ≡ None = full_none (full_length ran.logs) d.0 in
-    let logs : list_any is_some ran.logs ≡ false = logs_none ran.devices 0 ran.logs quiet caused.logs room in
-    let up : (keeper_at_end ran).refused ≡ false =
-    all_up ran (keeper_before ran) ran.asked ran.answers quiet refl caused.answers in
+    let logs : list_any is_some ran.logs ≡ false = logs_none ran.files ran.devices 0 ran.logs quiet caused.logs room in
+    let up : (keeper_at_end ran).refused ≡ false = (goes_on_answered ran caused none).1 in
     let out : leaves_join_out ran ≡ false = rw (logs, up) refl in
     let made : comes_to_advance ran ≡ true = ap not out in
     let end : End = limit_at Epoch ran.end.epoch in

@@ -52,7 +52,7 @@ split_entries (suc n) (c ∷ cs) x has =
       ]
     ]
 
-entry_number : (c : Commit) (x : LogEntry) (changes : List Change) → Contains (map (entry_of c) changes) x
+pub entry_number : (c : Commit) (x : LogEntry) (changes : List Change) → Contains (map (entry_of c) changes) x
     → x.number ≡ c.number
 entry_number c x [] has = absurd (in_none x has)
 entry_number c x (change ∷ more) has = elim (in_cases x (entry_of c change) (map (entry_of c) more) has) [
@@ -120,7 +120,7 @@ rise_front (suc n) last (c ∷ cs) rise = (rise.0, rise_front n (Some c.number) 
 
 -- ---- a log file
 
-front_takes : (n : ℕ) (front list : List ℕ) → IsFront front list → n ≤ length front → take n list ≡ take n front
+pub front_takes : (n : ℕ) (front list : List ℕ) → IsFront front list → n ≤ length front → take n list ≡ take n front
 front_takes n front list is within = sym (take-take n (length front) list within) ∙ ap (take n) is
 
 -- A log file that begins with durable bytes, which commits' lines begin with too: the first so many of them are lines.
@@ -146,32 +146,33 @@ nothing_counted decls file =
 
 -- ---- all log files, in turn
 
--- each worker's lines, and none of its closed log file
-abbrev pub in_turn : (ℕ → List Commit) → ℕ → ℕ → List (List Commit)
-in_turn lines w zero = []
-in_turn lines w (suc n) = lines w ∷ [] ∷ in_turn lines (w + 1) n
+-- each worker's two log files
+abbrev pub in_turn : (even odd : ℕ → List Commit) → ℕ → ℕ → List (List Commit)
+in_turn even odd w zero = []
+in_turn even odd w (suc n) = even w ∷ odd w ∷ in_turn even odd (w + 1) n
 
-growing_at : (lines : ℕ → List Commit) (w n v : ℕ) → v < n
-    → get_or (in_turn lines w n) (2 * v) [] ≡ lines (w + v)
-growing_at lines w zero v below = absurd (omega (arith, below))
-growing_at lines w (suc n) zero below = let same : w ≡ w + 0 = omega arith in ap lines same
-growing_at lines w (suc n) (suc v) below =
+even_at : (even odd : ℕ → List Commit) (w n v : ℕ) → v < n
+    → get_or (in_turn even odd w n) (2 * v) [] ≡ even (w + v)
+even_at even odd w zero v below = absurd (omega (arith, below))
+even_at even odd w (suc n) zero below = let same : w ≡ w + 0 = omega arith in ap even same
+even_at even odd w (suc n) (suc v) below =
     let next : 2 * suc v ≡ suc (suc (2 * v)) = omega arith in
     let same : w + 1 + v ≡ w + suc v = omega arith in
-    subst (λ k. get_or (in_turn lines w (suc n)) k [] ≡ lines (w + suc v)) (sym next)
-    (growing_at lines (w + 1) n v (omega (arith, below)) ∙ ap lines same)
+    subst (λ k. get_or (in_turn even odd w (suc n)) k [] ≡ even (w + suc v)) (sym next)
+    (even_at even odd (w + 1) n v (omega (arith, below)) ∙ ap even same)
 
-closed_at : (lines : ℕ → List Commit) (w n v : ℕ) → v < n
-    → ◌≡◌ {A = List Commit} (get_or (in_turn lines w n) (2 * v + 1) []) []
-closed_at lines w zero v below = absurd (omega (arith, below))
-closed_at lines w (suc n) zero below = refl
-closed_at lines w (suc n) (suc v) below =
+odd_at : (even odd : ℕ → List Commit) (w n v : ℕ) → v < n
+    → get_or (in_turn even odd w n) (2 * v + 1) [] ≡ odd (w + v)
+odd_at even odd w zero v below = absurd (omega (arith, below))
+odd_at even odd w (suc n) zero below = let same : w ≡ w + 0 = omega arith in ap odd same
+odd_at even odd w (suc n) (suc v) below =
     let next : 2 * suc v + 1 ≡ suc (suc (2 * v + 1)) = omega arith in
-    subst (λ k. ◌≡◌ {A = List Commit} (get_or (in_turn lines w (suc n)) k []) []) (sym next)
-    (closed_at lines (w + 1) n v (omega (arith, below)))
+    let same : w + 1 + v ≡ w + suc v = omega arith in
+    subst (λ k. get_or (in_turn even odd w (suc n)) k [] ≡ odd (w + suc v)) (sym next)
+    (odd_at even odd (w + 1) n v (omega (arith, below)) ∙ ap odd same)
 
 -- a number is twice another, or one more
-halves : (n : ℕ) → ((w : ℕ) × (n ≡ 2 * w)) ⊎ ((w : ℕ) × (n ≡ 2 * w + 1))
+pub halves : (n : ℕ) → ((w : ℕ) × (n ≡ 2 * w)) ⊎ ((w : ℕ) × (n ≡ 2 * w + 1))
 halves zero = inl (0, omega arith)
 halves (suc zero) = inr (0, omega arith)
 halves (suc (suc n)) = elim (halves n) [
@@ -180,41 +181,58 @@ halves (suc (suc n)) = elim (halves n) [
 ]
 
 -- what holds of each worker's two log files holds of all sixteen
-pub each_file : (P : ℕ → List Commit → Type 0) (lines : ℕ → List Commit)
-    → ((w : ℕ) → w < 8 → P (2 * w) (lines w)) → ((w : ℕ) → w < 8 → P (2 * w + 1) [])
-    → (n : ℕ) → n < 16 → P n (get_or (in_turn lines 0 8) n [])
-each_file P lines growing closed n below = elim (halves n) [
+pub each_file : (P : ℕ → List Commit → Type 0) (even odd : ℕ → List Commit)
+    → ((w : ℕ) → w < 8 → P (2 * w) (even w)) → ((w : ℕ) → w < 8 → P (2 * w + 1) (odd w))
+    → (n : ℕ) → n < 16 → P n (get_or (in_turn even odd 0 8) n [])
+each_file P evens odds of_even of_odd n below = elim (halves n) [
   | inl even ↦
       let is = even.1 in
       let less : even.0 < 8 = omega (arith, is, below) in
       let same : 0 + even.0 ≡ even.0 = omega arith in
-      subst (λ k. P k (get_or (in_turn lines 0 8) k [])) (sym is)
-      (subst (P (2 * even.0)) (sym (growing_at lines 0 8 even.0 less ∙ ap lines same)) (growing even.0 less))
+      subst (λ k. P k (get_or (in_turn evens odds 0 8) k [])) (sym is)
+      (subst (P (2 * even.0)) (sym (even_at evens odds 0 8 even.0 less ∙ ap evens same)) (of_even even.0 less))
   | inr odd ↦
       let is = odd.1 in
       let less : odd.0 < 8 = omega (arith, is, below) in
-      subst (λ k. P k (get_or (in_turn lines 0 8) k [])) (sym is)
-      (subst (P (2 * odd.0 + 1)) (sym (closed_at lines 0 8 odd.0 less)) (closed odd.0 less))
+      let same : 0 + odd.0 ≡ odd.0 = omega arith in
+      subst (λ k. P k (get_or (in_turn evens odds 0 8) k [])) (sym is)
+      (subst (P (2 * odd.0 + 1)) (sym (odd_at evens odds 0 8 odd.0 less ∙ ap odds same)) (of_odd odd.0 less))
 ]
 
--- an entry of all log files is of one worker's
-pub in_lines : (lines : ℕ → List Commit) (w n : ℕ) (x : LogEntry) → Contains (logged (in_turn lines w n)) x
-    → (v : ℕ) × (w ≤ v) × (v < w + n) × Contains (flat_map entries_of (lines v)) x
-in_lines lines w zero x has = absurd (in_none x has)
-in_lines lines w (suc n) x has =
-    elim (Contains-append_cases (flat_map entries_of (lines w)) (logged (in_turn lines (w + 1) n)) x has) [
-      | inl here ↦ (w, omega arith, omega arith, here)
-      | inr later ↦
-          let rest = in_lines lines (w + 1) n x later in
-          (rest.0, omega (arith, rest.1), omega (arith, rest.2), rest.3)
+-- an entry of all log files is in one of a worker's
+pub in_lines : (even odd : ℕ → List Commit) (w n : ℕ) (x : LogEntry) → Contains (logged (in_turn even odd w n)) x
+    → (v : ℕ) × (w ≤ v) × (v < w + n)
+    × (Contains (flat_map entries_of (even v)) x ⊎ Contains (flat_map entries_of (odd v)) x)
+in_lines even odd w zero x has = absurd (in_none x has)
+in_lines even odd w (suc n) x has =
+    elim (Contains-append_cases (flat_map entries_of (even w))
+    (flat_map entries_of (odd w) ++ logged (in_turn even odd (w + 1) n)) x has) [
+      | inl here ↦ (w, omega arith, omega arith, inl here)
+      | inr more ↦ elim (Contains-append_cases (flat_map entries_of (odd w)) (logged (in_turn even odd (w + 1) n)) x
+          more) [
+            | inl here ↦ (w, omega arith, omega arith, inr here)
+            | inr later ↦
+                let rest = in_lines even odd (w + 1) n x later in
+                (rest.0, omega (arith, rest.1), omega (arith, rest.2), rest.3)
+          ]
     ]
 
-pub lines_in : (lines : ℕ → List Commit) (w n v : ℕ) (x : LogEntry) → w ≤ v → v < w + n
-    → Contains (flat_map entries_of (lines v)) x → Contains (logged (in_turn lines w n)) x
-lines_in lines w zero v x from below has = absurd (omega (arith, from, below))
-lines_in lines w (suc n) v x from below has = elim (cases_eq v w) [
-  | inl same ↦ Contains-append_left (flat_map entries_of (lines w)) (logged (in_turn lines (w + 1) n)) x
-      (subst (λ u. Contains (flat_map entries_of (lines u)) x) same has)
-  | inr other ↦ Contains-append_right (flat_map entries_of (lines w)) (logged (in_turn lines (w + 1) n)) x
-      (lines_in lines (w + 1) n v x (omega (arith, from, other)) (omega (arith, below)) has)
+pub lines_in : (even odd : ℕ → List Commit) (w n v : ℕ) (x : LogEntry) → w ≤ v → v < w + n
+    → Contains (flat_map entries_of (even v)) x ⊎ Contains (flat_map entries_of (odd v)) x
+    → Contains (logged (in_turn even odd w n)) x
+lines_in even odd w zero v x from below has = absurd (omega (arith, from, below))
+lines_in even odd w (suc n) v x from below has = elim (cases_eq v w) [
+  | inl same ↦ elim has [
+    | inl first ↦ Contains-append_left (flat_map entries_of (even w))
+        (flat_map entries_of (odd w) ++ logged (in_turn even odd (w + 1) n)) x
+        (subst (λ u. Contains (flat_map entries_of (even u)) x) same first)
+    | inr second ↦ Contains-append_right (flat_map entries_of (even w))
+        (flat_map entries_of (odd w) ++ logged (in_turn even odd (w + 1) n)) x
+        (Contains-append_left (flat_map entries_of (odd w)) (logged (in_turn even odd (w + 1) n)) x
+        (subst (λ u. Contains (flat_map entries_of (odd u)) x) same second))
+  ]
+  | inr other ↦ Contains-append_right (flat_map entries_of (even w))
+      (flat_map entries_of (odd w) ++ logged (in_turn even odd (w + 1) n)) x
+      (Contains-append_right (flat_map entries_of (odd w)) (logged (in_turn even odd (w + 1) n)) x
+      (lines_in even odd (w + 1) n v x (omega (arith, from, other)) (omega (arith, below)) has))
 ]

@@ -1,5 +1,5 @@
 -- The last log entry of a key has the value that a run leaves there.
-use Rattle.std.proofs.Common.{◌≡◌, ◌∙◌, sym, ap, subst, refl, inl, inr, ℕ, true, false, true≢false, arith}
+use Rattle.std.proofs.Common.{◌≡◌, ◌∙◌, ◌≤◌, ◌<◌, sym, ap, subst, refl, inl, inr, ℕ, true, false, true≢false, arith}
 use Rattle.std.proofs.Common.{List, [], ◌∷◌, Option, Some, None}
 use Rattle.std.specs.Prelude.{filter}
 use Rattle.std.specs.FinMap.{get}
@@ -7,8 +7,8 @@ use Rattle.std.specs.List.{Contains}
 use Rattle.std.proofs.lemmas.Bool.{cases_Bool, cond-false, cond-true}
 use Rattle.std.proofs.lemmas.Bool.Decides.{nat_tests}
 use Rattle.lists.specs.Elements.{filter_only, in_cases, in_filter, in_filtered, in_head, in_none, in_tail}
-use Rattle.serial_model.specs.History.{Entry, Rises, state_after_all}
-use Rattle.serial_model.specs.Numbers.{is_below, is_below-true}
+use Rattle.serial_model.specs.History.{Entry, EpochsNeverFall, Rises, as_of}
+use Rattle.serial_model.specs.Numbers.{IsBelow, is_below, is_below-true}
 use Rattle.serial_model.specs.State.{State}
 use Rattle.serial_model.specs.declared.decl.Decl.{Decl}
 use Rattle.serial_model.specs.declared.key.Key.{Key}
@@ -16,7 +16,8 @@ use Rattle.serial_model.specs.declared.number.Number.{Number}
 use Rattle.wire_form.specs.declared.bucket.Entry.{Entry as LogEntry}
 use Rattle.recovery_core.specs.LogEntries.{greater, greatest, is_of, last_of}
 use Rattle.recovery_core.specs.Recoverable.{value_over}
-use Rattle.foedus.proofs.KeptWrites.{Writes, entry_at, last_written, none_written}
+use Rattle.foedus.proofs.KeptEpochs.{none_since}
+use Rattle.foedus.proofs.KeptWrites.{Writes, entry_at, is_by, last_written, order_kept}
 
 -- ---- the greatest of some entries
 
@@ -105,27 +106,57 @@ of_key key x is =
 is_of_itself : (key : Key) (number : Number) (value : Option ℕ) → is_of key (entry_at key number value) ≡ true
 is_of_itself key number value = grind (arith, nat_tests)
 
--- Where some log entries are just what a run wrote, the last one of a key has what the run leaves there.
-pub kept_value : (decls : List Decl) (s : State) (es : List Entry) (entries : List LogEntry) (key : Key) → Rises es
-    → ((x : LogEntry) → Contains entries x → (worker : ℕ) × Writes decls s es worker x.key x.number x.value)
-    → ((worker : ℕ) (number : Number) (value : Option ℕ) → Writes decls s es worker key number value
-    → Contains entries (entry_at key number value))
-    → value_over (last_of key entries) (get s key) ≡ get (state_after_all decls s es) key
-kept_value decls s es entries key rises sound complete = by_last (last_of key entries) refl
-  where
-    by_last : (last : Option LogEntry) → last_of key entries ≡ last
-        → value_over last (get s key) ≡ get (state_after_all decls s es) key
-    by_last None none = sym (none_written decls s es key (λ worker number value writes.
-        greatest_none (filter (is_of key) entries) none (entry_at key number value)
-        (in_filtered (is_of key) (entry_at key number value) entries (complete worker number value writes)
-        (is_of_itself key number value))))
-    by_last (Some x) some =
-        let great = greatest_is (filter (is_of key) entries) x some in
-        let same : x.key ≡ key = of_key key x (filter_only (is_of key) x entries great.0) in
-        let wrote = sound x (in_filter (is_of key) x entries great.0) in
-        last_written decls s es wrote.0 key x.number x.value rises
-        (subst (λ k. Writes decls s es wrote.0 k x.number x.value) same wrote.1)
-        (λ worker number value writes below.
-        true≢false (sym (is_below-true x.number number below) ∙ great.1 (entry_at key number value)
-        (in_filtered (is_of key) (entry_at key number value) entries (complete worker number value writes)
-        (is_of_itself key number value))))
+is_of_same : (key : Key) (x : LogEntry) → x.key ≡ key → is_of key x ≡ true
+is_of_same key x same = subst (λ k. is_of k x ≡ true) same (is_of_itself x.key x.number x.value)
+
+-- a greater number has no lower epoch
+pub epoch_not_below : (a b : Number) → IsBelow a b → a.epoch ≤ b.epoch
+epoch_not_below a b below = grind (arith, nat_tests)
+
+-- Some log entries are just what a run wrote behind an epoch and up to another: then over the state as of the first one
+-- the last of each key has what the run leaves there.
+module _ (decls : List Decl) (s : State) (es : List Entry) (early late : ℕ) (le : early ≤ late)
+    (falls : EpochsNeverFall es) (rises : Rises es) (entries : List LogEntry) (key : Key)
+    (sound : (x : LogEntry) → Contains entries x → (worker : ℕ)
+    × Writes decls s (filter (is_by late) es) worker x.key x.number x.value)
+    (above : (x : LogEntry) → Contains entries x → early < x.number.epoch)
+    (complete : (worker : ℕ) (number : Number) (value : Option ℕ)
+    → Writes decls s (filter (is_by late) es) worker key number value → early < number.epoch
+    → Contains entries (entry_at key number value)) where
+  by_rises : Rises (filter (is_by late) es)
+  by_rises = order_kept (λ e f. IsBelow e.number f.number) (is_by late) es rises
+
+  -- an entry than which no other of the key is greater has it
+  pub value_of_last : (x : LogEntry) → Contains entries x → x.key ≡ key
+      → ((y : LogEntry) → Contains entries y → y.key ≡ key → IsBelow x.number y.number → ⊥)
+      → x.value ≡ get (as_of decls s es late) key
+  value_of_last x has same last =
+      let wrote = sound x has in
+      last_written decls s (filter (is_by late) es) wrote.0 key x.number x.value by_rises
+      (subst (λ k. Writes decls s (filter (is_by late) es) wrote.0 k x.number x.value) same wrote.1)
+      (λ worker number value writes below.
+      last (entry_at key number value)
+      (complete worker number value writes
+      (omega (arith, above x has, epoch_not_below x.number number below))) refl below)
+
+  -- a key without one keeps its value
+  pub value_of_none : ((y : LogEntry) → Contains entries y → y.key ≡ key → ⊥)
+      → get (as_of decls s es early) key ≡ get (as_of decls s es late) key
+  value_of_none none = sym (none_since decls s es early late key le falls (λ worker number value writes past.
+      none (entry_at key number value) (complete worker number value writes past) refl))
+
+  pub kept_value : value_over (last_of key entries) (get (as_of decls s es early) key)
+      ≡ get (as_of decls s es late) key
+  kept_value = by_last (last_of key entries) refl
+    where
+      by_last : (last : Option LogEntry) → last_of key entries ≡ last
+          → value_over last (get (as_of decls s es early) key) ≡ get (as_of decls s es late) key
+      by_last None none = value_of_none (λ y has same.
+          greatest_none (filter (is_of key) entries) none y
+          (in_filtered (is_of key) y entries has (is_of_same key y same)))
+      by_last (Some x) some =
+          let great = greatest_is (filter (is_of key) entries) x some in
+          let same : x.key ≡ key = of_key key x (filter_only (is_of key) x entries great.0) in
+          value_of_last x (in_filter (is_of key) x entries great.0) same
+          (λ y has own below. true≢false (sym (is_below-true x.number y.number below) ∙ great.1 y
+          (in_filtered (is_of key) y entries has (is_of_same key y own))))

@@ -109,7 +109,7 @@ order_kept R p (e ∷ es) order = elim (p e) as (λ b. InOrder R (cond b (e ∷ 
 ]
 
 -- behind an entry of a later epoch all are later
-none_by : (epoch : ℕ) (e : Entry) (es : List Entry) → epoch < e.number.epoch
+pub none_by : (epoch : ℕ) (e : Entry) (es : List Entry) → epoch < e.number.epoch
     → Precedes (λ e f. e.number.epoch ≤ f.number.epoch) e es → filter (is_by epoch) es ≡ []
 none_by epoch e [] above later = refl
 none_by epoch e (f ∷ es) above later =
@@ -279,3 +279,21 @@ writes_logged decls worker s (e ∷ es) commits key number value logged (inl her
         ∙ ap (λ v. entry_at key number v) (sym here.leaves) in
         Contains-append_left (entries_of c) (flat_map entries_of logged.1) (entry_at key number value)
         (subst (λ y. Contains (entries_of c) y) same has)
+
+-- what a log has of a run, and then of one that goes on from there
+pub logged_then : (decls : List Decl) (worker : ℕ) (s : State) (es fs : List Entry) (commits more : List Commit)
+    → AreLogged decls worker s es commits → AreLogged decls worker (state_after_all decls s es) fs more
+    → AreLogged decls worker s (es ++ fs) (commits ++ more)
+logged_then decls worker s [] fs commits more first then =
+    subst (λ cs. AreLogged decls worker s fs (cs ++ more)) (sym first) then
+logged_then decls worker s (e ∷ es) fs commits more first then = (
+  first.0,
+  first.1 ++ more,
+  ap (λ cs. cs ++ more) first.2 ∙ behind first.0,
+  first.3,
+  logged_then decls worker (state_after decls s e) es fs first.1 more first.4 then,
+)
+  where
+    behind : (one : Option Commit) → option_to_list one ++ first.1 ++ more ≡ option_to_list one ++ (first.1 ++ more)
+    behind None = refl
+    behind (Some c) = refl

@@ -3,6 +3,7 @@ pub mod KeptWrites
 pub mod KeptValues
 pub mod KeptLines
 pub mod KeptIn
+pub mod KeptPoints
 pub mod KeptRounds
 pub mod KeptEnd
 pub mod KeptAll
@@ -14,7 +15,10 @@ pub mod NotBegun
 pub mod Reading
 pub mod Courses
 pub mod RoundsJoined
+pub mod OneRound
+pub mod SavedPages
 pub mod SoFar
+pub mod RunEnds
 pub mod Telling
 pub mod Briefs
 pub mod BriefDone
@@ -30,4 +34,17 @@ pub mod KeptThrough
 pub mod CrashPoints
 pub mod CrashesKept
 pub mod CrashesMore
+pub mod CrashesRead
 pub mod CrashesBegun
+pub mod KeptFiles
+pub mod KeptEpochs
+pub mod KeptHere
+pub mod KeptLogged
+pub mod KeptGleans
+pub mod KeptPages
+pub mod KeptParts
+pub mod KeptMapped
+pub mod KeptSaves
+pub mod SinceSwap
+pub mod KeptOver
+pub mod KeptBegun

@@ -1,6 +1,7 @@
 -- A run that doesn't begin: how it ends, and what the vault keeps then.
 use Rattle.std.proofs.Common.{◌≡◌, ◌⊎◌, inl, inr, ◌∙◌, sym, ap, subst, refl, ℕ, ◌+◌, ◌<◌, ◌≤◌, List, [], Option, Some, None, arith}
-use Rattle.std.specs.Prelude.{◌*◌, IfNone, IfSome, IsSome, is_some}
+use Rattle.std.specs.Prelude.{◌^◌, IfNone, IfSome, IsSome, is_some}
+use Rattle.std.specs.List.{AllByRecursion}
 use Rattle.std.specs.List.Sorted.{IsPermutation}
 use Rattle.std.proofs.lemmas.Bool.{cases_lt}
 use Rattle.std.specs.Option.{option_map}
@@ -22,6 +23,8 @@ use Rattle.wire_form.specs.declared.savepoint.Savepoint.{Savepoint}
 use Rattle.log_writer.specs.Points.{saved_of, sequence_of}
 use Rattle.log_writer.specs.Save.{Names}
 use Rattle.log_writer.specs.declared.saved.Saved.{Saved}
+use Rattle.snapshot_store.specs.Content.{words_of}
+use Rattle.snapshot_store.specs.Store.{IsWhole as IsWholePage}
 use Rattle.recovery_core.specs.Damage.{IsDamagedIn, IsReadBefore}
 use Rattle.recovery_core.specs.Images.{Images}
 use Rattle.recovery_core.specs.CrashesRecover.{LeavesSame}
@@ -40,12 +43,13 @@ use Rattle.recovery_core.specs.declared.fault.SettleFault.TheVariants as settles
 use Rattle.recovery_core.specs.declared.recovered.Recovered.{Recovered}
 use Rattle.recovery_core.specs.declared.settlement.Settled.{Settled}
 use Rattle.worker_logs.specs.Saves.{CountsOf}
+use Rattle.worker_logs.specs.declared.savepoints.Side.TheVariants.{Even}
 use Rattle.checkpoints.specs.Due.{IsOverLimit, IsStoreDue, IsWithin, OfSaved, WouldBeDeep}
 use Rattle.checkpoints.specs.SettlesInto.{SettlesInto}
 use Rattle.tx_script.specs.Causes.{last_sequence}
 use Rattle.tx_script.specs.Run.{clock_after}
 use Rattle.round_engine.specs.Begun.{begun}
-use Rattle.round_engine.specs.Logs.{AreLogs}
+use Rattle.round_engine.specs.Logs.{AreClosedFiles, AreLogs}
 use Rattle.round_engine.specs.Standing.{RuntimeState, StandsOn}
 use Rattle.round_engine.specs.declared.report.LimitName.{LimitName}
 use Rattle.round_engine.specs.declared.report.LimitName.TheVariants.{Height, Snap, Sequence}
@@ -55,6 +59,7 @@ use Rattle.foedus.specs.declared.ending.Ending.{Ending}
 use Rattle.foedus.specs.declared.ending.Ending.TheVariants.{Finished, NoScript, Shape, Usage, ReadFault, NoDevice, Damaged, AtLimit, NoMemory, NoSnapshot}
 use Rattle.foedus.specs.Ending.{RunComes, status_of}
 use Rattle.foedus.specs.OnTheWay.{BeginsRun, AreOther, EndsBefore, IsForgotten, IsOtherShape, KeptSnapshots, ending_of_refusal, ending_of_settling}
+use Rattle.foedus.specs.Vaults.{vaults_of}
 use Rattle.foedus.proofs.Begins.{may_begin, stands_at_pages, stands_at_sequence, stands_too_deep, would_store}
 use Rattle.foedus.proofs.Courses.{nowhere}
 use Rattle.foedus.proofs.KeptEnd.{kept_settled, told_reading}
@@ -179,6 +184,7 @@ module _ {D : Type 0} {tells : D → Option Bytes} {clock : D → ℕ} {image_at
       declared = λ some. absurd (some refl);
       whole = λ finished. refl;
       stops = stops_read (vaults_of tells clock image_at faults was is) reads_told script.decls opening whole reads;
+      through_reads = λ some. absurd (some refl);
     };
     rests = rests_read (status_of ending) reads;
     reads = λ told. reads;
@@ -197,8 +203,8 @@ module _ {D : Type 0} {tells : D → Option Bytes} {clock : D → ℕ} {image_at
         inr (refl, inl ((λ found told. told_read reads whole told), before device refl)),
       )
   recovery_refused reads_told (errors.Fault (recovers.Damaged device n)) whole reads damaged rose before =
-      read_only reads_told nowhere (Damaged device n) whole reads (refl, (λ found told. told_read reads whole told), damaged device n refl)
-  recovery_refused reads_told errors.Memory whole reads damaged rose before = read_only reads_told nowhere NoMemory whole reads (tt, inl refl)
+      read_only reads_told nowhere (Damaged device n) whole reads (inl (refl, (λ found told. told_read reads whole told), damaged device n refl))
+  recovery_refused reads_told errors.Memory whole reads damaged rose before = read_only reads_told nowhere NoMemory whole reads (inl (tt, inl refl))
 
   -- other storages were declared
   pub shape_refused : (reads_told : (disk : D) (file : Bytes) → tells disk ≡ Some file → image_at disk (clock disk) file)
@@ -221,7 +227,7 @@ module _ {D : Type 0} {tells : D → Option Bytes} {clock : D → ℕ} {image_at
                   record { reading = it.reading; is = it.is; saved = some_point found r it up.saved shape.saved; kept_are = other.3 ∙ it.decls };
             },
           )
-      by_ending NoMemory other = read_only reads_told nowhere NoMemory whole reads (tt, inl refl)
+      by_ending NoMemory other = read_only reads_told nowhere NoMemory whole reads (inl (tt, inl refl))
       by_ending Finished other = absurd other
       by_ending (NoScript fault) other = absurd other
       by_ending Usage other = absurd other
@@ -324,6 +330,7 @@ module _ {D : Type 0} {tells : D → Option Bytes} {clock : D → ℕ} {image_at
       declared = λ some. absurd (some refl);
       whole = λ finished. refl;
       stops = stops_so script.decls read is opening leaves;
+      through_reads = λ some. absurd (some refl);
     };
     rests = record { again = λ not_4 not_5 one. subst (λ d. IfTold (tells d) (Only clock image_at d)) (sym same.save) (read.one one) };
     reads = λ status. absurd (not_read status);
@@ -335,7 +342,7 @@ module _ {D : Type 0} {tells : D → Option Bytes} {clock : D → ℕ} {image_at
   settle_at_limit is name leaves before same at = untouched_before is nowhere (AtLimit name) leaves same (not_alone 7 (omega arith) (λ six. omega arith)) (inr (refl, before, (λ found told. told_same same tells found (read.told found told)), at))
 
   pub settle_memory : (is : Vault D) → SettlingLeaves tells clock image_at between r is → AreSame between is → EndsBefore tells clock image_at faults snap script was is NoMemory
-  settle_memory is leaves same = untouched_before is nowhere NoMemory leaves same (not_alone 8 (omega arith) (λ six. omega arith)) (tt, inl refl)
+  settle_memory is leaves same = untouched_before is nowhere NoMemory leaves same (not_alone 8 (omega arith) (λ six. omega arith)) (inl (tt, inl refl))
 
   pub settle_device : (is : Vault D) (device : Device) → SettlingLeaves tells clock image_at between r is → RoseIn faults device between is
       → IfSome r.saved (IsWithin r snap) → (IsStoreDue r → sequence_of r.save.newest ≡ last_sequence → ⊥)
@@ -367,6 +374,7 @@ module _ {D : Type 0} {tells : D → Option Bytes} {clock : D → ℕ} {image_at
           declared = λ some. absurd (some refl);
           whole = λ finished. refl;
           stops = stops_so script.decls read is (opening_of r stored.0) leaves;
+          through_reads = λ some. absurd (some refl);
         };
         rests = record { again = λ not_4 not_5. absurd (not_5 refl) };
         reads = λ status. absurd (not_alone 5 (omega arith) (λ six. omega arith) status);
@@ -380,7 +388,7 @@ module _ {D : Type 0} {tells : D → Option Bytes} {clock : D → ℕ} {image_at
       → KeptSnapshots r settled → EndsBefore tells clock image_at faults snap script was is NoMemory
   settled_memory is settled leaves settles keeps = record {
     opening = nowhere;
-    comes = (tt, inl refl);
+    comes = inl (tt, inl refl);
     kept = record {
       stands = λ sound found now epoch state told told_now that.
           let recovered = read.recovers found told in
@@ -397,6 +405,7 @@ module _ {D : Type 0} {tells : D → Option Bytes} {clock : D → ℕ} {image_at
       declared = λ some. absurd (some refl);
       whole = λ finished. refl;
       stops = stops_so script.decls read is nowhere leaves;
+      through_reads = λ some. absurd (some refl);
     };
     rests = record { again = λ not_4 not_5 one bytes told. (settles.stored bytes told).only };
     reads = λ status. absurd (not_alone 8 (omega arith) (λ six. omega arith) status);
@@ -457,12 +466,14 @@ module _ {D : Type 0} {tells : D → Option Bytes} {clock : D → ℕ} {image_at
   pub begins_run : (is : Vault D) (settled : Settled) (runtime : RuntimeState) → SettlingLeaves tells clock image_at between r is
       → SettlesInto tells clock image_at r decls between is settled → KeptSnapshots r settled → AreQuiet faults between is
       → IfSome r.saved (IsWithin r snap) → (IsStoreDue r → sequence_of r.save.newest ≡ last_sequence → ⊥)
-      → runtime ≡ begun settled.decls settled.state settled.save (clock_after settled.saved.epoch)
+      → runtime ≡ begun settled.decls settled.state settled.save settled.store snap (clock_after settled.saved.epoch)
+      → AllByRecursion IsWholePage settled.store.pages → AllByRecursion (AllByRecursion (λ w. w < 2 ^ 64)) (words_of settled.store.pages)
       → StandsOn tells clock image_at runtime is
-      → (((worker : ℕ) (bank : D) → disk_in is (Bank (2 * worker)) ≡ Some bank → tells bank ≡ Some []) → AreLogs tells clock image_at (λ worker. []) (λ worker. []) runtime is)
-      → CountsOf (λ worker. []) (λ worker. []) runtime.save.newest
+      → (((number : ℕ) (bank : D) → disk_in is (Bank number) ≡ Some bank → tells bank ≡ Some []) → AreLogs tells clock image_at (λ worker. []) (λ worker. []) runtime is
+      × AreClosedFiles tells clock image_at (λ worker. []) (λ worker. []) runtime is)
+      → CountsOf Even (λ worker. []) (λ worker. []) (λ worker. []) (λ worker. []) runtime.save.newest
       → BeginsRun tells clock image_at faults snap decls was is runtime
-  begins_run is settled runtime leaves settles keeps quiet fits left begins stands logs counts = record {
+  begins_run is settled runtime leaves settles keeps quiet fits left begins pages words stands logs counts = record {
     recovered = r;
     settled = settled;
     between = between;
@@ -477,18 +488,26 @@ module _ {D : Type 0} {tells : D → Option Bytes} {clock : D → ℕ} {image_at
     snapshots = keeps;
     begins = begins;
     stands = stands;
+    pages_whole = pages;
+    pages_fit = words;
     logs_told = λ found told.
         let told_between = read.told found told in
-        logs (λ worker bank at. elim (cases_lt worker 8) [
-          | inl below ↦ settles.emptied (λ n b has there. ap is_some (told_between.bank n b there)) (2 * worker) bank (has_all (2 * worker) (omega (arith, below))) at
-          | inr past ↦ absurd (cc (at, whole_ends settles.whole (2 * worker) (omega (arith, past))))
+        logs (λ number bank at. elim (cases_lt number 16) [
+          | inl below ↦ settles.emptied (λ n b has there. ap is_some (told_between.bank n b there)) number bank (has_all number below) at
+          | inr past ↦ absurd (cc (at, whole_ends settles.whole number past))
         ]);
     counts = counts;
     goes_on = λ found from told rest now.
-        let rests = read.rests from rest now in (
+        let rests = read.rests from rest now in
+        let left = settling_left read is leaves found from told rest now in (
           settles.goes_on found from rests.0 read.empty (read.told found told) rests.1 (read.recovers found told),
-          (settling_left read is leaves found from told rest now).now,
+          left.now,
+          left.keeps,
+          rests.0,
+          rests.1,
         );
+    empty = read.empty;
+    whole_between = read.whole;
     quiet = quiet_two was between is read.whole_was read.whole read.quiet quiet;
     whole = read.whole_was;
   }
@@ -496,12 +515,15 @@ module _ {D : Type 0} {tells : D → Option Bytes} {clock : D → ℕ} {image_at
   -- the same over a vault that a call left as it was
   pub begins_over : (is now : Vault D) (settled : Settled) (runtime : RuntimeState) → SettlingLeaves tells clock image_at between r is → now ≡ is → SettlesInto tells clock image_at r decls between is settled → KeptSnapshots r settled → AreQuiet faults between is
       → IfSome r.saved (IsWithin r snap) → (IsStoreDue r → sequence_of r.save.newest ≡ last_sequence → ⊥)
-      → runtime ≡ begun settled.decls settled.state settled.save (clock_after settled.saved.epoch)
+      → runtime ≡ begun settled.decls settled.state settled.save settled.store snap (clock_after settled.saved.epoch)
+      → AllByRecursion IsWholePage settled.store.pages → AllByRecursion (AllByRecursion (λ w. w < 2 ^ 64)) (words_of settled.store.pages)
       → StandsOn tells clock image_at runtime now
-      → (((worker : ℕ) (bank : D) → disk_in is (Bank (2 * worker)) ≡ Some bank → tells bank ≡ Some []) → AreLogs tells clock image_at (λ worker. []) (λ worker. []) runtime now)
-      → CountsOf (λ worker. []) (λ worker. []) runtime.save.newest
+      → (((number : ℕ) (bank : D) → disk_in is (Bank number) ≡ Some bank → tells bank ≡ Some []) → AreLogs tells clock image_at (λ worker. []) (λ worker. []) runtime now
+      × AreClosedFiles tells clock image_at (λ worker. []) (λ worker. []) runtime now)
+      → CountsOf Even (λ worker. []) (λ worker. []) (λ worker. []) (λ worker. []) runtime.save.newest
       → BeginsRun tells clock image_at faults snap decls was now runtime
-  begins_over is now settled runtime leaves same settles keeps quiet fits left begins stands logs counts =
+  begins_over is now settled runtime leaves same settles keeps quiet fits left begins pages words stands logs counts =
       subst (λ vault. BeginsRun tells clock image_at faults snap decls was vault runtime) (sym same)
-      (begins_run is settled runtime leaves settles keeps quiet fits left begins (subst (λ vault. StandsOn tells clock image_at runtime vault) same stands)
-      (λ empty. subst (λ vault. AreLogs tells clock image_at (λ worker. []) (λ worker. []) runtime vault) same (logs empty)) counts)
+      (begins_run is settled runtime leaves settles keeps quiet fits left begins pages words (subst (λ vault. StandsOn tells clock image_at runtime vault) same stands)
+      (λ empty. subst (λ vault. AreLogs tells clock image_at (λ worker. []) (λ worker. []) runtime vault
+      × AreClosedFiles tells clock image_at (λ worker. []) (λ worker. []) runtime vault) same (logs empty)) counts)

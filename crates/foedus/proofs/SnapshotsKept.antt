@@ -66,7 +66,7 @@ chained found reading is =
 abbrev pub IsNewest : List Contents → Contents → Type 0
 IsNewest cs c = (older : List Contents) × (cs ≡ c ∷ older)
 
-newest_by : (pages : List (List ℕ)) (limit : ℕ) (declared : Option (List Decl)) (number : ℕ) (cs : List Contents)
+pub newest_by : (pages : List (List ℕ)) (limit : ℕ) (declared : Option (List Decl)) (number : ℕ) (cs : List Contents)
     (c : Contents) → AreCatalogues pages limit declared number cs → Contains cs c
     → ((d : Contents) → Contains cs d → d.epoch ≤ c.epoch) → IsNewest cs c
 newest_by pages limit declared number [] c chain has last = absurd (in_none c has)
@@ -94,7 +94,7 @@ stands_plain epoch decl pages (suc d) p stands = record {
 }
 
 -- the pages of the newest one stand
-newest_stands : (reading : Reading) (c : Contents) → Chained reading → IsNewest reading.catalogues c
+pub newest_stands : (reading : Reading) (c : Contents) → Chained reading → IsNewest reading.catalogues c
     → AllByRecursion (RootStands reading.pages) c.storages
 newest_stands reading c chained is =
     let stands = subst (λ cs. AllByRecursion (RootStandsUpTo (newest_epoch cs) reading.pages) (newest_storages cs)) is.1
@@ -110,7 +110,7 @@ none_count snapshot saved (e ∷ es) same =
     rw is (none_count snapshot saved es same)
 
 -- so it has the state that the devices stand for
-newest_content : (reading : Reading) (c : Contents) (state : State) → IsNewest reading.catalogues c
+pub newest_content : (reading : Reading) (c : Contents) (state : State) → IsNewest reading.catalogues c
     → c.epoch ≡ epoch_of reading.point → IsStateOf reading state
     → IsContent (record_in reading.pages) c.storages state
 newest_content reading c state is same state_is = λ key.
@@ -192,6 +192,22 @@ module _ (decls : List Decl) (commits : List Entry) (was now : Reading) (epoch :
         let still = keeps.content c s has content.stands content.content in
         record { stands = still.0; content = still.1 };
   }
+
+-- What holds of one reading of the devices before and of one of them now holds of any.
+pub each_told : (decls : List Decl) (commits : List Entry) (found now : Images) (was is : Reading) (saved : ℕ)
+    (kept : State) → IsReading found was → IsReading now is → saved ≡ epoch_of was.point → IsStateOf was kept
+    → EachSnapshot was is saved kept decls commits → (epoch : ℕ) (state : State) (reading : Reading)
+    (before : IsRecoverable found epoch state) → IsReading now reading
+    → EachSnapshot before.reading reading epoch state decls commits
+each_told decls commits found now was is saved kept was_is is_is saved_is kept_is each epoch state reading before reads =
+    let that : IsRecoverable found saved kept =
+    record { reading = was; is = was_is; epoch_is = saved_is; state_is = kept_is } in
+    let one = one_kept found saved epoch kept state that before in
+    subst (λ r. EachSnapshot r reading epoch state decls commits)
+    (one_reading found was before.reading was_is before.is)
+    (subst (λ r. EachSnapshot was r epoch state decls commits) (one_reading now is reading is_is reads)
+    (subst (λ e. EachSnapshot was is e state decls commits) one.0
+    (subst (λ (s : State). EachSnapshot was is saved s decls commits) one.1 each)))
 
 -- The same of all that devices say, before and now.
 pub each_between : (decls : List Decl) (commits : List Entry) (found now : Images) (was is : Reading) (saved : ℕ)

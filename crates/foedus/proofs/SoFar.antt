@@ -1,215 +1,71 @@
 -- What was run of a script so far on what a vault keeps, and what comes of one round more.
-use Rattle.std.proofs.Common.{◌≡◌, inl, inr, ◌∙◌, sym, ap, subst, refl, ℕ, ◌+◌, ◌-◌, ◌<◌, ◌≤◌, false, true, List, [], ◌∷◌, ◌++◌, length, Option, Some, None, Ok, Err, zero, suc, arith, append_assoc, length-append}
-use Rattle.std.specs.Prelude.{MatchBool, is_some, map, option_to_list, slice_get}
+use Rattle.std.proofs.Common.{◌≡◌, ◌∙◌, sym, ap, subst, refl, ℕ, ◌+◌, ◌-◌, ◌<◌, ◌≤◌, false, true, List, [], ◌∷◌, ◌++◌}
+use Rattle.std.proofs.Common.{length, Option, Some, None, arith, cond, length-append}
+use Rattle.std.specs.Prelude.{IsSome, is_some, option_to_list, replicate, slice_get}
 use Rattle.std.specs.List.{AllByRecursion, Contains}
-use Rattle.std.proofs.lemmas.List.{append-nil, length-map}
+use Rattle.std.proofs.lemmas.List.{length-map}
 use Rattle.std.proofs.lemmas.List.Sorted.{IsPermutation-refl}
-use Rattle.lists.specs.Each.{all_at, all_push, all_weaker}
+use Rattle.lists.specs.Each.{all_push, all_weaker}
 use Rattle.lists.specs.Elements.{in_none}
 use Rattle.outside.specs.Vault.{IsWhole}
-use Rattle.outside.specs.declared.fault.Failed.{Failed}
-use Rattle.outside.specs.declared.vault.Device.TheVariants.{Save}
+use Rattle.outside.specs.declared.vault.Device.{Device}
+use Rattle.outside.specs.declared.vault.Device.TheVariants.{Save, Snaps}
 use Rattle.outside.specs.declared.vault.Vault.{Vault}
-use Rattle.text_output.specs.Output.{Adds, Breaks, Output}
-use Rattle.text_output.specs.Printed.{adds_as, adds_nothing, adds_then, breaks_as, breaks_then, breaks_within}
-use Rattle.serial_model.specs.History.{Entry, EpochsNeverFall, Rises, as_of, state_after_all}
+use Rattle.serial_model.specs.History.{Entry, EpochsNeverFall, Rises, state_after_all}
 use Rattle.serial_model.specs.Numbers.{last_epoch}
 use Rattle.serial_model.specs.State.{State}
 use Rattle.serial_model.specs.declared.decl.Decl.{Decl}
 use Rattle.serial_model.specs.declared.number.Commit.{Commit}
 use Rattle.serial_model.specs.declared.number.Number.{Number}
-use Rattle.script_grammar.specs.Script.{Bytes, Round, Script, lines_of_worker}
-use Rattle.wire_form.specs.declared.clock.Mark.{Mark}
-use Rattle.wire_form.specs.declared.savepoint.Savepoint.{Savepoint}
-use Rattle.log_writer.specs.Points.{point_of, sequence_of}
-use Rattle.log_writer.specs.declared.saved.Saved.{Saved}
-use Rattle.recovery_core.specs.Images.{Images}
+use Rattle.script_grammar.specs.Script.{Bytes, Round, Script}
+use Rattle.wire_form.specs.declared.page.Page.{Page}
+use Rattle.log_writer.specs.Points.{sequence_of}
+use Rattle.snapshot_store.specs.Content.{words_of}
+use Rattle.recovery_core.specs.Images.{Images, count_of}
 use Rattle.recovery_core.specs.JointCrash.{IsNow, Moments, parts_of}
-use Rattle.recovery_core.specs.Recoverable.{IsRecoverable}
 use Rattle.recovery_core.specs.Resting.{AreTold, IsResting}
-use Rattle.recovery_core.specs.SettleGoesOn.{GoesOn as GoesOnFrom}
-use Rattle.recovery_core.specs.VaultReads.{AreQuiet, RoseIn}
+use Rattle.recovery_core.specs.Recovered.{recovers_state}
+use Rattle.recovery_core.specs.VaultReads.{AreQuiet}
 use Rattle.recovery_core.specs.declared.settlement.Settled.{Settled}
-use Rattle.worker_logs.specs.Logs.{IsJoined, LogState}
 use Rattle.worker_logs.specs.Saves.{CountsOf}
-use Rattle.script_grammar.specs.declared.lines.KeeperLine.{KeeperLine}
-use Rattle.script_grammar.specs.declared.lines.KeeperLine.TheVariants as asks
-use Rattle.tx_script.specs.declared.answer.Answer.{Answer}
-use Rattle.tx_script.specs.declared.answer.Answer.TheVariants as answers
-use Rattle.tx_script.specs.Causes.{AllCaused, AnswersCaused, IsAnswerTo, KeeperAt, keeper_before}
-use Rattle.tx_script.specs.Draws.{DrawsOnce, commits_of}
-use Rattle.tx_script.specs.Run.{IsRun, AdvancesTo, IsScriptRun, LogFull, Ran, clock_after, joined}
-use Rattle.tx_script.specs.Text.{lines_text, round_text, run_text}
+use Rattle.worker_logs.specs.declared.savepoints.Side.TheVariants.{Even}
+use Rattle.tx_script.specs.Causes.{AllCaused, keeper_before}
+use Rattle.tx_script.specs.Draws.{DrawsOnce}
+use Rattle.tx_script.specs.Run.{IsRun, IsScriptRun, LogFiles, Ran, clock_after, joined}
 use Rattle.round_engine.specs.Begun.{begun}
+use Rattle.round_engine.specs.Changes.{AreLogged}
 use Rattle.round_engine.specs.Crashes.{CarriesCrashes}
-use Rattle.round_engine.specs.Ends.{end_of}
-use Rattle.round_engine.specs.Logs.{AreLogs}
-use Rattle.round_engine.specs.RanRound.{AreFailed, AreRoundMarks, LeavesVault, RanRound, StopsIn}
-use Rattle.round_engine.specs.Saves.{newest_after}
-use Rattle.round_engine.specs.Standing.{IsReady, RuntimeState, StandsOn}
-use Rattle.round_engine.specs.declared.report.End.{End}
-use Rattle.round_engine.specs.declared.report.End.TheVariants as ends
+use Rattle.round_engine.specs.Ends.{comes_to_swap, swaps}
+use Rattle.round_engine.specs.Logs.{AreClosedFiles, AreLogs}
+use Rattle.round_engine.specs.RanRound.{AreFailed, LeavesVault, RanRound}
+use Rattle.round_engine.specs.Standing.{IsReady, RuntimeState, StandsOn, files_of}
+use Rattle.round_engine.specs.Swaps.{since_swap}
 use Rattle.round_engine.specs.declared.report.Report.{Report}
-use Rattle.command_line.specs.declared.command.Command.TheVariants.{Run}
-use Rattle.command_line.specs.declared.command.RunOptions.{RunOptions}
 use Rattle.foedus.specs.Beginning.{MayBegin, Opening, SameDecls}
-use Rattle.foedus.specs.declared.ending.Ending.{Ending}
-use Rattle.foedus.specs.declared.ending.Ending.TheVariants.{Finished, NoMemory}
-use Rattle.foedus.specs.Ending.{GoesOn, RunComes, last_line, status_of}
-use Rattle.foedus.specs.Main.{AreCaused, AreFull, AreMarked, IsDurable, IsMarked, HasDeclared, HasEachSnapshot, IsSound, SequencesFrom, StandsThrough, last_saved, saved_in, StandsWhenStopped}
-use Rattle.foedus.specs.Causes.{ReadsAlone, RestsAgain}
-use Rattle.foedus.specs.OnTheWay.{AddsRun, BeginsRun, EndsBefore, RunsScript, ending_of}
+use Rattle.foedus.specs.Ending.{GoesOn}
+use Rattle.foedus.specs.Main.{AreCaused, AreFull, IsDurable}
+use Rattle.foedus.specs.OnTheWay.{BeginsRun}
+use Rattle.foedus.specs.RanOver.{BeginsOver, BeginsWith, FilesAt, IsUnbroken, KeepsPages, RunsOver, files_after}
+use Rattle.foedus.specs.RanOver.{files_before}
 use Rattle.foedus.specs.Vaults.{NoneFailed, Vaults, vaults_of}
-use Rattle.foedus.proofs.Begins.{may_begin, settled_stored}
-use Rattle.foedus.specs.EndLaws.{EndTells, cause_cases, end_tells, goes_on_quiet, goes_on_room}
-use Rattle.foedus.proofs.KeptRounds.{KeptSoFar, item_at, kept_begins, kept_more, save_up}
-use Rattle.foedus.proofs.CrashesBegun.{crashes_begin, settled_on}
-use Rattle.foedus.proofs.CrashesKept.{CrashesKept, KeptBefore, crash_covered, crash_leaves}
-use Rattle.foedus.proofs.CrashesMore.{crashes_more, crashes_stopped}
-use Rattle.foedus.proofs.KeptAll.{IsLasting, joined_where_none, kept_all}
-use Rattle.foedus.proofs.KeptEnd.{StandsBehind, has_log, kept_at_end, kept_stopped}
-use Rattle.foedus.proofs.SnapshotsKept.{each_between}
-use Rattle.foedus.proofs.KeptThrough.{one_kept, storages_kept}
-use Rattle.foedus.proofs.NotBegun.{not_alone}
+use Rattle.foedus.proofs.Begins.{begins_with, may_begin, settled_stored}
+use Rattle.foedus.specs.EndLaws.{goes_on_quiet}
+use Rattle.foedus.proofs.KeptOver.{AllTell, OverFrom, behind_parts, files_from, files_then, log_of_parts, logged_later}
+use Rattle.foedus.proofs.KeptOver.{logged_over, own_logged}
+use Rattle.foedus.proofs.KeptOver.{made_pages, never_damaged, over_push, swapped_parts, tell_push, tell_same, tell_then}
+use Rattle.foedus.proofs.KeptOver.{tells_round}
+use Rattle.foedus.proofs.KeptRounds.{KeptSoFar, advances_later, kept_begins, kept_more, of_round, save_up}
+use Rattle.foedus.proofs.SinceSwap.{full_in}
+use Rattle.foedus.proofs.CrashesBegun.{crashes_begin, left_since}
+use Rattle.foedus.proofs.CrashesKept.{CrashesKept, KeptBefore}
+use Rattle.foedus.proofs.CrashesMore.{crashes_more, ready_more}
+use Rattle.foedus.proofs.KeptAll.{joined_where_none}
 use Rattle.foedus.proofs.RoundsJoined.{clock_from, run-push}
-use Rattle.foedus.proofs.SameRun.{as_of_same, same_run, same_state}
-use Rattle.foedus.proofs.VaultsLater.{devices_in-push, failed_back, failed_none, none_failed_in, quiet_failed, rose_back}
-
--- ---- lists of rounds, with one more
-
--- the clock after one round more is that after its join
-clock_from-push : (clock : Number) (rans : List Ran) (ran : Ran) → clock_from clock (rans ++ ran ∷ []) ≡ joined ran.end
-clock_from-push clock [] ran = refl
-clock_from-push clock (q ∷ rans) ran = clock_from-push (joined q.end) rans ran
-
--- the sequence of the newest savepoint after the rounds
-abbrev pub sequence_after : ℕ → List Ran → ℕ
-sequence_after n [] = n
-sequence_after n (ran ∷ rans) = sequence_after (n + length (saved_in ran)) rans
-
-sequence_after-push : (n : ℕ) (rans : List Ran) (ran : Ran) → sequence_after n (rans ++ ran ∷ []) ≡ sequence_after n rans + length (saved_in ran)
-sequence_after-push n [] ran = refl
-sequence_after-push n (q ∷ rans) ran = sequence_after-push (n + length (saved_in q)) rans ran
-
-sequences-push : (n : ℕ) (rans : List Ran) (ran : Ran) → SequencesFrom n rans → ran.sequence ≡ sequence_after n rans → SequencesFrom n (rans ++ ran ∷ [])
-sequences-push n [] ran so is = (is, tt)
-sequences-push n (q ∷ rans) ran so is = (so.0, sequences-push (n + length (saved_in q)) rans ran so.1 is)
-
--- each savepoint that is stored has the next sequence
-stored_length : (newest : Option Savepoint) (stored : List Saved) → sequence_of (newest_after newest stored) ≡ sequence_of newest + length stored
-stored_length newest [] = omega arith
-stored_length newest (saved ∷ more) = omega (arith, stored_length (Some (point_of (sequence_of newest + 1) saved)) more)
-
-marked-push : (rans : List Ran) (ran : Ran) (rounds : List Round) (round : Round) → slice_get rounds (length rans) ≡ Some round
-    → AreMarked rans rounds → IsMarked round ran → AreMarked (rans ++ ran ∷ []) rounds
-marked-push [] ran [] round at so one = cc
-marked-push [] ran (r ∷ rounds) round at so one = let same : r ≡ round = cc in (subst (λ x. IsMarked x ran) (sym same) one, tt)
-marked-push (q ∷ rans) ran [] round at so one = absurd so
-marked-push (q ∷ rans) ran (r ∷ rounds) round at so one = (so.0, marked-push rans ran rounds round at so.1 one)
-
--- ---- one round
-
--- what is in a list stands below its length
-in_range : {X : Type 0} (xs : List X) (i : ℕ) (x : X) → slice_get xs i ≡ Some x → i < length xs
-in_range [] i x at = absurd cc
-in_range (y ∷ xs) zero x at = omega arith
-in_range (y ∷ xs) (suc i) x at = omega (arith, in_range xs i x at)
-
--- as a round begins each worker's mark is of the epoch before
-mark_before : (logs : List LogState) (clock worker : ℕ) (log : LogState) → AllByRecursion (IsJoined clock) logs → slice_get logs worker ≡ Some log
-    → log.mark.epoch ≡ Some (clock - 1)
-mark_before logs clock worker log joined at =
-    let one : IsJoined clock log = all_at (IsJoined clock) logs worker log joined at in ap (λ (m : Mark). m.epoch) one.marked
-
--- the marks of a round
-marked : (round : Round) (old new : RuntimeState) (report : Report) (one : RanRound round old new report) → one.ran.begin ≡ old.stands.clock
-    → length old.logs ≡ 8 → AllByRecursion (IsJoined old.stands.clock.epoch) old.logs → IsMarked round one.ran
-marked round old new report one begins eight joined = record {
-  workers = one.begins.workers;
-  marks = λ worker epochs at.
-      let log = item_at old.logs worker (omega (arith, in_range one.ran.marks worker epochs at, one.begins.workers, eight)) in
-      let epoch : log.0.mark.epoch ≡ Some (one.ran.begin.epoch - 1) =
-      mark_before old.logs old.stands.clock.epoch worker log.0 joined log.1 ∙ ap (λ (n : Number). Some (n.epoch - 1)) (sym begins) in
-      subst (λ had. AreRoundMarks (lines_of_worker round worker) had one.ran.begin.epoch one.ran.end.epoch epochs) epoch
-      (one.begins.marks worker log.0 epochs log.1 at);
-}
-
--- what the engine drew, as it is told of the round
-pub drew_once : (round : Round) (old new : RuntimeState) (report : Report) (one : RanRound round old new report)
-    → new.stands.clock.draw ≡ old.stands.clock.draw + commits_of report.outcomes → DrawsOnce one.ran
-drew_once round old new report one once =
-    let begins : one.ran.begin ≡ old.stands.clock = (one.lines.run 0).clocks.0 in
-    let draw : new.stands.clock.draw ≡ one.ran.end.draw = ap (λ (n : Number). n.draw) one.clock in
-    sym draw ∙ once ∙ ap (λ n. n + commits_of report.outcomes) (sym (ap (λ (n : Number). n.draw) begins))
-    ∙ ap (λ os. one.ran.begin.draw + commits_of os) one.reports.outcomes
-
--- what a round saved
-saved_many : (ran : Ran) (stored : List Saved) → map (λ (s : Saved). s.epoch) stored ≡ saved_in ran → length stored ≡ length (saved_in ran)
-saved_many ran stored epochs = sym (length-map stored (λ (s : Saved). s.epoch)) ∙ ap length epochs
-
--- a round that goes on had no full log
-none_full : (decls : List Decl) (s : State) (ordered : List Entry) (ran : Ran) → GoesOn ran → AreFull decls s ordered ran
-none_full decls s ordered ran on worker size below at = absurd (goes_on_room ran worker size on at)
-
-all_none_full : (decls : List Decl) (s : State) (ordered : List Entry) (rans : List Ran) → AllByRecursion GoesOn rans → AllByRecursion (AreFull decls s ordered) rans
-all_none_full decls s ordered rans on = all_weaker GoesOn (AreFull decls s ordered) (λ ran goes. none_full decls s ordered ran goes) rans on
-
--- a full log's lines are as many bytes as it was told
-module _ {D : Type 0} {tells : D → Option Bytes} {clock : D → ℕ} {image_at : D → ℕ → Bytes → Type 0} {faults : D → ℕ} where
-  full_in : (found : Images) (decls : List Decl) (opening : Opening) (rans : List Ran) (ordered : List Entry) (storages : List Decl) (old new : RuntimeState) (before now : Vault D) (ran : Ran) (logged : ℕ → List Commit)
-      → SameDecls decls storages → LeavesVault tells clock image_at faults ran logged old new before now
-      → KeptSoFar tells clock image_at found storages opening.state opening.saved rans ordered new now → AreFull decls opening.state ordered ran
-  full_in found decls opening rans ordered storages old new before now ran logged same leaves kept worker size below at =
-      let has = has_log leaves.stands worker below in
-      let refused = leaves.refused worker has.log (Some (LogFull size)) has.at at in
-      let log = kept.logs worker has.log has.bank has.at has.there in (
-        storages,
-        same,
-        kept.commits worker,
-        kept.logged_are worker below,
-        refused.0 ∙ (omega (arith, log.journal_of.durable.size, length-append (kept.durable worker) has.log.journal.lines)) ∙ sym (ap length log.lines),
-      )
-
--- nothing failed in a store, so the store is up
-down_none : (down : Option ℕ) (failed : Option Saved) → is_some down ≡ is_some failed → (is_some failed ≡ true → ⊥) → down ≡ None
-down_none None failed same not = refl
-down_none (Some count) failed same not = absurd (not (sym same))
-
--- ---- the last epoch
-
--- a line that advances the epoch stands before the last one
-advanced : (ran : Ran) (k : KeeperAt) (line : KeeperLine) (epoch : ℕ) → IsAnswerTo ran k line (answers.Epoch epoch) → (k.epoch < last_epoch) × (epoch ≡ k.epoch + 1)
-advanced ran k asks.Epoch epoch is = is
-advanced ran k asks.Save epoch is = absurd is
-advanced ran k asks.Glean epoch is = absurd is
-advanced ran k asks.Drop epoch is = absurd is
-
-epoch_answered : (ran : Ran) (k : KeeperAt) (line : KeeperLine) (epoch : ℕ)
-    → MatchBool k.refused (answers.Epoch epoch ≡ answers.Unrun) (IsAnswerTo ran k line (answers.Epoch epoch)) → epoch ≤ last_epoch
-epoch_answered ran k line epoch caused = elim (cause_cases ran k line (answers.Epoch epoch) caused) [
-  | inl unrun ↦ absurd cc
-  | inr is ↦ let up = advanced ran k line epoch is in omega (arith, up.0, up.1)
-]
-
--- answers never take the epoch past the last one
-answers_most : (ran : Ran) (k : KeeperAt) (lines : List KeeperLine) (told : List Answer) (last : ℕ) → AnswersCaused ran k lines told
-    → AdvancesTo k.epoch told last → k.epoch ≤ last_epoch → last ≤ last_epoch
-answers_most ran k [] [] last caused up most = omega (arith, up, most)
-answers_most ran k (line ∷ lines) [] last caused up most = absurd caused
-answers_most ran k [] (answer ∷ more) last caused up most = absurd caused
-answers_most ran k (line ∷ lines) (answers.Epoch epoch ∷ more) last caused up most =
-    answers_most ran (record k { epoch = epoch }) lines more last caused.1 up.1 (epoch_answered ran k line epoch caused.0)
-answers_most ran k (line ∷ lines) (answers.Save epoch ∷ more) last caused up most = answers_most ran (record k { sequence = k.sequence + 1 }) lines more last caused.1 up most
-answers_most ran k (line ∷ lines) (answers.Snap epoch new ∷ more) last caused up most = answers_most ran k lines more last caused.1 up most
-answers_most ran k (line ∷ lines) (answers.Empty ∷ more) last caused up most = answers_most ran k lines more last caused.1 up most
-answers_most ran k (line ∷ lines) (answers.SnapFull ∷ more) last caused up most = answers_most ran k lines more last caused.1 up most
-answers_most ran k (line ∷ lines) (answers.Deep ∷ more) last caused up most = answers_most ran k lines more last caused.1 up most
-answers_most ran k (line ∷ lines) (answers.Drop dropped kept ∷ more) last caused up most = answers_most ran k lines more last caused.1 up most
-answers_most ran k (line ∷ lines) (answers.Limit ∷ more) last caused up most = answers_most ran k lines more last caused.1 up most
-answers_most ran k (line ∷ lines) (answers.Device ∷ more) last caused up most = answers_most ran (record k { refused = true }) lines more last caused.1 up most
-answers_most ran k (line ∷ lines) (answers.Damaged ∷ more) last caused up most = answers_most ran (record k { refused = true }) lines more last caused.1 up most
-answers_most ran k (line ∷ lines) (answers.Memory ∷ more) last caused up most = answers_most ran (record k { refused = true }) lines more last caused.1 up most
-answers_most ran k (line ∷ lines) (answers.Unrun ∷ more) last caused up most = answers_most ran k lines more last caused.1 up most
+use Rattle.foedus.proofs.SameRun.{same_run, same_state}
+use Rattle.foedus.proofs.VaultsLater.{failed_back, quiet_failed, rose_back}
+use Rattle.foedus.proofs.SavedPages.{least_pages, round_pages, settled_pages}
+use Rattle.foedus.proofs.OneRound.{clock_from-push, sequence_after, sequence_after-push, sequences-push, stored_length}
+use Rattle.foedus.proofs.OneRound.{marked-push, marked, saved_many, down_none, answers_most, swaps_quiet}
 
 -- ---- the rounds so far
 
@@ -222,16 +78,69 @@ module _ {D : Type 0} (tells : D → Option Bytes) (clock : D → ℕ) (image_at
   abbrev pub BeginsAt : Opening → Type 0
   BeginsAt opening = (found : Images) → AreTold tells (parts_of was) found → MayBegin snap script.decls opening found
 
-  -- what the vault keeps, where the devices told what they had
+  -- what the vault keeps over these storages, where the devices told what they had
+  abbrev pub KeepsIn : List Decl → Opening → List Ran → List Entry → RuntimeState → Vault D → Type 0
+  KeepsIn decls opening rans ordered r now = (found : Images) → AreTold tells (parts_of was) found
+      → KeptSoFar tells clock image_at found decls opening.state opening.saved rans ordered r now
+
   abbrev pub KeepsAt : Opening → List Ran → List Entry → RuntimeState → Vault D → Type 0
-  KeepsAt opening rans ordered r now = (found : Images) → AreTold tells (parts_of was) found
-      → KeptSoFar tells clock image_at found r.stands.decls opening.state opening.saved rans ordered r now
+  KeepsAt opening rans ordered r now = KeepsIn r.stands.decls opening rans ordered r now
 
   -- what is known of the crashes since the call began, where the devices told what they had and rested
-  abbrev pub CrashesAt : Opening → List Ran → List Entry → RuntimeState → Vault D → Type 0
-  CrashesAt opening rans ordered r now = (found : Images) (from : Moments) → AreTold tells (parts_of was) found
+  abbrev pub CrashesAt : (decls : List Decl) (opening : Opening) (rans : List Ran) (ordered : List Entry) (r : RuntimeState)
+      (now : Vault D) → KeepsIn decls opening rans ordered r now → Type 0
+  CrashesAt decls opening rans ordered r now kept = (found : Images) (from : Moments)
+      (told : AreTold tells (parts_of was) found) → IsResting clock image_at (parts_of was)
+      → IsNow clock image_at (parts_of was) from
+      → KeptBefore tells clock image_at from decls opening.sequence opening.saved opening.state rans ordered
+      (kept found told).commits (kept found told).gone r now
+
+  -- the same behind a round that may have ended the run
+  abbrev pub CrashesBehind : List Decl → Opening → List Ran → List Entry → Vault D → Type 0
+  CrashesBehind decls opening rans ordered now = (found : Images) (from : Moments) → AreTold tells (parts_of was) found
       → IsResting clock image_at (parts_of was) → IsNow clock image_at (parts_of was) from
-      → KeptBefore tells clock image_at from r.stands.decls opening.sequence opening.saved opening.state rans ordered r now
+      → CrashesKept clock image_at from decls opening.sequence opening.saved opening.state rans ordered now
+
+  -- the vault of the call, as it is now
+  abbrev pub at_now : Vault D → Vaults D
+  at_now now = vaults_of tells clock image_at faults was now
+
+  -- the rounds were over these log files and pages, up to those of the runtime
+  pub record OverSoFar (decls : List Decl) (opening : Opening) (rans : List Ran) (ordered : List Entry) (r : RuntimeState)
+      (now : Vault D) (kept : KeepsIn decls opening rans ordered r now) : Type 0 where
+    pub words : List (List ℕ)
+    pub begins : (found : Images) → AreTold tells (parts_of was) found → BeginsWith script.decls words found
+    pub last : FilesAt
+    pub from : OverFrom snap (files_before opening.saved words) rans last
+    pub files : last.files ≡ files_of r
+    pub pages : last.words ≡ words_of r.store.pages
+    pub since : (found : Images) (told : AreTold tells (parts_of was) found) → last.since ≡ (kept found told).since
+    pub says : (found : Images) (told : AreTold tells (parts_of was) found)
+        → (let k = kept found told in AllTell (log_of_parts k.older k.gone k.commits) snap
+        (files_before opening.saved words) rans last from)
+    pub first : opening.saved < r.stands.clock.epoch
+    pub past : AllByRecursion (λ ran. ran.end.epoch < r.stands.clock.epoch) rans
+
+  -- the rounds were over these, up to one that may have ended the run
+  pub record OverOneMore (opening : Opening) (rans : List Ran) (ran : Ran) (old new : RuntimeState) (before : Vault D)
+      (ordered : List Entry) (kept : KeepsAt opening rans ordered old before) (logged : ℕ → List Commit) : Type 0 where
+    pub words : List (List ℕ)
+    pub begins : (found : Images) → AreTold tells (parts_of was) found → BeginsWith script.decls words found
+    pub last : FilesAt
+    pub made : List (List ℕ)
+    pub from : OverFrom snap (files_before opening.saved words) (rans ++ ran ∷ []) (files_after last ran made new.counted)
+    pub files : (files_after last ran made new.counted).files ≡ files_of new
+    pub pages : new.store.sound ≡ true → (files_after last ran made new.counted).words ≡ words_of new.store.pages
+    pub since : (found : Images) (told : AreTold tells (parts_of was) found) → last.since ≡ (kept found told).since
+    pub closed : last.files.closed_at ≡ old.closed_at
+    pub says : (found : Images) (told : AreTold tells (parts_of was) found)
+        → (let k = kept found told in AllTell (log_of_parts k.older k.gone (λ w. k.commits w ++ logged w)) snap
+        (files_before opening.saved words) (rans ++ ran ∷ []) (files_after last ran made new.counted) from)
+
+  -- all that is kept as the next round begins
+  abbrev pub KeptNext : List Decl → Opening → List Ran → List Entry → RuntimeState → Vault D → Type 0
+  KeptNext decls opening rans ordered r now = (k : KeepsIn decls opening rans ordered r now)
+      × OverSoFar decls opening rans ordered r now k × CrashesAt decls opening rans ordered r now k
 
   -- what was run up to a round, and where that left the runtime and the vault
   pub record RanSoFar (r : RuntimeState) (count : ℕ) (now : Vault D) : Type 0 where
@@ -247,15 +156,14 @@ module _ {D : Type 0} (tells : D → Option Bytes) (clock : D → ℕ) (image_at
     pub sequence : sequence_of r.save.newest ≡ sequence_after opening.sequence rans
     pub unended : r.stands.ended ≡ false
     pub most : r.stands.clock.epoch ≤ last_epoch
+    pub room : r.room ≡ snap
     pub stands : StandsOn tells clock image_at r now
     pub whole : IsWhole was
     pub quiet : AreQuiet faults was now
     pub kept : KeepsAt opening rans run.ordered r now
-    pub crashes : CrashesAt opening rans run.ordered r now
-
-  -- the vault of the call, as it is now
-  abbrev pub at_now : Vault D → Vaults D
-  at_now now = vaults_of tells clock image_at faults was now
+    pub crashes : CrashesAt r.stands.decls opening rans run.ordered r now kept
+    pub over : OverSoFar r.stands.decls opening rans run.ordered r now kept
+    pub paged : (found : Images) → AreTold tells (parts_of was) found → count_of r.save.newest ≡ length r.store.pages
 
   -- what was run up to a round and of it, and where that left all; the round may have ended the run
   pub record RanOneMore (r : RuntimeState) (now : Vault D) (opening : Opening) (before : List Ran) (ran : Ran) : Type 0 where
@@ -269,15 +177,128 @@ module _ {D : Type 0} (tells : D → Option Bytes) (clock : D → ℕ) (image_at
     pub failed : AreFailed faults ran.devices was now
     pub up : NoneFailed (at_now now) → r.save.down ≡ None
     pub up_quiet : ran.devices ≡ [] → r.save.down ≡ None
-    pub kept : KeepsAt opening (before ++ ran ∷ []) run.ordered r now
-    pub crashes : CrashesAt opening (before ++ ran ∷ []) run.ordered r now
+    pub sound : NoneFailed (at_now now) → r.store.sound ≡ true
+    pub sound_quiet : ran.devices ≡ [] → r.store.sound ≡ true
+    pub kept : r.store.sound ≡ true → KeepsAt opening (before ++ ran ∷ []) run.ordered r now
+    pub kept_over : r.store.sound ≡ true → opening.saved < r.stands.clock.epoch
+        → AllByRecursion (λ ran. ran.end.epoch < r.stands.clock.epoch) (before ++ ran ∷ [])
+        → (comes_to_swap ran ≡ true → swaps ran ≡ true) → r.save.down ≡ None
+        → KeptNext r.stands.decls opening (before ++ ran ∷ []) run.ordered r now
+    pub crashes : CrashesBehind r.stands.decls opening (before ++ ran ∷ []) run.ordered now
+    pub words : List (List ℕ)
+    pub words_are : r.store.sound ≡ true → words ≡ words_of r.store.pages
+    pub files : (IsUnbroken (at_now now) (before ++ ran ∷ []) → (before ++ ran ∷ [] ≡ [] → ⊥)
+        → KeepsPages (at_now now) words (before ++ ran ∷ []))
+        → RunsOver (at_now now) snap script.decls opening.state opening.saved run.ordered (before ++ ran ∷ [])
+    pub paged : IsSome ran.durable → r.save.down ≡ None → r.store.sound ≡ true → (found : Images)
+        → AreTold tells (parts_of was) found → count_of r.save.newest ≡ length r.store.pages
+    pub least : (found : Images) → AreTold tells (parts_of was) found
+        → (ran.pages ≤ count_of r.save.newest) × (ran.pages ≤ length r.store.pages)
+    pub untold : (damage : Device × ℕ) → ran.damaged ≡ Some damage → (found : Images) → AreTold tells (parts_of was) found → ⊥
     pub full : (found : Images) → AreTold tells (parts_of was) found → AreFull script.decls opening.state run.ordered ran
+
+  -- the log files and pages of a round more
+  over_one : (r s : RuntimeState) (count : ℕ) (before now : Vault D) (round : Round) (report : Report)
+      (so : RanSoFar r count before) (one : RanRound round r s report)
+      → (leaves : LeavesVault tells clock image_at faults one.ran one.logged r s before now)
+      → r.stands.state ≡ state_after_all r.stands.decls so.opening.state so.run.ordered
+      → Rises (so.run.ordered ++ (one.lines.run (length so.rans)).ordered)
+      → EpochsNeverFall (so.run.ordered ++ (one.lines.run (length so.rans)).ordered)
+      → OverOneMore so.opening so.rans one.ran r s before so.run.ordered so.kept one.logged
+  over_one r s count before now round report so one leaves state_is rises falls =
+      let over = so.over in
+      let m = made_pages leaves in
+      let begins : BeginsOver snap over.last one.ran = record {
+        files = one.begins.files ∙ sym over.files;
+        pages = one.begins.pages ∙ sym (ap length over.pages ∙ length-map r.store.pages (λ (p : Page). p.words));
+        room_is = one.begins.room ∙ so.room;
+      } in
+      let first : FilesAt = files_before so.opening.saved over.words in
+      record {
+        words = over.words;
+        begins = over.begins;
+        last = over.last;
+        made = m.made;
+        from = over_push snap first so.rans over.last one.ran m.made s.counted over.from begins m.adds;
+        files = files_then so.stands one leaves over.last over.files m.made;
+        pages = λ sound. ap (λ ws. ws ++ m.made) over.pages ∙ sym (m.words sound);
+        since = over.since;
+        closed = ap (λ (x : LogFiles). x.closed_at) over.files;
+        says = λ found told.
+            let k = so.kept found told in
+            tell_push (log_of_parts k.older k.gone (λ w. k.commits w ++ one.logged w)) snap first so.rans over.last one.ran m.made
+            s.counted over.from begins m.adds
+            (tell_same (λ w. log_of_parts k.older k.gone k.commits w ++ one.logged w)
+            (log_of_parts k.older k.gone (λ w. k.commits w ++ one.logged w)) snap first so.rans over.last over.from
+            (behind_parts k.older k.gone k.commits one.logged)
+            (tell_then (log_of_parts k.older k.gone k.commits) one.logged r.stands.clock.epoch
+            (logged_later k so.stands refl state_is so.unended one leaves (length so.rans) rises falls) snap first so.rans over.last
+            over.from over.first over.past (over.says found told)))
+            (tells_round k so.stands refl state_is so.unended one leaves (length so.rans) rises falls over.last over.files over.pages
+            (over.since found told) m.made m.of_snap);
+      }
+
+  -- and what is kept behind it, where the run goes on
+  over_next : (r s : RuntimeState) (count : ℕ) (before now : Vault D) (round : Round) (report : Report)
+      (so : RanSoFar r count before) (one : RanRound round r s report)
+      → (leaves : LeavesVault tells clock image_at faults one.ran one.logged r s before now)
+      → CarriesCrashes tells clock image_at one.logged (leaves.stored ++ option_to_list leaves.failed) one.ran r s
+      before now → r.stands.state ≡ state_after_all r.stands.decls so.opening.state so.run.ordered
+      → Rises (so.run.ordered ++ (one.lines.run (length so.rans)).ordered)
+      → EpochsNeverFall (so.run.ordered ++ (one.lines.run (length so.rans)).ordered) → s.store.sound ≡ true
+      → so.opening.saved < s.stands.clock.epoch
+      → AllByRecursion (λ ran. ran.end.epoch < s.stands.clock.epoch) (so.rans ++ one.ran ∷ [])
+      → (comes_to_swap one.ran ≡ true → swaps one.ran ≡ true) → s.save.down ≡ None
+      → KeptNext r.stands.decls so.opening (so.rans ++ one.ran ∷ [])
+      (so.run.ordered ++ (one.lines.run (length so.rans)).ordered) s now
+  over_next r s count before now round report so one leaves carries state_is rises falls sound first past done up =
+      let more = over_one r s count before now round report so one leaves state_is rises falls in
+      let next = λ (found : Images) (told : AreTold tells (parts_of was) found).
+      kept_more (so.kept found told) so.stands refl state_is so.unended one leaves sound (length so.rans) rises falls in
+      let ran : Ran = one.ran in (
+        λ found told. (next found told).0,
+        record {
+          words = more.words;
+          begins = more.begins;
+          last = files_after more.last ran more.made s.counted;
+          from = more.from;
+          files = more.files;
+          pages = more.pages sound;
+          since = λ found told.
+              let n = next found told in
+              ap (λ e. cond (swaps ran) e more.last.since) more.closed
+              ∙ ap (λ e. cond (swaps ran) r.closed_at e) (more.since found told) ∙ sym n.4;
+          says = λ found told.
+              let k = so.kept found told in
+              let n = next found told in
+              tell_same (log_of_parts k.older k.gone (λ w. k.commits w ++ one.logged w)) (log_of_parts n.0.older n.0.gone n.0.commits) snap
+              (files_before so.opening.saved more.words) (so.rans ++ ran ∷ []) (files_after more.last ran more.made s.counted) more.from
+              (swapped_parts (swaps ran) k.older k.gone (λ w. k.commits w ++ one.logged w) n.0.older n.0.gone n.0.commits n.3 n.2 n.1)
+              (more.says found told);
+          first = first;
+          past = past;
+        },
+        λ found from told rest here.
+            let k = so.kept found told in
+            let n = next found told in
+            let own = one.lines.run (length so.rans) in
+            let of = of_round own in
+            subst (λ (f : ℕ → List Commit). KeptBefore tells clock image_at from r.stands.decls so.opening.sequence so.opening.saved
+            so.opening.state (so.rans ++ ran ∷ []) (so.run.ordered ++ own.ordered) f n.0.gone s now) (sym n.1)
+            (subst (λ (f : ℕ → List Commit). KeptBefore tells clock image_at from r.stands.decls so.opening.sequence
+            so.opening.saved so.opening.state (so.rans ++ ran ∷ []) (so.run.ordered ++ own.ordered)
+            (since_swap (swaps ran) (λ w. k.commits w ++ one.logged w)) f s now) (sym n.2)
+            (ready_more own.ordered k.parts so.stands refl
+            (own_logged k so.stands refl state_is so.unended one leaves (length so.rans) rises falls) one.lines.lines_are
+            of.workers of.later one.lines.caused one.begins.files leaves rises falls (so.crashes found from told rest here) carries up
+            sound done)),
+      )
 
   -- a round more was run
   pub one_more : (r s : RuntimeState) (count : ℕ) (before now : Vault D) (round : Round) (report : Report)
       (so : RanSoFar r count before) → slice_get script.rounds count ≡ Some round → (one : RanRound round r s report)
       → (leaves : LeavesVault tells clock image_at faults one.ran one.logged r s before now)
-      → CarriesCrashes tells clock image_at one.logged (leaves.stored ++ option_to_list leaves.failed) one.ran.durable r s
+      → CarriesCrashes tells clock image_at one.logged (leaves.stored ++ option_to_list leaves.failed) one.ran r s
       before now → DrawsOnce one.ran → RanOneMore s now so.opening so.rans one.ran
   one_more r s count before now round report so at one leaves carries once =
       let opening : Opening = so.opening in
@@ -297,17 +318,24 @@ module _ {D : Type 0} (tells : D → Option Bytes) (clock : D → ℕ) (image_at
       let ready : IsReady r = so.stands.goes_on so.unended in
       let stored = leaves.has_stored in
       let same : SameDecls script.decls s.stands.decls = subst (λ ds. SameDecls script.decls ds) (sym one.lines.decls) so.same in
-      let kept : KeepsAt so.opening (so.rans ++ one.ran ∷ []) pushed.0.ordered s now = λ found told.
+      let serial = pushed.0.serial in
+      let rises : Rises (so.run.ordered ++ own.ordered) = subst Rises all serial.rising in
+      let falls : EpochsNeverFall (so.run.ordered ++ own.ordered) = subst EpochsNeverFall all serial.epochs in
+      let kept : s.store.sound ≡ true → KeepsAt so.opening (so.rans ++ one.ran ∷ []) pushed.0.ordered s now = λ sound found told.
       subst (λ l. KeptSoFar tells clock image_at found s.stands.decls so.opening.state so.opening.saved (so.rans ++ one.ran ∷ []) l s now) (sym all)
       (subst (λ ds. KeptSoFar tells clock image_at found ds so.opening.state so.opening.saved (so.rans ++ one.ran ∷ []) (so.run.ordered ++ own.ordered) s now) (sym one.lines.decls)
-      (kept_more (so.kept found told) so.stands refl state_is one leaves (length so.rans))) in
-      let crashes : CrashesAt so.opening (so.rans ++ one.ran ∷ []) pushed.0.ordered s now = λ found from told rest here.
-      subst (λ l. KeptBefore tells clock image_at from s.stands.decls so.opening.sequence so.opening.saved so.opening.state
-      (so.rans ++ one.ran ∷ []) l s now) (sym all)
-      (subst (λ ds. KeptBefore tells clock image_at from ds so.opening.sequence so.opening.saved so.opening.state
-      (so.rans ++ one.ran ∷ []) (so.run.ordered ++ own.ordered) s now) (sym one.lines.decls)
-      (crashes_more (length so.rans) (so.crashes found from told rest here) so.stands (so.stands.up ready.up).save refl
-      state_is one leaves carries)) in
+      (kept_more (so.kept found told) so.stands refl state_is so.unended one leaves sound (length so.rans) rises falls).0) in
+      let more = over_one r s count before now round report so one leaves state_is rises falls in
+      let crashes : CrashesBehind s.stands.decls so.opening (so.rans ++ one.ran ∷ []) pushed.0.ordered now = λ found from told rest here.
+      subst (λ l. CrashesKept clock image_at from s.stands.decls so.opening.sequence so.opening.saved so.opening.state
+      (so.rans ++ one.ran ∷ []) l now) (sym all)
+      (subst (λ ds. CrashesKept clock image_at from ds so.opening.sequence so.opening.saved so.opening.state
+      (so.rans ++ one.ran ∷ []) (so.run.ordered ++ own.ordered) now) (sym one.lines.decls)
+      (let k = so.kept found told in
+      let of = of_round own in
+      crashes_more own.ordered k.parts so.stands refl
+      (own_logged k so.stands refl state_is so.unended one leaves (length so.rans) rises falls) one.lines.lines_are of.workers of.later
+      one.lines.caused one.begins.files leaves rises falls (so.crashes found from told rest here) carries)) in
       record {
         same = same;
         run = pushed.0;
@@ -331,10 +359,42 @@ module _ {D : Type 0} (tells : D → Option Bytes) (clock : D → ℕ) (image_at
         up = λ none. save_up leaves (λ rose. none Save (rose_back was before now so.whole so.stands.whole so.quiet Save rose));
         up_quiet = λ quiet. down_none s.save.down leaves.failed stored.down
             (λ fails. in_none Save (subst (λ l. Contains l Save) quiet (stored.fails.0 fails)));
+        sound = λ none. leaves.sound (λ has. none Snaps (rose_back was before now so.whole so.stands.whole so.quiet Snaps
+            (leaves.failed_are.rose Snaps has)));
+        sound_quiet = λ quiet. leaves.sound (λ has. in_none Snaps (subst (λ l. Contains l Snaps) quiet has));
         kept = kept;
+        kept_over = λ sound first past done up.
+            subst (λ l. KeptNext s.stands.decls so.opening (so.rans ++ one.ran ∷ []) l s now) (sym all)
+            (subst (λ ds. KeptNext ds so.opening (so.rans ++ one.ran ∷ []) (so.run.ordered ++ own.ordered) s now) (sym one.lines.decls)
+            (over_next r s count before now round report so one leaves carries state_is rises falls sound first past done up));
         crashes = crashes;
-        full = λ found told. full_in found script.decls so.opening (so.rans ++ one.ran ∷ []) pushed.0.ordered s.stands.decls r s before now one.ran one.logged same leaves
-            (kept found told);
+        words = (files_after more.last one.ran more.made s.counted).words;
+        words_are = more.pages;
+        files = λ pages. record {
+          words = more.words;
+          begins = λ some. more.begins;
+          last = files_after more.last one.ran more.made s.counted;
+          rounds = files_from (at_now now) script.decls r.stands.decls so.opening.state pushed.0.ordered snap
+              (files_before so.opening.saved more.words) (so.rans ++ one.ran ∷ []) (files_after more.last one.ran more.made s.counted) so.same
+              (λ found told. let k = so.kept found told in log_of_parts k.older k.gone (λ w. k.commits w ++ one.logged w))
+              (λ found told w below. subst (λ l. AreLogged r.stands.decls w so.opening.state l
+              (let k = so.kept found told in log_of_parts k.older k.gone (λ w. k.commits w ++ one.logged w) w)) (sym all)
+              ((logged_over (so.kept found told) so.stands refl state_is so.unended one leaves (length so.rans) rises falls).is_logged w below))
+              more.from more.says;
+          pages = pages;
+        };
+        paged = λ durable up sound found told.
+            let k = so.kept found told in
+            round_pages k.commits k.gone k.durable k.closed k.logs (k.open_files so.unended) leaves durable up sound;
+        least = λ found told.
+            let k = so.kept found told in
+            let counted = least_pages k.commits k.gone k.durable k.closed k.logs (k.open_files so.unended) leaves
+            (so.paged found told) in
+            let more = ap length leaves.grows.1 ∙ length-append r.store.pages leaves.grows.0 in
+            (omega (arith, one.begins.pages, counted), omega (arith, one.begins.pages, more));
+        untold = λ damage is found told. never_damaged (so.kept found told) so.stands refl state_is so.unended one leaves (length so.rans) rises falls damage is;
+        full = λ found told. subst (λ l. AreFull script.decls so.opening.state l one.ran) (sym all)
+            (full_in script.decls so.same (so.kept found told) so.stands refl state_is so.unended one leaves (length so.rans));
       }
 
   -- ---- before the first round
@@ -352,6 +412,10 @@ module _ {D : Type 0} (tells : D → Option Bytes) (clock : D → ℕ) (image_at
     after = refl;
   }
 
+  -- the epoch before the first one
+  before_first : (saved : ℕ) → saved ≡ saved + 1 - 1
+  before_first saved = omega arith
+
   -- a run that begins stands before the first round
   pub none_so_far : (reads_told : (disk : D) (file : Bytes) → tells disk ≡ Some file → image_at disk (clock disk) file)
       (r : RuntimeState) (now : Vault D) → BeginsRun tells clock image_at faults snap script.decls was now r
@@ -363,7 +427,13 @@ module _ {D : Type 0} (tells : D → Option Bytes) (clock : D → ℕ) (image_at
       let begins : BeginsAt opening = λ found told.
       may_begin snap script.decls found b.recovered opening stored.0 (b.recovers found told) b.up.saved b.has b.fits b.sequence
       b.settles.state b.settles.epoch stored.1 stored.2 in
-      let start : RuntimeState = begun settled.decls settled.state settled.save (clock_after settled.saved.epoch) in
+      let start : RuntimeState = begun settled.decls settled.state settled.save settled.store snap (clock_after settled.saved.epoch) in
+      let kept = λ (found : Images) (told : AreTold tells (parts_of was) found).
+      let logs = b.logs_told found told in
+      kept_begins found snap start b.settles (b.told found told) (b.recovers found told) b.snapshots refl b.pages_whole b.pages_fit
+      (subst (λ (x : RuntimeState). AreLogs tells clock image_at (λ worker. []) (λ worker. []) x now) b.begins logs.0)
+      (subst (λ (x : RuntimeState). AreClosedFiles tells clock image_at (λ worker. []) (λ worker. []) x now) b.begins logs.1)
+      (subst (λ (x : RuntimeState). CountsOf Even (λ worker. []) (λ worker. []) (λ worker. []) (λ worker. []) x.save.newest) b.begins b.counts) in
       subst (λ (x : RuntimeState). (so : RanSoFar x 0 now) × (so.rans ≡ [])) (sym b.begins) (
         record {
           rans = [];
@@ -378,22 +448,46 @@ module _ {D : Type 0} (tells : D → Option Bytes) (clock : D → ℕ) (image_at
           sequence = refl;
           unended = refl;
           most = (let epoch = b.settles.ranges.epoch in omega (arith, epoch));
+          room = refl;
           stands = subst (λ (x : RuntimeState). StandsOn tells clock image_at x now) b.begins b.stands;
           whole = b.whole;
           quiet = b.quiet;
-          kept = λ found told.
-              kept_begins found (clock_after settled.saved.epoch) start b.settles (b.told found told) (b.recovers found told) b.snapshots refl
-              (subst (λ (x : RuntimeState). AreLogs tells clock image_at (λ worker. []) (λ worker. []) x now) b.begins (b.logs_told found told))
-              (subst (λ (x : RuntimeState). CountsOf (λ worker. []) (λ worker. []) x.save.newest) b.begins b.counts);
+          kept = λ found told. (kept found told).0;
+          paged = λ found told. settled_pages b.settles;
+          over = record {
+            words = words_of settled.store.pages;
+            begins = λ found told.
+                let recovers = b.recovers found told in
+                (recovers.reading, recovers.is, begins_with script.decls found b.recovered settled recovers b.up.saved b.same b.settles.follows);
+            last = files_before settled.saved.epoch (words_of settled.store.pages);
+            from = refl;
+            files = ap (λ (n : ℕ). record { odd = false; counted = replicate 8 0; closed_at = n }) (before_first settled.saved.epoch);
+            pages = refl;
+            since = λ found told. sym (kept found told).1;
+            says = λ found told. tt;
+            first = omega arith;
+            past = tt;
+          };
           crashes = λ found from told rest here.
               let goes = b.goes_on found from told rest here in
-              crashes_begin reads_told {saved = settled.saved.epoch} {s = settled.state} start b.settles.whole
-              (subst (λ e. GoesOnFrom clock image_at from e settled.state (sequence_of b.recovered.save.newest)
-              settled.save.newest (parts_of now)) (sym b.settles.epoch)
-              (subst (λ (t : State). GoesOnFrom clock image_at from b.recovered.epoch t (sequence_of b.recovered.save.newest)
-              settled.save.newest (parts_of now)) (sym b.settles.state) goes.0))
-              (settled_on found b.settles (b.told found told) (b.recovers found told)) goes.1
-              (subst (λ (x : RuntimeState). AreLogs tells clock image_at (λ worker. []) (λ worker. []) x now) b.begins (b.logs_told found told));
+              let between = b.told found told in
+              let recovered = b.recovers found told in
+              let logs = b.logs_told found told in
+              let k = kept found told in
+              let left = left_since reads_told now found b.whole_between goes.3 b.empty between goes.4
+              (recovers_state found b.recovered recovered) goes.2 in
+              subst (λ (f : ℕ → List Commit). KeptBefore tells clock image_at from settled.decls opening.sequence opening.saved
+              opening.state [] [] f k.0.gone start now) (sym k.2)
+              (subst (λ (f : ℕ → List Commit). KeptBefore tells clock image_at from settled.decls opening.sequence opening.saved
+              opening.state [] [] (λ w. []) f start now) (sym k.3)
+              (subst (λ e. KeptBefore tells clock image_at from settled.decls opening.sequence e opening.state [] [] (λ w. [])
+              (λ w. []) start now) (sym b.settles.epoch)
+              (subst (λ (t : State). KeptBefore tells clock image_at from settled.decls opening.sequence b.recovered.epoch t [] []
+              (λ w. []) (λ w. []) start now) (sym b.settles.state)
+              (crashes_begin reads_told b.recovered settled found b.up b.settles between recovered goes.0 left b.pages_whole snap
+              (clock_after settled.saved.epoch) start refl b.settles.epoch goes.1
+              (subst (λ (x : RuntimeState). AreLogs tells clock image_at (λ worker. []) (λ worker. []) x now) b.begins logs.0)
+              (subst (λ (x : RuntimeState). AreClosedFiles tells clock image_at (λ worker. []) (λ worker. []) x now) b.begins logs.1)))));
         },
         refl,
       )
@@ -403,7 +497,7 @@ module _ {D : Type 0} (tells : D → Option Bytes) (clock : D → ℕ) (image_at
   pub goes_on : (r s : RuntimeState) (count : ℕ) (before now : Vault D) (round : Round) (report : Report)
       (so : RanSoFar r count before) → slice_get script.rounds count ≡ Some round → (one : RanRound round r s report)
       → (leaves : LeavesVault tells clock image_at faults one.ran one.logged r s before now)
-      → CarriesCrashes tells clock image_at one.logged (leaves.stored ++ option_to_list leaves.failed) one.ran.durable r s
+      → CarriesCrashes tells clock image_at one.logged (leaves.stored ++ option_to_list leaves.failed) one.ran r s
       before now → DrawsOnce one.ran
       → report.end ≡ None → (then : RanSoFar s (count + 1) now) × (then.rans ≡ so.rans ++ one.ran ∷ [])
   goes_on r s count before now round report so at one leaves carries once none =
@@ -411,7 +505,18 @@ module _ {D : Type 0} (tells : D → Option Bytes) (clock : D → ℕ) (image_at
       let goes : GoesOn one.ran = sym one.reports.end ∙ none in
       let joined_on = joined_where_none one.ran one.lines.caused goes in
       let clock_joined : s.stands.clock ≡ joined one.ran.end =
-      one.clock ∙ ap (λ epoch. record { epoch = epoch; draw = one.ran.end.draw }) joined_on.epoch in (
+      one.clock ∙ ap (λ epoch. record { epoch = epoch; draw = one.ran.end.draw }) joined_on.epoch in
+      let sound : s.store.sound ≡ true = m.sound_quiet (goes_on_quiet one.ran goes) in
+      let run = one.lines.run (length so.rans) in
+      let later : r.stands.clock.epoch ≤ one.ran.end.epoch =
+      (let up = advances_later one.ran.begin.epoch one.ran.answers one.ran.end.epoch run.clocks.1.epoch in
+      omega (arith, up, ap (λ (n : Number). n.epoch) run.clocks.0)) in
+      let joined_to : s.stands.clock.epoch ≡ one.ran.end.epoch + 1 = ap (λ (n : Number). n.epoch) clock_joined in
+      let next = m.kept_over sound (omega (arith, so.over.first, later, joined_to))
+      (all_push (λ (ran : Ran). ran.end.epoch < s.stands.clock.epoch) so.rans one.ran
+      (all_weaker (λ (ran : Ran). ran.end.epoch < r.stands.clock.epoch) (λ (ran : Ran). ran.end.epoch < s.stands.clock.epoch)
+      (λ ran past. omega (arith, past, later, joined_to)) so.rans so.over.past) (omega (arith, joined_to)))
+      (λ comes. swaps_quiet one.ran (goes_on_quiet one.ran goes) comes) (m.up_quiet (goes_on_quiet one.ran goes)) in (
         record {
           rans = so.rans ++ one.ran ∷ [];
           opening = so.opening;
@@ -425,340 +530,14 @@ module _ {D : Type 0} (tells : D → Option Bytes) (clock : D → ℕ) (image_at
           sequence = m.sequence;
           unended = one.ended ∙ ap is_some none;
           most = omega (arith, joined_on.below, ap (λ (n : Number). n.epoch) clock_joined);
+          room = leaves.room ∙ so.room;
           stands = m.stands;
           whole = so.whole;
           quiet = quiet_failed one.ran.devices (goes_on_quiet one.ran goes) m.failed;
-          kept = m.kept;
-          crashes = m.crashes;
+          kept = next.0;
+          crashes = next.2;
+          over = next.1;
+          paged = m.paged (ap is_some (one.lasts none)) (m.up_quiet (goes_on_quiet one.ran goes)) sound;
         },
         refl,
       )
-
--- ---- ends
-
--- how the run would have ended after a round within whose text the sink failed
-abbrev pub ending_after : Option End → Ending
-ending_after None = NoMemory
-ending_after (Some e) = ending_of e
-
--- A disk that tells its bytes has them in an image of now.
-module _ {D : Type 0} (tells : D → Option Bytes) (clock : D → ℕ) (image_at : D → ℕ → Bytes → Type 0) (faults : D → ℕ) (snap : ℕ) (script : Script) (was : Vault D)
-    (reads : (disk : D) (file : Bytes) → tells disk ≡ Some file → image_at disk (clock disk) file) where
-  -- what the vault stands for after these rounds
-  through : (opening : Opening) (rans : List Ran) (ordered : List Entry) (decls : List Decl) (now : Vault D)
-      → BeginsAt tells clock image_at faults snap script was opening → SameDecls script.decls decls
-      → ((found now_found : Images) → AreTold tells (parts_of was) found → AreTold tells (parts_of now) now_found
-      → StandsBehind found now_found decls opening.saved opening.state (last_saved opening.saved rans) (as_of decls opening.state ordered (last_saved opening.saved rans)))
-      → StandsThrough (at_now tells clock image_at faults snap script was now) script.decls ordered rans
-  through opening rans ordered decls now begins same keeps found now_found epoch state told told_now is =
-      let b = begins found told in
-      let that : IsRecoverable found opening.saved opening.state = record { reading = b.has.reading; is = b.has.is; epoch_is = b.saved; state_is = b.state } in
-      let one = one_kept found opening.saved epoch opening.state state that is in
-      let kept = keeps found now_found told told_now in
-      let over : IsRecoverable now_found (last_saved opening.saved rans) (as_of script.decls opening.state ordered (last_saved opening.saved rans)) =
-      subst (λ (s : State). IsRecoverable now_found (last_saved opening.saved rans) s)
-      (sym (as_of_same script.decls decls same opening.state ordered (last_saved opening.saved rans))) kept.is in
-      subst (λ e. IsRecoverable now_found (last_saved e rans) (as_of script.decls state ordered (last_saved e rans))) one.0
-      (subst (λ (s : State). IsRecoverable now_found (last_saved opening.saved rans) (as_of script.decls s ordered (last_saved opening.saved rans))) one.1 over)
-
-  -- and the storages that it has
-  declares : (opening : Opening) (rans : List Ran) (ordered : List Entry) (decls : List Decl) (now : Vault D)
-      → SameDecls script.decls decls
-      → ((found now_found : Images) → AreTold tells (parts_of was) found → AreTold tells (parts_of now) now_found
-      → StandsBehind found now_found decls opening.saved opening.state (last_saved opening.saved rans) (as_of decls opening.state ordered (last_saved opening.saved rans)))
-      → HasDeclared (at_now tells clock image_at faults snap script was now) script.decls
-  declares opening rans ordered decls now same keeps found now_found told told_now =
-      let kept = keeps found now_found told told_now in storages_kept same kept.is kept.decls_are
-
-  -- and the snapshots that it has
-  snapshots_behind : (opening : Opening) (rans : List Ran) (ordered : List Entry) (decls : List Decl) (now : Vault D)
-      → ((found now_found : Images) → AreTold tells (parts_of was) found → AreTold tells (parts_of now) now_found
-      → StandsBehind found now_found decls opening.saved opening.state (last_saved opening.saved rans) (as_of decls opening.state ordered (last_saved opening.saved rans)))
-      → HasEachSnapshot (at_now tells clock image_at faults snap script was now) script.decls ordered
-  snapshots_behind opening rans ordered decls now keeps found now_found epoch state reading told told_now before reads =
-      let kept = keeps found now_found told told_now in
-      each_between script.decls ordered found now_found kept.was.reading kept.is.reading opening.saved opening.state kept.was.is kept.is.is kept.keeps
-      kept.was.epoch kept.was.state epoch state reading before reads
-
-  -- and what it stands for at each stop
-  stopped_through : (opening : Opening) (rans : List Ran) (ordered : List Entry) (decls : List Decl) (now : Vault D)
-      → BeginsAt tells clock image_at faults snap script was opening → SameDecls script.decls decls → IsWhole now
-      → Rises ordered → EpochsNeverFall ordered
-      → ((found : Images) (from : Moments) → AreTold tells (parts_of was) found
-      → IsResting clock image_at (parts_of was) → IsNow clock image_at (parts_of was) from
-      → CrashesKept clock image_at from decls opening.sequence opening.saved opening.state rans ordered now)
-      → StandsWhenStopped (at_now tells clock image_at faults snap script was now) script.decls ordered opening rans
-  stopped_through opening rans ordered decls now begins same whole rises falls crashes found from epoch state told is rest
-      here =
-      let b = begins found told in
-      let that : IsRecoverable found opening.saved opening.state = record { reading = b.has.reading; is = b.has.is; epoch_is = b.saved; state_is = b.state } in
-      let one = one_kept found opening.saved epoch opening.state state that is in
-      let kept = crashes found from told rest here in
-      record {
-        leaves = λ at left since crash.
-            let leaves = crash_leaves kept whole rises falls at left since crash in (
-              leaves.0,
-              omega (arith, leaves.1, one.0),
-              subst (λ (t : State). IsRecoverable left leaves.0 (as_of script.decls t ordered leaves.0)) one.1
-                  (subst (λ (t : State). IsRecoverable left leaves.0 t)
-                  (sym (as_of_same script.decls decls same opening.state ordered leaves.0)) leaves.2),
-            );
-        covers = λ i saved at.
-            let stored = kept.stored i saved at in
-            record {
-              tie = stored.tie;
-              end = stored.end;
-              has = stored.has;
-              of_store = stored.of_store;
-              ended = stored.ended;
-              covers = crash_covered kept whole rises falls i saved stored;
-            };
-        instant = λ when. kept.instant;
-      }
-
-  -- after a round that ended the run, or within whose text the sink failed
-  after_round : {Shows : List Ran → Ending → Type 0} (r s : RuntimeState) (count : ℕ) (before now : Vault D)
-      (so : RanSoFar tells clock image_at faults snap script was r count before) (ran : Ran)
-      → (m : RanOneMore tells clock image_at faults snap script was s now so.opening so.rans ran) → (ending : Ending) → (ending ≡ Finished → ⊥)
-      → RunComes (at_now tells clock image_at faults snap script was now) snap script so.opening (so.rans ++ ran ∷ []) ending
-      → Shows (so.rans ++ ran ∷ []) ending → RunsScript (at_now tells clock image_at faults snap script was now) snap script Shows
-  after_round r s count before now so ran m ending other comes shown =
-      let keeps : s.save.down ≡ None → (found now_found : Images) → AreTold tells (parts_of was) found → AreTold tells (parts_of now) now_found
-      → StandsBehind found now_found s.stands.decls so.opening.saved so.opening.state (last_saved so.opening.saved (so.rans ++ ran ∷ [])) (as_of s.stands.decls so.opening.state m.run.ordered (last_saved so.opening.saved (so.rans ++ ran ∷ []))) =
-      λ up found now_found told told_now. kept_at_end reads found now_found (m.kept found told) m.stands up m.run.serial.rising m.run.serial.epochs told_now in
-      let sound_up : IsSound (at_now tells clock image_at faults snap script was now) ending → s.save.down ≡ None = λ sound. elim sound [
-        | inl none ↦ m.up none
-        | inr finished ↦ absurd (other finished)
-      ] in
-      record {
-        rans = so.rans ++ ran ∷ [];
-        ending = ending;
-        opening = so.opening;
-        state = s.stands.state;
-        run = m.run;
-        comes = comes;
-        caused = m.caused;
-        full = λ found told.
-            all_push (AreFull script.decls so.opening.state m.run.ordered) so.rans ran
-            (all_none_full script.decls so.opening.state m.run.ordered so.rans so.went_on) (m.full found told);
-        kept = record {
-          stands = λ sound. through so.opening (so.rans ++ ran ∷ []) m.run.ordered s.stands.decls now so.begins m.same (keeps (sound_up sound));
-          snapshots = λ sound. snapshots_behind so.opening (so.rans ++ ran ∷ []) m.run.ordered s.stands.decls now (keeps (sound_up sound));
-          declared = λ some sound. declares so.opening (so.rans ++ ran ∷ []) m.run.ordered s.stands.decls now m.same (keeps (sound_up sound));
-          whole = λ finished. absurd (other finished);
-          stops = stopped_through so.opening (so.rans ++ ran ∷ []) m.run.ordered s.stands.decls now so.begins m.same
-              m.stands.whole m.run.serial.rising m.run.serial.epochs
-              (λ found from told rest here. (m.crashes found from told rest here).kept);
-        };
-        shown = shown;
-      }
-
-  -- a refusal that ends the run comes to its ending
-  comes_at : (r s : RuntimeState) (count : ℕ) (before now : Vault D)
-      (so : RanSoFar tells clock image_at faults snap script was r count before) (ran : Ran)
-      → (m : RanOneMore tells clock image_at faults snap script was s now so.opening so.rans ran) → (e : End) → end_of ran ≡ Some e → EndTells ran e
-      → RunComes (at_now tells clock image_at faults snap script was now) snap script so.opening (so.rans ++ ran ∷ []) (ending_of e)
-  comes_at r s count before now so ran m (ends.Device device) is it = (
-    m.failed.rose device it,
-    inl (
-      record { begins = so.begins; failed = subst (λ l. AreFailed faults l was now) (sym (devices_in-push so.rans ran so.went_on)) m.failed },
-      record { before = so.rans; last = ran; rounds = refl; went_on = so.went_on; refused = is },
-    ),
-  )
-  comes_at r s count before now so ran m (ends.Damaged device at) is it = absurd it
-  comes_at r s count before now so ran m (ends.Limit name number) is it = inl (record {
-    ran = record { begins = so.begins; failed = subst (λ l. AreFailed faults l was now) (sym (devices_in-push so.rans ran so.went_on)) m.failed };
-    number = number;
-    limit = it.0;
-    stops = record { before = so.rans; last = ran; rounds = refl; went_on = so.went_on; refused = is };
-  })
-  comes_at r s count before now so ran m ends.Memory is it = absurd it
-
-  not_finished : (e : End) → ending_of e ≡ Finished → ⊥
-  not_finished (ends.Device device) is = cc
-  not_finished (ends.Damaged device at) is = cc
-  not_finished (ends.Limit name number) is = cc
-  not_finished ends.Memory is = cc
-
-  -- a round ended the run
-  pub stopped : {Shows : List Ran → Ending → Type 0} (r s : RuntimeState) (count : ℕ) (before now : Vault D) (round : Round) (report : Report) (e : End)
-      → (so : RanSoFar tells clock image_at faults snap script was r count before) → slice_get script.rounds count ≡ Some round
-      → (one : RanRound round r s report) → (leaves : LeavesVault tells clock image_at faults one.ran one.logged r s before now)
-      → CarriesCrashes tells clock image_at one.logged (leaves.stored ++ option_to_list leaves.failed) one.ran.durable r s
-      before now → DrawsOnce one.ran
-      → report.end ≡ Some e → Shows (so.rans ++ one.ran ∷ []) (ending_of e)
-      → RunsScript (at_now tells clock image_at faults snap script was now) snap script Shows
-  stopped r s count before now round report e so at one leaves carries once is shown =
-      let m = one_more tells clock image_at faults snap script was r s count before now round report so at one leaves carries once in
-      let ends_is : end_of one.ran ≡ Some e = sym one.reports.end ∙ is in
-      after_round r s count before now so one.ran m (ending_of e) (not_finished e)
-      (comes_at r s count before now so one.ran m e ends_is (end_tells one.ran e m.own m.most ends_is))
-      shown
-
-  -- how the run would have ended may come after the round
-  comes_after : (r s : RuntimeState) (count : ℕ) (before now : Vault D)
-      (so : RanSoFar tells clock image_at faults snap script was r count before) (ran : Ran)
-      → (m : RanOneMore tells clock image_at faults snap script was s now so.opening so.rans ran) → (end : Option End) → end_of ran ≡ end
-      → RunComes (at_now tells clock image_at faults snap script was now) snap script so.opening (so.rans ++ ran ∷ []) (ending_after end)
-  comes_after r s count before now so ran m None is = (all_push GoesOn so.rans ran so.went_on is, inr so.begins)
-  comes_after r s count before now so ran m (Some e) is = comes_at r s count before now so ran m e is (end_tells ran e m.own m.most is)
-
-  after_not_finished : (end : Option End) → ending_after end ≡ Finished → ⊥
-  after_not_finished None is = cc
-  after_not_finished (Some e) is = not_finished e is
-
-  -- the sink failed within a round's text
-  pub broke : {Shows : List Ran → Ending → Type 0} (r s : RuntimeState) (count : ℕ) (before now : Vault D) (round : Round) (report : Report)
-      → (so : RanSoFar tells clock image_at faults snap script was r count before) → slice_get script.rounds count ≡ Some round
-      → (one : RanRound round r s report) → (leaves : LeavesVault tells clock image_at faults one.ran one.logged r s before now)
-      → CarriesCrashes tells clock image_at one.logged (leaves.stored ++ option_to_list leaves.failed) one.ran.durable r s
-      before now → DrawsOnce one.ran
-      → Shows (so.rans ++ one.ran ∷ []) (ending_after report.end)
-      → RunsScript (at_now tells clock image_at faults snap script was now) snap script Shows
-  broke r s count before now round report so at one leaves carries once shown =
-      let m = one_more tells clock image_at faults snap script was r s count before now round report so at one leaves carries once in
-      after_round r s count before now so one.ran m (ending_after report.end) (after_not_finished report.end)
-      (comes_after r s count before now so one.ran m report.end (sym one.reports.end))
-      shown
-
-  -- the runtime is ready for the next round, so its store is up
-  store_up : (r : RuntimeState) (now : Vault D) → StandsOn tells clock image_at r now → r.stands.ended ≡ false → r.save.down ≡ None
-  store_up r now stands unended = (stands.up ((stands.goes_on unended).up)).save
-
-  -- all rounds were run
-  pub all_run : {Shows : List Ran → Ending → Type 0} (r : RuntimeState) (count : ℕ) (now : Vault D)
-      (so : RanSoFar tells clock image_at faults snap script was r count now) → count ≡ length script.rounds → Shows so.rans Finished
-      → RunsScript (at_now tells clock image_at faults snap script was now) snap script Shows
-  all_run r count now so all shown =
-      let up : r.save.down ≡ None = store_up r now so.stands so.unended in
-      let keeps : (found now_found : Images) → AreTold tells (parts_of was) found → AreTold tells (parts_of now) now_found
-      → StandsBehind found now_found r.stands.decls so.opening.saved so.opening.state (last_saved so.opening.saved so.rans) (as_of r.stands.decls so.opening.state so.run.ordered (last_saved so.opening.saved so.rans)) =
-      λ found now_found told told_now. kept_at_end reads found now_found (so.kept found told) so.stands up so.run.serial.rising so.run.serial.epochs told_now in
-      record {
-        rans = so.rans;
-        ending = Finished;
-        opening = so.opening;
-        state = r.stands.state;
-        run = so.run;
-        comes = (
-          record { begins = so.begins; failed = subst (λ l. AreFailed faults l was now) (sym (none_failed_in so.rans so.went_on)) (failed_none so.quiet) },
-          record { whole = so.counted ∙ all; went_on = so.went_on },
-        );
-        caused = so.caused;
-        full = λ found told. all_none_full script.decls so.opening.state so.run.ordered so.rans so.went_on;
-        kept = record {
-          stands = λ sound. through so.opening so.rans so.run.ordered r.stands.decls now so.begins so.same keeps;
-          snapshots = λ sound. snapshots_behind so.opening so.rans so.run.ordered r.stands.decls now keeps;
-          declared = λ some sound. declares so.opening so.rans so.run.ordered r.stands.decls now so.same keeps;
-          whole = λ finished. kept_all script so.opening.state so.opening.saved so.rans r.stands.state so.run (all_last so.rans so.caused.durable so.went_on);
-          stops = stopped_through so.opening so.rans so.run.ordered r.stands.decls now so.begins so.same so.stands.whole
-              so.run.serial.rising so.run.serial.epochs
-              (λ found from told rest here. (so.crashes found from told rest here).kept);
-        };
-        shown = shown;
-      }
-    where
-      all_last : (rans : List Ran) → AllByRecursion IsDurable rans → AllByRecursion GoesOn rans → AllByRecursion IsLasting rans
-      all_last [] durable on = tt
-      all_last (ran ∷ rans) durable on = (durable.0.lasts on.0, all_last rans durable.1 on.1)
-
-  -- memory was wanted in a round
-  pub at_memory : {Shows : List Ran → Ending → Type 0} (r s : RuntimeState) (count : ℕ) (before now : Vault D) (round : Round)
-      → (so : RanSoFar tells clock image_at faults snap script was r count before)
-      → (stop : StopsIn round r s) → (leaves : LeavesVault tells clock image_at faults stop.ran stop.logged r s before now)
-      → CarriesCrashes tells clock image_at stop.logged (leaves.stored ++ option_to_list leaves.failed) stop.ran.durable r s
-      before now → Shows so.rans NoMemory
-      → RunsScript (at_now tells clock image_at faults snap script was now) snap script Shows
-  at_memory r s count before now round so stop leaves carries shown =
-      let quiet_save : IsSound (at_now tells clock image_at faults snap script was now) NoMemory → RoseIn faults Save before now → ⊥ = λ sound rose. elim sound [
-        | inl none ↦ none Save (rose_back was before now so.whole so.stands.whole so.quiet Save rose)
-        | inr finished ↦ memory_not_finished finished
-      ] in
-      let keeps : (RoseIn faults Save before now → ⊥) → (found now_found : Images) → AreTold tells (parts_of was) found → AreTold tells (parts_of now) now_found
-      → StandsBehind found now_found r.stands.decls so.opening.saved so.opening.state (last_saved so.opening.saved so.rans) (as_of r.stands.decls so.opening.state so.run.ordered (last_saved so.opening.saved so.rans)) =
-      λ quiet found now_found told told_now. kept_stopped reads found now_found (so.kept found told) so.stands stop leaves quiet so.run.serial.rising so.run.serial.epochs told_now in
-      record {
-        rans = so.rans;
-        ending = NoMemory;
-        opening = so.opening;
-        state = r.stands.state;
-        run = so.run;
-        comes = (so.went_on, inr so.begins);
-        caused = so.caused;
-        full = λ found told. all_none_full script.decls so.opening.state so.run.ordered so.rans so.went_on;
-        kept = record {
-          stands = λ sound. through so.opening so.rans so.run.ordered r.stands.decls now so.begins so.same (keeps (quiet_save sound));
-          snapshots = λ sound. snapshots_behind so.opening so.rans so.run.ordered r.stands.decls now (keeps (quiet_save sound));
-          declared = λ some sound. declares so.opening so.rans so.run.ordered r.stands.decls now so.same (keeps (quiet_save sound));
-          whole = λ finished. absurd (memory_not_finished finished);
-          stops = stopped_through so.opening so.rans so.run.ordered r.stands.decls now so.begins so.same leaves.stands.whole
-              so.run.serial.rising so.run.serial.epochs
-              (λ found from told rest here. crashes_stopped (so.crashes found from told rest here) so.stands
-              (store_up r before so.stands so.unended) stop leaves carries);
-        };
-        shown = shown;
-      }
-    where
-      memory_not_finished : (let e : Ending = NoMemory in e ≡ Finished) → ⊥
-      memory_not_finished is = cc
-
-  -- a run that doesn't begin
-  pub not_begun : {Shows : List Ran → Ending → Type 0} (now : Vault D) (ending : Ending) → EndsBefore tells clock image_at faults snap script was now ending
-      → Shows [] ending → RunsScript (at_now tells clock image_at faults snap script was now) snap script Shows
-  not_begun now ending before shown = record {
-    rans = [];
-    ending = ending;
-    opening = before.opening;
-    state = before.opening.state;
-    run = no_run tells clock image_at faults snap script was before.opening;
-    comes = before.comes;
-    caused = record { caused = tt; durable = tt; sequences = tt; marks = tt; draws_once = tt };
-    full = λ found told. tt;
-    kept = before.kept;
-    shown = shown;
-  }
-
-  -- ---- the next call may begin
-
-  -- the save has one image where the store is up
-  pub rests_on : (status : ℕ) (r : RuntimeState) (now : Vault D) → StandsOn tells clock image_at r now → r.save.down ≡ None
-      → RestsAgain tells clock image_at status was now
-  rests_on status r now stands up = record { again = λ not_4 not_5 one bytes told. (stands.stored up bytes told).only }
-
-  -- memory was wanted in a round: nothing was stored
-  pub rests_stopped : (r s : RuntimeState) (before now : Vault D) (round : Round) → (stop : StopsIn round r s)
-      → LeavesVault tells clock image_at faults stop.ran stop.logged r s before now → RestsAgain tells clock image_at 8 was now
-  rests_stopped r s before now round stop leaves =
-      rests_on 8 s now leaves.stands (down_none s.save.down leaves.failed leaves.has_stored.down (λ fails. stop.unstored (leaves.has_stored.fails.0 fails)))
-
-  -- a round ended the run by a limit
-  rests_ended : (s : RuntimeState) (now : Vault D) (opening : Opening) (rans : List Ran) (ran : Ran)
-      → RanOneMore tells clock image_at faults snap script was s now opening rans ran → (e : End) → EndTells ran e
-      → RestsAgain tells clock image_at (status_of (ending_of e)) was now
-  rests_ended s now opening rans ran m (ends.Device device) it = record { again = λ not_4 not_5. absurd (not_5 refl) }
-  rests_ended s now opening rans ran m (ends.Damaged device at) it = absurd it
-  rests_ended s now opening rans ran m (ends.Limit name number) it = rests_on 7 s now m.stands (m.up_quiet it.1)
-  rests_ended s now opening rans ran m ends.Memory it = absurd it
-
-  reads_ended : (ran : Ran) (e : End) → EndTells ran e → ReadsAlone (status_of (ending_of e)) → ⊥
-  reads_ended ran (ends.Device device) it = not_alone 5 (omega arith) (λ six. omega arith)
-  reads_ended ran (ends.Damaged device at) it = absurd it
-  reads_ended ran (ends.Limit name number) it = not_alone 7 (omega arith) (λ six. omega arith)
-  reads_ended ran ends.Memory it = absurd it
-
-  pub rests_after : (r s : RuntimeState) (count : ℕ) (before now : Vault D) (round : Round) (report : Report) (e : End)
-      → (so : RanSoFar tells clock image_at faults snap script was r count before) → slice_get script.rounds count ≡ Some round
-      → (one : RanRound round r s report) → (leaves : LeavesVault tells clock image_at faults one.ran one.logged r s before now)
-      → CarriesCrashes tells clock image_at one.logged (leaves.stored ++ option_to_list leaves.failed) one.ran.durable r s
-      before now → DrawsOnce one.ran
-      → report.end ≡ Some e
-      → RestsAgain tells clock image_at (status_of (ending_of e)) was now × (ReadsAlone (status_of (ending_of e)) → ⊥)
-  rests_after r s count before now round report e so at one leaves carries once is =
-      let m = one_more tells clock image_at faults snap script was r s count before now round report so at one leaves carries once in
-      let tells_end = end_tells one.ran e m.own m.most (sym one.reports.end ∙ is) in
-      (rests_ended s now so.opening so.rans one.ran m e tells_end, reads_ended one.ran e tells_end)
-
-  -- all rounds were run
-  pub rests_all : (r : RuntimeState) (count : ℕ) (now : Vault D) → RanSoFar tells clock image_at faults snap script was r count now
-      → RestsAgain tells clock image_at 0 was now
-  rests_all r count now so = rests_on 0 r now so.stands (store_up r now so.stands so.unended)

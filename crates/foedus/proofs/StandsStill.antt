@@ -1,13 +1,15 @@
 -- A vault that tells what it told stands for what it stood for, and has the snapshots that it had.
-use Rattle.std.proofs.Common.{sym, subst, []}
+use Rattle.std.proofs.Common.{sym, subst, refl, ℕ, []}
 use Rattle.outside.specs.Vault.{IsWhole}
 use Rattle.serial_model.specs.declared.decl.Decl.{Decl}
 use Rattle.std.specs.Prelude.{List}
 use Rattle.recovery_core.specs.JointCrash.{parts_of}
 use Rattle.recovery_core.specs.Resting.{AreTold}
 use Rattle.serial_model.specs.History.{Entry}
+use Rattle.serial_model.specs.State.{State}
 use Rattle.recovery_core.specs.Recoverable.{Reading}
 use Rattle.foedus.specs.Main.{HasEachSnapshot, StandsThrough}
+use Rattle.foedus.specs.RanOver.{RunsOver, files_before}
 use Rattle.foedus.specs.Vaults.{IsUntouched, TellsTheSame, Vaults}
 use Rattle.foedus.proofs.KeptEnd.{told_alike, told_reading}
 use Rattle.foedus.proofs.SnapshotsKept.{each_between, keeps_all}
@@ -38,3 +40,14 @@ module _ {D : Type 0} (v : Vaults D) where
       → HasEachSnapshot v decls commits
   untouched_snapshots decls commits whole same =
       still_snapshots decls commits (subst (λ vault. IsWhole vault) (sym same) whole) (untouched_tells same)
+
+-- no round was over any files
+pub none_over : {D : Type 0} {v : Vaults D} {room : ℕ} {decls : List Decl} {s : State} {saved : ℕ} {commits : List Entry}
+    → RunsOver v room decls s saved commits []
+none_over {saved = saved} = record {
+  words = [];
+  begins = λ some. absurd (some refl);
+  last = files_before saved [];
+  rounds = refl;
+  pages = λ quiet some. absurd (some refl);
+}

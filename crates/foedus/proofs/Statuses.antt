@@ -22,7 +22,6 @@ use Rattle.foedus.specs.Causes.{AnswersDevices, AnswersFaults, AnswersWords, Cou
 use Rattle.foedus.specs.Ending.{RunComes, devices_in, status_of}
 use Rattle.foedus.specs.OnTheWay.{AddsRun, EndsWithCause, IsEarly, IsExit, IsUnread, RunsScript, status_told}
 use Rattle.foedus.specs.Vaults.{Vaults}
-use Rattle.foedus.proofs.NotBegun.{not_alone}
 use Rattle.foedus.proofs.VaultsLater.{none_failed_in, quiet_failed}
 
 -- 4 is no ending's status
@@ -424,6 +423,6 @@ reads_finished command ending (Ok it) same one = λ reads. one (subst (λ (e : E
 reads_finished Dump ending (Err failed) same one = λ reads. one tt
 reads_finished Snaps ending (Err failed) same one = λ reads. one tt
 reads_finished (Snap epoch) ending (Err failed) same one = λ reads. one tt
-reads_finished (Run options) ending (Err failed) same one = λ reads. absurd (not_alone 4 (omega arith) (λ six. omega arith) reads.0)
+reads_finished (Run options) ending (Err failed) same one = λ reads. absurd (omega (arith, reads.1))
 reads_finished (Make arguments) ending (Err failed) same one = λ reads. one tt
 reads_finished Refused ending (Err failed) same one = λ reads. one tt

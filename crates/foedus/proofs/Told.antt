@@ -32,14 +32,14 @@ appends_from old new text empty still adds =
 
 module _ {D : Type 0} (v : Vaults D) where
   -- a fault within the run's text
-  pub came_broken : {bytes : Bytes} {left : Option Bytes} (command : Command) (old new : Output) (e f : Failed) → old.waiting ≡ [] → Came v command bytes left (AddsRun command old new (Err e))
-      → Came v command bytes left (Takes command old.held new.held (Err f))
+  pub came_broken : {had left : Option Bytes} (command : Command) (old new : Output) (e f : Failed) → old.waiting ≡ [] → Came v command had left (AddsRun command old new (Err e))
+      → Came v command had left (Takes command old.held new.held (Err f))
   came_broken command old new e f empty = shown_as v (λ rans ending broke. prefix_from old new (output_text command rans ending) empty broke)
 
   -- the run's text, and then the last line with all that waits, or a fault within these
-  pub came_finished : {bytes : Bytes} {left : Option Bytes} (command : Command) (old mid new : Output) (ending : Ending) (r : Result Ending Failed) → old.waiting ≡ []
+  pub came_finished : {had left : Option Bytes} (command : Command) (old mid new : Output) (ending : Ending) (r : Result Ending Failed) → old.waiting ≡ []
       → Prints mid new (last_line ending) r → OnOk r (new.waiting ≡ []) → IfOk r (λ it. it ≡ ending)
-      → Came v command bytes left (AddsRun command old mid (Ok ending)) → Came v command bytes left (Takes command old.held new.held r)
+      → Came v command had left (AddsRun command old mid (Ok ending)) → Came v command had left (Takes command old.held new.held r)
   came_finished command old mid new ending (Ok it) empty line still same = shown_as v (λ rans e added.
       let whole : Adds old new (output_text command rans e) = adds_then added.1 (adds_as (ap last_line (sym added.0)) line) in
       (added.0 ∙ sym same, appends_from old new (output_text command rans e) empty still whole))
@@ -74,7 +74,7 @@ shows command streams (Err failed) rans ending takes = record { status_is = inr 
 
 -- what the call came to is the answer
 pub answers_of : {D : Type 0} (v : Vaults D) (words : List Bytes) (streams : Streams) (r : Result Ending Failed)
-    → Came v (command_of words) streams.bytes streams.left (Takes (command_of words) streams.held streams.holds r) → Answers v words streams (status_told r)
+    → Came v (command_of words) streams.had streams.left (Takes (command_of words) streams.held streams.holds r) → Answers v words streams (status_told r)
 answers_of v words streams r came = shown_as v (shows (command_of words) streams r) came
 
 -- a text is printed to the same sink
@@ -84,8 +84,8 @@ same_printed old new text (Err e) prints = prints.same
 
 -- the answer, where the printer stood over the sink of the streams
 pub answers_over : {D : Type 0} (v : Vaults D) (words : List Bytes) (streams : Streams) (r : Result Ending Failed) (status : ℕ) (old new : Output) → status ≡ status_told r → old.held ≡ streams.held → new.held ≡ streams.holds
-    → Came v (command_of words) streams.bytes streams.left (Takes (command_of words) old.held new.held r) → Answers v words streams status
+    → Came v (command_of words) streams.had streams.left (Takes (command_of words) old.held new.held r) → Answers v words streams status
 answers_over v words streams r status old new is held holds came =
     subst (λ s. Answers v words streams s) (sym is) (answers_of v words streams r
-    (subst (λ h. Came v (command_of words) streams.bytes streams.left (Takes (command_of words) h streams.holds r)) held
-    (subst (λ h. Came v (command_of words) streams.bytes streams.left (Takes (command_of words) old.held h r)) holds came)))
+    (subst (λ h. Came v (command_of words) streams.had streams.left (Takes (command_of words) h streams.holds r)) held
+    (subst (λ h. Came v (command_of words) streams.had streams.left (Takes (command_of words) old.held h r)) holds came)))

@@ -45,17 +45,21 @@ IsStatus (Run options) status = IsRunStatus status
 IsStatus (Make arguments) status = IsMakeStatus status
 IsStatus Refused status = IsRefusal status
 
--- The statuses of a run that only reads the vault: a script's fault or other storages, a source that failed, damage.
-abbrev pub ReadsAlone : ℕ → Type 0
-ReadsAlone status = ((1 ≤ status) × (status ≤ 3)) ⊎ (status ≡ 6)
+-- The statuses of a run that only reads the vault: a script's fault or other storages, and a source that failed.
+abbrev pub IsReadStatus : ℕ → Type 0
+IsReadStatus status = (1 ≤ status) × (status ≤ 3)
 
--- These calls only read the vault. Of a run in brief that ends with damage `ReadsDamage` says it: over devices that tell
+-- Before the first round these do, and damage.
+abbrev pub ReadsAlone : ℕ → Type 0
+ReadsAlone status = IsReadStatus status ⊎ (status ≡ 6)
+
+-- These calls only read the vault. Of a run that ends with damage `ReadsDamage` says it: over devices that tell
 -- nothing it may be found behind the rounds, as what they left is read.
 abbrev pub ReadsOnly : Command → ℕ → Type 0
 ReadsOnly Dump status = ⊤
 ReadsOnly Snaps status = ⊤
 ReadsOnly (Snap epoch) status = ⊤
-ReadsOnly (Run options) status = ReadsAlone status × (options.brief ≡ true → status ≢ 6)
+ReadsOnly (Run options) status = IsReadStatus status
 ReadsOnly (Make arguments) status = ⊤
 ReadsOnly Refused status = ⊤
 

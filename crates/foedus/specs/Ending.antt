@@ -127,8 +127,8 @@ abbrev pub GoesOn : Ran → Type 0
 GoesOn ran = end_of ran ≡ None
 
 -- The number at which a limit of a round stands: the last epoch; draws from which on the clock gives no number; a
--- length that a log file might pass its limit from, with one line more; the last sequence. No round makes pages of
--- snapshots.
+-- length that a log file might pass its limit from, with one line more; the last sequence. A snapshot whose pages aren't
+-- let in, or would stand too deep, ends no run.
 abbrev pub IsLimitOf : LimitName → ℕ → Type 0
 IsLimitOf Epoch number = number ≡ last_epoch
 IsLimitOf Draw number = draw_limit ≤ number
@@ -178,6 +178,19 @@ pub record RunsToLimit {D : Type 0} (v : Vaults D) (snap : ℕ) (script : Script
   pub limit : IsLimitOf name number
   pub stops : EndsBy (ends.Limit name number) rans
 
+-- A closed log file that a glean found damaged ended the run, over devices that don't all tell their bytes.
+pub record RunsToDamage {D : Type 0} (v : Vaults D) (snap : ℕ) (script : Script) (opening : Opening) (rans : List Ran)
+    (device : Device) (at : ℕ) : Type 0 where
+  pub ran : RanOn v snap script opening rans
+  pub stops : EndsBy (ends.Damaged device at) rans
+  pub untold : HoldsOf v (λ found. ⊥)
+
+-- A glean that wanted memory ended the run.
+pub record RunsToMemory {D : Type 0} (v : Vaults D) (snap : ℕ) (script : Script) (opening : Opening) (rans : List Ran)
+    : Type 0 where
+  pub ran : RanOn v snap script opening rans
+  pub stops : EndsBy ends.Memory rans
+
 -- When a run may end so, by its script and what was run of it. What is told before the first round comes in this order:
 -- a device that failed, damage, other storages, limits; so each of these, and each round, has what was told before it
 -- out of its way. Memory may be wanted at any time.
@@ -188,13 +201,15 @@ RunComes v snap script opening rans (NoDevice device) = RoseIn v.faults device v
     ⊎ ((rans ≡ []) × ((TellsTheSame v × HoldsOf v (λ found. IsReadBefore found device))
     ⊎ BeginsOn v snap script opening)))
 RunComes v snap script opening rans (Damaged device at) =
-    (rans ≡ []) × TellsTheSame v × HoldsOf v (λ found. IsDamagedIn found device at)
+    ((rans ≡ []) × TellsTheSame v × HoldsOf v (λ found. IsDamagedIn found device at))
+    ⊎ RunsToDamage v snap script opening rans device at
 RunComes v snap script opening rans (Shape declared kept) =
     (rans ≡ []) × TellsTheSame v × HasOtherShape v script.decls declared kept
 RunComes v snap script opening rans (AtLimit name) = RunsToLimit v snap script opening rans name
     ⊎ ((rans ≡ []) × IsBefore name × TellsTheSame v × HoldsOf v (StandsAtLimit snap script.decls name))
-RunComes v snap script opening rans NoMemory = AllByRecursion GoesOn rans
-    × ((rans ≡ []) ⊎ BeginsOn v snap script opening)
+RunComes v snap script opening rans NoMemory =
+    (AllByRecursion GoesOn rans × ((rans ≡ []) ⊎ BeginsOn v snap script opening))
+    ⊎ RunsToMemory v snap script opening rans
 RunComes v snap script opening rans _ = ⊥
 
 -- When a call may end so: by its command, the bytes of its source, the script that was read of them, if one was, and

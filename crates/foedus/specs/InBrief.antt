@@ -15,7 +15,7 @@ use Rattle.command_line.specs.declared.command.Command.TheVariants.{Run}
 use Rattle.command_line.specs.declared.command.RunOptions.{RunOptions}
 use Rattle.foedus.specs.declared.ending.Ending.{Ending}
 use Rattle.foedus.specs.declared.ending.Ending.TheVariants.{Finished, NoDevice, Damaged, NoMemory}
-use Rattle.foedus.specs.Main.{Came}
+use Rattle.foedus.specs.Main.{Came, StandsWhenStopped, commits_of, decls_in}
 use Rattle.foedus.specs.Vaults.{Vaults, vaults_of}
 
 -- The sum of all values of the state that the vault stands for as the call returns, where the devices tell their bytes.
@@ -52,14 +52,17 @@ EndsInBrief v mid (ran ∷ rans) of_run None ending =
 abbrev pub up_to : {D : Type 0} → Vaults D → Vault D → Vaults D
 up_to v mid = vaults_of v.tells v.clock v.image_at v.faults v.was mid
 
--- What `run --brief` comes to over a source with these bytes: over the vault up to how the run left it, all that a run
--- comes to that is told line by line; from then on the vault was only read; and of the call's ending and its text,
--- which has nothing but the counts and the sum, this is shown.
-pub record CameInBrief {D : Type 0} (v : Vaults D) (options : RunOptions) (bytes : Bytes) (left : Option Bytes)
+-- What `run --brief` comes to over a source: over the vault up to how the run left it, all that a run comes to that is
+-- told line by line; from then on the vault was only read, and each stop leaves what it leaves of that run, also while
+-- the sum is read; and of the call's ending and its text, which has nothing but the counts and the sum, this is shown.
+pub record CameInBrief {D : Type 0} (v : Vaults D) (options : RunOptions) (had left : Option Bytes)
     (Shows : Bytes → Ending → Type 0) : Type 0 where
   pub mid : Vault D
   pub total : Option ℕ
   pub ending : Ending
-  pub came : Came (up_to v mid) (Run options) bytes left (λ rans of_run. EndsInBrief v mid rans of_run total ending)
+  pub came : Came (up_to v mid) (Run options) had left (λ rans of_run. EndsInBrief v mid rans of_run total ending)
   pub reads : VaultOnlyReads v.tells v.clock v.image_at v.faults mid v.is
+  pub stops : StandsWhenStopped v (decls_in came.course.script)
+      (commits_of came.course.script came.course.opening came.bytes came.rans came.course.state came.course.run)
+      came.course.opening came.rans
   pub shown : Shows (run_in_brief came.rans total) ending

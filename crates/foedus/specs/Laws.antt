@@ -1,11 +1,12 @@
 -- What follows from the main theorem: while each line is tried once, no run ends at the limit of the draws; a run with
 -- nothing in its way is done; and of one that is done each line is committed, and each round is durable.
-use Rattle.std.specs.Prelude.{◌≡◌, ℕ, List, [], ◌∷◌, ◌++◌, IfSome, IsSome, Option, Some, None}
+use Rattle.std.specs.Prelude.{◌≡◌, ◌+◌, ℕ, List, [], ◌∷◌, ◌++◌, IfSome, IsSome, Option, Some, None}
 use Rattle.std.specs.List.{AllByRecursion}
 use Rattle.std.proofs.Common.{inl, inr, ◌∙◌, refl, sym, subst}
 use Rattle.serial_model.specs.State.{State}
 use Rattle.serial_model.specs.declared.decl.Decl.{Decl}
-use Rattle.script_grammar.specs.Script.{Bytes, Script, IsTextOf}
+use Rattle.serial_model.specs.declared.number.Number.{Number}
+use Rattle.script_grammar.specs.Script.{Bytes, Round, Script, IsTextOf}
 use Rattle.wire_form.specs.declared.savepoint.Savepoint.{Savepoint}
 use Rattle.recovery_core.specs.Catalogues.{newest_decls}
 use Rattle.recovery_core.specs.DamageLaws.{reading_stands}
@@ -16,18 +17,19 @@ use Rattle.recovery_core.specs.RecoverableLaws.{one_reading}
 use Rattle.recovery_core.specs.Resting.{AreTold}
 use Rattle.tx_script.specs.Causes.{AllCaused}
 use Rattle.tx_script.specs.Draws.{DrawsOnce, NoneLimited, none_limited}
-use Rattle.tx_script.specs.Run.{Ran}
+use Rattle.tx_script.specs.Run.{Ran, RunsClocks, clock_after, joined}
 use Rattle.round_engine.specs.declared.report.LimitName.{LimitName}
 use Rattle.round_engine.specs.declared.report.LimitName.TheVariants.{Draw}
 use Rattle.command_line.specs.declared.command.Command.TheVariants.{Run}
 use Rattle.command_line.specs.declared.command.RunOptions.{RunOptions}
 use Rattle.foedus.specs.Beginning.{HasKept, HasStorages, Opening, SameDecls}
-use Rattle.foedus.specs.EndLaws.{IsCommitted, goes_on_committed, no_draw_end}
+use Rattle.foedus.specs.EndLaws.{IsAnswered, IsCommitted, all_answered, durable_unlimited, goes_on_answered}
+use Rattle.foedus.specs.EndLaws.{goes_on_committed, no_draw_end}
 use Rattle.foedus.specs.declared.ending.Ending.{Ending}
 use Rattle.foedus.specs.declared.ending.Ending.TheVariants.{Finished, NoScript, Shape, Usage, ReadFault, NoDevice}
 use Rattle.foedus.specs.declared.ending.Ending.TheVariants.{Damaged, AtLimit, NoMemory, NoSnapshot}
 use Rattle.foedus.specs.Ending.{Comes, GoesOn, RunComes}
-use Rattle.foedus.specs.Main.{Came, IsDurable, RunsOf}
+use Rattle.foedus.specs.Main.{AreBytes, Came, IsDurable, RunsOf}
 use Rattle.foedus.specs.Vaults.{NoneFailed, Vaults}
 
 -- No line of a run is refused a number.
@@ -57,22 +59,35 @@ storages_of found decls kept here there =
     subst (λ (r : Reading). IfSome r.point (λ _. SameDecls decls (newest_decls r.catalogues))) same here.same in
     subst (λ ds. SameDecls decls ds) (sym there.kept_are) (taken there.reading.point there.saved has)
 
--- Each line of the round is committed, and its last epoch is durable.
+-- Each line of the round is committed, each of the maintenance thread is done, and the round's last epoch is durable.
 pub record IsDone (ran : Ran) : Type 0 where
   pub commits : AllByRecursion (AllByRecursion IsCommitted) ran.outcomes
+  pub answered : AllByRecursion IsAnswered ran.answers
   pub durable : ran.durable ≡ Some ran.end.epoch
 
 -- So it is in rounds that go on.
-done_of : (rans : List Ran) → AllByRecursion GoesOn rans → AllByRecursion AllCaused rans → AllByRecursion IsDurable rans
+done_of : (index : ℕ) (clock : Number) (rans : List Ran) (rounds : List Round) → RunsClocks index clock rans rounds
+    → AllByRecursion GoesOn rans → AllByRecursion AllCaused rans → AllByRecursion IsDurable rans
     → AllByRecursion IsDone rans
-done_of [] on caused durable = tt
-done_of (ran ∷ rans) on caused durable = (
-  record { commits = goes_on_committed ran caused.0 on.0; durable = durable.0.lasts on.0 },
-  done_of rans on.1 caused.1 durable.1,
-)
+done_of index clock [] rounds clocks on caused durable = tt
+done_of index clock (ran ∷ rans) [] clocks on caused durable = absurd clocks
+done_of index clock (ran ∷ rans) (round ∷ rounds) clocks on caused durable =
+    let lasts = durable.0.lasts on.0 in (
+      record {
+        commits = goes_on_committed ran caused.0 on.0;
+        answered = all_answered ran.answers (goes_on_answered ran caused.0 on.0).0
+            (durable_unlimited ran caused.0 clocks.1.epoch durable.0.as_told lasts);
+        durable = lasts;
+      },
+      done_of (index + 1) (joined ran.end) rans rounds clocks.2 on.1 caused.1 durable.1,
+    )
 
-module _ {D : Type 0} (v : Vaults D) (options : RunOptions) (bytes : Bytes) (left : Option Bytes)
+module _ {D : Type 0} (v : Vaults D) (options : RunOptions) (had left : Option Bytes)
     (Shows : List Ran → Ending → Type 0) where
+  -- Where the source tells its bytes they are these.
+  pub bytes_told : (came : Came v (Run options) had left Shows) (told : Bytes) → had ≡ Some told → told ≡ came.bytes
+  bytes_told came told is = subst (λ (o : Option Bytes). AreBytes o came.bytes) is came.are_bytes
+
   -- A run doesn't come to the limit of the draws.
   not_at_draws : (snap : ℕ) (script : Script) (opening : Opening) (rans : List Ran) → AllByRecursion NoneLimited rans
       → RunComes v snap script opening rans (AtLimit Draw) → ⊥
@@ -83,22 +98,22 @@ module _ {D : Type 0} (v : Vaults D) (options : RunOptions) (bytes : Bytes) (lef
   not_at_draws snap script opening rans none (inr before) = before.1
 
   -- No run ends at the limit of the draws.
-  pub never_at_draws : (came : Came v (Run options) bytes left Shows) → came.ending ≡ AtLimit Draw → ⊥
+  pub never_at_draws : (came : Came v (Run options) had left Shows) → came.ending ≡ AtLimit Draw → ⊥
   never_at_draws came is = of came.course.script came.course.run
-      (subst (λ (e : Ending). Comes v (Run options) bytes came.course.script came.course.opening came.rans e) is
+      (subst (λ (e : Ending). Comes v (Run options) came.bytes came.course.script came.course.opening came.rans e) is
       came.course.comes)
     where
-      of : (script : Option Script) → RunsOf script came.course.opening bytes came.rans came.course.state
-          → Comes v (Run options) bytes script came.course.opening came.rans (AtLimit Draw) → ⊥
+      of : (script : Option Script) → RunsOf script came.course.opening came.bytes came.rans came.course.state
+          → Comes v (Run options) came.bytes script came.course.opening came.rans (AtLimit Draw) → ⊥
       of None run comes = comes
       of (Some script) run comes = not_at_draws options.snap script came.course.opening came.rans
-          (limited_none (Some script) came.course.opening bytes came.rans came.course.state run came.caused.caused
+          (limited_none (Some script) came.course.opening came.bytes came.rans came.course.state run came.caused.caused
           came.caused.draws_once) comes
 
   -- With a script, a vault in its formats that has the script's storages, no device or stream that fails, no limit
   -- that is met, and memory, all is done.
-  pub all_is_done : (came : Came v (Run options) bytes left Shows) (script : Script) (found : Images)
-      → IsTextOf bytes script
+  pub all_is_done : (came : Came v (Run options) had left Shows) (script : Script) (found : Images)
+      → IsTextOf came.bytes script
       → AreTold v.tells (parts_of v.was) found
       → ((read : Script) → came.course.script ≡ Some read → HasStorages found read.decls) → NoneFailed v
       → (came.ending ≡ ReadFault → ⊥) → ((name : LimitName) → came.ending ≡ AtLimit name → ⊥)
@@ -118,13 +133,16 @@ module _ {D : Type 0} (v : Vaults D) (options : RunOptions) (bytes : Bytes) (lef
       run_done read ReadFault is same comes = absurd comes
       run_done read (NoDevice device) is same comes = absurd (none device comes.0)
       run_done read (Damaged device at) is same comes =
-          let here = has read is in absurd (reading_stands found here.reading device at here.is (comes.2 found told))
+          let here = has read is in elim comes [
+            | inl before ↦ absurd (reading_stands found here.reading device at here.is (before.2 found told))
+            | inr damage ↦ absurd (damage.untold found told)
+          ]
       run_done read (AtLimit name) is same comes = absurd (not_limit name same)
       run_done read NoMemory is same comes = absurd (not_memory same)
       run_done read (NoSnapshot epoch) is same comes = absurd comes
 
       of : (o : Option Script) (e : Ending) → came.course.script ≡ o → came.ending ≡ e
-          → Comes v (Run options) bytes o came.course.opening came.rans e → came.ending ≡ Finished
+          → Comes v (Run options) came.bytes o came.course.opening came.rans e → came.ending ≡ Finished
       of None Finished is same comes = absurd comes
       of None (NoScript fault) is same comes = absurd (comes.0 script text)
       of None (Shape declared kept) is same comes = absurd comes
@@ -138,13 +156,14 @@ module _ {D : Type 0} (v : Vaults D) (options : RunOptions) (bytes : Bytes) (lef
       of (Some read) e is same comes = same ∙ run_done read e is same comes
 
   -- Then each round is done.
-  pub each_is_done : (came : Came v (Run options) bytes left Shows) → came.ending ≡ Finished
+  pub each_is_done : (came : Came v (Run options) had left Shows) → came.ending ≡ Finished
       → AllByRecursion IsDone came.rans
-  each_is_done came is = of came.course.script
-      (subst (λ (e : Ending). Comes v (Run options) bytes came.course.script came.course.opening came.rans e) is
+  each_is_done came is = of came.course.script came.course.run
+      (subst (λ (e : Ending). Comes v (Run options) came.bytes came.course.script came.course.opening came.rans e) is
       came.course.comes)
     where
-      of : (script : Option Script) → Comes v (Run options) bytes script came.course.opening came.rans Finished
-          → AllByRecursion IsDone came.rans
-      of None comes = absurd comes
-      of (Some script) comes = done_of came.rans comes.1.went_on came.caused.caused came.caused.durable
+      of : (script : Option Script) → RunsOf script came.course.opening came.bytes came.rans came.course.state
+          → Comes v (Run options) came.bytes script came.course.opening came.rans Finished → AllByRecursion IsDone came.rans
+      of None run comes = absurd comes
+      of (Some script) run comes = done_of 0 (clock_after came.course.opening.saved) came.rans script.rounds run.1.clocks
+          comes.1.went_on came.caused.caused came.caused.durable

@@ -6,6 +6,7 @@ pub mod Causes
 pub mod Devices
 pub mod Listings
 pub mod Snapshots
+pub mod RanOver
 pub mod Made
 pub mod InBrief
 pub mod Telling

@@ -1,12 +1,12 @@
--- The main theorem: what a call of the program comes to. Where its source tells its bytes, `top` ensures `Answers`,
--- the last definition of this file. How a call may end is a table of its own, `Comes` in Ending.antt; where a run
--- begins stands in Beginning.antt.
-use Rattle.std.specs.Prelude.{◌≡◌, ◌⊎◌, ◌≤◌, ◌+◌, ◌-◌, ◌<◌, ◌++◌, ℕ, List, [], ◌∷◌, length, fold, flat_map}
-use Rattle.std.specs.Prelude.{option_to_list, slice_get, Option, Some, None, MatchBool, ◌==◌, ⊤}
+-- The main theorem: what a call of the program comes to. `top` ensures `Answers`, the last definition of this file: of
+-- bytes that are the source's, where it tells them. How a call may end is a table of its own, `Comes` in Ending.antt;
+-- where a run begins stands in Beginning.antt.
+use Rattle.std.specs.Prelude.{◌≡◌, ◌⊎◌, ◌+◌, ◌-◌, ◌<◌, ◌++◌, ℕ, List, [], ◌∷◌, length, fold, flat_map, option_to_list, slice_get, Bool, filter, nat_lt, Option, Some, None, IfSome, MatchBool, ◌==◌, ⊤, ◌≤◌}
 use Rattle.std.specs.List.{AllByRecursion, Contains}
 use Rattle.std.specs.Io.KnownBytes.{Appends}
 use Rattle.outside.specs.Stream.{TakesPrefix}
 use Rattle.outside.specs.declared.vault.Tie.{Tie}
+use Rattle.outside.specs.declared.vault.Vault.{Vault}
 use Rattle.serial_model.specs.History.{Entry, as_of}
 use Rattle.serial_model.specs.State.{State}
 use Rattle.serial_model.specs.declared.decl.Decl.{Decl}
@@ -16,6 +16,7 @@ use Rattle.recovery_core.specs.Images.{Images}
 use Rattle.recovery_core.specs.JointCrash.{parts_of, CrashesNow, IsJointCrash, IsNow, IsSince, Moments}
 use Rattle.recovery_core.specs.Recoverable.{IsReading, IsRecoverable, Reading}
 use Rattle.recovery_core.specs.Resting.{AreTold, HasNoRecords, IsResting}
+use Rattle.recovery_core.specs.VaultReads.{VaultOnlyReads}
 use Rattle.tx_script.specs.Run.{LogFull, Ran, IsScriptRun}
 use Rattle.tx_script.specs.Causes.{AllCaused}
 use Rattle.tx_script.specs.Draws.{DrawsOnce}
@@ -30,8 +31,9 @@ use Rattle.foedus.specs.declared.ending.Ending.{Ending}
 use Rattle.foedus.specs.declared.ending.Ending.TheVariants.{Finished}
 use Rattle.foedus.specs.Beginning.{HasStorages, Opening, SameDecls}
 use Rattle.foedus.specs.Ending.{Comes, ReadsFirst, output_text, status_of}
+use Rattle.foedus.specs.RanOver.{RunsOver, room_of}
 use Rattle.foedus.specs.Snapshots.{EachSnapshot}
-use Rattle.foedus.specs.Vaults.{HoldsOf, NoneFailed, Vaults}
+use Rattle.foedus.specs.Vaults.{HoldsOf, NoneFailed, Vaults, vaults_of}
 
 -- ---- what is run
 
@@ -42,16 +44,20 @@ RunsOf (Some script) opening bytes rans t =
     IsTextOf bytes script × IsScriptRun script opening.state opening.saved rans t
 RunsOf None opening bytes rans t = (rans ≡ []) × (t ≡ opening.state)
 
--- How a command goes over a source with these bytes, of which `left` are left, and over a vault: what was run of which
--- script, from where, up to an ending that may come so.
-pub record Course {D : Type 0} (v : Vaults D) (command : Command) (bytes : Bytes) (left : Option Bytes)
+-- These are the bytes of the source that had them, where it tells what it had.
+abbrev pub AreBytes : Option Bytes → Bytes → Type 0
+AreBytes had bytes = IfSome had (λ told. told ≡ bytes)
+
+-- How a command goes over a source with these bytes, as it had them and as they are left, and over a vault: what was run
+-- of which script, from where, up to an ending that may come so.
+pub record Course {D : Type 0} (v : Vaults D) (command : Command) (bytes : Bytes) (had left : Option Bytes)
     (rans : List Ran) (ending : Ending) : Type 0 where
   pub script : Option Script
   pub opening : Opening
   pub state : State
   pub run : RunsOf script opening bytes rans state
   pub comes : Comes v command bytes script opening rans ending
-  pub reads : ReadsFirst script ending (Some bytes) left
+  pub reads : ReadsFirst script ending had left
 
 -- ---- why it came so
 
@@ -66,7 +72,8 @@ SequencesFrom sequence (ran ∷ rans) =
     (ran.sequence ≡ sequence) × SequencesFrom (sequence + length (saved_in ran)) rans
 
 -- The marks that the workers had in a round: without a line in it a worker is idle; else its first mark is of the epoch
--- before the round's.
+-- before the round's. So as a worker draws a number for a line, its mark's epoch is at least the clock's that it read
+-- before that line, less 1.
 pub record IsMarked (round : Round) (ran : Ran) : Type 0 where
   pub workers : length ran.marks ≡ 8
   pub marks : (worker : ℕ) (epochs : List (Option ℕ)) → slice_get ran.marks worker ≡ Some epochs
@@ -97,11 +104,16 @@ pub record AreCaused (rounds : List Round) (sequence : ℕ) (rans : List Ran) : 
   pub marks : AreMarked rans rounds
   pub draws_once : AllByRecursion DrawsOnce rans
 
--- A log file that was told full in a round: the lines that its worker logged in the whole run are so many bytes.
+-- the commit has an epoch above this one
+abbrev pub is_since : ℕ → Commit → Bool
+is_since epoch c = nat_lt epoch c.number.epoch
+
+-- A log file that was told full in a round: the lines that its worker logged in the run, since the closed log files
+-- were closed, are so many bytes.
 abbrev pub AreFull : List Decl → State → List Entry → Ran → Type 0
 AreFull decls s commits ran = (worker size : ℕ) → worker < 8
     → slice_get ran.logs worker ≡ Some (Some (LogFull size)) → (storages : List Decl) × SameDecls decls storages
-    × (logged : List Commit) × AreLogged storages worker s commits logged × (size ≡ length (lines_bytes logged))
+    × (logged : List Commit) × AreLogged storages worker s commits logged × (size ≡ length (lines_bytes (filter (is_since ran.files.closed_at) logged)))
 
 -- ---- what is kept of it
 
@@ -176,8 +188,14 @@ StandsWhenStopped v decls commits opening rans = (found : Images) (from : Moment
     → IsResting v.clock v.image_at (parts_of v.was) → IsNow v.clock v.image_at (parts_of v.was) from
     → StandsAtStops v decls commits opening.sequence rans from epoch state
 
+-- So it is too while the devices are only read from then on, up to any moment.
+abbrev pub StandsThroughReads : {D : Type 0} → Vaults D → List Decl → List Entry → Opening → List Ran → Type 0
+StandsThroughReads {D} v decls commits opening rans =
+    (later : Vault D) → VaultOnlyReads v.tells v.clock v.image_at v.faults v.is later
+    → StandsWhenStopped (vaults_of v.tells v.clock v.image_at v.faults v.was later) decls commits opening rans
+
 -- What the vault keeps, where no device failed, and where all was done: then of all commits; and what it keeps where
--- the devices stop, at any moments of the call.
+-- the devices stop, at any moments of the call, and behind its rounds also of later reads.
 pub record Keeps {D : Type 0} (v : Vaults D) (decls : List Decl) (commits : List Entry) (opening : Opening) (t : State)
     (rans : List Ran) (ending : Ending) : Type 0 where
   pub stands : IsSound v ending → StandsThrough v decls commits rans
@@ -186,11 +204,12 @@ pub record Keeps {D : Type 0} (v : Vaults D) (decls : List Decl) (commits : List
   pub whole : ending ≡ Finished
       → as_of decls opening.state commits (last_saved opening.saved rans) ≡ t
   pub stops : StandsWhenStopped v decls commits opening rans
+  pub through_reads : (rans ≡ [] → ⊥) → StandsThroughReads v decls commits opening rans
 
 -- the same of a course
-abbrev pub KeepsCourse : {D : Type 0} (v : Vaults D) (command : Command) (bytes : Bytes) (left : Option Bytes)
-    (rans : List Ran) (ending : Ending) → Course v command bytes left rans ending → Type 0
-KeepsCourse v command bytes left rans ending course = Keeps v (decls_in course.script)
+abbrev pub KeepsCourse : {D : Type 0} (v : Vaults D) (command : Command) (bytes : Bytes) (had left : Option Bytes)
+    (rans : List Ran) (ending : Ending) → Course v command bytes had left rans ending → Type 0
+KeepsCourse v command bytes had left rans ending course = Keeps v (decls_in course.script)
     (commits_of course.script course.opening bytes rans course.state course.run)
     course.opening course.state rans ending
 
@@ -200,25 +219,30 @@ abbrev pub FilesAreFull : {D : Type 0} (v : Vaults D) (decls : List Decl) (commi
 FilesAreFull v decls commits opening rans =
     HoldsOf v (λ found. AllByRecursion (AreFull decls opening.state commits) rans)
 
--- What a command comes to over such a source: there are a run and an ending; what came of the run has its cause; the
--- vault keeps what it saved; and this is shown of both.
-pub record Came {D : Type 0} (v : Vaults D) (command : Command) (bytes : Bytes) (left : Option Bytes)
+-- What a command comes to over a source: there are its bytes, a run and an ending; what came of the run has its cause;
+-- the vault keeps what it saved; and this is shown of run and ending. Of a source that doesn't tell its bytes there are
+-- some of which all of it holds.
+pub record Came {D : Type 0} (v : Vaults D) (command : Command) (had left : Option Bytes)
     (Shows : List Ran → Ending → Type 0) : Type 0 where
+  pub bytes : Bytes
+  pub are_bytes : AreBytes had bytes
   pub rans : List Ran
   pub ending : Ending
-  pub course : Course v command bytes left rans ending
+  pub course : Course v command bytes had left rans ending
   pub caused : AreCaused (rounds_of course.script) course.opening.sequence rans
   pub full : FilesAreFull v (decls_in course.script)
       (commits_of course.script course.opening bytes rans course.state course.run) course.opening rans
-  pub kept : KeepsCourse v command bytes left rans ending course
+  pub files : RunsOver v (room_of command) (decls_in course.script) course.opening.state course.opening.saved
+      (commits_of course.script course.opening bytes rans course.state course.run) rans
+  pub kept : KeepsCourse v command bytes had left rans ending course
   pub shown : Shows rans ending
 
 -- ---- what is printed of it
 
--- The streams of a call: the bytes of the source and what is left of them, and what the sink held before and holds
--- after.
+-- The streams of a call, where they tell it: what the source had and what is left of it, and what the sink held before
+-- and holds after.
 pub record Streams : Type 0 where
-  pub bytes : Bytes
+  pub had : Option Bytes
   pub left : Option Bytes
   pub held : Option Bytes
   pub holds : Option Bytes
@@ -239,4 +263,4 @@ pub record Shown (command : Command) (streams : Streams) (status : ℕ) (rans : 
 -- stop at any moment of the call, and has the snapshots that it had and those of this run.
 abbrev pub Answers : {D : Type 0} → Vaults D → List Bytes → Streams → ℕ → Type 0
 Answers v words streams status =
-    Came v (command_of words) streams.bytes streams.left (Shown (command_of words) streams status)
+    Came v (command_of words) streams.had streams.left (Shown (command_of words) streams status)

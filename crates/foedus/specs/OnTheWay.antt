@@ -1,8 +1,9 @@
 -- On the way to the main theorem: what the functions below `top`, and the program round it, tell of an ending, of text,
 -- and of the begin of a run.
-use Rattle.std.specs.Prelude.{◌≡◌, ◌⊎◌, ◌<◌, ◌≤◌, ◌++◌, ℕ, List, [], Option, Some, Result, Ok, Err, ⊤}
-use Rattle.std.specs.Prelude.{IfSome, IsSome}
-use Rattle.std.specs.Io.KnownBytes.{Appends}
+use Rattle.std.specs.Prelude.{◌≡◌, ◌⊎◌, ◌<◌, ◌≤◌, ◌++◌, ◌^◌, ℕ, List, [], Option, Some, Result, Ok, Err, ⊤}
+use Rattle.std.specs.Prelude.{IfSome, IsSome, MatchResult}
+use Rattle.std.specs.Io.KnownBytes.{Appends, IsAtEnd}
+use Rattle.std.specs.List.{AllByRecursion}
 use Rattle.std.specs.List.Sorted.{IsNonDecreasingBy, IsPermutation}
 use Rattle.lists.specs.declared.memory.OrMemory.{OrMemory}
 use Rattle.lists.specs.declared.memory.OrMemory.TheVariants as errors
@@ -17,14 +18,17 @@ use Rattle.serial_model.specs.Keys.{id_of}
 use Rattle.serial_model.specs.State.{State}
 use Rattle.serial_model.specs.declared.decl.Decl.{Decl}
 use Rattle.script_grammar.specs.Faults.{IsFirstFault}
-use Rattle.script_grammar.specs.Script.{Script}
+use Rattle.script_grammar.specs.Script.{IsTextOf, Script}
 use Rattle.log_writer.specs.Points.{sequence_of}
+use Rattle.snapshot_store.specs.Content.{words_of}
+use Rattle.snapshot_store.specs.Store.{IsWhole as IsWholePage}
 use Rattle.recovery_core.specs.Images.{Images}
-use Rattle.recovery_core.specs.JointCrash.{CrashesNow, IsNow, Moments, parts_of}
+use Rattle.recovery_core.specs.JointCrash.{CrashesNow, IsNow, KeepsCrashes, Moments, parts_of}
 use Rattle.recovery_core.specs.Recovered.{IsUp, Recovers}
-use Rattle.recovery_core.specs.Resting.{AreTold, IsResting}
+use Rattle.recovery_core.specs.Resting.{AreTold, HasNoRecords, IsResting}
 use Rattle.recovery_core.specs.Settled.{SaysSettled}
 use Rattle.recovery_core.specs.SettleGoesOn.{GoesOn}
+use Rattle.recovery_core.specs.SettleRests.{RestsSince}
 use Rattle.checkpoints.specs.Due.{IsStoreDue, IsWithin}
 use Rattle.checkpoints.specs.SettlesInto.{SettlesInto}
 use Rattle.checkpoints.specs.SnapshotsKept.{KeepsSnapshots}
@@ -36,10 +40,11 @@ use Rattle.recovery_core.specs.declared.fault.SettleFault.TheVariants as settles
 use Rattle.recovery_core.specs.declared.recovered.Recovered.{Recovered}
 use Rattle.recovery_core.specs.declared.settlement.Settled.{Settled}
 use Rattle.worker_logs.specs.Saves.{CountsOf}
+use Rattle.worker_logs.specs.declared.savepoints.Side.TheVariants.{Even}
 use Rattle.tx_script.specs.Causes.{last_sequence}
 use Rattle.tx_script.specs.Run.{Ran, IsScriptRun, clock_after}
 use Rattle.round_engine.specs.Begun.{begun}
-use Rattle.round_engine.specs.Logs.{AreLogs}
+use Rattle.round_engine.specs.Logs.{AreClosedFiles, AreLogs}
 use Rattle.round_engine.specs.Standing.{RuntimeState, StandsOn}
 use Rattle.round_engine.specs.declared.report.End.{End}
 use Rattle.round_engine.specs.declared.report.End.TheVariants as ends
@@ -53,7 +58,8 @@ use Rattle.foedus.specs.Causes.{Counts, ReadsAlone, RestsAgain}
 use Rattle.foedus.specs.Ending.{IsNoText, IsReadOut, RunComes, body_text, last_line, output_text, status_of}
 use Rattle.brief_output.specs.Brief.{run_in_brief}
 use Rattle.foedus.specs.InBrief.{EndsInBrief, up_to}
-use Rattle.foedus.specs.Main.{AreCaused, FilesAreFull, Holds, Keeps}
+use Rattle.foedus.specs.Main.{AreBytes, AreCaused, FilesAreFull, Holds, Keeps}
+use Rattle.foedus.specs.RanOver.{RunsOver}
 use Rattle.foedus.specs.Vaults.{Vaults, vaults_of}
 
 -- ---- endings and statuses
@@ -70,12 +76,19 @@ IsUnread ReadFault = ⊤
 IsUnread NoMemory = ⊤
 IsUnread _ = ⊥
 
--- What they tell of a source with these bytes, of which so many are left.
-abbrev pub IsUnreadOf : Bytes → Option Bytes → Ending → Type 0
-IsUnreadOf bytes left (NoScript fault) = IsNoText bytes × IsFirstFault bytes fault × IsReadOut (Some bytes) left
-IsUnreadOf bytes left ReadFault = ⊤
-IsUnreadOf bytes left NoMemory = ⊤
-IsUnreadOf bytes left _ = ⊥
+-- What they tell of a source with these bytes, as it had them and as they are left.
+abbrev pub IsUnreadOf : Bytes → Option Bytes → Option Bytes → Ending → Type 0
+IsUnreadOf bytes had left (NoScript fault) = IsNoText bytes × IsFirstFault bytes fault × IsReadOut had left
+IsUnreadOf bytes had left ReadFault = ⊤
+IsUnreadOf bytes had left NoMemory = ⊤
+IsUnreadOf bytes had left _ = ⊥
+
+-- What is read of a source: there are its bytes, and they are this script's text, of which nothing is left; or so the
+-- call ends without one.
+pub record ReadsText (had left : Option Bytes) (result : Result Script Ending) : Type 0 where
+  pub bytes : Bytes
+  pub are_bytes : AreBytes had bytes
+  pub read : MatchResult result (λ script. IsTextOf bytes script × IsAtEnd left) (IsUnreadOf bytes had left)
 
 -- What is told where `top` isn't called: the ending's line with its status; or the sink failed within it.
 pub record TellsEnding (ending : Ending) (sink : Counts) (held holds : Option Bytes) (status : ℕ) : Type 0 where
@@ -225,16 +238,24 @@ pub record BeginsRun {D : Type 0} (tells : D → Option Bytes) (clock : D → �
   pub sequence : IsStoreDue recovered → sequence_of recovered.save.newest ≡ last_sequence → ⊥
   pub settles : SettlesInto tells clock image_at recovered decls between is settled
   pub snapshots : KeptSnapshots recovered settled
-  pub begins : r ≡ begun settled.decls settled.state settled.save (clock_after settled.saved.epoch)
+  pub begins : r ≡ begun settled.decls settled.state settled.save settled.store snap (clock_after settled.saved.epoch)
+  pub pages_whole : AllByRecursion IsWholePage settled.store.pages
+  pub pages_fit : AllByRecursion (AllByRecursion (λ w. w < 2 ^ 64)) (words_of settled.store.pages)
   pub stands : StandsOn tells clock image_at r is
   pub logs_told : (found : Images) → AreTold tells (parts_of was) found
       → AreLogs tells clock image_at (λ worker. []) (λ worker. []) r is
-  pub counts : CountsOf (λ worker. []) (λ worker. []) r.save.newest
+      × AreClosedFiles tells clock image_at (λ worker. []) (λ worker. []) r is
+  pub counts : CountsOf Even (λ worker. []) (λ worker. []) (λ worker. []) (λ worker. []) r.save.newest
   pub goes_on : (found : Images) (from : Moments) → AreTold tells (parts_of was) found
       → IsResting clock image_at (parts_of was) → IsNow clock image_at (parts_of was) from
       → GoesOn clock image_at from recovered.epoch recovered.state (sequence_of recovered.save.newest)
       settled.save.newest (parts_of is)
       × CrashesNow clock image_at (parts_of is)
+      × KeepsCrashes clock image_at from (parts_of between) (parts_of is)
+      × (rest : IsResting clock image_at (parts_of between))
+      × RestsSince clock image_at from rest.point rest.pages rest.counted (parts_of between)
+  pub empty : HasNoRecords (parts_of between)
+  pub whole_between : IsWhole between
   pub quiet : AreQuiet faults was is
   pub whole : IsWhole was
 
@@ -251,6 +272,7 @@ pub record RunsScript {D : Type 0} (v : Vaults D) (snap : ℕ) (script : Script)
   pub comes : RunComes v snap script opening rans ending
   pub caused : AreCaused script.rounds opening.sequence rans
   pub full : FilesAreFull v script.decls run.ordered opening rans
+  pub files : RunsOver v snap script.decls opening.state opening.saved run.ordered rans
   pub kept : Keeps v script.decls run.ordered opening state rans ending
   pub shown : Shows rans ending
 

@@ -14,7 +14,7 @@ use checkpoints::settle;
 use command_line::RunOptions;
 use lists::OrMemory;
 use outside::{Disk, Vault};
-use recovery_core::{SettleFault, recover};
+use recovery_core::{SettleFault, pages_fit, recover};
 use round_engine::{LimitName, Runtime};
 use serial_model::{Config, Number};
 use std::alloc::Global;
@@ -47,6 +47,7 @@ pub(crate) fn begin<D: Disk>(
         Ok(settled) => settled,
         Err(refusal) => return Err(ending_of_settling(refusal)),
     };
+    pages_fit(&settled.store);
     let config = Config {
         slots: options.slots,
         snap: options.snap,

@@ -1,14 +1,18 @@
 // What the program does over its streams, once they are made.
-ghost use Rattle.std.specs.Prelude.{◌≡◌, IfErr};
+ghost use Rattle.std.specs.Prelude.{◌≡◌, IfErr, map};
 ghost use Rattle.std.specs.Process.{exit_status};
-ghost use Rattle.foedus.specs.Causes.{AnswersFaults};
+ghost use Rattle.command_line.specs.Options.{command_of};
+ghost use Rattle.foedus.specs.Causes.{AnswersFaults, LeavesVault};
 ghost use Rattle.foedus.specs.OnTheWay.{Explains, IsEarly, IsExit, TellsEnding};
 
 use crate::ending::{Ending, finish, status_told};
 use crate::explanation::{USAGE, explanation};
-use crate::files::open_vault;
+use crate::files::{no_vault, open_vault};
 use crate::program::top;
-use outside::{Gate, Sink, Source};
+use crate::watcher::Watcher;
+use command_line::{Command, read_words};
+use lists::Memory;
+use outside::{Sink, Source};
 use std::alloc::{AllocError, Global};
 use std::env::{self, Env};
 use std::fs::{File, Files};
@@ -34,7 +38,7 @@ pub(crate) fn read_args(rt: &(impl Env + AllocGlobal)) -> Result<Vec<String>, En
 }
 
 /// Answers the words over the database in a folder, and explains a status other than 0 on `errors`.
-pub(crate) fn run_program<R, S: Source, K: Sink, E: Sink, G: Gate + Sync>(
+pub(crate) fn run_program<R, S: Source, K: Sink, E: Sink, G: Watcher + Sync>(
     rt: &R,
     words: Result<Vec<String>, Ending>,
     folder: &str,
@@ -64,8 +68,8 @@ where
     ExitCode::from(status)
 }
 
-/// Calls `top` over the database in a folder.
-fn answer_words<R, S: Source, K: Sink, G: Gate + Sync>(
+/// Answers the words over the database in a folder, or over none, where they leave the database alone.
+fn answer_words<R, S: Source, K: Sink, G: Watcher + Sync>(
     rt: &R,
     words: &[String],
     folder: &str,
@@ -80,14 +84,60 @@ where
         (record { before = S.faults source.old; after = S.faults source.new })
         (record { before = K.faults sink.old; after = K.faults sink.new }) result }
 {
-    let mut vault = match open_vault(rt, rt.alloc(), folder) {
-        Ok(vault) => vault,
-        Err(ending) => return tell(sink, ending),
-    };
     let Ok(texts) = texts(rt.alloc(), words) else {
         return tell(sink, Ending::NoMemory);
     };
-    top(rt, rt.alloc(), &texts, source, sink, &mut vault, gate)
+    match read_words(rt.alloc(), &texts) {
+        Ok(Command::Make(_)) => answer_alone(rt, &texts, source, sink, gate),
+        Ok(Command::Refused) => answer_alone(rt, &texts, source, sink, gate),
+        Ok(_) => answer_over(rt, &texts, folder, source, sink, gate),
+        Err(Memory) => tell(sink, Ending::NoMemory),
+    }
+}
+
+/// Calls `top` over the database in a folder.
+fn answer_over<R, S: Source, K: Sink, G: Watcher + Sync>(
+    rt: &R,
+    words: &[&str],
+    folder: &str,
+    source: &mut S,
+    sink: &mut K,
+    gate: &G,
+) -> u8
+where
+    R: Threads + Wait + Sync + Files<File = File> + AllocGlobal,
+    ensures statuses { IsExit result }
+    ensures faults { AnswersFaults
+        (record { before = S.faults source.old; after = S.faults source.new })
+        (record { before = K.faults sink.old; after = K.faults sink.new }) result }
+{
+    match open_vault(rt, rt.alloc(), folder) {
+        Ok(mut vault) => top(rt, rt.alloc(), words, source, sink, &mut vault, gate),
+        Err(ending) => tell(sink, ending),
+    }
+}
+
+/// Calls `top` with words that leave the database alone, over none. No file is opened or made: a script is often made
+/// for a run beside it, which makes the files of the same folder, and would be in the way of another that does.
+fn answer_alone<R, S: Source, K: Sink, G: Watcher + Sync>(
+    rt: &R,
+    words: &[&str],
+    source: &mut S,
+    sink: &mut K,
+    gate: &G,
+) -> u8
+where
+    R: Threads + Wait + Sync + AllocGlobal,
+    requires alone { LeavesVault (command_of (map (λ word. word.now) words.now)) }
+    ensures statuses { IsExit result }
+    ensures faults { AnswersFaults
+        (record { before = S.faults source.old; after = S.faults source.new })
+        (record { before = K.faults sink.old; after = K.faults sink.new }) result }
+{
+    match no_vault(rt.alloc()) {
+        Ok(mut vault) => top(rt, rt.alloc(), words, source, sink, &mut vault, gate),
+        Err(AllocError) => tell(sink, Ending::NoMemory),
+    }
 }
 
 // The words as texts.

@@ -45,7 +45,8 @@ foedus runs the transactions of a script on a database and prints a line for eac
 Options come in any order, each at most once. Of them --snap and --brief have an effect for now.
 A script declares arrays (array ID SIZE) and trees (tree ID), and then has a line for each
 transaction: the worker, and its operations, as in 0 w 1 2 7; r 1 2. A line join ends a round, which
-is durable then. In a round k epoch ends the epoch, and k save makes durable what has ended.
+is durable then. In a round k epoch ends the epoch, k save makes durable what has ended, and k glean
+makes a snapshot of what was durable as the log files last changed sides.
 ";
 
 const SCRIPT: &str = "\
@@ -85,7 +86,7 @@ A limit was reached. Rounds before it are kept, as far as a `durable` line told;
   epoch     the last epoch, 1048574, was used: write what `foedus dump` prints into a new database
   bank      the log file of a worker is full: end the run earlier, since the next one begins with an empty one
   snap      the snapshots have more pages than --snap lets in: call again with a greater number
-  height    a page of the next snapshot would stand below 32 others
+  height    a page of the next snapshot would stand below 32 others: write what `foedus dump` prints into a new database
   sequence  the last savepoint was stored: write what `foedus dump` prints into a new database
 ";
 

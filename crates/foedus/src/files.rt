@@ -6,7 +6,7 @@ ghost use Rattle.foedus.specs.OnTheWay.{IsEarly, IsWithout};
 ghost use Rattle.foedus.specs.Devices.{device_name};
 
 use crate::ending::Ending;
-use outside::{Device, FileDisk, Vault};
+use outside::{Device, FileDisk, MemDisk, Vault};
 use std::alloc::{AllocError, Global};
 use std::fs::{self, File, Files, OpenOptions};
 use std::io::{self, ErrorKind, Write};
@@ -48,6 +48,30 @@ pub(crate) fn open_vault<R: Files<File = File>>(
         ties: Vec::new(alloc),
         cuts: Vec::new(alloc),
     })
+}
+
+/// A database of no bytes and no files, for calls that leave the database alone.
+pub(crate) fn no_vault(alloc: Global) -> Result<Vault<MemDisk>, AllocError>
+    ensures { IfOk result IsWhole }
+{
+    let mut even = Vec::new(alloc);
+    let mut odd = Vec::new(alloc);
+    for _worker in 0..BANKS {
+        even.push(no_bytes(alloc)?)?;
+        odd.push(no_bytes(alloc)?)?;
+    }
+    Ok(Vault {
+        save: no_bytes(alloc)?,
+        snaps: no_bytes(alloc)?,
+        even,
+        odd,
+        ties: Vec::new(alloc),
+        cuts: Vec::new(alloc),
+    })
+}
+
+fn no_bytes(alloc: Global) -> Result<MemDisk, AllocError> {
+    MemDisk::new(alloc, Vec::new(alloc), Vec::new(alloc))
 }
 
 // Opens a device's file.

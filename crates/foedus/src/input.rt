@@ -1,9 +1,9 @@
 // The script of a source.
-ghost use Rattle.std.specs.Prelude.{◌≡◌, ◌⊎◌, ◌<◌, ◌^◌, ℕ, ◌≤◌, List, Some, length, IfOk, IfErr, MatchResult};
+ghost use Rattle.std.specs.Prelude.{◌≡◌, ◌⊎◌, ◌<◌, ◌^◌, ℕ, ◌≤◌, length, IfOk, IfErr, MatchResult};
 ghost use Rattle.std.specs.Io.KnownBytes.{Consumes, IsAtEnd};
-ghost use Rattle.script_grammar.specs.Script.{IsScript, IsTextOf};
+ghost use Rattle.script_grammar.specs.Script.{IsScript};
 ghost use Rattle.tx_script.specs.Draws.{lines_in};
-ghost use Rattle.foedus.specs.OnTheWay.{EndsWithCause, IsUnread, IsUnreadOf, ReadsWithCause};
+ghost use Rattle.foedus.specs.OnTheWay.{EndsWithCause, IsUnread, ReadsText, ReadsWithCause};
 ghost use Rattle.foedus.specs.Ending.{TakesAtMost, most_read};
 
 use crate::ending::Ending;
@@ -48,9 +48,7 @@ pub(crate) fn read_bytes<S: Source>(
 
 /// The script of a source, read out before anything is run; or how the call ends without one.
 pub(crate) fn read_text<S: Source>(alloc: Global, source: &mut S) -> Result<Script, Ending>
-    ensures read { (bytes : List ℕ) → S.left source.old ≡ Some bytes → MatchResult result
-        (λ script. IsTextOf bytes script × IsAtEnd (S.left source.new))
-        (IsUnreadOf bytes (S.left source.new)) }
+    ensures read { ReadsText (S.left source.old) (S.left source.new) result }
     ensures rules { IfOk result IsScript }
     ensures few { IfOk result (λ script. lines_in script.rounds < 2 ^ 64) }
     ensures unread { IfErr result IsUnread }

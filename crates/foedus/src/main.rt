@@ -31,6 +31,7 @@ mod progress;
 mod run;
 mod shape;
 mod teller;
+mod watcher;
 
 pub use ending::Ending;
 use entry::{read_args, run_program};
@@ -38,6 +39,7 @@ use outside::{StdSink, StdSource};
 pub use program::top;
 use progress::{Cleared, Progress};
 use std::process::ExitCode;
+pub use watcher::Watcher;
 
 #[cfg(test)]
 mod tests;

@@ -1,5 +1,5 @@
 // One call of the program.
-ghost use Rattle.std.specs.Prelude.{◌≡◌, ℕ, List, [], Some, Ok, map, true};
+ghost use Rattle.std.specs.Prelude.{◌≡◌, [], Ok, map, true};
 ghost use Rattle.command_line.specs.Options.{command_of};
 ghost use Rattle.outside.specs.Disk.{IfTold, Only};
 ghost use Rattle.outside.specs.Vault.{IsWhole};
@@ -19,8 +19,9 @@ ghost use Rattle.foedus.specs.Vaults.{Vaults, vaults_of};
 
 use crate::ending::{Ending, finish, status_told};
 use crate::run::run;
+use crate::watcher::Watcher;
 use command_line::{Command, read_words};
-use outside::{Disk, Failed, Gate, Sink, Source, Vault};
+use outside::{Disk, Failed, Sink, Source, Vault};
 use serial_model::Memory;
 use std::alloc::Global;
 use std::sync::Wait;
@@ -33,7 +34,7 @@ use text_output::Printer;
 /// a limit was met, 8 for want of memory and 9 where the vault has no snapshot of the epoch that is asked for.
 ///
 /// As a run begins, the save device has to have one image: nothing is pending.
-pub fn top<R: Threads + Wait + Sync, S: Source, K: Sink, D: Disk + Send + Drop, G: Gate + Sync>(
+pub fn top<R: Threads + Wait + Sync, S: Source, K: Sink, D: Disk + Send + Drop, G: Watcher + Sync>(
     rt: &R,
     alloc: Global,
     words: &[&str],
@@ -47,9 +48,8 @@ pub fn top<R: Threads + Wait + Sync, S: Source, K: Sink, D: Disk + Send + Drop, 
         → IfTold (D.tells vault.old.save) (Only D.clock D.image_at vault.old.save) }
     // What was run, printed and kept, and how the call ended: the main theorem.
     ensures answer { IsInFull (command_of (map (λ word. word.now) words.now))
-        → (bytes : List ℕ) → S.left source.old ≡ Some bytes
         → let streams : Streams = record {
-          bytes = bytes;
+          had = S.left source.old;
           left = S.left source.new;
           held = K.held sink.old;
           holds = K.held sink.new;
@@ -58,9 +58,9 @@ pub fn top<R: Threads + Wait + Sync, S: Source, K: Sink, D: Disk + Send + Drop, 
         Answers vaults (map (λ word. word.now) words.now) streams result }
     // The same of a run that is told in brief.
     ensures brief { (options : _) → command_of (map (λ word. word.now) words.now) ≡ Command.Run options
-        → options.brief ≡ true → (bytes : List ℕ) → S.left source.old ≡ Some bytes
-        → CameInBrief (vaults_of D.tells D.clock D.image_at D.faults vault.old vault.new) options bytes
-        (S.left source.new) (ShownText (K.held sink.old) (K.held sink.new) result) }
+        → options.brief ≡ true
+        → CameInBrief (vaults_of D.tells D.clock D.image_at D.faults vault.old vault.new) options
+        (S.left source.old) (S.left source.new) (ShownText (K.held sink.old) (K.held sink.new) result) }
     // What is told of what the vault keeps and of its snapshots, and that it is told where nothing fails.
     ensures listed { IsListing (command_of (map (λ word. word.now) words.now))
         → Listed (command_of (map (λ word. word.now) words.now)) D.tells D.faults vault.old vault.new
@@ -96,7 +96,7 @@ pub fn top<R: Threads + Wait + Sync, S: Source, K: Sink, D: Disk + Send + Drop, 
 }
 
 // Does what the words ask for, and prints all of its text.
-fn call<R: Threads + Wait + Sync, S: Source, K: Sink, D: Disk + Drop, G: Gate + Sync>(
+fn call<R: Threads + Wait + Sync, S: Source, K: Sink, D: Disk + Drop, G: Watcher + Sync>(
     rt: &R,
     alloc: Global,
     words: &[&str],
@@ -110,15 +110,14 @@ fn call<R: Threads + Wait + Sync, S: Source, K: Sink, D: Disk + Drop, G: Gate + 
     requires one { (options : _) → command_of (map (λ word. word.now) words.now) ≡ Command.Run options
         → IfTold (D.tells vault.old.save) (Only D.clock D.image_at vault.old.save) }
     ensures came { IsInFull (command_of (map (λ word. word.now) words.now))
-        → (bytes : List ℕ) → S.left source.old ≡ Some bytes
         → let command = command_of (map (λ word. word.now) words.now) in
-        Came (vaults_of D.tells D.clock D.image_at D.faults vault.old vault.new) command bytes
+        Came (vaults_of D.tells D.clock D.image_at D.faults vault.old vault.new) command (S.left source.old)
         (S.left source.new)
         (Takes command printer.old.held printer.new.held result) }
     ensures brief { (options : _) → command_of (map (λ word. word.now) words.now) ≡ Command.Run options
-        → options.brief ≡ true → (bytes : List ℕ) → S.left source.old ≡ Some bytes
-        → CameInBrief (vaults_of D.tells D.clock D.image_at D.faults vault.old vault.new) options bytes
-        (S.left source.new) (TakesText printer.old.held printer.new.held result) }
+        → options.brief ≡ true
+        → CameInBrief (vaults_of D.tells D.clock D.image_at D.faults vault.old vault.new) options
+        (S.left source.old) (S.left source.new) (TakesText printer.old.held printer.new.held result) }
     ensures listed { IsListing (command_of (map (λ word. word.now) words.now))
         → Listed (command_of (map (λ word. word.now) words.now)) D.tells D.faults vault.old vault.new
         (TakesText printer.old.held printer.new.held result) }
@@ -146,7 +145,7 @@ fn call<R: Threads + Wait + Sync, S: Source, K: Sink, D: Disk + Drop, G: Gate + 
 }
 
 // Does what the words ask for, and adds the text of what was run.
-fn run_words<R: Threads + Wait + Sync, S: Source, K: Sink, D: Disk + Drop, G: Gate + Sync>(
+fn run_words<R: Threads + Wait + Sync, S: Source, K: Sink, D: Disk + Drop, G: Watcher + Sync>(
     rt: &R,
     alloc: Global,
     words: &[&str],
@@ -159,15 +158,14 @@ fn run_words<R: Threads + Wait + Sync, S: Source, K: Sink, D: Disk + Drop, G: Ga
     requires one { (options : _) → command_of (map (λ word. word.now) words.now) ≡ Command.Run options
         → IfTold (D.tells vault.old.save) (Only D.clock D.image_at vault.old.save) }
     ensures came { IsInFull (command_of (map (λ word. word.now) words.now))
-        → (bytes : List ℕ) → S.left source.old ≡ Some bytes
         → let command = command_of (map (λ word. word.now) words.now) in
-        Came (vaults_of D.tells D.clock D.image_at D.faults vault.old vault.new) command bytes
+        Came (vaults_of D.tells D.clock D.image_at D.faults vault.old vault.new) command (S.left source.old)
         (S.left source.new)
         (AddsRun command printer.old printer.new result) }
     ensures brief { (options : _) → command_of (map (λ word. word.now) words.now) ≡ Command.Run options
-        → options.brief ≡ true → (bytes : List ℕ) → S.left source.old ≡ Some bytes
-        → CameInBrief (vaults_of D.tells D.clock D.image_at D.faults vault.old vault.new) options bytes
-        (S.left source.new) (AddsText printer.old printer.new result) }
+        → options.brief ≡ true
+        → CameInBrief (vaults_of D.tells D.clock D.image_at D.faults vault.old vault.new) options
+        (S.left source.old) (S.left source.new) (AddsText printer.old printer.new result) }
     ensures listed { IsListing (command_of (map (λ word. word.now) words.now))
         → Listed (command_of (map (λ word. word.now) words.now)) D.tells D.faults vault.old vault.new
         (AddsText printer.old printer.new result) }

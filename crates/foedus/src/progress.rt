@@ -1,5 +1,6 @@
 // How far a run is, shown where errors are told.
 
+use crate::watcher::Watcher;
 use outside::{Failed, Gate, Sink};
 use std::io::{IsTerminal, Stderr, Write};
 use std::sync::atomic::{AtomicU64, Ordering};
@@ -8,15 +9,25 @@ use std::time::{Clock, Instant};
 // The clock is looked at once in so many lines of the script.
 const LINES: u64 = 4_096;
 
-/// Counts the lines of the script that are run. Where standard error is a terminal it shows how many they are and the
-/// seconds since the call began, once a second, in one line of the terminal that is written again.
+// The maintenance thread, as gates count workers. On the plain map each line of another worker that a gate lets through
+// commits: none is ever refused a number.
+const MAINTENANCE: u8 = 255;
+
+/// Counts the lines of the script that are run. Where standard error is a terminal it shows which round of how many is
+/// run, how many lines were, how many transactions committed, and the seconds since the call began, once a second, in
+/// one line of the terminal that is written again.
 #[derive(Drop)]
 pub(crate) struct Progress<'a, R: Clock> {
     rt: &'a R,
     errors: Stderr,
     // None where nothing is shown.
     begin: Option<Instant>,
-    lines: AtomicU64,
+    // The round that is run, from 1 on, and how many there are.
+    round: AtomicU64,
+    rounds: AtomicU64,
+    // Lines of transactions, and those of the maintenance thread.
+    commits: AtomicU64,
+    asked: AtomicU64,
     // The seconds that are shown, 0 where nothing stands on the terminal.
     seconds: AtomicU64,
 }
@@ -32,22 +43,38 @@ impl<'a, R: Clock> Progress<'a, R> {
             rt,
             errors,
             begin,
-            lines: AtomicU64::new(0),
+            round: AtomicU64::new(0),
+            rounds: AtomicU64::new(0),
+            commits: AtomicU64::new(0),
+            asked: AtomicU64::new(0),
             seconds: AtomicU64::new(0),
         }
     }
 
-    // Shows so many lines, where a second more has passed.
-    fn show(&self, begin: Instant, lines: u64) {
+    // Shows how far the run is, where a second more has passed.
+    fn show(&self, begin: Instant) {
         let Ok(elapsed) = begin.elapsed(self.rt) else {
             return;
         };
         let seconds = elapsed.as_secs();
         if seconds > self.seconds.load(Ordering::SeqCst) {
             self.seconds.store(seconds, Ordering::SeqCst);
-            let mut errors = &self.errors;
-            let _ = write!(errors, "\r{lines} lines, {seconds} s");
+            self.tell(seconds);
         }
+    }
+
+    fn tell(&self, seconds: u64) {
+        let (round, rounds) = (
+            self.round.load(Ordering::SeqCst),
+            self.rounds.load(Ordering::SeqCst),
+        );
+        let commits = self.commits.load(Ordering::SeqCst);
+        let lines = commits.wrapping_add(self.asked.load(Ordering::SeqCst));
+        let mut errors = &self.errors;
+        let _ = write!(
+            errors,
+            "\r\x1b[Kround {round} of {rounds}, {lines} lines, {commits} commits, {seconds} s"
+        );
     }
 
     /// Takes away what is shown.
@@ -62,14 +89,26 @@ impl<'a, R: Clock> Progress<'a, R> {
 impl<'a, R: Clock> Gate for Progress<'a, R> {
     fn before(&self, _worker: u8, _line: u32) {}
 
-    fn after(&self, _worker: u8, _line: u32) {
+    fn after(&self, worker: u8, _line: u32) {
         let Some(begin) = self.begin else {
             return;
         };
-        let lines = self.lines.fetch_add(1, Ordering::SeqCst).wrapping_add(1);
+        let counter = if worker == MAINTENANCE {
+            &self.asked
+        } else {
+            &self.commits
+        };
+        let lines = counter.fetch_add(1, Ordering::SeqCst).wrapping_add(1);
         if lines % LINES == 0 {
-            self.show(begin, lines);
+            self.show(begin);
         }
+    }
+}
+
+impl<'a, R: Clock> Watcher for Progress<'a, R> {
+    fn begins(&self, round: usize, rounds: usize) {
+        self.round.store(round as u64, Ordering::SeqCst);
+        self.rounds.store(rounds as u64, Ordering::SeqCst);
     }
 }
 

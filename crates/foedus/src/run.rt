@@ -1,5 +1,5 @@
 // Runs of a script, printed round by round.
-ghost use Rattle.std.specs.Prelude.{◌≡◌, ◌≢◌, ◌<◌, ◌^◌, ℕ, List, [], Some, Ok, true, false};
+ghost use Rattle.std.specs.Prelude.{◌≡◌, ◌≢◌, ◌<◌, ◌^◌, ℕ, [], Ok, true, false};
 ghost use Rattle.command_line.specs.Options.{AreInRange, AreMadeInRange};
 ghost use Rattle.script_grammar.specs.Script.{IsScript};
 ghost use Rattle.tx_script.specs.Draws.{lines_in};
@@ -8,14 +8,14 @@ ghost use Rattle.outside.specs.Disk.{IfTold, Only};
 ghost use Rattle.outside.specs.Vault.{IsWhole};
 ghost use Rattle.recovery_core.specs.VaultReads.{VaultOnlyReads};
 ghost use Rattle.foedus.specs.Causes.{AnswersDevices, AnswersFaults, IsInFull, IsRunStatus, IsStatus};
-ghost use Rattle.foedus.specs.Causes.{LeavesVault, ReadsAlone, ReadsDamage, ReadsNoSource, ReadsOnly};
+ghost use Rattle.foedus.specs.Causes.{IsReadStatus, LeavesVault, ReadsDamage, ReadsNoSource, ReadsOnly};
 ghost use Rattle.foedus.specs.Causes.{RestsAgain};
 ghost use Rattle.foedus.specs.Ending.{TakesAtMost};
 ghost use Rattle.foedus.specs.Listings.{IsListing, Listed};
 ghost use Rattle.foedus.specs.Made.{Makes};
 ghost use Rattle.foedus.specs.Main.{Came};
+ghost use Rattle.foedus.specs.OnTheWay.{AddsRun, AddsText, RunsScript, status_told, RunsInBrief};
 ghost use Rattle.foedus.specs.InBrief.{CameInBrief};
-ghost use Rattle.foedus.specs.OnTheWay.{AddsRun, AddsText, RunsInBrief, RunsScript, status_told};
 ghost use Rattle.foedus.specs.Telling.{TellsRun};
 ghost use Rattle.foedus.specs.Vaults.{vaults_of};
 
@@ -25,8 +25,9 @@ use crate::ending::{Ending, ending_of};
 use crate::input::read_text;
 use crate::kept::{dump, snap, snaps};
 use crate::teller::Teller;
+use crate::watcher::Watcher;
 use command_line::{Command, MakeArguments, RunOptions};
-use outside::{Disk, Failed, Gate, Sink, Source, Vault};
+use outside::{Disk, Failed, Sink, Source, Vault};
 use round_engine::round;
 use script_maker::put_script;
 use std::alloc::Global;
@@ -36,7 +37,7 @@ use text_output::Printer;
 use tx_script::Script;
 
 /// Does what the command asks for, and adds the text of what was run.
-pub(crate) fn run<R: Threads + Wait + Sync, S: Source, K: Sink, D: Disk + Drop, G: Gate + Sync>(
+pub(crate) fn run<R: Threads + Wait + Sync, S: Source, K: Sink, D: Disk + Drop, G: Watcher + Sync>(
     rt: &R,
     alloc: Global,
     command: Command,
@@ -51,14 +52,13 @@ pub(crate) fn run<R: Threads + Wait + Sync, S: Source, K: Sink, D: Disk + Drop, 
     requires whole { IsWhole vault.old }
     requires one { (options : RunOptions) → command ≡ Command.Run options
         → IfTold (D.tells vault.old.save) (Only D.clock D.image_at vault.old.save) }
-    ensures came { IsInFull command → (bytes : List ℕ) → S.left source.old ≡ Some bytes
-        → Came (vaults_of D.tells D.clock D.image_at D.faults vault.old vault.new) command bytes
+    ensures came { IsInFull command
+        → Came (vaults_of D.tells D.clock D.image_at D.faults vault.old vault.new) command (S.left source.old)
         (S.left source.new)
         (AddsRun command printer.old printer.new result) }
     ensures brief { (options : RunOptions) → command ≡ Command.Run options → options.brief ≡ true
-        → (bytes : List ℕ) → S.left source.old ≡ Some bytes
-        → CameInBrief (vaults_of D.tells D.clock D.image_at D.faults vault.old vault.new) options bytes
-        (S.left source.new) (AddsText printer.old printer.new result) }
+        → CameInBrief (vaults_of D.tells D.clock D.image_at D.faults vault.old vault.new) options
+        (S.left source.old) (S.left source.new) (AddsText printer.old printer.new result) }
     ensures listed { IsListing command → Listed command D.tells D.faults vault.old vault.new
         (AddsText printer.old printer.new result) }
     ensures made { (arguments : MakeArguments) → command ≡ Command.Make arguments
@@ -102,7 +102,7 @@ fn make<K: Sink>(printer: &mut Printer<'_, K>, arguments: MakeArguments) -> Resu
 }
 
 /// Runs a script on what the vault keeps, and adds the text of what was run.
-fn run_script<R: Threads + Wait + Sync, K: Sink, D: Disk + Drop, G: Gate + Sync>(
+fn run_script<R: Threads + Wait + Sync, K: Sink, D: Disk + Drop, G: Watcher + Sync>(
     rt: &R,
     alloc: Global,
     options: RunOptions,
@@ -140,7 +140,7 @@ fn run_script<R: Threads + Wait + Sync, K: Sink, D: Disk + Drop, G: Gate + Sync>
 }
 
 /// Runs a script, and adds the lines of its rounds.
-fn run_in_full<R: Threads + Wait + Sync, K: Sink, D: Disk + Drop, G: Gate + Sync>(
+fn run_in_full<R: Threads + Wait + Sync, K: Sink, D: Disk + Drop, G: Watcher + Sync>(
     rt: &R,
     alloc: Global,
     options: RunOptions,
@@ -156,8 +156,9 @@ fn run_in_full<R: Threads + Wait + Sync, K: Sink, D: Disk + Drop, G: Gate + Sync
     requires one { IfTold (D.tells vault.old.save) (Only D.clock D.image_at vault.old.save) }
     ensures runs { RunsScript (vaults_of D.tells D.clock D.image_at D.faults vault.old vault.new) options.snap
         script.now (AddsRun (Command.Run options) printer.old printer.new result) }
-    ensures reads { ReadsAlone (status_told result)
+    ensures reads { IsReadStatus (status_told result)
         → VaultOnlyReads D.tells D.clock D.image_at D.faults vault.old vault.new }
+    ensures damage { ReadsDamage D.tells D.clock D.image_at D.faults (status_told result) vault.old vault.new }
     ensures rests { RestsAgain D.tells D.clock D.image_at (status_told result) vault.old vault.new }
 {
     let mut teller = Teller::new(false);
@@ -174,7 +175,7 @@ fn run_in_full<R: Threads + Wait + Sync, K: Sink, D: Disk + Drop, G: Gate + Sync
 }
 
 /// Runs a script, and adds the counts and the sum of it.
-fn run_in_brief<R: Threads + Wait + Sync, K: Sink, D: Disk + Drop, G: Gate + Sync>(
+fn run_in_brief<R: Threads + Wait + Sync, K: Sink, D: Disk + Drop, G: Watcher + Sync>(
     rt: &R,
     alloc: Global,
     options: RunOptions,
@@ -192,7 +193,7 @@ fn run_in_brief<R: Threads + Wait + Sync, K: Sink, D: Disk + Drop, G: Gate + Syn
         script.now (AddsText printer.old printer.new result) }
     ensures damage { ReadsDamage D.tells D.clock D.image_at D.faults (status_told result) vault.old vault.new }
     ensures devices { AnswersDevices D.faults vault.old vault.new (status_told result) }
-    ensures reads { ReadsAlone (status_told result) → status_told result ≢ 6
+    ensures reads { IsReadStatus (status_told result)
         → VaultOnlyReads D.tells D.clock D.image_at D.faults vault.old vault.new }
     ensures rests { RestsAgain D.tells D.clock D.image_at (status_told result) vault.old vault.new }
 {
@@ -211,7 +212,7 @@ fn run_in_brief<R: Threads + Wait + Sync, K: Sink, D: Disk + Drop, G: Gate + Syn
 }
 
 /// Runs the rounds of a script on what the vault keeps, up to one that ends the run, and has each of them told.
-fn run_rounds<R: Threads + Wait + Sync, K: Sink, D: Disk + Drop, G: Gate + Sync>(
+fn run_rounds<R: Threads + Wait + Sync, K: Sink, D: Disk + Drop, G: Watcher + Sync>(
     rt: &R,
     alloc: Global,
     options: RunOptions,
@@ -230,8 +231,9 @@ fn run_rounds<R: Threads + Wait + Sync, K: Sink, D: Disk + Drop, G: Gate + Sync>
     ensures runs { RunsScript (vaults_of D.tells D.clock D.image_at D.faults vault.old vault.new) options.snap
         script.now (TellsRun teller.old.brief teller.new.tally printer.old printer.new result) }
     ensures whole { teller.new.tally.ran ≡ true → IsWhole vault.new }
-    ensures reads { ReadsAlone (status_told result)
+    ensures reads { IsReadStatus (status_told result)
         → VaultOnlyReads D.tells D.clock D.image_at D.faults vault.old vault.new }
+    ensures damage { ReadsDamage D.tells D.clock D.image_at D.faults (status_told result) vault.old vault.new }
     ensures rests { RestsAgain D.tells D.clock D.image_at (status_told result) vault.old vault.new }
 {
     let mut runtime = match begin(alloc, options, script, vault) {
@@ -239,6 +241,7 @@ fn run_rounds<R: Threads + Wait + Sync, K: Sink, D: Disk + Drop, G: Gate + Sync>
         Err(ending) => return Ok(ending),
     };
     for index in 0..script.rounds() {
+        gate.begins(index + 1, script.rounds());
         let lines = script.round(index);
         let report = match round(rt, alloc, &mut runtime, vault, &lines, options.tries, gate) {
             Ok(report) => report,

@@ -44,8 +44,8 @@ fn check_same(alloc: Global, decls: &[Decl], others: &[Decl]) -> Result<(), Endi
     Err(Ending::Shape { declared, kept })
 }
 
-// Whether these are the same storages, in any order.
-fn are_same(decls: &[Decl], others: &[Decl]) -> bool
+/// Whether these are the same storages, in any order.
+pub(crate) fn are_same(decls: &[Decl], others: &[Decl]) -> bool
     ensures { IsTrue result ↔ SameDecls decls.now others.now }
 {
     if !has_all(others, decls) {

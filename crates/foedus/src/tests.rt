@@ -6,7 +6,7 @@ ghost use Rattle.outside.specs.Disk.{IfTold, Only};
 use crate::entry::run_program;
 use crate::explanation::explanation;
 use crate::files::open_vault;
-use crate::{Ending, top};
+use crate::{Ending, Watcher, top};
 use outside::{Disk, FileDisk, Gate, MemDisk, MemSink, MemSource, OpenGate, SureSource, Vault};
 use serial_model::{Decl, Key, State};
 use std::alloc::{AllocError, Global};
@@ -19,10 +19,11 @@ use std::thread::Threads;
 use tx_script::write_state;
 
 mod brief;
+mod examples;
 mod failing_devices;
+mod gleans;
 mod kept_runs;
 mod listings;
-mod rounds;
 mod stops;
 
 // A disk of these bytes on which nothing is pending. The calls of these numbers fail.
@@ -98,7 +99,7 @@ fn anew(alloc: Global, vault: &Vault<MemDisk>, fails: &[u64]) -> Result<Vault<Me
 
 // The status of a call with these words after the program's name, over a source and a sink of which the calls of these
 // numbers fail, and what the sink then holds.
-fn call<R: Threads + Wait + Sync + AllocGlobal, G: Gate + Sync>(
+fn call<R: Threads + Wait + Sync + AllocGlobal, G: Watcher + Sync>(
     rt: &R,
     asked: &str,
     script: &[u8],
@@ -223,8 +224,8 @@ w 2 12 12; w 2 13 13; w 2 14 14; w 2 15 15; w 2 16 16|0 s 2 0 99; w 2 17 17; s 2
 7=7,8=8,9=9,10=10,11=11,12=12,13=13,14=14,15=15,16=16 2=2,3=3,4=4,5=5,6=6,7=7,8=8,9=9,10=10,11=11,12=12,13=13,14=14,\
 15=15,16=16,17=17|durable 1|
 run # tree 2|0 w 2 0 1; w 2 18446744073709551615 2; s 2 0 18446744073709551615; s 2 1 18446744073709551614; s 2 0 0; \
-s 2 18446744073709551615 18446744073709551615| # 0 # 0.0 ok 1:1 0=1,18446744073709551615=2 . 0=1 \
-18446744073709551615=2|durable 1|
+s 2 18446744073709551615 18446744073709551615; s 2 18446744073709551615 0; s 2 1 0| # 0 # 0.0 ok 1:1 0=1,\
+18446744073709551615=2 . 0=1 18446744073709551615=2 . .|durable 1|
 run # tree 2|0 w 2 1 10; w 2 5 50|0 d 2 1; r 2 1; s 2 0 9; w 2 1 7; r 2 1; s 2 1 5; d 2 4|0 s 2 0 9|0 d 2 5; t 2 1 8|\
 0 s 2 0 9| # 0 # 0.0 ok 1:1|0.1 ok 1:2 - 5=50 7 1=7,5=50|0.2 ok 1:3 1=7,5=50|0.3 short 1:4|0.4 ok 1:5 1=7,5=50|\
 durable 1|
@@ -270,7 +271,10 @@ run # array 1 4|8 r 1 0| # 1 # script 2 Range|
 run # array 1 4|0 r 1 4| # 1 # script 2 Range|
 run # tree 2 4| # 1 # script 1 Word|
 run # tree 2|0 d 2 0 1| # 1 # script 2 Word|
-run # k glean| # 1 # script 1 Word|
+run # array 1 4|k glean # 0 # k.0 none|durable 1|
+run # array 1 4|0 w 1 0 1|join|k glean|k glean # 0 # 0.0 ok 1:1|durable 1|k.0 snap 1 new 2|k.1 none|durable 2|
+run --brief # array 1 4|0 w 1 0 1|join|k glean # 0 # commits 1|total 1|durable 2|
+run # k gleans| # 1 # script 1 Word|
 run # k drop| # 1 # script 1 Word|
 run # k epoch | # 1 # script 1 Word|
 run # k save 1| # 1 # script 1 Word|
@@ -367,6 +371,8 @@ impl Gate for Recording {
         self.record(worker.wrapping_add(8), line);
     }
 }
+
+impl Watcher for Recording {}
 
 // The gate that was handed over is called round each line, with its worker and its count.
 #[test]
@@ -540,16 +546,17 @@ fn a_state_as_text(rt: HostRuntime) -> Result<(), Fail> {
     Ok(())
 }
 
-// What the program answers, prints and explains over a folder.
+// What the program answers to these words after its name, prints and explains over a folder.
 fn program_in<R: Threads + Wait + Sync + Files<File = File> + AllocGlobal>(
     rt: &R,
     folder: &str,
-    word: &str,
+    asked: &str,
     script: &str,
 ) -> Result<(ExitCode, Vec<u8>, Vec<u8>), Fail> {
     let alloc = rt.alloc();
     let mut words = Vec::new(alloc);
-    for text in ["foedus", word] {
+    words.push(String::from_str(alloc, "foedus")?)?;
+    for text in asked.split_whitespace() {
         words.push(String::from_str(alloc, text)?)?;
     }
     let mut source = SureSource::new(script.as_bytes().to_vec(alloc)?);
@@ -622,6 +629,32 @@ fn files_keep_what_was_run(rt: HostRuntime) -> Result<(), Fail> {
         assert!(rt; code == ExitCode::from(status), "{text}");
         assert_eq!(rt; told.as_slice(), text.as_bytes());
     }
+    fs::remove_dir_all(&rt, folder)?;
+    Ok(())
+}
+
+// Words that leave the database alone make no file of it: a script may be made for a run beside it, in a folder where
+// none is yet.
+#[test]
+fn no_file_is_made_for_a_script(rt: HostRuntime) -> Result<(), Fail> {
+    let folder = "foedus_unmade";
+    let _old = fs::remove_dir_all(&rt, folder);
+    let made = "array 1 1024\ntree 2\n0 a 1 454 1; a 2 126 1\n1 a 1 897 1; a 2 107 1\n";
+    for (asked, status, text) in [
+        ("make 1 2 2", 0, made),
+        ("make 1 2", 2, "usage\n"),
+        ("--help", 2, "usage\n"),
+        ("run --tries 0", 2, "usage\n"),
+        ("", 2, "usage\n"),
+    ] {
+        let (code, told, _explained) = program_in(&rt, folder, asked, "array 1 4\n")?;
+        assert!(rt; code == ExitCode::from(status), "{asked}");
+        assert_eq!(rt; told.as_slice(), text.as_bytes(), "{asked}");
+        assert!(rt; fs::read(&rt, "foedus_unmade/save").is_err(), "{asked}");
+    }
+    let (_code, told, _explained) = program_in(&rt, folder, "dump", "")?;
+    assert_eq!(rt; told.as_slice(), b"epoch 0\n".as_slice());
+    assert_eq!(rt; fs::read(&rt, "foedus_unmade/save")?.len(), 1024);
     fs::remove_dir_all(&rt, folder)?;
     Ok(())
 }

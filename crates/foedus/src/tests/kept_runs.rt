@@ -80,7 +80,7 @@ pub(super) fn kept_vault(
 }
 
 // Makes the calls of some rows one after another over a vault.
-fn check_rows<R: Threads + Wait + Sync + AllocGlobal + Abort>(
+pub(super) fn check_rows<R: Threads + Wait + Sync + AllocGlobal + Abort>(
     rt: &R,
     vault: &mut Vault<MemDisk>,
     rows: &str,

@@ -2,17 +2,21 @@
 ghost use Rattle.std.specs.Prelude.{IfOk};
 ghost use Rattle.outside.specs.Disk.{IfTold, Only};
 
+use super::failing_devices::BANKS;
 use super::*;
 use outside::{Call, FuseDisk, Made};
 
-// Rounds of which each saves an epoch, and what a dump tells before them, and once each of their epochs is saved.
+// Rounds of which each saves an epoch, the epoch that is saved before them, and what a dump tells then, and once each
+// of their epochs is saved.
 struct Rounds {
     script: &'static [u8],
+    first: usize,
     saved: [&'static str; 4],
 }
 
 const FIRST: Rounds = Rounds {
     script: b"array 1 4\n0 w 1 2 7; w 1 0 1\njoin\n0 a 1 2 1\n1 w 1 3 5\nk save\njoin\n2 w 1 0 9\n0 t 1 2 8\n",
+    first: 0,
     saved: [
         "epoch 0\n",
         "epoch 1\n1 0 1\n1 2 7\n",
@@ -24,6 +28,7 @@ const FIRST: Rounds = Rounds {
 // Over what the first rounds leave, of whose log entries a snapshot is made first.
 const SECOND: Rounds = Rounds {
     script: b"array 1 4\n0 a 1 0 1\njoin\n1 t 1 3 5\njoin\n0 a 1 1 4\n",
+    first: 3,
     saved: [
         "epoch 3\n1 0 9\n1 3 5\n",
         "epoch 4\n1 0 10\n1 3 5\n",
@@ -32,8 +37,21 @@ const SECOND: Rounds = Rounds {
     ],
 };
 
+// Over a fresh vault, with two snapshots.
+const WITH_SNAPSHOTS: Rounds = Rounds {
+    script: b"array 1 4\ntree 2\n0 w 1 2 7; w 2 5 1\njoin\n0 a 1 2 1\n1 w 1 3 5\nk glean\njoin\n2 w 1 0 9\n\
+0 d 2 5\nk glean\n",
+    first: 0,
+    saved: [
+        "epoch 0\n",
+        "epoch 1\n1 2 7\n2 5 1\n",
+        "epoch 2\n1 2 8\n1 3 5\n2 5 1\n",
+        "epoch 3\n1 0 9\n1 2 8\n1 3 5\n",
+    ],
+};
+
 // The names of the devices on which the rounds write.
-const DEVICES: [&str; 5] = ["save", "snaps", "bank0", "bank2", "bank4"];
+const DEVICES: [&str; 7] = ["save", "snaps", "bank0", "bank1", "bank2", "bank3", "bank4"];
 
 // More calls than any device has.
 const MOST_CALLS: u64 = 100;
@@ -53,11 +71,6 @@ fn fused_disk(alloc: Global, disk: &MemDisk, passes: u64) -> Result<FuseDisk<Mem
     Ok(FuseDisk::new(disk, passes))
 }
 
-// The log files of even number.
-const EVEN: [&str; 8] = [
-    "bank0", "bank2", "bank4", "bank6", "bank8", "bank10", "bank12", "bank14",
-];
-
 // A vault of what another holds, of which this device passes so many calls.
 fn fused_vault(
     alloc: Global,
@@ -73,9 +86,10 @@ fn fused_vault(
     }
     let (mut even, mut odd) = (Vec::new(alloc), Vec::new(alloc));
     for worker in 0..8 {
-        let calls = passes_of(EVEN[worker] == device, passes);
+        let calls = passes_of(BANKS[2 * worker] == device, passes);
         even.push(fused_disk(alloc, &vault.even[worker], calls)?)?;
-        odd.push(fused_disk(alloc, &vault.odd[worker], u64::MAX)?)?;
+        let calls = passes_of(BANKS[2 * worker + 1] == device, passes);
+        odd.push(fused_disk(alloc, &vault.odd[worker], calls)?)?;
     }
     Ok(Vault {
         save: fused_disk(alloc, &vault.save, passes_of(device == "save", passes))?,
@@ -183,6 +197,23 @@ fn is_saved(saved: &[&str], dump: &[u8], from: usize) -> bool {
         .any(|saved| saved.as_bytes() == dump)
 }
 
+// Compares each snapshot of the rounds' epochs with what a dump tells once that epoch is saved.
+fn check_snapshots<R: Threads + Wait + Sync + AllocGlobal + Abort>(
+    rt: &R,
+    vault: &mut Vault<MemDisk>,
+    rounds: &Rounds,
+) -> Result<(), Fail> {
+    for index in 0..4 {
+        let asked = format!(in rt.alloc(); "snap {}", rounds.first.wrapping_add(index))?;
+        let (status, text) = answer_anew(rt, vault, asked.as_str(), b"")?;
+        if status != 9 {
+            assert_eq!(rt; status, 0, "{asked}");
+            assert_eq!(rt; text.as_slice(), rounds.saved[index].as_bytes());
+        }
+    }
+    Ok(())
+}
+
 // Runs the rounds over what a vault holds, of which this device passes so many calls, and recovers what is held then.
 // Whether the run was finished.
 fn check_stop<R: Threads + Wait + Sync + AllocGlobal + Abort>(
@@ -202,6 +233,7 @@ fn check_stop<R: Threads + Wait + Sync + AllocGlobal + Abort>(
             is_saved(&rounds.saved, &dump, told),
             "{device} {passes} {pending}"
         );
+        check_snapshots(rt, &mut left, rounds)?;
     }
     Ok(status == 0)
 }
@@ -241,5 +273,7 @@ fn check_stops<R: Threads + Wait + Sync + AllocGlobal + Abort>(
 fn what_was_told_durable_is_kept(rt: HostRuntime) -> Result<(), Fail> {
     let mut vault = fresh_vault(rt.alloc())?;
     check_stops(&rt, &mut vault, &FIRST)?;
-    check_stops(&rt, &mut vault, &SECOND)
+    check_stops(&rt, &mut vault, &SECOND)?;
+    let mut vault = fresh_vault(rt.alloc())?;
+    check_stops(&rt, &mut vault, &WITH_SNAPSHOTS)
 }

@@ -61,4 +61,4 @@ returns-in-Ok-new-clause-begins g c =
       | inl memory ↦ absurd cc
       | inr limit ↦ absurd cc
     ])
-    c.in-Ok-new.ensures.begins c.in-Ok-new.ensures.stands c.in-Ok-new.ensures.logs c.in-Ok-new.ensures.counts
+    c.in-Ok-new.ensures.begins c.pages_fit.ensures.whole c.pages_fit.ensures.fit c.in-Ok-new.ensures.stands c.in-Ok-new.ensures.logs c.in-Ok-new.ensures.counts

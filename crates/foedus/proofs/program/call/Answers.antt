@@ -9,21 +9,21 @@ use Rattle.foedus.proofs.Listed.{listing_broken, listing_finished, text_broken, 
 use Rattle.foedus.proofs.program.call.Goals as goal
 
 pub returns-in_err-ending-clause-came : goal.returns-in_err-ending-clause-came
-returns-in_err-ending-clause-came g c = λ other bytes told.
-    let p = err_from_is_err_and c.from_residual.result c.from_residual.ensures.1 in rw p.1 (came_broken _ _ _ _ _ _ c.requires.empty (c.in_err-ending.ensures.came other bytes told))
+returns-in_err-ending-clause-came g c = λ other.
+    let p = err_from_is_err_and c.from_residual.result c.from_residual.ensures.1 in rw p.1 (came_broken _ _ _ _ _ _ c.requires.empty (c.in_err-ending.ensures.came other))
 
 pub returns-clause-came : goal.returns-clause-came
-returns-clause-came g c = λ other bytes told. came_finished _ _ _ _ _ _ _ c.requires.empty c.finish.ensures.prints c.finish.ensures.empty c.finish.ensures.same (c.in_ok-ending.ensures.came other bytes told)
+returns-clause-came g c = λ other. came_finished _ _ _ _ _ _ _ c.requires.empty c.finish.ensures.prints c.finish.ensures.empty c.finish.ensures.same (c.in_ok-ending.ensures.came other)
 
 pub returns-in_err-ending-clause-brief : goal.returns-in_err-ending-clause-brief
-returns-in_err-ending-clause-brief g c = λ options is brief bytes told.
+returns-in_err-ending-clause-brief g c = λ options is brief.
     let p = err_from_is_err_and c.from_residual.result c.from_residual.ensures.1 in
-    rw p.1 (brief_as _ (text_broken _ _ _ _ c.requires.empty) (c.in_err-ending.ensures.brief options is brief bytes told))
+    rw p.1 (brief_as _ (text_broken _ _ _ _ c.requires.empty) (c.in_err-ending.ensures.brief options is brief))
 
 pub returns-clause-brief : goal.returns-clause-brief
-returns-clause-brief g c = λ options is brief bytes told.
+returns-clause-brief g c = λ options is brief.
     brief_as _ (text_finished _ _ _ _ _ c.requires.empty c.finish.ensures.prints c.finish.ensures.empty c.finish.ensures.same)
-    (c.in_ok-ending.ensures.brief options is brief bytes told)
+    (c.in_ok-ending.ensures.brief options is brief)
 
 pub returns-clause-asked : goal.returns-clause-asked
 returns-clause-asked g c = words_finished _ _ _ c.finish.ensures.same c.in_ok-ending.ensures.asked

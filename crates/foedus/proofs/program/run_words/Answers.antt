@@ -14,11 +14,11 @@ pub run-requires-clause-one : goal.run-requires-clause-one
 run-requires-clause-one g c κs within = λ options is. c.requires.one options (sym c.in-Ok.ensures.command ∙ is)
 
 pub returns-in-Ok-clause-came : goal.returns-in-Ok-clause-came
-returns-in-Ok-clause-came g c = λ other bytes told.
-    command_as _ _ _ bytes _ _ _ _ c.in-Ok.ensures.command (c.run.ensures.came (subst IsInFull (sym c.in-Ok.ensures.command) other) bytes told)
+returns-in-Ok-clause-came g c = λ other.
+    command_as _ _ _ _ _ _ _ _ c.in-Ok.ensures.command (c.run.ensures.came (subst IsInFull (sym c.in-Ok.ensures.command) other))
 
 pub returns-in-Ok-clause-brief : goal.returns-in-Ok-clause-brief
-returns-in-Ok-clause-brief g c = λ options is brief bytes told. c.run.ensures.brief options (c.in-Ok.ensures.command ∙ is) brief bytes told
+returns-in-Ok-clause-brief g c = λ options is brief. c.run.ensures.brief options (c.in-Ok.ensures.command ∙ is) brief
 
 pub returns-in-Ok-clause-asked : goal.returns-in-Ok-clause-asked
 returns-in-Ok-clause-asked g c = words_done _ _ _ c.in-Ok.ensures.command (λ is. c.in-Ok.ensures.refused (cc is)) (λ options plain. cc (c.in-Ok.ensures.plain options plain))
@@ -29,10 +29,10 @@ returns-in-Ok-clause-asked g c = words_done _ _ _ c.in-Ok.ensures.command (λ is
     (λ asks. cc (c.in-Ok.ensures.help asks)) c.run.ensures.usage c.run.ensures.refused
 
 pub returns-in-Err-clause-came : goal.returns-in-Err-clause-came
-returns-in-Err-clause-came g c = λ other bytes told. memory_ran (vaults_of g.D.Disk.tells g.D.Disk.clock g.D.Disk.image_at g.D.Disk.faults c.args.vault.now c.args.vault.now) c.requires.whole g.met.D.Disk.reads _ bytes _ _ other refl
+returns-in-Err-clause-came g c = λ other. memory_ran (vaults_of g.D.Disk.tells g.D.Disk.clock g.D.Disk.image_at g.D.Disk.faults c.args.vault.now c.args.vault.now) c.requires.whole g.met.D.Disk.reads _ _ _ _ other refl
 
 pub returns-in-Err-clause-brief : goal.returns-in-Err-clause-brief
-returns-in-Err-clause-brief g c = λ options is brief bytes told. memory_in_brief (vaults_of g.D.Disk.tells g.D.Disk.clock g.D.Disk.image_at g.D.Disk.faults c.args.vault.now c.args.vault.now) c.requires.whole g.met.D.Disk.reads options bytes _ refl (refl, adds_nothing _)
+returns-in-Err-clause-brief g c = λ options is brief. memory_in_brief (vaults_of g.D.Disk.tells g.D.Disk.clock g.D.Disk.image_at g.D.Disk.faults c.args.vault.now c.args.vault.now) c.requires.whole g.met.D.Disk.reads options _ _ refl (refl, adds_nothing _)
 
 pub returns-in-Err-clause-asked : goal.returns-in-Err-clause-asked
 returns-in-Err-clause-asked g c = words_at_8 _

@@ -9,13 +9,13 @@ use Rattle.foedus.proofs.Listed.{all_over, listing_over, text_shown}
 use Rattle.foedus.proofs.program.top.Goals as goal
 
 pub returns-clause-answer : goal.returns-clause-answer
-returns-clause-answer g c = λ other bytes told.
-    answers_over _ _ _ _ _ c.new-printer.result c.call-outcome.new.printer c.status_told.ensures (ap (λ (p : Output). p.held) c.new-printer.ensures) (search rules) (c.call-outcome.ensures.came other bytes told)
+returns-clause-answer g c = λ other.
+    answers_over _ _ _ _ _ c.new-printer.result c.call-outcome.new.printer c.status_told.ensures (ap (λ (p : Output). p.held) c.new-printer.ensures) (search rules) (c.call-outcome.ensures.came other)
 
 pub returns-clause-brief : goal.returns-clause-brief
-returns-clause-brief g c = λ options is brief bytes told.
+returns-clause-brief g c = λ options is brief.
     brief_as _ (text_shown _ _ _ _ c.new-printer.result c.call-outcome.new.printer c.status_told.ensures (ap (λ (p : Output). p.held) c.new-printer.ensures) (search rules))
-    (c.call-outcome.ensures.brief options is brief bytes told)
+    (c.call-outcome.ensures.brief options is brief)
 
 pub returns-clause-damage : goal.returns-clause-damage
 returns-clause-damage g c = rw c.status_told.ensures c.call-outcome.ensures.damage

@@ -17,14 +17,14 @@ pub run_script-requires-clause-one : goal.run_script-requires-clause-one
 run_script-requires-clause-one g c κs within = c.requires.one c.in-Run.options c.in-Run.is
 
 pub returns-in-Ok-clause-came : goal.returns-in-Ok-clause-came
-returns-in-Ok-clause-came g c = λ full bytes told. rw c.in-Run.is (script_came _ c.in-Run.options bytes _ c.in-Ok.script (c.in-Ok.ensures.read bytes told)
+returns-in-Ok-clause-came g c = λ full. rw c.in-Run.is (script_came _ c.in-Run.options _ _ c.in-Ok.script c.in-Ok.ensures.read
     (c.run_script.ensures.full (rw c.in-Run.is at full)))
 
 pub returns-in-Ok-clause-brief : goal.returns-in-Ok-clause-brief
-returns-in-Ok-clause-brief g c = λ options is brief bytes told.
+returns-in-Ok-clause-brief g c = λ options is brief.
     let same : c.in-Run.options ≡ options = cc in
-    brief_of _ c.in-Run.options options bytes _ same
-    (script_in_brief _ c.in-Run.options bytes _ c.in-Ok.script (c.in-Ok.ensures.read bytes told) (c.run_script.ensures.brief (ap (λ (o : RunOptions). o.brief) same ∙ brief)))
+    brief_of _ c.in-Run.options options _ _ same
+    (script_in_brief _ c.in-Run.options _ _ c.in-Ok.script c.in-Ok.ensures.read (c.run_script.ensures.brief (ap (λ (o : RunOptions). o.brief) same ∙ brief)))
 
 pub returns-in-Ok-clause-usage : goal.returns-in-Ok-clause-usage
 returns-in-Ok-clause-usage g c = λ usage. absurd (c.run_script.ensures.usage usage)
@@ -38,12 +38,12 @@ returns-in-Ok-clause-statuses g c = rw c.in-Run.is c.run_script.ensures.statuses
 -- ---- none was read
 
 pub returns-in-Err-clause-came : goal.returns-in-Err-clause-came
-returns-in-Err-clause-came g c = λ other bytes told.
-    rw c.in-Run.is (unread_came (vaults_of g.D.Disk.tells g.D.Disk.clock g.D.Disk.image_at g.D.Disk.faults c.args.vault.now c.args.vault.now) c.requires.whole g.met.D.Disk.reads c.in-Run.options bytes _ c.in-Err.ending (c.in-Err.ensures.read bytes told) refl (refl, adds_nothing _))
+returns-in-Err-clause-came g c = λ other.
+    rw c.in-Run.is (unread_came (vaults_of g.D.Disk.tells g.D.Disk.clock g.D.Disk.image_at g.D.Disk.faults c.args.vault.now c.args.vault.now) c.requires.whole g.met.D.Disk.reads c.in-Run.options _ _ c.in-Err.ending c.in-Err.ensures.read refl (refl, adds_nothing _))
 
 pub returns-in-Err-clause-brief : goal.returns-in-Err-clause-brief
-returns-in-Err-clause-brief g c = λ options is brief bytes told.
-    unread_in_brief (vaults_of g.D.Disk.tells g.D.Disk.clock g.D.Disk.image_at g.D.Disk.faults c.args.vault.now c.args.vault.now) c.requires.whole g.met.D.Disk.reads options bytes _ c.in-Err.ending (c.in-Err.ensures.read bytes told) refl (refl, adds_nothing _)
+returns-in-Err-clause-brief g c = λ options is brief.
+    unread_in_brief (vaults_of g.D.Disk.tells g.D.Disk.clock g.D.Disk.image_at g.D.Disk.faults c.args.vault.now c.args.vault.now) c.requires.whole g.met.D.Disk.reads options _ _ c.in-Err.ending c.in-Err.ensures.read refl (refl, adds_nothing _)
 
 pub returns-in-Err-clause-faults : goal.returns-in-Err-clause-faults
 returns-in-Err-clause-faults g c = faults_unread _ _ c.in-Err.ending c.in-Err.ensures.cause refl
@@ -63,7 +63,7 @@ returns-in-Err-clause-rests g c = record { again = λ not_4 not_5 one. one }
 -- ---- the words were refused
 
 pub returns-in-Refused-clause-came : goal.returns-in-Refused-clause-came
-returns-in-Refused-clause-came g c = λ other bytes told. rw c.in-Refused.is (usage_came (vaults_of g.D.Disk.tells g.D.Disk.clock g.D.Disk.image_at g.D.Disk.faults c.args.vault.now c.args.vault.now) c.requires.whole g.met.D.Disk.reads bytes _ refl (refl, adds_nothing _))
+returns-in-Refused-clause-came g c = λ other. rw c.in-Refused.is (usage_came (vaults_of g.D.Disk.tells g.D.Disk.clock g.D.Disk.image_at g.D.Disk.faults c.args.vault.now c.args.vault.now) c.requires.whole g.met.D.Disk.reads _ _ refl (refl, adds_nothing _))
 
 pub returns-in-Refused-clause-devices : goal.returns-in-Refused-clause-devices
 returns-in-Refused-clause-devices g c = no_device_told _ _ _ 2 (λ five. omega arith) (λ zero. omega arith)
@@ -155,7 +155,7 @@ returns-in-Snap-clause-came g c = λ full. absurd (rw c.in-Snap.is at full)
 -- ---- a script was made
 
 pub returns-in-Make-clause-came : goal.returns-in-Make-clause-came
-returns-in-Make-clause-came g c = λ other bytes told. rw c.in-Make.is (made_came (vaults_of g.D.Disk.tells g.D.Disk.clock g.D.Disk.image_at g.D.Disk.faults c.args.vault.now c.args.vault.now) c.requires.whole g.met.D.Disk.reads c.in-Make.arguments bytes _ refl c.make.ensures)
+returns-in-Make-clause-came g c = λ other. rw c.in-Make.is (made_came (vaults_of g.D.Disk.tells g.D.Disk.clock g.D.Disk.image_at g.D.Disk.faults c.args.vault.now c.args.vault.now) c.requires.whole g.met.D.Disk.reads c.in-Make.arguments _ _ refl c.make.ensures)
 
 pub returns-in-Make-clause-usage : goal.returns-in-Make-clause-usage
 returns-in-Make-clause-usage g c = λ usage. absurd (usage_not_made c.in-Make.arguments _ _ _ c.make.ensures usage)

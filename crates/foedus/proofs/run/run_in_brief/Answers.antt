@@ -40,7 +40,7 @@ pub returns-clause-damage : goal.returns-clause-damage
 returns-clause-damage g c = brief_damage _ _ _ _ _ _ _ _ _ c.run_rounds.new.teller.tally c.args.printer.now c.run_rounds.new.printer _ c.in_ok-ending.ending _
     (told_as _ _ _ c.new-teller.result.brief true c.run_rounds.new.teller.tally c.args.printer.now c.run_rounds.new.printer (Ok c.in_ok-ending.ending) (ap (λ (t : Teller). t.brief) c.new-teller.ensures)
     c.in_ok-ending.ensures.runs)
-    c.end_in_brief.ensures.reads (c.end_in_brief.ensures.ends _) c.in_ok-ending.ensures.reads
+    c.end_in_brief.ensures.reads (c.end_in_brief.ensures.ends _) c.in_ok-ending.ensures.damage
 
 pub returns-clause-reads : goal.returns-clause-reads
 returns-clause-reads g c = brief_reads _ _ _ _ _ _ _ _ _ c.run_rounds.new.teller.tally c.args.printer.now c.run_rounds.new.printer _ c.in_ok-ending.ending _

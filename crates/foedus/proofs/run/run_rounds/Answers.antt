@@ -1,10 +1,12 @@
 -- Rounds are run until one ends the run.
-use Rattle.std.proofs.Common.{◌≡◌, ◌∙◌, sym, subst, List, length, refl, arith}
+use Rattle.std.proofs.Common.{◌≡◌, ◌∙◌, inl, inr, sym, subst, List, length, refl, arith}
 use Rattle.std.proofs.lemmas.Result.{err_from_is_err_and}
 use Rattle.tx_script.specs.Run.{Ran, can_run}
 use Rattle.foedus.specs.Telling.{HasTold}
 use Rattle.foedus.proofs.SameRun.{can_run_same}
-use Rattle.foedus.proofs.SoFar.{all_run, at_memory, broke, drew_once, goes_on, none_so_far, not_begun, one_more, rests_after, rests_all, rests_stopped, stopped}
+use Rattle.foedus.proofs.OneRound.{drew_once}
+use Rattle.foedus.proofs.RunEnds.{all_run, at_memory, broke, not_begun, rests_after, rests_all, rests_stopped, stopped}
+use Rattle.foedus.proofs.SoFar.{goes_on, none_so_far, one_more}
 use Rattle.foedus.proofs.Telling.{fits_in, none_ran, none_told, of_round, told_broken, told_more, told_text}
 use Rattle.foedus.proofs.run.run_rounds.Goals as goal
 
@@ -18,7 +20,10 @@ pub returns-in-Err-clause-whole : goal.returns-in-Err-clause-whole
 returns-in-Err-clause-whole g c = λ ran. absurd (none_ran _ c.requires.fresh ran)
 
 pub returns-in-Err-clause-reads : goal.returns-in-Err-clause-reads
-returns-in-Err-clause-reads g c = c.in-Err.ensures.ends.reads
+returns-in-Err-clause-reads g c = λ only. c.in-Err.ensures.ends.reads (inl only)
+
+pub returns-in-Err-clause-damage : goal.returns-in-Err-clause-damage
+returns-in-Err-clause-damage g c = λ six found now told told_now. c.in-Err.ensures.ends.reads (inr six)
 
 pub returns-in-Err-clause-rests : goal.returns-in-Err-clause-rests
 returns-in-Err-clause-rests g c = c.in-Err.ensures.ends.rests
@@ -105,6 +110,10 @@ returns-in-Some-clause-rests g c = rw c.ending_of.ensures
 pub returns-in-Some-clause-reads : goal.returns-in-Some-clause-reads
 returns-in-Some-clause-reads g c = rw c.ending_of.ensures (λ reads. absurd ((rests_after _ _ _ _ _ _ _ g.met.D.Disk.reads _ _ _ _ _ _ _ c.in-Some.end
     c.loop-index.invariant.0 c.round-lines.ensures c.in-Ok-round.ensures.rounds.0 c.in-Ok-round.ensures.rounds.1 c.in-Ok-round.ensures.rounds.2 (drew_once _ _ _ _ c.in-Ok-round.ensures.rounds.0 c.in-Ok-round.ensures.draws_few.once) c.in-Some.is).1 reads))
+
+pub returns-in-Some-clause-damage : goal.returns-in-Some-clause-damage
+returns-in-Some-clause-damage g c = rw c.ending_of.ensures (rests_after _ _ _ _ _ _ _ g.met.D.Disk.reads _ _ _ _ _ _ _ c.in-Some.end
+    c.loop-index.invariant.0 c.round-lines.ensures c.in-Ok-round.ensures.rounds.0 c.in-Ok-round.ensures.rounds.1 c.in-Ok-round.ensures.rounds.2 (drew_once _ _ _ _ c.in-Ok-round.ensures.rounds.0 c.in-Ok-round.ensures.draws_few.once) c.in-Some.is).2
 
 -- ---- a round more
 

@@ -1,5 +1,5 @@
 -- The run was told in brief or in full.
-use Rattle.std.proofs.Common.{inr, refl}
+use Rattle.std.proofs.Common.{refl}
 use Rattle.foedus.proofs.Briefs.{faults_brief, same_brief, status_brief, usage_not_brief}
 use Rattle.foedus.proofs.Statuses.{devices_ran, faults_ran, ran_most, same_ran, usage_not_ran}
 use Rattle.foedus.proofs.run.run_script.Goals as goal
@@ -11,7 +11,7 @@ pub returns-then-options-clause-faults : goal.returns-then-options-clause-faults
 returns-then-options-clause-faults g c = λ source. faults_brief _ _ _ _ _ _ _ c.run_in_brief.ensures.runs refl
 
 pub returns-then-options-clause-reads : goal.returns-then-options-clause-reads
-returns-then-options-clause-reads g c = λ reads. c.run_in_brief.ensures.reads reads.0 (reads.1 c.if-options.true)
+returns-then-options-clause-reads g c = c.run_in_brief.ensures.reads
 
 pub returns-then-options-clause-same : goal.returns-then-options-clause-same
 returns-then-options-clause-same g c = same_brief _ _ _ _ _ _ c.run_in_brief.ensures.runs
@@ -23,7 +23,7 @@ pub returns-clause-faults : goal.returns-clause-faults
 returns-clause-faults g c = λ source. faults_ran _ _ _ _ _ _ c.args.options _ c.run_in_full.ensures.runs refl
 
 pub returns-clause-reads : goal.returns-clause-reads
-returns-clause-reads g c = λ reads. c.run_in_full.ensures.reads reads.0
+returns-clause-reads g c = c.run_in_full.ensures.reads
 
 pub returns-clause-devices : goal.returns-clause-devices
 returns-clause-devices g c = devices_ran _ _ _ _ _ c.args.options _ c.run_in_full.ensures.runs
@@ -38,4 +38,4 @@ pub returns-clause-statuses : goal.returns-clause-statuses
 returns-clause-statuses g c = ran_most _ _ _ _ _ c.args.options _ c.run_in_full.ensures.runs
 
 pub returns-clause-damage : goal.returns-clause-damage
-returns-clause-damage g c = λ six found now told told_now. c.run_in_full.ensures.reads (inr six)
+returns-clause-damage g c = c.run_in_full.ensures.damage

@@ -1,0 +1,292 @@
+// Runs that make snapshots, and what is told of them afterwards.
+use super::failing_devices::{BANKS, failing_vault, part};
+use super::kept_runs::check_rows;
+use super::*;
+
+// The words after the name, the script, the status and the text, with bars for newlines; one call after another. The
+// pages of a snapshot are what is new of its storages, each page's children before it, and its catalogue.
+const A_SNAPSHOT: &str = "\
+run # array 1 4|0 w 1 2 7|join|k glean|join # 0 # 0.0 ok 1:1|durable 1|k.0 snap 1 new 2|durable 2|
+dump # # 0 # epoch 2|1 2 7|
+snaps # # 0 # snap 0 at 1|snap 1 at 3|
+snap 0 # # 0 # epoch 0|
+snap 1 # # 0 # epoch 1|1 2 7|
+snap 2 # # 9 # no snapshot 2|
+run --snap 3 # array 1 4|0 r 1 2; a 1 2 1|k glean| # 0 # 0.0 ok 3:1 7|k.0 none|durable 3|
+snaps # # 0 # snap 0 at 1|snap 1 at 3|
+run --snap 4 # array 1 4| # 7 # limit snap|
+run --snap 5 # array 1 4|0 r 1 2|join|k glean| # 0 # 0.0 ok 4:1 8|durable 4|k.0 none|durable 5|
+snaps # # 0 # snap 0 at 1|snap 1 at 3|snap 3 at 5|
+snap 3 # # 0 # epoch 3|1 2 8|
+";
+
+// A second one within a round finds nothing, nor does one of what was committed in its own round.
+const AGAIN: &str = "\
+run # array 1 4|0 w 1 0 1|k glean|join|k glean|k glean| # 0 # 0.0 ok 1:1|k.0 none|durable 1|k.0 snap 1 new 2|\
+k.1 none|durable 2|
+run # array 1 4|k glean # 0 # k.0 none|durable 3|
+run # array 1 4|0 t 1 0 5; w 1 1 1|1 r 1 0|join|k glean # 0 # 0.0 short 4:1|1.0 ok 4:2 1|durable 4|k.0 none|durable 5|
+run # array 1 4|0 w 1 0 0|k epoch|join|k epoch|k glean|k save # 0 # 0.0 ok 6:1|k.0 epoch 7|durable 7|k.0 epoch 9|\
+k.1 snap 7 new 2|k.2 save 8|durable 9|
+snap 7 # # 0 # epoch 7|
+snap 1 # # 0 # epoch 1|1 0 1|
+";
+
+// An array of three levels: a leaf, the page above it, the root and the catalogue.
+const A_HIGH_ARRAY: &str = "\
+run # array 1 2049|0 w 1 2048 1|join|k glean # 0 # 0.0 ok 1:1|durable 1|k.0 snap 1 new 4|durable 2|
+snap 1 # # 0 # epoch 1|1 2048 1|
+";
+
+// What can't be a snapshot for want of pages stays in the log files, which go on, and is one where there are enough.
+const NO_ROOM: &str = "\
+run --snap 1 # array 1 4|0 w 1 0 1|join|k glean # 0 # 0.0 ok 1:1|durable 1|k.0 snap-full|durable 2|
+run --snap 1 # array 1 4| # 7 # limit snap|
+run --snap 3 # array 1 4| # 0 # durable 3|
+snaps # # 0 # snap 0 at 1|snap 2 at 3|
+run --snap 5 # array 1 4|0 w 1 0 2|join|k glean|0 w 1 1 2|join|k glean|0 w 1 2 3|join|k glean|k glean # 0 # \
+0.0 ok 4:1|durable 4|0.0 ok 5:2|k.0 snap 4 new 2|durable 5|0.0 ok 6:3|k.0 snap-full|durable 6|k.0 snap-full|\
+k.1 snap-full|durable 7|
+dump # # 0 # epoch 7|1 0 2|1 1 2|1 2 3|
+snap 4 # # 0 # epoch 4|1 0 2|
+run --snap 6 # array 1 4| # 7 # limit snap|
+run --snap 7 # array 1 4|k glean|1 r 1 2 # 0 # 1.0 ok 8:1 3|k.0 none|durable 8|
+snaps # # 0 # snap 0 at 1|snap 2 at 3|snap 4 at 5|snap 7 at 7|
+";
+
+// Seventeen keys are two leaves, of which the second begins at 10. It alone is new for a greater key.
+const A_TREE: &str = "\
+run # tree 2|0 w 2 1 1|0 w 2 2 2|0 w 2 3 3|0 w 2 4 4|0 w 2 5 5|0 w 2 6 6|0 w 2 7 7|0 w 2 8 8|0 w 2 9 9|0 w 2 10 10|\
+0 w 2 11 11|0 w 2 12 12|0 w 2 13 13|0 w 2 14 14|0 w 2 15 15|0 w 2 16 16|0 w 2 17 17|join|k glean|join|0 w 2 20 20|\
+join|k glean # 0 # 0.0 ok 1:1|0.1 ok 1:2|0.2 ok 1:3|0.3 ok 1:4|0.4 ok 1:5|0.5 ok 1:6|0.6 ok 1:7|0.7 ok 1:8|\
+0.8 ok 1:9|0.9 ok 1:10|0.10 ok 1:11|0.11 ok 1:12|0.12 ok 1:13|0.13 ok 1:14|0.14 ok 1:15|0.15 ok 1:16|0.16 ok 1:17|\
+durable 1|k.0 snap 1 new 4|durable 2|0.0 ok 3:18|durable 3|k.0 snap 3 new 3|durable 4|
+snaps # # 0 # snap 0 at 1|snap 1 at 5|snap 3 at 8|
+snap 1 # # 0 # epoch 1|2 1 1|2 2 2|2 3 3|2 4 4|2 5 5|2 6 6|2 7 7|2 8 8|2 9 9|2 10 10|2 11 11|2 12 12|2 13 13|2 14 14|\
+2 15 15|2 16 16|2 17 17|
+run # tree 2|0 s 2 9 11; s 2 17 20; s 2 2 17; d 2 9; d 2 99 # 0 # 0.0 ok 5:1 9=9,10=10,11=11 17=17,20=20 2=2,3=3,4=4,\
+5=5,6=6,7=7,8=8,9=9,10=10,11=11,12=12,13=13,14=14,15=15,16=16,17=17|durable 5|
+run # tree 2|0 s 2 8 10; w 2 9 1; d 2 9|join|k glean # 0 # 0.0 ok 6:1 8=8,10=10|durable 6|k.0 snap 6 new 3|durable 7|
+snaps # # 0 # snap 0 at 1|snap 1 at 5|snap 3 at 8|snap 5 at 11|snap 6 at 14|
+";
+
+// Two trees and an array with the same keys over four calls, with a snapshot of each but the last.
+const TREES_AND_AN_ARRAY: &str = "\
+run # tree 2|array 1 4|tree 3|0 w 1 1 1; w 2 1 2; w 3 1 3|1 w 2 18446744073709551615 4; w 2 0 5|join|k glean # 0 # \
+0.0 ok 1:1|1.0 ok 1:2|durable 1|k.0 snap 1 new 4|durable 2|
+dump # # 0 # epoch 2|1 1 1|2 0 5|2 1 2|2 18446744073709551615 4|3 1 3|
+snap 1 # # 0 # epoch 1|1 1 1|2 0 5|2 1 2|2 18446744073709551615 4|3 1 3|
+run # tree 2|array 1 4|tree 3|0 d 2 1; d 3 1|1 r 1 1; r 2 1; r 3 1|join|k glean # 0 # 0.0 ok 3:1|1.0 ok 3:2 1 - -|\
+durable 3|k.0 snap 3 new 3|durable 4|
+dump # # 0 # epoch 4|1 1 1|2 0 5|2 18446744073709551615 4|
+snap 3 # # 0 # epoch 3|1 1 1|2 0 5|2 18446744073709551615 4|
+run # tree 2|array 1 4|tree 3|0 w 1 1 0; w 2 1 0; s 2 0 18446744073709551615 # 0 # 0.0 ok 5:1 0=5,1=0,\
+18446744073709551615=4|durable 5|
+dump # # 0 # epoch 5|2 0 5|2 1 0|2 18446744073709551615 4|
+snap 3 # # 0 # epoch 3|1 1 1|2 0 5|2 18446744073709551615 4|
+run # tree 2|array 1 4|tree 3| # 0 # durable 6|
+dump # # 0 # epoch 6|2 0 5|2 1 0|2 18446744073709551615 4|
+snap 5 # # 0 # epoch 5|2 0 5|2 1 0|2 18446744073709551615 4|
+snap 1 # # 0 # epoch 1|1 1 1|2 0 5|2 1 2|2 18446744073709551615 4|3 1 3|
+";
+
+#[test]
+fn snapshots_within_a_run(rt: HostRuntime) -> Result<(), Fail> {
+    for rows in [
+        A_SNAPSHOT,
+        AGAIN,
+        A_HIGH_ARRAY,
+        NO_ROOM,
+        A_TREE,
+        TREES_AND_AN_ARRAY,
+    ] {
+        let mut vault = fresh_vault(rt.alloc())?;
+        check_rows(&rt, &mut vault, rows)?;
+    }
+    Ok(())
+}
+
+// Arrays of all heights and a tree. Each round changes each of them at other keys, and each third one makes a snapshot.
+fn rounds(alloc: Global, count: u64) -> Result<String, AllocError> {
+    let mut script = String::from_str(alloc, "array 1 4\narray 2 160\narray 3 131072\ntree 4\n")?;
+    for round in 1..=count {
+        let line = format!(in alloc;
+            "{} w 1 {} {round}; a 2 {} 1; w 3 {} {round}; w 4 {} {round}; d 4 {}\n{}join\n",
+            round % 3,
+            round % 4,
+            round.wrapping_mul(40) % 160,
+            round.wrapping_mul(13_000) % 131_072,
+            round.wrapping_mul(7) % 5,
+            round % 3,
+            if round % 3 == 0 { "k glean\n" } else { "" }
+        )?;
+        script.push_str(line.as_str())?;
+    }
+    Ok(script)
+}
+
+// A snapshot has what a database keeps whose run was cut off at its epoch.
+#[test]
+fn a_snapshot_is_the_run_cut_off(rt: HostRuntime) -> Result<(), Fail> {
+    let alloc = rt.alloc();
+    let mut vault = fresh_vault(alloc)?;
+    let script = rounds(alloc, 10)?;
+    let (status, _text) = answer_anew(&rt, &mut vault, "run", script.as_bytes())?;
+    assert_eq!(rt; status, 0);
+    let (_status, told) = answer_anew(&rt, &mut vault, "snaps", b"")?;
+    let told = String::from_str(alloc, str::from_utf8(&told).unwrap_or(""))?;
+    for (epoch, asked) in [(1, "snap 1"), (3, "snap 3"), (6, "snap 6")] {
+        let start = format!(in alloc; "{asked} at ")?;
+        assert!(rt;
+            told.lines().any(|line| line.starts_with(start.as_str())),
+            "{told}"
+        );
+        let mut cut = fresh_vault(alloc)?;
+        let script = rounds(alloc, epoch)?;
+        let (_status, _text) = answer_anew(&rt, &mut cut, "run", script.as_bytes())?;
+        let (_status, kept) = answer_anew(&rt, &mut cut, "dump", b"")?;
+        let (status, had) = answer_anew(&rt, &mut vault, asked, b"")?;
+        assert_eq!(rt; status, 0);
+        assert_eq!(rt; had.as_slice(), kept.as_slice(), "{epoch}");
+    }
+    assert_eq!(rt; told.lines().count(), 4, "{told}");
+    Ok(())
+}
+
+const SCRIPT: &[u8] = b"array 1 4\n0 w 1 2 7\njoin\nk glean\njoin\n";
+
+// The device, and the first and the last of its calls at whose failure the run ends so: its status and its text, and
+// what a dump and a list of the snapshots tell then. The last rows of each device are of the first call that the run
+// doesn't make.
+//
+// The joins store savepoints by the calls 9 to 14 and 15 to 21 of the save. A glean asks each closed log file for its
+// length, and reads what counts; pages are written and synced by two calls. Each swap empties what was closed.
+const FAILING: &str = "\
+save # 0 # 7 # 5 # device save| # epoch 0| #
+save # 8 # 8 # 5 # device save| # epoch 0| # snap 0 at 1|
+save # 9 # 13 # 5 # 0.0 ok 1:1|device save| # epoch 0| # snap 0 at 1|
+save # 14 # 14 # 5 # 0.0 ok 1:1|device save| # epoch 1|1 2 7| # snap 0 at 1|
+save # 15 # 20 # 5 # 0.0 ok 1:1|durable 1|k.0 snap 1 new 2|device save| # epoch 1|1 2 7| # snap 0 at 1|
+save # 21 # 21 # 5 # 0.0 ok 1:1|durable 1|k.0 snap 1 new 2|device save| # epoch 2|1 2 7| # snap 0 at 1|snap 1 at 3|
+save # 22 # 22 # 0 # 0.0 ok 1:1|durable 1|k.0 snap 1 new 2|durable 2| # epoch 2|1 2 7| # snap 0 at 1|snap 1 at 3|
+snaps # 0 # 2 # 5 # device snaps| # epoch 0| #
+snaps # 3 # 4 # 5 # 0.0 ok 1:1|durable 1|k.0 device|device snaps| # epoch 1|1 2 7| # snap 0 at 1|
+snaps # 5 # 5 # 0 # 0.0 ok 1:1|durable 1|k.0 snap 1 new 2|durable 2| # epoch 2|1 2 7| # snap 0 at 1|snap 1 at 3|
+bank0 # 0 # 0 # 5 # device bank0| # epoch 0| # snap 0 at 1|
+bank0 # 1 # 2 # 5 # 0.0 ok 1:1|device bank0| # epoch 0| # snap 0 at 1|
+bank0 # 3 # 4 # 5 # 0.0 ok 1:1|durable 1|k.0 device|device bank0| # epoch 1|1 2 7| # snap 0 at 1|
+bank0 # 5 # 5 # 5 # 0.0 ok 1:1|durable 1|k.0 snap 1 new 2|durable 2|device bank0| # epoch 2|1 2 7| # snap 0 at 1|\
+snap 1 at 3|
+bank0 # 6 # 6 # 0 # 0.0 ok 1:1|durable 1|k.0 snap 1 new 2|durable 2| # epoch 2|1 2 7| # snap 0 at 1|snap 1 at 3|
+bank1 # 0 # 0 # 5 # device bank1| # epoch 0| # snap 0 at 1|
+bank1 # 1 # 1 # 5 # 0.0 ok 1:1|durable 1|device bank1| # epoch 1|1 2 7| # snap 0 at 1|
+bank1 # 2 # 2 # 0 # 0.0 ok 1:1|durable 1|k.0 snap 1 new 2|durable 2| # epoch 2|1 2 7| # snap 0 at 1|snap 1 at 3|
+";
+
+// Makes the run with each failure of a row, and compares what is told.
+fn check_failures<R: Threads + Wait + Sync + AllocGlobal + Abort>(
+    rt: &R,
+    fresh: &Vault<MemDisk>,
+    row: &str,
+) -> Result<(), Fail> {
+    let alloc = rt.alloc();
+    let [device, first, last, status] = parts(row);
+    let text = lines(alloc, part(row, 4))?;
+    let dump = lines(alloc, part(row, 5))?;
+    let snaps = lines(alloc, part(row, 6))?;
+    for call in first.parse::<u64>()?..=last.parse::<u64>()? {
+        let mut vault = failing_vault(alloc, fresh, device, call)?;
+        let (got, told) = answer(rt, &mut vault, "run", SCRIPT)?;
+        assert_eq!(rt; got, status.parse::<u8>()?, "{device} {call}");
+        assert_eq!(rt; told.as_slice(), text.as_slice(), "{device} {call}");
+        let (_status, told) = answer_anew(rt, &mut vault, "dump", b"")?;
+        assert_eq!(rt; told.as_slice(), dump.as_slice(), "{device} {call}");
+        let (_status, told) = answer_anew(rt, &mut vault, "snaps", b"")?;
+        assert_eq!(rt; told.as_slice(), snaps.as_slice(), "{device} {call}");
+    }
+    Ok(())
+}
+
+// The same of another worker's files, in which nothing is logged: a glean asks the first one for its length, and the
+// swaps empty the second one and then the first.
+fn check_files<R: Threads + Wait + Sync + AllocGlobal + Abort>(
+    rt: &R,
+    fresh: &Vault<MemDisk>,
+    first: &str,
+    second: &str,
+) -> Result<(), Fail> {
+    let rows = format!(in rt.alloc();
+        "\
+{second} # 1 # 1 # 5 # 0.0 ok 1:1|durable 1|device {second}| # epoch 1|1 2 7| # snap 0 at 1|
+{second} # 2 # 2 # 0 # 0.0 ok 1:1|durable 1|k.0 snap 1 new 2|durable 2| # epoch 2|1 2 7| # snap 0 at 1|snap 1 at 3|
+{first} # 1 # 1 # 5 # 0.0 ok 1:1|durable 1|k.0 device|device {first}| # epoch 1|1 2 7| # snap 0 at 1|
+{first} # 2 # 2 # 5 # 0.0 ok 1:1|durable 1|k.0 snap 1 new 2|durable 2|device {first}| # epoch 2|1 2 7| # \
+snap 0 at 1|snap 1 at 3|
+{first} # 3 # 3 # 0 # 0.0 ok 1:1|durable 1|k.0 snap 1 new 2|durable 2| # epoch 2|1 2 7| # snap 0 at 1|snap 1 at 3|
+"
+    )?;
+    for row in rows.lines() {
+        check_failures(rt, fresh, row)?;
+    }
+    Ok(())
+}
+
+#[test]
+fn each_call_of_a_glean_may_fail(rt: HostRuntime) -> Result<(), Fail> {
+    let fresh = fresh_vault(rt.alloc())?;
+    for row in FAILING.lines() {
+        check_failures(&rt, &fresh, row)?;
+    }
+    for worker in 1..8 {
+        check_files(&rt, &fresh, BANKS[2 * worker], BANKS[2 * worker + 1])?;
+    }
+    Ok(())
+}
+
+// A script of so many rounds over a tree, and its text. Each puts nine keys behind the eight in the last leaf, which is
+// cut: the snapshot of so many levels has the pages above that leaf once more, three in its place, and its catalogue.
+fn deepening(alloc: Global, rounds: u64) -> Result<(String, String), AllocError> {
+    let first =
+        "tree 2\n0 w 2 1 1; w 2 2 1; w 2 3 1; w 2 4 1; w 2 5 1; w 2 6 1; w 2 7 1; w 2 8 1\n";
+    let mut script = String::from_str(alloc, first)?;
+    let mut text = String::from_str(alloc, "0.0 ok 1:1\ndurable 1\n")?;
+    for round in 2..=rounds {
+        let lines = format!(in alloc;
+            "\
+join
+0 w 2 {round}1 1; w 2 {round}2 1; w 2 {round}3 1; w 2 {round}4 1; w 2 {round}5 1; w 2 {round}6 1; w 2 {round}7 1; \
+w 2 {round}8 1; w 2 {round}9 1
+k glean
+"
+        )?;
+        script.push_str(lines.as_str())?;
+        let (epoch, new) = (
+            round.wrapping_sub(1),
+            if round == 2 { 2 } else { round.wrapping_add(1) },
+        );
+        let told = format!(in alloc;
+            "0.0 ok {round}:{round}\nk.0 snap {epoch} new {new}\ndurable {round}\n"
+        )?;
+        text.push_str(told.as_str())?;
+    }
+    Ok((script, text))
+}
+
+// A page below 32 others can't be made. That is told before the want of pages, both within a run and as one begins.
+const TOO_DEEP: &str = "\
+run --snap 592 # tree 2|k glean # 7 # limit height|
+snap 33 # # 9 # no snapshot 33|
+";
+
+#[test]
+fn a_tree_has_no_more_than_32_levels(rt: HostRuntime) -> Result<(), Fail> {
+    let alloc = rt.alloc();
+    let (mut script, mut text) = deepening(alloc, 33)?;
+    script.push_str("join\nk glean\njoin\n0 r 2 339\nk glean\n")?;
+    text.push_str("k.0 deep\ndurable 34\n0.0 ok 35:34 1\nk.0 deep\ndurable 35\n")?;
+    let mut vault = fresh_vault(alloc)?;
+    let (status, told) = answer_anew(&rt, &mut vault, "run --snap 592", script.as_bytes())?;
+    assert_eq!(rt; told.as_slice(), text.as_bytes());
+    assert_eq!(rt; status, 0);
+    check_rows(&rt, &mut vault, TOO_DEEP)
+}

@@ -11,7 +11,7 @@ use Rattle.homes.specs.Homes.{same_spot}
 use Rattle.homes.specs.Laws.{same_spot-true}
 use Rattle.commit_core.specs.declared.place.Place.{Place}
 use Rattle.commit_core.specs.declared.part.Word.{Word}
-use Rattle.commit_core.specs.declared.part.Word.TheVariants.{Record, Pointer}
+use Rattle.commit_core.specs.declared.part.Word.TheVariants.{Record, Pointer, Header}
 use Rattle.commit_core.specs.declared.part.Part.{Part}
 use Rattle.commit_core.specs.declared.seat.Seat.{Seat}
 use Rattle.commit_core.specs.declared.story.Story.{Story}
@@ -77,6 +77,7 @@ module _ (m : Story) (x : Spot) (c : Content) (free : is_nobodys m.homes (Some x
     ];
   }
   word_fits part (Pointer y) other fits = tt
+  word_fits part (Header s) other fits = tt
 
   pub seat_filled : (opening : List (Key × Content)) (p : ℕ) (s : Seat) → NoneKept x s.kept → IsSoundSeat opening m p s → IsSoundSeat opening (filled x c m) p s
   seat_filled opening p s none sound = record {

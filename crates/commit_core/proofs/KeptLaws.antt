@@ -9,7 +9,7 @@ use Rattle.homes.specs.declared.places.Home.{Home}
 use Rattle.homes.specs.declared.places.Spot.{Spot}
 use Rattle.commit_core.specs.declared.place.Place.{Place}
 use Rattle.commit_core.specs.declared.part.Word.{Word}
-use Rattle.commit_core.specs.declared.part.Word.TheVariants.{Record, Pointer}
+use Rattle.commit_core.specs.declared.part.Word.TheVariants.{Record, Pointer, Header}
 use Rattle.commit_core.specs.declared.part.Part.{Part}
 use Rattle.homes.specs.Homes.{in_span}
 use Rattle.commit_core.specs.Keys.{same_key, nothing}
@@ -56,6 +56,7 @@ fits_word : (places places' : List (Spot × Place)) (homes homes' : List (Key ×
     → FitsWord places homes part w → FitsWord places' homes' part w
 fits_word places places' homes homes' part (Record x) so fits = so x fits
 fits_word places places' homes homes' part (Pointer x) so fits = tt
+fits_word places places' homes homes' part (Header s) so fits = tt
 
 pub fits_so : (places places' : List (Spot × Place)) (homes homes' : List (Key × Home)) (kept : List Part) → ((part : Part) (x : Spot) → IsOfRecord places homes x part → IsOfRecord places' homes' x part)
     → KeptFits places homes kept → KeptFits places' homes' kept

@@ -1,14 +1,14 @@
 -- Words that were read, and what they vouch for.
-use Rattle.std.specs.Prelude.{◌≡◌, ◌⊎◌, ◌&&◌, Bool, true, false, not, List, [], ◌∷◌, ◌++◌, filter, None, is_some}
+use Rattle.std.specs.Prelude.{◌≡◌, ◌⊎◌, ◌==◌, ◌&&◌, Bool, true, false, not, List, [], ◌∷◌, ◌++◌, filter, None, is_some}
 use mathlib.Core.Bool.{beq}
 use Rattle.serial_model.specs.declared.key.Key.{Key}
 use Rattle.homes.specs.declared.places.Content.{Content}
 use Rattle.homes.specs.declared.places.Spot.{Spot}
 use Rattle.homes.specs.declared.places.Span.{Span}
 use Rattle.commit_core.specs.declared.part.Word.{Word}
-use Rattle.commit_core.specs.declared.part.Word.TheVariants.{Record, Pointer}
+use Rattle.commit_core.specs.declared.part.Word.TheVariants.{Record, Pointer, Header}
 use Rattle.commit_core.specs.declared.part.Version.{Version}
-use Rattle.commit_core.specs.declared.part.Version.TheVariants.{Numbered, Leads}
+use Rattle.commit_core.specs.declared.part.Version.TheVariants.{Numbered, Leads, Counted}
 use Rattle.commit_core.specs.declared.part.Part.{Part}
 use Rattle.homes.specs.Homes.{same_spot, same_at, in_span}
 use Rattle.commit_core.specs.Keys.{same_number, has_key, content_at}
@@ -19,13 +19,19 @@ use Rattle.commit_core.specs.Keys.{same_number, has_key, content_at}
 abbrev pub same_word : Word → Word → Bool
 same_word (Record x) (Record y) = same_spot x y
 same_word (Record x) (Pointer y) = false
+same_word (Record x) (Header t) = false
 same_word (Pointer x) (Record y) = false
 same_word (Pointer x) (Pointer y) = same_at x y
+same_word (Pointer x) (Header t) = false
+same_word (Header s) (Record y) = false
+same_word (Header s) (Pointer y) = false
+same_word (Header s) (Header t) = s == t
 
 -- it is a record's: of any other word this machine doesn't know what it is now
 abbrev pub is_record : Word → Bool
 is_record (Record x) = true
 is_record (Pointer x) = false
+is_record (Header s) = false
 
 -- what is compared of a record: its number, and whether it has a value
 abbrev pub version_of : Content → Version
@@ -35,6 +41,7 @@ version_of c = Numbered c.number (is_some c.value)
 abbrev pub is_version : Content → Version → Bool
 is_version c (Numbered n there) = same_number c.number n && beq (is_some c.value) there
 is_version c (Leads page) = false
+is_version c (Counted n) = false
 
 -- ---- what a part vouches for
 

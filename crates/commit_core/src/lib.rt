@@ -39,5 +39,5 @@ pub use machine::{Core, act};
 pub use moves::can_move;
 pub use part::{Part, Version, Word};
 pub use place::{Place, is_open_to};
-pub use seat::{Mark, Seat, Stage};
+pub use seat::{Mark, Seat, Stage, with_part};
 pub use story::{FirstDraw, Story};

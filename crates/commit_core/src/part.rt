@@ -21,6 +21,8 @@ pub enum Word {
     Record(Spot),
     /// Of a pointer.
     Pointer(At),
+    /// Of the page in this slot, a leaf to which keys may be added.
+    Header(u32),
 }
 
 /// What of a word is compared. The value is not, since a number determines it.
@@ -30,6 +32,8 @@ pub enum Version {
     Numbered(Number, bool),
     /// The snapshot page that a pointer leads to, which has no page in memory.
     Leads(u32),
+    /// How many records the page of a header has, which was not split.
+    Counted(usize),
 }
 
 /// A word that an attempt read and that must stay valid. It vouches for the keys of a span, less some, with the
@@ -51,6 +55,7 @@ impl Word {
         match self {
             Word::Record(spot) => is_record_at(spot, other),
             Word::Pointer(at) => is_pointer_at(at, other),
+            Word::Header(slot) => is_header_of(slot, other),
         }
     }
 
@@ -70,7 +75,7 @@ impl Version {
             Version::Numbered(number, there) => {
                 content.number == number && content.value.is_some() == there
             }
-            Version::Leads(_) => false,
+            Version::Leads(_) | Version::Counted(_) => false,
         }
     }
 }
@@ -144,7 +149,7 @@ fn is_record_at(spot: Spot, other: Word) -> bool
 {
     match other {
         Word::Record(place) => spot.is(place),
-        Word::Pointer(_) => false,
+        Word::Pointer(_) | Word::Header(_) => false,
     }
 }
 
@@ -152,8 +157,17 @@ fn is_pointer_at(at: At, other: Word) -> bool
     ensures { result ≡ same_word (words.Pointer at) other }
 {
     match other {
-        Word::Record(_) => false,
+        Word::Record(_) | Word::Header(_) => false,
         Word::Pointer(pointer) => at.is(pointer),
+    }
+}
+
+fn is_header_of(slot: u32, other: Word) -> bool
+    ensures { result ≡ same_word (words.Header slot) other }
+{
+    match other {
+        Word::Record(_) | Word::Pointer(_) => false,
+        Word::Header(page) => slot == page,
     }
 }
 

@@ -69,9 +69,7 @@ impl Seat {
         ensures ok { OnOk result (self.new ≡ record self.old { kept = with_part self.old.kept part }) }
         ensures memory { OnErr result (self.new ≡ self.old) }
     {
-        let mut kept = parts_elsewhere(&self.kept, part.word)?;
-        kept.push(part)?;
-        self.kept = kept;
+        self.kept = with_part(&self.kept, part)?;
         Ok(())
     }
 
@@ -127,6 +125,15 @@ impl Seat {
             }
         }
     }
+}
+
+/// What is kept, with the part in place of those of its word.
+pub fn with_part(kept: &Sequence<Part>, part: Part) -> Result<Sequence<Part>, Memory>
+    ensures { IfOk result (λ list. list ≡ with_part kept.now part) }
+{
+    let mut list = parts_elsewhere(kept, part.word)?;
+    list.push(part)?;
+    Ok(list)
 }
 
 /// The parts of other words.

@@ -10,9 +10,10 @@ use Rattle.homes.specs.Homes.{has_key, in_span}
 use Rattle.drop_core.specs.declared.table.Led.TheVariants.{Never, From}
 use Rattle.drop_core.specs.declared.table.SlotState.TheVariants.{Published}
 use Rattle.drop_core.specs.declared.table.Page.TheVariants.{Leaf, Inner}
+use Rattle.drop_core.specs.declared.event.Twins.{Twins}
 use Rattle.drop_core.specs.declared.table.Table.{Table}
 use Rattle.drop_core.specs.Table.{slot_of, page_of, pointer_of, has_slot, snap_home, has_pointer, is_live, is_last}
-use Rattle.drop_core.specs.Event.{each_once, child, is_in}
+use Rattle.drop_core.specs.Event.{each_once, child, is_in, leaf_keys, lower_span, upper_span}
 
 -- The leaf with these keys stands for page n over the span.
 pub record FitsPage (d : Table) (n : ℕ) (span : Span) (keys : List Key) : Type 0 where
@@ -79,3 +80,38 @@ pub record CanDrop (homes : Key → Home) (d : Table) (x : At) (n : ℕ) (gone :
   pub within : (k : Key) → has_key keys k ≡ true → in_span (pointer_of d x).span k ≡ true
   pub all : (k : Key) (y : Spot) → homes k ≡ InSlot y → has_slot gone y.slot ≡ true → has_key keys k ≡ true
   pub rest : (k : Key) → in_span (pointer_of d x).span k ≡ true → has_key keys k ≡ false → homes k ≡ snap_home d n k
+
+-- The leaf below x, over the span, may be split, where its keys go to the two halves.
+pub record CanTwin (d : Table) (x : At) (span : Span) (w : Twins) (keys : List Key) : Type 0 where
+  pub live : is_live d x ≡ true
+  pub leads : (pointer_of d x).slot ≡ Some w.slot
+  pub page : page_of d w.slot ≡ Leaf keys
+  pub two : w.minor ≡ w.major → ⊥
+  pub a_state : (slot_of d w.minor).state ≡ Published
+  pub b_state : (slot_of d w.major).state ≡ Published
+  pub a_led : (slot_of d w.minor).led ≡ Never
+  pub b_led : (slot_of d w.major).led ≡ Never
+  pub a_page : page_of d w.minor ≡ Leaf (leaf_keys (page_of d w.minor))
+  pub b_page : page_of d w.major ≡ Leaf (leaf_keys (page_of d w.major))
+  pub a_once : each_once (leaf_keys (page_of d w.minor)) ≡ true
+  pub b_once : each_once (leaf_keys (page_of d w.major)) ≡ true
+  pub a_within : (k : Key) → has_key (leaf_keys (page_of d w.minor)) k ≡ true → in_span (lower_span span w.separator) k ≡ true
+  pub b_within : (k : Key) → has_key (leaf_keys (page_of d w.major)) k ≡ true → in_span (upper_span span w.separator) k ≡ true
+  -- the keys that move are those of both, and the leaf's are among them
+  pub a_all : (k : Key) → has_key (leaf_keys (page_of d w.minor)) k ≡ true → has_key w.keys k ≡ true
+  pub b_all : (k : Key) → has_key (leaf_keys (page_of d w.major)) k ≡ true → has_key w.keys k ≡ true
+  pub parts : (k : Key) → has_key w.keys k ≡ true → (has_key (leaf_keys (page_of d w.minor)) k ≡ true) ⊎ (has_key (leaf_keys (page_of d w.major)) k ≡ true)
+  pub old : (k : Key) → has_key keys k ≡ true → has_key w.keys k ≡ true
+  -- the two spans tile that of x
+  pub cover : (k : Key) → in_span (pointer_of d x).span k ≡ true → (in_span (lower_span span w.separator) k ≡ true) ⊎ (in_span (upper_span span w.separator) k ≡ true)
+  pub lower_in : (k : Key) → in_span (lower_span span w.separator) k ≡ true → in_span (pointer_of d x).span k ≡ true
+  pub upper_in : (k : Key) → in_span (upper_span span w.separator) k ≡ true → in_span (pointer_of d x).span k ≡ true
+  pub apart : (k : Key) → in_span (lower_span span w.separator) k ≡ true → in_span (upper_span span w.separator) k ≡ true → ⊥
+
+-- the leaf in slot s below x takes one more key
+pub record CanGrow (d : Table) (x : At) (s : ℕ) (keys : List Key) (k : Key) : Type 0 where
+  pub live : is_live d x ≡ true
+  pub leads : (pointer_of d x).slot ≡ Some s
+  pub page : page_of d s ≡ Leaf keys
+  pub inside : in_span (pointer_of d x).span k ≡ true
+  pub new : has_key keys k ≡ false

@@ -15,7 +15,7 @@ use Rattle.drop_core.specs.declared.table.Led.TheVariants.{Never, From, Away}
 use Rattle.drop_core.specs.declared.table.SlotState.{SlotState}
 use Rattle.drop_core.specs.declared.table.Slot.{Slot}
 use Rattle.drop_core.specs.declared.table.Page.{Page}
-use Rattle.drop_core.specs.declared.table.Page.TheVariants.{Blank, Leaf, Inner}
+use Rattle.drop_core.specs.declared.table.Page.TheVariants.{Blank, Leaf, Inner, Split}
 use Rattle.drop_core.specs.declared.table.Pointer.{Pointer}
 use Rattle.drop_core.specs.declared.table.Table.{Table}
 use Rattle.drop_core.specs.declared.grip.Grip.{Grip}
@@ -126,6 +126,7 @@ module _ (homes : Key → Home) (d : Table) (grips : List Grip) (x : At) (n : �
   ties_page span t Blank kept ties = ties
   ties_page span t (Leaf ks) kept ties = (λ k inside. kept refl k inside ∙ ties.0 k inside, ties.1, ties.2)
   ties_page span t (Inner l) kept ties = page_ties-same homes' (span_at d) (span_at d') span t (Inner l) (λ j. drop_span d x n gone (at_index t j)) ties
+  ties_page span t Split kept ties = page_ties-same homes' (span_at d) (span_at d') span t Split (λ j. drop_span d x n gone (at_index t j)) ties
 
   ties_to : (span : Span) (l : ℕ) (o : Option ℕ) → (is_last_to d o ≡ true → (k : Key) → in_span span k ≡ true → homes' k ≡ homes k) → TiesTo homes d span l o → TiesTo homes' d' span l o
   ties_to span l None kept ties = λ k inside. kept refl k inside ∙ ties k inside

@@ -125,7 +125,7 @@ module _ (homes : Key → Home) (d : Table) (grips : List Grip) (sound : IsSound
     live2 (In z) = refl
 
     -- a live pointer isn't this one
-    live_other : (y : At) → is_live d y ≡ true → pointer_of d2 y ≡ pointer_of d y
+    pub live_other : (y : At) → is_live d y ≡ true → pointer_of d2 y ≡ pointer_of d y
     live_other y live = pointer-other y (λ z e. not_live z (subst (λ (w : At). is_live d w ≡ true) e live))
 
     pub at-index : (t j : ℕ) → (s ≡ t → ⊥) → pointer_of d2 (In (record { slot = t; index = j })) ≡ pointer_of d (In (record { slot = t; index = j }))

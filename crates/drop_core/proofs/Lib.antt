@@ -20,3 +20,8 @@ pub mod Lookups
 pub mod Stays
 pub mod Aways
 pub mod Ranks
+pub mod Headers
+pub mod Grows
+pub mod Splitting
+pub mod Halves
+pub mod ChainDrops

@@ -192,6 +192,7 @@ module _ (snaps : List (ℕ × SnapPage)) (published : ℕ) (roots : List (Span 
     ranked = record { rank = λ s. 0; top = 0; within = λ s led. absurd (none_led led); below = λ s x is. absurd (never_from (In x) is) };
     rooted = rooted_from;
     published = can.right;
+    headers = λ s away. absurd (never_away away);
   }
     where
       -- a key below no root has no home

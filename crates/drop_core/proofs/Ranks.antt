@@ -1,9 +1,10 @@
 -- The slots that are led to have ranks, so that ways end; each key that has a home is below a root; published pages are right.
-use Rattle.std.proofs.Common.{◌≡◌, ℕ, zero, suc, ◌+◌, ◌-◌, ◌<◌, ◌≤◌, Bool, true, false, true≢false, eqb, leb, ltb, cond, ◌&&◌, ◌||◌, inl, inr, List, [], ◌∷◌, refl, sym, ap, ◌∙◌, subst, arith, Option, Some, None}
-use Rattle.std.proofs.lemmas.Bool.{and_parts, and_from, cases_Bool, cond-true, cond-false}
+use Rattle.std.proofs.Common.{◌≡◌, ℕ, zero, suc, ◌+◌, ◌-◌, ◌<◌, ◌≤◌, Bool, true, false, true≢false, eqb, eqb-true, eq-eqb, leb, ltb, cond, ◌&&◌, ◌||◌, inl, inr, List, [], ◌∷◌, refl, sym, ap, ◌∙◌, subst, arith, Option, Some, None}
+use Rattle.std.proofs.lemmas.Bool.{and_parts, and_from, or_cases, cases_Bool, cond-true, cond-false, false_from_ne_true}
 use Rattle.std.proofs.lemmas.Bool.Decides.{nat_tests}
 use Rattle.std.specs.List.{list_all}
 use Rattle.serial_model.specs.declared.key.Key.{Key}
+use Rattle.homes.specs.declared.places.Holder.TheVariants.{Free}
 use Rattle.homes.specs.declared.places.Spot.{Spot}
 use Rattle.homes.specs.declared.places.At.{At}
 use Rattle.homes.specs.declared.places.At.TheVariants.{Root, In}
@@ -16,15 +17,16 @@ use Rattle.drop_core.specs.declared.table.Led.TheVariants.{Never, From, Away}
 use Rattle.drop_core.specs.declared.table.SlotState.TheVariants.{Owned, Published, Retired}
 use Rattle.drop_core.specs.declared.table.Slot.{Slot}
 use Rattle.drop_core.specs.declared.table.Page.{Page}
-use Rattle.drop_core.specs.declared.table.Page.TheVariants.{Blank, Leaf, Inner}
+use Rattle.drop_core.specs.declared.table.Page.TheVariants.{Blank, Leaf, Inner, Split}
 use Rattle.drop_core.specs.declared.table.SnapPage.{SnapPage}
 use Rattle.drop_core.specs.declared.table.SnapPage.TheVariants.{Missing, Entries, Children}
 use Rattle.drop_core.specs.declared.table.Table.{Table}
 use Rattle.drop_core.specs.declared.grip.Grip.{Grip}
 use Rattle.drop_core.specs.declared.event.Act.{Act}
-use Rattle.drop_core.specs.declared.event.Act.TheVariants.{Enter, Leave, Give, Publish, Retire, FillPage, FillPointer, FillSnapshot, Extend, Install, Swing, Renew, Shut, Reopen}
-use Rattle.drop_core.specs.Table.{slot_of, page_of, pointer_of, snap_of, has_slot, snap_home, page_span, leaf_home, has_pointer, is_led, is_live}
-use Rattle.drop_core.specs.Event.{all_below, leads_down, tile, is_right_child, is_right, is_allowed, with_slot, installed, swung, effect, leaf_keys, keys_in, moves}
+use Rattle.drop_core.specs.declared.event.Act.TheVariants.{Enter, Leave, Give, Publish, Retire, FillPage, FillPointer, FillSnapshot, Extend, Install, Swing, Renew, Shut, Reopen, FillHeader, LockHeader, OpenHeader, Twin, SwingChain}
+use Rattle.drop_core.specs.declared.event.Twins.{Twins}
+use Rattle.drop_core.specs.Table.{slot_of, page_of, pointer_of, snap_of, has_slot, at_index, snap_home, page_span, leaf_home, has_pointer, is_led, is_live}
+use Rattle.drop_core.specs.Event.{all_below, leads_down, tile, is_right_child, is_right, is_allowed, with_slot, with_header, grown, twinned, installed, dropped, swung, effect, leaf_keys, slot_span, keys_in, twin_home, next_place, moves}
 use Rattle.drop_core.specs.Sound.{span_at, TiesPage, TiesTo, IsLedSo, IsSoundTable, IsRanked, IsRooted, HomesAreRooted, PublishedAreRight}
 use Rattle.drop_core.specs.Law.{Leaves}
 use Rattle.drop_core.proofs.Repoints.{slot-same, slot-other}
@@ -32,8 +34,13 @@ use Rattle.drop_core.proofs.Drops.{slot-gone, slot-kept}
 use Rattle.drop_core.proofs.Fills.{snap-other}
 use Rattle.drop_core.proofs.Decides.{below-each}
 use Rattle.drop_core.proofs.Swings.{install_asks, install_within, swing_live, swing_within}
+use Rattle.drop_core.proofs.Conditions.{CanTwin}
+use Rattle.drop_core.proofs.Grows.{only_key}
+use Rattle.drop_core.proofs.Halves.{adds_key, grows, splits}
+use Rattle.drop_core.proofs.Splitting.{was_from, slots, all_within}
+use Rattle.drop_core.proofs.ChainDrops.{chain_live, chain_within}
 
--- ---- what leads to a slot after an act other than an install did so before
+-- ---- what leads to a slot after an act other than an install and a split did so before
 
 from_same : (x y : At) → From x ≡ From y → x ≡ y
 from_same x y e = cc
@@ -52,10 +59,11 @@ led_from Never e = absurd (true≢false (sym e))
 led_from (From y) e = (y, refl)
 led_from Away e = absurd (true≢false (sym e))
 
--- the act is an install
-abbrev is_install : Act → Bool
-is_install (Install x s) = true
-is_install act = false
+-- the act leads to slots that nothing has led to
+abbrev leads_anew : Act → Bool
+leads_anew (Install x s) = true
+leads_anew (Twin w) = true
+leads_anew act = false
 
 abbrev WasLed : Table → Table → Type 0
 WasLed d new = (s : ℕ) (y : At) → (slot_of new s).led ≡ From y → (slot_of d s).led ≡ From y
@@ -68,15 +76,18 @@ module _ (d : Table) where
         | inr o ↦ sym (ap (λ (q : Slot). q.led) (cond-false (eqb t s) x (slot_of d s) o.1)) ∙ is
       ]
 
-  swung_led : (g : Grip) (x : At) (n : ℕ) (o : Option ℕ) → WasLed d (swung d g x n o).table
-  swung_led g x n None s y is = is
-  swung_led g x n (Some t) s y is =
-      elim (cases_Bool (has_slot (t ∷ []) s)) [
-        | inl e ↦ absurd (away_from y (sym (ap (λ (q : Slot). q.led) (slot-gone d x n (t ∷ []) s e)) ∙ is))
-        | inr e ↦ sym (ap (λ (q : Slot). q.led) (slot-kept d x n (t ∷ []) s e)) ∙ is
+  dropped_led : (x : At) (n : ℕ) (gone : List ℕ) → WasLed d (dropped d x n gone)
+  dropped_led x n gone s y is =
+      elim (cases_Bool (has_slot gone s)) [
+        | inl e ↦ absurd (away_from y (sym (ap (λ (q : Slot). q.led) (slot-gone d x n gone s e)) ∙ is))
+        | inr e ↦ sym (ap (λ (q : Slot). q.led) (slot-kept d x n gone s e)) ∙ is
       ]
 
-  was_led : (p : ℕ) (g : Grip) (act : Act) → is_install act ≡ false → WasLed d (effect p d g act).table
+  swung_led : (g : Grip) (x : At) (n : ℕ) (o : Option ℕ) → WasLed d (swung d g x n o).table
+  swung_led g x n None s y is = is
+  swung_led g x n (Some t) s y is = dropped_led x n (t ∷ []) s y is
+
+  was_led : (p : ℕ) (g : Grip) (act : Act) → leads_anew act ≡ false → WasLed d (effect p d g act).table
   was_led p g (Enter t) e = with_led t (record (slot_of d t) { passes = (slot_of d t).passes + 1 }) (λ y is. is)
   was_led p g (Leave t) e = with_led t (record (slot_of d t) { passes = (slot_of d t).passes - 1 }) (λ y is. is)
   was_led p g (Give t) e = with_led t (record (slot_of d t) { state = Owned; times = (slot_of d t).times + 1; led = Never }) (λ y is. absurd (never_from y is))
@@ -91,6 +102,12 @@ module _ (d : Table) where
   was_led p g (Renew x n) e = λ s y is. is
   was_led p g (Shut x) e = λ s y is. is
   was_led p g (Reopen x) e = λ s y is. is
+  was_led p g (FillHeader t) e = λ s y is. is
+  was_led p g (LockHeader t) e = λ s y is. is
+  was_led p g (OpenHeader t None) e = λ s y is. is
+  was_led p g (OpenHeader t (Some k)) e = λ s y is. is
+  was_led p g (Twin w) e = absurd (true≢false e)
+  was_led p g (SwingChain x n c) e = dropped_led x n c.slots
 
 -- ---- ranks
 
@@ -112,6 +129,10 @@ module _ (homes : Key → Home) (d : Table) (grips : List Grip) (sound : IsSound
 
   live_led : (z : Spot) → is_live d (In z) ≡ true → is_led (slot_of d z.slot).led ≡ true
   live_led z live = (and_parts (is_led (slot_of d z.slot).led) (has_pointer (page_of d z.slot) z.index) live).0
+
+  -- a slot that is led to isn't one that nothing has led to
+  not_fresh : (t : ℕ) → (slot_of d t).led ≡ Never → (s : ℕ) → is_led (slot_of d s).led ≡ true → t ≡ s → ⊥
+  not_fresh t fresh s led e = true≢false (sym led ∙ ap (λ (u : ℕ). is_led (slot_of d u).led) (sym e) ∙ ap is_led fresh)
 
   -- ---- an install
 
@@ -137,7 +158,7 @@ module _ (homes : Key → Home) (d : Table) (grips : List Grip) (sound : IsSound
 
     -- a slot that is led to is another one
     not_led : (s : ℕ) → is_led (slot_of d s).led ≡ true → t ≡ s → ⊥
-    not_led s led e = true≢false (sym led ∙ ap (λ (u : ℕ). is_led (slot_of d u).led) (sym e) ∙ ap is_led fresh)
+    not_led = not_fresh t fresh
 
     depth_within : (y : At) → is_live d y ≡ true → depth y < suc r.top
     depth_within (Root i) ly = omega arith
@@ -179,7 +200,61 @@ module _ (homes : Key → Home) (d : Table) (grips : List Grip) (sound : IsSound
       ];
     }
 
+  -- ---- a split: both halves have a rank above all others
+
+  module _ (x : At) (span : Span) (w : Twins) (keys : List Key) (can : CanTwin d x span w keys) where
+    abbrev twin_rank : ℕ → ℕ
+    twin_rank s = cond (eqb w.minor s) r.top (cond (eqb w.major s) r.top (r.rank s))
+
+    minor_rank : twin_rank w.minor ≡ r.top
+    minor_rank = cond-true (eqb w.minor w.minor) r.top (cond (eqb w.major w.minor) r.top (r.rank w.minor)) (eq-eqb w.minor w.minor refl)
+
+    major_rank : twin_rank w.major ≡ r.top
+    major_rank = elim (number_or_other w.minor w.major) [
+      | inl e ↦ absurd (can.two e.0)
+      | inr o ↦ cond-false (eqb w.minor w.major) r.top (cond (eqb w.major w.major) r.top (r.rank w.major)) o.1
+          ∙ cond-true (eqb w.major w.major) r.top (r.rank w.major) (eq-eqb w.major w.major refl)
+    ]
+
+    old_rank : (s : ℕ) → (w.minor ≡ s → ⊥) → (w.major ≡ s → ⊥) → twin_rank s ≡ r.rank s
+    old_rank s oa ob =
+        cond-false (eqb w.minor s) r.top (cond (eqb w.major s) r.top (r.rank s)) (false_from_ne_true (eqb w.minor s) (λ e. oa (eqb-true w.minor s e)))
+        ∙ cond-false (eqb w.major s) r.top (r.rank s) (false_from_ne_true (eqb w.major s) (λ e. ob (eqb-true w.major s e)))
+
+    led_rank : (s : ℕ) → is_led (slot_of d s).led ≡ true → twin_rank s ≡ r.rank s
+    led_rank s led = old_rank s (not_fresh w.minor can.a_led s led) (not_fresh w.major can.b_led s led)
+
+    split_led : is_led (slot_of d w.slot).led ≡ true
+    split_led = ap is_led (was_from homes d grips x span w keys can sound)
+
+    split_below : twin_rank w.slot < r.top
+    split_below = let is = led_rank w.slot split_led in let less = r.within w.slot split_led in omega (arith, is, less)
+
+    half_below : (i half : ℕ) → twin_rank half ≡ r.top → (v : Spot) → From (at_index w.slot i) ≡ From (In v) → twin_rank v.slot < twin_rank half
+    half_below i half is v e =
+        let same : w.slot ≡ v.slot = ap (λ (z : Spot). z.slot) (in_same (record { slot = w.slot; index = i }) v (from_same (at_index w.slot i) (In v) e)) in
+        subst (λ (u : ℕ). twin_rank u < twin_rank half) same (let less = split_below in omega (arith, is, less))
+
+    ranked_twin : IsRanked (led_in (twinned d span w))
+    ranked_twin = record {
+      rank = twin_rank;
+      top = suc r.top;
+      within = slots homes d grips x span w keys can sound (λ s q. is_led q.led ≡ true → twin_rank s < suc r.top)
+          (λ led. let is = minor_rank in omega (arith, is)) (λ led. let is = major_rank in omega (arith, is))
+          (λ s oa ob led. let is = old_rank s oa ob in let less = r.within s led in omega (arith, is, less));
+      below = slots homes d grips x span w keys can sound (λ s q. (v : Spot) → q.led ≡ From (In v) → twin_rank v.slot < twin_rank s)
+          (half_below 0 w.minor minor_rank) (half_below 1 w.major major_rank)
+          (λ s oa ob v is.
+          let led = live_led v (from_is s (In v) is).0 in
+          let above = old_rank s oa ob in
+          let same = led_rank v.slot led in
+          let less = r.below s v is in
+          omega (arith, above, same, less));
+    }
+
   ranked_act : (p : ℕ) (g : Grip) (act : Act) → is_allowed p d g act ≡ true → IsRanked (led_in (effect p d g act).table)
+  ranked_act p g (Twin w) can =
+      let two = splits homes d grips sound p g w can in ranked_twin two.0 (slot_span d w.slot) w (leaf_keys (page_of d w.slot)) two.2
   ranked_act p g (Install x t) can = let asks = install_asks homes d grips sound p t g x can in ranked_installed x t asks.live asks.led
   ranked_act p g act can = ranked_same d (effect p d g act).table (was_led d p g act refl) r
 
@@ -190,6 +265,7 @@ module _ (homes : Key → Home) (d : Table) (grips : List Grip) (sound : IsSound
   inner_up y z k Blank there ties inside = absurd (true≢false (sym there))
   inner_up y z k (Leaf keys) there ties inside = absurd (true≢false (sym there))
   inner_up y z k (Inner n) there ties inside = ties.1 z.index k there inside
+  inner_up y z k Split there ties inside = ties.1 z.index k there inside
 
   -- a key below a live pointer is below a root
   up : (f : ℕ) (x : At) (k : Key) → is_live d x ≡ true → in_span (span_at d x) k ≡ true → ((z : Spot) → x ≡ In z → r.rank z.slot < f) → IsRooted (span_at d) k
@@ -229,6 +305,18 @@ module _ (homes : Key → Home) (d : Table) (grips : List Grip) (sound : IsSound
   rooted_act p g (Swing x n) can rooted =
       rooted_moves (snap_home d n) (keys_in d (pointer_of d x).slot)
       (λ k hit. below_root x k (swing_live homes d grips sound p g x n can) (swing_within homes d grips sound p g x n can k hit)) rooted
+  rooted_act p g (OpenHeader t None) can rooted = rooted
+  rooted_act p g (OpenHeader t (Some k)) can rooted =
+      let grow = grows homes d grips sound t k (adds_key p d t k can) in
+      rooted_moves (λ _. next_place d t) (k ∷ [])
+      (λ q hit. subst (λ (z : Key). IsRooted (span_at d) z) (only_key k q hit) (below_root grow.0 k grow.3.live grow.3.inside)) rooted
+  rooted_act p g (Twin w) can rooted =
+      let two = splits homes d grips sound p g w can in
+      rooted_moves (twin_home d (slot_span d w.slot) w) w.keys
+      (λ k hit. below_root two.0 k two.2.live (all_within homes d grips two.0 (slot_span d w.slot) w (leaf_keys (page_of d w.slot)) two.2 sound k hit)) rooted
+  rooted_act p g (SwingChain x n c) can rooted =
+      rooted_moves (snap_home d n) c.keys
+      (λ k hit. below_root x k (chain_live homes d grips sound p g x n c can) (chain_within homes d grips sound p g x n c can r k hit)) rooted
   rooted_act p g act can rooted = rooted
 
   -- the roots are over the keys that they were over
@@ -318,4 +406,6 @@ module _ (homes : Key → Home) (d : Table) (grips : List Grip) (sound : IsSound
       let both = and_parts down fits more.1 in
       extended n both.0 both.1
   right_keeps p g (Swing x n) can = swung_right g x n (pointer_of d x).slot
+  right_keeps p g (OpenHeader t None) can = same_right (with_header d t Free) (λ m l. refl)
+  right_keeps p g (OpenHeader t (Some k)) can = same_right (grown d t k) (λ m l. refl)
   right_keeps p g act can = same_right (effect p d g act).table (λ m l. refl)

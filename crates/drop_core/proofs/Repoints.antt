@@ -11,7 +11,7 @@ use Rattle.homes.specs.Laws.{same_at-self, same_at-true, at_or_other, number_or_
 use Rattle.drop_core.specs.declared.table.Led.{Led}
 use Rattle.drop_core.specs.declared.table.Slot.{Slot}
 use Rattle.drop_core.specs.declared.table.Page.{Page}
-use Rattle.drop_core.specs.declared.table.Page.TheVariants.{Blank, Leaf, Inner}
+use Rattle.drop_core.specs.declared.table.Page.TheVariants.{Blank, Leaf, Inner, Split}
 use Rattle.drop_core.specs.declared.table.Pointer.{Pointer}
 use Rattle.drop_core.specs.declared.table.Table.{Table}
 use Rattle.drop_core.specs.Table.{slot_of, page_of, pointer_of, is_led, has_pointer, is_live, is_inner, is_last_to, is_last}
@@ -106,6 +106,10 @@ module _ (d : Table) (x : At) (s : ℕ) (led : Led) (slot : Option ℕ) (page : 
     ties_page y t Blank e kept ties = ties
     ties_page y t (Leaf ks) e kept ties = (λ k inside. kept refl k inside ∙ ties.0 k inside, ties.1, ties.2)
     ties_page y t (Inner n) e kept ties = (
+      λ k inside. let r = ties.0 k inside in (r.0, r.1, ap (λ (w : Span). in_span w k) (span-same (In (record { slot = t; index = r.0 }))) ∙ r.2),
+      λ j k there inside. ties.1 j k there (sym (ap (λ (w : Span). in_span w k) (span-same (In (record { slot = t; index = j })))) ∙ inside),
+    )
+    ties_page y t Split e kept ties = (
       λ k inside. let r = ties.0 k inside in (r.0, r.1, ap (λ (w : Span). in_span w k) (span-same (In (record { slot = t; index = r.0 }))) ∙ r.2),
       λ j k there inside. ties.1 j k there (sym (ap (λ (w : Span). in_span w k) (span-same (In (record { slot = t; index = j })))) ∙ inside),
     )

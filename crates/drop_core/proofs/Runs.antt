@@ -1,22 +1,32 @@
 -- Each act keeps the pages sound, and so does each list of events.
 use Rattle.std.proofs.Common.{◌≡◌, ℕ, zero, suc, ◌+◌, ◌<◌, ◌≤◌, Bool, true, false, true≢false, eqb, leb, ltb, cond, ◌&&◌, inl, inr, List, [], ◌∷◌, length, refl, sym, ap, ◌∙◌, subst, arith, set, Option, Some, None}
-use Rattle.std.proofs.lemmas.Bool.{and_parts, cases_Bool, cond-true, cond-false}
+use Rattle.std.proofs.lemmas.Bool.{and_parts, cases_Bool, cond-true, cond-false, false_from_ne_true}
 use Rattle.std.proofs.lemmas.Bool.Decides.{nat_tests}
 use Rattle.std.proofs.lemmas.List.Sums.{sum_by-cons}
 use Rattle.std.specs.List.{slice_get, slice_set}
 use Rattle.std.specs.Option.{option_map_or}
 use Rattle.serial_model.specs.declared.key.Key.{Key}
+use Rattle.homes.specs.declared.places.Holder.TheVariants.{Free, Held}
 use Rattle.homes.specs.declared.places.At.TheVariants.{In}
+use Rattle.homes.specs.declared.places.Span.{Span}
 use Rattle.homes.specs.declared.places.Home.{Home}
-use Rattle.homes.specs.Homes.{moved}
+use Rattle.homes.specs.Homes.{has_key, moved, moves_to}
+use Rattle.homes.specs.Laws.{moved-there, moved-other}
+use Rattle.drop_core.specs.declared.table.Page.{Page}
 use Rattle.drop_core.specs.declared.table.Table.{Table}
 use Rattle.drop_core.specs.declared.grip.Grip.{Grip}
 use Rattle.drop_core.specs.declared.event.Act.{Act}
-use Rattle.drop_core.specs.declared.event.Act.TheVariants.{Enter, Leave, Give, Publish, Retire, FillPage, FillPointer, FillSnapshot, Extend, Install, Swing, Renew, Shut, Reopen}
+use Rattle.drop_core.specs.declared.event.Act.TheVariants.{Enter, Leave, Give, Publish, Retire, FillPage, FillPointer, FillSnapshot, Extend, Install, Swing, Renew, Shut, Reopen, FillHeader, LockHeader, OpenHeader, Twin, SwingChain}
 use Rattle.drop_core.specs.declared.event.Event.{Event}
-use Rattle.drop_core.specs.Table.{slot_of, snap_of, has_slot, counts_hold, holders}
-use Rattle.drop_core.specs.Event.{DropState, is_owned, most_passes, all_below, leads_down, is_right, is_allowed, with_pointer, effect, moves, may_happen, with_turned, happened, next, next_homes, run, run_homes}
-use Rattle.drop_core.specs.Sound.{IsSoundTable, IsSoundPages, IsSound}
+use Rattle.drop_core.specs.Table.{slot_of, page_of, snap_of, has_slot, leaf_place, counts_hold, holders}
+use Rattle.drop_core.specs.Event.{DropState, is_owned, most_passes, all_below, leads_down, is_right, leaf_keys, slot_span, is_allowed, with_pointer, with_header, grown, twinned, without, effect, twin_home, next_place, moves, may_happen, with_turned, happened, next, next_homes, run, run_homes}
+use Rattle.drop_core.specs.Sound.{IsSoundTable, IsRanked, IsSoundPages, IsSound}
+use Rattle.drop_core.proofs.Aways.{headers_keep}
+use Rattle.drop_core.proofs.ChainDrops.{chain_keeps}
+use Rattle.drop_core.proofs.Grows.{has_key-head, only_key, grown_sound}
+use Rattle.drop_core.proofs.Halves.{adds_key, grows, splits}
+use Rattle.drop_core.proofs.Headers.{headers_sound}
+use Rattle.drop_core.proofs.Splitting.{twin_sound}
 use Rattle.drop_core.proofs.SlotTurns.{holders-set, enter_keeps, leave_keeps, give_keeps, publish_keeps, retire_keeps}
 use Rattle.drop_core.proofs.Fills.{layout_sound, link_sound, snap_sound, count_sound}
 use Rattle.drop_core.proofs.PointerTurns.{shut_keeps, reopen_keeps, renew_keeps}
@@ -24,7 +34,8 @@ use Rattle.drop_core.proofs.Swings.{install_keeps, swing_keeps, recount}
 use Rattle.drop_core.proofs.Stays.{act_leaves}
 use Rattle.drop_core.proofs.Ranks.{ranked_keeps, rooted_keeps, right_keeps}
 
-module _ (homes : Key → Home) (d : Table) (grips : List Grip) (p : ℕ) (g : Grip) (at : slice_get grips p ≡ Some g) (sound : IsSoundTable homes d grips) where
+module _ (homes : Key → Home) (d : Table) (grips : List Grip) (p : ℕ) (g : Grip) (at : slice_get grips p ≡ Some g) (sound : IsSoundTable homes d grips)
+    (ranked : IsRanked (λ s. (slot_of d s).led)) where
   stays : (d' : Table) → IsSoundTable homes d' grips → IsSoundTable homes d' (set grips p g)
   stays d' now = recount homes d' grips (set grips p g) (λ s. holders-set s p grips g g at refl) now
 
@@ -59,14 +70,33 @@ module _ (homes : Key → Home) (d : Table) (grips : List Grip) (p : ℕ) (g : G
   keeps (Renew x n) can = renew_keeps homes d grips p g at sound x n can
   keeps (Shut x) can = shut_keeps homes d grips p g at sound x can
   keeps (Reopen x) can = reopen_keeps homes d grips p g at sound x can
+  keeps (FillHeader s) can = stays (with_header d s Free) (headers_sound homes d grips ((s, Free) ∷ d.headers) sound)
+  keeps (LockHeader s) can = stays (with_header d s (Held p)) (headers_sound homes d grips ((s, Held p) ∷ d.headers) sound)
+  keeps (OpenHeader s None) can = stays (with_header d s Free) (headers_sound homes d grips ((s, Free) ∷ d.headers) sound)
+  keeps (OpenHeader s (Some k)) can =
+      let grow = grows homes d grips sound s k (adds_key p d s k can) in
+      let to : Key → Home = λ _. next_place d s in
+      let homes' : Key → Home = moved (moves_to to (k ∷ [])) homes in
+      recount homes' (grown d s k) grips (set grips p g) (λ t. holders-set t p grips g g at refl)
+      (grown_sound homes homes' d grips grow.0 s grow.2 k grow.3 sound
+      (moved-there to (k ∷ []) homes k (has_key-head k []) ∙ ap (λ (q : Page). leaf_place s (length (leaf_keys q))) grow.3.page)
+      (λ q other. moved-other to (k ∷ []) homes q (false_from_ne_true (has_key (k ∷ []) q) (λ hit. other (only_key k q hit)))))
+  keeps (Twin w) can =
+      let two = splits homes d grips sound p g w can in
+      let span : Span = slot_span d w.slot in
+      let g' : Grip = record g { made = without (without g.made w.minor) w.major } in
+      recount (moved (moves_to (twin_home d span w) w.keys) homes) (twinned d span w) grips (set grips p g') (λ t. holders-set t p grips g g' at refl)
+      (twin_sound homes d grips two.0 span w (leaf_keys (page_of d w.slot)) two.2 sound)
+  keeps (SwingChain x n c) can = chain_keeps homes d grips sound p g x n c can ranked at
 
 pub keeps_act : (homes : Key → Home) (d : Table) (grips : List Grip) (p : ℕ) (g : Grip) (act : Act) → slice_get grips p ≡ Some g → is_allowed p d g act ≡ true → IsSoundPages homes d grips
     → IsSoundPages (moved (moves d act) homes) (effect p d g act).table (slice_set grips p (effect p d g act).grip)
 keeps_act homes d grips p g act at can sound = record {
-  table = keeps homes d grips p g at sound.table act can;
+  table = keeps homes d grips p g at sound.table sound.ranked act can;
   ranked = ranked_keeps homes d grips sound.table sound.ranked p g act can;
   rooted = rooted_keeps homes d grips sound.table sound.ranked p g act can (act_leaves homes d grips p g act at can sound.table) sound.rooted;
   published = right_keeps homes d grips sound.table sound.published p g act can;
+  headers = headers_keep homes d grips sound.table p g sound.headers act can;
 }
 
 -- ---- lists of events

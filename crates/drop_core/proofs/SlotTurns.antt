@@ -3,6 +3,7 @@ use Rattle.std.proofs.Common.{◌≡◌, ℕ, ◌+◌, ◌-◌, Bool, true, fals
 use Rattle.std.proofs.lemmas.Bool.{and_parts, or_left, false_from_ne_true, cond-true, cond-false}
 use Rattle.std.specs.List.{slice_get}
 use Rattle.serial_model.specs.declared.key.Key.{Key}
+use Rattle.homes.specs.declared.places.Holder.TheVariants.{Dead}
 use Rattle.homes.specs.declared.places.At.{At}
 use Rattle.homes.specs.declared.places.At.TheVariants.{Root, In}
 use Rattle.homes.specs.declared.places.Home.{Home}
@@ -18,6 +19,7 @@ use Rattle.drop_core.specs.declared.event.Act.TheVariants.{Enter, Leave, Give, P
 use Rattle.drop_core.specs.Table.{slot_of, page_of, pointer_of, has_slot, is_led, has_pointer, is_live, is_last_to, is_last, counts_hold, holders}
 use Rattle.drop_core.specs.Event.{can_be_given, is_published, most_times, most_passes, is_allowed, with_slot, without, effect}
 use Rattle.drop_core.specs.Sound.{IsLedSo, IsSoundTable}
+use Rattle.drop_core.proofs.Headers.{headers_sound}
 use Rattle.drop_core.proofs.Holds.{sum-set_grip, counts-held}
 
 -- what the new slot has to do with the old one
@@ -185,8 +187,9 @@ module _ (homes : Key → Home) (d : Table) (grips : List Grip) (p : ℕ) (g : G
       let free = given_led s (slot_of d s).led (sound.holds_counted.led s) (and_parts (can_be_given (slot_of d s).state) (eqb (slot_of d s).passes 0 && ltb (slot_of d s).times most_times) usable).0 in
       let turns : Turns d s new = record { leds = sym free.0; aways = λ a. absurd (never_away a); froms = λ y f. absurd (free.1 y f); so = tt } in
       let g' : Grip = record g { made = s ∷ g.made } in
-      slot_sound homes d grips (set grips p g') s new turns (sound.holds_counted.counted s ∙ sym (holders-set s p grips g g' at refl))
-      (λ t other. holders-set t p grips g g' at refl) sound
+      headers_sound homes (with_slot d s new) (set grips p g') ((s, Dead) ∷ d.headers)
+      (slot_sound homes d grips (set grips p g') s new turns (sound.holds_counted.counted s ∙ sym (holders-set s p grips g g' at refl))
+      (λ t other. holders-set t p grips g g' at refl) sound)
     where
       never_away : Never ≡ Away → ⊥
       never_away e = cc

@@ -14,12 +14,12 @@ use Rattle.drop_core.specs.declared.table.Led.TheVariants.{Never, From, Away}
 use Rattle.drop_core.specs.declared.table.SlotState.{SlotState}
 use Rattle.drop_core.specs.declared.table.SlotState.TheVariants.{Unused, Owned, Published, Retired}
 use Rattle.drop_core.specs.declared.table.Page.{Page}
-use Rattle.drop_core.specs.declared.table.Page.TheVariants.{Blank, Leaf, Inner}
+use Rattle.drop_core.specs.declared.table.Page.TheVariants.{Blank, Leaf, Inner, Split}
 use Rattle.drop_core.specs.declared.table.Table.{Table}
 use Rattle.drop_core.specs.declared.grip.Grip.{Grip}
 use Rattle.drop_core.specs.declared.event.Act.TheVariants.{Install, Swing}
 use Rattle.drop_core.specs.Table.{slot_of, page_of, pointer_of, snap_of, has_slot, snap_home, page_span, leaf_home, is_never, is_live, holders}
-use Rattle.drop_core.specs.Event.{is_published, all_below, leaves_none_out, each_once, is_leaf_for, child, is_tile, is_same_child, stands_for, is_stood_for, is_like, is_open, can_install, can_swing_from, can_swing, is_allowed, without, installed, dropped, swung, effect, leaf_keys, keys_in, moves}
+use Rattle.drop_core.specs.Event.{is_published, all_below, leaves_none_out, each_once, is_leaf_for, child, is_tile, is_same_child, stands_for, is_stood_for, is_like, is_open, can_install, can_swing_from, can_swing, keeps_header, is_allowed, without, installed, dropped, swung, effect, leaf_keys, keys_in, moves}
 use Rattle.drop_core.specs.Sound.{TiesPage, TiesTo, IsSoundTable}
 use Rattle.drop_core.proofs.Conditions.{FitsPage, CanInstall, CanInstallInner, CanSwing, CanSwingInner}
 use Rattle.drop_core.proofs.SlotTurns.{holders-set}
@@ -33,13 +33,13 @@ use Rattle.drop_core.proofs.Decides.{below-each, none_there, inner-fits, all-wit
 at_most : (a b : ℕ) → leb a b ≡ true → a ≤ b
 at_most a b e = grind (arith, nat_tests)
 
-published : (s : SlotState) → is_published s ≡ true → s ≡ Published
+pub published : (s : SlotState) → is_published s ≡ true → s ≡ Published
 published Unused e = absurd (true≢false (sym e))
 published Owned e = absurd (true≢false (sym e))
 published Published e = refl
 published Retired e = absurd (true≢false (sym e))
 
-never : (l : Led) → is_never l ≡ true → l ≡ Never
+pub never : (l : Led) → is_never l ≡ true → l ≡ Never
 never Never e = refl
 never (From x) e = absurd (true≢false (sym e))
 never Away e = absurd (true≢false (sym e))
@@ -124,17 +124,20 @@ module _ (homes : Key → Home) (d : Table) (grips : List Grip) (sound : IsSound
   install_page x s can Blank page = absurd (true≢false (sym can.stands ∙ ap (stands_for d s (pointer_of d x).page (pointer_of d x).span) page))
   install_page x s can (Leaf keys) page = install_sound homes d grips x s keys (can_leaf d x s keys can page) sound
   install_page x s can (Inner count) page = install_inner_sound homes d grips x s count (can_inner d x s count can page) sound
+  install_page x s can Split page = absurd (true≢false (sym can.stands ∙ ap (stands_for d s (pointer_of d x).page (pointer_of d x).span) page))
 
   up_page : (x : At) (s : ℕ) → Installs d x s → (pg : Page) → page_of d s ≡ pg → (k : Key) → has_key (leaf_keys pg) k ≡ true → homes k ≡ snap_home d (pointer_of d x).page k
   up_page x s can Blank page k hit = absurd (true≢false (sym hit))
   up_page x s can (Leaf keys) page k hit = was_home homes d grips x s keys (can_leaf d x s keys can page) sound k hit
   up_page x s can (Inner count) page k hit = absurd (true≢false (sym hit))
+  up_page x s can Split page k hit = absurd (true≢false (sym hit))
 
   within_page : (x : At) (s : ℕ) → Installs d x s → (pg : Page) → page_of d s ≡ pg → (k : Key) → has_key (leaf_keys pg) k ≡ true
       → in_span (pointer_of d x).span k ≡ true
   within_page x s can Blank page k hit = absurd (true≢false (sym hit))
   within_page x s can (Leaf keys) page k hit = (can_leaf d x s keys can page).fits.within k hit
   within_page x s can (Inner count) page k hit = absurd (true≢false (sym hit))
+  within_page x s can Split page k hit = absurd (true≢false (sym hit))
 
   -- a key that an install moves is below the pointer
   pub install_within : (p s : ℕ) (g : Grip) (x : At) → is_allowed p d g (Install x s) ≡ true → (k : Key)
@@ -165,13 +168,17 @@ module _ (homes : Key → Home) (d : Table) (grips : List Grip) (sound : IsSound
       (subst (λ (q : Page). TiesPage homes d (pointer_of d x).span s q) page
       (subst (λ (o : Option ℕ). TiesTo homes d (pointer_of d x).span (pointer_of d x).page o) leads (sound.one_home_each.ties x live))).1 k hit
   leaf_within x s live leads (Inner count) page k hit = absurd (true≢false (sym hit))
+  leaf_within x s live leads Split page k hit = absurd (true≢false (sym hit))
 
   slot_within : (x : At) (o : Option ℕ) → is_live d x ≡ true → (pointer_of d x).slot ≡ o → (k : Key)
       → has_key (keys_in d o) k ≡ true → in_span (pointer_of d x).span k ≡ true
   slot_within x None live leads k hit = absurd (true≢false (sym hit))
   slot_within x (Some s) live leads k hit = leaf_within x s live leads (page_of d s) refl k hit
 
-  module _ (p : ℕ) (g : Grip) (x : At) (n : ℕ) (can : can_swing p d x n ≡ true) where
+  module _ (p : ℕ) (g : Grip) (x : At) (n : ℕ) (may : is_allowed p d g (Swing x n) ≡ true) where
+    can : can_swing p d x n ≡ true
+    can = (and_parts (can_swing p d x n) (keeps_header p d (pointer_of d x).slot) may).0
+
     abbrev target : Bool
     target = leb n d.published && (eqb n 0 || same_span (page_span (snap_of d n)) (pointer_of d x).span)
 
@@ -216,6 +223,7 @@ module _ (homes : Key → Home) (d : Table) (grips : List Grip) (sound : IsSound
         drop_sound homes d grips x n (s ∷ []) keys (leaf_drop homes d grips sound s x n keys (swing_leaf s keys leads page stands)) sound
     swing_page s leads (Inner count) page stands =
         drop_sound homes d grips x n (s ∷ []) [] (inner_drop homes d grips sound s x n count (swing_inner s count leads page stands)) sound
+    swing_page s leads Split page stands = absurd (true≢false (sym stands))
 
     stands_in : (s : ℕ) → (pointer_of d x).slot ≡ Some s → Stands s (page_of d s)
     stands_in s leads = stood s (sym (ap (can_swing_from p d x n) leads) ∙ rest.1)
@@ -237,6 +245,7 @@ module _ (homes : Key → Home) (d : Table) (grips : List Grip) (sound : IsSound
     down_page s leads Blank page stands k hit = absurd (true≢false (sym hit))
     down_page s leads (Leaf keys) page stands k hit = was_leaf homes d grips sound s x n keys (swing_leaf s keys leads page stands) k hit
     down_page s leads (Inner count) page stands k hit = absurd (true≢false (sym hit))
+    down_page s leads Split page stands k hit = absurd (true≢false (sym hit))
 
     pub swings_down : (s : ℕ) → (pointer_of d x).slot ≡ Some s → (k : Key) → has_key (leaf_keys (page_of d s)) k ≡ true → homes k ≡ leaf_home s 0 (leaf_keys (page_of d s)) k
     swings_down s leads = down_page s leads (page_of d s) refl (stands_in s leads)

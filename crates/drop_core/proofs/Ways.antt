@@ -12,7 +12,7 @@ use Rattle.homes.specs.Homes.{in_span}
 use Rattle.homes.specs.Laws.{number_or_other}
 use Rattle.drop_core.specs.declared.table.Led.TheVariants.{From}
 use Rattle.drop_core.specs.declared.table.Page.{Page}
-use Rattle.drop_core.specs.declared.table.Page.TheVariants.{Blank, Leaf, Inner}
+use Rattle.drop_core.specs.declared.table.Page.TheVariants.{Blank, Leaf, Inner, Split}
 use Rattle.drop_core.specs.declared.table.Table.{Table}
 use Rattle.drop_core.specs.declared.grip.Grip.{Grip}
 use Rattle.drop_core.specs.Table.{slot_of, page_of, pointer_of, at_index, is_led, has_pointer, is_live}
@@ -75,20 +75,23 @@ module _ (homes : Key → Home) (d : Table) (grips : List Grip) (sound : IsSound
   abbrev Ends : ℕ → Type 0
   Ends f = (y : At) → is_live d y ≡ true → in_span (pointer_of d y).span k ≡ true → Near y f → way f d y k ≡ Some (homes k)
 
-  by_child : (f : ℕ) (s n : ℕ) (o : Option At) → child_with (span_at d) s n k ≡ o → page_of d s ≡ Inner n → is_led (slot_of d s).led ≡ true
-      → ((j : ℕ) × (has_pointer (Inner n) j ≡ true) × (in_span (span_at d (at_index s j)) k ≡ true)) → ranked.top ≤ f + ranked.rank s → Ends f
+  by_child : (f : ℕ) (s n : ℕ) (o : Option At) → child_with (span_at d) s n k ≡ o → ((j : ℕ) → has_pointer (page_of d s) j ≡ nat_lt j n) → is_led (slot_of d s).led ≡ true
+      → ((j : ℕ) × (nat_lt j n ≡ true) × (in_span (span_at d (at_index s j)) k ≡ true)) → ranked.top ≤ f + ranked.rank s → Ends f
       → option_and_then (λ y. way f d y k) o ≡ Some (homes k)
   by_child f s n None is page led some near ends = absurd (child-there (span_at d) s n k is some.0 some.1 some.2)
   by_child f s n (Some y) is page led some near ends =
       let r = child-found (span_at d) s n k y is in
       subst (λ (z : At). way f d z k ≡ Some (homes k)) (sym r.1)
-      (ends (at_index s r.0) (and_from (is_led (slot_of d s).led) (has_pointer (page_of d s) r.0) led (ap (λ (q : Page). has_pointer q r.0) page ∙ r.2)) r.3 near)
+      (ends (at_index s r.0) (and_from (is_led (slot_of d s).led) (has_pointer (page_of d s) r.0) led (page r.0 ∙ r.2)) r.3 near)
 
   by_page : (f : ℕ) (span : Span) (s : ℕ) (pg : Page) → page_of d s ≡ pg → is_led (slot_of d s).led ≡ true → in_span span k ≡ true
       → ranked.top ≤ f + ranked.rank s → Ends f → TiesPage homes d span s pg → way_page (λ y. way f d y k) (span_at d) s k pg ≡ Some (homes k)
   by_page f span s Blank page led inside near ends ties = absurd ties
   by_page f span s (Leaf keys) page led inside near ends ties = ap (λ (h : Home). Some h) (sym (ties.0 k inside))
-  by_page f span s (Inner n) page led inside near ends ties = by_child f s n (child_with (span_at d) s n k) refl page led (ties.0 k inside) near ends
+  by_page f span s (Inner n) page led inside near ends ties =
+      by_child f s n (child_with (span_at d) s n k) refl (λ j. ap (λ (q : Page). has_pointer q j) page) led (ties.0 k inside) near ends
+  by_page f span s Split page led inside near ends ties =
+      by_child f s 2 (child_with (span_at d) s 2 k) refl (λ j. ap (λ (q : Page). has_pointer q j) page) led (ties.0 k inside) near ends
 
   by_slot : (f : ℕ) (x : At) (o : Option ℕ) → (pointer_of d x).slot ≡ o → is_live d x ≡ true → in_span (pointer_of d x).span k ≡ true
       → ((s : ℕ) → (slot_of d s).led ≡ From x → ranked.top ≤ f + ranked.rank s) → Ends f

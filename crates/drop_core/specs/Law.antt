@@ -1,20 +1,23 @@
 -- What holds under every list of events.
-use Rattle.std.specs.Prelude.{◌≡◌, ◌↔◌, ◌⊎◌, ℕ, ◌+◌, ◌≤◌, true, false, List, length, Some, slice_get, slice_set}
+use Rattle.std.specs.Prelude.{◌≡◌, ◌↔◌, ◌⊎◌, ℕ, ◌+◌, ◌≤◌, true, false, List, [], ◌∷◌, ◌++◌, length, Some, slice_get, slice_set}
 use Rattle.serial_model.specs.declared.key.Key.{Key}
 use Rattle.homes.specs.declared.places.At.{At}
 use Rattle.homes.specs.declared.places.Span.{Span}
 use Rattle.homes.specs.declared.places.Home.{Home}
 use Rattle.homes.specs.declared.places.Home.TheVariants.{Nowhere}
 use Rattle.homes.specs.Homes.{has_key, in_span, moved}
-use Rattle.drop_core.specs.declared.table.Led.TheVariants.{Away}
+use Rattle.drop_core.specs.declared.table.Led.TheVariants.{From, Away}
+use Rattle.drop_core.specs.declared.table.Page.{Page}
+use Rattle.drop_core.specs.declared.table.Page.TheVariants.{Leaf, Split}
 use Rattle.drop_core.specs.declared.table.SnapPage.{SnapPage}
 use Rattle.drop_core.specs.declared.table.Table.{Table}
 use Rattle.drop_core.specs.declared.grip.Grip.{Grip}
+use Rattle.drop_core.specs.declared.event.Chain.{Chain}
 use Rattle.drop_core.specs.declared.event.Act.{Act}
-use Rattle.drop_core.specs.declared.event.Act.TheVariants.{Install, Swing}
+use Rattle.drop_core.specs.declared.event.Act.TheVariants.{Install, Swing, SwingChain}
 use Rattle.drop_core.specs.declared.event.Event.{Event}
 use Rattle.homes.specs.declared.places.At.TheVariants.{Root}
-use Rattle.drop_core.specs.Table.{slot_of, page_of, pointer_of, has_slot, at_index, snap_of, snap_home, leaf_home, is_never, is_live}
+use Rattle.drop_core.specs.Table.{slot_of, page_of, pointer_of, has_slot, at_index, snap_of, snap_home, leaf_home, has_pointer, is_never, is_live}
 use Rattle.drop_core.specs.Event.{DropState, leaves_none_out, same_below, is_usable, is_allowed, effect, moves, leaf_keys, keys_in, run, run_homes, most_passes}
 use Rattle.drop_core.specs.Sound.{span_at, IsSoundTable, IsSoundPages, IsSound}
 use Rattle.drop_core.specs.Opening.{CanOpen, opening_state, opening_homes}
@@ -67,12 +70,28 @@ SwingsMoveDown = (homes : Key → Home) (d : Table) (grips : List Grip) (p n s :
     → is_allowed p d g (Swing x n) ≡ true → (pointer_of d x).slot ≡ Some s → IsSoundTable homes d grips
     → (k : Key) → has_key (keys_in d (Some s)) k ≡ true → homes k ≡ leaf_home s 0 (keys_in d (Some s)) k
 
--- What an act leaves as it was of a slot's page: its layout, and the keys that its pointers are over; and that
--- something has led to the slot since it was given.
+-- a key that an act swings with a chain was in the leaf that has it
+abbrev pub ChainsMoveDown : Type 0
+ChainsMoveDown = (homes : Key → Home) (d : Table) (grips : List Grip) (p n s : ℕ) (g : Grip) (x : At) (c : Chain)
+    → is_allowed p d g (SwingChain x n c) ≡ true → IsSoundTable homes d grips → has_slot c.slots s ≡ true
+    → (k : Key) → has_key (leaf_keys (page_of d s)) k ≡ true
+    → (has_key c.keys k ≡ true) × (homes k ≡ leaf_home s 0 (leaf_keys (page_of d s)) k)
+
+-- the leaf got one more key behind those that it had, or was split
+abbrev pub IsGrown : Page → Page → Type 0
+IsGrown old new =
+    (keys : List Key) × (old ≡ Leaf keys) × ((new ≡ Split) ⊎ ((k : Key) × (new ≡ Leaf (keys ++ k ∷ []))))
+
+-- What an act leaves as it was of a slot's page: its layout, unless it is a leaf that grows or is split, and the keys
+-- that its pointers are over; and that something has led to the slot since it was given: what leads to it now did so,
+-- over the same keys.
 pub record LeavesPage (old new : Table) (s : ℕ) : Type 0 where
-  pub page : page_of new s ≡ page_of old s
-  pub spans : (j : ℕ) → span_at new (at_index s j) ≡ span_at old (at_index s j)
+  pub page : (page_of new s ≡ page_of old s) ⊎ IsGrown (page_of old s) (page_of new s)
+  pub spans : (j : ℕ) → has_pointer (page_of old s) j ≡ true
+      → span_at new (at_index s j) ≡ span_at old (at_index s j)
   pub known : is_never (slot_of new s).led ≡ false
+  pub led : (x : At) → (slot_of new s).led ≡ From x
+      → ((slot_of old s).led ≡ From x) × (span_at new x ≡ span_at old x)
 
 -- An act of one seat leaves the page of each slot that any seat holds, once something has led to it; it leaves the
 -- keys that roots are over, and published snapshot pages with the homes that they give.
@@ -94,7 +113,8 @@ EachActLeaves = (homes : Key → Home) (d : Table) (grips : List Grip) (p : ℕ)
 abbrev pub WasAway : Table → Act → ℕ → Type 0
 WasAway old act s =
     ((slot_of old s).led ≡ Away)
-    ⊎ ((x : At) × (n : ℕ) × (act ≡ Swing x n) × ((pointer_of old x).slot ≡ Some s))
+    ⊎ (((x : At) × (n : ℕ) × (act ≡ Swing x n) × ((pointer_of old x).slot ≡ Some s))
+    ⊎ ((x : At) × (n : ℕ) × (c : Chain) × (act ≡ SwingChain x n c) × (has_slot c.slots s ≡ true)))
 
 -- what led to a slot is taken away by a swing alone, and its page stays as it is laid out
 abbrev pub SwingsTakeAway : Type 0

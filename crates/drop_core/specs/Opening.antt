@@ -31,6 +31,7 @@ opening_table snaps published roots room = record {
   slots = [];
   pages = [];
   pointers = root_pointers 0 roots;
+  headers = [];
   snaps = snaps;
   published = published;
   room = room;

@@ -17,12 +17,12 @@ use Rattle.drop_core.specs.declared.table.Led.TheVariants.{Never, From, Away}
 use Rattle.drop_core.specs.declared.table.SlotState.{SlotState}
 use Rattle.drop_core.specs.declared.table.SlotState.TheVariants.{Published}
 use Rattle.drop_core.specs.declared.table.Page.{Page}
-use Rattle.drop_core.specs.declared.table.Page.TheVariants.{Blank, Leaf, Inner}
+use Rattle.drop_core.specs.declared.table.Page.TheVariants.{Blank, Leaf, Inner, Split}
 use Rattle.drop_core.specs.declared.table.SnapPage.{SnapPage}
 use Rattle.drop_core.specs.declared.table.SnapPage.TheVariants.{Missing, Entries, Children}
 use Rattle.drop_core.specs.declared.table.Table.{Table}
 use Rattle.drop_core.specs.declared.grip.Grip.{Grip}
-use Rattle.drop_core.specs.Table.{slot_of, page_of, pointer_of, snap_of, at_index, child_of, snap_home, leaf_home, has_pointer, is_led, is_live, is_last, holders}
+use Rattle.drop_core.specs.Table.{slot_of, page_of, pointer_of, header_of, snap_of, at_index, child_of, snap_home, leaf_home, has_pointer, is_led, is_live, is_last, holders}
 use Rattle.drop_core.specs.Event.{DropState, each_once, is_owned, leads_down, is_right}
 
 -- ---- one home each: from the roots the pointers lead to each key's home
@@ -31,19 +31,24 @@ use Rattle.drop_core.specs.Event.{DropState, each_once, is_owned, leads_down, is
 abbrev pub span_at : Table → At → Span
 span_at d x = (pointer_of d x).span
 
+-- A page with pointers over a span has one for each key of the span, and no key beyond it.
+abbrev pub Parts : (At → Span) → Span → ℕ → Page → Type 0
+Parts spans span s page =
+    ((k : Key) → in_span span k ≡ true
+    → (j : ℕ) × (has_pointer page j ≡ true) × (in_span (spans (at_index s j)) k ≡ true))
+    × ((j : ℕ) (k : Key) → has_pointer page j ≡ true → in_span (spans (at_index s j)) k ≡ true
+    → in_span span k ≡ true)
+
 -- What the page of a slot over a span has: a leaf the homes of the span's keys, and no key beyond it; an interior
--- page a child for each key of the span, and no key beyond it.
+-- page and a leaf that was split have pointers over its parts.
 abbrev pub PageTies : (Key → Home) → (At → Span) → Span → ℕ → Page → Type 0
 PageTies homes spans span s Blank = ⊥
 PageTies homes spans span s (Leaf keys) =
     ((k : Key) → in_span span k ≡ true → homes k ≡ leaf_home s 0 keys k)
     × ((k : Key) → has_key keys k ≡ true → in_span span k ≡ true)
     × (each_once keys ≡ true)
-PageTies homes spans span s (Inner n) =
-    ((k : Key) → in_span span k ≡ true
-    → (j : ℕ) × (has_pointer (Inner n) j ≡ true) × (in_span (spans (at_index s j)) k ≡ true))
-    × ((j : ℕ) (k : Key) → has_pointer (Inner n) j ≡ true → in_span (spans (at_index s j)) k ≡ true
-    → in_span span k ≡ true)
+PageTies homes spans span s (Inner n) = Parts spans span s (Inner n)
+PageTies homes spans span s Split = Parts spans span s Split
 
 -- the same of a page in the table
 abbrev pub TiesPage : (Key → Home) → Table → Span → ℕ → Page → Type 0
@@ -151,12 +156,17 @@ pub record PublishedAreRight (snaps : ℕ → SnapPage) (published : ℕ) : Type
   pub down : (n : ℕ) → 0 < n → n ≤ published → leads_down n (snaps n) ≡ true
   pub right : (n : ℕ) → 0 < n → n ≤ published → is_right snaps (snaps n) ≡ true
 
+-- Own part: the header of a page from which what led to it was taken is dead, until its slot is given again.
+abbrev pub HeadersStayDead : Table → Type 0
+HeadersStayDead d = (s : ℕ) → (slot_of d s).led ≡ Away → header_of d s ≡ Dead
+
 -- the pages are sound, with these homes of the keys
 pub record IsSoundPages (homes : Key → Home) (d : Table) (grips : List Grip) : Type 0 where
   pub table : IsSoundTable homes d grips
   pub ranked : IsRanked (λ s. (slot_of d s).led)
   pub rooted : HomesAreRooted homes (span_at d)
   pub published : PublishedAreRight (snap_of d) d.published
+  pub headers : HeadersStayDead d
 
 -- the whole state is
 abbrev pub IsSound : (Key → Home) → DropState → Type 0

@@ -3,6 +3,7 @@ use Rattle.std.specs.Prelude.{ℕ, zero, suc, ◌==◌, ◌&&◌, Bool, true, fa
 use Rattle.std.specs.List.{list_any, sum_by}
 use Rattle.serial_model.specs.declared.key.Key.{Key}
 use Rattle.homes.specs.declared.places.Content.{Content}
+use Rattle.homes.specs.declared.places.Holder.{Holder}
 use Rattle.homes.specs.declared.places.Holder.TheVariants.{Dead}
 use Rattle.homes.specs.declared.places.At.{At}
 use Rattle.homes.specs.declared.places.At.TheVariants.{Root, In}
@@ -15,7 +16,7 @@ use Rattle.drop_core.specs.declared.table.Led.TheVariants.{Never, From, Away}
 use Rattle.drop_core.specs.declared.table.SlotState.TheVariants.{Unused}
 use Rattle.drop_core.specs.declared.table.Slot.{Slot}
 use Rattle.drop_core.specs.declared.table.Page.{Page}
-use Rattle.drop_core.specs.declared.table.Page.TheVariants.{Blank, Leaf, Inner}
+use Rattle.drop_core.specs.declared.table.Page.TheVariants.{Blank, Leaf, Inner, Split}
 use Rattle.drop_core.specs.declared.table.Pointer.{Pointer}
 use Rattle.drop_core.specs.declared.table.SnapPage.{SnapPage}
 use Rattle.drop_core.specs.declared.table.SnapPage.TheVariants.{Missing, Entries, Children}
@@ -47,6 +48,10 @@ no_pointer = record { span = no_span; slot = None; page = 0; holder = Dead }
 -- the pointer that stands there
 abbrev pub pointer_of : Table → At → Pointer
 pointer_of d x = look same_at no_pointer d.pointers x
+
+-- who holds the header of the page in a slot; a page without one has one that is dead
+abbrev pub header_of : Table → ℕ → Holder
+header_of d s = look (λ a b. a == b) Dead d.headers s
 
 -- the snapshot page of a number
 abbrev pub snap_of : Table → ℕ → SnapPage
@@ -123,17 +128,26 @@ abbrev pub has_pointer : Page → ℕ → Bool
 has_pointer Blank j = false
 has_pointer (Leaf keys) j = false
 has_pointer (Inner n) j = nat_lt j n
+has_pointer Split j = nat_lt j 2
 
--- a root's pointer, or one in an interior page that something leads to
+-- a root's pointer, or one in a page that something leads to
 abbrev pub is_live : Table → At → Bool
 is_live d (Root r) = true
 is_live d (In x) = is_led (slot_of d x.slot).led && has_pointer (page_of d x.slot) x.index
 
--- an interior page
+-- a page with pointers: an interior page, or a leaf that was split
 abbrev pub is_inner : Page → Bool
 is_inner Blank = false
 is_inner (Leaf keys) = false
 is_inner (Inner n) = true
+is_inner Split = true
+
+-- a leaf that was split
+abbrev pub is_split : Page → Bool
+is_split Blank = false
+is_split (Leaf keys) = false
+is_split (Inner n) = false
+is_split Split = true
 
 -- where the way through slots' pages ends: at a leaf, or where there is no slot
 abbrev pub is_last_to : Table → Option ℕ → Bool

@@ -6,7 +6,7 @@ use Rattle.homes.specs.declared.places.Span.{Span}
 use Rattle.homes.specs.declared.places.Home.{Home}
 use Rattle.homes.specs.Homes.{in_span}
 use Rattle.drop_core.specs.declared.table.Page.{Page}
-use Rattle.drop_core.specs.declared.table.Page.TheVariants.{Blank, Leaf, Inner}
+use Rattle.drop_core.specs.declared.table.Page.TheVariants.{Blank, Leaf, Inner, Split}
 use Rattle.drop_core.specs.declared.table.Table.{Table}
 use Rattle.drop_core.specs.Table.{page_of, pointer_of, at_index, snap_home, leaf_home}
 use Rattle.drop_core.specs.Sound.{span_at}
@@ -27,6 +27,7 @@ abbrev pub way_page : (At → Option Home) → (At → Span) → ℕ → Key →
 way_page on spans s k Blank = None
 way_page on spans s k (Leaf keys) = Some (leaf_home s 0 keys k)
 way_page on spans s k (Inner n) = option_and_then on (child_with spans s n k)
+way_page on spans s k Split = option_and_then on (child_with spans s 2 k)
 
 -- the key's home by the two halves of a pointer
 abbrev pub way_to : (At → Option Home) → Table → Key → Option ℕ → ℕ → Option Home

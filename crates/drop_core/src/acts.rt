@@ -1,7 +1,7 @@
 // The acts on slots, on single words and on the published count: the condition, and then the effect. What needs
 // memory comes first, so that want of memory leaves everything as it was.
-ghost use Rattle.std.specs.Prelude.{◌≡◌, [], ◌∷◌, IfOk, OnOk, OnErr};
-ghost use Rattle.drop_core.specs.Event.{Answers, without, with_pointer};
+ghost use Rattle.std.specs.Prelude.{◌≡◌, [], ◌∷◌, IfOk, OnOk, OnErr, None};
+ghost use Rattle.drop_core.specs.Event.{Answers, without, with_pointer, with_header};
 
 use crate::grip::has_slot;
 use crate::{Act, Grip, Led, Page, Pointer, Refused, Slot, SlotState, SnapPage, Table};
@@ -65,7 +65,8 @@ pub fn leave(id: u32, table: &mut Table, grip: &mut Grip, slot: u32) -> Answer
     Ok(no_moves(table))
 }
 
-/// Takes a usable slot. Nobody reads its page: a seat that did would hold it.
+/// Takes a usable slot. Nobody reads its page: a seat that did would hold it. The page has no header until one is
+/// filled.
 pub fn give(id: u32, table: &mut Table, grip: &mut Grip, slot: u32) -> Answer
     ensures { Answers id (Act.Give slot) table.old grip.old result table.new grip.new }
 {
@@ -80,8 +81,10 @@ pub fn give(id: u32, table: &mut Table, grip: &mut Grip, slot: u32) -> Answer
         led: Led::Never,
     };
     let slots = slots_with(&table.slots, slot, new)?;
+    let headers = headers_with(&table.headers, slot, Holder::Dead)?;
     let made = numbers_with(&grip.made, slot)?;
     table.slots = slots;
+    table.headers = headers;
     grip.made = made;
     Ok(no_moves(table))
 }
@@ -241,6 +244,53 @@ pub fn reopen(id: u32, table: &mut Table, grip: &mut Grip, at: At) -> Answer
     Ok(no_moves(table))
 }
 
+/// Gives the page of an owned slot an open header, so that keys can be added to it once it is led to.
+pub fn fill_header(id: u32, table: &mut Table, grip: &mut Grip, slot: u32) -> Answer
+    ensures { Answers id (Act.FillHeader slot) table.old grip.old result table.new grip.new }
+{
+    if !table.slot(slot).state.is_owned() || !has_slot(&grip.made, slot) {
+        return Err(OrMemory::Fault(Refused));
+    }
+    set_header(table, slot, Holder::Free)?;
+    Ok(no_moves(table))
+}
+
+/// Keeps others from adding keys to a leaf. The header of one that was split is locked by seat 0 alone, as it drops
+/// the chain.
+pub fn lock_header(id: u32, table: &mut Table, grip: &mut Grip, slot: u32) -> Answer
+    ensures { Answers id (Act.LockHeader slot) table.old grip.old result table.new grip.new }
+{
+    if !table.slot(slot).led.is_from() || !table.header(slot).is_free() {
+        return Err(OrMemory::Fault(Refused));
+    }
+    if id != 0 && table.is_split(slot) {
+        return Err(OrMemory::Fault(Refused));
+    }
+    set_header(table, slot, Holder::Held(id))?;
+    Ok(no_moves(table))
+}
+
+/// Lets them again, with the keys that there were.
+pub fn open_header(id: u32, table: &mut Table, grip: &mut Grip, slot: u32) -> Answer
+    ensures { Answers id (Act.OpenHeader slot None) table.old grip.old result table.new grip.new }
+{
+    if !table.header(slot).is(id) {
+        return Err(OrMemory::Fault(Refused));
+    }
+    set_header(table, slot, Holder::Free)?;
+    Ok(no_moves(table))
+}
+
+/// The header is held so now.
+fn set_header(table: &mut Table, slot: u32, new: Holder) -> Result<(), Memory>
+    ensures ok { OnOk result (table.new ≡ with_header table.old slot new) }
+    ensures memory { OnErr result (table.new ≡ table.old) }
+{
+    let headers = headers_with(&table.headers, slot, new)?;
+    table.headers = headers;
+    Ok(())
+}
+
 /// The pointer is this now.
 fn set_pointer(table: &mut Table, at: At, new: Pointer) -> Result<(), Memory>
     ensures ok { OnOk result (table.new ≡ with_pointer table.old at new) }
@@ -289,6 +339,20 @@ pub fn pointers_with(
     let mut all = Sequence::new(pointers.alloc());
     all.push((at, new))?;
     all.append(pointers.as_slice())?;
+    Ok(all)
+}
+
+/// The headers, of which one is held so now.
+pub fn headers_with(
+    headers: &Sequence<(u32, Holder)>,
+    slot: u32,
+    new: Holder,
+) -> Result<Sequence<(u32, Holder)>, Memory>
+    ensures { IfOk result (λ s. s ≡ (slot, new) ∷ headers.now) }
+{
+    let mut all = Sequence::new(headers.alloc());
+    all.push((slot, new))?;
+    all.append(headers.as_slice())?;
     Ok(all)
 }
 

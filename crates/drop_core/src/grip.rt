@@ -19,5 +19,12 @@ pub struct Grip {
 pub fn has_slot(slots: &Sequence<u32>, slot: u32) -> bool
     ensures { result ≡ has_slot slots.now slot }
 {
-    slots.as_slice().iter().any(|s| *s == slot)
+    is_among(slots.as_slice(), slot)
+}
+
+/// Whether it is one of these.
+pub fn is_among(slots: &[u32], slot: u32) -> bool
+    ensures { result ≡ has_slot slots.now slot }
+{
+    slots.iter().any(|s| *s == slot)
 }

@@ -7,7 +7,7 @@ ghost use Rattle.drop_core.specs.Opening.{CanOpen, opening_state, opening_homes,
 ghost use Rattle.drop_core.specs.Sound.{IsSound, IsOutcome};
 
 use crate::acts::{self, Answer};
-use crate::{Act, Event, Grip, Pointer, Refused, SnapPage, Table, swaps};
+use crate::{Act, Event, Grip, Pointer, Refused, SnapPage, Table, chains, leaves, swaps};
 use homes::{At, Holder, Span};
 use lists::Sequence;
 use serial_model::{Memory, OrMemory};
@@ -98,6 +98,11 @@ pub fn apply(id: u32, table: &mut Table, grip: &mut Grip, act: Act) -> Answer
         Act::Renew(at, number) => acts::renew(id, table, grip, at, number),
         Act::Shut(at) => acts::shut(id, table, grip, at),
         Act::Reopen(at) => acts::reopen(id, table, grip, at),
+        Act::FillHeader(slot) => acts::fill_header(id, table, grip, slot),
+        Act::LockHeader(slot) => acts::lock_header(id, table, grip, slot),
+        Act::OpenHeader(slot, added) => leaves::open(id, table, grip, slot, added),
+        Act::Twin(twins) => leaves::split(id, table, grip, &twins),
+        Act::SwingChain(at, number, chain) => chains::swing(id, table, grip, at, number, &chain),
     }
 }
 
@@ -117,6 +122,7 @@ fn opened(
         slots: Sequence::new(alloc),
         pages: Sequence::new(alloc),
         pointers,
+        headers: Sequence::new(alloc),
         snaps,
         published,
         room,

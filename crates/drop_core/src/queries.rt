@@ -3,8 +3,8 @@ ghost use Rattle.std.specs.Prelude.{◌≡◌, ◌==◌};
 ghost use Rattle.std.specs.List.{find};
 ghost use Rattle.std.specs.Option.{option_copied, option_map_or};
 ghost use Rattle.homes.specs.Homes.{look, same_at};
-ghost use Rattle.drop_core.specs.Table.{slot_of, page_of, pointer_of, snap_of, snap_walk, snap_home, entry_home, child_of, leaf_home, has_pointer, is_led, is_never, is_live};
-ghost use Rattle.drop_core.specs.Event.{is_open, is_owned, is_published, is_usable};
+ghost use Rattle.drop_core.specs.Table.{fresh_slot, slot_of, page_of, no_span, pointer_of, header_of, snap_of, snap_walk, snap_home, entry_home, child_of, leaf_home, has_pointer, is_led, is_never, is_live, is_split};
+ghost use Rattle.drop_core.specs.Event.{is_open, is_owned, is_published, is_usable, leaf_keys, led_span, slot_span};
 
 use crate::{Led, Page, Pointer, Slot, SlotState, SnapPage, Table};
 use homes::{At, Content, Holder, Home, Span, Spot};
@@ -62,15 +62,7 @@ impl Table {
     pub fn slot(&self, slot: u32) -> Slot
         ensures { result ≡ slot_of self.now slot }
     {
-        match find_slot(self.slots.as_slice(), slot) {
-            Some(entry) => entry.1,
-            None => Slot {
-                state: SlotState::Unused,
-                passes: 0,
-                times: 0,
-                led: Led::Never,
-            },
-        }
+        slot_in(self.slots.as_slice(), slot)
     }
 
     pub fn pointer(&self, at: At) -> Pointer
@@ -79,11 +71,7 @@ impl Table {
         match find_pointer(self.pointers.as_slice(), at) {
             Some(entry) => entry.1,
             None => Pointer {
-                span: Span {
-                    storage: 0,
-                    low: 1,
-                    high: 0,
-                },
+                span: no_span(),
                 slot: None,
                 page: 0,
                 holder: Holder::Dead,
@@ -98,6 +86,52 @@ impl Table {
         match find_page(self.pages.as_slice(), slot) {
             Some(entry) => Some(&entry.1),
             None => None,
+        }
+    }
+
+    /// Who holds the header of the page in a slot. A page without one has one that is dead.
+    pub fn header(&self, slot: u32) -> Holder
+        ensures { result ≡ header_of self.now slot }
+    {
+        match find_header(self.headers.as_slice(), slot) {
+            Some(entry) => entry.1,
+            None => Holder::Dead,
+        }
+    }
+
+    /// The keys of the records in a slot's page.
+    pub fn leaf_keys(&self, slot: u32) -> &[Key]
+        ensures { result.now ≡ leaf_keys (page_of self.now slot) }
+    {
+        match self.page(slot) {
+            None | Some(Page::Blank) | Some(Page::Inner(_)) | Some(Page::Split) => &[],
+            Some(Page::Leaf(keys)) => keys.as_slice(),
+        }
+    }
+
+    /// Whether the page in a slot is a leaf that was split.
+    pub fn is_split(&self, slot: u32) -> bool
+        ensures { result ≡ is_split (page_of self.now slot) }
+    {
+        match self.page(slot) {
+            None | Some(Page::Blank) | Some(Page::Inner(_)) | Some(Page::Leaf(_)) => false,
+            Some(Page::Split) => true,
+        }
+    }
+
+    /// The keys that the page in a slot is over, where something leads to it, and else none.
+    pub fn slot_span(&self, slot: u32) -> Span
+        ensures { result ≡ slot_span self.now slot }
+    {
+        self.led_span(self.slot(slot).led)
+    }
+
+    fn led_span(&self, led: Led) -> Span
+        ensures { result ≡ led_span self.now led }
+    {
+        match led {
+            Led::Never | Led::Away => no_span(),
+            Led::From(at) => self.pointer(at).span,
         }
     }
 
@@ -143,10 +177,11 @@ impl Table {
         match self.page(slot) {
             None | Some(Page::Blank) | Some(Page::Leaf(_)) => false,
             Some(Page::Inner(count)) => index < *count,
+            Some(Page::Split) => index < 2,
         }
     }
 
-    /// Whether it is a root's pointer, or one in an interior page that something leads to.
+    /// Whether it is a root's pointer, or one in a page that something leads to.
     pub fn is_live(&self, at: At) -> bool
         ensures { result ≡ is_live self.now at }
     {
@@ -170,6 +205,21 @@ impl Table {
     }
 }
 
+/// The slot of this number in a list of slots.
+pub fn slot_in(slots: &[(u32, Slot)], slot: u32) -> Slot
+    ensures { result ≡ look (λ a b. a == b) fresh_slot slots.now slot }
+{
+    match find_slot(slots, slot) {
+        Some(entry) => entry.1,
+        None => Slot {
+            state: SlotState::Unused,
+            passes: 0,
+            times: 0,
+            led: Led::Never,
+        },
+    }
+}
+
 fn find_slot(slots: &[(u32, Slot)], slot: u32) -> Option<(u32, Slot)>
     ensures { result ≡ find (λ e. e.0 == slot) slots.now }
 {
@@ -186,6 +236,12 @@ fn find_page(pages: &[(u32, Page)], slot: u32) -> Option<&(u32, Page)>
     ensures { option_copied result ≡ find (λ e. e.0 == slot) pages.now }
 {
     pages.iter().find(|entry| entry.0 == slot)
+}
+
+fn find_header(headers: &[(u32, Holder)], slot: u32) -> Option<(u32, Holder)>
+    ensures { result ≡ find (λ e. e.0 == slot) headers.now }
+{
+    headers.iter().copied().find(|entry| entry.0 == slot)
 }
 
 fn find_snap(snaps: &[(u32, SnapPage)], number: u32) -> Option<&(u32, SnapPage)>
@@ -230,4 +286,15 @@ pub fn leaf_home(slot: u32, keys: &[Key], key: Key) -> Home
         index += 1;
     }
     Home::Nowhere
+}
+
+/// A span without keys.
+pub fn no_span() -> Span
+    ensures { result ≡ no_span }
+{
+    Span {
+        storage: 0,
+        low: 1,
+        high: 0,
+    }
 }

@@ -15,7 +15,7 @@ impl Table {
         ensures { result ≡ is_like self.now slot (page_of self.now slot) (snap_of self.now n) }
     {
         match self.page(slot) {
-            None | Some(Page::Blank) => false,
+            None | Some(Page::Blank) | Some(Page::Split) => false,
             Some(Page::Leaf(_)) => self.is_leaf_page(n),
             Some(Page::Inner(count)) => self.has_children(slot, *count, n),
         }

@@ -5,13 +5,14 @@ ghost use Rattle.homes.specs.Homes.{has_key, in_span, same_span, is_free, holder
 ghost use Rattle.drop_core.specs.Table.{page_of, snap_of, page_span};
 ghost use Rattle.drop_core.specs.Event.{all_below, entries_pass, page_keys_pass, is_left_in, is_same_at, leaves_none_out, same_below, each_once, is_leaf_for, child, begins, is_tile, is_same_child, is_inner_for, stands_for, is_stood_for, is_page_over, leads_down};
 
+use crate::queries::no_span;
 use crate::{Page, Pointer, SnapPage, Table};
 use homes::{At, Content, Home, Span, Spot};
 use serial_model::Key;
 
 impl Table {
     /// Whether snapshot page `n` has no entry of a key of the span that isn't in the list.
-    fn leaves_none_out(&self, n: u32, span: Span, keys: &[Key]) -> bool
+    pub fn leaves_none_out(&self, n: u32, span: Span, keys: &[Key]) -> bool
         ensures { result ≡ leaves_none_out self.now n span keys.now }
     {
         let mut snaps = self.snaps.as_slice().iter();
@@ -195,7 +196,7 @@ impl Table {
         ensures { result ≡ stands_for self.now slot n span (page_of self.now slot) }
     {
         match self.page(slot) {
-            None | Some(Page::Blank) => false,
+            None | Some(Page::Blank) | Some(Page::Split) => false,
             Some(Page::Leaf(keys)) => self.is_leaf_for(n, span, keys.as_slice()),
             Some(Page::Inner(count)) => self.is_inner_for(slot, n, span, *count),
         }
@@ -206,7 +207,7 @@ impl Table {
         ensures { result ≡ is_stood_for id self.now slot n span (page_of self.now slot) }
     {
         match self.page(slot) {
-            None | Some(Page::Blank) => false,
+            None | Some(Page::Blank) | Some(Page::Split) => false,
             Some(Page::Leaf(keys)) => self.leaves_none_out(n, span, keys.as_slice()),
             Some(Page::Inner(count)) => {
                 self.are_same_children(slot, n, *count) && self.are_shut_by(id, slot, *count)
@@ -218,13 +219,8 @@ impl Table {
     pub fn is_over(&self, n: u32, span: Span) -> bool
         ensures { result ≡ same_span (page_span (snap_of self.now n)) span }
     {
-        let none = Span {
-            storage: 0,
-            low: 1,
-            high: 0,
-        };
         match self.snap(n) {
-            None | Some(SnapPage::Missing) => none.is(span),
+            None | Some(SnapPage::Missing) => no_span().is(span),
             Some(SnapPage::Entries(over, _)) => over.is(span),
             Some(SnapPage::Children(over, _)) => over.is(span),
         }
@@ -253,13 +249,15 @@ impl Table {
     }
 }
 
-fn has_key(keys: &[Key], key: Key) -> bool
+/// Whether the key is in the list.
+pub fn has_key(keys: &[Key], key: Key) -> bool
     ensures { result ≡ has_key keys.now key }
 {
     keys.iter().any(|k| *k == key)
 }
 
-fn are_in(span: Span, keys: &[Key]) -> bool
+/// Whether all keys are in the span.
+pub fn are_in(span: Span, keys: &[Key]) -> bool
     ensures { result ≡ list_all (λ k. in_span span k) keys.now }
 {
     keys.iter().all(|key| span.has(*key))
@@ -273,7 +271,7 @@ fn are_lower(number: u32, children: &[(Span, u32)]) -> bool
 }
 
 /// Whether each key is in the list once.
-fn each_once(keys: &[Key]) -> bool
+pub fn each_once(keys: &[Key]) -> bool
     ensures { result ≡ each_once keys.now }
 {
     match keys {

@@ -1,33 +1,38 @@
-// The two acts that lead a pointer elsewhere: the keys below it move between a slot's page and a snapshot page.
-ghost use Rattle.std.specs.Prelude.{◌≡◌, ◌==◌, ◌&&◌, ◌||◌, [], ◌∷◌, IfOk, nat_le};
-ghost use Rattle.homes.specs.Homes.{moves_to, same_span};
-ghost use Rattle.drop_core.specs.Table.{slot_of, page_of, pointer_of, snap_of, page_span, has_slot, is_never, leaf_home, snap_home};
+// Acts that move keys, in two steps; and the two that lead a pointer elsewhere: the keys below it move between a slot's
+// page and a snapshot page.
+ghost use Rattle.std.specs.Prelude.{◌≡◌, IfOk, unwrap_or};
+ghost use Rattle.homes.specs.Homes.{moves_to};
+ghost use Rattle.drop_core.specs.Table.{page_of, pointer_of, leaf_home, snap_home};
 ghost use Rattle.drop_core.specs.Swap.{Prepares, with_numbers, put};
-ghost use Rattle.drop_core.specs.Event.{Answers, is_published, can_install, can_swing_from, can_swing, is_in, bury, buried_pointers, leaf_keys};
+ghost use Rattle.drop_core.specs.Event.{Answers, is_ready, is_target, is_closed_to_others, keeps_header, can_install, can_swing_from, can_swing, is_in, bury, buried_pointers, dropped, leaf_keys};
 
-use crate::acts::{Answer, numbers_with, numbers_without, pointers_with, slots_with};
-use crate::grip::has_slot;
+use crate::acts::{Answer, headers_with, numbers_with, numbers_without, pointers_with, slots_with};
+use crate::grip::{has_slot, is_among};
 use crate::queries::leaf_home;
 use crate::{Act, Grip, Led, Page, Pointer, Refused, Slot, Table};
-use homes::{At, Holder, Move};
+use homes::{At, Holder, Move, Span};
 use lists::Sequence;
 use serial_model::{Key, Memory, OrMemory};
 
-/// What leading a pointer elsewhere comes to, made beforehand: to put it takes no memory. In between, whoever keeps pages
-/// beside another machine tells that one of the moves.
+/// What an act that moves keys comes to, made beforehand: to put it takes no memory. In between, whoever keeps pages beside
+/// another machine tells that one of the moves. A list that isn't there stays as it is.
 #[derive(Drop)]
 pub struct Swap {
-    pub slots: Sequence<(u32, Slot)>,
-    pub pointers: Sequence<(At, Pointer)>,
+    pub slots: Option<Sequence<(u32, Slot)>>,
+    pub pages: Option<Sequence<(u32, Page)>>,
+    pub pointers: Option<Sequence<(At, Pointer)>>,
+    pub headers: Option<Sequence<(u32, Holder)>>,
     pub numbers: Numbers,
     /// The keys that move, with their new homes.
     pub moves: Sequence<Move>,
 }
 
-/// The slots of a seat that change with a pointer.
+/// The slots of a seat that change with it.
 #[derive(Drop)]
 pub enum Numbers {
-    /// Those that it made, with an install.
+    /// None do.
+    Kept,
+    /// Those that it made, with an install and a split.
     Made(Sequence<u32>),
     /// Those that it took, with a swing.
     Taken(Sequence<u32>),
@@ -69,8 +74,10 @@ pub fn prepare_install(
     let pointers = pointers_with(&table.pointers, at, pointer)?;
     let made = numbers_without(&grip.made, slot)?;
     Ok(Swap {
-        slots,
-        pointers,
+        slots: Some(slots),
+        pages: None,
+        pointers: Some(pointers),
+        headers: None,
         numbers: Numbers::Made(made),
         moves,
     })
@@ -86,7 +93,7 @@ pub fn prepare_swing(
 ) -> Result<Swap, OrMemory<Refused>>
     ensures { Prepares id (Act.Swing at number) table.now grip.now result }
 {
-    if !can_swing(id, table, at, number) {
+    if !can_swing(id, table, at, number) || !keeps_header(id, table, table.pointer(at).slot) {
         return Err(OrMemory::Fault(Refused));
     }
     let Some(slot) = table.pointer(at).slot else {
@@ -94,16 +101,31 @@ pub fn prepare_swing(
     };
     let moves = moves_down(table, slot, number)?;
     let slots = slots_with(&table.slots, slot, led(table.slot(slot), Led::Away))?;
-    let buried = buried_in(slot, &table.pointers)?;
-    let pointer = leading(table.pointer(at), None, number);
-    let pointers = pointers_with(&buried, at, pointer)?;
+    let pointers = dropped_from(table, at, number, &[slot])?;
+    let headers = headers_with(&table.headers, slot, Holder::Dead)?;
     let taken = numbers_with(&grip.taken, slot)?;
     Ok(Swap {
-        slots,
-        pointers,
+        slots: Some(slots),
+        pages: None,
+        pointers: Some(pointers),
+        headers: Some(headers),
         numbers: Numbers::Taken(taken),
         moves,
     })
+}
+
+/// The pointers once this one leads to the snapshot page alone, and those in the pages of these slots are dead.
+pub fn dropped_from(
+    table: &Table,
+    at: At,
+    number: u32,
+    gone: &[u32],
+) -> Result<Sequence<(At, Pointer)>, Memory>
+    ensures { IfOk result (λ s. s ≡ (dropped table.now at number gone.now).pointers) }
+{
+    let buried = buried_in(gone, &table.pointers)?;
+    let pointer = leading(table.pointer(at), None, number);
+    pointers_with(&buried, at, pointer)
 }
 
 /// Makes what was prepared so, and answers the moves.
@@ -114,20 +136,35 @@ pub fn put(swap: Swap, table: &mut Table, grip: &mut Grip) -> Sequence<Move>
 {
     let Swap {
         slots,
+        pages,
         pointers,
+        headers,
         numbers,
         moves,
     } = swap;
-    table.slots = slots;
-    table.pointers = pointers;
+    set_list(&mut table.slots, slots);
+    set_list(&mut table.pages, pages);
+    set_list(&mut table.pointers, pointers);
+    set_list(&mut table.headers, headers);
     set_numbers(grip, numbers);
     moves
+}
+
+/// The list is this now, if there is one.
+fn set_list<T: Drop>(list: &mut Sequence<T>, new: Option<Sequence<T>>)
+    ensures { list.new ≡ unwrap_or new list.old }
+{
+    match new {
+        None => {}
+        Some(new) => *list = new,
+    }
 }
 
 fn set_numbers(grip: &mut Grip, numbers: Numbers)
     ensures { grip.new ≡ with_numbers numbers grip.old }
 {
     match numbers {
+        Numbers::Kept => {}
         Numbers::Made(made) => grip.made = made,
         Numbers::Taken(taken) => grip.taken = taken,
     }
@@ -145,8 +182,8 @@ fn can_install(table: &Table, grip: &Grip, at: At, slot: u32) -> bool
 }
 
 /// Whether the seat published the slot, and nothing has led to it.
-fn is_ready(table: &Table, grip: &Grip, slot: u32) -> bool
-    ensures { result ≡ (has_slot grip.now.made slot && (is_published (slot_of table.now slot).state && is_never (slot_of table.now slot).led)) }
+pub fn is_ready(table: &Table, grip: &Grip, slot: u32) -> bool
+    ensures { result ≡ is_ready table.now grip.now slot }
 {
     let old = table.slot(slot);
     has_slot(&grip.made, slot) && old.state.is_published() && old.led.is_never()
@@ -156,15 +193,36 @@ fn can_swing(id: u32, table: &Table, at: At, number: u32) -> bool
     ensures { result ≡ can_swing id table.now at number }
 {
     table.is_open(at)
-        && is_target(table, number, table.pointer(at))
+        && is_target(table, number, table.pointer(at).span)
         && can_swing_from(id, table, at, number)
 }
 
-/// Whether the snapshot page is published, and is over the pointer's keys, or is none.
-fn is_target(table: &Table, number: u32, pointer: Pointer) -> bool
-    ensures { result ≡ (nat_le number table.now.published && ((number == 0) || same_span (page_span (snap_of table.now number)) pointer.span)) }
+/// Whether the snapshot page is published, and is over these keys, or is none.
+pub fn is_target(table: &Table, number: u32, span: Span) -> bool
+    ensures { result ≡ is_target table.now number span }
 {
-    number <= table.published && (number == 0 || table.is_over(number, pointer.span))
+    number <= table.published && (number == 0 || table.is_over(number, span))
+}
+
+/// Whether nobody but this seat can add a key to the page in the slot, if there is one.
+fn keeps_header(id: u32, table: &Table, slot: Option<u32>) -> bool
+    ensures { result ≡ keeps_header id table.now slot }
+{
+    match slot {
+        None => true,
+        Some(slot) => is_closed_to_others(id, table.header(slot)),
+    }
+}
+
+/// Whether nobody but this seat can open it.
+fn is_closed_to_others(id: u32, holder: Holder) -> bool
+    ensures { result ≡ is_closed_to_others id holder }
+{
+    match holder {
+        Holder::Free => false,
+        Holder::Held(other) => other == id,
+        Holder::Dead => true,
+    }
 }
 
 fn can_swing_from(id: u32, table: &Table, at: At, number: u32) -> bool
@@ -179,7 +237,7 @@ fn can_swing_from(id: u32, table: &Table, at: At, number: u32) -> bool
 }
 
 /// The slot, to which this leads.
-fn led(slot: Slot, led: Led) -> Slot
+pub fn led(slot: Slot, led: Led) -> Slot
     ensures { result ≡ record slot { led = led } }
 {
     Slot {
@@ -207,7 +265,9 @@ fn moves_up(table: &Table, slot: u32) -> Result<Sequence<Move>, Memory>
     ensures { IfOk result (λ m. m ≡ moves_to (leaf_home slot 0 (leaf_keys (page_of table.now slot))) (leaf_keys (page_of table.now slot))) }
 {
     match table.page(slot) {
-        None | Some(Page::Blank) | Some(Page::Inner(_)) => Ok(Sequence::new(table.slots.alloc())),
+        None | Some(Page::Blank) | Some(Page::Inner(_)) | Some(Page::Split) => {
+            Ok(Sequence::new(table.slots.alloc()))
+        }
         Some(Page::Leaf(keys)) => to_places(slot, keys),
     }
 }
@@ -228,12 +288,15 @@ fn moves_down(table: &Table, slot: u32, number: u32) -> Result<Sequence<Move>, M
     ensures { IfOk result (λ m. m ≡ moves_to (snap_home table.now number) (leaf_keys (page_of table.now slot))) }
 {
     match table.page(slot) {
-        None | Some(Page::Blank) | Some(Page::Inner(_)) => Ok(Sequence::new(table.slots.alloc())),
+        None | Some(Page::Blank) | Some(Page::Inner(_)) | Some(Page::Split) => {
+            Ok(Sequence::new(table.slots.alloc()))
+        }
         Some(Page::Leaf(keys)) => to_page(table, number, keys),
     }
 }
 
-fn to_page(table: &Table, number: u32, keys: &Sequence<Key>) -> Result<Sequence<Move>, Memory>
+/// The moves of these keys to a snapshot page.
+pub fn to_page(table: &Table, number: u32, keys: &Sequence<Key>) -> Result<Sequence<Move>, Memory>
     ensures { IfOk result (λ m. m ≡ moves_to (snap_home table.now number) keys.now) }
 {
     let mut moves = Sequence::new(keys.alloc());
@@ -244,24 +307,24 @@ fn to_page(table: &Table, number: u32, keys: &Sequence<Key>) -> Result<Sequence<
     Ok(moves)
 }
 
-/// The pointers, of which those in the page of the slot are dead.
+/// The pointers, of which those in the pages of these slots are dead.
 fn buried_in(
-    slot: u32,
+    gone: &[u32],
     pointers: &Sequence<(At, Pointer)>,
 ) -> Result<Sequence<(At, Pointer)>, Memory>
-    ensures { IfOk result (λ s. s ≡ buried_pointers (slot ∷ []) pointers.now) }
+    ensures { IfOk result (λ s. s ≡ buried_pointers gone.now pointers.now) }
 {
     let mut list = Sequence::new(pointers.alloc());
     for entry in pointers.as_slice() {
-        list.push((entry.0, bury(slot, entry.0, entry.1)))?;
+        list.push((entry.0, bury(gone, entry.0, entry.1)))?;
     }
     Ok(list)
 }
 
-fn bury(slot: u32, at: At, pointer: Pointer) -> Pointer
-    ensures { result ≡ bury (slot ∷ []) at pointer }
+fn bury(gone: &[u32], at: At, pointer: Pointer) -> Pointer
+    ensures { result ≡ bury gone.now at pointer }
 {
-    if is_in(slot, at) {
+    if is_in(gone, at) {
         return Pointer {
             span: pointer.span,
             slot: pointer.slot,
@@ -272,12 +335,12 @@ fn bury(slot: u32, at: At, pointer: Pointer) -> Pointer
     pointer
 }
 
-/// Whether the pointer is in the page of the slot.
-fn is_in(slot: u32, at: At) -> bool
-    ensures { result ≡ is_in (slot ∷ []) at }
+/// Whether the pointer is in the page of one of these slots.
+pub fn is_in(gone: &[u32], at: At) -> bool
+    ensures { result ≡ is_in gone.now at }
 {
     match at {
         At::Root(_) => false,
-        At::In(spot) => slot == spot.slot,
+        At::In(spot) => is_among(gone, spot.slot),
     }
 }

@@ -48,6 +48,8 @@ pub enum Page {
     Leaf(Sequence<Key>),
     /// With so many pointers.
     Inner(usize),
+    /// A leaf that was split: it has two pointers, dead from the start, to the leaves that have its keys now.
+    Split,
 }
 
 /// A pointer has a volatile half, a slot, and a snapshot half, a page number or 0.
@@ -78,6 +80,9 @@ pub struct Table {
     pub slots: Sequence<(u32, Slot)>,
     pub pages: Sequence<(u32, Page)>,
     pub pointers: Sequence<(At, Pointer)>,
+    /// Who holds the header of a slot's page. A page without one, which no key can be added to, has one that is dead.
+    /// What else a header says is fixed by the page: how many records it has, and whether it was split.
+    pub headers: Sequence<(u32, Holder)>,
     pub snaps: Sequence<(u32, SnapPage)>,
     /// Snapshot pages up to this number are published: they never change.
     pub published: u32,

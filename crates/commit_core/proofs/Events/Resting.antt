@@ -9,7 +9,7 @@ use Rattle.homes.specs.declared.places.Holder.TheVariants.{Free}
 use Rattle.homes.specs.declared.places.Spot.{Spot}
 use Rattle.commit_core.specs.declared.place.Place.{Place}
 use Rattle.commit_core.specs.declared.part.Word.{Word}
-use Rattle.commit_core.specs.declared.part.Word.TheVariants.{Record, Pointer}
+use Rattle.commit_core.specs.declared.part.Word.TheVariants.{Record, Pointer, Header}
 use Rattle.commit_core.specs.declared.part.Part.{Part}
 use Rattle.commit_core.specs.declared.attempt.Attempt.{Attempt}
 use Rattle.commit_core.specs.declared.seat.Mark.{Mark}
@@ -98,6 +98,7 @@ keeps_see opening p m s k rests free story own =
 told_fits : (m : Story) (part : Part) (w : Word) → not (is_record w) ≡ true → FitsWord m.places m.homes part w
 told_fits m part (Record x) told = absurd (true≢false (sym told))
 told_fits m part (Pointer x) told = tt
+told_fits m part (Header s) told = tt
 
 pub keeps_keep : (opening : List (Key × Content)) (p : ℕ) (m : Story) (s : Seat) (part : Part) → not (is_trying s.stage) ≡ true → not (is_record part.word) ≡ true → IsFreeNow (stands m.places m.homes) part
     → IsSoundStory opening m → IsSoundSeat opening m p s → Keeps opening p m (moved m (record s { kept = with_part s.kept part }))

@@ -9,7 +9,7 @@ use Rattle.homes.specs.declared.places.Home.{Home}
 use Rattle.homes.specs.declared.places.Spot.{Spot}
 use Rattle.commit_core.specs.declared.place.Place.{Place}
 use Rattle.commit_core.specs.declared.part.Word.{Word}
-use Rattle.commit_core.specs.declared.part.Word.TheVariants.{Record, Pointer}
+use Rattle.commit_core.specs.declared.part.Word.TheVariants.{Record, Pointer, Header}
 use Rattle.commit_core.specs.declared.part.Part.{Part}
 use Rattle.commit_core.specs.declared.attempt.Attempt.{Attempt}
 use Rattle.commit_core.specs.declared.attempt.Check.{Check}
@@ -78,6 +78,7 @@ pub record IsOfRecord (places : List (Spot × Place)) (homes : List (Key × Home
 abbrev pub FitsWord : List (Spot × Place) → List (Key × Home) → Part → Word → Type 0
 FitsWord places homes part (Record x) = IsOfRecord places homes x part
 FitsWord places homes part (Pointer x) = ⊤
+FitsWord places homes part (Header s) = ⊤
 
 -- Own part: each record that is kept is at its key's home, or dead.
 abbrev pub KeptFits : List (Spot × Place) → List (Key × Home) → List Part → Type 0

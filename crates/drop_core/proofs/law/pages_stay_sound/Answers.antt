@@ -1,6 +1,7 @@
 -- The theorem, from its lemmas.
 use Rattle.drop_core.specs.KeyTests.{none-out, none-out_back, same-homes, same-homes_back}
 use Rattle.drop_core.proofs.Aways.{taken_away}
+use Rattle.drop_core.proofs.ChainDrops.{chain_down}
 use Rattle.drop_core.proofs.Holds.{held_not_given}
 use Rattle.drop_core.proofs.Openings.{starts_sound}
 use Rattle.drop_core.proofs.Runs.{keeps_act, run_sound, enters}
@@ -21,6 +22,7 @@ returns c = record {
   install = λ homes d grips p s g x can sound. installs_up homes d grips sound p s g x can;
   away = λ homes d grips p g act s can sound is. taken_away homes d grips sound p g act s can is;
   swing = λ homes d grips p n s g x can leads sound. swings_down homes d grips sound p g x n can s leads;
+  chains = λ homes d grips p n s g x c can sound hit k there. chain_down homes d grips sound p g x n c can s hit k there;
   tests = record {
     none_out = λ d n span keys. (none-out d n span keys, none-out_back d n span keys);
     same_homes = λ d span m n. (same-homes d span m n, same-homes_back d span m n);

@@ -4,7 +4,7 @@ use Rattle.std.specs.List.{slice_get}
 use Rattle.std.proofs.lemmas.Option.{slice_get_read}
 use Rattle.drop_core.specs.Event.{DropState, AnswersEvent}
 use Rattle.drop_core.proofs.StepLaws.{with_grip, same_sound, answers_event, answers_sound}
-use Rattle.drop_core.proofs.machine.DropCore.step.Goals.{in-FillPage+in-Leaf-1, in-FillPage+in-Blank-1, in-FillSnapshot+in-Entries-1, in-FillSnapshot+in-Children-1, in-FillSnapshot+in-Missing-1, in-Enter-1}
+use Rattle.drop_core.proofs.machine.DropCore.step.Goals.{in-FillPage+in-Leaf-1, in-FillPage+in-Blank-1, in-FillSnapshot+in-Entries-1, in-FillSnapshot+in-Children-1, in-FillSnapshot+in-Missing-1, in-Enter-1, in-Twin-1, in-SwingChain-1}
 use Rattle.drop_core.proofs.machine.DropCore.step.Goals as goal
 
 pub returns-in-Some-clause-event : goal.returns-in-Some-clause-event
@@ -25,4 +25,6 @@ returns-in-None-clause-sound c = λ homes sound. elim c.match-event.branch [
   | in-FillSnapshot+in-Children-1 w ↦ same_sound homes _ _ (w.self-is ∙ c.self.view_is) sound
   | in-FillSnapshot+in-Missing-1 w ↦ same_sound homes _ _ (w.self-is ∙ c.self.view_is) sound
   | in-Enter-1 w ↦ same_sound homes _ _ (w.self-is ∙ c.self.view_is) sound
+  | in-Twin-1 w ↦ same_sound homes _ _ (w.self-is ∙ c.self.view_is) sound
+  | in-SwingChain-1 w ↦ same_sound homes _ _ (w.self-is ∙ c.self.view_is) sound
 ]

@@ -41,7 +41,7 @@ by_spot x y q r new old is rest =
     ]
 
 -- a place that is dead now has what it had
-buried_content : (list : List Move) (homes : List (Key × Home)) (places : List (Spot × Place)) (x : Spot)
+pub buried_content : (list : List Move) (homes : List (Key × Home)) (places : List (Spot × Place)) (x : Spot)
     → (place_of (buried list homes places) x).content ≡ (place_of places x).content
 buried_content list homes [] x = refl
 buried_content list homes (e ∷ more) x =
@@ -54,7 +54,7 @@ buried_content list homes (e ∷ more) x =
           (sym (cond-false (is_left list homes e.0) dead e miss)) (by_spot x e.0 e.1 e.1 (buried list homes more) more refl rest)
     ]
 
-home_content : (list : List Move) (homes : List (Key × Home)) (places : List (Spot × Place)) (h : Home)
+pub home_content : (list : List Move) (homes : List (Key × Home)) (places : List (Spot × Place)) (h : Home)
     → (stands_at (buried list homes places) h).content ≡ (stands_at places h).content
 home_content list homes places (InSlot x) = buried_content list homes places x
 home_content list homes places (InPage n c) = refl

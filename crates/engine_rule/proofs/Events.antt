@@ -1,64 +1,34 @@
 -- Each event keeps both machines sound, and so does each list of events.
-use Rattle.std.proofs.Common.{◌≡◌, ℕ, zero, suc, ◌<◌, Bool, true, false, true≢false, cond, ◌&&◌, inl, inr, List, [], ◌∷◌, length, refl, sym, ap, ◌∙◌, subst, arith, set, Option, Some, None}
-use Rattle.std.proofs.Math.ListN.{length-set}
+use Rattle.std.proofs.Common.{◌≡◌, ℕ, Bool, true, false, true≢false, not, cond, ◌&&◌, inl, inr, List, [], ◌∷◌, refl, sym, subst, Option, Some, None}
 use Rattle.std.proofs.lemmas.Bool.{and_parts, cases_Bool}
-use Rattle.std.specs.List.{slice_get, Contains}
+use Rattle.std.specs.List.{slice_get}
 use Rattle.std.specs.Option.{option_map_or}
 use Rattle.serial_model.specs.declared.key.Key.{Key}
-use Rattle.homes.specs.declared.places.Content.{Content}
-use Rattle.homes.specs.declared.places.Spot.{Spot}
-use Rattle.homes.specs.declared.places.Home.{Home}
-use Rattle.homes.specs.declared.places.Home.TheVariants.{InSlot, InPage, Nowhere}
-use Rattle.homes.specs.declared.places.Move.{Move}
-use Rattle.homes.specs.Laws.{number_or_other}
-use Rattle.lists.specs.Elements.{at_set_same, at_set_other, at_below}
-use Rattle.commit_core.specs.declared.place.Place.{Place}
-use Rattle.commit_core.specs.declared.part.Word.{Word}
-use Rattle.commit_core.specs.declared.part.Word.TheVariants.{Record, Pointer}
+use Rattle.commit_core.specs.declared.part.Word.TheVariants.{Pointer, Header}
 use Rattle.commit_core.specs.declared.part.Part.{Part}
-use Rattle.commit_core.specs.declared.event.Act.{Act as CommitAct}
-use Rattle.commit_core.specs.declared.event.Act.TheVariants.{See, Keep, Lock, Draw, Check as Look, Confirm, Decide, Put, Open, Forget, Rehome, Advance, Mark}
+use Rattle.commit_core.specs.declared.event.Act.TheVariants.{Keep, Confirm}
 use Rattle.commit_core.specs.declared.seat.Seat.{Seat}
 use Rattle.commit_core.specs.declared.story.Story.{Story}
-use Rattle.commit_core.specs.CoreState.{CoreState}
-use Rattle.commit_core.specs.Places.{home_of, spot_of, spot_at}
-use Rattle.commit_core.specs.Event.{Moved, is_allowed as commit_allows, effect as commit_effect, with_moved}
-use Rattle.commit_core.specs.Told.{IsToldTruly}
-use Rattle.commit_core.specs.Sound.{IsSoundSeat, IsSound as CommitsAreSound}
-use Rattle.drop_core.specs.declared.table.Led.{Led}
-use Rattle.drop_core.specs.declared.table.Led.TheVariants.{Never, From, Away}
+use Rattle.commit_core.specs.CoreState.{is_trying}
+use Rattle.commit_core.specs.Event.{is_allowed as commit_allows}
+use Rattle.commit_core.specs.Sound.{IsSoundSeat}
 use Rattle.drop_core.specs.declared.table.Table.{Table}
 use Rattle.drop_core.specs.declared.grip.Grip.{Grip}
-use Rattle.drop_core.specs.declared.event.Act.{Act as PageAct}
-use Rattle.drop_core.specs.Table.{slot_of, has_slot, is_led, is_never}
-use Rattle.drop_core.specs.Event.{is_owned, is_allowed as page_allows, effect as page_effect, moves}
-use Rattle.drop_core.specs.Sound.{IsSoundPages, IsSound as PagesAreSound}
+use Rattle.drop_core.specs.Table.{slot_of, has_slot}
+use Rattle.drop_core.specs.Event.{is_owned, is_allowed as page_allows, moves}
 use Rattle.engine_rule.specs.declared.event.JointAct.{JointAct}
-use Rattle.engine_rule.specs.declared.event.JointAct.TheVariants.{Commit, SeePointer, CheckPointer, FillRecord, Turn}
+use Rattle.engine_rule.specs.declared.event.JointAct.TheVariants.{Commit, SeePointer, CheckPointer, SeeHeader, CheckHeader, AddRecord, AddKey, FillRecord, Turn}
 use Rattle.engine_rule.specs.declared.event.JointEvent.{JointEvent}
 use Rattle.engine_rule.specs.Pairs.{pointer_part}
-use Rattle.engine_rule.specs.JointState.{JointState, holds_slot, can_see, is_so_now}
-use Rattle.engine_rule.specs.Event.{slot_of_spot, page_lets, commit_lets, may_move, after_moves, is_allowed, acted, may_with, may_happen, happened_with, happened, next, run}
-use Rattle.engine_rule.specs.Sound.{IsHeld, KeptIsHeld, FitsWord, IsSoundKept, IsSound}
+use Rattle.engine_rule.specs.JointState.{JointState, can_see, is_so_now, can_see_header, is_header_so_now, header_part}
+use Rattle.engine_rule.specs.Event.{page_lets, commit_lets, may_move, opening_with, is_allowed, acted, may_with, may_happen, happened_with, happened, next, run}
+use Rattle.engine_rule.specs.Sound.{IsHeld, FitsWord, IsSoundKept, IsSound}
 use Rattle.engine_rule.proofs.Laws.{Laws}
-use Rattle.engine_rule.proofs.Plainly.{with_commits, plainly, acted_plainly}
-use Rattle.engine_rule.proofs.CommitSteps.{with_sound, unmoved_same}
-use Rattle.engine_rule.proofs.Frames.{is_rehome, homes_stay, IsNew, kept_cases}
-use Rattle.engine_rule.proofs.KeptLaws.{kept_stays, kept_fewer}
-use Rattle.engine_rule.proofs.HomesMoved.{after_homes}
+use Rattle.engine_rule.proofs.Plainly.{plainly, acted_plainly}
 use Rattle.engine_rule.proofs.PointerLaws.{see_free, see_held, see_fits, told_truly}
-use Rattle.engine_rule.proofs.Turns.{holds_stay, leaves_turn}
-use Rattle.engine_rule.proofs.Fills.{filled_leaves, filled_sound}
-
-spot_home : (h : Home) (x : Spot) → spot_of h ≡ Some x → h ≡ InSlot x
-spot_home (InSlot y) x e = let same : y ≡ x = cc in ap (λ (z : Spot). InSlot z) same
-spot_home (InPage n c) x e = cc
-spot_home Nowhere x e = cc
-
-led_known : (led : Led) → is_led led ≡ true → is_never led ≡ false
-led_known Never e = absurd (true≢false (sym e))
-led_known (From y) e = refl
-led_known Away e = absurd (true≢false (sym e))
+use Rattle.engine_rule.proofs.HeaderLaws.{header_free, header_held, header_fits, header_truly}
+use Rattle.engine_rule.proofs.SoundActs.{by_commits, none_new, commit_act, turn_act, fill_act, add_act}
+use Rattle.engine_rule.proofs.KeyAdded.{add_key_act}
 
 module _ (laws : Laws) (c : JointState) (p : ℕ) (s : Seat) (g : Grip) (at : slice_get c.commits.seats p ≡ Some s) (holds : slice_get c.pages.grips p ≡ Some g) (sound : IsSound c) where
   abbrev m : Story
@@ -73,152 +43,37 @@ module _ (laws : Laws) (c : JointState) (p : ℕ) (s : Seat) (g : Grip) (at : sl
   was : IsSoundKept d g.holds s.kept
   was = sound.kept p s g at holds
 
-  -- ---- an act on commits
-
-  by_commits : (act : CommitAct) → is_rehome act ≡ false → commit_allows p m s act ≡ true → IsToldTruly p m s act
-      → ((part : Part) → IsNew m act part → IsHeld d g.holds part.word × FitsWord d part part.word)
-      → IsSound (with_commits c p (commit_effect p m s act))
-  by_commits act still can told new =
-      let n : Moved = commit_effect p m s act in
-      record {
-        commits = with_sound c.commits p s n at (laws.commits_keep c.commits.opening p m s act can told sound.commits.story own) sound.commits;
-        pages = subst (λ (l : List (Key × Home)). PagesAreSound (home_of l) c.pages) (sym (homes_stay p m s act still)) sound.pages;
-        leaves_stay_dead = λ t keys gone page k x home.
-            let dead = sound.leaves_stay_dead t keys gone page k x home in
-            ap (λ (q : Place). q.holder) ((laws.commits_leave c.commits.opening p m s act can sound.commits.story own).only.dead x dead) ∙ dead;
-        kept = λ q t h there grip. elim (number_or_other p q) [
-          | inl e ↦ own_kept n t h (ap (λ (i : ℕ). slice_get (set c.commits.seats p n.seat) i) e.0 ∙ there) (ap (λ (i : ℕ). slice_get c.pages.grips i) e.0 ∙ grip)
-          | inr o ↦ sound.kept q t h (sym (at_set_other c.commits.seats p q n.seat (λ e. o.0 (sym e))) ∙ there) grip
-        ];
-        same_seats = length-set c.commits.seats p n.seat ∙ sound.same_seats;
-      }
-    where
-      own_kept : (n : Moved) (t : Seat) (h : Grip) → slice_get (set c.commits.seats p (commit_effect p m s act).seat) p ≡ Some t → slice_get c.pages.grips p ≡ Some h → IsSoundKept d h.holds t.kept
-      own_kept n t h there grip =
-          let seats : Some (commit_effect p m s act).seat ≡ Some t = sym (at_set_same c.commits.seats p s (commit_effect p m s act).seat at) ∙ there in
-          let seat : (commit_effect p m s act).seat ≡ t = cc in
-          let grips : Some g ≡ Some h = sym holds ∙ grip in
-          let same : g ≡ h = cc in
-          subst (λ (y : Seat). IsSoundKept d h.holds y.kept) seat (subst (λ (y : Grip). IsSoundKept d y.holds (commit_effect p m s act).seat.kept) same (record {
-            kept_is_held = λ part there. elim (kept_cases p m s act part there) [ inl old ↦ was.kept_is_held part old | inr y ↦ (new part y).0 ];
-            kept_fits = λ part there. elim (kept_cases p m s act part there) [ inl old ↦ was.kept_fits part old | inr y ↦ (new part y).1 ];
-          }))
-
-  none_new : (act : CommitAct) → ((part : Part) → IsNew m act part → ⊥) → (part : Part) → IsNew m act part → IsHeld d g.holds part.word × FitsWord d part part.word
-  none_new act none part n = absurd (none part n)
-
-  -- a record that is seen stands in a leaf that the seat holds
-  seen_new : (k : Key) → holds_slot g (slot_of_spot (spot_at m.homes k)) ≡ true → (part : Part) → IsNew m (See k) part → IsHeld d g.holds part.word × FitsWord d part part.word
-  seen_new k lets part n =
-      let x : Spot = n.0 in
-      let home = spot_home (home_of m.homes k) x n.1 in
-      let held : IsHeld d g.holds (Record x) = (
-        sym (ap (λ (o : Option Spot). holds_slot g (slot_of_spot o)) n.1) ∙ lets,
-        led_known (slot_of d x.slot).led (sound.pages.table.one_home_each.own k x home).led,
-      ) in
-      subst (λ (w : Word). IsHeld d g.holds w × FitsWord d part w) (sym n.2) (held, tt)
-
-  commit_act : (act : CommitAct) → page_lets g m act ≡ true → commit_allows p m s act ≡ true → IsSound (plainly c p s g (Commit act))
-  commit_act (See k) lets can = by_commits (See k) refl can tt (seen_new k lets)
-  commit_act (Keep part) lets can = absurd (true≢false (sym lets))
-  commit_act (Lock k) lets can = by_commits (Lock k) refl can tt (none_new (Lock k) (λ part n. n))
-  commit_act (Draw writes) lets can = by_commits (Draw writes) refl can tt (none_new (Draw writes) (λ part n. n))
-  commit_act (Look x) lets can = by_commits (Look x) refl can tt (none_new (Look x) (λ part n. n))
-  commit_act (Confirm w told) lets can = absurd (true≢false (sym lets))
-  commit_act Decide lets can = by_commits Decide refl can tt (none_new Decide (λ part n. n))
-  commit_act (Put k) lets can = by_commits (Put k) refl can tt (none_new (Put k) (λ part n. n))
-  commit_act (Open k) lets can = by_commits (Open k) refl can tt (none_new (Open k) (λ part n. n))
-  commit_act Forget lets can = by_commits Forget refl can tt (none_new Forget (λ part n. n))
-  commit_act (Rehome list) lets can = absurd (true≢false (sym lets))
-  commit_act Advance lets can = by_commits Advance refl can tt (none_new Advance (λ part n. n))
-  commit_act (Mark mark) lets can = by_commits (Mark mark) refl can tt (none_new (Mark mark) (λ part n. n))
-
-  -- ---- an act on pages
-
-  moved_commits : (list : List Move) → may_move p m s list ≡ true → CommitsAreSound (with_moved c.commits p (after_moves p m s list))
-  moved_commits [] may = subst (λ (x : CoreState). CommitsAreSound x) (sym (unmoved_same c.commits p s at)) sound.commits
-  moved_commits (v ∷ more) may =
-      with_sound c.commits p s (commit_effect p m s (Rehome (v ∷ more))) at
-      (laws.commits_keep c.commits.opening p m s (Rehome (v ∷ more)) may tt sound.commits.story own) sound.commits
-
-  moved_kept : (list : List Move) (part : Part) → Contains (after_moves p m s list).seat.kept part → Contains s.kept part
-  moved_kept [] part there = there
-  moved_kept (v ∷ more) part there = elim (kept_cases p m s (Rehome (v ∷ more)) part there) [ inl old ↦ old | inr n ↦ absurd n ]
-
-  turn_act : (act : PageAct) → page_allows p d g act ≡ true → commit_lets p m s d act ≡ true → may_move p m s (moves d act) ≡ true → IsSound (plainly c p s g (Turn act))
-  turn_act act can lets may =
-      let n : Moved = after_moves p m s (moves d act) in
-      record {
-        commits = moved_commits (moves d act) may;
-        pages = subst (λ (f : Key → Home). IsSoundPages f (page_effect p d g act).table (set c.pages.grips p (page_effect p d g act).grip))
-            (sym (after_homes p m s (moves d act)))
-            (laws.pages_keep (home_of m.homes) d c.pages.grips p g act holds can sound.pages);
-        leaves_stay_dead = leaves_turn laws.commits_leave laws.down laws.away c.commits.opening p m s sound.commits.story own d c.pages.grips sound.pages.table g act can may
-            sound.leaves_stay_dead;
-        kept = λ q t h there grip. elim (number_or_other p q) [
-          | inl e ↦ own_kept t h (ap (λ (i : ℕ). slice_get (set c.commits.seats p (after_moves p m s (moves d act)).seat) i) e.0 ∙ there)
-              (ap (λ (i : ℕ). slice_get (set c.pages.grips p (page_effect p d g act).grip) i) e.0 ∙ grip)
-          | inr o ↦
-              let other : q ≡ p → ⊥ = λ e. o.0 (sym e) in
-              let old_grip = sym (at_set_other c.pages.grips p q (page_effect p d g act).grip other) ∙ grip in
-              left q h old_grip t.kept (sound.kept q t h (sym (at_set_other c.commits.seats p q (after_moves p m s (moves d act)).seat other) ∙ there) old_grip)
-        ];
-        same_seats = length-set c.commits.seats p n.seat ∙ sound.same_seats ∙ sym (length-set c.pages.grips p (page_effect p d g act).grip);
-      }
-    where
-      left : (q : ℕ) (h : Grip) → slice_get c.pages.grips q ≡ Some h → (kept : List Part) → IsSoundKept d h.holds kept → IsSoundKept (page_effect p d g act).table h.holds kept
-      left q h there = kept_stays d (page_effect p d g act).table c.pages.grips (laws.pages_leave (home_of m.homes) d c.pages.grips p g act holds can sound.pages.table) q h there
-
-      own_kept : (t : Seat) (h : Grip) → slice_get (set c.commits.seats p (after_moves p m s (moves d act)).seat) p ≡ Some t
-          → slice_get (set c.pages.grips p (page_effect p d g act).grip) p ≡ Some h → IsSoundKept (page_effect p d g act).table h.holds t.kept
-      own_kept t h there grip =
-          let seats : Some (after_moves p m s (moves d act)).seat ≡ Some t = sym (at_set_same c.commits.seats p s (after_moves p m s (moves d act)).seat at) ∙ there in
-          let seat : (after_moves p m s (moves d act)).seat ≡ t = cc in
-          let grips : Some (page_effect p d g act).grip ≡ Some h = sym (at_set_same c.pages.grips p g (page_effect p d g act).grip holds) ∙ grip in
-          let same : (page_effect p d g act).grip ≡ h = cc in
-          subst (λ (y : Seat). IsSoundKept (page_effect p d g act).table h.holds y.kept) seat
-          (subst (λ (y : Grip). IsSoundKept (page_effect p d g act).table y.holds (after_moves p m s (moves d act)).seat.kept) same
-          (kept_fewer (page_effect p d g act).table g.holds (page_effect p d g act).grip.holds s.kept (after_moves p m s (moves d act)).seat.kept
-          (moved_kept (moves d act)) (holds_stay p m s d g act lets) (left p g holds s.kept was)))
-
-  -- ---- a record that is filled
-
-  fill_act : (x : Spot) (y : Content) → is_owned (slot_of d x.slot).state ≡ true → IsSound (plainly c p s g (FillRecord x y))
-  fill_act x y owned = record {
-    commits = filled_sound c.commits d c.pages.grips sound.pages.table x y owned held sound.commits;
-    pages = sound.pages;
-    leaves_stay_dead = filled_leaves m d c.pages.grips sound.pages.table x y owned sound.leaves_stay_dead;
-    kept = sound.kept;
-    same_seats = sound.same_seats;
-  }
-    where
-      there_is : (grips : List Grip) (i : ℕ) → i < length grips → (h : Grip) × (slice_get grips i ≡ Some h)
-      there_is [] i less = absurd (omega (arith, less))
-      there_is (h ∷ more) zero less = (h, refl)
-      there_is (h ∷ more) (suc i) less = there_is more i (omega (arith, less))
-
-      held : (q : ℕ) (t : Seat) → slice_get c.commits.seats q ≡ Some t → (l : List ℕ) × KeptIsHeld d l t.kept
-      held q t there =
-          let h = there_is c.pages.grips q (subst (λ (n : ℕ). q < n) sound.same_seats (at_below c.commits.seats q t there)) in
-          (h.0.holds, (sound.kept q t h.0 there h.1).kept_is_held)
-
-  -- ---- each act
-
   each_plainly : (act : JointAct) → is_allowed p m s d g act ≡ true → IsSound (plainly c p s g act)
-  each_plainly (Commit act) can = let both = and_parts (page_lets g m act) (commit_allows p m s act) can in commit_act act both.0 both.1
+  each_plainly (Commit act) can =
+      let both = and_parts (page_lets g m act) (commit_allows p m s act) can in commit_act laws c p s g at holds sound act both.0 both.1
   each_plainly (SeePointer x) can =
       let both = and_parts (can_see d g x) (commit_allows p m s (Keep (pointer_part d x))) can in
-      by_commits (Keep (pointer_part d x)) refl both.1 (see_free m d c.pages.grips sound.pages.table g x both.0)
+      by_commits laws c p s g at holds sound (Keep (pointer_part d x)) refl both.1 (see_free m d c.pages.grips sound.pages.table g x both.0)
       (λ part n. subst (λ (q : Part). IsHeld d g.holds q.word × FitsWord d q q.word) n
       (see_held m d c.pages.grips sound.pages.table g x both.0, see_fits m d c.pages.grips sound.pages.table g x both.0))
   each_plainly (CheckPointer x) can =
-      by_commits (Confirm (Pointer x) (is_so_now p d m s x)) refl can (told_truly m d c.pages.grips sound.pages.table p s g x own.tries_kept was)
-      (none_new (Confirm (Pointer x) (is_so_now p d m s x)) (λ part n. n))
-  each_plainly (FillRecord x y) can = fill_act x y (and_parts (is_owned (slot_of d x.slot).state) (has_slot g.made x.slot) can).0
+      by_commits laws c p s g at holds sound (Confirm (Pointer x) (is_so_now p d m s x)) refl can
+      (told_truly m d c.pages.grips sound.pages.table p s g x own.tries_kept was)
+      (none_new laws c p s g at holds sound (Confirm (Pointer x) (is_so_now p d m s x)) (λ part n. n))
+  each_plainly (SeeHeader t) can =
+      let both = and_parts (can_see_header d g t) (commit_allows p m s (Keep (header_part d t))) can in
+      by_commits laws c p s g at holds sound (Keep (header_part d t)) refl both.1 (header_free m d c.pages.grips sound.pages.table g t both.0)
+      (λ part n. subst (λ (q : Part). IsHeld d g.holds q.word × FitsWord d q q.word) n
+      (header_held m d c.pages.grips sound.pages.table g t both.0, header_fits m d c.pages.grips sound.pages.table g t both.0))
+  each_plainly (CheckHeader t) can =
+      by_commits laws c p s g at holds sound (Confirm (Header t) (is_header_so_now p d m s t)) refl can
+      (header_truly m d c.pages.grips sound.pages.table sound.pages.headers p s g t own.tries_kept was)
+      (none_new laws c p s g at holds sound (Confirm (Header t) (is_header_so_now p d m s t)) (λ part n. n))
+  each_plainly (AddRecord t k) can = add_act laws c p s g at holds sound t k can
+  each_plainly (AddKey t k) can =
+      let a = and_parts (page_allows p d g (opening_with t k)) (not (is_trying s.stage) && may_move p m s (moves d (opening_with t k))) can in
+      let b = and_parts (not (is_trying s.stage)) (may_move p m s (moves d (opening_with t k))) a.1 in
+      add_key_act laws c p s g at holds sound t k a.0 b.0 b.1
+  each_plainly (FillRecord x y) can = fill_act laws c p s g at holds sound x y (and_parts (is_owned (slot_of d x.slot).state) (has_slot g.made x.slot) can).0
   each_plainly (Turn act) can =
       let a = and_parts (page_allows p d g act) (commit_lets p m s d act && may_move p m s (moves d act)) can in
       let b = and_parts (commit_lets p m s d act) (may_move p m s (moves d act)) a.1 in
-      turn_act act a.0 b.0 b.1
+      turn_act laws c p s g at holds sound act a.0 b.0 b.1
 
   pub each_act : (act : JointAct) → is_allowed p m s d g act ≡ true → IsSound (acted c p s g act)
   each_act act can = subst (λ (x : JointState). IsSound x) (sym (acted_plainly c p s g at holds act)) (each_plainly act can)

@@ -13,7 +13,7 @@ use Rattle.homes.specs.Homes.{same_spot}
 use Rattle.homes.specs.Laws.{same_spot-true}
 use Rattle.commit_core.specs.declared.place.Place.{Place}
 use Rattle.commit_core.specs.declared.part.Word.{Word}
-use Rattle.commit_core.specs.declared.part.Word.TheVariants.{Record, Pointer}
+use Rattle.commit_core.specs.declared.part.Word.TheVariants.{Record, Pointer, Header}
 use Rattle.commit_core.specs.declared.part.Part.{Part}
 use Rattle.commit_core.specs.declared.seat.Seat.{Seat}
 use Rattle.commit_core.specs.declared.story.Story.{Story}
@@ -101,6 +101,7 @@ module _ (m : Story) (d : Table) (grips : List Grip) (sound : IsSoundTable (home
       ];
     }
     record_stays holds part (Pointer y) held fits = tt
+    record_stays holds part (Header t) held fits = tt
 
     filled_seat : (p : ℕ) (s : Seat) (holds : List ℕ) → KeptIsHeld d holds s.kept → IsSoundSeat opening m p s → IsSoundSeat opening (filled x c m) p s
     filled_seat p s holds held seat = record {

@@ -1,25 +1,33 @@
 -- What was drawn, checked, decided and given up stays so.
-use Rattle.std.proofs.Common.{◌≡◌, ℕ, Bool, true, false, true≢false, cond, ◌&&◌, inl, inr, List, [], ◌∷◌, ◌++◌, append_assoc, refl, sym, ap, ◌∙◌, subst, arith, Option, Some, None}
+use Rattle.std.proofs.Common.{◌≡◌, ℕ, Bool, true, false, true≢false, not, cond, ◌&&◌, inl, inr, List, [], ◌∷◌, ◌++◌, length, append_assoc, refl, sym, ap, ◌∙◌, subst, arith, Option, Some, None}
 use Rattle.std.proofs.lemmas.Bool.{and_parts, cases_Bool}
 use Rattle.std.specs.List.{slice_get}
 use Rattle.std.specs.Option.{option_map_or}
+use Rattle.serial_model.specs.declared.key.Key.{Key}
+use Rattle.homes.specs.declared.places.Content.{Content}
+use Rattle.homes.specs.declared.places.Spot.{Spot}
 use Rattle.homes.specs.declared.places.Move.{Move}
 use Rattle.commit_core.specs.declared.event.Act.TheVariants.{Keep, Confirm, Rehome}
-use Rattle.commit_core.specs.declared.part.Word.TheVariants.{Pointer}
+use Rattle.commit_core.specs.declared.part.Word.TheVariants.{Pointer, Header}
 use Rattle.commit_core.specs.declared.seat.Seat.{Seat}
 use Rattle.commit_core.specs.declared.story.Story.{Story}
+use Rattle.commit_core.specs.CoreState.{is_trying}
+use Rattle.commit_core.specs.Keys.{nothing}
+use Rattle.commit_core.specs.Fill.{filled}
 use Rattle.commit_core.specs.Event.{is_allowed as commit_allows}
 use Rattle.commit_core.specs.Opening.{IsPrefix, Grows}
 use Rattle.drop_core.specs.declared.grip.Grip.{Grip}
-use Rattle.drop_core.specs.Event.{is_allowed as page_allows, moves}
+use Rattle.drop_core.specs.Table.{page_of}
+use Rattle.drop_core.specs.Event.{leaf_keys, is_allowed as page_allows, effect as page_effect, moves}
 use Rattle.engine_rule.specs.declared.event.JointAct.{JointAct}
-use Rattle.engine_rule.specs.declared.event.JointAct.TheVariants.{Commit, SeePointer, CheckPointer, FillRecord, Turn}
+use Rattle.engine_rule.specs.declared.event.JointAct.TheVariants.{Commit, SeePointer, CheckPointer, SeeHeader, CheckHeader, AddRecord, AddKey, FillRecord, Turn}
 use Rattle.engine_rule.specs.declared.event.JointEvent.{JointEvent}
 use Rattle.engine_rule.specs.Pairs.{pointer_part}
-use Rattle.engine_rule.specs.JointState.{JointState, can_see, is_so_now}
-use Rattle.engine_rule.specs.Event.{page_lets, commit_lets, may_move, after_moves, is_allowed, acted, may_with, may_happen, happened_with, happened, next, run}
+use Rattle.engine_rule.specs.JointState.{JointState, can_see, is_so_now, can_see_header, is_header_so_now, header_part}
+use Rattle.engine_rule.specs.Event.{page_lets, commit_lets, may_move, after_moves, next_spot, opening_with, is_allowed, acted, may_with, may_happen, happened_with, happened, next, run}
 use Rattle.engine_rule.specs.Sound.{IsSound}
 use Rattle.engine_rule.proofs.Laws.{Laws}
+use Rattle.engine_rule.proofs.Renewals.{renewed_story}
 use Rattle.engine_rule.proofs.Events.{event_sound}
 
 prefix_self : {A : Type 0} (xs : List A) → IsPrefix xs xs
@@ -34,6 +42,16 @@ prefix_then {A} xs ys zs a b = (a.0 ++ b.0, sym (append_assoc xs a.0 b.0) ∙ ap
 
 same_grows : (m : Story) → Grows m m
 same_grows m = record {
+  history = prefix_self m.history;
+  checks = prefix_self m.checks;
+  decided = prefix_self m.decided;
+  given_up = prefix_self m.given_up;
+  first_draw = refl;
+  epoch = omega arith;
+}
+
+filled_grows : (m : Story) (x : Spot) (y : Content) → Grows m (filled x y m)
+filled_grows m x y = record {
   history = prefix_self m.history;
   checks = prefix_self m.checks;
   decided = prefix_self m.decided;
@@ -74,17 +92,25 @@ module _ (laws : Laws) where
       (laws.commits_leave c.commits.opening p c.commits.story s (Confirm (Pointer x) (is_so_now p c.pages.table c.commits.story s x)) can sound.commits.story
           (sound.commits.seats p s at)).grows,
     )
-    act_grows (FillRecord x y) can = (
+    act_grows (SeeHeader t) can =
+        let both = and_parts (can_see_header c.pages.table g t) (commit_allows p c.commits.story s (Keep (header_part c.pages.table t))) can in
+        (refl, (laws.commits_leave c.commits.opening p c.commits.story s (Keep (header_part c.pages.table t)) both.1 sound.commits.story (sound.commits.seats p s at)).grows)
+    act_grows (CheckHeader t) can = (
       refl,
-      record {
-        history = prefix_self c.commits.story.history;
-        checks = prefix_self c.commits.story.checks;
-        decided = prefix_self c.commits.story.decided;
-        given_up = prefix_self c.commits.story.given_up;
-        first_draw = refl;
-        epoch = omega arith;
-      },
+      (laws.commits_leave c.commits.opening p c.commits.story s (Confirm (Header t) (is_header_so_now p c.pages.table c.commits.story s t)) can sound.commits.story
+          (sound.commits.seats p s at)).grows,
     )
+    act_grows (AddRecord t k) can = (refl, filled_grows c.commits.story (next_spot c.pages.table t) nothing)
+    act_grows (AddKey t k) can =
+        let list : List Move = moves c.pages.table (opening_with t k) in
+        let a = and_parts (page_allows p c.pages.table g (opening_with t k)) (not (is_trying s.stage) && may_move p c.commits.story s list) can in
+        let b = and_parts (not (is_trying s.stage)) (may_move p c.commits.story s list) a.1 in (
+          refl,
+          subst (λ (x : Story). Grows c.commits.story x)
+              (sym (renewed_story p (page_effect p c.pages.table g (opening_with t k)).table t (length (leaf_keys (page_of c.pages.table t))) k (after_moves p c.commits.story s list)))
+              (moved_grows list b.1),
+        )
+    act_grows (FillRecord x y) can = (refl, filled_grows c.commits.story x y)
     act_grows (Turn act) can =
         let list : List Move = moves c.pages.table act in
         let a = and_parts (page_allows p c.pages.table g act) (commit_lets p c.commits.story s c.pages.table act && may_move p c.commits.story s list) can in

@@ -43,7 +43,7 @@ use Rattle.engine_rule.specs.JointState.{slot_at, holds_slot, can_see, leads_so,
 use Rattle.engine_rule.specs.Sound.{OnSlot, IsHeld, IsPointerThere, FitsPointer, FitsWord, IsSoundKept}
 use Rattle.engine_rule.proofs.PairLaws.{covers-inside, part-right}
 
-led_not_never : (l : Led) → is_led l ≡ true → is_never l ≡ false
+pub led_not_never : (l : Led) → is_led l ≡ true → is_never l ≡ false
 led_not_never Never e = absurd (true≢false (sym e))
 led_not_never (From x) e = refl
 led_not_never Away e = refl
@@ -66,11 +66,20 @@ fixed_content places Nowhere fixed = refl
 
 -- ---- an attempt in progress has what its seat keeps
 
-tried_kept : (history : List Attempt) (kept : List Part) (stage : Stage) (a : Attempt) → TriesKept history kept stage → attempt_tried history stage ≡ Some a → a.parts ≡ kept
+pub tried_kept : (history : List Attempt) (kept : List Part) (stage : Stage) (a : Attempt) → TriesKept history kept stage → attempt_tried history stage ≡ Some a → a.parts ≡ kept
 tried_kept history kept Idle a tries e = cc
 tried_kept history kept (Trying i) a tries e = tries a e
 tried_kept history kept Ended a tries e = cc
 tried_kept history kept (Decided i) a tries e = cc
+
+-- ---- tests
+
+pub open_alive : (p : ℕ) (h : Holder) → is_open_to p h ≡ true → h ≡ Dead → ⊥
+open_alive p h o e = true≢false (sym o ∙ ap (is_open_to p) e)
+
+pub unless : (a b : Bool) → (not a || b) ≡ true → a ≡ true → b ≡ true
+unless true b e t = e
+unless false b e t = absurd (true≢false (sym t))
 
 module _ (m : Story) (d : Table) (grips : List Grip) (sound : IsSoundTable (home_of m.homes) d grips) where
   abbrev st : Key → Place
@@ -158,13 +167,6 @@ module _ (m : Story) (d : Table) (grips : List Grip) (sound : IsSoundTable (home
       ∙ ap (λ (n : ℕ). snap_home d n k) (eqb-true (pointer_of d x).page fits.page word.1) in
       let below = stands_below fits.page k home in
       (below.0, below.1 ∙ fits.pairs k c)
-
-  open_alive : (p : ℕ) (h : Holder) → is_open_to p h ≡ true → h ≡ Dead → ⊥
-  open_alive p h o e = true≢false (sym o ∙ ap (is_open_to p) e)
-
-  unless : (a b : Bool) → (not a || b) ≡ true → a ≡ true → b ≡ true
-  unless true b e t = e
-  unless false b e t = absurd (true≢false (sym t))
 
   so_now : (p : ℕ) (holds : List ℕ) (part : Part) (x : At) (w : Word) → part.word ≡ w → w ≡ Pointer x → IsHeld d holds part.word → FitsWord d part part.word
       → is_pointer_so p (pointer_of d x) part.version ≡ true → IsSoNow p st part

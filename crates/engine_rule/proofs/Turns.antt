@@ -23,12 +23,13 @@ use Rattle.homes.specs.declared.places.Content.{Content}
 use Rattle.drop_core.specs.declared.table.Page.TheVariants.{Leaf}
 use Rattle.drop_core.specs.declared.table.Table.{Table}
 use Rattle.drop_core.specs.declared.grip.Grip.{Grip}
+use Rattle.drop_core.specs.declared.event.Chain.{Chain}
 use Rattle.drop_core.specs.declared.event.Act.{Act}
-use Rattle.drop_core.specs.declared.event.Act.TheVariants.{Enter, Leave, Give, Publish, Retire, FillPage, FillPointer, FillSnapshot, Extend, Install, Swing, Renew, Shut, Reopen}
+use Rattle.drop_core.specs.declared.event.Act.TheVariants.{Enter, Leave, Give, Publish, Retire, FillPage, FillPointer, FillSnapshot, Extend, Install, Swing, Renew, Shut, Reopen, FillHeader, LockHeader, OpenHeader, Twin, SwingChain}
 use Rattle.drop_core.specs.Table.{page_of, pointer_of, snap_home, leaf_home, has_slot}
 use Rattle.drop_core.specs.Event.{is_allowed, without, swung, effect, leaf_keys, keys_in, moves}
 use Rattle.drop_core.specs.Sound.{IsSoundTable}
-use Rattle.drop_core.specs.Law.{SwingsMoveDown, SwingsTakeAway}
+use Rattle.drop_core.specs.Law.{SwingsMoveDown, ChainsMoveDown, SwingsTakeAway}
 use Rattle.drop_core.specs.HomeLaws.{leaf-in}
 use Rattle.engine_rule.specs.JointState.{slot_of_word, is_slot, keeps_word}
 use Rattle.engine_rule.specs.Event.{commit_lets, may_move, after_moves}
@@ -68,10 +69,15 @@ holds_stay p m seat d g (Swing x n) lets s part c e h = swung_holds d g x n (poi
 holds_stay p m seat d g (Renew x n) lets s part c e h = h
 holds_stay p m seat d g (Shut x) lets s part c e h = h
 holds_stay p m seat d g (Reopen x) lets s part c e h = h
+holds_stay p m seat d g (FillHeader t) lets s part c e h = h
+holds_stay p m seat d g (LockHeader t) lets s part c e h = h
+holds_stay p m seat d g (OpenHeader t added) lets s part c e h = h
+holds_stay p m seat d g (Twin w) lets s part c e h = h
+holds_stay p m seat d g (SwingChain x n chain) lets s part c e h = h
 
 -- ---- places of leaves that are gone
 
-module _ (commit_leaves : EachActLeaves) (down : SwingsMoveDown) (away : SwingsTakeAway) (opening : List (Key × Content)) (p : ℕ) (m : Story) (s : Seat)
+module _ (commit_leaves : EachActLeaves) (down : SwingsMoveDown) (chains : ChainsMoveDown) (away : SwingsTakeAway) (opening : List (Key × Content)) (p : ℕ) (m : Story) (s : Seat)
     (story : IsSoundStory opening m) (seat : IsSoundSeat opening m p s) (d : Table) (grips : List Grip) (sound : IsSoundTable (home_of m.homes) d grips) (g : Grip) where
   -- a dead place stays dead
   dead_stays : (list : List Move) → may_move p m s list ≡ true → (x : Spot) → (place_of m.places x).holder ≡ Dead → (place_of (after_moves p m s list).story.places x).holder ≡ Dead
@@ -95,6 +101,15 @@ module _ (commit_leaves : EachActLeaves) (down : SwingsMoveDown) (away : SwingsT
       left_dead (moves d (Swing x n)) y
       (left_of (snap_home d n) (keys_in d (pointer_of d x).slot) m.homes k y (ap (λ (l : List Key). has_key l k) all ∙ hit) at)
 
+  chain_dead : (x : At) (n t : ℕ) (chain : Chain) (keys : List Key) → is_allowed p d g (SwingChain x n chain) ≡ true → has_slot chain.slots t ≡ true → page_of d t ≡ Leaf keys
+      → (k : Key) (y : Spot) → leaf_home t 0 keys k ≡ InSlot y → (place_of (after_moves p m s (moves d (SwingChain x n chain))).story.places y).holder ≡ Dead
+  chain_dead x n t chain keys can one page k y home =
+      let these : leaf_keys (page_of d t) ≡ keys = ap leaf_keys page in
+      let hit : has_key keys k ≡ true = (leaf-in t 0 keys k y home).there in
+      let was = chains (home_of m.homes) d grips p n t g x chain can sound one k (ap (λ (l : List Key). has_key l k) these ∙ hit) in
+      let at : home_of m.homes k ≡ InSlot y = was.1 ∙ ap (λ (l : List Key). leaf_home t 0 l k) these ∙ home in
+      left_dead (moves d (SwingChain x n chain)) y (left_of (snap_home d n) chain.keys m.homes k y was.0 at)
+
   pub leaves_turn : (act : Act) → is_allowed p d g act ≡ true → may_move p m s (moves d act) ≡ true → LeavesStayDead (place_of m.places) d
       → LeavesStayDead (place_of (after_moves p m s (moves d act)).story.places) (effect p d g act).table
   leaves_turn act can may leaves t keys gone page k y home =
@@ -102,6 +117,10 @@ module _ (commit_leaves : EachActLeaves) (down : SwingsMoveDown) (away : SwingsT
       let old : page_of d t ≡ Leaf keys = sym took.0 ∙ page in
       elim took.1 [
         | inl was ↦ dead_stays (moves d act) may y (leaves t keys was old k y home)
-        | inr r ↦ subst (λ (a : Act). (place_of (after_moves p m s (moves d a)).story.places y).holder ≡ Dead) (sym r.2)
-            (swing_dead r.0 r.1 t keys (subst (λ (a : Act). is_allowed p d g a ≡ true) r.2 can) r.3 old k y home)
+        | inr swings ↦ elim swings [
+          | inl r ↦ subst (λ (a : Act). (place_of (after_moves p m s (moves d a)).story.places y).holder ≡ Dead) (sym r.2)
+              (swing_dead r.0 r.1 t keys (subst (λ (a : Act). is_allowed p d g a ≡ true) r.2 can) r.3 old k y home)
+          | inr r ↦ subst (λ (a : Act). (place_of (after_moves p m s (moves d a)).story.places y).holder ≡ Dead) (sym r.3)
+              (chain_dead r.0 r.1 t r.2 keys (subst (λ (a : Act). is_allowed p d g a ≡ true) r.3 can) r.4 old k y home)
+        ]
       ]

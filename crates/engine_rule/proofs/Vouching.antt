@@ -1,4 +1,5 @@
--- Where a word is now as it was kept, what it vouches for is so now: of a record by its number, of a pointer by its page.
+-- Where a word is now as it was kept, what it vouches for is so now: of a record by its number, of a pointer by its page, of a
+-- header by how many records it counts.
 use Rattle.std.proofs.Common.{◌≡◌, ℕ, Bool, true, false, not, true≢false, eqb, ◌⊎◌, inl, inr, List, refl, sym, ap, ◌∙◌, subst}
 use Rattle.std.proofs.lemmas.Bool.{and_parts}
 use Rattle.std.specs.List.{Contains}
@@ -12,7 +13,7 @@ use Rattle.homes.specs.declared.places.Spot.{Spot}
 use Rattle.homes.specs.Homes.{holder_is}
 use Rattle.commit_core.specs.declared.place.Place.{Place}
 use Rattle.commit_core.specs.declared.part.Word.{Word}
-use Rattle.commit_core.specs.declared.part.Word.TheVariants.{Record, Pointer}
+use Rattle.commit_core.specs.declared.part.Word.TheVariants.{Record, Pointer, Header}
 use Rattle.commit_core.specs.declared.part.Part.{Part}
 use Rattle.commit_core.specs.declared.seat.Stage.{Stage}
 use Rattle.commit_core.specs.declared.seat.Stage.TheVariants.{Idle, Trying, Ended, Decided}
@@ -32,11 +33,12 @@ use Rattle.commit_core.specs.Lemmas.Places.{stands-spot}
 use Rattle.commit_core.specs.Lemmas.Shows.{same_word_content}
 use Rattle.drop_core.specs.declared.table.Table.{Table}
 use Rattle.drop_core.specs.declared.grip.Grip.{Grip}
-use Rattle.drop_core.specs.Table.{pointer_of}
-use Rattle.drop_core.specs.Sound.{IsSoundTable}
-use Rattle.engine_rule.specs.JointState.{leads_so}
+use Rattle.drop_core.specs.Table.{page_of, pointer_of, header_of}
+use Rattle.drop_core.specs.Sound.{IsSoundTable, HeadersStayDead}
+use Rattle.engine_rule.specs.JointState.{leads_so, counts_so}
 use Rattle.engine_rule.specs.Sound.{IsHeld, FitsWord, IsSoundKept, has_decided, is_clear, is_word_so, IsClearNow}
 use Rattle.engine_rule.proofs.PointerLaws.{pointer_now}
+use Rattle.engine_rule.proofs.HeaderLaws.{header_now}
 
 both_there : (a b : Bool) → beq a b ≡ true → a ≡ b
 both_there true true e = refl
@@ -95,7 +97,7 @@ module _ (opening : List (Key × Content)) (m : Story) (p : ℕ) (s : Seat) (sto
       subst (λ (y : Key). (is_clear p (has_decided s.stage) (stands m.places m.homes y).holder ≡ true) × ((stands m.places m.homes y).content ≡ found part y))
       (sym is) (clear, content)
 
-  module _ (d : Table) (grips : List Grip) (g : Grip) (sound : IsSoundTable (home_of m.homes) d grips) (kept : IsSoundKept d g.holds s.kept) where
+  module _ (d : Table) (grips : List Grip) (g : Grip) (sound : IsSoundTable (home_of m.homes) d grips) (headers : HeadersStayDead d) (kept : IsSoundKept d g.holds s.kept) where
     word_now : (part : Part) (w : Word) → IsHeld d g.holds w → FitsWord d part w → FitsRecord m.places m.homes part w
         → IsPast opening m.history (clock_of m.first_draw m.epoch m.history) part
         → is_word_so p (has_decided s.stage) (place_of m.places) d part w ≡ true → IsClearNow p (has_decided s.stage) (stands m.places m.homes) part
@@ -105,6 +107,10 @@ module _ (opening : List (Key × Content)) (m : Story) (p : ℕ) (s : Seat) (sto
     word_now part (Pointer x) held fits of_record past so = λ k c.
         let both = and_parts (is_clear p (has_decided s.stage) (pointer_of d x).holder) (leads_so (pointer_of d x) part.version) so in
         let now = pointer_now m d grips sound g.holds part x held fits (clear_alive p (has_decided s.stage) (pointer_of d x).holder both.0) both.1 k c in
+        (ap (is_clear p (has_decided s.stage)) now.0, now.1)
+    word_now part (Header t) held fits of_record past so = λ k c.
+        let both = and_parts (is_clear p (has_decided s.stage) (header_of d t)) (counts_so (page_of d t) part.version) so in
+        let now = header_now m d grips sound headers g.holds part t held fits (clear_alive p (has_decided s.stage) (header_of d t) both.0) both.1 k c in
         (ap (is_clear p (has_decided s.stage)) now.0, now.1)
 
     pub kept_vouches : (part : Part) → Contains s.kept part → is_word_so p (has_decided s.stage) (place_of m.places) d part part.word ≡ true

@@ -12,7 +12,7 @@ use Rattle.drop_core.specs.declared.grip.Grip.{Grip}
 use Rattle.drop_core.specs.declared.event.Act.{Act as PageAct}
 use Rattle.drop_core.specs.Event.{is_allowed as page_allows, effect as page_effect, moves, takes_memory as page_takes}
 use Rattle.engine_rule.specs.declared.event.JointAct.{JointAct}
-use Rattle.engine_rule.specs.declared.event.JointAct.TheVariants.{Commit, SeePointer, CheckPointer, FillRecord, Turn}
+use Rattle.engine_rule.specs.declared.event.JointAct.TheVariants.{Commit, SeePointer, CheckPointer, SeeHeader, CheckHeader, AddRecord, AddKey, FillRecord, Turn}
 use Rattle.engine_rule.specs.declared.event.JointEvent.{JointEvent}
 use Rattle.engine_rule.specs.JointState.{JointState}
 use Rattle.engine_rule.specs.Event.{Joined, joined, may_move, after_moves, is_allowed, effect, may_happen, happened}
@@ -22,6 +22,10 @@ abbrev pub takes_memory : JointAct → Bool
 takes_memory (Commit act) = commit_takes act
 takes_memory (SeePointer x) = true
 takes_memory (CheckPointer x) = true
+takes_memory (SeeHeader t) = true
+takes_memory (CheckHeader t) = true
+takes_memory (AddRecord t k) = true
+takes_memory (AddKey t k) = true
 takes_memory (FillRecord x c) = true
 takes_memory (Turn act) = page_takes act
 

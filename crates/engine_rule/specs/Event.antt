@@ -1,30 +1,31 @@
 -- What may happen to both machines: the condition and the effect of each act of a seat, and lists of events.
-use Rattle.std.specs.Prelude.{ℕ, ◌&&◌, ◌||◌, Bool, true, false, not, List, [], ◌∷◌, Option, Some, None, if◌then◌else◌, nat_lt, is_some, slice_get}
+use Rattle.std.specs.Prelude.{ℕ, ◌&&◌, ◌||◌, Bool, true, false, not, List, [], ◌∷◌, length, Option, Some, None, if◌then◌else◌, nat_lt, is_some, slice_get}
 use Rattle.std.specs.List.{list_all}
 use Rattle.std.specs.Option.{option_map_or}
 use Rattle.serial_model.specs.declared.key.Key.{Key}
 use Rattle.homes.specs.declared.places.Spot.{Spot}
 use Rattle.homes.specs.declared.places.Move.{Move}
-use Rattle.commit_core.specs.declared.part.Word.TheVariants.{Pointer}
+use Rattle.commit_core.specs.declared.part.Word.TheVariants.{Pointer, Header}
 use Rattle.commit_core.specs.declared.event.Act.{Act as CommitAct}
 use Rattle.commit_core.specs.declared.event.Act.TheVariants.{See, Keep, Lock, Draw, Check as Look, Confirm, Decide, Put, Open, Forget, Rehome, Advance, Mark}
 use Rattle.commit_core.specs.declared.seat.Seat.{Seat}
 use Rattle.commit_core.specs.declared.story.Story.{Story}
-use Rattle.commit_core.specs.CoreState.{is_in_progress, can_begin}
+use Rattle.commit_core.specs.CoreState.{is_in_progress, is_trying, can_begin}
+use Rattle.commit_core.specs.Keys.{nothing}
 use Rattle.commit_core.specs.Fill.{filled}
 use Rattle.commit_core.specs.Places.{stands, spot_at, holder_is}
 use Rattle.commit_core.specs.Event.{Moved, moved as unmoved, is_allowed as commit_allows, effect as commit_effect, with_moved}
 use Rattle.drop_core.specs.declared.event.Act.{Act as PageAct}
-use Rattle.drop_core.specs.declared.event.Act.TheVariants.{Enter, Leave, Give, Publish, Retire, FillPage, FillPointer, FillSnapshot, Extend, Install, Swing, Renew, Shut, Reopen}
+use Rattle.drop_core.specs.declared.event.Act.TheVariants.{Enter, Leave, Give, Publish, Retire, FillPage, FillPointer, FillSnapshot, Extend, Install, Swing, Renew, Shut, Reopen, FillHeader, LockHeader, OpenHeader, Twin, SwingChain}
 use Rattle.drop_core.specs.declared.table.Table.{Table}
 use Rattle.drop_core.specs.declared.grip.Grip.{Grip}
-use Rattle.drop_core.specs.Table.{slot_of, pointer_of, has_slot}
-use Rattle.drop_core.specs.Event.{is_owned, Turned, turned, is_allowed as page_allows, effect as page_effect, moves, keys_in, with_turned}
+use Rattle.drop_core.specs.Table.{slot_of, page_of, pointer_of, has_slot}
+use Rattle.drop_core.specs.Event.{is_owned, leaf_keys, can_open_header, Turned, turned, is_allowed as page_allows, effect as page_effect, moves, keys_in, with_turned}
 use Rattle.engine_rule.specs.declared.event.JointAct.{JointAct}
-use Rattle.engine_rule.specs.declared.event.JointAct.TheVariants.{Commit, SeePointer, CheckPointer, FillRecord, Turn}
+use Rattle.engine_rule.specs.declared.event.JointAct.TheVariants.{Commit, SeePointer, CheckPointer, SeeHeader, CheckHeader, AddRecord, AddKey, FillRecord, Turn}
 use Rattle.engine_rule.specs.declared.event.JointEvent.{JointEvent}
 use Rattle.engine_rule.specs.Pairs.{pointer_part}
-use Rattle.engine_rule.specs.JointState.{JointState, keeps_word, holds_slot, can_see, is_so_now}
+use Rattle.engine_rule.specs.JointState.{JointState, keeps_word, holds_slot, can_see, is_so_now, can_see_header, is_header_so_now, header_part, keeps_header_at}
 
 -- ---- what pages ask of an act on commits
 
@@ -67,8 +68,9 @@ absences_are_old m keys =
     list_all (λ k. is_some (stands m.places m.homes k).content.value
     || is_before_all m (stands m.places m.homes k).content.number.epoch) keys
 
--- Beside its own condition, and that of the moves that it is: a seat leaves no slot of which it keeps a word, and
--- swings a pointer while it has no attempt, holds each record below, and absences there are old.
+-- Beside its own condition, and that of the moves that it is: a seat leaves no slot of which it keeps a word; it swings
+-- a pointer and splits a leaf while it has no attempt and holds each record below, and where it swings, absences there are
+-- old. To open a header with a key is an act of its own.
 abbrev pub commit_lets : ℕ → Story → Seat → Table → PageAct → Bool
 commit_lets p m s d (Enter t) = true
 commit_lets p m s d (Leave t) = not (keeps_word s.kept t)
@@ -86,6 +88,12 @@ commit_lets p m s d (Swing x n) =
 commit_lets p m s d (Renew x n) = true
 commit_lets p m s d (Shut x) = true
 commit_lets p m s d (Reopen x) = true
+commit_lets p m s d (FillHeader t) = true
+commit_lets p m s d (LockHeader t) = true
+commit_lets p m s d (OpenHeader t None) = true
+commit_lets p m s d (OpenHeader t (Some k)) = false
+commit_lets p m s d (Twin w) = can_begin s.stage && holds_all p m (leaf_keys (page_of d w.slot))
+commit_lets p m s d (SwingChain x n c) = can_begin s.stage && (holds_all p m c.keys && absences_are_old m c.keys)
 
 -- the moves may be made: between equal contents, to places that nobody holds
 abbrev pub may_move : ℕ → Story → Seat → List Move → Bool
@@ -96,13 +104,48 @@ abbrev pub after_moves : ℕ → Story → Seat → List Move → Moved
 after_moves p m s [] = unmoved m s
 after_moves p m s (v ∷ more) = commit_effect p m s (Rehome (v ∷ more))
 
+-- ---- keys that are added
+
+-- the place behind the records of the page in a slot
+abbrev pub next_spot : Table → ℕ → Spot
+next_spot d t = record { slot = t; index = length (leaf_keys (page_of d t)) }
+
+-- the act on pages that opens the header with a key
+abbrev pub opening_with : ℕ → Key → PageAct
+opening_with t k = OpenHeader t (Some k)
+
+-- the seat has seen the key
+abbrev pub and_seen : ℕ → Key → Moved → Moved
+and_seen p k n = commit_effect p n.story n.seat (See k)
+
+-- What the seat keeps of the header, with so many records, goes on: the part becomes that of the header as it is
+-- now, and the new record, which is absent, is kept too.
+abbrev pub renewed : ℕ → Table → ℕ → ℕ → Key → Moved → Moved
+renewed p e t count k n =
+    if keeps_header_at n.seat.kept t count
+    then and_seen p k (commit_effect p n.story n.seat (Keep (header_part e t)))
+    else n
+
+-- what the key that is added leaves
+abbrev pub after_key : ℕ → Story → Seat → Table → Grip → ℕ → Key → Moved
+after_key p m s d g t k =
+    renewed p (page_effect p d g (opening_with t k)).table t (length (leaf_keys (page_of d t))) k
+    (after_moves p m s (moves d (opening_with t k)))
+
 -- ---- conditions
 
--- seat p, which has s and g, may do this
+-- Seat p, which has s and g, may do this. While it has an attempt in progress, whose parts are what it keeps, it adds
+-- no key.
 abbrev pub is_allowed : ℕ → Story → Seat → Table → Grip → JointAct → Bool
 is_allowed p m s d g (Commit act) = page_lets g m act && commit_allows p m s act
 is_allowed p m s d g (SeePointer x) = can_see d g x && commit_allows p m s (Keep (pointer_part d x))
 is_allowed p m s d g (CheckPointer x) = commit_allows p m s (Confirm (Pointer x) (is_so_now p d m s x))
+is_allowed p m s d g (SeeHeader t) = can_see_header d g t && commit_allows p m s (Keep (header_part d t))
+is_allowed p m s d g (CheckHeader t) = commit_allows p m s (Confirm (Header t) (is_header_so_now p d m s t))
+is_allowed p m s d g (AddRecord t k) = can_open_header p d t (Some k)
+is_allowed p m s d g (AddKey t k) =
+    page_allows p d g (opening_with t k)
+    && (not (is_trying s.stage) && may_move p m s (moves d (opening_with t k)))
 is_allowed p m s d g (FillRecord x c) = is_owned (slot_of d x.slot).state && has_slot g.made x.slot
 is_allowed p m s d g (Turn act) =
     page_allows p d g act && (commit_lets p m s d act && may_move p m s (moves d act))
@@ -125,6 +168,11 @@ abbrev pub effect : ℕ → Story → Seat → Table → Grip → JointAct → J
 effect p m s d g (Commit act) = joined (commit_effect p m s act) (turned d g)
 effect p m s d g (SeePointer x) = joined (commit_effect p m s (Keep (pointer_part d x))) (turned d g)
 effect p m s d g (CheckPointer x) = joined (commit_effect p m s (Confirm (Pointer x) (is_so_now p d m s x))) (turned d g)
+effect p m s d g (SeeHeader t) = joined (commit_effect p m s (Keep (header_part d t))) (turned d g)
+effect p m s d g (CheckHeader t) =
+    joined (commit_effect p m s (Confirm (Header t) (is_header_so_now p d m s t))) (turned d g)
+effect p m s d g (AddRecord t k) = joined (unmoved (filled (next_spot d t) nothing m) s) (turned d g)
+effect p m s d g (AddKey t k) = joined (after_key p m s d g t k) (page_effect p d g (opening_with t k))
 effect p m s d g (FillRecord x c) = joined (unmoved (filled x c m) s) (turned d g)
 effect p m s d g (Turn act) = joined (after_moves p m s (moves d act)) (page_effect p d g act)
 

@@ -13,7 +13,8 @@ use Rattle.drop_core.specs.Table.{slot_of, has_slot}
 use Rattle.drop_core.specs.Event.{is_usable}
 use Rattle.drop_core.specs.declared.table.SnapPage.{SnapPage}
 use Rattle.drop_core.specs.declared.event.Act.{Act as PageAct}
-use Rattle.engine_rule.specs.declared.event.JointAct.TheVariants.{Turn}
+use Rattle.engine_rule.specs.declared.event.JointAct.{JointAct}
+use Rattle.engine_rule.specs.declared.event.JointAct.TheVariants.{AddRecord, AddKey, Turn}
 use Rattle.engine_rule.specs.declared.event.JointEvent.{JointEvent}
 use Rattle.engine_rule.specs.JointState.{JointState}
 use Rattle.engine_rule.specs.Event.{may_happen, happened, run}
@@ -55,6 +56,17 @@ turn_of p act = record { seat = p; act = Turn act }
 abbrev pub TurnsChangeNothing : Type 0
 TurnsChangeNothing = (c : JointState) (p : ℕ) (act : PageAct) → may_happen c (turn_of p act) ≡ true → (k : Key)
     → IsSameOrAbsent (content_now c k) (content_now (happened c (turn_of p act)) k)
+
+-- an act of seat p on both
+abbrev pub joint_of : ℕ → JointAct → JointEvent
+joint_of p act = record { seat = p; act = act }
+
+-- nor does a record that is set for a key, or the opening of the header with it
+pub record AddsChangeNothing : Type 0 where
+  pub record_set : (c : JointState) (p t : ℕ) (q : Key) → IsSound c → may_happen c (joint_of p (AddRecord t q)) ≡ true
+      → (k : Key) → content_now (happened c (joint_of p (AddRecord t q))) k ≡ content_now c k
+  pub key_added : (c : JointState) (p t : ℕ) (q : Key) → IsSound c → may_happen c (joint_of p (AddKey t q)) ≡ true
+      → (k : Key) → content_now (happened c (joint_of p (AddKey t q))) k ≡ content_now c k
 
 -- where a word is now as a seat keeps it, what it vouches for is so now
 abbrev pub WordsVouch : Type 0

@@ -2,6 +2,7 @@ pub mod Pairs
 pub mod JointState
 pub mod Event
 pub mod Shift
+pub mod Renewal
 pub mod Answers
 pub mod Sound
 pub mod Opening

@@ -1,30 +1,51 @@
--- The turns that move keys, which are tested and made in steps.
-use Rattle.std.specs.Prelude.{◌≡◌, ℕ, [], Option, Some}
+-- Turns that move keys, which are tested and made in steps, and those that move none.
+use Rattle.std.specs.Prelude.{◌≡◌, [], Option, Some, None, ⊤}
 use Rattle.serial_model.specs.declared.key.Key.{Key}
 use Rattle.homes.specs.declared.places.Home.{Home}
 use Rattle.drop_core.specs.declared.table.Table.{Table}
+use Rattle.drop_core.specs.declared.event.Twins.{Twins}
 use Rattle.drop_core.specs.declared.event.Act.{Act}
-use Rattle.drop_core.specs.declared.event.Act.TheVariants.{Install, Swing}
-use Rattle.drop_core.specs.Table.{page_of, pointer_of, leaf_home, snap_home}
-use Rattle.drop_core.specs.Event.{leaf_keys, moves}
+use Rattle.drop_core.specs.declared.event.Act.TheVariants.{Enter, Leave, Give, Publish, Retire, FillPage, FillPointer, FillSnapshot, Extend, Install, Swing, Renew, Shut, Reopen, FillHeader, LockHeader, OpenHeader, Twin, SwingChain}
+use Rattle.drop_core.specs.Table.{page_of, leaf_home, snap_home}
+use Rattle.drop_core.specs.Event.{leaf_keys, twin_home, next_place, moves}
+use Rattle.engine_rule.specs.declared.shifts.Halves.{Halves}
 use Rattle.engine_rule.specs.declared.shifts.Shift.{Shift}
-use Rattle.engine_rule.specs.declared.shifts.Shift.TheVariants.{Up, Down}
+use Rattle.engine_rule.specs.declared.shifts.Shift.TheVariants.{Up, Down, Behind, Apart}
 
--- the act on pages
-abbrev pub shift_act : Shift → Act
-shift_act (Up x s) = Install x s
-shift_act (Down x n) = Swing x n
-
--- the slot whose page has the keys
-abbrev pub shift_slot : Table → Shift → Option ℕ
-shift_slot d (Up x s) = Some s
-shift_slot d (Down x n) = (pointer_of d x).slot
+-- the split whose leaves these are
+abbrev pub twins_of : Halves → Twins
+twins_of h = record { slot = h.slot; minor = h.minor; major = h.major; separator = h.separator; keys = [] }
 
 -- where a key goes
 abbrev pub shift_home : Table → Shift → Key → Home
-shift_home d (Up x s) = leaf_home s 0 (leaf_keys (page_of d s))
-shift_home d (Down x n) = snap_home d n
+shift_home d (Up s) k = leaf_home s 0 (leaf_keys (page_of d s)) k
+shift_home d (Down n) k = snap_home d n k
+shift_home d (Behind s) k = next_place d s
+shift_home d (Apart h) k = twin_home d h.span (twins_of h) k
 
 -- the act moves no key, whatever the pages are
 abbrev pub IsNoShift : Act → Type 0
 IsNoShift act = (d : Table) → moves d act ≡ []
+
+-- the act is one of those that may move keys
+abbrev pub IsShift : Act → Type 0
+IsShift (Enter s) = ⊥
+IsShift (Leave s) = ⊥
+IsShift (Give s) = ⊥
+IsShift (Publish s) = ⊥
+IsShift (Retire s) = ⊥
+IsShift (FillPage s page) = ⊥
+IsShift (FillPointer x q) = ⊥
+IsShift (FillSnapshot n page) = ⊥
+IsShift (Extend n) = ⊥
+IsShift (Install x s) = ⊤
+IsShift (Swing x n) = ⊤
+IsShift (Renew x n) = ⊥
+IsShift (Shut x) = ⊥
+IsShift (Reopen x) = ⊥
+IsShift (FillHeader s) = ⊥
+IsShift (LockHeader s) = ⊥
+IsShift (OpenHeader s None) = ⊥
+IsShift (OpenHeader s (Some k)) = ⊤
+IsShift (Twin w) = ⊤
+IsShift (SwingChain x n c) = ⊤

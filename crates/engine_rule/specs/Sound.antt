@@ -2,7 +2,7 @@
 -- `locked_homes`, `reads_stay_true`, `commits_are_checked` and `marks_are_past` are commit_core's; `one_home_each`,
 -- `holds_counted` and `snapshots_fixed` are drop_core's, with these homes of the keys. Here is what needs both: that the
 -- places of a page that is gone are dead, that words which are kept are held, and that kept words vouch, which follows.
-use Rattle.std.specs.Prelude.{◌≡◌, ℕ, ◌≤◌, ◌==◌, ◌&&◌, Bool, true, false, not, List, Option, Some, None, length, slice_get, Contains, ⊤}
+use Rattle.std.specs.Prelude.{◌≡◌, ◌⊎◌, ℕ, ◌+◌, ◌≤◌, ◌==◌, ◌&&◌, Bool, true, false, not, List, ◌++◌, Option, Some, None, length, slice_get, Contains, ⊤}
 use Rattle.serial_model.specs.declared.key.Key.{Key}
 use Rattle.homes.specs.declared.places.Holder.{Holder}
 use Rattle.homes.specs.declared.places.Holder.TheVariants.{Free, Held, Dead}
@@ -15,24 +15,25 @@ use Rattle.homes.specs.declared.places.Home.TheVariants.{InSlot}
 use Rattle.homes.specs.Homes.{in_span}
 use Rattle.commit_core.specs.declared.place.Place.{Place}
 use Rattle.commit_core.specs.declared.part.Word.{Word}
-use Rattle.commit_core.specs.declared.part.Word.TheVariants.{Record, Pointer}
-use Rattle.commit_core.specs.declared.part.Version.TheVariants.{Leads}
+use Rattle.commit_core.specs.declared.part.Word.TheVariants.{Record, Pointer, Header}
+use Rattle.commit_core.specs.declared.part.Version.TheVariants.{Leads, Counted}
 use Rattle.commit_core.specs.declared.part.Part.{Part}
 use Rattle.commit_core.specs.declared.seat.Stage.{Stage}
 use Rattle.commit_core.specs.declared.seat.Stage.TheVariants.{Idle, Trying, Ended, Decided}
 use Rattle.commit_core.specs.declared.seat.Seat.{Seat}
+use Rattle.commit_core.specs.Keys.{nothing}
 use Rattle.commit_core.specs.Places.{place_of, home_of, stands}
 use Rattle.commit_core.specs.Parts.{covers, found, is_version}
 use Rattle.commit_core.specs.Sound.{IsSound as CommitsAreSound}
-use Rattle.drop_core.specs.declared.table.Led.TheVariants.{Away}
+use Rattle.drop_core.specs.declared.table.Led.TheVariants.{From, Away}
 use Rattle.drop_core.specs.declared.table.Page.{Page}
-use Rattle.drop_core.specs.declared.table.Page.TheVariants.{Leaf}
+use Rattle.drop_core.specs.declared.table.Page.TheVariants.{Leaf, Split}
 use Rattle.drop_core.specs.declared.table.Table.{Table}
 use Rattle.drop_core.specs.declared.grip.Grip.{Grip}
-use Rattle.drop_core.specs.Table.{slot_of, page_of, pointer_of, snap_home, leaf_home, has_slot, has_pointer, is_never}
+use Rattle.drop_core.specs.Table.{slot_of, page_of, pointer_of, header_of, snap_home, leaf_home, has_slot, has_pointer, is_never}
 use Rattle.drop_core.specs.Sound.{span_at, IsSound as PagesAreSound}
 use Rattle.engine_rule.specs.Pairs.{page_content}
-use Rattle.engine_rule.specs.JointState.{JointState, slot_of_word, leads_so}
+use Rattle.engine_rule.specs.JointState.{JointState, slot_of_word, leads_so, counts_so}
 
 -- ---- pages that are gone
 
@@ -73,9 +74,27 @@ pub record FitsPointer
   pub within : (k : Key) → covers part k ≡ true → in_span (spans x) k ≡ true
   pub pairs : (k : Key) → covers part k ≡ true → page_content (homes page k) ≡ found part k
 
--- of records this is a part of the commits' sound state (`kept_fits`)
+-- the page has at least so many records, or was split
+abbrev pub HasRecords : Page → ℕ → Type 0
+HasRecords page n = (page ≡ Split) ⊎ ((keys : List Key) × (page ≡ Leaf keys) × (n ≤ length keys))
+
+-- the page has these keys, and maybe more behind them, or was split
+abbrev pub HasKeys : Page → List Key → Type 0
+HasKeys page keys = (page ≡ Split) ⊎ ((more : List Key) × (page ≡ Leaf (keys ++ more)))
+
+-- The part of a header leaves out the keys that the leaf had, counts them, and vouches for keys that the leaf is over: there
+-- was nothing.
+pub record FitsHeader (d : Table) (s : ℕ) (part : Part) : Type 0 where
+  pub version : part.version ≡ Counted (length part.less)
+  pub keys : HasKeys (page_of d s) part.less
+  pub within : (x : At) → (slot_of d s).led ≡ From x → (k : Key) → covers part k ≡ true
+      → in_span (span_at d x) k ≡ true
+  pub absent : (k : Key) → covers part k ≡ true → found part k ≡ nothing
+
+-- The record is one of its page; what else fits of it is a part of the commits' sound state (`kept_fits`).
 abbrev pub FitsWord : Table → Part → Word → Type 0
-FitsWord d part (Record x) = ⊤
+FitsWord d part (Record x) = HasRecords (page_of d x.slot) (x.index + 1)
+FitsWord d part (Header s) = FitsHeader d s part
 FitsWord d part (Pointer x) = FitsPointer (page_of d) (span_at d) (snap_home d) d.published x part
 
 -- what each kept part says of its word that no event changes while the slot is held
@@ -119,6 +138,8 @@ is_word_so p decided places d part (Record x) =
     is_clear p decided (places x).holder && is_version (places x).content part.version
 is_word_so p decided places d part (Pointer x) =
     is_clear p decided (pointer_of d x).holder && leads_so (pointer_of d x) part.version
+is_word_so p decided places d part (Header s) =
+    is_clear p decided (header_of d s) && counts_so (page_of d s) part.version
 
 -- what the part vouches for is so now
 abbrev pub IsClearNow : ℕ → Bool → (Key → Place) → Part → Type 0

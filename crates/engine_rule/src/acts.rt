@@ -2,17 +2,21 @@
 // that want of memory leaves everything as it was.
 ghost use Rattle.std.specs.Prelude.{ℕ};
 ghost use Rattle.engine_rule.specs.Answers.{Answers, AnswersOnPages, AnswersMoves, AnswersMoving};
-ghost use Rattle.engine_rule.specs.Shift.{shift_act};
+ghost use Rattle.engine_rule.specs.Shift.{IsShift};
 
 use crate::asks::{commit_lets, has_made, page_lets};
 use crate::event::JointAct;
+use crate::headers::{
+    can_see_header, header_part, is_header_so_now, kept_with_key, next_spot, renew,
+};
+use crate::pairs::nothing;
 use crate::pointers::{can_see, is_so_now, pointer_part};
-use crate::shifts::{Shift, may_shift, prepare, shift_of};
+use crate::shifts::{is_shift, may_shift, prepare};
 use commit_core::{Act as CommitAct, Refused, Seat, Story, Word, rehome};
-use drop_core::{Act as PageAct, Grip, Table, put};
+use drop_core::{Act as PageAct, Grip, Table, can_add, put};
 use homes::{At, Content, Move, Spot};
 use lists::Sequence;
-use serial_model::OrMemory;
+use serial_model::{Key, OrMemory};
 
 /// What an act answers.
 pub type Answer = Result<(), OrMemory<Refused>>;
@@ -32,6 +36,10 @@ pub fn act(
         JointAct::Commit(act) => commit(id, story, seat, grip, act),
         JointAct::SeePointer(at) => see_pointer(id, story, seat, table, grip, at),
         JointAct::CheckPointer(at) => check_pointer(id, story, seat, table, at),
+        JointAct::SeeHeader(slot) => see_header(id, story, seat, table, grip, slot),
+        JointAct::CheckHeader(slot) => check_header(id, story, seat, table, slot),
+        JointAct::AddRecord(slot, key) => add_record(id, story, table, slot, key),
+        JointAct::AddKey(slot, key) => add_key(id, story, seat, table, grip, slot, key),
         JointAct::FillRecord(spot, content) => fill_record(story, table, grip, spot, content),
         JointAct::Turn(act) => turn(id, story, seat, table, grip, act),
     }
@@ -82,6 +90,81 @@ fn check_pointer(id: u32, story: &mut Story, seat: &mut Seat, table: &Table, at:
     )
 }
 
+/// Reads a header, and keeps that no other key of the leaf's span is there.
+fn see_header(
+    id: u32,
+    story: &mut Story,
+    seat: &mut Seat,
+    table: &Table,
+    grip: &Grip,
+    slot: u32,
+) -> Answer
+    ensures { Answers id (JointAct.SeeHeader slot) story.old seat.old table.now grip.now result story.new seat.new table.now grip.now }
+{
+    if !can_see_header(table, grip, slot) || seat.stage.is_trying() {
+        return Err(OrMemory::Fault(Refused));
+    }
+    let part = header_part(seat.kept.alloc(), table, slot)?;
+    commit_core::act(id, story, seat, &CommitAct::Keep(part))
+}
+
+/// Looks again at a header that was read: a leaf to which a key was added counts more records by now.
+fn check_header(id: u32, story: &mut Story, seat: &mut Seat, table: &Table, slot: u32) -> Answer
+    ensures { (g : Grip) → Answers id (JointAct.CheckHeader slot) story.old seat.old table.now g result story.new seat.new table.now g }
+{
+    let is_so = is_header_so_now(id, table, story, seat, slot);
+    commit_core::act(
+        id,
+        story,
+        seat,
+        &CommitAct::Confirm(Word::Header(slot), is_so),
+    )
+}
+
+/// Sets a record for the key behind those of a leaf: nobody looks there before the header is opened with it.
+fn add_record(id: u32, story: &mut Story, table: &Table, slot: u32, key: Key) -> Answer
+    ensures { (s : Seat) (g : Grip) → Answers id (JointAct.AddRecord slot key) story.old s table.now g result story.new s table.now g }
+{
+    if !can_add(id, table, slot, key) {
+        return Err(OrMemory::Fault(Refused));
+    }
+    story.fill(next_spot(table, slot), nothing())?;
+    Ok(())
+}
+
+/// Opens the header with the key. What the seat keeps of the header goes on, and the new record beside it; this is made
+/// before the key moves, since it takes memory.
+fn add_key(
+    id: u32,
+    story: &mut Story,
+    seat: &mut Seat,
+    table: &mut Table,
+    grip: &mut Grip,
+    slot: u32,
+    key: Key,
+) -> Answer
+    ensures { Answers id (JointAct.AddKey slot key) story.old seat.old table.old grip.old result story.new seat.new table.new grip.new }
+{
+    let opening = PageAct::OpenHeader(slot, Some(key));
+    if seat.stage.is_trying() || !may_shift(id, story, seat, table, &opening) {
+        drop(opening);
+        return Err(OrMemory::Fault(Refused));
+    }
+    let prepared = prepare(id, table, grip, &opening);
+    drop(opening);
+    let swap = match prepared {
+        Ok(swap) => swap,
+        Err(OrMemory::Fault(_)) => return Err(OrMemory::Fault(Refused)),
+        Err(OrMemory::Memory) => return Err(OrMemory::Memory),
+    };
+    let count = table.leaf_keys(slot).len();
+    let kept = kept_with_key(story, seat, table, slot, key)?;
+    move_keys(id, story, seat, &swap.moves)?;
+    renew(seat, slot, count, kept);
+    put(swap, table, grip);
+    Ok(())
+}
+
 /// Sets a record in the page of an owned slot, to which nothing leads yet.
 fn fill_record(
     story: &mut Story,
@@ -114,13 +197,12 @@ fn turn(
         drop(act);
         return Err(OrMemory::Fault(Refused));
     }
-    match shift_of(&act) {
-        None => still(id, table, grip, act),
-        Some(shift) => {
-            drop(act);
-            moving(id, story, seat, table, grip, shift)
-        }
+    if !is_shift(&act) {
+        return still(id, table, grip, act);
     }
+    let answer = moving(id, story, seat, table, grip, &act);
+    drop(act);
+    answer
 }
 
 /// An act that moves no key.
@@ -142,14 +224,15 @@ fn moving(
     seat: &mut Seat,
     table: &mut Table,
     grip: &mut Grip,
-    shift: Shift,
+    act: &PageAct,
 ) -> Answer
-    ensures { AnswersMoving id (shift_act shift) story.old seat.old table.old grip.old result story.new seat.new table.new grip.new }
+    requires { IsShift act.now }
+    ensures { AnswersMoving id act.now story.old seat.old table.old grip.old result story.new seat.new table.new grip.new }
 {
-    if !may_shift(id, story, seat, table, shift) {
+    if !may_shift(id, story, seat, table, act) {
         return Err(OrMemory::Fault(Refused));
     }
-    let swap = match prepare(id, table, grip, shift) {
+    let swap = match prepare(id, table, grip, act) {
         Ok(swap) => swap,
         Err(OrMemory::Fault(_)) => return Err(OrMemory::Fault(Refused)),
         Err(OrMemory::Memory) => return Err(OrMemory::Memory),

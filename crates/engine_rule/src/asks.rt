@@ -8,7 +8,7 @@ ghost use Rattle.engine_rule.specs.JointState.{slot_at, slot_of_word, is_slot, k
 ghost use Rattle.engine_rule.specs.Event.{slot_of_spot, page_lets, holds_all, is_before_all, absences_are_old, commit_lets};
 
 use commit_core::{Act as CommitAct, Part, Seat, Story, Word};
-use drop_core::{Act as PageAct, Grip, Page, Table};
+use drop_core::{Act as PageAct, Grip, Table};
 use homes::{At, Spot};
 use lists::Sequence;
 use serial_model::Key;
@@ -53,7 +53,8 @@ pub fn has_made(grip: &Grip, slot: u32) -> bool
     grip.made.as_slice().iter().any(|s| *s == slot)
 }
 
-fn holds(grip: &Grip, slot: u32) -> bool
+/// Whether the seat holds the slot.
+pub fn holds(grip: &Grip, slot: u32) -> bool
     ensures { result ≡ holds_slot grip.now (Some slot) }
 {
     grip.holds.as_slice().iter().any(|s| *s == slot)
@@ -66,10 +67,14 @@ pub fn commit_lets(id: u32, story: &Story, seat: &Seat, table: &Table, act: &Pag
     match act {
         PageAct::Leave(slot) => !keeps_word(&seat.kept, *slot),
         PageAct::Swing(at, _) => lets_swing(id, story, seat, table, *at),
+        PageAct::SwingChain(_, _, chain) => lets_keys_go(id, story, seat, chain.keys.as_slice()),
+        PageAct::Twin(twins) => lets_split(id, story, seat, table, twins.slot),
+        PageAct::OpenHeader(_, Some(_)) => false,
         PageAct::Enter(_) | PageAct::Give(_) | PageAct::Publish(_) | PageAct::Retire(_) => true,
         PageAct::FillPage(_, _) | PageAct::FillPointer(_, _) | PageAct::FillSnapshot(_, _) => true,
         PageAct::Extend(_) | PageAct::Install(_, _) | PageAct::Renew(_, _) => true,
         PageAct::Shut(_) | PageAct::Reopen(_) => true,
+        PageAct::FillHeader(_) | PageAct::LockHeader(_) | PageAct::OpenHeader(_, None) => true,
     }
 }
 
@@ -88,6 +93,7 @@ fn is_word_in(word: Word, slot: u32) -> bool
     match word {
         Word::Record(spot) => spot.slot == slot,
         Word::Pointer(at) => is_pointer_in(at, slot),
+        Word::Header(page) => page == slot,
     }
 }
 
@@ -105,8 +111,21 @@ fn is_pointer_in(at: At, slot: u32) -> bool
 fn lets_swing(id: u32, story: &Story, seat: &Seat, table: &Table, at: At) -> bool
     ensures { result ≡ (can_begin seat.now.stage && (holds_all id story.now (keys_in table.now (pointer_of table.now at).slot) && absences_are_old story.now (keys_in table.now (pointer_of table.now at).slot))) }
 {
-    let keys = keys_in(table, table.pointer(at).slot);
+    lets_keys_go(id, story, seat, keys_in(table, table.pointer(at).slot))
+}
+
+/// The same of these keys.
+fn lets_keys_go(id: u32, story: &Story, seat: &Seat, keys: &[Key]) -> bool
+    ensures { result ≡ (can_begin seat.now.stage && (holds_all id story.now keys.now && absences_are_old story.now keys.now)) }
+{
     seat.stage.can_begin() && holds_all(id, story, keys) && absences_are_old(story, keys)
+}
+
+/// Whether the seat has no attempt, and holds each record of the leaf in the slot.
+fn lets_split(id: u32, story: &Story, seat: &Seat, table: &Table, slot: u32) -> bool
+    ensures { result ≡ (can_begin seat.now.stage && holds_all id story.now (leaf_keys (page_of table.now slot))) }
+{
+    seat.stage.can_begin() && holds_all(id, story, table.leaf_keys(slot))
 }
 
 /// The keys of the records in the page of the slot, if there is one.
@@ -115,16 +134,7 @@ pub fn keys_in(table: &Table, slot: Option<u32>) -> &[Key]
 {
     match slot {
         None => &[],
-        Some(slot) => leaf_keys(table, slot),
-    }
-}
-
-fn leaf_keys(table: &Table, slot: u32) -> &[Key]
-    ensures { result.now ≡ leaf_keys (page_of table.now slot) }
-{
-    match table.page(slot) {
-        None | Some(Page::Blank) | Some(Page::Inner(_)) => &[],
-        Some(Page::Leaf(keys)) => keys.as_slice(),
+        Some(slot) => table.leaf_keys(slot),
     }
 }
 

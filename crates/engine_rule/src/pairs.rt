@@ -1,6 +1,7 @@
 // What snapshot pages have for keys.
 ghost use Rattle.std.specs.Prelude.{◌≡◌, map, filter, IfOk};
 ghost use Rattle.homes.specs.Homes.{in_span};
+ghost use Rattle.commit_core.specs.Keys.{nothing};
 ghost use Rattle.drop_core.specs.Table.{snap_home};
 ghost use Rattle.engine_rule.specs.Pairs.{page_content, page_keys, snap_keys, pairs_for};
 
@@ -79,9 +80,16 @@ pub fn page_content(home: Home) -> Content
 {
     match home {
         Home::InPage(_, content) => content,
-        Home::InSlot(_) | Home::Nowhere => Content {
-            number: Number { epoch: 0, draw: 0 },
-            value: None,
-        },
+        Home::InSlot(_) | Home::Nowhere => nothing(),
+    }
+}
+
+/// What stands at a key that nobody wrote.
+pub fn nothing() -> Content
+    ensures { result ≡ nothing }
+{
+    Content {
+        number: Number { epoch: 0, draw: 0 },
+        value: None,
     }
 }

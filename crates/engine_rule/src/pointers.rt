@@ -52,7 +52,7 @@ fn leads_so(pointer: Pointer, version: Version) -> bool
     ensures { result ≡ leads_so pointer version }
 {
     match version {
-        Version::Numbered(_, _) => false,
+        Version::Numbered(_, _) | Version::Counted(_) => false,
         Version::Leads(page) => pointer.slot.is_none() && pointer.page == page,
     }
 }

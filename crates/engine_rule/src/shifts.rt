@@ -1,59 +1,127 @@
-// The turns that move keys: an install of a leaf, and a swing over one. Whether the keys may go is tested before
-// anything is made, without memory.
-ghost use Rattle.std.specs.Prelude.{◌≡◌, ◌&&◌, not, MatchOption};
+// The turns that move keys. Whether the keys may go is tested before anything is made, without memory.
+ghost use Rattle.std.specs.Prelude.{◌≡◌, ◌&&◌, not, true, false, [], ◌∷◌};
 ghost use Rattle.std.specs.List.{list_any, list_all};
 ghost use Rattle.homes.specs.Homes.{moves_to};
 ghost use Rattle.commit_core.specs.Moves.{is_spot, moves_key, moves_to_spot, are_apart, can_move, can_rehome};
 ghost use Rattle.commit_core.specs.Places.{spot_of};
-ghost use Rattle.drop_core.specs.Event.{moves};
+ghost use Rattle.drop_core.specs.Event.{slot_span, moves, twin_home};
 ghost use Rattle.drop_core.specs.Swap.{Prepares};
 ghost use Rattle.engine_rule.specs.Event.{may_move};
-ghost use Rattle.engine_rule.specs.Shift.{shift_act, shift_slot, shift_home, IsNoShift};
+ghost use Rattle.engine_rule.specs.Shift.{twins_of, shift_home, IsNoShift, IsShift};
 
 use crate::asks::keys_in;
+use crate::headers::next_spot;
 use commit_core::{Seat, Story, can_move};
-use drop_core::{Act, Grip, Refused, Swap, Table, leaf_home, prepare_install, prepare_swing};
-use homes::{At, Home, Move, Spot};
+use drop_core::{
+    Act, Grip, Refused, Swap, Table, Twins, leaf_home, prepare_install, prepare_key, prepare_split,
+    prepare_swing, prepare_swing_chain,
+};
+use homes::{Home, Move, Span, Spot};
 use serial_model::{Key, OrMemory};
 
-/// A turn that moves keys.
+/// Where the keys of a turn go.
 #[derive(Clone, Copy)]
 pub enum Shift {
-    /// The keys below the pointer go to the places of this slot's page.
-    Up(At, u32),
-    /// They go to this snapshot page.
-    Down(At, u32),
+    /// To the places of the page in this slot.
+    Up(u32),
+    /// To where this snapshot page has them.
+    Down(u32),
+    /// To the place behind the records of the page in this slot.
+    Behind(u32),
+    /// To the places of two leaves.
+    Apart(Halves),
 }
 
-/// The shift that the act is, if it is one.
-pub fn shift_of(act: &Act) -> Option<Shift>
-    ensures { MatchOption result (IsNoShift act.now) (λ shift. act.now ≡ shift_act shift) }
+/// The two leaves in which a full one is split, which is over this span.
+#[derive(Clone, Copy)]
+pub struct Halves {
+    pub span: Span,
+    pub slot: u32,
+    pub minor: u32,
+    pub major: u32,
+    pub separator: u64,
+}
+
+/// Whether the act is one of those that may move keys.
+pub fn is_shift(act: &Act) -> bool
+    ensures still { result ≡ false → IsNoShift act.now }
+    ensures moving { result ≡ true → IsShift act.now }
 {
     match act {
-        Act::Install(at, slot) => Some(Shift::Up(*at, *slot)),
-        Act::Swing(at, number) => Some(Shift::Down(*at, *number)),
-        Act::Enter(_) | Act::Leave(_) | Act::Give(_) | Act::Publish(_) | Act::Retire(_) => None,
-        Act::FillPage(_, _) | Act::FillPointer(_, _) | Act::FillSnapshot(_, _) => None,
-        Act::Extend(_) | Act::Renew(_, _) | Act::Shut(_) | Act::Reopen(_) => None,
+        Act::Install(_, _) | Act::Swing(_, _) => true,
+        Act::OpenHeader(_, Some(_)) | Act::Twin(_) | Act::SwingChain(_, _, _) => true,
+        Act::Enter(_) | Act::Leave(_) | Act::Give(_) | Act::Publish(_) | Act::Retire(_) => false,
+        Act::FillPage(_, _) | Act::FillPointer(_, _) | Act::FillSnapshot(_, _) => false,
+        Act::Extend(_) | Act::Renew(_, _) | Act::Shut(_) | Act::Reopen(_) => false,
+        Act::FillHeader(_) | Act::LockHeader(_) | Act::OpenHeader(_, None) => false,
     }
 }
 
-/// What the shift comes to for the pages, if it may be made.
-pub fn prepare(id: u32, table: &Table, grip: &Grip, shift: Shift) -> Result<Swap, OrMemory<Refused>>
-    ensures { Prepares id (shift_act shift) table.now grip.now result }
+/// What the act comes to for the pages, if they let it be.
+pub fn prepare(id: u32, table: &Table, grip: &Grip, act: &Act) -> Result<Swap, OrMemory<Refused>>
+    requires { IsShift act.now }
+    ensures { Prepares id act.now table.now grip.now result }
 {
-    match shift {
-        Shift::Up(at, slot) => prepare_install(id, table, grip, at, slot),
-        Shift::Down(at, number) => prepare_swing(id, table, grip, at, number),
+    match act {
+        Act::Install(at, slot) => prepare_install(id, table, grip, *at, *slot),
+        Act::Swing(at, number) => prepare_swing(id, table, grip, *at, *number),
+        Act::OpenHeader(slot, Some(key)) => prepare_key(id, table, grip, *slot, *key),
+        Act::Twin(twins) => prepare_split(id, table, grip, twins),
+        Act::SwingChain(at, number, chain) => {
+            prepare_swing_chain(id, table, grip, *at, *number, chain)
+        }
+        Act::Enter(_) | Act::Leave(_) | Act::Give(_) | Act::Publish(_) | Act::Retire(_) => {
+            Err(OrMemory::Fault(Refused))
+        }
+        Act::FillPage(_, _) | Act::FillPointer(_, _) | Act::FillSnapshot(_, _) => {
+            Err(OrMemory::Fault(Refused))
+        }
+        Act::Extend(_) | Act::Renew(_, _) | Act::Shut(_) | Act::Reopen(_) => {
+            Err(OrMemory::Fault(Refused))
+        }
+        Act::FillHeader(_) | Act::LockHeader(_) | Act::OpenHeader(_, None) => {
+            Err(OrMemory::Fault(Refused))
+        }
     }
 }
 
-/// Whether the keys may go where the shift brings them.
-pub fn may_shift(id: u32, story: &Story, seat: &Seat, table: &Table, shift: Shift) -> bool
-    ensures { result ≡ may_move id story.now seat.now (moves table.now (shift_act shift)) }
+/// Whether the keys may go where the act brings them.
+pub fn may_shift(id: u32, story: &Story, seat: &Seat, table: &Table, act: &Act) -> bool
+    ensures { result ≡ may_move id story.now seat.now (moves table.now act.now) }
 {
-    let keys = keys_in(table, slot_of(table, shift));
-    may_go(id, seat.stage.can_begin(), story, table, shift, keys)
+    let begins = seat.stage.can_begin();
+    match act {
+        Act::Install(_, slot) => {
+            let keys = table.leaf_keys(*slot);
+            may_go(id, begins, story, table, Shift::Up(*slot), keys)
+        }
+        Act::Swing(at, number) => {
+            let keys = keys_in(table, table.pointer(*at).slot);
+            may_go(id, begins, story, table, Shift::Down(*number), keys)
+        }
+        Act::OpenHeader(slot, Some(key)) => {
+            may_go(id, begins, story, table, Shift::Behind(*slot), &[*key])
+        }
+        Act::Twin(twins) => {
+            let keys = twins.keys.as_slice();
+            may_go(
+                id,
+                begins,
+                story,
+                table,
+                Shift::Apart(halves_of(table, twins)),
+                keys,
+            )
+        }
+        Act::SwingChain(_, number, chain) => {
+            let keys = chain.keys.as_slice();
+            may_go(id, begins, story, table, Shift::Down(*number), keys)
+        }
+        Act::Enter(_) | Act::Leave(_) | Act::Give(_) | Act::Publish(_) | Act::Retire(_) => true,
+        Act::FillPage(_, _) | Act::FillPointer(_, _) | Act::FillSnapshot(_, _) => true,
+        Act::Extend(_) | Act::Renew(_, _) | Act::Shut(_) | Act::Reopen(_) => true,
+        Act::FillHeader(_) | Act::LockHeader(_) | Act::OpenHeader(_, None) => true,
+    }
 }
 
 fn may_go(id: u32, begins: bool, story: &Story, table: &Table, shift: Shift, keys: &[Key]) -> bool
@@ -62,13 +130,16 @@ fn may_go(id: u32, begins: bool, story: &Story, table: &Table, shift: Shift, key
     are_apart(table, shift, keys) && each_may_go(id, begins, story, table, shift, keys)
 }
 
-/// The slot whose page has the keys.
-fn slot_of(table: &Table, shift: Shift) -> Option<u32>
-    ensures { result ≡ shift_slot table.now shift }
+/// The leaves of a split.
+fn halves_of(table: &Table, twins: &Twins) -> Halves
+    ensures { (k : Key) → shift_home table.now (Shift.Apart result) k ≡ twin_home table.now (slot_span table.now twins.now.slot) twins.now k }
 {
-    match shift {
-        Shift::Up(_, slot) => Some(slot),
-        Shift::Down(at, _) => table.pointer(at).slot,
+    Halves {
+        span: table.slot_span(twins.slot),
+        slot: twins.slot,
+        minor: twins.minor,
+        major: twins.major,
+        separator: twins.separator,
     }
 }
 
@@ -77,9 +148,25 @@ fn home_by(table: &Table, shift: Shift, key: Key) -> Home
     ensures { result ≡ shift_home table.now shift key }
 {
     match shift {
-        Shift::Up(_, slot) => leaf_home(slot, keys_in(table, Some(slot)), key),
-        Shift::Down(_, number) => table.home(number, key),
+        Shift::Up(slot) => leaf_home(slot, table.leaf_keys(slot), key),
+        Shift::Down(number) => table.home(number, key),
+        Shift::Behind(slot) => Home::InSlot(next_spot(table, slot)),
+        Shift::Apart(halves) => home_in_half(table, halves, key),
     }
+}
+
+fn home_in_half(table: &Table, halves: Halves, key: Key) -> Home
+    ensures { result ≡ twin_home table.now halves.span (twins_of halves) key }
+{
+    let lower = Span {
+        storage: halves.span.storage,
+        low: halves.span.low,
+        high: halves.separator.saturating_sub(1),
+    };
+    if lower.has(key) {
+        return leaf_home(halves.minor, table.leaf_keys(halves.minor), key);
+    }
+    leaf_home(halves.major, table.leaf_keys(halves.major), key)
 }
 
 /// The move of the key.

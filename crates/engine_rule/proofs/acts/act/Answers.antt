@@ -17,3 +17,13 @@ pub returns-in-FillRecord : goal.returns-in-FillRecord
 returns-in-FillRecord c =
     subst (λ a. Answers c.args.id a c.args.story.now c.args.seat.now c.args.table.now c.args.grip.now c.fill_record.result c.fill_record.new.story c.args.seat.now c.args.table.now c.args.grip.now)
     (sym c.in-FillRecord.is) (c.fill_record.ensures c.args.id c.args.seat.now)
+
+pub returns-in-CheckHeader : goal.returns-in-CheckHeader
+returns-in-CheckHeader c =
+    subst (λ a. Answers c.args.id a c.args.story.now c.args.seat.now c.args.table.now c.args.grip.now c.check_header.result c.check_header.new.story c.check_header.new.seat c.args.table.now c.args.grip.now)
+    (sym c.in-CheckHeader.is) (c.check_header.ensures c.args.grip.now)
+
+pub returns-in-AddRecord : goal.returns-in-AddRecord
+returns-in-AddRecord c =
+    subst (λ a. Answers c.args.id a c.args.story.now c.args.seat.now c.args.table.now c.args.grip.now c.add_record.result c.add_record.new.story c.args.seat.now c.args.table.now c.args.grip.now)
+    (sym c.in-AddRecord.is) (c.add_record.ensures c.args.seat.now c.args.grip.now)

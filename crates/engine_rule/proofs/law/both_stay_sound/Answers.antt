@@ -7,6 +7,7 @@ use Rattle.drop_core.specs.declared.grip.Grip.{Grip}
 use Rattle.engine_rule.specs.JointState.{JointState}
 use Rattle.engine_rule.specs.Event.{run}
 use Rattle.engine_rule.specs.Sound.{IsSound, KeptWordsVouch}
+use Rattle.engine_rule.proofs.AddedContents.{adds_change_nothing}
 use Rattle.engine_rule.proofs.Contents.{turns_change_nothing}
 use Rattle.engine_rule.proofs.Events.{event_sound, run_sound}
 use Rattle.engine_rule.proofs.Growing.{only_grows}
@@ -23,7 +24,7 @@ there_is (h ∷ more) (suc i) less = there_is more i (omega (arith, less))
 words_vouch : (c : JointState) → IsSound c → KeptWordsVouch c
 words_vouch c sound p s at part kept so =
     let h = there_is c.pages.grips p (subst (λ (n : ℕ). p < n) sound.same_seats (at_below c.commits.seats p s at)) in
-    kept_vouches c.commits.opening c.commits.story p s sound.commits.story (sound.commits.seats p s at) c.pages.table c.pages.grips h.0 sound.pages.table
+    kept_vouches c.commits.opening c.commits.story p s sound.commits.story (sound.commits.seats p s at) c.pages.table c.pages.grips h.0 sound.pages.table sound.pages.headers
     (sound.kept p s h.0 at h.1) part kept so
 
 pub returns : goal.returns
@@ -33,11 +34,13 @@ returns c =
       commits_leave = c.commits_are_serial.ensures.each_act_leaves;
       commits_open = c.commits_are_serial.ensures.opens;
       serial = c.commits_are_serial.ensures.sound_serial;
+      fills = c.commits_are_serial.ensures.fills;
       pages_keep = c.pages_stay_sound.ensures.each_act;
       pages_leave = c.pages_stay_sound.ensures.each_act_leaves;
       pages_start = c.pages_stay_sound.ensures.starts;
       held = c.pages_stay_sound.ensures.held;
       down = c.pages_stay_sound.ensures.swing;
+      chains = c.pages_stay_sound.ensures.chains;
       away = c.pages_stay_sound.ensures.away;
     } in
     record {
@@ -48,5 +51,6 @@ returns c =
       serial = λ state events sound. laws.serial (run events state).commits.opening (run events state).commits.story (run_sound laws state events sound).commits.story;
       held = λ state q s g sound at holds. laws.held (home_of state.commits.story.homes) state.pages q s g sound.pages at holds;
       turns = turns_change_nothing;
+      adds = adds_change_nothing;
       words = words_vouch;
     }

@@ -1,11 +1,12 @@
 // Each kind of step on pages against each kind of step on records, and how reads fare while pages come and go.
+use crate::machines::{commits, given_up, happens, open_both, turns};
 use crate::samples::{BOTH, X, Y, content, page_of_both};
 use commit_core::{Act as CommitAct, Mark};
 use drop_core::{Act as PageAct, Page, Pointer, SnapPage};
-use engine_rule::{Joint, JointAct, JointEvent, Refused};
+use engine_rule::{Joint, JointAct};
 use homes::{At, Content, Holder, Span, Spot};
 use lists::Sequence;
-use serial_model::{Change, Changes, Key, Memory, Number, OrMemory};
+use serial_model::{Change, Changes, Key, Memory, Number};
 use std::alloc::Global;
 use std::process::Abort;
 use std::test::Fail;
@@ -130,7 +131,7 @@ const MEETINGS: [(Turn, Deed, Outcome); 23] = [
     (Turn::Swing, Deed::Open, (false, false, true, 0)),
 ];
 
-fn spot(slot: u32, index: usize) -> Spot {
+pub fn spot(slot: u32, index: usize) -> Spot {
     Spot { slot, index }
 }
 
@@ -139,43 +140,25 @@ fn left_page(alloc: Global) -> Result<SnapPage, Memory> {
     page_of_both(alloc, BOTH)
 }
 
-/// A machine over pages 1 to 5, with three seats and four slots. Page 1 has Z, the others have X and Y.
-fn start(alloc: Global) -> Result<Joint, Memory> {
+/// Pages 1 to 5. Page 1 has Z, the others have X and Y.
+fn five_pages(alloc: Global) -> Result<Sequence<(u32, SnapPage)>, Memory> {
     let mut snaps = Sequence::new(alloc);
     let entries = Sequence::from_slice(alloc, &[(Z, content(30))])?;
     snaps.push((1, SnapPage::Entries(RIGHT_SPAN, entries)))?;
     for number in 2..6 {
         snaps.push((number, left_page(alloc)?))?;
     }
-    let roots = [(BOTH, 5), (RIGHT_SPAN, 1)];
-    let first = Number { epoch: 2, draw: 5 };
-    Joint::over(alloc, snaps, 5, &roots, first, 4, 3)
+    Ok(snaps)
 }
 
-// Without clauses, since what `step` ensures is long.
-fn answer(joint: &mut Joint, seat: u32, act: JointAct) -> Result<(), OrMemory<Refused>> {
-    joint.step(JointEvent { seat, act })
-}
-
-/// Whether the act happened.
-fn happens(joint: &mut Joint, seat: u32, act: JointAct) -> Result<bool, Memory> {
-    match answer(joint, seat, act) {
-        Ok(()) => Ok(true),
-        Err(OrMemory::Fault(_)) => Ok(false),
-        Err(OrMemory::Memory) => Err(Memory),
-    }
-}
-
-fn turns(joint: &mut Joint, seat: u32, act: PageAct) -> Result<bool, Memory> {
-    happens(joint, seat, JointAct::Turn(act))
-}
-
-fn commits(joint: &mut Joint, seat: u32, act: CommitAct) -> Result<bool, Memory> {
-    happens(joint, seat, JointAct::Commit(act))
+/// A machine over five pages, with three seats and four slots.
+fn start(alloc: Global) -> Result<Joint, Memory> {
+    let snaps = five_pages(alloc)?;
+    open_both(alloc, snaps, 5, &[(BOTH, 5), (RIGHT_SPAN, 1)], 4, 3)
 }
 
 /// The seat takes a number for this change, or as a reader.
-fn draws(joint: &mut Joint, seat: u32, change: Option<Change>) -> Result<bool, Memory> {
+pub fn draws(joint: &mut Joint, seat: u32, change: Option<Change>) -> Result<bool, Memory> {
     let mut writes = Changes::new();
     if let Some(change) = change {
         writes.push(change);
@@ -183,25 +166,33 @@ fn draws(joint: &mut Joint, seat: u32, change: Option<Change>) -> Result<bool, M
     commits(joint, seat, CommitAct::Draw(writes))
 }
 
+fn change(key: Key, value: Option<u64>) -> Change {
+    Change { key, value }
+}
+
 fn locks_and_draws(joint: &mut Joint, seat: u32, change: Change) -> Result<bool, Memory> {
-    commits(joint, seat, CommitAct::Lock(change.key))?;
-    draws(joint, seat, Some(change))
+    let locked = commits(joint, seat, CommitAct::Lock(change.key))?;
+    let drawn = draws(joint, seat, Some(change))?;
+    Ok(locked & drawn)
 }
 
 fn puts_and_opens(joint: &mut Joint, seat: u32, key: Key) -> Result<bool, Memory> {
-    commits(joint, seat, CommitAct::Put(key))?;
-    commits(joint, seat, CommitAct::Open(key))
+    let put = commits(joint, seat, CommitAct::Put(key))?;
+    let opened = commits(joint, seat, CommitAct::Open(key))?;
+    Ok(put & opened)
 }
 
 fn decides(joint: &mut Joint, seat: u32, key: Key) -> Result<bool, Memory> {
-    commits(joint, seat, CommitAct::Decide)?;
-    puts_and_opens(joint, seat, key)
+    let decided = commits(joint, seat, CommitAct::Decide)?;
+    let opened = puts_and_opens(joint, seat, key)?;
+    Ok(decided & opened)
 }
 
 /// The seat commits a change, whose key nobody holds.
 fn changes(joint: &mut Joint, seat: u32, change: Change) -> Result<bool, Memory> {
-    locks_and_draws(joint, seat, change)?;
-    decides(joint, seat, change.key)
+    let drawn = locks_and_draws(joint, seat, change)?;
+    let decided = decides(joint, seat, change.key)?;
+    Ok(drawn & decided)
 }
 
 /// Seat 0 publishes the pages from 6 up to this one, all with these entries over X and Y.
@@ -211,17 +202,20 @@ fn publishes(
     last: u32,
     entries: &[(Key, Content)],
 ) -> Result<bool, Memory> {
+    let mut all = true;
     for number in 6..=last {
         let page = SnapPage::Entries(BOTH, Sequence::from_slice(alloc, entries)?);
-        turns(joint, 0, PageAct::FillSnapshot(number, page))?;
+        all = turns(joint, 0, PageAct::FillSnapshot(number, page))? & all;
     }
-    turns(joint, 0, PageAct::Extend(last))
+    let extended = turns(joint, 0, PageAct::Extend(last))?;
+    Ok(all & extended)
 }
 
 /// Seat 0 holds X and Y.
 fn locks_both(joint: &mut Joint) -> Result<bool, Memory> {
-    commits(joint, 0, CommitAct::Lock(X))?;
-    commits(joint, 0, CommitAct::Lock(Y))
+    let x = commits(joint, 0, CommitAct::Lock(X))?;
+    let y = commits(joint, 0, CommitAct::Lock(Y))?;
+    Ok(x & y)
 }
 
 /// Seat 1 makes a leaf with these records in the slot, and publishes it.
@@ -230,26 +224,31 @@ fn makes(
     alloc: Global,
     slot: u32,
     records: &[(Key, u64)],
-) -> Result<(), Memory> {
-    turns(joint, 1, PageAct::Give(slot))?;
+) -> Result<bool, Memory> {
+    let mut all = turns(joint, 1, PageAct::Give(slot))?;
     let mut keys = Sequence::new(alloc);
     for record in records {
         let place = spot(slot, keys.len());
-        happens(joint, 1, JointAct::FillRecord(place, content(record.1)))?;
+        all = happens(joint, 1, JointAct::FillRecord(place, content(record.1)))? & all;
         keys.push(record.0)?;
     }
-    turns(joint, 1, PageAct::FillPage(slot, Page::Leaf(keys)))?;
-    turns(joint, 1, PageAct::Publish(slot))?;
-    Ok(())
+    let laid_out = turns(joint, 1, PageAct::FillPage(slot, Page::Leaf(keys)))?;
+    let published = turns(joint, 1, PageAct::Publish(slot))?;
+    Ok(all & laid_out & published)
+}
+
+/// The left is led to a copy of its page in slot 0.
+fn leads_to_a_copy(joint: &mut Joint, alloc: Global) -> Result<bool, Memory> {
+    let made = makes(joint, alloc, 0, &[(X, 10), (Y, 20)])?;
+    let installed = turns(joint, 1, PageAct::Install(LEFT, 0))?;
+    Ok(made & installed)
 }
 
 /// X and Y are in slot 0, which seat 2 holds.
-fn begins(alloc: Global) -> Result<Joint, Memory> {
-    let mut joint = start(alloc)?;
-    makes(&mut joint, alloc, 0, &[(X, 10), (Y, 20)])?;
-    turns(&mut joint, 1, PageAct::Install(LEFT, 0))?;
-    turns(&mut joint, 2, PageAct::Enter(0))?;
-    Ok(joint)
+fn begins(joint: &mut Joint, alloc: Global) -> Result<bool, Memory> {
+    let led = leads_to_a_copy(joint, alloc)?;
+    let entered = turns(joint, 2, PageAct::Enter(0))?;
+    Ok(led & entered)
 }
 
 /// Seat 1 is given slot 1.
@@ -259,14 +258,14 @@ fn gives(joint: &mut Joint) -> Result<bool, Memory> {
 
 /// Seat 1 publishes slot 1.
 fn publishes_slot(joint: &mut Joint) -> Result<bool, Memory> {
-    gives(joint)?;
-    turns(joint, 1, PageAct::Publish(1))
+    let given = gives(joint)?;
+    let published = turns(joint, 1, PageAct::Publish(1))?;
+    Ok(given & published)
 }
 
 /// Seat 1 publishes a copy of the page on the right in slot 1.
 fn copies_right(joint: &mut Joint, alloc: Global) -> Result<bool, Memory> {
-    makes(joint, alloc, 1, &[(Z, 30)])?;
-    Ok(true)
+    makes(joint, alloc, 1, &[(Z, 30)])
 }
 
 /// What has to come before the turn.
@@ -334,14 +333,7 @@ fn prepares_deed(joint: &mut Joint, deed: Deed) -> Result<bool, Memory> {
         Deed::Decide => draws(joint, 2, None),
         Deed::Put => {
             commits(joint, 2, CommitAct::Lock(Y))?;
-            draws(
-                joint,
-                2,
-                Some(Change {
-                    key: Y,
-                    value: Some(5),
-                }),
-            )?;
+            draws(joint, 2, Some(change(Y, Some(5))))?;
             commits(joint, 2, CommitAct::Decide)
         }
         Deed::Forget => commits(joint, 2, CommitAct::See(X)),
@@ -353,14 +345,7 @@ fn does_deed(joint: &mut Joint, deed: Deed) -> Result<bool, Memory> {
         Deed::See => commits(joint, 2, CommitAct::See(X)),
         Deed::SeePointer => happens(joint, 2, JointAct::SeePointer(RIGHT)),
         Deed::Lock => commits(joint, 2, CommitAct::Lock(Y)),
-        Deed::Draw => draws(
-            joint,
-            2,
-            Some(Change {
-                key: Y,
-                value: Some(5),
-            }),
-        ),
+        Deed::Draw => draws(joint, 2, Some(change(Y, Some(5)))),
         Deed::Check => commits(joint, 2, CommitAct::Check(spot(0, 0))),
         Deed::CheckPointer => happens(joint, 2, JointAct::CheckPointer(RIGHT)),
         Deed::Decide => commits(joint, 2, CommitAct::Decide),
@@ -419,11 +404,23 @@ fn prepares(joint: &mut Joint, alloc: Global, turn: Turn, deed: Deed) -> Result<
 }
 
 /// The outcome of the schedule in which the turn comes first, or the deed.
-fn meets(alloc: Global, turn: Turn, deed: Deed, turn_first: bool) -> Result<Outcome, Memory> {
-    let mut joint = begins(alloc)?;
-    prepares(&mut joint, alloc, turn, deed)?;
-    let (turned, did) = in_order(&mut joint, alloc, turn, deed, turn_first)?;
-    Ok((turn_first, turned, did, joint.story().given_up.len()))
+fn meets(
+    joint: &mut Joint,
+    alloc: Global,
+    turn: Turn,
+    deed: Deed,
+    turn_first: bool,
+) -> Result<Outcome, Memory> {
+    begins(joint, alloc)?;
+    prepares(joint, alloc, turn, deed)?;
+    let (turned, did) = in_order(joint, alloc, turn, deed, turn_first)?;
+    Ok((turn_first, turned, did, given_up(joint)))
+}
+
+/// The same of a machine that starts. It is lent to one function: what owns a machine proves slowly.
+fn outcome_of(alloc: Global, turn: Turn, deed: Deed, turn_first: bool) -> Result<Outcome, Memory> {
+    let mut joint = start(alloc)?;
+    meets(&mut joint, alloc, turn, deed, turn_first)
 }
 
 /// What the table says.
@@ -437,7 +434,7 @@ fn expected(turn: Turn, deed: Deed, turn_first: bool) -> Outcome {
 }
 
 fn is_expected(alloc: Global, turn: Turn, deed: Deed, turn_first: bool) -> Result<bool, Memory> {
-    let outcome = meets(alloc, turn, deed, turn_first)?;
+    let outcome = outcome_of(alloc, turn, deed, turn_first)?;
     Ok(outcome == expected(turn, deed, turn_first))
 }
 
@@ -469,128 +466,150 @@ fn turns_meet_deeds(rt: HostRuntime) -> Result<(), Fail> {
     Ok(())
 }
 
-/// The pointer is led to a copy of its page in slot 0.
-fn leads_to_a_copy(joint: &mut Joint, alloc: Global) -> Result<bool, Memory> {
-    makes(joint, alloc, 0, &[(X, 10), (Y, 20)])?;
-    turns(joint, 1, PageAct::Install(LEFT, 0))
-}
-
 /// What X is changed to by the first number.
 const CHANGED: Content = Content {
     number: Number { epoch: 2, draw: 5 },
     value: Some(11),
 };
 
-/// Seat 1 changes X, and seat 0 publishes page 9, which has the change.
-fn publishes_a_change(joint: &mut Joint, alloc: Global) -> Result<bool, Memory> {
-    changes(
-        joint,
-        1,
-        Change {
-            key: X,
-            value: Some(11),
-        },
-    )?;
-    publishes(joint, alloc, 9, &[(X, CHANGED), (Y, content(20))])
+/// A step of a longer schedule.
+#[derive(Clone, Copy)]
+enum Step {
+    /// Lead the left to a copy of its page in slot 0.
+    CopyLeft,
+    EnterCopy,
+    LeaveCopy,
+    RetireCopy,
+    GiveAgain,
+    SwingLeft(u32),
+    SeeLeft,
+    CheckLeft,
+    /// Commit 11 for X.
+    ChangeX,
+    /// Commit the removal of Y.
+    RemoveY,
+    /// Publish the pages up to 9, each with the change of X.
+    PublishChange,
+    /// Publish page 6, which has no entry of Y.
+    PublishAbsence,
+    /// Hold X and Y.
+    LockBoth,
+    /// Take a number as a reader.
+    Draw,
+    Decide,
+    Advance,
+    /// Look whether so many attempts were given up.
+    GaveUp(usize),
 }
 
-fn publishes_and_leads(joint: &mut Joint, alloc: Global) -> Result<bool, Memory> {
-    publishes_a_change(joint, alloc)?;
-    leads_to(joint, 9)
+/// A seat, its step, and whether it may.
+type Line = (u32, Step, bool);
+
+fn takes(joint: &mut Joint, alloc: Global, seat: u32, step: Step) -> Result<bool, Memory> {
+    match step {
+        Step::CopyLeft => leads_to_a_copy(joint, alloc),
+        Step::EnterCopy => turns(joint, seat, PageAct::Enter(0)),
+        Step::LeaveCopy => turns(joint, seat, PageAct::Leave(0)),
+        Step::RetireCopy => turns(joint, seat, PageAct::Retire(0)),
+        Step::GiveAgain => turns(joint, seat, PageAct::Give(0)),
+        Step::SwingLeft(number) => turns(joint, seat, PageAct::Swing(LEFT, number)),
+        Step::SeeLeft => happens(joint, seat, JointAct::SeePointer(LEFT)),
+        Step::CheckLeft => happens(joint, seat, JointAct::CheckPointer(LEFT)),
+        Step::ChangeX => changes(joint, seat, change(X, Some(11))),
+        Step::RemoveY => changes(joint, seat, change(Y, None)),
+        Step::PublishChange => publishes(joint, alloc, 9, &[(X, CHANGED), (Y, content(20))]),
+        Step::PublishAbsence => publishes(joint, alloc, 6, &[(X, content(10))]),
+        Step::LockBoth => locks_both(joint),
+        Step::Draw => draws(joint, seat, None),
+        Step::Decide => commits(joint, seat, CommitAct::Decide),
+        Step::Advance => commits(joint, seat, CommitAct::Advance),
+        Step::GaveUp(count) => Ok(given_up(joint) == count),
+    }
 }
 
-/// Seat 0 holds X and Y, and leads their pointer to this page.
-fn leads_to(joint: &mut Joint, number: u32) -> Result<bool, Memory> {
-    locks_both(joint)?;
-    turns(joint, 0, PageAct::Swing(LEFT, number))
+/// Each step happens, or is refused.
+fn follows(rt: &impl Abort, joint: &mut Joint, alloc: Global, lines: &[Line]) -> Result<(), Fail> {
+    for (seat, step, may) in lines {
+        assert_eq!(rt; takes(joint, alloc, *seat, *step)?, *may);
+    }
+    Ok(())
 }
 
-/// The pointer comes to lead to a copy in a slot, and then to page 9, so again to no slot.
-fn leads_elsewhere(joint: &mut Joint, alloc: Global) -> Result<bool, Memory> {
-    leads_to_a_copy(joint, alloc)?;
-    publishes_and_leads(joint, alloc)
+/// The same of a machine that starts.
+fn plays(rt: &impl Abort, alloc: Global, lines: &[Line]) -> Result<(), Fail> {
+    let mut joint = start(alloc)?;
+    follows(rt, &mut joint, alloc, lines)
 }
 
-fn checks_and_decides(joint: &mut Joint) -> Result<bool, Memory> {
-    happens(joint, 2, JointAct::CheckPointer(LEFT))?;
-    commits(joint, 2, CommitAct::Decide)
-}
+/// Seat 2 reads a pointer to page 5, which then comes to lead to a copy in a slot, and then to page 9, which has a
+/// change, so again to no slot. Its check fails.
+const LED_ELSEWHERE: [Line; 10] = [
+    (2, Step::SeeLeft, true),
+    (1, Step::CopyLeft, true),
+    (1, Step::ChangeX, true),
+    (0, Step::PublishChange, true),
+    (0, Step::LockBoth, true),
+    (0, Step::SwingLeft(9), true),
+    (2, Step::Draw, true),
+    (2, Step::CheckLeft, true),
+    (2, Step::Decide, false),
+    (2, Step::GaveUp(1), true),
+];
 
-/// Whether seat 2 commits as a reader of the pointer.
-fn commits_a_read(joint: &mut Joint) -> Result<bool, Memory> {
-    draws(joint, 2, None)?;
-    checks_and_decides(joint)
-}
-
-/// Seat 2 reads a pointer to page 5, which then comes to lead to page 9, which has a change. Its check fails.
 #[test]
 fn a_pointer_to_another_page_is_another(rt: HostRuntime) -> Result<(), Fail> {
-    let mut joint = start(rt.alloc())?;
-    assert!(&rt; happens(&mut joint, 2, JointAct::SeePointer(LEFT))?);
-    assert!(&rt; leads_elsewhere(&mut joint, rt.alloc())?);
-    assert!(&rt; !commits_a_read(&mut joint)?);
-    assert_eq!(&rt; joint.story().given_up.len(), 1);
-    Ok(())
+    plays(&rt, rt.alloc(), &LED_ELSEWHERE)
 }
 
 /// A retired slot is not given while a seat holds it, and is once that seat left.
+const HELD: [Line; 8] = [
+    (1, Step::CopyLeft, true),
+    (2, Step::EnterCopy, true),
+    (0, Step::LockBoth, true),
+    (0, Step::SwingLeft(3), true),
+    (0, Step::RetireCopy, true),
+    (1, Step::GiveAgain, false),
+    (2, Step::LeaveCopy, true),
+    (1, Step::GiveAgain, true),
+];
+
 #[test]
 fn a_held_slot_is_not_given(rt: HostRuntime) -> Result<(), Fail> {
-    let mut joint = begins(rt.alloc())?;
-    assert!(&rt; locks_both(&mut joint)?);
-    assert!(&rt; turns(&mut joint, 0, PageAct::Swing(LEFT, 3))?);
-    assert!(&rt; turns(&mut joint, 0, PageAct::Retire(0))?);
-    assert!(&rt; !turns(&mut joint, 1, PageAct::Give(0))?);
-    assert!(&rt; turns(&mut joint, 2, PageAct::Leave(0))?);
-    assert!(&rt; turns(&mut joint, 1, PageAct::Give(0))?);
-    Ok(())
+    plays(&rt, rt.alloc(), &HELD)
 }
 
-/// Seat 1 removes Y, and seat 0 publishes page 6, which has no entry of it.
-fn publishes_an_absence(joint: &mut Joint, alloc: Global) -> Result<bool, Memory> {
-    changes(
-        joint,
-        1,
-        Change {
-            key: Y,
-            value: None,
-        },
-    )?;
-    publishes(joint, alloc, 6, &[(X, content(10))])
-}
+/// Y is absent by 2:5, in a page in memory, and the newest snapshot page has no entry of it. A swing that loses that
+/// number waits for the attempt 2:6.
+const WAITS: [Line; 9] = [
+    (1, Step::CopyLeft, true),
+    (2, Step::EnterCopy, true),
+    (1, Step::RemoveY, true),
+    (0, Step::PublishAbsence, true),
+    (2, Step::Draw, true),
+    (0, Step::LockBoth, true),
+    (0, Step::SwingLeft(6), false),
+    (2, Step::Decide, true),
+    (0, Step::SwingLeft(6), true),
+];
 
-/// Y is absent by 2:5, in a page in memory, and the newest snapshot page has no entry of it.
-fn begins_with_an_absence(alloc: Global) -> Result<Joint, Memory> {
-    let mut joint = begins(alloc)?;
-    publishes_an_absence(&mut joint, alloc)?;
-    Ok(joint)
-}
-
-/// Seat 2 takes a number, and then seat 0 tries to lead the pointer to page 6, which would lose the number of Y's absence.
-fn draws_and_leads(joint: &mut Joint) -> Result<bool, Memory> {
-    draws(joint, 2, None)?;
-    leads_to(joint, 6)
-}
-
-fn decides_and_leads(joint: &mut Joint) -> Result<bool, Memory> {
-    commits(joint, 2, CommitAct::Decide)?;
-    turns(joint, 0, PageAct::Swing(LEFT, 6))
-}
-
-/// A swing that loses the number 2:5 waits for the attempt 2:6.
 #[test]
 fn a_swing_waits_for_those_below_an_absence(rt: HostRuntime) -> Result<(), Fail> {
-    let mut joint = begins_with_an_absence(rt.alloc())?;
-    assert!(&rt; !draws_and_leads(&mut joint)?);
-    assert!(&rt; decides_and_leads(&mut joint)?);
-    Ok(())
+    plays(&rt, rt.alloc(), &WAITS)
 }
 
 /// It doesn't wait for the attempt 3:6, of a later epoch.
+const PASSES: [Line; 8] = [
+    (1, Step::CopyLeft, true),
+    (2, Step::EnterCopy, true),
+    (1, Step::RemoveY, true),
+    (0, Step::PublishAbsence, true),
+    (0, Step::Advance, true),
+    (2, Step::Draw, true),
+    (0, Step::LockBoth, true),
+    (0, Step::SwingLeft(6), true),
+];
+
 #[test]
 fn a_swing_passes_those_of_a_later_epoch(rt: HostRuntime) -> Result<(), Fail> {
-    let mut joint = begins_with_an_absence(rt.alloc())?;
-    assert!(&rt; commits(&mut joint, 0, CommitAct::Advance)?);
-    assert!(&rt; draws_and_leads(&mut joint)?);
-    Ok(())
+    plays(&rt, rt.alloc(), &PASSES)
 }

@@ -16,6 +16,9 @@ pub const BOTH: Span = Span {
     high: 1,
 };
 
+/// The last key of a storage.
+pub const LAST: u64 = u64::MAX;
+
 pub fn content(value: u64) -> Content {
     Content {
         number: Number { epoch: 1, draw: 1 },

@@ -17,10 +17,13 @@ use Rattle.engine_words.specs.declared.view.View.{View}
 use Rattle.engine_words.specs.Views.{IsActive, HasPart, sits, sits_by, waits, seat_number}
 use Rattle.engine_words.specs.Rule.{Shared, Own, Fits, Sound, Shows}
 use Rattle.engine_words.specs.declared.view.Refused.TheVariants.{NumberLimit}
-use Rattle.engine_words.specs.Steps.{glanced, readied, refused_for, Begins}
+use Rattle.engine_words.specs.Steps.{glanced, readied, refused_for, timed, Begins}
+use Rattle.lists.specs.Elements.{in_none}
+use Rattle.engine_words.proofs.Cutting.{tried_longer}
+use Rattle.engine_words.proofs.Seats.{own_longer}
 use Rattle.engine_words.proofs.Turns.{Stride, allows_at, looked}
-use Rattle.engine_words.proofs.Looking.{seen_fits}
-use Rattle.engine_words.proofs.OwnView.{own_fits}
+use Rattle.engine_words.proofs.Looking.{clock_told, seen_fits}
+use Rattle.engine_words.proofs.OwnView.{own_fits, Now}
 
 -- ---- how many draws are due
 
@@ -86,6 +89,52 @@ worker_acts (Worker w) worker e = tt
 worker_acts Note worker e = absurd (cc)
 worker_acts Spent worker e = absurd (cc)
 
+-- what is true of a worker's view that has seen the clock, where its transaction begins and where it doesn't
+clock_now : (l : Layout) (words : List ℕ) (views : List View) (s : Shared) (v : View)
+    (worker : ℕ) → v.role ≡ Worker worker → Sound l words views s → Fits l s.story s.seats v
+    → Own l s.story s.seats v (seat_number v.role)
+    → Now l.opening s.story (seat_number v.role) (readied (timed s.story.history s.story.decided (get_or words 0 0) v))
+clock_now l words views s v worker is h f own = record {
+  history = front_refl s.story.history;
+  decided = front_refl s.story.decided;
+  heard = λ x has. absurd (in_none x has);
+  mine = f.mine;
+  mine_own = λ a has. own_longer v.role v.history s.story.history v.decided s.story.decided a f.history f.decided
+      (f.mine_own a has);
+  records = f.records;
+  kept = f.kept;
+  loaded = f.loaded;
+  tried = tried_longer (seat_number v.role) v.history s.story.history s.story.checks v.checked v.mine v.seat.stage
+      f.history own.tried;
+  took = own.took;
+  low = let clock = h.shown.clock in let room = h.sums.room in omega arith;
+  epoch = λ keeper. absurd (not_keeper v.role worker is keeper);
+  past = λ keeper. absurd (not_keeper v.role worker is keeper);
+}
+
+clock_refused : (l : Layout) (words : List ℕ) (views : List View) (s : Shared) (v : View)
+    (worker : ℕ) → v.role ≡ Worker worker → Sound l words views s → Fits l s.story s.seats v
+    → Own l s.story s.seats v (seat_number v.role)
+    → Now l.opening s.story (seat_number v.role)
+    (refused_for (NumberLimit (get_or words 0 0)) (timed s.story.history s.story.decided (get_or words 0 0) v))
+clock_refused l words views s v worker is h f own = record {
+  history = front_refl s.story.history;
+  decided = front_refl s.story.decided;
+  heard = λ x has. absurd (in_none x has);
+  mine = f.mine;
+  mine_own = λ a has. own_longer v.role v.history s.story.history v.decided s.story.decided a f.history f.decided
+      (f.mine_own a has);
+  records = f.records;
+  kept = f.kept;
+  loaded = f.loaded;
+  tried = tried_longer (seat_number v.role) v.history s.story.history s.story.checks v.checked v.mine v.seat.stage
+      f.history own.tried;
+  took = own.took;
+  low = let clock = h.shown.clock in let room = h.sums.room in omega arith;
+  epoch = λ keeper. absurd (not_keeper v.role worker is keeper);
+  past = λ keeper. absurd (not_keeper v.role worker is keeper);
+}
+
 pub begins : EachActKeeps → EachActLeaves → (l : Layout) (slots id : ℕ) (me : Me (Unit {0}) View) (worker : ℕ)
     → me.0.role ≡ Worker worker → me.0.due ≡ false
     → Allows (λ s. Shows l s.words s.views) slots id me 0 (λ n. n)
@@ -101,7 +150,8 @@ begins keeps leaves l slots id me worker is undue =
         let v = me.0 in
         let m = s.story in
         let n : ℕ = get_or words 0 0 in
-        let w = readied n v in
+        let u = timed m.history m.decided n v in
+        let w = readied u in
         let active = worker_acts v.role worker is in
         let draws : n % 2 ^ 40 ≡ m.first_draw + length m.history =
         let clock = h.shown.clock in let room = h.sums.room in omega arith in
@@ -127,43 +177,39 @@ begins keeps leaves l slots id me worker is undue =
             drawn = λ a has. look.drawn a has;
             tried = look.tried;
             fits = own_fits l m m s.seats v w active f (readied_part v worker v.role is f.part) refl refl refl refl refl
-                (λ mark has. has) record {
-                  history = f.history;
-                  decided = f.decided;
-                  heard = f.heard;
-                  mine = f.mine;
-                  mine_own = f.mine_own;
-                  records = f.records;
-                  kept = f.kept;
-                  loaded = f.loaded;
-                  tried = own.tried;
-                  took = own.took;
-                  low = omega (arith, epoch);
-                  epoch = λ keeper. absurd (not_keeper v.role worker is keeper);
-                  past = λ keeper. absurd (not_keeper v.role worker is keeper);
-                };
+                (λ mark has. has) (clock_now l words views s v worker is h f own);
             role = refl;
             made = refl;
             mine = λ k. refl;
             few = omega arith;
             room = omega (arith, few_wait l words views s h);
           };
-          tells-so = subst (λ b. MatchBool b (w ≡ readied n v) (w ≡ refused_for (NumberLimit n) (glanced 0 n v))) (sym less) refl;
+          tells-so = (
+            u,
+            clock_told l words views s v h f own,
+            subst (λ b. MatchBool b (w ≡ readied u) (w ≡ refused_for (NumberLimit n) u)) (sym less) refl,
+          );
         }
     by_clock words views s h f own false more =
         let v = me.0 in
+        let m = s.story in
         let n : ℕ = get_or words 0 0 in
-        let w : View = refused_for (NumberLimit n) (glanced 0 n v) in
+        let u = timed m.history m.decided n v in
+        let w : View = refused_for (NumberLimit n) u in
         let active = worker_acts v.role worker is in record {
           act = None;
-          story = s.story;
+          story = m;
           view = w;
           allowed = tt;
           story-is = refl;
           seat-is = refl;
           turn = looked l words views s v w 0 h own
-              (seen_fits l s.story s.seats v w active f refl refl refl refl refl refl refl refl refl refl refl f.loaded refl refl
-              (front_refl v.history) (front_refl v.decided) f.history f.decided)
+              (own_fits l m m s.seats v w active f f.part refl refl refl refl refl (λ mark has. has)
+              (clock_refused l words views s v worker is h f own))
               refl refl refl refl refl refl;
-          tells-so = subst (λ b. MatchBool b (w ≡ readied n v) (w ≡ refused_for (NumberLimit n) (glanced 0 n v))) (sym more) refl;
+          tells-so = (
+            u,
+            clock_told l words views s v h f own,
+            subst (λ b. MatchBool b (w ≡ readied u) (w ≡ refused_for (NumberLimit n) u)) (sym more) refl,
+          );
         }

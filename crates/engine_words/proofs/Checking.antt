@@ -17,6 +17,7 @@ use Rattle.serial_model.specs.declared.number.Number.{Number}
 use Rattle.homes.specs.declared.places.Content.{Content}
 use Rattle.homes.specs.declared.places.Holder.{Holder}
 use Rattle.homes.specs.declared.places.Holder.TheVariants.{Free, Held, Dead}
+use Rattle.homes.specs.declared.places.Home.TheVariants.{InSlot}
 use Rattle.homes.specs.declared.places.Spot.{Spot}
 use Rattle.wire_form.specs.Words.{number_word}
 use Rattle.commit_core.specs.declared.attempt.Attempt.{Attempt}
@@ -46,11 +47,11 @@ use Rattle.commit_core.specs.Sound.Locks.{LockOwners}
 use Rattle.commit_core.specs.Sound.Reads.{TriesKept}
 use Rattle.engine_words.specs.declared.layout.Layout.{Layout}
 use Rattle.engine_words.specs.declared.view.View.{View}
-use Rattle.engine_words.specs.Attempts.{CanCheck, is_as_seen, checked_at, failed_at, Checked}
+use Rattle.engine_words.specs.Attempts.{CanCheck, is_as_seen, checked_at, failed_at, CheckedAt, HeldStays}
 use Rattle.engine_words.specs.Layout.{IsAtKey, StandsAt}
-use Rattle.engine_words.specs.Locks.{lock_bit}
+use Rattle.engine_words.specs.Locks.{lock_bit, took_at}
 use Rattle.engine_words.specs.Rule.{Shared, IsSmall, ShowsWords, lock_field, has_word, KeptAreRecords, KeptIsLow}
-use Rattle.engine_words.specs.Rule.{IsTrying, Tried, ShowsRecord, Fits, Own, Sound, Shows}
+use Rattle.engine_words.specs.Rule.{IsTrying, Tried, IsHeld, ShowsRecord, Fits, Own, Sound, Shows}
 use Rattle.engine_words.specs.Views.{IsActive, seat_number, tries}
 use Rattle.engine_words.proofs.Contents.{IsProper, small_word, one_number, version_proper, kept_version, shown_is}
 use Rattle.engine_words.proofs.Contents.{last_proper, free_last, stands_there}
@@ -261,19 +262,39 @@ over_given decided given_up n now =
     ends true = refl
     ends false = refl
 
+-- an own lock is told by the word
+held_field : (p : ℕ) (h : Holder) → holder_is p h ≡ true → lock_field h ≡ lock_bit
+held_field p Free mine = absurd (true≢false (sym mine))
+held_field p (Held x) mine = refl
+held_field p Dead mine = absurd (true≢false (sym mine))
+
+-- what the pass has locked stands as it locked it
+held_stays : (l : Layout) (words : List ℕ) (views : List View) (s : Shared) (v : View) (k : Key) (x : Spot) (at p : ℕ)
+    → Sound l words views s → Own l s.story s.seats v p → StandsAt l.decls (home_of s.story.homes) k x at
+    → HeldStays k v (get_or words at 0)
+held_stays l words views s v k x at p h own there found has =
+    let held = own.took (took_at k found) has in
+    let both : InSlot held.0 ≡ InSlot x = sym held.1.home ∙ there.home in
+    let same : held.0 ≡ x = cc in
+    let mine : IsHeld s.story p (took_at k found) x = subst (IsHeld s.story p (took_at k found)) same held.1 in
+    let q = place_of s.story.places x in
+    (h.shown.records k x at there).word
+    ∙ (ap (λ z. number_word q.content.number + z) (held_field p q.holder mine.own)
+    ∙ ap (λ z. z + lock_bit) mine.number)
+
 pub checks_word : EachActKeeps → EachActLeaves → (l : Layout) (slots id : ℕ) (me : Me (Unit {0}) View) (k : Key) (x : Spot)
     (at word : ℕ) (own-lock : Bool) (c : Content) → IsActive me.0.role → IsAtKey l.decls k x at → CanCheck me.0 k x c
     → word ≡ number_word c.number → own-lock ≡ has_key me.0.seat.locks k
     → Allows (λ s. Shows l s.words s.views) slots id me at (λ n. n)
-    (λ n now. (now.1 ≡ me.1) × Checked x at word own-lock me.0 n now.0)
+    (λ n now. (now.1 ≡ me.1) × CheckedAt k x at word own-lock me.0 n now.0)
 checks_word keeps leaves l slots id me k x at word own-lock c active is can word-is lock-is =
-    allows_at keeps leaves l slots id me at (λ n. n) (Checked x at word own-lock) active (λ words views s h f own there.
+    allows_at keeps leaves l slots id me at (λ n. n) (CheckedAt k x at word own-lock) active (λ words views s h f own there.
     by_word words views s h f own (is_as_seen word own-lock (get_or words at 0)) refl)
   where
     by_word : (words : List ℕ) (views : List View) (s : Shared) → Sound l words views s → Fits l s.story s.seats me.0
         → Own l s.story s.seats me.0 (seat_number me.0.role) → (b : Bool)
         → is_as_seen word own-lock (get_or words at 0) ≡ b
-        → Stride l words views s (seat_number me.0.role) me.0 at (λ n. n) (Checked x at word own-lock)
+        → Stride l words views s (seat_number me.0.role) me.0 at (λ n. n) (CheckedAt k x at word own-lock)
     by_word words views s h f own true e =
         let v = me.0 in
         let p = seat_number v.role in
@@ -346,7 +367,10 @@ checks_word keeps leaves l slots id me k x at word own-lock c active is can word
             few = omega arith;
             room = omega (arith, h.sums.room);
           };
-          tells-so = subst (λ b. MatchBool b (w ≡ checked_at x at n v) (w ≡ failed_at at n v)) (sym e) refl;
+          tells-so = (
+            subst (λ b. MatchBool b (w ≡ checked_at x at n v) (w ≡ failed_at at n v)) (sym e) refl,
+            held_stays l words views s v k x at p h own stands-at,
+          );
         }
     by_word words views s h f own false e =
         let v = me.0 in
@@ -428,5 +452,8 @@ checks_word keeps leaves l slots id me k x at word own-lock c active is can word
             few = omega arith;
             room = omega (arith, h.sums.room);
           };
-          tells-so = subst (λ b. MatchBool b (w ≡ checked_at x at n v) (w ≡ failed_at at n v)) (sym e) refl;
+          tells-so = (
+            subst (λ b. MatchBool b (w ≡ checked_at x at n v) (w ≡ failed_at at n v)) (sym e) refl,
+            held_stays l words views s v k x at p h own stands-at,
+          );
         }

@@ -19,7 +19,7 @@ use Rattle.commit_core.specs.declared.seat.Seat.{Seat}
 use Rattle.commit_core.specs.declared.seat.Stage.{Stage}
 use Rattle.commit_core.specs.declared.seat.Stage.TheVariants.{Trying}
 use Rattle.commit_core.specs.declared.story.Story.{Story}
-use Rattle.commit_core.specs.CoreState.{can_begin, is_trying, same_keys, clock_of, is_checked, is_in_progress}
+use Rattle.commit_core.specs.CoreState.{can_begin, is_trying, same_keys, clock_of, is_checked, is_in_progress, mark_of}
 use Rattle.commit_core.specs.Law.{EachActKeeps, EachActLeaves}
 use Rattle.views.specs.Sums.{term_at_most}
 use Rattle.engine_words.specs.declared.layout.Layout.{Layout}
@@ -142,6 +142,7 @@ draws keeps leaves l slots id me writes active due idle same values =
         draw = ap (λ x. x + length m.history) (h.first ∙ ap (λ (z : Layout). z.first.draw) (sym own.layout));
         above = below;
         epoch = f.low;
+        marked = λ e is. ((h.seats p).marks_are_past e (ap (λ (x : Seat). mark_of x.marks) (sym own.seat) ∙ is)).0;
         is = refl;
       };
     })

@@ -20,7 +20,7 @@ use Rattle.homes.specs.declared.places.Spot.{Spot}
 use Rattle.wire_form.specs.Words.{at_bit, number_word}
 use Rattle.commit_core.specs.declared.place.Place.{Place}
 use Rattle.commit_core.specs.declared.seat.Seat.{Seat}
-use Rattle.commit_core.specs.Keys.{content_at, nothing}
+use Rattle.commit_core.specs.Keys.{content_at}
 use Rattle.commit_core.specs.Law.{OpensSound}
 use Rattle.commit_core.specs.Opening.{CanOpen, fresh_seat, fresh_story}
 use Rattle.commit_core.specs.Parts.{record_part}
@@ -29,11 +29,12 @@ use Rattle.views.specs.Sums.{total, one_at}
 use Rattle.engine_words.specs.declared.layout.Layout.{Layout}
 use Rattle.engine_words.specs.Layout.{records_at, records_of, words_of, has_record, IsWordOf, StandsAt, IsAtKey}
 use Rattle.engine_words.specs.Layout.{IsLaidOut}
-use Rattle.engine_words.specs.Making.{CanMake, AreFirst, AreBlank, AreMarked}
+use Rattle.engine_words.specs.Making.{CanMake, AreFirst, AreBlank, AreMarked, AreFilled}
 use Rattle.engine_words.specs.Rule.{IsSmall, ShowsRecord, Shows}
 use Rattle.engine_words.specs.Views.{bare_seat, opening_view}
 use Rattle.engine_words.proofs.FirstPlaces.{spot_of_record, key_of, homes_from, places_from, home_there, home_none}
 use Rattle.engine_words.proofs.FirstPlaces.{place_there, array_of}
+use Rattle.engine_words.proofs.FirstRecords.{StartsRight, starts_right, starts_none}
 use Rattle.engine_words.proofs.Placing.{low_none}
 use Rattle.engine_words.proofs.Seats.{records_none}
 
@@ -70,7 +71,7 @@ stand_first l can k =
           ∙ place_there l.opening 0 l.decls r.slot k.storage r.size k.key r.storage r.within)
       | inr none ↦
           ap (stands_at (places_from l.opening 0 l.decls)) (home_none 0 l.decls k none)
-          ∙ ap (λ (c : Content). place c Free) (sym (can.within k none))
+          ∙ ap (λ (c : Content). place c Free) (sym (starts_none l.first l.decls l.opening can.opening k none))
     ]
 
 same_keys : (k q : Key) → k.storage ≡ q.storage → k.key ≡ q.key → k ≡ q
@@ -105,7 +106,7 @@ pub can_open : (l : Layout) → CanMake l → CanOpen l.opening (places_from l.o
 can_open l can = record {
   later = can.begun;
   fits = can.first.epoch;
-  older = can.older;
+  older = λ k. (starts_right l.first l.decls l.opening can.begun can.opening k).older;
   apart = apart_first l can;
   stand = stand_first l can;
 }
@@ -148,7 +149,9 @@ pub opens : OpensSound → (l : Layout) (words : List ℕ) → CanMake l → Are
 opens law l words can first =
     let places = places_from l.opening 0 l.decls in
     let homes = homes_from 0 l.decls in
-    let open-to = can_open l can in (
+    let open-to = can_open l can in
+    let starts : (k : Key) → StartsRight l.first (content_at l.opening k) =
+    starts_right l.first l.decls l.opening can.begun can.opening in (
       record { story = fresh_story places homes l.first; seats = λ _. fresh_seat l.first },
       record {
         laid_out = record {
@@ -158,7 +161,7 @@ opens law l words can first =
           others = λ k none. home_none 0 l.decls k none;
         };
         first = refl;
-        blank = can.starts;
+        blank = record { never = λ k. (starts k).never; blank = λ k. (starts k).blank };
         valued = λ a has. absurd (in_none a has);
         shown = record {
           long = first.long;
@@ -173,8 +176,8 @@ opens law l words can first =
                 word = first.numbers k x at key
                     ∙ (let e : number_word (content_at l.opening k).number ≡ number_word (content_at l.opening k).number + 0 = omega arith in e);
                 value = first.values k x at key;
-                never = can.starts.never k;
-                small = can.small k;
+                never = (starts k).never;
+                small = (starts k).small;
               };
         };
         story = (law l.opening places homes l.first 1 open-to).story;
@@ -190,7 +193,7 @@ opens law l words can first =
           small = record { length = omega arith; epoch = let fits = can.first.epoch in omega arith };
         };
         small = record {
-          first = can.small;
+          first = λ k. (starts k).small;
           drawn = λ a has. absurd (in_none a has);
           clock = record { draw = let d = can.first.draw in omega arith; epoch = can.first.epoch };
         };
@@ -257,18 +260,15 @@ blank_words l n mark words new is long mark-is m =
       zeros = λ at low. m.high at low ∙ others at (λ e. absurd (omega arith));
     }
 
--- where no key was ever written, zeros are right
-pub blank_first : (l : Layout) (words : List ℕ) → l.opening ≡ [] → AreBlank l words → AreFirst l words
-blank_first l words none blank = record {
-  long = blank.long;
-  clock = blank.clock;
-  decisions = blank.decisions;
-  marks = blank.marks;
-  unused = λ at low high. blank.zeros at low;
-  numbers = λ k x at key.
-      blank.zeros at (let word = key.word in omega arith)
-      ∙ sym (ap (λ (o : List (Key × Content)). number_word (content_at o k).number) none);
-  values = λ k x at key.
-      blank.zeros (at + 1) (let word = key.word in omega arith)
-      ∙ sym (ap (λ (o : List (Key × Content)). unwrap_or (content_at o k).value 0) none);
+-- the words are right behind the fill of the records
+pub filled_first : (l : Layout) (blank words : List ℕ) → AreBlank l blank → AreFilled l.decls l.opening blank words
+    → AreFirst l words
+filled_first l blank words was filled = record {
+  long = filled.long ∙ was.long;
+  clock = filled.low 0 (omega arith) ∙ was.clock;
+  decisions = filled.low 1 (omega arith) ∙ was.decisions;
+  marks = λ at low high. filled.low at (omega arith) ∙ was.marks at low high;
+  unused = λ at low high. filled.low at high ∙ was.zeros at low;
+  numbers = filled.numbers;
+  values = filled.values;
 }

@@ -12,17 +12,20 @@ use Rattle.homes.specs.declared.places.Spot.{Spot}
 use Rattle.views.specs.Sums.{total}
 use Rattle.engine_words.specs.Layout.{records_at, records_of, words_of, IsWordOf, StandsAt, IsAtKey, IsLaidOut}
 
+pub word_of_key : (decls : List Decl) (k : Key) (x : Spot) (at : ℕ) → IsAtKey decls k x at → IsWordOf decls x at
+word_of_key decls k x at is = record {
+  decl = Array k.storage is.size;
+  storage = is.storage;
+  within = subst (λ i. i < is.size) (sym is.index) is.within;
+  word = is.word ∙ ap (λ i. records_at + 2 * (total records_of (take x.slot decls) + i)) (sym is.index);
+}
+
 pub stands_at_key : (decls : List Decl) (homes : Key → Home) (k : Key) (x : Spot) (at : ℕ) → IsLaidOut decls homes
     → IsAtKey decls k x at → StandsAt decls homes k x at
 stands_at_key decls homes k x at laid is = record {
   home = laid.there x.slot k.storage is.size k.key is.storage is.within
       ∙ ap (λ (i : ℕ). InSlot (record { slot = x.slot; index = i })) (sym is.index);
-  word = record {
-    decl = Array k.storage is.size;
-    storage = is.storage;
-    within = subst (λ i. i < is.size) (sym is.index) is.within;
-    word = is.word ∙ ap (λ i. records_at + 2 * (total records_of (take x.slot decls) + i)) (sym is.index);
-  };
+  word = word_of_key decls k x at is;
 }
 
 records_before : (decls : List Decl) (i : ℕ) (d : Decl) → slice_get decls i ≡ Some d

@@ -18,6 +18,7 @@ pub mod Deciding
 pub mod Marking
 pub mod Forgetting
 pub mod FirstPlaces
+pub mod FirstRecords
 pub mod FirstWords
 pub mod RecordCounts
 pub mod Ending

@@ -18,7 +18,7 @@ use Rattle.commit_core.specs.declared.attempt.Attempt.{Attempt}
 use Rattle.commit_core.specs.declared.seat.Seat.{Seat}
 use Rattle.commit_core.specs.declared.seat.Stage.TheVariants.{Trying}
 use Rattle.commit_core.specs.declared.story.Story.{Story}
-use Rattle.commit_core.specs.CoreState.{is_trying, is_in_progress}
+use Rattle.commit_core.specs.CoreState.{clock_of, is_trying, is_in_progress}
 use Rattle.commit_core.specs.Keys.{opening_number}
 use Rattle.commit_core.specs.Law.{EachActKeeps, EachActLeaves, SoundIsSerial}
 use Rattle.views.specs.Sums.{total, times}
@@ -36,7 +36,7 @@ use Rattle.engine_words.specs.Views.{IsAt, IsActive, IsResting, HasPart, bare_se
 use Rattle.engine_words.specs.Views.{seat_number}
 use Rattle.engine_words.specs.Rule.{Shared, IsInOrder, IsOwn, EachIsTried, Tried, Own, IsHeld, IsParked, IsPast}
 use Rattle.engine_words.specs.Rule.{IsKeepers, WasMarked, KeptAreRecords, KeptIsLow, StillLoaded, Fits, Sound, Shows}
-use Rattle.engine_words.specs.Steps.{glance, timed, past_at, Times, AreSerial, HasCounted, Counts}
+use Rattle.engine_words.specs.Steps.{glance, timed, past_at, HasTimed, Times, AreSerial, HasCounted, Counts}
 use Rattle.engine_words.proofs.Seats.{by_equal, put_seat, put_same, put_other, at_number, is_at, in_at, own_longer}
 use Rattle.engine_words.proofs.Turns.{MadeByOne, made_by_one, looked, allows_at, Stride}
 use Rattle.engine_words.proofs.Cutting.{tried_longer}
@@ -140,6 +140,29 @@ past_now l m seats v (Worker w) is made same f tried keeper = absurd (cc)
 past_now l m seats v Note is made same f tried keeper = absurd (cc)
 past_now l m seats v Spent is made same f tried keeper = absurd (cc)
 
+-- what a load of the clock tells
+pub clock_told : (l : Layout) (words : List ℕ) (views : List View) (s : Shared) (v : View) → Sound l words views s
+    → Fits l s.story s.seats v → Own l s.story s.seats v (seat_number v.role)
+    → HasTimed v (get_or words 0 0) (timed s.story.history s.story.decided (get_or words 0 0) v)
+clock_told l words views s v h f own =
+    let m = s.story in
+    let n : ℕ = get_or words 0 0 in
+    let epoch : n / 2 ^ 40 ≡ m.epoch = let clock = h.shown.clock in let room = h.sums.room in omega arith in
+    let draws : n % 2 ^ 40 ≡ m.first_draw + length m.history =
+    let clock = h.shown.clock in let room = h.sums.room in omega arith in record {
+      history = f.history;
+      decided = f.decided;
+      heard = f.heard;
+      draws = draws ∙ ap (λ x. x + length m.history) (h.first ∙ ap (λ (x : Layout). x.first.draw) (sym own.layout));
+      number = clock_of m.first_draw m.epoch m.history;
+      found = sym h.shown.clock;
+      small = h.small.clock;
+      below = h.story.ordered_numbers.past;
+      epoch = let low = f.low in omega (arith, epoch);
+      keepers = λ keeper. let low = f.low in let high = (f.keepers keeper).epoch in omega (arith, epoch);
+      is = refl;
+    }
+
 pub times_clock : EachActKeeps → EachActLeaves → (l : Layout) (slots id : ℕ) (me : Me (Unit {0}) View) → IsActive me.0.role
     → Allows (λ s. Shows l s.words s.views) slots id me 0 (λ n. n)
     (λ n now. (now.1 ≡ me.1) × Times (step slots 0 0 0 option.none) me.0 n now.0)
@@ -179,14 +202,7 @@ times_clock keeps leaves l slots id me active =
                 (past_now l m s.seats v v.role refl v.made refl f h.tried keeper);
           })
           refl refl refl refl refl refl;
-      tells-so = record {
-        history = f.history;
-        decided = f.decided;
-        heard = f.heard;
-        draws = draws ∙ ap (λ x. x + length m.history) (h.first ∙ ap (λ (x : Layout). x.first.draw) (sym own.layout));
-        epoch = let low = f.low in omega (arith, epoch);
-        is = refl;
-      };
+      tells-so = clock_told l words views s v h f own;
     })
 
 -- ---- the count of decisions

@@ -51,7 +51,7 @@ records_all (d ∷ decls) (suc i) long = ap (λ (more : List Decl). d ∷ more) 
 -- ---- the word of a key
 
 -- of storages with ids apart, the place of an id is that of its storage
-place_is : (decls : List Decl) (id i : ℕ) (d : Decl) → AreDistinct (map id_of decls) → slice_get decls i ≡ Some d
+pub place_is : (decls : List Decl) (id i : ℕ) (d : Decl) → AreDistinct (map id_of decls) → slice_get decls i ≡ Some d
     → id_of d ≡ id → position_or_len (λ x. eqb (id_of x) id) decls ≡ i
 place_is [] id i d distinct there is = absurd (cc)
 place_is (x ∷ decls) id zero d distinct there is =

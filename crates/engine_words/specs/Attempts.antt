@@ -1,5 +1,6 @@
 -- What the draw, the checks and the decision of an attempt tell.
-use Rattle.std.specs.Prelude.{◌≡◌, ℕ, ◌+◌, ◌==◌, ◌&&◌, ◌||◌, ◌≤◌, Bool, true, false, is_some, List, [], ◌∷◌, ◌++◌, length}
+use Rattle.std.specs.Prelude.{◌≡◌, ℕ, ◌+◌, ◌==◌, ◌&&◌, ◌||◌, ◌≤◌, ◌<◌, Bool, true, false, is_some, List, [], ◌∷◌}
+use Rattle.std.specs.Prelude.{◌++◌, length}
 use Rattle.std.specs.Prelude.{slice_get, Some, None, Contains, MatchBool}
 use Rattle.std.specs.List.{list_all}
 use Rattle.atomic_table.specs.Table.{Step}
@@ -16,11 +17,11 @@ use Rattle.commit_core.specs.declared.part.Part.{Part}
 use Rattle.commit_core.specs.declared.part.Word.TheVariants.{Record}
 use Rattle.commit_core.specs.declared.seat.Stage.TheVariants.{Trying, Ended}
 use Rattle.commit_core.specs.Parts.{same_word, record_part}
-use Rattle.commit_core.specs.CoreState.{can_begin, same_keys, settled}
+use Rattle.commit_core.specs.CoreState.{can_begin, mark_of, same_keys, settled}
 use Rattle.commit_core.specs.Event.{decided_stage}
 use Rattle.commit_core.specs.Serial.{ReadsFrom, state_below}
 use Rattle.engine_words.specs.declared.view.View.{View}
-use Rattle.engine_words.specs.Locks.{lock_bit}
+use Rattle.engine_words.specs.Locks.{lock_bit, took_at}
 use Rattle.engine_words.specs.Rule.{IsSmall, has_word}
 use Rattle.engine_words.specs.Steps.{read_at, spot_in}
 use Rattle.engine_words.specs.Views.{seat_number}
@@ -51,8 +52,8 @@ drew all a v = record v {
 }
 
 -- All draws are now seen, and behind them the own one, whose number is the word that was found: above every other one,
--- in an epoch that is none below the one which was seen. The attempt has just the parts that were kept, and these
--- writes.
+-- in an epoch that is none below the one which was seen, and above the seat's mark. The attempt has just the parts that
+-- were kept, and these writes.
 pub record HasDrawn (writes : List Change) (v : View) (n : ℕ) (w : View) : Type 0 where
   pub all : List Attempt
   pub number : Number
@@ -62,6 +63,7 @@ pub record HasDrawn (writes : List Change) (v : View) (n : ℕ) (w : View) : Typ
   pub draw : number.draw ≡ v.layout.first.draw + length all
   pub above : (b : Attempt) → Contains all b → IsBelow b.number number
   pub epoch : v.epoch ≤ number.epoch
+  pub marked : (e : ℕ) → mark_of v.seat.marks ≡ Some e → e < number.epoch
   pub is : w ≡ drew all (attempt_of v number writes) v
 
 -- the same of the step
@@ -102,9 +104,17 @@ failed_at at n v = record (read_at at n v) { seat = settled (record v.seat { sta
 abbrev pub Checked : Spot → ℕ → ℕ → Bool → View → ℕ → View → Type 0
 Checked x at word own v n w = MatchBool (is_as_seen word own n) (w ≡ checked_at x at n v) (w ≡ failed_at at n v)
 
+-- a record that the pass has locked has the word which the lock found, with the lock bit
+abbrev pub HeldStays : Key → View → ℕ → Type 0
+HeldStays k v n = (found : ℕ) → Contains v.took (took_at k found) → n ≡ found + lock_bit
+
+-- what the check tells, and that an own lock is as it was made
+abbrev pub CheckedAt : Key → Spot → ℕ → ℕ → Bool → View → ℕ → View → Type 0
+CheckedAt k x at word own v n w = Checked x at word own v n w × HeldStays k v n
+
 -- the same of the step
 abbrev pub Checks : Key → ℕ → Bool → Step (Unit {0}) → View → ℕ → View → Type 0
-Checks k word own s v n w = Checked (spot_in v k) s.word word own v n w
+Checks k word own s v n w = CheckedAt k (spot_in v k) s.word word own v n w
 
 -- ---- the decision
 

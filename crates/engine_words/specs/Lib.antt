@@ -4,6 +4,7 @@ pub mod Rule
 pub mod Cuts
 pub mod Steps
 pub mod Reads
+pub mod ReadLaws
 pub mod Locks
 pub mod Attempts
 pub mod Clock

@@ -1,11 +1,13 @@
 -- What a step tells the pass that makes it.
 use Rattle.std.specs.Prelude.{◌≡◌, ℕ, ◌+◌, ◌-◌, ◌/◌, ◌%◌, ◌^◌, ◌<◌, ◌==◌, Bool, true, false, not, ◌≤◌, List, [], ◌∷◌}
 use Rattle.std.specs.Prelude.{◌++◌, filter, length, nat_lt, Option, None, Some, Contains, MatchBool}
+use Rattle.std.specs.List.{find}
+use Rattle.std.specs.Option.{option_map}
 use Rattle.atomic_table.specs.Table.{Me, Step}
 use Rattle.lists.specs.Fronts.{IsFront}
 use Rattle.serial_model.specs.declared.key.Key.{Key}
 use Rattle.serial_model.specs.declared.number.Number.{Number}
-use Rattle.serial_model.specs.Numbers.{draw_limit}
+use Rattle.serial_model.specs.Numbers.{draw_limit, IsBelow}
 use Rattle.homes.specs.declared.places.Content.{Content}
 use Rattle.homes.specs.declared.places.Spot.{Spot}
 use Rattle.wire_form.specs.Words.{number_word}
@@ -40,9 +42,14 @@ glance step word n = record { step = step; word = word; seen = n }
 abbrev pub glanced : ℕ → ℕ → View → View
 glanced word n v = record v { steps = v.steps + 1; last = Some (glance v.steps word n) }
 
--- the words that were met, with this one as it was last seen or left
+-- what was last seen or left of a word, where it was met
+abbrev pub seen_at : List Read → ℕ → Option ℕ
+seen_at reads word = option_map (λ r. r.seen) (find (λ r. r.word == word) reads)
+
+-- the words that were met, with this one as it was last seen or left, and as it was before that
 abbrev pub with_read : List Read → ℕ → ℕ → List Read
-with_read reads word n = filter (λ r. not (r.word == word)) reads ++ record { word = word; seen = n } ∷ []
+with_read reads word n =
+    filter (λ r. not (r.word == word)) reads ++ record { word = word; seen = n; was = seen_at reads word } ∷ []
 
 -- one load of a word of a record
 abbrev pub read_at : ℕ → ℕ → View → View
@@ -80,14 +87,20 @@ timed all chosen n v = record (glanced clock_at n v) {
   past = past_at v.role v.made v.past (n / 2 ^ 40);
 }
 
--- The clock was seen, and with it all draws and decisions: it counts the draws from the first one on. What was heard
--- stands at their beginning.
+-- The clock was seen, and with it all draws and decisions: it counts the draws from the first one on, and is the next
+-- number, above all that were drawn. It is in no epoch below the one that was seen, and for the keeper, who alone
+-- advances it, in that one. What was heard stands at the beginning of what is seen.
 pub record HasTimed (v : View) (n : ℕ) (w : View) : Type 0 where
   pub history : IsFront v.history w.history
   pub decided : IsFront v.decided w.decided
   pub heard : (x : Heard) → Contains v.heard x → IsFront x.history w.history × IsFront x.decided w.decided
   pub draws : n % 2 ^ 40 ≡ v.layout.first.draw + length w.history
+  pub number : Number
+  pub found : number_word number ≡ n
+  pub small : IsSmall number
+  pub below : (a : Attempt) → Contains w.history a → IsBelow a.number number
   pub epoch : v.epoch ≤ n / 2 ^ 40
+  pub keepers : v.role ≡ Keeper → n / 2 ^ 40 ≡ v.epoch
   pub is : w ≡ timed w.history w.decided n v
 
 -- the same of the step
@@ -117,19 +130,18 @@ Counts s v n w = HasCounted v n w
 
 -- ---- the begin and the end of a transaction
 
--- a draw is due, the clock's epoch was seen, and no word of a record was met
-abbrev pub readied : ℕ → View → View
-readied n v = record (glanced clock_at n v) { due = true; epoch = n / 2 ^ 40; reads = [] }
+-- a draw is due, and no word of a record was met
+abbrev pub readied : View → View
+readied v = record v { due = true; reads = [] }
 
 -- one refusal more
 abbrev pub refused_for : Refused → View → View
 refused_for r v = record v { refused = v.refused ++ r ∷ [] }
 
--- so it is, unless the clock is at the last draws
+-- the clock was seen, and so it is then, unless the clock is at the last draws
 abbrev pub Begun : View → ℕ → View → Type 0
-Begun v n w =
-    MatchBool (nat_lt (n % 2 ^ 40) draw_limit) (w ≡ readied n v)
-    (w ≡ refused_for (NumberLimit n) (glanced clock_at n v))
+Begun v n w = (u : View) × HasTimed v n u
+    × MatchBool (nat_lt (n % 2 ^ 40) draw_limit) (w ≡ readied u) (w ≡ refused_for (NumberLimit n) u)
 
 -- the same of the step
 abbrev pub Begins : Step (Unit {0}) → View → ℕ → View → Type 0

@@ -1,7 +1,7 @@
 // Draws, checks and decisions of attempts.
 ghost use Rattle.std.specs.Prelude.{◌≡◌, ℕ};
 ghost use Rattle.commit_core.specs.Keys.{has_key};
-ghost use Rattle.engine_words.specs.Attempts.{CanDraw, HasDrawn, CanCheckWord, Checked, CanDecide, HasChosen};
+ghost use Rattle.engine_words.specs.Attempts.{CanDraw, HasDrawn, CanCheckWord, Checked, HeldStays, CanDecide, HasChosen};
 ghost use Rattle.engine_words.specs.Passes.{view, IsPassOf};
 ghost use Rattle.engine_words.specs.Steps.{spot_in, IsKeyAt};
 ghost use Rattle.engine_words.specs.Views.{IsActive};
@@ -46,6 +46,7 @@ pub fn check(engine: &Engine, pass: &mut Pass, key: Key, at: u32, word: u64, own
     requires own { own ≡ has_key (view pass.old).seat.locks key }
     ensures of { IsPassOf engine.now pass.new }
     ensures checks { Checked (spot_in (view pass.old) key) at word own (view pass.old) result (view pass.new) }
+    ensures held { HeldStays key (view pass.old) result }
 {
     check_as::<Brand>(engine, pass, key, at, word, own)
 }
@@ -66,6 +67,7 @@ fn check_as<J: Compared>(
     requires named { (key ≡ J.key) × (word ≡ J.word) × (own ≡ J.own) }
     ensures of { IsPassOf engine.now pass.new }
     ensures checks { Checked (spot_in (view pass.old) key) at word own (view pass.old) result (view pass.new) }
+    ensures held { HeldStays key (view pass.old) result }
 {
     commits_are_serial();
     engine.table.shared.load::<Checking<J>>(pass, at as usize)

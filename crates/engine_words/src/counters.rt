@@ -20,8 +20,8 @@ pub fn audit(engine: &Engine, pass: &mut Pass) -> (u64, u64)
     (clock, count(engine, pass))
 }
 
-/// Loads the clock.
-pub(crate) fn load_clock(engine: &Engine, pass: &mut Pass) -> u64
+/// Loads the clock: the next number.
+pub fn load_clock(engine: &Engine, pass: &mut Pass) -> u64
     requires of { IsPassOf engine.now pass.old }
     requires pass { IsActive (view pass.old).role }
     ensures of { IsPassOf engine.now pass.new }

@@ -2,17 +2,17 @@
 ghost use Rattle.std.specs.Prelude.{◌≡◌};
 ghost use Rattle.engine_words.specs.Layout.{words_of};
 
+use crate::storages::Storages;
 use crate::{Law, Layout, View};
 use atomic_table::{Seat, Table};
-use serial_model::Decls;
 use std::alloc::Global;
 
 /// The words that threads share.
 #[derive(Drop)]
 pub struct Engine {
     pub(crate) table: Table<(), View, Layout, Law, Global>,
-    pub(crate) decls: Decls,
-    ghost declared: { decls ≡ table.shared.key.decls },
+    pub(crate) storages: Storages,
+    ghost declared: { storages ≡ table.shared.key.decls },
     ghost long: { table.shared.table_id.words ≡ words_of table.shared.key.decls },
 }
 

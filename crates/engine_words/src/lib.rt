@@ -8,7 +8,7 @@
 //! `audit`, which loads two words.
 //! Layout: specs/Layout.antt, which word is which; specs/Views.antt, one view by itself; specs/Rule.antt, the rule;
 //! specs/Cuts.antt, how views are cut and joined; specs/Steps.antt, Reads, Locks, Attempts and Clock, what steps tell;
-//! specs/Making.antt, what an engine is made from.
+//! specs/ReadLaws.antt, laws of the words that were met; specs/Making.antt, what an engine is made from.
 //! Design: docs/COMMIT.md.
 #![tactic(auto)]
 
@@ -17,6 +17,7 @@ mod beginning;
 mod clock;
 mod counters;
 mod engine;
+mod filling;
 mod law;
 mod layout;
 mod locking;
@@ -24,12 +25,13 @@ mod making;
 mod places;
 mod reading;
 mod seating;
+mod storages;
 mod view;
 
 pub use attempts::{check, decide, draw};
 pub use beginning::{begin, forget};
 pub use clock::{advance, load_mark, mark};
-pub use counters::audit;
+pub use counters::{audit, load_clock};
 pub use engine::{Engine, Pass};
 pub use law::Law;
 pub use layout::Layout;

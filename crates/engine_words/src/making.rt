@@ -1,38 +1,40 @@
 // How an engine is made.
-ghost use Rattle.std.specs.Prelude.{◌≡◌, ◌+◌, ◌≤◌, [], IfOk, length};
+ghost use Rattle.std.specs.Prelude.{◌≡◌, ◌+◌, ◌≤◌, IfOk, length};
 ghost use Rattle.std.specs.List.{AllByRecursion};
 ghost use Rattle.serial_model.specs.Decls.{IsDecl};
 ghost use Rattle.views.specs.Sums.{total};
 ghost use Rattle.engine_words.specs.Layout.{records_of};
-ghost use Rattle.engine_words.specs.Making.{CanMake, AreMarked};
+ghost use Rattle.engine_words.specs.Making.{CanMake};
 ghost use Rattle.engine_words.specs.Passes.{view, IsPassOf};
 ghost use Rattle.engine_words.specs.Views.{opening_view};
 
 use crate::Layout;
 use crate::engine::{Engine, Pass};
+use crate::filling::{fill_marks, fill_records, word_of_number};
+use crate::storages::Storages;
 use atomic_table::Table;
 use commit_core::commits_are_serial;
-use lists::{Memory, Sequence};
+use lists::Memory;
 use serial_model::Decl;
 use std::alloc::Global;
 
 const EPOCH: u64 = 1 << 40;
 
 impl Engine {
-    /// An engine whose records were never written, and the keeper's pass.
+    /// An engine whose records have what stands at their keys at first, and the keeper's pass.
     pub fn new(alloc: Global, layout: &Layout) -> Result<(Engine, Pass), Memory>
         requires can { CanMake layout.now }
-        requires blank { layout.now.opening ≡ [] }
         ensures ok { IfOk result (λ r. IsPassOf r.0 r.1 × (view r.1 ≡ opening_view layout.now)) }
     {
         commits_are_serial();
-        let records = count_records(layout.decls.as_slice());
+        let storages = Storages::from_slice(alloc, layout.decls.as_slice())?;
+        let records = count_records(storages.as_slice());
         let mut words = Vec::from_elem(alloc, 0u64, 32 + 2 * records as usize)?;
-        words[0] = layout.first.draw + u64::from(layout.first.epoch) * EPOCH;
+        words[0] = word_of_number(layout.first);
         fill_marks(&mut words, u64::from(layout.first.epoch - 1) * EPOCH);
+        fill_records(&mut words, layout);
         let (table, pass) = Table::of_words(alloc, words.as_slice(), layout)?;
-        let decls = Sequence::from_slice(alloc, layout.decls.as_slice())?;
-        Ok((Engine { table, decls }, pass))
+        Ok((Engine { table, storages }, pass))
     }
 }
 
@@ -56,14 +58,5 @@ fn records(decl: Decl) -> u32
     match decl {
         Decl::Array { size, .. } => size,
         Decl::Tree { .. } => 0,
-    }
-}
-
-fn fill_marks(words: &mut Vec<u64>, mark: u64)
-    requires { 10 ≤ length words.old.items }
-    ensures { AreMarked words.old.items words.new.items mark 10 }
-{
-    for i in 2..10 {
-        words[i] = mark;
     }
 }

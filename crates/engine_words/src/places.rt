@@ -12,15 +12,15 @@ use serial_model::{Decl, Key};
 impl Engine {
     /// Where the record's word of a key stands, which a declared array has.
     pub fn word_of(&self, key: Key) -> u32
-        requires are { AreDecls self.now.table.shared.key.decls }
         requires has { has_record self.now.table.shared.key.decls key ≡ true }
         ensures { IsAtKey self.now.table.shared.key.decls key (spot_for self.now.table.shared.key.decls key) result }
     {
-        record_word(self.decls.as_slice(), key)
+        record_word(self.storages.as_slice(), key)
     }
 }
 
-fn record_word(decls: &[Decl], key: Key) -> u32
+/// The same of these storages.
+pub(crate) fn record_word(decls: &[Decl], key: Key) -> u32
     requires are { AreDecls decls.now }
     requires has { has_record decls.now key ≡ true }
     ensures { IsAtKey decls.now key (spot_for decls.now key) result }

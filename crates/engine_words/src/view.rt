@@ -56,6 +56,8 @@ pub struct Read {
     /// The word's place in the table.
     pub word: u32,
     pub seen: u64,
+    /// What the transaction had seen or left there before, if it had met it.
+    pub was: Option<u64>,
 }
 
 /// What a pass had seen as it took another one in, and what that one had.

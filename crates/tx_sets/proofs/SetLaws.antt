@@ -1,20 +1,23 @@
 -- Lists in which no two elements are alike stay so with one more, wherever it is put, and with one in another's place.
-use Rattle.std.proofs.Common.{◌≡◌, inl, inr, ℕ, zero, suc, ◌<◌, ◌≤◌, ◌==◌, Bool, false, cond, nat_lt, List, [], ◌∷◌, ◌++◌, map, length, get_or, set, take, drop, Option, Some, None, Ok, refl, sym, ap, ◌∙◌, subst, arith}
+use Rattle.std.proofs.Common.{◌≡◌, ◌≢◌, true≢false, inl, inr, ℕ, zero, suc, ◌<◌, ◌≤◌, ◌==◌, Bool, false, cond, nat_lt}
+use Rattle.std.proofs.Common.{List, [], ◌∷◌, ◌++◌, map, length, get_or, set, take, drop, Option, Some, None, Ok, refl}
+use Rattle.std.proofs.Common.{sym, ap, ◌∙◌, subst, arith}
 use Rattle.std.specs.List.{AllByRecursion, insert, list_any, position, position_or_len, refill}
 use Rattle.std.proofs.lemmas.Bool.{cases_order, cases_lt, cases_Bool, or_parts, or_from}
 use Rattle.std.proofs.lemmas.Bool.Decides.{nat_tests}
 use Rattle.std.proofs.lemmas.List.{append-nil, take_at, take-append-drop, length-set}
 use Rattle.std.proofs.lemmas.List.Quantifiers.{position-Some}
-use Rattle.std.proofs.lemmas.Option.{slice_get-get_or}
 use Rattle.lists.specs.Each.{AreDistinct}
 use Rattle.homes.specs.Homes.{same_key}
-use Rattle.homes.specs.Laws.{same_key-true}
+use Rattle.homes.specs.Laws.{same_key-self, same_key-true}
 use Rattle.serial_model.specs.declared.key.Key.{Key}
 use Rattle.serial_model.specs.Keys.{IsKeyBelow}
 use Rattle.wire_form.specs.Items.{IsFollowed, RisesAfter}
+use Rattle.tx_sets.specs.declared.reads.ReadEntry.{ReadEntry}
 use Rattle.tx_sets.specs.declared.seen.Seen.{Seen}
 use Rattle.tx_sets.specs.declared.writes.Write.{Write}
-use Rattle.tx_sets.specs.Entries.{IsReplaced, IsPushed, IsAscending, IsPlaceOf, IsPut, IsRewritten, HasFound, has_word, has_write, places_of, writes_at, record_places_of}
+use Rattle.tx_sets.specs.Entries.{IsPushed, IsAscending, IsPlaceOf, IsPut, IsRewritten, has_read, has_word, has_write}
+use Rattle.tx_sets.specs.Entries.{places_of, read_keys, writes_at, record_places_of}
 
 -- ---- each once
 
@@ -53,16 +56,40 @@ module _ {E : Type 0} (f : E → ℕ) where
 
 -- ---- one in the place of another
 
-pub replaced_at : {E : Type 0} (xs : List E) (i : ℕ) (d y : E) → i < length xs → IsReplaced (get_or xs i d) y xs (set xs i y)
-replaced_at [] i d y within = absurd (omega (arith, within))
-replaced_at (x ∷ xs) zero d y within = record { before = []; after = xs; was = refl; now = refl }
-replaced_at (x ∷ xs) (suc i) d y within =
-    let rest = replaced_at xs i d y (omega (arith, within)) in record {
-      before = x ∷ rest.before;
-      after = rest.after;
-      was = ap (λ l. x ∷ l) rest.was;
-      now = ap (λ l. x ∷ l) rest.now;
-    }
+was_at : (xs : List Write) (i : ℕ) (d : Write) → i < length xs → xs ≡ take i xs ++ get_or xs i d ∷ drop (suc i) xs
+was_at [] i d within = absurd (omega (arith, within))
+was_at (x ∷ xs) zero d within = refl
+was_at (x ∷ xs) (suc i) d within = ap (λ l. x ∷ l) (was_at xs i d (omega (arith, within)))
+
+now_at : (xs : List Write) (i : ℕ) (y : Write) → i < length xs → set xs i y ≡ take i xs ++ y ∷ drop (suc i) xs
+now_at [] i y within = absurd (omega (arith, within))
+now_at (x ∷ xs) zero y within = refl
+now_at (x ∷ xs) (suc i) y within = ap (λ l. x ∷ l) (now_at xs i y (omega (arith, within)))
+
+some_is : (n i : ℕ) → Some n ≡ Some i → n ≡ i
+some_is n i same = cc
+
+none_is : (i : ℕ) → None ≡ Some i → ⊥
+none_is i same = absurd cc
+
+-- before the first that passes a test none does
+first_at : (p : Write → Bool) (xs : List Write) (i : ℕ) → position p xs ≡ Some i → list_any p (take i xs) ≡ false
+first_at p xs i at = by_length xs i (there (position_or_len p xs) (length xs) at)
+  where
+    there : (n m : ℕ) → cond (nat_lt n m) (Some n) None ≡ Some i → n ≡ i
+    there n m is = elim (cases_Bool (nat_lt n m)) [
+      | inl hit ↦ some_is n i (sym (ap (λ b. cond b (Some n) None) hit) ∙ is)
+      | inr miss ↦ absurd (none_is i (sym (ap (λ b. cond b (Some n) None) miss) ∙ is))
+    ]
+
+    by_length : (l : List Write) (j : ℕ) → position_or_len p l ≡ j → list_any p (take j l) ≡ false
+    by_length [] zero is = refl
+    by_length [] (suc j) is = refl
+    by_length (x ∷ l) zero is = refl
+    by_length (x ∷ l) (suc j) is = elim (cases_Bool (p x)) [
+      | inl hit ↦ absurd (grind (arith, nat_tests))
+      | inr miss ↦ or_from (p x) (list_any p (take j l)) miss (by_length l j (grind (arith, nat_tests)))
+    ]
 
 map_set : {E K : Type 0} (f : E → K) (xs : List E) (i : ℕ) (d y : E) → i < length xs → f (get_or xs i d) ≡ f y
     → map f (set xs i y) ≡ map f xs
@@ -74,7 +101,8 @@ map_set f (x ∷ xs) (suc i) d y within same = ap (λ l. f x ∷ l) (map_set f x
 refill_whole : {E : Type 0} (xs ws : List E) → length ws ≡ length xs → refill (length xs) xs ws ≡ ws
 refill_whole xs ws same = take_at ws (drop (length ws) xs) (length xs) same
 
-set_whole : {E : Type 0} (xs slice : List E) (i : ℕ) (y : E) → slice ≡ xs → refill (length xs) xs (set slice i y) ≡ set xs i y
+set_whole : {E : Type 0} (xs slice : List E) (i : ℕ) (y : E) → slice ≡ xs → refill (length xs) xs (set slice i y)
+    ≡ set xs i y
 set_whole xs slice i y same =
     ap (λ l. refill (length xs) xs (set l i y)) same ∙ refill_whole xs (set xs i y) (length-set xs i y)
 
@@ -117,15 +145,11 @@ abbrev pub AreWrites : List Write → Type 0
 AreWrites writes = IsAscending writes × AreDistinct (record_places_of writes)
 
 abbrev blank : Write
-blank = record { key = record { storage = 0; key = 0 }; value = None; at = 0; found = 0 }
+blank = record { key = record { storage = 0; key = 0 }; value = None; at = 0 }
 
 -- the write that stands there, with another value
 abbrev pub with_value : List Write → ℕ → Option ℕ → Write
-with_value writes i value = let w = get_or writes i blank in record { key = w.key; value = value; at = w.at; found = w.found }
-
--- the write that stands there, with the word that was found
-abbrev pub with_found : List Write → ℕ → ℕ → Write
-with_found writes i found = let w = get_or writes i blank in record { key = w.key; value = w.value; at = w.at; found = found }
+with_value writes i value = let w = get_or writes i blank in record { key = w.key; value = value; at = w.at }
 
 -- another of the same key and record in its place
 kept_set : (xs slice : List Write) (i : ℕ) (y : Write) → slice ≡ xs → i < length xs → (get_or xs i blank).key ≡ y.key
@@ -136,12 +160,6 @@ kept_set xs slice i y same within key place are =
       subst (RisesAfter IsKeyBelow None) (sym (map_set (λ w. w.key) xs i blank y within key)) are.0,
       subst AreDistinct (sym (map_set (λ w. w.at) xs i blank y within place)) are.1,
     )
-
-pub found_kept : (xs slice : List Write) (i n : ℕ) → slice ≡ xs → i < length xs → AreWrites xs
-    → AreWrites (refill (length xs) xs (set slice i (with_found slice i n)))
-found_kept xs slice i n same within are =
-    kept_set xs slice i (with_found slice i n) same within (ap (λ l. (get_or l i blank).key) (sym same))
-    (ap (λ l. (get_or l i blank).at) (sym same)) are
 
 pub value_kept : (key : Key) (xs slice : List Write) (i : ℕ) (v : Option ℕ) → slice ≡ xs
     → position (λ w. same_key w.key key) xs ≡ Some i → AreWrites xs
@@ -157,24 +175,21 @@ changed P old xs slice i y old-is slice-is holds =
     subst (λ l. P l (refill (length xs) xs (set slice i (y slice)))) (sym old-is)
     (subst (P xs) (sym (set_whole xs slice i (y slice) slice-is ∙ ap (λ l. set xs i (y l)) slice-is)) holds)
 
-pub found_set : (old xs slice : List Write) (i n : ℕ) → old ≡ xs → slice ≡ xs → i < length xs
-    → HasFound i n old (refill (length xs) xs (set slice i (with_found slice i n)))
-found_set old xs slice i n old-is slice-is within =
-    changed (HasFound i n) old xs slice i (λ l. with_found l i n) old-is slice-is record {
-      write = get_or xs i blank;
-      there = slice_get-get_or xs i blank within;
-      rest = replaced_at xs i blank (with_found xs i n) within;
-    }
-
 pub value_set : (key : Key) (v : Option ℕ) (old xs slice : List Write) (i : ℕ) → old ≡ xs → slice ≡ xs
     → position (λ w. same_key w.key key) xs ≡ Some i
     → IsRewritten key v old (refill (length xs) xs (set slice i (with_value slice i v)))
 value_set key v old xs slice i old-is slice-is at =
-    let first = position-Some (λ w. same_key w.key key) xs i blank at in
+    let there = position-Some (λ w. same_key w.key key) xs i blank at in
     changed (IsRewritten key v) old xs slice i (λ l. with_value l i v) old-is slice-is record {
       write = get_or xs i blank;
-      of_key = same_key-true (get_or xs i blank).key key first.1;
-      rest = replaced_at xs i blank (with_value xs i v) first.0;
+      of_key = same_key-true (get_or xs i blank).key key there.1;
+      rest = record {
+        before = take i xs;
+        after = drop (suc i) xs;
+        was = was_at xs i blank there.0;
+        now = now_at xs i (with_value xs i v) there.0;
+      };
+      first = first_at (λ w. same_key w.key key) xs i at;
     }
 
 -- where no write is of the key, none is found
@@ -231,7 +246,8 @@ pushed most x old xs new old-is room is = record {
 }
 
 -- where the set isn't full, there is room
-pub room : {E : Type 0} (b : Bool) (old xs : List E) (most : ℕ) → xs ≡ old → b ≡ (length old == most) → length old ≤ most
+pub room : {E : Type 0} (b : Bool) (old xs : List E) (most : ℕ) → xs ≡ old → b ≡ (length old == most)
+    → length old ≤ most
     → b ≡ false → length xs < most
 room b old xs most same test le not =
     subst (λ l. length l < most) (sym same) (below_full b (length old) most test le not)
@@ -250,6 +266,28 @@ slots_more old xs new y same is distinct absent =
     subst AreDistinct (map_same (xs ++ y ∷ []) ∙ sym is)
     (distinct_push (λ s. s) xs y (subst AreDistinct (sym (map_same xs)) distinct)
     (subst (λ l. list_any (λ s. s == y) l ≡ false) (sym same) absent))
+
+key_apart : (a b : Key) → same_key a b ≡ false → b ≡ a → ⊥
+key_apart a b other same = absurd (true≢false (sym (ap (λ k. same_key a k) same ∙ same_key-self a) ∙ other))
+
+-- one record more
+pub read_more : (old xs new : List ReadEntry) (y : ReadEntry) → xs ≡ old → new ≡ xs ++ y ∷ []
+    → AreDistinct (read_keys xs) → has_read y.key old ≡ false → AreDistinct (read_keys new)
+read_more old xs new y same is distinct absent =
+    subst (λ l. AreDistinct (read_keys l)) (sym is)
+    (by_entries xs distinct (subst (λ l. has_read y.key l ≡ false) (sym same) absent))
+  where
+    each : (k : Key) (l : List ReadEntry) → AllByRecursion (λ q. k ≢ q) (read_keys l) → (k ≡ y.key → ⊥)
+        → AllByRecursion (λ q. k ≢ q) (read_keys (l ++ y ∷ []))
+    each k [] all other = (other, tt)
+    each k (e ∷ l) all other = (all.0, each k l all.1 other)
+
+    by_entries : (l : List ReadEntry) → AreDistinct (read_keys l) → has_read y.key l ≡ false
+        → AreDistinct (read_keys (l ++ y ∷ []))
+    by_entries [] apart none = (tt, tt)
+    by_entries (e ∷ l) apart none =
+        let parts = or_parts (same_key e.key y.key) (has_read y.key l) none in
+        (each e.key l apart.0 (λ is. key_apart e.key y.key parts.0 (sym is)), by_entries l apart.1 parts.1)
 
 -- one word more
 pub seen_more : (old xs new : List Seen) (y : Seen) → xs ≡ old → new ≡ xs ++ y ∷ [] → AreDistinct (places_of xs)

@@ -1,11 +1,13 @@
 -- What the sets of a transaction have, and what a call leaves of them.
-use Rattle.std.specs.Prelude.{◌≡◌, ◌↔◌, ℕ, ◌<◌, ◌==◌, Bool, List, [], ◌∷◌, ◌++◌, map, length, Option, Some, Result, IsOk, OnOk, OnErr, IfErr, slice_get, get_or}
+use Rattle.std.specs.Prelude.{◌≡◌, ◌↔◌, ℕ, ◌<◌, ◌==◌, Bool, false, List, [], ◌∷◌, ◌++◌, map, length, Option, Some}
+use Rattle.std.specs.Prelude.{Result, IsOk, OnOk, OnErr, IfErr, get_or}
 use Rattle.std.specs.List.{find, list_any}
 use Rattle.std.specs.Option.{option_map}
 use Rattle.serial_model.specs.declared.key.Key.{Key}
 use Rattle.serial_model.specs.Keys.{IsKeyBelow}
 use Rattle.homes.specs.Homes.{same_key}
 use Rattle.wire_form.specs.Items.{Rises}
+use Rattle.tx_sets.specs.declared.reads.ReadEntry.{ReadEntry}
 use Rattle.tx_sets.specs.declared.seen.Seen.{Seen}
 use Rattle.tx_sets.specs.declared.writes.Write.{Write}
 
@@ -45,6 +47,19 @@ has_word at seen = list_any (λ s. s.at == at) seen
 abbrev pub word_at : ℕ → List Seen → Option ℕ
 word_at at seen = option_map (λ s. s.word) (find (λ s. s.at == at) seen)
 
+-- ---- records that were read
+
+abbrev pub read_keys : List ReadEntry → List Key
+read_keys reads = map (λ r. r.key) reads
+
+-- the record of the key was read
+abbrev pub has_read : Key → List ReadEntry → Bool
+has_read key reads = list_any (λ r. same_key r.key key) reads
+
+-- what was read of the key's record
+abbrev pub read_of : Key → List ReadEntry → Option ReadEntry
+read_of key reads = find (λ r. same_key r.key key) reads
+
 -- ---- writes
 
 -- each key is above those before it, so each stands once
@@ -73,17 +88,12 @@ pub record IsPut (x : Write) (old new : List Write) (result : Result (Unit {0}) 
   pub kept : OnErr result (new ≡ old)
   pub given_back : IfErr result (λ e. e ≡ x)
 
--- the write of a key has another value now
+-- the first write of a key has another value now
 pub record IsRewritten (key : Key) (value : Option ℕ) (old new : List Write) : Type 0 where
   pub write : Write
   pub of_key : write.key ≡ key
   pub rest : IsReplaced write (record write { value = value }) old new
-
--- the write at this index has the word that its record had
-pub record HasFound (index found : ℕ) (old new : List Write) : Type 0 where
-  pub write : Write
-  pub there : slice_get old index ≡ Some write
-  pub rest : IsReplaced write (record write { found = found }) old new
+  pub first : has_write key rest.before ≡ false
 
 -- so many writes are of keys below this one, and the next one isn't
 pub record IsPlaceOf (key : Key) (writes : List Write) (place : ℕ) : Type 0 where

@@ -1,33 +1,47 @@
 // The records that a transaction read.
 ghost use Rattle.std.specs.Prelude.{◌≡◌, ◌==◌, ◌≤◌, false, [], length};
+ghost use Rattle.std.specs.List.{find, list_any};
+ghost use Rattle.homes.specs.Homes.{same_key};
 ghost use Rattle.lists.specs.Each.{AreDistinct};
-ghost use Rattle.tx_sets.specs.Entries.{has_word, places_of, word_at, IsPushed};
+ghost use Rattle.tx_sets.specs.Entries.{has_read, read_keys, read_of, IsPushed};
 
-use crate::seen::{Seen, has_word, word_at};
 use arrayvec::ArrayVec;
+use serial_model::Key;
 use std::marker::Model;
 
-/// The most words that a transaction keeps of records.
+/// The most records that a transaction reads.
 const CAPACITY: usize = 256;
 
-/// Up to 256 record words, each once, in the order in which they were seen: a commit finds them as they were, or is
+/// A record as a transaction first read it.
+#[derive(Clone, Copy, Debug, Default, PartialEq, Eq)]
+pub struct ReadEntry {
+    pub key: Key,
+    /// The place of the record's word in the table.
+    pub at: u32,
+    /// The record's word, without a lock.
+    pub word: u64,
+    /// 0 where the record was never written.
+    pub value: u64,
+}
+
+/// Up to 256 records, each once, in the order in which they were read: a commit finds their words as they were, or is
 /// given up.
 #[derive(Drop)]
 pub struct ReadSet {
-    seen: ArrayVec<Seen, CAPACITY>,
+    entries: ArrayVec<ReadEntry, CAPACITY>,
 }
 
 impl Model for ReadSet {
     ghost use Rattle.std.specs.Prelude.{List};
     ghost use Rattle.lists.specs.Each.{AreDistinct};
-    ghost use Rattle.tx_sets.specs.declared.seen.Seen.{Seen};
-    ghost use Rattle.tx_sets.specs.Entries.{places_of};
+    ghost use Rattle.tx_sets.specs.declared.reads.ReadEntry.{ReadEntry};
+    ghost use Rattle.tx_sets.specs.Entries.{read_keys};
 
-    ghost Value = { List Seen };
+    ghost Value = { List ReadEntry };
 
-    ghost view = { λ s. s.seen.items };
+    ghost view = { λ s. s.entries.items };
 
-    ghost invariant = { λ s. AreDistinct (places_of s.seen.items) };
+    ghost invariant = { λ s. AreDistinct (read_keys s.entries.items) };
 }
 
 impl ReadSet {
@@ -35,55 +49,67 @@ impl ReadSet {
         ensures { result ≡ [] }
     {
         ReadSet {
-            seen: ArrayVec::new(),
+            entries: ArrayVec::new(),
         }
     }
 
-    /// All that was seen, in order.
-    pub fn as_slice(&self) -> &[Seen]
+    /// All that was read, in order.
+    pub fn as_slice(&self) -> &[ReadEntry]
         ensures value { result.now ≡ self.now }
         ensures bound { length self.now ≤ 256 }
-        ensures once { AreDistinct (places_of self.now) }
+        ensures once { AreDistinct (read_keys self.now) }
     {
-        self.seen.as_slice()
+        self.entries.as_slice()
     }
 
     pub fn is_full(&self) -> bool
         ensures value { result ≡ (length self.now == 256) }
         ensures bound { length self.now ≤ 256 }
     {
-        self.seen.is_full()
+        self.entries.is_full()
     }
 
-    /// Whether the word at this place is in the set.
-    pub fn contains(&self, at: u32) -> bool
-        ensures { result ≡ has_word at self.now }
+    /// Whether the record of this key was read.
+    pub fn contains(&self, key: Key) -> bool
+        ensures { result ≡ has_read key self.now }
     {
-        has_word(self.seen.as_slice(), at)
+        has_read(self.entries.as_slice(), key)
     }
 
-    /// What was first seen at this place.
-    pub fn find(&self, at: u32) -> Option<u64>
-        ensures { result ≡ word_at at self.now }
+    /// What was first read of this key's record.
+    pub fn find(&self, key: Key) -> Option<ReadEntry>
+        ensures { result ≡ read_of key self.now }
     {
-        word_at(self.seen.as_slice(), at)
+        read_of(self.entries.as_slice(), key)
     }
 
-    /// Adds a word that is not in the set yet. It is given back where there is no room.
-    pub fn push(&mut self, seen: Seen) -> Result<(), Seen>
-        requires absent { has_word seen.at self.old ≡ false }
-        ensures { IsPushed 256 seen self.old self.new result }
+    /// Adds a record that was not read yet. It is given back where there is no room.
+    pub fn push(&mut self, entry: ReadEntry) -> Result<(), ReadEntry>
+        requires absent { has_read entry.key self.old ≡ false }
+        ensures { IsPushed 256 entry self.old self.new result }
     {
         if self.is_full() {
-            return Err(seen);
+            return Err(entry);
         }
-        self.seen.push(seen);
+        self.entries.push(entry);
         Ok(())
     }
 
     pub fn clear(&mut self)
         ensures { self.new ≡ [] }
     {
-        self.seen.clear();
+        self.entries.clear();
     }
+}
+
+fn has_read(entries: &[ReadEntry], key: Key) -> bool
+    ensures { result ≡ list_any (λ r. same_key r.key key) entries.now }
+{
+    entries.iter().any(|entry| entry.key == key)
+}
+
+fn read_of(entries: &[ReadEntry], key: Key) -> Option<ReadEntry>
+    ensures { result ≡ find (λ r. same_key r.key key) entries.now }
+{
+    entries.iter().copied().find(|entry| entry.key == key)
 }

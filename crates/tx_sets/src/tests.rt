@@ -3,26 +3,40 @@ use super::*;
 use serial_model::Key;
 use std::test::Fail;
 
-// How many of the words from `low` on, below `high`, that are not in the set are given back.
+// How many of the keys from `low` on, below `high`, that are not in the set are given back.
 fn refused(reads: &mut ReadSet, low: u32, high: u32) -> u32 {
     let mut count = 0u32;
     for at in low..high {
-        if reads.contains(at) {
+        let key = Key {
+            storage: 1,
+            key: u64::from(at),
+        };
+        if reads.contains(key) {
             continue;
         }
-        let pushed = reads.push(Seen { at, word: 7 });
+        let pushed = reads.push(ReadEntry {
+            key,
+            at,
+            word: 7,
+            value: 0,
+        });
         count = count.saturating_add(u32::from(pushed.is_err()));
     }
     count
 }
 
+// The word that was read of this key's record.
+fn word_of(reads: &ReadSet, key: u64) -> Option<u64> {
+    reads.find(Key { storage: 1, key }).map(|entry| entry.word)
+}
+
 #[test]
-fn a_read_set_has_room_for_256_words(rt: HostRuntime) -> Result<(), Fail> {
+fn a_read_set_has_room_for_256_records(rt: HostRuntime) -> Result<(), Fail> {
     let mut sets = Sets::new();
     let back = refused(&mut sets.reads, 32, 300);
     assert_eq!(rt; back, 12);
-    assert_eq!(rt; sets.reads.find(287), Some(7));
-    assert_eq!(rt; sets.reads.find(288), None);
+    assert_eq!(rt; word_of(&sets.reads, 287), Some(7));
+    assert_eq!(rt; word_of(&sets.reads, 288), None);
     sets.clear();
     let back = refused(&mut sets.reads, 0, 256);
     assert_eq!(rt; back, 0);
@@ -39,7 +53,6 @@ fn write(writes: &mut WriteSet, key: u64, at: u32) {
         key,
         value: Some(key.key),
         at,
-        found: 0,
     });
 }
 

@@ -3,7 +3,8 @@ ghost use Rattle.std.specs.Prelude.{◌≡◌, ◌==◌, ◌<◌, ◌≤◌, tru
 ghost use Rattle.std.specs.List.{position};
 ghost use Rattle.homes.specs.Homes.{same_key};
 ghost use Rattle.lists.specs.Each.{AreDistinct};
-ghost use Rattle.tx_sets.specs.Entries.{IsAscending, IsPlaceOf, IsPut, IsRewritten, HasFound, value_of, has_write, writes_at, record_places_of};
+ghost use Rattle.tx_sets.specs.Entries.{IsAscending, IsPlaceOf, IsPut, IsRewritten, value_of, has_write, writes_at};
+ghost use Rattle.tx_sets.specs.Entries.{record_places_of};
 
 use arrayvec::ArrayVec;
 use serial_model::Key;
@@ -19,8 +20,6 @@ pub struct Write {
     pub value: Option<u64>,
     /// The place of the record's word in the table.
     pub at: u32,
-    /// The record's word as it was when the transaction locked it, with which the lock is opened again.
-    pub found: u64,
 }
 
 /// Up to 16 writes, each of another key and another record, in ascending order of key: all transactions lock in
@@ -116,14 +115,6 @@ impl WriteSet {
         if let Some(place) = index_of(self.writes.as_slice(), key) {
             self.writes[place].value = value;
         }
-    }
-
-    /// Notes the word that was found as the record of a write was locked.
-    pub fn set_found(&mut self, index: usize, found: u64)
-        requires { index < length self.old }
-        ensures { HasFound index found self.old self.new }
-    {
-        self.writes[index].found = found;
     }
 
     pub fn clear(&mut self)

@@ -6,7 +6,8 @@ use Rattle.tx_sets.proofs.writes.WriteSet.push.Goals as goal
 
 pub invariant_of-self : goal.invariant_of-self
 invariant_of-self c =
-    kept_put c.self.inside.writes.items c.as_slice.result.now c.insert.new.self.items c.place_of-place.result c.args.write
+    kept_put c.self.inside.writes.items c.as_slice.result.now c.insert.new.self.items c.place_of-place.result
+    c.args.write
     c.as_slice.ensures.value c.insert.ensures.items c.place_of-place.ensures.bound c.place_of-place.ensures.place
     (subst (λ (l : List Write). has_write c.args.write.key l ≡ false) (sym c.self.view_is) c.requires.absent)
     (subst (λ (l : List Write). writes_at c.args.write.at l ≡ false) (sym c.self.view_is) c.requires.another)

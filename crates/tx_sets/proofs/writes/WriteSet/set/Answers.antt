@@ -10,7 +10,8 @@ pub invariant_of-self : goal.invariant_of-self
 invariant_of-self c =
     value_kept c.args.key c.self.inside.writes.items c.deref_mut.result.now c.in-Some.place c.args.value
     c.deref_mut.ensures.value
-    (subst (λ (l : List Write). position (λ w. same_key w.key c.args.key) l ≡ Some c.in-Some.place) c.as_slice.ensures.value
+    (subst (λ (l : List Write). position (λ w. same_key w.key c.args.key) l ≡ Some c.in-Some.place)
+    c.as_slice.ensures.value
     (sym c.index_of.ensures ∙ c.in-Some.is))
     c.self.invariant
 
@@ -18,7 +19,8 @@ pub returns-in-Some : goal.returns-in-Some
 returns-in-Some c =
     value_set c.args.key c.args.value c.args.self.now c.self.inside.writes.items c.deref_mut.result.now c.in-Some.place
     (sym c.self.view_is) c.deref_mut.ensures.value
-    (subst (λ (l : List Write). position (λ w. same_key w.key c.args.key) l ≡ Some c.in-Some.place) c.as_slice.ensures.value
+    (subst (λ (l : List Write). position (λ w. same_key w.key c.args.key) l ≡ Some c.in-Some.place)
+    c.as_slice.ensures.value
     (sym c.index_of.ensures ∙ c.in-Some.is))
 
 pub returns-in_default : goal.returns-in_default

@@ -1,0 +1,335 @@
+-- What is read anew, and what a refused call leaves.
+use Rattle.std.proofs.Common.{◌≡◌, ◌≢◌, ◌⊎◌, inl, inr, ℕ, ◌+◌, ◌*◌, ◌%◌, ◌<◌, ◌≤◌, ◌^◌, Bool, true, false, true≢false}
+use Rattle.std.proofs.Common.{List, [], ◌∷◌, ◌++◌, length, Option, Some, None}
+use Rattle.std.proofs.Common.{refl, sym, ap, ◌∙◌, subst, arith}
+use Rattle.std.specs.Prelude.{Contains, MatchBool, filter, not, ◌==◌, nat_lt, unwrap_or, length, Result, Ok, Err, OnOk}
+use Rattle.std.specs.Prelude.{IsOk}
+use Rattle.std.proofs.lemmas.Bool.Decides.{nat_tests}
+use Rattle.std.specs.List.{list_any}
+use Rattle.std.proofs.lemmas.Bool.{or_parts, or_from, ltb-true, ltb-false}
+use Rattle.lists.specs.Elements.{in_push_new}
+use Rattle.lists.specs.Fronts.{front_refl}
+use Rattle.serial_model.specs.declared.key.Key.{Key}
+use Rattle.serial_model.specs.declared.decl.Decl.{Decl}
+use Rattle.serial_model.specs.Numbers.{draw_limit}
+use Rattle.homes.specs.Homes.{same_key}
+use Rattle.homes.specs.declared.places.Content.{Content}
+use Rattle.homes.specs.declared.places.Spot.{Spot}
+use Rattle.commit_core.specs.declared.attempt.Attempt.{Attempt}
+use Rattle.commit_core.specs.declared.part.Part.{Part}
+use Rattle.commit_core.specs.Parts.{record_part, with_part}
+use Rattle.tx_sets.specs.declared.reads.ReadEntry.{ReadEntry}
+use Rattle.tx_sets.specs.declared.sets.Sets.{Sets}
+use Rattle.tx_sets.specs.declared.writes.Write.{Write}
+use Rattle.tx_sets.specs.Entries.{has_read, has_write, read_of, IsPushed}
+use Rattle.tx_sets.specs.Gathered.{AreEmpty}
+use Rattle.engine_words.specs.declared.view.Read.{Read}
+use Rattle.engine_words.specs.declared.view.Refused.{Refused}
+use Rattle.engine_words.specs.declared.view.Refused.TheVariants.{NumberLimit}
+use Rattle.engine_words.specs.declared.view.View.{View}
+use Rattle.engine_words.specs.Layout.{clock_at, spot_for, IsAtKey}
+use Rattle.engine_words.specs.ReadLaws.{seen_at-same, seen_at-other}
+use Rattle.engine_words.specs.Reads.{saw, valued}
+use Rattle.engine_words.specs.Steps.{glanced, read_at, seen_at, with_read, spot_in, timed, readied, refused_for}
+use Rattle.engine_words.specs.Steps.{forgot_for}
+use Rattle.engine_words.specs.Steps.{Begun, IsKeyAt}
+use Rattle.array_storage.specs.Finding.{HasFound, HasClashed}
+use Rattle.tx_commit.specs.Committing.{HasBegun, HasAborted}
+use Rattle.tx_commit.specs.Live.{IsPartOf, AreParts, AreFresh, IsWriteOf, IsLive, IsOver}
+use Rattle.tx_commit.specs.Refusing.{IsConflict, HasRefused, RefusesBegin}
+use Rattle.tx_commit.specs.Steps.{HasEntry}
+use Rattle.tx_commit.specs.Turning.{HasLoaded, Keeps}
+use Rattle.tx_commit.proofs.Dones.{nothing_loaded}
+use Rattle.tx_commit.proofs.Layouts.{one_word_key, not_same}
+use Rattle.tx_commit.proofs.Parts.{kept_push, parts_push, keeps_push, keeps_all, vouched_new, read_is, unread}
+
+-- ---- what was met
+
+any_more : (p : ReadEntry → Bool) (l : List ReadEntry) (e : ReadEntry) → list_any p (l ++ e ∷ []) ≡ false
+    → (list_any p l ≡ false) × (p e ≡ false)
+any_more p [] e none = (refl, (or_parts (p e) false none).0)
+any_more p (x ∷ l) e none =
+    let parts = or_parts (p x) (list_any p (l ++ e ∷ [])) none in
+    let rest = any_more p l e parts.1 in (or_from (p x) (list_any p l) parts.0 rest.0, rest.1)
+
+-- the word of another record is neither this record's word nor its value
+apart_from : (decls : List Decl) (k q : Key) (x y : Spot) (at at' : ℕ) → IsAtKey decls k x at → IsAtKey decls q y at'
+    → same_key k q ≡ false → (at ≢ at') × (at + 1 ≢ at')
+apart_from decls k q x y at at' is is' other = (
+  λ same. not_same k q other (one_word_key decls k q x y at' (subst (IsAtKey decls k x) same is) is'),
+  λ same. let a = is.word in let b = is'.word in absurd (omega arith),
+)
+
+-- ---- a read
+
+-- the view after a read
+abbrev found_view : Key → Content → ℕ → ℕ → ℕ → View → View
+found_view k c at word value v = read_at at word (valued k (spot_in v k) (at + 1) value
+    (saw k (spot_in v k) c at word v))
+
+pub found_entry : (sets new : Sets) (k : Key) (at word value : ℕ) (v w : View) → IsLive sets v
+    → has_read k sets.reads ≡ false → IsKeyAt v k at → HasFound k at word value v w
+    → new.reads ≡ sets.reads ++ record { key = k; at = at; word = word; value = value } ∷ [] → new.writes ≡ sets.writes
+    → HasEntry k (record { key = k; at = at; word = word; value = value }) sets new v w
+found_entry sets new k at word value v w live none place h reads writes =
+    let e : ReadEntry = record { key = k; at = at; word = word; value = value } in
+    let part : Part = record_part k (spot_in v k) h.content in
+    let y : View = found_view k h.content at word value v in
+    let of : IsPartOf v.layout.decls e part =
+    record { place = place; content = h.content; shown = h.shown; value = h.has; is = refl } in
+    let kept : with_part v.seat.kept part ≡ v.seat.kept ++ part ∷ [] =
+    kept_push v.layout.decls sets.reads v.seat.kept e part live.parts of none in
+    let kept-is : w.seat.kept ≡ v.seat.kept ++ part ∷ [] = ap (λ (z : View). z.seat.kept) h.is ∙ kept in
+    let layout : w.layout ≡ v.layout = ap (λ (z : View). z.layout) h.is in record {
+      live = subst (λ (z : View). IsLive new z) (sym h.is) record {
+        decls = live.decls;
+        worker = live.worker;
+        due = live.due;
+        locks = live.locks;
+        took = live.took;
+        stage = live.stage;
+        parts = subst (λ l. AreParts v.layout.decls l y.seat.kept) (sym reads)
+            (subst (AreParts v.layout.decls (sets.reads ++ e ∷ [])) (sym kept)
+            (parts_push v.layout.decls sets.reads v.seat.kept e part live.parts of));
+        writes = subst (λ l. Rattle.std.specs.List.AllByRecursion (IsWriteOf v.layout.decls) l) (sym writes)
+            live.writes;
+        fresh = λ q at' unread there.
+            let parts = any_more (λ (r : ReadEntry). same_key r.key q) sets.reads e
+            (subst (λ l. has_read q l ≡ false) reads unread) in
+            let apart = apart_from v.layout.decls k q (spot_in v k) (spot_in v q) at at' place there parts.1 in
+            let first : List Read = with_read v.reads at word in
+            let second : List Read = with_read first (at + 1) value in
+            seen_at-other second at word at' apart.0 ∙ (seen_at-other first (at + 1) value at' apart.1
+            ∙ (seen_at-other v.reads at word at' apart.0 ∙ live.fresh q at' parts.0 there));
+      };
+      only = record {
+        kept = y.seat.kept;
+        steps = y.steps;
+        last = y.last;
+        loaded = y.loaded;
+        reads = y.reads;
+        is = h.is;
+      };
+      keeps = subst (Keeps v.seat.kept) (sym kept-is) (keeps_push v.seat.kept part);
+      reads = inr reads;
+      writes = writes;
+      key = refl;
+      place = place;
+      content = h.content.value;
+      value = h.has;
+      vouched = subst (λ l. Rattle.serial_bridge.specs.Transaction.vouched l k ≡ Some h.content.value) (sym kept-is)
+          (vouched_new v.layout.decls sets.reads v.seat.kept k (spot_in v k) h.content live.parts none);
+    }
+
+-- of a key that was read before
+pub old_entry : (sets : Sets) (k : Key) (e : ReadEntry) (v : View) → IsLive sets v → read_of k sets.reads ≡ Some e
+    → HasEntry k e sets sets v v
+old_entry sets k e v live is =
+    let r = read_is v.layout.decls sets.reads v.seat.kept k e live.parts is in record {
+      live = live;
+      only = nothing_loaded v;
+      keeps = keeps_all v.seat.kept;
+      reads = inl refl;
+      writes = refl;
+      key = r.key;
+      place = r.place;
+      content = r.content.value;
+      value = r.value;
+      vouched = r.vouched;
+    }
+
+-- ---- a read that clashed
+
+stands_now : (reads : List Read) (at n : ℕ)
+    → Contains (with_read reads at n) (record { word = at; seen = n; was = seen_at reads at })
+stands_now reads at n =
+    in_push_new (record { word = at; seen = n; was = seen_at reads at }) (filter (λ (r : Read). not (r.word == at))
+    reads)
+
+pub clash_loaded : (k : Key) (at expected seen : ℕ) (v w : View) → HasClashed k at expected seen v w → HasLoaded v w
+clash_loaded k at expected seen v w (inl h) =
+    let y : View = read_at at seen v in
+    record { kept = v.seat.kept; steps = y.steps; last = y.last; loaded = y.loaded; reads = y.reads; is = h.is }
+clash_loaded k at expected seen v w (inr h) =
+    let y : View = read_at at seen (valued k (spot_in v k) (at + 1) h.value (saw k (spot_in v k) h.content at expected
+    v)) in
+    record { kept = y.seat.kept; steps = y.steps; last = y.last; loaded = y.loaded; reads = y.reads; is = h.is }
+
+pub clash_conflict : (sets : Sets) (k : Key) (at expected seen : ℕ) (why : Refused) (v w x : View) → IsLive sets v
+    → has_read k sets.reads ≡ false → IsKeyAt v k at → HasClashed k at expected seen v w → x ≡ forgot_for (Some why) w
+    → IsConflict sets.reads k at expected seen v x
+clash_conflict sets k at expected seen why v w x live none place (inl h) is =
+    let last : x.last ≡ w.last = ap (λ (z : View). z.last) is in
+    let reads : x.reads ≡ w.reads = ap (λ (z : View). z.reads) is in record {
+      place = place;
+      step = v.steps;
+      last = last ∙ ap (λ (z : View). z.last) h.is;
+      since = omega arith;
+      was = seen_at v.reads at;
+      stands = subst (λ (l : List Read). Contains l (record { word = at; seen = seen; was = seen_at v.reads at }))
+          (sym reads)
+          (subst (λ (z : View). Contains z.reads (record { word = at; seen = seen; was = seen_at v.reads at }))
+          (sym h.is)
+          (stands_now v.reads at seen));
+      read = λ e of. absurd (none_some e (sym (unread k sets.reads none) ∙ of));
+      unread = λ _. h.same ∙ sym (ap (λ o. unwrap_or o seen) (live.fresh k at none place));
+      cause = inl h.locked;
+    }
+  where
+    none_some : (e : ReadEntry) → None ≡ Some e → ⊥
+    none_some e same = absurd cc
+clash_conflict sets k at expected seen why v w x live none place (inr h) is =
+    let last : x.last ≡ w.last = ap (λ (z : View). z.last) is in
+    let reads : x.reads ≡ w.reads = ap (λ (z : View). z.reads) is in
+    let first : List Read = with_read v.reads at expected in
+    let second : List Read = with_read first (at + 1) h.value in
+    let was : seen_at second at ≡ Some expected =
+    seen_at-other first (at + 1) h.value at (λ same. absurd (omega arith)) ∙ seen_at-same v.reads at expected in
+    record {
+      place = place;
+      step = v.steps + 1 + 1;
+      last = last ∙ ap (λ (z : View). z.last) h.is;
+      since = omega arith;
+      was = seen_at second at;
+      stands = subst (λ (l : List Read). Contains l (record { word = at; seen = seen; was = seen_at second at }))
+          (sym reads)
+          (subst (λ (z : View). Contains z.reads (record { word = at; seen = seen; was = seen_at second at }))
+          (sym h.is)
+          (stands_now second at seen));
+      read = λ e of. absurd (none_some e (sym (unread k sets.reads none) ∙ of));
+      unread = λ _. sym (ap (λ o. unwrap_or o seen) was);
+      cause = inr h.other;
+    }
+  where
+    none_some : (e : ReadEntry) → None ≡ Some e → ⊥
+    none_some e same = absurd cc
+
+-- ---- what a refusal before the locks leaves
+
+pub loaded_refused : (sets : Sets) (why : Refused) (v w x : View) → IsLive sets v → HasLoaded v w → x
+    ≡ forgot_for (Some why) w
+    → HasRefused why v x
+loaded_refused sets why v w x live h is =
+    let u : View = record v {
+      seat = record v.seat { kept = h.kept };
+      steps = h.steps;
+      last = h.last;
+      loaded = h.loaded;
+      reads = h.reads;
+    } in
+    let whole : x ≡ forgot_for (Some why) u = is ∙ ap (forgot_for (Some why)) h.is in
+    subst (HasRefused why v) (sym whole) record {
+      over = record {
+        decls = live.decls;
+        worker = live.worker;
+        due = refl;
+        took = live.took;
+        seat = record { kept = refl; locks = live.locks; stage = live.stage };
+      };
+      layout = refl;
+      role = refl;
+      seen = record { history = front_refl v.history; decided = front_refl v.decided };
+      mine = refl;
+      marks = refl;
+      refused = refl;
+    }
+
+-- ---- begin and abort
+
+pub begun : (sets : Sets) (clock : ℕ) (v w : View) → IsOver v → AreEmpty sets → Begun v clock w
+    → clock % 2 ^ 40 < draw_limit → HasBegun sets v w
+begun sets clock v w over empty b low =
+    let u = b.0 in
+    let test : nat_lt (clock % 2 ^ 40) draw_limit ≡ true = Rattle.std.proofs.lemmas.Bool.lt-ltb (clock % 2 ^ 40)
+    draw_limit low in
+    let now : w ≡ readied u =
+    subst (λ b. MatchBool b (w ≡ readied u) (w ≡ refused_for (NumberLimit clock) u)) test b.2 in
+    let is : w ≡ readied (timed u.history u.decided clock v) = now ∙ ap readied b.1.is in record {
+      live = subst (λ (z : View). IsLive sets z) (sym is) record {
+        decls = over.decls;
+        worker = over.worker;
+        due = refl;
+        locks = over.seat.locks;
+        took = over.took;
+        stage = over.seat.stage;
+        parts = subst (λ l. AreParts v.layout.decls l v.seat.kept) (sym empty.reads)
+            (subst (AreParts v.layout.decls []) (sym over.seat.kept) tt);
+        writes = subst (λ l. Rattle.std.specs.List.AllByRecursion (IsWriteOf v.layout.decls) l) (sym empty.writes) tt;
+        fresh = λ k at unread place. refl;
+      };
+      empty = empty;
+      clock = clock;
+      low = low;
+      loaded = u;
+      timed = b.1;
+      is = now;
+    }
+
+pub not_begun : (clock : ℕ) (v w : View) → IsOver v → Begun v clock w → draw_limit ≤ clock % 2 ^ 40
+    → RefusesBegin (NumberLimit clock) v w
+not_begun clock v w over b high =
+    let u = b.0 in
+    let test : nat_lt (clock % 2 ^ 40) draw_limit ≡ false = Rattle.std.proofs.lemmas.Bool.le-ltb (clock % 2 ^ 40)
+    draw_limit high in
+    let now : w ≡ refused_for (NumberLimit clock) u =
+    subst (λ b. MatchBool b (w ≡ readied u) (w ≡ refused_for (NumberLimit clock) u)) test b.2 in
+    let is : w ≡ refused_for (NumberLimit clock) (timed u.history u.decided clock v) =
+    now ∙ ap (refused_for (NumberLimit clock)) b.1.is in record {
+      clock = clock;
+      is = refl;
+      steps = ap (λ (z : View). z.steps) is;
+      last = ap (λ (z : View). z.last) is;
+      high = high;
+      draws = b.1.draws ∙ ap (λ (l : List Attempt). v.layout.first.draw + length l)
+          (sym (ap (λ (z : View). z.history) now));
+      refused = subst (HasRefused (NumberLimit clock) v) (sym is) record {
+        over = record {
+          decls = over.decls;
+          worker = over.worker;
+          due = over.due;
+          took = over.took;
+          seat = over.seat;
+        };
+        layout = refl;
+        role = refl;
+        seen = record { history = b.1.history; decided = b.1.decided };
+        mine = refl;
+        marks = refl;
+        refused = refl;
+      };
+    }
+
+pub aborted : (sets : Sets) (v w : View) → IsLive sets v → w ≡ forgot_for None v → HasAborted v w
+aborted sets v w live is =
+    subst (HasAborted v) (sym is) record {
+      over = record {
+        decls = live.decls;
+        worker = live.worker;
+        due = refl;
+        took = live.took;
+        seat = record { kept = refl; locks = live.locks; stage = live.stage };
+      };
+      layout = refl;
+      role = refl;
+      seen = record { history = front_refl v.history; decided = front_refl v.decided };
+      mine = refl;
+      marks = refl;
+      refused = refl;
+    }
+
+-- ---- a set with room
+
+on_ok : {P : Type 0} (r : Result (Unit {0}) ReadEntry) → OnOk r P → IsOk r → P
+on_ok (Ok x) p ok = p
+on_ok (Err e) p ok = absurd cc
+
+below_full : (b : Bool) (n most : ℕ) → b ≡ (n == most) → n ≤ most → b ≡ false → n < most
+below_full b n most test le short = grind (arith, nat_tests)
+
+pub has_room : (b : Bool) (old : List ReadEntry) → b ≡ (length old == 256) → length old ≤ 256 → b ≡ false
+    → length old < 256
+has_room b old test le short = below_full b (length old) 256 test le short
+
+pub pushed_is : (x : ReadEntry) (old new : List ReadEntry) (r : Result (Unit {0}) ReadEntry) (b : Bool)
+    → IsPushed 256 x old new r → b ≡ (length old == 256) → length old ≤ 256 → b ≡ false → new ≡ old ++ x ∷ []
+pushed_is x old new r b p test le short = on_ok r p.added (p.exactly.1 (has_room b old test le short))

@@ -1,0 +1,14 @@
+pub mod StepLaws
+pub mod Layouts
+pub mod Parts
+pub mod Writes
+pub mod Dones
+pub mod Lists
+pub mod LockLaws
+pub mod Settling
+pub mod OpenLaws
+pub mod PutLaws
+pub mod CheckLaws
+pub mod CommitLaws
+pub mod CommitResults
+pub mod FindLaws

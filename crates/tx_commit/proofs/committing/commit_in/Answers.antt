@@ -1,0 +1,121 @@
+use Rattle.std.proofs.Common.{List, length, ap, arith}
+use Rattle.tx_sets.specs.declared.writes.Write.{Write}
+use Rattle.engine_words.specs.Passes.{view}
+use Rattle.tx_commit.proofs.CommitLaws.{is_free, are_small, sets_places, sets_ascending, sets_few, can_commit}
+use Rattle.tx_commit.proofs.CommitLaws.{stopped_active, stopped_places, stopped_locks, locked_refused, stopped_cause}
+use Rattle.tx_commit.proofs.CommitResults.{commits_for, caused_for, refused_for_all, steps_for, most_for}
+use Rattle.tx_commit.proofs.StepLaws.{stopped_most}
+use Rattle.tx_commit.proofs.committing.commit_in.Goals as goal
+
+pub lock_all-requires-clause-free : goal.lock_all-requires-clause-free
+lock_all-requires-clause-free c = is_free c.args.sets.now (view c.args.pass.now) c.requires.live
+
+pub lock_all-requires-clause-places : goal.lock_all-requires-clause-places
+lock_all-requires-clause-places c =
+    sets_places c.args.sets.now c.args.writes.now (view c.args.pass.now) c.requires.live c.requires.writes
+
+pub lock_all-requires-clause-ascending : goal.lock_all-requires-clause-ascending
+lock_all-requires-clause-ascending c =
+    sets_ascending c.args.sets.now c.args.writes.now c.requires.writes c.requires.ascending
+
+pub lock_all-requires-clause-few : goal.lock_all-requires-clause-few
+lock_all-requires-clause-few c = sets_few c.args.sets.now c.args.writes.now c.requires.writes c.requires.few
+
+pub lock_all-requires-clause-small : goal.lock_all-requires-clause-small
+lock_all-requires-clause-small c = are_small c.args.sets.now (view c.args.pass.now) c.requires.live
+
+pub lock_all-requires-clause-unmet : goal.lock_all-requires-clause-unmet
+lock_all-requires-clause-unmet c = c.requires.live.fresh
+
+pub commit_locked-requires-clause-can : goal.commit_locked-requires-clause-can
+commit_locked-requires-clause-can c = (
+  view c.args.pass.now,
+  can_commit c.args.sets.now c.args.writes.now c.lock_all.new.found (view c.args.pass.now) (view c.lock_all.new.pass)
+      c.requires.live c.requires.once c.requires.writes c.in-Ok.ensures.ok c.in-Ok.ensures.known,
+)
+
+pub returns-in-Ok-clause-commits : goal.returns-in-Ok-clause-commits
+returns-in-Ok-clause-commits c =
+    let can = can_commit c.args.sets.now c.args.writes.now c.lock_all.new.found (view c.args.pass.now)
+    (view c.lock_all.new.pass)
+    c.requires.live c.requires.once c.requires.writes c.in-Ok.ensures.ok c.in-Ok.ensures.known in
+    commits_for c.commit_locked.result c.args.sets.now c.lock_all.new.found (view c.args.pass.now)
+    (view c.lock_all.new.pass)
+    (view c.commit_locked.new.pass) can c.commit_locked.ensures.commits
+
+pub returns-in-Ok-clause-cause : goal.returns-in-Ok-clause-cause
+returns-in-Ok-clause-cause c =
+    let can = can_commit c.args.sets.now c.args.writes.now c.lock_all.new.found (view c.args.pass.now)
+    (view c.lock_all.new.pass)
+    c.requires.live c.requires.once c.requires.writes c.in-Ok.ensures.ok c.in-Ok.ensures.known in
+    caused_for c.commit_locked.result c.args.sets.now c.lock_all.new.found (view c.args.pass.now)
+    (view c.lock_all.new.pass)
+    (view c.commit_locked.new.pass) can c.commit_locked.ensures.cause
+
+pub returns-in-Ok-clause-refused : goal.returns-in-Ok-clause-refused
+returns-in-Ok-clause-refused c =
+    let can = can_commit c.args.sets.now c.args.writes.now c.lock_all.new.found (view c.args.pass.now)
+    (view c.lock_all.new.pass)
+    c.requires.live c.requires.once c.requires.writes c.in-Ok.ensures.ok c.in-Ok.ensures.known in
+    refused_for_all c.commit_locked.result c.args.sets.now c.lock_all.new.found (view c.args.pass.now)
+    (view c.lock_all.new.pass)
+    (view c.commit_locked.new.pass) can c.commit_locked.ensures.refused
+
+pub back_out-requires-clause-pass : goal.back_out-requires-clause-pass
+back_out-requires-clause-pass c =
+    stopped_active c.args.sets.now _ c.lock_all.new.found (view c.args.pass.now) (view c.lock_all.new.pass)
+    c.requires.live
+    c.in-Err.ensures.stopped
+
+pub back_out-requires-clause-places : goal.back_out-requires-clause-places
+back_out-requires-clause-places c =
+    stopped_places c.args.sets.now _ c.args.writes.now c.lock_all.new.found (view c.args.pass.now)
+    (view c.lock_all.new.pass)
+    c.requires.live c.in-Err.ensures.stopped c.requires.writes
+
+pub back_out-requires-clause-ascending : goal.back_out-requires-clause-ascending
+back_out-requires-clause-ascending c =
+    sets_ascending c.args.sets.now c.args.writes.now c.requires.writes c.requires.ascending
+
+pub back_out-requires-clause-locked : goal.back_out-requires-clause-locked
+back_out-requires-clause-locked c =
+    stopped_locks c.args.sets.now _ c.lock_all.new.found (view c.args.pass.now) (view c.lock_all.new.pass)
+    c.requires.live
+    c.in-Err.ensures.stopped
+
+pub returns-in-Err-clause-cause : goal.returns-in-Err-clause-cause
+returns-in-Err-clause-cause c =
+    stopped_cause c.args.sets.now _ c.args.writes.now c.lock_all.new.found c.in-Err.conflict.word
+    c.in-Err.conflict.expected
+    c.in-Err.conflict.seen c.back_out.result (view c.args.pass.now) (view c.lock_all.new.pass)
+    (view c.back_out.new.pass)
+    c.requires.writes c.in-Err.ensures.apart c.back_out.ensures.gives_up c.in-Err.ensures.conflict
+    c.back_out.ensures.why
+
+pub returns-in-Err-clause-refused : goal.returns-in-Err-clause-refused
+returns-in-Err-clause-refused c =
+    locked_refused c.back_out.result c.args.sets.now _ c.lock_all.new.found (view c.args.pass.now)
+    (view c.lock_all.new.pass)
+    (view c.back_out.new.pass) c.requires.live c.in-Err.ensures.stopped c.back_out.ensures.gives_up
+
+pub returns-in-Ok-clause-steps : goal.returns-in-Ok-clause-steps
+returns-in-Ok-clause-steps c =
+    steps_for c.commit_locked.result c.args.sets.now c.args.writes.now c.args.reads.now (view c.args.pass.now)
+    (view c.lock_all.new.pass) (view c.commit_locked.new.pass) c.requires.reads c.requires.writes c.in-Ok.ensures.steps
+    c.commit_locked.ensures.steps
+
+pub returns-in-Ok-clause-most : goal.returns-in-Ok-clause-most
+returns-in-Ok-clause-most c =
+    most_for c.commit_locked.result c.args.sets.now c.args.writes.now c.args.reads.now (view c.args.pass.now)
+    (view c.lock_all.new.pass) (view c.commit_locked.new.pass) c.requires.reads c.requires.writes c.in-Ok.ensures.steps
+    c.commit_locked.ensures.most
+
+pub returns-in-Err-clause-most : goal.returns-in-Err-clause-most
+returns-in-Err-clause-most c =
+    stopped_most (length c.args.sets.now.reads) (length c.args.writes.now) (length c.args.sets.now.writes)
+    (length c.lock_all.new.found) (view c.args.pass.now) (view c.lock_all.new.pass) (view c.back_out.new.pass)
+    (ap (λ (l : List Write). length l) c.requires.writes) c.in-Err.ensures.within c.in-Err.ensures.most
+    c.back_out.ensures.steps
+
+pub back_out-requires-clause-within : goal.back_out-requires-clause-within
+back_out-requires-clause-within c = let less = c.in-Err.ensures.within in omega (arith, less)

@@ -1,0 +1,100 @@
+-- What a commit leaves.
+use Rattle.std.specs.Prelude.{◌≡◌, ◌⊎◌, ℕ, ◌+◌, ◌*◌, ◌%◌, ◌^◌, ◌<◌, ◌≤◌, Bool, true, false, List, [], ◌∷◌, ◌++◌, map}
+use Rattle.std.specs.Prelude.{length, Contains, Some}
+use Rattle.serial_model.specs.declared.number.Change.{Change}
+use Rattle.serial_model.specs.declared.number.Number.{Number}
+use Rattle.serial_model.specs.Numbers.{IsBelow, draw_limit}
+use Rattle.lists.specs.Fronts.{IsFront}
+use Rattle.commit_core.specs.declared.attempt.Attempt.{Attempt}
+use Rattle.commit_core.specs.CoreState.{mark_of}
+use Rattle.commit_core.specs.Serial.{ReadsFrom, state_below}
+use Rattle.tx_sets.specs.declared.reads.ReadEntry.{ReadEntry}
+use Rattle.tx_sets.specs.declared.sets.Sets.{Sets}
+use Rattle.tx_sets.specs.declared.writes.Write.{Write}
+use Rattle.tx_sets.specs.Entries.{has_read, has_write}
+use Rattle.tx_sets.specs.Gathered.{AreEmpty}
+use Rattle.serial_model.specs.declared.key.Key.{Key}
+use Rattle.engine_words.specs.declared.view.Refused.{Refused}
+use Rattle.engine_words.specs.declared.view.Refused.TheVariants as refusals
+use Rattle.engine_words.specs.declared.view.View.{View}
+use Rattle.engine_words.specs.Cuts.{HasSeen}
+use Rattle.engine_words.specs.Rule.{IsSmall}
+use Rattle.engine_words.specs.Steps.{readied, HasTimed}
+use Rattle.engine_words.specs.Views.{seat_number}
+use Rattle.tx_commit.specs.Live.{IsLive, IsOver}
+use Rattle.tx_commit.specs.Refusing.{IsConflict}
+
+-- ---- before the draw
+
+-- A transaction is under way that has read and written nothing; the clock, which the call loaded and with which all
+-- draws and decisions are seen, is not at the last draws.
+pub record HasBegun (new : Sets) (v w : View) : Type 0 where
+  pub live : IsLive new w
+  pub empty : AreEmpty new
+  pub clock : ℕ
+  pub low : clock % 2 ^ 40 < draw_limit
+  pub loaded : View
+  pub timed : HasTimed v clock loaded
+  pub is : w ≡ readied loaded
+
+-- the transaction is over: what the pass had seen, its own commits and its refusals stay
+pub record HasAborted (v w : View) : Type 0 where
+  pub over : IsOver w
+  pub layout : w.layout ≡ v.layout
+  pub role : w.role ≡ v.role
+  pub seen : HasSeen v w
+  pub mine : w.mine ≡ v.mine
+  pub marks : w.seat.marks ≡ v.seat.marks
+  pub refused : w.refused ≡ v.refused
+
+-- ---- commits
+
+-- the writes as a log has them
+abbrev pub changes_of : List Write → List Change
+changes_of writes = map (λ w. record { key = w.key; value = w.value }) writes
+
+-- The steps of a commit that counts: of each write a load, a compare_exchange, a put and an opening, of each read a
+-- check, and the draw and the decision. So each lock is tried once, and nothing is waited for.
+abbrev pub commit_steps : List ReadEntry → List Write → ℕ
+commit_steps reads writes = 4 * length writes + length reads + 2
+
+-- what is written by a commit that keeps the writes, or drops them
+abbrev pub kept_writes : Bool → List Write → List Write
+kept_writes true writes = writes
+kept_writes false writes = []
+
+-- The transaction is over, and one attempt more counts, which is the last of the pass's own commits. Its parts are just
+-- what was kept, its writes these changes; its number is above each that the pass had seen, in an epoch above the
+-- worker's mark, and it read exactly what the state below its number has.
+pub record HasCommitted (changes : List Change) (number : Number) (v w : View) : Type 0 where
+  pub over : IsOver w
+  pub layout : w.layout ≡ v.layout
+  pub role : w.role ≡ v.role
+  pub attempt : Attempt
+  pub numbered : attempt.number ≡ number
+  pub seat : attempt.seat ≡ seat_number v.role
+  pub parts : attempt.parts ≡ v.seat.kept
+  pub writes : attempt.writes ≡ changes
+  pub seen : HasSeen v w
+  pub drawn : Contains w.history attempt
+  pub all : List Attempt
+  pub order : IsFront (all ++ attempt ∷ []) w.history
+  pub draw : number.draw ≡ v.layout.first.draw + length all
+  pub earlier : List Number
+  pub decided : w.decided ≡ earlier ++ number ∷ []
+  pub mine : w.mine ≡ v.mine ++ attempt ∷ []
+  pub above : (b : Attempt) → Contains v.history b → IsBelow b.number number
+  pub reads : ReadsFrom (state_below v.layout.opening w.history w.decided number) attempt
+  pub epoch : v.epoch ≤ number.epoch
+  pub small : IsSmall number
+  pub marked : (e : ℕ) → mark_of v.seat.marks ≡ Some e → e < number.epoch
+  pub marks : w.seat.marks ≡ v.seat.marks
+  pub refused : w.refused ≡ v.refused
+
+-- a commit is refused only for a conflict at a key of its sets
+abbrev pub RefusesCommit : Sets → List Write → Refused → View → View → Type 0
+RefusesCommit sets writes (refusals.Conflict at expected seen) v w =
+    (k : Key) × ((has_read k sets.reads ≡ true) ⊎ (has_write k writes ≡ true))
+    × IsConflict sets.reads k at expected seen v w
+RefusesCommit sets writes (refusals.Wide set) v w = ⊥
+RefusesCommit sets writes (refusals.NumberLimit clock) v w = ⊥

@@ -1,0 +1,203 @@
+-- That calls are the operations of a transaction, and its commit an attempt of it, as laws that proofs above can cite.
+use Rattle.std.proofs.Common.{◌≡◌, ◌⊎◌, inl, inr, ℕ, Bool, true, false, cond, List, [], ◌∷◌, ◌++◌, Option, Some, None}
+use Rattle.std.proofs.Common.{refl, sym, ap, ◌∙◌, subst, append_assoc}
+use Rattle.std.specs.Prelude.{option_to_list, IsTrue, IsSome}
+use Rattle.std.specs.FinMap.{get}
+use Rattle.std.specs.List.{find}
+use Rattle.std.specs.Option.{option_or, option_map}
+use Rattle.std.proofs.lemmas.List.{append-nil}
+use Rattle.serial_model.specs.declared.key.Key.{Key}
+use Rattle.serial_model.specs.declared.decl.Decl.{Decl}
+use Rattle.serial_model.specs.declared.number.Change.{Change}
+use Rattle.serial_model.specs.declared.op.Op.{Op}
+use Rattle.serial_model.specs.declared.op.Op.TheVariants.{Read, Write, Remove, Add, Take, Scan}
+use Rattle.serial_model.specs.declared.reply.Reply.{Reply}
+use Rattle.serial_model.specs.declared.reply.Verdict.TheVariants.{Done}
+use Rattle.serial_model.specs.Keys.{fits}
+use Rattle.serial_model.specs.State.{State, is_within, rows_of}
+use Rattle.serial_model.specs.History.{Entry}
+use Rattle.commit_core.specs.declared.attempt.Attempt.{Attempt}
+use Rattle.commit_core.specs.declared.part.Part.{Part}
+use Rattle.commit_core.specs.Keys.{same_key, written}
+use Rattle.serial_bridge.specs.Transaction.{vouched, seen, SeesRows, Turn, Turns, Continues, Stops, Finished, finished}
+use Rattle.serial_bridge.specs.Transaction.{FinishesBy, Runs, IsAttemptOf}
+use Rattle.tx_sets.specs.declared.writes.Write as writes_of
+use Rattle.tx_sets.specs.Entries.{value_of}
+use Rattle.engine_words.specs.declared.layout.Layout.{Layout}
+use Rattle.engine_words.specs.declared.view.View.{View}
+use Rattle.tx_commit.specs.Committing.{changes_of, HasCommitted}
+use Rattle.tx_commit.specs.Running.{GoesOn, HasRun, HasEnded, BeginsRun, GoesOnRun, EndsRun, CommitsRun, CommitsEnd}
+use Rattle.tx_commit.specs.Turning.{Keeps}
+
+-- ---- a turn over parts is one over more
+
+seen_later : (parts later : List Part) (own : List Change) (k : Key) (value : Option ℕ) → Keeps parts later
+    → seen parts own k ≡ Some value → seen later own k ≡ Some value
+seen_later parts later own k value keeps is = by_own (written k own) is
+  where
+    by_own : (o : Option (Option ℕ)) → option_or o (vouched parts k) ≡ Some value → option_or o (vouched later k)
+        ≡ Some value
+    by_own (Some x) is = is
+    by_own None is = keeps k value is
+
+rows_later : (parts later : List Part) (own : List Change) (storage low high : ℕ) (rows : List (ℕ × ℕ))
+    → Keeps parts later
+    → SeesRows parts own storage low high rows → SeesRows later own storage low high rows
+rows_later parts later own storage low high rows keeps r = record {
+  covered = λ k in'. there k (seen parts own k) refl (r.covered k in');
+  given = λ s all. r.given s (λ k in'. same s k (seen parts own k) refl (r.covered k in') (all k in'));
+}
+  where
+    there : (k : Key) (o : Option (Option ℕ)) → seen parts own k ≡ o → IsSome o → IsSome (seen later own k)
+    there k (Some x) is some = subst IsSome (sym (seen_later parts later own k x keeps is)) refl
+    there k None is some = absurd cc
+
+    some_same : (a b : Option ℕ) → Some a ≡ Some b → a ≡ b
+    some_same a b is = cc
+
+    same : (s : State) (k : Key) (o : Option (Option ℕ)) → seen parts own k ≡ o → IsSome o
+        → seen later own k ≡ Some (get s k) → seen parts own k ≡ Some (get s k)
+    same s k (Some x) is some now =
+        is ∙ ap (λ y. Some y) (some_same x (get s k) (sym (seen_later parts later own k x keeps is) ∙ now))
+    same s k None is some now = absurd cc
+
+turns_later : (decls : List Decl) (parts later : List Part) (own : List Change) (op : Op) (turn : Turn)
+    → Keeps parts later
+    → Turns decls parts own op turn → Turns decls later own op turn
+turns_later decls parts later own (Read k) turn keeps t = (t.0, seen_later parts later own k t.0 keeps t.1, t.2)
+turns_later decls parts later own (Write k v) turn keeps t = t
+turns_later decls parts later own (Remove k) turn keeps t = t
+turns_later decls parts later own (Add k v) turn keeps t = (t.0, seen_later parts later own k t.0 keeps t.1, t.2)
+turns_later decls parts later own (Take k v) turn keeps t = (t.0, seen_later parts later own k t.0 keeps t.1, t.2)
+turns_later decls parts later own (Scan storage low high) turn keeps t =
+    (t.0, rows_later parts later own storage low high t.0 keeps t.1, t.2)
+
+goes_later : (decls : List Decl) (parts later : List Part) (ops : List Op) (own : List Change) (replies : List Reply)
+    (end : List Change) → Keeps parts later → GoesOn decls parts ops own replies end
+    → GoesOn decls later ops own replies end
+goes_later decls parts later [] own replies end keeps g = g
+goes_later decls parts later (op ∷ ops) own replies end keeps g = (
+  g.0,
+  g.1,
+  g.2,
+  g.3,
+  turns_later decls parts later own op (Continues g.1 g.2) keeps g.4,
+  goes_later decls parts later ops g.2 g.3 end keeps g.5,
+  g.6,
+)
+
+-- ---- one operation more
+
+goes_push : (decls : List Decl) (parts : List Part) (ops : List Op) (own : List Change) (replies : List Reply)
+    (mid end : List Change) (op : Op) (reply : Option Reply) → GoesOn decls parts ops own replies mid
+    → IsTrue (fits decls op) → Turns decls parts mid op (Continues reply end)
+    → GoesOn decls parts (ops ++ op ∷ []) own (replies ++ option_to_list reply) end
+goes_push decls parts [] own replies mid end op reply g fit t = (
+  fit,
+  reply,
+  end,
+  [],
+  subst (λ l. Turns decls parts l op (Continues reply end)) g.1 t,
+  (refl, refl),
+  ap (λ l. l ++ option_to_list reply) g.0 ∙ sym (append-nil (option_to_list reply)),
+)
+goes_push decls parts (x ∷ ops) own replies mid end op reply g fit t = (
+  g.0,
+  g.1,
+  g.2,
+  g.3 ++ option_to_list reply,
+  g.4,
+  goes_push decls parts ops g.2 g.3 mid end op reply g.5 fit t,
+  ap (λ l. l ++ option_to_list reply) g.6 ∙ append_assoc (option_to_list g.1) g.3 (option_to_list reply),
+)
+
+-- what is run goes on to an end
+runs_on : (decls : List Decl) (parts : List Part) (ops more : List Op) (own : List Change) (replies : List Reply)
+    (end : List Change) (f : Finished) → GoesOn decls parts ops own replies end → Runs decls parts more end f
+    → Runs decls parts (ops ++ more) own (finished f.verdict (replies ++ f.replies) f.writes)
+runs_on decls parts [] more own replies end f g r =
+    subst (λ l. Runs decls parts more own (finished f.verdict (l ++ f.replies) f.writes)) (sym g.0)
+    (subst (λ l. Runs decls parts more l f) g.1 r)
+runs_on decls parts (op ∷ ops) more own replies end f g r =
+    let rest : Finished = finished f.verdict (g.3 ++ f.replies) f.writes in (
+      g.0,
+      (
+        Continues g.1 g.2,
+        g.4,
+        (
+          rest,
+          runs_on decls parts ops more g.2 g.3 end f g.5 r,
+          ap (λ l. finished f.verdict (l ++ f.replies) f.writes) g.6
+              ∙ ap (λ l. finished f.verdict l f.writes) (append_assoc (option_to_list g.1) g.3 f.replies),
+        ),
+      ),
+    )
+
+-- ---- the calls
+
+pub begins_run : BeginsRun
+begins_run sets v w b = record {
+  own = [];
+  writes = λ k. sym (ap (value_of k) b.empty.writes);
+  runs = (refl, refl);
+}
+
+pub goes_on_run : GoesOnRun
+goes_on_run ops replies op reply sets new v w r fit d =
+    let t = d.turns r.own r.writes in
+    let layout : w.layout ≡ v.layout = ap (λ (y : View). y.layout) d.only.is in record {
+      own = t.0;
+      writes = t.1;
+      runs = subst (λ (l : Layout). GoesOn l.decls w.seat.kept (ops ++ op ∷ []) [] (replies ++ option_to_list reply)
+          t.0) (sym layout)
+          (goes_push v.layout.decls w.seat.kept ops [] replies r.own t.0 op reply
+          (goes_later v.layout.decls v.seat.kept w.seat.kept ops [] replies r.own d.keeps r.runs) fit t.2);
+    }
+
+pub ends_run : EndsRun
+ends_run ops replies op verdict sets new v w r fit d =
+    let layout : w.layout ≡ v.layout = ap (λ (y : View). y.layout) d.only.is in
+    let stop : Runs v.layout.decls w.seat.kept (op ∷ []) r.own (finished verdict [] []) =
+    (fit, (Stops verdict, d.turns r.own r.writes, refl)) in record {
+      runs = subst (λ (l : Layout). Runs l.decls w.seat.kept (ops ++ op ∷ []) [] (finished verdict replies []))
+          (sym layout)
+          (subst (λ l. Runs v.layout.decls w.seat.kept (ops ++ op ∷ []) [] (finished verdict l [])) (append-nil replies)
+          (runs_on v.layout.decls w.seat.kept ops (op ∷ []) [] replies r.own (finished verdict [] [])
+          (goes_later v.layout.decls v.seat.kept w.seat.kept ops [] replies r.own d.keeps r.runs) stop));
+    }
+
+-- ---- the commit
+
+changes_written : (ws : List writes_of.Write) (k : Key) → written k (changes_of ws) ≡ value_of k ws
+changes_written [] k = refl
+changes_written (w ∷ ws) k = by_test (same_key w.key k) (changes_written ws k)
+  where
+    by_test : (b : Bool) → written k (changes_of ws) ≡ value_of k ws
+        → option_map (λ (c : Change). c.value) (cond b (Some (record { key = w.key; value = w.value }))
+        (find (λ (c : Change). same_key c.key k) (changes_of ws)))
+        ≡ option_map (λ (x : writes_of.Write). x.value)
+        (cond b (Some w) (find (λ (x : writes_of.Write). same_key x.key k) ws))
+    by_test true rest = refl
+    by_test false rest = rest
+
+pub commits_run : CommitsRun
+commits_run e sets v w r done c =
+    let parts = sym c.parts in
+    let runs : Runs v.layout.decls v.seat.kept e.ops [] (finished e.verdict e.replies r.own) =
+    subst (λ z. Runs v.layout.decls v.seat.kept e.ops [] (finished z e.replies r.own)) (sym done)
+    (subst (λ l. Runs v.layout.decls v.seat.kept l [] (finished Done e.replies r.own)) (append-nil e.ops)
+    (subst (λ l. Runs v.layout.decls v.seat.kept (e.ops ++ []) [] (finished Done l r.own)) (append-nil e.replies)
+    (runs_on v.layout.decls v.seat.kept e.ops [] [] e.replies r.own (finished Done [] r.own) r.runs refl))) in record {
+      number = sym c.numbered;
+      own = r.own;
+      runs = subst (λ l. Runs v.layout.decls l e.ops [] (finished e.verdict e.replies r.own)) parts runs;
+      writes = λ k. inl (ap (written k) c.writes ∙ (changes_written sets.writes k ∙ sym (r.writes k)));
+    }
+
+pub commits_end : CommitsEnd
+commits_end e v w r c = record {
+  number = sym c.numbered;
+  own = [];
+  runs = subst (λ l. Runs v.layout.decls l e.ops [] (finished e.verdict e.replies [])) (sym c.parts) r.runs;
+  writes = λ k. inl (ap (written k) c.writes);
+}

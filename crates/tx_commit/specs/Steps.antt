@@ -1,0 +1,248 @@
+-- What the parts of an operation and of a commit do.
+use Rattle.std.specs.Prelude.{◌≡◌, ◌≢◌, ◌⊎◌, ℕ, ◌^◌, ◌<◌, ◌≤◌, true, false, List, [], ◌∷◌, ◌++◌, map, length, take}
+use Rattle.std.specs.Prelude.{slice_get, Option, Some, None, unwrap_or, Contains, ⊤}
+use Rattle.std.specs.List.{AllByRecursion}
+use Rattle.lists.specs.Each.{AreDistinct}
+use Rattle.serial_model.specs.declared.key.Key.{Key}
+use Rattle.serial_model.specs.declared.number.Number.{Number}
+use Rattle.commit_core.specs.declared.attempt.Attempt.{Attempt}
+use Rattle.commit_core.specs.declared.part.Word.{Word}
+use Rattle.commit_core.specs.declared.seat.Seat.{Seat}
+use Rattle.commit_core.specs.declared.seat.Stage.TheVariants.{Idle, Trying, Ended, Decided}
+use Rattle.commit_core.specs.CoreState.{can_begin, settled}
+use Rattle.serial_bridge.specs.Transaction.{vouched}
+use Rattle.wire_form.specs.Words.{number_word}
+use Rattle.tx_sets.specs.declared.reads.ReadEntry.{ReadEntry}
+use Rattle.tx_sets.specs.declared.sets.Sets.{Sets}
+use Rattle.tx_sets.specs.declared.writes.Write.{Write}
+use Rattle.tx_sets.specs.Entries.{has_write, read_keys, read_of, writes_at}
+use Rattle.engine_words.specs.declared.view.Glance.{Glance}
+use Rattle.engine_words.specs.declared.view.Loaded.{Loaded}
+use Rattle.engine_words.specs.declared.view.Read.{Read}
+use Rattle.engine_words.specs.declared.view.Refused.{Refused}
+use Rattle.engine_words.specs.declared.view.Took.{Took}
+use Rattle.engine_words.specs.declared.view.View.{View}
+use Rattle.engine_words.specs.Attempts.{CanDecide}
+use Rattle.engine_words.specs.Locks.{took_at}
+use Rattle.engine_words.specs.Rule.{IsSmall}
+use Rattle.engine_words.specs.Steps.{seen_at, IsKeyAt}
+use Rattle.engine_words.specs.Views.{IsActive, IsResting}
+use Rattle.tx_commit.specs.Live.{AreParts, IsWriteOf, IsLive}
+use Rattle.tx_commit.specs.Turning.{HasLoaded, Keeps}
+use Rattle.tx_commit.specs.Committing.{changes_of}
+
+-- ---- reads
+
+-- this is what the transaction first read at the key: its part has the value
+pub record HasEntry (k : Key) (e : ReadEntry) (sets new : Sets) (v w : View) : Type 0 where
+  pub live : IsLive new w
+  pub only : HasLoaded v w
+  pub keeps : Keeps v.seat.kept w.seat.kept
+  pub reads : (new.reads ≡ sets.reads) ⊎ (new.reads ≡ sets.reads ++ e ∷ [])
+  pub writes : new.writes ≡ sets.writes
+  pub key : e.key ≡ k
+  pub place : IsKeyAt v k e.at
+  pub content : Option ℕ
+  pub value : e.value ≡ unwrap_or content 0
+  pub vouched : vouched w.seat.kept k ≡ Some content
+
+-- ---- locks
+
+abbrev pub keys_of : List Write → List Key
+keys_of writes = map (λ w. w.key) writes
+
+-- the locks at the keys of the writes, with the words that they found
+abbrev pub tooks_of : List Write → List ℕ → List Took
+tooks_of [] found = []
+tooks_of (w ∷ writes) [] = []
+tooks_of (w ∷ writes) (n ∷ found) = took_at w.key n ∷ tooks_of writes found
+
+-- some loads more, and nothing else of the pass has changed
+pub record HasGlanced (v w : View) : Type 0 where
+  pub steps : ℕ
+  pub since : v.steps ≤ steps
+  pub last : Option Glance
+  pub loaded : Option Loaded
+  pub reads : List Read
+  pub is : w ≡ record v { steps = steps; last = last; loaded = loaded; reads = reads }
+
+-- a pass of a worker or the keeper that has no locks, and no attempt
+pub record IsFree (v : View) : Type 0 where
+  pub active : IsActive v.role
+  pub locks : v.seat.locks ≡ []
+  pub took : v.took ≡ []
+  pub stage : v.seat.stage ≡ Idle
+
+-- the words that were read have no lock
+abbrev pub AreSmall : List ReadEntry → Type 0
+AreSmall reads = (k : Key) (e : ReadEntry) → read_of k reads ≡ Some e → e.word < 2 ^ 60
+
+-- the word that the key's record had as it was read, and this one where it was not
+abbrev pub known_word : Option ReadEntry → ℕ → ℕ
+known_word (Some e) word = e.word
+known_word None word = word
+
+-- one lock more, with the word that it found
+pub record HasTaken (k : Key) (at word : ℕ) (v w : View) : Type 0 where
+  pub steps : ℕ
+  pub since : v.steps ≤ steps
+  pub last : Option Glance
+  pub loaded : Option Loaded
+  pub reads : List Read
+  pub others : (other : ℕ) → at ≢ other → seen_at reads other ≡ seen_at v.reads other
+  pub is : w ≡ record v {
+    seat = record v.seat { locks = v.seat.locks ++ k ∷ [] };
+    took = v.took ++ took_at k word ∷ [];
+    steps = steps;
+    last = last;
+    loaded = loaded;
+    reads = reads;
+  }
+
+-- a lock at a record that was read found the word that was read
+abbrev pub AreAsRead : List ReadEntry → List Write → List ℕ → Type 0
+AreAsRead reads [] found = ⊤
+AreAsRead reads (w ∷ writes) [] = ⊤
+AreAsRead reads (w ∷ writes) (n ∷ found) = (n ≡ known_word (read_of w.key reads) n) × AreAsRead reads writes found
+
+-- these are locked, each with the word that it found, and nothing else of the pass has changed but by loads
+pub record HasLocked (writes : List Write) (found : List ℕ) (v w : View) : Type 0 where
+  pub count : length found ≡ length writes
+  pub steps : ℕ
+  pub since : v.steps ≤ steps
+  pub last : Option Glance
+  pub loaded : Option Loaded
+  pub reads : List Read
+  pub is : w ≡ record v {
+    seat = record v.seat { locks = keys_of writes };
+    took = tooks_of writes found;
+    steps = steps;
+    last = last;
+    loaded = loaded;
+    reads = reads;
+  }
+
+-- these are locked, with these words, and no attempt is in progress or decided
+pub record HasLocks (writes : List Write) (found : List ℕ) (v : View) : Type 0 where
+  pub count : length found ≡ length writes
+  pub locks : v.seat.locks ≡ keys_of writes
+  pub took : v.took ≡ tooks_of writes found
+  pub idle : can_begin v.seat.stage ≡ true
+  pub none : length writes ≡ 0 → v.seat.stage ≡ Idle
+
+-- what was met of other words than those of the writes is as it was
+abbrev pub KeepOthers : List Write → List Read → List Read → Type 0
+KeepOthers writes old new = (r : Read) → Contains old r → writes_at r.word writes ≡ false → Contains new r
+
+-- all locks are open, and nothing else of the pass has changed but by stores
+pub record HasUnlocked (writes : List Write) (v w : View) : Type 0 where
+  pub seat : Seat
+  pub steps : ℕ
+  pub loaded : Option Loaded
+  pub reads : List Read
+  pub others : KeepOthers writes v.reads reads
+  pub is : w ≡ record v {
+    seat = seat;
+    took = [];
+    steps = steps;
+    loaded = loaded;
+    reads = reads;
+  }
+  pub locks : seat.locks ≡ []
+  pub stage : seat.stage ≡ Idle
+  pub marks : seat.marks ≡ v.seat.marks
+
+-- a live transaction has locked its writes since, each with the word that it found
+pub record CanCommit (sets : Sets) (found : List ℕ) (v w : View) : Type 0 where
+  pub live : IsLive sets v
+  pub once : AreDistinct (read_keys sets.reads)
+  pub locked : HasLocked sets.writes found v w
+  pub read : AreAsRead sets.reads sets.writes found
+
+-- nothing is locked or kept, and this is one refusal more
+pub record HasGivenUp (writes : List Write) (why : Refused) (v w : View) : Type 0 where
+  pub seat : Seat
+  pub steps : ℕ
+  pub loaded : Option Loaded
+  pub reads : List Read
+  pub others : KeepOthers writes v.reads reads
+  pub is : w ≡ record v {
+    due = false;
+    seat = seat;
+    took = [];
+    steps = steps;
+    loaded = loaded;
+    reads = reads;
+    refused = v.refused ++ why ∷ [];
+  }
+  pub resting : IsResting seat
+  pub marks : seat.marks ≡ v.seat.marks
+
+-- ---- checks
+
+-- An attempt is in progress, with these parts and these locks, and none of its parts is checked. A lock at a record
+-- that was read found the word that was read.
+pub record HasTried (reads : List ReadEntry) (writes : List Write) (v : View) : Type 0 where
+  pub index : ℕ
+  pub attempt : Attempt
+  pub stage : v.seat.stage ≡ Trying index
+  pub at : slice_get v.history index ≡ Some attempt
+  pub parts : AreParts v.layout.decls reads attempt.parts
+  pub checked : v.checked ≡ []
+  pub locks : v.seat.locks ≡ keys_of writes
+  pub places : AllByRecursion (IsWriteOf v.layout.decls) writes
+  pub took : (e : ReadEntry) → Contains reads e → has_write e.key writes ≡ true → Contains v.took (took_at e.key e.word)
+
+-- all parts are checked, and nothing else of the pass has changed but by loads
+pub record HasChecked (v w : View) : Type 0 where
+  pub checked : List Word
+  pub steps : ℕ
+  pub since : v.steps ≤ steps
+  pub last : Option Glance
+  pub loaded : Option Loaded
+  pub reads : List Read
+  pub is : w ≡ record v { checked = checked; steps = steps; last = last; loaded = loaded; reads = reads }
+  pub can : CanDecide w
+
+-- a check failed
+pub record HasFailed (v w : View) : Type 0 where
+  pub checked : List Word
+  pub steps : ℕ
+  pub last : Option Glance
+  pub loaded : Option Loaded
+  pub reads : List Read
+  pub is : w ≡ record v {
+    seat = settled (record v.seat { stage = Ended });
+    checked = checked;
+    steps = steps;
+    last = last;
+    loaded = loaded;
+    reads = reads;
+  }
+
+-- ---- after the decision
+
+-- An attempt with these writes counts, and all of them are locked; without writes all is over.
+pub record HasDecided (writes : List Write) (found : List ℕ) (number : ℕ) (v : View) : Type 0 where
+  pub index : ℕ
+  pub attempt : Attempt
+  pub at : slice_get v.history index ≡ Some attempt
+  pub writes_are : attempt.writes ≡ changes_of writes
+  pub word : number ≡ number_word attempt.number
+  pub locks : v.seat.locks ≡ keys_of writes
+  pub took : v.took ≡ tooks_of writes found
+  pub count : length found ≡ length writes
+  pub begun : 0 < length writes → v.seat.stage ≡ Decided index
+  pub over : length writes ≡ 0 → (v.seat.kept ≡ []) × (v.seat.stage ≡ Idle)
+
+-- all is over, and nothing else of the pass has changed but by stores
+pub record HasPublished (v w : View) : Type 0 where
+  pub seat : Seat
+  pub steps : ℕ
+  pub loaded : Option Loaded
+  pub reads : List Read
+  pub is : w ≡ record v { seat = seat; took = []; steps = steps; loaded = loaded; reads = reads }
+  pub kept : seat.kept ≡ []
+  pub locks : seat.locks ≡ []
+  pub stage : seat.stage ≡ Idle
+  pub marks : seat.marks ≡ v.seat.marks

@@ -1,0 +1,106 @@
+-- What an operation of a transaction comes to: the turn of the serial step, over the parts and the own writes.
+use Rattle.std.specs.Prelude.{◌≡◌, ℕ, ◌⊎◌, ◌+◌, ◌-◌, ◌^◌, ◌≤◌, length, List, [], ◌∷◌, ◌++◌, Option, Some, None}
+use Rattle.std.specs.Prelude.{if◌then◌else◌}
+use Rattle.std.specs.Prelude.{nat_lt, nat_le}
+use Rattle.serial_model.specs.declared.key.Key.{Key}
+use Rattle.serial_model.specs.declared.number.Change.{Change}
+use Rattle.serial_model.specs.declared.op.Op.{Op}
+use Rattle.serial_model.specs.declared.op.Op.TheVariants as ops
+use Rattle.serial_model.specs.declared.reply.Reply.{Reply}
+use Rattle.serial_model.specs.declared.reply.Verdict.{Verdict}
+use Rattle.serial_model.specs.declared.reply.Verdict.TheVariants.{Done, Short, Over}
+use Rattle.commit_core.specs.declared.part.Part.{Part}
+use Rattle.commit_core.specs.Keys.{written}
+use Rattle.serial_bridge.specs.Transaction.{vouched, Turns, Continues, Stops}
+use Rattle.tx_sets.specs.declared.reads.ReadEntry.{ReadEntry}
+use Rattle.tx_sets.specs.declared.sets.Sets.{Sets}
+use Rattle.tx_sets.specs.declared.writes.Write.{Write}
+use Rattle.tx_sets.specs.Entries.{value_of}
+use Rattle.engine_words.specs.declared.view.Glance.{Glance}
+use Rattle.engine_words.specs.declared.view.Loaded.{Loaded}
+use Rattle.engine_words.specs.declared.view.Read.{Read}
+use Rattle.engine_words.specs.declared.view.View.{View}
+use Rattle.tx_commit.specs.declared.writing.By.{By}
+use Rattle.tx_commit.specs.declared.writing.By.TheVariants as ways
+use Rattle.tx_commit.specs.Live.{IsLive}
+
+-- what was written, the newest first, is what the write set has
+abbrev pub AreWritesOf : List Write → List Change → Type 0
+AreWritesOf writes own = (k : Key) → written k own ≡ value_of k writes
+
+-- what was read is still what the parts have
+abbrev pub Keeps : List Part → List Part → Type 0
+Keeps parts later = (k : Key) (value : Option ℕ) → vouched parts k ≡ Some value → vouched later k ≡ Some value
+
+-- the operation is of this key
+abbrev pub IsOfKey : Op → Key → Type 0
+IsOfKey (ops.Read k) q = k ≡ q
+IsOfKey (ops.Write k v) q = k ≡ q
+IsOfKey (ops.Remove k) q = k ≡ q
+IsOfKey (ops.Add k v) q = k ≡ q
+IsOfKey (ops.Take k v) q = k ≡ q
+IsOfKey (ops.Scan storage low high) q = ⊥
+
+-- at most the key of the operation was read
+abbrev pub ReadsOnly : Op → List ReadEntry → List ReadEntry → Type 0
+ReadsOnly op old new = (new ≡ old) ⊎ ((e : ReadEntry) × IsOfKey op e.key × (new ≡ old ++ e ∷ []))
+
+-- some loads more, and maybe parts: all else that the pass knows is as it was
+pub record HasLoaded (v w : View) : Type 0 where
+  pub kept : List Part
+  pub steps : ℕ
+  pub last : Option Glance
+  pub loaded : Option Loaded
+  pub reads : List Read
+  pub is : w ≡ record v {
+    seat = record v.seat { kept = kept };
+    steps = steps;
+    last = last;
+    loaded = loaded;
+    reads = reads;
+  }
+
+-- The transaction goes on after this operation, with this reply or none. It reads at most one record more and writes at
+-- most one key more.
+pub record HasDone (op : Op) (reply : Option Reply) (sets new : Sets) (v w : View) : Type 0 where
+  pub live : IsLive new w
+  pub only : HasLoaded v w
+  pub reads : ReadsOnly op sets.reads new.reads
+  pub grows : length new.writes ≤ length sets.writes + 1
+  pub keeps : Keeps v.seat.kept w.seat.kept
+  pub turns : (own : List Change) → AreWritesOf sets.writes own
+      → (next : List Change) × AreWritesOf new.writes next
+      × Turns v.layout.decls w.seat.kept own op (Continues reply next)
+
+-- The transaction ends with this operation, whose verdict this is. It is still to be committed, without its writes.
+pub record HasStopped (op : Op) (verdict : Verdict) (sets new : Sets) (v w : View) : Type 0 where
+  pub live : IsLive new w
+  pub only : HasLoaded v w
+  pub reads : ReadsOnly op sets.reads new.reads
+  pub grows : length new.writes ≤ length sets.writes + 1
+  pub keeps : Keeps v.seat.kept w.seat.kept
+  pub turns : (own : List Change) → AreWritesOf sets.writes own
+      → Turns v.layout.decls w.seat.kept own op (Stops verdict)
+
+-- ---- additions and subtractions
+
+-- the operation
+abbrev pub op_of : Key → By → Op
+op_of k (ways.Add amount) = ops.Add k amount
+op_of k (ways.Take amount) = ops.Take k amount
+
+-- the value afterwards, where it is from 0 to 2^64 - 1
+abbrev pub altered : By → ℕ → Option ℕ
+altered (ways.Add amount) before = if nat_lt (before + amount) (2 ^ 64) then Some (before + amount) else None
+altered (ways.Take amount) before = if nat_le amount before then Some (before - amount) else None
+
+-- how the transaction ends where it is not
+abbrev pub ended_by : By → Verdict
+ended_by (ways.Add amount) = Over
+ended_by (ways.Take amount) = Short
+
+-- the transaction goes on, or ends with this verdict
+abbrev pub Alters : Op → Verdict → Sets → Sets → View → View → Type 0
+Alters op Done sets new v w = HasDone op None sets new v w
+Alters op Short sets new v w = HasStopped op Short sets new v w
+Alters op Over sets new v w = HasStopped op Over sets new v w

@@ -1,0 +1,203 @@
+// Commits.
+ghost use Rattle.std.specs.Prelude.{◌≡◌, ◌+◌, ◌*◌, ◌≤◌, [], IfOk, IfErr, OnOk, OnErr, length, take};
+ghost use Rattle.std.specs.List.{AllByRecursion};
+ghost use Rattle.lists.specs.Each.{AreDistinct};
+ghost use Rattle.serial_model.specs.declared.number.Number.{Number as TheNumber};
+ghost use Rattle.wire_form.specs.Words.{number_word};
+ghost use Rattle.tx_sets.specs.Entries.{read_keys, IsAscending};
+ghost use Rattle.engine_words.specs.declared.view.Refused.TheVariants as refusals;
+ghost use Rattle.engine_words.specs.declared.view.View.{View as TheView};
+ghost use Rattle.engine_words.specs.Passes.{view, IsPassOf};
+ghost use Rattle.engine_words.specs.Rule.{IsSmall};
+ghost use Rattle.engine_words.specs.Views.{IsActive};
+ghost use Rattle.tx_commit.specs.Live.{IsLive, IsWriteOf};
+ghost use Rattle.tx_commit.specs.Refusing.{HasRefused};
+ghost use Rattle.tx_commit.specs.Committing.{changes_of, commit_steps, HasCommitted, RefusesCommit};
+ghost use Rattle.tx_commit.specs.Steps.{CanCommit, HasLocks, HasGivenUp};
+
+use crate::checking::check_all;
+use crate::locking::{Found, lock_all, unlock_all};
+use crate::publishing::publish_all;
+use array_storage::Conflict;
+use engine_words::{Engine, Pass, Refused, decide, draw, forget};
+use serial_model::{Change, Changes, Commit, Number};
+use tx_sets::{ReadEntry, Sets, Write};
+
+/// Commits a transaction with its writes, or gives it up.
+pub(crate) fn commit_all(
+    engine: &Engine,
+    pass: &mut Pass,
+    sets: &Sets,
+    found: &mut Found,
+) -> Result<Commit, Refused>
+    requires of { IsPassOf engine.now pass.old }
+    requires live { IsLive sets.now (view pass.old) }
+    ensures of { IsPassOf engine.now pass.new }
+    ensures commits { IfOk result (λ c. HasCommitted c.changes c.number (view pass.old) (view pass.new)) }
+    ensures changes { IfOk result (λ c. c.changes ≡ changes_of sets.now.writes) }
+    ensures ascending { IsAscending sets.now.writes }
+    ensures few { length sets.now.writes ≤ 16 }
+    ensures cause { IfErr result (λ why. RefusesCommit sets.now sets.now.writes why (view pass.old) (view pass.new)) }
+    ensures refused { IfErr result (λ why. HasRefused why (view pass.old) (view pass.new)) }
+    ensures steps { OnOk result
+        ((view pass.new).steps ≡ (view pass.old).steps + commit_steps sets.now.reads sets.now.writes) }
+    ensures most { OnErr result
+        ((view pass.new).steps ≤ (view pass.old).steps + commit_steps sets.now.reads sets.now.writes) }
+{
+    let reads = sets.reads.as_slice();
+    let writes = sets.writes.as_slice();
+    found.clear();
+    commit_in(engine, pass, sets, reads, writes, found)
+}
+
+// The same, with what the sets have as slices.
+fn commit_in(
+    engine: &Engine,
+    pass: &mut Pass,
+    sets: &Sets,
+    reads: &[ReadEntry],
+    writes: &[Write],
+    found: &mut Found,
+) -> Result<Commit, Refused>
+    requires of { IsPassOf engine.now pass.old }
+    requires live { IsLive sets.now (view pass.old) }
+    requires reads { reads.now ≡ sets.now.reads }
+    requires writes { writes.now ≡ sets.now.writes }
+    requires once { AreDistinct (read_keys sets.now.reads) }
+    requires ascending { IsAscending sets.now.writes }
+    requires few { length sets.now.writes ≤ 16 }
+    requires fresh { found.old ≡ [] }
+    ensures of { IsPassOf engine.now pass.new }
+    ensures commits { IfOk result (λ c. HasCommitted c.changes c.number (view pass.old) (view pass.new)) }
+    ensures changes { IfOk result (λ c. c.changes ≡ changes_of sets.now.writes) }
+    ensures cause { IfErr result (λ why. RefusesCommit sets.now sets.now.writes why (view pass.old) (view pass.new)) }
+    ensures refused { IfErr result (λ why. HasRefused why (view pass.old) (view pass.new)) }
+    ensures steps { OnOk result
+        ((view pass.new).steps ≡ (view pass.old).steps + commit_steps sets.now.reads sets.now.writes) }
+    ensures most { OnErr result
+        ((view pass.new).steps ≤ (view pass.old).steps + commit_steps sets.now.reads sets.now.writes) }
+{
+    match lock_all(engine, pass, &sets.reads, writes, found) {
+        Ok(()) => commit_locked(engine, pass, sets, reads, writes, found),
+        Err(conflict) => Err(back_out(engine, pass, writes, found, conflict)),
+    }
+}
+
+// Commits a transaction whose writes are locked, or gives it up.
+fn commit_locked(
+    engine: &Engine,
+    pass: &mut Pass,
+    sets: &Sets,
+    reads: &[ReadEntry],
+    writes: &[Write],
+    found: &Found,
+) -> Result<Commit, Refused>
+    requires of { IsPassOf engine.now pass.old }
+    requires can { (v : TheView) × CanCommit sets.now found.now v (view pass.old) }
+    requires reads { reads.now ≡ sets.now.reads }
+    requires writes { writes.now ≡ sets.now.writes }
+    requires ascending { IsAscending sets.now.writes }
+    requires few { length sets.now.writes ≤ 16 }
+    ensures of { IsPassOf engine.now pass.new }
+    ensures commits { IfOk result (λ c. (v : TheView) → CanCommit sets.now found.now v (view pass.old)
+        → HasCommitted c.changes c.number v (view pass.new)) }
+    ensures changes { IfOk result (λ c. c.changes ≡ changes_of sets.now.writes) }
+    ensures cause { IfErr result (λ why. (v : TheView) → CanCommit sets.now found.now v (view pass.old)
+        → RefusesCommit sets.now sets.now.writes why v (view pass.new)) }
+    ensures refused { IfErr result (λ why. (v : TheView) → CanCommit sets.now found.now v (view pass.old)
+        → HasRefused why v (view pass.new)) }
+    ensures steps { OnOk result
+        ((view pass.new).steps ≡ (view pass.old).steps + 2 * length writes.now + length reads.now + 2) }
+    ensures most { OnErr result
+        ((view pass.new).steps ≤ (view pass.old).steps + length writes.now + length reads.now + 2) }
+{
+    let changes = changes_of(writes);
+    let word = draw(engine, pass, &changes);
+    match check_all(engine, pass, reads, &sets.writes) {
+        Ok(()) => {
+            decide(engine, pass);
+            publish_all(engine, pass, writes, word);
+            Ok(Commit {
+                number: number_of(word),
+                changes,
+            })
+        }
+        Err(conflict) => Err(back_out(engine, pass, writes, found, conflict)),
+    }
+}
+
+// Opens the locks that were taken, those of the first writes, and drops what was read.
+fn back_out(
+    engine: &Engine,
+    pass: &mut Pass,
+    writes: &[Write],
+    found: &Found,
+    conflict: Conflict,
+) -> Refused
+    requires of { IsPassOf engine.now pass.old }
+    requires pass { IsActive (view pass.old).role }
+    requires places { AllByRecursion (IsWriteOf (view pass.old).layout.decls) writes.now }
+    requires ascending { IsAscending writes.now }
+    requires within { length found.now ≤ length writes.now }
+    requires locked { HasLocks (take (length found.now) writes.now) found.now (view pass.old) }
+    ensures of { IsPassOf engine.now pass.new }
+    ensures why { result ≡ refusals.Conflict conflict.word conflict.expected conflict.seen }
+    ensures gives_up { HasGivenUp (take (length found.now) writes.now) result (view pass.old) (view pass.new) }
+    ensures steps { (view pass.new).steps ≡ (view pass.old).steps + length found.now + 1 }
+{
+    let held = found.as_slice();
+    give_up(engine, pass, &writes[..held.len()], held, conflict)
+}
+
+// Opens these locks, and drops what was read.
+fn give_up(
+    engine: &Engine,
+    pass: &mut Pass,
+    writes: &[Write],
+    found: &[u64],
+    conflict: Conflict,
+) -> Refused
+    requires of { IsPassOf engine.now pass.old }
+    requires pass { IsActive (view pass.old).role }
+    requires places { AllByRecursion (IsWriteOf (view pass.old).layout.decls) writes.now }
+    requires ascending { IsAscending writes.now }
+    requires locked { HasLocks writes.now found.now (view pass.old) }
+    ensures of { IsPassOf engine.now pass.new }
+    ensures why { result ≡ refusals.Conflict conflict.word conflict.expected conflict.seen }
+    ensures gives_up { HasGivenUp writes.now result (view pass.old) (view pass.new) }
+    ensures steps { (view pass.new).steps ≡ (view pass.old).steps + length writes.now + 1 }
+{
+    unlock_all(engine, pass, writes, found);
+    let why = Refused::Conflict {
+        word: conflict.word,
+        expected: conflict.expected,
+        seen: conflict.seen,
+    };
+    forget(engine, pass, Some(why));
+    why
+}
+
+// The writes as a log has them.
+fn changes_of(writes: &[Write]) -> Changes
+    requires { length writes.now ≤ 16 }
+    ensures { result ≡ changes_of writes.now }
+{
+    let mut changes = Changes::new();
+    for write in writes {
+        changes.push(Change {
+            key: write.key,
+            value: write.value,
+        });
+    }
+    changes
+}
+
+// The number that has this word.
+fn number_of(word: u64) -> Number
+    ensures { (n : TheNumber) → IsSmall n → number_word n ≡ word → result ≡ n }
+{
+    Number {
+        epoch: (word >> 40) as u32,
+        draw: word % (1 << 40),
+    }
+}

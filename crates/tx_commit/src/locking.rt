@@ -1,0 +1,184 @@
+// The locks of a commit.
+ghost use Rattle.std.specs.Prelude.{◌≡◌, ◌+◌, ◌*◌, ◌≤◌, ◌<◌, true, false, [], ◌∷◌, ◌++◌, None, IfOk, IfErr, OnOk};
+ghost use Rattle.std.specs.Prelude.{OnErr, length, take};
+ghost use Rattle.std.specs.List.{AllByRecursion};
+ghost use Rattle.serial_model.specs.declared.key.Key.{Key as TheKey};
+ghost use Rattle.commit_core.specs.CoreState.{can_begin};
+ghost use Rattle.tx_sets.specs.Entries.{has_write, read_of, writes_at, IsAscending};
+ghost use Rattle.engine_words.specs.Passes.{view, IsPassOf};
+ghost use Rattle.engine_words.specs.Steps.{seen_at, IsKeyAt};
+ghost use Rattle.engine_words.specs.Views.{IsActive};
+ghost use Rattle.tx_commit.specs.Live.{AreFresh, IsWriteOf};
+ghost use Rattle.tx_commit.specs.Refusing.{IsConflict};
+ghost use Rattle.tx_commit.specs.Steps.{known_word, AreAsRead, AreSmall, IsFree, HasGlanced, HasTaken, HasLocked};
+ghost use Rattle.tx_commit.specs.Steps.{HasLocks, HasUnlocked};
+
+use array_storage::Conflict;
+use arrayvec::ArrayVec;
+use engine_words::{Engine, LOCK, Pass, confirm, lock, open_again};
+use serial_model::Key;
+use std::marker::Model;
+use tx_sets::{ReadSet, Write};
+
+/// The most locks of a transaction.
+const CAPACITY: usize = 16;
+
+/// The words that the locks of a commit found, in the order of its writes: with them they are opened again.
+#[derive(Drop)]
+pub struct Found {
+    words: ArrayVec<u64, CAPACITY>,
+}
+
+impl Model for Found {
+    ghost use Rattle.std.specs.Prelude.{ℕ, List};
+
+    ghost Value = { List ℕ };
+
+    ghost view = { λ f. f.words.items };
+}
+
+impl Found {
+    pub fn new() -> Self
+        ensures { result ≡ [] }
+    {
+        Found {
+            words: ArrayVec::new(),
+        }
+    }
+
+    fn push(&mut self, word: u64)
+        requires { length self.old < 16 }
+        ensures { self.new ≡ self.old ++ word ∷ [] }
+    {
+        self.words.push(word);
+    }
+
+    pub fn as_slice(&self) -> &[u64]
+        ensures { result.now ≡ self.now }
+    {
+        self.words.as_slice()
+    }
+
+    pub fn clear(&mut self)
+        ensures { self.new ≡ [] }
+    {
+        self.words.clear();
+    }
+}
+
+/// Locks the records of the writes in order, up to the first whose word is locked or not as it was read.
+pub(crate) fn lock_all(
+    engine: &Engine,
+    pass: &mut Pass,
+    reads: &ReadSet,
+    writes: &[Write],
+    found: &mut Found,
+) -> Result<(), Conflict>
+    requires of { IsPassOf engine.now pass.old }
+    requires free { IsFree (view pass.old) }
+    requires places { AllByRecursion (IsWriteOf (view pass.old).layout.decls) writes.now }
+    requires ascending { IsAscending writes.now }
+    requires few { length writes.now ≤ 16 }
+    requires small { AreSmall reads.now }
+    requires fresh { found.old ≡ [] }
+    requires unmet { AreFresh reads.now (view pass.old) }
+    ensures of { IsPassOf engine.now pass.new }
+    ensures ok { OnOk result (HasLocked writes.now found.new (view pass.old) (view pass.new)) }
+    ensures known { OnOk result (AreAsRead reads.now writes.now found.new) }
+    ensures steps { OnOk result ((view pass.new).steps ≡ (view pass.old).steps + 2 * length writes.now) }
+    ensures within { OnErr result (length found.new < length writes.now) }
+    ensures most { OnErr result ((view pass.new).steps ≤ (view pass.old).steps + 2 * length found.new + 2) }
+    ensures stopped { OnErr result
+        (HasLocked (take (length found.new) writes.now) found.new (view pass.old) (view pass.new)) }
+    ensures apart { IfErr result (λ e. writes_at e.word (take (length found.new) writes.now) ≡ false) }
+    ensures conflict { IfErr result (λ e. (k : TheKey) × (has_write k writes.now ≡ true)
+        × IsConflict reads.now k e.word e.expected e.seen (view pass.old) (view pass.new)) }
+{
+    let mut done = 0;
+    while done < writes.len() {
+        let write = writes[done];
+        let word = take(engine, pass, reads, write.key, write.at)?;
+        found.push(word);
+        done += 1;
+    }
+    Ok(())
+}
+
+// Locks a record by a load of its word and one compare_exchange. Answers the word that it found.
+fn take(
+    engine: &Engine,
+    pass: &mut Pass,
+    reads: &ReadSet,
+    key: Key,
+    at: u32,
+) -> Result<u64, Conflict>
+    requires of { IsPassOf engine.now pass.old }
+    requires pass { IsActive (view pass.old).role × (can_begin (view pass.old).seat.stage ≡ true) }
+    requires place { IsKeyAt (view pass.old) key at }
+    requires small { AreSmall reads.now }
+    requires unmet { read_of key reads.now ≡ None → seen_at (view pass.old).reads at ≡ None }
+    ensures of { IsPassOf engine.now pass.new }
+    ensures takes { IfOk result (λ word. HasTaken key at word (view pass.old) (view pass.new)) }
+    ensures known { IfOk result (λ word. word ≡ known_word (read_of key reads.now) word) }
+    ensures steps { OnOk result ((view pass.new).steps ≡ (view pass.old).steps + 2) }
+    ensures most { OnErr result ((view pass.new).steps ≤ (view pass.old).steps + 2) }
+    ensures glanced { OnErr result (HasGlanced (view pass.old) (view pass.new)) }
+    ensures place { IfErr result (λ e. e.word ≡ at) }
+    ensures conflict { IfErr result (λ e.
+        IsConflict reads.now key e.word e.expected e.seen (view pass.old) (view pass.new)) }
+{
+    let word = confirm(engine, pass, key, at);
+    let expected = known(reads, key, word);
+    if word >= LOCK {
+        return Err(Conflict {
+            word: at,
+            expected,
+            seen: word,
+        });
+    }
+    if word != expected {
+        return Err(Conflict {
+            word: at,
+            expected,
+            seen: word,
+        });
+    }
+    let seen = lock(engine, pass, key, at, expected);
+    if seen != expected {
+        return Err(Conflict {
+            word: at,
+            expected,
+            seen,
+        });
+    }
+    Ok(seen)
+}
+
+// The word of the key's record as it was read, else this one.
+fn known(reads: &ReadSet, key: Key, word: u64) -> u64
+    ensures { result ≡ known_word (read_of key reads.now) word }
+{
+    match reads.find(key) {
+        Some(entry) => entry.word,
+        None => word,
+    }
+}
+
+/// Opens locks with the words that they found.
+pub(crate) fn unlock_all(engine: &Engine, pass: &mut Pass, writes: &[Write], found: &[u64])
+    requires of { IsPassOf engine.now pass.old }
+    requires pass { IsActive (view pass.old).role }
+    requires places { AllByRecursion (IsWriteOf (view pass.old).layout.decls) writes.now }
+    requires ascending { IsAscending writes.now }
+    requires locked { HasLocks writes.now found.now (view pass.old) }
+    ensures of { IsPassOf engine.now pass.new }
+    ensures unlocked { HasUnlocked writes.now (view pass.old) (view pass.new) }
+    ensures steps { (view pass.new).steps ≡ (view pass.old).steps + length writes.now }
+{
+    let mut done = 0;
+    while done < writes.len() {
+        let write = writes[done];
+        open_again(engine, pass, write.key, write.at, found[done]);
+        done += 1;
+    }
+}

@@ -1,0 +1,185 @@
+// Transactions of one worker.
+ghost use Rattle.std.specs.Prelude.{◌≡◌, ◌+◌, ◌≤◌, true, Some, None, IfOk, IfErr, OnOk, OnErr, length, map};
+ghost use Rattle.serial_model.specs.declared.op.Op.TheVariants as ops;
+ghost use Rattle.serial_model.specs.declared.reply.Reply.TheVariants as replies;
+ghost use Rattle.serial_model.specs.Keys.{IsKeyBelow};
+ghost use Rattle.wire_form.specs.Items.{Rises};
+ghost use Rattle.tx_sets.specs.Gathered.{AreEmpty};
+ghost use Rattle.engine_words.specs.Layout.{has_record};
+ghost use Rattle.engine_words.specs.Passes.{view, IsPassOf};
+ghost use Rattle.tx_commit.specs.Live.{IsLive, IsOver};
+ghost use Rattle.tx_commit.specs.Turning.{HasDone, Alters};
+ghost use Rattle.tx_commit.specs.Refusing.{HasRefused, RefusesBegin, RefusesRead, RefusesWrite, RefusesAlter};
+ghost use Rattle.tx_commit.specs.Committing.{changes_of, commit_steps, kept_writes, HasBegun, HasAborted, HasCommitted};
+ghost use Rattle.tx_commit.specs.Committing.{RefusesCommit};
+
+use crate::committing::commit_all;
+use crate::locking::Found;
+use crate::reading::{entry_of, value_of};
+use crate::writing::{By, alter, write_value};
+use engine_words::{Engine, Pass, Refused, begin, forget};
+use serial_model::{Commit, DRAW_LIMIT, Key, Verdict};
+use tx_sets::Sets;
+
+/// The transactions of one worker, one after another. It is made once and not moved: what the one under way has read
+/// and writes lies in it.
+#[derive(Drop)]
+pub struct Txn {
+    pub(crate) sets: Sets,
+    pub(crate) found: Found,
+}
+
+impl Txn {
+    pub fn new() -> Self
+        ensures { AreEmpty result.sets }
+    {
+        Txn {
+            sets: Sets::new(),
+            found: Found::new(),
+        }
+    }
+
+    /// Begins a transaction. It is refused exactly where the clock is at the last draws.
+    pub fn begin(&mut self, engine: &Engine, pass: &mut Pass) -> Result<(), Refused>
+        requires of { IsPassOf engine.now pass.old }
+        requires over { IsOver (view pass.old) }
+        ensures of { IsPassOf engine.now pass.new }
+        ensures begins { OnOk result (HasBegun self.new.sets (view pass.old) (view pass.new)) }
+        ensures refused { IfErr result (λ why. RefusesBegin why (view pass.old) (view pass.new)) }
+    {
+        self.sets.clear();
+        let clock = begin(engine, pass);
+        if clock % (1 << 40) >= DRAW_LIMIT {
+            return Err(Refused::NumberLimit { clock });
+        }
+        Ok(())
+    }
+
+    /// The value at the key of an array: what the transaction wrote last, else what it first read. A key that it has
+    /// not met before is read, and kept.
+    pub fn read(&mut self, engine: &Engine, pass: &mut Pass, key: Key) -> Result<u64, Refused>
+        requires of { IsPassOf engine.now pass.old }
+        requires live { IsLive self.old.sets (view pass.old) }
+        requires fits { has_record (view pass.old).layout.decls key ≡ true }
+        ensures of { IsPassOf engine.now pass.new }
+        ensures replies { IfOk result (λ value.
+            HasDone (ops.Read key) (Some (replies.Value value)) self.old.sets self.new.sets (view pass.old)
+            (view pass.new)) }
+        ensures cause { IfErr result (λ why. RefusesRead self.old.sets key why (view pass.old) (view pass.new)) }
+        ensures refused { IfErr result (λ why. HasRefused why (view pass.old) (view pass.new)) }
+        ensures steps { (view pass.new).steps ≤ (view pass.old).steps + 4 }
+    {
+        value_of(engine, pass, &mut self.sets, key)
+    }
+
+    /// Sets the value at the key of an array, for the transaction alone until it commits.
+    pub fn write(
+        &mut self,
+        engine: &Engine,
+        pass: &mut Pass,
+        key: Key,
+        value: u64,
+    ) -> Result<(), Refused>
+        requires of { IsPassOf engine.now pass.old }
+        requires live { IsLive self.old.sets (view pass.old) }
+        requires fits { has_record (view pass.old).layout.decls key ≡ true }
+        ensures of { IsPassOf engine.now pass.new }
+        ensures done { OnOk result (
+            HasDone (ops.Write key value) None self.old.sets self.new.sets (view pass.old) (view pass.new)) }
+        ensures cause { IfErr result (λ why. RefusesWrite self.old.sets key why) }
+        ensures refused { IfErr result (λ why. HasRefused why (view pass.old) (view pass.new)) }
+        ensures steps { (view pass.new).steps ≤ (view pass.old).steps + 4 }
+    {
+        write_value(engine, pass, &mut self.sets, key, value)
+    }
+
+    /// Adds to the value at the key of an array. Above 2^64 - 1 the transaction ends as `Over`: no operation is to
+    /// follow, and it is to commit without its writes.
+    pub fn add(
+        &mut self,
+        engine: &Engine,
+        pass: &mut Pass,
+        key: Key,
+        amount: u64,
+    ) -> Result<Verdict, Refused>
+        requires of { IsPassOf engine.now pass.old }
+        requires live { IsLive self.old.sets (view pass.old) }
+        requires fits { has_record (view pass.old).layout.decls key ≡ true }
+        ensures of { IsPassOf engine.now pass.new }
+        ensures turns { IfOk result (λ verdict.
+            Alters (ops.Add key amount) verdict self.old.sets self.new.sets (view pass.old) (view pass.new)) }
+        ensures cause { IfErr result (λ why. RefusesAlter self.old.sets key why (view pass.old) (view pass.new)) }
+        ensures refused { IfErr result (λ why. HasRefused why (view pass.old) (view pass.new)) }
+        ensures steps { (view pass.new).steps ≤ (view pass.old).steps + 4 }
+    {
+        alter(engine, pass, &mut self.sets, key, By::Add(amount))
+    }
+
+    /// Takes from the value at the key of an array. Below 0 the transaction ends as `Short`: no operation is to follow,
+    /// and it is to commit without its writes.
+    pub fn take(
+        &mut self,
+        engine: &Engine,
+        pass: &mut Pass,
+        key: Key,
+        amount: u64,
+    ) -> Result<Verdict, Refused>
+        requires of { IsPassOf engine.now pass.old }
+        requires live { IsLive self.old.sets (view pass.old) }
+        requires fits { has_record (view pass.old).layout.decls key ≡ true }
+        ensures of { IsPassOf engine.now pass.new }
+        ensures turns { IfOk result (λ verdict.
+            Alters (ops.Take key amount) verdict self.old.sets self.new.sets (view pass.old) (view pass.new)) }
+        ensures cause { IfErr result (λ why. RefusesAlter self.old.sets key why (view pass.old) (view pass.new)) }
+        ensures refused { IfErr result (λ why. HasRefused why (view pass.old) (view pass.new)) }
+        ensures steps { (view pass.new).steps ≤ (view pass.old).steps + 4 }
+    {
+        alter(engine, pass, &mut self.sets, key, By::Take(amount))
+    }
+
+    /// Commits the transaction, with its writes or without them, or gives it up.
+    pub fn commit(
+        &mut self,
+        engine: &Engine,
+        pass: &mut Pass,
+        keep: bool,
+    ) -> Result<Commit, Refused>
+        requires of { IsPassOf engine.now pass.old }
+        requires live { IsLive self.old.sets (view pass.old) }
+        ensures of { IsPassOf engine.now pass.new }
+        ensures commits { IfOk result (λ c. HasCommitted c.changes c.number (view pass.old) (view pass.new)) }
+        ensures changes { IfOk result (λ c. c.changes ≡ changes_of (kept_writes keep self.old.sets.writes)) }
+        ensures rising { IfOk result (λ c. Rises IsKeyBelow (map (λ x. x.key) c.changes)) }
+        ensures few { IfOk result (λ c. length c.changes ≤ 16) }
+        ensures cause { IfErr result (λ why.
+            RefusesCommit self.old.sets (kept_writes keep self.old.sets.writes) why (view pass.old) (view pass.new)) }
+        ensures refused { IfErr result (λ why. HasRefused why (view pass.old) (view pass.new)) }
+        ensures steps { OnOk result ((view pass.new).steps
+            ≡ (view pass.old).steps + commit_steps self.old.sets.reads (kept_writes keep self.old.sets.writes)) }
+        ensures most { OnErr result ((view pass.new).steps
+            ≤ (view pass.old).steps + commit_steps self.old.sets.reads (kept_writes keep self.old.sets.writes)) }
+    {
+        drop_writes(&mut self.sets, keep);
+        commit_all(engine, pass, &self.sets, &mut self.found)
+    }
+
+    /// Ends the transaction: nothing of it stays.
+    pub fn abort(&mut self, engine: &Engine, pass: &mut Pass)
+        requires of { IsPassOf engine.now pass.old }
+        requires live { IsLive self.old.sets (view pass.old) }
+        ensures of { IsPassOf engine.now pass.new }
+        ensures aborts { HasAborted (view pass.old) (view pass.new) }
+    {
+        forget(engine, pass, None);
+    }
+}
+
+// Empties the write set, unless the writes are kept.
+fn drop_writes(sets: &mut Sets, keep: bool)
+    ensures reads { sets.new.reads ≡ sets.old.reads }
+    ensures writes { sets.new.writes ≡ kept_writes keep sets.old.writes }
+{
+    if !keep {
+        sets.writes.clear();
+    }
+}

@@ -1,0 +1,260 @@
+-- What operations come to, one after another.
+use Rattle.std.proofs.Common.{◌≡◌, inl, inr, ℕ, zero, suc, ◌+◌, ◌≤◌, ◌<◌, Bool, true, false, List, [], ◌∷◌, ◌++◌}
+use Rattle.std.proofs.Common.{length, take, drop}
+use Rattle.std.proofs.Common.{Option, Some, None, Result, Ok, Err, refl, sym, ap, ◌∙◌, subst, arith, get_or}
+use Rattle.std.proofs.Common.{length-append}
+use Rattle.std.specs.Prelude.{IfOk, IfErr, option_to_list}
+use Rattle.std.specs.List.{AllByRecursion}
+use Rattle.std.proofs.lemmas.List.{append-nil, take_more, take-append-drop}
+use Rattle.serial_model.specs.declared.decl.Decl.{Decl}
+use Rattle.serial_model.specs.declared.key.Key.{Key}
+use Rattle.serial_model.specs.declared.number.Change.{Change}
+use Rattle.serial_model.specs.declared.op.Op.{Op}
+use Rattle.serial_model.specs.declared.reply.Reply.{Reply}
+use Rattle.serial_model.specs.declared.reply.Reply.TheVariants.{Value}
+use Rattle.serial_model.specs.declared.reply.Verdict.{Verdict}
+use Rattle.serial_model.specs.declared.reply.Verdict.TheVariants.{Done, Short, Over}
+use Rattle.commit_core.specs.declared.part.Part.{Part}
+use Rattle.serial_bridge.specs.Transaction.{Turn, Continues, Stops, Finished, finished, FinishesBy, Runs}
+use Rattle.tx_sets.specs.declared.sets.Sets.{Sets}
+use Rattle.engine_words.specs.declared.layout.Layout.{Layout}
+use Rattle.engine_words.specs.declared.view.Refused.{Refused}
+use Rattle.engine_words.specs.declared.view.Refused.TheVariants as refusals
+use Rattle.engine_words.specs.declared.view.View.{View}
+use Rattle.tx_commit.specs.Live.{IsLive}
+use Rattle.tx_commit.specs.Turning.{HasLoaded, HasDone, Alters}
+use Rattle.tx_commit.specs.Refusing.{RefusesRead, RefusesWrite, RefusesAlter}
+use Rattle.tx_commit.specs.Running.{HasRun, HasEnded}
+use Rattle.tx_commit.specs.RunLaws.{goes_on_run, ends_run}
+use Rattle.tx_runner.specs.Lines.{keeps, IsOnArray}
+use Rattle.tx_runner.specs.Steps.{OpGoesOn, OpEndsIt, HasAnswered, HasAnsweredAll, IsOpCause}
+use Rattle.tx_runner.proofs.Arrays.{array_fits}
+
+-- ---- one operation
+
+-- an operation without a reply
+pub without_reply : (op : Op) (replies : List Reply) (sets new : Sets) (v w : View) → HasDone op None sets new v w
+    → HasAnswered op Done replies replies sets new v w
+without_reply op replies sets new v w done = record {
+  reply = None;
+  replies = sym (append-nil replies);
+  done = done;
+}
+
+-- a read
+pub with_value : (op : Op) (value : ℕ) (old now : List Reply) (sets new : Sets) (v w : View)
+    → HasDone op (Some (Value value)) sets new v w → now ≡ old ++ Value value ∷ []
+    → HasAnswered op Done old now sets new v w
+with_value op value old now sets new v w done is = record { reply = Some (Value value); replies = is; done = done }
+
+-- an addition or a subtraction, which may end the transaction
+alters_so : (op : Op) (verdict : Verdict) (replies : List Reply) (sets new : Sets) (v w : View)
+    → Alters op verdict sets new v w → HasAnswered op verdict replies replies sets new v w
+alters_so op Done replies sets new v w a = without_reply op replies sets new v w a
+alters_so op Short replies sets new v w a = record { replies = refl; stopped = a }
+alters_so op Over replies sets new v w a = record { replies = refl; stopped = a }
+
+pub alters_answered : (r : Result Verdict Refused) (op : Op) (replies : List Reply) (sets new : Sets) (v w : View)
+    → IfOk r (λ verdict. Alters op verdict sets new v w)
+    → IfOk r (λ verdict. HasAnswered op verdict replies replies sets new v w)
+alters_answered (Ok verdict) op replies sets new v w a = alters_so op verdict replies sets new v w a
+alters_answered (Err why) op replies sets new v w a = tt
+
+-- ---- why it was refused
+
+pub read_cause : (sets : Sets) (k : Key) (why : Refused) (v w : View) → RefusesRead sets k why v w → IsOpCause why
+read_cause sets k (refusals.Conflict at expected seen) v w r = r.3.cause
+read_cause sets k (refusals.Wide set) v w r = tt
+read_cause sets k (refusals.NumberLimit clock) v w r = absurd r
+
+pub write_cause : (sets : Sets) (k : Key) (why : Refused) → RefusesWrite sets k why → IsOpCause why
+write_cause sets k why r = subst IsOpCause (sym r.0) tt
+
+alter_cause : (sets : Sets) (k : Key) (why : Refused) (v w : View) → RefusesAlter sets k why v w → IsOpCause why
+alter_cause sets k why v w (inl r) = write_cause sets k why r
+alter_cause sets k why v w (inr r) = read_cause sets k why v w r.1
+
+pub alters_caused : (r : Result Verdict Refused) (sets : Sets) (k : Key) (v w : View)
+    → IfErr r (λ why. RefusesAlter sets k why v w) → IfErr r IsOpCause
+alters_caused (Ok verdict) sets k v w a = tt
+alters_caused (Err why) sets k v w a = alter_cause sets k why v w a
+
+-- ---- loads
+
+pub nothing_loaded : (v : View) → HasLoaded v v
+nothing_loaded v = record {
+  kept = v.seat.kept;
+  steps = v.steps;
+  last = v.last;
+  loaded = v.loaded;
+  reads = v.reads;
+  is = refl;
+}
+
+pub loaded_then : (u v w : View) → HasLoaded u v → HasLoaded v w → HasLoaded u w
+loaded_then u v w a b = record {
+  kept = b.kept;
+  steps = b.steps;
+  last = b.last;
+  loaded = b.loaded;
+  reads = b.reads;
+  is = b.is ∙ ap (λ (x : View). record x {
+    seat = record x.seat { kept = b.kept };
+    steps = b.steps;
+    last = b.last;
+    loaded = b.loaded;
+    reads = b.reads;
+  }) a.is;
+}
+
+loaded_layout : (v w : View) → HasLoaded v w → w.layout ≡ v.layout
+loaded_layout v w l = ap (λ (x : View). x.layout) l.is
+
+-- ---- one operation after others
+
+-- The first operations were run, over what stood at the begin.
+pub record HasRunSome (ops : List Op) (done : ℕ) (replies : List Reply) (sets : Sets) (v w : View) : Type 0 where
+  pub within : done ≤ length ops
+  pub few : length replies ≤ done
+  pub live : IsLive sets w
+  pub only : HasLoaded v w
+  pub run : HasRun (take done ops) replies sets w
+
+pub run_none : (ops : List Op) (replies : List Reply) (sets : Sets) (v : View) → replies ≡ [] → IsLive sets v
+    → HasRun [] [] sets v → HasRunSome ops 0 replies sets v v
+run_none ops replies sets v none live run = record {
+  within = omega arith;
+  few = let count : length replies ≡ 0 = ap length none in omega arith;
+  live = live;
+  only = nothing_loaded v;
+  run = subst (λ l. HasRun [] l sets v) (sym none) run;
+}
+
+few_more : (reply : Option Reply) → length (option_to_list reply) ≤ 1
+few_more None = omega arith
+few_more (Some r) = omega arith
+
+run_more : (ops : List Op) (d : Op) (done : ℕ) (old now : List Reply) (sets new : Sets) (u v w : View)
+    → done < length ops → IsOnArray v.layout.decls (get_or ops done d) → HasRunSome ops done old sets u v
+    → OpGoesOn (get_or ops done d) old now sets new v w → HasRunSome ops (done + 1) now new u w
+run_more ops d done old now sets new u v w less on h g = record {
+  within = omega arith;
+  few = let count : length now ≡ length old + length (option_to_list g.reply) =
+      ap length g.replies ∙ length-append old (option_to_list g.reply) in
+      omega (arith, h.few, few_more g.reply);
+  live = g.done.live;
+  only = loaded_then u v w h.only g.done.only;
+  run = subst (λ l. HasRun l now new w) (sym (take_more ops done d less))
+      (subst (λ l. HasRun (take done ops ++ get_or ops done d ∷ []) l new w) (sym g.replies)
+      (goes_on_run (take done ops) old (get_or ops done d) g.reply sets new v w h.run
+      (array_fits v.layout.decls (get_or ops done d) on) g.done));
+}
+
+-- an operation behind which the transaction goes on
+pub run_on : (ops : List Op) (d : Op) (done : ℕ) (verdict : Verdict) (old now : List Reply) (sets new : Sets)
+    (u v w : View) → done < length ops → keeps verdict ≡ true → IsOnArray v.layout.decls (get_or ops done d)
+    → HasRunSome ops done old sets u v → HasAnswered (get_or ops done d) verdict old now sets new v w
+    → HasRunSome ops (done + 1) now new u w
+run_on ops d done Done old now sets new u v w less goes on h a = run_more ops d done old now sets new u v w less on h a
+run_on ops d done Short old now sets new u v w less goes on h a = absurd cc
+run_on ops d done Over old now sets new u v w less goes on h a = absurd cc
+
+-- ---- the end
+
+by_turn : (decls : List Decl) (parts : List Part) (ops more : List Op) (turn : Turn) (f : Finished)
+    → ((own : List Change) (g : Finished) → keeps g.verdict ≡ false → Runs decls parts ops own g
+    → Runs decls parts (ops ++ more) own g)
+    → keeps f.verdict ≡ false → FinishesBy turn (Runs decls parts ops) f
+    → FinishesBy turn (Runs decls parts (ops ++ more)) f
+by_turn decls parts ops more (Continues reply own) f rest stops by = (
+  by.0,
+  rest own by.0 (ap (λ (x : Finished). keeps x.verdict) (sym by.2) ∙ stops) by.1,
+  by.2,
+)
+by_turn decls parts ops more (Stops verdict) f rest stops by = by
+
+-- what is run to an end that isn't Done runs no more, whatever follows
+ended_longer : (decls : List Decl) (parts : List Part) (ops more : List Op) (own : List Change) (f : Finished)
+    → keeps f.verdict ≡ false → Runs decls parts ops own f → Runs decls parts (ops ++ more) own f
+ended_longer decls parts [] more own f stops r = absurd (let is = ap (λ (x : Finished). keeps x.verdict) r in cc)
+ended_longer decls parts (op ∷ ops) more own f stops r = (
+  r.0,
+  (
+    r.1.0,
+    r.1.1,
+    by_turn decls parts ops more r.1.0 f (λ next g. ended_longer decls parts ops more next g) stops r.1.2,
+  ),
+)
+
+ended_line : (ops : List Op) (done : ℕ) (verdict : Verdict) (replies : List Reply) (w : View) → keeps verdict ≡ false
+    → HasEnded (take done ops) verdict replies w → HasEnded ops verdict replies w
+ended_line ops done verdict replies w stops e = record {
+  runs = subst (λ l. Runs w.layout.decls w.seat.kept l [] (finished verdict replies [])) (take-append-drop done ops)
+      (ended_longer w.layout.decls w.seat.kept (take done ops) (drop done ops) [] (finished verdict replies []) stops
+      e.runs);
+}
+
+stops_at : (ops : List Op) (d : Op) (done : ℕ) (verdict : Verdict) (old now : List Reply) (sets new : Sets)
+    (u v w : View) → keeps verdict ≡ false → done < length ops → IsOnArray v.layout.decls (get_or ops done d)
+    → HasRunSome ops done old sets u v → OpEndsIt (get_or ops done d) verdict old now sets new v w
+    → HasEnded ops verdict now w × IsLive new w × HasLoaded u w
+stops_at ops d done verdict old now sets new u v w stops less on h e = (
+  ended_line ops (done + 1) verdict now w stops
+      (subst (λ l. HasEnded l verdict now w) (sym (take_more ops done d less))
+      (subst (λ l. HasEnded (take done ops ++ get_or ops done d ∷ []) verdict l w) (sym e.replies)
+      (ends_run (take done ops) old (get_or ops done d) verdict sets new v w h.run
+      (array_fits v.layout.decls (get_or ops done d) on) e.stopped))),
+  e.stopped.live,
+  loaded_then u v w h.only e.stopped.only,
+)
+
+-- an operation that ends the transaction
+pub run_ended : (ops : List Op) (d : Op) (done : ℕ) (verdict : Verdict) (old now : List Reply) (sets new : Sets)
+    (u v w : View) → done < length ops → keeps verdict ≡ false → IsOnArray v.layout.decls (get_or ops done d)
+    → HasRunSome ops done old sets u v → HasAnswered (get_or ops done d) verdict old now sets new v w
+    → HasAnsweredAll ops verdict now new u w
+run_ended ops d done Done old now sets new u v w less stops on h a = absurd cc
+run_ended ops d done Short old now sets new u v w less stops on h a =
+    let e = stops_at ops d done Short old now sets new u v w refl less on h a in
+    record { live = e.1; only = e.2; run = e.0 }
+run_ended ops d done Over old now sets new u v w less stops on h a =
+    let e = stops_at ops d done Over old now sets new u v w refl less on h a in
+    record { live = e.1; only = e.2; run = e.0 }
+
+-- all operations were run
+pub run_all : (ops : List Op) (done : ℕ) (replies : List Reply) (sets : Sets) (v w : View) → take done ops ≡ ops
+    → HasRunSome ops done replies sets v w → HasAnsweredAll ops Done replies sets v w
+run_all ops done replies sets v w all h = record {
+  live = h.live;
+  only = h.only;
+  run = subst (λ l. HasRun l replies sets w) all h.run;
+}
+
+-- ---- by index
+
+pub array_at : (decls : List Decl) (ops : List Op) (d : Op) (i : ℕ) → AllByRecursion (IsOnArray decls) ops
+    → i < length ops → IsOnArray decls (get_or ops i d)
+array_at decls [] d i all less = absurd (omega (arith, less))
+array_at decls (op ∷ ops) d zero all less = all.0
+array_at decls (op ∷ ops) d (suc i) all less = array_at decls ops d i all.1 (omega (arith, less))
+
+-- behind loads the declarations are the same
+pub loaded_array : (ops : List Op) (d : Op) (i : ℕ) (v w : View) → AllByRecursion (IsOnArray v.layout.decls) ops
+    → i < length ops → HasLoaded v w → IsOnArray w.layout.decls (get_or ops i d)
+loaded_array ops d i v w all less l =
+    subst (λ (y : Layout). IsOnArray y.decls (get_or ops i d)) (sym (loaded_layout v w l))
+    (array_at v.layout.decls ops d i all less)
+
+pub taken_all : (ops : List Op) (i : ℕ) → length ops ≤ i → take i ops ≡ ops
+taken_all [] zero le = refl
+taken_all [] (suc i) le = refl
+taken_all (op ∷ ops) zero le = absurd (omega (arith, le))
+taken_all (op ∷ ops) (suc i) le = ap (λ l. op ∷ l) (taken_all ops i (omega (arith, le)))
+
+-- ---- by what was tested
+
+pub kept_so : (verdict : Verdict) (test : Bool) → test ≡ keeps verdict → test ≡ true → keeps verdict ≡ true
+kept_so verdict test is true-so = sym is ∙ true-so
+
+pub dropped_so : (verdict : Verdict) (test : Bool) → test ≡ keeps verdict → test ≡ false → keeps verdict ≡ false
+dropped_so verdict test is false-so = sym is ∙ false-so

@@ -1,0 +1,193 @@
+-- Tries that committed.
+use Rattle.std.proofs.Common.{◌≡◌, ◌≢◌, ℕ, ◌+◌, ◌≤◌, ◌<◌, true, map, List, [], ◌∷◌, ◌++◌, length}
+use Rattle.std.proofs.Common.{refl, sym, ap, ◌∙◌, subst, arith, append_assoc, drop, length-append}
+use Rattle.std.specs.Prelude.{Contains}
+use Rattle.std.proofs.lemmas.List.{append-nil}
+use Rattle.std.proofs.lemmas.List.Elements.{Contains-append_left}
+use Rattle.lists.specs.Each.{all_append}
+use Rattle.lists.specs.Fronts.{IsFront, front_rest, front_then}
+use Rattle.serial_model.specs.declared.number.Change.{Change}
+use Rattle.serial_model.specs.declared.number.Commit.{Commit}
+use Rattle.serial_model.specs.declared.number.Number.{Number}
+use Rattle.serial_model.specs.declared.op.Op.{Op}
+use Rattle.serial_model.specs.declared.reply.Reply.{Reply}
+use Rattle.serial_model.specs.declared.reply.Verdict.{Verdict}
+use Rattle.serial_model.specs.declared.reply.Verdict.TheVariants.{Done, Short, Over}
+use Rattle.serial_model.specs.History.{Entry}
+use Rattle.wire_form.specs.Items.{Rises}
+use Rattle.serial_model.specs.Keys.{IsKeyBelow}
+use Rattle.commit_core.specs.declared.attempt.Attempt.{Attempt}
+use Rattle.commit_core.specs.CoreState.{is_decided, mark_of}
+use Rattle.commit_core.specs.Lemmas.Numbers.{decided_new}
+use Rattle.commit_core.specs.Serial.{ReadsFrom, state_below}
+use Rattle.serial_bridge.specs.Laws.{attempt_steps}
+use Rattle.serial_bridge.specs.Transaction.{IsAttemptOf}
+use Rattle.tx_sets.specs.declared.sets.Sets.{Sets}
+use Rattle.tx_sets.specs.declared.writes.Write.{Write}
+use Rattle.engine_words.specs.declared.layout.Layout.{Layout}
+use Rattle.engine_words.specs.declared.view.View.{View}
+use Rattle.engine_words.specs.Steps.{AreSerial}
+use Rattle.engine_words.specs.Views.{seat_number}
+use Rattle.tx_commit.specs.Committing.{changes_of, kept_writes, HasCommitted}
+use Rattle.tx_commit.specs.Running.{HasRun, HasEnded}
+use Rattle.tx_commit.specs.RunLaws.{commits_run, commits_end}
+use Rattle.tx_runner.specs.Lines.{keeps, IsAnswered}
+use Rattle.tx_runner.specs.LineEnds.{HasCommittedLine, IsAsAlone}
+use Rattle.tx_runner.specs.Steps.{HasRunTo}
+use Rattle.tx_runner.specs.Tries.{HasConflicted, IsConflicting}
+use Rattle.tx_runner.proofs.Standing.{StandsAs, seen_then}
+
+-- ---- the attempt is the line's
+
+-- the operations of an entry, run with its replies
+entry_run : (ops : List Op) (verdict : Verdict) (number : Number) (replies : List Reply) (sets : Sets) (v : View)
+    (e : Entry)
+    → IsAnswered ops verdict number replies e → HasRun ops replies sets v → HasRun e.ops e.replies sets v
+entry_run ops verdict number replies sets v e is run =
+    subst (λ l. HasRun l e.replies sets v) (sym is.ops) (subst (λ l. HasRun ops l sets v) (sym is.replies) run)
+
+entry_ended : (ops : List Op) (verdict : Verdict) (number : Number) (replies : List Reply) (v : View) (e : Entry)
+    → IsAnswered ops verdict number replies e → HasEnded ops verdict replies v → HasEnded e.ops e.verdict e.replies v
+entry_ended ops verdict number replies v e is run =
+    subst (λ l. HasEnded l e.verdict e.replies v) (sym is.ops)
+    (subst (λ x. HasEnded ops x e.replies v) (sym is.verdict)
+    (subst (λ l. HasEnded ops verdict l v) (sym is.replies) run))
+
+done_is : (ops : List Op) (number : Number) (replies : List Reply) (changes : List Change) (sets : Sets)
+    (v w : View) → changes ≡ changes_of sets.writes → HasRun ops replies sets v
+    → (c : HasCommitted changes number v w) → (e : Entry) → IsAnswered ops Done number replies e
+    → IsAttemptOf v.layout.decls e c.attempt
+done_is ops number replies changes sets v w written run c e is =
+    subst (λ n. (d : HasCommitted changes n v w) → IsAttemptOf v.layout.decls e d.attempt) is.number
+    (subst (λ l. (d : HasCommitted l e.number v w) → IsAttemptOf v.layout.decls e d.attempt) (sym written)
+    (λ d. commits_run e sets v w (entry_run ops Done number replies sets v e is run) is.verdict d)) c
+
+ended_is : (ops : List Op) (verdict : Verdict) (number : Number) (replies : List Reply) (changes : List Change)
+    (v w : View) → changes ≡ [] → HasEnded ops verdict replies v
+    → (c : HasCommitted changes number v w) → (e : Entry) → IsAnswered ops verdict number replies e
+    → IsAttemptOf v.layout.decls e c.attempt
+ended_is ops verdict number replies changes v w none run c e is =
+    subst (λ n. (d : HasCommitted changes n v w) → IsAttemptOf v.layout.decls e d.attempt) is.number
+    (subst (λ l. (d : HasCommitted l e.number v w) → IsAttemptOf v.layout.decls e d.attempt) (sym none)
+    (λ d. commits_end e v w (entry_ended ops verdict number replies v e is run) d)) c
+
+attempt_is : (ops : List Op) (verdict : Verdict) (number : Number) (replies : List Reply) (changes : List Change)
+    (sets : Sets) (v w : View) → changes ≡ changes_of (kept_writes (keeps verdict) sets.writes)
+    → HasRunTo ops verdict replies sets v
+    → (c : HasCommitted changes number v w) → (e : Entry) → IsAnswered ops verdict number replies e
+    → IsAttemptOf v.layout.decls e c.attempt
+attempt_is ops Done number replies changes sets v w written run c e is =
+    done_is ops number replies changes sets v w written run c e is
+attempt_is ops Short number replies changes sets v w written run c e is =
+    ended_is ops Short number replies changes v w written run c e is
+attempt_is ops Over number replies changes sets v w written run c e is =
+    ended_is ops Over number replies changes v w written run c e is
+
+dropped_is : (verdict : Verdict) (writes : List Write) (changes : List Change)
+    → changes ≡ changes_of (kept_writes (keeps verdict) writes) → keeps verdict ≢ true → changes ≡ []
+dropped_is Done writes changes written drops = absurd (drops refl)
+dropped_is Short writes changes written drops = written
+dropped_is Over writes changes written drops = written
+
+in_front : (f l : List Attempt) (b : Attempt) → IsFront f l → Contains f b → Contains l b
+in_front f l b front has = subst (λ (y : List Attempt). Contains y b) (front_rest f l front)
+    (Contains-append_left f (drop (length f) l) b has)
+
+-- ---- one try
+
+-- the operations were run since the try began, and then it was committed
+pub try_committed : (ops : List Op) (verdict : Verdict) (replies : List Reply) (commit : Commit) (sets : Sets)
+    (u v w : View) → StandsAs u v → HasRunTo ops verdict replies sets v
+    → commit.changes ≡ changes_of (kept_writes (keeps verdict) sets.writes)
+    → Rises IsKeyBelow (map (λ (x : Change). x.key) commit.changes) → length commit.changes ≤ 16
+    → HasCommitted commit.changes commit.number v w → HasCommittedLine ops 1 verdict replies commit u w
+try_committed ops verdict replies commit sets u v w s run written rises few c = record {
+  whys = [];
+  fewer = omega arith;
+  each = tt;
+  refused = c.refused ∙ s.refused ∙ sym (append-nil u.refused);
+  over = c.over;
+  layout = c.layout ∙ s.layout;
+  role = c.role ∙ s.role;
+  seen = seen_then u v w s.seen c.seen;
+  marks = c.marks ∙ s.marks;
+  attempt = c.attempt;
+  mine = c.mine ∙ ap (λ l. l ++ c.attempt ∷ []) s.mine;
+  seat = c.seat ∙ ap seat_number s.role;
+  numbered = c.numbered;
+  writes = c.writes;
+  dropped = dropped_is verdict sets.writes commit.changes written;
+  all = c.all;
+  order = c.order;
+  draw = c.draw ∙ ap (λ (l : Layout). l.first.draw + length c.all) s.layout;
+  drawn = c.drawn;
+  counts = subst (λ l. is_decided l commit.number ≡ true) (sym c.decided)
+      (decided_new c.earlier commit.number commit.number refl);
+  above = λ b has. c.above b (in_front u.history v.history b s.seen.history has);
+  marked = λ e is. c.marked e (ap mark_of s.marks ∙ is);
+  small = c.small;
+  rising = rises;
+  most = few;
+  reads = subst (λ (l : Layout). ReadsFrom (state_below l.opening w.history w.decided commit.number) c.attempt) s.layout
+      c.reads;
+  of = of;
+  now = λ e is t agrees. attempt_steps u.layout.decls t
+      (state_below u.layout.opening w.history w.decided c.attempt.number) e c.attempt agrees
+      (subst (λ n. ReadsFrom (state_below u.layout.opening w.history w.decided n) c.attempt) (sym c.numbered)
+      (subst (λ (l : Layout). ReadsFrom (state_below l.opening w.history w.decided commit.number) c.attempt) s.layout
+      c.reads)) (of e is);
+  later = λ history decided serial has chosen e is t agrees. attempt_steps u.layout.decls t
+      (state_below u.layout.opening history decided c.attempt.number) e c.attempt agrees
+      (serial.reads c.attempt has (ap (λ n. is_decided decided n) c.numbered ∙ chosen)) (of e is);
+}
+  where
+    of : (e : Entry) → IsAnswered ops verdict commit.number replies e → IsAttemptOf u.layout.decls e c.attempt
+    of e is = subst (λ (l : Layout). IsAttemptOf l.decls e c.attempt) s.layout
+        (attempt_is ops verdict commit.number replies commit.changes sets v w written run c e is)
+
+-- ---- tries one after another
+
+-- some tries were refused with Conflict, and the one behind them was committed
+pub line_committed : (ops : List Op) (done tries : ℕ) (verdict : Verdict) (replies : List Reply) (commit : Commit)
+    (u v w : View) → done < tries → HasConflicted done u v → HasCommittedLine ops 1 verdict replies commit v w
+    → HasCommittedLine ops tries verdict replies commit u w
+line_committed ops done tries verdict replies commit u v w less h k = record {
+  whys = h.whys ++ k.whys;
+  fewer = omega (arith, less, h.count, k.fewer, length-append h.whys k.whys);
+  each = all_append IsConflicting h.whys k.whys h.each k.each;
+  refused = k.refused ∙ ap (λ l. l ++ k.whys) h.tried.refused ∙ append_assoc u.refused h.whys k.whys;
+  over = k.over;
+  layout = k.layout ∙ h.tried.layout;
+  role = k.role ∙ h.tried.role;
+  seen = record {
+    history = front_then u.history v.history w.history h.tried.seen.history k.seen.history;
+    decided = front_then u.decided v.decided w.decided h.tried.seen.decided k.seen.decided;
+  };
+  marks = k.marks ∙ h.tried.marks;
+  attempt = k.attempt;
+  mine = k.mine ∙ ap (λ l. l ++ k.attempt ∷ []) h.tried.mine;
+  seat = k.seat ∙ ap seat_number h.tried.role;
+  numbered = k.numbered;
+  writes = k.writes;
+  dropped = k.dropped;
+  all = k.all;
+  order = k.order;
+  draw = k.draw ∙ ap (λ (l : Layout). l.first.draw + length k.all) h.tried.layout;
+  drawn = k.drawn;
+  counts = k.counts;
+  above = λ b has. k.above b (in_front u.history v.history b h.tried.seen.history has);
+  marked = λ e is. k.marked e (ap mark_of h.tried.marks ∙ is);
+  small = k.small;
+  rising = k.rising;
+  most = k.most;
+  reads = subst (λ (l : Layout). ReadsFrom (state_below l.opening w.history w.decided commit.number) k.attempt)
+      h.tried.layout k.reads;
+  of = subst (λ (l : Layout). (e : Entry) → IsAnswered ops verdict commit.number replies e
+      → IsAttemptOf l.decls e k.attempt) h.tried.layout k.of;
+  now = subst (λ (l : Layout). (e : Entry) → IsAnswered ops verdict commit.number replies e
+      → IsAsAlone l.decls l.opening w.history w.decided k.attempt e) h.tried.layout k.now;
+  later = subst (λ (l : Layout). (history : List Attempt) (decided : List Number) → AreSerial l.opening history decided
+      → Contains history k.attempt → is_decided decided commit.number ≡ true
+      → (e : Entry) → IsAnswered ops verdict commit.number replies e
+      → IsAsAlone l.decls l.opening history decided k.attempt e) h.tried.layout k.later;
+}

@@ -1,0 +1,122 @@
+-- Marks that were loaded, one after another.
+use Rattle.std.proofs.Common.{◌≡◌, ℕ, zero, suc, ◌≤◌, ◌+◌, ◌<◌, List, [], ◌∷◌, ◌++◌, length, take, set, Option, Some}
+use Rattle.std.proofs.Common.{None, refl, sym, ap, ◌∙◌, subst}
+use Rattle.std.proofs.Common.{arith, length-append, append_assoc}
+use Rattle.std.specs.Prelude.{IfNone}
+use Rattle.std.proofs.lemmas.List.{append-nil, take_more_set, length-take-le}
+use Rattle.lists.specs.Each.{all_push}
+use Rattle.wire_form.specs.declared.clock.Mark.{Mark}
+use Rattle.wire_form.specs.Items.{Reads}
+use Rattle.wire_form.specs.Words.{IsMark, mark_word}
+use Rattle.commit_core.specs.declared.seat.Mark as core
+use Rattle.engine_words.specs.declared.view.Glance.{Glance}
+use Rattle.engine_words.specs.declared.view.View.{View}
+use Rattle.engine_words.specs.Clock.{met_at, HasMet}
+use Rattle.engine_words.specs.Layout.{mark_at}
+use Rattle.engine_words.specs.Rule.{IsSmallMark, word_of_mark}
+use Rattle.engine_words.specs.Steps.{glance}
+use Rattle.engine_words.specs.Views.{IsActive}
+use Rattle.tx_runner.specs.Epochs.{last_of, mets_of, HasMetAll}
+
+-- a mark that was set has a word that is read
+pub no_mark : (mark : core.Mark) (word : ℕ) (read : Option Mark) → IsSmallMark mark → word ≡ word_of_mark mark
+    → Reads IsMark mark_word word read → read ≡ None → ⊥
+no_mark mark word read small is reads none =
+    (subst (λ r. IfNone r ((v : Mark) → IsMark v → mark_word v ≡ word → ⊥)) none reads.1)
+    (record { length = mark.length; epoch = mark.epoch }) (record { length = small.length; epoch = small.epoch })
+    (sym is)
+
+taken_all : (marks : List Mark) (i : ℕ) → length marks ≤ i → take i marks ≡ marks
+taken_all [] zero le = refl
+taken_all [] (suc i) le = refl
+taken_all (m ∷ marks) zero le = absurd (omega (arith, le))
+taken_all (m ∷ marks) (suc i) le = ap (λ l. m ∷ l) (taken_all marks i (omega (arith, le)))
+
+-- one mark more
+mets_push : (from : ℕ) (marks : List Mark) (mark : Mark)
+    → mets_of from (marks ++ mark ∷ []) ≡ mets_of from marks ++ met_at (from + length marks) (mark_word mark) ∷ []
+mets_push from [] mark = let same : from ≡ from + 0 = omega arith in ap (λ n. met_at n (mark_word mark) ∷ []) same
+mets_push from (m ∷ marks) mark =
+    let same : (from + 1) + length marks ≡ from + suc (length marks) = omega arith in
+    ap (λ l. met_at from (mark_word m) ∷ l)
+    (mets_push (from + 1) marks mark ∙ ap (λ n. mets_of (from + 1) marks ++ met_at n (mark_word mark) ∷ []) same)
+
+last_push : (step from : ℕ) (marks : List Mark) (mark : Mark) (last : Option Glance)
+    → last_of step from (marks ++ mark ∷ []) last
+    ≡ Some (glance (step + length marks) (mark_at (from + length marks)) (mark_word mark))
+last_push step from [] mark last =
+    let at : from ≡ from + 0 = omega arith in let steps : step ≡ step + 0 = omega arith in
+    ap (λ n. Some (glance n (mark_at from) (mark_word mark))) steps
+    ∙ ap (λ n. Some (glance (step + 0) (mark_at n) (mark_word mark))) at
+last_push step from (m ∷ marks) mark last =
+    let at : (from + 1) + length marks ≡ from + suc (length marks) = omega arith in
+    let steps : (step + 1) + length marks ≡ step + suc (length marks) = omega arith in
+    last_push (step + 1) (from + 1) marks mark (Some (glance step (mark_at from) (mark_word m)))
+    ∙ (ap (λ n. Some (glance n (mark_at ((from + 1) + length marks)) (mark_word mark))) steps
+    ∙ ap (λ n. Some (glance (step + suc (length marks)) (mark_at n) (mark_word mark))) at)
+
+pub none_met : (marks : List Mark) (v : View) → marks ≡ [] → HasMetAll marks v v
+none_met marks v none = subst (λ l. HasMetAll l v v) (sym none) record {
+  each = tt;
+  is = let steps : v.steps ≡ v.steps + 0 = omega arith in
+      ap (λ n. record v { steps = n; last = v.last; met = v.met }) steps
+      ∙ ap (λ l. record v { steps = v.steps + 0; last = v.last; met = l }) (sym (append-nil v.met));
+}
+
+at_end : (marks : List Mark) (worker : ℕ) → length marks ≡ worker → worker ≡ 0 + length marks
+at_end marks worker count = omega (arith, count)
+
+met_one : (marks : List Mark) (mark : Mark) (worker word : ℕ) (u v w : View) → length marks ≡ worker
+    → HasMetAll marks u v → HasMet worker v word w → IsMark mark → mark_word mark ≡ word
+    → HasMetAll (marks ++ mark ∷ []) u w
+met_one marks mark worker word u v w count h m is spelled = record {
+  each = all_push IsMark marks mark h.each is;
+  is = m.is ∙ (ap (λ (x : View). record x {
+    steps = x.steps + 1;
+    last = Some (glance x.steps (mark_at worker) word);
+    met = x.met ++ met_at worker word ∷ [];
+  }) h.is ∙ (ap (λ n. record u {
+    steps = n;
+    last = Some (glance (u.steps + length marks) (mark_at worker) word);
+    met = (u.met ++ mets_of 0 marks) ++ met_at worker word ∷ [];
+  }) steps ∙ (ap (λ l. record u {
+    steps = u.steps + length (marks ++ mark ∷ []);
+    last = Some (glance (u.steps + length marks) (mark_at worker) word);
+    met = l;
+  }) met ∙ ap (λ g. record u {
+    steps = u.steps + length (marks ++ mark ∷ []);
+    last = g;
+    met = u.met ++ mets_of 0 (marks ++ mark ∷ []);
+  }) last)));
+}
+  where
+    last : Some (glance (u.steps + length marks) (mark_at worker) word) ≡ last_of u.steps 0 (marks ++ mark ∷ []) u.last
+    last = ap (λ n. Some (glance (u.steps + length marks) (mark_at worker) n)) (sym spelled)
+        ∙ (ap (λ n. Some (glance (u.steps + length marks) (mark_at n) (mark_word mark))) (at_end marks worker count)
+        ∙ sym (last_push u.steps 0 marks mark u.last))
+
+    steps : (u.steps + length marks) + 1 ≡ u.steps + length (marks ++ mark ∷ [])
+    steps = let more = length-append marks (mark ∷ []) in omega arith
+
+    met : (u.met ++ mets_of 0 marks) ++ met_at worker word ∷ [] ≡ u.met ++ mets_of 0 (marks ++ mark ∷ [])
+    met = append_assoc u.met (mets_of 0 marks) (met_at worker word ∷ [])
+        ∙ ap (λ l. u.met ++ l) (ap (λ n. mets_of 0 marks ++ met_at worker n ∷ []) (sym spelled)
+        ∙ (ap (λ n. mets_of 0 marks ++ met_at n (mark_word mark) ∷ []) (at_end marks worker count)
+        ∙ sym (mets_push 0 marks mark)))
+
+-- the next worker's mark was loaded
+pub met_more : (marks : List Mark) (mark : Mark) (worker word : ℕ) (u v w : View) → worker < length marks
+    → HasMetAll (take worker marks) u v → HasMet worker v word w → IsMark mark → mark_word mark ≡ word
+    → HasMetAll (take (worker + 1) (set marks worker mark)) u w
+met_more marks mark worker word u v w less h m is spelled =
+    subst (λ l. HasMetAll l u w) (sym (take_more_set marks worker mark less))
+    (met_one (take worker marks) mark worker word u v w (length-take-le worker marks (omega arith)) h m is spelled)
+
+-- it is still a pass that steps
+pub met_active : (marks : List Mark) (v w : View) → IsActive v.role → HasMetAll marks v w → IsActive w.role
+met_active marks v w active h = subst IsActive (sym (ap (λ (x : View). x.role) h.is)) active
+
+-- all marks were loaded
+pub met_all : (marks : List Mark) (count : ℕ) (v w : View) → length marks ≤ count → HasMetAll (take count marks) v w
+    → HasMetAll marks v w
+met_all marks count v w all h = subst (λ l. HasMetAll l v w) (taken_all marks count all) h

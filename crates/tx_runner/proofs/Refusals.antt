@@ -1,0 +1,151 @@
+-- Tries that were refused.
+use Rattle.std.proofs.Common.{◌≡◌, ℕ, ◌+◌, ◌≤◌, ◌<◌, length, List, [], ◌∷◌, ◌++◌, Some, None}
+use Rattle.std.proofs.Common.{refl, sym, ap, ◌∙◌, subst, arith, append_assoc, length-append}
+use Rattle.std.specs.List.{AllByRecursion}
+use Rattle.std.proofs.lemmas.List.{append-nil}
+use Rattle.lists.specs.Each.{all_push}
+use Rattle.lists.specs.Fronts.{front_refl}
+use Rattle.serial_model.specs.declared.op.Op.{Op}
+use Rattle.tx_sets.specs.declared.sets.Sets.{Sets}
+use Rattle.tx_sets.specs.declared.writes.Write.{Write}
+use Rattle.engine_words.specs.declared.layout.Layout.{Layout}
+use Rattle.engine_words.specs.declared.view.Refused.{Refused}
+use Rattle.engine_words.specs.declared.view.Refused.TheVariants as refusals
+use Rattle.engine_words.specs.declared.view.View.{View}
+use Rattle.tx_commit.specs.Live.{IsOver}
+use Rattle.tx_commit.specs.Refusing.{HasRefused, RefusesBegin}
+use Rattle.tx_commit.specs.Committing.{RefusesCommit}
+use Rattle.tx_runner.specs.declared.lines.LineEnd.{LineEnd}
+use Rattle.tx_runner.specs.declared.lines.LineEnd.TheVariants as answers
+use Rattle.tx_runner.specs.declared.room.LineRoom.{LineRoom}
+use Rattle.tx_runner.specs.Lines.{IsOnArray}
+use Rattle.tx_runner.specs.LineEnds.{RunsLine}
+use Rattle.tx_runner.specs.Steps.{IsOpCause, IsTryCause, RefusesTry, ended_for}
+use Rattle.tx_runner.specs.Tries.{IsConflicting, HasTriedFor, HasConflicted, IsRefusedFor}
+use Rattle.tx_runner.proofs.Standing.{StandsAs, seen_then, still}
+
+-- ---- one try
+
+-- a refusal since the try began
+tried_once : (why : Refused) (u v w : View) → StandsAs u v → HasRefused why v w → HasTriedFor (why ∷ []) u w
+tried_once why u v w s r = record {
+  over = r.over;
+  layout = r.layout ∙ s.layout;
+  role = r.role ∙ s.role;
+  seen = seen_then u v w s.seen r.seen;
+  mine = r.mine ∙ s.mine;
+  marks = r.marks ∙ s.marks;
+  refused = r.refused ∙ ap (λ l. l ++ why ∷ []) s.refused;
+}
+
+-- the begin was refused
+pub begin_refused : (why : Refused) (v w : View) → RefusesBegin why v w → RefusesTry why v w
+begin_refused why v w r = record {
+  tried = tried_once why v v w (still v) r.refused;
+  cause = subst (λ x. IsTryCause x v w) (sym r.is) (r.high, r.draws, v.steps, r.last);
+}
+
+op_try : (why : Refused) (v w : View) → IsOpCause why → IsTryCause why v w
+op_try (refusals.Conflict at expected seen) v w cause = cause
+op_try (refusals.Wide set) v w cause = tt
+op_try (refusals.NumberLimit clock) v w cause = absurd cause
+
+-- an operation was refused
+pub op_refused : (why : Refused) (u v w : View) → StandsAs u v → HasRefused why v w → IsOpCause why → RefusesTry why u w
+op_refused why u v w s r cause = record { tried = tried_once why u v w s r; cause = op_try why u w cause }
+
+commit_cause : (why : Refused) (sets : Sets) (writes : List Write) (v w : View) → RefusesCommit sets writes why v w
+    → IsOpCause why
+commit_cause (refusals.Conflict at expected seen) sets writes v w r = r.2.cause
+commit_cause (refusals.Wide set) sets writes v w r = tt
+commit_cause (refusals.NumberLimit clock) sets writes v w r = absurd r
+
+-- the commit was refused
+pub commit_refused : (why : Refused) (sets : Sets) (writes : List Write) (u v w : View) → StandsAs u v
+    → HasRefused why v w → RefusesCommit sets writes why v w → RefusesTry why u w
+commit_refused why sets writes u v w s r cause =
+    op_refused why u v w s r (commit_cause why sets writes v w cause)
+
+-- ---- tries one after another
+
+pub none_tried : (v : View) → IsOver v → HasConflicted 0 v v
+none_tried v over = record {
+  whys = [];
+  count = refl;
+  each = tt;
+  tried = record {
+    over = over;
+    layout = refl;
+    role = refl;
+    seen = record { history = front_refl v.history; decided = front_refl v.decided };
+    mine = refl;
+    marks = refl;
+    refused = sym (append-nil v.refused);
+  };
+}
+
+pub tried_then : (xs ys : List Refused) (u v w : View) → HasTriedFor xs u v → HasTriedFor ys v w
+    → HasTriedFor (xs ++ ys) u w
+tried_then xs ys u v w a b = record {
+  over = b.over;
+  layout = b.layout ∙ a.layout;
+  role = b.role ∙ a.role;
+  seen = seen_then u v w a.seen b.seen;
+  mine = b.mine ∙ a.mine;
+  marks = b.marks ∙ a.marks;
+  refused = b.refused ∙ ap (λ l. l ++ ys) a.refused ∙ append_assoc u.refused xs ys;
+}
+
+-- one try more was refused with Conflict
+pub conflicted_more : (done : ℕ) (why : Refused) (u v w : View) → HasConflicted done u v → RefusesTry why v w
+    → ended_for why ≡ None → HasConflicted (done + 1) u w
+conflicted_more done (refusals.Conflict at expected seen) u v w h r goes = record {
+  whys = h.whys ++ refusals.Conflict at expected seen ∷ [];
+  count = length-append h.whys (refusals.Conflict at expected seen ∷ []) ∙ ap (λ n. n + 1) h.count;
+  each = all_push IsConflicting h.whys (refusals.Conflict at expected seen) h.each r.cause;
+  tried = tried_then h.whys (refusals.Conflict at expected seen ∷ []) u v w h.tried r.tried;
+}
+conflicted_more done (refusals.Wide set) u v w h r goes = absurd cc
+conflicted_more done (refusals.NumberLimit clock) u v w h r goes = absurd cc
+
+refused_for : (done tries : ℕ) (why : Refused) (u v w : View) → done < tries → HasConflicted done u v
+    → HasTriedFor (why ∷ []) v w → IsRefusedFor why tries u w
+refused_for done tries why u v w less h t = record {
+  whys = h.whys;
+  fewer = omega (arith, h.count);
+  each = h.each;
+  tried = tried_then h.whys (why ∷ []) u v w h.tried t;
+}
+
+-- one try was refused for another cause
+pub line_refused : (ops : List Op) (done tries : ℕ) (why : Refused) (ran : LineEnd) (room : LineRoom) (u v w : View)
+    → done < tries → HasConflicted done u v → RefusesTry why v w → ended_for why ≡ Some ran
+    → RunsLine ops tries ran room u w
+line_refused ops done tries (refusals.Conflict at expected seen) ran room u v w less h r is = absurd cc
+line_refused ops done tries (refusals.Wide set) ran room u v w less h r is =
+    let same : answers.Wide set ≡ ran = cc in
+    subst (λ x. RunsLine ops tries x room u w) same (refused_for done tries (refusals.Wide set) u v w less h r.tried)
+line_refused ops done tries (refusals.NumberLimit clock) ran room u v w less h r is =
+    let same : answers.Limit ≡ ran = cc in
+    subst (λ x. RunsLine ops tries x room u w) same record {
+      clock = clock;
+      high = r.cause.0;
+      draws = r.cause.1 ∙ ap (λ (l : Layout). l.first.draw + length w.history) h.tried.layout;
+      step = r.cause.2;
+      last = r.cause.3;
+      refused = refused_for done tries (refusals.NumberLimit clock) u v w less h r.tried;
+    }
+
+-- ---- the line's tries
+
+-- all of them were refused with Conflict
+pub all_tried : (tried tries : ℕ) (v w : View) → tried ≤ tries → tries ≤ tried → HasConflicted tried v w
+    → HasConflicted tries v w
+all_tried tried tries v w within all h =
+    let same : tried ≡ tries = omega (arith, within, all) in subst (λ n. HasConflicted n v w) same h
+
+-- the declarations are the same behind them
+pub tried_arrays : (ops : List Op) (tried : ℕ) (v w : View) → HasConflicted tried v w
+    → AllByRecursion (IsOnArray v.layout.decls) ops → AllByRecursion (IsOnArray w.layout.decls) ops
+tried_arrays ops tried v w h all =
+    subst (λ (l : Layout). AllByRecursion (IsOnArray l.decls) ops) (sym h.tried.layout) all

@@ -1,0 +1,44 @@
+use Rattle.std.proofs.Common.{sym, ◌∙◌, arith}
+use Rattle.engine_words.specs.Passes.{view}
+use Rattle.tx_runner.proofs.Commits.{line_committed}
+use Rattle.tx_runner.proofs.Refusals.{none_tried, conflicted_more, line_refused, all_tried, tried_arrays}
+use Rattle.tx_runner.proofs.lines.run_line.Goals as goal
+
+pub loop-tried-init : goal.loop-tried-init
+loop-tried-init c = record {
+  of = c.requires.of;
+  within = omega arith;
+  conflicted = none_tried (view c.args.pass.now) c.requires.over;
+}
+
+pub try_line-requires-clause-over : goal.try_line-requires-clause-over
+try_line-requires-clause-over c = c.loop-tried.invariant.conflicted.tried.over
+
+pub try_line-requires-clause-arrays : goal.try_line-requires-clause-arrays
+try_line-requires-clause-arrays c = tried_arrays c.args.ops.now c.loop-tried.tried (view c.args.pass.now)
+    (view c.loop-tried.pass) c.loop-tried.invariant.conflicted c.requires.arrays
+
+pub returns-in-Ok-clause-runs : goal.returns-in-Ok-clause-runs
+returns-in-Ok-clause-runs c =
+    line_committed c.args.ops.now c.loop-tried.tried c.args.tries c.in-Ok.verdict c.try_line.new.room.replies
+    c.try_line.new.room.commit (view c.args.pass.now) (view c.loop-tried.pass) (view c.try_line.new.pass)
+    c.loop-tried-test.true c.loop-tried.invariant.conflicted c.in-Ok.ensures.commits
+
+pub returns-in-Some-clause-runs : goal.returns-in-Some-clause-runs
+returns-in-Some-clause-runs c =
+    line_refused c.args.ops.now c.loop-tried.tried c.args.tries c.in-Err.why c.in-Some.ran c.try_line.new.room
+    (view c.args.pass.now) (view c.loop-tried.pass) (view c.try_line.new.pass) c.loop-tried-test.true
+    c.loop-tried.invariant.conflicted c.in-Err.ensures.refused (sym c.ended_for.ensures ∙ c.in-Some.is)
+
+pub loop-tried-preserved : goal.loop-tried-preserved
+loop-tried-preserved c = record {
+  of = c.try_line.ensures.of;
+  within = omega arith;
+  conflicted = conflicted_more c.loop-tried.tried c.in-Err.why (view c.args.pass.now) (view c.loop-tried.pass)
+      (view c.try_line.new.pass) c.loop-tried.invariant.conflicted c.in-Err.ensures.refused
+      (sym c.ended_for.ensures ∙ c.in_default.is);
+}
+
+pub returns-clause-runs : goal.returns-clause-runs
+returns-clause-runs c = all_tried c.loop-tried.tried c.args.tries (view c.args.pass.now) (view c.loop-tried.pass)
+    c.loop-tried.invariant.within c.loop-tried-test.false c.loop-tried.invariant.conflicted

@@ -1,0 +1,17 @@
+use Rattle.std.proofs.Common.{ℕ, ◌≤◌, ◌-◌}
+use Rattle.engine_words.specs.declared.engine.Engine.{Engine}
+use Rattle.engine_words.specs.Passes.{Pass, view, IsPassOf}
+use Rattle.tx_runner.specs.Tries.{HasConflicted}
+use Rattle.tx_runner.proofs.lines.run_line.Given as goal
+
+-- so many tries were refused with Conflict
+pub record IsTryingAgain (engine : Engine) (old new : Pass) (tries tried : ℕ) : Type 0 where
+  pub of : IsPassOf engine new
+  pub within : tried ≤ tries
+  pub conflicted : HasConflicted tried (view old) (view new)
+
+abbrev pub invariant-loop-tried : goal.invariant-loop-tried
+invariant-loop-tried l = IsTryingAgain l.engine l.fn.pass l.pass l.tries l.tried
+
+abbrev pub decreases-loop-tried : goal.decreases-loop-tried
+decreases-loop-tried l = l.tries - l.tried

@@ -1,0 +1,5 @@
+pub mod Lines
+pub mod Tries
+pub mod LineEnds
+pub mod Epochs
+pub mod Steps

@@ -1,0 +1,79 @@
+-- What the parts of a try do.
+use Rattle.std.specs.Prelude.{◌≡◌, ◌≢◌, ◌⊎◌, ℕ, ◌+◌, ◌%◌, ◌^◌, ◌≤◌, length, List, [], ◌∷◌, ◌++◌, Option, Some, None}
+use Rattle.std.specs.Prelude.{option_to_list, ⊤}
+use Rattle.serial_model.specs.declared.op.Op.{Op}
+use Rattle.serial_model.specs.declared.reply.Reply.{Reply}
+use Rattle.serial_model.specs.declared.reply.Verdict.{Verdict}
+use Rattle.serial_model.specs.declared.reply.Verdict.TheVariants.{Done, Short, Over}
+use Rattle.serial_model.specs.Numbers.{draw_limit}
+use Rattle.tx_sets.specs.declared.sets.Sets.{Sets}
+use Rattle.engine_words.specs.declared.view.Refused.{Refused}
+use Rattle.engine_words.specs.declared.view.Refused.TheVariants as refusals
+use Rattle.engine_words.specs.declared.view.View.{View}
+use Rattle.engine_words.specs.Layout.{clock_at}
+use Rattle.engine_words.specs.Steps.{glance}
+use Rattle.tx_commit.specs.Live.{IsLive}
+use Rattle.tx_commit.specs.Turning.{HasDone, HasStopped, HasLoaded}
+use Rattle.tx_commit.specs.Running.{HasRun, HasEnded}
+use Rattle.tx_runner.specs.declared.lines.LineEnd.{LineEnd}
+use Rattle.tx_runner.specs.declared.lines.LineEnd.TheVariants as answers
+use Rattle.tx_runner.specs.Tries.{HasTriedFor}
+
+-- ---- operations
+
+-- the transaction goes on, with this reply or none
+pub record OpGoesOn (op : Op) (old now : List Reply) (sets new : Sets) (v w : View) : Type 0 where
+  pub reply : Option Reply
+  pub replies : now ≡ old ++ option_to_list reply
+  pub done : HasDone op reply sets new v w
+
+-- the operation ended the transaction, without a reply
+pub record OpEndsIt (op : Op) (verdict : Verdict) (old now : List Reply) (sets new : Sets) (v w : View) : Type 0 where
+  pub replies : now ≡ old
+  pub stopped : HasStopped op verdict sets new v w
+
+-- what the operation comes to
+abbrev pub HasAnswered : Op → Verdict → List Reply → List Reply → Sets → Sets → View → View → Type 0
+HasAnswered op Done old now sets new v w = OpGoesOn op old now sets new v w
+HasAnswered op Short old now sets new v w = OpEndsIt op Short old now sets new v w
+HasAnswered op Over old now sets new v w = OpEndsIt op Over old now sets new v w
+
+-- the transaction has run these operations, or was ended by one of them
+abbrev pub HasRunTo : List Op → Verdict → List Reply → Sets → View → Type 0
+HasRunTo ops Done replies sets w = HasRun ops replies sets w
+HasRunTo ops Short replies sets w = HasEnded ops Short replies w
+HasRunTo ops Over replies sets w = HasEnded ops Over replies w
+
+-- and is still under way, with nothing new but loads and parts
+pub record HasAnsweredAll (ops : List Op) (verdict : Verdict) (replies : List Reply) (sets : Sets) (v w : View)
+    : Type 0 where
+  pub live : IsLive sets w
+  pub only : HasLoaded v w
+  pub run : HasRunTo ops verdict replies sets w
+
+-- an operation is refused for a conflict, or since a set is full
+abbrev pub IsOpCause : Refused → Type 0
+IsOpCause (refusals.Conflict at expected seen) = (2 ^ 60 ≤ seen) ⊎ (seen ≢ expected)
+IsOpCause (refusals.Wide set) = ⊤
+IsOpCause (refusals.NumberLimit clock) = ⊥
+
+-- ---- tries
+
+-- the cause of a refusal: a conflict, a set that is full, or the clock, which was loaded last
+abbrev pub IsTryCause : Refused → View → View → Type 0
+IsTryCause (refusals.Conflict at expected seen) v w = (2 ^ 60 ≤ seen) ⊎ (seen ≢ expected)
+IsTryCause (refusals.Wide set) v w = ⊤
+IsTryCause (refusals.NumberLimit clock) v w =
+    (draw_limit ≤ clock % 2 ^ 40) × (clock % 2 ^ 40 ≡ v.layout.first.draw + length w.history)
+    × (step : ℕ) × (w.last ≡ Some (glance step clock_at clock))
+
+-- the try was refused for this
+pub record RefusesTry (why : Refused) (v w : View) : Type 0 where
+  pub tried : HasTriedFor (why ∷ []) v w
+  pub cause : IsTryCause why v w
+
+-- what comes of the line by a refusal after which it is not tried again
+abbrev pub ended_for : Refused → Option LineEnd
+ended_for (refusals.Conflict at expected seen) = None
+ended_for (refusals.Wide set) = Some (answers.Wide set)
+ended_for (refusals.NumberLimit clock) = Some answers.Limit

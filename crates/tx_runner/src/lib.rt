@@ -1,0 +1,28 @@
+//! What a worker does on the words that threads share: it runs lines with tries, and marks what it has logged.
+//!
+//! Promises: a line is one transaction, which is begun anew after each conflict, so many times at most. Where it
+//! commits, one attempt more is the worker's own, whose replies and verdict are those of the serial step on the state
+//! below its number, then and for good (`HasCommittedLine`); it is answered as a conflict exactly where each try was
+//! refused with one (`HasConflicted`). Behind each answer nothing is locked, and where nothing was committed nothing of
+//! the line stays (`HasTriedFor`). The keeper alone moves the clock on (`HasAdvanced`), and a worker's mark names an
+//! epoch that the clock has left (`IsMarkedUpTo`). No call takes memory or waits: what a line needs lies in a `Txn` and
+//! in a `LineRoom`, made once.
+//! Terms: *line*, a list of operations on arrays that take effect together or not at all; *try*, one transaction of it.
+//! Layout: specs/Lines.antt, which operations a line has; specs/Tries.antt, tries that were refused;
+//! specs/LineEnds.antt, what comes of a line; specs/Epochs.antt, the clock and marks; specs/Steps.antt, what the parts
+//! of a try do.
+//! Design: docs/COMMIT.md.
+#![tactic(auto)]
+
+mod epochs;
+mod lines;
+mod marking;
+mod replies;
+mod room;
+mod tries;
+
+pub use epochs::{EpochLimit, advance, load_epoch};
+pub use lines::{LineEnd, run_line};
+pub use marking::{idle, mark, marks};
+pub use replies::LineReplies;
+pub use room::LineRoom;

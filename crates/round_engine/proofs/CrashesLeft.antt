@@ -48,7 +48,7 @@ use Rattle.round_engine.proofs.Stories.{point_behind}
 use Rattle.round_engine.proofs.Stories.{same_before, story_after}
 use Rattle.round_engine.proofs.Swapping.{cuts_left, cuts_stay}
 use Rattle.round_engine.proofs.Whole.{and_first, none_some, not_begun}
-use Rattle.round_engine.proofs.WorkersRun.{item_at, map_at}
+use Rattle.round_engine.proofs.Places.{item_at, map_at}
 use Rattle.round_engine.proofs.FileBytes.{of_side, side_growing, side_closed}
 use Rattle.round_engine.proofs.UncutVault.{CutsDone, before_cuts}
 use Rattle.round_engine.proofs.CrashesUncut.{LeftUncut, left_uncut}

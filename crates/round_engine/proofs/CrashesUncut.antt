@@ -49,7 +49,7 @@ use Rattle.round_engine.proofs.Stories.{counted_behind, goes_after, open_same, p
 use Rattle.round_engine.proofs.Stories.{point_behind}
 use Rattle.round_engine.proofs.Stories.{same_before, shut_same, story_after, told_same}
 use Rattle.round_engine.proofs.Whole.{marks_in}
-use Rattle.round_engine.proofs.WorkersRun.{item_at}
+use Rattle.round_engine.proofs.Places.{item_at}
 use Rattle.round_engine.proofs.FileBytes.{of_side, side_growing, side_closed, growing_below, closed_below}
 use Rattle.round_engine.proofs.UncutVault.{before_cuts, logs_many, mid, mid_is}
 

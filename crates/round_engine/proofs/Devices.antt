@@ -21,7 +21,7 @@ use Rattle.round_engine.specs.Sides.{closed_in, growing_in}
 use Rattle.round_engine.specs.Steps.{Blames}
 use Rattle.round_engine.proofs.Ended.{banks_down, devices_down}
 use Rattle.round_engine.proofs.Numbered.{closed_at, growing_at, grows_not_closed, numbered, same_growing}
-use Rattle.round_engine.proofs.WorkersRun.{item_at, map_at, within_of}
+use Rattle.round_engine.proofs.Places.{item_at, map_at, within_of}
 
 -- ---- the list of those that failed
 

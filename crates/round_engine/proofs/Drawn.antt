@@ -1,4 +1,5 @@
--- What lines draw on the plain map: each commit one number, and a line that the clock refuses none.
+-- What lines draw on the plain map: each commit one number, and a line that the clock refuses none; and what comes of
+-- them.
 use Rattle.std.proofs.Common.{◌≡◌, subst, refl, ℕ, ◌+◌, ◌≤◌, Bool, true, false, cond, List, [], ◌∷◌, ◌++◌}
 use Rattle.std.proofs.Common.{length, filter, map, Option, Some, None, arith}
 use Rattle.std.specs.List.{AllByRecursion, flat_map}
@@ -9,13 +10,14 @@ use Rattle.serial_model.specs.Step.{step}
 use Rattle.serial_model.specs.declared.op.Op.{Op}
 use Rattle.tx_script.specs.declared.outcome.Outcome.{Outcome}
 use Rattle.tx_script.specs.declared.outcome.Outcome.TheVariants.{Committed, Limit, Unrun}
-use Rattle.tx_script.specs.Run.{LogRefusal, Ran, is_commit}
-use Rattle.tx_script.specs.Causes.{OutcomeCause, UnrunLast, WorkersCaused, is_unrun}
+use Rattle.tx_script.specs.Run.{LogRefusal, is_commit}
+use Rattle.tx_script.specs.Causes.{UnrunLast, is_unrun}
 use Rattle.tx_script.specs.Draws.{commits_of}
+use Rattle.round_engine.specs.Shares.{AllCome, ComesTo, NoNumber, TryRefusal}
 use Rattle.round_engine.specs.Standing.{Standing}
-use Rattle.round_engine.specs.Plainly.{DrawsTo, after_line, after_lines, committed, has_number, next_number}
+use Rattle.round_engine.specs.Plainly.{DrawsTo, IsPlain, after_line, after_lines, committed, has_number, next_number}
 use Rattle.round_engine.specs.Plainly.{outcomes_at}
-use Rattle.round_engine.specs.Parts.{AreParts, Part, after_parts, outcomes_in, outcomes_of, unrun}
+use Rattle.round_engine.specs.Parts.{Part, after_parts, outcomes_in, outcomes_of, unrun}
 
 -- ---- a line gets a number exactly while the clock gives numbers
 
@@ -73,28 +75,43 @@ parts_counted (p ∷ parts) s =
     sum_by-cons (λ outcomes. length (filter is_commit outcomes)) (outcomes_in s p) (outcomes_of t parts) in
     omega (arith, one, parts_counted parts t, split)
 
--- ---- causes
+-- ---- what comes of a line
 
--- a line that was run has its cause
-pub ran_caused : (ran : Ran) (log : Option LogRefusal) (ops : List Op) (s : Standing) (b : Bool) → has_number s ≡ b
-    → s.clock.draw ≤ ran.end.draw
-    → OutcomeCause ran log (cond b (committed s.clock (step s.decls s.state ops)) Limit)
-    × (is_unrun (cond b (committed s.clock (step s.decls s.state ops)) Limit) ≡ false)
-ran_caused ran log ops s true is le = (ltb-true s.clock.draw draw_limit is, refl)
-ran_caused ran log ops s false is le = (omega (arith, ltb-false s.clock.draw draw_limit is), refl)
+-- which tries of a line were refused: one that met the last draw
+abbrev pub refusals_at : Outcome → List TryRefusal
+refusals_at Limit = NoNumber ∷ []
+refusals_at _ = []
 
--- lines that were left out of a log that was refused have one
-left_more : (ran : Ran) (refusal : LogRefusal) (left : List (List Op))
-    → AllByRecursion (OutcomeCause ran (Some refusal)) (unrun left)
-left_more ran refusal [] = tt
-left_more ran refusal (ops ∷ left) = (refl, left_more ran refusal left)
+-- a line that was run is a commit, or meets the last draw
+pub ran_comes : (last : ℕ) (log : Option LogRefusal) (ops : List Op) (s : Standing) (b : Bool) → has_number s ≡ b
+    → s.clock.draw ≤ last
+    → (let outcome : Outcome = cond b (committed s.clock (step s.decls s.state ops)) Limit in
+    ComesTo 1 last log outcome (refusals_at outcome) × IsPlain outcome × (is_unrun outcome ≡ false))
+ran_comes last log ops s true is le = ((tt, omega arith), ltb-true s.clock.draw draw_limit is, refl)
+ran_comes last log ops s false is le = (
+  (
+    record { before = []; all = refl; conflicts = tt; fewer = omega arith },
+    omega (arith, ltb-false s.clock.draw draw_limit is, le),
+  ),
+  tt,
+  refl,
+)
 
--- lines that were left out have one
-pub left_caused : (ran : Ran) (log : Option LogRefusal) (left : List (List Op)) → (log ≡ None → left ≡ [])
-    → AllByRecursion (OutcomeCause ran log) (unrun left)
-left_caused ran log [] all = tt
-left_caused ran None (ops ∷ left) all = absurd (let none = all refl in cc)
-left_caused ran (Some refusal) (ops ∷ left) all = (refl, left_more ran refusal left)
+-- lines that were left out had a log that was refused
+left_more : (last : ℕ) (log : LogRefusal) (left : List (List Op))
+    → AllCome 1 last (Some log) (unrun left) (map refusals_at (unrun left))
+left_more last log [] = tt
+left_more last log (ops ∷ left) = ((refl, refl), left_more last log left)
+
+pub left_comes : (last : ℕ) (log : Option LogRefusal) (left : List (List Op)) → (log ≡ None → left ≡ [])
+    → AllCome 1 last log (unrun left) (map refusals_at (unrun left))
+left_comes last log [] all = tt
+left_comes last None (ops ∷ left) all = absurd (let none = all refl in cc)
+left_comes last (Some log) (ops ∷ left) all = ((refl, refl), left_more last log left)
+
+left_plain : (left : List (List Op)) → AllByRecursion IsPlain (unrun left)
+left_plain [] = tt
+left_plain (ops ∷ left) = (tt, left_plain left)
 
 pub unrun_all : (left : List (List Op)) → AllByRecursion (λ o. is_unrun o ≡ true) (unrun left)
 unrun_all [] = tt
@@ -109,23 +126,20 @@ pub lines_grow : (ran : List (List Op)) (s : Standing) → s.clock.draw ≤ (aft
 lines_grow ran s =
     omega (arith, lines_counted (outcomes_at s ran ++ unrun []) s.clock.draw (after_lines s ran).clock.draw (lines_draw ran [] s))
 
-pub part_caused : (ran : Ran) (log : Option LogRefusal) (lines left : List (List Op)) (s : Standing)
-    → (log ≡ None → left ≡ []) → (after_lines s lines).clock.draw ≤ ran.end.draw
-    → AllByRecursion (OutcomeCause ran log) (outcomes_at s lines ++ unrun left)
-    × UnrunLast (outcomes_at s lines ++ unrun left)
-part_caused ran log [] left s all le = (left_caused ran log left all, unrun_last left)
-part_caused ran log (ops ∷ lines) left s all le =
-    let line = ran_caused ran log ops s (has_number s) refl
+pub part_comes : (last : ℕ) (log : Option LogRefusal) (lines left : List (List Op)) (s : Standing)
+    → (log ≡ None → left ≡ []) → (after_lines s lines).clock.draw ≤ last
+    → (let outcomes : List Outcome = outcomes_at s lines ++ unrun left in
+    AllCome 1 last log outcomes (map refusals_at outcomes) × UnrunLast outcomes)
+part_comes last log [] left s all le = (left_comes last log left all, unrun_last left)
+part_comes last log (ops ∷ lines) left s all le =
+    let line = ran_comes last log ops s (has_number s) refl
     (omega (arith, lines_grow (ops ∷ lines) s, le)) in
-    let rest = part_caused ran log lines left (after_line s ops) all le in
-    ((line.0, rest.0), rw line.1 rest.1)
+    let rest = part_comes last log lines left (after_line s ops) all le in
+    ((line.0, rest.0), rw line.2 rest.1)
 
-pub parts_caused : (ran : Ran) (parts : List Part) (s : Standing) → AreParts s parts
-    → (after_parts s parts).clock.draw ≤ ran.end.draw
-    → WorkersCaused ran (map (λ (p : Part). p.refusal) parts) (outcomes_of s parts)
-parts_caused ran [] s are le = tt
-parts_caused ran (p ∷ parts) s are le =
-    let t : Standing = after_lines s p.ran in
-    let grows : t.clock.draw ≤ (after_parts t parts).clock.draw = omega (arith, parts_counted parts t) in
-    let one = part_caused ran p.refusal p.ran p.left s are.0.all (omega (arith, grows, le)) in
-    (one.0, one.1, parts_caused ran parts t are.1 le)
+-- nobody is in the way of a line
+pub part_plain : (lines left : List (List Op)) (s : Standing)
+    → AllByRecursion IsPlain (outcomes_at s lines ++ unrun left)
+part_plain [] left s = left_plain left
+part_plain (ops ∷ lines) left s =
+    ((ran_comes s.clock.draw None ops s (has_number s) refl (omega arith)).1, part_plain lines left (after_line s ops))

@@ -13,7 +13,7 @@ use Rattle.serial_model.specs.declared.op.Op.{Op}
 use Rattle.script_grammar.specs.Script.{Line, Worker, Keeper, Round, keeper_line_of}
 use Rattle.script_grammar.specs.Script.{ops_of_worker}
 use Rattle.tx_script.specs.Run.{CanRun, CanRunLine, CanRunOps}
-use Rattle.round_engine.specs.Parts.{Part}
+use Rattle.round_engine.specs.Shares.{Share}
 
 -- the operations of these lines that are the worker's
 abbrev pub ops_of : ℕ → List Line → List (List Op)
@@ -105,39 +105,39 @@ runnable_at decls worker round i ops can has =
 -- ---- the round of what was run
 
 -- the lines that the workers from this one on ran
-abbrev pub lines_from : ℕ → List Part → List Line
+abbrev pub lines_from : ℕ → List Share → List Line
 lines_from worker [] = []
-lines_from worker (p ∷ parts) = map (Worker worker) p.ran ++ lines_from (worker + 1) parts
+lines_from worker (p ∷ shares) = map (Worker worker) p.lines ++ lines_from (worker + 1) shares
 
--- what the worker with this part ran
-abbrev pub ran_at : List Part → ℕ → List (List Op)
+-- what the worker with this share ran
+abbrev pub ran_at : List Share → ℕ → List (List Op)
 ran_at [] n = []
-ran_at (p ∷ parts) zero = p.ran
-ran_at (p ∷ parts) (suc n) = ran_at parts n
+ran_at (p ∷ shares) zero = p.lines
+ran_at (p ∷ shares) (suc n) = ran_at shares n
 
-pub none_of : (worker v : ℕ) (parts : List Part) → v < worker → ops_of v (lines_from worker parts) ≡ []
+pub none_of : (worker v : ℕ) (shares : List Share) → v < worker → ops_of v (lines_from worker shares) ≡ []
 none_of worker v [] less = refl
-none_of worker v (p ∷ parts) less =
-    ops_of-append v (map (Worker worker) p.ran) (lines_from (worker + 1) parts)
-    ∙ ap (λ x. x ++ ops_of v (lines_from (worker + 1) parts)) (ops_of-other v worker p.ran (omega arith))
-    ∙ none_of (worker + 1) v parts (omega arith)
+none_of worker v (p ∷ shares) less =
+    ops_of-append v (map (Worker worker) p.lines) (lines_from (worker + 1) shares)
+    ∙ ap (λ x. x ++ ops_of v (lines_from (worker + 1) shares)) (ops_of-other v worker p.lines (omega arith))
+    ∙ none_of (worker + 1) v shares (omega arith)
 
-pub ran_of : (worker n v : ℕ) (parts : List Part) → worker + n ≡ v → ops_of v (lines_from worker parts) ≡ ran_at parts n
+pub ran_of : (worker n v : ℕ) (shares : List Share) → worker + n ≡ v → ops_of v (lines_from worker shares) ≡ ran_at shares n
 ran_of worker n v [] is = refl
-ran_of worker zero v (p ∷ parts) is =
+ran_of worker zero v (p ∷ shares) is =
     let here : worker ≡ v = omega arith in
-    ops_of-append v (map (Worker worker) p.ran) (lines_from (worker + 1) parts)
-    ∙ ap (λ x. x ++ ops_of v (lines_from (worker + 1) parts))
-    (subst (λ w. ops_of w (map (Worker worker) p.ran) ≡ p.ran) here (ops_of-same worker p.ran))
-    ∙ ap (λ x. p.ran ++ x) (none_of (worker + 1) v parts (omega arith)) ∙ append-nil p.ran
-ran_of worker (suc n) v (p ∷ parts) is =
-    ops_of-append v (map (Worker worker) p.ran) (lines_from (worker + 1) parts)
-    ∙ ap (λ x. x ++ ops_of v (lines_from (worker + 1) parts)) (ops_of-other v worker p.ran (omega arith))
-    ∙ ran_of (worker + 1) n v parts (omega arith)
+    ops_of-append v (map (Worker worker) p.lines) (lines_from (worker + 1) shares)
+    ∙ ap (λ x. x ++ ops_of v (lines_from (worker + 1) shares))
+    (subst (λ w. ops_of w (map (Worker worker) p.lines) ≡ p.lines) here (ops_of-same worker p.lines))
+    ∙ ap (λ x. p.lines ++ x) (none_of (worker + 1) v shares (omega arith)) ∙ append-nil p.lines
+ran_of worker (suc n) v (p ∷ shares) is =
+    ops_of-append v (map (Worker worker) p.lines) (lines_from (worker + 1) shares)
+    ∙ ap (λ x. x ++ ops_of v (lines_from (worker + 1) shares)) (ops_of-other v worker p.lines (omega arith))
+    ∙ ran_of (worker + 1) n v shares (omega arith)
 
-pub no_keepers : (worker : ℕ) (parts : List Part) → filter_map keeper_line_of (lines_from worker parts) ≡ []
+pub no_keepers : (worker : ℕ) (shares : List Share) → filter_map keeper_line_of (lines_from worker shares) ≡ []
 no_keepers worker [] = refl
-no_keepers worker (p ∷ parts) =
-    filter_map-append keeper_line_of (map (Worker worker) p.ran) (lines_from (worker + 1) parts)
-    ∙ ap (λ x. x ++ filter_map keeper_line_of (lines_from (worker + 1) parts)) (no_keeper worker p.ran)
-    ∙ no_keepers (worker + 1) parts
+no_keepers worker (p ∷ shares) =
+    filter_map-append keeper_line_of (map (Worker worker) p.lines) (lines_from (worker + 1) shares)
+    ∙ ap (λ x. x ++ filter_map keeper_line_of (lines_from (worker + 1) shares)) (no_keeper worker p.lines)
+    ∙ no_keepers (worker + 1) shares

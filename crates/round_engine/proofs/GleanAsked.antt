@@ -1,5 +1,5 @@
 -- What a glean that is asked for by itself leaves: the runtime stands on the devices.
-use Rattle.std.proofs.Common.{◌≡◌, ◌∙◌, ◌<◌, ◌∷◌, inl, inr, sym, ap, subst, refl, ℕ, List, [], length}
+use Rattle.std.proofs.Common.{◌≡◌, ◌∙◌, ◌∷◌, inl, inr, sym, ap, subst, refl, ℕ, List, [], length}
 use Rattle.std.proofs.Common.{Bool, true, false, Option, Some, None, arith}
 use Rattle.std.specs.Prelude.{◌||◌, is_some, slice_get, Result, Ok, Err}
 use Rattle.std.specs.List.{AllByRecursion}

@@ -1,14 +1,13 @@
 -- A glean of the closed side, by what gleaner says of it.
-use Rattle.std.proofs.Common.{◌≡◌, ◌≢◌, ◌∙◌, ◌≤◌, ◌<◌, ◌*◌, ◌+◌, ◌++◌, ◌∷◌, ◌⊎◌, drop, take, inl, inr, sym, ap, subst, refl, ℕ, zero, suc, List, [], length}
-use Rattle.std.proofs.Common.{Bool, true, false, Option, Some, None, arith}
-use Rattle.std.specs.Prelude.{◌==◌, ◌&&◌, ◌||◌, nat_lt, not, slice_get, Result, Ok, Err}
+use Rattle.std.proofs.Common.{◌≡◌, ◌≢◌, ◌∙◌, ◌<◌, ◌++◌, ◌∷◌, drop, take, inl, inr, sym, ap, subst, refl, ℕ, zero, suc, List, [], length}
+use Rattle.std.proofs.Common.{Bool, true, false, Option, Some, arith}
+use Rattle.std.specs.Prelude.{◌==◌, ◌&&◌, ◌||◌, nat_lt, not, Result, Ok, Err}
 use Rattle.std.proofs.lemmas.Bool.{cases_Bool}
 use Rattle.std.proofs.lemmas.List.{append-nil, drop_all, take_all}
 use Rattle.std.proofs.lemmas.Bool.Decides.{nat_tests}
 use Rattle.lists.specs.declared.memory.OrMemory.{OrMemory}
 use Rattle.lists.specs.declared.memory.OrMemory.TheVariants as or
 use Rattle.outside.specs.Vault.{IsWhole}
-use Rattle.outside.specs.declared.vault.Device.{Device}
 use Rattle.outside.specs.declared.vault.Device.TheVariants as devices
 use Rattle.outside.specs.declared.vault.Vault.{Vault}
 use Rattle.wire_form.specs.Pages.{Contents}
@@ -32,7 +31,7 @@ use Rattle.round_engine.specs.Gleans.{AnswersGlean, closed_of, counted_after, de
 use Rattle.round_engine.specs.Keeping.{CanKeep}
 use Rattle.round_engine.specs.Sides.{closed_in, growing_in, is_odd}
 use Rattle.round_engine.specs.Standing.{RuntimeState}
-use Rattle.round_engine.proofs.WorkersRun.{within_of}
+use Rattle.round_engine.proofs.Places.{within_of}
 
 -- files that were lent as a slice are put back
 pub files_back : {D : Type 0} (len : ℕ) (new old : List D) → length new ≡ length old → len ≡ length old

@@ -1,5 +1,5 @@
 -- A line of the maintenance thread that asks for a snapshot.
-use Rattle.std.proofs.Common.{◌≡◌, ◌≢◌, ◌∙◌, ◌≤◌, ◌<◌, ◌*◌, ◌+◌, ◌++◌, ◌∷◌, inl, inr, sym, ap, subst, refl, ℕ, zero, suc}
+use Rattle.std.proofs.Common.{◌≡◌, ◌∙◌, ◌≤◌, ◌<◌, ◌*◌, ◌+◌, ◌∷◌, inl, inr, sym, ap, subst, refl, ℕ}
 use Rattle.std.proofs.Common.{List, [], length, map, length-append, Bool, true, false, Option, Some, None, arith}
 use Rattle.std.specs.Prelude.{is_some, not, vec_capacity, vec_len, Result, Ok, Err}
 use Rattle.std.specs.List.{AllByRecursion, Contains, list_any}
@@ -18,10 +18,9 @@ use Rattle.outside.specs.declared.vault.Device.TheVariants as devices
 use Rattle.outside.specs.declared.vault.Tie.{Tie}
 use Rattle.outside.specs.Vault.{IsWhole as IsWholeVault}
 use Rattle.outside.specs.declared.vault.Vault.{Vault}
-use Rattle.serial_model.specs.declared.decl.Decl.{Decl}
 use Rattle.script_grammar.specs.declared.lines.KeeperLine.TheVariants as asks
 use Rattle.wire_form.specs.ContentLaws.{one_catalogue}
-use Rattle.wire_form.specs.Pages.{Contents, decls_of}
+use Rattle.wire_form.specs.Pages.{decls_of}
 use Rattle.wire_form.specs.declared.clock.Mark.{Mark}
 use Rattle.wire_form.specs.declared.page.Page.{Page}
 use Rattle.log_writer.specs.Points.{SaveState, sequence_of}
@@ -39,7 +38,7 @@ use Rattle.gleaner.specs.declared.gleaning.GleanFault.TheVariants as glean_fault
 use Rattle.gleaner.specs.declared.gleaning.Gleaned.{Gleaned}
 use Rattle.gleaner.specs.declared.gleaning.Gleaned.TheVariants.{Empty, Snap}
 use Rattle.tx_script.specs.Run.{AdvancesTo, Ran}
-use Rattle.tx_script.specs.Causes.{AnswerCause, closed_of as closed_file_of, file_of, IsAnswerTo, IsGleanDevice, KeeperAt, keeper_after, some_counted}
+use Rattle.tx_script.specs.Causes.{AnswerCause, closed_of as closed_file_of, file_of, IsGleanDevice, KeeperAt, keeper_after, some_counted}
 use Rattle.tx_script.specs.declared.answer.Answer.{Answer}
 use Rattle.tx_script.specs.declared.answer.Answer.TheVariants as answers
 use Rattle.worker_logs.specs.Logs.{LogState}
@@ -47,12 +46,11 @@ use Rattle.worker_logs.specs.Saves.{closed_number, logs_marks, saved_epoch}
 use Rattle.worker_logs.specs.declared.savepoints.Beside.{Beside}
 use Rattle.worker_logs.specs.declared.savepoints.Side.{Side}
 use Rattle.worker_logs.specs.declared.savepoints.Side.TheVariants.{Even, Odd}
-use Rattle.round_engine.specs.Gleans.{AddsPages, AddsSnapshot, AddsNothing, AnswersGlean, ComesTo, FailsIn, FindsDamage, Gleans}
+use Rattle.round_engine.specs.Gleans.{AddsPages, AddsSnapshot, AddsNothing, AnswersGlean, FailsIn, FindsDamage, Gleans}
 use Rattle.round_engine.specs.Gleans.{device_of_glean, GleansQuietly, IsFound, LeaveGleans, RoundGleans}
 use Rattle.round_engine.specs.Keeping.{epoch_now, IsSavedBySeen, MarksOf}
 use Rattle.round_engine.specs.Keeping.{CanKeep, glean_answer, glean_refusal, is_refusal, keeper_on, Keeps, NeedCounted}
 use Rattle.round_engine.specs.Keeping.{refusal_told, RestsOn, RunsKeeper, StepsGlean}
-use Rattle.round_engine.specs.RanRound.{KeeperStored}
 use Rattle.round_engine.specs.Saves.{AreSavedIn, beside_at_end, saves_told}
 use Rattle.round_engine.specs.Sides.{closed_in, is_odd}
 use Rattle.round_engine.specs.Standing.{beside_of, HasSnapshot, RuntimeState, Standing}
@@ -61,7 +59,7 @@ use Rattle.round_engine.specs.declared.report.End.TheVariants as ends
 use Rattle.round_engine.proofs.GleansThen.{no_snap, none_of_zeros}
 use Rattle.round_engine.proofs.KeepingSaves.{some_there}
 use Rattle.round_engine.proofs.PlainLine.{TellsNone}
-use Rattle.round_engine.proofs.WorkersRun.{within_of}
+use Rattle.round_engine.proofs.Places.{within_of}
 
 -- ---- pages and their bytes
 

@@ -17,7 +17,7 @@ use Rattle.script_grammar.specs.declared.lines.KeeperLine.TheVariants as asks
 use Rattle.serial_model.specs.declared.number.Commit.{Commit}
 use Rattle.log_writer.specs.Points.{SaveState, sequence_of}
 use Rattle.log_writer.specs.declared.saved.Saved.{Saved}
-use Rattle.snapshot_store.specs.Store.{bytes_of_pages, StoreState}
+use Rattle.snapshot_store.specs.Store.{bytes_of_pages}
 use Rattle.gleaner.specs.declared.gleaning.GleanFault.{GleanFault}
 use Rattle.gleaner.specs.declared.gleaning.GleanFault.TheVariants as refusals
 use Rattle.gleaner.specs.declared.gleaning.Gleaned.{Gleaned}
@@ -27,24 +27,22 @@ use Rattle.recovery_core.specs.Rounds.{KeeperRan}
 use Rattle.recovery_core.specs.Story.{BankOpen, BankReady, BankTold, IsTold, Lasts, Story}
 use Rattle.recovery_core.specs.Crashes.Instants.{keeps_by, lasts_goes, lasts_none, open_ready}
 use Rattle.recovery_core.specs.Crashes.ToldSteps.{parts}
-use Rattle.worker_logs.specs.Logs.{LogState}
 use Rattle.worker_logs.specs.Saves.{closed_number, growing_number}
-use Rattle.worker_logs.specs.declared.savepoints.Side.{Side}
 use Rattle.round_engine.specs.Crashes.{BankShut, front_of, KnowsBefore}
-use Rattle.round_engine.specs.GleanStops.{CarriesKnown, KnowsStill}
+use Rattle.round_engine.specs.GleanStops.{CarriesKnown}
 use Rattle.round_engine.specs.Gleans.{ended_if, Gleans}
 use Rattle.round_engine.specs.Keeping.{glean_answer, glean_refusal, RunsKeeper}
-use Rattle.round_engine.specs.Logs.{AreClosedFiles, AreLogs, IsClosedFile}
+use Rattle.round_engine.specs.Logs.{AreClosedFiles}
 use Rattle.round_engine.specs.Saves.{beside_at_end, GoesOnWith, saves_told}
 use Rattle.round_engine.specs.Sides.{closed_in, growing_in}
-use Rattle.round_engine.specs.Standing.{beside_of, RuntimeState, Standing, StandsOn}
+use Rattle.round_engine.specs.Standing.{beside_of, RuntimeState, StandsOn}
 use Rattle.round_engine.proofs.BanksShut.{shut_reads, shut_ready}
 use Rattle.round_engine.proofs.GleanAsked.{asked_ready}
 use Rattle.round_engine.proofs.GleanLine.{glean_line}
 use Rattle.round_engine.proofs.Keeping.{bytes_front}
 use Rattle.round_engine.proofs.Numbered.{closed_at, closed_many, growing_at, growing_many, numbered}
 use Rattle.round_engine.proofs.StopsNow.{known_now}
-use Rattle.round_engine.proofs.WorkersRun.{item_at}
+use Rattle.round_engine.proofs.Places.{item_at}
 
 -- ---- what a glean's answer tells
 

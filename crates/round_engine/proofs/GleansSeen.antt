@@ -15,7 +15,7 @@ use Rattle.worker_logs.specs.declared.savepoints.Side.{Side}
 use Rattle.round_engine.specs.Gleans.{AddsSnapshot, ComesTo, ComesTooDeep, FindsDamage, IsFound}
 use Rattle.round_engine.specs.Sides.{closed_in, is_odd}
 use Rattle.round_engine.specs.Standing.{RuntimeState}
-use Rattle.round_engine.proofs.WorkersRun.{item_at, within_of}
+use Rattle.round_engine.proofs.Places.{item_at, within_of}
 
 -- ---- files that tell the same
 

@@ -1,12 +1,12 @@
 -- Gleans of some lines, and then of more.
-use Rattle.std.proofs.Common.{◌≡◌, ◌≢◌, ◌∙◌, ◌≤◌, ◌<◌, ◌*◌, ◌+◌, ◌++◌, ◌∷◌, ◌⊎◌, inl, inr, sym, ap, subst, refl, ℕ, List, []}
-use Rattle.std.proofs.Common.{append_assoc, length, length-append, map, Bool, true, false, Option, Some, None, arith}
-use Rattle.std.specs.Prelude.{fold, is_some, replicate, slice_get}
+use Rattle.std.proofs.Common.{◌≡◌, ◌≢◌, ◌∙◌, ◌≤◌, ◌<◌, ◌*◌, ◌+◌, ◌++◌, ◌∷◌, inl, inr, sym, ap, subst, refl, ℕ, List, []}
+use Rattle.std.proofs.Common.{append_assoc, length, length-append, Bool, true, false, Option, Some, None, arith}
+use Rattle.std.specs.Prelude.{is_some, replicate, slice_get}
 use Rattle.std.specs.List.{Contains}
 use Rattle.std.proofs.lemmas.Bool.{cases_Bool}
 use Rattle.std.proofs.lemmas.List.Elements.{Contains-append_cases, Contains-append_left, Contains-append_right}
 use Rattle.std.proofs.lemmas.List.Sums.{fold-append}
-use Rattle.lists.specs.Elements.{in_cases, in_head, in_none}
+use Rattle.lists.specs.Elements.{in_cases, in_none}
 use Rattle.outside.specs.Faults.{Rose}
 use Rattle.outside.specs.Fronts.{AllBegin}
 use Rattle.outside.specs.Moments.{left_after_runs, runs_then}
@@ -21,13 +21,13 @@ use Rattle.tx_script.specs.declared.answer.Answer.TheVariants as answers
 use Rattle.worker_logs.specs.Saves.{closed_number}
 use Rattle.worker_logs.specs.declared.savepoints.Beside.{Beside}
 use Rattle.worker_logs.specs.declared.savepoints.Side.{Side}
-use Rattle.round_engine.specs.Gleans.{AddsSnapshot, FailsIn, IsFound, LeaveGleans, RoundGleans}
+use Rattle.round_engine.specs.Gleans.{AddsSnapshot, FailsIn, LeaveGleans, RoundGleans}
 use Rattle.round_engine.specs.Keeping.{NeedCounted}
 use Rattle.round_engine.specs.Saves.{beside_after, beside_at_end}
 use Rattle.round_engine.specs.Sides.{closed_in, growing_in}
 use Rattle.round_engine.specs.Standing.{beside_of, RuntimeState}
 use Rattle.round_engine.proofs.GleansSeen.{adds_first, damage_first, found_first, seen_of, seen_same, TellAlike}
-use Rattle.round_engine.proofs.WorkersRun.{item_at, within_of}
+use Rattle.round_engine.proofs.Places.{item_at, within_of}
 
 -- ---- a snapshot among answers
 

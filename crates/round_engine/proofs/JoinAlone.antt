@@ -64,7 +64,7 @@ use Rattle.round_engine.proofs.RoundKept.{after_up}
 use Rattle.round_engine.proofs.RoundKept.{rise_on}
 use Rattle.round_engine.proofs.Turned.{TurnsBehind, keeps_onto, turned_files, turned_if, turned_parts, turns_behind}
 use Rattle.round_engine.proofs.Whole.{LogsTotal, SeenIn, leaves_vault}
-use Rattle.round_engine.proofs.WorkersRun.{item_at, map_at, within_of}
+use Rattle.round_engine.proofs.Places.{item_at, map_at, within_of}
 
 -- nothing was refused in lines
 abbrev pub none_refused : Refused

@@ -45,7 +45,7 @@ use Rattle.round_engine.proofs.Places.{all_from, not_save, nothing_there, other_
 use Rattle.round_engine.proofs.Saved.{nothing_saved}
 use Rattle.round_engine.proofs.Turned.{SwapLeaves, TurnsBehind, stands_cut, stands_turned, swap_leaves, turned_if, turned_ended}
 use Rattle.round_engine.proofs.Whole.{IsAtRest, below_8}
-use Rattle.round_engine.proofs.WorkersRun.{item_at, map_at}
+use Rattle.round_engine.proofs.Places.{item_at, map_at}
 
 -- ---- marks and epochs
 

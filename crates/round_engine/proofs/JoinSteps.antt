@@ -30,7 +30,7 @@ use Rattle.worker_logs.specs.declared.savepoints.Side.TheVariants.{Even, Odd}
 use Rattle.round_engine.specs.Ends.{epoch_after}
 use Rattle.round_engine.specs.Keeping.{CanKeep, IsSavedBySeen, JoinAnswers, JoinsLog, MarksOf, RunsJoin, at_epoch, device_told, join_answer}
 use Rattle.round_engine.specs.Sides.{SameButGrowing, closed_in, growing_in}
-use Rattle.round_engine.specs.Standing.{AreClosed, beside_of, HasSnapshot, RuntimeState, Standing}
+use Rattle.round_engine.specs.Standing.{AreClosed, beside_of, HasSnapshot, RuntimeState}
 use Rattle.round_engine.specs.Steps.{AreLogsUp, IsLogUp}
 use Rattle.round_engine.specs.declared.report.End.{End}
 use Rattle.round_engine.specs.declared.report.End.TheVariants as ends
@@ -43,7 +43,7 @@ use Rattle.round_engine.proofs.Numbered.{closed_many, growing_many, same_growing
 use Rattle.round_engine.proofs.Places.{all_from, not_save}
 use Rattle.round_engine.proofs.Takes.{blames_move, blames_none}
 use Rattle.round_engine.proofs.Whole.{below_8}
-use Rattle.round_engine.proofs.WorkersRun.{item_at}
+use Rattle.round_engine.proofs.Places.{item_at}
 
 -- ---- epochs
 

@@ -1,7 +1,7 @@
 -- A line of the maintenance thread more.
-use Rattle.std.proofs.Common.{◌≡◌, ◌≢◌, ◌∙◌, ◌≤◌, ◌<◌, ◌+◌, ◌++◌, ◌∷◌, inl, inr, sym, ap, subst, refl, ℕ, List, [], length}
+use Rattle.std.proofs.Common.{◌≡◌, ◌∙◌, ◌≤◌, ◌<◌, ◌+◌, ◌++◌, ◌∷◌, inl, inr, sym, ap, subst, refl, ℕ, List, [], length}
 use Rattle.std.proofs.Common.{Bool, true, false, Option, Some, None, arith, length-append}
-use Rattle.std.specs.Prelude.{◌||◌, ◌^◌, fold, is_some, MatchBool, option_to_list}
+use Rattle.std.specs.Prelude.{◌||◌, ◌^◌, is_some, option_to_list}
 use Rattle.std.specs.List.{AllByRecursion, Contains, list_any}
 use Rattle.std.proofs.lemmas.Bool.{cases_Bool}
 use Rattle.std.proofs.lemmas.List.{append-nil}
@@ -15,21 +15,19 @@ use Rattle.outside.specs.Moments.{runs_none}
 use Rattle.outside.specs.Reads.{OnlyReads}
 use Rattle.outside.specs.Vault.{IsWhole}
 use Rattle.outside.specs.declared.vault.Device.{Device}
-use Rattle.outside.specs.declared.vault.Device.TheVariants as devices
 use Rattle.outside.specs.declared.vault.Vault.{Vault}
 use Rattle.script_grammar.specs.declared.lines.KeeperLine.{KeeperLine}
 use Rattle.script_grammar.specs.declared.lines.KeeperLine.TheVariants as asks
 use Rattle.log_writer.specs.declared.saved.Saved.{Saved}
-use Rattle.tx_script.specs.Run.{Ran}
-use Rattle.tx_script.specs.Causes.{AnswersCaused, IsAnswerTo, KeeperAt, keeper_after}
+use Rattle.tx_script.specs.Causes.{AnswersCaused, keeper_after}
 use Rattle.tx_script.specs.declared.answer.Answer.{Answer}
 use Rattle.tx_script.specs.declared.answer.Answer.TheVariants as answers
 use Rattle.worker_logs.specs.declared.savepoints.Beside.{Beside}
 use Rattle.worker_logs.specs.declared.savepoints.Side.{Side}
 use Rattle.worker_logs.specs.declared.savepoints.Side.TheVariants.{Even, Odd}
 use Rattle.round_engine.specs.Ends.{wants_memory, save_limited}
-use Rattle.round_engine.specs.Keeping.{CanKeep, IsSavedBySeen, is_limited, is_refusal, keeper_on, MarksOf, NeedCounted, refusal_told}
-use Rattle.round_engine.specs.Keeping.{RestsOn, RunsKeeper, save_refusal, StepsEpoch, StepsKeeper, StepsLine}
+use Rattle.round_engine.specs.Keeping.{CanKeep, IsSavedBySeen, is_limited, is_refusal, keeper_on, MarksOf, refusal_told}
+use Rattle.round_engine.specs.Keeping.{RunsKeeper, StepsEpoch, StepsKeeper, StepsLine}
 use Rattle.round_engine.specs.Saves.{AreSavedIn, beside_after, beside_at_end}
 use Rattle.round_engine.specs.Sides.{closed_in, growing_in}
 use Rattle.round_engine.specs.Standing.{AreClosed, beside_of, RuntimeState}
@@ -40,7 +38,7 @@ use Rattle.round_engine.proofs.GleanLine.{glean_line}
 use Rattle.round_engine.proofs.KeeperThen.{advances_on, any_append, caused_then, keeper_then, refused_nothing, saved_in_then, saves_on}
 use Rattle.round_engine.proofs.KeeperThen.{where_memory}
 use Rattle.round_engine.proofs.Places.{nothing_there}
-use Rattle.round_engine.proofs.PlainLine.{gleans_none, IsPlain, leaves_none, needs_none, plain_line, reads_none, Ungleaned}
+use Rattle.round_engine.proofs.PlainLine.{IsPlain, plain_line, reads_none}
 use Rattle.round_engine.proofs.SaveLine.{save_line}
 
 or_none : (b : Bool) → (b || false) ≡ b

@@ -1,8 +1,8 @@
 -- Lines of the maintenance thread, and then more.
-use Rattle.std.proofs.Common.{◌≡◌, ◌∙◌, ◌≤◌, ◌<◌, ◌+◌, ◌++◌, ◌∷◌, inl, inr, sym, ap, subst, refl, ℕ, List, [], length}
+use Rattle.std.proofs.Common.{◌≡◌, ◌∙◌, ◌≤◌, ◌+◌, ◌++◌, ◌∷◌, inl, inr, sym, ap, subst, refl, ℕ, List, [], length}
 use Rattle.std.proofs.Common.{length-append, append_assoc, map, Bool, true, false, Option, Some, None, arith}
 use Rattle.std.specs.Prelude.{◌||◌, fold, is_some, option_to_list}
-use Rattle.std.specs.List.{AllByRecursion, Contains, list_any}
+use Rattle.std.specs.List.{AllByRecursion, list_any}
 use Rattle.std.proofs.lemmas.Bool.{cases_Bool}
 use Rattle.std.proofs.lemmas.List.{append-nil, map-append}
 use Rattle.std.proofs.lemmas.List.Elements.{Contains-append_cases, Contains-append_left, Contains-append_right}
@@ -25,13 +25,13 @@ use Rattle.worker_logs.specs.declared.savepoints.Beside.{Beside}
 use Rattle.round_engine.specs.Ends.{wants_memory, where_true}
 use Rattle.round_engine.specs.Gleans.{LeaveGleans, RoundGleans}
 use Rattle.round_engine.specs.Keeping.{answers_end, epoch_now, IsSavedBySeen, is_refusal, keeper_on, Keeps, last_epoch_of}
-use Rattle.round_engine.specs.Keeping.{MarksOf, NeedCounted, refusal_told, RestsOn, RunsKeeper}
+use Rattle.round_engine.specs.Keeping.{MarksOf, refusal_told, RestsOn, RunsKeeper}
 use Rattle.round_engine.specs.Saves.{AreSavedIn, beside_after, beside_at_end, NeverFall, newest_after, saves_told}
 use Rattle.round_engine.specs.Sides.{is_odd}
 use Rattle.round_engine.specs.Standing.{beside_of, RuntimeState, Standing}
 use Rattle.round_engine.specs.declared.report.End.{End}
 use Rattle.round_engine.specs.declared.report.End.TheVariants as ends
-use Rattle.round_engine.proofs.GleansThen.{beside_both, beside_kept, beside_mid, gleans_both, leaves_both, no_snap, snap_in, spent}
+use Rattle.round_engine.proofs.GleansThen.{beside_both, beside_kept, beside_mid, gleans_both, leaves_both, snap_in, spent}
 use Rattle.round_engine.proofs.Keeping.{keeps_then}
 
 -- ---- answers

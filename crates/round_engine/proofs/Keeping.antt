@@ -24,7 +24,7 @@ use Rattle.round_engine.specs.RanRound.{KeeperStored}
 use Rattle.round_engine.specs.Saves.{ArePages, GoesOnWith, HaveEnded, newest_after}
 use Rattle.round_engine.specs.Standing.{RuntimeState}
 use Rattle.round_engine.proofs.Places.{all_front}
-use Rattle.round_engine.proofs.WorkersRun.{item_at}
+use Rattle.round_engine.proofs.Places.{item_at}
 
 -- ---- stories
 

@@ -1,11 +1,10 @@
 -- A save by marks, as one call of those that keep what was stored.
-use Rattle.std.proofs.Common.{◌≡◌, ◌∙◌, ◌≤◌, ◌+◌, ◌++◌, ◌∷◌, sym, ap, subst, refl, ℕ, zero, suc, List, [], true, Option, Some}
+use Rattle.std.proofs.Common.{◌≡◌, ◌∙◌, ◌+◌, ◌++◌, ◌∷◌, sym, ap, subst, refl, ℕ, zero, suc, List, [], true, Option, Some}
 use Rattle.std.proofs.Common.{None, arith, length}
-use Rattle.std.specs.Prelude.{is_some, option_to_list, slice_get, Result, Ok, Err}
-use Rattle.std.specs.List.{AllByRecursion, Contains}
+use Rattle.std.specs.Prelude.{is_some, Result, Ok, Err}
+use Rattle.std.specs.List.{Contains}
 use Rattle.std.proofs.lemmas.List.{append-nil, take_all}
 use Rattle.std.proofs.lemmas.List.Elements.{Contains-append_left, Contains-append_right}
-use Rattle.std.proofs.lemmas.Option.{same_Some}
 use Rattle.lists.specs.Elements.{in_head}
 use Rattle.outside.specs.Fronts.{AllBegin}
 use Rattle.outside.specs.declared.vault.Tie.{Tie}

@@ -1,5 +1,5 @@
 -- The last page of a store, as its words stand.
-use Rattle.std.proofs.Common.{◌≡◌, ◌∙◌, ◌<◌, ◌≤◌, ◌-◌, ap, arith, length, List, [], ◌∷◌, Option, Some, ℕ, zero, suc, sym, subst, refl, get_or, map}
+use Rattle.std.proofs.Common.{◌≡◌, ◌∙◌, ◌<◌, ◌-◌, ap, arith, length, List, [], ◌∷◌, Some, ℕ, zero, suc, sym, subst, get_or}
 use Rattle.std.specs.Prelude.{◌^◌, slice_get}
 use Rattle.std.proofs.lemmas.Option.{same_Some}
 use Rattle.wire_form.specs.Pages.{catalogue_words, Contents}

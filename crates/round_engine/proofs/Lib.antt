@@ -10,6 +10,8 @@ pub mod Fronts
 pub mod Loops
 pub mod Places
 pub mod PlainRun
+pub mod PlainShares
+pub mod SharesRun
 pub mod RoundCases
 pub mod RoundDone
 pub mod RoundStops

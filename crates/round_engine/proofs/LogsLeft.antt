@@ -1,12 +1,11 @@
 -- What a round leaves of one worker's log, from what its lines and the join did.
 use Rattle.std.proofs.Common.{◌≡◌, ◌≤◌, ◌<◌, ◌+◌, ◌-◌, ◌++◌, ◌∷◌, inl, inr, sym, ap, subst, refl, ℕ, zero, suc, List, []}
-use Rattle.std.proofs.Common.{map, Bool, true, false, cond, Option, Some, None, append_assoc, arith, eqb, eq-eqb}
+use Rattle.std.proofs.Common.{map, Bool, true, false, cond, Option, Some, append_assoc, arith, eqb, eq-eqb}
 use Rattle.std.specs.Prelude.{flat_map, option_to_list}
 use Rattle.std.specs.List.{AllByRecursion, Contains}
 use Rattle.std.proofs.lemmas.Bool.{cases_eq, ne_eqb}
 use Rattle.std.proofs.lemmas.List.{append-nil}
 use Rattle.std.proofs.lemmas.List.Elements.{Contains-append_left, Contains-push}
-use Rattle.lists.specs.Each.{all_append}
 use Rattle.lists.specs.Fronts.{IsFront}
 use Rattle.serial_model.specs.declared.number.Commit.{Commit}
 use Rattle.serial_model.specs.declared.op.Op.{Op}
@@ -15,13 +14,9 @@ use Rattle.worker_logs.specs.Logs.{IsEpochPassed, IsJoined, IsLog, IsPassed, Log
 use Rattle.worker_logs.specs.LogLaws.{log_begins, log_idles}
 use Rattle.recovery_core.specs.Marks.{IsAbove, Marks}
 use Rattle.recovery_core.specs.Crashes.Marking.{mark_put}
-use Rattle.round_engine.specs.Parts.{AreLoggedAt}
-use Rattle.round_engine.specs.Plainly.{after_line, has_number}
 use Rattle.round_engine.specs.Saves.{NeverFall}
-use Rattle.round_engine.specs.Standing.{Standing}
 use Rattle.round_engine.specs.Steps.{LogTakes}
 use Rattle.round_engine.specs.Workers.{idle_if_not, idled, is_busy}
-use Rattle.round_engine.proofs.SoFar.{line_epoch, logged_number}
 
 -- ---- a choice for each of the first numbers
 
@@ -44,23 +39,6 @@ choose {A} P (suc n) first each =
     same_eqb n = eq-eqb n n refl
 
 -- ---- what a worker's log has
-
--- what lines log is of the clock's epoch
-pub logged_epochs : (lines : List (List Op)) (s : Standing) (commits : List Commit) → AreLoggedAt s lines commits
-    → AllByRecursion (λ (c : Commit). c.number.epoch ≡ s.clock.epoch) commits
-logged_epochs [] s commits are = subst (AllByRecursion (λ (c : Commit). c.number.epoch ≡ s.clock.epoch)) (sym are) tt
-logged_epochs (ops ∷ lines) s commits are =
-    let same : (after_line s ops).clock.epoch ≡ s.clock.epoch = line_epoch s.clock (has_number s) in
-    subst (AllByRecursion (λ (c : Commit). c.number.epoch ≡ s.clock.epoch)) (sym are.2)
-    (all_append (λ (c : Commit). c.number.epoch ≡ s.clock.epoch) (option_to_list are.0) are.1
-    (of_first are.0 (λ c has. logged_number s.decls s.state ops s.clock (has_number s) are.0 are.3 c has))
-    (subst (λ e. AllByRecursion (λ (c : Commit). c.number.epoch ≡ e) are.1) same
-    (logged_epochs lines (after_line s ops) are.1 are.4)))
-  where
-    of_first : {P : Commit → Type 0} (first : Option Commit) → ((c : Commit) → first ≡ Some c → P c)
-        → AllByRecursion P (option_to_list first)
-    of_first None of = tt
-    of_first (Some c) of = (of c refl, tt)
 
 -- commits of later epochs leave a mark as it is
 pub marks_more : (commits more : List Commit) (epoch size : ℕ) → Marks commits epoch size

@@ -15,7 +15,7 @@ use Rattle.script_grammar.specs.declared.lines.KeeperLine.{KeeperLine}
 use Rattle.tx_script.specs.Run.{CanRunLine}
 use Rattle.round_engine.specs.Workers.{is_busy}
 use Rattle.round_engine.proofs.Fronts.{ops_of, take_line, ops_of-append}
-use Rattle.round_engine.proofs.WorkersRun.{item_at}
+use Rattle.round_engine.proofs.Places.{item_at}
 
 -- ---- lines
 

@@ -1,12 +1,37 @@
 -- Elements of a list by their places, and the device that a list of one has.
-use Rattle.std.proofs.Common.{◌≡◌, ◌≢◌, ◌∷◌, ◌++◌, inl, inr, sym, ap, refl, ℕ, zero, suc, List, []}
-use Rattle.std.proofs.Common.{get_or, map, Bool, true, false, Option, Some, None}
+use Rattle.std.proofs.Common.{◌≡◌, ◌≢◌, ◌<◌, ◌∷◌, ◌++◌, inl, inr, sym, ap, refl, ℕ, zero, suc, List, []}
+use Rattle.std.proofs.Common.{arith, get_or, length, map, Bool, true, false, Option, Some, None}
 use Rattle.std.specs.Prelude.{◌||◌, is_some, slice_get}
 use Rattle.std.specs.List.{AllByRecursion, Contains, list_any}
 use Rattle.std.proofs.lemmas.Option.{same_Some}
 use Rattle.lists.specs.Elements.{in_cases, in_none}
 use Rattle.outside.specs.declared.vault.Device.TheVariants as devices
 use Rattle.tx_script.specs.Run.{LogRefusal}
+
+-- an index within a list has an element
+pub item_at : {X : Type 0} (xs : List X) (i : ℕ) → i < length xs → (x : X) × (slice_get xs i ≡ Some x)
+item_at [] i within = absurd (omega (arith, within))
+item_at (x ∷ xs) zero within = (x, refl)
+item_at (x ∷ xs) (suc i) within = item_at xs i (omega (arith, within))
+
+-- whatever else is given where there is none
+pub item_read : {X : Type 0} (xs : List X) (i : ℕ) (x other : X) → slice_get xs i ≡ Some x → get_or xs i other ≡ x
+item_read [] i x other there = absurd cc
+item_read (z ∷ zs) zero x other there = same_Some z x there
+item_read (z ∷ zs) (suc i) x other there = item_read zs i x other there
+
+-- an index with an element is within the list
+pub within_of : {X : Type 0} (xs : List X) (i : ℕ) (x : X) → slice_get xs i ≡ Some x → i < length xs
+within_of [] i x is = absurd cc
+within_of (y ∷ xs) zero x is = omega arith
+within_of (y ∷ xs) (suc i) x is = omega (arith, within_of xs i x is)
+
+-- what stands in a mapped list
+pub map_at : {X Y : Type 0} (f : X → Y) (xs : List X) (i : ℕ) (y : Y) → slice_get (map f xs) i ≡ Some y
+    → (x : X) × (slice_get xs i ≡ Some x) × (f x ≡ y)
+map_at f [] i y is = absurd cc
+map_at f (x ∷ xs) zero y is = (x, refl, same_Some (f x) y is)
+map_at f (x ∷ xs) (suc i) y is = map_at f xs i y is
 
 -- a fact of each element of a list
 pub all_from : {X : Type 0} (P : X → Type 0) (xs : List X) → ((i : ℕ) (x : X) → slice_get xs i ≡ Some x → P x)

@@ -1,6 +1,6 @@
 -- A line of the maintenance thread that stores nothing and makes no snapshot.
-use Rattle.std.proofs.Common.{◌≡◌, ◌∙◌, ◌≤◌, ◌<◌, ◌+◌, ◌-◌, ◌++◌, ◌∷◌, sym, ap, subst, refl, ℕ, List, [], length, map}
-use Rattle.std.proofs.Common.{Bool, true, false, Option, Some, None, arith}
+use Rattle.std.proofs.Common.{◌≡◌, ◌∙◌, ◌≤◌, ◌-◌, ◌∷◌, sym, ap, subst, refl, ℕ, List, [], length, map}
+use Rattle.std.proofs.Common.{Bool, true, false, Option, None, arith}
 use Rattle.std.specs.Prelude.{◌||◌, flat_map, fold, is_some, min, option_to_list, slice_get}
 use Rattle.std.specs.List.{list_any}
 use Rattle.std.proofs.lemmas.List.{append-nil}
@@ -15,7 +15,6 @@ use Rattle.script_grammar.specs.declared.lines.KeeperLine.{KeeperLine}
 use Rattle.tx_script.specs.Run.{AdvancesTo, Ran}
 use Rattle.tx_script.specs.Causes.{AnswerCause, keeper_after, some_counted}
 use Rattle.tx_script.specs.declared.answer.Answer.{Answer}
-use Rattle.tx_script.specs.declared.answer.Answer.TheVariants as answers
 use Rattle.wire_form.specs.declared.clock.Mark.{Mark}
 use Rattle.snapshot_store.specs.Content.{SnapshotStands, words_of}
 use Rattle.snapshot_store.specs.Store.{Holds, StoreState}
@@ -27,7 +26,7 @@ use Rattle.round_engine.specs.Gleans.{GleansOver, LeaveGleans, RoundGleans}
 use Rattle.round_engine.specs.Keeping.{at_epoch, CanKeep, is_refusal, keeper_on, NeedCounted, RunsKeeper}
 use Rattle.round_engine.specs.Saves.{AreSavedIn, beside_after, saves_told}
 use Rattle.round_engine.specs.Sides.{closed_in, growing_in}
-use Rattle.round_engine.specs.Standing.{beside_of, HasSnapshot, RuntimeState}
+use Rattle.round_engine.specs.Standing.{beside_of, RuntimeState}
 use Rattle.round_engine.proofs.Beside.{keeps_none}
 use Rattle.round_engine.proofs.GleansThen.{no_snap, snap_in}
 use Rattle.round_engine.proofs.KeeperThen.{where_memory}

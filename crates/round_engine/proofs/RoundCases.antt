@@ -27,12 +27,12 @@ use Rattle.round_engine.specs.Ends.{epoch_after, epoch_joined, first_device}
 use Rattle.round_engine.specs.Ends.{swaps, where_true}
 use Rattle.round_engine.specs.Keeping.{IsSavedBySeen, Keeps, MarksOf}
 use Rattle.round_engine.specs.Logs.{IsRefusedBy}
-use Rattle.round_engine.specs.Parts.{Part}
 use Rattle.round_engine.specs.Phases.{RunsAll, ended_as}
 use Rattle.round_engine.specs.RanRound.{Rounds, SwapsFiles}
 use Rattle.round_engine.specs.Refusals.{first_failed, first_told, leaves_out}
 use Rattle.round_engine.specs.Refusals.{lines_refused}
 use Rattle.round_engine.specs.Saves.{AreSaved, beside_at_end, saves_told}
+use Rattle.round_engine.specs.Shares.{Share}
 use Rattle.round_engine.specs.Sides.{closed_in, growing_in, other_side}
 use Rattle.round_engine.specs.Standing.{files_of, AreUp, beside_of, HasSnapshot, IsMarkBefore, IsReady, RuntimeState, StandsOn}
 use Rattle.round_engine.specs.Workers.{idled}
@@ -48,7 +48,6 @@ use Rattle.round_engine.proofs.Numbered.{closed_at, growing_at, log_of_is}
 use Rattle.round_engine.proofs.Places.{all_from, nothing_there, map_there}
 use Rattle.round_engine.proofs.RoundDone.{before_many, between_many, cuts_mid, done}
 use Rattle.round_engine.proofs.RoundDone.{ran_with}
-use Rattle.round_engine.proofs.RoundDone.{start_up}
 use Rattle.round_engine.proofs.RoundKept.{first_told_none, nothing_kept, store_told, after_whole, at_end, by_lines, device_is, ends_so, first_is}
 use Rattle.round_engine.proofs.RoundKept.{gleans_told, growing_kept, joined_up, keeper_told, keeps_lines, kept_above, kept_closed}
 use Rattle.round_engine.proofs.RoundKept.{kept_closed_at, kept_counted, kept_first, kept_room, kept_side, kept_snapshot, kept_sound, lines_limit, mid_first}
@@ -56,7 +55,7 @@ use Rattle.round_engine.proofs.RoundKept.{mark_at, mid_beside, quiet_kept, quiet
 use Rattle.round_engine.proofs.RoundKept.{rose_kept}
 use Rattle.round_engine.proofs.Turned.{keeps_onto}
 use Rattle.round_engine.proofs.Whole.{SeenIn, below_8}
-use Rattle.round_engine.proofs.WorkersRun.{item_at, map_at}
+use Rattle.round_engine.proofs.Places.{item_at, map_at}
 
 -- nothing is durable where the join was left out
 pub none_made : (leaves below rest : Bool) (epoch : ℕ) → leaves ≡ true → where_true ((not leaves && below) && rest) epoch ≡ None
@@ -178,7 +177,7 @@ module _ {D : Type 0} {tells : D → Option (List ℕ)} {clock : D → ℕ} {ima
   stands_out : StandsOn tells clock image_at new now
   stands_out = record {
     whole = subst IsWhole (sym now_is) (after_whole stands ready some start_many idle all);
-    workers = ap length logs_are ∙ all.lines.first.logs_length ∙ start_many;
+    workers = ap length logs_are ∙ all.lines.over.logs_length ∙ start_many;
     limits = all_from (λ (l : LogState). l.journal.limit ≡ log_limit) new.logs
         (λ w log at. lines_limit stands ready some start_many idle all w log (ap (λ l. slice_get l w) (sym logs_are) ∙ at));
     above = subst (λ (r : RuntimeState). epoch_of r.save.newest < r.stands.clock.epoch) (sym new_is)
@@ -217,10 +216,10 @@ module _ {D : Type 0} {tells : D → Option (List ℕ)} {clock : D → ℕ} {ima
         }));
     reaches = λ w log bank at there.
         let log_at = ap (λ l. slice_get l w) (sym logs_are) ∙ at in
-        let below = below_8 all.mid.logs w log log_at (all.lines.first.logs_length ∙ start_many) in
+        let below = below_8 all.mid.logs w log log_at (all.lines.over.logs_length ∙ start_many) in
         let begins = item_at start w (omega (arith, below, start_many)) in
         let was = item_at (growing_in old.side before) w (omega (arith, below, before_many stands ready some start_many idle all)) in
-        (lines_at w all.lines.first (start_up stands ready some start_many idle all) begins.1 log_at was.1
+        (lines_at w all.lines.over start_many begins.1 log_at was.1
         (ap (λ l. slice_get l w) (sym growing_is) ∙ sym (growing_at old.side now w)
         ∙ ap (λ s. disk_in now (devices.Bank (growing_number s w))) (sym new_side) ∙ there)).reaches;
   }
@@ -256,7 +255,7 @@ module _ {D : Type 0} {tells : D → Option (List ℕ)} {clock : D → ℕ} {ima
       → Rounds tells clock image_at faults round old new before now (Ok report)
   unfolding files_out
   left_out reads = done stands ready some start_many idle all all.mid.logs all.keeper.stored all.keeper.failed others (record {
-    logs_many = all.lines.first.logs_length ∙ start_many;
+    logs_many = all.lines.over.logs_length ∙ start_many;
     now_many = ap length growing_is ∙ between_many stands ready some start_many idle all;
     keeps = keeps_out;
     saves = saves_out;
@@ -297,25 +296,25 @@ module _ {D : Type 0} {tells : D → Option (List ℕ)} {clock : D → ℕ} {ima
     told = all.keeper.told ∙ sym (append-nil (saves_told report.keeper))
         ∙ ap (λ d. saves_told report.keeper ++ option_to_list d) (sym durable_is);
     refused = λ w log refusal at has.
-        let p = map_at (λ (p : Part). p.refusal) all.lines.parts w refusal has in
-        let below = below_8 all.mid.logs w log at (all.lines.first.logs_length ∙ start_many) in
+        let p = map_at (λ (p : Share). p.refusal) all.lines.shares w refusal has in
+        let below = below_8 all.mid.logs w log at (all.lines.over.logs_length ∙ start_many) in
         let begins = item_at start w (omega (arith, below, start_many)) in
         let bank = item_at (growing_in old.side before) w (omega (arith, below, before_many stands ready some start_many idle all)) in
         let mid_bank = item_at (growing_in old.side all.between) w (omega (arith, below, between_many stands ready some start_many idle all)) in
         subst (λ r. IsRefusedBy r log.journal) p.2
-        (all.lines.first.each w p.0 begins.0 log bank.0 mid_bank.0 p.1 begins.1 at bank.1 mid_bank.1).refused;
+        (all.lines.over.each w p.0 begins.0 log bank.0 mid_bank.0 p.1 begins.1 at bank.1 mid_bank.1).refused;
     log_failed = λ w below has.
         let here = bank_down old.side (are_down all.mid.logs) (is_some all.keeper.failed) others w
         (beside_not_growing old.side others w (λ device there.
         (rose_kept stands ready some start_many idle all device (in_option all.keeper.broken device there)).0))
         (subst (Contains ran.devices) (log_of_is old.side (files_of old) w refl) has) in
         let at = map_at (λ (l : LogState). is_some l.journal.down) all.mid.logs w true here in
-        let p = item_at all.lines.parts w (omega (arith, below, all.lines.first.count)) in
+        let p = item_at all.lines.shares w (omega (arith, below, all.lines.over.runs.workers)) in
         let begins = item_at start w (omega (arith, below, start_many)) in
         let bank = item_at (growing_in old.side before) w (omega (arith, below, before_many stands ready some start_many idle all)) in
         let mid_bank = item_at (growing_in old.side all.between) w (omega (arith, below, between_many stands ready some start_many idle all)) in
-        let left = all.lines.first.each w p.0 begins.0 at.0 bank.0 mid_bank.0 p.1 begins.1 at.1 bank.1 mid_bank.1 in
-        inl (map_there (λ (p : Part). p.refusal) all.lines.parts w p.0 p.1 ∙ ap Some (left.failed at.2));
+        let left = all.lines.over.each w p.0 begins.0 at.0 bank.0 mid_bank.0 p.1 begins.1 at.1 bank.1 mid_bank.1 in
+        inl (map_there (λ (p : Share). p.refusal) all.lines.shares w p.0 p.1 ∙ ap Some (left.failed at.2));
     rise = rise_lines stands ready some start_many idle all;
     asked = λ is. inl (ap (λ (k : KeeperAt). k.refused) (at_end stands ready some start_many idle all all.mid.logs all.keeper.failed others)
         ∙ sym all.keeper.refused ∙ ap is_some all.keeper.refusal_is

@@ -1,4 +1,4 @@
--- A round on the plain map, put together from its phases.
+-- A round put together from its phases, whichever engine ran its lines.
 use Rattle.std.proofs.Common.{◌≡◌, ◌∙◌, ◌≤◌, ◌<◌, ◌+◌, ◌⊎◌, ◌++◌, ◌∷◌, inl, inr, sym, ap, subst, refl, ℕ}
 use Rattle.std.proofs.Common.{suc, List, [], length, map, Bool, true, false, Option, Some, None, arith}
 use Rattle.std.specs.Prelude.{is_some, option_to_list, slice_get, Ok}
@@ -30,10 +30,11 @@ use Rattle.round_engine.specs.Crashes.{CarriesCrashes}
 use Rattle.round_engine.specs.Ends.{comes_to_advance, comes_to_save, durable_of, end_of, epoch_joined, swaps, where_true}
 use Rattle.round_engine.specs.Gleans.{RoundGleans}
 use Rattle.round_engine.specs.Keeping.{IsSavedBySeen, Keeps, keeper_on}
-use Rattle.round_engine.specs.Parts.{Part, logged_at}
 use Rattle.round_engine.specs.Phases.{RoomAlone, RunsAll}
+use Rattle.round_engine.specs.Plainly.{ArePlain}
 use Rattle.round_engine.specs.RanRound.{AreRoundMarks, LeavesVault, Rounds, SwapsFiles}
 use Rattle.round_engine.specs.Saves.{AreSaved, NeverFall, saves_told}
+use Rattle.round_engine.specs.Shares.{Share, logged_in}
 use Rattle.round_engine.specs.Sides.{closed_in, growing_in, is_odd}
 use Rattle.round_engine.specs.Standing.{beside_of, files_of, IsReady, RuntimeState, Standing, StandsOn}
 use Rattle.round_engine.specs.Logs.{IsRefusedBy}
@@ -45,13 +46,12 @@ use Rattle.round_engine.proofs.Beside.{SameSaves}
 use Rattle.round_engine.proofs.CrashesLeft.{with_crashes}
 use Rattle.round_engine.proofs.Devices.{are_down, at_first, bank_in, banks_in, down_at, IsBeside, others_in, save_in}
 use Rattle.round_engine.proofs.Ended.{devices_down}
-use Rattle.round_engine.proofs.LinesLeft.{LastStep, append_nothing, lines_at, logged_above, logged_none}
-use Rattle.round_engine.proofs.LinesLeft.{logs_total, logs_up}
-use Rattle.round_engine.proofs.Logged.{parts_lines, parts_logged}
+use Rattle.round_engine.proofs.LinesLeft.{LastStep, lines_at, logs_total, logs_up}
 use Rattle.round_engine.proofs.Numbered.{closed_many, growing_many, log_of_is, whole_of}
-use Rattle.round_engine.proofs.PlainRun.{IsRanOf, plain_caused, plain_kept, plain_run}
+use Rattle.round_engine.proofs.SharesRun.{IsRanOf, logged_above, logged_nothing, run_caused, same_decls, share_lines}
+use Rattle.round_engine.proofs.SharesRun.{shares_lines, shares_run}
 use Rattle.round_engine.proofs.Whole.{IsAtRest, LogsTotal, SeenIn, below_8, epochs_at, first_epochs, leaves_vault, round_front}
-use Rattle.round_engine.proofs.WorkersRun.{item_at, map_at, within_of}
+use Rattle.round_engine.proofs.Places.{item_at, map_at, within_of}
 
 -- ---- lists that agree
 
@@ -95,7 +95,7 @@ mark_kept (ops ∷ lines) epoch was begins log is joined (inr set) none =
     set ∙ sym (ap (λ (m : Mark). m.epoch) joined.marked) ∙ ap (λ (l : LogState). l.mark.epoch) is
 
 -- what a worker's part tells of its log
-pub record LeftAt (epoch : ℕ) (p : Part) (begins log : LogState) : Type 0 where
+pub record LeftAt (epoch : ℕ) (p : Share) (begins log : LogState) : Type 0 where
   pub refused : IsRefusedBy p.refusal log.journal
   pub limit : log.journal.limit ≡ begins.journal.limit
 
@@ -118,9 +118,9 @@ map_true f false x = refl
 
 -- ---- the run that is told
 
-abbrev pub ran_of : Round → RuntimeState → List LogState → RuntimeState → List LogState → List Part → Option Saved
+abbrev pub ran_of : Round → RuntimeState → List LogState → RuntimeState → List LogState → List Share → Option Saved
     → List Device → List (Option ℕ) → Option (Device × ℕ) → Report → Ran
-ran_of round old start kept logs parts failed others gleans damaged report = record {
+ran_of round old start kept logs shares failed others gleans damaged report = record {
   begin = old.stands.clock;
   end = kept.stands.clock;
   outcomes = report.outcomes;
@@ -132,7 +132,7 @@ ran_of round old start kept logs parts failed others gleans damaged report = rec
   room = old.room;
   files = files_of old;
   marks = first_epochs start;
-  logs = map (λ (p : Part). p.refusal) parts;
+  logs = map (λ (p : Share). p.refusal) shares;
   gleans = gleans;
   devices = devices_down old.side (are_down logs) (is_some failed) others;
   damaged = damaged;
@@ -194,7 +194,7 @@ module _ {D : Type 0} (tells : D → Option (List ℕ)) (clock : D → ℕ) (ima
     (all : RunsAll tells clock image_at faults round (record old { logs = start }) new before now report) where
   -- the run that is told, with these logs in the end
   abbrev pub ran_with : List LogState → Option Saved → List Device → Ran
-  ran_with logs failed others = ran_of round old start all.kept logs all.lines.parts failed others all.keeper.gleans
+  ran_with logs failed others = ran_of round old start all.kept logs all.lines.shares failed others all.keeper.gleans
       all.keeper.damaged report
 
   -- What is known of a round in the end, with these logs before the swap.
@@ -236,9 +236,9 @@ module _ {D : Type 0} (tells : D → Option (List ℕ)) (clock : D → ℕ) (ima
     pub room : new.room ≡ old.room
     pub told : map (λ (s : Saved). s.epoch) stored ≡ saves_told report.keeper ++ option_to_list report.durable
     pub refused : (w : ℕ) (log : LogState) (refusal : Option LogRefusal) → slice_get logs w ≡ Some log
-        → slice_get (map (λ (p : Part). p.refusal) all.lines.parts) w ≡ Some refusal → IsRefusedBy refusal log.journal
+        → slice_get (map (λ (p : Share). p.refusal) all.lines.shares) w ≡ Some refusal → IsRefusedBy refusal log.journal
     pub log_failed : (w : ℕ) → w < 8 → Contains (ran_with logs failed others).devices (log_of (files_of old) w)
-        → (slice_get (map (λ (p : Part). p.refusal) all.lines.parts) w ≡ Some (Some LogFailed))
+        → (slice_get (map (λ (p : Share). p.refusal) all.lines.shares) w ≡ Some (Some LogFailed))
         ⊎ (comes_to_advance (ran_with logs failed others) ≡ true)
     pub rise : NeverFall (epoch_of old.save.newest) (map (λ (s : Saved). s.epoch) (stored ++ option_to_list failed))
     pub asked : is_some failed ≡ true → ((keeper_at_end (ran_with logs failed others)).refused ≡ true)
@@ -253,14 +253,14 @@ module _ {D : Type 0} {tells : D → Option (List ℕ)} {clock : D → ℕ} {ima
     (idle : (w : ℕ) (log : LogState) → slice_get old.logs w ≡ Some log
     → slice_get start w ≡ Some (idled (lines_of_worker round w) log))
     (all : RunsAll tells clock image_at faults round (record old { logs = start }) new before now report) where
-  abbrev parts : List Part
-  parts = all.lines.parts
+  abbrev shares : List Share
+  shares = all.lines.shares
 
   pub before_many : length (growing_in old.side before) ≡ 8
   before_many = growing_many old.side before stands.whole
 
   pub between_many : length (growing_in old.side all.between) ≡ 8
-  between_many = all.lines.first.banks_length ∙ before_many
+  between_many = all.lines.over.banks_length ∙ before_many
 
   -- the lines touched nothing beside the growing log files
   pub same_saves : SameSaves before all.between
@@ -289,10 +289,10 @@ module _ {D : Type 0} {tells : D → Option (List ℕ)} {clock : D → ℕ} {ima
 
   -- the clock and the storages behind the lines
   pub mid_epoch : all.mid.stands.clock.epoch ≡ old.stands.clock.epoch
-  mid_epoch = ap (λ (x : Standing). x.clock.epoch) all.lines.first.standing ∙ (plain_kept parts old.stands).1
+  mid_epoch = all.lines.over.runs.epoch
 
   pub mid_decls : all.mid.stands.decls ≡ old.stands.decls
-  mid_decls = ap (λ (x : Standing). x.decls) all.lines.first.standing ∙ (plain_kept parts old.stands).0
+  mid_decls = same_decls all.lines.over.runs
 
   -- where the maintenance thread began
   pub keeper_start : keeper_on all.mid false ≡ keeper_of old.stands.clock.epoch old
@@ -306,12 +306,12 @@ module _ {D : Type 0} {tells : D → Option (List ℕ)} {clock : D → ℕ} {ima
       let was = item_at old.logs i (omega (arith, below, stands.workers)) in
       let bank = item_at (growing_in old.side before) i (omega (arith, below, before_many)) in
       let mid_bank = item_at (growing_in old.side all.between) i (omega (arith, below, between_many)) in
-      let one = lines_at i all.lines.first start_up at there bank.1 mid_bank.1 in
+      let one = lines_at i all.lines.over start_many at there bank.1 mid_bank.1 in
       let is : idled (lines_of_worker round i) was.0 ≡ begins = same_Some _ begins (sym (idle i was.0 was.1) ∙ at) in
       let joined = all_at (IsJoined old.stands.clock.epoch) old.logs i was.0 ready.logs was.1 in
-      let p = item_at parts i (omega (arith, below, all.lines.first.count)) in
+      let p = item_at shares i (omega (arith, below, all.lines.over.runs.workers)) in
       mark_kept (lines_of_worker round i) old.stands.clock.epoch was.0 begins log is joined one.mark
-      (λ none. all.lines.idle i p.0 begins log p.1 (all.lines.lines_each i p.0 p.1 ∙ none) at there)
+      (λ none. all.lines.idle i p.0 begins log p.1 (share_lines round shares i p.0 all.lines.lines p.1 ∙ none) at there)
 
   -- the causes of answers, of the run that is told
   pub answers_caused : (logs : List LogState) (failed : Option Saved) (others : List Device)
@@ -324,7 +324,7 @@ module _ {D : Type 0} {tells : D → Option (List ℕ)} {clock : D → ℕ} {ima
       let ran : Ran = ran_with tells clock image_at faults round old start new before now report all logs failed others in
       subst (λ k. AnswersCaused ran k (keeper_lines round) report.keeper) keeper_start
       (all.keeper.caused ran (record {
-        marks = marks_of start all.mid.logs (start_many ∙ sym (all.lines.first.logs_length ∙ start_many)) same_marks;
+        marks = marks_of start all.mid.logs (start_many ∙ sym (all.lines.over.logs_length ∙ start_many)) same_marks;
         odd = ap (λ (r : RuntimeState). is_odd r.side) (sym all.alone);
         closed_at = ap (λ (r : RuntimeState). r.closed_at) (sym all.alone);
         room = ap (λ (r : RuntimeState). r.room) (sym all.alone);
@@ -335,19 +335,19 @@ module _ {D : Type 0} {tells : D → Option (List ℕ)} {clock : D → ℕ} {ima
         device = λ device is. others_in old.side (are_down logs) (is_some failed) others device (told device is);
       }))
 
-  left_below : (i : ℕ) (p : Part) → slice_get parts i ≡ Some p → i < 8
-  left_below i p at = omega (arith, within_of parts i p at, all.lines.first.count)
+  left_below : (i : ℕ) (p : Share) → slice_get shares i ≡ Some p → i < 8
+  left_below i p at = omega (arith, within_of shares i p at, all.lines.over.runs.workers)
 
-  left_of : (i : ℕ) (p : Part) → slice_get parts i ≡ Some p
+  left_of : (i : ℕ) (p : Share) → slice_get shares i ≡ Some p
       → (begins : LogState) × (log : LogState)
       × LeftAt old.stands.clock.epoch p begins log × (slice_get all.mid.logs i ≡ Some log) × (begins.journal.limit ≡ log_limit)
   left_of i p at =
       let below = left_below i p at in
       let begins = item_at start i (omega (arith, below, start_many)) in
-      let log = item_at all.mid.logs i (omega (arith, below, start_many, all.lines.first.logs_length)) in
+      let log = item_at all.mid.logs i (omega (arith, below, start_many, all.lines.over.logs_length)) in
       let bank = item_at (growing_in old.side before) i (omega (arith, below, before_many)) in
       let mid_bank = item_at (growing_in old.side all.between) i (omega (arith, below, between_many)) in
-      let left = all.lines.first.each i p begins.0 log.0 bank.0 mid_bank.0 at begins.1 log.1 bank.1 mid_bank.1 in
+      let left = all.lines.over.each i p begins.0 log.0 bank.0 mid_bank.0 at begins.1 log.1 bank.1 mid_bank.1 in
       (begins.0, log.0, record { refused = left.refused; limit = left.limit }, log.1, (start_up i begins.0 bank.0 begins.1 bank.1).limit)
 
   module _ (logs : List LogState) (stored : List Saved) (failed : Option Saved) (others : List Device)
@@ -355,24 +355,23 @@ module _ {D : Type 0} {tells : D → Option (List ℕ)} {clock : D → ℕ} {ima
     abbrev ran : Ran
     ran = ran_with tells clock image_at faults round old start new before now report all logs failed others
 
-    of : IsRanOf round old.stands parts ran
+    of : IsRanOf round old.stands all.mid.stands shares ran
     of = record {
       lines = all.lines.lines;
       begin = refl;
-      draw = ap (λ (x : Standing). x.clock.draw) all.keeper.stands
-          ∙ ap (λ (x : Standing). x.clock.draw) all.lines.first.standing;
+      draw = ap (λ (x : Standing). x.clock.draw) all.keeper.stands;
       outcomes = all.lines.told;
       asked = refl;
       answers = all.keeper.count;
       epoch = subst (λ e. AdvancesTo e report.keeper all.kept.stands.clock.epoch) mid_epoch all.keeper.advances;
     }
 
-    total : LogsTotal tells clock image_at faults (logged_at parts) start old.logs all.mid.logs logs (growing_in old.side before)
+    total : LogsTotal tells clock image_at faults (logged_in shares) start old.logs all.mid.logs logs (growing_in old.side before)
         (growing_in old.side now)
-    total = logs_total all.lines.first start_up start_many stands.workers ends.logs_many before_many ends.now_many some ready.logs
+    total = logs_total round all.lines.over start_many stands.workers ends.logs_many before_many ends.now_many some ready.logs
         idle
-        (λ w none. logged_none parts old.stands w all.lines.first.are
-        (λ p at. append_nothing p.ran p.left (all.lines.lines_each w p at ∙ none)))
+        (λ w none. logged_nothing old.stands.decls 1 all.mid.stands.clock.draw shares w all.lines.over.runs.each
+        (λ p at. share_lines round shares w p all.lines.lines at ∙ none))
         ends.last
 
     -- all causes
@@ -380,7 +379,7 @@ module _ {D : Type 0} {tells : D → Option (List ℕ)} {clock : D → ℕ} {ima
     caused = record {
       logs = logs_caused ran.files ran.devices 0 ran.logs
           (λ i at.
-          let p = map_at (λ (p : Part). p.refusal) parts i (Some LogFailed) at in
+          let p = map_at (λ (p : Share). p.refusal) shares i (Some LogFailed) at in
           let left = left_of i p.0 p.1 in
           let down = subst (λ r. IsRefusedBy r left.1.journal) p.2 left.2.refused in
           let log = item_at logs i (omega (arith, left_below i p.0 p.1, ends.logs_many)) in
@@ -390,23 +389,23 @@ module _ {D : Type 0} {tells : D → Option (List ℕ)} {clock : D → ℕ} {ima
           (bank_in old.side 0 i i (are_down logs) (omega arith) (down_at logs i log.0 log.1
           (ends.stays i left.1 log.0 left.3 log.1 down))))))
           (λ i size at.
-          let p = map_at (λ (p : Part). p.refusal) parts i (Some (LogFull size)) at in
+          let p = map_at (λ (p : Share). p.refusal) shares i (Some (LogFull size)) at in
           let left = left_of i p.0 p.1 in
           let full = subst (λ r. IsRefusedBy r left.1.journal) p.2 left.2.refused in
           omega (arith, full.1, left.2.limit, left.4));
-      outcomes = plain_caused round old.stands parts ran of all.lines.first.are;
+      outcomes = run_caused round ran all.lines.over.runs of (subst ArePlain all.lines.told all.plain);
       answers = answers_caused logs failed others ends.fails ends.told_others;
     }
 
     -- what it leaves of the vault, and of the crashes
     left : ((disk : D) (file : List ℕ) → tells disk ≡ Some file → image_at disk (clock disk) file)
-        → (v : LeavesVault tells clock image_at faults ran (logged_at parts) old new before now)
-        × CarriesCrashes tells clock image_at (logged_at parts) (v.stored ++ option_to_list v.failed) ran old new before now
+        → (v : LeavesVault tells clock image_at faults ran (logged_in shares) old new before now)
+        × CarriesCrashes tells clock image_at (logged_in shares) (v.stored ++ option_to_list v.failed) ran old new before now
     left reads = with_crashes reads stands (length-map start (λ (log : LogState). log.mark.epoch ∷ []) ∙ start_many)
         (λ epoch is. sym ends.durable ∙ is)
-        (leaves_vault ran (logged_at parts) start all.mid.logs logs old new before now stored failed total ends.saves ends.keeps.newest
+        (leaves_vault ran (logged_in shares) start all.mid.logs logs old new before now stored failed total ends.saves ends.keeps.newest
         (round_front start)
-        (λ w below. logged_above parts old.stands w (epoch_of old.save.newest) all.lines.first.are stands.above)
+        (λ w below. logged_above w (epoch_of old.save.newest) below stands.above all.lines.over.runs)
         stands.whole stands.closed.workers ends.files ends.between_whole ends.rests
         others ends.keeps ends.stands refl ends.beside ends.rose_others ends.quiet_snaps ends.quiet_closed
         ends.gleans (λ what has. ap (λ (r : RuntimeState). some_counted r.counted) (sym all.alone)
@@ -417,11 +416,11 @@ module _ {D : Type 0} {tells : D → Option (List ℕ)} {clock : D → ℕ} {ima
         → Rounds tells clock image_at faults round old new before now (Ok report)
     done reads =
         let made = left reads in
-        let run = λ (index : ℕ). plain_run index round old.stands parts ran new.stands.state of
-        (ends.state ∙ ap (λ (x : Standing). x.state) all.keeper.stands ∙ ap (λ (x : Standing). x.state) all.lines.first.standing) in (
+        let run = λ (index : ℕ). shares_run round ran all.lines.over.runs of index new.stands.state
+        (ends.state ∙ ap (λ (x : Standing). x.state) all.keeper.stands) in (
           record {
             ran = ran;
-            logged = logged_at parts;
+            logged = logged_in shares;
             reports = record { outcomes = refl; answers = refl; durable = refl; end = ends.end_is };
             begins = record {
               sequence = refl;
@@ -438,9 +437,10 @@ module _ {D : Type 0} {tells : D → Option (List ℕ)} {clock : D → ℕ} {ima
               decls = ends.decls ∙ ap (λ (x : Standing). x.decls) all.keeper.stands ∙ mid_decls;
               run = λ index. (run index).0;
               caused = caused;
-              lines_are = λ w below. parts_lines parts old.stands w all.lines.first.are;
-              logged_are = λ index w below. subst (λ es. AreLogged old.stands.decls w old.stands.state es (logged_at parts w))
-                  (sym (run index).1) (parts_logged index 0 w w parts old.stands all.lines.first.are (omega arith));
+              lines_are = λ w below. shares_lines old.stands.decls 1 all.mid.stands.clock.draw shares w
+                  all.lines.over.runs.each;
+              logged_are = λ index w below. subst (λ es. AreLogged old.stands.decls w old.stands.state es (logged_in shares w))
+                  (sym (run index).1) ((all.lines.over.runs.ordered index).logged w below);
             };
             durable = ends.durable;
             lasts = ends.lasts;

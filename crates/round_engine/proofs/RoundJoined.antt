@@ -66,7 +66,7 @@ use Rattle.round_engine.proofs.RoundKept.{mark_at, mid_beside, none_told, over_k
 use Rattle.round_engine.proofs.RoundKept.{rise_on, saves_up}
 use Rattle.round_engine.proofs.Turned.{TurnsBehind, keeps_onto, turned_files, turned_if, turned_parts, turns_behind}
 use Rattle.round_engine.proofs.Whole.{SeenIn, below_8}
-use Rattle.round_engine.proofs.WorkersRun.{item_at, within_of}
+use Rattle.round_engine.proofs.Places.{item_at, within_of}
 
 -- a refusal of the join stands in front of a cut's
 pub up_first : (x y : Option End) → fails_device (first_of x y) ≡ false → fails_device x ≡ false
@@ -151,7 +151,7 @@ module _ {D : Type 0} {tells : D → Option (List ℕ)} {clock : D → ℕ} {ima
   facts = record {
     side_is = kept_side stands ready some start_many idle all;
     whole = after_whole stands ready some start_many idle all;
-    many = ap length all.keeper.logs ∙ all.lines.first.logs_length ∙ start_many;
+    many = ap length all.keeper.logs ∙ all.lines.over.logs_length ∙ start_many;
     limits = λ w log at. lines_limit stands ready some start_many idle all w log (ap (λ l. slice_get l w) (sym all.keeper.logs) ∙ at);
     marked = λ w log at. before_later log.mark.epoch old.stands.clock.epoch all.kept.stands.clock.epoch
         (kept_first stands ready some start_many idle all)
@@ -492,7 +492,7 @@ module _ {D : Type 0} {tells : D → Option (List ℕ)} {clock : D → ℕ} {ima
   no_bank : (w : ℕ) → w < 8 → (x : Result ℕ End) → js.result ≡ x
       → Contains (device_told x) (devices.Bank (growing_number all.kept.side w)) → ⊥
   no_bank w below x at has =
-      let log = item_at all.mid.logs w (omega (arith, below, all.lines.first.logs_length, start_many)) in
+      let log = item_at all.mid.logs w (omega (arith, below, all.lines.over.logs_length, start_many)) in
       js.joins.waited w log.0 (at ∙ told_bank x (growing_number all.kept.side w) has) (ap (λ l. slice_get l w) all.keeper.logs ∙ log.1)
       (all.lines.flushed w log.0 below log.1 (mid_up w log.0 log.1))
 

@@ -34,11 +34,11 @@ use Rattle.round_engine.specs.Ends.{save_limited, wants_memory, where_true}
 use Rattle.round_engine.specs.Gleans.{AddsSnapshot, FailsIn, RoundGleans}
 use Rattle.round_engine.specs.Keeping.{IsSavedBySeen, Keeps, epoch_now, is_refusal, keeper_on}
 use Rattle.round_engine.specs.Keeping.{last_epoch_of, refusal_told}
-use Rattle.round_engine.specs.Parts.{Part}
 use Rattle.round_engine.specs.Phases.{RunsAll}
 use Rattle.round_engine.specs.Refusals.{damage_in, device_in, first_failed, first_full, first_told}
 use Rattle.round_engine.specs.Refusals.{memory_in}
 use Rattle.round_engine.specs.Saves.{AreSavedIn, beside_at_end, NeverFall}
+use Rattle.round_engine.specs.Shares.{Share}
 use Rattle.round_engine.specs.Sides.{closed_in, growing_in}
 use Rattle.round_engine.specs.Standing.{AreClosed, beside_of, HasSnapshot, IsMarkBefore, IsReady, RuntimeState, StandsOn}
 use Rattle.round_engine.specs.Workers.{idled, refusal_of}
@@ -61,7 +61,7 @@ use Rattle.round_engine.proofs.RoundDone.{keeper_start, map_same, map_true, mid_
 use Rattle.round_engine.proofs.RoundDone.{start_up}
 use Rattle.round_engine.proofs.Saved.{IsOver, lines_weaker, over_begin, over_end}
 use Rattle.round_engine.proofs.Whole.{below_8}
-use Rattle.round_engine.proofs.WorkersRun.{item_at}
+use Rattle.round_engine.proofs.Places.{item_at}
 
 -- a mark of this epoch at least, or of an idle worker
 abbrev pub IsAtLeast : ℕ → Option ℕ → Type 0
@@ -421,7 +421,7 @@ module _ {D : Type 0} {tells : D → Option (List ℕ)} {clock : D → ℕ} {ima
   at_end logs failed others = ap (λ k. fold keeper_after k report.keeper)
       (sym (keeper_start stands ready some start_many idle all)) ∙ all.keeper.at_end
 
-  logs_refused : map refusal_of all.ends ≡ map (λ (p : Part). p.refusal) all.lines.parts
+  logs_refused : map refusal_of all.ends ≡ map (λ (p : Share). p.refusal) all.lines.shares
   logs_refused = all.lines.ends_are
 
   pub first_is : first_failed old.side 0 all.ends ≡ first_down old.side 0 (are_down all.mid.logs)
@@ -431,8 +431,8 @@ module _ {D : Type 0} {tells : D → Option (List ℕ)} {clock : D → ℕ} {ima
     where
       ends_many : length all.ends ≡ length all.mid.logs
       ends_many = sym (length-map all.ends refusal_of) ∙ ap length logs_refused
-          ∙ length-map all.lines.parts (λ (p : Part). p.refusal) ∙ all.lines.first.count
-          ∙ sym start_many ∙ sym all.lines.first.logs_length
+          ∙ length-map all.lines.shares (λ (p : Share). p.refusal) ∙ all.lines.over.runs.workers
+          ∙ sym start_many ∙ sym all.lines.over.logs_length
 
   -- the device that lines were refused by, and the end that is the maintenance thread's
   pub device_is : all.refused.device ≡ first_told (device_in (refusal_told all.keeper.failed all.keeper.broken all.keeper.damaged
@@ -478,12 +478,12 @@ module _ {D : Type 0} {tells : D → Option (List ℕ)} {clock : D → ℕ} {ima
   -- each log keeps its limit, and the clock stays above the saved epoch
   pub lines_limit : (w : ℕ) (log : LogState) → slice_get all.mid.logs w ≡ Some log → log.journal.limit ≡ log_limit
   lines_limit w log at =
-      let below = below_8 all.mid.logs w log at (all.lines.first.logs_length ∙ start_many) in
+      let below = below_8 all.mid.logs w log at (all.lines.over.logs_length ∙ start_many) in
       let begins = item_at start w (omega (arith, below, start_many)) in
       let was = item_at (growing_in old.side before) w (omega (arith, below, before_many stands ready some start_many idle all)) in
       let bank = item_at (growing_in old.side all.between) w (omega (arith, below, between_many stands ready some start_many idle all)) in
       let up = start_up stands ready some start_many idle all in
-      (lines_at w all.lines.first up begins.1 at was.1 bank.1).limit ∙ (up w begins.0 was.0 begins.1 was.1).limit
+      (lines_at w all.lines.over start_many begins.1 at was.1 bank.1).limit ∙ (up w begins.0 was.0 begins.1 was.1).limit
 
   pub kept_above : epoch_of all.kept.save.newest < all.kept.stands.clock.epoch
   kept_above = all.keeper.above (omega (
@@ -497,7 +497,7 @@ module _ {D : Type 0} {tells : D → Option (List ℕ)} {clock : D → ℕ} {ima
   pub mark_at : (w : ℕ) (log : LogState) → slice_get all.mid.logs w ≡ Some log
       → IsMarkBefore old.stands.clock.epoch log.mark.epoch × IsAtLeast (epoch_of old.save.newest) log.mark.epoch
   mark_at w log at =
-      let below = below_8 all.mid.logs w log at (all.lines.first.logs_length ∙ start_many) in
+      let below = below_8 all.mid.logs w log at (all.lines.over.logs_length ∙ start_many) in
       let begins = item_at start w (omega (arith, below, start_many)) in
       let was = item_at old.logs w (omega (arith, below, stands.workers)) in
       let joined = all_at (IsJoined old.stands.clock.epoch) old.logs w was.0 ready.logs was.1 in

@@ -1,10 +1,10 @@
--- A round on the plain map that stopped for want of memory: a front of it was run.
-use Rattle.std.proofs.Common.{◌≡◌, ◌∙◌, ◌≤◌, ◌<◌, ◌+◌, ◌⊎◌, ◌++◌, ◌∷◌, inl, inr, sym, ap, subst, refl, ℕ, zero, suc, List, []}
+-- A round that stopped for want of memory, whichever engine ran its lines: a front of it was run.
+use Rattle.std.proofs.Common.{◌≡◌, ◌∙◌, ◌≤◌, ◌<◌, ◌+◌, ◌++◌, ◌∷◌, inl, inr, sym, ap, subst, refl, ℕ, zero, suc, List, []}
 use Rattle.std.proofs.Common.{length, map, true, false, Option, Some, None, arith}
 use Rattle.std.specs.Prelude.{option_to_list, ◌^◌, is_some, slice_get, Err}
 use Rattle.std.specs.List.{AllByRecursion, Contains, filter_map}
 use Rattle.std.proofs.lemmas.Bool.{cases_lt}
-use Rattle.std.proofs.lemmas.List.{append-nil, length-map}
+use Rattle.std.proofs.lemmas.List.{length-map}
 use Rattle.std.proofs.lemmas.Option.{same_Some}
 use Rattle.lists.specs.Each.{all_at}
 use Rattle.lists.specs.Elements.{in_none}
@@ -34,12 +34,11 @@ use Rattle.round_engine.specs.Changes.{AreLogged}
 use Rattle.round_engine.specs.Gleans.{RoundGleans}
 use Rattle.round_engine.specs.Keeping.{Keeps}
 use Rattle.round_engine.specs.Logs.{IsRefusedBy}
-use Rattle.round_engine.specs.Parts.{AreParts, Part, after_parts, lines_in, logged_at, outcomes_of}
 use Rattle.round_engine.specs.Phases.{RunsSome}
-use Rattle.round_engine.specs.Plainly.{after_lines}
 use Rattle.round_engine.specs.RanRound.{AreRoundMarks, LeavesVault, Rounds, SwapsFiles}
+use Rattle.round_engine.specs.Shares.{RunsShares, Share, logged_in}
 use Rattle.round_engine.specs.Sides.{closed_in, growing_in}
-use Rattle.round_engine.specs.Standing.{files_of, HasSnapshot, IsMarkBefore, IsReady, RuntimeState, Standing, StandsOn}
+use Rattle.round_engine.specs.Standing.{files_of, HasSnapshot, IsMarkBefore, IsReady, RuntimeState, StandsOn}
 use Rattle.round_engine.specs.Steps.{AreLogsUp, IsLogUp, KeepsMark}
 use Rattle.round_engine.specs.Workers.{idled}
 use Rattle.round_engine.proofs.CrashesLeft.{with_crashes}
@@ -47,70 +46,17 @@ use Rattle.round_engine.proofs.Beside.{SameSaves, keeps_from, keeps_none}
 use Rattle.round_engine.proofs.Devices.{are_down, at_first, bank_down, bank_in, down_at, in_banks, save_down}
 use Rattle.round_engine.proofs.Ended.{devices_down}
 use Rattle.round_engine.proofs.Fronts.{lines_from, no_keepers, ran_at, ran_of as run_of}
-use Rattle.round_engine.proofs.LinesLeft.{LastStep, front_nothing, last_none, lines_at, logged_above, logged_none}
+use Rattle.round_engine.proofs.LinesLeft.{LastStep, front_nothing, last_none, lines_at}
 use Rattle.round_engine.proofs.LinesLeft.{logs_total, logs_up}
-use Rattle.round_engine.proofs.Logged.{parts_lines, parts_logged}
 use Rattle.round_engine.proofs.Numbered.{closed_at, closed_many, growing_at, growing_many, log_of_is, whole_of}
-use Rattle.round_engine.proofs.PlainRun.{IsRanOf, plain_caused, plain_kept, plain_run}
+use Rattle.round_engine.proofs.SharesRun.{IsRanOf, lines_of, logged_above, logged_nothing, outcomes_of, run_caused}
+use Rattle.round_engine.proofs.SharesRun.{same_decls}
+use Rattle.round_engine.proofs.SharesRun.{shares_lines, shares_run}
 use Rattle.round_engine.proofs.Places.{all_from, map_there}
 use Rattle.round_engine.proofs.JoinEnds.{before_later}
 use Rattle.round_engine.proofs.RoundDone.{idled_up, logs_caused, round_marks, same_closed_in}
 use Rattle.round_engine.proofs.Whole.{LogsTotal, below_8, epochs_at, first_epochs, leaves_vault, round_front}
-use Rattle.round_engine.proofs.WorkersRun.{item_at, map_at, within_of}
-
--- ---- eight parts
-
--- a worker that ran nothing
-abbrev pub nothing_run : Part
-nothing_run = record { ran = []; left = []; refusal = None; logged = [] }
-
--- so many parts: those that there are, and then such
-abbrev pub padded : ℕ → List Part → List Part
-padded zero parts = []
-padded (suc n) [] = nothing_run ∷ padded n []
-padded (suc n) (p ∷ parts) = p ∷ padded n parts
-
-pub pad_after : (n : ℕ) (parts : List Part) (s : Standing) → length parts ≤ n → after_parts s (padded n parts) ≡ after_parts s parts
-pad_after zero [] s few = refl
-pad_after zero (p ∷ parts) s few = absurd (omega (arith, few))
-pad_after (suc n) [] s few = pad_after n [] s (omega arith)
-pad_after (suc n) (p ∷ parts) s few = pad_after n parts (after_lines s p.ran) (omega (arith, few))
-
-pub pad_are : (n : ℕ) (parts : List Part) (s : Standing) → AreParts s parts → AreParts s (padded n parts)
-pad_are zero parts s are = tt
-pad_are (suc n) [] s are = (record { logged = refl; lines = tt; all = λ none. refl }, pad_are n [] s tt)
-pad_are (suc n) (p ∷ parts) s are = (are.0, pad_are n parts (after_lines s p.ran) are.1)
-
-pub pad_logged : (n : ℕ) (parts : List Part) (w : ℕ) → length parts ≤ n → logged_at (padded n parts) w ≡ logged_at parts w
-pad_logged zero [] w few = refl
-pad_logged zero (p ∷ parts) w few = absurd (omega (arith, few))
-pad_logged (suc n) [] zero few = refl
-pad_logged (suc n) [] (suc w) few = pad_logged n [] w (omega arith)
-pad_logged (suc n) (p ∷ parts) zero few = refl
-pad_logged (suc n) (p ∷ parts) (suc w) few = pad_logged n parts w (omega (arith, few))
-
--- a part of them is one of those, or stands behind them and was not refused
-pub pad_at : (n : ℕ) (parts : List Part) (w : ℕ) (p : Part) → slice_get (padded n parts) w ≡ Some p
-    → (slice_get parts w ≡ Some p) ⊎ ((p.refusal ≡ None) × (length parts ≤ w))
-pad_at zero parts w p at = absurd cc
-pad_at (suc n) [] zero p at = inr (ap (λ (x : Part). x.refusal) (sym (same_Some nothing_run p at)), omega arith)
-pad_at (suc n) [] (suc w) p at = elim (pad_at n [] w p at) [
-  | inl there ↦ absurd (let no = there in cc)
-  | inr none ↦ inr (none.0, omega arith)
-]
-pad_at (suc n) (q ∷ parts) zero p at = inl at
-pad_at (suc n) (q ∷ parts) (suc w) p at = elim (pad_at n parts w p at) [
-  | inl there ↦ inl there
-  | inr none ↦ inr (none.0, omega (arith, none.1))
-]
-
--- and each of those is one of them
-pub pad_some : (n : ℕ) (parts : List Part) (w : ℕ) (p : Part) → length parts ≤ n → slice_get parts w ≡ Some p
-    → slice_get (padded n parts) w ≡ Some p
-pad_some n [] w p few at = absurd cc
-pad_some zero (q ∷ parts) w p few at = absurd (omega (arith, few))
-pad_some (suc n) (q ∷ parts) zero p few at = at
-pad_some (suc n) (q ∷ parts) (suc w) p few at = pad_some n parts w p (omega (arith, few)) at
+use Rattle.round_engine.proofs.Places.{item_at, map_at, within_of}
 
 -- the mark of a worker that ran in part
 pub mark_stopped : (lines : List (List Op)) (was begins log : LogState) (epoch : ℕ) → 1 ≤ epoch → IsJoined epoch was
@@ -132,29 +78,18 @@ abbrev pub workers_from : ℕ → ℕ → List ℕ
 workers_from k zero = []
 workers_from k (suc n) = k ∷ workers_from (k + 1) n
 
--- their lines are those that were run
-pub pad_lines : (n worker : ℕ) (parts : List Part) (lines : List Line)
-    → ((i : ℕ) → filter_map (ops_of_worker (worker + i)) lines ≡ ran_at parts i)
-    → ((i : ℕ) (p : Part) → slice_get parts i ≡ Some p → p.left ≡ [])
-    → map lines_in (padded n parts) ≡ map (λ v. filter_map (ops_of_worker v) lines) (workers_from worker n)
-pad_lines zero worker parts lines run none = refl
-pad_lines (suc n) worker [] lines run none =
-    ap (λ l. l ∷ map lines_in (padded n [])) (sym (run 0) ∙ ap (λ v. filter_map (ops_of_worker v) lines) (plain worker))
+-- the lines of the shares are those of the round that is made of them
+pub made_lines : (n worker : ℕ) (shares : List Share) (lines : List Line) → length shares ≡ n
+    → ((i : ℕ) → filter_map (ops_of_worker (worker + i)) lines ≡ ran_at shares i)
+    → lines_of shares ≡ map (λ v. filter_map (ops_of_worker v) lines) (workers_from worker n)
+made_lines zero worker [] lines many run = refl
+made_lines zero worker (p ∷ shares) lines many run = absurd cc
+made_lines (suc n) worker [] lines many run = absurd cc
+made_lines (suc n) worker (p ∷ shares) lines many run =
+    ap (λ l. l ∷ lines_of shares) (sym (run 0) ∙ ap (λ v. filter_map (ops_of_worker v) lines) (plain worker))
     ∙ ap (λ l. filter_map (ops_of_worker worker) lines ∷ l)
-    (pad_lines n (worker + 1) [] lines (λ i. ap (λ v. filter_map (ops_of_worker v) lines) (next worker i) ∙ run (suc i)) none)
-  where
-    plain : (n : ℕ) → n + 0 ≡ n
-    plain n = omega arith
-
-    next : (worker i : ℕ) → (worker + 1) + i ≡ worker + suc i
-    next worker i = omega arith
-pad_lines (suc n) worker (p ∷ parts) lines run none =
-    ap (λ l. l ∷ map lines_in (padded n parts))
-    (ap (λ l. p.ran ++ l) (none 0 p refl) ∙ append-nil p.ran ∙ sym (run 0)
-    ∙ ap (λ v. filter_map (ops_of_worker v) lines) (plain worker))
-    ∙ ap (λ l. filter_map (ops_of_worker worker) lines ∷ l)
-    (pad_lines n (worker + 1) parts lines (λ i. ap (λ v. filter_map (ops_of_worker v) lines) (next worker i) ∙ run (suc i))
-    (λ i q at. none (suc i) q at))
+    (made_lines n (worker + 1) shares lines (omega (arith, many))
+    (λ i. ap (λ v. filter_map (ops_of_worker v) lines) (next worker i) ∙ run (suc i)))
   where
     plain : (n : ℕ) → n + 0 ≡ n
     plain n = omega arith
@@ -162,16 +97,16 @@ pad_lines (suc n) worker (p ∷ parts) lines run none =
     next : (worker i : ℕ) → (worker + 1) + i ≡ worker + suc i
     next worker i = omega arith
 
--- what a worker beyond the parts ran is nothing
-pub ran_past : (parts : List Part) (w : ℕ) → length parts ≤ w → ran_at parts w ≡ []
+-- what a worker beyond the shares ran is nothing
+pub ran_past : (shares : List Share) (w : ℕ) → length shares ≤ w → ran_at shares w ≡ []
 ran_past [] w past = refl
-ran_past (p ∷ parts) zero past = absurd (omega (arith, past))
-ran_past (p ∷ parts) (suc w) past = ran_past parts w (omega (arith, past))
+ran_past (p ∷ shares) zero past = absurd (omega (arith, past))
+ran_past (p ∷ shares) (suc w) past = ran_past shares w (omega (arith, past))
 
-pub ran_some : (parts : List Part) (w : ℕ) (p : Part) → slice_get parts w ≡ Some p → ran_at parts w ≡ p.ran
+pub ran_some : (shares : List Share) (w : ℕ) (p : Share) → slice_get shares w ≡ Some p → ran_at shares w ≡ p.lines
 ran_some [] w p at = absurd cc
-ran_some (q ∷ parts) zero p at = ap (λ (x : Part). x.ran) (same_Some q p at)
-ran_some (q ∷ parts) (suc w) p at = ran_some parts w p at
+ran_some (q ∷ shares) zero p at = ap (λ (x : Share). x.lines) (same_Some q p at)
+ran_some (q ∷ shares) (suc w) p at = ran_some shares w p at
 
 module _ {D : Type 0} {tells : D → Option (List ℕ)} {clock : D → ℕ} {image_at : D → ℕ → List ℕ → Type 0}
     {faults : D → ℕ} {round : Round} {old : RuntimeState} {start : List LogState} {mid : RuntimeState}
@@ -181,23 +116,20 @@ module _ {D : Type 0} {tells : D → Option (List ℕ)} {clock : D → ℕ} {ima
     (idle : (w : ℕ) (log : LogState) → slice_get old.logs w ≡ Some log
     → slice_get start w ≡ Some (idled (lines_of_worker round w) log))
     (part : RunsSome tells clock image_at faults round (record old { logs = start }) mid before now) where
-  abbrev parts : List Part
-  parts = part.parts
-
-  abbrev eight : List Part
-  eight = padded 8 part.parts
+  abbrev shares : List Share
+  shares = part.stops.shares
 
   abbrev new : RuntimeState
   new = record mid { stands = record mid.stands { ended = true }; down = true }
 
   abbrev front : Round
-  front = record { lines = lines_from 0 part.parts }
+  front = record { lines = lines_from 0 part.stops.shares }
 
   abbrev ran : Ran
   ran = record {
     begin = old.stands.clock;
     end = mid.stands.clock;
-    outcomes = outcomes_of old.stands eight;
+    outcomes = outcomes_of part.stops.shares;
     asked = [];
     answers = [];
     durable = None;
@@ -206,14 +138,14 @@ module _ {D : Type 0} {tells : D → Option (List ℕ)} {clock : D → ℕ} {ima
     room = old.room;
     files = files_of old;
     marks = first_epochs start;
-    logs = map (λ (p : Part). p.refusal) eight;
+    logs = map (λ (p : Share). p.refusal) part.stops.shares;
     gleans = [];
     devices = devices_down old.side (are_down mid.logs) false [];
     damaged = None;
   }
 
-  few : length parts ≤ 8
-  few = omega (arith, part.first.count, part.within)
+  runs : RunsShares 1 old.stands mid.stands part.stops.shares
+  runs = part.stops.over.runs
 
   before_many : length (growing_in old.side before) ≡ 8
   before_many = growing_many old.side before stands.whole
@@ -239,7 +171,7 @@ module _ {D : Type 0} {tells : D → Option (List ℕ)} {clock : D → ℕ} {ima
   closed_same = part.beside.closed ∙ same_closed_in old.side before part.lent part.room
 
   now_many : length (growing_in old.side now) ≡ 8
-  now_many = part.first.banks_length ∙ before_many
+  now_many = part.stops.over.banks_length ∙ before_many
 
   now_whole : IsWhole now
   now_whole = whole_of old.side now now_many (ap length closed_same ∙ closed_many old.side before stands.whole)
@@ -251,42 +183,39 @@ module _ {D : Type 0} {tells : D → Option (List ℕ)} {clock : D → ℕ} {ima
       let same : idled (lines_of_worker round w) was.0 ≡ log = same_Some _ log (sym (idle w was.0 was.1) ∙ at) in
       subst (λ x. IsLogUp tells x bank) same (idled_up (lines_of_worker round w) was.0 bank up)
 
-  front_lines : (v : ℕ) → lines_of_worker front v ≡ ran_at parts v
-  front_lines v = run_of 0 v v parts (omega arith)
+  front_lines : (v : ℕ) → lines_of_worker front v ≡ ran_at shares v
+  front_lines v = run_of 0 v v shares (omega arith)
 
   is_front : (v : ℕ) → IsFront (lines_of_worker front v) (lines_of_worker round v)
-  is_front v = elim (cases_lt v (length parts)) [
+  is_front v = elim (cases_lt v (length shares)) [
     | inl within ↦
-        let p = item_at parts v within in
-        subst (λ l. IsFront l (lines_of_worker round v)) (sym (front_lines v ∙ ran_some parts v p.0 p.1))
-        (part.fronts v p.0 p.1).0
-    | inr past ↦ subst (λ l. IsFront l (lines_of_worker round v)) (sym (front_lines v ∙ ran_past parts v past))
+        let p = item_at shares v within in
+        subst (λ l. IsFront l (lines_of_worker round v)) (sym (front_lines v ∙ ran_some shares v p.0 p.1))
+        (part.stops.fronts v p.0 p.1)
+    | inr past ↦ subst (λ l. IsFront l (lines_of_worker round v)) (sym (front_lines v ∙ ran_past shares v past))
         (front_none (lines_of_worker round v))
   ]
 
-  lines_are : map lines_in eight ≡ worker_lines front
-  lines_are = pad_lines 8 0 parts (lines_from 0 parts) (λ i. run_of 0 i (0 + i) parts refl) (λ i p at. (part.fronts i p at).1)
+  lines_are : lines_of shares ≡ worker_lines front
+  lines_are = made_lines 8 0 shares (lines_from 0 shares) runs.workers (λ i. run_of 0 i (0 + i) shares refl)
 
-  standing : mid.stands ≡ after_parts old.stands eight
-  standing = part.first.standing ∙ sym (pad_after 8 parts old.stands few)
-
-  of : IsRanOf front old.stands eight ran
+  of : IsRanOf front old.stands mid.stands shares ran
   of = record {
     lines = lines_are;
     begin = refl;
-    draw = ap (λ (x : Standing). x.clock.draw) standing;
+    draw = refl;
     outcomes = refl;
-    asked = sym (no_keepers 0 parts);
-    answers = ap length (sym (no_keepers 0 parts));
-    epoch = ap (λ (x : Standing). x.clock.epoch) standing ∙ (plain_kept eight old.stands).1;
+    asked = sym (no_keepers 0 shares);
+    answers = ap length (sym (no_keepers 0 shares));
+    epoch = runs.epoch;
   }
 
-  total : LogsTotal tells clock image_at faults (logged_at parts) start old.logs mid.logs mid.logs (growing_in old.side before)
+  total : LogsTotal tells clock image_at faults (logged_in shares) start old.logs mid.logs mid.logs (growing_in old.side before)
       (growing_in old.side now)
-  total = logs_total part.first start_up start_many stands.workers (part.first.logs_length ∙ start_many) before_many
-      (part.first.banks_length ∙ before_many) some ready.logs idle
-      (λ w none. logged_none parts old.stands w part.first.are
-      (λ p at. front_nothing p.ran (lines_of_worker round w) (part.fronts w p at).0 none))
+  total = logs_total round part.stops.over start_many stands.workers (part.stops.over.logs_length ∙ start_many) before_many
+      (part.stops.over.banks_length ∙ before_many) some ready.logs idle
+      (λ w none. logged_nothing old.stands.decls 1 mid.stands.clock.draw shares w runs.each
+      (λ p at. front_nothing p.lines (lines_of_worker round w) (part.stops.fronts w p at) none))
       (λ w lines log was is at there bank bank_now.
       subst (λ x. LastStep tells clock image_at faults old.stands.clock.epoch lines x was is)
       (same_Some lines log (sym at ∙ there))
@@ -300,92 +229,72 @@ module _ {D : Type 0} {tells : D → Option (List ℕ)} {clock : D → ℕ} {ima
       (subst (λ (s : SaveState). IsStored tells clock image_at before.save s.newest) (sym mid_save)
       (stands.stored (stands.up ready.up).save))))
 
-  -- what a part tells of its log
-  refused_at : (w : ℕ) (p : Part) (log : LogState) → slice_get parts w ≡ Some p → slice_get mid.logs w ≡ Some log
+  -- what a share tells of its log
+  refused_at : (w : ℕ) (p : Share) (log : LogState) → slice_get shares w ≡ Some p → slice_get mid.logs w ≡ Some log
       → IsRefusedBy p.refusal log.journal × (log.journal.limit ≡ log_limit)
   refused_at w p log at there =
-      let below : w < 8 = omega (arith, within_of parts w p at, few) in
+      let below : w < 8 = omega (arith, within_of shares w p at, runs.workers) in
       let begins = item_at start w (omega (arith, below, start_many)) in
       let bank = item_at (growing_in old.side before) w (omega (arith, below, before_many)) in
-      let mid_bank = item_at (growing_in old.side now) w (omega (arith, below, before_many, part.first.banks_length)) in
-      let left = part.first.each w p begins.0 log bank.0 mid_bank.0 at begins.1 there bank.1 mid_bank.1 in
+      let mid_bank = item_at (growing_in old.side now) w (omega (arith, below, before_many, part.stops.over.banks_length)) in
+      let left = part.stops.over.each w p begins.0 log bank.0 mid_bank.0 at begins.1 there bank.1 mid_bank.1 in
       (left.refused, left.limit ∙ (start_up w begins.0 bank.0 begins.1 bank.1).limit)
-
-  -- the log of a worker behind the parts is as it was
-  untouched : (w : ℕ) (log : LogState) → length parts ≤ w → slice_get mid.logs w ≡ Some log → log.journal.down ≡ None
-  untouched w log past at =
-      let below = below_8 mid.logs w log at (part.first.logs_length ∙ start_many) in
-      let bank = item_at (growing_in old.side before) w (omega (arith, below, before_many)) in
-      (start_up w log bank.0 (sym (part.first.rest_logs w (omega (arith, past, part.first.count))) ∙ at) bank.1).up
 
   failed_at : (w : ℕ) → w < 8 → Contains ran.devices (devices.Bank (growing_number old.side w)) → slice_get ran.logs w ≡ Some (Some LogFailed)
   failed_at w below has =
       let at = map_at (λ (l : LogState). is_some l.journal.down) mid.logs w true (bank_down old.side (are_down mid.logs) false [] w
       (λ none. in_none (devices.Bank (growing_number old.side w)) none) has) in
-      elim (cases_lt w (length parts)) [
-        | inr past ↦ absurd (let no = sym at.2 ∙ ap is_some (untouched w at.0 past at.1) in cc)
-        | inl within ↦
-            let p = item_at parts w within in
-            let begins = item_at start w (omega (arith, below, start_many)) in
-            let bank = item_at (growing_in old.side before) w (omega (arith, below, before_many)) in
-            let mid_bank = item_at (growing_in old.side now) w (omega (arith, below, before_many, part.first.banks_length)) in
-            let left = part.first.each w p.0 begins.0 at.0 bank.0 mid_bank.0 p.1 begins.1 at.1 bank.1 mid_bank.1 in
-            map_there (λ (q : Part). q.refusal) eight w p.0 (pad_some 8 parts w p.0 few p.1) ∙ ap Some (left.failed at.2)
-      ]
+      let p = item_at shares w (omega (arith, below, runs.workers)) in
+      let begins = item_at start w (omega (arith, below, start_many)) in
+      let bank = item_at (growing_in old.side before) w (omega (arith, below, before_many)) in
+      let mid_bank = item_at (growing_in old.side now) w (omega (arith, below, before_many, part.stops.over.banks_length)) in
+      let left = part.stops.over.each w p.0 begins.0 at.0 bank.0 mid_bank.0 p.1 begins.1 at.1 bank.1 mid_bank.1 in
+      map_there (λ (q : Share). q.refusal) shares w p.0 p.1 ∙ ap Some (left.failed at.2)
 
   logs_caused_so : LogsCaused ran.files ran.devices 0 ran.logs
   logs_caused_so = logs_caused ran.files ran.devices 0 ran.logs
       (λ i at.
-      let p = map_at (λ (p : Part). p.refusal) eight i (Some LogFailed) at in
-      elim (pad_at 8 parts i p.0 p.1) [
-        | inr none ↦ absurd (let no = sym none.0 ∙ p.2 in cc)
-        | inl there ↦
-            let log = item_at mid.logs i (omega (arith, within_of parts i p.0 there, few, part.first.logs_length, start_many)) in
-            let down = subst (λ r. IsRefusedBy r log.0.journal) p.2 (refused_at i p.0 log.0 there log.1).0 in
-            subst (λ n. Contains ran.devices (log_of ran.files n)) (at_first i)
-            (subst (Contains ran.devices) (sym (log_of_is old.side ran.files i refl))
-            (bank_in old.side 0 i i (are_down mid.logs) (omega arith) (down_at mid.logs i log.0 log.1 down)))
-      ])
+      let p = map_at (λ (p : Share). p.refusal) shares i (Some LogFailed) at in
+      let log = item_at mid.logs i (omega (arith, within_of shares i p.0 p.1, runs.workers, part.stops.over.logs_length, start_many)) in
+      let down = subst (λ r. IsRefusedBy r log.0.journal) p.2 (refused_at i p.0 log.0 p.1 log.1).0 in
+      subst (λ n. Contains ran.devices (log_of ran.files n)) (at_first i)
+      (subst (Contains ran.devices) (sym (log_of_is old.side ran.files i refl))
+      (bank_in old.side 0 i i (are_down mid.logs) (omega arith) (down_at mid.logs i log.0 log.1 down))))
       (λ i size at.
-      let p = map_at (λ (p : Part). p.refusal) eight i (Some (LogFull size)) at in
-      elim (pad_at 8 parts i p.0 p.1) [
-        | inr none ↦ absurd (let no = sym none.0 ∙ p.2 in cc)
-        | inl there ↦
-            let log = item_at mid.logs i (omega (arith, within_of parts i p.0 there, few, part.first.logs_length, start_many)) in
-            let is = refused_at i p.0 log.0 there log.1 in
-            let full = subst (λ r. IsRefusedBy r log.0.journal) p.2 is.0 in
-            omega (arith, full.1, is.1)
-      ])
+      let p = map_at (λ (p : Share). p.refusal) shares i (Some (LogFull size)) at in
+      let log = item_at mid.logs i (omega (arith, within_of shares i p.0 p.1, runs.workers, part.stops.over.logs_length, start_many)) in
+      let is = refused_at i p.0 log.0 p.1 log.1 in
+      let full = subst (λ r. IsRefusedBy r log.0.journal) p.2 is.0 in
+      omega (arith, full.1, is.1))
 
   stands_new : StandsOn tells clock image_at new now
   stands_new = record {
     whole = now_whole;
-    workers = part.first.logs_length ∙ start_many;
+    workers = part.stops.over.logs_length ∙ start_many;
     limits = all_from (λ (l : LogState). l.journal.limit ≡ log_limit) mid.logs (λ w log at.
-        let below = below_8 mid.logs w log at (part.first.logs_length ∙ start_many) in
+        let below = below_8 mid.logs w log at (part.stops.over.logs_length ∙ start_many) in
         let begins = item_at start w (omega (arith, below, start_many)) in
         let was = item_at (growing_in old.side before) w (omega (arith, below, before_many)) in
-        let bank = item_at (growing_in old.side now) w (omega (arith, below, before_many, part.first.banks_length)) in
-        (lines_at w part.first start_up begins.1 at was.1 bank.1).limit ∙ (start_up w begins.0 was.0 begins.1 was.1).limit);
+        let bank = item_at (growing_in old.side now) w (omega (arith, below, before_many, part.stops.over.banks_length)) in
+        (lines_at w part.stops.over start_many begins.1 at was.1 bank.1).limit ∙ (start_up w begins.0 was.0 begins.1 was.1).limit);
     above = omega (
       arith,
       stands.above,
       ap (λ (x : SaveState). epoch_of x.newest) mid_save,
-      ap (λ (x : Standing). x.clock.epoch) standing,
-      (plain_kept eight old.stands).1,
+      runs.epoch,
     );
     marked = all_from (λ (l : LogState). IsMarkBefore mid.stands.clock.epoch l.mark.epoch) mid.logs (λ w log at.
-        let below = below_8 mid.logs w log at (part.first.logs_length ∙ start_many) in
+        let below = below_8 mid.logs w log at (part.stops.over.logs_length ∙ start_many) in
         let begins = item_at start w (omega (arith, below, start_many)) in
         let was = item_at old.logs w (omega (arith, below, stands.workers)) in
         let bank = item_at (growing_in old.side before) w (omega (arith, below, before_many)) in
-        let mid_bank = item_at (growing_in old.side now) w (omega (arith, below, before_many, part.first.banks_length)) in
+        let mid_bank = item_at (growing_in old.side now) w (omega (arith, below, before_many, part.stops.over.banks_length)) in
         let joined = all_at (IsJoined old.stands.clock.epoch) old.logs w was.0 ready.logs was.1 in
         let is : idled (lines_of_worker round w) was.0 ≡ begins.0 = same_Some _ begins.0 (sym (idle w was.0 was.1) ∙ begins.1) in
         before_later log.mark.epoch old.stands.clock.epoch mid.stands.clock.epoch
-        (omega (arith, ap (λ (x : Standing). x.clock.epoch) standing, (plain_kept eight old.stands).1))
+        (omega (arith, runs.epoch))
         (mark_stopped (lines_of_worker round w) was.0 begins.0 log old.stands.clock.epoch some joined is
-        (lines_at w part.first start_up begins.1 at bank.1 mid_bank.1).mark));
+        (lines_at w part.stops.over start_many begins.1 at bank.1 mid_bank.1).mark));
     closed = record {
       workers = ap (λ (r : RuntimeState). length r.counted) part.alone ∙ stands.closed.workers;
       counted = subst (λ (r : RuntimeState). AllByRecursion (λ n. n < 2 ^ 40) r.counted) (sym part.alone) stands.closed.counted;
@@ -393,8 +302,7 @@ module _ {D : Type 0} {tells : D → Option (List ℕ)} {clock : D → ℕ} {ima
         arith,
         ap (λ (r : RuntimeState). r.closed_at) part.alone,
         stands.closed.before,
-        ap (λ (x : Standing). x.clock.epoch) standing,
-        (plain_kept eight old.stands).1,
+        runs.epoch,
       );
     };
     most_pages = omega (arith, ap (λ (r : RuntimeState). r.room) part.alone, stands.most_pages);
@@ -409,16 +317,16 @@ module _ {D : Type 0} {tells : D → Option (List ℕ)} {clock : D → ℕ} {ima
           holds = has.holds;
           contents = has.contents;
           stands = has.stands;
-          decls = ap (λ (x : Standing). x.decls) standing ∙ (plain_kept eight old.stands).0 ∙ has.decls;
+          decls = same_decls runs ∙ has.decls;
           up_to = has.up_to;
           earlier = has.earlier;
           let_in = has.let_in;
         }));
     reaches = λ w log bank at there.
-        let below = below_8 mid.logs w log at (part.first.logs_length ∙ start_many) in
+        let below = below_8 mid.logs w log at (part.stops.over.logs_length ∙ start_many) in
         let begins = item_at start w (omega (arith, below, start_many)) in
         let was = item_at (growing_in old.side before) w (omega (arith, below, before_many)) in
-        (lines_at w part.first start_up begins.1 at was.1 (sym (growing_at old.side now w)
+        (lines_at w part.stops.over start_many begins.1 at was.1 (sym (growing_at old.side now w)
         ∙ ap (λ s. disk_in now (devices.Bank (growing_number s w))) (sym mid_side) ∙ there)).reaches;
   }
 
@@ -459,20 +367,20 @@ module _ {D : Type 0} {tells : D → Option (List ℕ)} {clock : D → ℕ} {ima
       let log = map_at (λ (l : LogState). is_some l.journal.down) mid.logs at.1 true
       (subst (λ k. slice_get (are_down mid.logs) k ≡ Some true) here at.3) in (
         at.1,
-        below_8 mid.logs at.1 log.0 log.1 (part.first.logs_length ∙ start_many),
+        below_8 mid.logs at.1 log.0 log.1 (part.stops.over.logs_length ∙ start_many),
         sym at.4 ∙ sym (log_of_is old.side ran.files at.1 refl),
       )
 
   -- what it leaves of the vault, and of the crashes
   left : ((disk : D) (file : List ℕ) → tells disk ≡ Some file → image_at disk (clock disk) file)
-      → (v : LeavesVault tells clock image_at faults ran (logged_at parts) old new before now)
-      × CarriesCrashes tells clock image_at (logged_at parts) (v.stored ++ option_to_list v.failed) ran old new before now
+      → (v : LeavesVault tells clock image_at faults ran (logged_in shares) old new before now)
+      × CarriesCrashes tells clock image_at (logged_in shares) (v.stored ++ option_to_list v.failed) ran old new before now
   unfolding files
   left reads = with_crashes reads stands (length-map start (λ (log : LogState). log.mark.epoch ∷ []) ∙ start_many)
       (λ epoch is. absurd (let no = is in cc))
-      (leaves_vault ran (logged_at parts) start mid.logs mid.logs old new before now [] None total
+      (leaves_vault ran (logged_in shares) start mid.logs mid.logs old new before now [] None total
       (record { lines = []; rest = []; all = refl; told = refl; behind = tt }) keeps.newest (round_front start)
-      (λ w below. logged_above parts old.stands w (epoch_of old.save.newest) part.first.are stands.above)
+      (λ w below. logged_above w (epoch_of old.save.newest) below stands.above runs)
       stands.whole stands.closed.workers files now_whole (λ is. absurd (let no = is in cc))
       [] keeps stands_new refl (λ device has. absurd (in_none device has)) (λ device has. absurd (in_none device has))
       (λ not. ap faults same_saves.snaps)
@@ -480,11 +388,8 @@ module _ {D : Type 0} {tells : D → Option (List ℕ)} {clock : D → ℕ} {ima
       gleans_none (λ what has. absurd (in_none what has)) (λ not. ap (λ (s : StoreState). s.sound) mid_store ∙ (stands.up ready.up).store)
       (ap (λ (r : RuntimeState). r.room) part.alone) refl
       (λ w log refusal at has.
-      let p = map_at (λ (p : Part). p.refusal) eight w refusal has in
-      elim (pad_at 8 parts w p.0 p.1) [
-        | inr none ↦ subst (λ r. IsRefusedBy r log.journal) (sym none.0 ∙ p.2) (untouched w log none.1 at)
-        | inl there ↦ subst (λ r. IsRefusedBy r log.journal) p.2 (refused_at w p.0 log there at).0
-      ])
+      let p = map_at (λ (p : Share). p.refusal) shares w refusal has in
+      subst (λ r. IsRefusedBy r log.journal) p.2 (refused_at w p.0 log p.1 at).0)
       (λ w below has. inl (failed_at w below (subst (Contains ran.devices) (log_of_is old.side ran.files w refl) has))) tt (λ is. absurd (let no = is in cc)))
 
   pub stopped : ((disk : D) (file : List ℕ) → tells disk ≡ Some file → image_at disk (clock disk) file)
@@ -492,16 +397,15 @@ module _ {D : Type 0} {tells : D → Option (List ℕ)} {clock : D → ℕ} {ima
   unfolding files
   stopped reads memory =
       let made = left reads in
-      let run = λ (index : ℕ). plain_run index front old.stands eight ran mid.stands.state of
-      (ap (λ (x : Standing). x.state) standing) in (
+      let run = λ (index : ℕ). shares_run front ran runs of index mid.stands.state refl in (
         record {
           front = front;
           first = record {
             workers = is_front;
-            keeper = subst (λ k. IsFront k (keeper_lines round)) (sym (no_keepers 0 parts)) (front_none (keeper_lines round));
+            keeper = subst (λ k. IsFront k (keeper_lines round)) (sym (no_keepers 0 shares)) (front_none (keeper_lines round));
           };
           ran = ran;
-          logged = logged_at parts;
+          logged = logged_in shares;
           begins = record {
             sequence = refl;
             pages = refl;
@@ -514,18 +418,16 @@ module _ {D : Type 0} {tells : D → Option (List ℕ)} {clock : D → ℕ} {ima
                 (round_marks (lines_of_worker round w) log old.stands.clock.epoch mid.stands.clock.epoch);
           };
           lines = record {
-            decls = ap (λ (x : Standing). x.decls) standing ∙ (plain_kept eight old.stands).0;
+            decls = same_decls runs;
             run = λ index. (run index).0;
             caused = record {
               logs = logs_caused_so;
-              outcomes = plain_caused front old.stands eight ran of (pad_are 8 parts old.stands part.first.are);
+              outcomes = run_caused front ran runs of part.plain;
               answers = tt;
             };
-            lines_are = λ w below. parts_lines parts old.stands w part.first.are;
-            logged_are = λ index w below. subst (λ es. AreLogged old.stands.decls w old.stands.state es (logged_at parts w))
-                (sym (run index).1)
-                (subst (AreLogged old.stands.decls w old.stands.state _) (pad_logged 8 parts w few)
-                (parts_logged index 0 w w eight old.stands (pad_are 8 parts old.stands part.first.are) (omega arith)));
+            lines_are = λ w below. shares_lines old.stands.decls 1 mid.stands.clock.draw shares w runs.each;
+            logged_are = λ index w below. subst (λ es. AreLogged old.stands.decls w old.stands.state es (logged_in shares w))
+                (sym (run index).1) ((runs.ordered index).logged w below);
           };
           unanswered = refl;
           unstored = λ has. let no = save_down old.side (are_down mid.logs) false []

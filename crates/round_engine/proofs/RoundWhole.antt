@@ -11,9 +11,8 @@ use Rattle.script_grammar.specs.Script.{Round, lines_of_worker, worker_lines}
 use Rattle.tx_script.specs.Run.{AdvancesTo, Ran, entries_of_workers}
 use Rattle.worker_logs.specs.Logs.{IsJoined, LogState}
 use Rattle.round_engine.specs.Keeping.{CanKeep}
-use Rattle.round_engine.specs.Parts.{outcomes_of}
 use Rattle.round_engine.specs.Phases.{RunsAll, SwapsBehind}
-use Rattle.round_engine.specs.Plainly.{AreConsecutive, DrawsFew, DrawsTo}
+use Rattle.round_engine.specs.Plainly.{AreConsecutive, ArePlain, DrawsFew, DrawsTo}
 use Rattle.round_engine.specs.RanRound.{Rounds}
 use Rattle.round_engine.specs.Standing.{IsReady, RuntimeState, Standing, StandsOn}
 use Rattle.round_engine.specs.Sides.{growing_in}
@@ -22,15 +21,13 @@ use Rattle.round_engine.specs.Swaps.{turned_unless}
 use Rattle.round_engine.specs.Workers.{idled}
 use Rattle.round_engine.specs.declared.report.End.{End}
 use Rattle.round_engine.specs.declared.report.Report.{Report}
-use Rattle.round_engine.proofs.Drawn.{parts_draw}
-use Rattle.round_engine.proofs.PlainRun.{IsRanOf, plain_consecutive, plain_few, plain_kept}
+use Rattle.round_engine.proofs.SharesRun.{IsRanOf, shares_few}
 use Rattle.round_engine.proofs.LinesLeft.{logs_up}
-use Rattle.round_engine.proofs.Places.{all_from}
 use Rattle.round_engine.proofs.RoundCases.{left_out}
 use Rattle.round_engine.proofs.RoundDone.{idled_up, ran_of}
 use Rattle.round_engine.proofs.RoundJoined.{joined_round}
 use Rattle.round_engine.proofs.Whole.{below_8}
-use Rattle.round_engine.proofs.WorkersRun.{item_at}
+use Rattle.round_engine.proofs.Places.{all_from, item_at}
 
 -- ---- the logs as a round begins
 
@@ -123,35 +120,28 @@ module _ {D : Type 0} {tells : D → Option (List ℕ)} {clock : D → ℕ} {ima
   ]
 
   abbrev ran : Ran
-  ran = ran_of round old start all.kept start all.lines.parts None [] [] None report
+  ran = ran_of round old start all.kept start all.lines.shares None [] [] None report
 
-  of : IsRanOf round old.stands all.lines.parts ran
+  of : IsRanOf round old.stands all.mid.stands all.lines.shares ran
   of = record {
     lines = all.lines.lines;
     begin = refl;
-    draw = ap (λ (x : Standing). x.clock.draw) all.keeper.stands
-        ∙ ap (λ (x : Standing). x.clock.draw) all.lines.first.standing;
+    draw = ap (λ (x : Standing). x.clock.draw) all.keeper.stands;
     outcomes = all.lines.told;
     asked = refl;
     answers = all.keeper.count;
-    epoch = subst (λ e. AdvancesTo e report.keeper all.kept.stands.clock.epoch)
-        (ap (λ (x : Standing). x.clock.epoch) all.lines.first.standing ∙ (plain_kept all.lines.parts old.stands).1)
+    epoch = subst (λ e. AdvancesTo e report.keeper all.kept.stands.clock.epoch) all.lines.over.runs.epoch
         all.keeper.advances;
   }
 
   pub whole_consecutive : (index : ℕ) → AreConsecutive old.stands.clock
       (entries_of_workers index 0 report.outcomes (worker_lines round))
-  whole_consecutive index =
-      subst (λ o. AreConsecutive old.stands.clock (entries_of_workers index 0 o (worker_lines round))) (sym all.lines.told)
-      (subst (λ l. AreConsecutive old.stands.clock (entries_of_workers index 0 (outcomes_of old.stands all.lines.parts) l))
-      all.lines.lines (plain_consecutive index all.lines.parts old.stands))
+  whole_consecutive index = all.in_turn.consecutive index
 
   pub whole_draws : DrawsTo old.stands.clock.draw (flat_map (λ outcomes. outcomes) report.outcomes) new.stands.clock.draw
-  whole_draws =
-      subst (λ o. DrawsTo old.stands.clock.draw (flat_map (λ outcomes. outcomes) o) new.stands.clock.draw) (sym all.lines.told)
-      (subst (λ d. DrawsTo old.stands.clock.draw (flat_map (λ outcomes. outcomes) (outcomes_of old.stands all.lines.parts)) d)
-      (sym (drawn ∙ of.draw)) (parts_draw all.lines.parts old.stands))
+  whole_draws = subst (DrawsTo old.stands.clock.draw (flat_map (λ outcomes. outcomes) report.outcomes))
+      (sym (drawn ∙ of.draw)) all.in_turn.draws
 
   pub whole_few : DrawsFew round old.stands.clock.draw new.stands.clock.draw report.outcomes
   whole_few = subst (λ d. DrawsFew round old.stands.clock.draw d report.outcomes) (sym drawn)
-      (plain_few round old.stands all.lines.parts ran of)
+      (shares_few round ran all.lines.over.runs of (subst ArePlain all.lines.told all.plain))

@@ -1,10 +1,9 @@
 -- The phases of a round, put together from its calls.
-use Rattle.std.proofs.Common.{◌≡◌, ◌∙◌, ◌<◌, sym, ap, subst, refl, ℕ, List, [], length, false, true}
+use Rattle.std.proofs.Common.{◌≡◌, ◌∙◌, ◌<◌, sym, ap, subst, ℕ, List, length, false, true}
 use Rattle.std.proofs.Common.{Option, None, arith}
-use Rattle.std.specs.Prelude.{◌^◌, is_some, Err}
+use Rattle.std.specs.Prelude.{◌^◌, is_some}
 use Rattle.std.specs.List.{AllByRecursion}
 use Rattle.std.proofs.lemmas.List.{length-map}
-use Rattle.lists.specs.declared.memory.Memory.{Memory}
 use Rattle.outside.specs.Vault.{IsWhole}
 use Rattle.outside.specs.declared.vault.Vault.{Vault}
 use Rattle.script_grammar.specs.Script.{Round, keeper_lines}
@@ -15,14 +14,15 @@ use Rattle.worker_logs.specs.Logs.{LogState}
 use Rattle.worker_logs.specs.declared.savepoints.Side.{Side}
 use Rattle.worker_logs.specs.declared.savepoints.Side.TheVariants.{Even, Odd}
 use Rattle.round_engine.specs.Keeping.{CanKeep, RunsKeeper}
-use Rattle.round_engine.specs.Parts.{Part}
 use Rattle.round_engine.specs.Phases.{IsReadyToJoin, RoomAlone, RunsSome}
 use Rattle.round_engine.specs.Refusals.{device_in, device_refused, first_failed, leaves_out}
 use Rattle.round_engine.specs.Saves.{beside_at_end}
+use Rattle.round_engine.specs.Plainly.{ArePlain}
+use Rattle.round_engine.specs.Shares.{Share}
 use Rattle.round_engine.specs.Sides.{SameButGrowing, closed_in, growing_in}
-use Rattle.round_engine.specs.Standing.{AreClosed, beside_of, HasSnapshot, RuntimeState, Standing}
+use Rattle.round_engine.specs.Standing.{AreClosed, beside_of, HasSnapshot, RuntimeState}
 use Rattle.round_engine.specs.Steps.{AreLogsUp}
-use Rattle.round_engine.specs.Workers.{RunsFirst, RunsWorkers, WorkersSoFar, refusal_of}
+use Rattle.round_engine.specs.Workers.{RunsWorkers, StopsWorkers, refusal_of}
 use Rattle.round_engine.specs.declared.report.End.{End}
 use Rattle.round_engine.specs.declared.rounds.Refused.{Refused}
 use Rattle.round_engine.specs.declared.workers.LogEnd.{LogEnd}
@@ -33,12 +33,12 @@ use Rattle.round_engine.proofs.JoinedAs.{none_down_at}
 use Rattle.round_engine.proofs.LinesLeft.{lines_at}
 use Rattle.round_engine.proofs.Numbered.{closed_many, growing_many, whole_of}
 use Rattle.round_engine.proofs.Places.{map_there, nothing_there}
-use Rattle.round_engine.proofs.PlainRun.{plain_kept}
 use Rattle.round_engine.proofs.RoundDone.{map_same, same_closed_in}
 use Rattle.round_engine.proofs.RoundKept.{counted_few, first_told_none, none_told}
 use Rattle.round_engine.proofs.Saved.{IsOver, over_begin, over_end}
+use Rattle.round_engine.proofs.SharesRun.{outcomes_of, same_decls}
 use Rattle.round_engine.proofs.Whole.{below_8}
-use Rattle.round_engine.proofs.WorkersRun.{item_at, within_of, workers_begin}
+use Rattle.round_engine.proofs.Places.{item_at}
 
 pub same_growing_in : {D : Type 0} (side : Side) (old new : Vault D) → RoomAlone old new → growing_in side new ≡ growing_in side old
 same_growing_in Even old new room = ap (λ v. v.items) room.even
@@ -46,50 +46,30 @@ same_growing_in Odd old new room = ap (λ v. v.items) room.odd
 
 module _ {D : Type 0} (tells : D → Option (List ℕ)) (clock : D → ℕ) (image_at : D → ℕ → List ℕ → Type 0)
     (faults : D → ℕ) (round : Round) where
-  -- no line was run
-  pub some_none : (r : RuntimeState) (before now : Vault D) → RoomAlone before now
-      → RunsSome tells clock image_at faults round r r before now
-  some_none r before now room =
-      let banks = growing_in r.side before in
-      let b : WorkersSoFar tells clock image_at faults round 0 r.stands r.stands [] [] r.logs r.logs banks banks =
-      workers_begin round r.stands r.logs banks in
-      record {
-        parts = b.parts;
-        worker = 0;
-        within = omega arith;
-        fronts = λ i p at. absurd (omega (arith, within_of b.parts i p at, b.first.count));
-        first = subst (λ e. RunsFirst tells clock image_at faults round 0 r.stands r.stands b.parts r.logs r.logs banks e)
-            (sym (same_growing_in r.side before now room)) b.first;
-        alone = refl;
-        lent = now;
-        room = room;
-        beside = record { save = refl; snaps = refl; closed = refl; ties = refl; cuts = refl };
-      }
-
-  -- some lines were run
-  pub some_lines : (old new : RuntimeState) (before lent now : Vault D) (memory : Memory)
-      → RunsWorkers tells clock image_at faults round old.stands new.stands old.logs new.logs (growing_in old.side lent)
-      (growing_in old.side now) (Err memory)
+  -- some lines were run, or none
+  pub some_lines : (old new : RuntimeState) (before lent now : Vault D)
+      → (stops : StopsWorkers tells clock image_at faults 1 round old.stands new.stands old.logs new.logs
+      (growing_in old.side lent) (growing_in old.side now)) → ArePlain (outcomes_of stops.shares)
       → new ≡ record old { stands = new.stands; logs = new.logs } → RoomAlone before lent → SameButGrowing old.side lent now
       → RunsSome tells clock image_at faults round old new before now
-  some_lines old new before lent now memory runs alone room same = record {
-    parts = runs.0;
-    worker = runs.2;
-    within = runs.3;
-    fronts = runs.1;
-    first = subst (λ b. RunsFirst tells clock image_at faults round runs.2 old.stands new.stands runs.0 old.logs new.logs b
-        (growing_in old.side now)) (same_growing_in old.side before lent room) runs.4;
-    alone = alone;
-    lent = lent;
-    room = room;
-    beside = same;
-  }
+  some_lines old new before lent now stops none alone room same =
+      let both = subst (λ (b : List D). (s : StopsWorkers tells clock image_at faults 1 round old.stands new.stands
+      old.logs new.logs b (growing_in old.side now)) × ArePlain (outcomes_of s.shares)) (same_growing_in old.side before lent room)
+      (stops, none) in
+      record {
+        stops = both.0;
+        plain = both.1;
+        alone = alone;
+        lent = lent;
+        room = room;
+        beside = same;
+      }
 
 module _ {D : Type 0} {tells : D → Option (List ℕ)} {clock : D → ℕ} {image_at : D → ℕ → List ℕ → Type 0}
     {faults : D → ℕ} {round : Round} {r mid : RuntimeState} {before lent between : Vault D}
     {outcomes : List (List Outcome)} {ends : List LogEnd}
     (logs_up : AreLogsUp tells r.logs (growing_in r.side before)) (ready : CanKeep tells clock image_at r before)
-    (lines : WorkersSoFar tells clock image_at faults round 8 r.stands mid.stands outcomes ends r.logs mid.logs
+    (lines : RunsWorkers tells clock image_at faults 1 round r.stands mid.stands outcomes ends r.logs mid.logs
     (growing_in r.side before) (growing_in r.side between))
     (alone : mid ≡ record r { stands = mid.stands; logs = mid.logs }) (room : RoomAlone before lent)
     (beside : SameButGrowing r.side lent between) where
@@ -101,11 +81,7 @@ module _ {D : Type 0} {tells : D → Option (List ℕ)} {clock : D → ℕ} {ima
 
   -- the clock and the storages behind the lines
   mid_kept : (mid.stands.decls ≡ r.stands.decls) × (mid.stands.clock.epoch ≡ r.stands.clock.epoch)
-  mid_kept =
-      let plain = plain_kept lines.parts r.stands in (
-        ap (λ (x : Standing). x.decls) lines.first.standing ∙ plain.0,
-        ap (λ (x : Standing). x.clock.epoch) lines.first.standing ∙ plain.1,
-      )
+  mid_kept = (same_decls lines.over.runs, lines.over.runs.epoch)
 
   first_is : first_failed r.side 0 ends ≡ first_down r.side 0 (are_down mid.logs)
   first_is = failed_down r.side 0 ends
@@ -114,15 +90,15 @@ module _ {D : Type 0} {tells : D → Option (List ℕ)} {clock : D → ℕ} {ima
     where
       ends_many : length ends ≡ length mid.logs
       ends_many = sym (length-map ends refusal_of) ∙ ap length lines.ends_are
-          ∙ length-map lines.parts (λ (p : Part). p.refusal) ∙ lines.first.count
-          ∙ sym ready.workers ∙ sym lines.first.logs_length
+          ∙ length-map lines.shares (λ (p : Share). p.refusal) ∙ lines.over.runs.workers
+          ∙ sym ready.workers ∙ sym lines.over.logs_length
 
   lines_up : first_failed r.side 0 ends ≡ None → AreLogsUp tells mid.logs (growing_in r.side between)
   lines_up none w log bank at bank_at =
-      let below = below_8 mid.logs w log at (lines.first.logs_length ∙ ready.workers) in
+      let below = below_8 mid.logs w log at (lines.over.logs_length ∙ ready.workers) in
       let begins = item_at r.logs w (omega (arith, below, ready.workers)) in
       let was = item_at (growing_in r.side before) w (omega (arith, below, before_many)) in
-      let one = lines_at w lines.first logs_up begins.1 at was.1 bank_at in
+      let one = lines_at w lines.over ready.workers begins.1 at was.1 bank_at in
       record {
         up = nothing_there log.journal.down (none_down_at r.side 0 (are_down mid.logs) w (is_some log.journal.down)
             (sym first_is ∙ none) (map_there (λ (l : LogState). is_some l.journal.down) mid.logs w log at));
@@ -144,14 +120,14 @@ module _ {D : Type 0} {tells : D → Option (List ℕ)} {clock : D → ℕ} {ima
       }))
 
   between_whole : IsWhole between
-  between_whole = whole_of r.side between (lines.first.banks_length ∙ before_many)
+  between_whole = whole_of r.side between (lines.over.banks_length ∙ before_many)
       (ap length (beside.closed ∙ same_closed_in r.side before lent room) ∙ closed_many r.side before ready.whole)
 
   -- what the maintenance thread's lines find
   pub can_keep : CanKeep tells clock image_at mid between
   can_keep = record {
     whole = between_whole;
-    workers = lines.first.logs_length ∙ ready.workers;
+    workers = lines.over.logs_length ∙ ready.workers;
     up = ap (λ (x : RuntimeState). x.save.down) alone ∙ ready.up;
     stored = subst (λ (x : RuntimeState). IsStored tells clock image_at between.save x.save.newest) (sym alone)
         (subst (λ d. IsStored tells clock image_at d r.save.newest) (sym (beside.save ∙ room.save)) ready.stored);
@@ -174,7 +150,7 @@ module _ {D : Type 0} {tells : D → Option (List ℕ)} {clock : D → ℕ} {ima
     growing_kept = subst (λ s. growing_in s after ≡ growing_in s between) mid_side keeper.leaves.over.growing
 
     after_whole : IsWhole after
-    after_whole = whole_of r.side after (ap length growing_kept ∙ lines.first.banks_length ∙ before_many)
+    after_whole = whole_of r.side after (ap length growing_kept ∙ lines.over.banks_length ∙ before_many)
         (subst (λ s. length (closed_in s after) ≡ length (closed_in s between)) mid_side keeper.leaves.over.many
         ∙ ap length (beside.closed ∙ same_closed_in r.side before lent room) ∙ closed_many r.side before ready.whole)
 
@@ -212,7 +188,7 @@ module _ {D : Type 0} {tells : D → Option (List ℕ)} {clock : D → ℕ} {ima
         (ap (λ (x : RuntimeState). x.store.sound) alone ∙ ready.sound) in
         record {
           whole = after_whole;
-          workers = ap length keeper.logs ∙ lines.first.logs_length ∙ ready.workers;
+          workers = ap length keeper.logs ∙ lines.over.logs_length ∙ ready.workers;
           logs = subst (λ s. AreLogsUp tells kept.logs (growing_in s after)) (sym kept_side)
               (subst (λ l. AreLogsUp tells l (growing_in r.side after)) (sym keeper.logs)
               (subst (AreLogsUp tells mid.logs) (sym growing_kept) (lines_up no_device.1)));

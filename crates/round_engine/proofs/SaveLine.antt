@@ -1,9 +1,8 @@
 -- A line of the maintenance thread that asks for a save.
-use Rattle.std.proofs.Common.{◌≡◌, ◌∙◌, ◌≤◌, ◌<◌, ◌+◌, ◌-◌, ◌++◌, ◌∷◌, inl, inr, sym, ap, subst, refl, ℕ, List, [], length, map}
+use Rattle.std.proofs.Common.{◌≡◌, ◌∙◌, ◌<◌, ◌+◌, ◌-◌, ◌++◌, ◌∷◌, inl, inr, sym, ap, subst, refl, ℕ, List, [], length, map}
 use Rattle.std.proofs.Common.{length-append, true, false, Option, Some, None, arith}
-use Rattle.std.specs.Prelude.{◌^◌, is_some, vec_len, Result, Ok, Err}
+use Rattle.std.specs.Prelude.{◌^◌, vec_len, Result, Ok, Err}
 use Rattle.std.proofs.lemmas.Bool.{cases_eq}
-use Rattle.outside.specs.declared.vault.Device.TheVariants as devices
 use Rattle.outside.specs.declared.vault.Tie.{Tie}
 use Rattle.outside.specs.declared.vault.Vault.{Vault}
 use Rattle.script_grammar.specs.declared.lines.KeeperLine.TheVariants as asks
@@ -11,9 +10,7 @@ use Rattle.wire_form.specs.declared.clock.Mark.{Mark}
 use Rattle.log_writer.specs.Points.{SaveState, sequence_of}
 use Rattle.log_writer.specs.declared.save.SaveFault.{SaveFault}
 use Rattle.log_writer.specs.declared.save.SaveFault.TheVariants.{Device, Down, Limit}
-use Rattle.log_writer.specs.declared.saved.Saved.{Saved}
 use Rattle.recovery_core.specs.Images.{epoch_of}
-use Rattle.tx_script.specs.Run.{Ran}
 use Rattle.tx_script.specs.Causes.{last_sequence}
 use Rattle.tx_script.specs.declared.answer.Answer.{Answer}
 use Rattle.tx_script.specs.declared.answer.Answer.TheVariants as answers
@@ -21,11 +18,10 @@ use Rattle.worker_logs.specs.Saves.{SavesMarks, logs_marks, tie_after}
 use Rattle.worker_logs.specs.SavesLaws.{saved_epoch_less}
 use Rattle.worker_logs.specs.declared.savepoints.Side.{Side}
 use Rattle.worker_logs.specs.declared.savepoints.Side.TheVariants.{Even, Odd}
-use Rattle.round_engine.specs.Keeping.{CanKeep, IsSavedBySeen, keeper_on, MarksOf, RestsOn, RunsKeeper, save_answer, save_refusal}
+use Rattle.round_engine.specs.Keeping.{CanKeep, IsSavedBySeen, keeper_on, MarksOf, RunsKeeper, save_answer, save_refusal}
 use Rattle.round_engine.specs.Keeping.{StepsSave}
 use Rattle.round_engine.specs.Sides.{closed_in, growing_in}
 use Rattle.round_engine.specs.Standing.{beside_of, RuntimeState}
-use Rattle.round_engine.specs.declared.report.End.{End}
 use Rattle.round_engine.proofs.KeepingSaves.{keeps_saves, with_save}
 use Rattle.round_engine.proofs.PlainLine.{gleans_none, IsPlain, leaves_none, needs_none, plain_line, TellsNone, Ungleaned}
 

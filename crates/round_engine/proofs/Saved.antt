@@ -28,7 +28,7 @@ use Rattle.round_engine.specs.Keeping.{IsSavedBySeen}
 use Rattle.round_engine.specs.Saves.{AreSaved, AreSavedIn, AreSeen, beside_after, beside_at_end, IsSavedBy, newest_after}
 use Rattle.round_engine.proofs.LogsLeft.{marks_more}
 use Rattle.round_engine.proofs.Places.{or_parts}
-use Rattle.round_engine.proofs.WorkersRun.{item_at, map_at, within_of}
+use Rattle.round_engine.proofs.Places.{item_at, map_at, within_of}
 
 -- ---- each of the saves that are told, with what counted beside
 

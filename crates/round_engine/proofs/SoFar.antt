@@ -24,7 +24,7 @@ use Rattle.round_engine.specs.Parts.{IsLoggedAt, unrun}
 use Rattle.round_engine.specs.Plainly.{after_line, after_lines, has_number, next_number, outcome_at, outcomes_at}
 use Rattle.round_engine.specs.Standing.{Standing}
 use Rattle.round_engine.specs.Steps.{Blames, IsFull, IsLogUp, KeepsMark, Moves, TakesCommit, TakesLine, full_after}
-use Rattle.round_engine.specs.Workers.{RunsLines}
+use Rattle.round_engine.specs.InTurn.{RunsLines}
 use Rattle.round_engine.proofs.Chains.{after_lines-decls}
 use Rattle.round_engine.proofs.Fronts.{HasOps, ops_of, take_other}
 use Rattle.round_engine.proofs.Logged.{logged_push}

@@ -30,7 +30,7 @@ use Rattle.round_engine.proofs.BanksCut.{banks_growing, banks_save, banks_snaps,
 use Rattle.round_engine.proofs.Beside.{SameSaves, StoredOver}
 use Rattle.round_engine.proofs.JoinedAs.{cut_end}
 use Rattle.round_engine.proofs.Numbered.{growing_at}
-use Rattle.round_engine.proofs.WorkersRun.{map_at}
+use Rattle.round_engine.proofs.Places.{map_at}
 
 -- the sides turned, if they did
 abbrev pub turned_if : Bool → ℕ → RuntimeState → RuntimeState

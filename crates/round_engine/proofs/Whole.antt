@@ -45,7 +45,7 @@ use Rattle.round_engine.proofs.Numbered.{closed_at, closed_many, growing_at, oth
 use Rattle.round_engine.proofs.Places.{all_front}
 use Rattle.round_engine.proofs.Saved.{counts_after, covers_all, IsOver, logs_seen, over_all, over_begin, over_end}
 use Rattle.round_engine.proofs.Saved.{saved_by_had}
-use Rattle.round_engine.proofs.WorkersRun.{item_at, map_at, within_of}
+use Rattle.round_engine.proofs.Places.{item_at, map_at, within_of}
 
 -- marks of the logs behind the lines, or behind the join, at an epoch of the clock from the first to the last of these
 abbrev pub SeenIn : ℕ → ℕ → List LogState → List LogState → ℕ → List Mark → Type 0

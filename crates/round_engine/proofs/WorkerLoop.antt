@@ -17,7 +17,7 @@ use Rattle.worker_logs.specs.Moves.{MovesLog}
 use Rattle.round_engine.specs.Plainly.{after_line, outcome_at}
 use Rattle.round_engine.specs.Standing.{Standing}
 use Rattle.round_engine.specs.Steps.{TakesLine, full_after}
-use Rattle.round_engine.specs.Workers.{RunsLines, StopsLines}
+use Rattle.round_engine.specs.InTurn.{RunsLines, StopsLines}
 use Rattle.round_engine.proofs.Fronts.{HasOps, ops_of, ops_of-append, take_mine}
 use Rattle.round_engine.proofs.SoFar.{lines_left, lines_ran}
 use Rattle.round_engine.proofs.Takes.{blames_move, keeps_then, takes_move}

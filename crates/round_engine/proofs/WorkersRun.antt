@@ -1,6 +1,6 @@
 -- The workers' lines, one worker after another.
 use Rattle.std.proofs.Common.{◌≡◌, ◌≢◌, ◌∙◌, ◌≤◌, ◌<◌, ◌+◌, ◌⊎◌, ◌++◌, ◌∷◌, inl, inr, sym, ap, subst, refl, ℕ, zero, suc}
-use Rattle.std.proofs.Common.{List, [], get_or, length, length-append, map, take, Bool, true, false, Option, Some, None, arith}
+use Rattle.std.proofs.Common.{List, [], length, length-append, map, take, Bool, true, false, Option, Some, None, arith}
 use Rattle.std.specs.Prelude.{is_some, slice_get, Result, Ok, Err}
 use Rattle.std.proofs.lemmas.Bool.{cases_eq}
 use Rattle.std.proofs.lemmas.List.{length-map, take_more}
@@ -18,31 +18,16 @@ use Rattle.round_engine.specs.Parts.{AreParts, IsPart, Part, after_parts, lines_
 use Rattle.round_engine.specs.Plainly.{after_lines}
 use Rattle.round_engine.specs.Standing.{Standing}
 use Rattle.round_engine.specs.Steps.{IsFull}
-use Rattle.round_engine.specs.Workers.{AreFirstLines, LeftBy, RunsFirst, RunsLines, RunsWorker, RunsWorkers, StopsLines}
-use Rattle.round_engine.specs.Workers.{WorkersSoFar, refusal_of, refused_as}
+use Rattle.round_engine.specs.InTurn.{AreFirstLines, RunsFirst, StopsInTurn, RunsLines, RunsWorker, StopsLines}
+use Rattle.round_engine.specs.InTurn.{WorkersSoFar}
+use Rattle.round_engine.specs.Workers.{LeftBy, refusal_of, refused_as}
 use Rattle.round_engine.specs.declared.workers.LogEnd.{LogEnd}
 use Rattle.round_engine.proofs.Logged.{parts_push}
+use Rattle.round_engine.proofs.Places.{item_at, map_at}
 use Rattle.round_engine.proofs.PlainRun.{plain_kept}
+use Rattle.round_engine.proofs.SharesRun.{worker_at}
 
 -- ---- lists
-
--- an index within a list has an element
-pub item_at : {X : Type 0} (xs : List X) (i : ℕ) → i < length xs → (x : X) × (slice_get xs i ≡ Some x)
-item_at [] i within = absurd (omega (arith, within))
-item_at (x ∷ xs) zero within = (x, refl)
-item_at (x ∷ xs) (suc i) within = item_at xs i (omega (arith, within))
-
--- whatever else is given where there is none
-pub item_read : {X : Type 0} (xs : List X) (i : ℕ) (x other : X) → slice_get xs i ≡ Some x → get_or xs i other ≡ x
-item_read [] i x other there = absurd cc
-item_read (z ∷ zs) zero x other there = same_Some z x there
-item_read (z ∷ zs) (suc i) x other there = item_read zs i x other there
-
--- an index with an element is within the list
-pub within_of : {X : Type 0} (xs : List X) (i : ℕ) (x : X) → slice_get xs i ≡ Some x → i < length xs
-within_of [] i x is = absurd cc
-within_of (y ∷ xs) zero x is = omega arith
-within_of (y ∷ xs) (suc i) x is = omega (arith, within_of xs i x is)
 
 -- what stands in a list with one more
 pub at_push_cases : {X : Type 0} (xs : List X) (y x : X) (i : ℕ) → slice_get (xs ++ y ∷ []) i ≡ Some x
@@ -59,26 +44,7 @@ pub map_push : {X Y : Type 0} (f : X → Y) (xs : List X) (x : X) → map f (xs 
 map_push f [] x = refl
 map_push f (y ∷ xs) x = ap (λ l. f y ∷ l) (map_push f xs x)
 
--- what stands in a mapped list
-pub map_at : {X Y : Type 0} (f : X → Y) (xs : List X) (i : ℕ) (y : Y) → slice_get (map f xs) i ≡ Some y
-    → (x : X) × (slice_get xs i ≡ Some x) × (f x ≡ y)
-map_at f [] i y is = absurd cc
-map_at f (x ∷ xs) zero y is = (x, refl, same_Some (f x) y is)
-map_at f (x ∷ xs) (suc i) y is = map_at f xs i y is
-
 -- ---- workers
-
--- the lines of worker w stand at w
-pub worker_at : (round : Round) (w : ℕ) → w < 8 → slice_get (worker_lines round) w ≡ Some (lines_of_worker round w)
-worker_at round zero h = refl
-worker_at round (suc zero) h = refl
-worker_at round (suc (suc zero)) h = refl
-worker_at round (suc (suc (suc zero))) h = refl
-worker_at round (suc (suc (suc (suc zero)))) h = refl
-worker_at round (suc (suc (suc (suc (suc zero))))) h = refl
-worker_at round (suc (suc (suc (suc (suc (suc zero)))))) h = refl
-worker_at round (suc (suc (suc (suc (suc (suc (suc zero))))))) h = refl
-worker_at round (suc (suc (suc (suc (suc (suc (suc (suc w)))))))) h = absurd (omega arith)
 
 -- one more worker's lines
 pub take_worker : (round : Round) (w : ℕ) → w < 8
@@ -371,21 +337,21 @@ module _ {D : Type 0} {tells : D → Option (List ℕ)} {clock : D → ℕ} {ima
         ap (λ (q : Part). q.left) (sym at.2),
       )
 
-  pub workers_stop_after : {told : List (List Outcome)} {ends : List LogEnd} {memory : Memory} → w ≤ 8
+  pub workers_stop_after : {told : List (List Outcome)} {ends : List LogEnd} → w ≤ 8
       → WorkersSoFar tells clock image_at faults round w s t told ends logs_was logs banks_was banks
-      → RunsWorkers tells clock image_at faults round s t logs_was logs banks_was banks (Err memory)
+      → StopsInTurn tells clock image_at faults round s t logs_was logs banks_was banks
   workers_stop_after small so = (map without_left so.parts, alone_lines so, w, small, alone_first so.first)
 
 module _ {D : Type 0} {tells : D → Option (List ℕ)} {clock : D → ℕ} {image_at : D → ℕ → List ℕ → Type 0}
     {faults : D → ℕ} {round : Round} {w : ℕ} {s mid t : Standing} {logs_was logs logs_now : List LogState}
     {banks_was banks banks_now : List D} where
   -- one worker's lines were run in part
-  pub workers_stop_in : {told : List (List Outcome)} {ends : List LogEnd} {memory other : Memory} → w < 8
+  pub workers_stop_in : {told : List (List Outcome)} {ends : List LogEnd} {other : Memory} → w < 8
       → w < length logs → w < length banks
       → WorkersSoFar tells clock image_at faults round w s mid told ends logs_was logs banks_was banks
       → RanAt tells clock image_at faults round w mid t logs logs_now banks banks_now (Err other)
       → Others w logs logs_now banks banks_now
-      → RunsWorkers tells clock image_at faults round s t logs_was logs_now banks_was banks_now (Err memory)
+      → StopsInTurn tells clock image_at faults round s t logs_was logs_now banks_was banks_now
   workers_stop_in small log_in bank_in so ran others =
       let log = item_at logs w log_in in
       let bank = item_at banks w bank_in in

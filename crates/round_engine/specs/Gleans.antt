@@ -1,7 +1,7 @@
 -- What the gleans of a round find and leave.
 use Rattle.std.specs.Prelude.{◌≡◌, ◌≢◌, ◌*◌, ◌≤◌, ◌<◌, ◌+◌, ◌^◌, ◌++◌, ◌||◌, ℕ, Bool, List, length, not, replicate}
 use Rattle.std.specs.Prelude.{Option, Some, None, true}
-use Rattle.std.specs.Prelude.{false, is_some, slice_get, OnErr, OnOk, Result, Ok, Err, ⊤}
+use Rattle.std.specs.Prelude.{false, is_some, slice_get, OnErr, OnOk, Result, Ok, Err}
 use Rattle.std.specs.List.{AllByRecursion, Contains}
 use Rattle.lists.specs.declared.memory.OrMemory.{OrMemory}
 use Rattle.lists.specs.declared.memory.OrMemory.TheVariants as or

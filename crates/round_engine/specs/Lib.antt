@@ -11,10 +11,12 @@ pub mod Crashes
 pub mod GleanStops
 pub mod RanRound
 pub mod Joins
+pub mod Shares
 pub mod Plainly
 pub mod Parts
 pub mod Steps
 pub mod Workers
+pub mod InTurn
 pub mod Keeping
 pub mod Refusals
 pub mod Phases

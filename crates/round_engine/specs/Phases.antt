@@ -1,6 +1,8 @@
--- The phases of a round on the plain map: the workers' lines, those of the maintenance thread, and the join.
-use Rattle.std.specs.Prelude.{◌≡◌, ◌<◌, ◌≤◌, ◌^◌, ◌⊎◌, ℕ, Bool, true, false, List, length, Option, Some, None, is_some}
-use Rattle.std.specs.Prelude.{Result, Ok, Err}
+-- The phases of a round: the workers' lines, those of the maintenance thread, and the join. Of the workers' lines it is
+-- said what any engine gives; that each is tried once with nobody in its way, and that numbers follow one another, is
+-- the plain map's (`plain`, `in_turn`).
+use Rattle.std.specs.Prelude.{◌≡◌, ◌<◌, ◌≤◌, ◌^◌, ◌⊎◌, ℕ, Bool, true, false, List, length, map, Option, Some, None}
+use Rattle.std.specs.Prelude.{is_some, Result, Ok, Err}
 use Rattle.lists.specs.declared.memory.Memory.{Memory}
 use Rattle.outside.specs.Vault.{IsWhole}
 use Rattle.outside.specs.declared.vault.Vault.{Vault}
@@ -11,13 +13,14 @@ use Rattle.tx_script.specs.Run.{is_limit}
 use Rattle.log_writer.specs.Points.{sequence_of}
 use Rattle.round_engine.specs.Ends.{first_of, save_limited, where_true}
 use Rattle.round_engine.specs.Keeping.{RunsJoin, RunsKeeper}
-use Rattle.round_engine.specs.Parts.{Part}
+use Rattle.round_engine.specs.Plainly.{ArePlain, IsInTurn}
 use Rattle.round_engine.specs.Refusals.{device_refused, end_told, first_full, leaves_out, lines_refused, names_device}
+use Rattle.round_engine.specs.Shares.{Share}
 use Rattle.round_engine.specs.Sides.{growing_in, SameButGrowing}
 use Rattle.round_engine.specs.Standing.{AreClosed, HasSnapshot, RuntimeState}
 use Rattle.round_engine.specs.Steps.{AreLogsUp}
 use Rattle.round_engine.specs.Swaps.{SwapsAt}
-use Rattle.round_engine.specs.Workers.{AreFirstLines, RunsFirst, WorkersSoFar}
+use Rattle.round_engine.specs.Workers.{RunsWorkers, StopsWorkers}
 use Rattle.round_engine.specs.declared.report.End.{End}
 use Rattle.round_engine.specs.declared.report.Report.{Report}
 use Rattle.round_engine.specs.declared.rounds.Refused.{Refused}
@@ -102,8 +105,10 @@ module _ {D : Type 0} (tells : D → Option (List ℕ)) (clock : D → ℕ) (ima
     pub after : Vault D
     pub ends : List LogEnd
     pub refused : Refused
-    pub lines : WorkersSoFar tells clock image_at faults round 8 old.stands mid.stands report.outcomes ends
+    pub lines : RunsWorkers tells clock image_at faults 1 round old.stands mid.stands report.outcomes ends
         old.logs mid.logs (growing_in old.side before) (growing_in old.side between)
+    pub plain : ArePlain report.outcomes
+    pub in_turn : IsInTurn round old.stands mid.stands report.outcomes
     pub alone : mid ≡ record old { stands = mid.stands; logs = mid.logs }
     pub room : RoomAlone before lent
     pub beside : SameButGrowing old.side lent between
@@ -118,12 +123,9 @@ module _ {D : Type 0} (tells : D → Option (List ℕ)) (clock : D → ℕ) (ima
 
   -- The first lines of a round, where memory was wanted.
   pub record RunsSome (round : Round) (old new : RuntimeState) (before now : Vault D) : Type 0 where
-    pub parts : List Part
-    pub worker : ℕ
-    pub within : worker ≤ 8
-    pub fronts : AreFirstLines round parts
-    pub first : RunsFirst tells clock image_at faults round worker old.stands new.stands parts
+    pub stops : StopsWorkers tells clock image_at faults 1 round old.stands new.stands
         old.logs new.logs (growing_in old.side before) (growing_in old.side now)
+    pub plain : ArePlain (map (λ (share : Share). share.outcomes) stops.shares)
     pub alone : new ≡ record old { stands = new.stands; logs = new.logs }
     pub lent : Vault D
     pub room : RoomAlone before lent

@@ -1,26 +1,20 @@
--- What comes of the workers' lines over their logs, on the plain map.
-use Rattle.std.specs.Prelude.{◌≡◌, ◌<◌, ◌≤◌, ◌++◌, ℕ, Bool, true, false, List, [], ◌∷◌, length, map, take}
+-- What the workers' lines of a round leave of their logs and log files, whichever engine ran them.
+use Rattle.std.specs.Prelude.{◌≡◌, ◌<◌, ℕ, Bool, true, false, List, [], ◌∷◌, length, map}
 use Rattle.std.specs.Prelude.{Option, Some, None, is_some, slice_get}
-use Rattle.std.specs.Prelude.{Result, Ok, Err}
-use Rattle.std.specs.List.{AllByRecursion}
 use Rattle.std.specs.Option.{option_map}
 use Rattle.lists.specs.Fronts.{IsFront}
-use Rattle.lists.specs.declared.memory.Memory.{Memory}
 use Rattle.serial_model.specs.declared.number.Commit.{Commit}
 use Rattle.serial_model.specs.declared.op.Op.{Op}
 use Rattle.script_grammar.specs.Script.{Round, lines_of_worker, worker_lines}
-use Rattle.wire_form.specs.LogFile.{IsLineOf}
 use Rattle.log_writer.specs.Journal.{Reaches}
 use Rattle.tx_script.specs.Run.{LogRefusal, LogFailed, LogFull}
 use Rattle.tx_script.specs.declared.outcome.Outcome.{Outcome}
 use Rattle.worker_logs.specs.Logs.{LogState, idle_log}
 use Rattle.round_engine.specs.Logs.{IsRefusedBy}
-use Rattle.round_engine.specs.Parts.{AreLoggedAt, AreParts, Part, after_parts, lines_in, outcomes_of, unrun}
-use Rattle.round_engine.specs.Plainly.{after_lines, outcomes_at}
+use Rattle.round_engine.specs.Shares.{RunsShares, Share}
 use Rattle.round_engine.specs.Standing.{Standing}
-use Rattle.round_engine.specs.Steps.{Blames, IsFull, KeepsMark, LogTakes}
+use Rattle.round_engine.specs.Steps.{Blames, KeepsMark, LogTakes}
 use Rattle.round_engine.specs.declared.workers.LogEnd.{LogEnd}
-use Rattle.round_engine.specs.declared.workers.WorkersRan.{WorkersRan}
 
 -- ---- workers without a line
 
@@ -48,61 +42,9 @@ refused_as false full = option_map LogFull full
 abbrev pub refusal_of : LogEnd → Option LogRefusal
 refusal_of end = refused_as end.failed end.full
 
--- first lines of the workers, and none left out
-abbrev pub AreFirstLines : Round → List Part → Type 0
-AreFirstLines round parts = (i : ℕ) (p : Part) → slice_get parts i ≡ Some p
-    → IsFront p.ran (lines_of_worker round i) × (p.left ≡ [])
-
 module _ {D : Type 0} (tells : D → Option (List ℕ)) (clock : D → ℕ) (image_at : D → ℕ → List ℕ → Type 0)
     (faults : D → ℕ) where
-  -- ---- one worker
-
-  -- Lines of a worker were run, one after another, and behind the last one that its log took none.
-  pub record RunsLines (lines : List (List Op)) (s t : Standing) (outcomes : List Outcome) (full : Option ℕ)
-      (old new : LogState) (before now : D) : Type 0 where
-    pub ran : List (List Op)
-    pub left : List (List Op)
-    pub logged : List Commit
-    pub whole : lines ≡ ran ++ left
-    pub told : outcomes ≡ outcomes_at s ran ++ unrun left
-    pub standing : t ≡ after_lines s ran
-    pub logged_are : AreLoggedAt s ran logged
-    pub lines_are : AllByRecursion (IsLineOf s.decls) logged
-    pub takes : LogTakes tells clock image_at s.clock.epoch logged old new before now
-    pub mark : KeepsMark s.clock.epoch old new
-    pub blames : Blames faults before now new.journal
-    pub reaches : Reaches tells now new.journal
-    pub limit : new.journal.limit ≡ old.journal.limit
-    pub full_is : (size : ℕ) → full ≡ Some size → IsFull size new.journal
-    pub all : full ≡ None → new.journal.down ≡ None → left ≡ []
-    pub none : lines ≡ [] → new ≡ old
-
-  -- Memory was wanted, behind some first lines of a worker.
-  pub record StopsLines (lines : List (List Op)) (s t : Standing) (old new : LogState) (before now : D) : Type 0 where
-    pub ran : List (List Op)
-    pub logged : List Commit
-    pub front : IsFront ran lines
-    pub standing : t ≡ after_lines s ran
-    pub logged_are : AreLoggedAt s ran logged
-    pub lines_are : AllByRecursion (IsLineOf s.decls) logged
-    pub takes : LogTakes tells clock image_at s.clock.epoch logged old new before now
-    pub mark : KeepsMark s.clock.epoch old new
-    pub blames : Blames faults before now new.journal
-    pub reaches : Reaches tells now new.journal
-    pub limit : new.journal.limit ≡ old.journal.limit
-
-  -- All lines of the worker were run, or left out; or some first ones, where memory was wanted.
-  abbrev pub RunsWorker : Round → ℕ → Standing → Standing → LogState → LogState → D → D
-      → Result (List Outcome × LogEnd) Memory → Type 0
-  RunsWorker round worker s t old new before now (Ok (outcomes, end)) =
-      RunsLines (lines_of_worker round worker) s t outcomes end.full old new before now
-      × (end.failed ≡ is_some new.journal.down) × (new.journal.down ≡ None → new.journal.lines ≡ [])
-  RunsWorker round worker s t old new before now (Err memory) =
-      StopsLines (lines_of_worker round worker) s t old new before now
-
-  -- ---- all workers
-
-  -- what a worker's part leaves of its log
+  -- what a worker's share leaves of its log: it took what was logged, and no line behind what refused it
   pub record LeftBy (epoch : ℕ) (logged : List Commit) (refusal : Option LogRefusal) (old new : LogState)
       (before now : D) : Type 0 where
     pub takes : LogTakes tells clock image_at epoch logged old new before now
@@ -113,42 +55,37 @@ module _ {D : Type 0} (tells : D → Option (List ℕ)) (clock : D → ℕ) (ima
     pub refused : IsRefusedBy refusal new.journal
     pub failed : is_some new.journal.down ≡ true → refusal ≡ Some LogFailed
 
-  -- The lines of the first workers were run: of the others' logs nothing changed.
-  pub record RunsFirst (round : Round) (worker : ℕ) (s t : Standing) (parts : List Part)
-      (logs_was logs : List LogState) (banks_was banks : List D) : Type 0 where
-    pub count : length parts ≡ worker
-    pub are : AreParts s parts
-    pub standing : t ≡ after_parts s parts
+  -- The shares of eight workers ran over their logs and log files, from s to t: each log took what its own worker's
+  -- commits changed, and nothing else.
+  pub record RunsOver (tries : ℕ) (s t : Standing) (shares : List Share) (logs_was logs : List LogState)
+      (banks_was banks : List D) : Type 0 where
+    pub runs : RunsShares tries s t shares
     pub logs_length : length logs ≡ length logs_was
     pub banks_length : length banks ≡ length banks_was
-    pub each : (i : ℕ) (p : Part) (old new : LogState) (before now : D) → slice_get parts i ≡ Some p
+    pub each : (i : ℕ) (share : Share) (old new : LogState) (before now : D) → slice_get shares i ≡ Some share
         → slice_get logs_was i ≡ Some old → slice_get logs i ≡ Some new
         → slice_get banks_was i ≡ Some before → slice_get banks i ≡ Some now
-        → LeftBy s.clock.epoch p.logged p.refusal old new before now
-    pub rest_logs : (i : ℕ) → worker ≤ i → slice_get logs i ≡ slice_get logs_was i
-    pub rest_banks : (i : ℕ) → worker ≤ i → slice_get banks i ≡ slice_get banks_was i
+        → LeftBy s.clock.epoch share.logged share.refusal old new before now
 
-  -- with what came of them
-  pub record WorkersSoFar (round : Round) (worker : ℕ) (s t : Standing) (outcomes : List (List Outcome))
+  -- All lines of a round were run, or left out: what is told of them, and what was found of each log. The log of a
+  -- worker without a line is as it was; where a log is up none of its lines waits.
+  pub record RunsWorkers (tries : ℕ) (round : Round) (s t : Standing) (outcomes : List (List Outcome))
       (ends : List LogEnd) (logs_was logs : List LogState) (banks_was banks : List D) : Type 0 where
-    pub parts : List Part
-    pub first : RunsFirst round worker s t parts logs_was logs banks_was banks
-    pub lines : map lines_in parts ≡ take worker (worker_lines round)
-    pub lines_each : (i : ℕ) (p : Part) → slice_get parts i ≡ Some p → lines_in p ≡ lines_of_worker round i
-    pub told : outcomes ≡ outcomes_of s parts
-    pub idle : (i : ℕ) (p : Part) (old new : LogState) → slice_get parts i ≡ Some p → lines_in p ≡ []
+    pub shares : List Share
+    pub over : RunsOver tries s t shares logs_was logs banks_was banks
+    pub lines : map (λ (share : Share). share.lines) shares ≡ worker_lines round
+    pub told : outcomes ≡ map (λ (share : Share). share.outcomes) shares
+    pub idle : (i : ℕ) (share : Share) (old new : LogState) → slice_get shares i ≡ Some share → share.lines ≡ []
         → slice_get logs_was i ≡ Some old → slice_get logs i ≡ Some new → new ≡ old
     pub ends_failed : (i : ℕ) (end : LogEnd) (log : LogState) → slice_get ends i ≡ Some end
         → slice_get logs i ≡ Some log → end.failed ≡ is_some log.journal.down
-    pub flushed : (i : ℕ) (log : LogState) → i < worker → slice_get logs i ≡ Some log → log.journal.down ≡ None
+    pub flushed : (i : ℕ) (log : LogState) → i < 8 → slice_get logs i ≡ Some log → log.journal.down ≡ None
         → log.journal.lines ≡ []
-    pub ends_are : map refusal_of ends ≡ map (λ (p : Part). p.refusal) parts
+    pub ends_are : map refusal_of ends ≡ map (λ (share : Share). share.refusal) shares
 
-  -- The lines of all eight workers were run; or some first ones, where memory was wanted.
-  abbrev pub RunsWorkers : Round → Standing → Standing → List LogState → List LogState → List D → List D
-      → Result WorkersRan Memory → Type 0
-  RunsWorkers round s t logs_was logs banks_was banks (Ok ran) =
-      WorkersSoFar round 8 s t ran.outcomes ran.logs.items logs_was logs banks_was banks
-  RunsWorkers round s t logs_was logs banks_was banks (Err memory) = (parts : List Part)
-      × AreFirstLines round parts
-      × (worker : ℕ) × (worker ≤ 8) × RunsFirst round worker s t parts logs_was logs banks_was banks
+  -- Memory was wanted: some first lines of each worker were run.
+  pub record StopsWorkers (tries : ℕ) (round : Round) (s t : Standing) (logs_was logs : List LogState)
+      (banks_was banks : List D) : Type 0 where
+    pub shares : List Share
+    pub over : RunsOver tries s t shares logs_was logs banks_was banks
+    pub fronts : (i : ℕ) (share : Share) → slice_get shares i ≡ Some share → IsFront share.lines (lines_of_worker round i)

@@ -20,7 +20,8 @@ ghost use Rattle.round_engine.specs.Sides.{SameButGrowing, growing_in};
 ghost use Rattle.round_engine.specs.Keeping.{CanKeep};
 ghost use Rattle.round_engine.specs.Standing.{StandsOn};
 ghost use Rattle.round_engine.specs.Steps.{AreLogsUp};
-ghost use Rattle.round_engine.specs.Workers.{RunsWorkers, idled};
+ghost use Rattle.round_engine.specs.InTurn.{RunsPlainly};
+ghost use Rattle.round_engine.specs.Workers.{idled};
 ghost use Rattle.round_engine.specs.declared.report.End.TheVariants as ends;
 
 use crate::joins::{join_logs, limit};
@@ -158,7 +159,7 @@ fn run_lent<D: Disk + Drop, G: Gate>(
     requires workers { length runtime.old.logs ≡ 8 }
     requires up { AreLogsUp D.tells runtime.old.logs (growing_in runtime.old.side vault.old) }
     requires flushed { AllByRecursion (λ log. log.journal.lines ≡ []) runtime.old.logs }
-    ensures runs { RunsWorkers D.tells D.clock D.image_at D.faults round.now
+    ensures runs { RunsPlainly D.tells D.clock D.image_at D.faults round.now
         runtime.old.stands runtime.new.stands runtime.old.logs runtime.new.logs
         (growing_in runtime.old.side vault.old) (growing_in runtime.old.side vault.new) result }
     ensures runtime { runtime.new ≡ record runtime.old { stands = runtime.new.stands; logs = runtime.new.logs } }

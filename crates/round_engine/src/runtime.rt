@@ -20,7 +20,7 @@ ghost use Rattle.round_engine.specs.Standing.{StandsOn};
 use log_writer::Save;
 use outside::{Disk, Vault};
 use recovery_core::Settled;
-use serial_model::{Config, Memory, Number, Plain};
+use serial_model::{Config, Memory, Number, Plain, State};
 use snapshot_store::SnapStore;
 use std::alloc::Global;
 use std::marker::Model;
@@ -139,6 +139,13 @@ impl Runtime {
     {
         let _vault = &vault.ties;
         begin(alloc, settled, config)
+    }
+
+    /// What stands at each key behind the rounds that were run.
+    pub fn state(&self) -> &State
+        ensures { result.now ≡ self.now.stands.state }
+    {
+        &self.engine.plain.state
     }
 
     /// Whether a round or a join ended the run: by a refusal, or for want of memory. Then no further round is run.

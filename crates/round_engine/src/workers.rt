@@ -12,7 +12,8 @@ ghost use Rattle.tx_script.specs.Run.{CanRun};
 ghost use Rattle.worker_logs.specs.Logs.{LogState, idle_log};
 ghost use Rattle.round_engine.specs.Plainly.{after_line, outcome_at};
 ghost use Rattle.round_engine.specs.Steps.{AreLogsUp, IsLogUp, Moves, TakesCommit, TakesLine, full_after};
-ghost use Rattle.round_engine.specs.Workers.{RunsWorker, RunsWorkers, idle_if_not, idled, is_busy};
+ghost use Rattle.round_engine.specs.InTurn.{RunsPlainly, RunsWorker};
+ghost use Rattle.round_engine.specs.Workers.{idle_if_not, idled, is_busy};
 
 use crate::runtime::{Engine, WORKERS};
 use arrayvec::ArrayVec;
@@ -103,7 +104,7 @@ pub(crate) fn run_workers<D: Disk, G: Gate>(
     requires growing { length growing.old ≡ 8 }
     requires up { AreLogsUp D.tells logs.old growing.old }
     requires flushed { AllByRecursion (λ log. log.journal.lines ≡ []) logs.old }
-    ensures runs { RunsWorkers D.tells D.clock D.image_at D.faults round.now engine.old engine.new
+    ensures runs { RunsPlainly D.tells D.clock D.image_at D.faults round.now engine.old engine.new
         logs.old logs.new growing.old growing.new result }
 {
     let mut ran = WorkersRan {

@@ -1,6 +1,5 @@
 -- What gleaner says of these log files.
-use Rattle.std.proofs.Common.{◌≡◌, ◌≢◌, ◌∙◌, ◌++◌, ap, arith, drop, false, length, List, subst, sym, take, true}
-use Rattle.gleaner.specs.Glean.{none_counted}
+use Rattle.std.proofs.Common.{◌≡◌, ◌∙◌, ap, arith, length, subst, sym}
 use Rattle.round_engine.specs.Gleans.{GleansFiles}
 use Rattle.round_engine.proofs.GleanCall.{files_back}
 use Rattle.round_engine.proofs.GleanLine.{bytes_sized}

@@ -1,7 +1,6 @@
 -- The closed side is gleaned.
-use Rattle.std.proofs.Common.{◌≡◌, ◌≢◌, ◌∙◌, ◌<◌, ap, arith, length, List, ℕ, subst, sym, true}
+use Rattle.std.proofs.Common.{◌≡◌, ◌∙◌, ap, arith, List, subst, sym}
 use Rattle.serial_model.specs.declared.decl.Decl.{Decl}
-use Rattle.wire_form.specs.Pages.{Contents}
 use Rattle.snapshot_store.specs.Content.{words_of}
 use Rattle.gleaner.specs.Glean.{CanGlean}
 use Rattle.round_engine.specs.Gleans.{GleansFiles}

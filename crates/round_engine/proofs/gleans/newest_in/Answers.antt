@@ -1,8 +1,5 @@
 -- The newest catalogue is the last page.
-use Rattle.std.proofs.Common.{◌≡◌, ◌∙◌, ◌<◌, ◌-◌, ap, arith, length, List, Option, Some, suc, sym, subst}
-use Rattle.std.specs.Prelude.{slice_get}
-use Rattle.wire_form.specs.Pages.{catalogue_words, Contents}
-use Rattle.snapshot_store.specs.Content.{CatalogueAt, words_of}
+use Rattle.std.proofs.Common.{◌∙◌, ap}
 use Rattle.round_engine.proofs.LastPage.{last_words, small_epoch}
 use Rattle.round_engine.proofs.gleans.newest_in.Goals as goal
 

@@ -1,7 +1,7 @@
 -- A join, and the swap behind it.
-use Rattle.std.proofs.Common.{ap, refl, subst, sym, None, Ok, Err}
+use Rattle.std.proofs.Common.{refl, subst, sym, None, Ok, Err}
 use Rattle.std.specs.List.{AllByRecursion}
-use Rattle.std.specs.Prelude.{◌<◌, ◌^◌, ℕ}
+use Rattle.std.specs.Prelude.{◌<◌, ◌^◌}
 use Rattle.round_engine.specs.Standing.{RuntimeState}
 use Rattle.round_engine.proofs.joins.join_logs.Goals as goal
 

@@ -1,6 +1,6 @@
 -- A line of the maintenance thread is answered, and a worker's passed over.
-use Rattle.std.proofs.Common.{◌≡◌, ◌∙◌, ◌≤◌, ◌++◌, ◌∷◌, ◌+◌, ap, arith, length, List, Option, None, refl, subst, sym, take, false, []}
-use Rattle.std.specs.Prelude.{◌||◌, vec_capacity, vec_len}
+use Rattle.std.proofs.Common.{◌≡◌, ◌∙◌, ◌++◌, ◌∷◌, ap, arith, length, List, Option, None, refl, subst, sym, take, []}
+use Rattle.std.specs.Prelude.{◌||◌, vec_len}
 use Rattle.std.specs.List.{filter_map}
 use Rattle.std.proofs.lemmas.List.{take_all}
 use Rattle.script_grammar.specs.Script.{keeper_line_of}

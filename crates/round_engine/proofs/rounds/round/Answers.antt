@@ -1,5 +1,5 @@
 -- The phases are a round; after want of memory a front of it was run.
-use Rattle.std.proofs.Common.{◌∙◌, ap, arith, subst, sym}
+use Rattle.std.proofs.Common.{◌∙◌, arith, subst, sym}
 use Rattle.tx_script.specs.Run.{CanRun}
 use Rattle.round_engine.specs.Keeping.{CanKeep}
 use Rattle.round_engine.specs.Phases.{RunsAll, RunsSome}

@@ -1,5 +1,6 @@
 -- The phases of a round.
-use Rattle.std.proofs.Common.{◌≡◌, ◌∙◌, ap, subst, sym, length, Err, List}
+use Rattle.std.proofs.Common.{◌∙◌, ap, refl, subst, sym, length, List}
+use Rattle.std.specs.Prelude.{Ok}
 use Rattle.std.proofs.lemmas.Result.{err_from_is_err_and}
 use Rattle.script_grammar.specs.Script.{keeper_lines}
 use Rattle.tx_script.specs.Run.{CanRun}
@@ -9,29 +10,39 @@ use Rattle.round_engine.specs.Ends.{save_limited, where_true}
 use Rattle.round_engine.specs.Keeping.{RunsKeeper}
 use Rattle.round_engine.specs.Refusals.{device_refused}
 use Rattle.round_engine.specs.Sides.{growing_in}
-use Rattle.round_engine.specs.Standing.{RuntimeState, Standing}
+use Rattle.round_engine.specs.Standing.{RuntimeState}
 use Rattle.round_engine.specs.Steps.{AreLogsUp}
-use Rattle.round_engine.specs.Workers.{RunsWorkers, WorkersSoFar}
-use Rattle.round_engine.proofs.PlainRun.{plain_kept}
-use Rattle.round_engine.proofs.RunRound.{can_keep, ready_to_join, same_growing_in, some_lines, some_none}
+use Rattle.round_engine.specs.InTurn.{RunsPlainly}
+use Rattle.round_engine.proofs.PlainShares.{none_stops}
+use Rattle.round_engine.proofs.RunRound.{can_keep, ready_to_join, same_growing_in, some_lines}
+use Rattle.round_engine.proofs.SharesRun.{same_decls}
 use Rattle.round_engine.proofs.rounds.run_round.Goals as goal
 
 pub returns-in_err-answers : goal.returns-in_err-answers
 returns-in_err-answers g c =
     let p = err_from_is_err_and c.from_residual.result c.from_residual.ensures.1 in
+    let r : RuntimeState = c.args.runtime.now in
+    let room = c.in_err-answers.ensures.alone in
+    let up = subst (AreLogsUp g.D.Disk.tells r.logs) (sym (same_growing_in r.side c.args.vault.now c.make_room.new.vault room))
+    c.requires.logs in
+    let none = none_stops {clock = g.D.Disk.clock} {image_at = g.D.Disk.image_at} {faults = g.D.Disk.faults} c.args.round.now
+    r.stands r.logs (growing_in r.side c.make_room.new.vault) up in
     rw p.1 (record {
-      phases = some_none g.D.Disk.tells g.D.Disk.clock g.D.Disk.image_at g.D.Disk.faults c.args.round.now c.args.runtime.now
-          c.args.vault.now c.make_room.new.vault c.in_err-answers.ensures.alone;
+      phases = some_lines g.D.Disk.tells g.D.Disk.clock g.D.Disk.image_at g.D.Disk.faults c.args.round.now r r
+          c.args.vault.now c.make_room.new.vault c.make_room.new.vault none.0 none.1 refl room
+          (record { save = refl; snaps = refl; closed = refl; ties = refl; cuts = refl });
     })
 
 pub returns-in_err-ran : goal.returns-in_err-ran
 returns-in_err-ran g c =
     let p = err_from_is_err_and c.from_residual-in_err-ran.result c.from_residual-in_err-ran.ensures.1 in
     let lent = c.in_err-ran.ensures in
+    let r : RuntimeState = c.args.runtime.now in
+    let room = c.in_ok-answers.ensures.alone in
     rw p.1 (record {
-      phases = some_lines g.D.Disk.tells g.D.Disk.clock g.D.Disk.image_at g.D.Disk.faults c.args.round.now c.args.runtime.now
-          c.run_lent.new.runtime c.args.vault.now c.make_room.new.vault c.run_lent.new.vault c.in_err-ran.field-0.0 lent.runs
-          lent.runtime c.in_ok-answers.ensures.alone lent.vault;
+      phases = some_lines g.D.Disk.tells g.D.Disk.clock g.D.Disk.image_at g.D.Disk.faults c.args.round.now r
+          c.run_lent.new.runtime c.args.vault.now c.make_room.new.vault c.run_lent.new.vault lent.runs.comes.0 lent.runs.comes.1
+          lent.runtime room lent.vault;
     })
 
 pub run_lent-requires-clause-whole : goal.run_lent-requires-clause-whole
@@ -49,33 +60,30 @@ run_lent-requires-clause-up g c =
 
 pub run_keeper-keeper-requires-clause-lines : goal.run_keeper-keeper-requires-clause-lines
 run_keeper-keeper-requires-clause-lines g c =
-    let so = c.in_ok-ran.ensures.runs in
-    subst (λ ds. CanRun ds c.args.round.now)
-    (sym (ap (λ (s : Standing). s.decls) so.first.standing ∙ (plain_kept so.parts c.args.runtime.now.stands).0)) c.requires.lines
+    subst (λ ds. CanRun ds c.args.round.now) (sym (same_decls c.in_ok-ran.ensures.runs.comes.0.over.runs))
+    c.requires.lines
 
 pub run_keeper-keeper-requires-clause-ready : goal.run_keeper-keeper-requires-clause-ready
 run_keeper-keeper-requires-clause-ready g c =
     let lent = c.in_ok-ran.ensures in
     let r : RuntimeState = c.args.runtime.now in
     let room = c.in_ok-answers.ensures.alone in
-    let lines = subst (λ b. WorkersSoFar g.D.Disk.tells g.D.Disk.clock g.D.Disk.image_at g.D.Disk.faults c.args.round.now 8
-    r.stands c.run_lent.new.runtime.stands c.in_ok-ran.ran.outcomes c.in_ok-ran.ran.logs.items r.logs
-    c.run_lent.new.runtime.logs b (growing_in r.side c.run_lent.new.vault))
-    (same_growing_in r.side c.args.vault.now c.make_room.new.vault room) lent.runs in
-    can_keep c.requires.logs c.requires.ready lines lent.runtime room lent.vault
+    let lines = subst (λ b. RunsPlainly g.D.Disk.tells g.D.Disk.clock g.D.Disk.image_at g.D.Disk.faults c.args.round.now
+    r.stands c.run_lent.new.runtime.stands r.logs c.run_lent.new.runtime.logs b (growing_in r.side c.run_lent.new.vault)
+    (Ok c.in_ok-ran.ran)) (same_growing_in r.side c.args.vault.now c.make_room.new.vault room) lent.runs in
+    can_keep c.requires.logs c.requires.ready lines.comes.0 lent.runtime room lent.vault
 
 pub join-durable-requires-clause-ready : goal.join-durable-requires-clause-ready
 join-durable-requires-clause-ready g c =
     let lent = c.in_ok-ran.ensures in
     let r : RuntimeState = c.args.runtime.now in
     let room = c.in_ok-answers.ensures.alone in
-    let lines = subst (λ b. WorkersSoFar g.D.Disk.tells g.D.Disk.clock g.D.Disk.image_at g.D.Disk.faults c.args.round.now 8
-    r.stands c.run_lent.new.runtime.stands c.in_ok-ran.ran.outcomes c.in_ok-ran.ran.logs.items r.logs
-    c.run_lent.new.runtime.logs b (growing_in r.side c.run_lent.new.vault))
-    (same_growing_in r.side c.args.vault.now c.make_room.new.vault room) lent.runs in
+    let lines = subst (λ b. RunsPlainly g.D.Disk.tells g.D.Disk.clock g.D.Disk.image_at g.D.Disk.faults c.args.round.now
+    r.stands c.run_lent.new.runtime.stands r.logs c.run_lent.new.runtime.logs b (growing_in r.side c.run_lent.new.vault)
+    (Ok c.in_ok-ran.ran)) (same_growing_in r.side c.args.vault.now c.make_room.new.vault room) lent.runs in
     let device_is = c.in_lines-refused.ensures.device ∙ ap (λ s. device_refused s c.run_keeper-keeper.result.refusal
     c.in_ok-ran.ran.logs.items) (c.run_keeper-keeper.ensures.runs.leaves.side ∙ ap (λ (x : RuntimeState). x.side) lent.runtime) in
-    ready_to_join c.requires.logs c.requires.ready lines lent.runtime room lent.vault c.run_keeper-keeper.ensures.runs
+    ready_to_join c.requires.logs c.requires.ready lines.comes.0 lent.runtime room lent.vault c.run_keeper-keeper.ensures.runs
     c.in_lines-refused.result device_is c.in_lines-refused.ensures.keeper
 
 pub returns : goal.returns
@@ -83,10 +91,9 @@ returns g c =
     let lent = c.in_ok-ran.ensures in
     let r : RuntimeState = c.args.runtime.now in
     let room = c.in_ok-answers.ensures.alone in
-    let lines = subst (λ b. WorkersSoFar g.D.Disk.tells g.D.Disk.clock g.D.Disk.image_at g.D.Disk.faults c.args.round.now 8
-    r.stands c.run_lent.new.runtime.stands c.in_ok-ran.ran.outcomes c.in_ok-ran.ran.logs.items r.logs
-    c.run_lent.new.runtime.logs b (growing_in r.side c.run_lent.new.vault))
-    (same_growing_in r.side c.args.vault.now c.make_room.new.vault room) lent.runs in
+    let lines = subst (λ b. RunsPlainly g.D.Disk.tells g.D.Disk.clock g.D.Disk.image_at g.D.Disk.faults c.args.round.now
+    r.stands c.run_lent.new.runtime.stands r.logs c.run_lent.new.runtime.logs b (growing_in r.side c.run_lent.new.vault)
+    (Ok c.in_ok-ran.ran)) (same_growing_in r.side c.args.vault.now c.make_room.new.vault room) lent.runs in
     let keeper = subst (λ e. RunsKeeper g.D.Disk.tells g.D.Disk.clock g.D.Disk.image_at g.D.Disk.faults
     (keeper_lines c.args.round.now) c.run_keeper-keeper.new.answers.items e c.run_lent.new.runtime c.run_keeper-keeper.new.runtime
     c.run_lent.new.vault c.run_keeper-keeper.new.vault) (sym c.in_lines-refused.ensures.keeper) c.run_keeper-keeper.ensures.runs in
@@ -101,7 +108,9 @@ returns g c =
         after = c.run_keeper-keeper.new.vault;
         ends = c.in_ok-ran.ran.logs.items;
         refused = c.in_lines-refused.result;
-        lines = lines;
+        lines = lines.comes.0;
+        plain = lines.comes.1;
+        in_turn = lines.comes.2;
         alone = lent.runtime;
         room = room;
         beside = lent.vault;

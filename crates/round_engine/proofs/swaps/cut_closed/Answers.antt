@@ -1,7 +1,7 @@
 -- The closed log files are cut, one after another.
 use Rattle.std.proofs.Common.{◌∙◌, arith, Some, None}
-use Rattle.outside.specs.Cuts.{whole_bank, whole_cut}
-use Rattle.round_engine.proofs.BanksCut.{closed_below, closed_done, closed_ends, closed_fails, closed_in_numbers}
+use Rattle.outside.specs.Cuts.{whole_cut}
+use Rattle.round_engine.proofs.BanksCut.{closed_done, closed_ends, closed_fails}
 use Rattle.round_engine.proofs.swaps.cut_closed.Goals as goal
 
 pub returns-in_default : goal.returns-in_default

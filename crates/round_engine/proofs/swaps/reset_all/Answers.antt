@@ -3,7 +3,7 @@ use Rattle.std.proofs.Common.{◌≡◌, ◌∙◌, [], arith, sym}
 use Rattle.lists.specs.Each.{all_at}
 use Rattle.worker_logs.specs.Logs.{LogState}
 use Rattle.round_engine.proofs.Turned.{reset_each}
-use Rattle.round_engine.proofs.WorkersRun.{within_of}
+use Rattle.round_engine.proofs.Places.{within_of}
 use Rattle.round_engine.proofs.swaps.reset_all.Goals as goal
 
 pub reset_one-requires-clause-flushed : goal.reset_one-requires-clause-flushed

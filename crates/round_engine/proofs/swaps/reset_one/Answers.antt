@@ -3,7 +3,7 @@ use Rattle.std.proofs.Common.{◌≡◌, ◌∙◌, [], ap, subst, sym, Some}
 use Rattle.lists.specs.Elements.{at_set_other, at_set_same}
 use Rattle.worker_logs.specs.Logs.{LogState, reset_log}
 use Rattle.round_engine.proofs.Places.{read_at}
-use Rattle.round_engine.proofs.WorkersRun.{item_at}
+use Rattle.round_engine.proofs.Places.{item_at}
 use Rattle.round_engine.proofs.swaps.reset_one.Goals as goal
 
 pub reset-requires : goal.reset-requires

@@ -1,6 +1,5 @@
 -- A swap behind a save: the cuts, and the turn behind them.
-use Rattle.std.proofs.Common.{◌≡◌, ◌∙◌, ap, inr, refl, subst, sym, Some, None, Option, ℕ}
-use Rattle.outside.specs.declared.vault.Vault.{Vault}
+use Rattle.std.proofs.Common.{◌∙◌, ap, inr, refl, subst, sym, Some, None}
 use Rattle.log_writer.specs.Points.{sequence_of}
 use Rattle.round_engine.specs.Sides.{closed_numbers}
 use Rattle.round_engine.specs.Standing.{RuntimeState}

@@ -1,8 +1,8 @@
 -- The log and the log file of one worker are what its lines left, and the others stay.
 use Rattle.std.proofs.Common.{get_or, subst}
 use Rattle.lists.specs.Elements.{at_set_other, at_set_same}
-use Rattle.round_engine.specs.Workers.{RunsWorker}
-use Rattle.round_engine.proofs.WorkersRun.{item_read}
+use Rattle.round_engine.specs.InTurn.{RunsWorker}
+use Rattle.round_engine.proofs.Places.{item_read}
 use Rattle.round_engine.proofs.workers.run_at.Goals as goal
 
 pub returns-clause-mine : goal.returns-clause-mine

@@ -10,7 +10,7 @@ use Rattle.worker_logs.specs.Logs.{LogState}
 use Rattle.worker_logs.specs.Moves.{MovesLog}
 use Rattle.round_engine.specs.Standing.{Standing}
 use Rattle.round_engine.specs.Steps.{Moves}
-use Rattle.round_engine.specs.Workers.{RunsLines}
+use Rattle.round_engine.specs.InTurn.{RunsLines}
 use Rattle.round_engine.proofs.Chains.{after_lines-decls}
 use Rattle.round_engine.proofs.Fronts.{ops_of, runnable_at, take_other}
 use Rattle.round_engine.proofs.SoFar.{lines_begin, lines_epoch, lines_marked, lines_other}

@@ -1,6 +1,6 @@
 -- The worker's lines among the first ones were run, or left out.
 use Rattle.std.proofs.Common.{◌≡◌, ◌≤◌, length, take}
-use Rattle.round_engine.specs.Workers.{RunsLines}
+use Rattle.round_engine.specs.InTurn.{RunsLines}
 use Rattle.round_engine.proofs.Fronts.{ops_of}
 use Rattle.round_engine.proofs.workers.run_worker.Given as goal
 

@@ -1,5 +1,5 @@
 -- The lines of the first workers were run.
-use Rattle.round_engine.specs.Workers.{WorkersSoFar}
+use Rattle.round_engine.specs.InTurn.{WorkersSoFar}
 use Rattle.round_engine.proofs.workers.run_workers.Given as goal
 
 abbrev pub invariant-loop-worker : goal.invariant-loop-worker

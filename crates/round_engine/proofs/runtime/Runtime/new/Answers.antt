@@ -1,5 +1,5 @@
 -- A runtime begins with empty logs.
-use Rattle.std.proofs.Common.{◌∙◌, ap, arith, subst, sym, []}
+use Rattle.std.proofs.Common.{ap, arith, subst, sym, []}
 use Rattle.std.proofs.lemmas.Result.{IfOk-weaker}
 use Rattle.serial_model.specs.declared.number.Number.{Number}
 use Rattle.worker_logs.specs.Saves.{CountsOf}

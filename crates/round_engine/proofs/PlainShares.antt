@@ -1,0 +1,365 @@
+-- The plain map's workers, one after another, as workers of any engine: each line is tried once, and no try is refused.
+use Rattle.std.proofs.Common.{◌≡◌, ◌∙◌, ◌≤◌, ◌⊎◌, ◌++◌, ◌∷◌, inl, inr, sym, ap, subst, refl, ℕ, zero, suc}
+use Rattle.std.proofs.Common.{List, [], filter, length, map, Option, Some, None, arith}
+use Rattle.std.specs.Prelude.{◌==◌, flat_map, is_some, slice_get, sum_by}
+use Rattle.std.specs.List.{AllByRecursion}
+use Rattle.std.specs.List.Sorted.{IsPermutation}
+use Rattle.std.proofs.lemmas.List.{append-nil}
+use Rattle.std.proofs.lemmas.List.Sums.{sum_by-cons}
+use Rattle.std.proofs.lemmas.List.Sorted.{IsPermutation-refl}
+use Rattle.std.proofs.lemmas.Option.{same_Some}
+use Rattle.lists.specs.Fronts.{IsFront, front_none}
+use Rattle.serial_model.specs.History.{Entry, Rises}
+use Rattle.serial_model.specs.Numbers.{IsBelow}
+use Rattle.serial_model.specs.declared.number.Commit.{Commit}
+use Rattle.serial_model.specs.declared.op.Op.{Op}
+use Rattle.script_grammar.specs.Script.{Round, lines_of_worker, worker_lines}
+use Rattle.tx_script.specs.declared.outcome.Outcome.{Outcome}
+use Rattle.tx_script.specs.Draws.{commits_of}
+use Rattle.tx_script.specs.Run.{entries_of_workers, is_commit, of_worker}
+use Rattle.worker_logs.specs.Logs.{LogState}
+use Rattle.round_engine.specs.Changes.{AreLogged}
+use Rattle.round_engine.specs.InTurn.{AreFirstLines, RunsFirst, WorkersSoFar}
+use Rattle.round_engine.specs.Parts.{AreLoggedAt, AreParts, Part, after_parts, lines_in, logged_at, outcomes_in}
+use Rattle.round_engine.specs.Parts.{outcomes_of}
+use Rattle.round_engine.specs.Plainly.{AreConsecutive, ArePlain, DrawsTo, IsInTurn, after_line, after_lines}
+use Rattle.round_engine.specs.Shares.{AreOrdered, IsShare, RunsShares, Share, drawn_in, entries_in}
+use Rattle.round_engine.specs.Shares.{logged_in}
+use Rattle.round_engine.specs.Standing.{Standing}
+use Rattle.round_engine.specs.Steps.{AreLogsUp}
+use Rattle.round_engine.specs.Workers.{LeftBy, RunsOver, RunsWorkers, StopsWorkers}
+use Rattle.round_engine.specs.declared.workers.LogEnd.{LogEnd}
+use Rattle.round_engine.proofs.Chains.{Chained, after_lines-decls, chained_answers, chained_clock, chained_state}
+use Rattle.round_engine.proofs.Chains.{consecutive_between, consecutive_rise, in_order-kept, length-outcomes_in}
+use Rattle.round_engine.proofs.Drawn.{part_comes, part_plain, parts_counted, parts_draw, refusals_at}
+use Rattle.round_engine.proofs.Logged.{parts_logged}
+use Rattle.round_engine.proofs.PlainRun.{chained, plain_consecutive, plain_kept, printed}
+use Rattle.round_engine.proofs.Places.{within_of}
+use Rattle.round_engine.proofs.SharesRun.{lines_of, outcomes_of as outcomes_told, refusals_of}
+use Rattle.round_engine.proofs.Takes.{blames_none, takes_none}
+use Rattle.round_engine.proofs.WorkersRun.{workers_begin}
+
+-- ---- parts as shares
+
+abbrev pub share_of : Standing → Part → Share
+share_of s p = record {
+  lines = lines_in p;
+  outcomes = outcomes_in s p;
+  tries_refused = map refusals_at (outcomes_in s p);
+  refusal = p.refusal;
+  logged = p.logged;
+}
+
+abbrev pub shares_of : Standing → List Part → List Share
+shares_of s [] = []
+shares_of s (p ∷ parts) = share_of s p ∷ shares_of (after_lines s p.ran) parts
+
+pub shares_told : (parts : List Part) (s : Standing) → outcomes_told (shares_of s parts) ≡ outcomes_of s parts
+shares_told [] s = refl
+shares_told (p ∷ parts) s = ap (λ l. outcomes_in s p ∷ l) (shares_told parts (after_lines s p.ran))
+
+pub shares_lines : (parts : List Part) (s : Standing) → lines_of (shares_of s parts) ≡ map lines_in parts
+shares_lines [] s = refl
+shares_lines (p ∷ parts) s = ap (λ l. lines_in p ∷ l) (shares_lines parts (after_lines s p.ran))
+
+pub shares_refusals : (parts : List Part) (s : Standing)
+    → refusals_of (shares_of s parts) ≡ map (λ (p : Part). p.refusal) parts
+shares_refusals [] s = refl
+shares_refusals (p ∷ parts) s = ap (λ l. p.refusal ∷ l) (shares_refusals parts (after_lines s p.ran))
+
+pub shares_logged : (parts : List Part) (s : Standing) (w : ℕ) → logged_in (shares_of s parts) w ≡ logged_at parts w
+shares_logged [] s w = refl
+shares_logged (p ∷ parts) s zero = refl
+shares_logged (p ∷ parts) s (suc w) = shares_logged parts (after_lines s p.ran) w
+
+pub shares_many : (parts : List Part) (s : Standing) → length (shares_of s parts) ≡ length parts
+shares_many [] s = refl
+shares_many (p ∷ parts) s = ap suc (shares_many parts (after_lines s p.ran))
+
+-- which part a share is
+pub share_at : (parts : List Part) (s : Standing) (i : ℕ) (q : Share) → slice_get (shares_of s parts) i ≡ Some q
+    → (p : Part) × (slice_get parts i ≡ Some p) × (q.lines ≡ lines_in p) × (q.refusal ≡ p.refusal)
+    × (q.logged ≡ p.logged)
+share_at [] s i q at = absurd cc
+share_at (p ∷ parts) s zero q at =
+    let same : share_of s p ≡ q = same_Some (share_of s p) q at in (
+      p,
+      refl,
+      ap (λ (x : Share). x.lines) (sym same),
+      ap (λ (x : Share). x.refusal) (sym same),
+      ap (λ (x : Share). x.logged) (sym same),
+    )
+share_at (p ∷ parts) s (suc i) q at = share_at parts (after_lines s p.ran) i q at
+
+pub shares_plain : (parts : List Part) (s : Standing) → ArePlain (outcomes_told (shares_of s parts))
+shares_plain [] s = tt
+shares_plain (p ∷ parts) s = (part_plain p.ran p.left s, shares_plain parts (after_lines s p.ran))
+
+-- ---- what comes of their lines
+
+append_nothing : {X : Type 0} (xs ys : List X) → xs ++ ys ≡ [] → xs ≡ []
+append_nothing [] ys is = refl
+append_nothing (x ∷ xs) ys is = absurd cc
+
+-- nothing was logged of no lines
+no_lines : (s : Standing) (lines : List (List Op)) (logged : List Commit) → lines ≡ [] → AreLoggedAt s lines logged
+    → logged ≡ []
+no_lines s [] logged is are = are
+no_lines s (ops ∷ lines) logged is are = absurd cc
+
+pub shares_are : (parts : List Part) (s : Standing) (last : ℕ) → AreParts s parts
+    → (after_parts s parts).clock.draw ≤ last
+    → AllByRecursion (IsShare s.decls 1 last) (shares_of s parts)
+shares_are [] s last are le = tt
+shares_are (p ∷ parts) s last are le =
+    let t : Standing = after_lines s p.ran in
+    let grows : t.clock.draw ≤ (after_parts t parts).clock.draw = omega (arith, parts_counted parts t) in
+    let one = part_comes last p.refusal p.ran p.left s are.0.all (omega (arith, grows, le)) in (
+      record {
+        one_each = length-outcomes_in s p;
+        come = one.0;
+        unrun_last = one.1;
+        lines_are = are.0.lines;
+        none = λ is. no_lines s p.ran p.logged (append_nothing p.ran p.left is) are.0.logged;
+      },
+      subst (λ ds. AllByRecursion (IsShare ds 1 last) (shares_of t parts)) (after_lines-decls p.ran s)
+          (shares_are parts t last are.1 le),
+    )
+
+-- ---- their commits
+
+plain_ordered : (index : ℕ) (parts : List Part) (s : Standing) → AreParts s parts
+    → AreOrdered index s (after_parts s parts) (shares_of s parts)
+plain_ordered index parts s are =
+    let t : Standing = after_parts s parts in
+    let es : List Entry = printed index parts s in
+    let chain : Chained es s t = chained index parts s in
+    let next : AreConsecutive s.clock es = plain_consecutive index parts s in
+    let rise = consecutive_rise es s.clock next in
+    let clock = chained_clock es s t chain in
+    let same : entries_in index (shares_of s parts) ≡ es =
+    ap (λ o. entries_of_workers index 0 o (lines_of (shares_of s parts))) (shares_told parts s)
+    ∙ ap (entries_of_workers index 0 (outcomes_of s parts)) (shares_lines parts s) in
+    record {
+      ordered = es;
+      same = subst (λ x. IsPermutation x es) (sym same) (IsPermutation-refl es);
+      serial = record { rising = rise.0; epochs = rise.1; answers = chained_answers es s t chain };
+      draws = rise.2;
+      after = chained_state es s t chain;
+      numbers = consecutive_between es s.clock t.clock s.clock next refl (omega (arith, clock.0)) (omega arith)
+          (omega (arith, clock.1));
+      workers = λ worker. subst (λ x. Rises (of_worker worker x)) (sym same)
+          (in_order-kept (λ e f. IsBelow e.number f.number) (λ e. e.worker == worker) es rise.0);
+      logged = λ worker below. subst (AreLogged s.decls worker s.state es) (sym (shares_logged parts s worker))
+          (parts_logged index 0 worker worker parts s are (omega arith));
+    }
+
+-- the contents and the clock change alone
+lines_only : (lines : List (List Op)) (s : Standing)
+    → after_lines s lines ≡ record s { state = (after_lines s lines).state; clock = (after_lines s lines).clock }
+lines_only [] s = refl
+lines_only (ops ∷ lines) s = lines_only lines (after_line s ops)
+
+parts_only : (parts : List Part) (s : Standing)
+    → after_parts s parts ≡ record s { state = (after_parts s parts).state; clock = (after_parts s parts).clock }
+parts_only [] s = refl
+parts_only (p ∷ parts) s =
+    parts_only parts (after_lines s p.ran)
+    ∙ ap (λ (x : Standing). record x {
+      state = (after_parts (after_lines s p.ran) parts).state;
+      clock = (after_parts (after_lines s p.ran) parts).clock;
+    }) (lines_only p.ran s)
+
+-- each commit draws a number
+drawn_least : (shares : List Share) → commits_of (outcomes_told shares) ≤ sum_by drawn_in shares
+drawn_least [] = omega arith
+drawn_least (p ∷ shares) = omega (
+  arith,
+  sum_by-cons drawn_in p shares,
+  sum_by-cons (λ outcomes. length (filter is_commit outcomes)) p.outcomes (outcomes_told shares),
+  drawn_least shares,
+)
+
+pub plain_shares : (parts : List Part) (s : Standing) → length parts ≡ 8 → AreParts s parts
+    → RunsShares 1 s (after_parts s parts) (shares_of s parts)
+plain_shares parts s eight are =
+    let kept = plain_kept parts s in
+    let drawn = parts_counted parts s in
+    record {
+      workers = shares_many parts s ∙ eight;
+      only = parts_only parts s;
+      epoch = kept.1;
+      draw = omega (arith, drawn);
+      drawn = omega (
+        arith,
+        drawn,
+        drawn_least (shares_of s parts),
+        ap commits_of (shares_told parts s),
+      );
+      each = shares_are parts s (after_parts s parts).clock.draw are (omega arith);
+      ordered = λ index. plain_ordered index parts s are;
+    }
+
+-- ---- eight parts
+
+-- a worker that ran nothing
+abbrev pub nothing_run : Part
+nothing_run = record { ran = []; left = []; refusal = None; logged = [] }
+
+-- so many parts: those that there are, and then such
+abbrev pub padded : ℕ → List Part → List Part
+padded zero parts = []
+padded (suc n) [] = nothing_run ∷ padded n []
+padded (suc n) (p ∷ parts) = p ∷ padded n parts
+
+pub pad_many : (n : ℕ) (parts : List Part) → length (padded n parts) ≡ n
+pad_many zero parts = refl
+pad_many (suc n) [] = ap suc (pad_many n [])
+pad_many (suc n) (p ∷ parts) = ap suc (pad_many n parts)
+
+pub pad_after : (n : ℕ) (parts : List Part) (s : Standing) → length parts ≤ n
+    → after_parts s (padded n parts) ≡ after_parts s parts
+pad_after zero [] s few = refl
+pad_after zero (p ∷ parts) s few = absurd (omega (arith, few))
+pad_after (suc n) [] s few = pad_after n [] s (omega arith)
+pad_after (suc n) (p ∷ parts) s few = pad_after n parts (after_lines s p.ran) (omega (arith, few))
+
+pub pad_are : (n : ℕ) (parts : List Part) (s : Standing) → AreParts s parts → AreParts s (padded n parts)
+pad_are zero parts s are = tt
+pad_are (suc n) [] s are = (record { logged = refl; lines = tt; all = λ none. refl }, pad_are n [] s tt)
+pad_are (suc n) (p ∷ parts) s are = (are.0, pad_are n parts (after_lines s p.ran) are.1)
+
+-- a part of them is one of those, or stands behind them and ran nothing
+pub pad_at : (n : ℕ) (parts : List Part) (w : ℕ) (p : Part) → slice_get (padded n parts) w ≡ Some p
+    → (slice_get parts w ≡ Some p) ⊎ ((nothing_run ≡ p) × (length parts ≤ w))
+pad_at zero parts w p at = absurd cc
+pad_at (suc n) [] zero p at = inr (same_Some nothing_run p at, omega arith)
+pad_at (suc n) [] (suc w) p at = elim (pad_at n [] w p at) [
+  | inl there ↦ absurd (let no = there in cc)
+  | inr none ↦ inr (none.0, omega arith)
+]
+pad_at (suc n) (q ∷ parts) zero p at = inl at
+pad_at (suc n) (q ∷ parts) (suc w) p at = elim (pad_at n parts w p at) [
+  | inl there ↦ inl there
+  | inr none ↦ inr (none.0, omega (arith, none.1))
+]
+
+-- ---- over the logs
+
+module _ {D : Type 0} {tells : D → Option (List ℕ)} {clock : D → ℕ} {image_at : D → ℕ → List ℕ → Type 0}
+    {faults : D → ℕ} where
+  plain_over : {s t : Standing} (parts : List Part) {logs_was logs : List LogState} {banks_was banks : List D}
+      → length parts ≡ 8 → AreParts s parts → t ≡ after_parts s parts
+      → length logs ≡ length logs_was → length banks ≡ length banks_was
+      → ((i : ℕ) (p : Part) (old new : LogState) (before now : D) → slice_get parts i ≡ Some p
+      → slice_get logs_was i ≡ Some old → slice_get logs i ≡ Some new
+      → slice_get banks_was i ≡ Some before → slice_get banks i ≡ Some now
+      → LeftBy tells clock image_at faults s.clock.epoch p.logged p.refusal old new before now)
+      → RunsOver tells clock image_at faults 1 s t (shares_of s parts) logs_was logs banks_was banks
+  plain_over {s = s} parts eight are is logs_many banks_many each = record {
+    runs = subst (λ x. RunsShares 1 s x (shares_of s parts)) (sym is) (plain_shares parts s eight are);
+    logs_length = logs_many;
+    banks_length = banks_many;
+    each = λ i q old new before now at was is bank_was bank_is.
+        let p = share_at parts s i q at in
+        subst (λ r. LeftBy tells clock image_at faults s.clock.epoch q.logged r old new before now) (sym p.3)
+        (subst (λ l. LeftBy tells clock image_at faults s.clock.epoch l p.0.refusal old new before now) (sym p.4)
+        (each i p.0 old new before now p.1 was is bank_was bank_is));
+  }
+
+  -- All lines were run in turn.
+  pub plain_runs : {round : Round} {s t : Standing} {outcomes : List (List Outcome)} {ends : List LogEnd}
+      {logs_was logs : List LogState} {banks_was banks : List D}
+      → WorkersSoFar tells clock image_at faults round 8 s t outcomes ends logs_was logs banks_was banks
+      → RunsWorkers tells clock image_at faults 1 round s t outcomes ends logs_was logs banks_was banks
+      × ArePlain outcomes × IsInTurn round s t outcomes
+  plain_runs {round = round} {s = s} {t = t} so = (
+    record {
+      shares = shares_of s so.parts;
+      over = plain_over so.parts so.first.count so.first.are so.first.standing so.first.logs_length
+          so.first.banks_length so.first.each;
+      lines = shares_lines so.parts s ∙ so.lines;
+      told = so.told ∙ sym (shares_told so.parts s);
+      idle = λ i q old new at none was is.
+          let p = share_at so.parts s i q at in so.idle i p.0 old new p.1 (sym p.2 ∙ none) was is;
+      ends_failed = so.ends_failed;
+      flushed = so.flushed;
+      ends_are = so.ends_are ∙ sym (shares_refusals so.parts s);
+    },
+    subst ArePlain (shares_told so.parts s ∙ sym so.told) (shares_plain so.parts s),
+    record {
+      consecutive = λ index.
+          subst (λ o. AreConsecutive s.clock (entries_of_workers index 0 o (worker_lines round))) (sym so.told)
+          (subst (λ l. AreConsecutive s.clock (entries_of_workers index 0 (outcomes_of s so.parts) l)) so.lines
+          (plain_consecutive index so.parts s));
+      draws = subst (λ o. DrawsTo s.clock.draw (flat_map (λ of_worker. of_worker) o) t.clock.draw) (sym so.told)
+          (subst (λ (x : Standing). DrawsTo s.clock.draw (flat_map (λ of_worker. of_worker) (outcomes_of s so.parts))
+          x.clock.draw) (sym so.first.standing) (parts_draw so.parts s));
+    },
+  )
+
+  pub plain_all : {round : Round} {worker : ℕ} {s t : Standing} {outcomes : List (List Outcome)} {ends : List LogEnd}
+      {logs_was logs : List LogState} {banks_was banks : List D} → worker ≡ 8
+      → WorkersSoFar tells clock image_at faults round worker s t outcomes ends logs_was logs banks_was banks
+      → RunsWorkers tells clock image_at faults 1 round s t outcomes ends logs_was logs banks_was banks
+      × ArePlain outcomes × IsInTurn round s t outcomes
+  plain_all {round = round} {s = s} {t = t} {outcomes = outcomes} {ends = ends} {logs_was = logs_was} {logs = logs}
+      {banks_was = banks_was} {banks = banks} is so = plain_runs (subst (λ w. WorkersSoFar tells clock image_at faults
+      round w s t outcomes ends logs_was logs banks_was banks) is so)
+
+  -- Some first lines were run in turn.
+  pub plain_stops : {round : Round} {worker : ℕ} {s t : Standing} {parts : List Part} {logs_was logs : List LogState}
+      {banks_was banks : List D} → worker ≤ 8 → AreFirstLines round parts
+      → RunsFirst tells clock image_at faults round worker s t parts logs_was logs banks_was banks
+      → AreLogsUp tells logs_was banks_was
+      → (r : StopsWorkers tells clock image_at faults 1 round s t logs_was logs banks_was banks)
+      × ArePlain (outcomes_told r.shares)
+  plain_stops {round = round} {worker = worker} {s = s} {parts = parts} few fronts first up =
+      let less : length parts ≤ 8 = omega (arith, first.count, few) in (
+        record {
+          shares = shares_of s (padded 8 parts);
+          over = plain_over (padded 8 parts) (pad_many 8 parts) (pad_are 8 parts s first.are)
+              (first.standing ∙ sym (pad_after 8 parts s less)) first.logs_length first.banks_length
+              (λ i p old new before now at was is bank_was bank_is. elim (pad_at 8 parts i p at) [
+                | inl there ↦ first.each i p old new before now there was is bank_was bank_is
+                | inr none ↦
+                    let past : worker ≤ i = omega (arith, none.1, first.count) in
+                    let same = same_Some old new (sym was ∙ sym (first.rest_logs i past) ∙ is) in
+                    let bank_same = same_Some before now (sym bank_was ∙ sym (first.rest_banks i past) ∙ bank_is) in
+                    let at = up i old before was bank_was in
+                    subst (λ (q : Part). LeftBy tells clock image_at faults s.clock.epoch q.logged q.refusal old new
+                    before now) none.0
+                    (subst (λ x. LeftBy tells clock image_at faults s.clock.epoch [] None old x before now) same
+                    (subst (λ x. LeftBy tells clock image_at faults s.clock.epoch [] None old old before x) bank_same
+                    (record {
+                      takes = takes_none s.clock.epoch old before;
+                      mark = inl refl;
+                      blames = blames_none before old.journal at.up;
+                      reaches = at.reaches;
+                      limit = refl;
+                      refused = at.up;
+                      failed = λ down. absurd (let no = sym (ap is_some at.up) ∙ down in cc);
+                    })))
+              ]);
+          fronts = λ i q at.
+              let p = share_at (padded 8 parts) s i q at in
+              subst (λ l. IsFront l (lines_of_worker round i)) (sym p.2) (elim (pad_at 8 parts i p.0 p.1) [
+                | inl there ↦
+                    let front = fronts i p.0 there in
+                    subst (λ l. IsFront (p.0.ran ++ l) (lines_of_worker round i)) (sym front.1)
+                    (subst (λ l. IsFront l (lines_of_worker round i)) (sym (append-nil p.0.ran)) front.0)
+                | inr none ↦ subst (λ (x : Part). IsFront (lines_in x) (lines_of_worker round i)) none.0
+                    (front_none (lines_of_worker round i))
+              ]);
+        },
+        shares_plain (padded 8 parts) s,
+      )
+
+  -- No line was run.
+  pub none_stops : (round : Round) (s : Standing) (logs : List LogState) (banks : List D) → AreLogsUp tells logs banks
+      → (r : StopsWorkers tells clock image_at faults 1 round s s logs logs banks banks)
+      × ArePlain (outcomes_told r.shares)
+  none_stops round s logs banks up =
+      let b : WorkersSoFar tells clock image_at faults round 0 s s [] [] logs logs banks banks =
+      workers_begin round s logs banks in
+      plain_stops (omega arith) (λ i p at. absurd (omega (arith, within_of b.parts i p at, b.first.count))) b.first up

@@ -19,6 +19,7 @@ use Rattle.script_grammar.specs.declared.fault.FaultKind.TheVariants.{TooLong}
 use Rattle.text_output.specs.Output.{Output}
 use Rattle.text_output.specs.Printed.{adds_as, adds_nothing}
 use Rattle.tx_script.specs.Run.{Ran}
+use Rattle.brief_output.specs.Brief.{run_in_brief}
 use Rattle.command_line.specs.declared.command.Command.{Command}
 use Rattle.command_line.specs.declared.command.Command.TheVariants.{Run, Dump, Snaps, Snap, Make, Refused}
 use Rattle.command_line.specs.declared.command.MakeArguments.{MakeArguments}
@@ -26,7 +27,7 @@ use Rattle.command_line.specs.declared.command.RunOptions.{RunOptions}
 use Rattle.recovery_core.specs.VaultReads.{VaultOnlyReads, vault_reads_none}
 use Rattle.foedus.specs.Beginning.{Opening}
 use Rattle.foedus.specs.Causes.{IsInFull}
-use Rattle.foedus.specs.InBrief.{CameInBrief, EndsInBrief, up_to}
+use Rattle.foedus.specs.InBrief.{CameInBrief, SumsUp, up_to}
 use Rattle.foedus.specs.declared.ending.Ending.{Ending}
 use Rattle.foedus.specs.declared.ending.Ending.TheVariants.{Finished, NoScript, Shape, Usage, ReadFault, NoDevice, Damaged, AtLimit, NoMemory, NoSnapshot}
 use Rattle.foedus.specs.Ending.{Comes, IsNoText, IsReadOut, ReadsFirst, body_text, most_read}
@@ -93,48 +94,49 @@ module _ {D : Type 0} (v : Vaults D) where
     shown = runs.shown;
   }
 
-  -- what a stop leaves behind a run in brief, also while the sum is read
-  stops_behind : (mid : Vault D) (rans : List Ran) (of_run : Ending) (total : Option ℕ) (ending : Ending) (decls : List Decl)
-      (commits : List Entry) (opening : Opening) (t : State) → EndsInBrief v mid rans of_run total ending
+  -- what a stop leaves behind a run in brief, also while the vault is read for its sum
+  stops_behind : (mid : Vault D) (rans : List Ran) (ending : Ending) (total : Option ℕ) (decls : List Decl)
+      (commits : List Entry) (opening : Opening) (t : State) → SumsUp v mid rans t ending total
       → VaultOnlyReads v.tells v.clock v.image_at v.faults mid v.is
-      → Keeps (up_to v mid) decls commits opening t rans of_run → StandsWhenStopped v decls commits opening rans
-  stops_behind mid [] of_run total ending decls commits opening t ends reads kept = subst (λ (x : Vault D).
-      StandsWhenStopped (vaults_of v.tells v.clock v.image_at v.faults v.was x) decls commits opening []) (sym ends.2)
+      → Keeps (up_to v mid) decls commits opening t rans ending → StandsWhenStopped v decls commits opening rans
+  stops_behind mid [] ending total decls commits opening t sums reads kept = subst (λ (x : Vault D).
+      StandsWhenStopped (vaults_of v.tells v.clock v.image_at v.faults v.was x) decls commits opening []) (sym sums.1)
       kept.stops
-  stops_behind mid (ran ∷ rans) of_run total ending decls commits opening t ends reads kept =
+  stops_behind mid (ran ∷ rans) ending total decls commits opening t sums reads kept =
       kept.through_reads (λ none. cc) v.is reads
 
   -- the same of a run in brief
   pub script_in_brief : {Shows : Bytes → Ending → Type 0} (options : RunOptions) (had left : Option Bytes) (script : Script)
       → ReadsText had left (Ok script) → RunsInBrief v options.snap script Shows → CameInBrief v options had left Shows
-  script_in_brief options had left script text brief = record {
-    mid = brief.mid;
-    total = brief.total;
-    ending = brief.ending;
-    came = record {
-      bytes = text.bytes;
-      are_bytes = text.are_bytes;
-      rans = brief.runs.rans;
-      ending = brief.runs.ending;
-      course = record {
-        script = Some script;
-        opening = brief.runs.opening;
-        state = brief.runs.state;
-        run = (text.read.0, brief.runs.run);
-        comes = brief.runs.comes;
-        reads = text.read.1;
-      };
-      caused = brief.runs.caused;
-      full = brief.runs.full;
-      files = brief.runs.files;
-      kept = brief.runs.kept;
-      shown = brief.runs.shown;
-    };
-    reads = brief.reads;
-    stops = stops_behind brief.mid brief.runs.rans brief.runs.ending brief.total brief.ending _ _ _ _ brief.runs.shown
-        brief.reads brief.runs.kept;
-    shown = brief.shown;
-  }
+  script_in_brief options had left script text brief =
+      let shown = brief.runs.shown in
+      record {
+        mid = brief.mid;
+        total = brief.total;
+        came = record {
+          bytes = text.bytes;
+          are_bytes = text.are_bytes;
+          rans = brief.runs.rans;
+          ending = brief.runs.ending;
+          course = record {
+            script = Some script;
+            opening = brief.runs.opening;
+            state = brief.runs.state;
+            run = (text.read.0, brief.runs.run);
+            comes = brief.runs.comes;
+            reads = text.read.1;
+          };
+          caused = brief.runs.caused;
+          full = brief.runs.full;
+          files = brief.runs.files;
+          kept = brief.runs.kept;
+          shown = shown.1;
+        };
+        sums = shown.0;
+        reads = brief.reads;
+        stops = stops_behind brief.mid brief.runs.rans brief.runs.ending brief.total _ _ _ _ shown.0 brief.reads
+            brief.runs.kept;
+      }
 
   -- the same of the options that were asked for
   pub brief_of : {Shows : Bytes → Ending → Type 0} (options asked : RunOptions) (had left : Option Bytes) → options ≡ asked
@@ -147,11 +149,21 @@ module _ {D : Type 0} (v : Vaults D) where
   brief_as has brief = record {
     mid = brief.mid;
     total = brief.total;
-    ending = brief.ending;
-    came = brief.came;
+    came = record {
+      bytes = brief.came.bytes;
+      are_bytes = brief.came.are_bytes;
+      rans = brief.came.rans;
+      ending = brief.came.ending;
+      course = brief.came.course;
+      caused = brief.came.caused;
+      full = brief.came.full;
+      files = brief.came.files;
+      kept = brief.came.kept;
+      shown = has (run_in_brief brief.came.rans brief.total) brief.came.ending brief.came.shown;
+    };
+    sums = brief.sums;
     reads = brief.reads;
     stops = brief.stops;
-    shown = has _ brief.ending brief.shown;
   }
 
 -- the same of the command that was asked for
@@ -195,7 +207,6 @@ module _ {D : Type 0} (v : Vaults D) (whole : IsWhole v.was)
   nothing_in_brief options had left bytes ending are comes reads same shown = record {
     mid = v.is;
     total = None;
-    ending = ending;
     came = record {
       bytes = bytes;
       are_bytes = are;
@@ -213,11 +224,11 @@ module _ {D : Type 0} (v : Vaults D) (whole : IsWhole v.was)
         stops = stops_untouched (up_to v v.is) reads_told [] nowhere whole same;
         through_reads = λ some. absurd (some refl);
       };
-      shown = (refl, refl, refl);
+      shown = shown;
     };
+    sums = (refl, refl);
     reads = vault_reads_none v.is;
     stops = stops_untouched v reads_told [] nowhere whole same;
-    shown = shown;
   }
 
   -- memory was wanted before a script was read

@@ -68,7 +68,8 @@ use Rattle.foedus.proofs.KeptHere.{Counts}
 use Rattle.foedus.proofs.KeptLogged.{LoggedIn, logged_more}
 use Rattle.foedus.proofs.KeptMapped.{eight, eight_below, filter_all, filter_none, gone_logged}
 use Rattle.foedus.proofs.KeptParts.{commits_all}
-use Rattle.foedus.proofs.KeptRounds.{AreOfRound, KeptSoFar, advances_later, of_round}
+use Rattle.foedus.proofs.KeptRounds.{KeptSoFar, advances_later}
+use Rattle.foedus.proofs.RoundCommits.{AreOfRound, of_round}
 use Rattle.foedus.proofs.KeptSaves.{closed_eight, counted_at_end, made_counted, made_zero, none_same, snap_in, zeros}
 
 -- ---- what the workers logged

@@ -1,17 +1,12 @@
 -- What the vault keeps of the rounds that were run so far.
 use Rattle.std.proofs.Common.{◌≡◌, ◌⊎◌, ◌∙◌, ◌≤◌, ◌<◌, ◌+◌, ◌-◌, ◌^◌, sym, ap, subst, refl, inl, inr, ℕ, Bool, true}
-use Rattle.std.proofs.Common.{false, zero, suc, true≢false, cond, arith, List, [], ◌∷◌, ◌++◌, Option, Some, None, length, append_assoc}
-use Rattle.std.specs.Prelude.{◌&&◌, nat_lt, flat_map, fold, is_some, map, not, option_to_list, replicate, slice_get}
-use Rattle.std.specs.Option.{option_map}
-use Rattle.std.specs.List.{AllByRecursion, Contains, list_any}
-use Rattle.std.specs.List.Sorted.{IsPermutation}
+use Rattle.std.proofs.Common.{false, zero, true≢false, cond, arith, List, [], ◌∷◌, ◌++◌, Option, Some, None, length, append_assoc}
+use Rattle.std.specs.Prelude.{◌&&◌, nat_lt, flat_map, is_some, map, not, option_to_list, replicate, slice_get}
+use Rattle.std.specs.List.{AllByRecursion, list_any}
 use Rattle.std.proofs.lemmas.Bool.{cases_Bool}
 use Rattle.std.proofs.lemmas.Grind.{flat_map-append}
 use Rattle.std.proofs.lemmas.List.{append-nil}
-use Rattle.std.proofs.lemmas.List.Elements.{All-from_recursion, recursion_from_All}
-use Rattle.std.proofs.lemmas.List.Sorted.{All-permutation}
 use Rattle.std.proofs.lemmas.List.Sums.{fold-append}
-use Rattle.std.proofs.lemmas.Option.{same_Some}
 use Rattle.lists.specs.Each.{all_append, all_weaker}
 use Rattle.outside.specs.declared.vault.Device.TheVariants.{Save}
 use Rattle.outside.specs.declared.vault.Vault.{Vault}
@@ -21,13 +16,12 @@ use Rattle.serial_model.specs.State.{State}
 use Rattle.serial_model.specs.declared.decl.Decl.{Decl}
 use Rattle.serial_model.specs.declared.number.Commit.{Commit}
 use Rattle.serial_model.specs.declared.number.Number.{Number}
-use Rattle.serial_model.specs.declared.op.Op.{Op}
-use Rattle.script_grammar.specs.Script.{Round, worker_lines}
+use Rattle.script_grammar.specs.Script.{Round}
 use Rattle.wire_form.specs.LogFile.{IsLineOf, lines_bytes}
 use Rattle.wire_form.specs.declared.clock.Mark.{Mark}
 use Rattle.wire_form.specs.declared.page.Page.{Page}
 use Rattle.wire_form.specs.declared.savepoint.Savepoint.{Savepoint}
-use Rattle.log_writer.specs.Points.{point_of, sequence_of}
+use Rattle.log_writer.specs.Points.{point_of}
 use Rattle.log_writer.specs.declared.saved.Saved.{Saved}
 use Rattle.snapshot_store.specs.Content.{words_of}
 use Rattle.snapshot_store.specs.Store.{IsWhole}
@@ -49,15 +43,13 @@ use Rattle.worker_logs.specs.declared.savepoints.Beside.{Beside}
 use Rattle.worker_logs.specs.declared.savepoints.Side.{Side}
 use Rattle.worker_logs.specs.declared.savepoints.Side.TheVariants.{Even, Odd}
 use Rattle.tx_script.specs.Causes.{keeper_at_end, keeper_before, some_counted}
-use Rattle.tx_script.specs.Run.{IsBetween, IsRun, Ran, entries_of, entries_of_line, entries_of_round, entries_of_worker}
-use Rattle.tx_script.specs.Run.{AdvancesTo, LogFiles, entries_of_workers}
+use Rattle.tx_script.specs.Run.{Ran}
+use Rattle.tx_script.specs.Run.{AdvancesTo, LogFiles}
 use Rattle.tx_script.specs.declared.answer.Answer.{Answer}
 use Rattle.tx_script.specs.declared.answer.Answer.TheVariants as answers
-use Rattle.tx_script.specs.declared.outcome.Outcome.{Outcome}
-use Rattle.tx_script.specs.declared.outcome.Outcome.TheVariants.{Committed}
 use Rattle.round_engine.specs.Begun.{begun}
 use Rattle.round_engine.specs.Changes.{AreLogged}
-use Rattle.round_engine.specs.Ends.{closed_failed, comes_to_advance, comes_to_swap, end_of, epoch_joined, is_closed, swaps}
+use Rattle.round_engine.specs.Ends.{closed_failed, comes_to_advance, comes_to_swap, epoch_joined, is_closed, swaps}
 use Rattle.round_engine.specs.Ends.{where_true}
 use Rattle.round_engine.specs.declared.report.End.{End}
 use Rattle.round_engine.specs.Logs.{AreClosedFiles, AreLogs}
@@ -78,6 +70,7 @@ use Rattle.foedus.proofs.KeptParts.{GoneCounts, KeptParts, StoreThen, all_front,
 use Rattle.foedus.proofs.KeptParts.{store_then}
 use Rattle.foedus.proofs.KeptSaves.{ByEither, NewestOf, by_either, closed_eight, counted_at_end, covers_none}
 use Rattle.foedus.proofs.KeptSaves.{growing_stays, last_in, last_in_later, newest_of, no_commits, zero_at}
+use Rattle.foedus.proofs.RoundCommits.{AreOfRound, of_round}
 use Rattle.foedus.proofs.SnapshotsKept.{chained}
 
 -- what the devices stood for as the run began
@@ -236,66 +229,6 @@ last_push saved rans ran =
     ap (last_in saved) (flat_map-append saved_in rans (ran ∷ [])
     ∙ ap (λ l. flat_map saved_in rans ++ l) (append-nil (saved_in ran)))
     ∙ fold-append (λ (_ : ℕ) (epoch : ℕ). epoch) saved (flat_map saved_in rans) (saved_in ran)
-
--- ---- whose commits there are
-
-line_worker : (round worker line : ℕ) (ops : List Op) (outcome : Outcome) → worker < 8
-    → AllByRecursion (λ e. e.worker < 8) (entries_of_line round worker line ops outcome)
-line_worker round worker line ops (Committed verdict number replies) below = (below, tt)
-line_worker round worker line ops _ below = tt
-
-lines_worker : (round worker line : ℕ) (outcomes : List Outcome) (lines : List (List Op)) → worker < 8
-    → AllByRecursion (λ e. e.worker < 8) (entries_of_worker round worker line outcomes lines)
-lines_worker round worker line [] lines below = tt
-lines_worker round worker line (outcome ∷ outcomes) [] below = tt
-lines_worker round worker line (outcome ∷ outcomes) (ops ∷ lines) below =
-    all_append (λ (e : Entry). e.worker < 8) (entries_of_line round worker line ops outcome)
-    (entries_of_worker round worker (line + 1) outcomes lines) (line_worker round worker line ops outcome below)
-    (lines_worker round worker (line + 1) outcomes lines below)
-
-all_workers : (round worker : ℕ) (outcomes : List (List Outcome)) (lines : List (List (List Op)))
-    → worker + length lines ≤ 8
-    → AllByRecursion (λ e. e.worker < 8) (entries_of_workers round worker outcomes lines)
-all_workers round worker [] lines few = tt
-all_workers round worker (outcomes ∷ others) [] few = tt
-all_workers round worker (outcomes ∷ others) (lines ∷ more) few =
-    all_append (λ (e : Entry). e.worker < 8) (entries_of_worker round worker 0 outcomes lines)
-    (entries_of_workers round (worker + 1) others more)
-    (lines_worker round worker 0 outcomes lines (omega (arith, few)))
-    (all_workers round (worker + 1) others more (omega (arith, few)))
-
--- what holds of all commits holds of them in another order
-all_ordered : (P : Entry → Type 0) (xs ys : List Entry) → IsPermutation xs ys → AllByRecursion P xs
-    → AllByRecursion P ys
-all_ordered P xs ys same all = recursion_from_All P ys (All-permutation P xs ys same (All-from_recursion P xs all))
-
--- the commits of one round are of workers 0 to 7, and of epochs from the clock's on, up to that at its end
-pub record AreOfRound (first last : ℕ) (ordered : List Entry) : Type 0 where
-  pub workers : AllByRecursion (λ e. e.worker < 8) ordered
-  pub later : AllByRecursion (λ e. first ≤ e.number.epoch) ordered
-  pub earlier : AllByRecursion (λ e. e.number.epoch ≤ last) ordered
-
-pub of_round : {decls : List Decl} {index : ℕ} {round : Round} {s t : State} {clock : Number} {ran : Ran}
-    → (run : IsRun decls index (round ∷ []) s clock (ran ∷ []) t) → AreOfRound clock.epoch ran.end.epoch run.ordered
-of_round {index = index} {round = round} {clock = clock} {ran = ran} run =
-    let eight : length (worker_lines round) ≡ 8 = refl in
-    let begins : ran.begin.epoch ≡ clock.epoch = ap (λ (n : Number). n.epoch) run.clocks.0 in
-    record {
-      workers = all_ordered (λ e. e.worker < 8) (entries_of index (ran ∷ []) (round ∷ [])) run.ordered run.same
-          (all_append (λ (e : Entry). e.worker < 8) (entries_of_round index ran round) []
-          (all_workers index 0 ran.outcomes (worker_lines round) (omega (arith, eight))) tt);
-      later = all_ordered (λ e. clock.epoch ≤ e.number.epoch) (entries_of index (ran ∷ []) (round ∷ [])) run.ordered
-          run.same (all_append (λ (e : Entry). clock.epoch ≤ e.number.epoch) (entries_of_round index ran round) []
-          (all_weaker (λ (e : Entry). IsBetween ran.begin ran.end e.number)
-          (λ (e : Entry). clock.epoch ≤ e.number.epoch)
-          (λ e between. omega (arith, begins, between.epoch_from)) (entries_of_round index ran round)
-          run.clocks.1.numbers) tt);
-      earlier = all_ordered (λ e. e.number.epoch ≤ ran.end.epoch) (entries_of index (ran ∷ []) (round ∷ [])) run.ordered
-          run.same (all_append (λ (e : Entry). e.number.epoch ≤ ran.end.epoch) (entries_of_round index ran round) []
-          (all_weaker (λ (e : Entry). IsBetween ran.begin ran.end e.number)
-          (λ (e : Entry). e.number.epoch ≤ ran.end.epoch)
-          (λ e between. between.epoch_to) (entries_of_round index ran round) run.clocks.1.numbers) tt);
-    }
 
 -- ---- one round more
 

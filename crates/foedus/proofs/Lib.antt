@@ -4,6 +4,7 @@ pub mod KeptValues
 pub mod KeptLines
 pub mod KeptIn
 pub mod KeptPoints
+pub mod RoundCommits
 pub mod KeptRounds
 pub mod KeptEnd
 pub mod KeptAll

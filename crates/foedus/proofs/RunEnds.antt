@@ -33,7 +33,7 @@ use Rattle.foedus.specs.Main.{AreFull, IsDurable, HasDeclared, HasEachSnapshot, 
 use Rattle.foedus.specs.Main.{StandsThroughReads, StandsWhenStopped}
 use Rattle.foedus.specs.Snapshots.{EachSnapshot, HasContent}
 use Rattle.foedus.specs.Causes.{IsReadStatus, ReadsDamage, RestsAgain}
-use Rattle.foedus.specs.OnTheWay.{EndsBefore, RunsScript, ending_of}
+use Rattle.foedus.specs.OnTheWay.{EndsBefore, RunsRounds, ending_of}
 use Rattle.foedus.specs.RanOver.{RunsOver, files_before, EndsDurable, IsUnbroken, KeepsPages}
 use Rattle.foedus.specs.EndLaws.{EndTells, end_tells, goes_on_quiet}
 use Rattle.foedus.proofs.KeptOver.{files_from, log_of_parts}
@@ -62,6 +62,13 @@ use Rattle.recovery_core.specs.RecoverableLaws.{one_reading}
 abbrev pub ending_after : Option End → Ending
 ending_after None = NoMemory
 ending_after (Some e) = ending_of e
+
+-- a run that a round ended didn't finish
+pub not_finished : (e : End) → ending_of e ≡ Finished → ⊥
+not_finished (ends.Device device) is = cc
+not_finished (ends.Damaged device at) is = cc
+not_finished (ends.Limit name number) is = cc
+not_finished ends.Memory is = cc
 
 -- the words of pages are as many
 words_many : (pages : List Page) → length (words_of pages) ≡ length pages
@@ -237,11 +244,11 @@ module _ {D : Type 0} (tells : D → Option Bytes) (clock : D → ℕ) (image_at
   }
 
   -- after a round that ended the run, or within whose text the sink failed
-  after_round : {Shows : List Ran → Ending → Type 0} (r s : RuntimeState) (count : ℕ) (before now : Vault D)
+  after_round : {Shows : List Ran → State → Ending → Type 0} (r s : RuntimeState) (count : ℕ) (before now : Vault D)
       (so : RanSoFar tells clock image_at faults snap script was r count before) (ran : Ran)
       → (m : RanOneMore tells clock image_at faults snap script was s now so.opening so.rans ran) → (ending : Ending) → (ending ≡ Finished → ⊥)
       → RunComes (at_now tells clock image_at faults snap script was now) snap script so.opening (so.rans ++ ran ∷ []) ending
-      → Shows (so.rans ++ ran ∷ []) ending → RunsScript (at_now tells clock image_at faults snap script was now) snap script Shows
+      → Shows (so.rans ++ ran ∷ []) s.stands.state ending → RunsRounds (at_now tells clock image_at faults snap script was now) snap script Shows
   after_round r s count before now so ran m ending other comes shown =
       let keeps : (s.save.down ≡ None) × (s.store.sound ≡ true) → (found now_found : Images) → AreTold tells (parts_of was) found → AreTold tells (parts_of now) now_found
       → StandsBehind found now_found s.stands.decls so.opening.saved so.opening.state m.run.ordered (last_saved so.opening.saved (so.rans ++ ran ∷ [])) (as_of s.stands.decls so.opening.state m.run.ordered (last_saved so.opening.saved (so.rans ++ ran ∷ [])))
@@ -330,20 +337,14 @@ module _ {D : Type 0} (tells : D → Option Bytes) (clock : D → ℕ) (image_at
     stops = record { before = so.rans; last = ran; rounds = refl; went_on = so.went_on; refused = is };
   })
 
-  not_finished : (e : End) → ending_of e ≡ Finished → ⊥
-  not_finished (ends.Device device) is = cc
-  not_finished (ends.Damaged device at) is = cc
-  not_finished (ends.Limit name number) is = cc
-  not_finished ends.Memory is = cc
-
   -- a round ended the run
-  pub stopped : {Shows : List Ran → Ending → Type 0} (r s : RuntimeState) (count : ℕ) (before now : Vault D) (round : Round) (report : Report) (e : End)
+  pub stopped : {Shows : List Ran → State → Ending → Type 0} (r s : RuntimeState) (count : ℕ) (before now : Vault D) (round : Round) (report : Report) (e : End)
       → (so : RanSoFar tells clock image_at faults snap script was r count before) → slice_get script.rounds count ≡ Some round
       → (one : RanRound round r s report) → (leaves : LeavesVault tells clock image_at faults one.ran one.logged r s before now)
       → CarriesCrashes tells clock image_at one.logged (leaves.stored ++ option_to_list leaves.failed) one.ran r s
       before now → DrawsOnce one.ran
-      → report.end ≡ Some e → Shows (so.rans ++ one.ran ∷ []) (ending_of e)
-      → RunsScript (at_now tells clock image_at faults snap script was now) snap script Shows
+      → report.end ≡ Some e → Shows (so.rans ++ one.ran ∷ []) s.stands.state (ending_of e)
+      → RunsRounds (at_now tells clock image_at faults snap script was now) snap script Shows
   stopped r s count before now round report e so at one leaves carries once is shown =
       let m = one_more tells clock image_at faults snap script was r s count before now round report so at one leaves carries once in
       let ends_is : end_of one.ran ≡ Some e = sym one.reports.end ∙ is in
@@ -364,13 +365,13 @@ module _ {D : Type 0} (tells : D → Option Bytes) (clock : D → ℕ) (image_at
   after_not_finished (Some e) is = not_finished e is
 
   -- the sink failed within a round's text
-  pub broke : {Shows : List Ran → Ending → Type 0} (r s : RuntimeState) (count : ℕ) (before now : Vault D) (round : Round) (report : Report)
+  pub broke : {Shows : List Ran → State → Ending → Type 0} (r s : RuntimeState) (count : ℕ) (before now : Vault D) (round : Round) (report : Report)
       → (so : RanSoFar tells clock image_at faults snap script was r count before) → slice_get script.rounds count ≡ Some round
       → (one : RanRound round r s report) → (leaves : LeavesVault tells clock image_at faults one.ran one.logged r s before now)
       → CarriesCrashes tells clock image_at one.logged (leaves.stored ++ option_to_list leaves.failed) one.ran r s
       before now → DrawsOnce one.ran
-      → Shows (so.rans ++ one.ran ∷ []) (ending_after report.end)
-      → RunsScript (at_now tells clock image_at faults snap script was now) snap script Shows
+      → Shows (so.rans ++ one.ran ∷ []) s.stands.state (ending_after report.end)
+      → RunsRounds (at_now tells clock image_at faults snap script was now) snap script Shows
   broke r s count before now round report so at one leaves carries once shown =
       let m = one_more tells clock image_at faults snap script was r s count before now round report so at one leaves carries once in
       after_round r s count before now so one.ran m (ending_after report.end) (after_not_finished report.end)
@@ -386,9 +387,9 @@ module _ {D : Type 0} (tells : D → Option Bytes) (clock : D → ℕ) (image_at
   pages_sound r now stands unended = (stands.up ((stands.goes_on unended).up)).store
 
   -- all rounds were run
-  pub all_run : {Shows : List Ran → Ending → Type 0} (r : RuntimeState) (count : ℕ) (now : Vault D)
-      (so : RanSoFar tells clock image_at faults snap script was r count now) → count ≡ length script.rounds → Shows so.rans Finished
-      → RunsScript (at_now tells clock image_at faults snap script was now) snap script Shows
+  pub all_run : {Shows : List Ran → State → Ending → Type 0} (r : RuntimeState) (count : ℕ) (now : Vault D)
+      (so : RanSoFar tells clock image_at faults snap script was r count now) → count ≡ length script.rounds → Shows so.rans r.stands.state Finished
+      → RunsRounds (at_now tells clock image_at faults snap script was now) snap script Shows
   all_run r count now so all shown =
       let up : r.save.down ≡ None = store_up r now so.stands so.unended in
       let sound : r.store.sound ≡ true = pages_sound r now so.stands so.unended in
@@ -430,12 +431,12 @@ module _ {D : Type 0} (tells : D → Option Bytes) (clock : D → ℕ) (image_at
       all_last (ran ∷ rans) durable on = (durable.0.lasts on.0, all_last rans durable.1 on.1)
 
   -- memory was wanted in a round
-  pub at_memory : {Shows : List Ran → Ending → Type 0} (r s : RuntimeState) (count : ℕ) (before now : Vault D) (round : Round)
+  pub at_memory : {Shows : List Ran → State → Ending → Type 0} (r s : RuntimeState) (count : ℕ) (before now : Vault D) (round : Round)
       → (so : RanSoFar tells clock image_at faults snap script was r count before)
       → (stop : StopsIn round r s) → (leaves : LeavesVault tells clock image_at faults stop.ran stop.logged r s before now)
       → CarriesCrashes tells clock image_at stop.logged (leaves.stored ++ option_to_list leaves.failed) stop.ran r s
-      before now → Shows so.rans NoMemory
-      → RunsScript (at_now tells clock image_at faults snap script was now) snap script Shows
+      before now → Shows so.rans r.stands.state NoMemory
+      → RunsRounds (at_now tells clock image_at faults snap script was now) snap script Shows
   at_memory r s count before now round so stop leaves carries shown =
       let up : s.save.down ≡ None = down_none s.save.down leaves.failed leaves.has_stored.down
       (λ fails. stop.unstored (leaves.has_stored.fails.0 fails)) in
@@ -474,8 +475,8 @@ module _ {D : Type 0} (tells : D → Option Bytes) (clock : D → ℕ) (image_at
       memory_not_finished is = cc
 
   -- a run that doesn't begin
-  pub not_begun : {Shows : List Ran → Ending → Type 0} (now : Vault D) (ending : Ending) → EndsBefore tells clock image_at faults snap script was now ending
-      → Shows [] ending → RunsScript (at_now tells clock image_at faults snap script was now) snap script Shows
+  pub not_begun : {Shows : List Ran → State → Ending → Type 0} (now : Vault D) (ending : Ending)
+      → (before : EndsBefore tells clock image_at faults snap script was now ending) → Shows [] before.opening.state ending → RunsRounds (at_now tells clock image_at faults snap script was now) snap script Shows
   not_begun now ending before shown = record {
     rans = [];
     ending = ending;

@@ -28,7 +28,8 @@ use Rattle.foedus.specs.Main.{AreFull, is_since}
 use Rattle.foedus.proofs.KeptFiles.{growing_file, item_at}
 use Rattle.foedus.proofs.KeptLogged.{LoggedIn, logged_more}
 use Rattle.foedus.proofs.KeptParts.{commits_all}
-use Rattle.foedus.proofs.KeptRounds.{KeptSoFar, of_round}
+use Rattle.foedus.proofs.KeptRounds.{KeptSoFar}
+use Rattle.foedus.proofs.RoundCommits.{of_round}
 
 -- no commit up to an epoch is since it
 since_none : (at : ℕ) (cs : List Commit) → AllByRecursion (λ c. c.number.epoch ≤ at) cs → filter (is_since at) cs ≡ []

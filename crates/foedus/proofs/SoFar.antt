@@ -54,7 +54,8 @@ use Rattle.foedus.proofs.KeptOver.{AllTell, OverFrom, behind_parts, files_from, 
 use Rattle.foedus.proofs.KeptOver.{logged_over, own_logged}
 use Rattle.foedus.proofs.KeptOver.{made_pages, never_damaged, over_push, swapped_parts, tell_push, tell_same, tell_then}
 use Rattle.foedus.proofs.KeptOver.{tells_round}
-use Rattle.foedus.proofs.KeptRounds.{KeptSoFar, advances_later, kept_begins, kept_more, of_round, save_up}
+use Rattle.foedus.proofs.KeptRounds.{KeptSoFar, advances_later, kept_begins, kept_more, save_up}
+use Rattle.foedus.proofs.RoundCommits.{of_round}
 use Rattle.foedus.proofs.SinceSwap.{full_in}
 use Rattle.foedus.proofs.CrashesBegun.{crashes_begin, left_since}
 use Rattle.foedus.proofs.CrashesKept.{CrashesKept, KeptBefore}

@@ -1,8 +1,10 @@
 -- What is told of one round more.
-use Rattle.std.proofs.Common.{◌≡◌, ◌∙◌, sym, ap, subst, refl, ℕ, ◌+◌, ◌<◌, ◌^◌, Bool, true, false, List, [], ◌∷◌, ◌++◌, length, append_assoc, Result, Ok, Err}
+use Rattle.std.proofs.Common.{◌≡◌, ◌∙◌, sym, ap, subst, refl, ℕ, ◌+◌, ◌<◌, ◌^◌, Bool, true, false, List, [], ◌∷◌, ◌++◌, length, append_assoc, Option, Some, None, Result, Ok, Err}
 use Rattle.std.specs.Prelude.{sum_by}
 use Rattle.std.proofs.lemmas.List.{append-nil}
+use Rattle.std.proofs.lemmas.Option.{same_Some}
 use Rattle.outside.specs.declared.fault.Failed.{Failed}
+use Rattle.serial_model.specs.State.{State}
 use Rattle.text_output.specs.Output.{Output}
 use Rattle.text_output.specs.Printed.{adds_as, adds_nothing, adds_then, breaks_as, breaks_then, breaks_within}
 use Rattle.script_grammar.specs.Script.{Round}
@@ -10,15 +12,16 @@ use Rattle.tx_script.specs.Draws.{lines_in}
 use Rattle.tx_script.specs.Run.{AreOfFirst, Ran}
 use Rattle.tx_script.specs.Text.{lines_text, round_text, run_text}
 use Rattle.tx_script.specs.declared.outcome.Outcome.{Outcome}
-use Rattle.brief_output.specs.Brief.{tally_of}
+use Rattle.brief_output.specs.Brief.{tally_of, total_of}
 use Rattle.brief_output.specs.Fits.{tally_fits}
 use Rattle.brief_output.specs.declared.tally.Tally.{Tally}
 use Rattle.round_engine.specs.RanRound.{RanRound}
 use Rattle.round_engine.specs.Standing.{RuntimeState}
 use Rattle.round_engine.specs.declared.report.Report.{Report}
 use Rattle.foedus.specs.declared.ending.Ending.{Ending}
+use Rattle.foedus.specs.declared.ending.Ending.TheVariants.{Finished}
 use Rattle.foedus.specs.Ending.{last_line}
-use Rattle.foedus.specs.Telling.{HasTold, IsOf, TellsRound, TellsRun}
+use Rattle.foedus.specs.Telling.{HasSum, HasTold, IsOf, TellsRound, TellsRun}
 
 -- the text of one round more stands behind that of the rounds before it
 run_text-push : (rans : List Ran) (ran : Ran) → run_text rans ++ round_text ran ≡ run_text (rans ++ ran ∷ [])
@@ -46,6 +49,24 @@ none_told false tally out is = adds_nothing out
 pub none_ran : (tally : Tally) → tally ≡ tally_of [] → tally.ran ≡ true → ⊥
 none_ran tally is ran = let none : tally.ran ≡ false = ap (λ (t : Tally). t.ran) is in cc
 
+-- no sum is told where no round was run, or the run didn't finish
+pub no_sum : (brief : Bool) (total : Option ℕ) (rans : List Ran) (state : State) (ending : Ending) → total ≡ None
+    → ((rans ≡ [] → ⊥) → ending ≡ Finished → ⊥) → HasSum brief total rans state ending
+no_sum true total rans state ending none other = record {
+  finished = λ some finished. absurd (other some finished);
+  only = λ sum is. absurd cc;
+}
+no_sum false total rans state ending none other = tt
+
+-- it is told where the run finished
+pub has_sum : (brief : Bool) (total : Option ℕ) (rans : List Ran) (state : State)
+    → (brief ≡ true → total ≡ Some (total_of state)) → HasSum brief total rans state Finished
+has_sum true total rans state told = record {
+  finished = λ some finished. told refl;
+  only = λ sum is. (refl, same_Some sum (total_of state) (sym is ∙ told refl));
+}
+has_sum false total rans state told = tt
+
 -- one round more was told
 pub told_more : {T : Type 0} (brief now : Bool) (before after : Tally) (old mid new : Output) (report : Report) (rans : List Ran) (ran : Ran) (done : T) → now ≡ brief
     → lines_text report.outcomes report.keeper report.durable ≡ round_text ran → IsOf report ran
@@ -59,12 +80,12 @@ told_more false true before after old mid new report rans ran done same text of 
 pub told_broken : (T : Type 0) (brief now : Bool) (before after : Tally) (old mid new : Output) (report : Report) (rans : List Ran) (ran : Ran) (failed : Failed) (ending : Ending)
     → now ≡ brief → lines_text report.outcomes report.keeper report.durable ≡ round_text ran
     → HasTold brief before old mid rans → TellsRound {T = T} now before after mid new report (Err failed)
-    → TellsRun brief after old new (Err failed) (rans ++ ran ∷ []) ending
-told_broken T true true before after old mid new report rans ran failed ending same text had one = absurd one
-told_broken T false false before after old mid new report rans ran failed ending same text had one =
+    → (total : Option ℕ) (state : State) → TellsRun brief after total old new (Err failed) (rans ++ ran ∷ []) state ending
+told_broken T true true before after old mid new report rans ran failed ending same text had one total state = absurd one
+told_broken T false false before after old mid new report rans ran failed ending same text had one total state =
     breaks_within (last_line ending) (breaks_as (run_text-push rans ran) (breaks_then had (breaks_as text one)))
-told_broken T true false before after old mid new report rans ran failed ending same text had one = absurd cc
-told_broken T false true before after old mid new report rans ran failed ending same text had one = absurd cc
+told_broken T true false before after old mid new report rans ran failed ending same text had one total state = absurd cc
+told_broken T false true before after old mid new report rans ran failed ending same text had one total state = absurd cc
 
 -- the commits so far, and the lines of the round, are few
 pub fits_in : (brief now : Bool) (tally : Tally) (old new : Output) (rounds : List Round) (rans : List Ran) (ran : Ran) (report : Report) → now ≡ brief

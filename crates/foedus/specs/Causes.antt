@@ -54,7 +54,7 @@ abbrev pub ReadsAlone : ℕ → Type 0
 ReadsAlone status = IsReadStatus status ⊎ (status ≡ 6)
 
 -- These calls only read the vault. Of a run that ends with damage `ReadsDamage` says it: over devices that tell
--- nothing it may be found behind the rounds, as what they left is read.
+-- nothing a glean may find it within the rounds.
 abbrev pub ReadsOnly : Command → ℕ → Type 0
 ReadsOnly Dump status = ⊤
 ReadsOnly Snaps status = ⊤

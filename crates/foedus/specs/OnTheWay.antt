@@ -57,7 +57,7 @@ use Rattle.foedus.specs.Beginning.{Opening, SameDecls}
 use Rattle.foedus.specs.Causes.{Counts, ReadsAlone, RestsAgain}
 use Rattle.foedus.specs.Ending.{IsNoText, IsReadOut, RunComes, body_text, last_line, output_text, status_of}
 use Rattle.brief_output.specs.Brief.{run_in_brief}
-use Rattle.foedus.specs.InBrief.{EndsInBrief, up_to}
+use Rattle.foedus.specs.InBrief.{SumsUp, up_to}
 use Rattle.foedus.specs.Main.{AreBytes, AreCaused, FilesAreFull, Holds, Keeps}
 use Rattle.foedus.specs.RanOver.{RunsOver}
 use Rattle.foedus.specs.Vaults.{Vaults, vaults_of}
@@ -261,9 +261,9 @@ pub record BeginsRun {D : Type 0} (tells : D → Option Bytes) (clock : D → �
 
 -- ---- a script's run
 
--- What was run of a script from what the vault stood for, and how that ended; and this is shown of both.
-pub record RunsScript {D : Type 0} (v : Vaults D) (snap : ℕ) (script : Script) (Shows : List Ran → Ending → Type 0)
-    : Type 0 where
+-- What was run of a script from what the vault stood for, to which state, and how that ended; and this is shown of it.
+pub record RunsRounds {D : Type 0} (v : Vaults D) (snap : ℕ) (script : Script)
+    (Shows : List Ran → State → Ending → Type 0) : Type 0 where
   pub rans : List Ran
   pub ending : Ending
   pub opening : Opening
@@ -274,25 +274,26 @@ pub record RunsScript {D : Type 0} (v : Vaults D) (snap : ℕ) (script : Script)
   pub full : FilesAreFull v script.decls run.ordered opening rans
   pub files : RunsOver v snap script.decls opening.state opening.saved run.ordered rans
   pub kept : Keeps v script.decls run.ordered opening state rans ending
-  pub shown : Shows rans ending
+  pub shown : Shows rans state ending
+
+-- the same, where the state isn't shown
+abbrev pub RunsScript : {D : Type 0} → Vaults D → ℕ → Script → (List Ran → Ending → Type 0) → Type 0
+RunsScript v snap script Shows = RunsRounds v snap script (λ rans state ending. Shows rans ending)
 
 -- ---- a run in brief
 
--- Behind rounds that were run so, the call came to an ending, of which this is shown with its text.
-pub record TellsInBrief {D : Type 0} (v : Vaults D) (mid : Vault D) (rans : List Ran) (of_run : Ending)
-    (Shows : Bytes → Ending → Type 0) : Type 0 where
+-- Behind rounds that were run so, to this state and this ending, a sum is told or none; and this is shown of the text.
+pub record TellsInBrief {D : Type 0} (v : Vaults D) (mid : Vault D) (rans : List Ran) (state : State) (ending : Ending)
+    (Shows : Bytes → Type 0) : Type 0 where
   pub total : Option ℕ
-  pub ending : Ending
-  pub ends : EndsInBrief v mid rans of_run total ending
-  pub shown : Shows (run_in_brief rans total) ending
+  pub sums : SumsUp v mid rans state ending total
+  pub shown : Shows (run_in_brief rans total)
 
--- The same of the run of a script, which left the vault so; from then on it was only read.
+-- The same of the run of a script, which left the vault so; from then on it was at most read.
 pub record RunsInBrief {D : Type 0} (v : Vaults D) (snap : ℕ) (script : Script) (Shows : Bytes → Ending → Type 0)
     : Type 0 where
   pub mid : Vault D
   pub total : Option ℕ
-  pub ending : Ending
-  pub runs : RunsScript (up_to v mid) snap script
-      (λ rans of_run. EndsInBrief v mid rans of_run total ending)
+  pub runs : RunsRounds (up_to v mid) snap script
+      (λ rans state ending. SumsUp v mid rans state ending total × Shows (run_in_brief rans total) ending)
   pub reads : VaultOnlyReads v.tells v.clock v.image_at v.faults mid v.is
-  pub shown : Shows (run_in_brief runs.rans total) ending

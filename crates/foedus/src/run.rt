@@ -1,5 +1,5 @@
 // Runs of a script, printed round by round.
-ghost use Rattle.std.specs.Prelude.{◌≡◌, ◌≢◌, ◌<◌, ◌^◌, ℕ, [], Ok, true, false};
+ghost use Rattle.std.specs.Prelude.{◌≡◌, ◌≢◌, ◌<◌, ◌^◌, ℕ, [], None, Ok, true, false};
 ghost use Rattle.command_line.specs.Options.{AreInRange, AreMadeInRange};
 ghost use Rattle.script_grammar.specs.Script.{IsScript};
 ghost use Rattle.tx_script.specs.Draws.{lines_in};
@@ -14,13 +14,13 @@ ghost use Rattle.foedus.specs.Ending.{TakesAtMost};
 ghost use Rattle.foedus.specs.Listings.{IsListing, Listed};
 ghost use Rattle.foedus.specs.Made.{Makes};
 ghost use Rattle.foedus.specs.Main.{Came};
-ghost use Rattle.foedus.specs.OnTheWay.{AddsRun, AddsText, RunsScript, status_told, RunsInBrief};
+ghost use Rattle.foedus.specs.OnTheWay.{AddsRun, AddsText, RunsInBrief, RunsRounds, RunsScript, status_told};
 ghost use Rattle.foedus.specs.InBrief.{CameInBrief};
 ghost use Rattle.foedus.specs.Telling.{TellsRun};
 ghost use Rattle.foedus.specs.Vaults.{vaults_of};
 
 use crate::begin::begin;
-use crate::brief::end_in_brief;
+use crate::brief::tell_in_brief;
 use crate::ending::{Ending, ending_of};
 use crate::input::read_text;
 use crate::kept::{dump, snap, snaps};
@@ -208,7 +208,8 @@ fn run_in_brief<R: Threads + Wait + Sync, K: Sink, D: Disk + Drop, G: Watcher + 
         vault,
         gate,
     )?;
-    end_in_brief(alloc, teller.tally, printer, vault, ending)
+    tell_in_brief(alloc, teller, printer, vault)?;
+    Ok(ending)
 }
 
 /// Runs the rounds of a script on what the vault keeps, up to one that ends the run, and has each of them told.
@@ -226,10 +227,11 @@ fn run_rounds<R: Threads + Wait + Sync, K: Sink, D: Disk + Drop, G: Watcher + Sy
     requires few { lines_in script.now.rounds < 2 ^ 64 }
     requires ranges { AreInRange options }
     requires fresh { teller.old.tally ≡ tally_of [] }
+    requires unsummed { teller.old.total ≡ None }
     requires whole { IsWhole vault.old }
     requires one { IfTold (D.tells vault.old.save) (Only D.clock D.image_at vault.old.save) }
-    ensures runs { RunsScript (vaults_of D.tells D.clock D.image_at D.faults vault.old vault.new) options.snap
-        script.now (TellsRun teller.old.brief teller.new.tally printer.old printer.new result) }
+    ensures runs { RunsRounds (vaults_of D.tells D.clock D.image_at D.faults vault.old vault.new) options.snap
+        script.now (TellsRun teller.old.brief teller.new.tally teller.new.total printer.old printer.new result) }
     ensures whole { teller.new.tally.ran ≡ true → IsWhole vault.new }
     ensures reads { IsReadStatus (status_told result)
         → VaultOnlyReads D.tells D.clock D.image_at D.faults vault.old vault.new }
@@ -252,5 +254,6 @@ fn run_rounds<R: Threads + Wait + Sync, K: Sink, D: Disk + Drop, G: Watcher + Sy
             return Ok(ending_of(end));
         }
     }
+    teller.sum_up(runtime.state());
     Ok(Ending::Finished)
 }

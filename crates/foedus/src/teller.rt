@@ -1,31 +1,35 @@
 // What is told of a run while it goes on.
-ghost use Rattle.std.specs.Prelude.{◌≡◌, ◌+◌, ◌<◌, ◌^◌, [], length, sum_by, true};
-ghost use Rattle.brief_output.specs.Brief.{tally_of};
+ghost use Rattle.std.specs.Prelude.{◌≡◌, ◌+◌, ◌<◌, ◌^◌, [], None, Some, length, sum_by, true};
+ghost use Rattle.brief_output.specs.Brief.{tally_of, total_of};
 ghost use Rattle.foedus.specs.Telling.{TellsRound};
 
-use brief_output::Tally;
+use brief_output::{Tally, total_of};
 use outside::{Failed, Sink};
 use round_engine::Report;
+use serial_model::State;
 use text_output::Printer;
 use tx_script::put_round;
 
-/// Adds the lines of each round to a printer, or counts what came of it and adds nothing.
+/// Adds the lines of each round to a printer, or counts what came of it and adds nothing, and sums up behind the last.
 #[derive(Clone, Copy)]
 pub(crate) struct Teller {
     /// Whether rounds are counted.
     pub(crate) brief: bool,
     /// What came of those that were counted.
     pub(crate) tally: Tally,
+    /// The sum of all values behind them, where all rounds were run.
+    pub(crate) total: Option<u128>,
 }
 
 impl Teller {
     /// No round was run yet.
     pub(crate) fn new(brief: bool) -> Teller
-        ensures { result ≡ record { brief = brief; tally = tally_of [] } }
+        ensures { result ≡ record { brief = brief; tally = tally_of []; total = None } }
     {
         Teller {
             brief,
             tally: Tally::new(),
+            total: None,
         }
     }
 
@@ -38,6 +42,7 @@ impl Teller {
         requires few { self.old.brief ≡ true
             → self.old.tally.commits + sum_by length report.now.outcomes < 2 ^ 64 }
         ensures kind { self.new.brief ≡ self.old.brief }
+        ensures total { self.new.total ≡ self.old.total }
         ensures tells { TellsRound self.old.brief self.old.tally self.new.tally printer.old printer.new report.now
             result }
     {
@@ -46,5 +51,16 @@ impl Teller {
             return Ok(());
         }
         put_round(printer, &report.outcomes, &report.keeper, report.durable)
+    }
+
+    /// All rounds were run, to this state.
+    pub(crate) fn sum_up(&mut self, state: &State)
+        ensures tally { self.new.tally ≡ self.old.tally }
+        ensures total { self.old.brief ≡ true → self.new.total ≡ Some (total_of state.now) }
+    {
+        if !self.brief {
+            return;
+        }
+        self.total = Some(total_of(state));
     }
 }

@@ -345,45 +345,65 @@ fn too_much_is_told(rt: HostRuntime) -> Result<(), Fail> {
     Ok(())
 }
 
-// The calls of a gate, each in two digits of base 16, the last one lowest: the worker, and 8 more behind a line; and
-// the line.
+const BEFORE: u64 = 1;
+
+const AFTER: u64 = 2;
+
+// A gate that notes its calls in one number, which tells any other calls and any other order apart.
 #[derive(Drop)]
 struct Recording {
     calls: AtomicU64,
 }
 
 impl Recording {
-    fn record(&self, worker: u8, line: u32) {
+    fn record(&self, moment: u64, worker: u8, line: u32) {
         let calls = self.calls.load(Ordering::SeqCst);
-        let call = u64::from(worker)
-            .wrapping_mul(16)
-            .wrapping_add(u64::from(line));
-        self.calls.store(calls.wrapping_mul(256).wrapping_add(call), Ordering::SeqCst);
+        self.calls
+            .store(with_call(calls, moment, worker, line), Ordering::SeqCst);
     }
 }
 
 impl Gate for Recording {
     fn before(&self, worker: u8, line: u32) {
-        self.record(worker, line);
+        self.record(BEFORE, worker, line);
     }
 
     fn after(&self, worker: u8, line: u32) {
-        self.record(worker.wrapping_add(8), line);
+        self.record(AFTER, worker, line);
     }
 }
 
 impl Watcher for Recording {}
 
-// The gate that was handed over is called round each line, with its worker and its count.
+fn with_call(calls: u64, moment: u64, worker: u8, line: u32) -> u64 {
+    calls
+        .wrapping_mul(31)
+        .wrapping_add(moment)
+        .wrapping_mul(31)
+        .wrapping_add(u64::from(worker))
+        .wrapping_mul(31)
+        .wrapping_add(u64::from(line))
+}
+
+// The gate that was handed over is called round each line, with its worker and its count, then round those of the
+// maintenance thread; and each join, also one without a line, makes an epoch durable.
 #[test]
 fn the_gate_stands_round_each_line(rt: HostRuntime) -> Result<(), Fail> {
     let gate = Recording {
         calls: AtomicU64::new(0),
     };
-    let script = b"array 1 4\n3 r 1 0\n0 r 1 1\n0 r 1 2\n";
-    let (status, _text) = call(&rt, "run", script.as_slice(), 9, 9, &gate)?;
+    let script = b"array 1 4\n1 r 1 0\nk epoch\n0 w 1 0 5\n1 r 1 1\nk save\n0 r 1 0\njoin\njoin\n";
+    let (status, text) = call(&rt, "run", script.as_slice(), 9, 9, &gate)?;
     assert_eq!(rt; status, 0);
-    assert_eq!(rt; gate.calls.load(Ordering::SeqCst), 0x0080_0181_30b0);
+    let mut want = 0;
+    for (worker, line) in [(0, 0), (0, 1), (1, 0), (1, 1), (255, 0), (255, 1)] {
+        want = with_call(want, BEFORE, worker, line);
+        want = with_call(want, AFTER, worker, line);
+    }
+    assert_eq!(rt; gate.calls.load(Ordering::SeqCst), want);
+    let told =
+        "0.0 ok 1:1\n0.1 ok 1:2 5\n1.0 ok 1:3 5\n1.1 ok 1:4 0\nk.0 epoch 2\nk.1 save 0\ndurable 2\ndurable 3\n";
+    assert_eq!(rt; text.as_slice(), told.as_bytes());
     Ok(())
 }
 

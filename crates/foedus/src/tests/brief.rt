@@ -1,5 +1,6 @@
 // Runs that are told in brief.
 use super::failing_devices::failing_vault;
+use super::stops::fused_vault;
 use super::*;
 
 // Calls one after another over one vault, as rows of `CASES`.
@@ -22,22 +23,42 @@ fn in_brief_over_what_is_kept(rt: HostRuntime) -> Result<(), Fail> {
 }
 
 // The device and the number of its call that fails, the status and the text. The run makes 15 calls of the save and
-// three of bank 0, and reading what is kept then the next ones.
+// three of bank 0, and no later ones where it finishes: its sum is known. Else what is kept is read.
 const FAILING: &str = "\
 save # 0 # 5 # device save|
 save # 9 # 5 # commits 1|total 0|device save|
-save # 15 # 5 # commits 1|durable 1|device save|
+save # 15 # 0 # commits 1|total 7|durable 1|
 bank0 # 1 # 5 # commits 1|total 0|device bank0|
-bank0 # 3 # 5 # commits 1|durable 1|device bank0|
+bank0 # 3 # 0 # commits 1|total 7|durable 1|
 ";
 
-// What can't be read behind the run isn't told, and the call ends so, unless the run ended otherwise.
 #[test]
 fn a_device_fails_in_brief(rt: HostRuntime) -> Result<(), Fail> {
     for row in FAILING.lines() {
         let [device, call, status, text] = parts(row);
         let fresh = fresh_vault(rt.alloc())?;
         let mut vault = failing_vault(rt.alloc(), &fresh, device, call.parse::<u64>()?)?;
+        let (got, told) = answer(&rt, &mut vault, "run --brief", b"array 1 4\n0 w 1 2 7\n")?;
+        let text = lines(rt.alloc(), text)?;
+        assert_eq!(rt; got, status.parse::<u8>()?, "{row}");
+        assert_eq!(rt; told.as_slice(), text.as_slice(), "{row}");
+    }
+    Ok(())
+}
+
+// The same of a device of which each later call fails too: what is kept can't be read behind the run, and isn't told.
+const BROKEN: &str = "\
+save # 9 # 5 # commits 1|device save|
+bank0 # 1 # 5 # commits 1|device bank0|
+bank0 # 3 # 0 # commits 1|total 7|durable 1|
+";
+
+#[test]
+fn a_device_stays_broken_in_brief(rt: HostRuntime) -> Result<(), Fail> {
+    for row in BROKEN.lines() {
+        let [device, passes, status, text] = parts(row);
+        let fresh = fresh_vault(rt.alloc())?;
+        let mut vault = fused_vault(rt.alloc(), &fresh, device, passes.parse::<u64>()?)?;
         let (got, told) = answer(&rt, &mut vault, "run --brief", b"array 1 4\n0 w 1 2 7\n")?;
         let text = lines(rt.alloc(), text)?;
         assert_eq!(rt; got, status.parse::<u8>()?, "{row}");

@@ -72,7 +72,7 @@ fn fused_disk(alloc: Global, disk: &MemDisk, passes: u64) -> Result<FuseDisk<Mem
 }
 
 // A vault of what another holds, of which this device passes so many calls.
-fn fused_vault(
+pub(super) fn fused_vault(
     alloc: Global,
     vault: &Vault<MemDisk>,
     device: &str,

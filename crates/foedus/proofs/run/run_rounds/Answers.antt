@@ -1,20 +1,27 @@
 -- Rounds are run until one ends the run.
-use Rattle.std.proofs.Common.{◌≡◌, ◌∙◌, inl, inr, sym, subst, List, length, refl, arith}
+use Rattle.std.proofs.Common.{◌≡◌, ◌∙◌, ap, inl, inr, sym, subst, List, Some, length, refl, arith}
 use Rattle.std.proofs.lemmas.Result.{err_from_is_err_and}
+use Rattle.serial_model.specs.State.{State}
 use Rattle.tx_script.specs.Run.{Ran, can_run}
+use Rattle.brief_output.specs.Brief.{total_of}
+use Rattle.brief_output.specs.declared.tally.Tally.{Tally}
 use Rattle.foedus.specs.Telling.{HasTold}
 use Rattle.foedus.proofs.SameRun.{can_run_same}
 use Rattle.foedus.proofs.OneRound.{drew_once}
-use Rattle.foedus.proofs.RunEnds.{all_run, at_memory, broke, not_begun, rests_after, rests_all, rests_stopped, stopped}
+use Rattle.foedus.proofs.RunEnds.{all_run, at_memory, broke, not_begun, not_finished, rests_after, rests_all, rests_stopped, stopped}
 use Rattle.foedus.proofs.SoFar.{goes_on, none_so_far, one_more}
-use Rattle.foedus.proofs.Telling.{fits_in, none_ran, none_told, of_round, told_broken, told_more, told_text}
+use Rattle.foedus.proofs.Telling.{fits_in, has_sum, no_sum, none_ran, none_told, of_round, told_broken, told_more, told_text}
 use Rattle.foedus.proofs.run.run_rounds.Goals as goal
 
 -- ---- the run doesn't begin
 
 pub returns-in-Err-clause-runs : goal.returns-in-Err-clause-runs
 returns-in-Err-clause-runs g c =
-    not_begun _ _ _ _ _ _ _ g.met.D.Disk.reads _ c.in-Err.ending c.in-Err.ensures.ends (refl, none_told c.args.teller.now.brief _ _ c.requires.fresh)
+    not_begun _ _ _ _ _ _ _ g.met.D.Disk.reads _ c.in-Err.ending c.in-Err.ensures.ends (
+      refl,
+      none_told c.args.teller.now.brief _ _ c.requires.fresh,
+      no_sum c.args.teller.now.brief _ _ _ _ c.requires.unsummed (λ some. absurd (some refl)),
+    )
 
 pub returns-in-Err-clause-whole : goal.returns-in-Err-clause-whole
 returns-in-Err-clause-whole g c = λ ran. absurd (none_ran _ c.requires.fresh ran)
@@ -37,6 +44,7 @@ loop-index-init g c =
       subst (λ (l : List Ran). HasTold c.args.teller.now.brief c.args.teller.now.tally c.args.printer.now c.args.printer.now l) (sym so.1)
           (none_told c.args.teller.now.brief _ _ c.requires.fresh),
       refl,
+      c.requires.unsummed,
       refl,
       c.rounds-index-end.ensures,
       omega arith,
@@ -58,7 +66,11 @@ round-requires-clause-stands g c κs within = c.loop-index.invariant.0.stands
 pub returns-in-Err-round-clause-runs : goal.returns-in-Err-round-clause-runs
 returns-in-Err-round-clause-runs g c =
     at_memory _ _ _ _ _ _ _ g.met.D.Disk.reads _ _ _ _ _ _ c.loop-index.invariant.0 c.in-Err-round.ensures.rounds.0 c.in-Err-round.ensures.rounds.1
-    c.in-Err-round.ensures.rounds.2 (refl, c.loop-index.invariant.1)
+    c.in-Err-round.ensures.rounds.2 (
+      refl,
+      c.loop-index.invariant.1,
+      no_sum c.args.teller.now.brief _ _ _ _ c.loop-index.invariant.3 (λ some is. cc),
+    )
 
 pub returns-in-Err-round-clause-whole : goal.returns-in-Err-round-clause-whole
 returns-in-Err-round-clause-whole g c = λ ran. c.in-Err-round.ensures.rounds.1.stands.whole
@@ -85,7 +97,7 @@ returns-in_err-tell-clause-runs g c =
     let p = err_from_is_err_and c.from_residual.result c.from_residual.ensures.1 in
     rw p.1 (broke _ _ _ _ _ _ _ g.met.D.Disk.reads _ _ _ _ _ _ _ c.loop-index.invariant.0 c.round-lines.ensures c.in-Ok-round.ensures.rounds.0 c.in-Ok-round.ensures.rounds.1 c.in-Ok-round.ensures.rounds.2 (drew_once _ _ _ _ c.in-Ok-round.ensures.rounds.0 c.in-Ok-round.ensures.draws_few.once)
     (told_broken _ c.args.teller.now.brief c.loop-index.teller.brief _ _ _ _ _ _ _ _ _ _ c.loop-index.invariant.2 (told_text _ _ _ _ c.in-Ok-round.ensures.rounds.0)
-    c.loop-index.invariant.1 c.in_err-tell.ensures.tells))
+    c.loop-index.invariant.1 c.in_err-tell.ensures.tells _ _))
 
 pub returns-in_err-tell-clause-whole : goal.returns-in_err-tell-clause-whole
 returns-in_err-tell-clause-whole g c = λ ran. c.in-Ok-round.ensures.rounds.1.stands.whole
@@ -98,6 +110,8 @@ returns-in-Some-clause-runs g c = rw c.ending_of.ensures
       refl,
       told_more c.args.teller.now.brief c.loop-index.teller.brief _ _ _ _ _ _ _ _ _ c.loop-index.invariant.2 (told_text _ _ _ _ c.in-Ok-round.ensures.rounds.0) (of_round _ _ _ _ c.in-Ok-round.ensures.rounds.0)
           c.loop-index.invariant.1 c.in_ok-tell.ensures.tells,
+      no_sum c.args.teller.now.brief _ _ _ _ (c.in_ok-tell.ensures.total ∙ c.loop-index.invariant.3)
+          (λ some. not_finished c.in-Some.end),
     ))
 
 pub returns-in-Some-clause-whole : goal.returns-in-Some-clause-whole
@@ -125,6 +139,7 @@ loop-index-preserved g c =
           (told_more c.args.teller.now.brief c.loop-index.teller.brief _ _ _ _ _ _ _ _ _ c.loop-index.invariant.2 (told_text _ _ _ _ c.in-Ok-round.ensures.rounds.0) (of_round _ _ _ _ c.in-Ok-round.ensures.rounds.0)
           c.loop-index.invariant.1 c.in_ok-tell.ensures.tells),
       c.in_ok-tell.ensures.kind ∙ c.loop-index.invariant.2,
+      c.in_ok-tell.ensures.total ∙ c.loop-index.invariant.3,
       refl,
       c.rounds-index-end.ensures,
       omega (arith, c.loop-index-test.true),
@@ -135,8 +150,14 @@ loop-index-preserved g c =
 pub returns-clause-runs : goal.returns-clause-runs
 returns-clause-runs g c =
     let kept = c.loop-index.invariant in
-    let all : c.loop-index.index ≡ length c.args.script.now.rounds = (let test = c.loop-index-test.false in let most = kept.5 in let end = c.rounds-index-end.ensures in omega arith) in
-    all_run _ _ _ _ _ _ _ g.met.D.Disk.reads _ _ _ kept.0 all (refl, kept.1)
+    let all : c.loop-index.index ≡ length c.args.script.now.rounds = (let test = c.loop-index-test.false in let most = kept.6 in let end = c.rounds-index-end.ensures in omega arith) in
+    all_run _ _ _ _ _ _ _ g.met.D.Disk.reads _ _ _ kept.0 all (
+      refl,
+      subst (λ (t : Tally). HasTold c.args.teller.now.brief t c.args.printer.now c.loop-index.printer kept.0.rans)
+          (sym c.sum_up.ensures.tally) kept.1,
+      has_sum c.args.teller.now.brief _ _ _ (λ brief.
+          c.sum_up.ensures.total (kept.2 ∙ brief) ∙ ap (λ (s : State). Some (total_of s)) c.state.ensures),
+    )
 
 pub returns-clause-whole : goal.returns-clause-whole
 returns-clause-whole g c = λ ran. c.loop-index.invariant.0.stands.whole

@@ -1,5 +1,5 @@
 -- The rounds so far were run one after another, and told.
-use Rattle.std.proofs.Common.{◌≡◌, ◌≤◌, length}
+use Rattle.std.proofs.Common.{◌≡◌, ◌≤◌, None, length}
 use Rattle.foedus.specs.Telling.{HasTold}
 use Rattle.foedus.proofs.SoFar.{RanSoFar}
 use Rattle.foedus.proofs.run.run_rounds.Given as goal
@@ -9,4 +9,4 @@ abbrev pub invariant-loop-index : goal.invariant-loop-index
 invariant-loop-index g l =
     (so : RanSoFar g.D.Disk.tells g.D.Disk.clock g.D.Disk.image_at g.D.Disk.faults l.fn.options.snap l.fn.script l.fn.vault l.runtime l.index l.vault)
     × HasTold l.fn.teller.brief l.teller.tally l.fn.printer l.printer so.rans × (l.teller.brief ≡ l.fn.teller.brief)
-    × (l.script ≡ l.fn.script) × (l.index-end ≡ length l.script.rounds) × (l.index ≤ l.index-end)
+    × (l.teller.total ≡ None) × (l.script ≡ l.fn.script) × (l.index-end ≡ length l.script.rounds) × (l.index ≤ l.index-end)

@@ -1,0 +1,116 @@
+#!/usr/bin/env python3
+"""Measures transactions over shared words (tx_commit), beside plain_txn.cpp, which makes the same atomic steps by hand.
+
+One worker makes transactions of two additions and of sixteen reads; then 1, 2 and 4 workers add in threads, on keys
+apart and on the same two. Both programs run in turn, and of each the middle and the best of its times are told: a
+transaction's nanoseconds, and of those in threads how many commit in a second, all workers together.
+Usage: bench/measure_txn.py FOLDER. The proved program is made in FOLDER, from a copy of the crates as they stand here
+and a crate of a few lines, and stays there: the first time all crates below are proved, which takes as long as for the
+gate; after that only what has changed is.
+"""
+import os
+import shutil
+import statistics
+import subprocess
+import sys
+import tempfile
+
+HERE = os.path.dirname(os.path.abspath(__file__))
+TOP = os.path.dirname(HERE)
+COMPILE = ["g++", "-O2", "-std=c++17", "-pthread", "-o"]
+TIMES = 15
+NAME = "txn_timing"
+MAIN = """\
+//! Times transactions over shared words; bench/measure_txn.py makes this crate.
+#![tactic(auto)]
+
+use std::io;
+use std::time::Instant;
+use txn_tests::{Work, Workers};
+
+fn main(rt: HostRuntime) -> io::Result<()> {
+    let alloc = rt.alloc();
+    for (name, work) in [("adds", Work::AddTwo(0)), ("reads", Work::ReadMany(16))] {
+        let Ok(mut workers) = Workers::new(alloc, 1, 1) else {
+            return Ok(());
+        };
+        let start = Instant::now(&rt)?;
+        workers.repeat(0, work, 1_000_000);
+        let took = start.elapsed(&rt)?;
+        println!(rt; "{name} {} {}", workers.done(0), took.as_nanos())?;
+    }
+    for (name, count, apart) in [
+        ("apart1", 1, true),
+        ("same1", 1, false),
+        ("apart2", 2, true),
+        ("same2", 2, false),
+        ("apart4", 4, true),
+        ("same4", 4, false),
+    ] {
+        let Ok(mut workers) = Workers::new(alloc, 1, count) else {
+            return Ok(());
+        };
+        let start = Instant::now(&rt)?;
+        workers.add_in_threads(&rt, 500_000, apart);
+        let took = start.elapsed(&rt)?;
+        let mut done = 0u64;
+        for worker in 0..4 {
+            done = done.saturating_add(workers.done(worker));
+        }
+        println!(rt; "{name} {done} {}", took.as_nanos())?;
+    }
+    Ok(())
+}
+"""
+
+
+def make(folder):
+    """Makes the proved program in the folder."""
+    os.makedirs(folder, exist_ok=True)
+    for name in ("crates", "HANDLES", "crates.txt"):
+        source, target = f"{TOP}/{name}", f"{folder}/{name}"
+        if os.path.isdir(source):
+            shutil.copytree(source, target, dirs_exist_ok=True, ignore=shutil.ignore_patterns("out", "must-fail"))
+        else:
+            shutil.copy(source, target)
+    with open(f"{folder}/crates.txt", "a", encoding="utf-8") as crates:
+        crates.write(f"{NAME}: lists serial_model homes views wire_form commit_core serial_bridge engine_words tx_sets")
+        crates.write(" array_storage tx_commit txn_tests # times of transactions\n")
+    os.makedirs(f"{folder}/crates/{NAME}/src", exist_ok=True)
+    with open(f"{folder}/crates/{NAME}/src/main.rt", "w", encoding="utf-8") as program:
+        program.write(MAIN)
+    subprocess.run(["rt", "run"], cwd=f"{folder}/crates/{NAME}", check=True)
+    return f"{folder}/crates/{NAME}/out/{NAME}"
+
+
+def times(program):
+    """Of each thing that the program does how many transactions committed, and nanoseconds for each."""
+    told = subprocess.run([program], check=True, capture_output=True, text=True).stdout
+    rows = [line.split() for line in told.splitlines()]
+    return {name: (int(done), int(nanos) / max(1, int(done))) for name, done, nanos in rows}
+
+
+def row(name, own, hand):
+    cells = [f"{statistics.median(own):.1f}", f"{min(own):.1f}", f"{statistics.median(hand):.1f}", f"{min(hand):.1f}"]
+    if name not in ("adds", "reads"):
+        cells = [f"{1e9 / float(cell):.0f}" for cell in cells]
+    ratio = statistics.median(own) / statistics.median(hand)
+    print(f"| {name} | " + " | ".join(cells) + f" | {ratio:.2f} | {min(own) / min(hand):.2f} |")
+
+
+def main():
+    if len(sys.argv) != 2:
+        sys.exit(__doc__)
+    own = make(os.path.abspath(sys.argv[1]))
+    with tempfile.TemporaryDirectory() as folder:
+        hand = f"{folder}/plain_txn"
+        subprocess.run(COMPILE + [hand, f"{HERE}/plain_txn.cpp"], check=True)
+        runs = [(times(own), times(hand)) for _ in range(TIMES)]
+    print("| what | foedus, middle | best | C++, middle | best | ratio of the middle | of the best |")
+    print("|---|---|---|---|---|---|---|")
+    for name in runs[0][0]:
+        row(name, [mine[name][1] for mine, _ in runs], [theirs[name][1] for _, theirs in runs])
+
+
+if __name__ == "__main__":
+    main()

@@ -1,5 +1,5 @@
 -- What operations come to, one after another.
-use Rattle.std.proofs.Common.{◌≡◌, inl, inr, ℕ, zero, suc, ◌+◌, ◌≤◌, ◌<◌, Bool, true, false, List, [], ◌∷◌, ◌++◌}
+use Rattle.std.proofs.Common.{◌≡◌, inl, inr, ℕ, zero, suc, ◌+◌, ◌*◌, ◌≤◌, ◌<◌, Bool, true, false, List, [], ◌∷◌, ◌++◌}
 use Rattle.std.proofs.Common.{length, take, drop}
 use Rattle.std.proofs.Common.{Option, Some, None, Result, Ok, Err, refl, sym, ap, ◌∙◌, subst, arith, get_or}
 use Rattle.std.proofs.Common.{length-append}
@@ -16,18 +16,21 @@ use Rattle.serial_model.specs.declared.reply.Verdict.{Verdict}
 use Rattle.serial_model.specs.declared.reply.Verdict.TheVariants.{Done, Short, Over}
 use Rattle.commit_core.specs.declared.part.Part.{Part}
 use Rattle.serial_bridge.specs.Transaction.{Turn, Continues, Stops, Finished, finished, FinishesBy, Runs}
+use Rattle.tx_sets.specs.declared.reads.ReadEntry.{ReadEntry}
 use Rattle.tx_sets.specs.declared.sets.Sets.{Sets}
+use Rattle.tx_sets.specs.declared.writes.Write.{Write}
+use Rattle.tx_sets.specs.Gathered.{AreEmpty}
 use Rattle.engine_words.specs.declared.layout.Layout.{Layout}
 use Rattle.engine_words.specs.declared.view.Refused.{Refused}
 use Rattle.engine_words.specs.declared.view.Refused.TheVariants as refusals
 use Rattle.engine_words.specs.declared.view.View.{View}
 use Rattle.tx_commit.specs.Live.{IsLive}
-use Rattle.tx_commit.specs.Turning.{HasLoaded, HasDone, Alters}
+use Rattle.tx_commit.specs.Turning.{HasLoaded, HasDone, HasStopped, ReadsOnly, Alters}
 use Rattle.tx_commit.specs.Refusing.{RefusesRead, RefusesWrite, RefusesAlter}
 use Rattle.tx_commit.specs.Running.{HasRun, HasEnded}
 use Rattle.tx_commit.specs.RunLaws.{goes_on_run, ends_run}
 use Rattle.tx_runner.specs.Lines.{keeps, IsOnArray}
-use Rattle.tx_runner.specs.Steps.{OpGoesOn, OpEndsIt, HasAnswered, HasAnsweredAll, IsOpCause}
+use Rattle.tx_runner.specs.Steps.{AreWithin, OpGoesOn, OpEndsIt, HasAnswered, HasAnsweredAll, IsOpCause}
 use Rattle.tx_runner.proofs.Arrays.{array_fits}
 
 -- ---- one operation
@@ -62,22 +65,61 @@ alters_answered (Err why) op replies sets new v w a = tt
 
 -- ---- why it was refused
 
-pub read_cause : (sets : Sets) (k : Key) (why : Refused) (v w : View) → RefusesRead sets k why v w → IsOpCause why
-read_cause sets k (refusals.Conflict at expected seen) v w r = r.3.cause
-read_cause sets k (refusals.Wide set) v w r = tt
-read_cause sets k (refusals.NumberLimit clock) v w r = absurd r
+pub read_cause : (sets : Sets) (k : Key) (why : Refused) (v w : View) → AreWithin 15 sets
+    → RefusesRead sets k why v w → IsOpCause why
+read_cause sets k (refusals.Conflict at expected seen) v w few r = r.3.cause
+read_cause sets k (refusals.Wide set) v w few r = absurd (omega (arith, r.1, few.reads))
+read_cause sets k (refusals.NumberLimit clock) v w few r = absurd r
 
-pub write_cause : (sets : Sets) (k : Key) (why : Refused) → RefusesWrite sets k why → IsOpCause why
-write_cause sets k why r = subst IsOpCause (sym r.0) tt
+pub write_cause : (sets : Sets) (k : Key) (why : Refused) → AreWithin 15 sets → RefusesWrite sets k why → IsOpCause why
+write_cause sets k why few r = absurd (omega (arith, r.1, few.writes))
 
-alter_cause : (sets : Sets) (k : Key) (why : Refused) (v w : View) → RefusesAlter sets k why v w → IsOpCause why
-alter_cause sets k why v w (inl r) = write_cause sets k why r
-alter_cause sets k why v w (inr r) = read_cause sets k why v w r.1
+alter_cause : (sets : Sets) (k : Key) (why : Refused) (v w : View) → AreWithin 15 sets → RefusesAlter sets k why v w
+    → IsOpCause why
+alter_cause sets k why v w few (inl r) = write_cause sets k why few r
+alter_cause sets k why v w few (inr r) = read_cause sets k why v w few r.1
 
-pub alters_caused : (r : Result Verdict Refused) (sets : Sets) (k : Key) (v w : View)
+pub alters_caused : (r : Result Verdict Refused) (sets : Sets) (k : Key) (v w : View) → AreWithin 15 sets
     → IfErr r (λ why. RefusesAlter sets k why v w) → IfErr r IsOpCause
-alters_caused (Ok verdict) sets k v w a = tt
-alters_caused (Err why) sets k v w a = alter_cause sets k why v w a
+alters_caused (Ok verdict) sets k v w few a = tt
+alters_caused (Err why) sets k v w few a = alter_cause sets k why v w few a
+
+-- ---- how many keys there are
+
+none_within : (sets : Sets) → AreEmpty sets → AreWithin 0 sets
+none_within sets empty = record {
+  reads = omega (arith, ap (λ (l : List ReadEntry). length l) empty.reads);
+  writes = omega (arith, ap (λ (l : List Write). length l) empty.writes);
+}
+
+reads_more : (op : Op) (old new : List ReadEntry) (n : ℕ) → ReadsOnly op old new → length old ≤ n → length new ≤ n + 1
+reads_more op old new n (inl same) few = omega (arith, few, ap (λ (l : List ReadEntry). length l) same)
+reads_more op old new n (inr more) few = omega (
+  arith,
+  few,
+  ap (λ (l : List ReadEntry). length l) more.2,
+  length-append old (more.0 ∷ []),
+)
+
+done_within : (op : Op) (reply : Option Reply) (sets new : Sets) (v w : View) (n : ℕ) → HasDone op reply sets new v w
+    → AreWithin n sets → AreWithin (n + 1) new
+done_within op reply sets new v w n d few = record {
+  reads = reads_more op sets.reads new.reads n d.reads few.reads;
+  writes = omega (arith, d.grows, few.writes);
+}
+
+stopped_within : (op : Op) (verdict : Verdict) (sets new : Sets) (v w : View) (n : ℕ)
+    → HasStopped op verdict sets new v w → AreWithin n sets → AreWithin (n + 1) new
+stopped_within op verdict sets new v w n d few = record {
+  reads = reads_more op sets.reads new.reads n d.reads few.reads;
+  writes = omega (arith, d.grows, few.writes);
+}
+
+pub within_more : (m n : ℕ) (sets : Sets) → m ≤ n → AreWithin m sets → AreWithin n sets
+within_more m n sets le few = record {
+  reads = omega (arith, le, few.reads);
+  writes = omega (arith, le, few.writes);
+}
 
 -- ---- loads
 
@@ -118,15 +160,19 @@ pub record HasRunSome (ops : List Op) (done : ℕ) (replies : List Reply) (sets 
   pub few : length replies ≤ done
   pub live : IsLive sets w
   pub only : HasLoaded v w
+  pub sized : AreWithin done sets
+  pub steps : w.steps ≤ v.steps + 4 * done
   pub run : HasRun (take done ops) replies sets w
 
 pub run_none : (ops : List Op) (replies : List Reply) (sets : Sets) (v : View) → replies ≡ [] → IsLive sets v
-    → HasRun [] [] sets v → HasRunSome ops 0 replies sets v v
-run_none ops replies sets v none live run = record {
+    → AreEmpty sets → HasRun [] [] sets v → HasRunSome ops 0 replies sets v v
+run_none ops replies sets v none live empty run = record {
   within = omega arith;
   few = let count : length replies ≡ 0 = ap length none in omega arith;
   live = live;
   only = nothing_loaded v;
+  sized = none_within sets empty;
+  steps = omega arith;
   run = subst (λ l. HasRun [] l sets v) (sym none) run;
 }
 
@@ -136,14 +182,16 @@ few_more (Some r) = omega arith
 
 run_more : (ops : List Op) (d : Op) (done : ℕ) (old now : List Reply) (sets new : Sets) (u v w : View)
     → done < length ops → IsOnArray v.layout.decls (get_or ops done d) → HasRunSome ops done old sets u v
-    → OpGoesOn (get_or ops done d) old now sets new v w → HasRunSome ops (done + 1) now new u w
-run_more ops d done old now sets new u v w less on h g = record {
+    → OpGoesOn (get_or ops done d) old now sets new v w → w.steps ≤ v.steps + 4 → HasRunSome ops (done + 1) now new u w
+run_more ops d done old now sets new u v w less on h g four = record {
   within = omega arith;
   few = let count : length now ≡ length old + length (option_to_list g.reply) =
       ap length g.replies ∙ length-append old (option_to_list g.reply) in
       omega (arith, h.few, few_more g.reply);
   live = g.done.live;
   only = loaded_then u v w h.only g.done.only;
+  sized = done_within (get_or ops done d) g.reply sets new v w done g.done h.sized;
+  steps = omega (arith, h.steps, four);
   run = subst (λ l. HasRun l now new w) (sym (take_more ops done d less))
       (subst (λ l. HasRun (take done ops ++ get_or ops done d ∷ []) l new w) (sym g.replies)
       (goes_on_run (take done ops) old (get_or ops done d) g.reply sets new v w h.run
@@ -154,10 +202,11 @@ run_more ops d done old now sets new u v w less on h g = record {
 pub run_on : (ops : List Op) (d : Op) (done : ℕ) (verdict : Verdict) (old now : List Reply) (sets new : Sets)
     (u v w : View) → done < length ops → keeps verdict ≡ true → IsOnArray v.layout.decls (get_or ops done d)
     → HasRunSome ops done old sets u v → HasAnswered (get_or ops done d) verdict old now sets new v w
-    → HasRunSome ops (done + 1) now new u w
-run_on ops d done Done old now sets new u v w less goes on h a = run_more ops d done old now sets new u v w less on h a
-run_on ops d done Short old now sets new u v w less goes on h a = absurd cc
-run_on ops d done Over old now sets new u v w less goes on h a = absurd cc
+    → w.steps ≤ v.steps + 4 → HasRunSome ops (done + 1) now new u w
+run_on ops d done Done old now sets new u v w less goes on h a four =
+    run_more ops d done old now sets new u v w less on h a four
+run_on ops d done Short old now sets new u v w less goes on h a four = absurd cc
+run_on ops d done Over old now sets new u v w less goes on h a four = absurd cc
 
 -- ---- the end
 
@@ -197,7 +246,7 @@ ended_line ops done verdict replies w stops e = record {
 stops_at : (ops : List Op) (d : Op) (done : ℕ) (verdict : Verdict) (old now : List Reply) (sets new : Sets)
     (u v w : View) → keeps verdict ≡ false → done < length ops → IsOnArray v.layout.decls (get_or ops done d)
     → HasRunSome ops done old sets u v → OpEndsIt (get_or ops done d) verdict old now sets new v w
-    → HasEnded ops verdict now w × IsLive new w × HasLoaded u w
+    → HasEnded ops verdict now w × IsLive new w × HasLoaded u w × AreWithin (length ops) new
 stops_at ops d done verdict old now sets new u v w stops less on h e = (
   ended_line ops (done + 1) verdict now w stops
       (subst (λ l. HasEnded l verdict now w) (sym (take_more ops done d less))
@@ -206,20 +255,22 @@ stops_at ops d done verdict old now sets new u v w stops less on h e = (
       (array_fits v.layout.decls (get_or ops done d) on) e.stopped))),
   e.stopped.live,
   loaded_then u v w h.only e.stopped.only,
+  within_more (done + 1) (length ops) new (omega (arith, less))
+      (stopped_within (get_or ops done d) verdict sets new v w done e.stopped h.sized),
 )
 
 -- an operation that ends the transaction
 pub run_ended : (ops : List Op) (d : Op) (done : ℕ) (verdict : Verdict) (old now : List Reply) (sets new : Sets)
     (u v w : View) → done < length ops → keeps verdict ≡ false → IsOnArray v.layout.decls (get_or ops done d)
     → HasRunSome ops done old sets u v → HasAnswered (get_or ops done d) verdict old now sets new v w
-    → HasAnsweredAll ops verdict now new u w
-run_ended ops d done Done old now sets new u v w less stops on h a = absurd cc
-run_ended ops d done Short old now sets new u v w less stops on h a =
+    → w.steps ≤ v.steps + 4 → HasAnsweredAll ops verdict now new u w
+run_ended ops d done Done old now sets new u v w less stops on h a four = absurd cc
+run_ended ops d done Short old now sets new u v w less stops on h a four =
     let e = stops_at ops d done Short old now sets new u v w refl less on h a in
-    record { live = e.1; only = e.2; run = e.0 }
-run_ended ops d done Over old now sets new u v w less stops on h a =
+    record { live = e.1; only = e.2; sized = e.3; steps = omega (arith, h.steps, four, less); run = e.0 }
+run_ended ops d done Over old now sets new u v w less stops on h a four =
     let e = stops_at ops d done Over old now sets new u v w refl less on h a in
-    record { live = e.1; only = e.2; run = e.0 }
+    record { live = e.1; only = e.2; sized = e.3; steps = omega (arith, h.steps, four, less); run = e.0 }
 
 -- all operations were run
 pub run_all : (ops : List Op) (done : ℕ) (replies : List Reply) (sets : Sets) (v w : View) → take done ops ≡ ops
@@ -227,6 +278,8 @@ pub run_all : (ops : List Op) (done : ℕ) (replies : List Reply) (sets : Sets) 
 run_all ops done replies sets v w all h = record {
   live = h.live;
   only = h.only;
+  sized = within_more done (length ops) sets h.within h.sized;
+  steps = omega (arith, h.steps, h.within);
   run = subst (λ l. HasRun l replies sets w) all h.run;
 }
 

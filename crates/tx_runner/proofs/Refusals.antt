@@ -1,8 +1,9 @@
 -- Tries that were refused.
-use Rattle.std.proofs.Common.{◌≡◌, ℕ, ◌+◌, ◌≤◌, ◌<◌, length, List, [], ◌∷◌, ◌++◌, Some, None}
+use Rattle.std.proofs.Common.{◌≡◌, ℕ, suc, true, false, ◌+◌, ◌*◌, ◌≤◌, ◌<◌, length, List, [], ◌∷◌, ◌++◌}
 use Rattle.std.proofs.Common.{refl, sym, ap, ◌∙◌, subst, arith, append_assoc, length-append}
 use Rattle.std.specs.List.{AllByRecursion}
 use Rattle.std.proofs.lemmas.List.{append-nil}
+use Rattle.std.proofs.Math.Nat.{mul-le-mul_right, suc-mul}
 use Rattle.lists.specs.Each.{all_push}
 use Rattle.lists.specs.Fronts.{front_refl}
 use Rattle.serial_model.specs.declared.op.Op.{Op}
@@ -15,13 +16,9 @@ use Rattle.engine_words.specs.declared.view.View.{View}
 use Rattle.tx_commit.specs.Live.{IsOver}
 use Rattle.tx_commit.specs.Refusing.{HasRefused, RefusesBegin}
 use Rattle.tx_commit.specs.Committing.{RefusesCommit}
-use Rattle.tx_runner.specs.declared.lines.LineEnd.{LineEnd}
-use Rattle.tx_runner.specs.declared.lines.LineEnd.TheVariants as answers
-use Rattle.tx_runner.specs.declared.room.LineRoom.{LineRoom}
 use Rattle.tx_runner.specs.Lines.{IsOnArray}
-use Rattle.tx_runner.specs.LineEnds.{RunsLine}
-use Rattle.tx_runner.specs.Steps.{IsOpCause, IsTryCause, RefusesTry, ended_for}
-use Rattle.tx_runner.specs.Tries.{IsConflicting, HasTriedFor, HasConflicted, IsRefusedFor}
+use Rattle.tx_runner.specs.Steps.{IsOpCause, IsTryCause, RefusesTry, is_limit}
+use Rattle.tx_runner.specs.Tries.{IsConflicting, HasTriedFor, HasConflicted, IsAtLimit}
 use Rattle.tx_runner.proofs.Standing.{StandsAs, seen_then, still}
 
 -- ---- one try
@@ -47,7 +44,7 @@ begin_refused why v w r = record {
 
 op_try : (why : Refused) (v w : View) → IsOpCause why → IsTryCause why v w
 op_try (refusals.Conflict at expected seen) v w cause = cause
-op_try (refusals.Wide set) v w cause = tt
+op_try (refusals.Wide set) v w cause = absurd cause
 op_try (refusals.NumberLimit clock) v w cause = absurd cause
 
 -- an operation was refused
@@ -57,7 +54,7 @@ op_refused why u v w s r cause = record { tried = tried_once why u v w s r; caus
 commit_cause : (why : Refused) (sets : Sets) (writes : List Write) (v w : View) → RefusesCommit sets writes why v w
     → IsOpCause why
 commit_cause (refusals.Conflict at expected seen) sets writes v w r = r.2.cause
-commit_cause (refusals.Wide set) sets writes v w r = tt
+commit_cause (refusals.Wide set) sets writes v w r = absurd r
 commit_cause (refusals.NumberLimit clock) sets writes v w r = absurd r
 
 -- the commit was refused
@@ -98,43 +95,34 @@ tried_then xs ys u v w a b = record {
 
 -- one try more was refused with Conflict
 pub conflicted_more : (done : ℕ) (why : Refused) (u v w : View) → HasConflicted done u v → RefusesTry why v w
-    → ended_for why ≡ None → HasConflicted (done + 1) u w
+    → is_limit why ≡ false → HasConflicted (done + 1) u w
 conflicted_more done (refusals.Conflict at expected seen) u v w h r goes = record {
   whys = h.whys ++ refusals.Conflict at expected seen ∷ [];
   count = length-append h.whys (refusals.Conflict at expected seen ∷ []) ∙ ap (λ n. n + 1) h.count;
   each = all_push IsConflicting h.whys (refusals.Conflict at expected seen) h.each r.cause;
   tried = tried_then h.whys (refusals.Conflict at expected seen ∷ []) u v w h.tried r.tried;
 }
-conflicted_more done (refusals.Wide set) u v w h r goes = absurd cc
+conflicted_more done (refusals.Wide set) u v w h r goes = absurd r.cause
 conflicted_more done (refusals.NumberLimit clock) u v w h r goes = absurd cc
 
-refused_for : (done tries : ℕ) (why : Refused) (u v w : View) → done < tries → HasConflicted done u v
-    → HasTriedFor (why ∷ []) v w → IsRefusedFor why tries u w
-refused_for done tries why u v w less h t = record {
-  whys = h.whys;
-  fewer = omega (arith, h.count);
-  each = h.each;
-  tried = tried_then h.whys (why ∷ []) u v w h.tried t;
+-- one try was refused by the clock
+pub line_limited : (done tries : ℕ) (why : Refused) (u v w : View) → done < tries → HasConflicted done u v
+    → RefusesTry why v w → is_limit why ≡ true → IsAtLimit tries u w
+line_limited done tries (refusals.Conflict at expected seen) u v w less h r is = absurd cc
+line_limited done tries (refusals.Wide set) u v w less h r is = absurd cc
+line_limited done tries (refusals.NumberLimit clock) u v w less h r is = record {
+  clock = clock;
+  high = r.cause.0;
+  draws = r.cause.1 ∙ ap (λ (l : Layout). l.first.draw + length w.history) h.tried.layout;
+  step = r.cause.2;
+  last = r.cause.3;
+  refused = record {
+    whys = h.whys;
+    fewer = omega (arith, less, h.count);
+    each = h.each;
+    tried = tried_then h.whys (refusals.NumberLimit clock ∷ []) u v w h.tried r.tried;
+  };
 }
-
--- one try was refused for another cause
-pub line_refused : (ops : List Op) (done tries : ℕ) (why : Refused) (ran : LineEnd) (room : LineRoom) (u v w : View)
-    → done < tries → HasConflicted done u v → RefusesTry why v w → ended_for why ≡ Some ran
-    → RunsLine ops tries ran room u w
-line_refused ops done tries (refusals.Conflict at expected seen) ran room u v w less h r is = absurd cc
-line_refused ops done tries (refusals.Wide set) ran room u v w less h r is =
-    let same : answers.Wide set ≡ ran = cc in
-    subst (λ x. RunsLine ops tries x room u w) same (refused_for done tries (refusals.Wide set) u v w less h r.tried)
-line_refused ops done tries (refusals.NumberLimit clock) ran room u v w less h r is =
-    let same : answers.Limit ≡ ran = cc in
-    subst (λ x. RunsLine ops tries x room u w) same record {
-      clock = clock;
-      high = r.cause.0;
-      draws = r.cause.1 ∙ ap (λ (l : Layout). l.first.draw + length w.history) h.tried.layout;
-      step = r.cause.2;
-      last = r.cause.3;
-      refused = refused_for done tries (refusals.NumberLimit clock) u v w less h r.tried;
-    }
 
 -- ---- the line's tries
 
@@ -149,3 +137,26 @@ pub tried_arrays : (ops : List Op) (tried : ℕ) (v w : View) → HasConflicted 
     → AllByRecursion (IsOnArray v.layout.decls) ops → AllByRecursion (IsOnArray w.layout.decls) ops
 tried_arrays ops tried v w h all =
     subst (λ (l : Layout). AllByRecursion (IsOnArray l.decls) ops) (sym h.tried.layout) all
+
+-- ---- steps
+
+-- the first tries took so many steps, and one more took so many
+pub tries_steps : (done most start now next : ℕ) → now ≤ start + done * most → next ≤ now + most
+    → next ≤ start + (done + 1) * most
+tries_steps done most start now next before more =
+    subst (λ n. next ≤ start + n) (sym (one_more done most)) (sum (done * most) most start now next before more)
+  where
+    one_more : (a b : ℕ) → (a + 1) * b ≡ a * b + b
+    one_more a b = let on : a + 1 ≡ suc a = omega arith in ap (λ n. n * b) on ∙ suc-mul a b
+
+    sum : (a b start now next : ℕ) → now ≤ start + a → next ≤ now + b → next ≤ start + (a + b)
+    sum a b start now next before more = omega (arith, before, more)
+
+-- so many tries are within more of them
+pub steps_within : (done tries most start now : ℕ) → done ≤ tries → now ≤ start + done * most
+    → now ≤ start + tries * most
+steps_within done tries most start now le before =
+    sum (done * most) (tries * most) start now (mul-le-mul_right most le) before
+  where
+    sum : (a b start now : ℕ) → a ≤ b → now ≤ start + a → now ≤ start + b
+    sum a b start now le before = omega (arith, le, before)

@@ -1,16 +1,23 @@
 -- What stays of a pass while its transaction runs.
-use Rattle.std.proofs.Common.{◌≡◌, List, [], ◌∷◌, ◌++◌, refl, sym, ap, ◌∙◌, subst}
+use Rattle.std.proofs.Common.{◌≡◌, ℕ, ◌+◌, ◌*◌, ◌≤◌, Bool, true, false, length, arith, List, [], ◌∷◌, ◌++◌, refl, sym}
+use Rattle.std.proofs.Common.{ap, ◌∙◌, subst}
+use Rattle.std.specs.List.{AllByRecursion}
 use Rattle.lists.specs.Fronts.{IsFront, front_refl, front_then}
 use Rattle.serial_model.specs.declared.number.Number.{Number}
+use Rattle.serial_model.specs.declared.op.Op.{Op}
 use Rattle.commit_core.specs.declared.attempt.Attempt.{Attempt}
 use Rattle.tx_sets.specs.declared.sets.Sets.{Sets}
+use Rattle.tx_sets.specs.declared.writes.Write.{Write}
+use Rattle.engine_words.specs.declared.layout.Layout.{Layout}
 use Rattle.engine_words.specs.declared.view.Refused.{Refused}
 use Rattle.engine_words.specs.declared.view.View.{View}
 use Rattle.engine_words.specs.Cuts.{HasSeen}
 use Rattle.engine_words.specs.Steps.{readied, timed}
 use Rattle.tx_commit.specs.Turning.{HasLoaded}
-use Rattle.tx_commit.specs.Committing.{HasBegun}
+use Rattle.tx_commit.specs.Committing.{commit_steps, kept_writes, HasBegun}
 use Rattle.tx_commit.specs.Refusing.{HasRefused}
+use Rattle.tx_runner.specs.Lines.{try_steps, IsOnArray}
+use Rattle.tx_runner.specs.Steps.{AreWithin}
 
 -- what the pass had seen, its own commits, its marks and its refusals stay
 pub record StandsAs (v w : View) : Type 0 where
@@ -97,3 +104,26 @@ refused_since why u v w l r = let s = loaded_stands u v l in record {
   marks = r.marks ∙ s.marks;
   refused = r.refused ∙ ap (λ l. l ++ why ∷ []) s.refused;
 }
+
+-- ---- steps
+
+-- the begin took one step
+pub begun_steps : (sets : Sets) (v w : View) → HasBegun sets v w → w.steps ≡ v.steps + 1
+begun_steps sets v w b = ap (λ (x : View). x.steps) (b.is ∙ ap readied b.timed.is)
+
+kept_few : (keep : Bool) (writes : List Write) → length (kept_writes keep writes) ≤ length writes
+kept_few true writes = omega arith
+kept_few false writes = omega arith
+
+-- a begin, operations and a commit
+pub try_took : (count : ℕ) (keep : Bool) (sets : Sets) (t u v w : View) → u.steps ≡ t.steps + 1
+    → v.steps ≤ u.steps + 4 * count → AreWithin count sets
+    → w.steps ≤ v.steps + commit_steps sets.reads (kept_writes keep sets.writes) → w.steps ≤ t.steps + try_steps count
+try_took count keep sets t u v w begun run few commit =
+    omega (arith, begun, run, few.reads, few.writes, commit, kept_few keep sets.writes)
+
+-- the declarations are the same behind a begin
+pub begun_arrays : (ops : List Op) (sets : Sets) (v w : View) → HasBegun sets v w
+    → AllByRecursion (IsOnArray v.layout.decls) ops → AllByRecursion (IsOnArray w.layout.decls) ops
+begun_arrays ops sets v w b all = subst (λ (l : Layout). AllByRecursion (IsOnArray l.decls) ops)
+    (sym (ap (λ (x : View). x.layout) (b.is ∙ ap readied b.timed.is))) all

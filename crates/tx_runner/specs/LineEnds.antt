@@ -22,7 +22,6 @@ use Rattle.commit_core.specs.Serial.{ReadsFrom, state_below}
 use Rattle.serial_bridge.specs.Bridge.{Agrees, StepsAs}
 use Rattle.serial_bridge.specs.Transaction.{IsAttemptOf}
 use Rattle.engine_words.specs.declared.view.Refused.{Refused}
-use Rattle.engine_words.specs.declared.view.Refused.TheVariants as refusals
 use Rattle.engine_words.specs.declared.view.View.{View}
 use Rattle.engine_words.specs.Cuts.{HasSeen}
 use Rattle.engine_words.specs.Rule.{IsSmall}
@@ -33,7 +32,7 @@ use Rattle.tx_runner.specs.declared.lines.LineEnd.{LineEnd}
 use Rattle.tx_runner.specs.declared.lines.LineEnd.TheVariants as answers
 use Rattle.tx_runner.specs.declared.room.LineRoom.{LineRoom}
 use Rattle.tx_runner.specs.Lines.{keeps, IsAnswered}
-use Rattle.tx_runner.specs.Tries.{IsConflicting, HasConflicted, IsRefusedFor, IsAtLimit}
+use Rattle.tx_runner.specs.Tries.{IsConflicting, HasConflicted, IsAtLimit}
 
 -- The entry's transaction, alone on whatever state agrees with the one below its number, as these attempts and
 -- decisions have it, answers what was answered and changes what the attempt writes.
@@ -88,5 +87,4 @@ abbrev pub RunsLine : List Op → ℕ → LineEnd → LineRoom → View → View
 RunsLine ops tries (answers.Committed verdict) room v w =
     HasCommittedLine ops tries verdict room.replies room.commit v w
 RunsLine ops tries answers.Conflict room v w = HasConflicted tries v w
-RunsLine ops tries (answers.Wide set) room v w = IsRefusedFor (refusals.Wide set) tries v w
 RunsLine ops tries answers.Limit room v w = IsAtLimit tries v w

@@ -1,5 +1,5 @@
 -- Lines: lists of operations on arrays, each of which is one transaction.
-use Rattle.std.specs.Prelude.{◌≡◌, ℕ, ◌*◌, ◌≤◌, Bool, true, false, List, length}
+use Rattle.std.specs.Prelude.{◌≡◌, ℕ, ◌+◌, ◌*◌, ◌≤◌, Bool, true, false, List, length}
 use Rattle.std.specs.Prelude.{Contains}
 use Rattle.std.proofs.Common.{true≢false, sym, ◌∙◌}
 use Rattle.lists.specs.Elements.{any_in, any_is}
@@ -35,6 +35,11 @@ abbrev pub keeps : Verdict → Bool
 keeps Done = true
 keeps Short = false
 keeps Over = false
+
+-- A try of so many operations takes at most so many steps: the begin; four of each operation; and at the commit the
+-- draw, the decision, four of each key that is written and one of each that was read.
+abbrev pub try_steps : ℕ → ℕ
+try_steps count = 9 * count + 3
 
 -- the entry of a run has these operations and this number, and was answered so
 pub record IsAnswered (line : List Op) (ended : Verdict) (drawn : Number) (told : List Reply) (e : Entry) : Type 0 where

@@ -1,6 +1,7 @@
 -- What the parts of a try do.
-use Rattle.std.specs.Prelude.{◌≡◌, ◌≢◌, ◌⊎◌, ℕ, ◌+◌, ◌%◌, ◌^◌, ◌≤◌, length, List, [], ◌∷◌, ◌++◌, Option, Some, None}
-use Rattle.std.specs.Prelude.{option_to_list, ⊤}
+use Rattle.std.specs.Prelude.{◌≡◌, ◌≢◌, ◌⊎◌, ℕ, ◌+◌, ◌*◌, ◌%◌, ◌^◌, ◌≤◌, length, List, [], ◌∷◌, ◌++◌, Some, Option}
+use Rattle.std.specs.Prelude.{Bool, true, false}
+use Rattle.std.specs.Prelude.{option_to_list}
 use Rattle.serial_model.specs.declared.op.Op.{Op}
 use Rattle.serial_model.specs.declared.reply.Reply.{Reply}
 use Rattle.serial_model.specs.declared.reply.Verdict.{Verdict}
@@ -15,11 +16,14 @@ use Rattle.engine_words.specs.Steps.{glance}
 use Rattle.tx_commit.specs.Live.{IsLive}
 use Rattle.tx_commit.specs.Turning.{HasDone, HasStopped, HasLoaded}
 use Rattle.tx_commit.specs.Running.{HasRun, HasEnded}
-use Rattle.tx_runner.specs.declared.lines.LineEnd.{LineEnd}
-use Rattle.tx_runner.specs.declared.lines.LineEnd.TheVariants as answers
 use Rattle.tx_runner.specs.Tries.{HasTriedFor}
 
 -- ---- operations
+
+-- the transaction has read and written at most so many keys
+pub record AreWithin (count : ℕ) (sets : Sets) : Type 0 where
+  pub reads : length sets.reads ≤ count
+  pub writes : length sets.writes ≤ count
 
 -- the transaction goes on, with this reply or none
 pub record OpGoesOn (op : Op) (old now : List Reply) (sets new : Sets) (v w : View) : Type 0 where
@@ -49,20 +53,22 @@ pub record HasAnsweredAll (ops : List Op) (verdict : Verdict) (replies : List Re
     : Type 0 where
   pub live : IsLive sets w
   pub only : HasLoaded v w
+  pub sized : AreWithin (length ops) sets
+  pub steps : w.steps ≤ v.steps + 4 * length ops
   pub run : HasRunTo ops verdict replies sets w
 
--- an operation is refused for a conflict, or since a set is full
+-- an operation is refused for a conflict alone: 16 operations fill no set
 abbrev pub IsOpCause : Refused → Type 0
 IsOpCause (refusals.Conflict at expected seen) = (2 ^ 60 ≤ seen) ⊎ (seen ≢ expected)
-IsOpCause (refusals.Wide set) = ⊤
+IsOpCause (refusals.Wide set) = ⊥
 IsOpCause (refusals.NumberLimit clock) = ⊥
 
 -- ---- tries
 
--- the cause of a refusal: a conflict, a set that is full, or the clock, which was loaded last
+-- the cause of a refusal: a conflict, or the clock, which was loaded last
 abbrev pub IsTryCause : Refused → View → View → Type 0
 IsTryCause (refusals.Conflict at expected seen) v w = (2 ^ 60 ≤ seen) ⊎ (seen ≢ expected)
-IsTryCause (refusals.Wide set) v w = ⊤
+IsTryCause (refusals.Wide set) v w = ⊥
 IsTryCause (refusals.NumberLimit clock) v w =
     (draw_limit ≤ clock % 2 ^ 40) × (clock % 2 ^ 40 ≡ v.layout.first.draw + length w.history)
     × (step : ℕ) × (w.last ≡ Some (glance step clock_at clock))
@@ -72,8 +78,8 @@ pub record RefusesTry (why : Refused) (v w : View) : Type 0 where
   pub tried : HasTriedFor (why ∷ []) v w
   pub cause : IsTryCause why v w
 
--- what comes of the line by a refusal after which it is not tried again
-abbrev pub ended_for : Refused → Option LineEnd
-ended_for (refusals.Conflict at expected seen) = None
-ended_for (refusals.Wide set) = Some (answers.Wide set)
-ended_for (refusals.NumberLimit clock) = Some answers.Limit
+-- the try was refused by the clock
+abbrev pub is_limit : Refused → Bool
+is_limit (refusals.Conflict at expected seen) = false
+is_limit (refusals.Wide set) = false
+is_limit (refusals.NumberLimit clock) = true

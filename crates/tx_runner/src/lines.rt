@@ -1,15 +1,15 @@
 // Lines, with their tries.
-ghost use Rattle.std.specs.Prelude.{◌≡◌, ◌≤◌, length};
+ghost use Rattle.std.specs.Prelude.{◌≡◌, ◌+◌, ◌*◌, ◌≤◌, length};
 ghost use Rattle.std.specs.List.{AllByRecursion};
 ghost use Rattle.engine_words.specs.Passes.{view, IsPassOf};
 ghost use Rattle.tx_commit.specs.Live.{IsOver};
-ghost use Rattle.tx_runner.specs.Lines.{IsOnArray};
+ghost use Rattle.tx_runner.specs.Lines.{try_steps, IsOnArray};
 ghost use Rattle.tx_runner.specs.LineEnds.{RunsLine};
-ghost use Rattle.tx_runner.specs.Steps.{ended_for};
+ghost use Rattle.tx_runner.specs.Steps.{is_limit};
 
 use crate::LineRoom;
 use crate::tries::try_line;
-use engine_words::{Engine, Pass, Refused, SetName};
+use engine_words::{Engine, Pass, Refused};
 use serial_model::{Op, Verdict};
 use tx_commit::Txn;
 
@@ -20,13 +20,12 @@ pub enum LineEnd {
     Committed(Verdict),
     /// Each of the tries met another transaction.
     Conflict,
-    /// A try needed more of this set than there is room for.
-    Wide(SetName),
     /// The clock gives no further numbers.
     Limit,
 }
 
-/// Runs a line of 16 operations at most, and runs it again after each conflict, up to so many tries.
+/// Runs a line of 16 operations at most, which fill no set of a transaction, and runs it again after each conflict, up
+/// to so many tries.
 pub fn run_line(
     engine: &Engine,
     pass: &mut Pass,
@@ -41,6 +40,7 @@ pub fn run_line(
     requires few { length ops.now ≤ 16 }
     requires tries { 1 ≤ tries }
     ensures of { IsPassOf engine.now pass.new }
+    ensures steps { (view pass.new).steps ≤ (view pass.old).steps + tries * try_steps (length ops.now) }
     ensures runs { RunsLine ops.now tries result room.new (view pass.old) (view pass.new) }
 {
     let mut tried = 0;
@@ -48,8 +48,8 @@ pub fn run_line(
         match try_line(engine, pass, txn, ops, room) {
             Ok(verdict) => return LineEnd::Committed(verdict),
             Err(why) => {
-                if let Some(ran) = ended_for(why) {
-                    return ran;
+                if is_limit(why) {
+                    return LineEnd::Limit;
                 }
             }
         }
@@ -58,13 +58,12 @@ pub fn run_line(
     LineEnd::Conflict
 }
 
-// What comes of the line by a try that was refused for this, where it is not tried again.
-fn ended_for(why: Refused) -> Option<LineEnd>
-    ensures { result ≡ ended_for why }
+// Whether a try was refused by the clock.
+fn is_limit(why: Refused) -> bool
+    ensures { result ≡ is_limit why }
 {
     match why {
-        Refused::Conflict { .. } => None,
-        Refused::Wide { set } => Some(LineEnd::Wide(set)),
-        Refused::NumberLimit { .. } => Some(LineEnd::Limit),
+        Refused::Conflict { .. } | Refused::Wide { .. } => false,
+        Refused::NumberLimit { .. } => true,
     }
 }

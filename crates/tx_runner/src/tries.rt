@@ -1,14 +1,14 @@
 // One try of a line.
-ghost use Rattle.std.specs.Prelude.{◌≡◌, ◌≤◌, ◌<◌, [], IfOk, IfErr, length};
+ghost use Rattle.std.specs.Prelude.{◌≡◌, ◌+◌, ◌*◌, ◌≤◌, ◌<◌, [], IfOk, IfErr, length};
 ghost use Rattle.std.specs.List.{AllByRecursion};
 ghost use Rattle.tx_sets.specs.Gathered.{AreEmpty};
 ghost use Rattle.engine_words.specs.Passes.{view, IsPassOf};
 ghost use Rattle.tx_commit.specs.Live.{IsLive, IsOver};
 ghost use Rattle.tx_commit.specs.Refusing.{HasRefused};
 ghost use Rattle.tx_commit.specs.Running.{HasRun};
-ghost use Rattle.tx_runner.specs.Lines.{keeps, IsOnArray};
+ghost use Rattle.tx_runner.specs.Lines.{keeps, try_steps, IsOnArray};
 ghost use Rattle.tx_runner.specs.LineEnds.{HasCommittedLine};
-ghost use Rattle.tx_runner.specs.Steps.{HasAnswered, HasAnsweredAll, IsOpCause, RefusesTry};
+ghost use Rattle.tx_runner.specs.Steps.{AreWithin, HasAnswered, HasAnsweredAll, IsOpCause, RefusesTry};
 
 use crate::{LineReplies, LineRoom};
 use engine_words::{Engine, Pass, Refused};
@@ -31,6 +31,7 @@ pub(crate) fn try_line(
     ensures commits { IfOk result (λ verdict. HasCommittedLine ops.now 1 verdict room.new.replies room.new.commit
         (view pass.old) (view pass.new)) }
     ensures refused { IfErr result (λ why. RefusesTry why (view pass.old) (view pass.new)) }
+    ensures steps { (view pass.new).steps ≤ (view pass.old).steps + try_steps (length ops.now) }
 {
     room.replies.clear();
     txn.begin(engine, pass)?;
@@ -60,6 +61,7 @@ fn run_ops(
     requires of { IsPassOf engine.now pass.old }
     requires live { IsLive txn.old.sets (view pass.old) }
     requires run { HasRun [] [] txn.old.sets (view pass.old) }
+    requires empty { AreEmpty txn.old.sets }
     requires arrays { AllByRecursion (IsOnArray (view pass.old).layout.decls) ops.now }
     requires few { length ops.now ≤ 16 }
     requires none { replies.old ≡ [] }
@@ -68,6 +70,7 @@ fn run_ops(
         (view pass.old) (view pass.new)) }
     ensures refused { IfErr result (λ why. HasRefused why (view pass.old) (view pass.new)) }
     ensures cause { IfErr result IsOpCause }
+    ensures steps { (view pass.new).steps ≤ (view pass.old).steps + 4 * length ops.now }
 {
     let mut done = 0;
     while done < ops.len() {
@@ -92,11 +95,13 @@ fn run_op(
     requires live { IsLive txn.old.sets (view pass.old) }
     requires array { IsOnArray (view pass.old).layout.decls op }
     requires room { length replies.old < 16 }
+    requires sized { AreWithin 15 txn.old.sets }
     ensures of { IsPassOf engine.now pass.new }
     ensures answers { IfOk result (λ verdict. HasAnswered op verdict replies.old replies.new txn.old.sets txn.new.sets
         (view pass.old) (view pass.new)) }
     ensures refused { IfErr result (λ why. HasRefused why (view pass.old) (view pass.new)) }
     ensures cause { IfErr result IsOpCause }
+    ensures steps { (view pass.new).steps ≤ (view pass.old).steps + 4 }
 {
     match op {
         Op::Read(key) => {

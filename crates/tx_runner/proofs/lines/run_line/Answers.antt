@@ -1,7 +1,9 @@
-use Rattle.std.proofs.Common.{sym, ◌∙◌, arith}
+use Rattle.std.proofs.Common.{sym, ◌∙◌, arith, length, ◌+◌}
 use Rattle.engine_words.specs.Passes.{view}
+use Rattle.tx_runner.specs.Lines.{try_steps}
 use Rattle.tx_runner.proofs.Commits.{line_committed}
-use Rattle.tx_runner.proofs.Refusals.{none_tried, conflicted_more, line_refused, all_tried, tried_arrays}
+use Rattle.tx_runner.proofs.Refusals.{none_tried, conflicted_more, line_limited, all_tried, tried_arrays}
+use Rattle.tx_runner.proofs.Refusals.{tries_steps, steps_within}
 use Rattle.tx_runner.proofs.lines.run_line.Goals as goal
 
 pub loop-tried-init : goal.loop-tried-init
@@ -9,6 +11,7 @@ loop-tried-init c = record {
   of = c.requires.of;
   within = omega arith;
   conflicted = none_tried (view c.args.pass.now) c.requires.over;
+  steps = omega arith;
 }
 
 pub try_line-requires-clause-over : goal.try_line-requires-clause-over
@@ -24,11 +27,11 @@ returns-in-Ok-clause-runs c =
     c.try_line.new.room.commit (view c.args.pass.now) (view c.loop-tried.pass) (view c.try_line.new.pass)
     c.loop-tried-test.true c.loop-tried.invariant.conflicted c.in-Ok.ensures.commits
 
-pub returns-in-Some-clause-runs : goal.returns-in-Some-clause-runs
-returns-in-Some-clause-runs c =
-    line_refused c.args.ops.now c.loop-tried.tried c.args.tries c.in-Err.why c.in-Some.ran c.try_line.new.room
-    (view c.args.pass.now) (view c.loop-tried.pass) (view c.try_line.new.pass) c.loop-tried-test.true
-    c.loop-tried.invariant.conflicted c.in-Err.ensures.refused (sym c.ended_for.ensures ∙ c.in-Some.is)
+pub returns-then-is_limit-clause-runs : goal.returns-then-is_limit-clause-runs
+returns-then-is_limit-clause-runs c =
+    line_limited c.loop-tried.tried c.args.tries c.in-Err.why (view c.args.pass.now) (view c.loop-tried.pass)
+    (view c.try_line.new.pass) c.loop-tried-test.true c.loop-tried.invariant.conflicted c.in-Err.ensures.refused
+    (sym c.is_limit.ensures ∙ c.if-is_limit.true)
 
 pub loop-tried-preserved : goal.loop-tried-preserved
 loop-tried-preserved c = record {
@@ -36,9 +39,33 @@ loop-tried-preserved c = record {
   within = omega arith;
   conflicted = conflicted_more c.loop-tried.tried c.in-Err.why (view c.args.pass.now) (view c.loop-tried.pass)
       (view c.try_line.new.pass) c.loop-tried.invariant.conflicted c.in-Err.ensures.refused
-      (sym c.ended_for.ensures ∙ c.in_default.is);
+      (sym c.is_limit.ensures ∙ c.if-is_limit.false);
+  steps = tries_steps c.loop-tried.tried (try_steps (length c.args.ops.now)) (view c.args.pass.now).steps
+      (view c.loop-tried.pass).steps (view c.try_line.new.pass).steps c.loop-tried.invariant.steps
+      c.try_line.ensures.steps;
 }
 
 pub returns-clause-runs : goal.returns-clause-runs
 returns-clause-runs c = all_tried c.loop-tried.tried c.args.tries (view c.args.pass.now) (view c.loop-tried.pass)
     c.loop-tried.invariant.within c.loop-tried-test.false c.loop-tried.invariant.conflicted
+
+pub returns-in-Ok-clause-steps : goal.returns-in-Ok-clause-steps
+returns-in-Ok-clause-steps c = steps_within (c.loop-tried.tried + 1) c.args.tries
+    (try_steps (length c.args.ops.now)) (view c.args.pass.now).steps
+    (view c.try_line.new.pass).steps (omega (arith, c.loop-tried-test.true))
+    (tries_steps c.loop-tried.tried (try_steps (length c.args.ops.now)) (view c.args.pass.now).steps
+    (view c.loop-tried.pass).steps (view c.try_line.new.pass).steps c.loop-tried.invariant.steps
+    c.try_line.ensures.steps)
+
+pub returns-then-is_limit-clause-steps : goal.returns-then-is_limit-clause-steps
+returns-then-is_limit-clause-steps c = steps_within (c.loop-tried.tried + 1) c.args.tries
+    (try_steps (length c.args.ops.now)) (view c.args.pass.now).steps
+    (view c.try_line.new.pass).steps (omega (arith, c.loop-tried-test.true))
+    (tries_steps c.loop-tried.tried (try_steps (length c.args.ops.now)) (view c.args.pass.now).steps
+    (view c.loop-tried.pass).steps (view c.try_line.new.pass).steps c.loop-tried.invariant.steps
+    c.try_line.ensures.steps)
+
+pub returns-clause-steps : goal.returns-clause-steps
+returns-clause-steps c = steps_within c.loop-tried.tried c.args.tries (try_steps (length c.args.ops.now))
+    (view c.args.pass.now).steps (view c.loop-tried.pass).steps c.loop-tried.invariant.within
+    c.loop-tried.invariant.steps

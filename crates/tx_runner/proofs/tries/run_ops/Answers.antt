@@ -3,7 +3,7 @@ use Rattle.std.proofs.Common.{◌≡◌, arith}
 use Rattle.std.proofs.lemmas.Result.{err_from_is_err_and}
 use Rattle.engine_words.specs.Passes.{view}
 use Rattle.tx_runner.proofs.Answered.{run_none, run_on, run_ended, run_all, taken_all, loaded_array, kept_so}
-use Rattle.tx_runner.proofs.Answered.{dropped_so}
+use Rattle.tx_runner.proofs.Answered.{dropped_so, within_more}
 use Rattle.tx_runner.proofs.Standing.{refused_since}
 use Rattle.tx_runner.proofs.tries.run_ops.Goals as goal
 
@@ -11,7 +11,7 @@ pub loop-done-init : goal.loop-done-init
 loop-done-init c = record {
   of = c.requires.of;
   some = run_none c.args.ops.now c.args.replies.now c.args.txn.now.sets (view c.args.pass.now) c.requires.none
-      c.requires.live c.requires.run;
+      c.requires.live c.requires.empty c.requires.run;
 }
 
 pub run_op-requires-clause-live : goal.run_op-requires-clause-live
@@ -32,7 +32,8 @@ loop-done-preserved c = record {
       (view c.args.pass.now) (view c.loop-done.pass) (view c.run_op.new.pass) c.loop-done-test.true
       (kept_so c.in_ok-verdict.verdict c.keeps.result c.keeps.ensures c.if-not-keeps.false)
       (loaded_array c.args.ops.now _ c.loop-done.done (view c.args.pass.now) (view c.loop-done.pass) c.requires.arrays
-      c.loop-done-test.true c.loop-done.invariant.some.only) c.loop-done.invariant.some c.in_ok-verdict.ensures.answers;
+      c.loop-done-test.true c.loop-done.invariant.some.only) c.loop-done.invariant.some c.in_ok-verdict.ensures.answers
+      c.run_op.ensures.steps;
 }
 
 pub returns-in_err-verdict-clause-refused : goal.returns-in_err-verdict-clause-refused
@@ -55,9 +56,26 @@ returns-then-not-keeps-clause-answers c =
     (dropped_so c.in_ok-verdict.verdict c.keeps.result c.keeps.ensures c.if-not-keeps.true)
     (loaded_array c.args.ops.now _ c.loop-done.done (view c.args.pass.now) (view c.loop-done.pass) c.requires.arrays
     c.loop-done-test.true c.loop-done.invariant.some.only) c.loop-done.invariant.some c.in_ok-verdict.ensures.answers
+    c.run_op.ensures.steps
 
 pub returns-clause-answers : goal.returns-clause-answers
 returns-clause-answers c =
     run_all c.args.ops.now c.loop-done.done c.loop-done.replies c.loop-done.txn.sets (view c.args.pass.now)
     (view c.loop-done.pass) (taken_all c.args.ops.now c.loop-done.done c.loop-done-test.false)
     c.loop-done.invariant.some
+
+pub run_op-requires-clause-sized : goal.run_op-requires-clause-sized
+run_op-requires-clause-sized c = within_more c.loop-done.done 15 c.loop-done.txn.sets
+    (omega (arith, c.loop-done-test.true, c.requires.few)) c.loop-done.invariant.some.sized
+
+pub returns-in_err-verdict-clause-steps : goal.returns-in_err-verdict-clause-steps
+returns-in_err-verdict-clause-steps c =
+    omega (arith, c.loop-done.invariant.some.steps, c.run_op.ensures.steps, c.loop-done-test.true)
+
+pub returns-then-not-keeps-clause-steps : goal.returns-then-not-keeps-clause-steps
+returns-then-not-keeps-clause-steps c =
+    omega (arith, c.loop-done.invariant.some.steps, c.run_op.ensures.steps, c.loop-done-test.true)
+
+pub returns-clause-steps : goal.returns-clause-steps
+returns-clause-steps c =
+    omega (arith, c.loop-done.invariant.some.steps, c.loop-done.invariant.some.within)

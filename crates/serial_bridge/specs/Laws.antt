@@ -51,7 +51,7 @@ key_test q k =
 -- ---- values
 
 -- what replies the same to a read is the same amount, and in a tree the same value or absence
-same_amount : (kind : Bool) (a b : Option ℕ) → reply_of kind a ≡ reply_of kind b → unwrap_or a 0 ≡ unwrap_or b 0
+pub same_amount : (kind : Bool) (a b : Option ℕ) → reply_of kind a ≡ reply_of kind b → unwrap_or a 0 ≡ unwrap_or b 0
 same_amount kind (Some x) (Some y) e = cc
 same_amount true (Some x) None e = cc
 same_amount true None (Some y) e = cc
@@ -78,7 +78,7 @@ AreVouched decls parts s = (k : Key) (value : Option ℕ) → vouched parts k �
     → reply_of (is_tree decls k.storage) (get s k) ≡ reply_of (is_tree decls k.storage) value
 
 -- a read of a key that is seen replies the same from the state with the writes
-seen_same : (decls : List Decl) (parts : List Part) (first : State) (own : List Change) (w : State) (k : Key) (value : Option ℕ)
+pub seen_same : (decls : List Decl) (parts : List Part) (first : State) (own : List Change) (w : State) (k : Key) (value : Option ℕ)
     → AreVouched decls parts first → IsOver first own w → seen parts own k ≡ Some value
     → reply_of (is_tree decls k.storage) (get w k) ≡ reply_of (is_tree decls k.storage) value
 seen_same decls parts first own w k value vouch over is = by_written (written k own) (over k) is
@@ -98,7 +98,7 @@ written-wrote k q value own =
       | false ↦ refl
     ]
 
-over_put : (first : State) (own : List Change) (w : State) (k : Key) (v : ℕ) → IsOver first own w → IsOver first (wrote k (Some v) own) (insert w k v)
+pub over_put : (first : State) (own : List Change) (w : State) (k : Key) (v : ℕ) → IsOver first own w → IsOver first (wrote k (Some v) own) (insert w k v)
 over_put first own w k v over = λ q.
     get-insert keys_total w k v q ∙ ap (λ b. cond b (Some v) (get w q)) (key_test q k) ∙ by_test q (same_key k q)
     ∙ ap (λ o. unwrap_or o (get first q)) (sym (written-wrote k q (Some v) own))
@@ -205,7 +205,7 @@ same_value c d (inl same) = ap (λ (x : Content). x.value) (sym same)
 same_value c d (inr absent) = absent.1 ∙ sym absent.0
 
 -- the first part that covers a key has the contents' value there
-vouched_is : (contents : Key → Content) (parts : List Part) (k : Key) (value : Option ℕ) → ((part : Part) → Contains parts part → Vouches contents part)
+pub vouched_is : (contents : Key → Content) (parts : List Part) (k : Key) (value : Option ℕ) → ((part : Part) → Contains parts part → Vouches contents part)
     → vouched parts k ≡ Some value → (contents k).value ≡ value
 vouched_is contents [] k value reads is = cc
 vouched_is contents (part ∷ parts) k value reads is =
@@ -253,7 +253,7 @@ attempt_steps decls s contents e a agrees reads is =
 -- ---- lists of attempts
 
 -- epochs never fall
-epoch_low : (a b : Number) → IsBelow a b → a.epoch ≤ b.epoch
+pub epoch_low : (a b : Number) → IsBelow a b → a.epoch ≤ b.epoch
 epoch_low a b (inl later) = omega arith
 epoch_low a b (inr same) = let epoch = same.0 in omega arith
 
@@ -273,7 +273,7 @@ precedes R imply decls e low (f ∷ entries) (a ∷ attempts) up rises are =
     after x y z (inl same) b = subst (λ (n : Number). IsBelow n z) (sym same) b
     after x y z (inr a) b = below_then x y z a b
 
-in_order : (R : Number → Number → Type 0) → ((x y : Number) → IsBelow x y → R x y) → (decls : List Decl) (low : Number) (entries : List Entry) (attempts : List Attempt)
+pub in_order : (R : Number → Number → Type 0) → ((x y : Number) → IsBelow x y → R x y) → (decls : List Decl) (low : Number) (entries : List Entry) (attempts : List Attempt)
     → RisesFrom low attempts → AreAttemptsOf decls entries attempts → InOrder (λ x y. R x.number y.number) entries
 in_order R imply decls low [] [] rises are = tt
 in_order R imply decls low [] (a ∷ attempts) rises are = absurd are
@@ -284,7 +284,7 @@ in_order R imply decls low (e ∷ entries) (a ∷ attempts) rises are = (
 )
 
 -- each transaction's answers are those on the state which the ones before it leave
-answers_along : (decls : List Decl) (s : State) (contents : Key → Content) (entries : List Entry) (attempts : List Attempt)
+pub answers_along : (decls : List Decl) (s : State) (contents : Key → Content) (entries : List Entry) (attempts : List Attempt)
     → Agrees decls s contents → ReadsAlong contents attempts → AreAttemptsOf decls entries attempts
     → AnswersAlong decls entries s
     × ((k : Key) → get (state_after_all decls s entries) k ≡ unwrap_or (last_written attempts k) (get s k))

@@ -3,6 +3,7 @@ pub mod Keys
 pub mod Decls
 pub mod State
 pub mod Step
+pub mod WriteSet
 pub mod ReplyWords
 pub mod Lent
 pub mod Draft

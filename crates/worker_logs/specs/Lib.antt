@@ -7,3 +7,5 @@ pub mod Moves
 pub mod FlushAll
 pub mod Saves
 pub mod SavesLaws
+pub mod Rows
+pub mod RowLaws

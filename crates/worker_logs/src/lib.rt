@@ -4,8 +4,8 @@
 //!
 //! - [`WriteSet::commit`] gives the log line of a transaction that was run: its number, and each key that it wrote,
 //!   ascending, with the value that it left there or its removal; nothing where it wrote none (`logged`, by `IsLogged`
-//!   in `specs/Changes.antt`). The write set is told before the transaction runs, by the state alone ([`WriteSet::of`],
-//!   `keys`).
+//!   in `specs/Changes.antt`). The write set (`write_set` of serial_model) is told before the transaction runs, by the
+//!   state alone ([`WriteSet::of`], `keys`).
 //! - [`WorkerLog::flush_and_mark`] makes the lines that wait durable, and then says so: its mark counts all of them, up
 //!   to the epoch before the clock's (`marked`).
 //! - [`WorkerLog::prepare`] makes ready for a line: its mark holds back no epoch that the clock has left (`keeps_up`),

@@ -57,6 +57,7 @@ cuts l words views views' before after s h change cut = record {
   seats = h.seats;
   tried = h.tried;
   marks = h.marks;
+  marked = h.marked;
   small = h.small;
   fits = change.each (Fits l s.story s.seats) h.fits cut.fits;
   sums = record {
@@ -171,12 +172,15 @@ tried_apart p history checks checked mine more Ended none h = tt
 tried_apart p history checks checked mine more (Decided i) none h = h
 
 pub heard_both : (v u : View) (m : Story) → IsFront v.history m.history → IsFront v.decided m.decided
-    → IsFront u.history m.history → IsFront u.decided m.decided → (x : Heard)
-    → Contains (heard_of v ∷ heard_of u ∷ []) x → IsFront x.history m.history × IsFront x.decided m.decided
-heard_both v u m vh vd uh ud x has = elim (in_cases x (heard_of v) (heard_of u ∷ []) has) [
-  | inl e ↦ subst (λ (y : Heard). IsFront y.history m.history × IsFront y.decided m.decided) e (vh, vd)
+    → IsFront u.history m.history → IsFront u.decided m.decided → v.epoch ≤ m.epoch → u.epoch ≤ m.epoch → (x : Heard)
+    → Contains (heard_of v ∷ heard_of u ∷ []) x
+    → IsFront x.history m.history × IsFront x.decided m.decided × (x.epoch ≤ m.epoch)
+heard_both v u m vh vd uh ud ve ue x has = elim (in_cases x (heard_of v) (heard_of u ∷ []) has) [
+  | inl e ↦ subst (λ (y : Heard). IsFront y.history m.history × IsFront y.decided m.decided × (y.epoch ≤ m.epoch)) e
+      (vh, vd, ve)
   | inr later ↦ elim (in_cases x (heard_of u) [] later) [
-    | inl e ↦ subst (λ (y : Heard). IsFront y.history m.history × IsFront y.decided m.decided) e (uh, ud)
+    | inl e ↦ subst (λ (y : Heard). IsFront y.history m.history × IsFront y.decided m.decided × (y.epoch ≤ m.epoch)) e
+        (uh, ud, ue)
     | inr none ↦ absurd (in_none x none)
   ]
 ]
@@ -193,7 +197,7 @@ learns l id other v u note = joins l id other v u (learned v u) spent_view (λ w
         record {
           history = a.whole;
           decided = b.whole;
-          heard = heard_both v u s.story f.history f.decided g.history g.decided;
+          heard = heard_both v u s.story f.history f.decided g.history g.decided f.low g.low;
           mine = f.mine;
           mine_own = λ x has.
               own_longer v.role v.history (learned v u).history v.decided (learned v u).decided x a.left b.left
@@ -285,7 +289,7 @@ seats l id v worker is few free = splits l id v (seated worker v) (worker_view w
                   (subst (Tried p v.history s.story.checks [] []) (sym parked.resting.stage) tt);
               took = λ t has. absurd (in_none t has);
             };
-            low = omega arith;
+            low = f.low;
             part = (few, refl);
             keepers = λ keeper. absurd (cc);
             met = λ met has. absurd (in_none met has);

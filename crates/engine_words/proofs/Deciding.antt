@@ -135,7 +135,11 @@ decides keeps leaves serial l slots id me active can =
             (λ mark has. subst (λ (z : List Mark). Contains z mark) (sym (settled_marks s')) has) record {
               history = front_refl m.history;
               decided = front_refl next.decided;
-              heard = λ x has. ((f.heard x has).0, front_grown x.decided m.decided (a.number ∷ []) (f.heard x has).1);
+              heard = λ x has. (
+                (f.heard x has).0,
+                front_grown x.decided m.decided (a.number ∷ []) (f.heard x has).1,
+                (f.heard x has).2,
+              );
               mine = order_more opening_number v.mine a f.mine
                   (inr (opening_below (content_at l.opening some_key).number a.number
                   (rises_low (content_at l.opening some_key).number m.history (h.story.ordered_numbers.rising some_key) a

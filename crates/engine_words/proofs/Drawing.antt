@@ -101,7 +101,11 @@ draws keeps leaves l slots id me writes active due idle same values =
             refl refl refl refl refl (λ mark has. has) record {
               history = front_refl next.history;
               decided = f.decided;
-              heard = λ x has. (front_grown x.history m.history (a ∷ []) (f.heard x has).0, (f.heard x has).1);
+              heard = λ x has. (
+                front_grown x.history m.history (a ∷ []) (f.heard x has).0,
+                (f.heard x has).1,
+                (f.heard x has).2,
+              );
               mine = f.mine;
               mine_own = λ b has.
                   own_longer v.role v.history next.history v.decided v.decided b

@@ -192,6 +192,7 @@ opens law l words can first =
           word = first.marks (2 + worker) (omega arith) (omega arith) ∙ omega arith;
           small = record { length = omega arith; epoch = let fits = can.first.epoch in omega arith };
         };
+        marked = λ p. let begun = can.begun in omega arith;
         small = record {
           first = λ k. (starts k).small;
           drawn = λ a has. absurd (in_none a has);

@@ -16,6 +16,7 @@ pub mod Drawing
 pub mod Checking
 pub mod Deciding
 pub mod Marking
+pub mod Marks
 pub mod Forgetting
 pub mod FirstPlaces
 pub mod FirstRecords

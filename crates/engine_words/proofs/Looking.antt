@@ -18,7 +18,7 @@ use Rattle.commit_core.specs.declared.attempt.Attempt.{Attempt}
 use Rattle.commit_core.specs.declared.seat.Seat.{Seat}
 use Rattle.commit_core.specs.declared.seat.Stage.TheVariants.{Trying}
 use Rattle.commit_core.specs.declared.story.Story.{Story}
-use Rattle.commit_core.specs.CoreState.{clock_of, is_trying, is_in_progress}
+use Rattle.commit_core.specs.CoreState.{clock_of, is_trying, is_in_progress, last_marked}
 use Rattle.commit_core.specs.Keys.{opening_number}
 use Rattle.commit_core.specs.Law.{EachActKeeps, EachActLeaves, SoundIsSerial}
 use Rattle.views.specs.Sums.{total, times}
@@ -62,7 +62,8 @@ seen_fits l m seats v w active f layout role made past parked epoch mine due sea
       history = history;
       decided = decided;
       heard = subst
-          (λ (y : List Heard). (x : Heard) → Contains y x → IsFront x.history m.history × IsFront x.decided m.decided)
+          (λ (y : List Heard). (x : Heard) → Contains y x
+          → IsFront x.history m.history × IsFront x.decided m.decided × (x.epoch ≤ m.epoch))
           (sym heard) f.heard;
       mine = subst (IsInOrder opening_number) (sym mine) f.mine;
       mine_own = λ a has.
@@ -152,7 +153,7 @@ clock_told l words views s v h f own =
     let clock = h.shown.clock in let room = h.sums.room in omega arith in record {
       history = f.history;
       decided = f.decided;
-      heard = f.heard;
+      heard = λ x has. let was = f.heard x has in let low = was.2 in (was.0, was.1, omega (arith, low, epoch));
       draws = draws ∙ ap (λ x. x + length m.history) (h.first ∙ ap (λ (x : Layout). x.first.draw) (sym own.layout));
       number = clock_of m.first_draw m.epoch m.history;
       found = sym h.shown.clock;
@@ -160,6 +161,9 @@ clock_told l words views s v h f own =
       below = h.story.ordered_numbers.past;
       epoch = let low = f.low in omega (arith, epoch);
       keepers = λ keeper. let low = f.low in let high = (f.keepers keeper).epoch in omega (arith, epoch);
+      marked =
+          let below = h.marked (seat_number v.role) in
+          let same = ap (λ (x : Seat). last_marked x.marks) own.seat in omega (arith, epoch, same);
       is = refl;
     }
 

@@ -99,7 +99,7 @@ advances keeps leaves l slots id me is few =
             record {
               history = f.history;
               decided = f.decided;
-              heard = f.heard;
+              heard = λ x has. let was = f.heard x has in let low = was.2 in (was.0, was.1, omega (arith, low));
               mine = f.mine;
               mine_own = f.mine_own;
               records = f.records;
@@ -260,5 +260,14 @@ meets keeps leaves l slots id me worker active few =
             past = λ keeper. (f.keepers keeper).past;
           })
           refl refl refl refl refl refl;
-      tells-so = record { mark = shows.mark; small = shows.small; found = shows.word; is = refl };
+      tells-so = record {
+        mark = shows.mark;
+        small = shows.small;
+        found = shows.word;
+        parked = λ keeper unmade. record {
+          before = shows.before;
+          is = ap (λ (x : Seat). x.marks) (sym ((f.keepers keeper).parked worker few unmade).is) ∙ shows.last;
+        };
+        is = refl;
+      };
     })

@@ -31,7 +31,8 @@ use Rattle.engine_words.proofs.Seats.{past_stays}
 pub record Now (opening : List (Key × Content)) (n : Story) (p : ℕ) (w : View) : Type 0 where
   pub history : IsFront w.history n.history
   pub decided : IsFront w.decided n.decided
-  pub heard : (x : Heard) → Contains w.heard x → IsFront x.history n.history × IsFront x.decided n.decided
+  pub heard : (x : Heard) → Contains w.heard x
+      → IsFront x.history n.history × IsFront x.decided n.decided × (x.epoch ≤ n.epoch)
   pub mine : IsInOrder opening_number w.mine
   pub mine_own : (a : Attempt) → Contains w.mine a → IsOwn w.role w.history w.decided a
   pub records : KeptAreRecords opening n.history w.seat.kept

@@ -328,6 +328,7 @@ fits_stays l m n seats p s u left drawn marks none apart f =
       heard = λ x has. (
         front_of x.history m.history n.history (f.heard x has).0 g.history,
         front_of x.decided m.decided n.decided (f.heard x has).1 g.decided,
+        omega (arith, (f.heard x has).2, g.epoch),
       );
       mine = f.mine;
       mine_own = f.mine_own;

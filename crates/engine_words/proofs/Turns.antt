@@ -41,6 +41,7 @@ use Rattle.engine_words.specs.Views.{IsActive, HasPart, sits, sits_by, makes, wa
 use Rattle.engine_words.specs.Rule.{Shared, AllSmall, WriteValues, ShowsRecord, ShowsWords, ShowsMark, EachIsTried}
 use Rattle.engine_words.specs.Rule.{Own, Fits, Sound, Shows}
 use Rattle.engine_words.proofs.LayoutLaws.{word_in}
+use Rattle.engine_words.proofs.Marks.{marked_after}
 use Rattle.engine_words.proofs.Seats.{by_equal, put_seat, put_same, put_other, is_at, sits_here, done, Allowed}
 use Rattle.engine_words.proofs.Seats.{MachineAfter, machine_after, leaves_after, DrawnNow, fits_stays}
 
@@ -137,6 +138,7 @@ turns keeps leaves l words views s id v i f tells h at active r =
       seats = machine.each;
       tried = t.tried;
       marks = t.marks;
+      marked = marked_after s r.story p v.seat r.view.seat r.act mine.seat r.allowed left.grows.epoch r.seat-is h.marked;
       small = t.small;
       fits = each_other (sits p) (Both s) (Fits l r.story (put_seat s.seats p r.view.seat))
           (λ u none both. fits_stays l s.story r.story s.seats p r.view.seat u left t.drawn marked none

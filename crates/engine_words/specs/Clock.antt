@@ -1,13 +1,16 @@
 -- What the steps of the clock and of the marks tell.
-use Rattle.std.specs.Prelude.{◌≡◌, ℕ, ◌+◌, ◌<◌, ◌≤◌, List, [], ◌∷◌, ◌++◌, Option, Some, None, ⊤}
+use Rattle.std.specs.Prelude.{◌≡◌, ℕ, ◌+◌, ◌<◌, ◌≤◌, List, [], ◌∷◌, ◌++◌, get_or, Option, Some, None, ⊤}
 use Rattle.atomic_table.specs.Table.{Step}
 use Rattle.commit_core.specs.declared.seat.Mark.{Mark}
 use Rattle.commit_core.specs.CoreState.{last_marked}
+use Rattle.views.specs.Sums.{times}
 use Rattle.engine_words.specs.declared.view.Met.{Met}
+use Rattle.engine_words.specs.declared.view.Role.TheVariants.{Keeper}
 use Rattle.engine_words.specs.declared.view.View.{View}
 use Rattle.engine_words.specs.Layout.{mark_at}
 use Rattle.engine_words.specs.Rule.{IsSmallMark, word_of_mark}
 use Rattle.engine_words.specs.Steps.{glanced}
+use Rattle.engine_words.specs.Views.{bare_seat}
 
 -- ---- the clock
 
@@ -39,11 +42,18 @@ Marks mark s v n w = w ≡ marked mark v
 abbrev pub met_at : ℕ → ℕ → Met
 met_at worker n = record { worker = worker; word = n }
 
--- the mark of the worker was loaded, which is one that it set
+-- the mark is the last of these
+pub record IsLast (mark : Mark) (marks : List Mark) : Type 0 where
+  pub before : List Mark
+  pub is : marks ≡ before ++ mark ∷ []
+
+-- The mark of the worker was loaded, which is one that it set; for the keeper, where the worker isn't seated, the last
+-- one that its seat had.
 pub record HasMet (worker : ℕ) (v : View) (n : ℕ) (w : View) : Type 0 where
   pub mark : Mark
   pub small : IsSmallMark mark
   pub found : n ≡ word_of_mark mark
+  pub parked : v.role ≡ Keeper → times worker v.made ≡ 0 → IsLast mark (get_or v.parked worker bare_seat).marks
   pub is : w ≡ record (glanced (mark_at worker) n v) { met = v.met ++ met_at worker n ∷ [] }
 
 -- the same of the step

@@ -65,7 +65,7 @@ spent_view = record {
 
 -- what the view has seen
 abbrev pub heard_of : View → Heard
-heard_of v = record { history = v.history; decided = v.decided }
+heard_of v = record { history = v.history; decided = v.decided; epoch = v.epoch }
 
 -- v has seen what u has, too
 abbrev pub learned : View → View → View
@@ -84,9 +84,10 @@ pub record HasSeen (v w : View) : Type 0 where
 abbrev pub seated : ℕ → View → View
 seated worker v = record v { made = v.made ++ worker ∷ [] }
 
--- and that of the worker, with the seat that the keeper's view had
+-- and that of the worker, with the seat and the epoch that the keeper's view had
 abbrev pub worker_view : ℕ → View → View
-worker_view worker v = record (note_view v) { role = Worker worker; seat = get_or v.parked worker bare_seat }
+worker_view worker v =
+    record (note_view v) { role = Worker worker; epoch = v.epoch; seat = get_or v.parked worker bare_seat }
 
 -- the worker of a pass
 abbrev pub worker_of : Role → ℕ

@@ -2,6 +2,8 @@ pub mod Layout
 pub mod Views
 pub mod Rule
 pub mod Cuts
+pub mod Gathered
+pub mod Between
 pub mod Steps
 pub mod Reads
 pub mod ReadLaws

@@ -27,7 +27,7 @@ use Rattle.commit_core.specs.declared.story.Story.{Story}
 use Rattle.commit_core.specs.Keys.{content_at, opening_number, writes_key, IsUpTo}
 use Rattle.commit_core.specs.Places.{place_of, home_of, holder_is}
 use Rattle.commit_core.specs.Parts.{same_word, record_part}
-use Rattle.commit_core.specs.CoreState.{clock_of, is_checked, is_decided, is_in_progress}
+use Rattle.commit_core.specs.CoreState.{clock_of, is_checked, is_decided, is_in_progress, last_marked}
 use Rattle.commit_core.specs.Sound.{IsSoundStory, IsSoundSeat}
 use Rattle.commit_core.specs.Sound.Reads.{IsVersion}
 use Rattle.commit_core.specs.Lemmas.Values.{Overwrites}
@@ -114,6 +114,10 @@ pub record ShowsMark (words : List ℕ) (worker : ℕ) (marks : List Mark) : Typ
   pub last : marks ≡ before ++ mark ∷ []
   pub word : get_or words (mark_at worker) 0 ≡ word_of_mark mark
   pub small : IsSmallMark mark
+
+-- the last epoch that each seat has marked is below this one
+abbrev pub MarkedBelow : ℕ → (ℕ → Seat) → Type 0
+MarkedBelow epoch seats = (p : ℕ) → last_marked (seats p).marks < epoch
 
 -- ---- views
 
@@ -210,7 +214,8 @@ WasMarked seats met = (mark : Mark) × Contains (seats (suc met.worker)).marks m
 pub record Fits (l : Layout) (m : Story) (seats : ℕ → Seat) (v : View) : Type 0 where
   pub history : IsFront v.history m.history
   pub decided : IsFront v.decided m.decided
-  pub heard : (x : Heard) → Contains v.heard x → IsFront x.history m.history × IsFront x.decided m.decided
+  pub heard : (x : Heard) → Contains v.heard x
+      → IsFront x.history m.history × IsFront x.decided m.decided × (x.epoch ≤ m.epoch)
   pub mine : IsInOrder opening_number v.mine
   pub mine_own : (a : Attempt) → Contains v.mine a → IsOwn v.role v.history v.decided a
   pub records : KeptAreRecords l.opening m.history v.seat.kept
@@ -246,6 +251,7 @@ pub record Sound (l : Layout) (words : List ℕ) (views : List View) (s : Shared
   pub seats : (p : ℕ) → IsSoundSeat l.opening s.story p (s.seats p)
   pub tried : EachIsTried s.story s.seats
   pub marks : (worker : ℕ) → worker < 8 → ShowsMark words worker (s.seats (suc worker)).marks
+  pub marked : MarkedBelow s.story.epoch s.seats
   pub small : AllSmall l.opening s.story
   pub fits : AllByRecursion (Fits l s.story s.seats) views
   pub sums : Sums views s.story

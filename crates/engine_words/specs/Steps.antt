@@ -14,7 +14,7 @@ use Rattle.wire_form.specs.Words.{number_word}
 use Rattle.commit_core.specs.declared.attempt.Attempt.{Attempt}
 use Rattle.commit_core.specs.Keys.{opening_number}
 use Rattle.commit_core.specs.Parts.{record_part, with_part}
-use Rattle.commit_core.specs.CoreState.{is_decided}
+use Rattle.commit_core.specs.CoreState.{is_decided, last_marked}
 use Rattle.commit_core.specs.Serial.{ReadsAreSerial, ReadsFrom, state_below}
 use Rattle.commit_core.specs.Sound.Numbers.{EachOnce}
 use Rattle.views.specs.Sums.{total}
@@ -89,11 +89,13 @@ timed all chosen n v = record (glanced clock_at n v) {
 
 -- The clock was seen, and with it all draws and decisions: it counts the draws from the first one on, and is the next
 -- number, above all that were drawn. It is in no epoch below the one that was seen, and for the keeper, who alone
--- advances it, in that one. What was heard stands at the beginning of what is seen.
+-- advances it, in that one. What was heard stands at the beginning of what is seen, in an epoch that is none above it.
+-- The last epoch that the pass's seat marked, whichever pass had the seat then, is below the clock's.
 pub record HasTimed (v : View) (n : ℕ) (w : View) : Type 0 where
   pub history : IsFront v.history w.history
   pub decided : IsFront v.decided w.decided
-  pub heard : (x : Heard) → Contains v.heard x → IsFront x.history w.history × IsFront x.decided w.decided
+  pub heard : (x : Heard) → Contains v.heard x
+      → IsFront x.history w.history × IsFront x.decided w.decided × (x.epoch ≤ n / 2 ^ 40)
   pub draws : n % 2 ^ 40 ≡ v.layout.first.draw + length w.history
   pub number : Number
   pub found : number_word number ≡ n
@@ -101,6 +103,7 @@ pub record HasTimed (v : View) (n : ℕ) (w : View) : Type 0 where
   pub below : (a : Attempt) → Contains w.history a → IsBelow a.number number
   pub epoch : v.epoch ≤ n / 2 ^ 40
   pub keepers : v.role ≡ Keeper → n / 2 ^ 40 ≡ v.epoch
+  pub marked : last_marked v.seat.marks < n / 2 ^ 40
   pub is : w ≡ timed w.history w.decided n v
 
 -- the same of the step

@@ -9,7 +9,7 @@ ghost use Rattle.engine_words.specs.Views.{IsActive};
 use crate::engine::{Engine, Pass};
 use crate::law::{Checking, Compared, Deciding, Drawing, Writing};
 use commit_core::commits_are_serial;
-use serial_model::{Changes, Key};
+use serial_model::{Change, Changes, Key};
 use std::marker::Brand;
 
 /// Draws the next number for an attempt with these writes, whose keys are those locked, and with what was kept as its
@@ -21,16 +21,16 @@ pub fn draw(engine: &Engine, pass: &mut Pass, writes: &Changes) -> u64
     ensures of { IsPassOf engine.now pass.new }
     ensures draws { HasDrawn writes.now (view pass.old) result (view pass.new) }
 {
-    draw_as::<Brand>(engine, pass, writes)
+    draw_as::<Brand, Change>(engine, pass, writes.as_slice())
 }
 
-fn draw_as<J: Writing>(engine: &Engine, pass: &mut Pass, writes: &Changes) -> u64
+/// The same, with the writes that the call picks by a list of them in another form, which is not read.
+pub fn draw_as<J: Writing, W>(engine: &Engine, pass: &mut Pass, _forms: &[W]) -> u64
     requires of { IsPassOf engine.now pass.old }
     requires pass { IsActive (view pass.old).role }
-    requires can { CanDraw writes.now (view pass.old) }
-    requires named { writes.now ≡ J.writes }
+    requires can { CanDraw J.writes (view pass.old) }
     ensures of { IsPassOf engine.now pass.new }
-    ensures draws { HasDrawn writes.now (view pass.old) result (view pass.new) }
+    ensures draws { HasDrawn J.writes (view pass.old) result (view pass.new) }
 {
     commits_are_serial();
     engine.table.shared.fetch_add::<Drawing<J>>(pass, 0, 1)

@@ -8,7 +8,8 @@
 //! `audit`, which loads two words.
 //! Layout: specs/Layout.antt, which word is which; specs/Views.antt, one view by itself; specs/Rule.antt, the rule;
 //! specs/Cuts.antt, how views are cut and joined; specs/Steps.antt, Reads, Locks, Attempts and Clock, what steps tell;
-//! specs/ReadLaws.antt, laws of the words that were met; specs/Making.antt, what an engine is made from.
+//! specs/ReadLaws.antt, laws of the words that were met; specs/Gathered.antt, laws of the own commits that a keeper's view
+//! gathers as seats end, and specs/Between.antt, what counts behind them; specs/Making.antt, what an engine is made from.
 //! Design: docs/COMMIT.md.
 #![tactic(auto)]
 
@@ -28,12 +29,12 @@ mod seating;
 mod storages;
 mod view;
 
-pub use attempts::{check, decide, draw};
+pub use attempts::{check, decide, draw, draw_as};
 pub use beginning::{begin, forget};
 pub use clock::{advance, load_mark, mark};
 pub use counters::{audit, load_clock};
 pub use engine::{Engine, Pass};
-pub use law::Law;
+pub use law::{Law, Writing};
 pub use layout::Layout;
 pub use locking::{LOCK, lock, open_again, open_anew, put};
 pub use reading::{confirm, load_value, see};

@@ -65,6 +65,8 @@ pub struct Read {
 pub struct Heard {
     pub history: Sequence<Attempt>,
     pub decided: Sequence<Number>,
+    /// The clock's epoch as it was last seen.
+    pub epoch: u32,
 }
 
 /// Why a transaction was refused.

@@ -9,7 +9,7 @@ use Rattle.serial_model.specs.declared.decl.Decl.{Decl}
 use Rattle.serial_model.specs.declared.number.Change.{Change}
 use Rattle.serial_model.specs.Keys.{IsKeyBelow}
 use Rattle.wire_form.specs.Items.{Rises}
-use Rattle.serial_model.specs.declared.number.Commit.{Commit}
+use Rattle.serial_model.specs.declared.number.Number.{Number}
 use Rattle.tx_sets.specs.declared.reads.ReadEntry.{ReadEntry}
 use Rattle.tx_sets.specs.declared.sets.Sets.{Sets}
 use Rattle.tx_sets.specs.declared.writes.Write.{Write}
@@ -60,28 +60,28 @@ refuses_dropped sets new ws (NumberLimit clock) v w reads writes r = r
 
 -- ---- results that are handed on
 
-pub commits_for : (r : Result Commit Refused) (sets : Sets) (found : List ℕ) (v w x : View) → CanCommit sets found v w
-    → IfOk r (λ k. (u : View) → CanCommit sets found u w → HasCommitted k.changes k.number u x)
-    → IfOk r (λ k. HasCommitted k.changes k.number v x)
+pub commits_for : (r : Result Number Refused) (sets : Sets) (found : List ℕ) (v w x : View) → CanCommit sets found v w
+    → IfOk r (λ n. (u : View) → CanCommit sets found u w → HasCommitted (changes_of sets.writes) n u x)
+    → IfOk r (λ n. HasCommitted (changes_of sets.writes) n v x)
 commits_for (Ok k) sets found v w x can all = all v can
 commits_for (Err why) sets found v w x can all = tt
 
-pub refused_for_all : (r : Result Commit Refused) (sets : Sets) (found : List ℕ) (v w x : View)
+pub refused_for_all : (r : Result Number Refused) (sets : Sets) (found : List ℕ) (v w x : View)
     → CanCommit sets found v w
     → IfErr r (λ why. (u : View) → CanCommit sets found u w → HasRefused why u x) → IfErr r (λ why. HasRefused why v x)
 refused_for_all (Ok k) sets found v w x can all = tt
 refused_for_all (Err why) sets found v w x can all = all v can
 
-pub caused_for : (r : Result Commit Refused) (sets : Sets) (found : List ℕ) (v w x : View) → CanCommit sets found v w
+pub caused_for : (r : Result Number Refused) (sets : Sets) (found : List ℕ) (v w x : View) → CanCommit sets found v w
     → IfErr r (λ why. (u : View) → CanCommit sets found u w → RefusesCommit sets sets.writes why u x)
     → IfErr r (λ why. RefusesCommit sets sets.writes why v x)
 caused_for (Ok k) sets found v w x can all = tt
 caused_for (Err why) sets found v w x can all = all v can
 
-pub changes_for : (r : Result Commit Refused) (us ws : List Write) → us ≡ ws → IfOk r (λ k. k.changes ≡ changes_of us)
-    → IfOk r (λ k. k.changes ≡ changes_of ws)
-changes_for (Ok k) us ws same is = is ∙ ap changes_of same
-changes_for (Err why) us ws same is = tt
+pub commits_kept : (r : Result Number Refused) (us ws : List Write) (v w : View) → us ≡ ws
+    → IfOk r (λ n. HasCommitted (changes_of us) n v w) → IfOk r (λ n. HasCommitted (changes_of ws) n v w)
+commits_kept (Ok k) us ws v w same is = subst (λ (l : List Write). HasCommitted (changes_of l) k v w) same is
+commits_kept (Err why) us ws v w same is = tt
 
 changes_keys : (ws : List Write) → map (λ (x : Change). x.key) (changes_of ws) ≡ map (λ (w : Write). w.key) ws
 changes_keys [] = refl
@@ -91,25 +91,22 @@ changes_count : (ws : List Write) → length (changes_of ws) ≡ length ws
 changes_count [] = refl
 changes_count (w ∷ ws) = ap (λ n. suc n) (changes_count ws)
 
-pub rising_for : (r : Result Commit Refused) (ws : List Write) → IsAscending ws
-    → IfOk r (λ k. k.changes ≡ changes_of ws) → IfOk r (λ k. Rises IsKeyBelow (map (λ (x : Change). x.key) k.changes))
-rising_for (Ok k) ws rises is = subst (Rises IsKeyBelow)
+pub changes_rise : (changes : List Change) (ws : List Write) → changes ≡ changes_of ws → IsAscending ws
+    → Rises IsKeyBelow (map (λ (x : Change). x.key) changes)
+changes_rise changes ws is rises = subst (Rises IsKeyBelow)
     (sym (ap (λ (l : List Change). map (λ (x : Change). x.key) l) is ∙ changes_keys ws)) rises
-rising_for (Err why) ws rises is = tt
 
-pub few_for : (r : Result Commit Refused) (ws : List Write) → length ws ≤ 16 → IfOk r (λ k. k.changes ≡ changes_of ws)
-    → IfOk r (λ k. length k.changes ≤ 16)
-few_for (Ok k) ws few is =
-    omega (arith, few, ap (λ (l : List Change). length l) is, changes_count ws)
-few_for (Err why) ws few is = tt
+pub changes_few : (changes : List Change) (ws : List Write) → changes ≡ changes_of ws → length ws ≤ 16
+    → length changes ≤ 16
+changes_few changes ws is few = omega (arith, few, ap (λ (l : List Change). length l) is, changes_count ws)
 
-pub dropped_for : (r : Result Commit Refused) (sets new : Sets) (ws : List Write) (v w : View) → new.reads ≡ sets.reads
+pub dropped_for : (r : Result Number Refused) (sets new : Sets) (ws : List Write) (v w : View) → new.reads ≡ sets.reads
     → new.writes ≡ ws → IfErr r (λ why. RefusesCommit new new.writes why v w)
     → IfErr r (λ why. RefusesCommit sets ws why v w)
 dropped_for (Ok k) sets new ws v w reads writes is = tt
 dropped_for (Err why) sets new ws v w reads writes is = refuses_dropped sets new ws why v w reads writes is
 
-pub steps_for : (r : Result Commit Refused) (sets : Sets) (ws : List Write) (reads : List ReadEntry) (v w x : View)
+pub steps_for : (r : Result Number Refused) (sets : Sets) (ws : List Write) (reads : List ReadEntry) (v w x : View)
     → reads ≡ sets.reads → ws ≡ sets.writes → w.steps ≡ v.steps + 2 * length ws
     → OnOk r (x.steps ≡ w.steps + 2 * length ws + length reads + 2)
     → OnOk r (x.steps ≡ v.steps + commit_steps sets.reads sets.writes)
@@ -118,7 +115,7 @@ steps_for (Ok k) sets ws reads v w x same same' locks rest =
     (ap (λ (l : List ReadEntry). length l) same) (ap (λ (l : List Write). length l) same') locks rest
 steps_for (Err why) sets ws reads v w x same same' locks rest = tt
 
-pub most_for : (r : Result Commit Refused) (sets : Sets) (ws : List Write) (reads : List ReadEntry) (v w x : View)
+pub most_for : (r : Result Number Refused) (sets : Sets) (ws : List Write) (reads : List ReadEntry) (v w x : View)
     → reads ≡ sets.reads → ws ≡ sets.writes → w.steps ≡ v.steps + 2 * length ws
     → OnErr r (x.steps ≤ w.steps + length ws + length reads + 2)
     → OnErr r (x.steps ≤ v.steps + commit_steps sets.reads sets.writes)
@@ -127,7 +124,7 @@ most_for (Err why) sets ws reads v w x same same' locks rest =
     all_most (length reads) (length sets.reads) (length ws) (length sets.writes) v w x
     (ap (λ (l : List ReadEntry). length l) same) (ap (λ (l : List Write). length l) same') locks rest
 
-pub kept_steps : (r : Result Commit Refused) (sets new : Sets) (ws : List Write) (v x : View) → new.reads ≡ sets.reads
+pub kept_steps : (r : Result Number Refused) (sets new : Sets) (ws : List Write) (v x : View) → new.reads ≡ sets.reads
     → new.writes ≡ ws → OnOk r (x.steps ≡ v.steps + commit_steps new.reads new.writes)
     → OnOk r (x.steps ≡ v.steps + commit_steps sets.reads ws)
 kept_steps (Ok k) sets new ws v x same same' rest =
@@ -135,7 +132,7 @@ kept_steps (Ok k) sets new ws v x same same' rest =
     ∙ ap (λ (l : List Write). v.steps + commit_steps sets.reads l) same')
 kept_steps (Err why) sets new ws v x same same' rest = tt
 
-pub kept_most : (r : Result Commit Refused) (sets new : Sets) (ws : List Write) (v x : View) → new.reads ≡ sets.reads
+pub kept_most : (r : Result Number Refused) (sets new : Sets) (ws : List Write) (v x : View) → new.reads ≡ sets.reads
     → new.writes ≡ ws → OnErr r (x.steps ≤ v.steps + commit_steps new.reads new.writes)
     → OnErr r (x.steps ≤ v.steps + commit_steps sets.reads ws)
 kept_most (Ok k) sets new ws v x same same' rest = tt

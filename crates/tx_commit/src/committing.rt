@@ -19,8 +19,9 @@ use crate::checking::check_all;
 use crate::locking::{Found, lock_all, unlock_all};
 use crate::publishing::publish_all;
 use array_storage::Conflict;
-use engine_words::{Engine, Pass, Refused, decide, draw, forget};
-use serial_model::{Change, Changes, Commit, Number};
+use engine_words::{Engine, Pass, Refused, decide, draw_as, forget};
+use serial_model::{Change, Changes, Number};
+use std::marker::Brand;
 use tx_sets::{ReadEntry, Sets, Write};
 
 /// Commits a transaction with its writes, or gives it up.
@@ -29,12 +30,12 @@ pub(crate) fn commit_all(
     pass: &mut Pass,
     sets: &Sets,
     found: &mut Found,
-) -> Result<Commit, Refused>
+) -> Result<Number, Refused>
     requires of { IsPassOf engine.now pass.old }
     requires live { IsLive sets.now (view pass.old) }
     ensures of { IsPassOf engine.now pass.new }
-    ensures commits { IfOk result (λ c. HasCommitted c.changes c.number (view pass.old) (view pass.new)) }
-    ensures changes { IfOk result (λ c. c.changes ≡ changes_of sets.now.writes) }
+    ensures commits { IfOk result (λ n.
+        HasCommitted (changes_of sets.now.writes) n (view pass.old) (view pass.new)) }
     ensures ascending { IsAscending sets.now.writes }
     ensures few { length sets.now.writes ≤ 16 }
     ensures cause { IfErr result (λ why. RefusesCommit sets.now sets.now.writes why (view pass.old) (view pass.new)) }
@@ -58,7 +59,7 @@ fn commit_in(
     reads: &[ReadEntry],
     writes: &[Write],
     found: &mut Found,
-) -> Result<Commit, Refused>
+) -> Result<Number, Refused>
     requires of { IsPassOf engine.now pass.old }
     requires live { IsLive sets.now (view pass.old) }
     requires reads { reads.now ≡ sets.now.reads }
@@ -68,8 +69,8 @@ fn commit_in(
     requires few { length sets.now.writes ≤ 16 }
     requires fresh { found.old ≡ [] }
     ensures of { IsPassOf engine.now pass.new }
-    ensures commits { IfOk result (λ c. HasCommitted c.changes c.number (view pass.old) (view pass.new)) }
-    ensures changes { IfOk result (λ c. c.changes ≡ changes_of sets.now.writes) }
+    ensures commits { IfOk result (λ n.
+        HasCommitted (changes_of sets.now.writes) n (view pass.old) (view pass.new)) }
     ensures cause { IfErr result (λ why. RefusesCommit sets.now sets.now.writes why (view pass.old) (view pass.new)) }
     ensures refused { IfErr result (λ why. HasRefused why (view pass.old) (view pass.new)) }
     ensures steps { OnOk result
@@ -91,7 +92,7 @@ fn commit_locked(
     reads: &[ReadEntry],
     writes: &[Write],
     found: &Found,
-) -> Result<Commit, Refused>
+) -> Result<Number, Refused>
     requires of { IsPassOf engine.now pass.old }
     requires can { (v : TheView) × CanCommit sets.now found.now v (view pass.old) }
     requires reads { reads.now ≡ sets.now.reads }
@@ -99,9 +100,8 @@ fn commit_locked(
     requires ascending { IsAscending sets.now.writes }
     requires few { length sets.now.writes ≤ 16 }
     ensures of { IsPassOf engine.now pass.new }
-    ensures commits { IfOk result (λ c. (v : TheView) → CanCommit sets.now found.now v (view pass.old)
-        → HasCommitted c.changes c.number v (view pass.new)) }
-    ensures changes { IfOk result (λ c. c.changes ≡ changes_of sets.now.writes) }
+    ensures commits { IfOk result (λ n. (v : TheView) → CanCommit sets.now found.now v (view pass.old)
+        → HasCommitted (changes_of sets.now.writes) n v (view pass.new)) }
     ensures cause { IfErr result (λ why. (v : TheView) → CanCommit sets.now found.now v (view pass.old)
         → RefusesCommit sets.now sets.now.writes why v (view pass.new)) }
     ensures refused { IfErr result (λ why. (v : TheView) → CanCommit sets.now found.now v (view pass.old)
@@ -111,16 +111,12 @@ fn commit_locked(
     ensures most { OnErr result
         ((view pass.new).steps ≤ (view pass.old).steps + length writes.now + length reads.now + 2) }
 {
-    let changes = changes_of(writes);
-    let word = draw(engine, pass, &changes);
+    let word = draw_as::<Brand, Write>(engine, pass, writes);
     match check_all(engine, pass, reads, &sets.writes) {
         Ok(()) => {
             decide(engine, pass);
             publish_all(engine, pass, writes, word);
-            Ok(Commit {
-                number: number_of(word),
-                changes,
-            })
+            Ok(number_of(word))
         }
         Err(conflict) => Err(back_out(engine, pass, writes, found, conflict)),
     }
@@ -177,19 +173,18 @@ fn give_up(
     why
 }
 
-// The writes as a log has them.
-fn changes_of(writes: &[Write]) -> Changes
+/// Puts down the writes as a log has them, in place of what was there.
+pub(crate) fn put_changes(changes: &mut Changes, writes: &[Write])
     requires { length writes.now ≤ 16 }
-    ensures { result ≡ changes_of writes.now }
+    ensures { changes.new ≡ changes_of writes.now }
 {
-    let mut changes = Changes::new();
+    *changes = Changes::new();
     for write in writes {
         changes.push(Change {
             key: write.key,
             value: write.value,
         });
     }
-    changes
 }
 
 // The number that has this word.

@@ -14,7 +14,6 @@ ghost use Rattle.tx_commit.specs.Steps.{known_word, AreAsRead, AreSmall, IsFree,
 ghost use Rattle.tx_commit.specs.Steps.{HasLocks, HasUnlocked};
 
 use array_storage::Conflict;
-use arrayvec::ArrayVec;
 use engine_words::{Engine, LOCK, Pass, confirm, lock, open_again};
 use serial_model::Key;
 use std::marker::Model;
@@ -26,15 +25,19 @@ const CAPACITY: usize = 16;
 /// The words that the locks of a commit found, in the order of its writes: with them they are opened again.
 #[derive(Drop)]
 pub struct Found {
-    words: ArrayVec<u64, CAPACITY>,
+    /// The first `count` of them are in the list.
+    words: [u64; CAPACITY],
+    count: usize,
 }
 
 impl Model for Found {
-    ghost use Rattle.std.specs.Prelude.{ℕ, List};
+    ghost use Rattle.std.specs.Prelude.{ℕ, List, ◌≡◌, ◌≤◌, length, take};
 
     ghost Value = { List ℕ };
 
-    ghost view = { λ f. f.words.items };
+    ghost view = { λ f. take f.count f.words };
+
+    ghost invariant = { λ f. (f.count ≤ 16) × (length f.words ≡ 16) };
 }
 
 impl Found {
@@ -42,7 +45,8 @@ impl Found {
         ensures { result ≡ [] }
     {
         Found {
-            words: ArrayVec::new(),
+            words: [0; CAPACITY],
+            count: 0,
         }
     }
 
@@ -50,19 +54,21 @@ impl Found {
         requires { length self.old < 16 }
         ensures { self.new ≡ self.old ++ word ∷ [] }
     {
-        self.words.push(word);
+        let count = self.count;
+        self.words[count] = word;
+        self.count = count + 1;
     }
 
     pub fn as_slice(&self) -> &[u64]
         ensures { result.now ≡ self.now }
     {
-        self.words.as_slice()
+        &self.words[..self.count]
     }
 
     pub fn clear(&mut self)
         ensures { self.new ≡ [] }
     {
-        self.words.clear();
+        self.count = 0;
     }
 }
 

@@ -56,6 +56,7 @@ fn read_value(engine: &Engine, pass: &mut Pass, sets: &mut Sets, key: Key) -> Re
 }
 
 /// What the transaction first read at a key that it does not write. A key that it has not met before is read, and kept.
+#[inline(always)]
 pub(crate) fn entry_of(
     engine: &Engine,
     pass: &mut Pass,
@@ -79,6 +80,7 @@ pub(crate) fn entry_of(
 }
 
 // Reads a key that the transaction has not met before.
+#[inline(always)]
 fn read_anew(
     engine: &Engine,
     pass: &mut Pass,

@@ -13,12 +13,12 @@ ghost use Rattle.tx_commit.specs.Refusing.{HasRefused, RefusesBegin, RefusesRead
 ghost use Rattle.tx_commit.specs.Committing.{changes_of, commit_steps, kept_writes, HasBegun, HasAborted, HasCommitted};
 ghost use Rattle.tx_commit.specs.Committing.{RefusesCommit};
 
-use crate::committing::commit_all;
+use crate::committing::{commit_all, put_changes};
 use crate::locking::Found;
 use crate::reading::{entry_of, value_of};
 use crate::writing::{By, alter, write_value};
 use engine_words::{Engine, Pass, Refused, begin, forget};
-use serial_model::{Commit, DRAW_LIMIT, Key, Verdict};
+use serial_model::{Changes, DRAW_LIMIT, Key, Number, Verdict};
 use tx_sets::Sets;
 
 /// The transactions of one worker, one after another. It is made once and not moved: what the one under way has read
@@ -95,6 +95,7 @@ impl Txn {
 
     /// Adds to the value at the key of an array. Above 2^64 - 1 the transaction ends as `Over`: no operation is to
     /// follow, and it is to commit without its writes.
+    #[inline(always)]
     pub fn add(
         &mut self,
         engine: &Engine,
@@ -117,6 +118,7 @@ impl Txn {
 
     /// Takes from the value at the key of an array. Below 0 the transaction ends as `Short`: no operation is to follow,
     /// and it is to commit without its writes.
+    #[inline(always)]
     pub fn take(
         &mut self,
         engine: &Engine,
@@ -137,20 +139,53 @@ impl Txn {
         alter(engine, pass, &mut self.sets, key, By::Take(amount))
     }
 
-    /// Commits the transaction, with its writes or without them, or gives it up.
+    /// Commits the transaction, with its writes or without them, or gives it up. A commit answers its number, and leaves
+    /// what it wrote in `changes`.
     pub fn commit(
         &mut self,
         engine: &Engine,
         pass: &mut Pass,
         keep: bool,
-    ) -> Result<Commit, Refused>
+        changes: &mut Changes,
+    ) -> Result<Number, Refused>
         requires of { IsPassOf engine.now pass.old }
         requires live { IsLive self.old.sets (view pass.old) }
         ensures of { IsPassOf engine.now pass.new }
-        ensures commits { IfOk result (λ c. HasCommitted c.changes c.number (view pass.old) (view pass.new)) }
-        ensures changes { IfOk result (λ c. c.changes ≡ changes_of (kept_writes keep self.old.sets.writes)) }
-        ensures rising { IfOk result (λ c. Rises IsKeyBelow (map (λ x. x.key) c.changes)) }
-        ensures few { IfOk result (λ c. length c.changes ≤ 16) }
+        ensures commits { IfOk result (λ n. HasCommitted changes.new n (view pass.old) (view pass.new)) }
+        ensures changes { OnOk result (changes.new ≡ changes_of (kept_writes keep self.old.sets.writes)) }
+        ensures rising { OnOk result (Rises IsKeyBelow (map (λ x. x.key) changes.new)) }
+        ensures few { OnOk result (length changes.new ≤ 16) }
+        ensures cause { IfErr result (λ why.
+            RefusesCommit self.old.sets (kept_writes keep self.old.sets.writes) why (view pass.old) (view pass.new)) }
+        ensures refused { IfErr result (λ why. HasRefused why (view pass.old) (view pass.new)) }
+        ensures steps { OnOk result ((view pass.new).steps
+            ≡ (view pass.old).steps + commit_steps self.old.sets.reads (kept_writes keep self.old.sets.writes)) }
+        ensures most { OnErr result ((view pass.new).steps
+            ≤ (view pass.old).steps + commit_steps self.old.sets.reads (kept_writes keep self.old.sets.writes)) }
+    {
+        match self.commit_number(engine, pass, keep) {
+            Ok(number) => {
+                put_changes(changes, self.sets.writes.as_slice());
+                Ok(number)
+            }
+            Err(why) => Err(why),
+        }
+    }
+
+    /// The same, for a caller who doesn't want to be told what was written.
+    #[inline(always)]
+    pub fn commit_number(
+        &mut self,
+        engine: &Engine,
+        pass: &mut Pass,
+        keep: bool,
+    ) -> Result<Number, Refused>
+        requires of { IsPassOf engine.now pass.old }
+        requires live { IsLive self.old.sets (view pass.old) }
+        ensures of { IsPassOf engine.now pass.new }
+        ensures commits { IfOk result (λ n.
+            HasCommitted (changes_of (kept_writes keep self.old.sets.writes)) n (view pass.old) (view pass.new)) }
+        ensures writes { self.new.sets.writes ≡ kept_writes keep self.old.sets.writes }
         ensures cause { IfErr result (λ why.
             RefusesCommit self.old.sets (kept_writes keep self.old.sets.writes) why (view pass.old) (view pass.new)) }
         ensures refused { IfErr result (λ why. HasRefused why (view pass.old) (view pass.new)) }

@@ -27,6 +27,7 @@ seen_epoch v w clock epoch a is =
       rises = omega (arith, a.epoch, is);
       few = omega (arith, is, word, a.small.epoch);
       keepers = λ keeper. is ∙ a.keepers keeper;
+      marked = omega (arith, a.marked, is);
       seen = record { history = a.history; decided = a.decided };
       layout = ap (λ (x : View). x.layout) a.is;
       role = ap (λ (x : View). x.role) a.is;

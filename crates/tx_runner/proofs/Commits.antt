@@ -34,8 +34,8 @@ use Rattle.tx_commit.specs.RunLaws.{commits_run, commits_end}
 use Rattle.tx_runner.specs.Lines.{keeps, IsAnswered}
 use Rattle.tx_runner.specs.LineEnds.{HasCommittedLine, IsAsAlone}
 use Rattle.tx_runner.specs.Steps.{HasRunTo}
-use Rattle.tx_runner.specs.Tries.{HasConflicted, IsConflicting}
-use Rattle.tx_runner.proofs.Standing.{StandsAs, seen_then}
+use Rattle.tx_runner.specs.Tries.{HasDrawsLeft, HasConflicted, IsConflicting}
+use Rattle.tx_runner.proofs.Standing.{StandsAs, left_before, seen_then}
 
 -- ---- the attempt is the line's
 
@@ -100,8 +100,9 @@ pub try_committed : (ops : List Op) (verdict : Verdict) (replies : List Reply) (
     (u v w : View) → StandsAs u v → HasRunTo ops verdict replies sets v
     → commit.changes ≡ changes_of (kept_writes (keeps verdict) sets.writes)
     → Rises IsKeyBelow (map (λ (x : Change). x.key) commit.changes) → length commit.changes ≤ 16
-    → HasCommitted commit.changes commit.number v w → HasCommittedLine ops 1 verdict replies commit u w
-try_committed ops verdict replies commit sets u v w s run written rises few c = record {
+    → HasCommitted commit.changes commit.number v w → HasDrawsLeft u → HasCommittedLine ops 1 verdict replies commit u w
+try_committed ops verdict replies commit sets u v w s run written rises few c left = record {
+  began = left;
   whys = [];
   fewer = omega arith;
   each = tt;
@@ -152,6 +153,7 @@ pub line_committed : (ops : List Op) (done tries : ℕ) (verdict : Verdict) (rep
     (u v w : View) → done < tries → HasConflicted done u v → HasCommittedLine ops 1 verdict replies commit v w
     → HasCommittedLine ops tries verdict replies commit u w
 line_committed ops done tries verdict replies commit u v w less h k = record {
+  began = left_before u v h.tried.layout h.tried.seen k.began;
   whys = h.whys ++ k.whys;
   fewer = omega (arith, less, h.count, k.fewer, length-append h.whys k.whys);
   each = all_append IsConflicting h.whys k.whys h.each k.each;

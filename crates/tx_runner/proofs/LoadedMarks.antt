@@ -1,5 +1,7 @@
 -- Marks that were loaded, one after another.
-use Rattle.std.proofs.Common.{◌≡◌, ℕ, zero, suc, ◌≤◌, ◌+◌, ◌<◌, List, [], ◌∷◌, ◌++◌, length, take, set, Option, Some}
+use Rattle.views.specs.Sums.{times}
+use Rattle.std.proofs.Common.{get_or, ◌≡◌, ℕ, zero, suc, ◌≤◌, ◌+◌, ◌<◌, List, [], ◌∷◌, ◌++◌, length, take, set}
+use Rattle.std.proofs.Common.{Option, Some}
 use Rattle.std.proofs.Common.{None, refl, sym, ap, ◌∙◌, subst}
 use Rattle.std.proofs.Common.{arith, length-append, append_assoc}
 use Rattle.std.specs.Prelude.{IfNone}
@@ -10,13 +12,14 @@ use Rattle.wire_form.specs.Items.{Reads}
 use Rattle.wire_form.specs.Words.{IsMark, mark_word}
 use Rattle.commit_core.specs.declared.seat.Mark as core
 use Rattle.engine_words.specs.declared.view.Glance.{Glance}
+use Rattle.engine_words.specs.declared.view.Role.TheVariants.{Keeper}
 use Rattle.engine_words.specs.declared.view.View.{View}
-use Rattle.engine_words.specs.Clock.{met_at, HasMet}
+use Rattle.engine_words.specs.Clock.{met_at, HasMet, IsLast}
 use Rattle.engine_words.specs.Layout.{mark_at}
 use Rattle.engine_words.specs.Rule.{IsSmallMark, word_of_mark}
 use Rattle.engine_words.specs.Steps.{glance}
-use Rattle.engine_words.specs.Views.{IsActive}
-use Rattle.tx_runner.specs.Epochs.{last_of, mets_of, HasMetAll}
+use Rattle.engine_words.specs.Views.{bare_seat, IsActive}
+use Rattle.tx_runner.specs.Epochs.{last_of, mets_of, AreLast, HasMetAll, IsLastOf}
 
 -- a mark that was set has a word that is read
 pub no_mark : (mark : core.Mark) (word : ℕ) (read : Option Mark) → IsSmallMark mark → word ≡ word_of_mark mark
@@ -58,10 +61,41 @@ last_push step from (m ∷ marks) mark last =
 pub none_met : (marks : List Mark) (v : View) → marks ≡ [] → HasMetAll marks v v
 none_met marks v none = subst (λ l. HasMetAll l v v) (sym none) record {
   each = tt;
+  parked = λ keeper. tt;
   is = let steps : v.steps ≡ v.steps + 0 = omega arith in
       ap (λ n. record v { steps = n; last = v.last; met = v.met }) steps
       ∙ ap (λ l. record v { steps = v.steps + 0; last = v.last; met = l }) (sym (append-nil v.met));
 }
+
+-- one mark more, of the next worker
+last_more : (v : View) (from : ℕ) (marks : List Mark) (mark : Mark) → AreLast v from marks
+    → (times (from + length marks) v.made ≡ 0
+    → IsLastOf mark (get_or v.parked (from + length marks) bare_seat).marks)
+    → AreLast v from (marks ++ mark ∷ [])
+last_more v from [] mark all one =
+    let at : from + 0 ≡ from = omega arith in
+    (subst (λ n. times n v.made ≡ 0 → IsLastOf mark (get_or v.parked n bare_seat).marks) at one, tt)
+last_more v from (m ∷ marks) mark all one =
+    let at : from + suc (length marks) ≡ (from + 1) + length marks = omega arith in (
+      all.0,
+      last_more v (from + 1) marks mark all.1
+          (subst (λ n. times n v.made ≡ 0 → IsLastOf mark (get_or v.parked n bare_seat).marks) at one),
+    )
+
+-- the mark that was loaded of a worker that isn't seated
+one_last : (u v : View) (marks : List Mark) (mark : Mark) (at worker : ℕ) → at ≡ worker → (word : ℕ) {w : View}
+    → HasMetAll marks u v → HasMet worker v word w → mark_word mark ≡ word → u.role ≡ Keeper
+    → times at u.made ≡ 0 → IsLastOf mark (get_or u.parked at bare_seat).marks
+one_last u v marks mark at worker same word h m spelled keeper unmade =
+    let role : v.role ≡ Keeper = ap (λ (x : View). x.role) h.is ∙ keeper in
+    let made : times worker v.made ≡ 0 =
+    ap (λ (x : View). times worker x.made) h.is ∙ (ap (λ n. times n u.made) (sym same) ∙ unmade) in
+    let last = m.parked role made in record {
+      set = m.mark;
+      last = subst (λ n. IsLast m.mark (get_or u.parked n bare_seat).marks) (sym same)
+          (subst (λ (x : View). IsLast m.mark (get_or x.parked worker bare_seat).marks) h.is last);
+      word = sym m.found ∙ sym spelled;
+    }
 
 at_end : (marks : List Mark) (worker : ℕ) → length marks ≡ worker → worker ≡ 0 + length marks
 at_end marks worker count = omega (arith, count)
@@ -71,6 +105,9 @@ met_one : (marks : List Mark) (mark : Mark) (worker word : ℕ) (u v w : View) �
     → HasMetAll (marks ++ mark ∷ []) u w
 met_one marks mark worker word u v w count h m is spelled = record {
   each = all_push IsMark marks mark h.each is;
+  parked = λ keeper. last_more u 0 marks mark (h.parked keeper) (λ unmade.
+      one_last u v marks mark (0 + length marks) worker (sym (at_end marks worker count)) word h m spelled keeper
+      unmade);
   is = m.is ∙ (ap (λ (x : View). record x {
     steps = x.steps + 1;
     last = Some (glance x.steps (mark_at worker) word);

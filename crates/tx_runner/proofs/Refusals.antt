@@ -18,8 +18,8 @@ use Rattle.tx_commit.specs.Refusing.{HasRefused, RefusesBegin}
 use Rattle.tx_commit.specs.Committing.{RefusesCommit}
 use Rattle.tx_runner.specs.Lines.{IsOnArray}
 use Rattle.tx_runner.specs.Steps.{IsOpCause, IsTryCause, RefusesTry, is_limit}
-use Rattle.tx_runner.specs.Tries.{IsConflicting, HasTriedFor, HasConflicted, IsAtLimit}
-use Rattle.tx_runner.proofs.Standing.{StandsAs, seen_then, still}
+use Rattle.tx_runner.specs.Tries.{HasDrawsLeft, IsConflicting, HasTriedFor, HasConflicted, IsAtLimit}
+use Rattle.tx_runner.proofs.Standing.{StandsAs, left_before, seen_then, still}
 
 -- ---- one try
 
@@ -42,14 +42,15 @@ begin_refused why v w r = record {
   cause = subst (λ x. IsTryCause x v w) (sym r.is) (r.high, r.draws, v.steps, r.last);
 }
 
-op_try : (why : Refused) (v w : View) → IsOpCause why → IsTryCause why v w
-op_try (refusals.Conflict at expected seen) v w cause = cause
-op_try (refusals.Wide set) v w cause = absurd cause
-op_try (refusals.NumberLimit clock) v w cause = absurd cause
+op_try : (why : Refused) (v w : View) → HasDrawsLeft v → IsOpCause why → IsTryCause why v w
+op_try (refusals.Conflict at expected seen) v w left cause = (cause, left)
+op_try (refusals.Wide set) v w left cause = absurd cause
+op_try (refusals.NumberLimit clock) v w left cause = absurd cause
 
 -- an operation was refused
-pub op_refused : (why : Refused) (u v w : View) → StandsAs u v → HasRefused why v w → IsOpCause why → RefusesTry why u w
-op_refused why u v w s r cause = record { tried = tried_once why u v w s r; cause = op_try why u w cause }
+pub op_refused : (why : Refused) (u v w : View) → HasDrawsLeft u → StandsAs u v → HasRefused why v w → IsOpCause why
+    → RefusesTry why u w
+op_refused why u v w left s r cause = record { tried = tried_once why u v w s r; cause = op_try why u w left cause }
 
 commit_cause : (why : Refused) (sets : Sets) (writes : List Write) (v w : View) → RefusesCommit sets writes why v w
     → IsOpCause why
@@ -58,15 +59,16 @@ commit_cause (refusals.Wide set) sets writes v w r = absurd r
 commit_cause (refusals.NumberLimit clock) sets writes v w r = absurd r
 
 -- the commit was refused
-pub commit_refused : (why : Refused) (sets : Sets) (writes : List Write) (u v w : View) → StandsAs u v
+pub commit_refused : (why : Refused) (sets : Sets) (writes : List Write) (u v w : View) → HasDrawsLeft u → StandsAs u v
     → HasRefused why v w → RefusesCommit sets writes why v w → RefusesTry why u w
-commit_refused why sets writes u v w s r cause =
-    op_refused why u v w s r (commit_cause why sets writes v w cause)
+commit_refused why sets writes u v w left s r cause =
+    op_refused why u v w left s r (commit_cause why sets writes v w cause)
 
 -- ---- tries one after another
 
 pub none_tried : (v : View) → IsOver v → HasConflicted 0 v v
 none_tried v over = record {
+  began = λ one. absurd (omega (arith, one));
   whys = [];
   count = refl;
   each = tt;
@@ -97,9 +99,10 @@ tried_then xs ys u v w a b = record {
 pub conflicted_more : (done : ℕ) (why : Refused) (u v w : View) → HasConflicted done u v → RefusesTry why v w
     → is_limit why ≡ false → HasConflicted (done + 1) u w
 conflicted_more done (refusals.Conflict at expected seen) u v w h r goes = record {
+  began = λ one. left_before u v h.tried.layout h.tried.seen r.cause.1;
   whys = h.whys ++ refusals.Conflict at expected seen ∷ [];
   count = length-append h.whys (refusals.Conflict at expected seen ∷ []) ∙ ap (λ n. n + 1) h.count;
-  each = all_push IsConflicting h.whys (refusals.Conflict at expected seen) h.each r.cause;
+  each = all_push IsConflicting h.whys (refusals.Conflict at expected seen) h.each r.cause.0;
   tried = tried_then h.whys (refusals.Conflict at expected seen ∷ []) u v w h.tried r.tried;
 }
 conflicted_more done (refusals.Wide set) u v w h r goes = absurd r.cause

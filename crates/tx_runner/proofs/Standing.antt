@@ -2,7 +2,7 @@
 use Rattle.std.proofs.Common.{◌≡◌, ℕ, ◌+◌, ◌*◌, ◌≤◌, Bool, true, false, length, arith, List, [], ◌∷◌, ◌++◌, refl, sym}
 use Rattle.std.proofs.Common.{ap, ◌∙◌, subst}
 use Rattle.std.specs.List.{AllByRecursion}
-use Rattle.lists.specs.Fronts.{IsFront, front_refl, front_then}
+use Rattle.lists.specs.Fronts.{IsFront, front_refl, front_then, front_length}
 use Rattle.serial_model.specs.declared.number.Number.{Number}
 use Rattle.serial_model.specs.declared.op.Op.{Op}
 use Rattle.commit_core.specs.declared.attempt.Attempt.{Attempt}
@@ -18,6 +18,7 @@ use Rattle.tx_commit.specs.Committing.{commit_steps, kept_writes, HasBegun}
 use Rattle.tx_commit.specs.Refusing.{HasRefused}
 use Rattle.tx_runner.specs.Lines.{try_steps, IsOnArray}
 use Rattle.tx_runner.specs.Steps.{AreWithin}
+use Rattle.tx_runner.specs.Tries.{HasDrawsLeft}
 
 -- what the pass had seen, its own commits, its marks and its refusals stay
 pub record StandsAs (v w : View) : Type 0 where
@@ -80,6 +81,18 @@ run_stands sets u v w b l =
 
 pub begins_stands : (sets : Sets) (v w : View) → HasBegun sets v w → StandsAs v w
 begins_stands sets v w b = begun_stands sets v w b
+
+-- the clock was not at the last draws as the try began, so with the draws that were seen before it isn't either
+pub begun_below : (sets : Sets) (v w : View) → HasBegun sets v w → HasDrawsLeft v
+begun_below sets v w b =
+    let low = b.low in let draws = b.timed.draws in
+    let more = front_length v.history b.loaded.history b.timed.history in omega (arith, low, draws, more)
+
+-- draws that are left are so with less of them seen
+pub left_before : (u v : View) → v.layout ≡ u.layout → HasSeen u v → HasDrawsLeft v → HasDrawsLeft u
+left_before u v same seen left =
+    let more = front_length u.history v.history seen.history in
+    let first = ap (λ (l : Layout). l.first.draw) same in omega (arith, left, more, first)
 
 pub still : (v : View) → StandsAs v v
 still v = record {

@@ -1,29 +1,33 @@
 -- The clock's epochs, and workers' marks.
-use Rattle.std.specs.Prelude.{◌≡◌, ℕ, ◌+◌, ◌/◌, ◌^◌, ◌≤◌, ◌<◌, List, [], ◌∷◌, ◌++◌, length, Some, Option}
+use Rattle.std.specs.Prelude.{◌≡◌, ℕ, ◌+◌, ◌/◌, ◌^◌, ◌≤◌, ◌<◌, List, [], ◌∷◌, ◌++◌, length, get_or, Some, Option, ⊤}
 use Rattle.std.specs.List.{AllByRecursion}
 use Rattle.serial_model.specs.Numbers.{last_epoch}
 use Rattle.wire_form.specs.declared.clock.Mark.{Mark}
 use Rattle.wire_form.specs.Words.{IsMark, mark_word}
-use Rattle.commit_core.specs.CoreState.{mark_of}
+use Rattle.commit_core.specs.CoreState.{mark_of, last_marked}
 use Rattle.commit_core.specs.declared.seat.Mark as core
 use Rattle.engine_words.specs.declared.view.Glance.{Glance}
 use Rattle.engine_words.specs.declared.view.Met.{Met}
 use Rattle.engine_words.specs.declared.view.Role.TheVariants.{Keeper}
 use Rattle.engine_words.specs.declared.view.View.{View}
-use Rattle.engine_words.specs.Clock.{advanced, met_at}
+use Rattle.engine_words.specs.Clock.{advanced, met_at, IsLast}
 use Rattle.engine_words.specs.Cuts.{HasSeen}
 use Rattle.engine_words.specs.Layout.{mark_at}
+use Rattle.engine_words.specs.Rule.{word_of_mark}
+use Rattle.engine_words.specs.Views.{bare_seat}
+use Rattle.views.specs.Sums.{times}
 use Rattle.engine_words.specs.Steps.{glance, past_at, HasTimed}
 
 -- ---- the clock
 
--- The pass saw the clock in this epoch, which is none below the one that it saw before, and for the keeper that one. Of
--- its own nothing has changed.
+-- The pass saw the clock in this epoch, which is none below the one that it saw before, and for the keeper that one; it
+-- is above the last that the pass's seat marked. Of its own nothing has changed.
 pub record HasSeenEpoch (epoch : ℕ) (v w : View) : Type 0 where
   pub now : w.epoch ≡ epoch
   pub rises : v.epoch ≤ epoch
   pub few : epoch ≤ last_epoch
   pub keepers : v.role ≡ Keeper → epoch ≡ v.epoch
+  pub marked : last_marked v.seat.marks < epoch
   pub seen : HasSeen v w
   pub layout : w.layout ≡ v.layout
   pub role : w.role ≡ v.role
@@ -75,9 +79,23 @@ last_of step worker [] last = last
 last_of step worker (mark ∷ marks) last =
     last_of (step + 1) (worker + 1) marks (Some (glance step (mark_at worker) (mark_word mark)))
 
--- The marks of the first workers were loaded, one for each, in one load each. Nothing else of the pass has changed.
+-- the mark is the last of those that the seat has
+pub record IsLastOf (mark : Mark) (marks : List core.Mark) : Type 0 where
+  pub set : core.Mark
+  pub last : IsLast set marks
+  pub word : word_of_mark set ≡ mark_word mark
+
+-- what is parked at the keeper's of the workers from this one on, where they aren't seated, has these marks last
+abbrev pub AreLast : View → ℕ → List Mark → Type 0
+AreLast v worker [] = ⊤
+AreLast v worker (mark ∷ marks) =
+    (times worker v.made ≡ 0 → IsLastOf mark (get_or v.parked worker bare_seat).marks) × AreLast v (worker + 1) marks
+
+-- The marks of the first workers were loaded, one for each, in one load each; for the keeper, that of a worker which
+-- isn't seated is the last that it set. Nothing else of the pass has changed.
 pub record HasMetAll (marks : List Mark) (v w : View) : Type 0 where
   pub each : AllByRecursion IsMark marks
+  pub parked : v.role ≡ Keeper → AreLast v 0 marks
   pub is : w ≡ record v {
     steps = v.steps + length marks;
     last = last_of v.steps 0 marks v.last;

@@ -3,3 +3,4 @@ pub mod Tries
 pub mod LineEnds
 pub mod Epochs
 pub mod Steps
+pub mod LineWrites

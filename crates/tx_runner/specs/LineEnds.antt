@@ -32,7 +32,7 @@ use Rattle.tx_runner.specs.declared.lines.LineEnd.{LineEnd}
 use Rattle.tx_runner.specs.declared.lines.LineEnd.TheVariants as answers
 use Rattle.tx_runner.specs.declared.room.LineRoom.{LineRoom}
 use Rattle.tx_runner.specs.Lines.{keeps, IsAnswered}
-use Rattle.tx_runner.specs.Tries.{IsConflicting, HasConflicted, IsAtLimit}
+use Rattle.tx_runner.specs.Tries.{HasDrawsLeft, IsConflicting, HasConflicted, IsAtLimit}
 
 -- The entry's transaction, alone on whatever state agrees with the one below its number, as these attempts and
 -- decisions have it, answers what was answered and changes what the attempt writes.
@@ -44,9 +44,11 @@ IsAsAlone decls opening history decided a e =
 -- The line was committed with this verdict, these replies, and the commit's number and changes: one attempt more is the
 -- pass's own, and counts. Its epoch is above the worker's mark, and its changes are those of a log line. It is that of
 -- the line's transaction, whose answers are the serial step's on the state below its number, now (`now`) and as any
--- later audit has it (`later`). The tries before, which were fewer than the line has, were refused with Conflict.
+-- later audit has it (`later`). The tries before, which were fewer than the line has, were refused with Conflict; as the
+-- first of all began, the clock was not at the last draws (`began`).
 pub record HasCommittedLine (ops : List Op) (tries : ℕ) (verdict : Verdict) (replies : List Reply) (commit : Commit)
     (v w : View) : Type 0 where
+  pub began : HasDrawsLeft v
   pub whys : List Refused
   pub fewer : length whys < tries
   pub each : AllByRecursion IsConflicting whys

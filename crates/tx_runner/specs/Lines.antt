@@ -13,8 +13,9 @@ use Rattle.serial_model.specs.declared.reply.Reply.{Reply}
 use Rattle.serial_model.specs.declared.reply.Verdict.{Verdict}
 use Rattle.serial_model.specs.declared.reply.Verdict.TheVariants.{Done, Short, Over}
 use Rattle.serial_model.specs.History.{Entry}
-use Rattle.serial_model.specs.Keys.{fits, has_key, has_key_of, is_tree, is_tree_of}
+use Rattle.serial_model.specs.Keys.{fits, has_key, has_key_of, is_tree_of}
 use Rattle.serial_model.specs.ReplyWords.{AreReplyWords, replies_of}
+pub use Rattle.serial_bridge.specs.WriteSets.{HasNoTree}
 use Rattle.engine_words.specs.Layout.{has_record, is_record_of}
 
 -- the operation is one at a key of a declared array
@@ -25,10 +26,6 @@ IsOnArray decls (Remove k) = ⊥
 IsOnArray decls (Add k amount) = has_record decls k ≡ true
 IsOnArray decls (Take k amount) = has_record decls k ≡ true
 IsOnArray decls (Scan storage low high) = ⊥
-
--- none of the declared storages is a tree
-abbrev pub HasNoTree : List Decl → Type 0
-HasNoTree decls = (storage : ℕ) → is_tree decls storage ≡ false
 
 -- a transaction with this verdict keeps its writes
 abbrev pub keeps : Verdict → Bool

@@ -16,7 +16,7 @@ use Rattle.engine_words.specs.Steps.{glance}
 use Rattle.tx_commit.specs.Live.{IsLive}
 use Rattle.tx_commit.specs.Turning.{HasDone, HasStopped, HasLoaded}
 use Rattle.tx_commit.specs.Running.{HasRun, HasEnded}
-use Rattle.tx_runner.specs.Tries.{HasTriedFor}
+use Rattle.tx_runner.specs.Tries.{HasDrawsLeft, HasTriedFor}
 
 -- ---- operations
 
@@ -65,9 +65,9 @@ IsOpCause (refusals.NumberLimit clock) = ⊥
 
 -- ---- tries
 
--- the cause of a refusal: a conflict, or the clock, which was loaded last
+-- the cause of a refusal: a conflict of a try that began, or the clock, which was loaded last
 abbrev pub IsTryCause : Refused → View → View → Type 0
-IsTryCause (refusals.Conflict at expected seen) v w = (2 ^ 60 ≤ seen) ⊎ (seen ≢ expected)
+IsTryCause (refusals.Conflict at expected seen) v w = ((2 ^ 60 ≤ seen) ⊎ (seen ≢ expected)) × HasDrawsLeft v
 IsTryCause (refusals.Wide set) v w = ⊥
 IsTryCause (refusals.NumberLimit clock) v w =
     (draw_limit ≤ clock % 2 ^ 40) × (clock % 2 ^ 40 ≡ v.layout.first.draw + length w.history)

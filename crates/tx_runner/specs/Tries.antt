@@ -27,8 +27,13 @@ pub record HasTriedFor (whys : List Refused) (v w : View) : Type 0 where
   pub marks : w.seat.marks ≡ v.seat.marks
   pub refused : w.refused ≡ v.refused ++ whys
 
--- so many tries, each of which was refused with Conflict
+-- With the draws that the pass has seen, the clock is not at the last draws.
+abbrev pub HasDrawsLeft : View → Type 0
+HasDrawsLeft v = v.layout.first.draw + length v.history < draw_limit
+
+-- so many tries, each of which began, and was refused with Conflict
 pub record HasConflicted (tries : ℕ) (v w : View) : Type 0 where
+  pub began : 1 ≤ tries → HasDrawsLeft v
   pub whys : List Refused
   pub count : length whys ≡ tries
   pub each : AllByRecursion IsConflicting whys

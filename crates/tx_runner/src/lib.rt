@@ -9,8 +9,8 @@
 //! in a `LineRoom`, made once.
 //! Terms: *line*, a list of operations on arrays that take effect together or not at all; *try*, one transaction of it.
 //! Layout: specs/Lines.antt, which operations a line has; specs/Tries.antt, tries that were refused;
-//! specs/LineEnds.antt, what comes of a line; specs/Epochs.antt, the clock and marks; specs/Steps.antt, what the parts
-//! of a try do.
+//! specs/LineEnds.antt, what comes of a line; specs/LineWrites.antt, that each of its writes counts; specs/Epochs.antt,
+//! the clock and marks; specs/Steps.antt, what the parts of a try do.
 //! Design: docs/COMMIT.md.
 #![tactic(auto)]
 

@@ -36,7 +36,7 @@ pub(crate) fn try_line(
     room.replies.clear();
     txn.begin(engine, pass)?;
     let verdict = run_ops(engine, pass, txn, ops, &mut room.replies)?;
-    room.commit = txn.commit(engine, pass, keeps(verdict))?;
+    room.commit.number = txn.commit(engine, pass, keeps(verdict), &mut room.commit.changes)?;
     Ok(verdict)
 }
 

@@ -1,5 +1,6 @@
 -- Lists in which no two elements are alike stay so with one more, wherever it is put, and with one in another's place.
-use Rattle.std.proofs.Common.{◌≡◌, ◌≢◌, true≢false, inl, inr, ℕ, zero, suc, ◌<◌, ◌≤◌, ◌==◌, Bool, false, cond, nat_lt}
+use Rattle.std.proofs.Common.{◌≡◌, ◌≢◌, true≢false, inl, inr, ℕ, zero, suc, ◌+◌, ◌<◌, ◌≤◌, ◌==◌, Bool, false, cond}
+use Rattle.std.proofs.Common.{nat_lt}
 use Rattle.std.proofs.Common.{List, [], ◌∷◌, ◌++◌, map, length, get_or, set, take, drop, Option, Some, None, Ok, refl}
 use Rattle.std.proofs.Common.{sym, ap, ◌∙◌, subst, arith}
 use Rattle.std.specs.List.{AllByRecursion, insert, list_any, position, position_or_len, refill}
@@ -7,6 +8,7 @@ use Rattle.std.proofs.lemmas.Bool.{cases_order, cases_lt, cases_Bool, or_parts, 
 use Rattle.std.proofs.lemmas.Bool.Decides.{nat_tests}
 use Rattle.std.proofs.lemmas.List.{append-nil, take_at, take-append-drop, length-set}
 use Rattle.std.proofs.lemmas.List.Quantifiers.{position-Some}
+use Rattle.std.proofs.lemmas.Grind.{take-set_at}
 use Rattle.lists.specs.Each.{AreDistinct}
 use Rattle.homes.specs.Homes.{same_key}
 use Rattle.homes.specs.Laws.{same_key-self, same_key-true}
@@ -288,6 +290,25 @@ read_more old xs new y same is distinct absent =
     by_entries (e ∷ l) apart none =
         let parts = or_parts (same_key e.key y.key) (has_read y.key l) none in
         (each e.key l apart.0 (λ is. key_apart e.key y.key parts.0 (sym is)), by_entries l apart.1 parts.1)
+
+-- one record more, behind the first so many of a longer list
+pub read_put : (old xs : List ReadEntry) (i : ℕ) (y : ReadEntry) → take i xs ≡ old
+    → (i ≤ 256) × (length xs ≡ 256) × AreDistinct (read_keys (take i xs)) → (i ≡ 256 → ⊥)
+    → has_read y.key old ≡ false
+    → (i + 1 ≤ 256) × (length (set xs i y) ≡ 256) × AreDistinct (read_keys (take (i + 1) (set xs i y)))
+read_put old xs i y same kept room absent =
+    let within : i < 256 = below kept.0 room in (
+      omega (arith, within),
+      length-set xs i y ∙ kept.1,
+      read_more old (take i xs) (take (i + 1) (set xs i y)) y same
+          (take-set_at xs i (i + 1) y refl (subst (λ n. i < n) (sym kept.1) within)) kept.2 absent,
+    )
+  where
+    below : {i n : ℕ} → i ≤ n → (i ≡ n → ⊥) → i < n
+    below {i} {n} le other = elim (cases_order i n) [
+      | inl same ↦ absurd (other same)
+      | inr order ↦ elim order [ inl less ↦ less | inr more ↦ absurd (omega (arith, le, more)) ]
+    ]
 
 -- one word more
 pub seen_more : (old xs new : List Seen) (y : Seen) → xs ≡ old → new ≡ xs ++ y ∷ [] → AreDistinct (places_of xs)

@@ -5,7 +5,6 @@ ghost use Rattle.homes.specs.Homes.{same_key};
 ghost use Rattle.lists.specs.Each.{AreDistinct};
 ghost use Rattle.tx_sets.specs.Entries.{has_read, read_keys, read_of, IsPushed};
 
-use arrayvec::ArrayVec;
 use serial_model::Key;
 use std::marker::Model;
 
@@ -28,20 +27,23 @@ pub struct ReadEntry {
 /// given up.
 #[derive(Drop)]
 pub struct ReadSet {
-    entries: ArrayVec<ReadEntry, CAPACITY>,
+    /// The first `count` of them are in the set.
+    entries: [ReadEntry; CAPACITY],
+    count: usize,
 }
 
 impl Model for ReadSet {
-    ghost use Rattle.std.specs.Prelude.{List};
+    ghost use Rattle.std.specs.Prelude.{List, ◌≡◌, ◌≤◌, length, take};
     ghost use Rattle.lists.specs.Each.{AreDistinct};
     ghost use Rattle.tx_sets.specs.declared.reads.ReadEntry.{ReadEntry};
     ghost use Rattle.tx_sets.specs.Entries.{read_keys};
 
     ghost Value = { List ReadEntry };
 
-    ghost view = { λ s. s.entries.items };
+    ghost view = { λ s. take s.count s.entries };
 
-    ghost invariant = { λ s. AreDistinct (read_keys s.entries.items) };
+    ghost invariant = { λ s.
+        (s.count ≤ 256) × (length s.entries ≡ 256) × AreDistinct (read_keys (take s.count s.entries)) };
 }
 
 impl ReadSet {
@@ -49,7 +51,8 @@ impl ReadSet {
         ensures { result ≡ [] }
     {
         ReadSet {
-            entries: ArrayVec::new(),
+            entries: Default::default(),
+            count: 0,
         }
     }
 
@@ -59,28 +62,28 @@ impl ReadSet {
         ensures bound { length self.now ≤ 256 }
         ensures once { AreDistinct (read_keys self.now) }
     {
-        self.entries.as_slice()
+        &self.entries[..self.count]
     }
 
     pub fn is_full(&self) -> bool
         ensures value { result ≡ (length self.now == 256) }
         ensures bound { length self.now ≤ 256 }
     {
-        self.entries.is_full()
+        self.count == CAPACITY
     }
 
     /// Whether the record of this key was read.
     pub fn contains(&self, key: Key) -> bool
         ensures { result ≡ has_read key self.now }
     {
-        has_read(self.entries.as_slice(), key)
+        has_read(self.as_slice(), key)
     }
 
     /// What was first read of this key's record.
     pub fn find(&self, key: Key) -> Option<ReadEntry>
         ensures { result ≡ read_of key self.now }
     {
-        read_of(self.entries.as_slice(), key)
+        read_of(self.as_slice(), key)
     }
 
     /// Adds a record that was not read yet. It is given back where there is no room.
@@ -88,17 +91,19 @@ impl ReadSet {
         requires absent { has_read entry.key self.old ≡ false }
         ensures { IsPushed 256 entry self.old self.new result }
     {
-        if self.is_full() {
+        let count = self.count;
+        if count == CAPACITY {
             return Err(entry);
         }
-        self.entries.push(entry);
+        self.entries[count] = entry;
+        self.count = count + 1;
         Ok(())
     }
 
     pub fn clear(&mut self)
         ensures { self.new ≡ [] }
     {
-        self.entries.clear();
+        self.count = 0;
     }
 }
 
@@ -108,8 +113,19 @@ fn has_read(entries: &[ReadEntry], key: Key) -> bool
     entries.iter().any(|entry| entry.key == key)
 }
 
+// The search is as long as the set. The numbers of keys differ more often than their storages, so they are compared
+// first, and the rest of an entry isn't read then.
 fn read_of(entries: &[ReadEntry], key: Key) -> Option<ReadEntry>
     ensures { result ≡ find (λ r. same_key r.key key) entries.now }
 {
-    entries.iter().copied().find(|entry| entry.key == key)
+    let mut at = 0;
+    while at < entries.len() {
+        if entries[at].key.key == key.key {
+            if entries[at].key.storage == key.storage {
+                return Some(entries[at]);
+            }
+        }
+        at += 1;
+    }
+    None
 }

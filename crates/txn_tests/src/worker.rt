@@ -1,5 +1,5 @@
 // A worker whose transactions are driven call by call.
-ghost use Rattle.std.specs.Prelude.{◌≡◌, true};
+ghost use Rattle.std.specs.Prelude.{◌≡◌, ◌<◌, true};
 ghost use Rattle.engine_words.specs.Layout.{has_record};
 ghost use Rattle.txn_tests.specs.declared.worker.Phase.TheVariants as phases;
 ghost use Rattle.txn_tests.specs.Standing.{declared, Stands};
@@ -58,7 +58,7 @@ pub enum Phase {
 pub enum Work {
     /// Adds 1 to this key, and to the one that differs from it in the last bit.
     AddTwo(u64),
-    /// Reads so many keys, from 0 on.
+    /// Reads so many keys, from 0 on: at most 300.
     ReadMany(u64),
 }
 
@@ -83,6 +83,13 @@ fn key_of(key: u64) -> Key
         storage: 1,
         key: key % 300,
     }
+}
+
+fn low_key(key: u64) -> Key
+    requires { key < 300 }
+    ensures { has_record declared result ≡ true }
+{
+    Key { storage: 1, key }
 }
 
 impl Worker {
@@ -209,11 +216,11 @@ impl Worker {
         ensures { Stands engine.now self.new }
     {
         self.phase = Phase::Over;
-        match self.txn.commit(engine, &mut self.pass, keep) {
-            Ok(commit) => {
-                self.changes = commit.changes;
-                Answer::Draw(commit.number.draw)
-            }
+        match self
+            .txn
+            .commit(engine, &mut self.pass, keep, &mut self.changes)
+        {
+            Ok(number) => Answer::Draw(number.draw),
             Err(why) => Answer::No(why),
         }
     }
@@ -319,7 +326,7 @@ impl Worker {
         let Ok(_) = self.txn.add(engine, &mut self.pass, key_of(first ^ 1), 1) else {
             return false;
         };
-        self.txn.commit(engine, &mut self.pass, true).is_ok()
+        self.txn.commit_number(engine, &mut self.pass, true).is_ok()
     }
 
     fn read_many(&mut self, engine: &Engine, count: u64) -> bool
@@ -330,12 +337,12 @@ impl Worker {
         let Ok(()) = self.txn.begin(engine, &mut self.pass) else {
             return false;
         };
-        for k in 0..count {
-            let Ok(_) = self.txn.read(engine, &mut self.pass, key_of(k)) else {
+        for k in 0..count.min(300) {
+            let Ok(_) = self.txn.read(engine, &mut self.pass, low_key(k)) else {
                 return false;
             };
         }
-        self.txn.commit(engine, &mut self.pass, true).is_ok()
+        self.txn.commit_number(engine, &mut self.pass, true).is_ok()
     }
 }
 

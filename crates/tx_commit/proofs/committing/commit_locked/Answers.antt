@@ -1,6 +1,7 @@
 use Rattle.std.proofs.Common.{List, length, sym, ap, ◌∙◌, subst, refl}
 use Rattle.engine_words.specs.Passes.{view}
-use Rattle.tx_commit.specs.Committing.{changes_of}
+use Rattle.serial_model.specs.declared.number.Change.{Change}
+use Rattle.tx_commit.specs.Committing.{changes_of, HasCommitted}
 use Rattle.tx_commit.proofs.CommitLaws.{sets_places, sets_ascending, sets_few, sets_draw, sets_active, sets_tried}
 use Rattle.tx_commit.proofs.CommitLaws.{drawn_active, checked_active, failed_active, chosen_active, chosen_places}
 use Rattle.tx_commit.proofs.CommitLaws.{chosen_decided, all_committed, check_locks, check_places, found_within}
@@ -8,25 +9,22 @@ use Rattle.tx_commit.proofs.CommitLaws.{found_locks, check_refused, check_cause}
 use Rattle.tx_commit.proofs.StepLaws.{commits_steps, fails_steps}
 use Rattle.tx_commit.proofs.committing.commit_locked.Goals as goal
 
-pub changes_of-changes-requires : goal.changes_of-changes-requires
-changes_of-changes-requires c = sets_few c.args.sets.now c.args.writes.now c.requires.writes c.requires.few
-
-pub draw-word-requires-clause-pass : goal.draw-word-requires-clause-pass
-draw-word-requires-clause-pass c =
+pub draw_as-word-requires-clause-pass : goal.draw_as-word-requires-clause-pass
+draw_as-word-requires-clause-pass c =
     let can = c.requires.can in sets_active c.args.sets.now c.args.found.now can.0 (view c.args.pass.now) can.1
 
-pub draw-word-requires-clause-can : goal.draw-word-requires-clause-can
-draw-word-requires-clause-can c =
+pub draw_as-word-requires-clause-can : goal.draw_as-word-requires-clause-can
+draw_as-word-requires-clause-can c =
     let can = c.requires.can in
-    sets_draw c.args.sets.now c.args.found.now c.args.writes.now c.changes_of-changes.result can.0
+    sets_draw c.args.sets.now c.args.found.now c.args.writes.now (changes_of c.args.writes.now) can.0
     (view c.args.pass.now) can.1
-    c.changes_of-changes.ensures c.requires.writes
+    refl c.requires.writes
 
 pub check_all-requires-clause-pass : goal.check_all-requires-clause-pass
 check_all-requires-clause-pass c =
     let can = c.requires.can in
-    drawn_active c.changes_of-changes.result c.draw-word.result (view c.args.pass.now) (view c.draw-word.new.pass)
-    (sets_active c.args.sets.now c.args.found.now can.0 (view c.args.pass.now) can.1) c.draw-word.ensures.draws
+    drawn_active (changes_of c.args.writes.now) c.draw_as-word.result (view c.args.pass.now) (view c.draw_as-word.new.pass)
+    (sets_active c.args.sets.now c.args.found.now can.0 (view c.args.pass.now) can.1) c.draw_as-word.ensures.draws
 
 pub check_all-requires-clause-once : goal.check_all-requires-clause-once
 check_all-requires-clause-once c =
@@ -36,15 +34,15 @@ check_all-requires-clause-once c =
 pub check_all-requires-clause-tried : goal.check_all-requires-clause-tried
 check_all-requires-clause-tried c =
     let can = c.requires.can in
-    sets_tried c.args.sets.now c.args.found.now c.args.reads.now c.changes_of-changes.result c.draw-word.result can.0
-    (view c.args.pass.now) (view c.draw-word.new.pass) can.1 c.requires.reads c.draw-word.ensures.draws
+    sets_tried c.args.sets.now c.args.found.now c.args.reads.now (changes_of c.args.writes.now) c.draw_as-word.result can.0
+    (view c.args.pass.now) (view c.draw_as-word.new.pass) can.1 c.requires.reads c.draw_as-word.ensures.draws
 
 pub decide-requires-clause-pass : goal.decide-requires-clause-pass
 decide-requires-clause-pass c =
     let can = c.requires.can in
-    checked_active (view c.draw-word.new.pass) (view c.check_all.new.pass)
-    (drawn_active c.changes_of-changes.result c.draw-word.result (view c.args.pass.now) (view c.draw-word.new.pass)
-    (sets_active c.args.sets.now c.args.found.now can.0 (view c.args.pass.now) can.1) c.draw-word.ensures.draws)
+    checked_active (view c.draw_as-word.new.pass) (view c.check_all.new.pass)
+    (drawn_active (changes_of c.args.writes.now) c.draw_as-word.result (view c.args.pass.now) (view c.draw_as-word.new.pass)
+    (sets_active c.args.sets.now c.args.found.now can.0 (view c.args.pass.now) can.1) c.draw_as-word.ensures.draws)
     c.in-Ok.ensures.checked
 
 pub decide-requires-clause-checked : goal.decide-requires-clause-checked
@@ -55,9 +53,9 @@ publish_all-requires-clause-pass c =
     let can = c.requires.can in
     let m = c.decide.ensures.decides in
     chosen_active m.0 (view c.check_all.new.pass) (view c.decide.new.pass)
-    (checked_active (view c.draw-word.new.pass) (view c.check_all.new.pass)
-    (drawn_active c.changes_of-changes.result c.draw-word.result (view c.args.pass.now) (view c.draw-word.new.pass)
-    (sets_active c.args.sets.now c.args.found.now can.0 (view c.args.pass.now) can.1) c.draw-word.ensures.draws)
+    (checked_active (view c.draw_as-word.new.pass) (view c.check_all.new.pass)
+    (drawn_active (changes_of c.args.writes.now) c.draw_as-word.result (view c.args.pass.now) (view c.draw_as-word.new.pass)
+    (sets_active c.args.sets.now c.args.found.now can.0 (view c.args.pass.now) can.1) c.draw_as-word.ensures.draws)
     c.in-Ok.ensures.checked)
     m.1
 
@@ -65,10 +63,10 @@ pub publish_all-requires-clause-places : goal.publish_all-requires-clause-places
 publish_all-requires-clause-places c =
     let can = c.requires.can in
     let m = c.decide.ensures.decides in
-    chosen_places c.args.sets.now c.args.found.now c.args.writes.now c.changes_of-changes.result c.draw-word.result m.0
+    chosen_places c.args.sets.now c.args.found.now c.args.writes.now (changes_of c.args.writes.now) c.draw_as-word.result m.0
     can.0
-    (view c.args.pass.now) (view c.draw-word.new.pass) (view c.check_all.new.pass) (view c.decide.new.pass) can.1
-    c.draw-word.ensures.draws c.requires.writes c.in-Ok.ensures.checked m.1
+    (view c.args.pass.now) (view c.draw_as-word.new.pass) (view c.check_all.new.pass) (view c.decide.new.pass) can.1
+    c.draw_as-word.ensures.draws c.requires.writes c.in-Ok.ensures.checked m.1
 
 pub publish_all-requires-clause-ascending : goal.publish_all-requires-clause-ascending
 publish_all-requires-clause-ascending c =
@@ -79,36 +77,35 @@ publish_all-requires-clause-decided c =
     let can = c.requires.can in
     let m = c.decide.ensures.decides in (
       c.args.found.now,
-      chosen_decided c.args.sets.now c.args.found.now c.args.writes.now c.changes_of-changes.result c.draw-word.result
+      chosen_decided c.args.sets.now c.args.found.now c.args.writes.now (changes_of c.args.writes.now) c.draw_as-word.result
           m.0 can.0
-          (view c.args.pass.now) (view c.draw-word.new.pass) (view c.check_all.new.pass) (view c.decide.new.pass) can.1
-          c.draw-word.ensures.draws c.changes_of-changes.ensures c.requires.writes c.in-Ok.ensures.checked m.1,
+          (view c.args.pass.now) (view c.draw_as-word.new.pass) (view c.check_all.new.pass) (view c.decide.new.pass) can.1
+          c.draw_as-word.ensures.draws refl c.requires.writes c.in-Ok.ensures.checked m.1,
     )
 
 pub returns-in-Ok-clause-commits : goal.returns-in-Ok-clause-commits
 returns-in-Ok-clause-commits c = λ v can.
     let m = c.decide.ensures.decides in
-    all_committed c.args.sets.now c.args.found.now c.args.writes.now c.changes_of-changes.result c.draw-word.result m.0
-    c.number_of.result v (view c.args.pass.now) (view c.draw-word.new.pass) (view c.check_all.new.pass)
-    (view c.decide.new.pass) (view c.publish_all.new.pass) can c.draw-word.ensures.draws c.changes_of-changes.ensures
-    c.requires.writes c.in-Ok.ensures.checked m.1 c.publish_all.ensures.published c.number_of.ensures
-
-pub returns-in-Ok-clause-changes : goal.returns-in-Ok-clause-changes
-returns-in-Ok-clause-changes c = c.changes_of-changes.ensures ∙ ap changes_of c.requires.writes
+    subst (λ (l : List Change). HasCommitted l c.number_of.result v (view c.publish_all.new.pass))
+    (ap changes_of c.requires.writes)
+    (all_committed c.args.sets.now c.args.found.now c.args.writes.now (changes_of c.args.writes.now) c.draw_as-word.result m.0
+    c.number_of.result v (view c.args.pass.now) (view c.draw_as-word.new.pass) (view c.check_all.new.pass)
+    (view c.decide.new.pass) (view c.publish_all.new.pass) can c.draw_as-word.ensures.draws refl
+    c.requires.writes c.in-Ok.ensures.checked m.1 c.publish_all.ensures.published c.number_of.ensures)
 
 pub back_out-requires-clause-pass : goal.back_out-requires-clause-pass
 back_out-requires-clause-pass c =
     let can = c.requires.can in
-    failed_active (view c.draw-word.new.pass) (view c.check_all.new.pass)
-    (drawn_active c.changes_of-changes.result c.draw-word.result (view c.args.pass.now) (view c.draw-word.new.pass)
-    (sets_active c.args.sets.now c.args.found.now can.0 (view c.args.pass.now) can.1) c.draw-word.ensures.draws)
+    failed_active (view c.draw_as-word.new.pass) (view c.check_all.new.pass)
+    (drawn_active (changes_of c.args.writes.now) c.draw_as-word.result (view c.args.pass.now) (view c.draw_as-word.new.pass)
+    (sets_active c.args.sets.now c.args.found.now can.0 (view c.args.pass.now) can.1) c.draw_as-word.ensures.draws)
     c.in-Err.ensures.failed
 
 pub back_out-requires-clause-places : goal.back_out-requires-clause-places
 back_out-requires-clause-places c =
     let can = c.requires.can in
-    check_places c.args.sets.now c.args.found.now c.args.writes.now c.changes_of-changes.result c.draw-word.result can.0
-    (view c.args.pass.now) (view c.draw-word.new.pass) (view c.check_all.new.pass) can.1 c.draw-word.ensures.draws
+    check_places c.args.sets.now c.args.found.now c.args.writes.now (changes_of c.args.writes.now) c.draw_as-word.result can.0
+    (view c.args.pass.now) (view c.draw_as-word.new.pass) (view c.check_all.new.pass) can.1 c.draw_as-word.ensures.draws
     c.requires.writes c.in-Err.ensures.failed
 
 pub back_out-requires-clause-ascending : goal.back_out-requires-clause-ascending
@@ -123,38 +120,38 @@ back_out-requires-clause-within c =
 pub back_out-requires-clause-locked : goal.back_out-requires-clause-locked
 back_out-requires-clause-locked c =
     let can = c.requires.can in
-    check_locks c.args.sets.now c.args.found.now c.args.writes.now c.changes_of-changes.result c.draw-word.result can.0
-    (view c.args.pass.now) (view c.draw-word.new.pass) (view c.check_all.new.pass) can.1 c.draw-word.ensures.draws
+    check_locks c.args.sets.now c.args.found.now c.args.writes.now (changes_of c.args.writes.now) c.draw_as-word.result can.0
+    (view c.args.pass.now) (view c.draw_as-word.new.pass) (view c.check_all.new.pass) can.1 c.draw_as-word.ensures.draws
     c.requires.writes c.in-Err.ensures.failed
 
 pub returns-in-Err-clause-cause : goal.returns-in-Err-clause-cause
 returns-in-Err-clause-cause c = λ v can.
-    check_cause c.args.sets.now c.args.found.now c.args.writes.now c.args.reads.now c.changes_of-changes.result
-    c.draw-word.result c.in-Err.conflict.word c.in-Err.conflict.expected c.in-Err.conflict.seen c.back_out.result v
-    (view c.args.pass.now) (view c.draw-word.new.pass) (view c.check_all.new.pass) (view c.back_out.new.pass) can
-    c.draw-word.ensures.draws c.requires.reads c.requires.writes c.in-Err.ensures.apart c.back_out.ensures.gives_up
+    check_cause c.args.sets.now c.args.found.now c.args.writes.now c.args.reads.now (changes_of c.args.writes.now)
+    c.draw_as-word.result c.in-Err.conflict.word c.in-Err.conflict.expected c.in-Err.conflict.seen c.back_out.result v
+    (view c.args.pass.now) (view c.draw_as-word.new.pass) (view c.check_all.new.pass) (view c.back_out.new.pass) can
+    c.draw_as-word.ensures.draws c.requires.reads c.requires.writes c.in-Err.ensures.apart c.back_out.ensures.gives_up
     c.in-Err.ensures.conflict c.back_out.ensures.why
 
 pub returns-in-Err-clause-refused : goal.returns-in-Err-clause-refused
 returns-in-Err-clause-refused c = λ v can.
-    check_refused c.args.sets.now c.args.found.now _ c.changes_of-changes.result c.draw-word.result c.back_out.result v
-    (view c.args.pass.now) (view c.draw-word.new.pass) (view c.check_all.new.pass) (view c.back_out.new.pass) can
-    c.draw-word.ensures.draws c.in-Err.ensures.failed c.back_out.ensures.gives_up
+    check_refused c.args.sets.now c.args.found.now _ (changes_of c.args.writes.now) c.draw_as-word.result c.back_out.result v
+    (view c.args.pass.now) (view c.draw_as-word.new.pass) (view c.check_all.new.pass) (view c.back_out.new.pass) can
+    c.draw_as-word.ensures.draws c.in-Err.ensures.failed c.back_out.ensures.gives_up
 
 pub returns-in-Ok-clause-steps : goal.returns-in-Ok-clause-steps
 returns-in-Ok-clause-steps c =
     let m = c.decide.ensures.decides in
-    commits_steps c.changes_of-changes.result c.draw-word.result m.0 (length c.args.reads.now)
+    commits_steps (changes_of c.args.writes.now) c.draw_as-word.result m.0 (length c.args.reads.now)
     (length c.args.writes.now)
-    (view c.args.pass.now) (view c.draw-word.new.pass) (view c.check_all.new.pass) (view c.decide.new.pass)
-    (view c.publish_all.new.pass) c.draw-word.ensures.draws c.in-Ok.ensures.steps m.1 c.publish_all.ensures.steps
+    (view c.args.pass.now) (view c.draw_as-word.new.pass) (view c.check_all.new.pass) (view c.decide.new.pass)
+    (view c.publish_all.new.pass) c.draw_as-word.ensures.draws c.in-Ok.ensures.steps m.1 c.publish_all.ensures.steps
 
 pub returns-in-Err-clause-most : goal.returns-in-Err-clause-most
 returns-in-Err-clause-most c =
     let can = c.requires.can in
-    fails_steps c.changes_of-changes.result c.draw-word.result (length c.args.reads.now) (length c.args.writes.now)
-    (length c.args.found.now) (view c.args.pass.now) (view c.draw-word.new.pass) (view c.check_all.new.pass)
-    (view c.back_out.new.pass) c.draw-word.ensures.draws c.in-Err.ensures.most
+    fails_steps (changes_of c.args.writes.now) c.draw_as-word.result (length c.args.reads.now) (length c.args.writes.now)
+    (length c.args.found.now) (view c.args.pass.now) (view c.draw_as-word.new.pass) (view c.check_all.new.pass)
+    (view c.back_out.new.pass) c.draw_as-word.ensures.draws c.in-Err.ensures.most
     (found_locks c.args.sets.now c.args.found.now c.args.writes.now can.0 (view c.args.pass.now) can.1
     c.requires.writes)
     c.back_out.ensures.steps

@@ -2,13 +2,14 @@ use Rattle.std.proofs.Common.{ap, ◌∙◌, length, arith}
 use Rattle.engine_words.specs.Passes.{view}
 use Rattle.tx_commit.specs.Committing.{changes_of, kept_writes}
 use Rattle.tx_runner.proofs.Commits.{try_committed}
-use Rattle.tx_runner.proofs.Standing.{run_stands, begun_steps, begun_arrays, try_took}
+use Rattle.tx_runner.proofs.Standing.{run_stands, begun_below, begun_steps, begun_arrays, try_took}
 use Rattle.tx_runner.proofs.tries.try_line.Goals as goal
 
 pub returns-clause-commits : goal.returns-clause-commits
 returns-clause-commits c =
     let a = c.in_ok-verdict.ensures.answers in
-    try_committed c.args.ops.now c.in_ok-verdict.verdict c.run_ops.new.replies c.in_ok-room.field-0
+    try_committed c.args.ops.now c.in_ok-verdict.verdict c.run_ops.new.replies
+    (record { number = c.in_ok-room.field-0; changes = c.commit.new.changes })
     c.run_ops.new.txn.sets
     (view c.args.pass.now) (view c.run_ops.new.pass) (view c.commit.new.pass)
     (run_stands c.begin.new.self.sets (view c.args.pass.now) (view c.begin.new.pass) (view c.run_ops.new.pass)
@@ -16,6 +17,7 @@ returns-clause-commits c =
     (c.in_ok-room.ensures.changes
     ∙ ap (λ b. changes_of (kept_writes b c.run_ops.new.txn.sets.writes)) c.keeps.ensures)
     c.in_ok-room.ensures.rising c.in_ok-room.ensures.few c.in_ok-room.ensures.commits
+    (begun_below c.begin.new.self.sets (view c.args.pass.now) (view c.begin.new.pass) c.in_ok-begin.ensures.begins)
 
 pub returns-clause-steps : goal.returns-clause-steps
 returns-clause-steps c =

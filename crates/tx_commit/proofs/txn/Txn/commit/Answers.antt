@@ -1,41 +1,26 @@
+use Rattle.std.proofs.Common.{List, sym, ap, ◌∙◌, subst}
+use Rattle.serial_model.specs.declared.number.Change.{Change}
 use Rattle.engine_words.specs.Passes.{view}
-use Rattle.tx_commit.specs.Committing.{kept_writes}
-use Rattle.tx_commit.proofs.CommitResults.{live_dropped, changes_for, dropped_for, kept_steps, kept_most, rising_for}
-use Rattle.tx_commit.proofs.CommitResults.{few_for}
+use Rattle.tx_commit.specs.Committing.{changes_of, HasCommitted}
+use Rattle.tx_commit.proofs.CommitResults.{changes_rise, changes_few}
 use Rattle.tx_commit.proofs.txn.Txn.commit.Goals as goal
 
-pub commit_all-requires-clause-live : goal.commit_all-requires-clause-live
-commit_all-requires-clause-live c =
-    live_dropped c.args.self.now.sets c.drop_writes.new.sets c.args.keep (view c.args.pass.now) c.requires.live
-    c.drop_writes.ensures.reads c.drop_writes.ensures.writes
+pub returns-in-Ok-clause-changes : goal.returns-in-Ok-clause-changes
+returns-in-Ok-clause-changes c =
+    c.put_changes.ensures ∙ ap changes_of (c.as_slice.ensures.value ∙ c.commit_number.ensures.writes)
 
-pub returns-clause-changes : goal.returns-clause-changes
-returns-clause-changes c =
-    changes_for c.commit_all.result c.drop_writes.new.sets.writes (kept_writes c.args.keep c.args.self.now.sets.writes)
-    c.drop_writes.ensures.writes c.commit_all.ensures.changes
+pub returns-in-Ok-clause-commits : goal.returns-in-Ok-clause-commits
+returns-in-Ok-clause-commits c =
+    subst (λ (l : List Change). HasCommitted l c.in-Ok.number (view c.args.pass.now) (view c.commit_number.new.pass))
+    (sym (c.put_changes.ensures ∙ ap changes_of (c.as_slice.ensures.value ∙ c.commit_number.ensures.writes)))
+    c.in-Ok.ensures.commits
 
-pub returns-clause-rising : goal.returns-clause-rising
-returns-clause-rising c = rising_for c.commit_all.result c.drop_writes.new.sets.writes c.commit_all.ensures.ascending
-    c.commit_all.ensures.changes
+pub returns-in-Ok-clause-rising : goal.returns-in-Ok-clause-rising
+returns-in-Ok-clause-rising c =
+    changes_rise c.put_changes.new.changes _ (c.put_changes.ensures ∙ ap changes_of c.as_slice.ensures.value)
+    c.as_slice.ensures.ascending
 
-pub returns-clause-few : goal.returns-clause-few
-returns-clause-few c = few_for c.commit_all.result c.drop_writes.new.sets.writes c.commit_all.ensures.few
-    c.commit_all.ensures.changes
-
-pub returns-clause-cause : goal.returns-clause-cause
-returns-clause-cause c =
-    dropped_for c.commit_all.result c.args.self.now.sets c.drop_writes.new.sets
-    (kept_writes c.args.keep c.args.self.now.sets.writes) (view c.args.pass.now) (view c.commit_all.new.pass)
-    c.drop_writes.ensures.reads c.drop_writes.ensures.writes c.commit_all.ensures.cause
-
-pub returns-clause-steps : goal.returns-clause-steps
-returns-clause-steps c =
-    kept_steps c.commit_all.result c.args.self.now.sets c.drop_writes.new.sets
-    (kept_writes c.args.keep c.args.self.now.sets.writes) (view c.args.pass.now) (view c.commit_all.new.pass)
-    c.drop_writes.ensures.reads c.drop_writes.ensures.writes c.commit_all.ensures.steps
-
-pub returns-clause-most : goal.returns-clause-most
-returns-clause-most c =
-    kept_most c.commit_all.result c.args.self.now.sets c.drop_writes.new.sets
-    (kept_writes c.args.keep c.args.self.now.sets.writes) (view c.args.pass.now) (view c.commit_all.new.pass)
-    c.drop_writes.ensures.reads c.drop_writes.ensures.writes c.commit_all.ensures.most
+pub returns-in-Ok-clause-few : goal.returns-in-Ok-clause-few
+returns-in-Ok-clause-few c =
+    changes_few c.put_changes.new.changes _ (c.put_changes.ensures ∙ ap changes_of c.as_slice.ensures.value)
+    c.as_slice.ensures.bound

@@ -1,9 +1,9 @@
 -- What must have happened for each outcome and each answer of a round. None comes without a cause.
-use Rattle.std.specs.Prelude.{◌≡◌, ◌<◌, ◌≤◌, ◌+◌, ◌-◌, ◌*◌, ◌^◌, ◌==◌, ◌||◌, ℕ, Bool, true, false, not, List}
-use Rattle.std.specs.Prelude.{[], ◌∷◌, length, filter, flat_map, fold, min, MatchBool, Option, Some, None}
+use Rattle.std.specs.Prelude.{◌≡◌, ◌<◌, ◌≤◌, ◌+◌, ◌-◌, ◌*◌, ◌^◌, ◌||◌, ℕ, Bool, true, false, not, List}
+use Rattle.std.specs.Prelude.{[], ◌∷◌, flat_map, fold, min, MatchBool, Option, Some, None}
 use Rattle.std.specs.Prelude.{is_some, nat_lt, option_to_list, if◌then◌else◌, ⊤}
 use Rattle.std.specs.List.{AllByRecursion, Contains, list_any}
-use Rattle.serial_model.specs.Numbers.{draw_limit, last_epoch}
+use Rattle.serial_model.specs.Numbers.{last_epoch}
 use Rattle.outside.specs.declared.vault.Device.{Device}
 use Rattle.outside.specs.declared.vault.Device.TheVariants as devices
 use Rattle.script_grammar.specs.declared.lines.KeeperLine.{KeeperLine}
@@ -11,8 +11,9 @@ use Rattle.script_grammar.specs.declared.lines.KeeperLine.TheVariants as asks
 use Rattle.tx_script.specs.declared.answer.Answer.{Answer}
 use Rattle.tx_script.specs.declared.answer.Answer.TheVariants as answers
 use Rattle.tx_script.specs.declared.outcome.Outcome.{Outcome}
-use Rattle.tx_script.specs.declared.outcome.Outcome.TheVariants.{Committed, Conflict, Full, Wide, Limit, Unrun}
-use Rattle.tx_script.specs.Run.{LogFiles, LogRefusal, LogFailed, LogFull, Ran}
+use Rattle.tx_script.specs.declared.outcome.Outcome.TheVariants.{Unrun}
+use Rattle.tx_script.specs.Run.{LogFiles, LogRefusal, LogFailed, LogFull, Ran, TryRefusal}
+use Rattle.tx_script.specs.Tries.{AllCome}
 
 -- ---- logs
 
@@ -47,16 +48,6 @@ LogsCaused files failed worker (Some (LogFull size) ∷ logs) = (log_limit < siz
 
 -- ---- workers' lines
 
--- The cause of an outcome of a worker whose log was refused so, if it was: a number is given just while there are
--- some. No engine answers yet where it can't hold.
-abbrev pub OutcomeCause : Ran → Option LogRefusal → Outcome → Type 0
-OutcomeCause ran log (Committed verdict number replies) = number.draw < draw_limit
-OutcomeCause ran log Limit = draw_limit ≤ ran.end.draw
-OutcomeCause ran log Unrun = is_some log ≡ true
-OutcomeCause ran log Conflict = ⊥
-OutcomeCause ran log Full = ⊥
-OutcomeCause ran log Wide = ⊥
-
 -- the line was not run
 abbrev pub is_unrun : Outcome → Bool
 is_unrun Unrun = true
@@ -68,13 +59,12 @@ UnrunLast [] = ⊤
 UnrunLast (outcome ∷ outcomes) = MatchBool (is_unrun outcome) (AllByRecursion (λ o. is_unrun o ≡ true) outcomes)
     (UnrunLast outcomes)
 
--- each worker's outcomes have their causes, by what refused its log
-abbrev pub WorkersCaused : Ran → List (Option LogRefusal) → List (List Outcome) → Type 0
-WorkersCaused ran [] [] = ⊤
-WorkersCaused ran (log ∷ logs) (outcomes ∷ more) = AllByRecursion (OutcomeCause ran log) outcomes
-    × UnrunLast outcomes × WorkersCaused ran logs more
-WorkersCaused ran [] (outcomes ∷ more) = ⊥
-WorkersCaused ran (log ∷ logs) [] = ⊥
+-- Each worker's outcomes have their causes, by the refusals of its lines' tries and by what refused its log: `ComesTo`.
+abbrev pub WorkersCaused : Ran → List (Option LogRefusal) → List (List Outcome) → List (List (List TryRefusal)) → Type 0
+WorkersCaused ran [] [] [] = ⊤
+WorkersCaused ran (log ∷ logs) (outcomes ∷ more) (refused ∷ others) =
+    AllCome ran.begin.draw ran.end.draw ran.tries log outcomes refused × UnrunLast outcomes × WorkersCaused ran logs more others
+WorkersCaused ran _ _ _ = ⊥
 
 -- ---- the maintenance thread
 
@@ -178,7 +168,7 @@ AnswersCaused ran k (line ∷ lines) [] = ⊥
 -- each outcome, each answer and each refusal of a log has its cause
 pub record AllCaused (ran : Ran) : Type 0 where
   pub logs : LogsCaused ran.files ran.devices 0 ran.logs
-  pub outcomes : WorkersCaused ran ran.logs ran.outcomes
+  pub outcomes : WorkersCaused ran ran.logs ran.outcomes ran.refused
   pub answers : AnswersCaused ran (keeper_before ran) ran.asked ran.answers
 
 -- The steps of the join are left out: a log was refused in the round, or a keeper line in a way after which none is

@@ -1,25 +1,27 @@
--- Numbers drawn for commits alone, by an engine without second tries, and the law that follows: no line of a
--- script meets
--- the limit.
-use Rattle.std.specs.Prelude.{◌≡◌, ◌⊎◌, ◌≤◌, ◌+◌, ◌==◌, ℕ, Bool, true, false, IsTrue, Option, Some, None}
-use Rattle.std.specs.Prelude.{List, [], ◌∷◌, ◌++◌, length, map, filter, sum_by, codes, nat_lt}
+-- How many numbers a round draws, and how many lines a script's text has; and the laws that a line is refused a number
+-- only where the draws are used up, and that with few tries a line no script comes to that.
+use Rattle.std.specs.Prelude.{◌≡◌, ◌⊎◌, ◌≤◌, ◌<◌, ◌+◌, ◌-◌, ◌*◌, ◌==◌, ◌||◌, ℕ, Bool, true, false, Option}
+use Rattle.std.specs.Prelude.{List, [], ◌∷◌, ◌++◌, length, map, filter, sum_by, codes, nat_lt, Contains, ⊤}
 use Rattle.std.specs.List.{AllByRecursion, list_any, slice_split}
-use Rattle.std.proofs.Common.{refl, ap, ◌∙◌, inl, inr, arith, length-append}
+use Rattle.std.proofs.Common.{refl, ap, inl, inr, arith, length-append}
 use Rattle.std.proofs.lemmas.List.{length-map}
 use Rattle.std.proofs.lemmas.List.Sums.{sum_by-cons, count_by-le-length, length-filter}
 use Rattle.std.proofs.lemmas.List.Splits.{length-slice_split}
 use Rattle.serial_model.specs.State.{State}
+use Rattle.serial_model.specs.declared.decl.Decl.{Decl}
+use Rattle.serial_model.specs.declared.decl.Decl.TheVariants.{Tree}
 use Rattle.serial_model.specs.declared.number.Number.{Number}
 use Rattle.serial_model.specs.declared.op.Op.{Op}
+use Rattle.serial_model.specs.Numbers.{draw_limit}
 use Rattle.script_grammar.specs.Script.{Bytes, IsTextOf, Line, Round, Script, worker_lines}
 use Rattle.script_grammar.specs.Script.{decl_text, joined_lines, last_round, line_text, lines_of}
-use Rattle.serial_model.specs.Numbers.{draw_limit}
 use Rattle.tx_script.specs.declared.outcome.Outcome.{Outcome}
 use Rattle.tx_script.specs.declared.outcome.Outcome.TheVariants.{Committed, Conflict, Full, Wide, Limit, Unrun}
-use Rattle.tx_script.specs.Causes.{AllCaused, OutcomeCause, WorkersCaused}
+use Rattle.tx_script.specs.Causes.{AllCaused, WorkersCaused}
 use Rattle.tx_script.specs.Counts.{total, total-worker_lines}
-use Rattle.tx_script.specs.Run.{LogRefusal, Ran, AreOfFirst, IsOfRound, IsScriptRun, OneForEach, RunsClocks}
+use Rattle.tx_script.specs.Run.{LogRefusal, Ran, AreOfFirst, IsOfRound, IsScriptRun, OneForEach, RunsClocks, TryRefusal}
 use Rattle.tx_script.specs.Run.{clock_after, is_commit, is_limit, joined}
+use Rattle.tx_script.specs.Tries.{AllCome}
 
 -- how many of the outcomes are commits
 abbrev pub commits_of : List (List Outcome) → ℕ
@@ -29,37 +31,48 @@ commits_of = sum_by (λ outcomes. length (filter is_commit outcomes))
 abbrev pub DrawsOnce : Ran → Type 0
 DrawsOnce ran = ran.end.draw ≡ ran.begin.draw + commits_of ran.outcomes
 
--- no line of the round was refused a number
-abbrev pub NoneLimited : Ran → Type 0
-NoneLimited ran = list_any (list_any is_limit) ran.outcomes ≡ false
+-- The round drew no more numbers than its lines have tries, each so many.
+abbrev pub DrawsWithin : ℕ → Ran → Type 0
+DrawsWithin tries ran = ran.end.draw ≤ ran.begin.draw + tries * sum_by length ran.outcomes
+
+-- ---- rounds of storages among which is a tree: their lines are run one after another
+
+-- a tree is declared
+abbrev pub HasTree : List Decl → Type 0
+HasTree decls = (id : ℕ) × Contains decls (Tree id)
+
+-- A line commits with a number below the last draws, meets these, or is left out: nobody is in its way.
+abbrev pub IsPlain : Outcome → Type 0
+IsPlain (Committed verdict number replies) = number.draw < draw_limit
+IsPlain Limit = ⊤
+IsPlain Unrun = ⊤
+IsPlain _ = ⊥
+
+-- so it is of each line of the round, and each number that was drawn is a commit's
+pub record RunsOnce (ran : Ran) : Type 0 where
+  pub once : DrawsOnce ran
+  pub plain : AllByRecursion (AllByRecursion IsPlain) ran.outcomes
 
 -- ---- a round
-
--- a line met the limit, and so there are fewer commits than lines
-abbrev MeetsLimit : Ran → ℕ → ℕ → Type 0
-MeetsLimit ran commits lines = (draw_limit ≤ ran.end.draw) × (commits + 1 ≤ lines)
 
 commits-le : (outcomes : List Outcome) → length (filter is_commit outcomes) ≤ length outcomes
 commits-le outcomes = omega (arith, length-filter is_commit outcomes, count_by-le-length is_commit outcomes)
 
-of_worker_cases : (ran : Ran) (log : Option LogRefusal) (outcomes : List Outcome)
-    → AllByRecursion (OutcomeCause ran log) outcomes
-    → (list_any is_limit outcomes ≡ false) ⊎ MeetsLimit ran (length (filter is_commit outcomes)) (length outcomes)
-of_worker_cases ran log [] caused = inl refl
-of_worker_cases ran log (Committed verdict number replies ∷ outcomes) caused =
-    elim (of_worker_cases ran log outcomes caused.1) [
-      | inl none ↦ inl none
-      | inr one ↦ inr (one.0, omega (arith, one.1))
-    ]
-of_worker_cases ran log (Unrun ∷ outcomes) caused =
-    elim (of_worker_cases ran log outcomes caused.1) [
-      | inl none ↦ inl none
-      | inr one ↦ inr (one.0, omega (arith, one.1))
-    ]
-of_worker_cases ran log (Limit ∷ outcomes) caused = inr (caused.0, omega (arith, commits-le outcomes))
-of_worker_cases ran log (Conflict ∷ outcomes) caused = absurd caused.0
-of_worker_cases ran log (Full ∷ outcomes) caused = absurd caused.0
-of_worker_cases ran log (Wide ∷ outcomes) caused = absurd caused.0
+-- a line of a worker was refused a number only where the draws are used up
+of_worker_limited : (first last tries : ℕ) (log : Option LogRefusal) (outcomes : List Outcome)
+    (refused : List (List TryRefusal)) → AllCome first last tries log outcomes refused
+    → list_any is_limit outcomes ≡ true → draw_limit ≤ last
+of_worker_limited first last tries log [] refused come is = absurd cc
+of_worker_limited first last tries log (outcome ∷ outcomes) [] come is = absurd come
+of_worker_limited first last tries log (Limit ∷ outcomes) (refusals ∷ refused) come is = come.0.1
+of_worker_limited first last tries log (Committed verdict number replies ∷ outcomes) (refusals ∷ refused) come is =
+    of_worker_limited first last tries log outcomes refused come.1 is
+of_worker_limited first last tries log (Conflict ∷ outcomes) (refusals ∷ refused) come is =
+    of_worker_limited first last tries log outcomes refused come.1 is
+of_worker_limited first last tries log (Full ∷ outcomes) (refusals ∷ refused) come is = absurd come.0
+of_worker_limited first last tries log (Wide ∷ outcomes) (refusals ∷ refused) come is = absurd come.0
+of_worker_limited first last tries log (Unrun ∷ outcomes) (refusals ∷ refused) come is =
+    of_worker_limited first last tries log outcomes refused come.1 is
 
 commits_of-cons : (mine : List Outcome) (more : List (List Outcome))
     → commits_of (mine ∷ more) ≡ length (filter is_commit mine) + commits_of more
@@ -71,22 +84,28 @@ commits_of-le [] = omega arith
 commits_of-le (mine ∷ more) =
     omega (arith, commits_of-cons mine more, sum_by-cons length mine more, commits-le mine, commits_of-le more)
 
-of_round_cases : (ran : Ran) (logs : List (Option LogRefusal)) (outcomes : List (List Outcome))
-    → WorkersCaused ran logs outcomes
-    → (list_any (list_any is_limit) outcomes ≡ false) ⊎ MeetsLimit ran (commits_of outcomes) (sum_by length outcomes)
-of_round_cases ran [] [] caused = inl refl
-of_round_cases ran (log ∷ logs) [] caused = absurd caused
-of_round_cases ran [] (mine ∷ more) caused = absurd caused
-of_round_cases ran (log ∷ logs) (mine ∷ more) caused =
-    let commits = commits_of-cons mine more in
-    let lines = sum_by-cons length mine more in
-    elim (of_worker_cases ran log mine caused.0) [
-      | inr one ↦ inr (one.0, omega (arith, one.1, commits, lines, commits_of-le more))
-      | inl none ↦ elim (of_round_cases ran logs more caused.2) [
-        | inr one ↦ inr (one.0, omega (arith, one.1, commits-le mine, commits, lines))
-        | inl rest ↦ inl (rw none rest)
-      ]
+of_workers_limited : (ran : Ran) (logs : List (Option LogRefusal)) (outcomes : List (List Outcome))
+    (refused : List (List (List TryRefusal))) → WorkersCaused ran logs outcomes refused
+    → list_any (list_any is_limit) outcomes ≡ true → draw_limit ≤ ran.end.draw
+of_workers_limited ran [] [] [] caused is = absurd cc
+of_workers_limited ran [] [] (mine ∷ refused) caused is = absurd caused
+of_workers_limited ran [] (mine ∷ more) refused caused is = absurd caused
+of_workers_limited ran (log ∷ logs) [] refused caused is = absurd caused
+of_workers_limited ran (log ∷ logs) (mine ∷ more) [] caused is = absurd caused
+of_workers_limited ran (log ∷ logs) (mine ∷ more) (tried ∷ refused) caused is =
+    elim (one_of (list_any is_limit mine) (list_any (list_any is_limit) more) is) [
+      | inl here ↦ of_worker_limited ran.begin.draw ran.end.draw ran.tries log mine tried caused.0 here
+      | inr there ↦ of_workers_limited ran logs more refused caused.2 there
     ]
+  where
+    one_of : (a b : Bool) → (a || b) ≡ true → (a ≡ true) ⊎ (b ≡ true)
+    one_of true b is = inl refl
+    one_of false b is = inr is
+
+-- A line of a round is refused a number only where the clock came to the last one.
+pub limited_at_draws : (ran : Ran) → AllCaused ran → list_any (list_any is_limit) ran.outcomes ≡ true
+    → draw_limit ≤ ran.end.draw
+limited_at_draws ran caused is = of_workers_limited ran ran.logs ran.outcomes ran.refused caused.outcomes is
 
 total-one_for_each : (lines : List (List (List Op))) (outcomes : List (List Outcome))
     → OneForEach lines outcomes → sum_by length outcomes ≡ total lines
@@ -101,14 +120,6 @@ pub few_outcomes : (ran : Ran) (round : Round) → IsOfRound ran round → sum_b
 few_outcomes ran round of =
     omega (arith, total-one_for_each (worker_lines round) ran.outcomes of.outcomes, total-worker_lines round)
 
--- while there are numbers left for all of its lines, no line of a round is refused one
-pub round_unlimited : (ran : Ran) (round : Round) → IsOfRound ran round → AllCaused ran → DrawsOnce ran
-    → ran.begin.draw + length round.lines ≤ draw_limit → NoneLimited ran
-round_unlimited ran round of caused once room = elim (of_round_cases ran ran.logs ran.outcomes caused.outcomes) [
-  | inl none ↦ none
-  | inr one ↦ absurd (omega (arith, one.0, one.1, once, few_outcomes ran round of))
-]
-
 -- ---- the rounds of a script
 
 -- how many lines the rounds have
@@ -116,19 +127,45 @@ abbrev pub lines_in : List Round → ℕ
 lines_in [] = 0
 lines_in (round ∷ rounds) = length round.lines + lines_in rounds
 
-rounds_unlimited : (index : ℕ) (clock : Number) (rans : List Ran) (rounds : List Round)
-    → AreOfFirst rans rounds → RunsClocks index clock rans rounds → AllByRecursion AllCaused rans
-    → AllByRecursion DrawsOnce rans
-    → clock.draw + lines_in rounds ≤ draw_limit → AllByRecursion NoneLimited rans
-rounds_unlimited index clock [] rounds of clocks caused once room = tt
-rounds_unlimited index clock (ran ∷ rans) [] of clocks caused once room = absurd of
-rounds_unlimited index clock (ran ∷ rans) (round ∷ rounds) of clocks caused once room =
+tries_add : (tries m n : ℕ) → tries * (m + n) ≡ tries * m + tries * n
+tries_add tries m n = omega arith
+
+more_tries : (tries m n : ℕ) → m ≤ n → tries * m ≤ tries * n
+more_tries tries m n le =
+    let is : n ≡ m + (n - m) = omega (arith, le) in
+    omega (arith, ap (λ x. tries * x) is, tries_add tries m (n - m))
+
+-- where numbers are drawn for commits alone each line has one try
+pub once_within : (ran : Ran) → DrawsOnce ran → DrawsWithin 1 ran
+once_within ran once = omega (arith, once, commits_of-le ran.outcomes)
+
+-- what a round draws at most
+within_lines : (tries : ℕ) (ran : Ran) (round : Round) → IsOfRound ran round → DrawsWithin tries ran
+    → ran.end.draw ≤ ran.begin.draw + tries * length round.lines
+within_lines tries ran round of within =
+    omega (
+      arith,
+      within,
+      more_tries tries (sum_by length ran.outcomes) (length round.lines) (few_outcomes ran round of),
+    )
+
+-- the round doesn't come to the last draws
+abbrev pub IsBelowDraws : Ran → Type 0
+IsBelowDraws ran = ran.end.draw < draw_limit
+
+-- while there are numbers left for all tries of their lines, rounds don't come to the last draws
+rounds_below : (tries index : ℕ) (clock : Number) (rans : List Ran) (rounds : List Round) → AreOfFirst rans rounds
+    → RunsClocks index clock rans rounds → AllByRecursion (DrawsWithin tries) rans
+    → clock.draw + tries * lines_in rounds < draw_limit → AllByRecursion IsBelowDraws rans
+rounds_below tries index clock [] rounds of clocks within room = tt
+rounds_below tries index clock (ran ∷ rans) [] of clocks within room = absurd of
+rounds_below tries index clock (ran ∷ rans) (round ∷ rounds) of clocks within room =
     let begin : ran.begin.draw ≡ clock.draw = ap (λ (n : Number). n.draw) clocks.0 in
-    let few : ran.end.draw ≤ clock.draw + length round.lines =
-    omega (arith, begin, once.0, commits_of-le ran.outcomes, few_outcomes ran round of.0) in (
-      round_unlimited ran round of.0 caused.0 once.0 (omega (arith, begin, room)),
-      rounds_unlimited (index + 1) (joined ran.end) rans rounds of.1 clocks.2 caused.1 once.1
-          (omega (arith, few, room)),
+    let drawn = within_lines tries ran round of.0 within.0 in
+    let split = tries_add tries (length round.lines) (lines_in rounds) in (
+      omega (arith, begin, drawn, split, room),
+      rounds_below tries (index + 1) (joined ran.end) rans rounds of.1 clocks.2 within.1
+          (omega (arith, begin, drawn, split, room)),
     )
 
 -- ---- a text has no more lines than bytes, and one
@@ -180,29 +217,11 @@ few_lines bytes script text =
       lines_in-last text.joined text.rest,
     )
 
--- In the rounds of a script, from the first draw on, no line is refused a number: an engine that draws for commits
--- alone
--- meets no limit.
-pub none_limited : (bytes : Bytes) (script : Script) (s : State) (saved : ℕ) (rans : List Ran) (t : State)
-    → IsTextOf bytes script → IsScriptRun script s saved rans t → AllByRecursion AllCaused rans
-    → AllByRecursion DrawsOnce rans
-    → AllByRecursion NoneLimited rans
-none_limited bytes script s saved rans t text run caused once =
-    rounds_unlimited 0 (clock_after saved) rans script.rounds run.lines run.clocks caused once
-    (omega (arith, few_lines bytes script text))
-
--- A line of a worker whose log nothing refused, and that was not refused a number, is committed.
-commits_by : (ran : Ran) (outcomes : List Outcome) → AllByRecursion (OutcomeCause ran None) outcomes
-    → list_any is_limit outcomes ≡ false
-    → AllByRecursion (λ outcome. IsTrue (is_commit outcome)) outcomes
-commits_by ran [] caused none = tt
-commits_by ran (Committed verdict number replies ∷ outcomes) caused none = (
-  refl,
-  commits_by ran outcomes caused.1
-      none,
-)
-commits_by ran (Limit ∷ outcomes) caused none = absurd cc
-commits_by ran (Unrun ∷ outcomes) caused none = absurd (let is = caused.0 in cc)
-commits_by ran (Conflict ∷ outcomes) caused none = absurd caused.0
-commits_by ran (Full ∷ outcomes) caused none = absurd caused.0
-commits_by ran (Wide ∷ outcomes) caused none = absurd caused.0
+-- With up to 16,383 tries of each line no round of a script comes to the last draws.
+pub below_draws : (bytes : Bytes) (script : Script) (state : State) (saved tries : ℕ) (rans : List Ran) (t : State)
+    → IsTextOf bytes script → IsScriptRun script state saved rans t → tries ≤ 16383
+    → AllByRecursion (DrawsWithin tries) rans → AllByRecursion IsBelowDraws rans
+below_draws bytes script state saved tries rans t text run few within =
+    let lines = few_lines bytes script text in
+    rounds_below tries 0 (clock_after saved) rans script.rounds run.lines run.clocks within
+    (omega (arith, more_tries tries (lines_in script.rounds) 67108865 lines, few))

@@ -1,4 +1,5 @@
 pub mod Run
+pub mod Tries
 pub mod Causes
 pub mod Counts
 pub mod Draws

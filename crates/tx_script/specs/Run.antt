@@ -25,6 +25,11 @@ pub data LogRefusal : Type 0 where
   LogFailed : LogRefusal
   LogFull : ℕ → LogRefusal
 
+-- Why a try of a line was refused: another transaction was in its way, or no number was left for it.
+pub data TryRefusal : Type 0 where
+  InConflict : TryRefusal
+  NoNumber : TryRefusal
+
 -- The log files at the begin of a round: of each worker that of odd number grows, or that of even number; the other
 -- one is closed, and counts so many bytes, with all its worker's commits since the swap before up to an epoch.
 pub record LogFiles : Type 0 where
@@ -54,6 +59,9 @@ pub record Ran : Type 0 where
   -- at the begin, and what refused its log, if anything did
   pub marks : List (List (Option ℕ))
   pub logs : List (Option LogRefusal)
+  -- how often a line might be tried, and of each worker, of each of its lines, what refused its tries, in their order
+  pub tries : ℕ
+  pub refused : List (List (List TryRefusal))
   -- what its gleans found that the next snapshot comes to: so many pages, or none where one would stand too deep
   pub gleans : List (Option ℕ)
   -- the devices that failed, and one that was found damaged, with the byte from which on it is

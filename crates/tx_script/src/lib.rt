@@ -4,12 +4,12 @@
 //! beginning of it where the sink failed (`prefix`); `put_round` adds exactly the lines of a round. `write_state` and
 //! `put_state` do the same of the text of a state. `Outcomes` are seen as a list, and take a head of 16 bytes and the
 //! words of their replies each.
-//! Laws: a round of a script can be run (`can_run`); where each line draws at most one number, no run of a script meets
-//! the limit of the draws (`none_limited`).
+//! Laws: a round of a script can be run (`can_run`); a line is refused a number only where the draws are used up
+//! (`limited_at_draws`).
 //! Terms: *round*, the lines up to a join; *outcome*, what came of a worker's line; *answer*, what came of a line of
 //! the maintenance thread (a keeper line).
-//! Runs: `specs/Run.antt`. What must have happened for each outcome: `specs/Causes.antt`. Lines: `specs/Text.antt`; a
-//! state as text: `specs/StateText.antt`.
+//! Runs: `specs/Run.antt`. What must have happened for each outcome: `specs/Tries.antt`, and for each answer:
+//! `specs/Causes.antt`. Lines: `specs/Text.antt`; a state as text: `specs/StateText.antt`.
 //! What a script is: `script_grammar`.
 #![tactic(auto)]
 

@@ -1,7 +1,7 @@
 // The outcomes of a round's lines, flat: a head for each, and the words of all replies in one list.
-ghost use Rattle.std.specs.Prelude.{◌≡◌, ◌<◌, [], ◌∷◌, ◌++◌, length, MatchOption, OnOk, OnErr};
+ghost use Rattle.std.specs.Prelude.{◌≡◌, ◌<◌, [], ◌∷◌, ◌++◌, length, IfOk, MatchOption, OnOk, OnErr};
 ghost use Rattle.std.specs.List.{list_any};
-ghost use Rattle.serial_model.specs.ReplyWords.{AreReplyWords, replies_words};
+ghost use Rattle.serial_model.specs.ReplyWords.{AreReplyWords, replies_of, replies_words};
 ghost use Rattle.tx_script.specs.Flat.{is_refused, outcome_in, outcome_lent, outcome_refused};
 ghost use Rattle.tx_script.specs.Run.{is_limit};
 ghost use Rattle.tx_script.specs.declared.outcome.Outcome.TheVariants as outcomes;
@@ -92,6 +92,18 @@ impl Outcomes {
         }
     }
 
+    /// With room for so many lines, whose replies take so many words in all, so that pushes within it need no more.
+    pub fn with_room(alloc: Global, lines: usize, words: usize) -> Result<Self, Memory>
+        ensures { IfOk result (λ outcomes. outcomes ≡ []) }
+    {
+        let heads = Vec::with_capacity(alloc, lines)?;
+        let words = Vec::with_capacity(alloc, words)?;
+        Ok(Outcomes {
+            heads: Sequence::from_vec(heads),
+            words: Sequence::from_vec(words),
+        })
+    }
+
     /// A transaction that committed. After want of memory the list is as it was.
     pub fn push_commit(
         &mut self,
@@ -104,7 +116,22 @@ impl Outcomes {
             ≡ self.old ++ outcomes.Committed verdict number replies.now ∷ []) }
         ensures memory { OnErr result (self.new ≡ self.old) }
     {
-        let words = replies.words();
+        self.push_words(verdict, number, replies.words())
+    }
+
+    /// A transaction that committed, with the words of its replies. After want of memory the list is as it was.
+    pub fn push_words(
+        &mut self,
+        verdict: Verdict,
+        number: Number,
+        words: &[u64],
+    ) -> Result<(), Memory>
+        requires are { AreReplyWords words.now }
+        requires few { length words.now < 65536 }
+        ensures ok { OnOk result (self.new
+            ≡ self.old ++ outcomes.Committed verdict number (replies_of words.now) ∷ []) }
+        ensures memory { OnErr result (self.new ≡ self.old) }
+    {
         let head = Head {
             kind: Kind::Committed(verdict),
             count: words.len() as u16,

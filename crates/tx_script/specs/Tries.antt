@@ -1,0 +1,47 @@
+-- What comes of a line that may be tried several times, and what refused its tries.
+use Rattle.std.specs.Prelude.{◌≡◌, ◌<◌, ◌≤◌, ◌^◌, ◌++◌, ℕ, Bool, true, false, List, [], ◌∷◌, length, Option, is_some, ⊤}
+use Rattle.std.specs.List.{AllByRecursion}
+use Rattle.serial_model.specs.Numbers.{draw_limit}
+use Rattle.tx_script.specs.declared.outcome.Outcome.{Outcome}
+use Rattle.tx_script.specs.declared.outcome.Outcome.TheVariants.{Committed, Conflict, Full, Limit, Unrun, Wide}
+use Rattle.tx_script.specs.Run.{LogRefusal, TryRefusal, InConflict, NoNumber}
+
+-- the refusal is a conflict
+abbrev pub is_conflict : TryRefusal → Bool
+is_conflict InConflict = true
+is_conflict NoNumber = false
+
+-- each try was refused with a conflict
+abbrev pub AreConflicts : List TryRefusal → Type 0
+AreConflicts refusals = AllByRecursion (λ refusal. refusal ≡ InConflict) refusals
+
+-- Of a line's tries each was refused with a conflict, but for the last one, which was refused so. A conflict alone is
+-- tried again.
+pub record EndsWith (tries : ℕ) (last : TryRefusal) (refusals : List TryRefusal) : Type 0 where
+  pub before : List TryRefusal
+  pub all : refusals ≡ before ++ last ∷ []
+  pub conflicts : AreConflicts before
+  pub fewer : length before < tries
+
+-- What comes of a line that has so many tries, with these refusals of them, where the clock stands at the first of these
+-- draws in front of the round's lines and at the last one behind them, and its worker's log was refused so, if it was. A
+-- line that begins finds draws left. It commits before its tries are used up; one in conflict was refused at each of
+-- them; one that is refused a number finds the draws used up; one that was left out has no try. No line wants a slot, or
+-- more room than a set has.
+abbrev pub ComesTo : ℕ → ℕ → ℕ → Option LogRefusal → Outcome → List TryRefusal → Type 0
+ComesTo first last tries log (Committed verdict number replies) refusals =
+    (first < draw_limit) × (number.draw < 2 ^ 40) × AreConflicts refusals × (length refusals < tries)
+ComesTo first last tries log Conflict refusals =
+    (first < draw_limit) × AreConflicts refusals × (length refusals ≡ tries)
+ComesTo first last tries log Full refusals = ⊥
+ComesTo first last tries log Wide refusals = ⊥
+ComesTo first last tries log Limit refusals = EndsWith tries NoNumber refusals × (draw_limit ≤ last)
+ComesTo first last tries log Unrun refusals = (refusals ≡ []) × (is_some log ≡ true)
+
+-- and of lines
+abbrev pub AllCome : ℕ → ℕ → ℕ → Option LogRefusal → List Outcome → List (List TryRefusal) → Type 0
+AllCome first last tries log [] [] = ⊤
+AllCome first last tries log (outcome ∷ outcomes) (refusals ∷ more) =
+    ComesTo first last tries log outcome refusals × AllCome first last tries log outcomes more
+AllCome first last tries log [] (refusals ∷ more) = ⊥
+AllCome first last tries log (outcome ∷ outcomes) [] = ⊥

@@ -1,0 +1,181 @@
+-- The loop of a cell over a round's lines.
+use Rattle.std.proofs.Common.{◌≡◌, ◌∙◌, ◌≤◌, ◌<◌, ◌+◌, ◌++◌, ◌∷◌, refl, sym, ap, subst, ℕ, List, [], length}
+use Rattle.std.proofs.Common.{take, arith}
+use Rattle.std.proofs.Common.{Bool, Option, Some, None}
+use Rattle.std.specs.Prelude.{is_some}
+use Rattle.std.proofs.lemmas.List.{take_all}
+use Rattle.serial_model.specs.declared.op.Op.{Op}
+use Rattle.script_grammar.specs.Script.{Line}
+use Rattle.wire_form.specs.declared.clock.Mark.{Mark}
+use Rattle.log_writer.specs.Journal.{Reaches}
+use Rattle.engine_words.specs.declared.view.View.{View}
+use Rattle.tx_commit.specs.Live.{IsOver}
+use Rattle.tx_script.specs.declared.outcome.Outcome.{Outcome}
+use Rattle.worker_logs.specs.Logs.{LogState}
+use Rattle.worker_cells.specs.declared.cell.LogEnd.{LogEnd}
+use Rattle.worker_cells.specs.Cells.{IsCell, IsShown, IsTied, ReadiesSome, RunsCell, RunsLines, StepsOne, StopsSome}
+use Rattle.worker_cells.specs.Cells.{StopsOne}
+use Rattle.worker_cells.specs.InARow.{row_layout, row_role}
+use Rattle.worker_cells.proofs.LinesOf.{HasOps, count_more, front_of, ops_of, take_mine}
+use Rattle.worker_cells.proofs.LinesOf.{take_other}
+use Rattle.worker_cells.proofs.Loop.{lines_begin, lines_marked, lines_step, some_lines, stops_step}
+
+-- a list with nothing in it
+empty_of : {X : Type 0} (xs : List X) → length xs ≡ 0 → xs ≡ []
+empty_of [] is = refl
+empty_of (x ∷ xs) is = absurd (omega (arith, is))
+
+-- The first lines of a round were run that are the worker's, so many, or left out. Where there were none the pass has
+-- seen no other epoch.
+pub record SoFar {D : Type 0} (tells : D → Option (List ℕ)) (clock : D → ℕ) (image_at : D → ℕ → List ℕ → Type 0)
+    (faults : D → ℕ) (tries worker i : ℕ) (lines : List Line) (outcomes : List Outcome) (end : LogEnd)
+    (shown : Option Mark) (count : ℕ) (v w : View) (old new : LogState) (before now : D) : Type 0 where
+  pub high : ℕ
+  pub runs : RunsLines tells clock image_at faults tries high (ops_of worker (take i lines)) outcomes end.full v w
+      old new before now
+  pub shown_is : IsShown shown new.mark w.seat.marks
+  pub failed : end.failed ≡ is_some new.journal.down
+  pub count_is : count ≡ length (ops_of worker (take i lines))
+  pub few : count ≤ i
+  pub idle : ops_of worker (take i lines) ≡ [] → high ≡ w.epoch
+
+module _ {D : Type 0} {tells : D → Option (List ℕ)} {clock : D → ℕ} {image_at : D → ℕ → List ℕ → Type 0}
+    {faults : D → ℕ} where
+  -- no line
+  pub so_begin : (tries worker : ℕ) (lines : List Line) (outcomes : List Outcome) (end : LogEnd) (shown : Option Mark)
+      {v : View} {log : LogState} {bank : D} → IsCell tells v log bank → outcomes ≡ [] → end.full ≡ None
+      → end.failed ≡ is_some log.journal.down → IsShown shown log.mark v.seat.marks
+      → SoFar tells clock image_at faults tries worker 0 lines outcomes end shown 0 v v log log bank bank
+  so_begin tries worker lines outcomes end shown {v = v} {log = log} {bank = bank} is none full failed shows = record {
+    high = v.epoch;
+    runs = subst (λ o. RunsLines tells clock image_at faults tries v.epoch [] o end.full v v log log bank bank)
+        (sym none)
+        (subst (λ f. RunsLines tells clock image_at faults tries v.epoch [] [] f v v log log bank bank) (sym full)
+        (lines_begin tries is));
+    shown_is = shows;
+    failed = failed;
+    count_is = refl;
+    few = omega arith;
+    idle = λ none. refl;
+  }
+
+  -- a line of another worker was passed over
+  pub so_other : {tries worker i count : ℕ} {lines : List Line} {outcomes : List Outcome} {end : LogEnd}
+      {shown : Option Mark} {v w : View} {old new : LogState} {before now : D} → HasOps worker lines i None
+      → SoFar tells clock image_at faults tries worker i lines outcomes end shown count v w old new before now
+      → SoFar tells clock image_at faults tries worker (i + 1) lines outcomes end shown count v w old new before now
+  so_other {tries = tries} {worker = worker} {i = i} {lines = lines} {outcomes = outcomes} {end = end} {v = v} {w = w}
+      {old = old} {new = new} {before = before} {now = now} has so =
+      let same : ops_of worker (take (i + 1) lines) ≡ ops_of worker (take i lines) = take_other worker lines i has in
+      record {
+        high = so.high;
+        runs = subst (λ l. RunsLines tells clock image_at faults tries so.high l outcomes end.full v w old new
+            before now)
+            (sym same) so.runs;
+        shown_is = so.shown_is;
+        failed = so.failed;
+        count_is = so.count_is ∙ sym (ap length same);
+        few = omega (arith, so.few);
+        idle = λ none. so.idle (sym same ∙ none);
+      }
+
+  -- one of the worker was run, or left out
+  pub so_step : {tries worker i count : ℕ} {lines : List Line} {outcomes after : List Outcome} {first end : LogEnd}
+      {shown shows : Option Mark} {v w x : View} {old mid left : LogState} {before between now : D} (ops : List Op)
+      → HasOps worker lines i (Some ops)
+      → SoFar tells clock image_at faults tries worker i lines outcomes first shown count v w old mid before between
+      → StepsOne tells clock image_at faults tries ops outcomes after first end w x mid left between now
+      → IsShown shows left.mark x.seat.marks
+      → SoFar tells clock image_at faults tries worker (i + 1) lines after end shows (count + 1) v x old left before now
+  so_step {tries = tries} {worker = worker} {i = i} {count = count} {lines = lines} {outcomes = outcomes}
+      {after = after} {end = end} {v = v} {x = x} {old = old} {left = left} {before = before} {now = now} ops has so
+      steps is =
+      let one = lines_step ops so.runs so.failed steps in
+      let mine : ops_of worker (take (i + 1) lines) ≡ ops_of worker (take i lines) ++ ops ∷ [] =
+      take_mine worker lines i ops has in
+      record {
+        high = one.0;
+        runs = subst (λ l. RunsLines tells clock image_at faults tries one.0 l after end.full v x old left before now)
+            (sym mine) one.1;
+        shown_is = is;
+        failed = one.2;
+        count_is = count_more worker i count lines ops has so.count_is;
+        few = omega (arith, so.few);
+        idle = λ none. absurd (some_lines (ops_of worker (take i lines)) ops (sym mine ∙ none));
+      }
+
+  -- memory was wanted at one of them
+  pub so_stops : {tries worker i count : ℕ} {lines : List Line} {outcomes : List Outcome} {end : LogEnd}
+      {shown : Option Mark} {v w x : View} {old mid left : LogState} {before between now : D} (ops : List Op)
+      → HasOps worker lines i (Some ops)
+      → SoFar tells clock image_at faults tries worker i lines outcomes end shown count v w old mid before between
+      → StopsOne tells clock image_at faults tries ops end.full w x mid left between now
+      → StopsSome tells clock image_at faults tries (ops_of worker lines) v x old left before now
+  so_stops {worker = worker} {i = i} {lines = lines} ops has so stops =
+      stops_step ops (front_of worker i lines ops has) so.runs stops
+
+  -- behind the last line, with some of the worker: what waits was made durable, and marked
+  pub so_marked : {tries worker i count : ℕ} {lines : List Line} {outcomes : List Outcome} {end : LogEnd}
+      {shown : Option Mark} {v w x : View} {old mid left : LogState} {before between now : D} (failed : Bool)
+      → length lines ≤ i → 0 < count
+      → SoFar tells clock image_at faults tries worker i lines outcomes end shown count v w old mid before between
+      → ReadiesSome tells clock image_at faults w x mid left between now
+      → failed ≡ is_some left.journal.down → (left.journal.down ≡ None → left.journal.lines ≡ [])
+      → (left.journal.down ≡ None → IsTied left.mark x.seat.marks)
+      → RunsCell tells clock image_at faults tries (ops_of worker lines) outcomes (record end { failed = failed })
+      v x old left before now
+  so_marked {tries = tries} {worker = worker} {i = i} {lines = lines} {outcomes = outcomes} {end = end} {v = v} {x = x}
+      {old = old} {left = left} {before = before} {now = now} failed all some so readied is flushed tied =
+      let whole : take i lines ≡ lines = take_all i lines all in
+      let not : ops_of worker (take i lines) ≡ [] → ⊥ = λ none. omega (arith, some, so.count_is, ap length none) in
+      record {
+        lines_run = subst (λ l. RunsLines tells clock image_at faults tries x.epoch (ops_of worker l) outcomes
+            end.full v x
+            old left before now) whole (lines_marked readied.fault not so.runs readied.readies);
+        failed = is;
+        flushed = flushed;
+        tied = λ some up. tied up;
+      }
+
+  -- and with none
+  pub so_idle : {tries worker i : ℕ} {lines : List Line} {outcomes : List Outcome} {end : LogEnd}
+      {shown : Option Mark} {v w : View} {old new : LogState} {before now : D}
+      → length lines ≤ i → old.journal.lines ≡ []
+      → SoFar tells clock image_at faults tries worker i lines outcomes end shown 0 v w old new before now
+      → RunsCell tells clock image_at faults tries (ops_of worker lines) outcomes end v w old new before now
+  so_idle {tries = tries} {worker = worker} {i = i} {lines = lines} {outcomes = outcomes} {end = end} {v = v} {w = w}
+      {old = old} {new = new} {before = before} {now = now} all flushed so =
+      let whole : take i lines ≡ lines = take_all i lines all in
+      let none : ops_of worker (take i lines) ≡ [] = empty_of (ops_of worker (take i lines)) (sym so.count_is) in
+      record {
+        lines_run = subst (λ l. RunsLines tells clock image_at faults tries w.epoch (ops_of worker l) outcomes
+            end.full v w
+            old new before now) whole
+            (subst (λ h. RunsLines tells clock image_at faults tries h (ops_of worker (take i lines)) outcomes
+            end.full v w
+            old new before now) (so.idle none) so.runs);
+        failed = so.failed;
+        flushed = λ up. ap (λ (l : LogState). l.journal.lines) (so.runs.none none).0 ∙ flushed;
+        tied = λ some up. absurd (some (ap (ops_of worker) (sym whole) ∙ none));
+      }
+
+  -- ---- what a line of the worker finds
+
+  module _ {tries worker i count : ℕ} {lines : List Line} {outcomes : List Outcome} {end : LogEnd}
+      {shown : Option Mark} {v w : View} {old new : LogState} {before now : D}
+      (so : SoFar tells clock image_at faults tries worker i lines outcomes end shown count v w old new before now)
+    where
+      pub so_over : IsOver w
+      so_over = so.runs.did.over
+
+      pub so_role : w.role ≡ v.role
+      so_role = row_role tries v so.runs.ran w so.runs.did.row
+
+      pub so_layout : w.layout ≡ v.layout
+      so_layout = row_layout tries v so.runs.ran w so.runs.did.row
+
+      pub so_draws : 1 ≤ v.layout.first.draw → 1 ≤ w.layout.first.draw
+      so_draws some = subst (λ l. 1 ≤ l.first.draw) (sym (row_layout tries v so.runs.ran w so.runs.did.row)) some
+
+      pub so_reaches : Reaches tells now new.journal
+      so_reaches = so.runs.did.reaches

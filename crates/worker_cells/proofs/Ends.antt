@@ -1,0 +1,167 @@
+-- What came of a line, and what its log got.
+use Rattle.std.proofs.Common.{◌≡◌, ◌∙◌, ◌++◌, ◌≤◌, ◌<◌, ◌*◌, ◌-◌, ◌∷◌, refl, sym, ap, subst, ℕ, List, [], length, arith}
+use Rattle.std.proofs.Common.{None}
+use Rattle.std.specs.Prelude.{option_to_list, OnErr, OnOk, Result, Ok, Err}
+use Rattle.std.specs.List.{AllByRecursion}
+use Rattle.serial_model.specs.declared.number.Change.{Change}
+use Rattle.serial_model.specs.declared.number.Commit.{Commit}
+use Rattle.serial_model.specs.declared.op.Op.{Op}
+use Rattle.serial_model.specs.declared.reply.Reply.{Reply}
+use Rattle.serial_model.specs.declared.reply.Verdict.{Verdict}
+use Rattle.serial_model.specs.declared.decl.Decl.{Decl}
+use Rattle.serial_model.specs.History.{Entry}
+use Rattle.serial_model.specs.ReplyWords.{replies_words}
+use Rattle.wire_form.specs.LogFile.{IsChangeOf, IsLineOf}
+use Rattle.wire_form.specs.LogLine.{IsLogLine, IsLoggable}
+use Rattle.serial_bridge.specs.WriteSets.{EachCounts}
+use Rattle.engine_words.specs.declared.view.Refused.TheVariants as refusals
+use Rattle.engine_words.specs.declared.view.View.{View}
+use Rattle.tx_runner.specs.LineEnds.{HasCommittedLine}
+use Rattle.tx_runner.specs.LineWrites.{rising_counts}
+use Rattle.tx_runner.specs.Lines.{IsAnswered, IsOnArray}
+use Rattle.tx_runner.specs.Tries.{HasConflicted, IsAtLimit}
+use Rattle.tx_script.specs.declared.outcome.Outcome.{Outcome}
+use Rattle.tx_script.specs.declared.outcome.Outcome.TheVariants.{Committed, Conflict, Limit}
+use Rattle.worker_logs.specs.Logs.{LogState}
+use Rattle.worker_logs.specs.Rows.{TakesCommit}
+use Rattle.worker_cells.specs.Cells.{IsMarkedBelow, LogsLine, RunsOne}
+use Rattle.worker_cells.specs.Rows.{logged_by}
+use Rattle.worker_cells.proofs.Over.{mark_found}
+use Rattle.worker_cells.proofs.Placed.{attempt_of}
+use Rattle.worker_cells.proofs.Replies.{runs_few}
+use Rattle.wire_form.specs.declared.clock.Mark.{Mark}
+
+-- the entry of a committed line
+abbrev entry : List Op → Verdict → List Reply → Commit → Entry
+entry ops verdict replies commit = record {
+  round = 0;
+  worker = 0;
+  line = 0;
+  ops = ops;
+  verdict = verdict;
+  number = commit.number;
+  replies = replies;
+}
+
+-- it is answered so
+answered : (ops : List Op) (verdict : Verdict) (replies : List Reply) (commit : Commit)
+    → IsAnswered ops verdict commit.number replies (entry ops verdict replies commit)
+answered ops verdict replies commit = record { ops = refl; verdict = refl; number = refl; replies = refl }
+
+module _ {ops : List Op} {tries : ℕ} {verdict : Verdict} {replies : List Reply} {commit : Commit} {v w : View} where
+  -- its changes are of the declared storages
+  pub changes_of : HasCommittedLine ops tries verdict replies commit v w
+      → AllByRecursion (IsChangeOf v.layout.decls) commit.changes
+  changes_of line =
+      let counts : EachCounts commit.changes = rising_counts commit.changes line.rising in
+      subst (AllByRecursion (IsChangeOf v.layout.decls)) line.writes
+      (attempt_of v.layout.decls (entry ops verdict replies commit) line.attempt
+      (line.of (entry ops verdict replies commit) (answered ops verdict replies commit))
+      (subst EachCounts (sym line.writes) counts))
+
+  -- its replies take few words
+  pub replies_few : AllByRecursion (IsOnArray v.layout.decls) ops
+      → HasCommittedLine ops tries verdict replies commit v w
+      → length (replies_words replies) ≤ 2 * length ops
+  replies_few on line =
+      let is = line.of (entry ops verdict replies commit) (answered ops verdict replies commit) in
+      runs_few v.layout.decls line.attempt.parts ops [] _ on is.runs
+
+  -- it has a log line where it changed something
+  pub loggable : (mark : Mark) → 1 ≤ v.layout.first.draw → IsMarkedBelow mark v
+      → HasCommittedLine ops tries verdict replies commit v w → 1 ≤ length commit.changes → IsLoggable commit
+  loggable mark draws marked line some =
+      let above : v.epoch - 1 < commit.number.epoch = line.marked (v.epoch - 1) (mark_found mark v marked) in
+      record {
+        number = record {
+          some_epoch = omega (arith, above);
+          most_epoch = line.small.epoch;
+          some_draw = omega (arith, line.draw, draws);
+          most_draw = line.small.draw;
+        };
+        some = some;
+        most = line.most;
+        rising = line.rising;
+      }
+
+-- the line that is logged is of the storages
+line_of : (decls : List Decl) (commit : Commit) (changes : List Change)
+    → AllByRecursion (IsChangeOf decls) commit.changes
+    → AllByRecursion IsLogLine (option_to_list (logged_by commit changes))
+    → AllByRecursion (IsLineOf decls) (option_to_list (logged_by commit changes))
+line_of decls commit [] of line = tt
+line_of decls commit (first ∷ more) of line = (record { line = line.0; each = of }, tt)
+
+-- ---- what a line leaves of its log
+
+-- a line with this outcome was run, and its log got what it changed
+abbrev pub LogsAs : Outcome → ℕ → List Op → View → View → LogState → LogState → Type 0
+LogsAs outcome tries ops v w old new = (logs : LogsLine tries ops v w old new) × (logs.outcome ≡ outcome)
+
+pub committed_logs : (tries : ℕ) (ops : List Op) (verdict : Verdict) (replies : List Reply) (commit : Commit)
+    (v w : View) (old new : LogState)
+    → HasCommittedLine ops tries verdict replies commit v w
+    → TakesCommit (logged_by commit commit.changes) old new
+    → AllByRecursion IsLogLine (option_to_list (logged_by commit commit.changes))
+    → LogsAs (Committed verdict commit.number replies) tries ops v w old new
+committed_logs tries ops verdict replies commit v w old new line takes logged = (
+  record {
+    outcome = Committed verdict commit.number replies;
+    refused = line.whys;
+    logged = logged_by commit commit.changes;
+    comes = (commit, refl, refl, line, refl);
+    line = line_of v.layout.decls commit commit.changes (changes_of line) logged;
+    takes = takes;
+  },
+  refl,
+)
+
+pub conflict_logs : (tries : ℕ) (ops : List Op) (v w : View) (log : LogState) → HasConflicted tries v w
+    → LogsAs Conflict tries ops v w log log
+conflict_logs tries ops v w log line = (
+  record {
+    outcome = Conflict;
+    refused = line.whys;
+    logged = None;
+    comes = (refl, line, refl);
+    line = tt;
+    takes = refl;
+  },
+  refl,
+)
+
+pub limit_logs : (tries : ℕ) (ops : List Op) (v w : View) (log : LogState) → IsAtLimit tries v w
+    → LogsAs Limit tries ops v w log log
+limit_logs tries ops v w log line = (
+  record {
+    outcome = Limit;
+    refused = line.refused.whys ++ refusals.NumberLimit line.clock ∷ [];
+    logged = None;
+    comes = (refl, line, refl);
+    line = tt;
+    takes = refl;
+  },
+  refl,
+)
+
+-- and its outcome was kept
+pub kept_one : {outcome : Outcome} {tries : ℕ} {ops : List Op} {was told : List Outcome} {v w : View}
+    {old new : LogState} → LogsAs outcome tries ops v w old new → told ≡ was ++ outcome ∷ []
+    → RunsOne tries ops was told v w old new
+kept_one {was = was} one told = record {
+  logs = one.0;
+  told_is = told ∙ ap (λ o. was ++ o ∷ []) (sym one.1);
+}
+
+-- what is known where a call was done, or where it wanted memory
+pub ok_then : {T E P Q : Type 0} (result : Result T E) → (P → Q) → OnOk result P → OnOk result Q
+ok_then (Ok x) from is = from is
+ok_then (Err e) from is = tt
+
+pub err_then : {T E P : Type 0} (result : Result T E) → P → OnErr result P
+err_then (Ok x) is = tt
+err_then (Err e) is = is
+
+pub err_map : {T E P Q : Type 0} (result : Result T E) → (P → Q) → OnErr result P → OnErr result Q
+err_map (Ok x) from is = tt
+err_map (Err e) from is = from is

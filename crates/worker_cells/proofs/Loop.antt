@@ -1,0 +1,257 @@
+-- The loop over the lines of a cell: a line more that was run, or left out, and the mark behind the last one.
+use Rattle.std.proofs.Common.{◌≡◌, ◌∙◌, ◌++◌, ◌∷◌, ◌⊎◌, inl, inr, refl, sym, ap, subst, ℕ, List, []}
+use Rattle.std.proofs.Common.{Bool, true, true≢false, Option, Some, None, append_assoc}
+use Rattle.std.specs.Prelude.{is_some}
+use Rattle.std.proofs.lemmas.List.{append-nil}
+use Rattle.lists.specs.Fronts.{IsFront, front_append, front_then}
+use Rattle.serial_model.specs.declared.number.Commit.{Commit}
+use Rattle.serial_model.specs.declared.op.Op.{Op}
+use Rattle.log_writer.specs.declared.journal.LogFault.{LogFault}
+use Rattle.log_writer.specs.declared.journal.LogFault.TheVariants.{Limit as AtLimit}
+use Rattle.engine_words.specs.declared.view.View.{View}
+use Rattle.tx_runner.specs.Epochs.{HasSeenEpoch}
+use Rattle.tx_script.specs.declared.outcome.Outcome.{Outcome}
+use Rattle.tx_script.specs.declared.outcome.Outcome.TheVariants.{Unrun}
+use Rattle.worker_logs.specs.Logs.{LogState}
+use Rattle.worker_logs.specs.Rows.{IsFull, TakesCommit, full_after}
+use Rattle.worker_logs.specs.RowLaws.{full_at, never_up, still_down, still_full, was_up}
+use Rattle.worker_cells.specs.Cells.{IsCell, IsMarkedBelow, Readies, RunsLines, RunsOne, StepsOne, StopsCell, StopsOne}
+use Rattle.worker_cells.specs.Cells.{StopsSome}
+use Rattle.worker_cells.specs.declared.cell.LogEnd.{LogEnd}
+use Rattle.worker_cells.specs.Rows.{LineRan, lines_of, outcomes_of, unrun}
+use Rattle.worker_cells.proofs.Over.{ran_begin, ran_line, ran_ready, ran_seen}
+
+-- ---- lists
+
+pub lines_push : (ran : List LineRan) (line : LineRan) → lines_of (ran ++ line ∷ []) ≡ lines_of ran ++ line.ops ∷ []
+lines_push [] line = refl
+lines_push (first ∷ ran) line = ap (λ l. first.ops ∷ l) (lines_push ran line)
+
+pub outcomes_push : (ran : List LineRan) (line : LineRan)
+    → outcomes_of (ran ++ line ∷ []) ≡ outcomes_of ran ++ line.outcome ∷ []
+outcomes_push [] line = refl
+outcomes_push (first ∷ ran) line = ap (λ o. first.outcome ∷ o) (outcomes_push ran line)
+
+pub unrun_push : (left : List (List Op)) (ops : List Op) → unrun (left ++ ops ∷ []) ≡ unrun left ++ Unrun ∷ []
+unrun_push [] ops = refl
+unrun_push (first ∷ left) ops = ap (λ o. Unrun ∷ o) (unrun_push left ops)
+
+pub some_lines : (lines : List (List Op)) (ops : List Op) → lines ++ ops ∷ [] ≡ [] → ⊥
+some_lines [] ops is = absurd cc
+some_lines (first ∷ lines) ops is = absurd cc
+
+-- what was run are first ones of all lines
+ran_front : (ran : List LineRan) (left lines : List (List Op)) (ops : List Op) (all : List (List Op))
+    → lines ≡ lines_of ran ++ left → IsFront (lines ++ ops ∷ []) all → IsFront (lines_of ran) all
+ran_front ran left lines ops all whole front =
+    front_then (lines_of ran) (lines ++ ops ∷ []) all
+    (front_then (lines_of ran) lines (lines ++ ops ∷ [])
+    (subst (IsFront (lines_of ran)) (sym whole) (front_append (lines_of ran) left)) (front_append lines (ops ∷ [])))
+    front
+
+-- a commit leaves a log as up as it was
+down_took : (mid new : LogState) (commit : Option Commit) → TakesCommit commit mid new
+    → new.journal.down ≡ mid.journal.down
+down_took mid new None takes = ap (λ (l : LogState). l.journal.down) takes
+down_took mid new (Some c) takes = takes.down
+
+-- a log that was refused takes no line
+shut : (failed : Bool) (full : Option ℕ) (down : Option ℕ) → failed ≡ is_some down
+    → (failed ≡ true) ⊎ (is_some full ≡ true) → full ≡ None → down ≡ None → ⊥
+shut failed full down is (inl refused) none up = true≢false (sym refused ∙ is ∙ ap is_some up)
+shut failed full down is (inr refused) none up = true≢false (sym refused ∙ ap is_some none)
+
+module _ {D : Type 0} {tells : D → Option (List ℕ)} {clock : D → ℕ} {image_at : D → ℕ → List ℕ → Type 0}
+    {faults : D → ℕ} where
+  -- no line
+  pub lines_begin : (tries : ℕ) {v : View} {log : LogState} {bank : D} → IsCell tells v log bank
+      → RunsLines tells clock image_at faults tries v.epoch [] [] None v v log log bank bank
+  lines_begin tries is = record {
+    ran = [];
+    left = [];
+    whole = refl;
+    told = refl;
+    did = ran_begin tries is;
+    full_is = λ size is. absurd (let no = is in cc);
+    all = λ none up. refl;
+    none = λ none. (refl, refl, refl);
+  }
+
+  -- a line was run, as the log was not refused before
+  pub lines_ran : {tries high : ℕ} {lines : List (List Op)} {outcomes after : List Outcome} {full : Option ℕ}
+      {v w x y : View} {old mid ready left : LogState} {before between now : D} (ops : List Op) → full ≡ None
+      → RunsLines tells clock image_at faults tries high lines outcomes full v w old mid before between
+      → Readies tells clock image_at faults None w x mid ready between now
+      → IsMarkedBelow ready.mark x
+      → (one : RunsOne tries ops outcomes after x y ready left)
+      → RunsLines tells clock image_at faults tries x.epoch (lines ++ ops ∷ []) after full v y old left before now
+  lines_ran {tries = tries} {lines = lines} {outcomes = outcomes} {full = full} {x = x} {y = y} {ready = ready} ops
+      unfilled so readied marked one =
+      let none : so.left ≡ [] = so.all unfilled (was_up readied.moves) in
+      let line : LineRan = record {
+        ops = ops;
+        outcome = one.logs.outcome;
+        refused = one.logs.refused;
+        logged = one.logs.logged;
+        before = x;
+        after = y;
+      } in
+      record {
+        ran = so.ran ++ line ∷ [];
+        left = [];
+        whole = ap (λ l. l ++ ops ∷ []) (so.whole ∙ ap (λ l. lines_of so.ran ++ l) none ∙ append-nil (lines_of so.ran))
+            ∙ sym (lines_push so.ran line) ∙ sym (append-nil (lines_of (so.ran ++ line ∷ [])));
+        told = one.told_is ∙ ap (λ o. o ++ one.logs.outcome ∷ [])
+            (so.told ∙ ap (λ l. outcomes_of so.ran ++ unrun l) none ∙ append-nil (outcomes_of so.ran))
+            ∙ sym (outcomes_push so.ran line) ∙ sym (append-nil (outcomes_of (so.ran ++ line ∷ [])));
+        did = ran_line ops refl (ran_ready None so.did readied) marked one.logs;
+        full_is = λ size is. absurd (let no = sym unfilled ∙ is in cc);
+        all = λ no up. refl;
+        none = λ is. absurd (some_lines lines ops is);
+      }
+
+  -- behind a log that was refused before a line is left out
+  pub lines_passed : {tries high : ℕ} {lines : List (List Op)} {outcomes after : List Outcome} {full : Option ℕ}
+      {v w : View} {old log : LogState} {before now : D} (ops : List Op)
+      → (full ≡ None → log.journal.down ≡ None → ⊥)
+      → RunsLines tells clock image_at faults tries high lines outcomes full v w old log before now
+      → after ≡ outcomes ++ Unrun ∷ []
+      → RunsLines tells clock image_at faults tries high (lines ++ ops ∷ []) after full v w old log before now
+  lines_passed {lines = lines} ops shut so told = record {
+    ran = so.ran;
+    left = so.left ++ ops ∷ [];
+    whole = ap (λ l. l ++ ops ∷ []) so.whole ∙ append_assoc (lines_of so.ran) so.left (ops ∷ []);
+    told = told ∙ ap (λ o. o ++ Unrun ∷ []) so.told ∙ append_assoc (outcomes_of so.ran) (unrun so.left) (Unrun ∷ [])
+        ∙ ap (λ o. outcomes_of so.ran ++ o) (sym (unrun_push so.left ops));
+    did = so.did;
+    full_is = so.full_is;
+    all = λ none up. absurd (shut none up);
+    none = λ is. absurd (some_lines lines ops is);
+  }
+
+  -- the log refused a line
+  pub lines_left : {tries high : ℕ} {lines : List (List Op)} {outcomes after : List Outcome} {full : Option ℕ}
+      {v w x : View} {old mid left : LogState} {before between now : D} (ops : List Op) (fault : LogFault)
+      → RunsLines tells clock image_at faults tries high lines outcomes full v w old mid before between
+      → Readies tells clock image_at faults (Some fault) w x mid left between now
+      → ((size : ℕ) → fault ≡ AtLimit size → IsFull size mid.journal)
+      → after ≡ outcomes ++ Unrun ∷ []
+      → RunsLines tells clock image_at faults tries x.epoch (lines ++ ops ∷ []) after (full_after fault full) v x
+      old left before now
+  lines_left {lines = lines} {full = full} ops fault so readied limit told = record {
+    ran = so.ran;
+    left = so.left ++ ops ∷ [];
+    whole = ap (λ l. l ++ ops ∷ []) so.whole ∙ append_assoc (lines_of so.ran) so.left (ops ∷ []);
+    told = told ∙ ap (λ o. o ++ Unrun ∷ []) so.told ∙ append_assoc (outcomes_of so.ran) (unrun so.left) (Unrun ∷ [])
+        ∙ ap (λ o. outcomes_of so.ran ++ o) (sym (unrun_push so.left ops));
+    did = ran_ready (Some fault) so.did readied;
+    full_is = λ size is. still_full readied.moves (full_at fault full limit so.full_is size is);
+    all = λ none up. absurd (never_up fault full readied.moves none up);
+    none = λ is. absurd (some_lines lines ops is);
+  }
+
+  -- What waits was made durable at the end, and marked.
+  pub lines_marked : {tries high : ℕ} {lines : List (List Op)} {outcomes : List Outcome} {full : Option ℕ}
+      {v w x : View} {old mid left : LogState} {before between now : D} (fault : Option LogFault)
+      → (lines ≡ [] → ⊥)
+      → RunsLines tells clock image_at faults tries high lines outcomes full v w old mid before between
+      → Readies tells clock image_at faults fault w x mid left between now
+      → RunsLines tells clock image_at faults tries x.epoch lines outcomes full v x old left before now
+  lines_marked fault some so readied = record {
+    ran = so.ran;
+    left = so.left;
+    whole = so.whole;
+    told = so.told;
+    did = ran_ready fault so.did readied;
+    full_is = λ size is. still_full readied.moves (so.full_is size is);
+    all = λ no up. so.all no (still_down fault readied.moves up);
+    none = λ is. absurd (some is);
+  }
+
+  -- ---- a line of a cell
+
+  -- a line more, whatever was done with it
+  pub lines_step : {tries high : ℕ} {lines : List (List Op)} {outcomes after : List Outcome} {first end : LogEnd}
+      {v w x : View} {old mid left : LogState} {before between now : D} (ops : List Op)
+      → RunsLines tells clock image_at faults tries high lines outcomes first.full v w old mid before between
+      → first.failed ≡ is_some mid.journal.down
+      → StepsOne tells clock image_at faults tries ops outcomes after first end w x mid left between now
+      → (later : ℕ)
+      × RunsLines tells clock image_at faults tries later (lines ++ ops ∷ []) after end.full v x old left before now
+      × (end.failed ≡ is_some left.journal.down)
+  lines_step {tries = tries} {high = high} {lines = lines} {outcomes = outcomes} {after = after} {first = first}
+      {end = end} {v = v} {w = w} {x = x} {old = old} {mid = mid} {left = left} {before = before} {between = between}
+      {now = now} ops so failed (inl (same, up, unfilled, ran)) = (
+        ran.mid.epoch,
+        subst (λ (e : LogEnd). RunsLines tells clock image_at faults tries ran.mid.epoch (lines ++ ops ∷ []) after
+            e.full v x
+            old left before now) (sym same) (lines_ran ops unfilled so ran.readies ran.marked ran.one),
+        ap (λ (e : LogEnd). e.failed) same ∙ failed
+            ∙ ap is_some (sym (down_took ran.ready left ran.one.logs.logged ran.one.logs.takes
+            ∙ ran.readies.moves.stays_up (λ is. cc))),
+      )
+  lines_step {tries = tries} {lines = lines} {after = after} {end = end} {v = v} {x = x} {old = old} {left = left}
+      {before = before} {now = now} ops so failed (inr (inl (unfilled, refused))) = (
+        x.epoch,
+        subst (λ f. RunsLines tells clock image_at faults tries x.epoch (lines ++ ops ∷ []) after f v x old left
+            before now)
+            (ap (full_after refused.fault) unfilled ∙ sym refused.full)
+            (lines_left ops refused.fault so refused.readies refused.limit refused.told_is),
+        refused.failed,
+      )
+  lines_step {tries = tries} {high = high} {lines = lines} {after = after} {first = first} {v = v} {w = w} {x = x}
+      {old = old} {mid = mid} {before = before} {between = between} ops so failed (inr (inr passed)) =
+      rw (passed.end_is, passed.view, passed.log, passed.bank) (
+        high,
+        lines_passed ops (shut first.failed first.full mid.journal.down failed passed.refused) so passed.told_is,
+        failed,
+      )
+
+  -- memory was wanted at a line, behind the first ones
+  pub stops_step : {tries high : ℕ} {lines all : List (List Op)} {outcomes : List Outcome} {full : Option ℕ}
+      {v w x : View} {old mid left : LogState} {before between now : D} (ops : List Op)
+      → IsFront (lines ++ ops ∷ []) all
+      → RunsLines tells clock image_at faults tries high lines outcomes full v w old mid before between
+      → StopsOne tells clock image_at faults tries ops full w x mid left between now
+      → StopsSome tells clock image_at faults tries all v x old left before now
+  stops_step {tries = tries} {high = high} {lines = lines} {all = all} {v = v} {old = old} {before = before}
+      ops front so (inl (view, log, bank)) = rw (view, log, bank) (record {
+        high = high;
+        stops = record { ran = so.ran; front = ran_front so.ran so.left lines ops all so.whole front; did = so.did };
+      })
+  stops_step {lines = lines} {all = all} {x = x} ops front so (inr (inl some)) = record {
+    high = x.epoch;
+    stops = record {
+      ran = so.ran;
+      front = ran_front so.ran so.left lines ops all so.whole front;
+      did = ran_ready some.fault so.did some.readies;
+    };
+  }
+  stops_step {tries = tries} {lines = lines} {all = all} {x = x} ops front so (inr (inr (unfilled, ran))) =
+      let none : so.left ≡ [] = so.all unfilled (was_up ran.readies.moves) in
+      let line : LineRan = record {
+        ops = ops;
+        outcome = ran.one.outcome;
+        refused = ran.one.refused;
+        logged = ran.one.logged;
+        before = ran.mid;
+        after = x;
+      } in
+      record {
+        high = ran.mid.epoch;
+        stops = record {
+          ran = so.ran ++ line ∷ [];
+          front = subst (λ l. IsFront l all)
+              (ap (λ l. l ++ ops ∷ []) (so.whole ∙ ap (λ l. lines_of so.ran ++ l) none ∙ append-nil (lines_of so.ran))
+              ∙ sym (lines_push so.ran line)) front;
+          did = ran_line ops refl (ran_ready None so.did ran.readies) ran.marked ran.one;
+        };
+      }
+
+  -- what memory was wanted behind, as the clock was loaded once more
+  pub stops_seen : {tries epoch : ℕ} {all : List (List Op)} {v w x : View} {old new : LogState} {before now : D}
+      → StopsSome tells clock image_at faults tries all v w old new before now → HasSeenEpoch epoch w x
+      → StopsCell tells clock image_at faults tries all v x old new before now
+  stops_seen so seen = record {
+    stops = record { ran = so.stops.ran; front = so.stops.front; did = ran_seen so.stops.did seen };
+  }

@@ -1,0 +1,225 @@
+-- What a worker's lines of a round leave of its cell: of its pass, of its log and of its log file.
+use Rattle.std.specs.Prelude.{◌≡◌, ◌⊎◌, ◌+◌, ◌-◌, ◌≤◌, ◌<◌, ◌++◌, ℕ, List, [], ◌∷◌, Option, Some, None, is_some}
+use Rattle.std.specs.Prelude.{Bool, false, option_to_list, true, ⊤}
+use Rattle.std.specs.List.{AllByRecursion}
+use Rattle.lists.specs.Fronts.{IsFront}
+use Rattle.serial_model.specs.declared.number.Commit.{Commit}
+use Rattle.serial_model.specs.declared.op.Op.{Op}
+use Rattle.wire_form.specs.LogFile.{IsLineOf}
+use Rattle.wire_form.specs.declared.clock.Mark.{Mark}
+use Rattle.commit_core.specs.CoreState.{last_marked}
+use Rattle.commit_core.specs.declared.seat.Mark as core
+use Rattle.log_writer.specs.Journal.{Reaches}
+use Rattle.log_writer.specs.declared.journal.LogFault.{LogFault}
+use Rattle.log_writer.specs.declared.journal.LogFault.TheVariants.{Device, Down, Limit as AtLimit}
+use Rattle.engine_words.specs.declared.view.Refused.{Refused}
+use Rattle.engine_words.specs.declared.view.View.{View}
+use Rattle.tx_commit.specs.Live.{IsOver}
+use Rattle.tx_runner.specs.Epochs.{IsMarkedUpTo}
+use Rattle.tx_script.specs.declared.outcome.Outcome.{Outcome}
+use Rattle.tx_script.specs.declared.outcome.Outcome.TheVariants.{Unrun}
+use Rattle.worker_logs.specs.Logs.{LogState}
+use Rattle.worker_logs.specs.Moves.{MovesLog}
+use Rattle.worker_logs.specs.Rows.{Blames, IsFull, IsLogUp, KeepsMarkIn, LogTakes, TakesCommit, full_after}
+use Rattle.worker_cells.specs.Rows.{AreInARow, ComesOf, Goes, IsSince, LineRan, lines_of, logged_of, outcomes_of, unrun}
+use Rattle.worker_cells.specs.declared.cell.LogEnd.{LogEnd}
+
+-- ---- the mark on the words, and that of the log
+
+-- the log's mark, as the words have it
+abbrev pub core_mark : Mark → core.Mark
+core_mark mark = record { epoch = mark.epoch; length = mark.length }
+
+-- the last mark of a seat is that of its log, which names an epoch
+pub record IsTied (mark : Mark) (marks : List core.Mark) : Type 0 where
+  pub earlier : List core.Mark
+  pub last : marks ≡ earlier ++ core_mark mark ∷ []
+  pub epoch : ℕ
+  pub named : mark.epoch ≡ Some epoch
+
+-- What a thread knows to stand on the words for its seat: nothing yet, or its log's mark.
+abbrev pub IsShown : Option Mark → Mark → List core.Mark → Type 0
+IsShown None mark marks = ⊤
+IsShown (Some shown) mark marks = (shown ≡ mark) × IsTied mark marks
+
+-- The log has this mark now, which is the one that it had, or of the epoch before this one of the clock. The one that
+-- it had is what its thread knows to stand on the words, if it knows that.
+abbrev pub IsShownBefore : ℕ → Option Mark → Mark → List core.Mark → Type 0
+IsShownBefore clock None mark marks = ⊤
+IsShownBefore clock (Some shown) mark marks =
+    IsTied shown marks × ((mark ≡ shown) ⊎ (mark.epoch ≡ Some (clock - 1)))
+
+-- The log's mark is of the epoch before the one that the pass saw, on the words too: no commit that is still to come is
+-- of the mark's epoch or an earlier one.
+pub record IsMarkedBelow (mark : Mark) (v : View) : Type 0 where
+  pub some : 1 ≤ v.epoch
+  pub epoch : mark.epoch ≡ Some (v.epoch - 1)
+  pub tied : IsTied mark v.seat.marks
+
+-- An epoch that the pass has reached: none above the one that it saw last, or above the one behind its last mark. No
+-- later load of the clock finds an earlier one.
+abbrev pub IsReached : ℕ → View → Type 0
+IsReached epoch v = (epoch ≤ v.epoch) ⊎ (epoch ≤ last_marked v.seat.marks + 1)
+
+-- What a cell has as its lines of a round begin: no transaction is under way, and its log is up and nothing waits in
+-- it. The first draw is none of a record that was never written.
+pub record IsCell {D : Type 0} (tells : D → Option (List ℕ)) (v : View) (log : LogState) (bank : D) : Type 0 where
+  pub over : IsOver v
+  pub draws : 1 ≤ v.layout.first.draw
+  pub up : IsLogUp tells log bank
+  pub flushed : log.journal.lines ≡ []
+
+-- ---- one line
+
+-- what refused the log was its log file
+abbrev pub fails : LogFault → Bool
+fails Device = true
+fails (Down count) = true
+fails (AtLimit size) = false
+
+-- A line was run, and its log got what it changed.
+pub record LogsLine (tries : ℕ) (ops : List Op) (v w : View) (old new : LogState) : Type 0 where
+  pub outcome : Outcome
+  pub refused : List Refused
+  pub logged : Option Commit
+  pub comes : ComesOf tries ops outcome refused logged v w
+  pub line : AllByRecursion (IsLineOf v.layout.decls) (option_to_list logged)
+  pub takes : TakesCommit logged old new
+
+-- and its outcome was kept
+pub record RunsOne (tries : ℕ) (ops : List Op) (was told : List Outcome) (v w : View) (old new : LogState)
+    : Type 0 where
+  pub logs : LogsLine tries ops v w old new
+  pub told_is : told ≡ was ++ logs.outcome ∷ []
+
+module _ {D : Type 0} (tells : D → Option (List ℕ)) (clock : D → ℕ) (image_at : D → ℕ → List ℕ → Type 0)
+    (faults : D → ℕ) where
+  -- ---- between lines
+
+  -- The clock was loaded, and calls of the log were made at that epoch, which is none below the one that the pass saw,
+  -- and above each mark that its seat had.
+  pub record Readies (fault : Option LogFault) (v w : View) (old new : LogState) (before now : D) : Type 0 where
+    pub goes : Goes v w
+    pub over : IsOver w
+    pub rises : v.epoch ≤ w.epoch
+    pub above : last_marked v.seat.marks < w.epoch
+    pub moves : MovesLog tells clock image_at faults (w.epoch - 1) old new before now fault
+
+  -- the same, whatever the log answered
+  pub record ReadiesSome (v w : View) (old new : LogState) (before now : D) : Type 0 where
+    pub fault : Option LogFault
+    pub readies : Readies fault v w old new before now
+
+  -- ---- what the lines that were run did
+
+  -- These lines were run from the one view to the other, at epochs from the one that the pass had seen as the round
+  -- began up to this one, and the log took what they changed.
+  pub record RanOver (tries high : ℕ) (ran : List LineRan) (v w : View) (old new : LogState) (before now : D)
+      : Type 0 where
+    pub row : AreInARow tries v ran w
+    pub over : IsOver w
+    pub later : v.epoch ≤ high
+    pub reached : IsReached high w
+    pub since : AllByRecursion (λ (line : LineRan). IsSince v.epoch line.outcome) ran
+    -- before each line the mark of the seat holds back no epoch before the one that the pass saw
+    pub marked : AllByRecursion (λ (line : LineRan). IsMarkedUpTo line.before.epoch line.before) ran
+    pub lines_are : AllByRecursion (IsLineOf v.layout.decls) (logged_of ran)
+    pub takes : LogTakes tells clock image_at v.epoch high (logged_of ran) old new before now
+    pub mark : KeepsMarkIn v.epoch high old new
+    pub blames : Blames faults before now new.journal
+    pub reaches : Reaches tells now new.journal
+    pub limit : new.journal.limit ≡ old.journal.limit
+
+  -- ---- a line of a cell
+
+  -- the log was made ready for it at the epoch that the pass saw, and it was run
+  pub record RanNow (tries : ℕ) (ops : List Op) (was told : List Outcome) (v w : View) (old new : LogState)
+      (before now : D) : Type 0 where
+    pub mid : View
+    pub ready : LogState
+    pub readies : Readies None v mid old ready before now
+    pub marked : IsMarkedBelow ready.mark mid
+    pub one : RunsOne tries ops was told mid w ready new
+
+  -- the log refused it
+  pub record LeftNow (was told : List Outcome) (end : LogEnd) (v w : View) (old new : LogState) (before now : D)
+      : Type 0 where
+    pub fault : LogFault
+    pub readies : Readies (Some fault) v w old new before now
+    pub limit : (size : ℕ) → fault ≡ AtLimit size → IsFull size old.journal
+    pub told_is : told ≡ was ++ Unrun ∷ []
+    pub full : end.full ≡ full_after fault None
+    pub failed : end.failed ≡ is_some new.journal.down
+
+  -- it had been refused before
+  pub record PassedNow (was told : List Outcome) (first end : LogEnd) (v w : View) (old new : LogState) (before now : D)
+      : Type 0 where
+    pub refused : (first.failed ≡ true) ⊎ (is_some first.full ≡ true)
+    pub told_is : told ≡ was ++ Unrun ∷ []
+    pub end_is : end ≡ first
+    pub view : w ≡ v
+    pub log : new ≡ old
+    pub bank : now ≡ before
+
+  -- What a line leaves of a cell whose log was refused so before, or not at all.
+  abbrev pub StepsOne : ℕ → List Op → List Outcome → List Outcome → LogEnd → LogEnd → View → View → LogState → LogState
+      → D → D → Type 0
+  StepsOne tries ops was told first end v w old new before now =
+      ((end ≡ first) × (first.failed ≡ false) × (first.full ≡ None) × RanNow tries ops was told v w old new before now)
+      ⊎ ((first.full ≡ None) × LeftNow was told end v w old new before now)
+      ⊎ PassedNow was told first end v w old new before now
+
+  -- and the line was run, on a log that was not full before
+  pub record RanToo (tries : ℕ) (ops : List Op) (v w : View) (old new : LogState) (before now : D) : Type 0 where
+    pub mid : View
+    pub ready : LogState
+    pub readies : Readies None v mid old ready before now
+    pub marked : IsMarkedBelow ready.mark mid
+    pub one : LogsLine tries ops mid w ready new
+
+  -- Memory was wanted: the log was called or not, and the line was run or not.
+  abbrev pub StopsOne : ℕ → List Op → Option ℕ → View → View → LogState → LogState → D → D → Type 0
+  StopsOne tries ops full v w old new before now =
+      ((w ≡ v) × (new ≡ old) × (now ≡ before)) ⊎ ReadiesSome v w old new before now
+      ⊎ ((full ≡ None) × RanToo tries ops v w old new before now)
+
+  -- ---- all lines of a worker
+
+  -- Lines of a worker were run, one after another, and behind the last one that its log took none.
+  pub record RunsLines (tries high : ℕ) (lines : List (List Op)) (outcomes : List Outcome) (full : Option ℕ)
+      (v w : View) (old new : LogState) (before now : D) : Type 0 where
+    pub ran : List LineRan
+    pub left : List (List Op)
+    pub whole : lines ≡ lines_of ran ++ left
+    pub told : outcomes ≡ outcomes_of ran ++ unrun left
+    pub did : RanOver tries high ran v w old new before now
+    pub full_is : (size : ℕ) → full ≡ Some size → IsFull size new.journal
+    pub all : full ≡ None → new.journal.down ≡ None → left ≡ []
+    pub none : lines ≡ [] → (new ≡ old) × (now ≡ before) × (w ≡ v)
+
+  -- Memory was wanted, behind some first lines of a worker.
+  pub record StopsLines (tries high : ℕ) (lines : List (List Op)) (v w : View) (old new : LogState) (before now : D)
+      : Type 0 where
+    pub ran : List LineRan
+    pub front : IsFront (lines_of ran) lines
+    pub did : RanOver tries high ran v w old new before now
+
+  -- All lines of the worker were run, or left out. What waits was flushed then, and marked by the epoch that the pass
+  -- saw last, on the words too, if it had lines.
+  pub record RunsCell (tries : ℕ) (lines : List (List Op)) (outcomes : List Outcome) (end : LogEnd) (v w : View)
+      (old new : LogState) (before now : D) : Type 0 where
+    pub lines_run : RunsLines tries w.epoch lines outcomes end.full v w old new before now
+    pub failed : end.failed ≡ is_some new.journal.down
+    pub flushed : new.journal.down ≡ None → new.journal.lines ≡ []
+    pub tied : (lines ≡ [] → ⊥) → new.journal.down ≡ None → IsTied new.mark w.seat.marks
+
+  -- Some first lines were run, where memory was wanted, at epochs up to the one that the pass saw last.
+  pub record StopsCell (tries : ℕ) (lines : List (List Op)) (v w : View) (old new : LogState) (before now : D)
+      : Type 0 where
+    pub stops : StopsLines tries w.epoch lines v w old new before now
+
+  -- the same, up to some epoch
+  pub record StopsSome (tries : ℕ) (lines : List (List Op)) (v w : View) (old new : LogState) (before now : D)
+      : Type 0 where
+    pub high : ℕ
+    pub stops : StopsLines tries high lines v w old new before now

@@ -1,0 +1,87 @@
+-- What comes of a worker's lines on words that threads share, one after another.
+use Rattle.std.specs.Prelude.{◌≡◌, ◌≤◌, ◌++◌, ℕ, List, [], ◌∷◌, filter_map, flat_map, map, Option, Some, None, ⊤}
+use Rattle.serial_model.specs.declared.number.Change.{Change}
+use Rattle.serial_model.specs.declared.number.Commit.{Commit}
+use Rattle.serial_model.specs.declared.op.Op.{Op}
+use Rattle.engine_words.specs.declared.view.Refused.{Refused}
+use Rattle.engine_words.specs.declared.view.Refused.TheVariants as refusals
+use Rattle.engine_words.specs.declared.view.View.{View}
+use Rattle.engine_words.specs.Cuts.{HasSeen}
+use Rattle.tx_runner.specs.LineEnds.{HasCommittedLine}
+use Rattle.tx_runner.specs.Tries.{HasConflicted, IsAtLimit}
+use Rattle.tx_script.specs.declared.outcome.Outcome.{Outcome}
+use Rattle.tx_script.specs.declared.outcome.Outcome.TheVariants.{Committed, Conflict, Full, Wide, Limit, Unrun}
+
+-- ---- one line
+
+-- what the log gets of a commit with these changes: nothing where there are none
+abbrev pub logged_by : Commit → List Change → Option Commit
+logged_by commit [] = None
+logged_by commit (first ∷ more) = Some commit
+
+-- What came of a line with so many tries, from the one view to the other: its outcome, the refusals of its tries, and
+-- what the log gets. An array wants no slot, a line's operations fill no set, and a line that was left out isn't run.
+abbrev pub ComesOf : ℕ → List Op → Outcome → List Refused → Option Commit → View → View → Type 0
+ComesOf tries ops (Committed verdict number replies) refused logged v w =
+    (commit : Commit) × (commit.number ≡ number) × (logged ≡ logged_by commit commit.changes)
+    × (line : HasCommittedLine ops tries verdict replies commit v w) × (refused ≡ line.whys)
+ComesOf tries ops Conflict refused logged v w =
+    (logged ≡ None) × (line : HasConflicted tries v w) × (refused ≡ line.whys)
+ComesOf tries ops Limit refused logged v w =
+    (logged ≡ None) × (line : IsAtLimit tries v w)
+    × (refused ≡ line.refused.whys ++ refusals.NumberLimit line.clock ∷ [])
+ComesOf tries ops Full refused logged v w = ⊥
+ComesOf tries ops Wide refused logged v w = ⊥
+ComesOf tries ops Unrun refused logged v w = ⊥
+
+-- if the line was committed, its epoch is this one or a later one
+abbrev pub IsSince : ℕ → Outcome → Type 0
+IsSince epoch (Committed verdict number replies) = epoch ≤ number.epoch
+IsSince epoch Conflict = ⊤
+IsSince epoch Full = ⊤
+IsSince epoch Wide = ⊤
+IsSince epoch Limit = ⊤
+IsSince epoch Unrun = ⊤
+
+-- a line that was run, with what came of it, and the views between which it was run
+pub record LineRan : Type 0 where
+  pub ops : List Op
+  pub outcome : Outcome
+  pub refused : List Refused
+  pub logged : Option Commit
+  pub before : View
+  pub after : View
+
+-- ---- lines in a row
+
+-- Between two lines a pass loads the clock and sets its mark: of its commits and refusals none is new.
+pub record Goes (v w : View) : Type 0 where
+  pub seen : HasSeen v w
+  pub layout : w.layout ≡ v.layout
+  pub role : w.role ≡ v.role
+  pub mine : w.mine ≡ v.mine
+  pub refused : w.refused ≡ v.refused
+
+-- the lines were run one after another, each with so many tries, from the one view to the other
+abbrev pub AreInARow : ℕ → View → List LineRan → View → Type 0
+AreInARow tries v [] w = Goes v w
+AreInARow tries v (ran ∷ more) w =
+    Goes v ran.before × ComesOf tries ran.ops ran.outcome ran.refused ran.logged ran.before ran.after
+    × AreInARow tries ran.after more w
+
+-- their operations, their outcomes, the refusals of their tries, and what their log gets
+abbrev pub lines_of : List LineRan → List (List Op)
+lines_of ran = map (λ (line : LineRan). line.ops) ran
+
+abbrev pub outcomes_of : List LineRan → List Outcome
+outcomes_of ran = map (λ (line : LineRan). line.outcome) ran
+
+abbrev pub refused_of : List LineRan → List Refused
+refused_of ran = flat_map (λ (line : LineRan). line.refused) ran
+
+abbrev pub logged_of : List LineRan → List Commit
+logged_of ran = filter_map (λ (line : LineRan). line.logged) ran
+
+-- the outcomes of lines that were left out
+abbrev pub unrun : List (List Op) → List Outcome
+unrun lines = map (λ ops. Unrun) lines

@@ -1,0 +1,258 @@
+// One worker's lines of a round.
+ghost use Rattle.std.specs.Prelude.{◌≡◌, ◌⊎◌, ◌+◌, ◌<◌, ◌≤◌, [], Some, None, OnErr, OnOk, is_some, length};
+ghost use Rattle.std.specs.Prelude.{option_map, option_to_list, slice_get, true, false};
+ghost use Rattle.std.specs.List.{AllByRecursion};
+ghost use Rattle.std.specs.Option.{option_copied};
+ghost use Rattle.script_grammar.specs.Script.{lines_of_worker, ops_of_worker};
+ghost use Rattle.wire_form.specs.LogLine.{IsLogLine, IsLoggable};
+ghost use Rattle.log_writer.specs.Journal.{Reaches, end_of, free};
+ghost use Rattle.worker_logs.specs.Rows.{TakesCommit, full_after};
+ghost use Rattle.engine_words.specs.declared.view.Role.TheVariants.{Worker};
+ghost use Rattle.engine_words.specs.Passes.{IsPassOf, view};
+ghost use Rattle.tx_commit.specs.Live.{IsOver};
+ghost use Rattle.tx_runner.specs.Lines.{HasNoTree, IsOnArray};
+ghost use Rattle.tx_script.specs.Run.{CanRun};
+ghost use Rattle.worker_cells.specs.Cells.{IsCell, IsMarkedBelow, IsShown, LogsLine, RunsCell, RunsOne, StepsOne};
+ghost use Rattle.worker_cells.specs.Cells.{StopsCell, StopsOne, StopsSome, fails};
+ghost use Rattle.worker_cells.specs.Rows.{logged_by};
+
+use crate::cell::{Cell, LogEnd};
+use crate::readying::{make_ready, mark_last};
+use engine_words::Engine;
+use log_writer::LogFault;
+use outside::{Disk, Gate};
+use serial_model::{Commit, Memory, Op};
+use tx_runner::{LineEnd, load_epoch, run_line};
+use tx_script::{Line, LineOps, Refused, Round};
+use worker_logs::WorkerLog;
+
+/// Runs the lines of the cell's worker, and then makes durable what waits and marks it. From the line on at which its
+/// log is refused it runs none. After want of memory, which the cell keeps, some first ones were run.
+pub fn run_cell<D: Disk, G: Gate>(
+    engine: &Engine,
+    cell: &mut Cell<D>,
+    round: &Round<'_>,
+    tries: u32,
+    gate: &G,
+)
+    requires of { IsPassOf engine.now cell.old.pass }
+    requires cell { IsCell D.tells (view cell.old.pass) cell.old.log cell.old.bank }
+    requires worker { ((view cell.old.pass).role ≡ Worker cell.old.worker) × (cell.old.worker < 8) }
+    requires lines { CanRun (view cell.old.pass).layout.decls round.now }
+    requires arrays { HasNoTree (view cell.old.pass).layout.decls }
+    requires outcomes { cell.old.outcomes ≡ [] }
+    requires tries { 1 ≤ tries }
+    ensures of { IsPassOf engine.now cell.new.pass }
+    ensures worker { cell.new.worker ≡ cell.old.worker }
+    ensures runs { OnOk cell.new.ran (RunsCell D.tells D.clock D.image_at D.faults tries
+        (lines_of_worker round.now cell.old.worker) cell.new.outcomes cell.new.end
+        (view cell.old.pass) (view cell.new.pass) cell.old.log cell.new.log cell.old.bank cell.new.bank) }
+    ensures stops { OnErr cell.new.ran (StopsCell D.tells D.clock D.image_at D.faults tries
+        (lines_of_worker round.now cell.old.worker)
+        (view cell.old.pass) (view cell.new.pass) cell.old.log cell.new.log cell.old.bank cell.new.bank) }
+{
+    cell.ran = run_all(engine, cell, round, tries, gate);
+    if cell.ran.is_err() {
+        // So that no line saw a later epoch than the pass.
+        let _epoch = load_epoch(engine, &mut cell.pass);
+    }
+}
+
+// Runs the lines of the cell's worker. After want of memory some first ones were run, at epochs up to some.
+fn run_all<D: Disk, G: Gate>(
+    engine: &Engine,
+    cell: &mut Cell<D>,
+    round: &Round<'_>,
+    tries: u32,
+    gate: &G,
+) -> Result<(), Memory>
+    requires of { IsPassOf engine.now cell.old.pass }
+    requires cell { IsCell D.tells (view cell.old.pass) cell.old.log cell.old.bank }
+    requires worker { ((view cell.old.pass).role ≡ Worker cell.old.worker) × (cell.old.worker < 8) }
+    requires lines { CanRun (view cell.old.pass).layout.decls round.now }
+    requires arrays { HasNoTree (view cell.old.pass).layout.decls }
+    requires outcomes { cell.old.outcomes ≡ [] }
+    requires tries { 1 ≤ tries }
+    ensures of { IsPassOf engine.now cell.new.pass }
+    ensures worker { cell.new.worker ≡ cell.old.worker }
+    ensures runs { OnOk result (RunsCell D.tells D.clock D.image_at D.faults tries
+        (lines_of_worker round.now cell.old.worker) cell.new.outcomes cell.new.end
+        (view cell.old.pass) (view cell.new.pass) cell.old.log cell.new.log cell.old.bank cell.new.bank) }
+    ensures stops { OnErr result (StopsSome D.tells D.clock D.image_at D.faults tries
+        (lines_of_worker round.now cell.old.worker)
+        (view cell.old.pass) (view cell.new.pass) cell.old.log cell.new.log cell.old.bank cell.new.bank) }
+{
+    let mut line_ops = LineOps::new();
+    let mut count = 0;
+    cell.end = LogEnd::default();
+    cell.shown = None;
+    for index in 0..round.len() {
+        if let Some(ops) = ops_of(round, index, cell.worker, &mut line_ops) {
+            run_one(engine, cell, ops, tries, count, gate)?;
+            count += 1;
+        }
+    }
+    if count > 0 {
+        cell.end.failed = mark_last(
+            engine,
+            &mut cell.pass,
+            cell.worker,
+            &mut cell.shown,
+            &mut cell.log,
+            &mut cell.bank,
+        );
+    }
+    Ok(())
+}
+
+// Runs a line, unless the log is refused, now or before.
+fn run_one<D: Disk, G: Gate>(
+    engine: &Engine,
+    cell: &mut Cell<D>,
+    ops: &[Op],
+    tries: u32,
+    count: u32,
+    gate: &G,
+) -> Result<(), Memory>
+    requires of { IsPassOf engine.now cell.old.pass }
+    requires worker { ((view cell.old.pass).role ≡ Worker cell.old.worker) × (cell.old.worker < 8) }
+    requires over { IsOver (view cell.old.pass) }
+    requires draws { 1 ≤ (view cell.old.pass).layout.first.draw }
+    requires shown { IsShown cell.old.shown cell.old.log.mark (view cell.old.pass).seat.marks }
+    requires reaches { Reaches D.tells cell.old.bank cell.old.log.journal }
+    requires up { cell.old.end.failed ≡ is_some cell.old.log.journal.down }
+    requires arrays { AllByRecursion (IsOnArray (view cell.old.pass).layout.decls) ops.now }
+    requires few { length ops.now ≤ 16 }
+    requires tries { 1 ≤ tries }
+    ensures of { IsPassOf engine.now cell.new.pass }
+    ensures worker { cell.new.worker ≡ cell.old.worker }
+    ensures shown { OnOk result (IsShown cell.new.shown cell.new.log.mark (view cell.new.pass).seat.marks) }
+    ensures steps { OnOk result (StepsOne D.tells D.clock D.image_at D.faults tries ops.now
+        cell.old.outcomes cell.new.outcomes cell.old.end cell.new.end (view cell.old.pass) (view cell.new.pass)
+        cell.old.log cell.new.log cell.old.bank cell.new.bank) }
+    ensures stops { OnErr result (StopsOne D.tells D.clock D.image_at D.faults tries ops.now cell.old.end.full
+        (view cell.old.pass) (view cell.new.pass) cell.old.log cell.new.log cell.old.bank cell.new.bank) }
+{
+    if is_refused(&cell.end) {
+        return cell.outcomes.push_refused(Refused::Unrun);
+    }
+    match make_ready(
+        engine,
+        &mut cell.pass,
+        cell.worker,
+        &mut cell.shown,
+        &mut cell.log,
+        &mut cell.bank,
+    ) {
+        Ok(()) => {
+            gate.before(cell.worker, count);
+            run_logged(engine, cell, ops, tries)?;
+            gate.after(cell.worker, count);
+            Ok(())
+        }
+        Err(fault) => {
+            cell.end = end_by(fault);
+            cell.outcomes.push_refused(Refused::Unrun)
+        }
+    }
+}
+
+// Whether the log was refused.
+fn is_refused(end: &LogEnd) -> bool
+    ensures yes { result ≡ true → (end.now.failed ≡ true) ⊎ (is_some end.now.full ≡ true) }
+    ensures no { result ≡ false → (end.now.failed ≡ false) × (end.now.full ≡ None) }
+{
+    end.failed || end.full.is_some()
+}
+
+// What refused a log, by the fault.
+fn end_by(fault: LogFault) -> LogEnd
+    ensures full { result.full ≡ full_after fault None }
+    ensures failed { result.failed ≡ fails fault }
+{
+    match fault {
+        LogFault::Limit { length } => LogEnd {
+            failed: false,
+            full: Some(length),
+        },
+        LogFault::Device | LogFault::Down { .. } => LogEnd {
+            failed: true,
+            full: None,
+        },
+    }
+}
+
+// Runs a line for which the log was made ready, logs what it changed, and keeps its outcome.
+fn run_logged<D: Disk>(
+    engine: &Engine,
+    cell: &mut Cell<D>,
+    ops: &[Op],
+    tries: u32,
+) -> Result<(), Memory>
+    requires of { IsPassOf engine.now cell.old.pass }
+    requires over { IsOver (view cell.old.pass) }
+    requires draws { 1 ≤ (view cell.old.pass).layout.first.draw }
+    requires marked { IsMarkedBelow cell.old.log.mark (view cell.old.pass) }
+    requires arrays { AllByRecursion (IsOnArray (view cell.old.pass).layout.decls) ops.now }
+    requires few { length ops.now ≤ 16 }
+    requires tries { 1 ≤ tries }
+    requires free { 400 ≤ free cell.old.log.journal }
+    requires limit { end_of cell.old.log.journal + 400 ≤ cell.old.log.journal.limit }
+    ensures of { IsPassOf engine.now cell.new.pass }
+    ensures kept { (cell.new.worker ≡ cell.old.worker) × (cell.new.bank ≡ cell.old.bank)
+        × (cell.new.end ≡ cell.old.end) × (cell.new.shown ≡ cell.old.shown) }
+    ensures runs { OnOk result (RunsOne tries ops.now cell.old.outcomes cell.new.outcomes
+        (view cell.old.pass) (view cell.new.pass) cell.old.log cell.new.log) }
+    ensures stops { OnErr result (LogsLine tries ops.now
+        (view cell.old.pass) (view cell.new.pass) cell.old.log cell.new.log) }
+{
+    match run_line(
+        engine,
+        &mut cell.pass,
+        &mut cell.txn,
+        ops,
+        tries,
+        &mut cell.room,
+    ) {
+        LineEnd::Committed(verdict) => {
+            log_commit(&mut cell.log, &cell.room.commit);
+            cell.outcomes.push_words(verdict, cell.room.commit.number, cell.room.replies.words())
+        }
+        LineEnd::Conflict => cell.outcomes.push_refused(Refused::Conflict),
+        LineEnd::Limit => cell.outcomes.push_refused(Refused::Limit),
+    }
+}
+
+// Puts a commit into the log, if it changed something.
+fn log_commit(log: &mut WorkerLog, commit: &Commit)
+    requires loggable { 1 ≤ length commit.now.changes → IsLoggable commit.now }
+    requires free { 400 ≤ free log.old.journal }
+    requires limit { end_of log.old.journal + 400 ≤ log.old.journal.limit }
+    ensures takes { TakesCommit (logged_by commit.now commit.now.changes) log.old log.new }
+    ensures line { AllByRecursion IsLogLine (option_to_list (logged_by commit.now commit.now.changes)) }
+{
+    if !commit.changes.as_slice().is_empty() {
+        log.put(commit);
+    }
+}
+
+// The operations of the line, where it is the worker's.
+fn ops_of<'b>(
+    round: &Round<'_>,
+    index: usize,
+    worker: u8,
+    line_ops: &'b mut LineOps,
+) -> Option<&'b [Op]>
+    requires { index < length round.now.lines }
+    ensures { option_map (ops_of_worker worker) (slice_get round.now.lines index)
+        ≡ Some (option_copied result) }
+{
+    let owner = round.worker(index)?;
+    if owner != worker {
+        return None;
+    }
+    match round.line(index, line_ops) {
+        Line::Worker { worker: _, ops } => Some(ops),
+        Line::Keeper(_) => None,
+    }
+}

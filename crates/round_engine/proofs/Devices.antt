@@ -16,9 +16,9 @@ use Rattle.recovery_core.specs.VaultReads.{RoseIn}
 use Rattle.worker_logs.specs.Logs.{LogState}
 use Rattle.worker_logs.specs.Saves.{closed_number, growing_number}
 use Rattle.worker_logs.specs.declared.savepoints.Side.{Side}
+use Rattle.worker_logs.specs.Rows.{Blames}
 use Rattle.round_engine.specs.RanRound.{AreFailed}
 use Rattle.round_engine.specs.Sides.{closed_in, growing_in}
-use Rattle.round_engine.specs.Steps.{Blames}
 use Rattle.round_engine.proofs.Ended.{banks_down, devices_down}
 use Rattle.round_engine.proofs.Numbered.{closed_at, growing_at, grows_not_closed, numbered, same_growing}
 use Rattle.round_engine.proofs.Places.{item_at, map_at, within_of}

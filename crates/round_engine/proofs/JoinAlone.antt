@@ -30,6 +30,7 @@ use Rattle.tx_script.specs.declared.answer.Answer.TheVariants as answers
 use Rattle.worker_logs.specs.LogLaws.{log_begins}
 use Rattle.worker_logs.specs.Logs.{IsLog, LogGoesOn, LogRan, LogState, log_limit, reset_log}
 use Rattle.worker_logs.specs.Saves.{closed_number, growing_number, logs_marks}
+use Rattle.worker_logs.specs.Rows.{NeverFall}
 use Rattle.round_engine.specs.Crashes.{CarriesCrashes}
 use Rattle.round_engine.specs.Ends.{closed_failed, comes_to_swap, durable_of, end_of}
 use Rattle.round_engine.specs.Ends.{epoch_joined, first_device, first_of}
@@ -40,7 +41,7 @@ use Rattle.round_engine.specs.Keeping.{IsSavedBySeen, JoinAnswers, Keeps, MarksO
 use Rattle.round_engine.specs.Phases.{JoinsAndSwaps, ended_as, fails_device, made, refused_by}
 use Rattle.round_engine.specs.RanRound.{LeavesVault, SwapsFiles}
 use Rattle.round_engine.specs.Refusals.{end_told}
-use Rattle.round_engine.specs.Saves.{AreSaved, NeverFall}
+use Rattle.round_engine.specs.Saves.{AreSaved}
 use Rattle.round_engine.specs.Sides.{closed_in, closed_numbers, growing_in, other_side}
 use Rattle.round_engine.specs.Standing.{beside_of, IsMarkBefore, RuntimeState, Standing, StandsOn}
 use Rattle.round_engine.specs.Swaps.{CutsBanks}

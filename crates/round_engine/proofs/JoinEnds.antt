@@ -24,6 +24,7 @@ use Rattle.tx_script.specs.Causes.{last_sequence, some_counted}
 use Rattle.worker_logs.specs.Logs.{IsJoined, LogState, log_limit}
 use Rattle.worker_logs.specs.Saves.{closed_number, growing_number}
 use Rattle.worker_logs.specs.declared.savepoints.Side.{Side}
+use Rattle.worker_logs.specs.Rows.{KeepsMark}
 use Rattle.round_engine.specs.Ends.{epoch_after}
 use Rattle.round_engine.specs.Keeping.{IsSavedBySeen, JoinAnswers, JoinsLog, MarksOf, RunsJoin, device_told}
 use Rattle.round_engine.specs.Phases.{ended_as, fails_device, made, refused_by}
@@ -31,7 +32,6 @@ use Rattle.round_engine.specs.RanRound.{IsQuietIn}
 use Rattle.round_engine.specs.Saves.{newest_after}
 use Rattle.round_engine.specs.Sides.{closed_in, closed_numbers, growing_in}
 use Rattle.round_engine.specs.Standing.{AreClosed, beside_of, HasSnapshot, IsMarkBefore, RuntimeState, Standing, StandsOn}
-use Rattle.round_engine.specs.Steps.{KeepsMark}
 use Rattle.round_engine.specs.Swaps.{turned}
 use Rattle.round_engine.specs.declared.report.End.{End}
 use Rattle.round_engine.specs.declared.report.End.TheVariants as ends

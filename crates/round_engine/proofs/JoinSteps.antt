@@ -27,11 +27,12 @@ use Rattle.worker_logs.specs.Saves.{growing_number, SavesBy, SavesMarks, logs_ma
 use Rattle.worker_logs.specs.declared.savepoints.Beside.{Beside}
 use Rattle.worker_logs.specs.declared.savepoints.Side.{Side}
 use Rattle.worker_logs.specs.declared.savepoints.Side.TheVariants.{Even, Odd}
+use Rattle.worker_logs.specs.Rows.{AreLogsUp, IsLogUp}
+use Rattle.worker_logs.specs.RowLaws.{blames_move, blames_none}
 use Rattle.round_engine.specs.Ends.{epoch_after}
 use Rattle.round_engine.specs.Keeping.{CanKeep, IsSavedBySeen, JoinAnswers, JoinsLog, MarksOf, RunsJoin, at_epoch, device_told, join_answer}
 use Rattle.round_engine.specs.Sides.{SameButGrowing, closed_in, growing_in}
 use Rattle.round_engine.specs.Standing.{AreClosed, beside_of, HasSnapshot, RuntimeState}
-use Rattle.round_engine.specs.Steps.{AreLogsUp, IsLogUp}
 use Rattle.round_engine.specs.declared.report.End.{End}
 use Rattle.round_engine.specs.declared.report.End.TheVariants as ends
 use Rattle.round_engine.specs.declared.report.LimitName.TheVariants.{Epoch}
@@ -41,7 +42,6 @@ use Rattle.round_engine.proofs.KeepingSaves.{failed_of, keeps_saves, stored_of, 
 use Rattle.round_engine.proofs.LogsLeft.{goes_none}
 use Rattle.round_engine.proofs.Numbered.{closed_many, growing_many, same_growing, whole_of}
 use Rattle.round_engine.proofs.Places.{all_from, not_save}
-use Rattle.round_engine.proofs.Takes.{blames_move, blames_none}
 use Rattle.round_engine.proofs.Whole.{below_8}
 use Rattle.round_engine.proofs.Places.{item_at}
 

@@ -22,11 +22,12 @@ use Rattle.tx_script.specs.declared.answer.Answer.{Answer}
 use Rattle.tx_script.specs.declared.answer.Answer.TheVariants as answers
 use Rattle.worker_logs.specs.Saves.{logs_marks}
 use Rattle.worker_logs.specs.declared.savepoints.Beside.{Beside}
+use Rattle.worker_logs.specs.Rows.{NeverFall}
 use Rattle.round_engine.specs.Ends.{wants_memory, where_true}
 use Rattle.round_engine.specs.Gleans.{LeaveGleans, RoundGleans}
 use Rattle.round_engine.specs.Keeping.{answers_end, epoch_now, IsSavedBySeen, is_refusal, keeper_on, Keeps, last_epoch_of}
 use Rattle.round_engine.specs.Keeping.{MarksOf, refusal_told, RestsOn, RunsKeeper}
-use Rattle.round_engine.specs.Saves.{AreSavedIn, beside_after, beside_at_end, NeverFall, newest_after, saves_told}
+use Rattle.round_engine.specs.Saves.{AreSavedIn, beside_after, beside_at_end, newest_after, saves_told}
 use Rattle.round_engine.specs.Sides.{is_odd}
 use Rattle.round_engine.specs.Standing.{beside_of, RuntimeState, Standing}
 use Rattle.round_engine.specs.declared.report.End.{End}

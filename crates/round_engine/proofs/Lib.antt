@@ -17,7 +17,6 @@ pub mod RoundDone
 pub mod RoundStops
 pub mod Saved
 pub mod SoFar
-pub mod Takes
 pub mod Whole
 pub mod WorkersRun
 pub mod FewWords
@@ -58,3 +57,4 @@ pub mod CrashesLeft
 pub mod StopsNow
 pub mod Stories
 pub mod Swapping
+mod Powers

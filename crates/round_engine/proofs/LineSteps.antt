@@ -21,11 +21,12 @@ use Rattle.worker_logs.specs.Changes.{IsLogged}
 use Rattle.worker_logs.specs.ChangesLaws.{changes_placed}
 use Rattle.worker_logs.specs.Logs.{IsJoined, LogState}
 use Rattle.worker_logs.specs.Moves.{MovesLog, refusal}
+use Rattle.worker_logs.specs.Rows.{TakesCommit}
+use Rattle.worker_logs.specs.RowLaws.{was_up}
 use Rattle.round_engine.specs.Plainly.{after_line, has_number, next_number}
 use Rattle.round_engine.specs.Standing.{Standing}
-use Rattle.round_engine.specs.Steps.{Moves, TakesCommit, TakesLine}
+use Rattle.round_engine.specs.Steps.{Moves, TakesLine}
 use Rattle.round_engine.proofs.LogsLeft.{goes_none}
-use Rattle.round_engine.proofs.SoFar.{was_up}
 
 -- whether a call answered a fault
 abbrev pub is_err_of : {T E : Type 0} → Result T E → Bool
@@ -54,10 +55,10 @@ number_there s view is less =
 -- where a line that got a number leaves the engine
 pub after_numbered : (s : Standing) (ops : List Op) (decls : List Decl) (state : State) → has_number s ≡ true
     → decls ≡ s.decls → (step s.decls s.state ops).state ≡ state
-    → ◌≡◌ {A = Standing} (record { decls = decls; state = state; clock = next_number s.clock; ended = s.ended })
+    → ◌≡◌ {A = Standing} (record { decls = decls; state = state; clock = next_number s.clock; conflicts = s.conflicts; ended = s.ended })
     (after_line s ops)
 after_numbered s ops decls state has same is =
-    let t : Standing = record { decls = decls; state = state; clock = next_number s.clock; ended = s.ended } in
+    let t : Standing = record { decls = decls; state = state; clock = next_number s.clock; conflicts = s.conflicts; ended = s.ended } in
     let kept : t ≡ record s { state = state; clock = next_number s.clock } =
     ap (λ ds. record s { decls = ds; state = state; clock = next_number s.clock }) same in
     let left : record s { state = state; clock = next_number s.clock }

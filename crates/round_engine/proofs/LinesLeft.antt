@@ -11,10 +11,10 @@ use Rattle.serial_model.specs.declared.number.Commit.{Commit}
 use Rattle.script_grammar.specs.Script.{Round, lines_of_worker}
 use Rattle.log_writer.specs.Journal.{Reaches}
 use Rattle.worker_logs.specs.Logs.{IsJoined, LogGoesOn, LogState, log_limit}
+use Rattle.worker_logs.specs.Rows.{AreLogsUp, Blames, KeepsMarkIn, LogTakes}
 use Rattle.round_engine.specs.Shares.{Share, logged_in}
 use Rattle.round_engine.specs.Sides.{growing_in}
 use Rattle.round_engine.specs.Standing.{AreUp, RuntimeState, Standing, StandsOn}
-use Rattle.round_engine.specs.Steps.{AreLogsUp, Blames, KeepsMark, LogTakes}
 use Rattle.round_engine.specs.Workers.{RunsOver, idled}
 use Rattle.round_engine.proofs.LogsLeft.{Leaves, goes_none, worker_leaves}
 use Rattle.round_engine.proofs.Numbered.{growing_at}
@@ -40,10 +40,10 @@ logs_up {r = r} {vault = vault} stands up w log bank at bank_at = record {
 
 module _ {D : Type 0} (tells : D → Option (List ℕ)) (clock : D → ℕ) (image_at : D → ℕ → List ℕ → Type 0)
     (faults : D → ℕ) where
-  -- what the lines did to it
-  pub record LinesAt (epoch : ℕ) (logged : List Commit) (old new : LogState) (before now : D) : Type 0 where
-    pub takes : LogTakes tells clock image_at epoch logged old new before now
-    pub mark : KeepsMark epoch old new
+  -- what the lines did to it, at epochs of the clock from the first of these to the last
+  pub record LinesAt (low high : ℕ) (logged : List Commit) (old new : LogState) (before now : D) : Type 0 where
+    pub takes : LogTakes tells clock image_at low high logged old new before now
+    pub mark : KeepsMarkIn low high old new
     pub blames : Blames faults before now new.journal
     pub reaches : Reaches tells now new.journal
     pub limit : new.journal.limit ≡ old.journal.limit
@@ -66,12 +66,13 @@ module _ {D : Type 0} {tells : D → Option (List ℕ)} {clock : D → ℕ} {ima
       → length logs_was ≡ 8
       → slice_get logs_was w ≡ Some old → slice_get logs w ≡ Some new
       → slice_get banks_was w ≡ Some before → slice_get banks w ≡ Some now
-      → LinesAt tells clock image_at faults s.clock.epoch (logged_in shares w) old new before now
-  lines_at {s = s} {shares = shares} {logs_was = logs_was} w {old = old} {new = new} {before = before} {now = now} over
+      → LinesAt tells clock image_at faults s.clock.epoch t.clock.epoch (logged_in shares w) old new before now
+  lines_at {s = s} {t = t} {shares = shares} {logs_was = logs_was} w {old = old} {new = new} {before = before} {now = now} over
       many was is bank_was bank_is =
       let p = item_at shares w (omega (arith, below_8 logs_was w old was many, over.runs.workers)) in
       let left = over.each w p.0 old new before now p.1 was is bank_was bank_is in
-      subst (λ l. LinesAt tells clock image_at faults s.clock.epoch l old new before now) (sym (logged_some shares w p.0 p.1))
+      subst (λ l. LinesAt tells clock image_at faults s.clock.epoch t.clock.epoch l old new before now)
+      (sym (logged_some shares w p.0 p.1))
       (record {
         takes = left.takes;
         mark = left.mark;
@@ -102,7 +103,7 @@ module _ {D : Type 0} {tells : D → Option (List ℕ)} {clock : D → ℕ} {ima
       → ((w : ℕ) (lines log : LogState) (was is : D) → slice_get mid w ≡ Some lines → slice_get new w ≡ Some log
       → slice_get between w ≡ Some was → slice_get now w ≡ Some is → LastStep tells clock image_at faults s.clock.epoch lines log was is)
       → LogsTotal tells clock image_at faults (logged_in shares) start old mid new before now
-  logs_total round {s = s} {shares = shares} {start = start} {old = old} {mid = mid} {new = new}
+  logs_total round {s = s} {t = t} {shares = shares} {start = start} {old = old} {mid = mid} {new = new}
       {before = before} {between = between} {now = now} over start_many old_many new_many before_many now_many some
       joined idle none last =
       record {
@@ -120,8 +121,8 @@ module _ {D : Type 0} {tells : D → Option (List ℕ)} {clock : D → ℕ} {ima
             let begins_is : idled (lines_of_worker round w) was ≡ begins = same_Some _ begins (sym (idle w was at_was) ∙ at_begins) in
             record {
               leaves = λ commits durable is. subst (λ (x : LogState). Leaves tells clock image_at commits (logged_in shares w) durable x.mark.epoch lines log bank_was bank) begins_is
-                  (worker_leaves some step.later (all_at (IsJoined s.clock.epoch) old w was joined at_was) (none w)
-                  (subst (λ x. LogTakes tells clock image_at s.clock.epoch (logged_in shares w) x lines bank_was mid_bank.0) (sym begins_is) one.takes)
+                  (worker_leaves some step.later (omega (arith, over.runs.epoch, step.later)) (all_at (IsJoined s.clock.epoch) old w was joined at_was) (none w)
+                  (subst (λ x. LogTakes tells clock image_at s.clock.epoch t.clock.epoch (logged_in shares w) x lines bank_was mid_bank.0) (sym begins_is) one.takes)
                   step.goes commits durable is);
               blames = step.blames bank_was one.blames;
               reaches = step.reaches one.reaches;

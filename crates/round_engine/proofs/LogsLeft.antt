@@ -12,10 +12,10 @@ use Rattle.serial_model.specs.declared.op.Op.{Op}
 use Rattle.wire_form.specs.declared.clock.Mark.{Mark}
 use Rattle.worker_logs.specs.Logs.{IsEpochPassed, IsJoined, IsLog, IsPassed, LogGoesOn, LogRan, LogState}
 use Rattle.worker_logs.specs.LogLaws.{log_begins, log_idles}
+use Rattle.worker_logs.specs.Rows.{IsBeforeOne, LogTakes, NeverFall}
+use Rattle.worker_logs.specs.RowLaws.{epochs_of, falls_lower, rise_more, rise_one}
 use Rattle.recovery_core.specs.Marks.{IsAbove, Marks}
 use Rattle.recovery_core.specs.Crashes.Marking.{mark_put}
-use Rattle.round_engine.specs.Saves.{NeverFall}
-use Rattle.round_engine.specs.Steps.{LogTakes}
 use Rattle.round_engine.specs.Workers.{idle_if_not, idled, is_busy}
 
 -- ---- a choice for each of the first numbers
@@ -68,17 +68,22 @@ rise_then low epoch last (m ∷ set) more first then of more_of =
     subst (λ e. NeverFall low (option_to_list e ++ flat_map (λ (m : Mark). option_to_list m.epoch) (set ++ more))) (sym of.0)
     (first, rise_then epoch epoch last set more (omega arith) then of.1 more_of)
 
--- the marks of a worker over a round
-pub marks_rise : (lines : List (List Op)) (old : LogState) (set more : List Mark) (epoch last : ℕ) → epoch ≤ last + 1
-    → IsJoined epoch old → AllByRecursion (λ (m : Mark). m.epoch ≡ Some (epoch - 1)) set
+-- the marks of a worker over a round: as it begins, while its lines ran, and those of the join
+pub marks_rise : (lines : List (List Op)) (old : LogState) (set more : List Mark) (epoch high last : ℕ)
+    → epoch ≤ last + 1 → high ≤ last + 1 → IsJoined epoch old
+    → AllByRecursion (λ (m : Mark). IsBeforeOne epoch high m.epoch) set → NeverFall (epoch - 1) (epochs_of set)
     → AllByRecursion (λ (m : Mark). m.epoch ≡ Some last) more
-    → NeverFall 0 (flat_map (λ (m : Mark). option_to_list m.epoch) ((idled lines old).mark ∷ (set ++ more)))
-marks_rise [] old set more epoch last later joined of more_of =
-    rise_then 0 (epoch - 1) last set more (omega arith) (omega (arith, later)) of more_of
-marks_rise (ops ∷ lines) old set more epoch last later joined of more_of =
-    subst (λ e. NeverFall 0 (option_to_list e ++ flat_map (λ (m : Mark). option_to_list m.epoch) (set ++ more)))
-    (sym (ap (λ (m : Mark). m.epoch) joined.marked))
-    (omega arith, rise_then (epoch - 1) (epoch - 1) last set more (omega arith) (omega (arith, later)) of more_of)
+    → NeverFall 0 (epochs_of ((idled lines old).mark ∷ (set ++ more)))
+marks_rise lines old set more epoch high last later most joined of rise more_of =
+    begins lines (rise_more (epoch - 1) epoch high last set more (omega (arith, later)) most of rise
+    (rise_one last more more_of))
+  where
+    begins : (lines : List (List Op)) → NeverFall (epoch - 1) (epochs_of (set ++ more))
+        → NeverFall 0 (option_to_list (idled lines old).mark.epoch ++ epochs_of (set ++ more))
+    begins [] rise = falls_lower 0 (epoch - 1) (epochs_of (set ++ more)) (omega arith) rise
+    begins (ops ∷ lines) rise =
+        subst (λ e. NeverFall 0 (option_to_list e ++ epochs_of (set ++ more)))
+        (sym (ap (λ (m : Mark). m.epoch) joined.marked)) (omega arith, rise)
 
 module _ {D : Type 0} (tells : D → Option (List ℕ)) (clock : D → ℕ) (image_at : D → ℕ → List ℕ → Type 0) where
   -- What a worker's log comes to over a round, for whoever knows what it had before: each mark since then is told,
@@ -110,15 +115,15 @@ module _ {D : Type 0} {tells : D → Option (List ℕ)} {clock : D → ℕ} {ima
   idled_log true epoch is joined = is
   idled_log false epoch is joined = log_idles is joined.flushed (ap (λ (m : Mark). m.length) joined.marked)
 
-  pub worker_leaves : {epoch last : ℕ} {lines : List (List Op)} {logged : List Commit} {old mid new : LogState}
+  pub worker_leaves : {epoch high last : ℕ} {lines : List (List Op)} {logged : List Commit} {old mid new : LogState}
       {before between now : D}
-      → 1 ≤ epoch → epoch ≤ last + 1 → IsJoined epoch old → (lines ≡ [] → logged ≡ [])
-      → LogTakes tells clock image_at epoch logged (idled lines old) mid before between
+      → 1 ≤ epoch → epoch ≤ last + 1 → high ≤ last + 1 → IsJoined epoch old → (lines ≡ [] → logged ≡ [])
+      → LogTakes tells clock image_at epoch high logged (idled lines old) mid before between
       → LogGoesOn tells clock image_at last mid new between now
       → (commits : List Commit) (was : List ℕ) → IsLog tells clock image_at commits was old before
       → Leaves tells clock image_at commits logged was (idled lines old).mark.epoch mid new before now
-  worker_leaves {epoch = epoch} {last = last} {lines = lines} {logged = logged} {old = old} {mid = mid} {new = new} {before = before}
-      first later joined none takes goes commits was is =
+  worker_leaves {epoch = epoch} {high = high} {last = last} {lines = lines} {logged = logged} {old = old} {mid = mid} {new = new} {before = before}
+      first later most joined none takes goes commits was is =
       let start : LogState = idled lines old in
       let begins = log_begins (idled_log (is_busy lines) epoch is joined) in
       let passed : (logged ≡ [] → ⊥) → AllByRecursion (IsPassed epoch) (start.mark ∷ []) = λ some.
@@ -130,7 +135,8 @@ module _ {D : Type 0} {tells : D → Option (List ℕ)} {clock : D → ℕ} {ima
         marks = start.mark ∷ (took.set ++ went.set);
         ran = went.ran;
         while_run = refl;
-        rise = marks_rise lines old (took.set) went.set epoch last later joined took.of_epoch went.of_epoch;
+        rise = marks_rise lines old took.set went.set epoch high last later most joined took.of_epochs took.rise
+            went.of_epoch;
         behind_lines = Contains-append_left (start.mark ∷ took.set) went.set mid.mark
             (subst (λ l. Contains l mid.mark) (sym took.ran.last.1) (Contains-push took.ran.last.0 mid.mark));
         behind_join = subst (λ l. Contains l new.mark) (sym went.ran.last.1) (Contains-push went.ran.last.0 new.mark);

@@ -1,7 +1,8 @@
--- The plain map's workers, one after another, as workers of any engine: each line is tried once, and no try is refused.
+-- The plain map's workers, one after another, as workers of any engine, whose lines may be tried so often or more: each
+-- commits at its first try, or is refused a number.
 use Rattle.std.proofs.Common.{◌≡◌, ◌∙◌, ◌≤◌, ◌⊎◌, ◌++◌, ◌∷◌, inl, inr, sym, ap, subst, refl, ℕ, zero, suc}
-use Rattle.std.proofs.Common.{List, [], filter, length, map, Option, Some, None, arith}
-use Rattle.std.specs.Prelude.{◌==◌, flat_map, is_some, slice_get, sum_by}
+use Rattle.std.proofs.Common.{List, [], length, map, Option, Some, None, arith}
+use Rattle.std.specs.Prelude.{◌==◌, ◌+◌, ◌*◌, is_some, slice_get, sum_by}
 use Rattle.std.specs.List.{AllByRecursion}
 use Rattle.std.specs.List.Sorted.{IsPermutation}
 use Rattle.std.proofs.lemmas.List.{append-nil}
@@ -13,30 +14,30 @@ use Rattle.serial_model.specs.History.{Entry, Rises}
 use Rattle.serial_model.specs.Numbers.{IsBelow}
 use Rattle.serial_model.specs.declared.number.Commit.{Commit}
 use Rattle.serial_model.specs.declared.op.Op.{Op}
-use Rattle.script_grammar.specs.Script.{Round, lines_of_worker, worker_lines}
+use Rattle.script_grammar.specs.Script.{Round, lines_of_worker}
 use Rattle.tx_script.specs.declared.outcome.Outcome.{Outcome}
-use Rattle.tx_script.specs.Draws.{commits_of}
-use Rattle.tx_script.specs.Run.{entries_of_workers, is_commit, of_worker}
+use Rattle.tx_script.specs.Draws.{IsPlain, commits_of, commits_of-le}
+use Rattle.tx_script.specs.Run.{entries_of_workers, of_worker}
 use Rattle.worker_logs.specs.Logs.{LogState}
+use Rattle.worker_logs.specs.Rows.{AreLogsUp}
+use Rattle.worker_logs.specs.RowLaws.{blames_none, takes_none}
 use Rattle.round_engine.specs.Changes.{AreLogged}
 use Rattle.round_engine.specs.InTurn.{AreFirstLines, RunsFirst, WorkersSoFar}
 use Rattle.round_engine.specs.Parts.{AreLoggedAt, AreParts, Part, after_parts, lines_in, logged_at, outcomes_in}
 use Rattle.round_engine.specs.Parts.{outcomes_of}
-use Rattle.round_engine.specs.Plainly.{AreConsecutive, ArePlain, DrawsTo, IsInTurn, after_line, after_lines}
-use Rattle.round_engine.specs.Shares.{AreOrdered, IsShare, RunsShares, Share, drawn_in, entries_in}
+use Rattle.round_engine.specs.Plainly.{AreConsecutive, DrewOnce, after_line, after_lines}
+use Rattle.round_engine.specs.Shares.{AreOrdered, IsShare, RunsShares, Share, TryRefusal, all_conflicts, conflicts_among, entries_in}
 use Rattle.round_engine.specs.Shares.{logged_in}
 use Rattle.round_engine.specs.Standing.{Standing}
-use Rattle.round_engine.specs.Steps.{AreLogsUp}
 use Rattle.round_engine.specs.Workers.{LeftBy, RunsOver, RunsWorkers, StopsWorkers}
-use Rattle.round_engine.specs.declared.workers.LogEnd.{LogEnd}
+use Rattle.worker_cells.specs.declared.cell.LogEnd.{LogEnd}
 use Rattle.round_engine.proofs.Chains.{Chained, after_lines-decls, chained_answers, chained_clock, chained_state}
 use Rattle.round_engine.proofs.Chains.{consecutive_between, consecutive_rise, in_order-kept, length-outcomes_in}
-use Rattle.round_engine.proofs.Drawn.{part_comes, part_plain, parts_counted, parts_draw, refusals_at}
+use Rattle.round_engine.proofs.Drawn.{lines_free, lines_grow, part_comes, part_plain, parts_counted, parts_grow, refusals_at}
 use Rattle.round_engine.proofs.Logged.{parts_logged}
 use Rattle.round_engine.proofs.PlainRun.{chained, plain_consecutive, plain_kept, printed}
 use Rattle.round_engine.proofs.Places.{within_of}
 use Rattle.round_engine.proofs.SharesRun.{lines_of, outcomes_of as outcomes_told, refusals_of}
-use Rattle.round_engine.proofs.Takes.{blames_none, takes_none}
 use Rattle.round_engine.proofs.WorkersRun.{workers_begin}
 
 -- ---- parts as shares
@@ -91,9 +92,21 @@ share_at (p ∷ parts) s zero q at =
     )
 share_at (p ∷ parts) s (suc i) q at = share_at parts (after_lines s p.ran) i q at
 
-pub shares_plain : (parts : List Part) (s : Standing) → ArePlain (outcomes_told (shares_of s parts))
+pub shares_plain : (parts : List Part) (s : Standing) → AllByRecursion (AllByRecursion IsPlain) (outcomes_of s parts)
 shares_plain [] s = tt
 shares_plain (p ∷ parts) s = (part_plain p.ran p.left s, shares_plain parts (after_lines s p.ran))
+
+-- no try of theirs is in conflict
+pub shares_free : (parts : List Part) (s : Standing)
+    → all_conflicts (map (λ (p : Share). p.tries_refused) (shares_of s parts)) ≡ 0
+shares_free [] s = refl
+shares_free (p ∷ parts) s = omega (
+  arith,
+  sum_by-cons (λ (of_worker : List (List TryRefusal)). sum_by conflicts_among of_worker) (map refusals_at (outcomes_in s p))
+      (map (λ (q : Share). q.tries_refused) (shares_of (after_lines s p.ran) parts)),
+  lines_free (outcomes_in s p),
+  shares_free parts (after_lines s p.ran),
+)
 
 -- ---- what comes of their lines
 
@@ -107,14 +120,14 @@ no_lines : (s : Standing) (lines : List (List Op)) (logged : List Commit) → li
 no_lines s [] logged is are = are
 no_lines s (ops ∷ lines) logged is are = absurd cc
 
-pub shares_are : (parts : List Part) (s : Standing) (last : ℕ) → AreParts s parts
-    → (after_parts s parts).clock.draw ≤ last
-    → AllByRecursion (IsShare s.decls 1 last) (shares_of s parts)
-shares_are [] s last are le = tt
-shares_are (p ∷ parts) s last are le =
+pub shares_are : (parts : List Part) (s : Standing) (first last tries : ℕ) → 1 ≤ tries → AreParts s parts
+    → first ≤ s.clock.draw → (after_parts s parts).clock.draw ≤ last
+    → AllByRecursion (IsShare s.decls first last tries) (shares_of s parts)
+shares_are [] s first last tries some are from le = tt
+shares_are (p ∷ parts) s first last tries some are from le =
     let t : Standing = after_lines s p.ran in
-    let grows : t.clock.draw ≤ (after_parts t parts).clock.draw = omega (arith, parts_counted parts t) in
-    let one = part_comes last p.refusal p.ran p.left s are.0.all (omega (arith, grows, le)) in (
+    let one = part_comes first last tries p.refusal p.ran p.left s some are.0.all from
+    (omega (arith, parts_grow parts t, le)) in (
       record {
         one_each = length-outcomes_in s p;
         come = one.0;
@@ -122,8 +135,8 @@ shares_are (p ∷ parts) s last are le =
         lines_are = are.0.lines;
         none = λ is. no_lines s p.ran p.logged (append_nothing p.ran p.left is) are.0.logged;
       },
-      subst (λ ds. AllByRecursion (IsShare ds 1 last) (shares_of t parts)) (after_lines-decls p.ran s)
-          (shares_are parts t last are.1 le),
+      subst (λ ds. AllByRecursion (IsShare ds first last tries) (shares_of t parts)) (after_lines-decls p.ran s)
+          (shares_are parts t first last tries some are.1 (omega (arith, from, lines_grow p.ran s)) le),
     )
 
 -- ---- their commits
@@ -170,33 +183,25 @@ parts_only (p ∷ parts) s =
       clock = (after_parts (after_lines s p.ran) parts).clock;
     }) (lines_only p.ran s)
 
--- each commit draws a number
-drawn_least : (shares : List Share) → commits_of (outcomes_told shares) ≤ sum_by drawn_in shares
-drawn_least [] = omega arith
-drawn_least (p ∷ shares) = omega (
-  arith,
-  sum_by-cons drawn_in p shares,
-  sum_by-cons (λ outcomes. length (filter is_commit outcomes)) p.outcomes (outcomes_told shares),
-  drawn_least shares,
-)
+-- and not the count of conflicts
+parts_free : (parts : List Part) (s : Standing) → (after_parts s parts).conflicts ≡ s.conflicts
+parts_free parts s = ap (λ (x : Standing). x.conflicts) (parts_only parts s)
 
-pub plain_shares : (parts : List Part) (s : Standing) → length parts ≡ 8 → AreParts s parts
-    → RunsShares 1 s (after_parts s parts) (shares_of s parts)
-plain_shares parts s eight are =
+pub plain_shares : (parts : List Part) (s : Standing) (tries : ℕ) → 1 ≤ tries → length parts ≡ 8 → AreParts s parts
+    → RunsShares tries s (after_parts s parts) (shares_of s parts)
+plain_shares parts s tries some eight are =
     let kept = plain_kept parts s in
-    let drawn = parts_counted parts s in
     record {
       workers = shares_many parts s ∙ eight;
-      only = parts_only parts s;
+      only = parts_only parts s ∙ ap (λ n. record s {
+        state = (after_parts s parts).state;
+        clock = (after_parts s parts).clock;
+        conflicts = n;
+      }) (sym (parts_free parts s));
       epoch = kept.1;
-      draw = omega (arith, drawn);
-      drawn = omega (
-        arith,
-        drawn,
-        drawn_least (shares_of s parts),
-        ap commits_of (shares_told parts s),
-      );
-      each = shares_are parts s (after_parts s parts).clock.draw are (omega arith);
+      draw = parts_grow parts s;
+      conflicts = omega (arith, parts_free parts s, shares_free parts s);
+      each = shares_are parts s s.clock.draw (after_parts s parts).clock.draw tries some are (omega arith) (omega arith);
       ordered = λ index. plain_ordered index parts s are;
     }
 
@@ -244,122 +249,132 @@ pad_at (suc n) (q ∷ parts) (suc w) p at = elim (pad_at n parts w p at) [
   | inr none ↦ inr (none.0, omega (arith, none.1))
 ]
 
+at_least : (tries n : ℕ) → 1 ≤ tries → n ≤ tries * n
+at_least zero n some = absurd (omega (arith, some))
+at_least (suc tries) n some = omega arith
+
 -- ---- over the logs
 
 module _ {D : Type 0} {tells : D → Option (List ℕ)} {clock : D → ℕ} {image_at : D → ℕ → List ℕ → Type 0}
     {faults : D → ℕ} where
+  -- each number that was drawn is a commit's
+  pub once_all : {round : Round} {worker : ℕ} {s t : Standing} {outcomes : List (List Outcome)} {ends : List LogEnd}
+      {logs_was logs : List LogState} {banks_was banks : List D}
+      → WorkersSoFar tells clock image_at faults round worker s t outcomes ends logs_was logs banks_was banks
+      → DrewOnce s t outcomes
+  once_all {s = s} so = record {
+    once = ap (λ (x : Standing). x.clock.draw) so.first.standing ∙ parts_counted so.parts s
+        ∙ ap (λ o. s.clock.draw + commits_of o) (sym so.told);
+    plain = subst (AllByRecursion (AllByRecursion IsPlain)) (sym so.told) (shares_plain so.parts s);
+  }
+
+module _ {D : Type 0} {tells : D → Option (List ℕ)} {clock : D → ℕ} {image_at : D → ℕ → List ℕ → Type 0}
+    {faults : D → ℕ} {tries : ℕ} where
   plain_over : {s t : Standing} (parts : List Part) {logs_was logs : List LogState} {banks_was banks : List D}
-      → length parts ≡ 8 → AreParts s parts → t ≡ after_parts s parts
+      → 1 ≤ tries → length parts ≡ 8 → AreParts s parts → t ≡ after_parts s parts
       → length logs ≡ length logs_was → length banks ≡ length banks_was
       → ((i : ℕ) (p : Part) (old new : LogState) (before now : D) → slice_get parts i ≡ Some p
       → slice_get logs_was i ≡ Some old → slice_get logs i ≡ Some new
       → slice_get banks_was i ≡ Some before → slice_get banks i ≡ Some now
-      → LeftBy tells clock image_at faults s.clock.epoch p.logged p.refusal old new before now)
-      → RunsOver tells clock image_at faults 1 s t (shares_of s parts) logs_was logs banks_was banks
-  plain_over {s = s} parts eight are is logs_many banks_many each = record {
-    runs = subst (λ x. RunsShares 1 s x (shares_of s parts)) (sym is) (plain_shares parts s eight are);
-    logs_length = logs_many;
-    banks_length = banks_many;
-    each = λ i q old new before now at was is bank_was bank_is.
-        let p = share_at parts s i q at in
-        subst (λ r. LeftBy tells clock image_at faults s.clock.epoch q.logged r old new before now) (sym p.3)
-        (subst (λ l. LeftBy tells clock image_at faults s.clock.epoch l p.0.refusal old new before now) (sym p.4)
-        (each i p.0 old new before now p.1 was is bank_was bank_is));
-  }
+      → LeftBy tells clock image_at faults s.clock.epoch s.clock.epoch p.logged p.refusal old new before now)
+      → RunsOver tells clock image_at faults tries s t (shares_of s parts) logs_was logs banks_was banks
+  plain_over {s = s} {t = t} parts some eight are is logs_many banks_many each =
+      let runs : RunsShares tries s t (shares_of s parts) =
+      subst (λ x. RunsShares tries s x (shares_of s parts)) (sym is) (plain_shares parts s tries some eight are) in
+      record {
+        runs = runs;
+        logs_length = logs_many;
+        banks_length = banks_many;
+        each = λ i q old new before now at was is bank_was bank_is.
+            let p = share_at parts s i q at in
+            subst (λ e. LeftBy tells clock image_at faults s.clock.epoch e q.logged q.refusal old new before now)
+            (sym runs.epoch)
+            (subst (λ r. LeftBy tells clock image_at faults s.clock.epoch s.clock.epoch q.logged r old new before now)
+            (sym p.3)
+            (subst (λ l. LeftBy tells clock image_at faults s.clock.epoch s.clock.epoch l p.0.refusal old new before now)
+            (sym p.4) (each i p.0 old new before now p.1 was is bank_was bank_is)));
+      }
 
   -- All lines were run in turn.
   pub plain_runs : {round : Round} {s t : Standing} {outcomes : List (List Outcome)} {ends : List LogEnd}
-      {logs_was logs : List LogState} {banks_was banks : List D}
+      {logs_was logs : List LogState} {banks_was banks : List D} → 1 ≤ tries
       → WorkersSoFar tells clock image_at faults round 8 s t outcomes ends logs_was logs banks_was banks
-      → RunsWorkers tells clock image_at faults 1 round s t outcomes ends logs_was logs banks_was banks
-      × ArePlain outcomes × IsInTurn round s t outcomes
-  plain_runs {round = round} {s = s} {t = t} so = (
-    record {
-      shares = shares_of s so.parts;
-      over = plain_over so.parts so.first.count so.first.are so.first.standing so.first.logs_length
-          so.first.banks_length so.first.each;
-      lines = shares_lines so.parts s ∙ so.lines;
-      told = so.told ∙ sym (shares_told so.parts s);
-      idle = λ i q old new at none was is.
-          let p = share_at so.parts s i q at in so.idle i p.0 old new p.1 (sym p.2 ∙ none) was is;
-      ends_failed = so.ends_failed;
-      flushed = so.flushed;
-      ends_are = so.ends_are ∙ sym (shares_refusals so.parts s);
-    },
-    subst ArePlain (shares_told so.parts s ∙ sym so.told) (shares_plain so.parts s),
-    record {
-      consecutive = λ index.
-          subst (λ o. AreConsecutive s.clock (entries_of_workers index 0 o (worker_lines round))) (sym so.told)
-          (subst (λ l. AreConsecutive s.clock (entries_of_workers index 0 (outcomes_of s so.parts) l)) so.lines
-          (plain_consecutive index so.parts s));
-      draws = subst (λ o. DrawsTo s.clock.draw (flat_map (λ of_worker. of_worker) o) t.clock.draw) (sym so.told)
-          (subst (λ (x : Standing). DrawsTo s.clock.draw (flat_map (λ of_worker. of_worker) (outcomes_of s so.parts))
-          x.clock.draw) (sym so.first.standing) (parts_draw so.parts s));
-    },
-  )
+      → RunsWorkers tells clock image_at faults tries round s t outcomes ends logs_was logs banks_was banks
+  plain_runs {s = s} {t = t} {outcomes = outcomes} some so = record {
+    drawn =
+        let once : t.clock.draw ≡ s.clock.draw + commits_of outcomes = (once_all so).once in
+        let many = commits_of-le outcomes in
+        omega (arith, once, many, at_least tries (sum_by length outcomes) some);
+    shares = shares_of s so.parts;
+    over = plain_over so.parts some so.first.count so.first.are so.first.standing so.first.logs_length
+        so.first.banks_length so.first.each;
+    lines = shares_lines so.parts s ∙ so.lines;
+    told = so.told ∙ sym (shares_told so.parts s);
+    idle = λ i q old new at none was is.
+        let p = share_at so.parts s i q at in so.idle i p.0 old new p.1 (sym p.2 ∙ none) was is;
+    ends_failed = so.ends_failed;
+    flushed = so.flushed;
+    ends_are = so.ends_are ∙ sym (shares_refusals so.parts s);
+  }
 
   pub plain_all : {round : Round} {worker : ℕ} {s t : Standing} {outcomes : List (List Outcome)} {ends : List LogEnd}
-      {logs_was logs : List LogState} {banks_was banks : List D} → worker ≡ 8
+      {logs_was logs : List LogState} {banks_was banks : List D} → 1 ≤ tries → worker ≡ 8
       → WorkersSoFar tells clock image_at faults round worker s t outcomes ends logs_was logs banks_was banks
-      → RunsWorkers tells clock image_at faults 1 round s t outcomes ends logs_was logs banks_was banks
-      × ArePlain outcomes × IsInTurn round s t outcomes
+      → RunsWorkers tells clock image_at faults tries round s t outcomes ends logs_was logs banks_was banks
   plain_all {round = round} {s = s} {t = t} {outcomes = outcomes} {ends = ends} {logs_was = logs_was} {logs = logs}
-      {banks_was = banks_was} {banks = banks} is so = plain_runs (subst (λ w. WorkersSoFar tells clock image_at faults
-      round w s t outcomes ends logs_was logs banks_was banks) is so)
+      {banks_was = banks_was} {banks = banks} some is so = plain_runs some (subst (λ w. WorkersSoFar tells clock image_at
+      faults round w s t outcomes ends logs_was logs banks_was banks) is so)
 
   -- Some first lines were run in turn.
   pub plain_stops : {round : Round} {worker : ℕ} {s t : Standing} {parts : List Part} {logs_was logs : List LogState}
-      {banks_was banks : List D} → worker ≤ 8 → AreFirstLines round parts
+      {banks_was banks : List D} → 1 ≤ tries → worker ≤ 8 → AreFirstLines round parts
       → RunsFirst tells clock image_at faults round worker s t parts logs_was logs banks_was banks
       → AreLogsUp tells logs_was banks_was
-      → (r : StopsWorkers tells clock image_at faults 1 round s t logs_was logs banks_was banks)
-      × ArePlain (outcomes_told r.shares)
-  plain_stops {round = round} {worker = worker} {s = s} {parts = parts} few fronts first up =
-      let less : length parts ≤ 8 = omega (arith, first.count, few) in (
-        record {
-          shares = shares_of s (padded 8 parts);
-          over = plain_over (padded 8 parts) (pad_many 8 parts) (pad_are 8 parts s first.are)
-              (first.standing ∙ sym (pad_after 8 parts s less)) first.logs_length first.banks_length
-              (λ i p old new before now at was is bank_was bank_is. elim (pad_at 8 parts i p at) [
-                | inl there ↦ first.each i p old new before now there was is bank_was bank_is
-                | inr none ↦
-                    let past : worker ≤ i = omega (arith, none.1, first.count) in
-                    let same = same_Some old new (sym was ∙ sym (first.rest_logs i past) ∙ is) in
-                    let bank_same = same_Some before now (sym bank_was ∙ sym (first.rest_banks i past) ∙ bank_is) in
-                    let at = up i old before was bank_was in
-                    subst (λ (q : Part). LeftBy tells clock image_at faults s.clock.epoch q.logged q.refusal old new
-                    before now) none.0
-                    (subst (λ x. LeftBy tells clock image_at faults s.clock.epoch [] None old x before now) same
-                    (subst (λ x. LeftBy tells clock image_at faults s.clock.epoch [] None old old before x) bank_same
-                    (record {
-                      takes = takes_none s.clock.epoch old before;
-                      mark = inl refl;
-                      blames = blames_none before old.journal at.up;
-                      reaches = at.reaches;
-                      limit = refl;
-                      refused = at.up;
-                      failed = λ down. absurd (let no = sym (ap is_some at.up) ∙ down in cc);
-                    })))
-              ]);
-          fronts = λ i q at.
-              let p = share_at (padded 8 parts) s i q at in
-              subst (λ l. IsFront l (lines_of_worker round i)) (sym p.2) (elim (pad_at 8 parts i p.0 p.1) [
-                | inl there ↦
-                    let front = fronts i p.0 there in
-                    subst (λ l. IsFront (p.0.ran ++ l) (lines_of_worker round i)) (sym front.1)
-                    (subst (λ l. IsFront l (lines_of_worker round i)) (sym (append-nil p.0.ran)) front.0)
-                | inr none ↦ subst (λ (x : Part). IsFront (lines_in x) (lines_of_worker round i)) none.0
-                    (front_none (lines_of_worker round i))
-              ]);
-        },
-        shares_plain (padded 8 parts) s,
-      )
+      → StopsWorkers tells clock image_at faults tries round s t logs_was logs banks_was banks
+  plain_stops {round = round} {worker = worker} {s = s} {parts = parts} some few fronts first up =
+      let less : length parts ≤ 8 = omega (arith, first.count, few) in
+      record {
+        shares = shares_of s (padded 8 parts);
+        over = plain_over (padded 8 parts) some (pad_many 8 parts) (pad_are 8 parts s first.are)
+            (first.standing ∙ sym (pad_after 8 parts s less)) first.logs_length first.banks_length
+            (λ i p old new before now at was is bank_was bank_is. elim (pad_at 8 parts i p at) [
+              | inl there ↦ first.each i p old new before now there was is bank_was bank_is
+              | inr none ↦
+                  let past : worker ≤ i = omega (arith, none.1, first.count) in
+                  let same = same_Some old new (sym was ∙ sym (first.rest_logs i past) ∙ is) in
+                  let bank_same = same_Some before now (sym bank_was ∙ sym (first.rest_banks i past) ∙ bank_is) in
+                  let at = up i old before was bank_was in
+                  subst (λ (q : Part). LeftBy tells clock image_at faults s.clock.epoch s.clock.epoch q.logged q.refusal old new
+                  before now) none.0
+                  (subst (λ x. LeftBy tells clock image_at faults s.clock.epoch s.clock.epoch [] None old x before now) same
+                  (subst (λ x. LeftBy tells clock image_at faults s.clock.epoch s.clock.epoch [] None old old before x) bank_same
+                  (record {
+                    takes = takes_none s.clock.epoch s.clock.epoch old before;
+                    mark = inl refl;
+                    blames = blames_none before old.journal at.up;
+                    reaches = at.reaches;
+                    limit = refl;
+                    refused = at.up;
+                    failed = λ down. absurd (let no = sym (ap is_some at.up) ∙ down in cc);
+                  })))
+            ]);
+        fronts = λ i q at.
+            let p = share_at (padded 8 parts) s i q at in
+            subst (λ l. IsFront l (lines_of_worker round i)) (sym p.2) (elim (pad_at 8 parts i p.0 p.1) [
+              | inl there ↦
+                  let front = fronts i p.0 there in
+                  subst (λ l. IsFront (p.0.ran ++ l) (lines_of_worker round i)) (sym front.1)
+                  (subst (λ l. IsFront l (lines_of_worker round i)) (sym (append-nil p.0.ran)) front.0)
+              | inr none ↦ subst (λ (x : Part). IsFront (lines_in x) (lines_of_worker round i)) none.0
+                  (front_none (lines_of_worker round i))
+            ]);
+      }
 
   -- No line was run.
-  pub none_stops : (round : Round) (s : Standing) (logs : List LogState) (banks : List D) → AreLogsUp tells logs banks
-      → (r : StopsWorkers tells clock image_at faults 1 round s s logs logs banks banks)
-      × ArePlain (outcomes_told r.shares)
-  none_stops round s logs banks up =
+  pub none_stops : (round : Round) (s : Standing) (logs : List LogState) (banks : List D) → 1 ≤ tries
+      → AreLogsUp tells logs banks
+      → StopsWorkers tells clock image_at faults tries round s s logs logs banks banks
+  none_stops round s logs banks some up =
       let b : WorkersSoFar tells clock image_at faults round 0 s s [] [] logs logs banks banks =
       workers_begin round s logs banks in
-      plain_stops (omega arith) (λ i p at. absurd (omega (arith, within_of b.parts i p at, b.first.count))) b.first up
+      plain_stops some (omega arith) (λ i p at. absurd (omega (arith, within_of b.parts i p at, b.first.count))) b.first up

@@ -74,13 +74,13 @@ option_in None y is = absurd cc
 option_in (Some z) y is = subst (Contains (z ∷ [])) (same_Some z y is) (in_head z [])
 
 module _ {D : Type 0} {tells : D → Option (List ℕ)} {clock : D → ℕ} {image_at : D → ℕ → List ℕ → Type 0}
-    {faults : D → ℕ} {round : Round} {old : RuntimeState} {start : List LogState} {new : RuntimeState}
+    {faults : D → ℕ} {tries : ℕ} {round : Round} {old : RuntimeState} {start : List LogState} {new : RuntimeState}
     {before now : Vault D} {report : Report}
     (stands : StandsOn tells clock image_at old before) (ready : IsReady old) (some : 1 ≤ old.stands.clock.epoch)
     (start_many : length start ≡ 8)
     (idle : (w : ℕ) (log : LogState) → slice_get old.logs w ≡ Some log
     → slice_get start w ≡ Some (idled (lines_of_worker round w) log))
-    (all : RunsAll tells clock image_at faults round (record old { logs = start }) new before now report)
+    (all : RunsAll tells clock image_at faults tries round (record old { logs = start }) new before now report)
     (out : leaves_out all.refused ≡ true) (now_is : now ≡ all.after) (durable_is : report.durable ≡ None)
     (end_is : report.end ≡ lines_refused all.refused)
     (new_is : new ≡ ended_as all.kept (is_some report.end) (is_some all.refused.device)) where
@@ -88,7 +88,7 @@ module _ {D : Type 0} {tells : D → Option (List ℕ)} {clock : D → ℕ} {ima
   others = option_to_list all.keeper.broken
 
   abbrev ran : Ran
-  ran = ran_with tells clock image_at faults round old start new before now report all all.mid.logs all.keeper.failed others
+  ran = ran_with tells clock image_at faults tries round old start new before now report all all.mid.logs all.keeper.failed others
 
   logs_are : new.logs ≡ all.mid.logs
   logs_are = ap (λ (r : RuntimeState). r.logs) new_is ∙ all.keeper.logs
@@ -252,7 +252,7 @@ module _ {D : Type 0} {tells : D → Option (List ℕ)} {clock : D → ℕ} {ima
   not_broken device not is = not (option_in all.keeper.broken device is)
 
   pub left_out : ((disk : D) (file : List ℕ) → tells disk ≡ Some file → image_at disk (clock disk) file)
-      → Rounds tells clock image_at faults round old new before now (Ok report)
+      → Rounds tells clock image_at faults tries round old new before now (Ok report)
   unfolding files_out
   left_out reads = done stands ready some start_many idle all all.mid.logs all.keeper.stored all.keeper.failed others (record {
     logs_many = all.lines.over.logs_length ∙ start_many;
@@ -277,6 +277,7 @@ module _ {D : Type 0} {tells : D → Option (List ℕ)} {clock : D → ℕ} {ima
     files = files_out;
     between_whole = subst IsWhole (sym now_is) (after_whole stands ready some start_many idle all);
     rests = λ is. absurd (let no = sym is ∙ not_swapped in cc);
+    conflicts = ap (λ (r : RuntimeState). r.stands.conflicts) new_is;
     decls = ap (λ (r : RuntimeState). r.stands.decls) new_is;
     state = ap (λ (r : RuntimeState). r.stands.state) new_is;
     durable = durable_is ∙ sym (none_made (leaves_join_out ran) _ _ _ leaves_so);

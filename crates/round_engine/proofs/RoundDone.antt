@@ -1,7 +1,7 @@
 -- A round put together from its phases, whichever engine ran its lines.
-use Rattle.std.proofs.Common.{◌≡◌, ◌∙◌, ◌≤◌, ◌<◌, ◌+◌, ◌⊎◌, ◌++◌, ◌∷◌, inl, inr, sym, ap, subst, refl, ℕ}
+use Rattle.std.proofs.Common.{◌≡◌, ◌∙◌, ◌≤◌, ◌<◌, ◌+◌, ◌*◌, ◌-◌, ◌⊎◌, ◌++◌, ◌∷◌, inl, inr, sym, ap, subst, refl, ℕ}
 use Rattle.std.proofs.Common.{suc, List, [], length, map, Bool, true, false, Option, Some, None, arith}
-use Rattle.std.specs.Prelude.{is_some, option_to_list, slice_get, Ok}
+use Rattle.std.specs.Prelude.{is_some, option_to_list, slice_get, sum_by, Ok}
 use Rattle.std.specs.Option.{option_map}
 use Rattle.std.specs.List.{Contains}
 use Rattle.std.proofs.lemmas.List.{length-map}
@@ -25,20 +25,19 @@ use Rattle.worker_logs.specs.Logs.{IsJoined, LogState, log_limit}
 use Rattle.worker_logs.specs.Saves.{closed_number, growing_number, logs_marks}
 use Rattle.worker_logs.specs.declared.savepoints.Side.{Side}
 use Rattle.worker_logs.specs.declared.savepoints.Side.TheVariants.{Even, Odd}
+use Rattle.worker_logs.specs.Rows.{AreLogsUp, IsBeforeOne, IsLogUp, KeepsMarkIn, NeverFall}
 use Rattle.round_engine.specs.Changes.{AreLogged}
 use Rattle.round_engine.specs.Crashes.{CarriesCrashes}
 use Rattle.round_engine.specs.Ends.{comes_to_advance, comes_to_save, durable_of, end_of, epoch_joined, swaps, where_true}
 use Rattle.round_engine.specs.Gleans.{RoundGleans}
 use Rattle.round_engine.specs.Keeping.{IsSavedBySeen, Keeps, keeper_on}
 use Rattle.round_engine.specs.Phases.{RoomAlone, RunsAll}
-use Rattle.round_engine.specs.Plainly.{ArePlain}
 use Rattle.round_engine.specs.RanRound.{AreRoundMarks, LeavesVault, Rounds, SwapsFiles}
-use Rattle.round_engine.specs.Saves.{AreSaved, NeverFall, saves_told}
+use Rattle.round_engine.specs.Saves.{AreSaved, saves_told}
 use Rattle.round_engine.specs.Shares.{Share, logged_in}
 use Rattle.round_engine.specs.Sides.{closed_in, growing_in, is_odd}
 use Rattle.round_engine.specs.Standing.{beside_of, files_of, IsReady, RuntimeState, Standing, StandsOn}
 use Rattle.round_engine.specs.Logs.{IsRefusedBy}
-use Rattle.round_engine.specs.Steps.{AreLogsUp, IsLogUp, KeepsMark}
 use Rattle.round_engine.specs.Workers.{idled}
 use Rattle.round_engine.specs.declared.report.End.{End}
 use Rattle.round_engine.specs.declared.report.Report.{Report}
@@ -86,13 +85,18 @@ pub idled_up : {D : Type 0} {tells : D → Option (List ℕ)} (lines : List (Lis
 idled_up [] log bank up = record { up = up.up; limit = up.limit; reaches = up.reaches }
 idled_up (ops ∷ lines) log bank up = up
 
-pub mark_kept : (lines : List (List Op)) (epoch : ℕ) (was begins log : LogState) → idled lines was ≡ begins
-    → IsJoined epoch was → KeepsMark epoch begins log → (lines ≡ [] → log ≡ begins)
+-- while the clock stays in one epoch a mark that is set is of the epoch of the one that the worker had
+pub mark_kept : (lines : List (List Op)) (epoch high : ℕ) (was begins log : LogState) → high ≡ epoch
+    → idled lines was ≡ begins → IsJoined epoch was → KeepsMarkIn epoch high begins log → (lines ≡ [] → log ≡ begins)
     → log.mark.epoch ≡ begins.mark.epoch
-mark_kept [] epoch was begins log is joined keeps none = ap (λ (l : LogState). l.mark.epoch) (none refl)
-mark_kept (ops ∷ lines) epoch was begins log is joined (inl same) none = ap (λ (m : Mark). m.epoch) same
-mark_kept (ops ∷ lines) epoch was begins log is joined (inr set) none =
-    set ∙ sym (ap (λ (m : Mark). m.epoch) joined.marked) ∙ ap (λ (l : LogState). l.mark.epoch) is
+mark_kept [] epoch high was begins log stays is joined keeps none = ap (λ (l : LogState). l.mark.epoch) (none refl)
+mark_kept (ops ∷ lines) epoch high was begins log stays is joined (inl same) none = ap (λ (m : Mark). m.epoch) same
+mark_kept (ops ∷ lines) epoch high was begins log stays is joined (inr set) none =
+    one_epoch log.mark.epoch set ∙ sym (ap (λ (m : Mark). m.epoch) joined.marked) ∙ ap (λ (l : LogState). l.mark.epoch) is
+  where
+    one_epoch : (marked : Option ℕ) → IsBeforeOne epoch high marked → marked ≡ Some (epoch - 1)
+    one_epoch None is = absurd is
+    one_epoch (Some e) is = ap Some (omega (arith, stays, is.0, is.1))
 
 -- what a worker's part tells of its log
 pub record LeftAt (epoch : ℕ) (p : Share) (begins log : LogState) : Type 0 where
@@ -118,9 +122,9 @@ map_true f false x = refl
 
 -- ---- the run that is told
 
-abbrev pub ran_of : Round → RuntimeState → List LogState → RuntimeState → List LogState → List Share → Option Saved
+abbrev pub ran_of : ℕ → Round → RuntimeState → List LogState → RuntimeState → List LogState → List Share → Option Saved
     → List Device → List (Option ℕ) → Option (Device × ℕ) → Report → Ran
-ran_of round old start kept logs shares failed others gleans damaged report = record {
+ran_of tries round old start kept logs shares failed others gleans damaged report = record {
   begin = old.stands.clock;
   end = kept.stands.clock;
   outcomes = report.outcomes;
@@ -133,6 +137,8 @@ ran_of round old start kept logs shares failed others gleans damaged report = re
   files = files_of old;
   marks = first_epochs start;
   logs = map (λ (p : Share). p.refusal) shares;
+  tries = tries;
+  refused = map (λ (p : Share). p.tries_refused) shares;
   gleans = gleans;
   devices = devices_down old.side (are_down logs) (is_some failed) others;
   damaged = damaged;
@@ -189,12 +195,12 @@ keeper_of epoch r = record {
 }
 
 module _ {D : Type 0} (tells : D → Option (List ℕ)) (clock : D → ℕ) (image_at : D → ℕ → List ℕ → Type 0)
-    (faults : D → ℕ) (round : Round) (old : RuntimeState) (start : List LogState) (new : RuntimeState)
+    (faults : D → ℕ) (tries : ℕ) (round : Round) (old : RuntimeState) (start : List LogState) (new : RuntimeState)
     (before now : Vault D) (report : Report)
-    (all : RunsAll tells clock image_at faults round (record old { logs = start }) new before now report) where
+    (all : RunsAll tells clock image_at faults tries round (record old { logs = start }) new before now report) where
   -- the run that is told, with these logs in the end
   abbrev pub ran_with : List LogState → Option Saved → List Device → Ran
-  ran_with logs failed others = ran_of round old start all.kept logs all.lines.shares failed others all.keeper.gleans
+  ran_with logs failed others = ran_of tries round old start all.kept logs all.lines.shares failed others all.keeper.gleans
       all.keeper.damaged report
 
   -- What is known of a round in the end, with these logs before the swap.
@@ -221,6 +227,7 @@ module _ {D : Type 0} (tells : D → Option (List ℕ)) (clock : D → ℕ) (ima
     pub files : SwapsFiles tells clock image_at faults (ran_with logs failed others) logs old new before now
     pub between_whole : IsWhole files.between
     pub rests : swaps (ran_with logs failed others) ≡ true → (w : ℕ) (log : LogState) → slice_get logs w ≡ Some log → IsAtRest log
+    pub conflicts : new.stands.conflicts ≡ all.kept.stands.conflicts
     pub decls : new.stands.decls ≡ all.kept.stands.decls
     pub state : new.stands.state ≡ all.kept.stands.state
     pub durable : report.durable ≡ durable_of (ran_with logs failed others)
@@ -246,13 +253,13 @@ module _ {D : Type 0} (tells : D → Option (List ℕ)) (clock : D → ℕ) (ima
         × ((keeper_at_end (ran_with logs failed others)).sequence < last_sequence))
 
 module _ {D : Type 0} {tells : D → Option (List ℕ)} {clock : D → ℕ} {image_at : D → ℕ → List ℕ → Type 0}
-    {faults : D → ℕ} {round : Round} {old : RuntimeState} {start : List LogState} {new : RuntimeState}
+    {faults : D → ℕ} {tries : ℕ} {round : Round} {old : RuntimeState} {start : List LogState} {new : RuntimeState}
     {before now : Vault D} {report : Report}
     (stands : StandsOn tells clock image_at old before) (ready : IsReady old) (some : 1 ≤ old.stands.clock.epoch)
     (start_many : length start ≡ 8)
     (idle : (w : ℕ) (log : LogState) → slice_get old.logs w ≡ Some log
     → slice_get start w ≡ Some (idled (lines_of_worker round w) log))
-    (all : RunsAll tells clock image_at faults round (record old { logs = start }) new before now report) where
+    (all : RunsAll tells clock image_at faults tries round (record old { logs = start }) new before now report) where
   abbrev shares : List Share
   shares = all.lines.shares
 
@@ -310,18 +317,19 @@ module _ {D : Type 0} {tells : D → Option (List ℕ)} {clock : D → ℕ} {ima
       let is : idled (lines_of_worker round i) was.0 ≡ begins = same_Some _ begins (sym (idle i was.0 was.1) ∙ at) in
       let joined = all_at (IsJoined old.stands.clock.epoch) old.logs i was.0 ready.logs was.1 in
       let p = item_at shares i (omega (arith, below, all.lines.over.runs.workers)) in
-      mark_kept (lines_of_worker round i) old.stands.clock.epoch was.0 begins log is joined one.mark
+      mark_kept (lines_of_worker round i) old.stands.clock.epoch all.mid.stands.clock.epoch was.0 begins log mid_epoch is
+      joined one.mark
       (λ none. all.lines.idle i p.0 begins log p.1 (share_lines round shares i p.0 all.lines.lines p.1 ∙ none) at there)
 
   -- the causes of answers, of the run that is told
   pub answers_caused : (logs : List LogState) (failed : Option Saved) (others : List Device)
       → (is_some all.keeper.failed ≡ true → is_some failed ≡ true)
       → ((device : Device) → all.keeper.broken ≡ Some device → Contains others device)
-      → AnswersCaused (ran_with tells clock image_at faults round old start new before now report all logs failed others)
-      (keeper_before (ran_with tells clock image_at faults round old start new before now report all logs failed others))
+      → AnswersCaused (ran_with tells clock image_at faults tries round old start new before now report all logs failed others)
+      (keeper_before (ran_with tells clock image_at faults tries round old start new before now report all logs failed others))
       (keeper_lines round) report.keeper
   answers_caused logs failed others fails told =
-      let ran : Ran = ran_with tells clock image_at faults round old start new before now report all logs failed others in
+      let ran : Ran = ran_with tells clock image_at faults tries round old start new before now report all logs failed others in
       subst (λ k. AnswersCaused ran k (keeper_lines round) report.keeper) keeper_start
       (all.keeper.caused ran (record {
         marks = marks_of start all.mid.logs (start_many ∙ sym (all.lines.over.logs_length ∙ start_many)) same_marks;
@@ -351,16 +359,18 @@ module _ {D : Type 0} {tells : D → Option (List ℕ)} {clock : D → ℕ} {ima
       (begins.0, log.0, record { refused = left.refused; limit = left.limit }, log.1, (start_up i begins.0 bank.0 begins.1 bank.1).limit)
 
   module _ (logs : List LogState) (stored : List Saved) (failed : Option Saved) (others : List Device)
-      (ends : RoundEnds tells clock image_at faults round old start new before now report all logs stored failed others) where
+      (ends : RoundEnds tells clock image_at faults tries round old start new before now report all logs stored failed others) where
     abbrev ran : Ran
-    ran = ran_with tells clock image_at faults round old start new before now report all logs failed others
+    ran = ran_with tells clock image_at faults tries round old start new before now report all logs failed others
 
-    of : IsRanOf round old.stands all.mid.stands shares ran
+    of : IsRanOf tries round old.stands all.mid.stands shares ran
     of = record {
       lines = all.lines.lines;
       begin = refl;
       draw = ap (λ (x : Standing). x.clock.draw) all.keeper.stands;
       outcomes = all.lines.told;
+      tried = refl;
+      refused = refl;
       asked = refl;
       answers = all.keeper.count;
       epoch = subst (λ e. AdvancesTo e report.keeper all.kept.stands.clock.epoch) mid_epoch all.keeper.advances;
@@ -370,7 +380,7 @@ module _ {D : Type 0} {tells : D → Option (List ℕ)} {clock : D → ℕ} {ima
         (growing_in old.side now)
     total = logs_total round all.lines.over start_many stands.workers ends.logs_many before_many ends.now_many some ready.logs
         idle
-        (λ w none. logged_nothing old.stands.decls 1 all.mid.stands.clock.draw shares w all.lines.over.runs.each
+        (λ w none. logged_nothing old.stands.decls old.stands.clock.draw all.mid.stands.clock.draw tries shares w all.lines.over.runs.each
         (λ p at. share_lines round shares w p all.lines.lines at ∙ none))
         ends.last
 
@@ -393,7 +403,7 @@ module _ {D : Type 0} {tells : D → Option (List ℕ)} {clock : D → ℕ} {ima
           let left = left_of i p.0 p.1 in
           let full = subst (λ r. IsRefusedBy r left.1.journal) p.2 left.2.refused in
           omega (arith, full.1, left.2.limit, left.4));
-      outcomes = run_caused round ran all.lines.over.runs of (subst ArePlain all.lines.told all.plain);
+      outcomes = run_caused round ran all.lines.over.runs of;
       answers = answers_caused logs failed others ends.fails ends.told_others;
     }
 
@@ -413,7 +423,7 @@ module _ {D : Type 0} {tells : D → Option (List ℕ)} {clock : D → ℕ} {ima
 
     -- A round that was run and joined, or not joined.
     pub done : ((disk : D) (file : List ℕ) → tells disk ≡ Some file → image_at disk (clock disk) file)
-        → Rounds tells clock image_at faults round old new before now (Ok report)
+        → Rounds tells clock image_at faults tries round old new before now (Ok report)
     done reads =
         let made = left reads in
         let run = λ (index : ℕ). shares_run round ran all.lines.over.runs of index new.stands.state
@@ -423,6 +433,7 @@ module _ {D : Type 0} {tells : D → Option (List ℕ)} {clock : D → ℕ} {ima
             logged = logged_in shares;
             reports = record { outcomes = refl; answers = refl; durable = refl; end = ends.end_is };
             begins = record {
+              tried = refl;
               sequence = refl;
               pages = refl;
               room = refl;
@@ -437,11 +448,21 @@ module _ {D : Type 0} {tells : D → Option (List ℕ)} {clock : D → ℕ} {ima
               decls = ends.decls ∙ ap (λ (x : Standing). x.decls) all.keeper.stands ∙ mid_decls;
               run = λ index. (run index).0;
               caused = caused;
-              lines_are = λ w below. shares_lines old.stands.decls 1 all.mid.stands.clock.draw shares w
+              conflicts = ends.conflicts ∙ ap (λ (x : Standing). x.conflicts) all.keeper.stands
+                  ∙ all.lines.over.runs.conflicts;
+              lines_are = λ w below. shares_lines old.stands.decls old.stands.clock.draw all.mid.stands.clock.draw tries shares w
                   all.lines.over.runs.each;
               logged_are = λ index w below. subst (λ es. AreLogged old.stands.decls w old.stands.state es (logged_in shares w))
                   (sym (run index).1) ((all.lines.over.runs.ordered index).logged w below);
             };
+            within = subst (λ d. d ≤ old.stands.clock.draw + tries * sum_by length report.outcomes)
+                (sym (ap (λ (x : Standing). x.clock.draw) all.keeper.stands)) all.lines.drawn;
+            once = λ tree.
+                let is = all.once tree in
+                record {
+                  once = ap (λ (x : Standing). x.clock.draw) all.keeper.stands ∙ is.once;
+                  plain = is.plain;
+                };
             durable = ends.durable;
             lasts = ends.lasts;
             clock = ends.clock_is;

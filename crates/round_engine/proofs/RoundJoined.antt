@@ -28,6 +28,7 @@ use Rattle.tx_script.specs.Run.{Ran}
 use Rattle.worker_logs.specs.Logs.{LogState, reset_log}
 use Rattle.worker_logs.specs.Saves.{closed_number, growing_number, logs_marks}
 use Rattle.worker_logs.specs.SavesLaws.{saved_epoch_less}
+use Rattle.worker_logs.specs.Rows.{NeverFall}
 use Rattle.round_engine.specs.Ends.{closed_failed, comes_to_advance, comes_to_swap, durable_of, end_of}
 use Rattle.round_engine.specs.Ends.{epoch_after, epoch_joined, first_device, first_of}
 use Rattle.round_engine.specs.Ends.{save_limited, swaps}
@@ -37,7 +38,7 @@ use Rattle.round_engine.specs.Logs.{IsRefusedBy}
 use Rattle.round_engine.specs.Phases.{JoinsAndSwaps, RunsAll, ended_as, fails_device, made, refused_by}
 use Rattle.round_engine.specs.RanRound.{Rounds, SwapsFiles}
 use Rattle.round_engine.specs.Refusals.{end_told, leaves_out}
-use Rattle.round_engine.specs.Saves.{AreSaved, beside_at_end, NeverFall, saves_told}
+use Rattle.round_engine.specs.Saves.{AreSaved, beside_at_end, saves_told}
 use Rattle.round_engine.specs.Sides.{closed_in, closed_numbers, growing_in, other_side}
 use Rattle.round_engine.specs.Standing.{beside_of, IsReady, RuntimeState, Standing, StandsOn}
 use Rattle.round_engine.specs.Swaps.{CutsBanks}
@@ -115,13 +116,13 @@ pub comes_so : (leaves below : Bool) → leaves ≡ false → below ≡ true →
 comes_so leaves below out low = rw (out, low) refl
 
 module _ {D : Type 0} {tells : D → Option (List ℕ)} {clock : D → ℕ} {image_at : D → ℕ → List ℕ → Type 0}
-    {faults : D → ℕ} {round : Round} {old : RuntimeState} {start : List LogState} {new : RuntimeState}
+    {faults : D → ℕ} {tries : ℕ} {round : Round} {old : RuntimeState} {start : List LogState} {new : RuntimeState}
     {before now : Vault D} {report : Report}
     (stands : StandsOn tells clock image_at old before) (ready : IsReady old) (some : 1 ≤ old.stands.clock.epoch)
     (start_many : length start ≡ 8)
     (idle : (w : ℕ) (log : LogState) → slice_get old.logs w ≡ Some log
     → slice_get start w ≡ Some (idled (lines_of_worker round w) log))
-    (all : RunsAll tells clock image_at faults round (record old { logs = start }) new before now report)
+    (all : RunsAll tells clock image_at faults tries round (record old { logs = start }) new before now report)
     (out : leaves_out all.refused ≡ false) (swapped : RuntimeState) (refusal : Option End)
     (js : JoinsAndSwaps tells clock image_at faults all.kept swapped all.after now report.durable refusal)
     (end_is : report.end ≡ end_told all.refused refusal)
@@ -173,7 +174,7 @@ module _ {D : Type 0} {tells : D → Option (List ℕ)} {clock : D → ℕ} {ima
   others = cut_device turns.cut
 
   abbrev ran : Ran
-  ran = ran_with tells clock image_at faults round old start new before now report all logs js.joins.failed others
+  ran = ran_with tells clock image_at faults tries round old start new before now report all logs js.joins.failed others
 
   abbrev turned_b : Bool
   turned_b = turns.tried && not (is_some turns.cut)
@@ -497,7 +498,7 @@ module _ {D : Type 0} {tells : D → Option (List ℕ)} {clock : D → ℕ} {ima
       (all.lines.flushed w log.0 below log.1 (mid_up w log.0 log.1))
 
   pub joined_round : ((disk : D) (file : List ℕ) → tells disk ≡ Some file → image_at disk (clock disk) file)
-      → Rounds tells clock image_at faults round old new before now (Ok report)
+      → Rounds tells clock image_at faults tries round old new before now (Ok report)
   unfolding files_made facts turns
   joined_round reads = done stands ready some start_many idle all logs (all.keeper.stored ++ js.joins.stored) js.joins.failed others (record {
     logs_many = joined_many facts;
@@ -515,6 +516,8 @@ module _ {D : Type 0} {tells : D → Option (List ℕ)} {clock : D → ℕ} {ima
     files = files_made;
     between_whole = pre_whole facts;
     rests = λ is. rests facts (sym comes_is ∙ (and_parts (comes_to_swap ran) (not (closed_failed ran)) is).0);
+    conflicts = ap (λ (s : Standing). s.conflicts) (new_stands
+        ∙ ap (λ (s : Standing). record s { ended = is_some report.end }) js.joins.stands);
     decls = ap (λ (s : Standing). s.decls) (new_stands ∙ ap (λ (s : Standing). record s { ended = is_some report.end }) js.joins.stands);
     state = ap (λ (s : Standing). s.state) (new_stands ∙ ap (λ (s : Standing). record s { ended = is_some report.end }) js.joins.stands);
     durable = durable_so;

@@ -29,6 +29,7 @@ use Rattle.worker_logs.specs.Logs.{IsJoined, LogState, log_limit}
 use Rattle.worker_logs.specs.Saves.{closed_number, logs_marks}
 use Rattle.worker_logs.specs.declared.savepoints.Beside.{Beside}
 use Rattle.worker_logs.specs.declared.savepoints.Side.{Side}
+use Rattle.worker_logs.specs.Rows.{NeverFall}
 use Rattle.round_engine.specs.Ends.{epoch_after, full_length, limit_at}
 use Rattle.round_engine.specs.Ends.{save_limited, wants_memory, where_true}
 use Rattle.round_engine.specs.Gleans.{AddsSnapshot, FailsIn, RoundGleans}
@@ -37,7 +38,7 @@ use Rattle.round_engine.specs.Keeping.{last_epoch_of, refusal_told}
 use Rattle.round_engine.specs.Phases.{RunsAll}
 use Rattle.round_engine.specs.Refusals.{damage_in, device_in, first_failed, first_full, first_told}
 use Rattle.round_engine.specs.Refusals.{memory_in}
-use Rattle.round_engine.specs.Saves.{AreSavedIn, beside_at_end, NeverFall}
+use Rattle.round_engine.specs.Saves.{AreSavedIn, beside_at_end}
 use Rattle.round_engine.specs.Shares.{Share}
 use Rattle.round_engine.specs.Sides.{closed_in, growing_in}
 use Rattle.round_engine.specs.Standing.{AreClosed, beside_of, HasSnapshot, IsMarkBefore, IsReady, RuntimeState, StandsOn}
@@ -46,7 +47,7 @@ use Rattle.round_engine.specs.declared.report.End.{End}
 use Rattle.round_engine.specs.declared.report.End.TheVariants as ends
 use Rattle.round_engine.specs.declared.report.LimitName.TheVariants.{Draw}
 use Rattle.round_engine.specs.declared.report.Report.{Report}
-use Rattle.round_engine.specs.declared.workers.LogEnd.{LogEnd}
+use Rattle.worker_cells.specs.declared.cell.LogEnd.{LogEnd}
 use Rattle.round_engine.proofs.Beside.{keeps_from}
 use Rattle.round_engine.proofs.Devices.{IsBeside, are_down}
 use Rattle.round_engine.proofs.Ended.{failed_down, first_down, full_is_first, keeper_device}
@@ -238,16 +239,16 @@ counted_few side counted b few over = all_from (λ n. n < 2 ^ 40) b.closed (λ w
 ])
 
 module _ {D : Type 0} {tells : D → Option (List ℕ)} {clock : D → ℕ} {image_at : D → ℕ → List ℕ → Type 0}
-    {faults : D → ℕ} {round : Round} {old : RuntimeState} {start : List LogState} {new : RuntimeState}
+    {faults : D → ℕ} {tries : ℕ} {round : Round} {old : RuntimeState} {start : List LogState} {new : RuntimeState}
     {before now : Vault D} {report : Report}
     (stands : StandsOn tells clock image_at old before) (ready : IsReady old) (some : 1 ≤ old.stands.clock.epoch)
     (start_many : length start ≡ 8)
     (idle : (w : ℕ) (log : LogState) → slice_get old.logs w ≡ Some log
     → slice_get start w ≡ Some (idled (lines_of_worker round w) log))
-    (all : RunsAll tells clock image_at faults round (record old { logs = start }) new before now report) where
+    (all : RunsAll tells clock image_at faults tries round (record old { logs = start }) new before now report) where
   -- the record of what was run
   abbrev Told : List LogState → Option Saved → List Device → Ran
-  Told logs failed others = ran_with tells clock image_at faults round old start new before now report all logs failed others
+  Told logs failed others = ran_with tells clock image_at faults tries round old start new before now report all logs failed others
 
   -- ---- the runtime behind the lines, by its parts
 

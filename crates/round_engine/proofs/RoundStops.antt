@@ -29,6 +29,7 @@ use Rattle.tx_script.specs.declared.answer.Answer.TheVariants as answers
 use Rattle.wire_form.specs.declared.clock.Mark.{Mark}
 use Rattle.worker_logs.specs.Logs.{IsJoined, LogState, log_limit}
 use Rattle.worker_logs.specs.Saves.{growing_number}
+use Rattle.worker_logs.specs.Rows.{AreLogsUp, IsBeforeOne, IsLogUp, KeepsMarkIn}
 use Rattle.round_engine.specs.Crashes.{CarriesCrashes}
 use Rattle.round_engine.specs.Changes.{AreLogged}
 use Rattle.round_engine.specs.Gleans.{RoundGleans}
@@ -39,7 +40,6 @@ use Rattle.round_engine.specs.RanRound.{AreRoundMarks, LeavesVault, Rounds, Swap
 use Rattle.round_engine.specs.Shares.{RunsShares, Share, logged_in}
 use Rattle.round_engine.specs.Sides.{closed_in, growing_in}
 use Rattle.round_engine.specs.Standing.{files_of, HasSnapshot, IsMarkBefore, IsReady, RuntimeState, StandsOn}
-use Rattle.round_engine.specs.Steps.{AreLogsUp, IsLogUp, KeepsMark}
 use Rattle.round_engine.specs.Workers.{idled}
 use Rattle.round_engine.proofs.CrashesLeft.{with_crashes}
 use Rattle.round_engine.proofs.Beside.{SameSaves, keeps_from, keeps_none}
@@ -59,19 +59,25 @@ use Rattle.round_engine.proofs.Whole.{LogsTotal, below_8, epochs_at, first_epoch
 use Rattle.round_engine.proofs.Places.{item_at, map_at, within_of}
 
 -- the mark of a worker that ran in part
-pub mark_stopped : (lines : List (List Op)) (was begins log : LogState) (epoch : ℕ) → 1 ≤ epoch → IsJoined epoch was
-    → idled lines was ≡ begins → KeepsMark epoch begins log → IsMarkBefore epoch log.mark.epoch
-mark_stopped lines was begins log epoch first joined is (inl same) =
-    subst (λ (m : Mark). IsMarkBefore epoch m.epoch) (sym same)
-    (subst (λ (l : LogState). IsMarkBefore epoch l.mark.epoch) is (idled_before lines was epoch first joined))
+pub mark_stopped : (lines : List (List Op)) (was begins log : LogState) (epoch high : ℕ) → 1 ≤ epoch → epoch ≤ high
+    → IsJoined epoch was → idled lines was ≡ begins → KeepsMarkIn epoch high begins log
+    → IsMarkBefore high log.mark.epoch
+mark_stopped lines was begins log epoch high first later joined is (inl same) =
+    subst (λ (m : Mark). IsMarkBefore high m.epoch) (sym same)
+    (subst (λ (l : LogState). IsMarkBefore high l.mark.epoch) is
+    (before_later (idled lines was).mark.epoch epoch high later (idled_before lines was epoch first joined)))
   where
     idled_before : (lines : List (List Op)) (was : LogState) (epoch : ℕ) → 1 ≤ epoch → IsJoined epoch was
         → IsMarkBefore epoch (idled lines was).mark.epoch
     idled_before [] was epoch first joined = tt
     idled_before (ops ∷ lines) was epoch first joined =
         subst (IsMarkBefore epoch) (sym (ap (λ (m : Mark). m.epoch) joined.marked)) (omega (arith, first))
-mark_stopped lines was begins log epoch first joined is (inr set) =
-    subst (IsMarkBefore epoch) (sym set) (omega (arith, first))
+mark_stopped lines was begins log epoch high first later joined is (inr set) =
+    set_before log.mark.epoch set
+  where
+    set_before : (marked : Option ℕ) → IsBeforeOne epoch high marked → IsMarkBefore high marked
+    set_before None is = tt
+    set_before (Some e) is = omega (arith, first, later, is.1)
 
 -- so many workers from this one on
 abbrev pub workers_from : ℕ → ℕ → List ℕ
@@ -109,13 +115,13 @@ ran_some (q ∷ shares) zero p at = ap (λ (x : Share). x.lines) (same_Some q p 
 ran_some (q ∷ shares) (suc w) p at = ran_some shares w p at
 
 module _ {D : Type 0} {tells : D → Option (List ℕ)} {clock : D → ℕ} {image_at : D → ℕ → List ℕ → Type 0}
-    {faults : D → ℕ} {round : Round} {old : RuntimeState} {start : List LogState} {mid : RuntimeState}
+    {faults : D → ℕ} {tries : ℕ} {round : Round} {old : RuntimeState} {start : List LogState} {mid : RuntimeState}
     {before now : Vault D}
     (stands : StandsOn tells clock image_at old before) (ready : IsReady old) (some : 1 ≤ old.stands.clock.epoch)
     (start_many : length start ≡ 8)
     (idle : (w : ℕ) (log : LogState) → slice_get old.logs w ≡ Some log
     → slice_get start w ≡ Some (idled (lines_of_worker round w) log))
-    (part : RunsSome tells clock image_at faults round (record old { logs = start }) mid before now) where
+    (part : RunsSome tells clock image_at faults tries round (record old { logs = start }) mid before now) where
   abbrev shares : List Share
   shares = part.stops.shares
 
@@ -139,12 +145,14 @@ module _ {D : Type 0} {tells : D → Option (List ℕ)} {clock : D → ℕ} {ima
     files = files_of old;
     marks = first_epochs start;
     logs = map (λ (p : Share). p.refusal) part.stops.shares;
+    tries = tries;
+    refused = map (λ (p : Share). p.tries_refused) part.stops.shares;
     gleans = [];
     devices = devices_down old.side (are_down mid.logs) false [];
     damaged = None;
   }
 
-  runs : RunsShares 1 old.stands mid.stands part.stops.shares
+  runs : RunsShares tries old.stands mid.stands part.stops.shares
   runs = part.stops.over.runs
 
   before_many : length (growing_in old.side before) ≡ 8
@@ -199,12 +207,14 @@ module _ {D : Type 0} {tells : D → Option (List ℕ)} {clock : D → ℕ} {ima
   lines_are : lines_of shares ≡ worker_lines front
   lines_are = made_lines 8 0 shares (lines_from 0 shares) runs.workers (λ i. run_of 0 i (0 + i) shares refl)
 
-  of : IsRanOf front old.stands mid.stands shares ran
+  of : IsRanOf tries front old.stands mid.stands shares ran
   of = record {
     lines = lines_are;
     begin = refl;
     draw = refl;
     outcomes = refl;
+    tried = refl;
+    refused = refl;
     asked = sym (no_keepers 0 shares);
     answers = ap length (sym (no_keepers 0 shares));
     epoch = runs.epoch;
@@ -214,7 +224,7 @@ module _ {D : Type 0} {tells : D → Option (List ℕ)} {clock : D → ℕ} {ima
       (growing_in old.side now)
   total = logs_total round part.stops.over start_many stands.workers (part.stops.over.logs_length ∙ start_many) before_many
       (part.stops.over.banks_length ∙ before_many) some ready.logs idle
-      (λ w none. logged_nothing old.stands.decls 1 mid.stands.clock.draw shares w runs.each
+      (λ w none. logged_nothing old.stands.decls old.stands.clock.draw mid.stands.clock.draw tries shares w runs.each
       (λ p at. front_nothing p.lines (lines_of_worker round w) (part.stops.fronts w p at) none))
       (λ w lines log was is at there bank bank_now.
       subst (λ x. LastStep tells clock image_at faults old.stands.clock.epoch lines x was is)
@@ -291,10 +301,8 @@ module _ {D : Type 0} {tells : D → Option (List ℕ)} {clock : D → ℕ} {ima
         let mid_bank = item_at (growing_in old.side now) w (omega (arith, below, before_many, part.stops.over.banks_length)) in
         let joined = all_at (IsJoined old.stands.clock.epoch) old.logs w was.0 ready.logs was.1 in
         let is : idled (lines_of_worker round w) was.0 ≡ begins.0 = same_Some _ begins.0 (sym (idle w was.0 was.1) ∙ begins.1) in
-        before_later log.mark.epoch old.stands.clock.epoch mid.stands.clock.epoch
-        (omega (arith, runs.epoch))
-        (mark_stopped (lines_of_worker round w) was.0 begins.0 log old.stands.clock.epoch some joined is
-        (lines_at w part.stops.over start_many begins.1 at bank.1 mid_bank.1).mark));
+        mark_stopped (lines_of_worker round w) was.0 begins.0 log old.stands.clock.epoch mid.stands.clock.epoch some
+        (omega (arith, runs.epoch)) joined is (lines_at w part.stops.over start_many begins.1 at bank.1 mid_bank.1).mark);
     closed = record {
       workers = ap (λ (r : RuntimeState). length r.counted) part.alone ∙ stands.closed.workers;
       counted = subst (λ (r : RuntimeState). AllByRecursion (λ n. n < 2 ^ 40) r.counted) (sym part.alone) stands.closed.counted;
@@ -393,7 +401,7 @@ module _ {D : Type 0} {tells : D → Option (List ℕ)} {clock : D → ℕ} {ima
       (λ w below has. inl (failed_at w below (subst (Contains ran.devices) (log_of_is old.side ran.files w refl) has))) tt (λ is. absurd (let no = is in cc)))
 
   pub stopped : ((disk : D) (file : List ℕ) → tells disk ≡ Some file → image_at disk (clock disk) file)
-      → (memory : Memory) → Rounds tells clock image_at faults round old new before now (Err memory)
+      → (memory : Memory) → Rounds tells clock image_at faults tries round old new before now (Err memory)
   unfolding files
   stopped reads memory =
       let made = left reads in
@@ -407,6 +415,7 @@ module _ {D : Type 0} {tells : D → Option (List ℕ)} {clock : D → ℕ} {ima
           ran = ran;
           logged = logged_in shares;
           begins = record {
+            tried = refl;
             sequence = refl;
             pages = refl;
             room = refl;
@@ -422,10 +431,11 @@ module _ {D : Type 0} {tells : D → Option (List ℕ)} {clock : D → ℕ} {ima
             run = λ index. (run index).0;
             caused = record {
               logs = logs_caused_so;
-              outcomes = run_caused front ran runs of part.plain;
+              outcomes = run_caused front ran runs of;
               answers = tt;
             };
-            lines_are = λ w below. shares_lines old.stands.decls 1 mid.stands.clock.draw shares w runs.each;
+            conflicts = runs.conflicts;
+            lines_are = λ w below. shares_lines old.stands.decls old.stands.clock.draw mid.stands.clock.draw tries shares w runs.each;
             logged_are = λ index w below. subst (λ es. AreLogged old.stands.decls w old.stands.state es (logged_in shares w))
                 (sym (run index).1) ((runs.ordered index).logged w below);
           };

@@ -13,19 +13,18 @@ use Rattle.tx_script.specs.declared.outcome.Outcome.{Outcome}
 use Rattle.worker_logs.specs.Logs.{LogState}
 use Rattle.worker_logs.specs.declared.savepoints.Side.{Side}
 use Rattle.worker_logs.specs.declared.savepoints.Side.TheVariants.{Even, Odd}
+use Rattle.worker_logs.specs.Rows.{AreLogsUp}
 use Rattle.round_engine.specs.Keeping.{CanKeep, RunsKeeper}
 use Rattle.round_engine.specs.Phases.{IsReadyToJoin, RoomAlone, RunsSome}
 use Rattle.round_engine.specs.Refusals.{device_in, device_refused, first_failed, leaves_out}
 use Rattle.round_engine.specs.Saves.{beside_at_end}
-use Rattle.round_engine.specs.Plainly.{ArePlain}
 use Rattle.round_engine.specs.Shares.{Share}
 use Rattle.round_engine.specs.Sides.{SameButGrowing, closed_in, growing_in}
 use Rattle.round_engine.specs.Standing.{AreClosed, beside_of, HasSnapshot, RuntimeState}
-use Rattle.round_engine.specs.Steps.{AreLogsUp}
 use Rattle.round_engine.specs.Workers.{RunsWorkers, StopsWorkers, refusal_of}
 use Rattle.round_engine.specs.declared.report.End.{End}
 use Rattle.round_engine.specs.declared.rounds.Refused.{Refused}
-use Rattle.round_engine.specs.declared.workers.LogEnd.{LogEnd}
+use Rattle.worker_cells.specs.declared.cell.LogEnd.{LogEnd}
 use Rattle.round_engine.proofs.Devices.{are_down}
 use Rattle.round_engine.proofs.Ended.{failed_down, first_down}
 use Rattle.round_engine.proofs.EndTold.{nothing}
@@ -36,7 +35,7 @@ use Rattle.round_engine.proofs.Places.{map_there, nothing_there}
 use Rattle.round_engine.proofs.RoundDone.{map_same, same_closed_in}
 use Rattle.round_engine.proofs.RoundKept.{counted_few, first_told_none, none_told}
 use Rattle.round_engine.proofs.Saved.{IsOver, over_begin, over_end}
-use Rattle.round_engine.proofs.SharesRun.{outcomes_of, same_decls}
+use Rattle.round_engine.proofs.SharesRun.{same_decls}
 use Rattle.round_engine.proofs.Whole.{below_8}
 use Rattle.round_engine.proofs.Places.{item_at}
 
@@ -45,31 +44,27 @@ same_growing_in Even old new room = ap (λ v. v.items) room.even
 same_growing_in Odd old new room = ap (λ v. v.items) room.odd
 
 module _ {D : Type 0} (tells : D → Option (List ℕ)) (clock : D → ℕ) (image_at : D → ℕ → List ℕ → Type 0)
-    (faults : D → ℕ) (round : Round) where
+    (faults : D → ℕ) (tries : ℕ) (round : Round) where
   -- some lines were run, or none
   pub some_lines : (old new : RuntimeState) (before lent now : Vault D)
-      → (stops : StopsWorkers tells clock image_at faults 1 round old.stands new.stands old.logs new.logs
-      (growing_in old.side lent) (growing_in old.side now)) → ArePlain (outcomes_of stops.shares)
+      → StopsWorkers tells clock image_at faults tries round old.stands new.stands old.logs new.logs
+      (growing_in old.side lent) (growing_in old.side now)
       → new ≡ record old { stands = new.stands; logs = new.logs } → RoomAlone before lent → SameButGrowing old.side lent now
-      → RunsSome tells clock image_at faults round old new before now
-  some_lines old new before lent now stops none alone room same =
-      let both = subst (λ (b : List D). (s : StopsWorkers tells clock image_at faults 1 round old.stands new.stands
-      old.logs new.logs b (growing_in old.side now)) × ArePlain (outcomes_of s.shares)) (same_growing_in old.side before lent room)
-      (stops, none) in
-      record {
-        stops = both.0;
-        plain = both.1;
-        alone = alone;
-        lent = lent;
-        room = room;
-        beside = same;
-      }
+      → RunsSome tells clock image_at faults tries round old new before now
+  some_lines old new before lent now stops alone room same = record {
+    stops = subst (λ (b : List D). StopsWorkers tells clock image_at faults tries round old.stands new.stands
+        old.logs new.logs b (growing_in old.side now)) (same_growing_in old.side before lent room) stops;
+    alone = alone;
+    lent = lent;
+    room = room;
+    beside = same;
+  }
 
 module _ {D : Type 0} {tells : D → Option (List ℕ)} {clock : D → ℕ} {image_at : D → ℕ → List ℕ → Type 0}
-    {faults : D → ℕ} {round : Round} {r mid : RuntimeState} {before lent between : Vault D}
+    {faults : D → ℕ} {tries : ℕ} {round : Round} {r mid : RuntimeState} {before lent between : Vault D}
     {outcomes : List (List Outcome)} {ends : List LogEnd}
     (logs_up : AreLogsUp tells r.logs (growing_in r.side before)) (ready : CanKeep tells clock image_at r before)
-    (lines : RunsWorkers tells clock image_at faults 1 round r.stands mid.stands outcomes ends r.logs mid.logs
+    (lines : RunsWorkers tells clock image_at faults tries round r.stands mid.stands outcomes ends r.logs mid.logs
     (growing_in r.side before) (growing_in r.side between))
     (alone : mid ≡ record r { stands = mid.stands; logs = mid.logs }) (room : RoomAlone before lent)
     (beside : SameButGrowing r.side lent between) where

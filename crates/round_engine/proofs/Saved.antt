@@ -25,7 +25,8 @@ use Rattle.worker_logs.specs.SavesLaws.{closed_length, counts_saved}
 use Rattle.worker_logs.specs.declared.savepoints.Beside.{Beside}
 use Rattle.worker_logs.specs.declared.savepoints.Side.{Side}
 use Rattle.round_engine.specs.Keeping.{IsSavedBySeen}
-use Rattle.round_engine.specs.Saves.{AreSaved, AreSavedIn, AreSeen, beside_after, beside_at_end, IsSavedBy, newest_after}
+use Rattle.round_engine.specs.Saves.{AreSaved, AreSavedIn, AreSeen, beside_after, beside_at_end, IsSavedBy}
+use Rattle.round_engine.specs.Saves.{newest_after}
 use Rattle.round_engine.proofs.LogsLeft.{marks_more}
 use Rattle.round_engine.proofs.Places.{or_parts}
 use Rattle.round_engine.proofs.Places.{item_at, map_at, within_of}

@@ -1,18 +1,17 @@
 -- What the workers' lines come to is a run of a round, whichever engine ran them.
-use Rattle.std.proofs.Common.{◌≡◌, ◌∙◌, sym, ap, subst, refl, inl, inr, ℕ, zero, suc, ◌+◌, ◌*◌, ◌<◌, ◌≤◌, List, []}
-use Rattle.std.proofs.Common.{◌∷◌, ◌++◌, length, map, filter, arith, length-append, Option, Some, None}
-use Rattle.std.specs.Prelude.{◌==◌, sum_by, slice_get, MatchBool, Bool, true, false, option_to_list}
+use Rattle.std.proofs.Common.{◌≡◌, ◌∙◌, sym, ap, subst, refl, inl, inr, ℕ, zero, suc, ◌<◌, ◌≤◌, List, []}
+use Rattle.std.proofs.Common.{◌∷◌, ◌++◌, length, map, arith, Option, Some, None}
+use Rattle.std.specs.Prelude.{◌==◌, slice_get, MatchBool, Bool, true, false, option_to_list}
 use Rattle.std.specs.List.{AllByRecursion, Contains}
 use Rattle.std.specs.List.Sorted.{IsPermutation}
 use Rattle.std.proofs.lemmas.List.{append-nil, length-map}
-use Rattle.std.proofs.lemmas.List.Sorted.{Contains-permutation, length_permutation}
-use Rattle.std.proofs.lemmas.List.Sums.{count_by-le-length, length-filter, sum_by-cons}
+use Rattle.std.proofs.lemmas.List.Sorted.{Contains-permutation}
 use Rattle.std.proofs.lemmas.Option.{same_Some}
 use Rattle.lists.specs.Each.{all_weaker}
 use Rattle.lists.specs.Elements.{in_cases, in_head, in_none, in_tail}
 use Rattle.wire_form.specs.LogFile.{IsLineOf}
 use Rattle.recovery_core.specs.Marks.{IsAbove}
-use Rattle.serial_model.specs.History.{Entry, InOrder, Precedes, Rises, state_after}
+use Rattle.serial_model.specs.History.{Entry, Rises, state_after}
 use Rattle.serial_model.specs.State.{State}
 use Rattle.serial_model.specs.declared.decl.Decl.{Decl}
 use Rattle.serial_model.specs.declared.number.Commit.{Commit}
@@ -23,15 +22,11 @@ use Rattle.worker_logs.specs.Changes.{IsLogged}
 use Rattle.tx_script.specs.declared.answer.Answer.{Answer}
 use Rattle.tx_script.specs.declared.answer.Answer.TheVariants as answers
 use Rattle.tx_script.specs.declared.outcome.Outcome.{Outcome}
-use Rattle.tx_script.specs.declared.outcome.Outcome.TheVariants.{Committed, Conflict, Full, Limit, Unrun, Wide}
-use Rattle.tx_script.specs.Causes.{OutcomeCause, WorkersCaused}
-use Rattle.tx_script.specs.Draws.{commits_of, commits_of-le, few_outcomes}
-use Rattle.tx_script.specs.Run.{AdvancesTo, IsBetween, IsOfRound, IsRun, LogRefusal, OneForEach, Ran, entries_of_line}
-use Rattle.tx_script.specs.Run.{entries_of_worker, entries_of_workers, is_commit, of_worker}
+use Rattle.tx_script.specs.Causes.{WorkersCaused}
+use Rattle.tx_script.specs.Run.{AdvancesTo, IsBetween, IsOfRound, IsRun, LogRefusal, OneForEach, Ran, TryRefusal}
+use Rattle.tx_script.specs.Run.{entries_of_workers, of_worker}
 use Rattle.round_engine.specs.Changes.{AreLogged}
-use Rattle.round_engine.specs.Plainly.{ArePlain, DrawsFew, IsPlain}
-use Rattle.round_engine.specs.Shares.{AllCome, ComesTo, EndsWith, IsShare, NoNumber, RunsShares, Share}
-use Rattle.round_engine.specs.Shares.{TryRefusal, conflicts_in, drawn_in, entries_in, is_conflict, logged_in}
+use Rattle.round_engine.specs.Shares.{IsShare, RunsShares, Share, entries_in, logged_in}
 use Rattle.round_engine.specs.Standing.{Standing}
 use Rattle.round_engine.proofs.Places.{map_there, within_of}
 
@@ -44,6 +39,10 @@ lines_of = map (λ (p : Share). p.lines)
 
 abbrev pub refusals_of : List Share → List (Option LogRefusal)
 refusals_of = map (λ (p : Share). p.refusal)
+
+-- what refused their tries
+abbrev pub tries_of : List Share → List (List (List TryRefusal))
+tries_of = map (λ (p : Share). p.tries_refused)
 
 -- ---- lists
 
@@ -69,217 +68,20 @@ same_decls runs = ap (λ (x : Standing). x.decls) runs.only
 
 -- ---- one outcome for each line
 
-pub shares_one_each : (decls : List Decl) (tries last : ℕ) (shares : List Share)
-    → AllByRecursion (IsShare decls tries last) shares → OneForEach (lines_of shares) (outcomes_of shares)
-shares_one_each decls tries last [] each = tt
-shares_one_each decls tries last (p ∷ shares) each = (each.0.one_each, shares_one_each decls tries last shares each.1)
-
--- ---- numbers
-
-line_counted : (round worker line : ℕ) (ops : List Op) (outcome : Outcome)
-    → length (entries_of_line round worker line ops outcome) ≡ length (filter is_commit (outcome ∷ []))
-line_counted round worker line ops (Committed verdict number replies) = refl
-line_counted round worker line ops Limit = refl
-line_counted round worker line ops Unrun = refl
-line_counted round worker line ops Conflict = refl
-line_counted round worker line ops Full = refl
-line_counted round worker line ops Wide = refl
-
-outcome_counted : (outcome : Outcome) (outcomes : List Outcome)
-    → length (filter is_commit (outcome ∷ outcomes))
-    ≡ length (filter is_commit (outcome ∷ [])) + length (filter is_commit outcomes)
-outcome_counted (Committed verdict number replies) outcomes = omega arith
-outcome_counted Limit outcomes = omega arith
-outcome_counted Unrun outcomes = omega arith
-outcome_counted Conflict outcomes = omega arith
-outcome_counted Full outcomes = omega arith
-outcome_counted Wide outcomes = omega arith
-
-worker_counted : (round worker line : ℕ) (outcomes : List Outcome) (lines : List (List Op))
-    → length outcomes ≡ length lines
-    → length (entries_of_worker round worker line outcomes lines) ≡ length (filter is_commit outcomes)
-worker_counted round worker line [] lines same = refl
-worker_counted round worker line (outcome ∷ outcomes) [] same = absurd cc
-worker_counted round worker line (outcome ∷ outcomes) (ops ∷ lines) same = omega (
-  arith,
-  length-append (entries_of_line round worker line ops outcome)
-      (entries_of_worker round worker (line + 1) outcomes lines),
-  line_counted round worker line ops outcome,
-  outcome_counted outcome outcomes,
-  worker_counted round worker (line + 1) outcomes lines (omega (arith, same)),
-)
-
-commits_of-cons : (mine : List Outcome) (more : List (List Outcome))
-    → commits_of (mine ∷ more) ≡ length (filter is_commit mine) + commits_of more
-commits_of-cons mine more = sum_by-cons (λ outcomes. length (filter is_commit outcomes)) mine more
-
--- there is a commit for each outcome that tells one
-entries_counted : (round worker : ℕ) (outcomes : List (List Outcome)) (lines : List (List (List Op)))
-    → OneForEach lines outcomes
-    → length (entries_of_workers round worker outcomes lines) ≡ commits_of outcomes
-entries_counted round worker [] [] each = refl
-entries_counted round worker [] (ls ∷ lines) each = absurd each
-entries_counted round worker (os ∷ more) [] each = absurd each
-entries_counted round worker (os ∷ more) (ls ∷ lines) each = omega (
-  arith,
-  length-append (entries_of_worker round worker 0 os ls) (entries_of_workers round (worker + 1) more lines),
-  worker_counted round worker 0 os ls each.0,
-  commits_of-cons os more,
-  entries_counted round (worker + 1) more lines each.1,
-)
-
--- draws that rise from one on
-above_first : (n high : ℕ) (e : Entry) (es : List Entry) → Precedes (λ e f. e.number.draw < f.number.draw) e es
-    → AllByRecursion (λ (f : Entry). f.number.draw < high) es
-    → AllByRecursion (λ (f : Entry). (e.number.draw + 1 ≤ f.number.draw) × (f.number.draw < high)) es
-above_first n high e [] rise below = tt
-above_first n high e (f ∷ es) rise below = ((omega (arith, rise.0), below.0), above_first n high e es rise.1 below.1)
-
--- there are at least as many numbers as commits
-draws_many : (es : List Entry) (low high : ℕ) → InOrder (λ e f. e.number.draw < f.number.draw) es → low ≤ high
-    → AllByRecursion (λ (e : Entry). (low ≤ e.number.draw) × (e.number.draw < high)) es → low + length es ≤ high
-draws_many [] low high rise le between = omega (arith, le)
-draws_many (e ∷ es) low high rise le between =
-    let more = draws_many es (e.number.draw + 1) high rise.1 (omega (arith, between.0.1))
-    (above_first low high e es rise.0
-    (all_weaker (λ (f : Entry). (low ≤ f.number.draw) × (f.number.draw < high)) (λ (f : Entry). f.number.draw < high)
-    (λ f is. is.1) es between.1)) in
-    omega (arith, more, between.0.0)
-
-few_conflicts : (refusals : List TryRefusal) → conflicts_in refusals ≤ length refusals
-few_conflicts refusals = omega (arith, length-filter is_conflict refusals, count_by-le-length is_conflict refusals)
-
--- of one try that was refused otherwise none is a conflict
-last_alone : (last : TryRefusal) (before : List TryRefusal) → is_conflict last ≡ false → length before < 1
-    → conflicts_in (before ++ last ∷ []) ≡ 0
-last_alone last [] not few = rw not refl
-last_alone last (refusal ∷ before) not few = absurd (omega (arith, few))
-
--- with one try and nobody in the way there is no conflict
-none_drawn : (last : ℕ) (log : Option LogRefusal) (outcomes : List Outcome) (refused : List (List TryRefusal))
-    → AllByRecursion IsPlain outcomes → AllCome 1 last log outcomes refused → sum_by conflicts_in refused ≡ 0
-none_drawn last log [] [] plain come = refl
-none_drawn last log [] (refusals ∷ refused) plain come = absurd come
-none_drawn last log (outcome ∷ outcomes) [] plain come = absurd come
-none_drawn last log (Committed verdict number replies ∷ outcomes) (refusals ∷ refused) plain come = omega (
-  arith,
-  sum_by-cons conflicts_in refusals refused,
-  few_conflicts refusals,
-  come.0.1,
-  none_drawn last log outcomes refused plain.1 come.1,
-)
-none_drawn last log (Limit ∷ outcomes) (refusals ∷ refused) plain come = omega (
-  arith,
-  sum_by-cons conflicts_in refusals refused,
-  ap conflicts_in come.0.0.all,
-  last_alone NoNumber come.0.0.before refl come.0.0.fewer,
-  none_drawn last log outcomes refused plain.1 come.1,
-)
-none_drawn last log (Unrun ∷ outcomes) (refusals ∷ refused) plain come = omega (
-  arith,
-  sum_by-cons conflicts_in refusals refused,
-  ap conflicts_in come.0.0,
-  none_drawn last log outcomes refused plain.1 come.1,
-)
-none_drawn last log (Conflict ∷ outcomes) (refusals ∷ refused) plain come = absurd plain.0
-none_drawn last log (Full ∷ outcomes) (refusals ∷ refused) plain come = absurd plain.0
-none_drawn last log (Wide ∷ outcomes) (refusals ∷ refused) plain come = absurd plain.0
-
--- then each commit draws one number, and nothing else does
-drawn_once : (decls : List Decl) (last : ℕ) (shares : List Share) → AllByRecursion (IsShare decls 1 last) shares
-    → ArePlain (outcomes_of shares) → sum_by drawn_in shares ≡ commits_of (outcomes_of shares)
-drawn_once decls last [] each plain = refl
-drawn_once decls last (p ∷ shares) each plain = omega (
-  arith,
-  sum_by-cons drawn_in p shares,
-  commits_of-cons p.outcomes (outcomes_of shares),
-  none_drawn last p.refusal p.outcomes p.tries_refused plain.0 each.0.come,
-  drawn_once decls last shares each.1 plain.1,
-)
-
--- tries that end in a refusal are no more than there are
-ends_within : {tries : ℕ} {last : TryRefusal} {refusals : List TryRefusal} → EndsWith tries last refusals
-    → conflicts_in refusals ≤ tries
-ends_within {last = last} {refusals = refusals} ends = omega (
-  arith,
-  few_conflicts refusals,
-  ap length ends.all,
-  length-append ends.before (last ∷ []),
-  ends.fewer,
-)
-
--- a line draws no more numbers than it has tries
-line_within : (tries last : ℕ) (log : Option LogRefusal) (outcome : Outcome) (refusals : List TryRefusal)
-    → ComesTo tries last log outcome refusals → length (filter is_commit (outcome ∷ [])) + conflicts_in refusals ≤ tries
-line_within tries last log (Committed verdict number replies) refusals is = omega (arith, is.1, few_conflicts refusals)
-line_within tries last log Limit refusals is = omega (arith, ends_within is.0)
-line_within tries last log Conflict refusals is = omega (arith, is.1, few_conflicts refusals)
-line_within tries last log Unrun refusals is = omega (arith, ap conflicts_in is.0)
-line_within tries last log Full refusals is = omega (arith, ends_within is)
-line_within tries last log Wide refusals is = omega (arith, ends_within is)
-
-once_more : (tries n : ℕ) → tries * suc n ≡ tries + tries * n
-once_more tries n = omega arith
-
-worker_within : (tries last : ℕ) (log : Option LogRefusal) (outcomes : List Outcome) (refused : List (List TryRefusal))
-    → AllCome tries last log outcomes refused
-    → length (filter is_commit outcomes) + sum_by conflicts_in refused ≤ tries * length outcomes
-worker_within tries last log [] [] come = omega arith
-worker_within tries last log [] (refusals ∷ refused) come = absurd come
-worker_within tries last log (outcome ∷ outcomes) [] come = absurd come
-worker_within tries last log (outcome ∷ outcomes) (refusals ∷ refused) come = omega (
-  arith,
-  line_within tries last log outcome refusals come.0,
-  outcome_counted outcome outcomes,
-  sum_by-cons conflicts_in refusals refused,
-  once_more tries (length outcomes),
-  worker_within tries last log outcomes refused come.1,
-)
-
-more_tries : (tries m n : ℕ) → tries * (m + n) ≡ tries * m + tries * n
-more_tries tries m n = omega arith
-
-all_within : (decls : List Decl) (tries last : ℕ) (shares : List Share)
-    → AllByRecursion (IsShare decls tries last) shares
-    → sum_by drawn_in shares ≤ tries * sum_by length (outcomes_of shares)
-all_within decls tries last [] each = omega arith
-all_within decls tries last (p ∷ shares) each = omega (
-  arith,
-  sum_by-cons drawn_in p shares,
-  ap (λ n. tries * n) (sum_by-cons length p.outcomes (outcomes_of shares)),
-  worker_within tries last p.refusal p.outcomes p.tries_refused each.0.come,
-  more_tries tries (length p.outcomes) (sum_by length (outcomes_of shares)),
-  all_within decls tries last shares each.1,
-)
+pub shares_one_each : (decls : List Decl) (first last tries : ℕ) (shares : List Share)
+    → AllByRecursion (IsShare decls first last tries) shares → OneForEach (lines_of shares) (outcomes_of shares)
+shares_one_each decls first last tries [] each = tt
+shares_one_each decls first last tries (p ∷ shares) each = (each.0.one_each, shares_one_each decls first last tries shares each.1)
 
 -- ---- causes
 
--- where nobody is in the way each line has its cause
-outcomes_caused : (ran : Ran) (tries last : ℕ) (log : Option LogRefusal) (outcomes : List Outcome)
-    (refused : List (List TryRefusal)) → last ≤ ran.end.draw → AllByRecursion IsPlain outcomes
-    → AllCome tries last log outcomes refused → AllByRecursion (OutcomeCause ran log) outcomes
-outcomes_caused ran tries last log [] [] le plain come = tt
-outcomes_caused ran tries last log [] (refusals ∷ refused) le plain come = absurd come
-outcomes_caused ran tries last log (outcome ∷ outcomes) [] le plain come = absurd come
-outcomes_caused ran tries last log (Committed verdict number replies ∷ outcomes) (refusals ∷ refused) le plain come =
-    (plain.0, outcomes_caused ran tries last log outcomes refused le plain.1 come.1)
-outcomes_caused ran tries last log (Limit ∷ outcomes) (refusals ∷ refused) le plain come =
-    (omega (arith, come.0.1, le), outcomes_caused ran tries last log outcomes refused le plain.1 come.1)
-outcomes_caused ran tries last log (Unrun ∷ outcomes) (refusals ∷ refused) le plain come =
-    (come.0.1, outcomes_caused ran tries last log outcomes refused le plain.1 come.1)
-outcomes_caused ran tries last log (Conflict ∷ outcomes) (refusals ∷ refused) le plain come = absurd plain.0
-outcomes_caused ran tries last log (Full ∷ outcomes) (refusals ∷ refused) le plain come = absurd plain.0
-outcomes_caused ran tries last log (Wide ∷ outcomes) (refusals ∷ refused) le plain come = absurd plain.0
-
-pub shares_caused : (decls : List Decl) (ran : Ran) (tries last : ℕ) (shares : List Share) → last ≤ ran.end.draw
-    → AllByRecursion (IsShare decls tries last) shares → ArePlain (outcomes_of shares)
-    → WorkersCaused ran (refusals_of shares) (outcomes_of shares)
-shares_caused decls ran tries last [] le each plain = tt
-shares_caused decls ran tries last (p ∷ shares) le each plain = (
-  outcomes_caused ran tries last p.refusal p.outcomes p.tries_refused le plain.0 each.0.come,
-  each.0.unrun_last,
-  shares_caused decls ran tries last shares le each.1 plain.1,
-)
+-- each line has its cause
+shares_caused : (decls : List Decl) (ran : Ran) (shares : List Share)
+    → AllByRecursion (IsShare decls ran.begin.draw ran.end.draw ran.tries) shares
+    → WorkersCaused ran (refusals_of shares) (outcomes_of shares) (tries_of shares)
+shares_caused decls ran [] each = tt
+shares_caused decls ran (p ∷ shares) each =
+    (each.0.come, each.0.unrun_last, shares_caused decls ran shares each.1)
 
 -- ---- shares by their workers
 
@@ -289,19 +91,19 @@ logged_some [] w p is = absurd cc
 logged_some (q ∷ shares) zero p is = ap (λ (x : Share). x.logged) (same_Some q p is)
 logged_some (q ∷ shares) (suc w) p is = logged_some shares w p is
 
-pub shares_lines : (decls : List Decl) (tries last : ℕ) (shares : List Share) (w : ℕ)
-    → AllByRecursion (IsShare decls tries last) shares → AllByRecursion (IsLineOf decls) (logged_in shares w)
-shares_lines decls tries last [] w each = tt
-shares_lines decls tries last (p ∷ shares) zero each = each.0.lines_are
-shares_lines decls tries last (p ∷ shares) (suc w) each = shares_lines decls tries last shares w each.1
+pub shares_lines : (decls : List Decl) (first last tries : ℕ) (shares : List Share) (w : ℕ)
+    → AllByRecursion (IsShare decls first last tries) shares → AllByRecursion (IsLineOf decls) (logged_in shares w)
+shares_lines decls first last tries [] w each = tt
+shares_lines decls first last tries (p ∷ shares) zero each = each.0.lines_are
+shares_lines decls first last tries (p ∷ shares) (suc w) each = shares_lines decls first last tries shares w each.1
 
 -- nothing was logged of no lines
-pub logged_nothing : (decls : List Decl) (tries last : ℕ) (shares : List Share) (w : ℕ)
-    → AllByRecursion (IsShare decls tries last) shares
+pub logged_nothing : (decls : List Decl) (first last tries : ℕ) (shares : List Share) (w : ℕ)
+    → AllByRecursion (IsShare decls first last tries) shares
     → ((p : Share) → slice_get shares w ≡ Some p → p.lines ≡ []) → logged_in shares w ≡ []
-logged_nothing decls tries last [] w each none = refl
-logged_nothing decls tries last (p ∷ shares) zero each none = each.0.none (none p refl)
-logged_nothing decls tries last (p ∷ shares) (suc w) each none = logged_nothing decls tries last shares w each.1 none
+logged_nothing decls first last tries [] w each none = refl
+logged_nothing decls first last tries (p ∷ shares) zero each none = each.0.none (none p refl)
+logged_nothing decls first last tries (p ∷ shares) (suc w) each none = logged_nothing decls first last tries shares w each.1 none
 
 -- what holds of the numbers of the commits holds of what was logged
 logged_numbers : (P : Number → Type 0) (decls : List Decl) (worker : ℕ) (s : State) (es : List Entry)
@@ -358,23 +160,25 @@ advances_up [] first last is = omega (arith, is)
 advances_up (answers.Epoch epoch ∷ more) first last is = omega (arith, is.0, advances_up more epoch last is.1)
 advances_up (_ ∷ more) first last is = advances_up more first last is
 
--- the run is of these shares of the round's lines, and of its keeper lines
-pub record IsRanOf (round : Round) (s t : Standing) (shares : List Share) (ran : Ran) : Type 0 where
+-- the run is of these shares of the round's lines, each tried so often at most, and of its keeper lines
+pub record IsRanOf (tries : ℕ) (round : Round) (s t : Standing) (shares : List Share) (ran : Ran) : Type 0 where
   pub lines : lines_of shares ≡ worker_lines round
   pub begin : ran.begin ≡ s.clock
   pub draw : ran.end.draw ≡ t.clock.draw
   pub outcomes : ran.outcomes ≡ outcomes_of shares
+  pub tried : ran.tries ≡ tries
+  pub refused : ran.refused ≡ tries_of shares
   pub asked : ran.asked ≡ keeper_lines round
   pub answers : length ran.answers ≡ length (keeper_lines round)
   pub epoch : AdvancesTo s.clock.epoch ran.answers ran.end.epoch
 
 module _ {tries : ℕ} {s t : Standing} {shares : List Share} (round : Round) (ran : Ran)
-    (runs : RunsShares tries s t shares) (of : IsRanOf round s t shares ran) where
+    (runs : RunsShares tries s t shares) (of : IsRanOf tries round s t shares ran) where
   is_of_round : IsOfRound ran round
   is_of_round = record {
     outcomes = subst (λ l. OneForEach l ran.outcomes) of.lines
         (subst (OneForEach (lines_of shares)) (sym of.outcomes)
-        (shares_one_each s.decls tries t.clock.draw shares runs.each));
+        (shares_one_each s.decls s.clock.draw t.clock.draw tries shares runs.each));
     asked = of.asked;
     answers = of.answers;
   }
@@ -429,47 +233,14 @@ module _ {tries : ℕ} {s t : Standing} {shares : List Share} (round : Round) (r
         refl,
       )
 
-  -- no more numbers were drawn than the lines have tries
-  pub shares_within : ran.end.draw ≤ s.clock.draw + tries * sum_by length ran.outcomes
-  shares_within = omega (
-    arith,
-    of.draw,
-    runs.drawn,
-    all_within s.decls tries t.clock.draw shares runs.each,
-    ap (λ l. tries * sum_by length l) of.outcomes,
-  )
-
   -- the causes of the outcomes
-  pub run_caused : ArePlain (outcomes_of shares) → WorkersCaused ran (refusals_of shares) ran.outcomes
-  run_caused plain =
-      subst (WorkersCaused ran (refusals_of shares)) (sym of.outcomes)
-      (shares_caused s.decls ran tries t.clock.draw shares (omega (arith, of.draw)) runs.each plain)
-
-module _ {s t : Standing} {shares : List Share} (round : Round) (ran : Ran) (runs : RunsShares 1 s t shares)
-    (of : IsRanOf round s t shares ran) (plain : ArePlain (outcomes_of shares)) where
-  -- with one try a line, and nobody in the way, a number was drawn for each commit, and none besides
-  shares_once : ran.end.draw ≡ s.clock.draw + commits_of ran.outcomes
-  shares_once =
-      let o = runs.ordered 0 in
-      let least = draws_many o.ordered s.clock.draw t.clock.draw o.draws runs.draw
-      (all_weaker (λ (e : Entry). IsBetween s.clock t.clock e.number)
-      (λ (e : Entry). (s.clock.draw ≤ e.number.draw) × (e.number.draw < t.clock.draw))
-      (λ e is. (is.draw_from, is.draw_before))
-      o.ordered o.numbers) in
-      omega (
-        arith,
-        of.draw,
-        runs.drawn,
-        drawn_once s.decls t.clock.draw shares runs.each plain,
-        least,
-        length_permutation (entries_in 0 shares) o.ordered o.same,
-        entries_counted 0 0 (outcomes_of shares) (lines_of shares)
-            (shares_one_each s.decls 1 t.clock.draw shares runs.each),
-        ap commits_of of.outcomes,
-      )
-
-  pub shares_few : DrawsFew round s.clock.draw ran.end.draw ran.outcomes
-  shares_few = record {
-    once = shares_once;
-    few = omega (arith, shares_once, few_outcomes ran round (is_of_round round ran runs of), commits_of-le ran.outcomes);
-  }
+  pub run_caused : WorkersCaused ran (refusals_of shares) ran.outcomes ran.refused
+  run_caused =
+      let first : ran.begin.draw ≡ s.clock.draw = ap (λ (n : Number). n.draw) of.begin in
+      let each : AllByRecursion (IsShare s.decls ran.begin.draw ran.end.draw ran.tries) shares =
+      subst (λ n. AllByRecursion (IsShare s.decls ran.begin.draw ran.end.draw n) shares) (sym of.tried)
+      (subst (λ n. AllByRecursion (IsShare s.decls n ran.end.draw tries) shares) (sym first)
+      (subst (λ n. AllByRecursion (IsShare s.decls s.clock.draw n tries) shares) (sym of.draw) runs.each)) in
+      subst (λ r. WorkersCaused ran (refusals_of shares) ran.outcomes r) (sym of.refused)
+      (subst (λ o. WorkersCaused ran (refusals_of shares) o (tries_of shares)) (sym of.outcomes)
+      (shares_caused s.decls ran shares each))

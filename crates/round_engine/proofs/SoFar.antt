@@ -12,24 +12,27 @@ use Rattle.serial_model.specs.declared.number.Number.{Number}
 use Rattle.serial_model.specs.declared.op.Op.{Op}
 use Rattle.script_grammar.specs.Script.{Line}
 use Rattle.wire_form.specs.LogFile.{IsLineOf}
-use Rattle.log_writer.specs.Journal.{JournalState, Reaches, end_of}
+use Rattle.log_writer.specs.Journal.{end_of}
 use Rattle.log_writer.specs.declared.journal.LogFault.{LogFault}
-use Rattle.log_writer.specs.declared.journal.LogFault.TheVariants.{Device, Down, Limit}
+use Rattle.log_writer.specs.declared.journal.LogFault.TheVariants.{Limit}
 use Rattle.tx_script.specs.declared.outcome.Outcome.{Outcome}
 use Rattle.tx_script.specs.declared.outcome.Outcome.TheVariants.{Unrun}
 use Rattle.worker_logs.specs.Changes.{IsLogged}
 use Rattle.worker_logs.specs.Logs.{LogState}
 use Rattle.worker_logs.specs.Moves.{MovesLog}
+use Rattle.worker_logs.specs.Rows.{IsFull, IsLogUp, KeepsMark, full_after}
+use Rattle.worker_logs.specs.RowLaws.{never_up}
+use Rattle.worker_logs.specs.RowLaws.{blames_move, blames_none, blames_took, full_at, keeps_commit, keeps_then}
+use Rattle.worker_logs.specs.RowLaws.{limit_took, reaches_took, room_left, still_down, still_full, takes_commit}
+use Rattle.worker_logs.specs.RowLaws.{takes_move, takes_none, was_up}
 use Rattle.round_engine.specs.Parts.{IsLoggedAt, unrun}
 use Rattle.round_engine.specs.Plainly.{after_line, after_lines, has_number, next_number, outcome_at, outcomes_at}
 use Rattle.round_engine.specs.Standing.{Standing}
-use Rattle.round_engine.specs.Steps.{Blames, IsFull, IsLogUp, KeepsMark, Moves, TakesCommit, TakesLine, full_after}
+use Rattle.round_engine.specs.Steps.{Moves, TakesLine}
 use Rattle.round_engine.specs.InTurn.{RunsLines}
 use Rattle.round_engine.proofs.Chains.{after_lines-decls}
 use Rattle.round_engine.proofs.Fronts.{HasOps, ops_of, take_other}
 use Rattle.round_engine.proofs.Logged.{logged_push}
-use Rattle.round_engine.proofs.Takes.{blames_move, blames_none, keeps_commit, keeps_then, still_down, still_full}
-use Rattle.round_engine.proofs.Takes.{takes_commit, takes_move, takes_none}
 
 -- ---- one line more
 
@@ -65,65 +68,10 @@ logged_number decls s ops number true (Some d) is c has =
     let same : d ≡ c = cc in ap (λ (x : Commit). x.number.epoch) (sym same) ∙ ap (λ (n : Number). n.epoch) is.1
 logged_number decls s ops number false first is c has = absurd (let none = sym is ∙ has in cc)
 
--- a log that has room for a line isn't full
-pub room_left : (full : Option ℕ) → ((size : ℕ) → full ≡ Some size → ⊥) → full ≡ None
-room_left None not = refl
-room_left (Some size) not = absurd (not size refl)
-
--- what a log with a commit more is
-pub blames_took : {D : Type 0} {faults : D → ℕ} {first now : D} (ready left : LogState) (commit : Option Commit)
-    → Blames faults first now ready.journal → TakesCommit commit ready left → Blames faults first now left.journal
-blames_took {faults = faults} {first = first} {now = now} ready left None blames is =
-    subst (λ (l : LogState). Blames faults first now l.journal) (sym is) blames
-blames_took ready left (Some c) blames puts = record {
-  later = blames.later;
-  quiet = λ up. blames.quiet (sym puts.down ∙ up);
-  rose = λ count down. blames.rose count (sym puts.down ∙ down);
-}
-
-pub reaches_took : {D : Type 0} (tells : D → Option (List ℕ)) (now : D) (ready left : LogState) (commit : Option Commit)
-    → Reaches tells now ready.journal → TakesCommit commit ready left → Reaches tells now left.journal
-reaches_took tells now ready left None reaches is =
-    subst (λ (l : LogState). Reaches tells now l.journal) (sym is) reaches
-reaches_took tells now ready left (Some c) reaches puts = λ file told. omega (arith, reaches file told, puts.durable)
-
-pub limit_took : (ready left : LogState) (commit : Option Commit) → TakesCommit commit ready left
-    → left.journal.limit ≡ ready.journal.limit
-limit_took ready left None is = ap (λ (l : LogState). l.journal.limit) is
-limit_took ready left (Some c) puts = puts.limit
-
 -- lines with one more are some
 pub some_lines : (lines : List (List Op)) (ops : List Op) → lines ++ ops ∷ [] ≡ [] → ⊥
 some_lines [] ops is = absurd cc
 some_lines (first ∷ lines) ops is = absurd cc
-
--- a log that took a call well was up
-pub up_or : (down : Option ℕ) → ((count : ℕ) → down ≡ Some count → ⊥) → down ≡ None
-up_or None not = refl
-up_or (Some count) not = absurd (not count refl)
-
--- where a log is full
-pub full_at : {journal : JournalState} (fault : LogFault) (full : Option ℕ)
-    → ((size : ℕ) → fault ≡ Limit size → IsFull size journal) → ((size : ℕ) → full ≡ Some size → IsFull size journal)
-    → (size : ℕ) → full_after fault full ≡ Some size → IsFull size journal
-full_at Device full limit before size is = before size is
-full_at (Down count) full limit before size is = before size is
-full_at (Limit length) full limit before size is =
-    let same : length ≡ size = cc in limit size (ap Limit same)
-
-module _ {D : Type 0} {tells : D → Option (List ℕ)} {clock : D → ℕ} {image_at : D → ℕ → List ℕ → Type 0}
-    {faults : D → ℕ} {epoch : ℕ} {log left : LogState} {bank now : D} where
-  -- a log that was made ready was up
-  pub was_up : MovesLog tells clock image_at faults epoch log left bank now None → log.journal.down ≡ None
-  was_up moves = up_or log.journal.down (λ count is. let no = (moves.down count).1 is in absurd cc)
-
-  -- and one that refuses a line for another cause than its length is down
-  never_up : (fault : LogFault) (full : Option ℕ) → MovesLog tells clock image_at faults epoch log left bank now (Some fault)
-      → full_after fault full ≡ None → left.journal.down ≡ None → ⊥
-  never_up Device full moves none up = let no = sym (moves.goes_down refl) ∙ up in absurd cc
-  never_up (Down count) full moves none up =
-      let no = sym ((moves.down count).0 refl) ∙ sym (moves.stays_up (λ is. cc)) ∙ up in absurd cc
-  never_up (Limit size) full moves none up = absurd cc
 
 module _ {D : Type 0} {tells : D → Option (List ℕ)} {clock : D → ℕ} {image_at : D → ℕ → List ℕ → Type 0}
     {faults : D → ℕ} where
@@ -139,7 +87,7 @@ module _ {D : Type 0} {tells : D → Option (List ℕ)} {clock : D → ℕ} {ima
     standing = refl;
     logged_are = refl;
     lines_are = tt;
-    takes = takes_none s.clock.epoch log bank;
+    takes = takes_none s.clock.epoch s.clock.epoch log bank;
     mark = inl refl;
     blames = blames_none bank log.journal up.up;
     reaches = up.reaches;
@@ -193,11 +141,15 @@ module _ {D : Type 0} {tells : D → Option (List ℕ)} {clock : D → ℕ} {ima
             (subst (λ m. IsLoggedAt m ops took.first) so.standing took.logged);
         lines_are = all_append (IsLineOf s.decls) so.logged (option_to_list took.first) so.lines_are
             (subst (λ ds. AllByRecursion (IsLineOf ds) (option_to_list took.first)) same_decls took.line);
-        takes = takes_commit took.first some
-            (λ c has. logged_number mid.decls mid.state ops mid.clock (has_number mid) took.first took.logged c has
-            ∙ same_epoch)
-            (takes_move so.takes moves.runs) took.takes;
-        mark = keeps_commit s.clock.epoch old ready left took.first (keeps_then s.clock.epoch old log ready so.mark mark)
+        takes = takes_commit took.first some (omega arith)
+            (λ c has. omega (
+              arith,
+              logged_number mid.decls mid.state ops mid.clock (has_number mid) took.first
+                  took.logged c has ∙ same_epoch,
+            ))
+            (takes_move (omega arith) (omega arith) so.takes moves.runs) took.takes;
+        mark = keeps_commit s.clock.epoch s.clock.epoch old ready left took.first
+            (keeps_then s.clock.epoch s.clock.epoch s.clock.epoch old log ready (omega arith) (omega arith) so.mark mark)
             took.takes;
         blames = blames_took ready left took.first (blames_move None so.blames moves) took.takes;
         reaches = reaches_took tells now ready left took.first moves.reaches took.takes;
@@ -226,8 +178,8 @@ module _ {D : Type 0} {tells : D → Option (List ℕ)} {clock : D → ℕ} {ima
     standing = so.standing;
     logged_are = so.logged_are;
     lines_are = so.lines_are;
-    takes = takes_move so.takes moves.runs;
-    mark = keeps_then s.clock.epoch old log left so.mark mark;
+    takes = takes_move (omega arith) (omega arith) so.takes moves.runs;
+    mark = keeps_then s.clock.epoch s.clock.epoch s.clock.epoch old log left (omega arith) (omega arith) so.mark mark;
     blames = blames_move (Some fault) so.blames moves;
     reaches = moves.reaches;
     limit = moves.limit ∙ so.limit;
@@ -252,8 +204,9 @@ module _ {D : Type 0} {tells : D → Option (List ℕ)} {clock : D → ℕ} {ima
     standing = so.standing;
     logged_are = so.logged_are;
     lines_are = so.lines_are;
-    takes = takes_move so.takes marks.moves.runs;
-    mark = keeps_then s.clock.epoch old log left so.mark marks.mark;
+    takes = takes_move (omega arith) (omega arith) so.takes marks.moves.runs;
+    mark = keeps_then s.clock.epoch s.clock.epoch s.clock.epoch old log left (omega arith) (omega arith) so.mark
+        marks.mark;
     blames = blames_move marks.fault so.blames marks.moves;
     reaches = marks.moves.reaches;
     limit = marks.moves.limit ∙ so.limit;

@@ -11,7 +11,7 @@ use Rattle.recovery_core.specs.Cutting.{AreReady}
 use Rattle.recovery_core.specs.JointCrash.{CrashesNow, HasCut, Moments, Parts}
 use Rattle.recovery_core.specs.Story.{BankReady, IsTold, Story}
 use Rattle.recovery_core.specs.Crashes.Instants.{now_ready}
-use Rattle.round_engine.specs.Saves.{NeverFall}
+use Rattle.worker_logs.specs.Rows.{NeverFall}
 
 -- ---- numbers that never fall
 

@@ -27,15 +27,15 @@ use Rattle.worker_logs.specs.Logs.{IsLog, IsMarkOf, LogState, reset_log}
 use Rattle.worker_logs.specs.LogLaws.{log_of as log_is, log_resets}
 use Rattle.worker_logs.specs.Saves.{closed_number, CountsOf, growing_number, IsCounted, logs_marks}
 use Rattle.worker_logs.specs.declared.savepoints.Beside.{Beside}
+use Rattle.worker_logs.specs.Rows.{Blames, NeverFall}
 use Rattle.round_engine.specs.Ends.{comes_to_advance, comes_to_save, comes_to_swap, epoch_joined, swaps}
 use Rattle.round_engine.specs.Gleans.{RoundGleans}
 use Rattle.round_engine.specs.Keeping.{IsSavedBySeen, Keeps}
 use Rattle.round_engine.specs.Logs.{AreClosedFiles, AreLogs, IsClosedFile, IsRefusedBy, LeavesLog}
 use Rattle.round_engine.specs.RanRound.{AreFailed, LeavesVault, LogsRan, SwapsFiles}
-use Rattle.round_engine.specs.Saves.{AreSaved, AreSeen, beside_at_end, IsSavedBy, NeverFall, newest_after, saves_told}
+use Rattle.round_engine.specs.Saves.{AreSaved, AreSeen, beside_at_end, IsSavedBy, newest_after, saves_told}
 use Rattle.round_engine.specs.Sides.{closed_in, closed_numbers, growing_in, other_side}
 use Rattle.round_engine.specs.Standing.{beside_of, RuntimeState, StandsOn}
-use Rattle.round_engine.specs.Steps.{Blames}
 use Rattle.round_engine.specs.Swaps.{behind_swap, CutsBanks, since_swap}
 use Rattle.round_engine.proofs.BanksCut.{banks_empty, closed_in_numbers, reads_begin}
 use Rattle.round_engine.proofs.Devices.{are_down, are_failed, beside_not_save, IsBeside, save_down, save_in}

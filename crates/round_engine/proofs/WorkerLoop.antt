@@ -14,13 +14,14 @@ use Rattle.tx_script.specs.declared.outcome.Outcome.{Outcome}
 use Rattle.tx_script.specs.declared.outcome.Outcome.TheVariants.{Unrun}
 use Rattle.worker_logs.specs.Logs.{LogState}
 use Rattle.worker_logs.specs.Moves.{MovesLog}
+use Rattle.worker_logs.specs.Rows.{full_after}
+use Rattle.worker_logs.specs.RowLaws.{blames_move, keeps_then, takes_move}
 use Rattle.round_engine.specs.Plainly.{after_line, outcome_at}
 use Rattle.round_engine.specs.Standing.{Standing}
-use Rattle.round_engine.specs.Steps.{TakesLine, full_after}
+use Rattle.round_engine.specs.Steps.{TakesLine}
 use Rattle.round_engine.specs.InTurn.{RunsLines, StopsLines}
 use Rattle.round_engine.proofs.Fronts.{HasOps, ops_of, ops_of-append, take_mine}
 use Rattle.round_engine.proofs.SoFar.{lines_left, lines_ran}
-use Rattle.round_engine.proofs.Takes.{blames_move, keeps_then, takes_move}
 
 -- ---- fronts
 
@@ -104,8 +105,9 @@ module _ (D : Type 0) (tells : D → Option (List ℕ)) (clock : D → ℕ) (ima
     standing = so.0.standing;
     logged_are = so.0.logged_are;
     lines_are = so.0.lines_are;
-    takes = takes_move so.0.takes moves.runs;
-    mark = keeps_then s.clock.epoch old log left so.0.mark moves.mark;
+    takes = takes_move (omega arith) (omega arith) so.0.takes moves.runs;
+    mark = keeps_then s.clock.epoch s.clock.epoch s.clock.epoch old log left (omega arith) (omega arith) so.0.mark
+        moves.mark;
     blames = blames_move fault so.0.blames moves;
     reaches = moves.reaches;
     limit = moves.limit ∙ so.0.limit;

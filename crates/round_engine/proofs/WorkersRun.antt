@@ -12,16 +12,16 @@ use Rattle.script_grammar.specs.Script.{Round, lines_of_worker, worker_lines}
 use Rattle.tx_script.specs.Run.{LogFailed}
 use Rattle.tx_script.specs.declared.outcome.Outcome.{Outcome}
 use Rattle.worker_logs.specs.Logs.{LogState}
+use Rattle.worker_logs.specs.Rows.{IsFull}
 use Rattle.log_writer.specs.Journal.{JournalState}
 use Rattle.round_engine.specs.Logs.{IsRefusedBy}
 use Rattle.round_engine.specs.Parts.{AreParts, IsPart, Part, after_parts, lines_in, outcomes_in, outcomes_of}
 use Rattle.round_engine.specs.Plainly.{after_lines}
 use Rattle.round_engine.specs.Standing.{Standing}
-use Rattle.round_engine.specs.Steps.{IsFull}
 use Rattle.round_engine.specs.InTurn.{AreFirstLines, RunsFirst, StopsInTurn, RunsLines, RunsWorker, StopsLines}
 use Rattle.round_engine.specs.InTurn.{WorkersSoFar}
 use Rattle.round_engine.specs.Workers.{LeftBy, refusal_of, refused_as}
-use Rattle.round_engine.specs.declared.workers.LogEnd.{LogEnd}
+use Rattle.worker_cells.specs.declared.cell.LogEnd.{LogEnd}
 use Rattle.round_engine.proofs.Logged.{parts_push}
 use Rattle.round_engine.proofs.Places.{item_at, map_at}
 use Rattle.round_engine.proofs.PlainRun.{plain_kept}
@@ -110,7 +110,7 @@ module _ {D : Type 0} {tells : D → Option (List ℕ)} {clock : D → ℕ} {ima
   left_by : {lines : List (List Op)} {s t : Standing} {outcomes : List Outcome} {full : Option ℕ} {old new : LogState}
       {before now : D} (failed : Bool) → failed ≡ is_some new.journal.down
       → (runs : RunsLines tells clock image_at faults lines s t outcomes full old new before now)
-      → LeftBy tells clock image_at faults s.clock.epoch runs.logged (refused_as failed full) old new before now
+      → LeftBy tells clock image_at faults s.clock.epoch s.clock.epoch runs.logged (refused_as failed full) old new before now
   left_by {full = full} {new = new} failed is runs = record {
     takes = runs.takes;
     mark = runs.mark;
@@ -124,7 +124,7 @@ module _ {D : Type 0} {tells : D → Option (List ℕ)} {clock : D → ℕ} {ima
   -- and one that stopped
   left_stopped : {lines : List (List Op)} {s t : Standing} {old new : LogState} {before now : D}
       → (stops : StopsLines tells clock image_at faults lines s t old new before now)
-      → LeftBy tells clock image_at faults s.clock.epoch stops.logged (refused_as (is_some new.journal.down) None) old new
+      → LeftBy tells clock image_at faults s.clock.epoch s.clock.epoch stops.logged (refused_as (is_some new.journal.down) None) old new
       before now
   left_stopped {new = new} stops = record {
     takes = stops.takes;
@@ -167,7 +167,7 @@ module _ {D : Type 0} {tells : D → Option (List ℕ)} {clock : D → ℕ} {ima
       → IsPart mid p → t ≡ after_lines mid p.ran
       → slice_get logs w ≡ Some log → slice_get banks w ≡ Some bank
       → slice_get logs_now w ≡ Some left → slice_get banks_now w ≡ Some now
-      → LeftBy tells clock image_at faults mid.clock.epoch p.logged p.refusal log left bank now
+      → LeftBy tells clock image_at faults mid.clock.epoch mid.clock.epoch p.logged p.refusal log left bank now
       → ((other : ℕ) → other ≢ w → slice_get logs_now other ≡ slice_get logs other)
       → ((other : ℕ) → other ≢ w → slice_get banks_now other ≡ slice_get banks other)
       → length logs_now ≡ length logs → length banks_now ≡ length banks
@@ -194,12 +194,12 @@ module _ {D : Type 0} {tells : D → Option (List ℕ)} {clock : D → ℕ} {ima
               let before_is : bank ≡ before = same_Some bank before (sym bank_at ∙ first.rest_banks w (omega arith) ∙ ap (slice_get _) (sym here) ∙ bank_was) in
               let new_is : left ≡ new = same_Some left new (sym at_now ∙ ap (slice_get _) (sym here) ∙ is_now) in
               let after_is : now ≡ after = same_Some now after (sym bank_now ∙ ap (slice_get _) (sym here) ∙ bank_is) in
-              subst (λ (q : Part). LeftBy tells clock image_at faults s.clock.epoch q.logged q.refusal old new before after) newest.1
-              (subst (λ e. LeftBy tells clock image_at faults e p.logged p.refusal old new before after) epoch
-              (subst (λ x. LeftBy tells clock image_at faults mid.clock.epoch p.logged p.refusal x new before after) old_is
-              (subst (λ x. LeftBy tells clock image_at faults mid.clock.epoch p.logged p.refusal log x before after) new_is
-              (subst (λ x. LeftBy tells clock image_at faults mid.clock.epoch p.logged p.refusal log left x after) before_is
-              (subst (λ x. LeftBy tells clock image_at faults mid.clock.epoch p.logged p.refusal log left bank x) after_is leaves)))))
+              subst (λ (q : Part). LeftBy tells clock image_at faults s.clock.epoch s.clock.epoch q.logged q.refusal old new before after) newest.1
+              (subst (λ e. LeftBy tells clock image_at faults e e p.logged p.refusal old new before after) epoch
+              (subst (λ x. LeftBy tells clock image_at faults mid.clock.epoch mid.clock.epoch p.logged p.refusal x new before after) old_is
+              (subst (λ x. LeftBy tells clock image_at faults mid.clock.epoch mid.clock.epoch p.logged p.refusal log x before after) new_is
+              (subst (λ x. LeftBy tells clock image_at faults mid.clock.epoch mid.clock.epoch p.logged p.refusal log left x after) before_is
+              (subst (λ x. LeftBy tells clock image_at faults mid.clock.epoch mid.clock.epoch p.logged p.refusal log left bank x) after_is leaves)))))
         ];
         rest_logs = λ i above. logs_stay i (λ same. omega (arith, above, same)) ∙ first.rest_logs i (omega (arith, above));
         rest_banks = λ i above. banks_stay i (λ same. omega (arith, above, same)) ∙ first.rest_banks i (omega (arith, above));
@@ -320,7 +320,7 @@ module _ {D : Type 0} {tells : D → Option (List ℕ)} {clock : D → ℕ} {ima
         let at = map_at without_left parts i q has in
         subst (λ (q : Part). slice_get logs_was i ≡ Some old → slice_get logs i ≡ Some new
         → slice_get banks_was i ≡ Some before → slice_get banks i ≡ Some now
-        → LeftBy tells clock image_at faults s.clock.epoch q.logged q.refusal old new before now) at.2
+        → LeftBy tells clock image_at faults s.clock.epoch s.clock.epoch q.logged q.refusal old new before now) at.2
         (first.each i at.0 old new before now at.1);
     rest_logs = first.rest_logs;
     rest_banks = first.rest_banks;

@@ -13,7 +13,7 @@ use Rattle.round_engine.specs.Standing.{RuntimeState}
 -- number grow, with empty logs marked at the epoch before, which is also that at which the others were closed.
 abbrev pub begun : List Decl → State → SaveState → StoreState → ℕ → Number → RuntimeState
 begun decls state save store room first = record {
-  stands = record { decls = decls; state = state; clock = first; ended = false };
+  stands = record { decls = decls; state = state; clock = first; conflicts = 0; ended = false };
   save = save;
   store = store;
   room = room;

@@ -14,6 +14,7 @@ use Rattle.log_writer.specs.Points.{point_of, sequence_of}
 use Rattle.log_writer.specs.declared.saved.Saved.{Saved}
 use Rattle.snapshot_store.specs.Store.{bytes_of_pages, StoreState}
 use Rattle.worker_logs.specs.Saves.{CountsOf, closed_number, growing_number}
+use Rattle.worker_logs.specs.Rows.{NeverFall}
 use Rattle.recovery_core.specs.Images.{Images, epoch_of}
 use Rattle.recovery_core.specs.JointCrash.{CrashesNow, HasCut, IsJointCrash, IsSince, KeepsCrashes, Moments, Parts}
 use Rattle.recovery_core.specs.JointCrash.{parts_of}
@@ -21,7 +22,7 @@ use Rattle.recovery_core.specs.Story.{BankOpen, BankReady, IsTold, StandsFor, St
 use Rattle.tx_script.specs.Run.{Ran}
 use Rattle.round_engine.specs.Ends.{comes_to_swap, swaps}
 use Rattle.round_engine.specs.Logs.{AreClosedFiles, AreLogs}
-use Rattle.round_engine.specs.Saves.{GoesOnWith, NeverFall}
+use Rattle.round_engine.specs.Saves.{GoesOnWith}
 use Rattle.round_engine.specs.Standing.{RuntimeState}
 use Rattle.round_engine.specs.Swaps.{behind_swap, since_swap}
 

@@ -12,14 +12,12 @@ use Rattle.wire_form.specs.LogFile.{IsLineOf}
 use Rattle.log_writer.specs.Journal.{Reaches}
 use Rattle.tx_script.specs.declared.outcome.Outcome.{Outcome}
 use Rattle.worker_logs.specs.Logs.{LogState}
+use Rattle.worker_logs.specs.Rows.{Blames, IsFull, KeepsMarkIn, LogTakes}
 use Rattle.round_engine.specs.Parts.{AreLoggedAt, AreParts, Part, after_parts, lines_in, outcomes_of, unrun}
-use Rattle.round_engine.specs.Plainly.{ArePlain, IsInTurn, after_lines, outcomes_at}
-use Rattle.round_engine.specs.Shares.{Share}
+use Rattle.round_engine.specs.Plainly.{after_lines, outcomes_at}
 use Rattle.round_engine.specs.Standing.{Standing}
-use Rattle.round_engine.specs.Steps.{Blames, IsFull, KeepsMark, LogTakes}
-use Rattle.round_engine.specs.Workers.{LeftBy, RunsWorkers, StopsWorkers, refusal_of}
-use Rattle.round_engine.specs.declared.workers.LogEnd.{LogEnd}
-use Rattle.round_engine.specs.declared.workers.WorkersRan.{WorkersRan}
+use Rattle.round_engine.specs.Workers.{LeftBy, refusal_of}
+use Rattle.worker_cells.specs.declared.cell.LogEnd.{LogEnd}
 
 -- first lines of the workers, and none left out
 abbrev pub AreFirstLines : Round → List Part → Type 0
@@ -41,8 +39,8 @@ module _ {D : Type 0} (tells : D → Option (List ℕ)) (clock : D → ℕ) (ima
     pub standing : t ≡ after_lines s ran
     pub logged_are : AreLoggedAt s ran logged
     pub lines_are : AllByRecursion (IsLineOf s.decls) logged
-    pub takes : LogTakes tells clock image_at s.clock.epoch logged old new before now
-    pub mark : KeepsMark s.clock.epoch old new
+    pub takes : LogTakes tells clock image_at s.clock.epoch s.clock.epoch logged old new before now
+    pub mark : KeepsMarkIn s.clock.epoch s.clock.epoch old new
     pub blames : Blames faults before now new.journal
     pub reaches : Reaches tells now new.journal
     pub limit : new.journal.limit ≡ old.journal.limit
@@ -58,8 +56,8 @@ module _ {D : Type 0} (tells : D → Option (List ℕ)) (clock : D → ℕ) (ima
     pub standing : t ≡ after_lines s ran
     pub logged_are : AreLoggedAt s ran logged
     pub lines_are : AllByRecursion (IsLineOf s.decls) logged
-    pub takes : LogTakes tells clock image_at s.clock.epoch logged old new before now
-    pub mark : KeepsMark s.clock.epoch old new
+    pub takes : LogTakes tells clock image_at s.clock.epoch s.clock.epoch logged old new before now
+    pub mark : KeepsMarkIn s.clock.epoch s.clock.epoch old new
     pub blames : Blames faults before now new.journal
     pub reaches : Reaches tells now new.journal
     pub limit : new.journal.limit ≡ old.journal.limit
@@ -86,7 +84,7 @@ module _ {D : Type 0} (tells : D → Option (List ℕ)) (clock : D → ℕ) (ima
     pub each : (i : ℕ) (p : Part) (old new : LogState) (before now : D) → slice_get parts i ≡ Some p
         → slice_get logs_was i ≡ Some old → slice_get logs i ≡ Some new
         → slice_get banks_was i ≡ Some before → slice_get banks i ≡ Some now
-        → LeftBy tells clock image_at faults s.clock.epoch p.logged p.refusal old new before now
+        → LeftBy tells clock image_at faults s.clock.epoch s.clock.epoch p.logged p.refusal old new before now
     pub rest_logs : (i : ℕ) → worker ≤ i → slice_get logs i ≡ slice_get logs_was i
     pub rest_banks : (i : ℕ) → worker ≤ i → slice_get banks i ≡ slice_get banks_was i
 
@@ -111,18 +109,3 @@ module _ {D : Type 0} (tells : D → Option (List ℕ)) (clock : D → ℕ) (ima
   StopsInTurn round s t logs_was logs banks_was banks = (parts : List Part)
       × AreFirstLines round parts
       × (worker : ℕ) × (worker ≤ 8) × RunsFirst round worker s t parts logs_was logs banks_was banks
-
-  -- What the plain map's workers come to is what any engine's do that tries each line once. Beside that nobody is in a
-  -- line's way, and numbers follow one another.
-  abbrev pub ComesPlainly : Round → Standing → Standing → List LogState → List LogState → List D → List D
-      → Result WorkersRan Memory → Type 0
-  ComesPlainly round s t logs_was logs banks_was banks (Ok ran) =
-      RunsWorkers tells clock image_at faults 1 round s t ran.outcomes ran.logs.items logs_was logs banks_was banks
-      × ArePlain ran.outcomes × IsInTurn round s t ran.outcomes
-  ComesPlainly round s t logs_was logs banks_was banks (Err memory) =
-      (r : StopsWorkers tells clock image_at faults 1 round s t logs_was logs banks_was banks)
-      × ArePlain (map (λ (share : Share). share.outcomes) r.shares)
-
-  pub record RunsPlainly (round : Round) (s t : Standing) (logs_was logs : List LogState) (banks_was banks : List D)
-      (result : Result WorkersRan Memory) : Type 0 where
-    pub comes : ComesPlainly round s t logs_was logs banks_was banks result

@@ -34,13 +34,13 @@ use Rattle.tx_script.specs.declared.answer.Answer.TheVariants as answers
 use Rattle.worker_logs.specs.Logs.{IsJoined, LogGoesOn, LogState}
 use Rattle.worker_logs.specs.Saves.{SavesBy, SavesMarks, growing_number, logs_marks, saved_epoch}
 use Rattle.worker_logs.specs.declared.savepoints.Beside.{Beside}
+use Rattle.worker_logs.specs.Rows.{Blames, KeepsMark, NeverFall}
 use Rattle.round_engine.specs.Ends.{epoch_after, wants_memory, where_true}
 use Rattle.round_engine.specs.Gleans.{Gleans, LeaveGleans, RoundGleans}
 use Rattle.round_engine.specs.RanRound.{KeeperStored}
-use Rattle.round_engine.specs.Saves.{AreSavedIn, beside_at_end, HaveEnded, NeverFall, newest_after, saves_told}
+use Rattle.round_engine.specs.Saves.{AreSavedIn, beside_at_end, HaveEnded, newest_after, saves_told}
 use Rattle.round_engine.specs.Sides.{closed_in, growing_in, is_odd}
 use Rattle.round_engine.specs.Standing.{AreClosed, beside_of, HasSnapshot, RuntimeState}
-use Rattle.round_engine.specs.Steps.{Blames, KeepsMark}
 use Rattle.round_engine.specs.declared.report.End.{End}
 use Rattle.round_engine.specs.declared.report.End.TheVariants as ends
 use Rattle.round_engine.specs.declared.report.LimitName.TheVariants.{Epoch, Sequence}

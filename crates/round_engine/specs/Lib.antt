@@ -17,6 +17,8 @@ pub mod Parts
 pub mod Steps
 pub mod Workers
 pub mod InTurn
+pub mod Lines
 pub mod Keeping
 pub mod Refusals
 pub mod Phases
+pub mod Powers

@@ -1,6 +1,6 @@
 -- What a round leaves of each worker's log and its log files.
-use Rattle.std.specs.Prelude.{◌≡◌, ◌<◌, ◌⊎◌, ◌+◌, ◌++◌, ℕ, List, flat_map, length, map, option_to_list, true}
-use Rattle.std.specs.Prelude.{Option, Some, None, is_some, slice_get}
+use Rattle.std.specs.Prelude.{◌≡◌, ◌⊎◌, ◌++◌, ℕ, List, flat_map, length, map, option_to_list}
+use Rattle.std.specs.Prelude.{Option, Some, slice_get}
 use Rattle.lists.specs.Fronts.{IsFront}
 use Rattle.outside.specs.Fronts.{AllBegin}
 use Rattle.outside.specs.Vault.{disk_in}
@@ -9,13 +9,11 @@ use Rattle.outside.specs.declared.vault.Vault.{Vault}
 use Rattle.serial_model.specs.declared.number.Commit.{Commit}
 use Rattle.wire_form.specs.LogFile.{lines_bytes}
 use Rattle.wire_form.specs.declared.clock.Mark.{Mark}
-use Rattle.log_writer.specs.Journal.{JournalState, end_of}
-use Rattle.tx_script.specs.Causes.{longest_line}
-use Rattle.tx_script.specs.Run.{LogRefusal, LogFailed, LogFull}
 use Rattle.worker_logs.specs.Logs.{IsLog, LogRan, LogState}
 use Rattle.worker_logs.specs.Saves.{closed_number, growing_number}
-use Rattle.round_engine.specs.Saves.{NeverFall}
+use Rattle.worker_logs.specs.Rows.{NeverFall}
 use Rattle.round_engine.specs.Standing.{RuntimeState}
+pub use Rattle.shared_rounds.specs.Workers.{IsRefusedBy}
 
 module _ {D : Type 0} (tells : D → Option (List ℕ)) (clock : D → ℕ) (image_at : D → ℕ → List ℕ → Type 0) where
   -- A worker's part of a round: it logged so many commits more, its log file grew, and the marks that it had say what
@@ -45,10 +43,3 @@ module _ {D : Type 0} (tells : D → Option (List ℕ)) (clock : D → ℕ) (ima
   AreClosedFiles commits bytes r vault = (worker counted : ℕ) (bank : D) → slice_get r.counted worker ≡ Some counted
       → disk_in vault (Bank (closed_number r.side worker)) ≡ Some bank
       → IsClosedFile (commits worker) (bytes worker) counted bank
-
--- What refused a log tells of its journal: it is down, or with one line more its file might get longer than it may;
--- else it is up.
-abbrev pub IsRefusedBy : Option LogRefusal → JournalState → Type 0
-IsRefusedBy None journal = journal.down ≡ None
-IsRefusedBy (Some LogFailed) journal = is_some journal.down ≡ true
-IsRefusedBy (Some (LogFull size)) journal = (size ≡ end_of journal) × (journal.limit < size + longest_line)

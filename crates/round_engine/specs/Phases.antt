@@ -1,7 +1,6 @@
--- The phases of a round: the workers' lines, those of the maintenance thread, and the join. Of the workers' lines it is
--- said what any engine gives; that each is tried once with nobody in its way, and that numbers follow one another, is
--- the plain map's (`plain`, `in_turn`).
-use Rattle.std.specs.Prelude.{◌≡◌, ◌<◌, ◌≤◌, ◌^◌, ◌⊎◌, ℕ, Bool, true, false, List, length, map, Option, Some, None}
+-- The phases of a round: the workers' lines, those of the maintenance thread, and the join. Of storages among which is a
+-- tree the lines are run on the plain map.
+use Rattle.std.specs.Prelude.{◌≡◌, ◌<◌, ◌≤◌, ◌^◌, ◌⊎◌, ℕ, Bool, true, false, List, length, Option, Some, None}
 use Rattle.std.specs.Prelude.{is_some, Result, Ok, Err}
 use Rattle.lists.specs.declared.memory.Memory.{Memory}
 use Rattle.outside.specs.Vault.{IsWhole}
@@ -9,22 +8,22 @@ use Rattle.outside.specs.declared.vault.Vault.{Vault}
 use Rattle.script_grammar.specs.Script.{Round, keeper_lines}
 use Rattle.log_writer.specs.Save.{IsStored}
 use Rattle.std.specs.List.{AllByRecursion, list_any}
+use Rattle.tx_script.specs.Draws.{HasTree}
 use Rattle.tx_script.specs.Run.{is_limit}
 use Rattle.log_writer.specs.Points.{sequence_of}
+use Rattle.worker_logs.specs.Rows.{AreLogsUp}
 use Rattle.round_engine.specs.Ends.{first_of, save_limited, where_true}
 use Rattle.round_engine.specs.Keeping.{RunsJoin, RunsKeeper}
-use Rattle.round_engine.specs.Plainly.{ArePlain, IsInTurn}
+use Rattle.round_engine.specs.Plainly.{DrewOnce}
 use Rattle.round_engine.specs.Refusals.{device_refused, end_told, first_full, leaves_out, lines_refused, names_device}
-use Rattle.round_engine.specs.Shares.{Share}
 use Rattle.round_engine.specs.Sides.{growing_in, SameButGrowing}
 use Rattle.round_engine.specs.Standing.{AreClosed, HasSnapshot, RuntimeState}
-use Rattle.round_engine.specs.Steps.{AreLogsUp}
 use Rattle.round_engine.specs.Swaps.{SwapsAt}
 use Rattle.round_engine.specs.Workers.{RunsWorkers, StopsWorkers}
 use Rattle.round_engine.specs.declared.report.End.{End}
 use Rattle.round_engine.specs.declared.report.Report.{Report}
 use Rattle.round_engine.specs.declared.rounds.Refused.{Refused}
-use Rattle.round_engine.specs.declared.workers.LogEnd.{LogEnd}
+use Rattle.worker_cells.specs.declared.cell.LogEnd.{LogEnd}
 
 -- the runtime as the end of the round leaves it
 abbrev pub ended_as : RuntimeState → Bool → Bool → RuntimeState
@@ -97,7 +96,7 @@ module _ {D : Type 0} (tells : D → Option (List ℕ)) (clock : D → ℕ) (ima
       × (new ≡ ended_as joined (is_some end) (fails_device refusal)))
 
   -- The phases of a round that was run to its end.
-  pub record RunsAll (round : Round) (old new : RuntimeState) (before now : Vault D) (report : Report) : Type 0 where
+  pub record RunsAll (tries : ℕ) (round : Round) (old new : RuntimeState) (before now : Vault D) (report : Report) : Type 0 where
     pub mid : RuntimeState
     pub lent : Vault D
     pub between : Vault D
@@ -105,10 +104,9 @@ module _ {D : Type 0} (tells : D → Option (List ℕ)) (clock : D → ℕ) (ima
     pub after : Vault D
     pub ends : List LogEnd
     pub refused : Refused
-    pub lines : RunsWorkers tells clock image_at faults 1 round old.stands mid.stands report.outcomes ends
+    pub lines : RunsWorkers tells clock image_at faults tries round old.stands mid.stands report.outcomes ends
         old.logs mid.logs (growing_in old.side before) (growing_in old.side between)
-    pub plain : ArePlain report.outcomes
-    pub in_turn : IsInTurn round old.stands mid.stands report.outcomes
+    pub once : HasTree old.stands.decls → DrewOnce old.stands mid.stands report.outcomes
     pub alone : mid ≡ record old { stands = mid.stands; logs = mid.logs }
     pub room : RoomAlone before lent
     pub beside : SameButGrowing old.side lent between
@@ -122,15 +120,14 @@ module _ {D : Type 0} (tells : D → Option (List ℕ)) (clock : D → ℕ) (ima
     pub join : JoinsAs refused kept new after now report.durable report.end
 
   -- The first lines of a round, where memory was wanted.
-  pub record RunsSome (round : Round) (old new : RuntimeState) (before now : Vault D) : Type 0 where
-    pub stops : StopsWorkers tells clock image_at faults 1 round old.stands new.stands
+  pub record RunsSome (tries : ℕ) (round : Round) (old new : RuntimeState) (before now : Vault D) : Type 0 where
+    pub stops : StopsWorkers tells clock image_at faults tries round old.stands new.stands
         old.logs new.logs (growing_in old.side before) (growing_in old.side now)
-    pub plain : ArePlain (map (λ (share : Share). share.outcomes) stops.shares)
     pub alone : new ≡ record old { stands = new.stands; logs = new.logs }
     pub lent : Vault D
     pub room : RoomAlone before lent
     pub beside : SameButGrowing old.side lent now
 
-  abbrev pub RunsPhases : Round → RuntimeState → RuntimeState → Vault D → Vault D → Result Report Memory → Type 0
-  RunsPhases round old new before now (Ok report) = RunsAll round old new before now report
-  RunsPhases round old new before now (Err memory) = RunsSome round old new before now
+  abbrev pub RunsPhases : ℕ → Round → RuntimeState → RuntimeState → Vault D → Vault D → Result Report Memory → Type 0
+  RunsPhases tries round old new before now (Ok report) = RunsAll tries round old new before now report
+  RunsPhases tries round old new before now (Err memory) = RunsSome tries round old new before now

@@ -24,6 +24,7 @@ use Rattle.log_writer.specs.declared.saved.Saved.{Saved}
 use Rattle.snapshot_store.specs.Store.{bytes_of_pages, StoreState}
 use Rattle.worker_logs.specs.Logs.{LogState, reset_log}
 use Rattle.worker_logs.specs.Saves.{closed_number, CountsOf, growing_number, logs_marks}
+use Rattle.worker_logs.specs.Rows.{NeverFall}
 use Rattle.recovery_core.specs.JointCrash.{Moments}
 use Rattle.recovery_core.specs.Rounds.{KeeperRan}
 use Rattle.recovery_core.specs.Story.{Story, SaveTold, SnapsTold}
@@ -32,15 +33,17 @@ use Rattle.recovery_core.specs.Images.{counted_of, epoch_of}
 use Rattle.recovery_core.specs.Marks.{IsAbove}
 use Rattle.tx_script.specs.Run.{LogFailed, LogRefusal, Ran, IsRun}
 use Rattle.tx_script.specs.Causes.{AllCaused, keeper_at_end, last_sequence, log_of, some_counted}
+use Rattle.tx_script.specs.Draws.{DrawsWithin, HasTree, RunsOnce}
 use Rattle.round_engine.specs.Changes.{AreLogged}
 use Rattle.round_engine.specs.Crashes.{CarriesCrashes}
 use Rattle.round_engine.specs.Ends.{comes_to_advance, comes_to_save, comes_to_swap, durable_of, end_of, epoch_joined}
 use Rattle.round_engine.specs.Ends.{swaps}
 use Rattle.round_engine.specs.Gleans.{RoundGleans}
 use Rattle.round_engine.specs.Logs.{AreClosedFiles, AreLogs, IsRefusedBy, LeavesLog}
-use Rattle.round_engine.specs.Saves.{ArePages, AreSaved, beside_at_end, GoesOnWith, IsSavedBy, NeverFall, newest_after}
+use Rattle.round_engine.specs.Saves.{ArePages, AreSaved, beside_at_end, GoesOnWith, IsSavedBy, newest_after}
 use Rattle.round_engine.specs.Saves.{HaveEnded, saves_told}
 use Rattle.round_engine.specs.Sides.{closed_numbers, other_side}
+use Rattle.round_engine.specs.Shares.{all_conflicts}
 use Rattle.round_engine.specs.Standing.{beside_of, files_of, RuntimeState, StandsOn}
 use Rattle.round_engine.specs.Swaps.{CutsBanks, behind_swap, since_swap}
 use Rattle.round_engine.specs.declared.report.Report.{Report}
@@ -63,8 +66,9 @@ pub record AreRoundMarks (lines : List (List Op)) (had : Option ℕ) (first last
   pub begins : (lines ≡ [] → ⊥) → epochs ≡ had ∷ map Some set
   pub clocks : AllByRecursion (λ epoch. (first ≤ epoch + 1) × (epoch + 1 ≤ last)) set
 
--- how the record of what was run begins
-pub record Begins (round : Round) (old : RuntimeState) (ran : Ran) : Type 0 where
+-- how the record of what was run begins, each line being tried so often at most
+pub record Begins (tries : ℕ) (round : Round) (old : RuntimeState) (ran : Ran) : Type 0 where
+  pub tried : ran.tries ≡ tries
   pub sequence : ran.sequence ≡ sequence_of old.save.newest
   pub pages : ran.pages ≡ length old.store.pages
   pub room : ran.room ≡ old.room
@@ -75,12 +79,14 @@ pub record Begins (round : Round) (old : RuntimeState) (ran : Ran) : Type 0 wher
       → AreRoundMarks (lines_of_worker round worker) log.mark.epoch ran.begin.epoch ran.end.epoch epochs
 
 -- What was run of a round on the engine: its commits are a serial run from the old contents to the new, and the logs
--- have what they changed, as log lines; each outcome, answer and refusal has its cause.
+-- have what they changed, as log lines; each outcome, answer and refusal has its cause. The conflicts that are told of
+-- lines' tries are those that the engine counted.
 pub record RunsLines (round : Round) (old new : RuntimeState) (ran : Ran) (logged : ℕ → List Commit) : Type 0 where
   pub decls : new.stands.decls ≡ old.stands.decls
   pub run : (index : ℕ)
       → IsRun old.stands.decls index (round ∷ []) old.stands.state old.stands.clock (ran ∷ []) new.stands.state
   pub caused : AllCaused ran
+  pub conflicts : new.stands.conflicts ≡ old.stands.conflicts + all_conflicts ran.refused
   pub lines_are : (worker : ℕ) → worker < 8 → AllByRecursion (IsLineOf old.stands.decls) (logged worker)
   pub logged_are : (index worker : ℕ) → worker < 8
       → AreLogged old.stands.decls worker old.stands.state (run index).ordered (logged worker)
@@ -211,13 +217,16 @@ module _ {D : Type 0} (tells : D → Option (List ℕ)) (clock : D → ℕ) (ima
 
 -- ---- a round
 
--- A round was run, and joined. Where nothing ends the run, its last epoch is durable.
-pub record RanRound (round : Round) (old new : RuntimeState) (report : Report) : Type 0 where
+-- A round was run, each line being tried so often at most, and joined. Where nothing ends the run, its last epoch is
+-- durable. Where a tree is declared no line is in another's way.
+pub record RanRound (tries : ℕ) (round : Round) (old new : RuntimeState) (report : Report) : Type 0 where
   pub ran : Ran
   pub logged : ℕ → List Commit
   pub reports : Reports ran report
-  pub begins : Begins round old ran
+  pub begins : Begins tries round old ran
   pub lines : RunsLines round old new ran logged
+  pub within : DrawsWithin tries ran
+  pub once : HasTree old.stands.decls → RunsOnce ran
   pub durable : ran.durable ≡ durable_of ran
   pub lasts : report.end ≡ None → ran.durable ≡ Some ran.end.epoch
   pub clock : new.stands.clock ≡ record { epoch = epoch_joined ran; draw = ran.end.draw }
@@ -232,12 +241,12 @@ pub record IsFrontOf (front round : Round) : Type 0 where
 -- A round stopped for want of memory, in the workers' lines: a front of them was run, and there the contents and the
 -- clock stand. No line of the maintenance thread was run and the join was left out, so nothing was stored. What the
 -- lines came to is lost, and with it the run.
-pub record StopsIn (round : Round) (old new : RuntimeState) : Type 0 where
+pub record StopsIn (tries : ℕ) (round : Round) (old new : RuntimeState) : Type 0 where
   pub front : Round
   pub first : IsFrontOf front round
   pub ran : Ran
   pub logged : ℕ → List Commit
-  pub begins : Begins round old ran
+  pub begins : Begins tries round old ran
   pub lines : RunsLines front old new ran logged
   pub unanswered : ran.answers ≡ []
   pub unstored : Contains ran.devices Save → ⊥
@@ -252,10 +261,10 @@ pub record StopsIn (round : Round) (old new : RuntimeState) : Type 0 where
 module _ {D : Type 0} (tells : D → Option (List ℕ)) (clock : D → ℕ) (image_at : D → ℕ → List ℕ → Type 0)
     (faults : D → ℕ) where
   -- A round was run, or stopped for want of memory, over the vault; and what was known of crashes is known still.
-  abbrev pub Rounds : Round → RuntimeState → RuntimeState → Vault D → Vault D → Result Report Memory → Type 0
-  Rounds round old new before now (Ok report) = (r : RanRound round old new report)
+  abbrev pub Rounds : ℕ → Round → RuntimeState → RuntimeState → Vault D → Vault D → Result Report Memory → Type 0
+  Rounds tries round old new before now (Ok report) = (r : RanRound tries round old new report)
       × (v : LeavesVault tells clock image_at faults r.ran r.logged old new before now)
       × CarriesCrashes tells clock image_at r.logged (v.stored ++ option_to_list v.failed) r.ran old new before now
-  Rounds round old new before now (Err memory) = (r : StopsIn round old new)
+  Rounds tries round old new before now (Err memory) = (r : StopsIn tries round old new)
       × (v : LeavesVault tells clock image_at faults r.ran r.logged old new before now)
       × CarriesCrashes tells clock image_at r.logged (v.stored ++ option_to_list v.failed) r.ran old new before now

@@ -1,6 +1,6 @@
 -- What the saves of a round store.
 use Rattle.std.specs.Prelude.{◌≡◌, ◌≤◌, ◌+◌, ◌++◌, ℕ, List, [], ◌∷◌, fold, length, replicate, take}
-use Rattle.std.specs.Prelude.{Option, Some, slice_get, ⊤}
+use Rattle.std.specs.Prelude.{Option, Some, slice_get}
 use Rattle.std.specs.List.{AllByRecursion, Contains}
 use Rattle.outside.specs.declared.vault.Tie.{Tie}
 use Rattle.wire_form.specs.declared.clock.Mark.{Mark}
@@ -52,11 +52,6 @@ pub record AreSaved (By : Beside → Saved → Type 0) (b : Beside) (said : List
   pub behind : AllByRecursion (By (beside_at_end b said)) rest
 
 -- ---- one savepoint after another
-
--- from this number on they never fall
-abbrev pub NeverFall : ℕ → List ℕ → Type 0
-NeverFall low [] = ⊤
-NeverFall low (n ∷ more) = (low ≤ n) × NeverFall n more
 
 -- the newest savepoint once these were stored, one after another
 abbrev pub newest_after : Option Savepoint → List Saved → Option Savepoint

@@ -2,13 +2,9 @@
 use Rattle.std.specs.Prelude.{◌≡◌, ◌<◌, ◌≤◌, ◌^◌, ℕ, Bool, false, true, List, Option, Some, None, length}
 use Rattle.std.specs.Prelude.{slice_get, ⊤}
 use Rattle.std.specs.List.{AllByRecursion}
-use Rattle.serial_model.specs.Numbers.{draw_limit, last_epoch}
 use Rattle.outside.specs.Vault.{disk_in, IsWhole}
 use Rattle.outside.specs.declared.vault.Device.TheVariants.{Bank}
 use Rattle.outside.specs.declared.vault.Vault.{Vault}
-use Rattle.serial_model.specs.State.{State}
-use Rattle.serial_model.specs.declared.decl.Decl.{Decl}
-use Rattle.serial_model.specs.declared.number.Number.{Number}
 use Rattle.wire_form.specs.Pages.{Contents, decls_of}
 use Rattle.log_writer.specs.Journal.{Reaches}
 use Rattle.log_writer.specs.Points.{SaveState}
@@ -23,13 +19,7 @@ use Rattle.worker_logs.specs.declared.savepoints.Side.{Side}
 use Rattle.tx_script.specs.Causes.{some_counted}
 use Rattle.tx_script.specs.Run.{LogFiles}
 use Rattle.round_engine.specs.Sides.{is_odd}
-
--- the storages and their contents, the number that the next commit gets, and whether a round ended the run
-pub record Standing : Type 0 where
-  pub decls : List Decl
-  pub state : State
-  pub clock : Number
-  pub ended : Bool
+pub use Rattle.shared_rounds.specs.Standing.{Standing}
 
 pub record RuntimeState : Type 0 where
   -- where the engine stands
@@ -54,13 +44,6 @@ beside_of r = record { growing = r.side; closed = r.counted; count = length r.st
 -- the log files as a round finds them
 abbrev pub files_of : RuntimeState → LogFiles
 files_of r = record { odd = is_odd r.side; counted = r.counted; closed_at = r.closed_at }
-
--- the clock's number is one of a commit, unless the draws are used up
-pub record IsClock (clock : Number) : Type 0 where
-  pub some_epoch : 1 ≤ clock.epoch
-  pub most_epoch : clock.epoch ≤ last_epoch
-  pub some_draw : 1 ≤ clock.draw
-  pub most_draw : clock.draw ≤ draw_limit
 
 -- the stores are up, and so are the journals
 pub record AreUp (r : RuntimeState) : Type 0 where

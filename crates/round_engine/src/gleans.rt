@@ -88,7 +88,9 @@ fn glean_side<D: Disk>(
     let newest = newest_in(&runtime.store);
     let closed = runtime.closed();
     let (side, room) = (runtime.side, runtime.room);
-    let decls = runtime.engine.plain.decls.as_slice();
+    // Called for what it promises of the clock: the log files were closed before the last epoch.
+    let _ = runtime.engine.clock();
+    let decls = runtime.engine.decls();
     glean_over(
         alloc,
         vault,
@@ -205,7 +207,8 @@ impl Runtime {
     fn end_if(&mut self, failed: bool)
         ensures { self.new ≡ ended_if failed self.old }
     {
-        self.engine.ended = self.engine.ended || failed;
+        let ended = self.engine.has_ended() || failed;
+        self.engine.set_ended(ended);
         self.down = self.down || failed;
     }
 

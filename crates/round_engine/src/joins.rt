@@ -5,11 +5,11 @@ ghost use Rattle.outside.specs.Vault.{IsWhole};
 ghost use Rattle.log_writer.specs.Save.{IsStored};
 ghost use Rattle.round_engine.specs.Joins.{Joins};
 ghost use Rattle.worker_logs.specs.FlushAll.{AllReach, FlushesAll};
+ghost use Rattle.worker_logs.specs.Rows.{AreLogsUp};
 ghost use Rattle.round_engine.specs.Keeping.{Advances, RunsJoin, join_answer};
 ghost use Rattle.round_engine.specs.Phases.{JoinsAndSwaps, ended_as, fails_device};
 ghost use Rattle.round_engine.specs.Sides.{SameButGrowing, growing_in};
 ghost use Rattle.round_engine.specs.Standing.{AreClosed, HasSnapshot, StandsOn};
-ghost use Rattle.round_engine.specs.Steps.{AreLogsUp};
 
 use crate::keeper::save_marked;
 use crate::rounds::names_device;
@@ -101,7 +101,7 @@ fn flush_logs<D: Disk>(runtime: &mut Runtime, vault: &mut Vault<D>) -> Result<()
     ensures alone { runtime.new ≡ record runtime.old { logs = runtime.new.logs } }
     ensures vault { SameButGrowing runtime.old.side vault.old vault.new }
 {
-    let clock = runtime.engine.clock.epoch;
+    let clock = runtime.engine.clock().epoch;
     flush_side(&mut runtime.logs, runtime.side, vault, clock)
 }
 
@@ -141,11 +141,11 @@ impl Runtime {
     pub(crate) fn advance(&mut self) -> Result<(), End>
         ensures { Advances self.old self.new result }
     {
-        let epoch = self.engine.clock.epoch;
+        let epoch = self.engine.clock().epoch;
         if epoch >= LAST_EPOCH {
             return Err(limit(LimitName::Epoch, u64::from(epoch)));
         }
-        self.engine.clock.epoch += 1;
+        self.engine.advance();
         Ok(())
     }
 
@@ -154,7 +154,8 @@ impl Runtime {
         ensures runtime { self.new ≡ ended_as self.old (self.old.stands.ended || is_some end) (fails_device end) }
         ensures end { result ≡ end }
     {
-        self.engine.ended = self.engine.ended || end.is_some();
+        let ended = self.engine.has_ended() || end.is_some();
+        self.engine.set_ended(ended);
         self.down = names_device(end);
         end
     }

@@ -158,7 +158,7 @@ fn advance_line(runtime: &mut Runtime) -> Answer
 {
     match runtime.advance() {
         Ok(()) => Answer::Epoch {
-            epoch: runtime.engine.clock.epoch,
+            epoch: runtime.engine.clock().epoch,
         },
         Err(_) => Answer::Limit,
     }
@@ -229,7 +229,7 @@ pub(crate) fn save_marked<D: Disk>(
     let beside = runtime.beside();
     save_marks(
         &mut runtime.save,
-        runtime.engine.clock.epoch,
+        runtime.engine.clock().epoch,
         &runtime.logs,
         &beside,
         vault,

@@ -1,6 +1,7 @@
 //! Rounds of a script, run on an engine over the devices of a database.
 //!
-//! Promises, whichever the engine is:
+//! Promises, whichever the engine is (`Powers`), the plain map, as where a tree is declared, or words that threads share;
+//! that workers overlap on these is shown by a test of the program alone:
 //! - [`round`]: one outcome for each line and one answer for each line of the maintenance thread, each with its cause;
 //!   the commits, in order of number, are a serial run from the standing before to the one after, and the logs have
 //!   what they changed; the join makes the round's last epoch durable or ends the run, with the first refusal
@@ -17,10 +18,10 @@
 //! the next commit gets; *front* of a round, the first lines of each worker; *log*, a worker's journal with its mark;
 //! *growing*, of a log file, that a journal writes it.
 //!
-//! Design: docs/ARCHITECTURE.md, docs/DURABILITY.md. For now the engine is the plain map, one worker's lines are run
-//! after another's, and the growing log files are those of even number.
+//! Design: docs/ARCHITECTURE.md, docs/COMMIT.md, docs/DURABILITY.md.
 #![tactic(auto)]
 
+mod engine;
 mod gleans;
 mod joins;
 mod keeper;
@@ -35,5 +36,5 @@ pub use gleaner::{GleanFault, Gleaned};
 pub use gleans::glean;
 pub use joins::join_round;
 pub use report::{End, LimitName, Report};
-pub use rounds::round;
+pub use rounds::{reads_are_images, round};
 pub use runtime::Runtime;

@@ -1,13 +1,14 @@
-// One round on the plain map, over a vault.
-ghost use Rattle.std.specs.Prelude.{◌≡◌, ◌≤◌, ◌<◌, ◌+◌, ℕ, [], false, IfOk, OnOk, flat_map, is_some};
+// One round over a vault.
+ghost use Rattle.std.specs.Prelude.{◌≡◌, ◌≤◌, ◌<◌, ◌+◌, ℕ, List, [], false, IfOk, OnOk, flat_map, is_some};
 ghost use Rattle.std.specs.Prelude.{Some, length, option_map, slice_get, vec_capacity, vec_len};
 ghost use Rattle.std.specs.List.{AllByRecursion, list_any};
 ghost use Rattle.outside.specs.Vault.{IsWhole};
-ghost use Rattle.script_grammar.specs.Script.{lines_of_worker, worker_lines};
+ghost use Rattle.script_grammar.specs.Script.{lines_of_worker};
 ghost use Rattle.log_writer.specs.Points.{sequence_of};
-ghost use Rattle.tx_script.specs.Run.{CanRun, entries_of_workers, is_limit};
+ghost use Rattle.tx_script.specs.Draws.{HasTree};
+ghost use Rattle.tx_script.specs.Run.{CanRun, is_limit};
 ghost use Rattle.worker_logs.specs.Logs.{LogState};
-ghost use Rattle.round_engine.specs.Plainly.{AreConsecutive, DrawsFew, DrawsTo};
+ghost use Rattle.worker_logs.specs.Rows.{AreLogsUp};
 ghost use Rattle.round_engine.specs.RanRound.{Rounds};
 ghost use Rattle.round_engine.specs.Ends.{device_place, limit_at, where_true};
 ghost use Rattle.round_engine.specs.Phases.{IsReadyToJoin, JoinsAs, RoomAlone, RunsPhases, ended_as, fails_device};
@@ -19,8 +20,8 @@ ghost use Rattle.round_engine.specs.Refusals.{memory_in as memory_of_end};
 ghost use Rattle.round_engine.specs.Sides.{SameButGrowing, growing_in};
 ghost use Rattle.round_engine.specs.Keeping.{CanKeep};
 ghost use Rattle.round_engine.specs.Standing.{StandsOn};
-ghost use Rattle.round_engine.specs.Steps.{AreLogsUp};
-ghost use Rattle.round_engine.specs.InTurn.{RunsPlainly};
+ghost use Rattle.round_engine.specs.Lines.{LinesCome};
+ghost use Rattle.round_engine.specs.Plainly.{DrewOnce};
 ghost use Rattle.round_engine.specs.Workers.{idled};
 ghost use Rattle.round_engine.specs.declared.report.End.TheVariants as ends;
 
@@ -28,17 +29,18 @@ use crate::joins::{join_logs, limit};
 use crate::keeper::{KeeperEnd, keeper_count, run_keeper};
 use crate::runtime::WORKERS;
 use crate::sides::growing_number;
-use crate::workers::{LogEnd, WorkersRan, idle_without_lines, run_workers};
+use crate::workers::idle_without_lines;
 use crate::{End, LimitName, Report, Runtime};
 use outside::{Device, Disk, Gate, Vault};
 use serial_model::Memory;
+use shared_rounds::{LogEnd, WorkersRan};
 use std::alloc::Global;
 use std::sync::Wait;
 use std::thread::Threads;
 use tx_script::{Answer, Answers, Outcomes, Round, RoundOutcomes};
 use worker_logs::Side;
 
-/// Runs worker 0's lines, then worker 1's and on, each line between the gate's two calls, then those of the
+/// Runs the workers' lines, each between the gate's two calls and tried so often at most, then those of the
 /// maintenance thread; then the round is joined: the epoch is advanced, the logs are made durable, a savepoint counts
 /// them, and where nothing of the closed log files counts, these grow from then on. The growing log files are lent to
 /// their workers meanwhile.
@@ -47,7 +49,7 @@ use worker_logs::Side;
 /// refused by a device, by damage or by want of memory, the join is left out, and the run ends.
 ///
 /// After want of memory a front of the round has been run, and no further round is.
-pub fn round<R: Threads + Wait + Sync, D: Disk + Drop, G: Gate + Sync>(
+pub fn round<R: Threads + Wait + Sync, D: Disk + Send + Drop, G: Gate + Sync>(
     rt: &R,
     alloc: Global,
     runtime: &mut Runtime,
@@ -61,23 +63,14 @@ pub fn round<R: Threads + Wait + Sync, D: Disk + Drop, G: Gate + Sync>(
     requires most_tries { tries ≤ 1000000 }
     requires goes_on { runtime.old.stands.ended ≡ false }
     requires stands { StandsOn D.tells D.clock D.image_at runtime.old vault.old }
-    // Whichever the engine: the commits are a serial run, the logs have them, what ends the run is told, and the
-    // vault is as the saves left it.
-    ensures rounds { Rounds D.tells D.clock D.image_at D.faults round.now runtime.old runtime.new
+    // The commits are a serial run, the logs have them, each outcome has its cause, what ends the run is told, and
+    // the vault is as the saves left it.
+    ensures rounds { Rounds D.tells D.clock D.image_at D.faults tries round.now runtime.old runtime.new
         vault.old vault.new result }
-    // What the plain map gives besides: its numbers follow one another, a line that is run gets one while there are
-    // some, and none is drawn but for a commit.
-    ensures consecutive { IfOk result (λ report. (index : ℕ) → AreConsecutive runtime.old.stands.clock
-        (entries_of_workers index 0 report.outcomes (worker_lines round.now))) }
-    ensures draws { IfOk result (λ report. DrawsTo runtime.old.stands.clock.draw
-        (flat_map (λ outcomes. outcomes) report.outcomes) runtime.new.stands.clock.draw) }
-    ensures draws_few { IfOk result (λ report. DrawsFew round.now runtime.old.stands.clock.draw
-        runtime.new.stands.clock.draw report.outcomes) }
 {
-    let _ = rt;
-    let _ = tries;
+    reads_are_images(vault);
     idle_logs(runtime, round);
-    match run_round(alloc, runtime, vault, round, gate) {
+    match run_round(rt, alloc, runtime, vault, round, tries, gate) {
         Ok(report) => Ok(report),
         Err(Memory) => {
             runtime.end_with(Some(End::Memory), true);
@@ -85,6 +78,12 @@ pub fn round<R: Threads + Wait + Sync, D: Disk + Drop, G: Gate + Sync>(
         }
     }
 }
+
+/// What reads of a device give is among the images of now: its trait says so, and where it may be sent to a thread a
+/// proof has it from here.
+pub fn reads_are_images<D: Disk>(_vault: &Vault<D>)
+    ensures { (disk : D) (file : List ℕ) → D.tells disk ≡ Some file → D.image_at disk (D.clock disk) file }
+{}
 
 // The marks of workers without a line in the round hold no epoch back.
 fn idle_logs(runtime: &mut Runtime, round: &Round<'_>)
@@ -99,23 +98,27 @@ fn idle_logs(runtime: &mut Runtime, round: &Round<'_>)
 
 // Runs and joins a round. All that is recorded of stores and cuts, and all answers, get their room first: behind
 // the lines nothing wants memory.
-fn run_round<D: Disk + Drop, G: Gate>(
+fn run_round<R: Threads + Sync, D: Disk + Send + Drop, G: Gate + Sync>(
+    rt: &R,
     alloc: Global,
     runtime: &mut Runtime,
     vault: &mut Vault<D>,
     round: &Round<'_>,
+    tries: u32,
     gate: &G,
 ) -> Result<Report, Memory>
     requires lines { CanRun runtime.old.stands.decls round.now }
+    requires some_try { 1 ≤ tries }
+    requires goes_on { runtime.old.stands.ended ≡ false }
     requires ready { CanKeep D.tells D.clock D.image_at runtime.old vault.old }
     requires logs { AreLogsUp D.tells runtime.old.logs (growing_in runtime.old.side vault.old) }
     requires flushed { AllByRecursion (λ log. log.journal.lines ≡ []) runtime.old.logs }
-    ensures phases { RunsPhases D.tells D.clock D.image_at D.faults round.now runtime.old runtime.new
+    ensures phases { RunsPhases D.tells D.clock D.image_at D.faults tries round.now runtime.old runtime.new
         vault.old vault.new result }
 {
     let asked = keeper_count(round);
     let mut answers = make_room(alloc, vault, asked)?;
-    let ran = run_lent(alloc, runtime, vault, round, gate)?;
+    let ran = run_lent(rt, alloc, runtime, vault, round, tries, gate)?;
     let keeper = run_keeper(alloc, runtime, vault, round, gate, &mut answers);
     let refused = Refused::in_lines(runtime, &ran, keeper);
     let (durable, end) = join(runtime, vault, refused);
@@ -147,31 +150,38 @@ fn make_room<D: Disk>(
 }
 
 // Runs the workers' lines over the growing log files, which are lent out of the vault meanwhile.
-fn run_lent<D: Disk + Drop, G: Gate>(
+fn run_lent<R: Threads + Sync, D: Disk + Send + Drop, G: Gate + Sync>(
+    rt: &R,
     alloc: Global,
     runtime: &mut Runtime,
     vault: &mut Vault<D>,
     round: &Round<'_>,
+    tries: u32,
     gate: &G,
 ) -> Result<WorkersRan, Memory>
     requires lines { CanRun runtime.old.stands.decls round.now }
+    requires some_try { 1 ≤ tries }
+    requires goes_on { runtime.old.stands.ended ≡ false }
     requires whole { IsWhole vault.old }
     requires workers { length runtime.old.logs ≡ 8 }
     requires up { AreLogsUp D.tells runtime.old.logs (growing_in runtime.old.side vault.old) }
     requires flushed { AllByRecursion (λ log. log.journal.lines ≡ []) runtime.old.logs }
-    ensures runs { RunsPlainly D.tells D.clock D.image_at D.faults round.now
+    ensures runs { LinesCome D.tells D.clock D.image_at D.faults tries round.now
         runtime.old.stands runtime.new.stands runtime.old.logs runtime.new.logs
         (growing_in runtime.old.side vault.old) (growing_in runtime.old.side vault.new) result }
+    ensures once { IfOk result (λ ran. HasTree runtime.old.stands.decls
+        → DrewOnce runtime.old.stands runtime.new.stands ran.outcomes) }
     ensures runtime { runtime.new ≡ record runtime.old { stands = runtime.new.stands; logs = runtime.new.logs } }
     ensures vault { SameButGrowing runtime.old.side vault.old vault.new }
 {
     let mut growing = lend(alloc, runtime.side, vault);
-    let ran = run_workers(
+    let ran = runtime.engine.run_workers(
+        rt,
         alloc,
-        &mut runtime.engine,
         &mut runtime.logs,
         &mut growing,
         round,
+        tries,
         gate,
     );
     give_back(runtime.side, vault, growing);
@@ -212,20 +222,20 @@ struct Refused {
 
 impl Refused {
     fn in_lines(runtime: &Runtime, ran: &WorkersRan, keeper: KeeperEnd) -> Self
-        requires { length ran.now.logs.items ≤ 8 }
-        ensures device { result.device ≡ device_of runtime.now.side keeper.refusal ran.now.logs.items }
+        requires { length ran.now.ends.items ≤ 8 }
+        ensures device { result.device ≡ device_of runtime.now.side keeper.refusal ran.now.ends.items }
         ensures keeper { result.keeper ≡ keeper.refusal }
         ensures draw { result.draw ≡ where_true (list_any (list_any is_limit) ran.now.outcomes)
             runtime.now.stands.clock.draw }
-        ensures full { result.full ≡ full_of ran.now.logs.items }
+        ensures full { result.full ≡ full_of ran.now.ends.items }
         ensures sequence { result.sequence ≡ where_true keeper.limited (sequence_of runtime.now.save.newest) }
     {
-        let log = first_failed(runtime.side, ran.logs.as_slice());
+        let log = first_failed(runtime.side, ran.ends.as_slice());
         Refused {
             device: first_told(device_in(keeper.refusal), log),
             keeper: keeper.refusal,
             draw: draw_refused(runtime, ran.outcomes.as_slice()),
-            full: first_full(ran.logs.as_slice()),
+            full: first_full(ran.ends.as_slice()),
             sequence: sequence_refused(runtime, keeper.limited),
         }
     }
@@ -275,7 +285,7 @@ impl Runtime {
         ensures runtime { self.new ≡ ended_as self.old (is_some end) down }
         ensures end { result ≡ end }
     {
-        self.engine.ended = end.is_some();
+        self.engine.set_ended(end.is_some());
         self.down = down;
         end
     }
@@ -406,7 +416,7 @@ fn draw_refused(runtime: &Runtime, outcomes: &[Outcomes]) -> Option<u64>
     ensures { result ≡ where_true (list_any (list_any is_limit) outcomes.now) runtime.now.stands.clock.draw }
 {
     if has_limit(outcomes) {
-        return Some(runtime.engine.clock.draw);
+        return Some(runtime.engine.clock().draw);
     }
     None
 }

@@ -1,8 +1,9 @@
 // The engine with its clock, the store of savepoints and the workers' logs.
-ghost use Rattle.std.specs.Prelude.{◌≡◌, ◌≤◌, ℕ, [], Some, None, true, IfOk, length, replicate};
+ghost use Rattle.std.specs.Prelude.{◌≡◌, ◌≤◌, ℕ, [], Some, None, true, IfOk, IfSome, length, replicate};
 ghost use Rattle.std.specs.Option.{option_map};
 ghost use Rattle.outside.specs.Vault.{IsWhole, disk_in};
 ghost use Rattle.outside.specs.declared.vault.Device.TheVariants as devices;
+ghost use Rattle.serial_model.specs.Decls.{AreDecls};
 ghost use Rattle.serial_model.specs.Numbers.{IsConfig};
 ghost use Rattle.wire_form.specs.Pages.{Contents, decls_of};
 ghost use Rattle.log_writer.specs.Points.{saved_of};
@@ -17,43 +18,19 @@ ghost use Rattle.round_engine.specs.Begun.{begun};
 ghost use Rattle.round_engine.specs.Logs.{AreClosedFiles, AreLogs};
 ghost use Rattle.round_engine.specs.Standing.{StandsOn};
 
+use crate::engine::Engine;
 use log_writer::Save;
 use outside::{Disk, Vault};
 use recovery_core::Settled;
-use serial_model::{Config, Memory, Number, Plain, State};
+use serial_model::{Config, Memory, State};
 use snapshot_store::SnapStore;
 use std::alloc::Global;
 use std::marker::Model;
+use wire_form::catalogue_declares;
 use worker_logs::{Side, WorkerLog};
 
 /// How many workers there are.
 pub(crate) const WORKERS: usize = 8;
-
-/// The engine: the storages with their contents, and the clock. Here it runs one transaction after another.
-#[derive(Drop)]
-pub(crate) struct Engine {
-    /// The storages and their contents.
-    pub(crate) plain: Plain,
-    /// The number that the next commit gets.
-    pub(crate) clock: Number,
-    /// Whether a round ended the run.
-    pub(crate) ended: bool,
-}
-
-impl Model for Engine {
-    ghost use Rattle.round_engine.specs.Standing.{IsClock, Standing};
-    ghost use Rattle.std.specs.Coded.{codes, coded_ℕ};
-    ghost use Rattle.std.specs.FinMap as finite;
-    ghost use Rattle.serial_model.specs.Keys.{coded_key, key_cmp};
-
-    ghost Value = { Standing };
-
-    ghost coded = { Prim.hlevel (codes, finite.code {R = key_cmp} coded_key coded_ℕ) };
-
-    ghost view = { λ e. record { decls = e.plain.decls; state = e.plain.state; clock = e.clock; ended = e.ended } };
-
-    ghost invariant = { λ e. IsClock e.clock };
-}
 
 /// What rounds are run on.
 #[derive(Drop)]
@@ -138,21 +115,23 @@ impl Runtime {
         ensures vault { vault.new ≡ vault.old }
     {
         let _vault = &vault.ties;
+        catalogue_declares();
         begin(alloc, settled, config)
     }
 
     /// What stands at each key behind the rounds that were run.
-    pub fn state(&self) -> &State
-        ensures { result.now ≡ self.now.stands.state }
+    /// None, where it doesn't lie in a map: then the vault tells it, behind a join.
+    pub fn state(&self) -> Option<&State>
+        ensures { IfSome result (λ state. state.now ≡ self.now.stands.state) }
     {
-        &self.engine.plain.state
+        self.engine.state()
     }
 
     /// Whether a round or a join ended the run: by a refusal, or for want of memory. Then no further round is run.
     pub fn has_ended(&self) -> bool
         ensures { result ≡ self.now.stands.ended }
     {
-        self.engine.ended
+        self.engine.has_ended()
     }
 
     /// Whether a device failed, or memory was wanted in a round. Then nothing is joined any more.
@@ -167,6 +146,7 @@ impl Runtime {
 fn begin(alloc: Global, settled: Settled, config: Config) -> Result<Runtime, Memory>
     requires config { IsConfig config }
     requires first { config.first ≡ clock_after settled.saved.epoch }
+    requires decls { AreDecls settled.decls }
     ensures { IfOk result (λ runtime. runtime
         ≡ begun settled.decls settled.state settled.save settled.store config.snap config.first) }
 {
@@ -179,12 +159,9 @@ fn begin(alloc: Global, settled: Settled, config: Config) -> Result<Runtime, Mem
     } = settled;
     let closed_at = config.first.epoch - 1;
     let logs = new_logs(alloc, closed_at)?;
+    let engine = Engine::new(alloc, decls, state, config.first)?;
     Ok(Runtime {
-        engine: Engine {
-            plain: Plain { decls, state },
-            clock: config.first,
-            ended: false,
-        },
+        engine,
         save,
         store,
         room: config.snap,

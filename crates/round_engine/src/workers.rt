@@ -1,5 +1,5 @@
 // The workers' lines of a round, each over its log and its log file.
-ghost use Rattle.std.specs.Prelude.{◌≡◌, ◌≢◌, ◌↔◌, ◌⊎◌, ◌*◌, ◌+◌, ◌-◌, ◌<◌, ◌≤◌, [], ◌∷◌, ◌++◌, ℕ, IfSome, IsTrue};
+ghost use Rattle.std.specs.Prelude.{◌≡◌, ◌≢◌, ◌↔◌, ◌⊎◌, ◌*◌, ◌+◌, ◌-◌, ◌<◌, ◌≤◌, [], ◌∷◌, ◌++◌, ℕ, IfOk, IfSome, IsTrue};
 ghost use Rattle.std.specs.Prelude.{OnErr, OnOk, None, Some, true, is_some, length, map, option_map, slice_get};
 ghost use Rattle.std.specs.List.{AllByRecursion};
 ghost use Rattle.std.specs.Option.{option_copied};
@@ -10,35 +10,23 @@ ghost use Rattle.wire_form.specs.LogLine.{IsLogLine, IsLoggable};
 ghost use Rattle.log_writer.specs.Journal.{Reaches, end_of, free};
 ghost use Rattle.tx_script.specs.Run.{CanRun};
 ghost use Rattle.worker_logs.specs.Logs.{LogState, idle_log};
-ghost use Rattle.round_engine.specs.Plainly.{after_line, outcome_at};
-ghost use Rattle.round_engine.specs.Steps.{AreLogsUp, IsLogUp, Moves, TakesCommit, TakesLine, full_after};
-ghost use Rattle.round_engine.specs.InTurn.{RunsPlainly, RunsWorker};
+ghost use Rattle.worker_logs.specs.Rows.{AreLogsUp, IsLogUp, TakesCommit, full_after};
+ghost use Rattle.round_engine.specs.Plainly.{DrewOnce, after_line, outcome_at};
+ghost use Rattle.round_engine.specs.Steps.{Moves, TakesLine};
+ghost use Rattle.round_engine.specs.InTurn.{RunsWorker};
+ghost use Rattle.round_engine.specs.Lines.{LinesCome};
 ghost use Rattle.round_engine.specs.Workers.{idle_if_not, idled, is_busy};
 
-use crate::runtime::{Engine, WORKERS};
+use crate::engine::PlainEngine;
+use crate::runtime::WORKERS;
 use arrayvec::ArrayVec;
 use log_writer::LogFault;
 use outside::{Disk, Gate};
 use serial_model::{Commit, DRAW_LIMIT, Draft, Memory, Op, Replies, run_in};
+use shared_rounds::{LogEnd, WorkersRan};
 use std::alloc::Global;
 use tx_script::{Line, LineOps, Outcomes, Refused, Round, RoundOutcomes};
 use worker_logs::{WorkerLog, WriteSet};
-
-/// What refused a worker's log in a round.
-#[derive(Clone, Copy, Debug, Default, PartialEq, Eq)]
-pub(crate) struct LogEnd {
-    /// Its log file failed.
-    pub(crate) failed: bool,
-    /// It may get no longer than this.
-    pub(crate) full: Option<u64>,
-}
-
-/// What came of all workers' lines.
-#[derive(Drop)]
-pub(crate) struct WorkersRan {
-    pub(crate) outcomes: RoundOutcomes,
-    pub(crate) logs: ArrayVec<LogEnd, WORKERS>,
-}
 
 /// The marks of workers without a line in the round hold no epoch back.
 pub(crate) fn idle_without_lines(logs: &mut [WorkerLog], round: &Round<'_>)
@@ -90,10 +78,11 @@ fn is_of(round: &Round<'_>, index: usize, worker: u8) -> bool
     }
 }
 
-// Runs worker 0's lines, then worker 1's and on.
+// Runs worker 0's lines, then worker 1's and on. However often a line may be tried, it commits at its first try, or is
+// refused a number.
 pub(crate) fn run_workers<D: Disk, G: Gate>(
     alloc: Global,
-    engine: &mut Engine,
+    engine: &mut PlainEngine,
     logs: &mut [WorkerLog],
     growing: &mut [D],
     round: &Round<'_>,
@@ -104,16 +93,17 @@ pub(crate) fn run_workers<D: Disk, G: Gate>(
     requires growing { length growing.old ≡ 8 }
     requires up { AreLogsUp D.tells logs.old growing.old }
     requires flushed { AllByRecursion (λ log. log.journal.lines ≡ []) logs.old }
-    ensures runs { RunsPlainly D.tells D.clock D.image_at D.faults round.now engine.old engine.new
-        logs.old logs.new growing.old growing.new result }
+    ensures runs { (tries : ℕ) → 1 ≤ tries → LinesCome D.tells D.clock D.image_at D.faults tries round.now
+        engine.old engine.new logs.old logs.new growing.old growing.new result }
+    ensures once { IfOk result (λ ran. DrewOnce engine.old engine.new ran.outcomes) }
 {
     let mut ran = WorkersRan {
         outcomes: RoundOutcomes::new(alloc),
-        logs: ArrayVec::new(),
+        ends: ArrayVec::new(),
     };
     for worker in 0..WORKERS {
         let (outcomes, end) = run_at(alloc, engine, logs, growing, round, worker, gate)?;
-        ran.logs.push(end);
+        ran.ends.push(end);
         ran.outcomes.push(outcomes)?;
     }
     Ok(ran)
@@ -122,7 +112,7 @@ pub(crate) fn run_workers<D: Disk, G: Gate>(
 // Runs the lines of the worker whose log and log file stand here.
 fn run_at<D: Disk, G: Gate>(
     alloc: Global,
-    engine: &mut Engine,
+    engine: &mut PlainEngine,
     logs: &mut [WorkerLog],
     growing: &mut [D],
     round: &Round<'_>,
@@ -164,7 +154,7 @@ fn run_at<D: Disk, G: Gate>(
 // refused it runs none.
 fn run_worker<D: Disk, G: Gate>(
     alloc: Global,
-    engine: &mut Engine,
+    engine: &mut PlainEngine,
     log: &mut WorkerLog,
     bank: &mut D,
     round: &Round<'_>,
@@ -268,7 +258,7 @@ impl Room {
 
 // Runs a line, logs what it changed, and keeps its outcome. After want of memory it was run or not.
 fn run_line(
-    engine: &mut Engine,
+    engine: &mut PlainEngine,
     log: &mut WorkerLog,
     room: &mut Room,
     ops: &[Op],
@@ -295,7 +285,7 @@ fn run_line(
 
 // Runs a line that gets a number.
 fn run_numbered(
-    engine: &mut Engine,
+    engine: &mut PlainEngine,
     log: &mut WorkerLog,
     room: &mut Room,
     ops: &[Op],

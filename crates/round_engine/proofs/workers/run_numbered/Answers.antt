@@ -1,5 +1,5 @@
 -- A transaction's replies take few words, and its log gets what it changed.
-use Rattle.std.proofs.Common.{◌∙◌, ap, inr, subst, sym}
+use Rattle.std.proofs.Common.{◌∙◌, ap, false, inr, subst, sym}
 use Rattle.std.specs.Prelude.{IsTrue}
 use Rattle.std.specs.List.{AllByRecursion}
 use Rattle.serial_model.specs.Keys.{fits}
@@ -21,7 +21,8 @@ returns-clause-takes c =
       decls = c.engine.inside.plain.decls;
       state = c.engine.inside.plain.state;
       clock = c.engine.inside.clock;
-      ended = c.engine.inside.ended;
+      conflicts = 0;
+      ended = false;
     } in
     let has = number_there c.args.engine.now view c.engine.view_is c.requires.number in
     let fitting = subst (λ (s : Standing). AllByRecursion (λ op. IsTrue (fits s.decls op)) c.args.ops.now) (sym c.engine.view_is)
@@ -39,7 +40,8 @@ returns-clause-stops c =
       decls = c.engine.inside.plain.decls;
       state = c.engine.inside.plain.state;
       clock = c.engine.inside.clock;
-      ended = c.engine.inside.ended;
+      conflicts = 0;
+      ended = false;
     } in
     let has = number_there c.args.engine.now view c.engine.view_is c.requires.number in
     let fitting = subst (λ (s : Standing). AllByRecursion (λ op. IsTrue (fits s.decls op)) c.args.ops.now) (sym c.engine.view_is)

@@ -6,7 +6,7 @@ use Rattle.tx_script.specs.Run.{CanRun}
 use Rattle.worker_logs.specs.Logs.{LogState}
 use Rattle.round_engine.specs.Standing.{Standing}
 use Rattle.round_engine.proofs.PlainRun.{plain_kept}
-use Rattle.round_engine.proofs.PlainShares.{plain_all, plain_stops}
+use Rattle.round_engine.proofs.PlainShares.{once_all, plain_all, plain_stops}
 use Rattle.round_engine.proofs.WorkersRun.{Others, workers_begin, workers_more, workers_stop_after, workers_stop_in}
 use Rattle.round_engine.proofs.workers.run_workers.Goals as goal
 
@@ -55,7 +55,10 @@ returns-in_err-outcomes g c =
     (omega (arith, c.loop-worker-test.true, so.first.logs_length, c.requires.logs))
     (omega (arith, c.loop-worker-test.true, so.first.banks_length, c.requires.growing)) so c.in_err-outcomes.ensures.mine
     others in
-    rw p.1 (record { runs = record { comes = plain_stops stops.3 stops.1 stops.4 c.requires.up } })
+    rw p.1 (record {
+      runs = λ tries some. record { come = plain_stops some stops.3 stops.1 stops.4 c.requires.up };
+      once = tt;
+    })
 
 pub returns-in_err-push : goal.returns-in_err-push
 returns-in_err-push g c =
@@ -73,9 +76,13 @@ returns-in_err-push g c =
     (omega (arith, c.loop-worker-test.true, so.first.logs_length, c.requires.logs))
     (omega (arith, c.loop-worker-test.true, so.first.banks_length, c.requires.growing)) so c.in_ok-outcomes.ensures.mine others in
     let stops = workers_stop_after (omega (arith, c.loop-worker-test.true)) more in
-    rw p.1 (record { runs = record { comes = plain_stops stops.3 stops.1 stops.4 c.requires.up } })
+    rw p.1 (record {
+      runs = λ tries some. record { come = plain_stops some stops.3 stops.1 stops.4 c.requires.up };
+      once = tt;
+    })
 
 pub returns : goal.returns
 returns g c = record {
-  runs = record { comes = plain_all (omega (arith, c.loop-worker-test.false)) c.loop-worker.invariant };
+  runs = λ tries some. record { come = plain_all some (omega (arith, c.loop-worker-test.false)) c.loop-worker.invariant };
+  once = once_all c.loop-worker.invariant;
 }

@@ -1,6 +1,7 @@
 -- A runtime begins with empty logs.
-use Rattle.std.proofs.Common.{ap, arith, subst, sym, []}
+use Rattle.std.proofs.Common.{ap, arith, length, subst, sym, []}
 use Rattle.std.proofs.lemmas.Result.{IfOk-weaker}
+use Rattle.serial_model.specs.Decls.{AreDecls}
 use Rattle.serial_model.specs.declared.number.Number.{Number}
 use Rattle.worker_logs.specs.Saves.{CountsOf}
 use Rattle.worker_logs.specs.declared.savepoints.Side.TheVariants.{Even}
@@ -8,6 +9,12 @@ use Rattle.round_engine.specs.Logs.{AreClosedFiles, AreLogs}
 use Rattle.round_engine.specs.Standing.{RuntimeState, StandsOn}
 use Rattle.round_engine.proofs.Beginning.{begun_counts, begun_logs, begun_stands}
 use Rattle.round_engine.proofs.runtime.Runtime.new.Goals as goal
+
+pub begin-requires-clause-decls : goal.begin-requires-clause-decls
+begin-requires-clause-decls g c =
+    let snapshot = c.requires.snapshot in
+    subst AreDecls (sym snapshot.2)
+    (c.catalogue_declares.ensures (length c.args.settled.store.pages) snapshot.0 snapshot.1.here.catalogue)
 
 pub returns-clause-stands : goal.returns-clause-stands
 returns-clause-stands g c =

@@ -1,0 +1,78 @@
+-- What an engine's standing tells of what runs its lines, and of lists that are lent to it.
+use Rattle.std.proofs.Common.{◌≡◌, ◌∙◌, ◌+◌, ap, arith, sym, subst, Bool, false, length, List, ℕ, Option}
+use Rattle.std.specs.Prelude.{◌==◌, true, Result, Ok, Err, IfOk}
+use Rattle.std.proofs.lemmas.Bool.{false≢true}
+use Rattle.std.proofs.lemmas.Bool.Decides.{nat_tests}
+use Rattle.std.proofs.lemmas.List.Folds.{list_any_at}
+use Rattle.lists.specs.declared.memory.Memory.{Memory}
+use Rattle.serial_model.specs.Keys.{is_tree, is_tree_of}
+use Rattle.serial_model.specs.declared.decl.Decl.{Decl}
+use Rattle.serial_model.specs.declared.decl.Decl.TheVariants.{Tree}
+use Rattle.script_grammar.specs.Script.{Round}
+use Rattle.tx_script.specs.Draws.{HasTree, commits_of}
+use Rattle.worker_logs.specs.Logs.{LogState}
+use Rattle.shared_rounds.specs.Lines.{LinesCome, standing}
+use Rattle.shared_rounds.specs.SharedState.{SharedState}
+use Rattle.shared_rounds.specs.Standing.{Standing}
+use Rattle.shared_rounds.specs.declared.ends.WorkersRan.{WorkersRan}
+use Rattle.round_engine.specs.Plainly.{DrewOnce}
+use Rattle.round_engine.specs.Powers.{standing_of}
+use Rattle.round_engine.specs.declared.engine.Power.{Power}
+use Rattle.round_engine.specs.declared.engine.Power.TheVariants.{Plain, Shared}
+
+-- an engine over words is a standing of theirs
+pub shared_stands : {e : SharedState} {p : Power} {s : Standing} (ended : Bool) → p ≡ Shared e → standing_of p ended ≡ s
+    → standing ended e ≡ s
+shared_stands ended is view = sym (ap (λ q. standing_of q ended) is) ∙ view
+
+-- and one over the plain map one of that, in a run that goes on
+pub plain_stands : {e s : Standing} {p : Power} (ended : Bool) → p ≡ Plain e → standing_of p ended ≡ s → ended ≡ e.ended
+    → e ≡ s
+plain_stands {e = e} {s = s} ended is view goes =
+    subst (λ b. record e { ended = b } ≡ s) goes (sym (ap (λ q. standing_of q ended) is) ∙ view)
+
+-- the run goes on where the standing's does
+pub plain_goes : {e s : Standing} {p : Power} (ended : Bool) → p ≡ Plain e → standing_of p ended ≡ s → s.ended ≡ false
+    → ended ≡ false
+plain_goes ended is view goes =
+    ap (λ (x : Standing). x.ended) (sym (ap (λ q. standing_of q ended) is) ∙ view) ∙ goes
+
+-- what the plain map drew is what its engine did
+pub plain_once : (e now s : Standing) (ended : Bool) (result : Result WorkersRan Memory) → e ≡ s
+    → IfOk result (λ ran. DrewOnce e now ran.outcomes)
+    → IfOk result (λ ran. HasTree s.decls → DrewOnce s (record now { ended = ended }) ran.outcomes)
+plain_once e now s ended (Ok ran) same drew = λ has. record {
+  once = drew.once ∙ ap (λ (x : Standing). x.clock.draw + commits_of ran.outcomes) same;
+  plain = drew.plain;
+}
+plain_once e now s ended (Err memory) same drew = tt
+
+-- where no storage's number is a tree's none is declared
+pub no_tree : (decls : List Decl) → ((storage : ℕ) → is_tree decls storage ≡ false) → HasTree decls → ⊥
+no_tree decls none has =
+    let same : (has.0 == has.0) ≡ true = grind (arith, nat_tests) in
+    let some = list_any_at (is_tree_of has.0) decls has.1.0 (Tree has.0) has.1.1 (ap (is_tree_of has.0) has.1.2 ∙ same) in
+    false≢true (sym (none has.0) ∙ some)
+
+-- nothing is said of an engine without a tree
+pub shared_once : (s t : Standing) (result : Result WorkersRan Memory) → (HasTree s.decls → ⊥)
+    → IfOk result (λ ran. HasTree s.decls → DrewOnce s t ran.outcomes)
+shared_once s t (Ok ran) none = λ has. absurd (none has)
+shared_once s t (Err memory) none = tt
+
+module _ {D : Type 0} {tells : D → Option (List ℕ)} {clock : D → ℕ} {image_at : D → ℕ → List ℕ → Type 0}
+    {faults : D → ℕ} {tries : ℕ} {round : Round} {s t : Standing} {logs_was logs : List LogState}
+    {banks_was banks : List D} where
+  -- there are as many logs as before
+  pub logs_stay : (result : Result WorkersRan Memory)
+      → LinesCome tells clock image_at faults tries round s t logs_was logs banks_was banks result
+      → length logs ≡ length logs_was
+  logs_stay (Ok ran) is = is.come.over.logs_length
+  logs_stay (Err memory) is = is.come.over.logs_length
+
+  -- and as many log files
+  pub files_stay : (result : Result WorkersRan Memory)
+      → LinesCome tells clock image_at faults tries round s t logs_was logs banks_was banks result
+      → length banks ≡ length banks_was
+  files_stay (Ok ran) is = is.come.over.banks_length
+  files_stay (Err memory) is = is.come.over.banks_length

@@ -1,0 +1,202 @@
+-- One seat more is taken in again.
+use Rattle.std.proofs.Common.{◌≡◌, ◌≢◌, ◌∙◌, sym, ap, subst, refl, ℕ, suc, zero, ◌+◌, ◌-◌, ◌/◌, ◌^◌, ◌<◌, ◌≤◌, List}
+use Rattle.std.proofs.Common.{[], ◌∷◌, ◌++◌}
+use Rattle.std.proofs.Common.{append-nil, append_assoc, length, length-append, map, arith, Bool, true, false, cond}
+use Rattle.std.proofs.Common.{Option, Some, None, Result, Ok, Err}
+use Rattle.std.specs.Prelude.{OnErr, OnOk, ⊤, get_or, ◌==◌, slice_set}
+use Rattle.std.proofs.lemmas.Bool.{cond-false, cond-true}
+use Rattle.std.proofs.lemmas.Bool.Decides.{nat_tests}
+use Rattle.lists.specs.Elements.{in_head, in_tail}
+use Rattle.lists.specs.Fronts.{IsFront, front_refl}
+use Rattle.lists.specs.declared.memory.Memory.{Memory}
+use Rattle.script_grammar.specs.Script.{Round, lines_of_worker}
+use Rattle.serial_model.specs.declared.op.Op.{Op}
+use Rattle.commit_core.specs.declared.attempt.Attempt.{Attempt}
+use Rattle.commit_core.specs.declared.seat.Seat.{Seat}
+use Rattle.views.specs.Sums.{without}
+use Rattle.engine_words.specs.Cuts.{HasSeen, ended, gathered, heard_of, worker_of, worker_view}
+use Rattle.engine_words.specs.Gathered.{gathered_all}
+use Rattle.engine_words.specs.Passes.{IsPassOf, view}
+use Rattle.engine_words.specs.Steps.{HasTimed}
+use Rattle.engine_words.specs.Views.{IsResting, bare_seat}
+use Rattle.engine_words.specs.declared.engine.Engine.{Engine}
+use Rattle.engine_words.specs.declared.view.Role.TheVariants.{Keeper, Worker}
+use Rattle.engine_words.specs.declared.view.View.{View}
+use Rattle.tx_script.specs.declared.outcome.Outcome.{Outcome}
+use Rattle.worker_cells.specs.Cells.{RunsCell, StopsCell}
+use Rattle.worker_cells.specs.Rows.{lines_of, logged_of}
+use Rattle.worker_cells.specs.declared.cell.LogEnd.{LogEnd}
+use Rattle.worker_logs.specs.Logs.{LogState}
+use Rattle.shared_rounds.specs.Ended.{AreLeft, AreTold, EndedSoFar}
+use Rattle.shared_rounds.specs.Left.{LeavesPart, TellsPart}
+use Rattle.shared_rounds.specs.Parts.{AreParts, Part, share_of}
+use Rattle.shared_rounds.specs.SharedState.{conflicts_in}
+use Rattle.shared_rounds.specs.Shares.{Share, all_conflicts}
+use Rattle.shared_rounds.proofs.Conflicts.{conflicts_append, more_conflicts}
+use Rattle.shared_rounds.specs.Seating.{seats_from}
+use Rattle.shared_rounds.specs.Workers.{LeftBy}
+use Rattle.shared_rounds.proofs.Made.{seen_then}
+use Rattle.shared_rounds.proofs.Shared.{parts_later, parts_push}
+
+-- ---- who is seated
+
+-- each of them is this worker or a later one
+seats_above : (n low worker : ℕ) (ws : List ℕ) → worker < low → without worker (seats_from n low ++ ws)
+    ≡ seats_from n low ++ without worker ws
+seats_above zero low worker ws less = refl
+seats_above (suc n) low worker ws less =
+    ap (without worker) (append_assoc (seats_from n (low + 1)) (low ∷ []) ws)
+    ∙ seats_above n (low + 1) worker (low ∷ ws) (omega (arith, less))
+    ∙ ap (λ (l : List ℕ). seats_from n (low + 1) ++ l)
+    (cond-false (low == worker) ws (low ∷ without worker ws) (grind (arith, nat_tests)))
+    ∙ sym (append_assoc (seats_from n (low + 1)) (low ∷ []) (without worker ws))
+
+-- the first one goes
+pub seats_less : (n low : ℕ) → without low (seats_from (suc n) low) ≡ seats_from n (low + 1)
+seats_less n low =
+    seats_above n (low + 1) low (low ∷ []) (omega arith)
+    ∙ ap (λ (l : List ℕ). seats_from n (low + 1) ++ l) (cond-true (low == low) [] (low ∷ []) (grind (arith, nat_tests)))
+    ∙ append-nil (seats_from n (low + 1))
+
+-- ---- own commits
+
+gathered_push : (xs : List Attempt) (mines : List (List Attempt)) (ys : List Attempt)
+    → gathered_all xs (mines ++ ys ∷ []) ≡ gathered (gathered_all xs mines) ys
+gathered_push xs [] ys = refl
+gathered_push xs (zs ∷ mines) ys = gathered_push (gathered xs zs) mines ys
+
+mines_push : (parts : List Part) (p : Part)
+    → map (λ (q : Part). q.to.mine) (parts ++ p ∷ []) ≡ map (λ (q : Part). q.to.mine) parts ++ p.to.mine ∷ []
+mines_push [] p = refl
+mines_push (q ∷ parts) p = ap (λ (l : List (List Attempt)). q.to.mine ∷ l) (mines_push parts p)
+
+-- ---- one more
+
+pub told_push : (round : Round) (worker next : ℕ) (parts : List Part) (outcomes : List (List Outcome))
+    (ends : List LogEnd)
+    (logs_was logs : List LogState) (p : Part) (o : List Outcome) (e : LogEnd) (old new : LogState)
+    → next ≡ worker + length parts → AreTold round worker parts outcomes ends logs_was logs
+    → TellsPart (lines_of_worker round next) o e p old new
+    → AreTold round worker (parts ++ p ∷ []) (outcomes ++ o ∷ []) (ends ++ e ∷ []) (logs_was ++ old ∷ [])
+    (logs ++ new ∷ [])
+told_push round worker next [] [] [] [] [] p o e old new is are one =
+    let same : next ≡ worker = omega (arith, is) in
+    (subst (λ w. TellsPart (lines_of_worker round w) o e p old new) same one, tt)
+told_push round worker next (q ∷ parts) (x ∷ outcomes) (y ∷ ends) (a ∷ logs_was) (b ∷ logs) p o e old new is are one = (
+  are.0,
+  told_push round (worker + 1) next parts outcomes ends logs_was logs p o e old new (omega
+      (arith, is)) are.1 one,
+)
+told_push round worker next [] [] [] [] (b ∷ logs) p o e old new is are one = absurd are
+told_push round worker next [] [] [] (a ∷ logs_was) logs p o e old new is are one = absurd are
+told_push round worker next [] [] (y ∷ ends) logs_was logs p o e old new is are one = absurd are
+told_push round worker next [] (x ∷ outcomes) ends logs_was logs p o e old new is are one = absurd are
+told_push round worker next (q ∷ parts) [] ends logs_was logs p o e old new is are one = absurd are
+told_push round worker next (q ∷ parts) (x ∷ outcomes) [] logs_was logs p o e old new is are one = absurd are
+told_push round worker next (q ∷ parts) (x ∷ outcomes) (y ∷ ends) [] logs p o e old new is are one = absurd are
+told_push round worker next (q ∷ parts) (x ∷ outcomes) (y ∷ ends)
+    (a ∷ logs_was) [] p o e old new is are one = absurd are
+
+module _ {D : Type 0} (tells : D → Option (List ℕ)) (clock : D → ℕ) (image_at : D → ℕ → List ℕ → Type 0)
+    (faults : D → ℕ) where
+  left_push : (round : Round) (epoch worker next : ℕ) (parts : List Part) (logs_was logs : List LogState)
+      (banks_was banks : List D) (p : Part) (old new : LogState) (before now : D) → next ≡ worker + length parts
+      → AreLeft tells clock image_at faults round epoch worker parts logs_was logs banks_was banks
+      → LeftBy tells clock image_at faults epoch epoch (logged_of p.ran) p.refusal old new before now
+      → IsFront (lines_of p.ran ++ p.left) (lines_of_worker round next)
+      → AreLeft tells clock image_at faults round epoch worker (parts ++ p ∷ []) (logs_was ++ old ∷ [])
+      (logs ++ new ∷ [])
+      (banks_was ++ before ∷ []) (banks ++ now ∷ [])
+  left_push round epoch worker next [] [] [] [] [] p old new before now is are one front =
+      let same : next ≡ worker = omega (arith, is) in
+      (one, subst (λ w. IsFront (lines_of p.ran ++ p.left) (lines_of_worker round w)) same front, tt)
+  left_push round epoch worker next (q ∷ parts) (a ∷ lw) (b ∷ ls) (c ∷ bw)
+      (d ∷ bs) p old new before now is are one front = (
+        are.0,
+        are.1,
+        left_push round epoch (worker + 1) next parts lw ls bw bs p old new before now (omega (arith, is))
+            are.2 one front,
+      )
+  left_push round epoch worker next [] [] [] [] (d ∷ bs) p old new before now is are one front = absurd are
+  left_push round epoch worker next [] [] [] (c ∷ bw) bs p old new before now is are one front = absurd are
+  left_push round epoch worker next [] [] (b ∷ ls) bw bs p old new before now is are one front = absurd are
+  left_push round epoch worker next [] (a ∷ lw) ls bw bs p old new before now is are one front = absurd are
+  left_push round epoch worker next (q ∷ parts) [] ls bw bs p old new before now is are one front = absurd are
+  left_push round epoch worker next (q ∷ parts) (a ∷ lw) [] bw bs p old new before now is are one front = absurd are
+  left_push round epoch worker next (q ∷ parts) (a ∷ lw) (b ∷ ls) [] bs p old new before now is are one front = absurd
+      are
+  left_push round epoch worker next (q ∷ parts) (a ∷ lw) (b ∷ ls) (c ∷ bw) [] p old new before now is are one front =
+      absurd are
+
+  -- One more seat was taken in, that of this part.
+  pub ends_one : (tries : ℕ) (round : Round) (was mid now u : View) (n count : ℕ) (logs_was logs : List LogState)
+      (banks_was banks : List D) (memory : Result (Unit {0}) Memory) (outcomes : List (List Outcome))
+      (ends : List LogEnd)
+      → (so : EndedSoFar tells clock image_at faults tries round was mid count logs_was logs banks_was banks memory
+      outcomes ends)
+      → count < 8 → u.role ≡ Worker count → IsResting u.seat
+      → HasTimed (ended mid u) n now → HasSeen mid now
+      → (p : Part) (old new : LogState) (before bank : D) → p.to ≡ u
+      → LeavesPart tells clock image_at faults tries (lines_of_worker round count) was now count p old new before bank
+      → (after : Result (Unit {0}) Memory) (told : List (List Outcome)) (left : List LogEnd)
+      → OnOk after (AreTold round 0 (so.parts ++ p ∷ []) told left (logs_was ++ old ∷ []) (logs ++ new ∷ []))
+      → EndedSoFar tells clock image_at faults tries round was now (count + 1) (logs_was ++ old ∷ []) (logs ++ new ∷ [])
+      (banks_was ++ before ∷ []) (banks ++ bank ∷ []) after told left
+  ends_one tries round was mid now u n count logs_was logs banks_was banks memory outcomes ends so less seat rests
+      timed seen
+      p old new before bank is leaves after told left then =
+      let here : count ≡ 0 + length so.parts = omega (arith, so.many) in
+      let who : worker_of u.role ≡ count = ap worker_of seat in record {
+        parts = so.parts ++ p ∷ [];
+        many = length-append so.parts (p ∷ []) ∙ ap (λ k. k + 1) so.many;
+        are = parts_push tries was now 0 count so.parts p here (parts_later tries was mid now 0 so.parts seen so.are)
+            leaves.part;
+        seen = seen_then was mid now so.seen seen;
+        role = ap (λ (v : View). v.role) timed.is ∙ so.role;
+        layout = ap (λ (v : View). v.layout) timed.is ∙ so.layout;
+        epoch = ap (λ (v : View). v.epoch) timed.is ∙ timed.keepers so.role ∙ so.epoch;
+        made = ap (λ (v : View). v.made) timed.is ∙ ap (λ w. without w mid.made) who ∙ ap (without count) so.made
+            ∙ less_made count less;
+        gathers = ap (λ (v : View). v.mine) timed.is ∙ ap (λ (l : List Attempt). gathered l u.mine) so.gathers
+            ∙ ap (λ (v : View). gathered (gathered_all was.mine (map (λ (q : Part). q.to.mine) so.parts)) v.mine)
+            (sym is)
+            ∙ sym (gathered_push was.mine (map (λ (q : Part). q.to.mine) so.parts) p.to.mine)
+            ∙ ap (gathered_all was.mine) (sym (mines_push so.parts p));
+        conflicts = ap (λ (v : View). conflicts_in v.refused) timed.is ∙ conflicts_append mid.refused u.refused
+            ∙ ap (λ k. k + conflicts_in u.refused) so.conflicts
+            ∙ ap (λ (v : View). conflicts_in was.refused
+            + all_conflicts (map (λ (share : Share). share.tries_refused)
+            (map share_of so.parts)) + conflicts_in v.refused)
+            (sym is) ∙ more_conflicts tries was now count so.parts p (conflicts_in was.refused) leaves.part;
+        parked_are = ap (λ (v : View). length v.parked) timed.is ∙ length_set mid.parked (worker_of u.role) u.seat
+            ∙ so.parked_are;
+        parked = λ worker small. subst (λ (l : List Seat). IsResting (get_or l worker bare_seat))
+            (sym (ap (λ (v : View). v.parked) timed.is))
+            (rests_set mid.parked (worker_of u.role) u.seat worker rests (so.parked worker small));
+        left = left_push round was.epoch 0 count so.parts logs_was logs banks_was banks p old new before bank here
+            so.left
+            leaves.left_by leaves.front;
+        told = then;
+      }
+    where
+      less_made : (count : ℕ) → count < 8 → without count (seats_from (8 - count) count) ≡ seats_from (8 -
+          (count + 1)) (count + 1)
+      less_made count less =
+          let more : 8 - count ≡ suc (8 - (count + 1)) = omega (arith, less) in
+          ap (λ k. without count (seats_from k count)) more ∙ seats_less (8 - (count + 1)) count
+
+      length_set : (xs : List Seat) (i : ℕ) (x : Seat) → length (slice_set xs i x) ≡ length xs
+      length_set [] zero x = refl
+      length_set [] (suc i) x = refl
+      length_set (y ∷ xs) zero x = refl
+      length_set (y ∷ xs) (suc i) x = ap suc (length_set xs i x)
+
+      rests_set : (xs : List Seat) (i : ℕ) (x : Seat) (worker : ℕ) → IsResting x
+          → IsResting (get_or xs worker bare_seat)
+          → IsResting (get_or (slice_set xs i x) worker bare_seat)
+      rests_set [] zero x worker rest was = was
+      rests_set [] (suc i) x worker rest was = was
+      rests_set (y ∷ xs) zero x zero rest was = rest
+      rests_set (y ∷ xs) zero x (suc worker) rest was = was
+      rests_set (y ∷ xs) (suc i) x zero rest was = was
+      rests_set (y ∷ xs) (suc i) x (suc worker) rest was = rests_set xs i x worker rest was

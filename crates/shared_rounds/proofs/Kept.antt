@@ -1,0 +1,19 @@
+-- What is known between two rounds stays as the clock goes on to the next epoch.
+use Rattle.std.proofs.Common.{◌≡◌, sym, subst}
+use Rattle.engine_words.specs.declared.view.View.{View}
+use Rattle.engine_words.specs.Clock.{advanced}
+use Rattle.shared_rounds.specs.SharedState.{IsKept}
+
+pub kept_next : (v w : View) → w ≡ advanced v → IsKept v → IsKept w
+kept_next v w is k = subst IsKept (sym is) record {
+  role = k.role;
+  made = k.made;
+  decls = k.decls;
+  arrays = k.arrays;
+  first = k.first;
+  counted = record { own = k.counted.own; all = k.counted.all; drawn = k.counted.drawn };
+  once = k.once;
+  serial = k.serial;
+  parked_are = k.parked_are;
+  parked = k.parked;
+}

@@ -1,0 +1,151 @@
+-- The commits of a round are a serial run, in the order of their numbers.
+use Rattle.std.proofs.Common.{◌≡◌, ◌∙◌, sym, ap, subst, refl, ℕ, ◌+◌, ◌/◌, ◌^◌, ◌<◌, ◌≤◌, Bool, List, [], ◌∷◌, ◌++◌}
+use Rattle.std.proofs.Common.{arith}
+use Rattle.std.specs.Prelude.{◌==◌}
+use Rattle.std.specs.List.{AllByRecursion, Contains, filter}
+use Rattle.std.specs.List.Sorted.{IsPermutation}
+use Rattle.std.proofs.lemmas.List.Sorted.{Contains-permutation, IsPermutation-sym}
+use Rattle.lists.specs.Each.{all_weaker}
+use Rattle.lists.specs.Elements.{filter_only, in_filter, in_filtered}
+use Rattle.homes.specs.declared.places.Content.{Content}
+use Rattle.serial_model.specs.declared.decl.Decl.{Decl}
+use Rattle.serial_model.specs.declared.key.Key.{Key}
+use Rattle.serial_model.specs.declared.number.Commit.{Commit}
+use Rattle.serial_model.specs.declared.number.Number.{Number}
+use Rattle.serial_model.specs.Keys.{IsKeyBelow}
+use Rattle.serial_model.specs.State.{State}
+use Rattle.serial_model.specs.History.{Entry, Rises}
+use Rattle.wire_form.specs.Items.{Rises as Ascending}
+use Rattle.commit_core.specs.declared.attempt.Attempt.{Attempt}
+use Rattle.commit_core.specs.Keys.{content_at}
+use Rattle.serial_bridge.specs.Bridge.{Agrees, RunsSerially, after_attempts}
+use Rattle.serial_bridge.specs.Transaction.{AreAttemptsOf}
+use Rattle.serial_bridge.specs.WriteLaws.{each_in, runs_behind, writes_behind}
+use Rattle.serial_bridge.specs.WriteSets.{keys_of}
+use Rattle.engine_words.specs.Gathered.{joined}
+use Rattle.engine_words.specs.declared.view.View.{View}
+use Rattle.tx_script.specs.Run.{IsBetween, of_worker}
+use Rattle.shared_rounds.specs.Changes.{AreLogged}
+use Rattle.shared_rounds.specs.Contents.{after_commits}
+use Rattle.shared_rounds.specs.Parts.{IsClockOf, IsRound, Part, clock_number}
+use Rattle.shared_rounds.specs.Shares.{AreOrdered, entries_in, logged_in}
+use Rattle.shared_rounds.specs.Standing.{Standing}
+use Rattle.shared_rounds.proofs.Contents.{run_leaves}
+use Rattle.shared_rounds.proofs.Counted.{serial_now, split}
+use Rattle.shared_rounds.proofs.Joined.{joined_made, joined_pairs, mines_of, shares_of}
+use Rattle.shared_rounds.proofs.LoggedAlong.{AllRise, logged_along, logged_by}
+use Rattle.shared_rounds.proofs.Made.{Ascend, IsMade, logged_from}
+use Rattle.shared_rounds.proofs.Numbers.{made_between, same_epoch}
+use Rattle.shared_rounds.proofs.Orders.{ascend_filter, ascend_same, draws_rise, is_on, logged_on, pairs_each, pairs_on}
+use Rattle.shared_rounds.proofs.Orders.{pairs_rise, rise_pairs}
+use Rattle.shared_rounds.proofs.Pairs.{ArePairs, pairs_attempts, pairs_permuted}
+use Rattle.shared_rounds.proofs.Seats.{mine_ascends, mine_at, mine_logged, mine_on}
+
+-- where the engine stands, with the layout's storages
+abbrev pub standing_at : View → State → Number → ℕ → Bool → Standing
+standing_at v state clock conflicts done = record {
+  decls = v.layout.decls;
+  state = state;
+  clock = clock;
+  conflicts = conflicts;
+  ended = done;
+}
+
+module _ (tries : ℕ) (was now : View) (parts : List Part) (r : IsRound tries was now parts) where
+  new_in : (a : Attempt) → Contains (split tries was now parts r).new a → Contains (joined (mines_of parts)) a
+  new_in a has =
+      Contains-permutation (split tries was now parts r).new (joined (mines_of parts)) a
+      (IsPermutation-sym (joined (mines_of parts)) (split tries was now parts r).new
+      (split tries was now parts r).same) has
+
+  in_new : (a : Attempt) → Contains (joined (mines_of parts)) a → Contains (split tries was now parts r).new a
+  in_new a has =
+      Contains-permutation (joined (mines_of parts)) (split tries was now parts r).new a
+      (split tries was now parts r).same
+      has
+
+  new_made : (a : Attempt) → Contains (split tries was now parts r).new a → IsMade was.epoch was r.ended a
+  new_made a has = joined_made tries was r.ended 0 parts r.parts_are a (new_in a has)
+
+  -- the commits as they are told, with their attempts
+  told_pairs : (index : ℕ) → ArePairs was.layout.decls (entries_in index (shares_of parts)) (joined (mines_of parts))
+  told_pairs index = joined_pairs tries was r.ended index 0 parts r.parts_are
+
+  told_on : (worker : ℕ) → filter (is_on worker) (joined (mines_of parts)) ≡ mine_at parts worker
+  told_on worker =
+      let same : 0 + worker ≡ worker = omega arith in
+      ap (λ (w : ℕ). filter (is_on w) (joined (mines_of parts))) (sym same)
+      ∙ mine_on tries was r.ended 0 worker parts r.parts_are
+
+  new_rise : AllRise (split tries was now parts r).new
+  new_rise =
+      each_in (λ (a : Attempt). Ascending IsKeyBelow (keys_of a.writes)) (split tries was now parts r).new
+      (λ a has. (new_made a has).rise)
+
+  -- what each worker told rises
+  pub told_rises : (index worker : ℕ) → Rises (of_worker worker (entries_in index (shares_of parts)))
+  told_rises index worker =
+      pairs_rise was.layout.decls (of_worker worker (entries_in index (shares_of parts))) (mine_at parts worker)
+      (subst (ArePairs was.layout.decls (of_worker worker (entries_in index (shares_of parts))))
+      (told_on worker)
+      (pairs_on was.layout.decls worker (entries_in index (shares_of parts)) (joined (mines_of parts))
+      (told_pairs index)))
+      (mine_ascends tries was r.ended 0 worker parts r.parts_are)
+
+  -- those on a worker's seat are its part's
+  new_on : (worker : ℕ) → Ascend (split tries was now parts r).new
+      → filter (is_on worker) (split tries was now parts r).new ≡ mine_at parts worker
+  new_on worker ascend =
+      let here = told_on worker in
+      ascend_same (filter (is_on worker) (split tries was now parts r).new) (mine_at parts worker)
+      (ascend_filter (is_on worker) (split tries was now parts r).new ascend)
+      (mine_ascends tries was r.ended 0 worker parts r.parts_are)
+      (λ a has. subst (λ (l : List Attempt). Contains l a) here
+      (in_filtered (is_on worker) a (joined (mines_of parts))
+      (new_in a (in_filter (is_on worker) a (split tries was now parts r).new has))
+      (filter_only (is_on worker) a (split tries was now parts r).new has)))
+      (λ a has.
+      let there = subst (λ (l : List Attempt). Contains l a) (sym here) has in
+      in_filtered (is_on worker) a (split tries was now parts r).new
+      (in_new a (in_filter (is_on worker) a (joined (mines_of parts)) there))
+      (filter_only (is_on worker) a (joined (mines_of parts)) there))
+
+  pub ordered_so : (index : ℕ) (state : State) (clock : Number) (before after : ℕ) (done : Bool)
+      → Agrees was.layout.decls state (after_attempts (content_at was.layout.opening) was.mine) → IsClockOf clock was
+      → AreOrdered index (standing_at was state clock before done)
+      (standing_at was (after_commits state (split tries was now parts r).new) (clock_number r.clock) after done)
+      (shares_of parts)
+  ordered_so index state clock before after done agrees at =
+      let decls = was.layout.decls in
+      let new = (split tries was now parts r).new in
+      let moved = pairs_permuted decls (entries_in index (shares_of parts)) (joined (mines_of parts)) new
+      (told_pairs index) (split tries was now parts r).same in
+      let fs : List Entry = moved.0 in
+      let pairs : ArePairs decls fs new = moved.2 in
+      let are : AreAttemptsOf decls fs new = pairs_attempts decls fs new pairs in
+      let serial = serial_now tries was now parts r in
+      let runs = runs_behind decls state was.layout.opening was.mine new fs serial agrees are in
+      let ascend : Ascend new = rise_pairs decls fs new pairs runs.run.rising in
+      let numbers : AllByRecursion (λ (e : Entry). IsBetween clock (clock_number r.clock) e.number) fs =
+      pairs_each (IsBetween clock (clock_number r.clock)) decls fs new pairs
+      (λ a has. made_between tries was now parts r clock at a (new_in a has)) in
+      let epochs : AllByRecursion (λ (e : Entry). e.number.epoch ≡ was.epoch) fs =
+      all_weaker (λ (e : Entry). IsBetween clock (clock_number r.clock) e.number)
+      (λ (e : Entry). e.number.epoch ≡ was.epoch)
+      (λ e b. let from = b.epoch_from in let to = b.epoch_to in let here = at.epoch in
+      let there = same_epoch tries was now parts r in omega arith) fs numbers in record {
+        ordered = fs;
+        same = moved.1;
+        serial = runs.run;
+        draws = draws_rise was.epoch fs epochs runs.run.rising;
+        after = run_leaves decls state fs new
+            (after_attempts (content_at was.layout.opening) (was.mine ++ new)) runs;
+        numbers = numbers;
+        workers = told_rises index;
+        logged = λ worker below.
+            subst (AreLogged decls worker state fs)
+            (logged_on decls worker fs new pairs ∙ ap logged_from (new_on worker ascend)
+            ∙ mine_logged tries was r.ended 0 worker parts r.parts_are)
+            (logged_along decls worker state fs new are
+            (writes_behind decls state was.layout.opening was.mine new fs r.arrays serial agrees are) new_rise);
+      }

@@ -1,0 +1,139 @@
+-- What the engine is behind a round, as between two rounds.
+use Rattle.std.proofs.Common.{◌≡◌, ◌∙◌, sym, ap, subst, refl, ℕ, ◌+◌, ◌/◌, ◌%◌, ◌^◌, ◌<◌, ◌≤◌, Bool, true, false}
+use Rattle.std.proofs.Common.{cond, List, [], ◌∷◌}
+use Rattle.std.proofs.Common.{◌++◌, length, get_or, arith, Option, Some, None}
+use Rattle.std.specs.Prelude.{if◌then◌else◌, unwrap_or}
+use Rattle.std.specs.Option.{option_map_or}
+use Rattle.std.specs.FinMap.{get, get-empty}
+use Rattle.lists.specs.Fronts.{front_length}
+use Rattle.serial_model.specs.declared.decl.Decl.{Decl}
+use Rattle.serial_model.specs.declared.key.Key.{Key}
+use Rattle.serial_model.specs.declared.number.Number.{Number}
+use Rattle.serial_model.specs.Decls.{AreDecls}
+use Rattle.serial_model.specs.Keys.{is_tree, key_cmp}
+use Rattle.serial_model.specs.Numbers.{IsNumber, last_epoch}
+use Rattle.serial_model.specs.State.{State}
+use Rattle.serial_model.specs.Step.{reply_of}
+use Rattle.homes.specs.declared.places.Content.{Content}
+use Rattle.commit_core.specs.declared.attempt.Attempt.{Attempt}
+use Rattle.commit_core.specs.Keys.{content_at, content_of, same_key, written}
+use Rattle.commit_core.specs.Serial.{after_writes}
+use Rattle.commit_core.specs.declared.seat.Seat.{Seat}
+use Rattle.serial_bridge.specs.Bridge.{Agrees, after_attempts}
+use Rattle.serial_bridge.specs.WriteSets.{HasNoTree}
+use Rattle.engine_words.specs.Steps.{AreSerial}
+use Rattle.engine_words.specs.Views.{IsResting, bare_seat}
+use Rattle.engine_words.specs.declared.layout.Layout.{Layout}
+use Rattle.engine_words.specs.declared.view.Role.TheVariants.{Keeper}
+use Rattle.engine_words.specs.declared.view.View.{View}
+use Rattle.shared_rounds.specs.Contents.{after_changes, after_commits, with_value}
+use Rattle.shared_rounds.specs.Parts.{IsClockOf, IsRound, Part, clock_number}
+use Rattle.shared_rounds.specs.SharedState.{IsKept, opened, state_of}
+use Rattle.shared_rounds.proofs.Contents.{changes_over, commits_append, value_put}
+use Rattle.shared_rounds.proofs.Counted.{now_counted, now_layout, now_mine, split}
+use Rattle.shared_rounds.proofs.Numbers.{epoch_of_word, same_epoch}
+
+-- ---- contents
+
+-- at first
+opened_is : (opening : List (Key × Content)) (k : Key) → get (opened opening) k ≡ (content_at opening k).value
+opened_is [] k = get-empty key_cmp k
+opened_is (e ∷ more) k =
+    value_put (opened more) e.0 e.1.value k ∙ by_test (same_key e.0 k) (opened_is more k)
+  where
+    by_test : (b : Bool) → get (opened more) k ≡ (content_at more k).value
+        → cond b e.1.value (get (opened more) k) ≡ (if b then e.1 else content_at more k).value
+    by_test true rest = refl
+    by_test false rest = rest
+
+-- after the writes of an attempt
+agrees_then : (decls : List Decl) (s : State) (contents : Key → Content) (a : Attempt) → Agrees decls s contents
+    → Agrees decls (after_changes s a.writes) (λ k. after_writes k a (contents k))
+agrees_then decls s contents a agrees k =
+    ap (reply_of (is_tree decls k.storage)) (changes_over s a.writes k) ∙ by_written (written k a.writes)
+  where
+    by_written : (o : Option (Option ℕ)) → reply_of (is_tree decls k.storage) (unwrap_or o (get s k))
+        ≡ reply_of (is_tree decls k.storage) (option_map_or (λ v. content_of a.number v) o (contents k)).value
+    by_written (Some v) = refl
+    by_written None = agrees k
+
+agrees_all : (decls : List Decl) (attempts : List Attempt) (s : State) (contents : Key → Content)
+    → Agrees decls s contents
+    → Agrees decls (after_commits s attempts) (after_attempts contents attempts)
+agrees_all decls [] s contents agrees = agrees
+agrees_all decls (a ∷ more) s contents agrees =
+    agrees_all decls more (after_changes s a.writes) (λ k. after_writes k a (contents k))
+    (agrees_then decls s contents a agrees)
+
+-- the state is what the attempts leave of what stood at keys at first
+pub state_agrees : (v : View) → Agrees v.layout.decls (state_of v) (after_attempts (content_at v.layout.opening) v.mine)
+state_agrees v =
+    agrees_all v.layout.decls v.mine (opened v.layout.opening) (content_at v.layout.opening)
+    (λ k. ap (reply_of (is_tree v.layout.decls k.storage)) (opened_is v.layout.opening k))
+
+-- ---- what is kept
+
+module _ (tries : ℕ) (was now : View) (parts : List Part) (r : IsRound tries was now parts) where
+  pub state_now : state_of now ≡ after_commits (state_of was) (split tries was now parts r).new
+  state_now =
+      ap (λ (l : Layout). after_commits (opened l.opening) now.mine) (now_layout tries was now parts r)
+      ∙ ap (after_commits (opened was.layout.opening)) (split tries was now parts r).own
+      ∙ commits_append (opened was.layout.opening) was.mine (split tries was now parts r).new
+
+  pub kept_now : IsKept was → length r.ended.parked ≡ 8
+      → ((worker : ℕ) → worker < 8 → IsResting (get_or r.ended.parked worker bare_seat)) → IsKept now
+  kept_now kept parked_are parked =
+      let layout = now_layout tries was now parts r in record {
+        role = ap (λ (v : View). v.role) r.audited.2.is ∙ ap (λ (v : View). v.role) r.audited.1.is ∙ r.role;
+        made = ap (λ (v : View). v.made) r.audited.2.is ∙ ap (λ (v : View). v.made) r.audited.1.is ∙ r.made;
+        decls = subst (λ (l : Layout). AreDecls l.decls) (sym layout) kept.decls;
+        arrays = subst (λ (l : Layout). HasNoTree l.decls) (sym layout) kept.arrays;
+        first = subst (λ (l : Layout). IsNumber l.first) (sym layout) kept.first;
+        counted = now_counted tries was now parts r;
+        once = r.audited.2.once;
+        serial = subst (λ (l : Layout). AreSerial l.opening now.history now.decided)
+            (sym (ap (λ (v : View). v.layout) r.audited.2.is)) r.audited.2.serial;
+        parked_are = parked_now (λ l. length l ≡ 8) parked_are;
+        parked = λ worker less. parked_now (λ l. IsResting (get_or l worker bare_seat)) (parked worker less);
+      }
+    where
+      parked_now : (P : List Seat → Type 0) → P r.ended.parked → P now.parked
+      parked_now P one =
+          subst P (sym (ap (λ (v : View). v.parked) r.audited.2.is ∙ ap (λ (v : View). v.parked) r.audited.1.is)) one
+
+  -- the clock's number
+  pub clock_now : (clock : Number) → IsKept was → IsNumber clock → clock.epoch ≡ was.epoch
+      → IsNumber (clock_number r.clock)
+  clock_now clock kept number epoch =
+      let first = kept.first.some_draw in
+      let draws = r.audited.1.draws in
+      let layout : r.ended.layout.first.draw ≡ was.layout.first.draw = ap (λ (l : Layout). l.first.draw) r.layout in
+      let same = same_epoch tries was now parts r in
+      let some = number.some_epoch in
+      let word = epoch_of_word r.audited.1.number r.clock r.audited.1.found r.audited.1.small in
+      let high = r.audited.1.small.epoch in record {
+        some_epoch = omega arith;
+        most_epoch = omega arith;
+        some_draw = omega arith;
+        most_draw = omega arith;
+      }
+
+  pub clock_stands : (clock_number r.clock).epoch ≡ now.epoch
+  clock_stands = sym (ap (λ (v : View). v.epoch) r.audited.2.is ∙ ap (λ (v : View). v.epoch) r.audited.1.is)
+
+  pub clock_from : now.layout.first.draw ≤ (clock_number r.clock).draw
+  clock_from =
+      let draws = r.audited.1.draws in
+      let first : now.layout.first.draw ≡ was.layout.first.draw =
+      ap (λ (l : Layout). l.first.draw) (now_layout tries was now parts r) in
+      let layout : r.ended.layout.first.draw ≡ was.layout.first.draw = ap (λ (l : Layout). l.first.draw) r.layout in
+      omega arith
+
+  pub clock_to : (clock_number r.clock).draw ≤ now.layout.first.draw + length now.history
+  clock_to =
+      let draws = r.audited.1.draws in
+      let first : now.layout.first.draw ≡ was.layout.first.draw =
+      ap (λ (l : Layout). l.first.draw) (now_layout tries was now parts r) in
+      let layout : r.ended.layout.first.draw ≡ was.layout.first.draw = ap (λ (l : Layout). l.first.draw) r.layout in
+      let long = front_length r.audited.0.history now.history r.audited.2.history in
+      omega arith

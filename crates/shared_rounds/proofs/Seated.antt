@@ -1,0 +1,128 @@
+-- One worker more is seated.
+use Rattle.std.proofs.Common.{◌≡◌, ◌∙◌, sym, ap, subst, refl, ℕ, suc, zero, ◌+◌, ◌-◌, ◌<◌, ◌≤◌, List, [], ◌∷◌, ◌++◌}
+use Rattle.std.proofs.Common.{length, arith}
+use Rattle.std.proofs.Common.{append-nil, append_assoc, get_or, Option, Some, None, cond}
+use Rattle.std.specs.Prelude.{slice_get, ◌==◌, ⊤}
+use Rattle.std.specs.List.{AllByRecursion}
+use Rattle.std.proofs.lemmas.Bool.{cond-false}
+use Rattle.std.proofs.lemmas.Bool.Decides.{nat_tests}
+use Rattle.serial_model.specs.Decls.{AreDecls}
+use Rattle.tx_commit.specs.Live.{IsOver}
+use Rattle.views.specs.Sums.{one_at, times, total, total-append}
+use Rattle.engine_words.specs.Cuts.{seated, worker_view}
+use Rattle.engine_words.specs.Passes.{IsPassOf, view}
+use Rattle.engine_words.specs.Views.{IsResting, bare_seat}
+use Rattle.engine_words.specs.declared.engine.Engine.{Engine}
+use Rattle.engine_words.specs.declared.view.View.{View}
+use Rattle.worker_cells.specs.Cells.{IsCell}
+use Rattle.worker_cells.specs.declared.cell.Cell.{Cell}
+use Rattle.worker_logs.specs.Logs.{LogState}
+use Rattle.worker_logs.specs.Rows.{AreLogsUp, IsLogUp}
+use Rattle.shared_rounds.specs.Seated.{AreSeated, IsSeated, SeatedSoFar, backward}
+use Rattle.shared_rounds.specs.Seating.{CanSeat, seats_from, with_made}
+use Rattle.shared_rounds.proofs.Backward.{backward_push}
+
+-- ---- who is seated
+
+-- nobody below them
+pub not_seated : (n low worker : ℕ) → worker < low → times worker (seats_from n low) ≡ 0
+not_seated zero low worker less = refl
+not_seated (suc n) low worker less =
+    let rest = not_seated n (low + 1) worker (omega (arith, less)) in
+    let one : one_at worker low ≡ 0 = grind (arith, nat_tests) in
+    total-append (one_at worker) (seats_from n (low + 1)) (low ∷ []) ∙ omega (arith, rest, one)
+
+-- one more of them
+pub seats_more : (count : ℕ) → count < 8
+    → seats_from count (8 - count) ++ (7 - count) ∷ [] ≡ seats_from (count + 1) (8 - (count + 1))
+seats_more count less =
+    let low : 8 - count ≡ (8 - (count + 1)) + 1 = omega (arith, less) in
+    let next : 7 - count ≡ 8 - (count + 1) = omega arith in
+    let one : count + 1 ≡ suc count = omega arith in
+    ap (λ (n : ℕ). seats_from count n ++ (7 - count) ∷ []) low
+    ∙ ap (λ (n : ℕ). seats_from count ((8 - (count + 1)) + 1) ++ n ∷ []) next
+    ∙ ap (λ (n : ℕ). seats_from n (8 - (count + 1))) (sym one)
+
+-- ---- places
+
+at_place : {X : Type 0} (rest : List X) (x : X) (back : List X)
+    → slice_get ((rest ++ x ∷ []) ++ back) (length rest) ≡ Some x
+at_place [] x back = refl
+at_place (y ∷ rest) x back = at_place rest x back
+
+all_at_place : {X : Type 0} (P : X → Type 0) (rest : List X) (x : X) (back : List X)
+    → AllByRecursion P ((rest ++ x ∷ []) ++ back) → P x
+all_at_place P [] x back all = all.0
+all_at_place P (y ∷ rest) x back all = all_at_place P rest x back all.1
+
+-- ---- a worker's pass
+
+over_at : (was : View) (worker : ℕ) → AreDecls was.layout.decls → IsResting (get_or was.parked worker bare_seat)
+    → IsOver (worker_view worker was)
+over_at was worker decls rests = record { decls = decls; worker = refl; due = refl; took = refl; seat = rests }
+
+module _ {D : Type 0} (tells : D → Option (List ℕ)) where
+  pub none_seated : (words : Engine) (was : View) (worker : ℕ) (logs : List LogState) (banks : List D)
+      → SeatedSoFar tells words was worker [] logs logs banks banks
+  none_seated words was worker logs banks = record {
+    their_logs = [];
+    their_banks = [];
+    logs_are = sym (append-nil logs);
+    banks_are = sym (append-nil banks);
+    seated = tt;
+  }
+
+  pub seats_one : (words : Engine) (was : View) (worker : ℕ) (cells : List (Cell D))
+      (logs_was logs rest : List LogState)
+      (banks_was banks others : List D) (cell : Cell D) → CanSeat was → AreLogsUp tells logs_was banks_was
+      → AllByRecursion (λ (log : LogState). log.journal.lines ≡ []) logs_was
+      → worker < 8 → length rest ≡ worker → length others ≡ worker
+      → logs ≡ rest ++ cell.log ∷ [] → banks ≡ others ++ cell.bank ∷ []
+      → IsPassOf words cell.pass → cell.worker ≡ worker → view cell.pass ≡ worker_view worker was → cell.outcomes ≡ []
+      → SeatedSoFar tells words was (worker + 1) cells logs_was logs banks_was banks
+      → SeatedSoFar tells words was worker (cells ++ cell ∷ []) logs_was rest banks_was others
+  seats_one words was worker cells logs_was logs rest banks_was banks others cell can up flushed less place bank_place
+      log_is
+      bank_is of number seated outcomes so =
+      let logs_here : logs_was ≡ (rest ++ cell.log ∷ []) ++ so.their_logs =
+      so.logs_are ∙ ap (λ (l : List LogState). l ++ so.their_logs) log_is in
+      let banks_here : banks_was ≡ (others ++ cell.bank ∷ []) ++ so.their_banks =
+      so.banks_are ∙ ap (λ (l : List D). l ++ so.their_banks) bank_is in
+      let at : slice_get logs_was worker ≡ Some cell.log =
+      ap (slice_get logs_was) (sym place) ∙ ap (λ (l : List LogState). slice_get l (length rest)) logs_here
+      ∙ at_place rest cell.log so.their_logs in
+      let bank_at : slice_get banks_was worker ≡ Some cell.bank =
+      ap (slice_get banks_was) (sym bank_place) ∙ ap (λ (l : List D). slice_get l (length others)) banks_here
+      ∙ at_place others cell.bank so.their_banks in record {
+        their_logs = cell.log ∷ so.their_logs;
+        their_banks = cell.bank ∷ so.their_banks;
+        logs_are = logs_here ∙ append_assoc rest (cell.log ∷ []) so.their_logs;
+        banks_are = banks_here ∙ append_assoc others (cell.bank ∷ []) so.their_banks;
+        seated = subst (λ l. AreSeated tells words was worker l (cell.log ∷ so.their_logs) (cell.bank ∷ so.their_banks))
+            (sym (backward_push cells cell)) (
+              record {
+                of = of;
+                number = number;
+                small = less;
+                seated = seated;
+                log_is = refl;
+                bank_is = refl;
+                ready = record {
+                  over = subst IsOver (sym seated) (over_at was worker can.decls (can.parked worker less));
+                  draws = subst (λ (v : View). 1 ≤ v.layout.first.draw) (sym seated) can.draws;
+                  up = up worker cell.log cell.bank at bank_at;
+                  flushed = all_at_place (λ (log : LogState). log.journal.lines ≡ []) rest cell.log so.their_logs
+                      (subst (AllByRecursion (λ (log : LogState). log.journal.lines ≡ [])) logs_here flushed);
+                };
+                outcomes = outcomes;
+              },
+              so.seated,
+            );
+      }
+
+  pub all_seated : (words : Engine) (was : View) (cells : List (Cell D)) (logs_was : List LogState) (banks_was : List D)
+      → SeatedSoFar tells words was 0 cells logs_was [] banks_was []
+      → AreSeated tells words was 0 (backward cells) logs_was banks_was
+  all_seated words was cells logs_was banks_was so =
+      subst (λ l. AreSeated tells words was 0 (backward cells) l banks_was) (sym so.logs_are)
+      (subst (λ b. AreSeated tells words was 0 (backward cells) so.their_logs b) (sym so.banks_are) so.seated)

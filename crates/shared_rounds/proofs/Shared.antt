@@ -1,0 +1,111 @@
+-- The shares of a round's workers.
+use Rattle.std.proofs.Common.{◌≡◌, ◌∙◌, sym, ap, subst, refl, ℕ, suc, zero, ◌+◌, ◌%◌, ◌^◌, ◌≤◌, Bool, List, [], ◌∷◌}
+use Rattle.std.proofs.Common.{◌++◌, length, arith}
+use Rattle.std.proofs.Common.{map, Option, Some, None}
+use Rattle.std.specs.List.{AllByRecursion}
+use Rattle.lists.specs.Fronts.{front_length}
+use Rattle.serial_model.specs.declared.number.Commit.{Commit}
+use Rattle.serial_model.specs.declared.number.Number.{Number}
+use Rattle.serial_model.specs.declared.op.Op.{Op}
+use Rattle.serial_model.specs.State.{State}
+use Rattle.commit_core.specs.Keys.{content_at}
+use Rattle.serial_bridge.specs.Bridge.{Agrees, after_attempts}
+use Rattle.engine_words.specs.Cuts.{HasSeen, worker_view}
+use Rattle.engine_words.specs.declared.layout.Layout.{Layout}
+use Rattle.engine_words.specs.declared.view.View.{View}
+use Rattle.worker_cells.specs.Rows.{LineRan, lines_of, logged_of}
+use Rattle.shared_rounds.specs.Contents.{after_commits}
+use Rattle.shared_rounds.specs.Parts.{AreParts, IsClockOf, IsPart, IsRound, Part, clock_number, share_of}
+use Rattle.shared_rounds.specs.SharedState.{conflicts_in}
+use Rattle.shared_rounds.specs.Shares.{IsShare, RunsShares, Share}
+use Rattle.shared_rounds.proofs.Comes.{row_comes, row_each, row_last}
+use Rattle.shared_rounds.proofs.Counted.{split}
+use Rattle.shared_rounds.proofs.Joined.{shares_of}
+use Rattle.shared_rounds.proofs.Made.{seen_then}
+use Rattle.shared_rounds.proofs.Numbers.{ended_draws, same_epoch}
+use Rattle.shared_rounds.proofs.Ordered.{ordered_so, standing_at}
+
+no_lines : (ran : List LineRan) (left : List (List Op)) → lines_of ran ++ left ≡ [] → logged_of ran ≡ []
+no_lines [] left none = refl
+no_lines (r ∷ ran) left none = absurd cc
+
+part_share : (first tries last : ℕ) (was ended : View) (worker : ℕ) (p : Part) → 1 ≤ tries
+    → first ≤ was.layout.first.draw + length was.history → was.layout.first.draw + length ended.history ≤ last
+    → IsPart tries was ended worker p
+    → IsShare was.layout.decls first last tries (share_of p)
+part_share first tries last was ended worker p some from below part =
+    let start : p.from.layout.first.draw ≡ was.layout.first.draw = ap (λ (v : View). v.layout.first.draw) part.seated in
+    let same : length p.from.history ≡ length was.history = ap (λ (v : View). length v.history) part.seated in
+    let long = front_length p.to.history ended.history part.seen.history in record {
+      one_each = row_each p.ran p.left;
+      come = row_comes first tries last p.refusal p.from p.ran p.left p.to some (omega (arith, start, same, from))
+          (omega (arith, start, long, below)) part.all part.row;
+      unrun_last = row_last tries p.from p.ran p.left p.to part.row;
+      lines_are = part.lines_are;
+      none = no_lines p.ran p.left;
+    }
+
+parts_share : (first tries last : ℕ) (was ended : View) (worker : ℕ) (parts : List Part) → 1 ≤ tries
+    → first ≤ was.layout.first.draw + length was.history → was.layout.first.draw + length ended.history ≤ last
+    → AreParts tries was ended worker parts
+    → AllByRecursion (IsShare was.layout.decls first last tries) (shares_of parts)
+parts_share first tries last was ended worker [] some from below are = tt
+parts_share first tries last was ended worker (p ∷ parts) some from below are = (
+  part_share first tries last was ended worker p some from below are.0,
+  parts_share first tries last was ended (worker + 1) parts some from below are.1,
+)
+
+share_count : (parts : List Part) → length (shares_of parts) ≡ length parts
+share_count [] = refl
+share_count (p ∷ parts) = ap suc (share_count parts)
+
+-- The lines of a round on seats are run from the standing that the engine had to the one that the count behind them
+-- tells.
+pub round_runs : (tries : ℕ) (was now : View) (parts : List Part) (r : IsRound tries was now parts) (state : State)
+    (clock : Number) (done : Bool) → 1 ≤ tries
+    → Agrees was.layout.decls state (after_attempts (content_at was.layout.opening) was.mine) → IsClockOf clock was
+    → RunsShares tries (standing_at was state clock (conflicts_in was.refused) done)
+    (standing_at was (after_commits state (split tries was now parts r).new) (clock_number r.clock)
+    (conflicts_in now.refused) done) (shares_of parts)
+round_runs tries was now parts r state clock done some agrees at =
+    let ends = ended_draws tries was now parts r in
+    let begins = at.draw in
+    let long = front_length was.history r.ended.history r.seen.history in record {
+      workers = share_count parts ∙ r.eight;
+      only = refl;
+      epoch = same_epoch tries was now parts r ∙ sym at.epoch;
+      draw = omega arith;
+      conflicts = ap (λ (v : View). conflicts_in v.refused) r.audited.2.is
+          ∙ ap (λ (v : View). conflicts_in v.refused) r.audited.1.is ∙ r.conflicts;
+      each = parts_share clock.draw tries (r.clock % 2 ^ 40) was r.ended 0 parts some begins ends r.parts_are;
+      ordered = λ index. ordered_so tries was now parts r index state clock (conflicts_in was.refused)
+          (conflicts_in now.refused) done agrees at;
+    }
+
+-- ---- part by part
+
+-- the parts as the keeper has seen more
+pub parts_later : (tries : ℕ) (was ended later : View) (worker : ℕ) (parts : List Part) → HasSeen ended later
+    → AreParts tries was ended worker parts → AreParts tries was later worker parts
+parts_later tries was ended later worker [] seen are = tt
+parts_later tries was ended later worker (p ∷ parts) seen are = (
+  record {
+    seated = are.0.seated;
+    row = are.0.row;
+    since = are.0.since;
+    lines_are = are.0.lines_are;
+    all = are.0.all;
+    seen = seen_then p.to ended later are.0.seen seen;
+  },
+  parts_later tries was ended later (worker + 1) parts seen are.1,
+)
+
+-- one more of them
+pub parts_push : (tries : ℕ) (was ended : View) (worker next : ℕ) (parts : List Part) (p : Part)
+    → next ≡ worker + length parts → AreParts tries was ended worker parts → IsPart tries was ended next p
+    → AreParts tries was ended worker (parts ++ p ∷ [])
+parts_push tries was ended worker next [] p is are part =
+    let same : next ≡ worker = omega (arith, is) in
+    (subst (λ w. IsPart tries was ended w p) same part, tt)
+parts_push tries was ended worker next (q ∷ parts) p is are part =
+    (are.0, parts_push tries was ended (worker + 1) next parts p (omega (arith, is)) are.1 part)

@@ -1,0 +1,135 @@
+-- What is told worker by worker, as lists and by index.
+use Rattle.std.proofs.Common.{◌≡◌, ◌∙◌, sym, ap, subst, refl, ℕ, suc, zero, ◌+◌, ◌<◌, List, [], ◌∷◌, length, map, arith}
+use Rattle.std.proofs.Common.{Option, Some, None}
+use Rattle.std.specs.Prelude.{is_some, slice_get}
+use Rattle.std.proofs.lemmas.Option.{same_Some}
+use Rattle.lists.specs.Fronts.{IsFront}
+use Rattle.serial_model.specs.declared.op.Op.{Op}
+use Rattle.script_grammar.specs.Script.{Round, lines_of_worker, worker_lines}
+use Rattle.tx_script.specs.declared.outcome.Outcome.{Outcome}
+use Rattle.worker_cells.specs.Rows.{lines_of, logged_of}
+use Rattle.worker_cells.specs.declared.cell.LogEnd.{LogEnd}
+use Rattle.worker_logs.specs.Logs.{LogState}
+use Rattle.shared_rounds.specs.Ended.{AreLeft, AreTold}
+use Rattle.shared_rounds.specs.Left.{TellsPart}
+use Rattle.shared_rounds.specs.Parts.{Part, share_of}
+use Rattle.shared_rounds.specs.Shares.{Share}
+use Rattle.shared_rounds.specs.Workers.{LeftBy, refusal_of}
+use Rattle.shared_rounds.proofs.Joined.{shares_of}
+
+-- what of a list is at an index, of one that begins with x
+at_first : {X : Type 0} (P : X → Type 0) (x y : X) → Some x ≡ Some y → P x → P y
+at_first P x y is one = subst P (same_Some x y is) one
+
+-- the lines of so many workers from this one on
+abbrev pub lines_from : Round → ℕ → ℕ → List (List (List Op))
+lines_from round worker zero = []
+lines_from round worker (suc n) = lines_of_worker round worker ∷ lines_from round (worker + 1) n
+
+module _ (round : Round) where
+  pub told_lines : (worker : ℕ) (parts : List Part) (outcomes : List (List Outcome)) (ends : List LogEnd)
+      (logs_was logs : List LogState) → AreTold round worker parts outcomes ends logs_was logs
+      → map (λ (share : Share). share.lines) (shares_of parts) ≡ lines_from round worker (length parts)
+  told_lines worker [] [] [] [] [] are = refl
+  told_lines worker (p ∷ parts) (o ∷ outcomes) (e ∷ ends) (old ∷ lw) (new ∷ ls) are =
+      ap (λ l. l ∷ map (λ (share : Share). share.lines) (shares_of parts)) are.0.lines_are
+      ∙ ap (λ l. lines_of_worker round worker ∷ l) (told_lines (worker + 1) parts outcomes ends lw ls are.1)
+  told_lines worker _ _ _ _ _ are = absurd are
+
+  pub told_outcomes : (worker : ℕ) (parts : List Part) (outcomes : List (List Outcome)) (ends : List LogEnd)
+      (logs_was logs : List LogState) → AreTold round worker parts outcomes ends logs_was logs
+      → outcomes ≡ map (λ (share : Share). share.outcomes) (shares_of parts)
+  told_outcomes worker [] [] [] [] [] are = refl
+  told_outcomes worker (p ∷ parts) (o ∷ outcomes) (e ∷ ends) (old ∷ lw) (new ∷ ls) are =
+      ap (λ l. l ∷ outcomes) are.0.told
+      ∙ ap (λ l. (share_of p).outcomes ∷ l) (told_outcomes (worker + 1) parts outcomes ends lw ls are.1)
+  told_outcomes worker _ _ _ _ _ are = absurd are
+
+  pub told_refusals : (worker : ℕ) (parts : List Part) (outcomes : List (List Outcome)) (ends : List LogEnd)
+      (logs_was logs : List LogState) → AreTold round worker parts outcomes ends logs_was logs
+      → map refusal_of ends ≡ map (λ (share : Share). share.refusal) (shares_of parts)
+  told_refusals worker [] [] [] [] [] are = refl
+  told_refusals worker (p ∷ parts) (o ∷ outcomes) (e ∷ ends) (old ∷ lw) (new ∷ ls) are =
+      ap (λ r. r ∷ map refusal_of ends) are.0.refusal
+      ∙ ap (λ l. p.refusal ∷ l) (told_refusals (worker + 1) parts outcomes ends lw ls are.1)
+  told_refusals worker _ _ _ _ _ are = absurd are
+
+  pub told_idle : (worker : ℕ) (parts : List Part) (outcomes : List (List Outcome)) (ends : List LogEnd)
+      (logs_was logs : List LogState) → AreTold round worker parts outcomes ends logs_was logs
+      → (i : ℕ) (share : Share) (old new : LogState) → slice_get (shares_of parts) i ≡ Some share → share.lines ≡ []
+      → slice_get logs_was i ≡ Some old → slice_get logs i ≡ Some new → new ≡ old
+  told_idle worker [] [] [] [] [] are i share old new at none was is = absurd cc
+  told_idle worker (p ∷ parts) (o ∷ outcomes) (e ∷ ends) (a ∷ lw) (b ∷ ls) are zero share old new at none was is =
+      let mine : (share_of p).lines ≡ share.lines = ap (λ (x : Share). x.lines) (same_Some (share_of p) share at) in
+      sym (same_Some b new is) ∙ are.0.idle (sym are.0.lines_are ∙ mine ∙ none) ∙ same_Some a old was
+  told_idle worker (p ∷ parts) (o ∷ outcomes) (e ∷ ends) (a ∷ lw) (b ∷ ls) are (suc i) share old new at none was is =
+      told_idle (worker + 1) parts outcomes ends lw ls are.1 i share old new at none was is
+  told_idle worker _ _ _ _ _ are i share old new at none was is = absurd are
+
+  pub told_failed : (worker : ℕ) (parts : List Part) (outcomes : List (List Outcome)) (ends : List LogEnd)
+      (logs_was logs : List LogState) → AreTold round worker parts outcomes ends logs_was logs
+      → (i : ℕ) (end : LogEnd) (log : LogState) → slice_get ends i ≡ Some end → slice_get logs i ≡ Some log
+      → end.failed ≡ is_some log.journal.down
+  told_failed worker [] [] [] [] [] are i end log at is = absurd cc
+  told_failed worker (p ∷ parts) (o ∷ outcomes) (e ∷ ends) (a ∷ lw) (b ∷ ls) are zero end log at is =
+      at_first (λ (x : LogState). end.failed ≡ is_some x.journal.down) b log is
+      (at_first (λ (x : LogEnd). x.failed ≡ is_some b.journal.down) e end at are.0.failed)
+  told_failed worker (p ∷ parts) (o ∷ outcomes) (e ∷ ends) (a ∷ lw) (b ∷ ls) are (suc i) end log at is =
+      told_failed (worker + 1) parts outcomes ends lw ls are.1 i end log at is
+  told_failed worker _ _ _ _ _ are i end log at is = absurd are
+
+  pub told_flushed : (worker : ℕ) (parts : List Part) (outcomes : List (List Outcome)) (ends : List LogEnd)
+      (logs_was logs : List LogState) → AreTold round worker parts outcomes ends logs_was logs
+      → (i : ℕ) (log : LogState) → slice_get logs i ≡ Some log → log.journal.down ≡ None → log.journal.lines ≡ []
+  told_flushed worker [] [] [] [] [] are i log is = absurd cc
+  told_flushed worker (p ∷ parts) (o ∷ outcomes) (e ∷ ends) (a ∷ lw) (b ∷ ls) are zero log is =
+      at_first (λ (x : LogState). x.journal.down ≡ None → x.journal.lines ≡ []) b log is are.0.flushed
+  told_flushed worker (p ∷ parts) (o ∷ outcomes) (e ∷ ends) (a ∷ lw) (b ∷ ls) are (suc i) log is =
+      told_flushed (worker + 1) parts outcomes ends lw ls are.1 i log is
+  told_flushed worker _ _ _ _ _ are i log is = absurd are
+
+module _ {D : Type 0} (tells : D → Option (List ℕ)) (clock : D → ℕ) (image_at : D → ℕ → List ℕ → Type 0)
+    (faults : D → ℕ) (round : Round) (epoch : ℕ) where
+  pub left_many : (worker : ℕ) (parts : List Part) (logs_was logs : List LogState) (banks_was banks : List D)
+      → AreLeft tells clock image_at faults round epoch worker parts logs_was logs banks_was banks
+      → (length logs ≡ length logs_was) × (length banks ≡ length banks_was)
+  left_many worker [] [] [] [] [] are = (refl, refl)
+  left_many worker (p ∷ parts) (a ∷ lw) (b ∷ ls) (c ∷ bw) (d ∷ bs) are =
+      let rest = left_many (worker + 1) parts lw ls bw bs are.2 in (ap suc rest.0, ap suc rest.1)
+  left_many worker _ _ _ _ _ are = absurd are
+
+  pub left_at : (worker : ℕ) (parts : List Part) (logs_was logs : List LogState) (banks_was banks : List D)
+      → AreLeft tells clock image_at faults round epoch worker parts logs_was logs banks_was banks
+      → (i : ℕ) (share : Share) (old new : LogState) (before now : D) → slice_get (shares_of parts) i ≡ Some share
+      → slice_get logs_was i ≡ Some old → slice_get logs i ≡ Some new
+      → slice_get banks_was i ≡ Some before → slice_get banks i ≡ Some now
+      → LeftBy tells clock image_at faults epoch epoch share.logged share.refusal old new before now
+  left_at worker [] [] [] [] [] are i share old new before now at was is bank_was bank_is = absurd cc
+  left_at worker (p ∷ parts) (a ∷ lw) (b ∷ ls) (c ∷ bw) (d ∷ bs) are zero share old new before now at was is bank_was
+      bank_is =
+      at_first (λ (q : Share). LeftBy tells clock image_at faults epoch epoch q.logged q.refusal old new before now)
+      (share_of p) share at
+      (at_first (λ x. LeftBy tells clock image_at faults epoch epoch
+      (logged_of p.ran) p.refusal x new before now) a old was
+      (at_first (λ x. LeftBy tells clock image_at faults epoch epoch
+      (logged_of p.ran) p.refusal a x before now) b new is
+      (at_first (λ x. LeftBy tells clock image_at faults epoch epoch
+      (logged_of p.ran) p.refusal a b x now) c before bank_was
+      (at_first (λ x. LeftBy tells clock image_at faults epoch epoch (logged_of p.ran) p.refusal a b c x) d now bank_is
+      are.0))))
+  left_at worker (p ∷ parts) (a ∷ lw) (b ∷ ls) (c ∷ bw) (d ∷ bs) are (suc i) share old new before now at was is bank_was
+      bank_is = left_at (worker + 1) parts lw ls bw bs are.2 i share old new before now at was is bank_was bank_is
+  left_at worker _ _ _ _ _ are i share old new before now at was is bank_was bank_is = absurd are
+
+  pub front_at : (worker : ℕ) (parts : List Part) (logs_was logs : List LogState) (banks_was banks : List D)
+      → AreLeft tells clock image_at faults round epoch worker parts logs_was logs banks_was banks
+      → (i place : ℕ) (share : Share) → place ≡ worker + i → slice_get (shares_of parts) i ≡ Some share
+      → IsFront share.lines (lines_of_worker round place)
+  front_at worker [] [] [] [] [] are i place share here at = absurd cc
+  front_at worker (p ∷ parts) (a ∷ lw) (b ∷ ls) (c ∷ bw) (d ∷ bs) are zero place share here at =
+      let same : place ≡ worker = omega (arith, here) in
+      subst (λ w. IsFront share.lines (lines_of_worker round w)) (sym same)
+      (at_first (λ (q : Share). IsFront q.lines (lines_of_worker round worker)) (share_of p) share at are.1)
+  front_at worker (p ∷ parts) (a ∷ lw) (b ∷ ls) (c ∷ bw) (d ∷ bs) are (suc i) place share here at =
+      front_at (worker + 1) parts lw ls bw bs are.2 i place share (omega (arith, here)) at
+  front_at worker _ _ _ _ _ are i place share here at = absurd are

@@ -1,0 +1,130 @@
+-- A round's lines on seats, from the ends of all seats and the count behind them.
+use Rattle.std.proofs.Common.{◌≡◌, ◌∙◌, sym, ap, subst, refl, ℕ, ◌+◌, ◌/◌, ◌%◌, ◌*◌, ◌^◌, ◌<◌, ◌≤◌, Bool, List, []}
+use Rattle.std.proofs.Common.{◌∷◌, length, arith, map}
+use Rattle.std.proofs.Common.{Option, Some, None, Result, Ok, Err}
+use Rattle.std.specs.Prelude.{OnOk, slice_get, sum_by}
+use Rattle.lists.specs.declared.memory.Memory.{Memory}
+use Rattle.serial_model.specs.declared.number.Number.{Number}
+use Rattle.script_grammar.specs.Script.{Round, worker_lines}
+use Rattle.engine_words.specs.Steps.{HasAudited}
+use Rattle.engine_words.specs.declared.layout.Layout.{Layout}
+use Rattle.engine_words.specs.declared.view.View.{View}
+use Rattle.tx_script.specs.declared.outcome.Outcome.{Outcome}
+use Rattle.worker_cells.specs.declared.cell.LogEnd.{LogEnd}
+use Rattle.worker_logs.specs.Logs.{LogState}
+use Rattle.shared_rounds.specs.Contents.{after_commits}
+use Rattle.shared_rounds.specs.Ended.{AreTold, EndedSoFar}
+use Rattle.shared_rounds.specs.Parts.{IsClockOf, IsRound, clock_number}
+use Rattle.shared_rounds.specs.SharedState.{IsKept, conflicts_in, state_of}
+use Rattle.shared_rounds.specs.Shares.{RunsShares, Share}
+use Rattle.shared_rounds.specs.Standing.{Standing}
+use Rattle.shared_rounds.specs.Workers.{LeftBy, RunsOver, RunsWorkers, StopsWorkers}
+use Rattle.shared_rounds.proofs.Counted.{now_layout, split}
+use Rattle.shared_rounds.proofs.Joined.{shares_of}
+use Rattle.shared_rounds.proofs.Numbers.{same_epoch}
+use Rattle.shared_rounds.proofs.Ordered.{standing_at}
+use Rattle.shared_rounds.proofs.Renewed.{state_agrees, state_now}
+use Rattle.shared_rounds.proofs.Shared.{round_runs}
+use Rattle.shared_rounds.proofs.Told.{front_at, left_at, left_many, told_failed, told_flushed, told_idle, told_lines}
+use Rattle.shared_rounds.proofs.Told.{lines_from}
+use Rattle.shared_rounds.proofs.Told.{told_outcomes, told_refusals}
+
+-- where the engine stands, as the keeper's view and the clock have it
+abbrev pub stands : View → Number → Bool → Standing
+stands v clock done = standing_at v (state_of v) clock (conflicts_in v.refused) done
+
+module _ {D : Type 0} (tells : D → Option (List ℕ)) (clock : D → ℕ) (image_at : D → ℕ → List ℕ → Type 0)
+    (faults : D → ℕ) (tries : ℕ) (round : Round) (was ended now : View) (logs_was logs : List LogState)
+    (banks_was banks : List D) (memory : Result (Unit {0}) Memory) (outcomes : List (List Outcome)) (ends : List LogEnd)
+    (so : EndedSoFar tells clock image_at faults tries round was ended 8 logs_was logs banks_was banks memory outcomes
+    ends)
+    (kept : IsKept was) (word count : ℕ) (audited : HasAudited ended word count now) where
+  abbrev pub round_is : IsRound tries was now so.parts
+  round_is = record {
+    arrays = kept.arrays;
+    counted = kept.counted;
+    eight = so.many;
+    ended = ended;
+    parts_are = so.are;
+    layout = so.layout;
+    role = so.role;
+    made = so.made;
+    epoch = so.epoch;
+    gathers = so.gathers;
+    seen = so.seen;
+    conflicts = so.conflicts;
+    clock = word;
+    count = count;
+    audited = audited;
+  }
+
+  module _ (first : Number) (at : IsClockOf first was) (done : Bool) (some : 1 ≤ tries) where
+    runs_so : RunsShares tries (stands was first done) (stands now (clock_number word) done) (shares_of so.parts)
+    runs_so =
+        subst (λ (t : Standing). RunsShares tries (stands was first done) t (shares_of so.parts)) same
+        (round_runs tries was now so.parts round_is (state_of was) first done some (state_agrees was) at)
+      where
+        same : standing_at was (after_commits (state_of was) (split tries was now so.parts round_is).new)
+            (clock_number word)
+            (conflicts_in now.refused) done ≡ stands now (clock_number word) done
+        same =
+            ap (λ s. standing_at was s (clock_number word) (conflicts_in now.refused) done) (sym
+            (state_now tries was now so.parts round_is))
+            ∙ ap (λ (l : Layout). let t : Standing = record {
+              decls = l.decls;
+              state = state_of now;
+              clock = clock_number word;
+              conflicts = conflicts_in now.refused;
+              ended = done;
+            } in t) (sym (now_layout tries was now so.parts round_is))
+
+    pub over_so : RunsOver tells clock image_at faults tries (stands was first done) (stands now
+        (clock_number word) done)
+        (shares_of so.parts) logs_was logs banks_was banks
+    over_so =
+        let many = left_many tells clock image_at faults round was.epoch 0 so.parts logs_was logs banks_was banks
+        so.left in
+        record {
+          runs = runs_so;
+          logs_length = many.0;
+          banks_length = many.1;
+          each = λ i share old new before bank place was_at is_at bank_was bank_is.
+              subst (λ e. LeftBy tells clock image_at faults e (word / 2 ^ 40) share.logged share.refusal old new
+              before bank)
+              (sym at.epoch)
+              (subst (λ e. LeftBy tells clock image_at faults was.epoch e share.logged share.refusal old new before
+              bank)
+              (sym (same_epoch tries was now so.parts round_is))
+              (left_at tells clock image_at faults round was.epoch 0 so.parts logs_was logs banks_was banks so.left i
+              share old
+              new before bank place was_at is_at bank_was bank_is));
+        }
+
+    -- all lines were run
+    pub workers_run : AreTold round 0 so.parts outcomes ends logs_was logs
+        → word % 2 ^ 40 ≤ first.draw + tries * sum_by length outcomes
+        → RunsWorkers tells clock image_at faults tries round (stands was first done) (stands now
+        (clock_number word) done)
+        outcomes ends logs_was logs banks_was banks
+    workers_run told few = record {
+      shares = shares_of so.parts;
+      over = over_so;
+      lines = told_lines round 0 so.parts outcomes ends logs_was logs told ∙ ap (lines_from round 0) so.many;
+      drawn = few;
+      told = told_outcomes round 0 so.parts outcomes ends logs_was logs told;
+      idle = told_idle round 0 so.parts outcomes ends logs_was logs told;
+      ends_failed = told_failed round 0 so.parts outcomes ends logs_was logs told;
+      flushed = λ i log less is. told_flushed round 0 so.parts outcomes ends logs_was logs told i log is;
+      ends_are = told_refusals round 0 so.parts outcomes ends logs_was logs told;
+    }
+
+    -- some first ones of each worker were
+    pub workers_stop : StopsWorkers tells clock image_at faults tries round (stands was first done)
+        (stands now (clock_number word) done) logs_was logs banks_was banks
+    workers_stop = record {
+      shares = shares_of so.parts;
+      over = over_so;
+      fronts = λ i share place. front_at tells clock image_at faults round was.epoch 0 so.parts logs_was logs
+          banks_was banks
+          so.left i i share (omega arith) place;
+    }

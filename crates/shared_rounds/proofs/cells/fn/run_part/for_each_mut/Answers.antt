@@ -1,0 +1,12 @@
+use Rattle.shared_rounds.proofs.cells.fn.run_part.for_each_mut.Goals as goal
+
+pub run_cell-requires : goal.run_cell-requires
+run_cell-requires g c = record {
+  of = c.requires.1.of;
+  cell = c.requires.1.ready;
+  worker = (c.requires.1.role, c.requires.1.small);
+  lines = c.requires.1.lines;
+  arrays = c.requires.1.arrays;
+  outcomes = c.requires.1.outcomes;
+  tries = c.requires.0;
+}

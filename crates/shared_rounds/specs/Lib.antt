@@ -1,0 +1,14 @@
+pub mod Standing
+pub mod Changes
+pub mod Shares
+pub mod Workers
+pub mod Contents
+pub mod SharedState
+pub mod Parts
+pub mod Left
+pub mod Seated
+pub mod Seating
+pub mod Ended
+pub mod Lines
+pub mod Gathers
+pub mod Rooms

@@ -1,0 +1,34 @@
+-- What comes of the workers' lines of a round, by what the call answers.
+use Rattle.std.specs.Prelude.{ℕ, Bool, List, Option, Result, Ok, Err}
+use Rattle.lists.specs.declared.memory.Memory.{Memory}
+use Rattle.script_grammar.specs.Script.{Round}
+use Rattle.worker_logs.specs.Logs.{LogState}
+use Rattle.shared_rounds.specs.SharedState.{SharedState}
+use Rattle.shared_rounds.specs.Standing.{Standing}
+use Rattle.shared_rounds.specs.Workers.{RunsWorkers, StopsWorkers}
+use Rattle.shared_rounds.specs.declared.ends.WorkersRan.{WorkersRan}
+
+-- an engine of words as a standing, in a run that has ended or goes on
+abbrev pub standing : Bool → SharedState → Standing
+standing ended s = record {
+  decls = s.decls;
+  state = s.state;
+  clock = s.clock;
+  conflicts = s.conflicts;
+  ended = ended;
+}
+
+module _ {D : Type 0} (tells : D → Option (List ℕ)) (clock : D → ℕ) (image_at : D → ℕ → List ℕ → Type 0)
+    (faults : D → ℕ) where
+  -- All lines were run, each so often at most; or some first ones of each worker, where memory was wanted.
+  abbrev pub Come : ℕ → Round → Standing → Standing → List LogState → List LogState → List D → List D
+      → Result WorkersRan Memory → Type 0
+  Come tries round s t logs_was logs banks_was banks (Ok ran) =
+      RunsWorkers tells clock image_at faults tries round s t ran.outcomes ran.ends.items logs_was logs banks_was banks
+  Come tries round s t logs_was logs banks_was banks (Err memory) =
+      StopsWorkers tells clock image_at faults tries round s t logs_was logs banks_was banks
+
+  -- That as a record, which a proof can carry over to equal logs and log files.
+  pub record LinesCome (tries : ℕ) (round : Round) (s t : Standing) (logs_was logs : List LogState)
+      (banks_was banks : List D) (result : Result WorkersRan Memory) : Type 0 where
+    pub come : Come tries round s t logs_was logs banks_was banks result

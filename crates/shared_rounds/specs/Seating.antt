@@ -1,0 +1,30 @@
+-- The keeper's view as workers are seated.
+use Rattle.std.specs.Prelude.{◌≡◌, ◌<◌, ◌≤◌, ◌+◌, ℕ, zero, suc, List, [], ◌∷◌, ◌++◌, get_or, length}
+use Rattle.serial_model.specs.Decls.{AreDecls}
+use Rattle.engine_words.specs.Views.{IsResting, bare_seat}
+use Rattle.engine_words.specs.declared.view.Role.TheVariants.{Keeper}
+use Rattle.engine_words.specs.declared.view.View.{View}
+
+-- the keeper's view with these workers seated
+abbrev pub with_made : List ℕ → View → View
+with_made workers v = record v { made = workers }
+
+-- so many workers, the last of which is this one, the greatest number first
+abbrev pub seats_from : ℕ → ℕ → List ℕ
+seats_from zero low = []
+seats_from (suc n) low = seats_from n (low + 1) ++ low ∷ []
+
+-- nobody is seated, and no worker's seat has a transaction
+pub record CanSeat (v : View) : Type 0 where
+  pub role : v.role ≡ Keeper
+  pub made : v.made ≡ []
+  pub decls : AreDecls v.layout.decls
+  pub draws : 1 ≤ v.layout.first.draw
+  pub parked : (worker : ℕ) → worker < 8 → IsResting (get_or v.parked worker bare_seat)
+
+-- All eight workers are seated by the keeper whose view was this one.
+pub record StandsFor (was now : View) : Type 0 where
+  pub is : now ≡ with_made (seats_from 8 0) was
+  pub role : was.role ≡ Keeper
+  pub parked_are : length was.parked ≡ 8
+  pub parked : (worker : ℕ) → worker < 8 → IsResting (get_or was.parked worker bare_seat)

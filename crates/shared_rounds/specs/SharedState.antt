@@ -1,0 +1,119 @@
+-- What an engine of words is between two rounds, as the pass of the maintenance thread knows it.
+use Rattle.std.specs.Prelude.{◌≡◌, ◌+◌, ◌-◌, ◌<◌, ◌≤◌, ◌&&◌, ℕ, Bool, true, false, List, [], ◌∷◌, filter, length}
+use Rattle.std.specs.Prelude.{Contains, Some, get_or}
+use Rattle.std.specs.List.{list_all}
+use Rattle.std.specs.FinMap.{empty, entries}
+use Rattle.views.specs.Sums.{total}
+use Rattle.serial_model.specs.declared.decl.Decl.{Decl}
+use Rattle.serial_model.specs.declared.decl.Decl.TheVariants.{Array, Tree}
+use Rattle.serial_model.specs.declared.key.Key.{Key}
+use Rattle.serial_model.specs.declared.number.Number.{Number}
+use Rattle.serial_model.specs.Decls.{AreDecls}
+use Rattle.serial_model.specs.Numbers.{IsNumber}
+use Rattle.serial_model.specs.State.{State}
+use Rattle.homes.specs.declared.places.Content.{Content}
+use Rattle.commit_core.specs.declared.attempt.Attempt.{Attempt}
+use Rattle.commit_core.specs.CoreState.{is_decided}
+use Rattle.commit_core.specs.Keys.{content_of}
+use Rattle.commit_core.specs.Sound.Numbers.{EachOnce}
+use Rattle.serial_bridge.specs.WriteSets.{HasNoTree}
+use Rattle.engine_words.specs.declared.engine.Engine.{Engine}
+use Rattle.engine_words.specs.declared.view.Refused.{Refused}
+use Rattle.engine_words.specs.declared.view.Refused.TheVariants.{Conflict, Wide, NumberLimit}
+use Rattle.engine_words.specs.declared.view.Role.TheVariants.{Keeper}
+use Rattle.engine_words.specs.declared.view.View.{View}
+use Rattle.engine_words.specs.Between.{counts}
+use Rattle.engine_words.specs.Layout.{has_record}
+use Rattle.engine_words.specs.Passes.{view, IsPassOf, Pass}
+use Rattle.engine_words.specs.Steps.{AreSerial}
+use Rattle.engine_words.specs.Views.{bare_seat, IsResting}
+use Rattle.shared_rounds.specs.Contents.{after_commits, with_value}
+
+-- ---- what an engine begins with
+
+abbrev pub is_array : Decl → Bool
+is_array (Array id size) = true
+is_array (Tree id) = false
+
+-- all storages are arrays, and each key of the state is one of theirs
+abbrev pub are_arrays : List Decl → State → Bool
+are_arrays decls s = list_all is_array decls && list_all (λ e. has_record decls e.0) (entries s)
+
+-- what was saved before the first number has its last epoch, and this draw
+abbrev pub saved_number : Number → Number
+saved_number first = record { epoch = first.epoch - 1; draw = 1 }
+
+-- a key's value, with this number
+abbrev pub stands_with : Number → Key × ℕ → Key × Content
+stands_with number e = (e.0, content_of number (Some e.1))
+
+-- ---- what it is between two rounds
+
+-- the values of what stands at keys at first, where the first of a key counts
+abbrev pub opened : List (Key × Content) → State
+opened [] = empty
+opened (e ∷ more) = with_value (opened more) e.0 e.1.value
+
+-- what the keeper's own commits leave, which are all that count where nobody is seated
+abbrev pub state_of : View → State
+state_of v = after_commits (opened v.layout.opening) v.mine
+
+-- the refusal is a conflict
+abbrev pub was_conflict : Refused → Bool
+was_conflict (Conflict word expected seen) = true
+was_conflict (Wide set) = false
+was_conflict (NumberLimit clock) = false
+
+-- how many of the refusals are conflicts
+abbrev pub conflicts_in : List Refused → ℕ
+conflicts_in refused = length (filter was_conflict refused)
+
+-- the storages, their contents, the number that the next commit gets, the attempts that count, in order of number, and
+-- how many tries were refused with a conflict so far
+pub record SharedState : Type 0 where
+  pub decls : List Decl
+  pub state : State
+  pub clock : Number
+  pub mine : List Attempt
+  pub conflicts : ℕ
+
+-- what the keeper's pass and the clock are
+abbrev pub shared_by : Pass → Number → SharedState
+shared_by keeper clock = record {
+  decls = (view keeper).layout.decls;
+  state = state_of (view keeper);
+  clock = clock;
+  mine = (view keeper).mine;
+  conflicts = conflicts_in (view keeper).refused;
+}
+
+-- What a count told of the keeper's view, with nobody seated: its own commits are those that count.
+pub record IsCounted (v : View) : Type 0 where
+  pub own : v.mine ≡ filter (counts v.decided) v.history
+  pub all : (h : Number → ℕ) → total (λ (a : Attempt). h a.number) v.mine ≡ total h v.decided
+  pub drawn : (n : Number) → is_decided v.decided n ≡ true → (a : Attempt) × Contains v.history a × (a.number ≡ n)
+
+-- What the keeper's pass knows between two rounds: nobody is seated, and no worker's seat has a transaction; each
+-- storage is an array; and the attempts that count are its own, and serial.
+pub record IsKept (v : View) : Type 0 where
+  pub role : v.role ≡ Keeper
+  pub made : v.made ≡ []
+  pub decls : AreDecls v.layout.decls
+  pub arrays : HasNoTree v.layout.decls
+  pub first : IsNumber v.layout.first
+  pub counted : IsCounted v
+  pub once : EachOnce v.decided
+  pub serial : AreSerial v.layout.opening v.history v.decided
+  pub parked_are : length v.parked ≡ 8
+  pub parked : (worker : ℕ) → worker < 8 → IsResting (get_or v.parked worker bare_seat)
+
+-- The words with the keeper's pass, the storages, and the clock as it was last loaded: its draw is at most the one
+-- behind all that the pass has seen.
+pub record AreKept (words : Engine) (keeper : Pass) (decls : List Decl) (clock : Number) : Type 0 where
+  pub of : IsPassOf words keeper
+  pub kept : IsKept (view keeper)
+  pub decls_are : decls ≡ (view keeper).layout.decls
+  pub number : IsNumber clock
+  pub epoch : clock.epoch ≡ (view keeper).epoch
+  pub from : (view keeper).layout.first.draw ≤ clock.draw
+  pub to : clock.draw ≤ (view keeper).layout.first.draw + length (view keeper).history

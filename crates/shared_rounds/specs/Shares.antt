@@ -1,0 +1,81 @@
+-- What the workers' lines of a round come to, whichever engine ran them: what came of each line, and an order in which
+-- the commits are serial. Nothing is said of the order in which the workers ran: their commits may lie among each
+-- other, in any order of their numbers.
+use Rattle.std.specs.Prelude.{◌≡◌, ◌<◌, ◌≤◌, ◌+◌, ℕ, zero, suc, List, [], ◌∷◌, filter, length, map, sum_by, Option}
+use Rattle.std.specs.List.{AllByRecursion}
+use Rattle.std.specs.List.Sorted.{IsPermutation}
+use Rattle.serial_model.specs.History.{Entry, InOrder, IsSerialRun, Rises, state_after_all}
+use Rattle.serial_model.specs.declared.decl.Decl.{Decl}
+use Rattle.serial_model.specs.declared.number.Commit.{Commit}
+use Rattle.serial_model.specs.declared.op.Op.{Op}
+use Rattle.wire_form.specs.LogFile.{IsLineOf}
+use Rattle.tx_script.specs.Causes.{UnrunLast}
+use Rattle.tx_script.specs.Run.{IsBetween, LogRefusal, TryRefusal, entries_of_workers, of_worker}
+use Rattle.tx_script.specs.Tries.{AllCome, is_conflict}
+use Rattle.tx_script.specs.declared.outcome.Outcome.{Outcome}
+use Rattle.shared_rounds.specs.Changes.{AreLogged}
+use Rattle.shared_rounds.specs.Standing.{Standing}
+
+-- A worker's share of a round: its lines, what came of each of them, the refusals of the tries of each, what refused
+-- its log, if anything did, and what its commits logged. The engine counts the conflicts among the refusals
+-- (`RunsShares.conflicts`).
+pub record Share : Type 0 where
+  pub lines : List (List Op)
+  pub outcomes : List Outcome
+  pub tries_refused : List (List TryRefusal)
+  pub refusal : Option LogRefusal
+  pub logged : List Commit
+
+-- what the worker of this number logged
+abbrev pub logged_in : List Share → ℕ → List Commit
+logged_in [] n = []
+logged_in (share ∷ shares) zero = share.logged
+logged_in (share ∷ shares) (suc n) = logged_in shares n
+
+-- A worker's share: each line has an outcome with its cause, behind a line that was left out none was run, and what
+-- was logged are log lines.
+pub record IsShare (decls : List Decl) (first last tries : ℕ) (share : Share) : Type 0 where
+  pub one_each : length share.outcomes ≡ length share.lines
+  pub come : AllCome first last tries share.refusal share.outcomes share.tries_refused
+  pub unrun_last : UnrunLast share.outcomes
+  pub lines_are : AllByRecursion (IsLineOf decls) share.logged
+  pub none : share.lines ≡ [] → share.logged ≡ []
+
+-- ---- the commits
+
+-- the commits of the shares in a round of this index, one worker after another
+abbrev pub entries_in : ℕ → List Share → List Entry
+entries_in index shares =
+    entries_of_workers index 0 (map (λ (share : Share). share.outcomes) shares)
+    (map (λ (share : Share). share.lines) shares)
+
+-- In one order of them the commits are a serial run from s to t, with numbers that rise and lie between the clocks.
+-- Each worker's numbers rise along its lines, and its log has what its own commits changed, in that order.
+pub record AreOrdered (index : ℕ) (s t : Standing) (shares : List Share) : Type 0 where
+  pub ordered : List Entry
+  pub same : IsPermutation (entries_in index shares) ordered
+  pub serial : IsSerialRun s.decls s.state ordered
+  pub draws : InOrder (λ e f. e.number.draw < f.number.draw) ordered
+  pub after : t.state ≡ state_after_all s.decls s.state ordered
+  pub numbers : AllByRecursion (λ e. IsBetween s.clock t.clock e.number) ordered
+  pub workers : (worker : ℕ) → Rises (of_worker worker (entries_in index shares))
+  pub logged : (worker : ℕ) → worker < 8 → AreLogged s.decls worker s.state ordered (logged_in shares worker)
+
+-- how many of the refusals are conflicts, and how many of those of all workers' lines are
+abbrev pub conflicts_among : List TryRefusal → ℕ
+conflicts_among refusals = length (filter is_conflict refusals)
+
+abbrev pub all_conflicts : List (List (List TryRefusal)) → ℕ
+all_conflicts refused = sum_by (λ of_worker. sum_by conflicts_among of_worker) refused
+
+-- The lines of eight workers were run from s to t, each with so many tries. Contents, clock and the count of conflicts
+-- change alone; the epoch stays, as long as the maintenance thread's lines don't run beside them. The engine counted
+-- each conflict that is told of a line, and no others.
+pub record RunsShares (tries : ℕ) (s t : Standing) (shares : List Share) : Type 0 where
+  pub workers : length shares ≡ 8
+  pub only : t ≡ record s { state = t.state; clock = t.clock; conflicts = t.conflicts }
+  pub epoch : t.clock.epoch ≡ s.clock.epoch
+  pub draw : s.clock.draw ≤ t.clock.draw
+  pub conflicts : t.conflicts ≡ s.conflicts + all_conflicts (map (λ (share : Share). share.tries_refused) shares)
+  pub each : AllByRecursion (IsShare s.decls s.clock.draw t.clock.draw tries) shares
+  pub ordered : (index : ℕ) → AreOrdered index s t shares

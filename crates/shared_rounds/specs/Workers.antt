@@ -1,0 +1,102 @@
+-- What the workers' lines of a round leave of their logs and log files, whichever engine ran them.
+use Rattle.std.specs.Prelude.{◌≡◌, ◌<◌, ◌≤◌, ◌+◌, ◌*◌, ℕ, Bool, true, false, List, [], ◌∷◌, length, map, sum_by}
+use Rattle.std.specs.Prelude.{Option, Some, None, is_some, slice_get}
+use Rattle.std.specs.Option.{option_map}
+use Rattle.lists.specs.Fronts.{IsFront}
+use Rattle.serial_model.specs.declared.number.Commit.{Commit}
+use Rattle.serial_model.specs.declared.op.Op.{Op}
+use Rattle.script_grammar.specs.Script.{Round, lines_of_worker, worker_lines}
+use Rattle.log_writer.specs.Journal.{JournalState, Reaches, end_of}
+use Rattle.tx_script.specs.Causes.{longest_line}
+use Rattle.tx_script.specs.Run.{LogRefusal, LogFailed, LogFull}
+use Rattle.tx_script.specs.declared.outcome.Outcome.{Outcome}
+use Rattle.worker_logs.specs.Logs.{LogState, idle_log}
+use Rattle.worker_logs.specs.Rows.{Blames, KeepsMarkIn, LogTakes}
+use Rattle.worker_cells.specs.declared.cell.LogEnd.{LogEnd}
+use Rattle.shared_rounds.specs.Shares.{RunsShares, Share}
+use Rattle.shared_rounds.specs.Standing.{Standing}
+
+-- ---- workers without a line
+
+-- a worker with these lines has one
+abbrev pub is_busy : List (List Op) → Bool
+is_busy [] = false
+is_busy (ops ∷ lines) = true
+
+-- the log of a worker that is busy, or not
+abbrev pub idle_if_not : Bool → LogState → LogState
+idle_if_not true log = log
+idle_if_not false log = idle_log log
+
+-- the log of a worker with these lines as a round begins: without one it holds no epoch back
+abbrev pub idled : List (List Op) → LogState → LogState
+idled lines log = idle_if_not (is_busy lines) log
+
+-- ---- refusals
+
+-- what refused a log, by whether its file failed and the length at which it was full
+abbrev pub refused_as : Bool → Option ℕ → Option LogRefusal
+refused_as true full = Some LogFailed
+refused_as false full = option_map LogFull full
+
+abbrev pub refusal_of : LogEnd → Option LogRefusal
+refusal_of end = refused_as end.failed end.full
+
+-- What refused a log tells of its journal: it is down, or with one line more its file might get longer than it may;
+-- else it is up.
+abbrev pub IsRefusedBy : Option LogRefusal → JournalState → Type 0
+IsRefusedBy None journal = journal.down ≡ None
+IsRefusedBy (Some LogFailed) journal = is_some journal.down ≡ true
+IsRefusedBy (Some (LogFull size)) journal = (size ≡ end_of journal) × (journal.limit < size + longest_line)
+
+module _ {D : Type 0} (tells : D → Option (List ℕ)) (clock : D → ℕ) (image_at : D → ℕ → List ℕ → Type 0)
+    (faults : D → ℕ) where
+  -- What a worker's share leaves of its log, at epochs of the clock from the first of these to the last: it took what
+  -- was logged, and no line behind what refused it.
+  pub record LeftBy (low high : ℕ) (logged : List Commit) (refusal : Option LogRefusal) (old new : LogState)
+      (before now : D) : Type 0 where
+    pub takes : LogTakes tells clock image_at low high logged old new before now
+    pub mark : KeepsMarkIn low high old new
+    pub blames : Blames faults before now new.journal
+    pub reaches : Reaches tells now new.journal
+    pub limit : new.journal.limit ≡ old.journal.limit
+    pub refused : IsRefusedBy refusal new.journal
+    pub failed : is_some new.journal.down ≡ true → refusal ≡ Some LogFailed
+
+  -- The shares of eight workers ran over their logs and log files, from s to t: each log took what its own worker's
+  -- commits changed, and nothing else.
+  pub record RunsOver (tries : ℕ) (s t : Standing) (shares : List Share) (logs_was logs : List LogState)
+      (banks_was banks : List D) : Type 0 where
+    pub runs : RunsShares tries s t shares
+    pub logs_length : length logs ≡ length logs_was
+    pub banks_length : length banks ≡ length banks_was
+    pub each : (i : ℕ) (share : Share) (old new : LogState) (before now : D) → slice_get shares i ≡ Some share
+        → slice_get logs_was i ≡ Some old → slice_get logs i ≡ Some new
+        → slice_get banks_was i ≡ Some before → slice_get banks i ≡ Some now
+        → LeftBy s.clock.epoch t.clock.epoch share.logged share.refusal old new before now
+
+  -- All lines of a round were run, or left out: what is told of them, and what was found of each log. No more numbers
+  -- were drawn than the lines have tries. The log of a worker without a line is as it was; where a log is up none of its
+  -- lines waits.
+  pub record RunsWorkers (tries : ℕ) (round : Round) (s t : Standing) (outcomes : List (List Outcome))
+      (ends : List LogEnd) (logs_was logs : List LogState) (banks_was banks : List D) : Type 0 where
+    pub shares : List Share
+    pub over : RunsOver tries s t shares logs_was logs banks_was banks
+    pub lines : map (λ (share : Share). share.lines) shares ≡ worker_lines round
+    pub told : outcomes ≡ map (λ (share : Share). share.outcomes) shares
+    pub drawn : t.clock.draw ≤ s.clock.draw + tries * sum_by length outcomes
+    pub idle : (i : ℕ) (share : Share) (old new : LogState) → slice_get shares i ≡ Some share → share.lines ≡ []
+        → slice_get logs_was i ≡ Some old → slice_get logs i ≡ Some new → new ≡ old
+    pub ends_failed : (i : ℕ) (end : LogEnd) (log : LogState) → slice_get ends i ≡ Some end
+        → slice_get logs i ≡ Some log → end.failed ≡ is_some log.journal.down
+    pub flushed : (i : ℕ) (log : LogState) → i < 8 → slice_get logs i ≡ Some log → log.journal.down ≡ None
+        → log.journal.lines ≡ []
+    pub ends_are : map refusal_of ends ≡ map (λ (share : Share). share.refusal) shares
+
+  -- Memory was wanted: some first lines of each worker were run.
+  pub record StopsWorkers (tries : ℕ) (round : Round) (s t : Standing) (logs_was logs : List LogState)
+      (banks_was banks : List D) : Type 0 where
+    pub shares : List Share
+    pub over : RunsOver tries s t shares logs_was logs banks_was banks
+    pub fronts : (i : ℕ) (share : Share) → slice_get shares i ≡ Some share
+        → IsFront share.lines (lines_of_worker round i)

@@ -73,7 +73,7 @@ module _ {D : Type 0} (v : Vaults D) where
 
   -- the run of a script that was read out
   pub script_came : {Shows : List Ran → Ending → Type 0} (options : RunOptions) (had left : Option Bytes) (script : Script)
-      → ReadsText had left (Ok script) → RunsScript v options.snap script Shows → Came v (Run options) had left Shows
+      → ReadsText had left (Ok script) → RunsScript v options.snap options.tries script Shows → Came v (Run options) had left Shows
   script_came options had left script text runs = record {
     bytes = text.bytes;
     are_bytes = text.are_bytes;
@@ -95,24 +95,25 @@ module _ {D : Type 0} (v : Vaults D) where
   }
 
   -- what a stop leaves behind a run in brief, also while the vault is read for its sum
-  stops_behind : (mid : Vault D) (rans : List Ran) (ending : Ending) (total : Option ℕ) (decls : List Decl)
-      (commits : List Entry) (opening : Opening) (t : State) → SumsUp v mid rans t ending total
+  stops_behind : (mid : Vault D) (rans : List Ran) (ended : Ending) (total : Option ℕ) (ending : Ending) (decls : List Decl)
+      (commits : List Entry) (opening : Opening) (t : State) → SumsUp v mid rans t ended total ending
       → VaultOnlyReads v.tells v.clock v.image_at v.faults mid v.is
-      → Keeps (up_to v mid) decls commits opening t rans ending → StandsWhenStopped v decls commits opening rans
-  stops_behind mid [] ending total decls commits opening t sums reads kept = subst (λ (x : Vault D).
+      → Keeps (up_to v mid) decls commits opening t rans ended → StandsWhenStopped v decls commits opening rans
+  stops_behind mid [] ended total ending decls commits opening t sums reads kept = subst (λ (x : Vault D).
       StandsWhenStopped (vaults_of v.tells v.clock v.image_at v.faults v.was x) decls commits opening []) (sym sums.1)
       kept.stops
-  stops_behind mid (ran ∷ rans) ending total decls commits opening t sums reads kept =
+  stops_behind mid (ran ∷ rans) ended total ending decls commits opening t sums reads kept =
       kept.through_reads (λ none. cc) v.is reads
 
   -- the same of a run in brief
   pub script_in_brief : {Shows : Bytes → Ending → Type 0} (options : RunOptions) (had left : Option Bytes) (script : Script)
-      → ReadsText had left (Ok script) → RunsInBrief v options.snap script Shows → CameInBrief v options had left Shows
+      → ReadsText had left (Ok script) → RunsInBrief v options.snap options.tries script Shows → CameInBrief v options had left Shows
   script_in_brief options had left script text brief =
       let shown = brief.runs.shown in
       record {
         mid = brief.mid;
         total = brief.total;
+        ending = brief.ending;
         came = record {
           bytes = text.bytes;
           are_bytes = text.are_bytes;
@@ -134,7 +135,7 @@ module _ {D : Type 0} (v : Vaults D) where
         };
         sums = shown.0;
         reads = brief.reads;
-        stops = stops_behind brief.mid brief.runs.rans brief.runs.ending brief.total _ _ _ _ shown.0 brief.reads
+        stops = stops_behind brief.mid brief.runs.rans brief.runs.ending brief.total brief.ending _ _ _ _ shown.0 brief.reads
             brief.runs.kept;
       }
 
@@ -149,6 +150,7 @@ module _ {D : Type 0} (v : Vaults D) where
   brief_as has brief = record {
     mid = brief.mid;
     total = brief.total;
+    ending = brief.ending;
     came = record {
       bytes = brief.came.bytes;
       are_bytes = brief.came.are_bytes;
@@ -159,7 +161,7 @@ module _ {D : Type 0} (v : Vaults D) where
       full = brief.came.full;
       files = brief.came.files;
       kept = brief.came.kept;
-      shown = has (run_in_brief brief.came.rans brief.total) brief.came.ending brief.came.shown;
+      shown = has (run_in_brief brief.came.rans brief.total) brief.ending brief.came.shown;
     };
     sums = brief.sums;
     reads = brief.reads;
@@ -185,7 +187,7 @@ module _ {D : Type 0} (v : Vaults D) (whole : IsWhole v.was)
     rans = [];
     ending = ending;
     course = record { script = None; opening = nowhere; state = empty; run = (refl, refl); comes = comes; reads = reads };
-    caused = record { caused = tt; durable = tt; sequences = tt; marks = tt; draws_once = tt };
+    caused = record { caused = tt; durable = tt; sequences = tt; marks = tt; tried = tt; within = tt; once = λ tree. tt };
     full = λ found told. tt;
     files = none_over;
     kept = record {
@@ -207,13 +209,14 @@ module _ {D : Type 0} (v : Vaults D) (whole : IsWhole v.was)
   nothing_in_brief options had left bytes ending are comes reads same shown = record {
     mid = v.is;
     total = None;
+    ending = ending;
     came = record {
       bytes = bytes;
       are_bytes = are;
       rans = [];
       ending = ending;
       course = record { script = None; opening = nowhere; state = empty; run = (refl, refl); comes = comes; reads = reads };
-      caused = record { caused = tt; durable = tt; sequences = tt; marks = tt; draws_once = tt };
+      caused = record { caused = tt; durable = tt; sequences = tt; marks = tt; tried = tt; within = tt; once = λ tree. tt };
       full = λ found told. tt;
       files = none_over;
       kept = record {
@@ -226,7 +229,7 @@ module _ {D : Type 0} (v : Vaults D) (whole : IsWhole v.was)
       };
       shown = shown;
     };
-    sums = (refl, refl);
+    sums = (refl, refl, refl);
     reads = vault_reads_none v.is;
     stops = stops_untouched v reads_told [] nowhere whole same;
   }

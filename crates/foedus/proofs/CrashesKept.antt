@@ -29,7 +29,8 @@ use Rattle.recovery_core.specs.Crashes.Standing.{crash_covers, crash_stands}
 use Rattle.recovery_core.specs.VaultReads.{some_of}
 use Rattle.tx_script.specs.Run.{Ran}
 use Rattle.round_engine.specs.Crashes.{IsSameUpTo, KnowsBefore, StaysReady}
-use Rattle.round_engine.specs.Saves.{NeverFall, newest_after}
+use Rattle.worker_logs.specs.Rows.{NeverFall}
+use Rattle.round_engine.specs.Saves.{newest_after}
 use Rattle.round_engine.specs.Standing.{RuntimeState}
 use Rattle.foedus.specs.Main.{saved_in}
 use Rattle.foedus.proofs.CrashPoints.{FoundAt, PointsKept, left_at}

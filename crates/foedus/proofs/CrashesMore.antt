@@ -302,9 +302,9 @@ module _ {D : Type 0} {tells : D → Option (List ℕ)} {clock : D → ℕ} {ima
     {faults : D → ℕ} {from : Moments} {decls : List Decl} {settled saved : ℕ} {s : State} {rans : List Ran}
     {ordered : List Entry} {commits gone : ℕ → List Commit} {old new : RuntimeState} {before now : Vault D} where
   -- A round that stopped for want of memory saved nothing: each crash stands for what it stood for before.
-  pub crashes_stopped : {round : Round}
+  pub crashes_stopped : {tries : ℕ} {round : Round}
       → (ready : KeptBefore tells clock image_at from decls settled saved s rans ordered commits gone old before)
-      → (stop : StopsIn round old new)
+      → (stop : StopsIn tries round old new)
       → (leaves : LeavesVault tells clock image_at faults stop.ran stop.logged old new before now)
       → CarriesCrashes tells clock image_at stop.logged (leaves.stored ++ option_to_list leaves.failed)
       stop.ran old new before now

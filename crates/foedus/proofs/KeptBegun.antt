@@ -41,7 +41,8 @@ use Rattle.round_engine.specs.Changes.{AreLogged}
 use Rattle.round_engine.specs.Crashes.{KnowsBefore, LeavesCrashes, front_of}
 use Rattle.round_engine.specs.Ends.{epoch_joined}
 use Rattle.round_engine.specs.RanRound.{LeavesVault, LogsRan}
-use Rattle.round_engine.specs.Saves.{IsSavedBy, NeverFall, beside_after, beside_at_end}
+use Rattle.worker_logs.specs.Rows.{NeverFall}
+use Rattle.round_engine.specs.Saves.{IsSavedBy, beside_after, beside_at_end}
 use Rattle.round_engine.specs.Standing.{RuntimeState, StandsOn, beside_of, files_of}
 use Rattle.foedus.proofs.CrashPoints.{FoundAt}
 use Rattle.foedus.proofs.KeptFiles.{closed_file, item_at}

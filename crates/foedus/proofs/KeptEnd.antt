@@ -320,9 +320,9 @@ module _ {D : Type 0} {tells : D → Option (List ℕ)} {clock : D → ℕ} {ima
 
   -- A round that stopped for want of memory saved nothing: the vault stands for what it stood for before it.
   pub kept_stopped : {faults : D → ℕ} {decls : List Decl} {s : State} {saved : ℕ} {rans : List Ran}
-      {ordered : List Entry} {round : Round} {old new : RuntimeState} {before now : Vault D} (was found : Images)
+      {ordered : List Entry} {tries : ℕ} {round : Round} {old new : RuntimeState} {before now : Vault D} (was found : Images)
       → KeptSoFar tells clock image_at was decls s saved rans ordered old before
-      → StandsOn tells clock image_at old before → old.stands.ended ≡ false → (stop : StopsIn round old new)
+      → StandsOn tells clock image_at old before → old.stands.ended ≡ false → (stop : StopsIn tries round old new)
       → LeavesVault tells clock image_at faults stop.ran stop.logged old new before now
       → new.save.down ≡ None → new.store.sound ≡ true → Rises ordered → EpochsNeverFall ordered
       → AreTold tells (parts_of now) found

@@ -392,12 +392,12 @@ other_odd Even = refl
 other_odd Odd = refl
 
 module _ {D : Type 0} {tells : D → Option (List ℕ)} {clock : D → ℕ} {image_at : D → ℕ → List ℕ → Type 0} {faults : D → ℕ}
-    {found : Images} {decls : List Decl} {s : State} {saved : ℕ} {rans : List Ran} {ordered : List Entry} {round : Round}
+    {found : Images} {decls : List Decl} {s : State} {saved : ℕ} {rans : List Ran} {ordered : List Entry} {tries : ℕ} {round : Round}
     {old new : RuntimeState} {before now : Vault D} {report : Report}
     (kept : KeptSoFar tells clock image_at found decls s saved rans ordered old before)
     (stands : StandsOn tells clock image_at old before) (decls_are : old.stands.decls ≡ decls)
     (state_is : old.stands.state ≡ state_after_all decls s ordered) (going : old.stands.ended ≡ false)
-    (one : RanRound round old new report)
+    (one : RanRound tries round old new report)
     (leaves : LeavesVault tells clock image_at faults one.ran one.logged old new before now) (index : ℕ)
     (rises : Rises (ordered ++ (one.lines.run index).ordered))
     (falls : EpochsNeverFall (ordered ++ (one.lines.run index).ordered)) where
@@ -612,8 +612,8 @@ module _ {D : Type 0} {tells : D → Option (List ℕ)} {clock : D → ℕ} {ima
       damaged
 
 module _ {D : Type 0} {tells : D → Option (List ℕ)} {clock : D → ℕ} {image_at : D → ℕ → List ℕ → Type 0} {faults : D → ℕ}
-    {round : Round} {old new : RuntimeState} {before now : Vault D} {report : Report}
-    (stands : StandsOn tells clock image_at old before) (one : RanRound round old new report)
+    {tries : ℕ} {round : Round} {old new : RuntimeState} {before now : Vault D} {report : Report}
+    (stands : StandsOn tells clock image_at old before) (one : RanRound tries round old new report)
     (leaves : LeavesVault tells clock image_at faults one.ran one.logged old new before now) where
   -- Where the log files stand behind it.
   pub files_then : (f : FilesAt) → f.files ≡ files_of old → (made : List (List ℕ))

@@ -36,7 +36,8 @@ use Rattle.worker_logs.specs.declared.savepoints.Side.{Side}
 use Rattle.round_engine.specs.Changes.{AreLogged}
 use Rattle.round_engine.specs.Gleans.{RoundGleans}
 use Rattle.round_engine.specs.Logs.{AreClosedFiles}
-use Rattle.round_engine.specs.Saves.{IsSavedBy, NeverFall, beside_after, beside_at_end, newest_after}
+use Rattle.worker_logs.specs.Rows.{NeverFall}
+use Rattle.round_engine.specs.Saves.{IsSavedBy, beside_after, beside_at_end, newest_after}
 use Rattle.round_engine.specs.Sides.{other_side}
 use Rattle.round_engine.specs.Standing.{RuntimeState, beside_of, files_of}
 use Rattle.foedus.proofs.KeptFiles.{closed_file, item_at}

@@ -55,7 +55,8 @@ use Rattle.round_engine.specs.declared.report.End.{End}
 use Rattle.round_engine.specs.Logs.{AreClosedFiles, AreLogs}
 use Rattle.round_engine.specs.RanRound.{Begins, LeavesVault, LogsRan, RanRound, RunsLines}
 use Rattle.round_engine.specs.Swaps.{behind_swap, since_swap}
-use Rattle.round_engine.specs.Saves.{IsSavedBy, NeverFall, beside_at_end, newest_after, saves_told}
+use Rattle.worker_logs.specs.Rows.{NeverFall}
+use Rattle.round_engine.specs.Saves.{IsSavedBy, beside_at_end, newest_after, saves_told}
 use Rattle.round_engine.specs.Sides.{other_side}
 use Rattle.round_engine.specs.Standing.{RuntimeState, StandsOn, beside_of}
 use Rattle.round_engine.specs.declared.report.Report.{Report}
@@ -380,11 +381,11 @@ unfailed ran none = ap (list_any (is_closed ran.files)) none
 -- A round's lines, gleans and saves carry on what is kept, up to its swap.
 module _ {D : Type 0} {tells : D → Option (List ℕ)} {clock : D → ℕ} {image_at : D → ℕ → List ℕ → Type 0}
     {faults : D → ℕ} {found : Images} {decls : List Decl} {s : State} {saved : ℕ} {rans : List Ran}
-    {ordered : List Entry} {round part : Round} {old new : RuntimeState} {before now : Vault D} {ran : Ran}
+    {ordered : List Entry} {tries : ℕ} {round part : Round} {old new : RuntimeState} {before now : Vault D} {ran : Ran}
     {logged : ℕ → List Commit} (kept : KeptSoFar tells clock image_at found decls s saved rans ordered old before)
     (stands : StandsOn tells clock image_at old before) (decls_are : old.stands.decls ≡ decls)
     (state_is : old.stands.state ≡ state_after_all decls s ordered) (going : old.stands.ended ≡ false)
-    (begins : Begins round old ran) (lines : RunsLines part old new ran logged)
+    (begins : Begins tries round old ran) (lines : RunsLines part old new ran logged)
     (leaves : LeavesVault tells clock image_at faults ran logged old new before now)
     (sound : new.store.sound ≡ true) (index : ℕ)
     (rises : Rises (ordered ++ (lines.run index).ordered))
@@ -569,11 +570,11 @@ module _ {D : Type 0} {tells : D → Option (List ℕ)} {clock : D → ℕ} {ima
     {faults : D → ℕ} where
   -- A round that was run carries on what the vault keeps, whatever ended it, unless the snapshots failed.
   pub kept_more : {found : Images} {decls : List Decl} {s : State} {saved : ℕ} {rans : List Ran} {ordered : List Entry}
-      {round : Round} {old new : RuntimeState} {before now : Vault D} {report : Report}
+      {tries : ℕ} {round : Round} {old new : RuntimeState} {before now : Vault D} {report : Report}
       (kept : KeptSoFar tells clock image_at found decls s saved rans ordered old before)
       → StandsOn tells clock image_at old before → old.stands.decls ≡ decls
       → old.stands.state ≡ state_after_all decls s ordered → old.stands.ended ≡ false
-      → (one : RanRound round old new report)
+      → (one : RanRound tries round old new report)
       → LeavesVault tells clock image_at faults one.ran one.logged old new before now → new.store.sound ≡ true
       → (index : ℕ) → Rises (ordered ++ (one.lines.run index).ordered)
       → EpochsNeverFall (ordered ++ (one.lines.run index).ordered)

@@ -22,7 +22,8 @@ use Rattle.tx_script.specs.Run.{Ran}
 use Rattle.tx_script.specs.declared.answer.Answer.{Answer}
 use Rattle.tx_script.specs.declared.answer.Answer.TheVariants as answers
 use Rattle.worker_logs.specs.declared.savepoints.Beside.{Beside}
-use Rattle.round_engine.specs.Saves.{AreSaved, AreSavedIn, NeverFall, beside_after, beside_at_end, newest_after}
+use Rattle.worker_logs.specs.Rows.{NeverFall}
+use Rattle.round_engine.specs.Saves.{AreSaved, AreSavedIn, beside_after, beside_at_end, newest_after}
 
 -- ---- snapshots among the answers
 

@@ -1,3 +1,4 @@
+pub mod Here
 pub mod SameRun
 pub mod KeptWrites
 pub mod KeptValues

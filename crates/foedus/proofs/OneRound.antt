@@ -21,7 +21,6 @@ use Rattle.script_grammar.specs.declared.lines.KeeperLine.TheVariants as asks
 use Rattle.tx_script.specs.declared.answer.Answer.{Answer}
 use Rattle.tx_script.specs.declared.answer.Answer.TheVariants as answers
 use Rattle.tx_script.specs.Causes.{AnswersCaused, IsAnswerTo, KeeperAt, keeper_after}
-use Rattle.tx_script.specs.Draws.{DrawsOnce, commits_of}
 use Rattle.tx_script.specs.Run.{AdvancesTo, Ran, joined}
 use Rattle.round_engine.specs.Ends.{closed_failed, comes_to_swap, swaps}
 use Rattle.round_engine.specs.RanRound.{AreRoundMarks, RanRound}
@@ -82,7 +81,7 @@ mark_before logs clock worker log joined at =
     let one : IsJoined clock log = all_at (IsJoined clock) logs worker log joined at in ap (λ (m : Mark). m.epoch) one.marked
 
 -- the marks of a round
-pub marked : (round : Round) (old new : RuntimeState) (report : Report) (one : RanRound round old new report) → one.ran.begin ≡ old.stands.clock
+pub marked : {tries : ℕ} (round : Round) (old new : RuntimeState) (report : Report) (one : RanRound tries round old new report) → one.ran.begin ≡ old.stands.clock
     → length old.logs ≡ 8 → AllByRecursion (IsJoined old.stands.clock.epoch) old.logs → IsMarked round one.ran
 marked round old new report one begins eight joined = record {
   workers = one.begins.workers;
@@ -93,15 +92,6 @@ marked round old new report one begins eight joined = record {
       subst (λ had. AreRoundMarks (lines_of_worker round worker) had one.ran.begin.epoch one.ran.end.epoch epochs) epoch
       (one.begins.marks worker log.0 epochs log.1 at);
 }
-
--- what the engine drew, as it is told of the round
-pub drew_once : (round : Round) (old new : RuntimeState) (report : Report) (one : RanRound round old new report)
-    → new.stands.clock.draw ≡ old.stands.clock.draw + commits_of report.outcomes → DrawsOnce one.ran
-drew_once round old new report one once =
-    let begins : one.ran.begin ≡ old.stands.clock = (one.lines.run 0).clocks.0 in
-    let draw : new.stands.clock.draw ≡ one.ran.end.draw = ap (λ (n : Number). n.draw) one.clock in
-    sym draw ∙ once ∙ ap (λ n. n + commits_of report.outcomes) (sym (ap (λ (n : Number). n.draw) begins))
-    ∙ ap (λ os. one.ran.begin.draw + commits_of os) one.reports.outcomes
 
 -- what a round saved
 pub saved_many : (ran : Ran) (stored : List Saved) → map (λ (s : Saved). s.epoch) stored ≡ saved_in ran → length stored ≡ length (saved_in ran)

@@ -16,7 +16,6 @@ use Rattle.recovery_core.specs.JointCrash.{IsNow, Moments, parts_of}
 use Rattle.recovery_core.specs.Recoverable.{IsRecoverable, Reading}
 use Rattle.recovery_core.specs.Resting.{AreTold, IsResting}
 use Rattle.recovery_core.specs.VaultReads.{whole_read}
-use Rattle.tx_script.specs.Draws.{DrawsOnce}
 use Rattle.tx_script.specs.Run.{Ran}
 use Rattle.round_engine.specs.Crashes.{CarriesCrashes}
 use Rattle.round_engine.specs.Ends.{end_of}
@@ -102,7 +101,7 @@ goes_durable rans before last is on durable none =
     let made = (last_has IsDurable before last (subst (AllByRecursion IsDurable) is durable)).lasts goes in cc
 
 -- A disk that tells its bytes has them in an image of now.
-module _ {D : Type 0} (tells : D → Option Bytes) (clock : D → ℕ) (image_at : D → ℕ → Bytes → Type 0) (faults : D → ℕ) (snap : ℕ) (script : Script) (was : Vault D)
+module _ {D : Type 0} (tells : D → Option Bytes) (clock : D → ℕ) (image_at : D → ℕ → Bytes → Type 0) (faults : D → ℕ) (snap tries : ℕ) (script : Script) (was : Vault D)
     (reads : (disk : D) (file : Bytes) → tells disk ≡ Some file → image_at disk (clock disk) file) where
   -- what the devices stand for behind these rounds, where they tell it
   abbrev Behind : Opening → List Ran → List Entry → List Decl → Vault D → List (List ℕ) → ℕ → Type 0
@@ -113,9 +112,9 @@ module _ {D : Type 0} (tells : D → Option Bytes) (clock : D → ℕ) (image_at
   -- what the vault stands for after these rounds
   through : (opening : Opening) (rans : List Ran) (ordered : List Entry) (decls : List Decl) (now : Vault D)
       (words : List (List ℕ)) (count : ℕ)
-      → BeginsAt tells clock image_at faults snap script was opening → SameDecls script.decls decls
+      → BeginsAt tells clock image_at faults snap tries script was opening → SameDecls script.decls decls
       → Behind opening rans ordered decls now words count
-      → StandsThrough (at_now tells clock image_at faults snap script was now) script.decls ordered rans
+      → StandsThrough (at_now tells clock image_at faults snap tries script was now) script.decls ordered rans
   through opening rans ordered decls now words count begins same keeps found now_found epoch state told told_now is =
       let b = begins found told in
       let that : IsRecoverable found opening.saved opening.state = record { reading = b.has.reading; is = b.has.is; epoch_is = b.saved; state_is = b.state } in
@@ -132,7 +131,7 @@ module _ {D : Type 0} (tells : D → Option Bytes) (clock : D → ℕ) (image_at
       (words : List (List ℕ)) (count : ℕ)
       → SameDecls script.decls decls
       → Behind opening rans ordered decls now words count
-      → HasDeclared (at_now tells clock image_at faults snap script was now) script.decls
+      → HasDeclared (at_now tells clock image_at faults snap tries script was now) script.decls
   declares opening rans ordered decls now words count same keeps found now_found told told_now =
       let kept = keeps found now_found told told_now in storages_kept same kept.is kept.decls_are
 
@@ -152,7 +151,7 @@ module _ {D : Type 0} (tells : D → Option Bytes) (clock : D → ℕ) (image_at
   snapshots_behind : (opening : Opening) (rans : List Ran) (ordered : List Entry) (decls : List Decl) (now : Vault D)
       (words : List (List ℕ)) (count : ℕ)
       → SameDecls script.decls decls → Behind opening rans ordered decls now words count
-      → HasEachSnapshot (at_now tells clock image_at faults snap script was now) script.decls ordered
+      → HasEachSnapshot (at_now tells clock image_at faults snap tries script was now) script.decls ordered
   snapshots_behind opening rans ordered decls now words count same keeps found now_found epoch state reading told told_now before reads =
       let kept = keeps found now_found told told_now in
       each_told script.decls ordered found now_found kept.was.reading kept.is.reading opening.saved opening.state kept.was.is kept.is.is
@@ -165,7 +164,7 @@ module _ {D : Type 0} (tells : D → Option Bytes) (clock : D → ℕ) (image_at
       → (EndsDurable rans → (found : Images) → AreTold tells (parts_of was) found → count ≡ length words)
       → ((before : List Ran) (last : Ran) → rans ≡ before ++ last ∷ [] → last.durable ≡ None → (found : Images)
       → AreTold tells (parts_of was) found → (last.pages ≤ count) × (last.pages ≤ length words))
-      → KeepsPages (at_now tells clock image_at faults snap script was now) words rans
+      → KeepsPages (at_now tells clock image_at faults snap tries script was now) words rans
   pages_behind opening rans ordered decls now words count keeps counts least found now_found reading told told_now
       is =
       let kept = keeps found now_found told told_now in
@@ -181,11 +180,11 @@ module _ {D : Type 0} (tells : D → Option Bytes) (clock : D → ℕ) (image_at
 
   -- and what it stands for at each stop
   stopped_through : (opening : Opening) (rans : List Ran) (ordered : List Entry) (decls : List Decl) (now : Vault D)
-      → BeginsAt tells clock image_at faults snap script was opening → SameDecls script.decls decls → IsWhole now
+      → BeginsAt tells clock image_at faults snap tries script was opening → SameDecls script.decls decls → IsWhole now
       → ((found : Images) (from : Moments) → AreTold tells (parts_of was) found
       → IsResting clock image_at (parts_of was) → IsNow clock image_at (parts_of was) from
       → CrashesKept clock image_at from decls opening.sequence opening.saved opening.state rans ordered now)
-      → StandsWhenStopped (at_now tells clock image_at faults snap script was now) script.decls ordered opening rans
+      → StandsWhenStopped (at_now tells clock image_at faults snap tries script was now) script.decls ordered opening rans
   stopped_through opening rans ordered decls now begins same whole crashes found from epoch state told is rest
       here =
       let b = begins found told in
@@ -216,49 +215,49 @@ module _ {D : Type 0} (tells : D → Option Bytes) (clock : D → ℕ) (image_at
 
   -- and through reads from then on
   stopped_reading : (opening : Opening) (rans : List Ran) (ordered : List Entry) (decls : List Decl) (now : Vault D)
-      → BeginsAt tells clock image_at faults snap script was opening → SameDecls script.decls decls → IsWhole now
+      → BeginsAt tells clock image_at faults snap tries script was opening → SameDecls script.decls decls → IsWhole now
       → ((found : Images) (from : Moments) → AreTold tells (parts_of was) found
       → IsResting clock image_at (parts_of was) → IsNow clock image_at (parts_of was) from
       → CrashesKept clock image_at from decls opening.sequence opening.saved opening.state rans ordered now)
-      → StandsThroughReads (at_now tells clock image_at faults snap script was now) script.decls ordered opening rans
+      → StandsThroughReads (at_now tells clock image_at faults snap tries script was now) script.decls ordered opening rans
   stopped_reading opening rans ordered decls now begins same whole crashes later reads =
       stopped_through opening rans ordered decls later begins same (whole_read reads whole)
       (λ found from told rest here. crashes_read whole reads (crashes found from told rest here))
 
   -- the log files and pages of the rounds so far
   runs_over : (r : RuntimeState) (count : ℕ) (before now : Vault D)
-      (so : RanSoFar tells clock image_at faults snap script was r count before)
-      → KeepsPages (at_now tells clock image_at faults snap script was now) (words_of r.store.pages) so.rans
-      → RunsOver (at_now tells clock image_at faults snap script was now) snap script.decls so.opening.state so.opening.saved
+      (so : RanSoFar tells clock image_at faults snap tries script was r count before)
+      → KeepsPages (at_now tells clock image_at faults snap tries script was now) (words_of r.store.pages) so.rans
+      → RunsOver (at_now tells clock image_at faults snap tries script was now) snap script.decls so.opening.state so.opening.saved
       so.run.ordered so.rans
   runs_over r count before now so pages = record {
     words = so.over.words;
     begins = λ some. so.over.begins;
     last = so.over.last;
-    rounds = files_from (at_now tells clock image_at faults snap script was now) script.decls r.stands.decls so.opening.state
+    rounds = files_from (at_now tells clock image_at faults snap tries script was now) script.decls r.stands.decls so.opening.state
         so.run.ordered snap (files_before so.opening.saved so.over.words) so.rans so.over.last so.same
         (λ found told. let k = so.kept found told in log_of_parts k.older k.gone k.commits)
         (λ found told w below. (so.kept found told).parts.it.is_logged w below) so.over.from so.over.says;
-    pages = λ quiet some. subst (λ ws. KeepsPages (at_now tells clock image_at faults snap script was now) ws so.rans)
+    pages = λ quiet some. subst (λ ws. KeepsPages (at_now tells clock image_at faults snap tries script was now) ws so.rans)
         (sym so.over.pages) pages;
   }
 
   -- after a round that ended the run, or within whose text the sink failed
   after_round : {Shows : List Ran → State → Ending → Type 0} (r s : RuntimeState) (count : ℕ) (before now : Vault D)
-      (so : RanSoFar tells clock image_at faults snap script was r count before) (ran : Ran)
-      → (m : RanOneMore tells clock image_at faults snap script was s now so.opening so.rans ran) → (ending : Ending) → (ending ≡ Finished → ⊥)
-      → RunComes (at_now tells clock image_at faults snap script was now) snap script so.opening (so.rans ++ ran ∷ []) ending
-      → Shows (so.rans ++ ran ∷ []) s.stands.state ending → RunsRounds (at_now tells clock image_at faults snap script was now) snap script Shows
+      (so : RanSoFar tells clock image_at faults snap tries script was r count before) (ran : Ran)
+      → (m : RanOneMore tells clock image_at faults snap tries script was s now so.opening so.rans ran) → (ending : Ending) → (ending ≡ Finished → ⊥)
+      → RunComes (at_now tells clock image_at faults snap tries script was now) snap script so.opening (so.rans ++ ran ∷ []) ending
+      → Shows (so.rans ++ ran ∷ []) s.stands.state ending → RunsRounds (at_now tells clock image_at faults snap tries script was now) snap tries script Shows
   after_round r s count before now so ran m ending other comes shown =
       let keeps : (s.save.down ≡ None) × (s.store.sound ≡ true) → (found now_found : Images) → AreTold tells (parts_of was) found → AreTold tells (parts_of now) now_found
       → StandsBehind found now_found s.stands.decls so.opening.saved so.opening.state m.run.ordered (last_saved so.opening.saved (so.rans ++ ran ∷ [])) (as_of s.stands.decls so.opening.state m.run.ordered (last_saved so.opening.saved (so.rans ++ ran ∷ [])))
       (words_of s.store.pages) (count_of s.save.newest) =
       λ up found now_found told told_now. kept_at_end reads found now_found (m.kept up.1 found told) m.stands up.0 up.1 m.run.serial.rising m.run.serial.epochs told_now in
-      let sound_up : IsSound (at_now tells clock image_at faults snap script was now) ending → (s.save.down ≡ None) × (s.store.sound ≡ true) = λ sound. elim sound [
+      let sound_up : IsSound (at_now tells clock image_at faults snap tries script was now) ending → (s.save.down ≡ None) × (s.store.sound ≡ true) = λ sound. elim sound [
         | inl none ↦ (m.up none, m.sound none)
         | inr finished ↦ absurd (other finished)
       ] in
-      let unbroken_up : IsUnbroken (at_now tells clock image_at faults snap script was now) (so.rans ++ ran ∷ [])
+      let unbroken_up : IsUnbroken (at_now tells clock image_at faults snap tries script was now) (so.rans ++ ran ∷ [])
       → (s.save.down ≡ None) × (s.store.sound ≡ true) = λ quiet. elim quiet [
         | inl none ↦ (m.up none, m.sound none)
         | inr on ↦
@@ -277,7 +276,7 @@ module _ {D : Type 0} (tells : D → Option Bytes) (clock : D → ℕ) (image_at
             (all_none_full script.decls so.opening.state m.run.ordered so.rans so.went_on) (m.full found told);
         files = m.files (λ quiet some.
             let up = unbroken_up quiet in
-            subst (λ ws. KeepsPages (at_now tells clock image_at faults snap script was now) ws (so.rans ++ ran ∷ []))
+            subst (λ ws. KeepsPages (at_now tells clock image_at faults snap tries script was now) ws (so.rans ++ ran ∷ []))
             (sym (m.words_are up.1))
             (pages_behind so.opening (so.rans ++ ran ∷ []) m.run.ordered s.stands.decls now (words_of s.store.pages)
             (count_of s.save.newest) (keeps up) (λ durable found told.
@@ -301,9 +300,9 @@ module _ {D : Type 0} (tells : D → Option Bytes) (clock : D → ℕ) (image_at
 
   -- the run began, and these devices failed
   ran_on : (r s : RuntimeState) (count : ℕ) (before now : Vault D)
-      (so : RanSoFar tells clock image_at faults snap script was r count before) (ran : Ran)
-      → RanOneMore tells clock image_at faults snap script was s now so.opening so.rans ran
-      → RanOn (at_now tells clock image_at faults snap script was now) snap script so.opening (so.rans ++ ran ∷ [])
+      (so : RanSoFar tells clock image_at faults snap tries script was r count before) (ran : Ran)
+      → RanOneMore tells clock image_at faults snap tries script was s now so.opening so.rans ran
+      → RanOn (at_now tells clock image_at faults snap tries script was now) snap script so.opening (so.rans ++ ran ∷ [])
   ran_on r s count before now so ran m = record {
     begins = so.begins;
     failed = subst (λ l. AreFailed faults l was now) (sym (devices_in-push so.rans ran so.went_on)) m.failed;
@@ -311,9 +310,9 @@ module _ {D : Type 0} (tells : D → Option Bytes) (clock : D → ℕ) (image_at
 
   -- a refusal that ends the run comes to its ending
   comes_at : (r s : RuntimeState) (count : ℕ) (before now : Vault D)
-      (so : RanSoFar tells clock image_at faults snap script was r count before) (ran : Ran)
-      → (m : RanOneMore tells clock image_at faults snap script was s now so.opening so.rans ran) → (e : End) → end_of ran ≡ Some e → EndTells ran e
-      → RunComes (at_now tells clock image_at faults snap script was now) snap script so.opening (so.rans ++ ran ∷ []) (ending_of e)
+      (so : RanSoFar tells clock image_at faults snap tries script was r count before) (ran : Ran)
+      → (m : RanOneMore tells clock image_at faults snap tries script was s now so.opening so.rans ran) → (e : End) → end_of ran ≡ Some e → EndTells ran e
+      → RunComes (at_now tells clock image_at faults snap tries script was now) snap script so.opening (so.rans ++ ran ∷ []) (ending_of e)
   comes_at r s count before now so ran m (ends.Device device) is it = (
     m.failed.rose device it,
     inl (
@@ -339,14 +338,14 @@ module _ {D : Type 0} (tells : D → Option Bytes) (clock : D → ℕ) (image_at
 
   -- a round ended the run
   pub stopped : {Shows : List Ran → State → Ending → Type 0} (r s : RuntimeState) (count : ℕ) (before now : Vault D) (round : Round) (report : Report) (e : End)
-      → (so : RanSoFar tells clock image_at faults snap script was r count before) → slice_get script.rounds count ≡ Some round
-      → (one : RanRound round r s report) → (leaves : LeavesVault tells clock image_at faults one.ran one.logged r s before now)
+      → (so : RanSoFar tells clock image_at faults snap tries script was r count before) → slice_get script.rounds count ≡ Some round
+      → (one : RanRound tries round r s report) → (leaves : LeavesVault tells clock image_at faults one.ran one.logged r s before now)
       → CarriesCrashes tells clock image_at one.logged (leaves.stored ++ option_to_list leaves.failed) one.ran r s
-      before now → DrawsOnce one.ran
+      before now
       → report.end ≡ Some e → Shows (so.rans ++ one.ran ∷ []) s.stands.state (ending_of e)
-      → RunsRounds (at_now tells clock image_at faults snap script was now) snap script Shows
-  stopped r s count before now round report e so at one leaves carries once is shown =
-      let m = one_more tells clock image_at faults snap script was r s count before now round report so at one leaves carries once in
+      → RunsRounds (at_now tells clock image_at faults snap tries script was now) snap tries script Shows
+  stopped r s count before now round report e so at one leaves carries is shown =
+      let m = one_more tells clock image_at faults snap tries script was r s count before now round report so at one leaves carries in
       let ends_is : end_of one.ran ≡ Some e = sym one.reports.end ∙ is in
       after_round r s count before now so one.ran m (ending_of e) (not_finished e)
       (comes_at r s count before now so one.ran m e ends_is (end_tells one.ran e m.own m.most ends_is))
@@ -354,9 +353,9 @@ module _ {D : Type 0} (tells : D → Option Bytes) (clock : D → ℕ) (image_at
 
   -- how the run would have ended may come after the round
   comes_after : (r s : RuntimeState) (count : ℕ) (before now : Vault D)
-      (so : RanSoFar tells clock image_at faults snap script was r count before) (ran : Ran)
-      → (m : RanOneMore tells clock image_at faults snap script was s now so.opening so.rans ran) → (end : Option End) → end_of ran ≡ end
-      → RunComes (at_now tells clock image_at faults snap script was now) snap script so.opening (so.rans ++ ran ∷ []) (ending_after end)
+      (so : RanSoFar tells clock image_at faults snap tries script was r count before) (ran : Ran)
+      → (m : RanOneMore tells clock image_at faults snap tries script was s now so.opening so.rans ran) → (end : Option End) → end_of ran ≡ end
+      → RunComes (at_now tells clock image_at faults snap tries script was now) snap script so.opening (so.rans ++ ran ∷ []) (ending_after end)
   comes_after r s count before now so ran m None is = inl (all_push GoesOn so.rans ran so.went_on is, inr so.begins)
   comes_after r s count before now so ran m (Some e) is = comes_at r s count before now so ran m e is (end_tells ran e m.own m.most is)
 
@@ -366,14 +365,14 @@ module _ {D : Type 0} (tells : D → Option Bytes) (clock : D → ℕ) (image_at
 
   -- the sink failed within a round's text
   pub broke : {Shows : List Ran → State → Ending → Type 0} (r s : RuntimeState) (count : ℕ) (before now : Vault D) (round : Round) (report : Report)
-      → (so : RanSoFar tells clock image_at faults snap script was r count before) → slice_get script.rounds count ≡ Some round
-      → (one : RanRound round r s report) → (leaves : LeavesVault tells clock image_at faults one.ran one.logged r s before now)
+      → (so : RanSoFar tells clock image_at faults snap tries script was r count before) → slice_get script.rounds count ≡ Some round
+      → (one : RanRound tries round r s report) → (leaves : LeavesVault tells clock image_at faults one.ran one.logged r s before now)
       → CarriesCrashes tells clock image_at one.logged (leaves.stored ++ option_to_list leaves.failed) one.ran r s
-      before now → DrawsOnce one.ran
+      before now
       → Shows (so.rans ++ one.ran ∷ []) s.stands.state (ending_after report.end)
-      → RunsRounds (at_now tells clock image_at faults snap script was now) snap script Shows
-  broke r s count before now round report so at one leaves carries once shown =
-      let m = one_more tells clock image_at faults snap script was r s count before now round report so at one leaves carries once in
+      → RunsRounds (at_now tells clock image_at faults snap tries script was now) snap tries script Shows
+  broke r s count before now round report so at one leaves carries shown =
+      let m = one_more tells clock image_at faults snap tries script was r s count before now round report so at one leaves carries in
       after_round r s count before now so one.ran m (ending_after report.end) (after_not_finished report.end)
       (comes_after r s count before now so one.ran m report.end (sym one.reports.end))
       shown
@@ -388,8 +387,8 @@ module _ {D : Type 0} (tells : D → Option Bytes) (clock : D → ℕ) (image_at
 
   -- all rounds were run
   pub all_run : {Shows : List Ran → State → Ending → Type 0} (r : RuntimeState) (count : ℕ) (now : Vault D)
-      (so : RanSoFar tells clock image_at faults snap script was r count now) → count ≡ length script.rounds → Shows so.rans r.stands.state Finished
-      → RunsRounds (at_now tells clock image_at faults snap script was now) snap script Shows
+      (so : RanSoFar tells clock image_at faults snap tries script was r count now) → count ≡ length script.rounds → Shows so.rans r.stands.state Finished
+      → RunsRounds (at_now tells clock image_at faults snap tries script was now) snap tries script Shows
   all_run r count now so all shown =
       let up : r.save.down ≡ None = store_up r now so.stands so.unended in
       let sound : r.store.sound ≡ true = pages_sound r now so.stands so.unended in
@@ -432,11 +431,11 @@ module _ {D : Type 0} (tells : D → Option Bytes) (clock : D → ℕ) (image_at
 
   -- memory was wanted in a round
   pub at_memory : {Shows : List Ran → State → Ending → Type 0} (r s : RuntimeState) (count : ℕ) (before now : Vault D) (round : Round)
-      → (so : RanSoFar tells clock image_at faults snap script was r count before)
-      → (stop : StopsIn round r s) → (leaves : LeavesVault tells clock image_at faults stop.ran stop.logged r s before now)
+      → (so : RanSoFar tells clock image_at faults snap tries script was r count before)
+      → (stop : StopsIn tries round r s) → (leaves : LeavesVault tells clock image_at faults stop.ran stop.logged r s before now)
       → CarriesCrashes tells clock image_at stop.logged (leaves.stored ++ option_to_list leaves.failed) stop.ran r s
       before now → Shows so.rans r.stands.state NoMemory
-      → RunsRounds (at_now tells clock image_at faults snap script was now) snap script Shows
+      → RunsRounds (at_now tells clock image_at faults snap tries script was now) snap tries script Shows
   at_memory r s count before now round so stop leaves carries shown =
       let up : s.save.down ≡ None = down_none s.save.down leaves.failed leaves.has_stored.down
       (λ fails. stop.unstored (leaves.has_stored.fails.0 fails)) in
@@ -476,15 +475,15 @@ module _ {D : Type 0} (tells : D → Option Bytes) (clock : D → ℕ) (image_at
 
   -- a run that doesn't begin
   pub not_begun : {Shows : List Ran → State → Ending → Type 0} (now : Vault D) (ending : Ending)
-      → (before : EndsBefore tells clock image_at faults snap script was now ending) → Shows [] before.opening.state ending → RunsRounds (at_now tells clock image_at faults snap script was now) snap script Shows
+      → (before : EndsBefore tells clock image_at faults snap script was now ending) → Shows [] before.opening.state ending → RunsRounds (at_now tells clock image_at faults snap tries script was now) snap tries script Shows
   not_begun now ending before shown = record {
     rans = [];
     ending = ending;
     opening = before.opening;
     state = before.opening.state;
-    run = no_run tells clock image_at faults snap script was before.opening;
+    run = no_run tells clock image_at faults snap tries script was before.opening;
     comes = before.comes;
-    caused = record { caused = tt; durable = tt; sequences = tt; marks = tt; draws_once = tt };
+    caused = record { caused = tt; durable = tt; sequences = tt; marks = tt; tried = tt; within = tt; once = λ tree. tt };
     full = λ found told. tt;
     files = none_over;
     kept = before.kept;
@@ -499,14 +498,14 @@ module _ {D : Type 0} (tells : D → Option Bytes) (clock : D → ℕ) (image_at
   rests_on status r now stands up = record { again = λ not_4 not_5 one bytes told. (stands.stored up bytes told).only }
 
   -- memory was wanted in a round: nothing was stored
-  pub rests_stopped : (r s : RuntimeState) (before now : Vault D) (round : Round) → (stop : StopsIn round r s)
+  pub rests_stopped : (r s : RuntimeState) (before now : Vault D) (round : Round) → (stop : StopsIn tries round r s)
       → LeavesVault tells clock image_at faults stop.ran stop.logged r s before now → RestsAgain tells clock image_at 8 was now
   rests_stopped r s before now round stop leaves =
       rests_on 8 s now leaves.stands (down_none s.save.down leaves.failed leaves.has_stored.down (λ fails. stop.unstored (leaves.has_stored.fails.0 fails)))
 
   -- a round ended the run by a limit
   rests_ended : (s : RuntimeState) (now : Vault D) (opening : Opening) (rans : List Ran) (ran : Ran)
-      → RanOneMore tells clock image_at faults snap script was s now opening rans ran → (e : End) → EndTells ran e
+      → RanOneMore tells clock image_at faults snap tries script was s now opening rans ran → (e : End) → EndTells ran e
       → RestsAgain tells clock image_at (status_of (ending_of e)) was now
   rests_ended s now opening rans ran m (ends.Device device) it = record { again = λ not_4 not_5. absurd (not_5 refl) }
   rests_ended s now opening rans ran m (ends.Damaged device at) it = rests_on 6 s now m.stands (m.up_quiet it.1)
@@ -522,7 +521,7 @@ module _ {D : Type 0} (tells : D → Option Bytes) (clock : D → ℕ) (image_at
 
   -- and devices that tell their bytes aren't found damaged
   damage_ended : (s : RuntimeState) (now : Vault D) (opening : Opening) (rans : List Ran) (ran : Ran)
-      → RanOneMore tells clock image_at faults snap script was s now opening rans ran → (e : End) → EndTells ran e
+      → RanOneMore tells clock image_at faults snap tries script was s now opening rans ran → (e : End) → EndTells ran e
       → ReadsDamage tells clock image_at faults (status_of (ending_of e)) was now
   damage_ended s now opening rans ran m (ends.Damaged device at) it = λ six found here told told_here.
       absurd (m.untold (device, at) it.0 found told)
@@ -531,19 +530,19 @@ module _ {D : Type 0} (tells : D → Option Bytes) (clock : D → ℕ) (image_at
   damage_ended s now opening rans ran m ends.Memory it = λ six. absurd (omega arith)
 
   pub rests_after : (r s : RuntimeState) (count : ℕ) (before now : Vault D) (round : Round) (report : Report) (e : End)
-      → (so : RanSoFar tells clock image_at faults snap script was r count before) → slice_get script.rounds count ≡ Some round
-      → (one : RanRound round r s report) → (leaves : LeavesVault tells clock image_at faults one.ran one.logged r s before now)
+      → (so : RanSoFar tells clock image_at faults snap tries script was r count before) → slice_get script.rounds count ≡ Some round
+      → (one : RanRound tries round r s report) → (leaves : LeavesVault tells clock image_at faults one.ran one.logged r s before now)
       → CarriesCrashes tells clock image_at one.logged (leaves.stored ++ option_to_list leaves.failed) one.ran r s
-      before now → DrawsOnce one.ran
+      before now
       → report.end ≡ Some e
       → RestsAgain tells clock image_at (status_of (ending_of e)) was now × (IsReadStatus (status_of (ending_of e)) → ⊥)
       × ReadsDamage tells clock image_at faults (status_of (ending_of e)) was now
-  rests_after r s count before now round report e so at one leaves carries once is =
-      let m = one_more tells clock image_at faults snap script was r s count before now round report so at one leaves carries once in
+  rests_after r s count before now round report e so at one leaves carries is =
+      let m = one_more tells clock image_at faults snap tries script was r s count before now round report so at one leaves carries in
       let tells_end = end_tells one.ran e m.own m.most (sym one.reports.end ∙ is) in
       (rests_ended s now so.opening so.rans one.ran m e tells_end, reads_ended e, damage_ended s now so.opening so.rans one.ran m e tells_end)
 
   -- all rounds were run
-  pub rests_all : (r : RuntimeState) (count : ℕ) (now : Vault D) → RanSoFar tells clock image_at faults snap script was r count now
+  pub rests_all : (r : RuntimeState) (count : ℕ) (now : Vault D) → RanSoFar tells clock image_at faults snap tries script was r count now
       → RestsAgain tells clock image_at 0 was now
   rests_all r count now so = rests_on 0 r now so.stands (store_up r now so.stands so.unended)

@@ -72,11 +72,11 @@ module _ {D : Type 0} {tells : D → Option (List ℕ)} {clock : D → ℕ} {ima
   where
     -- A full log's lines are as many bytes as it was told.
     pub full_in : {found : Images} (decls : List Decl) {storages : List Decl} {s : State} {saved : ℕ} {rans : List Ran}
-        {ordered : List Entry} {round : Round} {old new : RuntimeState} {before now : Vault D} {report : Report}
+        {ordered : List Entry} {tries : ℕ} {round : Round} {old new : RuntimeState} {before now : Vault D} {report : Report}
         → SameDecls decls storages → (kept : KeptSoFar tells clock image_at found storages s saved rans ordered old before)
         → StandsOn tells clock image_at old before → old.stands.decls ≡ storages
         → old.stands.state ≡ state_after_all storages s ordered → old.stands.ended ≡ false
-        → (one : RanRound round old new report)
+        → (one : RanRound tries round old new report)
         → LeavesVault tells clock image_at faults one.ran one.logged old new before now → (index : ℕ)
         → AreFull decls s (ordered ++ (one.lines.run index).ordered) one.ran
     full_in decls {storages = storages} {s = s} {ordered = ordered} {old = old} {new = new} {before = before}

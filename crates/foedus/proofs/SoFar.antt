@@ -29,8 +29,9 @@ use Rattle.recovery_core.specs.VaultReads.{AreQuiet}
 use Rattle.recovery_core.specs.declared.settlement.Settled.{Settled}
 use Rattle.worker_logs.specs.Saves.{CountsOf}
 use Rattle.worker_logs.specs.declared.savepoints.Side.TheVariants.{Even}
+use Rattle.serial_model.specs.declared.decl.Decl.TheVariants.{Tree}
 use Rattle.tx_script.specs.Causes.{AllCaused, keeper_before}
-use Rattle.tx_script.specs.Draws.{DrawsOnce}
+use Rattle.tx_script.specs.Draws.{DrawsWithin, RunsOnce}
 use Rattle.tx_script.specs.Run.{IsRun, IsScriptRun, LogFiles, Ran, clock_after, joined}
 use Rattle.round_engine.specs.Begun.{begun}
 use Rattle.round_engine.specs.Changes.{AreLogged}
@@ -74,7 +75,7 @@ use Rattle.foedus.proofs.OneRound.{marked-push, marked, saved_many, down_none, a
 back : (decls others : List Decl) → SameDecls decls others → SameDecls others decls
 back decls others same d = ((same d).1, (same d).0)
 
-module _ {D : Type 0} (tells : D → Option Bytes) (clock : D → ℕ) (image_at : D → ℕ → Bytes → Type 0) (faults : D → ℕ) (snap : ℕ) (script : Script) (was : Vault D) where
+module _ {D : Type 0} (tells : D → Option Bytes) (clock : D → ℕ) (image_at : D → ℕ → Bytes → Type 0) (faults : D → ℕ) (snap tries : ℕ) (script : Script) (was : Vault D) where
   -- where the devices told what lets a run begin
   abbrev pub BeginsAt : Opening → Type 0
   BeginsAt opening = (found : Images) → AreTold tells (parts_of was) found → MayBegin snap script.decls opening found
@@ -151,7 +152,7 @@ module _ {D : Type 0} (tells : D → Option Bytes) (clock : D → ℕ) (image_at
     pub same : SameDecls script.decls r.stands.decls
     pub run : IsScriptRun script opening.state opening.saved rans r.stands.state
     pub begins : BeginsAt opening
-    pub caused : AreCaused script.rounds opening.sequence rans
+    pub caused : AreCaused tries script.decls script.rounds opening.sequence rans
     pub went_on : AllByRecursion GoesOn rans
     pub clock_is : r.stands.clock ≡ clock_from (clock_after opening.saved) rans
     pub sequence : sequence_of r.save.newest ≡ sequence_after opening.sequence rans
@@ -170,7 +171,7 @@ module _ {D : Type 0} (tells : D → Option Bytes) (clock : D → ℕ) (image_at
   pub record RanOneMore (r : RuntimeState) (now : Vault D) (opening : Opening) (before : List Ran) (ran : Ran) : Type 0 where
     pub same : SameDecls script.decls r.stands.decls
     pub run : IsScriptRun script opening.state opening.saved (before ++ ran ∷ []) r.stands.state
-    pub caused : AreCaused script.rounds opening.sequence (before ++ ran ∷ [])
+    pub caused : AreCaused tries script.decls script.rounds opening.sequence (before ++ ran ∷ [])
     pub own : AllCaused ran
     pub sequence : sequence_of r.save.newest ≡ sequence_after opening.sequence (before ++ ran ∷ [])
     pub most : ran.end.epoch ≤ last_epoch
@@ -200,7 +201,7 @@ module _ {D : Type 0} (tells : D → Option Bytes) (clock : D → ℕ) (image_at
 
   -- the log files and pages of a round more
   over_one : (r s : RuntimeState) (count : ℕ) (before now : Vault D) (round : Round) (report : Report)
-      (so : RanSoFar r count before) (one : RanRound round r s report)
+      (so : RanSoFar r count before) (one : RanRound tries round r s report)
       → (leaves : LeavesVault tells clock image_at faults one.ran one.logged r s before now)
       → r.stands.state ≡ state_after_all r.stands.decls so.opening.state so.run.ordered
       → Rises (so.run.ordered ++ (one.lines.run (length so.rans)).ordered)
@@ -241,7 +242,7 @@ module _ {D : Type 0} (tells : D → Option Bytes) (clock : D → ℕ) (image_at
 
   -- and what is kept behind it, where the run goes on
   over_next : (r s : RuntimeState) (count : ℕ) (before now : Vault D) (round : Round) (report : Report)
-      (so : RanSoFar r count before) (one : RanRound round r s report)
+      (so : RanSoFar r count before) (one : RanRound tries round r s report)
       → (leaves : LeavesVault tells clock image_at faults one.ran one.logged r s before now)
       → CarriesCrashes tells clock image_at one.logged (leaves.stored ++ option_to_list leaves.failed) one.ran r s
       before now → r.stands.state ≡ state_after_all r.stands.decls so.opening.state so.run.ordered
@@ -297,11 +298,11 @@ module _ {D : Type 0} (tells : D → Option Bytes) (clock : D → ℕ) (image_at
 
   -- a round more was run
   pub one_more : (r s : RuntimeState) (count : ℕ) (before now : Vault D) (round : Round) (report : Report)
-      (so : RanSoFar r count before) → slice_get script.rounds count ≡ Some round → (one : RanRound round r s report)
+      (so : RanSoFar r count before) → slice_get script.rounds count ≡ Some round → (one : RanRound tries round r s report)
       → (leaves : LeavesVault tells clock image_at faults one.ran one.logged r s before now)
       → CarriesCrashes tells clock image_at one.logged (leaves.stored ++ option_to_list leaves.failed) one.ran r s
-      before now → DrawsOnce one.ran → RanOneMore s now so.opening so.rans one.ran
-  one_more r s count before now round report so at one leaves carries once =
+      before now → RanOneMore s now so.opening so.rans one.ran
+  one_more r s count before now round report so at one leaves carries =
       let opening : Opening = so.opening in
       let ran : Ran = one.ran in
       let index : ℕ = length so.rans in
@@ -347,7 +348,10 @@ module _ {D : Type 0} (tells : D → Option Bytes) (clock : D → ℕ) (image_at
           sequences = sequences-push so.opening.sequence so.rans one.ran so.caused.sequences (one.begins.sequence ∙ so.sequence);
           marks = marked-push so.rans one.ran script.rounds round at_index so.caused.marks
               (marked round r s report one begins so.stands.workers ready.logs);
-          draws_once = all_push DrawsOnce so.rans one.ran so.caused.draws_once once;
+          tried = all_push (λ (ran : Ran). ran.tries ≡ tries) so.rans one.ran so.caused.tried one.begins.tried;
+          within = all_push (DrawsWithin tries) so.rans one.ran so.caused.within one.within;
+          once = λ tree. all_push RunsOnce so.rans one.ran (so.caused.once tree)
+              (one.once (tree.0, (so.same (Tree tree.0)).0 tree.1));
         };
         own = one.lines.caused;
         sequence = ap sequence_of stored.newest ∙ stored_length r.save.newest leaves.stored
@@ -443,7 +447,7 @@ module _ {D : Type 0} (tells : D → Option Bytes) (clock : D → ℕ) (image_at
           same = b.same;
           run = no_run opening;
           begins = begins;
-          caused = record { caused = tt; durable = tt; sequences = tt; marks = tt; draws_once = tt };
+          caused = record { caused = tt; durable = tt; sequences = tt; marks = tt; tried = tt; within = tt; once = λ tree. tt };
           went_on = tt;
           clock_is = refl;
           sequence = refl;
@@ -496,13 +500,13 @@ module _ {D : Type 0} (tells : D → Option Bytes) (clock : D → ℕ) (image_at
   -- ---- a round that goes on
 
   pub goes_on : (r s : RuntimeState) (count : ℕ) (before now : Vault D) (round : Round) (report : Report)
-      (so : RanSoFar r count before) → slice_get script.rounds count ≡ Some round → (one : RanRound round r s report)
+      (so : RanSoFar r count before) → slice_get script.rounds count ≡ Some round → (one : RanRound tries round r s report)
       → (leaves : LeavesVault tells clock image_at faults one.ran one.logged r s before now)
       → CarriesCrashes tells clock image_at one.logged (leaves.stored ++ option_to_list leaves.failed) one.ran r s
-      before now → DrawsOnce one.ran
+      before now
       → report.end ≡ None → (then : RanSoFar s (count + 1) now) × (then.rans ≡ so.rans ++ one.ran ∷ [])
-  goes_on r s count before now round report so at one leaves carries once none =
-      let m = one_more r s count before now round report so at one leaves carries once in
+  goes_on r s count before now round report so at one leaves carries none =
+      let m = one_more r s count before now round report so at one leaves carries in
       let goes : GoesOn one.ran = sym one.reports.end ∙ none in
       let joined_on = joined_where_none one.ran one.lines.caused goes in
       let clock_joined : s.stands.clock ≡ joined one.ran.end =

@@ -1,8 +1,7 @@
 -- What is told of one round more.
 use Rattle.std.proofs.Common.{◌≡◌, ◌∙◌, sym, ap, subst, refl, ℕ, ◌+◌, ◌<◌, ◌^◌, Bool, true, false, List, [], ◌∷◌, ◌++◌, length, append_assoc, Option, Some, None, Result, Ok, Err}
-use Rattle.std.specs.Prelude.{sum_by}
+use Rattle.std.specs.Prelude.{IfSome, option_map, sum_by}
 use Rattle.std.proofs.lemmas.List.{append-nil}
-use Rattle.std.proofs.lemmas.Option.{same_Some}
 use Rattle.outside.specs.declared.fault.Failed.{Failed}
 use Rattle.serial_model.specs.State.{State}
 use Rattle.text_output.specs.Output.{Output}
@@ -21,7 +20,7 @@ use Rattle.round_engine.specs.declared.report.Report.{Report}
 use Rattle.foedus.specs.declared.ending.Ending.{Ending}
 use Rattle.foedus.specs.declared.ending.Ending.TheVariants.{Finished}
 use Rattle.foedus.specs.Ending.{last_line}
-use Rattle.foedus.specs.Telling.{HasSum, HasTold, IsOf, TellsRound, TellsRun}
+use Rattle.foedus.specs.Telling.{HasSum, HasTold, IsOf, IsSumOf, TellsRound, TellsRun}
 
 -- the text of one round more stands behind that of the rounds before it
 run_text-push : (rans : List Ran) (ran : Ran) → run_text rans ++ round_text ran ≡ run_text (rans ++ ran ∷ [])
@@ -29,7 +28,7 @@ run_text-push [] ran = sym (append-nil (round_text ran))
 run_text-push (q ∷ rans) ran = append_assoc (round_text q) (run_text rans) (round_text ran) ∙ ap (λ w. round_text q ++ w) (run_text-push rans ran)
 
 -- the text of a report is that of the round
-pub told_text : (round : Round) (old new : RuntimeState) (report : Report) (one : RanRound round old new report)
+pub told_text : {tries : ℕ} (round : Round) (old new : RuntimeState) (report : Report) (one : RanRound tries round old new report)
     → lines_text report.outcomes report.keeper report.durable ≡ round_text one.ran
 told_text round old new report one =
     ap (λ os. lines_text os report.keeper report.durable) one.reports.outcomes
@@ -37,7 +36,7 @@ told_text round old new report one =
     ∙ ap (λ d. lines_text one.ran.outcomes one.ran.answers d) one.reports.durable
 
 -- the report is of the round
-pub of_round : (round : Round) (old new : RuntimeState) (report : Report) (one : RanRound round old new report) → IsOf report one.ran
+pub of_round : {tries : ℕ} (round : Round) (old new : RuntimeState) (report : Report) (one : RanRound tries round old new report) → IsOf report one.ran
 of_round round old new report one = record { outcomes = sym one.reports.outcomes; durable = sym one.reports.durable }
 
 -- before the first round nothing was told
@@ -49,23 +48,26 @@ none_told false tally out is = adds_nothing out
 pub none_ran : (tally : Tally) → tally ≡ tally_of [] → tally.ran ≡ true → ⊥
 none_ran tally is ran = let none : tally.ran ≡ false = ap (λ (t : Tally). t.ran) is in cc
 
--- no sum is told where no round was run, or the run didn't finish
-pub no_sum : (brief : Bool) (total : Option ℕ) (rans : List Ran) (state : State) (ending : Ending) → total ≡ None
-    → ((rans ≡ [] → ⊥) → ending ≡ Finished → ⊥) → HasSum brief total rans state ending
-no_sum true total rans state ending none other = record {
-  finished = λ some finished. absurd (other some finished);
-  only = λ sum is. absurd cc;
-}
-no_sum false total rans state ending none other = tt
+-- no sum is known
+pub no_sum : (brief : Bool) (total : Option ℕ) (state : State) (ending : Ending) → total ≡ None
+    → HasSum brief total state ending
+no_sum true total state ending none = subst (λ (o : Option ℕ). IsSumOf o state ending) (sym none) tt
+no_sum false total state ending none = tt
 
--- it is told where the run finished
-pub has_sum : (brief : Bool) (total : Option ℕ) (rans : List Ran) (state : State)
-    → (brief ≡ true → total ≡ Some (total_of state)) → HasSum brief total rans state Finished
-has_sum true total rans state told = record {
-  finished = λ some finished. told refl;
-  only = λ sum is. (refl, same_Some sum (total_of state) (sym is ∙ told refl));
-}
-has_sum false total rans state told = tt
+-- one is where the run finished, or none
+pub has_sum : (brief : Bool) (total : Option ℕ) (state : State)
+    → (brief ≡ true → IfSome total (λ sum. sum ≡ total_of state)) → HasSum brief total state Finished
+has_sum true None state told = tt
+has_sum true (Some sum) state told = (refl, told refl)
+has_sum false total state told = tt
+
+-- where the state is known it is that of the run, and so is its sum
+pub sum_known : {A : Type 0} (state_of : A → State) (known : Option A) (total : Option ℕ) (state : State)
+    → total ≡ option_map (λ x. total_of (state_of x)) known → IfSome known (λ x. state_of x ≡ state)
+    → IfSome total (λ sum. sum ≡ total_of state)
+sum_known state_of None total state is same = subst (λ (o : Option ℕ). IfSome o (λ sum. sum ≡ total_of state)) (sym is) tt
+sum_known state_of (Some x) total state is same =
+    subst (λ (o : Option ℕ). IfSome o (λ sum. sum ≡ total_of state)) (sym is) (ap total_of same)
 
 -- one round more was told
 pub told_more : {T : Type 0} (brief now : Bool) (before after : Tally) (old mid new : Output) (report : Report) (rans : List Ran) (ran : Ran) (done : T) → now ≡ brief

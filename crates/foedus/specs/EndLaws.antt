@@ -17,11 +17,13 @@ use Rattle.tx_script.specs.declared.answer.Answer.{Answer}
 use Rattle.tx_script.specs.declared.answer.Answer.TheVariants as answers
 use Rattle.tx_script.specs.declared.outcome.Outcome.{Outcome}
 use Rattle.tx_script.specs.declared.outcome.Outcome.TheVariants as outcomes
-use Rattle.tx_script.specs.Causes.{AllCaused, AnswersCaused, IsAnswerTo, KeeperAt, LogsCaused, OutcomeCause}
+use Rattle.tx_script.specs.Causes.{AllCaused, AnswersCaused, IsAnswerTo, KeeperAt, LogsCaused}
 use Rattle.tx_script.specs.Causes.{WorkersCaused}
 use Rattle.tx_script.specs.Causes.{keeper_after, keeper_at_end, keeper_before, last_sequence, log_limit, log_of}
 use Rattle.tx_script.specs.Causes.{longest_line}
-use Rattle.tx_script.specs.Run.{AdvancesTo, LogFailed, LogFiles, LogFull, LogRefusal, Ran, is_commit, is_limit}
+use Rattle.tx_script.specs.Run.{AdvancesTo, LogFailed, LogFiles, LogFull, LogRefusal, Ran, TryRefusal, is_limit}
+use Rattle.tx_script.specs.Draws.{limited_at_draws}
+use Rattle.tx_script.specs.Tries.{AllCome}
 use Rattle.round_engine.specs.Ends.{bank_end, comes_to_save, device_end, device_place, draw_end, earlier}
 use Rattle.round_engine.specs.Ends.{end_of, epoch_end, first_device, first_of, full_length, limit_at, save_limited}
 use Rattle.round_engine.specs.Ends.{comes_to_advance, damaged_end, durable_of, has_sequence, other_failed, sequence_end}
@@ -127,32 +129,6 @@ bank_cases (Some n) e is = (n, refl, cc)
 bank_none : (size : Option ℕ) → option_map (limit_at Bank) size ≡ None → size ≡ None
 bank_none None none = refl
 bank_none (Some n) none = absurd cc
-
--- ---- draws
-
--- a line met the limit, so the draws have come to it
-limited_line : (ran : Ran) (log : Option LogRefusal) (of_worker : List Outcome)
-    → AllByRecursion (OutcomeCause ran log) of_worker
-    → list_any is_limit of_worker ≡ true → draw_limit ≤ ran.end.draw
-limited_line ran log [] caused some = absurd cc
-limited_line ran log (outcomes.Limit ∷ more) caused some = caused.0
-limited_line ran log (outcomes.Committed verdict number replies ∷ more) caused some =
-    limited_line ran log more caused.1 some
-limited_line ran log (outcomes.Conflict ∷ more) caused some = absurd caused.0
-limited_line ran log (outcomes.Full ∷ more) caused some = absurd caused.0
-limited_line ran log (outcomes.Wide ∷ more) caused some = absurd caused.0
-limited_line ran log (outcomes.Unrun ∷ more) caused some = limited_line ran log more caused.1 some
-
-limited : (ran : Ran) (logs : List (Option LogRefusal)) (workers : List (List Outcome)) → WorkersCaused ran logs workers
-    → list_any (list_any is_limit) workers ≡ true → draw_limit ≤ ran.end.draw
-limited ran [] [] caused some = absurd cc
-limited ran (log ∷ logs) [] caused some = absurd cc
-limited ran [] (mine ∷ more) caused some = absurd caused
-limited ran (log ∷ logs) (mine ∷ more) caused some = elim (either_true (list_any is_limit mine)
-    (list_any (list_any is_limit) more) some) [
-      | inl here ↦ limited_line ran log mine caused.0 here
-      | inr later ↦ limited ran logs more caused.2 later
-    ]
 
 -- ---- sequences
 
@@ -290,7 +266,7 @@ end_tells ran e caused most is = elim (first_cases (device_end ran.devices) _ e 
           | inr then ↦ elim (first_cases (draw_end ran) _ e then.1) [
             | inl draw ↦
                 let w = where_cases _ (limit_at Draw ran.end.draw) e draw in
-                subst (EndTells ran) w.1 (limited ran ran.logs ran.outcomes caused.outcomes w.0, quiet)
+                subst (EndTells ran) w.1 (limited_at_draws ran caused w.0, quiet)
             | inr last ↦ elim (first_cases (bank_end ran) _ e last.1) [
               | inl bank ↦
                   let w = bank_cases (full_length ran.logs) e bank in
@@ -323,22 +299,22 @@ goes_on_room ran worker size none is =
     let d = both_none (bank_end ran) _ c.1 in
     none_full ran.logs worker size (bank_none (full_length ran.logs) d.0) is
 
--- no refusal is that of the draws where no line was refused a number
-pub no_draw_end : (ran : Ran) (number : ℕ) → list_any (list_any is_limit) ran.outcomes ≡ false
-    → end_of ran ≡ Some (ends.Limit Draw number) → ⊥
-no_draw_end ran number none is = elim (first_cases (device_end ran.devices) _ _ is) [
-  | inl device ↦ let d = device_cases ran.devices _ device in let same = d.1 in cc
+-- a round ends the run at the limit of the draws only where its clock came to it
+pub draw_end_met : (ran : Ran) (number : ℕ) → AllCaused ran → end_of ran ≡ Some (ends.Limit Draw number)
+    → draw_limit ≤ ran.end.draw
+draw_end_met ran number caused is = elim (first_cases (device_end ran.devices) _ _ is) [
+  | inl device ↦ absurd (let d = device_cases ran.devices _ device in let same = d.1 in cc)
   | inr later ↦ elim (first_cases (damaged_end ran) _ _ later.1) [
-    | inl damaged ↦ let w = (damage_cases ran.damaged _ damaged).3 in cc
+    | inl damaged ↦ absurd (let w = (damage_cases ran.damaged _ damaged).3 in cc)
     | inr whole ↦ elim (first_cases (epoch_end ran) _ _ whole.1) [
-      | inl epoch ↦ let w = (where_cases _ (limit_at Epoch ran.end.epoch) _ epoch).1 in cc
+      | inl epoch ↦ absurd (let w = (where_cases _ (limit_at Epoch ran.end.epoch) _ epoch).1 in cc)
       | inr then ↦ elim (first_cases (draw_end ran) _ _ then.1) [
-        | inl draw ↦ let w = (where_cases _ (limit_at Draw ran.end.draw) _ draw).0 in cc
+        | inl draw ↦ limited_at_draws ran caused (where_cases _ (limit_at Draw ran.end.draw) _ draw).0
         | inr last ↦ elim (first_cases (bank_end ran) _ _ last.1) [
-          | inl bank ↦ let w = (bank_cases (full_length ran.logs) _ bank).2 in cc
+          | inl bank ↦ absurd (let w = (bank_cases (full_length ran.logs) _ bank).2 in cc)
           | inr fits ↦ elim (first_cases (sequence_end ran) _ _ fits.1) [
-            | inl sequence ↦ let w = (where_cases _ (limit_at Sequence (keeper_at_end ran).sequence) _ sequence).1 in cc
-            | inr memory ↦ let w = (where_cases _ ends.Memory _ memory.1).1 in cc
+            | inl sequence ↦ absurd (let w = (where_cases _ (limit_at Sequence (keeper_at_end ran).sequence) _ sequence).1 in cc)
+            | inr memory ↦ absurd (let w = (where_cases _ ends.Memory _ memory.1).1 in cc)
           ]
         ]
       ]
@@ -594,22 +570,27 @@ durable_unlimited ran caused advances told durable =
 
 -- ---- a round that goes on
 
--- the outcome is a commit
-abbrev pub IsCommitted : Outcome → Type 0
-IsCommitted outcome = is_commit outcome ≡ true
+-- The line is committed, or each of its tries was refused with a conflict.
+abbrev pub IsCommittedOrInConflict : Outcome → Type 0
+IsCommittedOrInConflict (outcomes.Committed verdict number replies) = ⊤
+IsCommittedOrInConflict outcomes.Conflict = ⊤
+IsCommittedOrInConflict _ = ⊥
 
--- A line that nothing refused is committed.
-committed : (ran : Ran) (log : Option LogRefusal) (mine : List Outcome) → log ≡ None
-    → AllByRecursion (OutcomeCause ran log) mine
-    → list_any is_limit mine ≡ false → AllByRecursion IsCommitted mine
-committed ran log [] up caused none = tt
-committed ran log (outcomes.Committed verdict number replies ∷ more) up caused none =
-    (refl, committed ran log more up caused.1 none)
-committed ran log (outcomes.Limit ∷ more) up caused none = absurd cc
-committed ran log (outcomes.Unrun ∷ more) up caused none = absurd (let is = caused.0 in cc)
-committed ran log (outcomes.Conflict ∷ more) up caused none = absurd caused.0
-committed ran log (outcomes.Full ∷ more) up caused none = absurd caused.0
-committed ran log (outcomes.Wide ∷ more) up caused none = absurd caused.0
+-- So is a line that nothing refused.
+was_run : (first last tries : ℕ) (log : Option LogRefusal) (mine : List Outcome) (refused : List (List TryRefusal))
+    → log ≡ None → AllCome first last tries log mine refused → list_any is_limit mine ≡ false
+    → AllByRecursion IsCommittedOrInConflict mine
+was_run first last tries log [] refused up come none = tt
+was_run first last tries log (outcome ∷ more) [] up come none = absurd come
+was_run first last tries log (outcomes.Committed verdict number replies ∷ more) (refusals ∷ refused) up come none =
+    (tt, was_run first last tries log more refused up come.1 none)
+was_run first last tries log (outcomes.Conflict ∷ more) (refusals ∷ refused) up come none =
+    (tt, was_run first last tries log more refused up come.1 none)
+was_run first last tries log (outcomes.Full ∷ more) (refusals ∷ refused) up come none = absurd come.0
+was_run first last tries log (outcomes.Wide ∷ more) (refusals ∷ refused) up come none = absurd come.0
+was_run first last tries log (outcomes.Limit ∷ more) (refusals ∷ refused) up come none = absurd cc
+was_run first last tries log (outcomes.Unrun ∷ more) (refusals ∷ refused) up come none =
+    absurd (let is = come.0.1 in cc)
 
 -- where no device failed, and no log file is full, no log was refused
 log_up : (files : LogFiles) (failed : List Device) (worker : ℕ) (log : Option LogRefusal) (logs : List (Option LogRefusal)) → failed ≡ []
@@ -620,34 +601,35 @@ log_up files failed worker (Some LogFailed) logs quiet caused full = absurd (in_
     (subst (λ l. Contains l (log_of files worker)) quiet caused.0))
 log_up files failed worker (Some (LogFull size)) logs quiet caused full = absurd cc
 
-all_committed : (ran : Ran) (files : LogFiles) (failed : List Device) (worker : ℕ) (logs : List (Option LogRefusal))
-    (workers : List (List Outcome)) → failed ≡ []
-    → LogsCaused files failed worker logs → full_length logs ≡ None → WorkersCaused ran logs workers
+all_run : (ran : Ran) (files : LogFiles) (failed : List Device) (worker : ℕ) (logs : List (Option LogRefusal))
+    (workers : List (List Outcome)) (refused : List (List (List TryRefusal))) → failed ≡ []
+    → LogsCaused files failed worker logs → full_length logs ≡ None → WorkersCaused ran logs workers refused
     → list_any (list_any is_limit) workers ≡ false
-    → AllByRecursion (AllByRecursion IsCommitted) workers
-all_committed ran files failed worker [] [] quiet caused full by none = tt
-all_committed ran files failed worker (log ∷ logs) [] quiet caused full by none = tt
-all_committed ran files failed worker [] (mine ∷ more) quiet caused full by none = absurd by
-all_committed ran files failed worker (log ∷ logs) (mine ∷ more) quiet caused full by none =
+    → AllByRecursion (AllByRecursion IsCommittedOrInConflict) workers
+all_run ran files failed worker [] [] refused quiet caused full by none = tt
+all_run ran files failed worker (log ∷ logs) [] refused quiet caused full by none = tt
+all_run ran files failed worker [] (mine ∷ more) refused quiet caused full by none = absurd by
+all_run ran files failed worker (log ∷ logs) (mine ∷ more) [] quiet caused full by none = absurd by
+all_run ran files failed worker (log ∷ logs) (mine ∷ more) (tried ∷ refused) quiet caused full by none =
     let up = log_up files failed worker log logs quiet caused full in
     let none_of = neither (list_any is_limit mine) (list_any (list_any is_limit) more) none in (
-      committed ran log mine up.0 by.0 none_of.0,
-      all_committed ran files failed (worker + 1) logs more quiet up.1 up.2 by.2 none_of.1,
+      was_run ran.begin.draw ran.end.draw ran.tries log mine tried up.0 by.0 none_of.0,
+      all_run ran files failed (worker + 1) logs more refused quiet up.1 up.2 by.2 none_of.1,
     )
 
 where_none : (test : Bool) (x : End) → where_true test x ≡ None → test ≡ false
 where_none true x none = absurd cc
 where_none false x none = refl
 
--- Each line of a round that doesn't end the run is committed.
-pub goes_on_committed : (ran : Ran) → AllCaused ran → end_of ran ≡ None
-    → AllByRecursion (AllByRecursion IsCommitted) ran.outcomes
-goes_on_committed ran caused none =
+-- So is each line of a round that doesn't end the run.
+pub goes_on_run : (ran : Ran) → AllCaused ran → end_of ran ≡ None
+    → AllByRecursion (AllByRecursion IsCommittedOrInConflict) ran.outcomes
+goes_on_run ran caused none =
     let a = both_none (device_end ran.devices) _ none in
     let w = both_none (damaged_end ran) _ a.1 in
     let b = both_none (epoch_end ran) _ w.1 in
     let c = both_none (draw_end ran) _ b.1 in
     let d = both_none (bank_end ran) _ c.1 in
-    all_committed ran ran.files ran.devices 0 ran.logs ran.outcomes
+    all_run ran ran.files ran.devices 0 ran.logs ran.outcomes ran.refused
     (no_devices ran.devices a.0) caused.logs (bank_none (full_length ran.logs) d.0)
     caused.outcomes (where_none _ (limit_at Draw ran.end.draw) c.0)

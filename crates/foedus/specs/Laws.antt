@@ -1,8 +1,10 @@
--- What follows from the main theorem: while each line is tried once, no run ends at the limit of the draws; a run with
--- nothing in its way is done; and of one that is done each line is committed, and each round is durable.
-use Rattle.std.specs.Prelude.{◌≡◌, ◌+◌, ℕ, List, [], ◌∷◌, ◌++◌, IfSome, IsSome, Option, Some, None}
+-- What follows from the main theorem: no run ends at the limit of the draws while each line has few tries, or a tree is
+-- declared; a run with nothing in its way is done; and of one that is done each line is committed, or in conflict at each
+-- of its tries, and each round is durable.
+use Rattle.std.specs.Prelude.{◌≡◌, ◌⊎◌, ◌+◌, ◌≤◌, ℕ, List, [], ◌∷◌, ◌++◌, IfSome, IsSome, Option, Some, None}
 use Rattle.std.specs.List.{AllByRecursion}
-use Rattle.std.proofs.Common.{inl, inr, ◌∙◌, refl, sym, subst}
+use Rattle.std.proofs.Common.{inl, inr, ◌∙◌, refl, sym, subst, arith}
+use Rattle.lists.specs.Each.{all_weaker}
 use Rattle.serial_model.specs.State.{State}
 use Rattle.serial_model.specs.declared.decl.Decl.{Decl}
 use Rattle.serial_model.specs.declared.number.Number.{Number}
@@ -16,34 +18,26 @@ use Rattle.recovery_core.specs.Recoverable.{Reading}
 use Rattle.recovery_core.specs.RecoverableLaws.{one_reading}
 use Rattle.recovery_core.specs.Resting.{AreTold}
 use Rattle.tx_script.specs.Causes.{AllCaused}
-use Rattle.tx_script.specs.Draws.{DrawsOnce, NoneLimited, none_limited}
-use Rattle.tx_script.specs.Run.{Ran, RunsClocks, clock_after, joined}
+use Rattle.tx_script.specs.Draws.{DrawsWithin, HasTree, IsBelowDraws, RunsOnce, below_draws, once_within}
+use Rattle.tx_script.specs.Run.{IsScriptRun, Ran, RunsClocks, clock_after, joined}
 use Rattle.round_engine.specs.declared.report.LimitName.{LimitName}
 use Rattle.round_engine.specs.declared.report.LimitName.TheVariants.{Draw}
 use Rattle.command_line.specs.declared.command.Command.TheVariants.{Run}
 use Rattle.command_line.specs.declared.command.RunOptions.{RunOptions}
 use Rattle.foedus.specs.Beginning.{HasKept, HasStorages, Opening, SameDecls}
-use Rattle.foedus.specs.EndLaws.{IsAnswered, IsCommitted, all_answered, durable_unlimited, goes_on_answered}
-use Rattle.foedus.specs.EndLaws.{goes_on_committed, no_draw_end}
+use Rattle.foedus.specs.EndLaws.{IsAnswered, IsCommittedOrInConflict, all_answered, draw_end_met, durable_unlimited}
+use Rattle.foedus.specs.EndLaws.{goes_on_answered, goes_on_run}
 use Rattle.foedus.specs.declared.ending.Ending.{Ending}
 use Rattle.foedus.specs.declared.ending.Ending.TheVariants.{Finished, NoScript, Shape, Usage, ReadFault, NoDevice}
 use Rattle.foedus.specs.declared.ending.Ending.TheVariants.{Damaged, AtLimit, NoMemory, NoSnapshot}
 use Rattle.foedus.specs.Ending.{Comes, GoesOn, RunComes}
-use Rattle.foedus.specs.Main.{AreBytes, Came, IsDurable, RunsOf}
+use Rattle.foedus.specs.Main.{AreBytes, Came, IsDurable, RunsOf, decls_in}
 use Rattle.foedus.specs.Vaults.{NoneFailed, Vaults}
 
--- No line of a run is refused a number.
-limited_none : (script : Option Script) (opening : Opening) (bytes : Bytes) (rans : List Ran) (t : State)
-    → RunsOf script opening bytes rans t → AllByRecursion AllCaused rans → AllByRecursion DrawsOnce rans
-    → AllByRecursion NoneLimited rans
-limited_none None opening bytes rans t run caused once = subst (AllByRecursion NoneLimited) (sym run.0) tt
-limited_none (Some script) opening bytes rans t run caused once =
-    none_limited bytes script opening.state opening.saved rans t run.0 run.1 caused once
-
 -- The last round is one of the rounds.
-all_last : (before : List Ran) (last : Ran) → AllByRecursion NoneLimited (before ++ last ∷ []) → NoneLimited last
-all_last [] last all = all.0
-all_last (ran ∷ before) last all = all_last before last all.1
+last_of : (P : Ran → Type 0) (before : List Ran) (last : Ran) → AllByRecursion P (before ++ last ∷ []) → P last
+last_of P [] last all = all.0
+last_of P (ran ∷ before) last all = last_of P before last all.1
 
 -- What holds where something is there holds of what is there.
 taken : {C : Type 0} (o : Option Savepoint) → IsSome o → IfSome o (λ _. C) → C
@@ -59,9 +53,10 @@ storages_of found decls kept here there =
     subst (λ (r : Reading). IfSome r.point (λ _. SameDecls decls (newest_decls r.catalogues))) same here.same in
     subst (λ ds. SameDecls decls ds) (sym there.kept_are) (taken there.reading.point there.saved has)
 
--- Each line of the round is committed, each of the maintenance thread is done, and the round's last epoch is durable.
+-- Each line of the round is committed, or in conflict at each of its tries; each of the maintenance thread is done, and
+-- the round's last epoch is durable.
 pub record IsDone (ran : Ran) : Type 0 where
-  pub commits : AllByRecursion (AllByRecursion IsCommitted) ran.outcomes
+  pub all_run : AllByRecursion (AllByRecursion IsCommittedOrInConflict) ran.outcomes
   pub answered : AllByRecursion IsAnswered ran.answers
   pub durable : ran.durable ≡ Some ran.end.epoch
 
@@ -74,7 +69,7 @@ done_of index clock (ran ∷ rans) [] clocks on caused durable = absurd clocks
 done_of index clock (ran ∷ rans) (round ∷ rounds) clocks on caused durable =
     let lasts = durable.0.lasts on.0 in (
       record {
-        commits = goes_on_committed ran caused.0 on.0;
+        all_run = goes_on_run ran caused.0 on.0;
         answered = all_answered ran.answers (goes_on_answered ran caused.0 on.0).0
             (durable_unlimited ran caused.0 clocks.1.epoch durable.0.as_told lasts);
         durable = lasts;
@@ -88,27 +83,42 @@ module _ {D : Type 0} (v : Vaults D) (options : RunOptions) (had left : Option B
   pub bytes_told : (came : Came v (Run options) had left Shows) (told : Bytes) → had ≡ Some told → told ≡ came.bytes
   bytes_told came told is = subst (λ (o : Option Bytes). AreBytes o came.bytes) is came.are_bytes
 
-  -- A run doesn't come to the limit of the draws.
-  not_at_draws : (snap : ℕ) (script : Script) (opening : Opening) (rans : List Ran) → AllByRecursion NoneLimited rans
-      → RunComes v snap script opening rans (AtLimit Draw) → ⊥
-  not_at_draws snap script opening rans none (inl runs) =
+  -- A run that ends at the limit of the draws has a round whose clock came to it.
+  met_draws : (snap : ℕ) (script : Script) (opening : Opening) (rans : List Ran) → AllByRecursion AllCaused rans
+      → AllByRecursion IsBelowDraws rans → RunComes v snap script opening rans (AtLimit Draw) → ⊥
+  met_draws snap script opening rans caused below (inl runs) =
       let by = runs.stops in
-      no_draw_end by.last runs.number (all_last by.before by.last (subst (AllByRecursion NoneLimited) by.rounds none))
-      by.refused
-  not_at_draws snap script opening rans none (inr before) = before.1
+      let met = draw_end_met by.last runs.number
+      (last_of AllCaused by.before by.last (subst (AllByRecursion AllCaused) by.rounds caused)) by.refused in
+      let less = last_of IsBelowDraws by.before by.last (subst (AllByRecursion IsBelowDraws) by.rounds below) in
+      omega (arith, met, less)
+  met_draws snap script opening rans caused below (inr before) = before.1
 
-  -- No run ends at the limit of the draws.
-  pub never_at_draws : (came : Came v (Run options) had left Shows) → came.ending ≡ AtLimit Draw → ⊥
-  never_at_draws came is = of came.course.script came.course.run
+  -- No run ends at the limit of the draws where a line has up to 16,383 tries, or a tree is declared.
+  pub never_at_draws : (came : Came v (Run options) had left Shows)
+      → (options.tries ≤ 16383) ⊎ HasTree (decls_in came.course.script) → came.ending ≡ AtLimit Draw → ⊥
+  never_at_draws came few is = of came.course.script came.course.run came.caused.once few
       (subst (λ (e : Ending). Comes v (Run options) came.bytes came.course.script came.course.opening came.rans e) is
       came.course.comes)
     where
+      below : (script : Script) → IsTextOf came.bytes script
+          → IsScriptRun script came.course.opening.state came.course.opening.saved came.rans came.course.state
+          → (HasTree script.decls → AllByRecursion RunsOnce came.rans) → (options.tries ≤ 16383) ⊎ HasTree script.decls
+          → AllByRecursion IsBelowDraws came.rans
+      below script text run once (inl few) =
+          below_draws came.bytes script came.course.opening.state came.course.opening.saved options.tries came.rans
+          came.course.state text run few came.caused.within
+      below script text run once (inr tree) =
+          below_draws came.bytes script came.course.opening.state came.course.opening.saved 1 came.rans came.course.state
+          text run (omega arith) (all_weaker RunsOnce (DrawsWithin 1) (λ ran r. once_within ran r.once) came.rans (once tree))
+
       of : (script : Option Script) → RunsOf script came.course.opening came.bytes came.rans came.course.state
+          → (HasTree (decls_in script) → AllByRecursion RunsOnce came.rans)
+          → (options.tries ≤ 16383) ⊎ HasTree (decls_in script)
           → Comes v (Run options) came.bytes script came.course.opening came.rans (AtLimit Draw) → ⊥
-      of None run comes = comes
-      of (Some script) run comes = not_at_draws options.snap script came.course.opening came.rans
-          (limited_none (Some script) came.course.opening came.bytes came.rans came.course.state run came.caused.caused
-          came.caused.draws_once) comes
+      of None run once few comes = comes
+      of (Some script) run once few comes = met_draws options.snap script came.course.opening came.rans
+          came.caused.caused (below script run.0 run.1 once few) comes
 
   -- With a script, a vault in its formats that has the script's storages, no device or stream that fails, no limit
   -- that is met, and memory, all is done.

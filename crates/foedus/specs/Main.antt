@@ -19,7 +19,7 @@ use Rattle.recovery_core.specs.Resting.{AreTold, HasNoRecords, IsResting}
 use Rattle.recovery_core.specs.VaultReads.{VaultOnlyReads}
 use Rattle.tx_script.specs.Run.{LogFull, Ran, IsScriptRun}
 use Rattle.tx_script.specs.Causes.{AllCaused}
-use Rattle.tx_script.specs.Draws.{DrawsOnce}
+use Rattle.tx_script.specs.Draws.{DrawsWithin, HasTree, RunsOnce}
 use Rattle.wire_form.specs.LogFile.{lines_bytes}
 use Rattle.round_engine.specs.Changes.{AreLogged}
 use Rattle.round_engine.specs.Ends.{durable_of, end_of}
@@ -27,6 +27,7 @@ use Rattle.round_engine.specs.RanRound.{AreRoundMarks}
 use Rattle.round_engine.specs.Saves.{saves_told}
 use Rattle.command_line.specs.Options.{command_of}
 use Rattle.command_line.specs.declared.command.Command.{Command}
+use Rattle.command_line.specs.declared.command.Command.TheVariants.{Run}
 use Rattle.foedus.specs.declared.ending.Ending.{Ending}
 use Rattle.foedus.specs.declared.ending.Ending.TheVariants.{Finished}
 use Rattle.foedus.specs.Beginning.{HasStorages, Opening, SameDecls}
@@ -95,14 +96,23 @@ pub record IsDurable (ran : Ran) : Type 0 where
   pub as_told : ran.durable ≡ durable_of ran
   pub lasts : end_of ran ≡ None → ran.durable ≡ Some ran.end.epoch
 
+-- how often a line may be tried
+abbrev pub tries_asked : Command → ℕ
+tries_asked (Run options) = options.tries
+tries_asked _ = 1
+
 -- Each outcome and each answer of the rounds has its cause, as has each epoch that was made durable; by the sequences
--- of the savepoints and the marks of the workers, which these causes speak of; and each line drew at most one number.
-pub record AreCaused (rounds : List Round) (sequence : ℕ) (rans : List Ran) : Type 0 where
+-- of the savepoints, the marks of the workers, and how often a line may be tried, which these causes speak of. A round
+-- draws no more numbers than its lines have tries; where a tree is declared each line has one, and nobody is in its way.
+pub record AreCaused (tries : ℕ) (decls : List Decl) (rounds : List Round) (sequence : ℕ) (rans : List Ran)
+    : Type 0 where
   pub caused : AllByRecursion AllCaused rans
   pub durable : AllByRecursion IsDurable rans
   pub sequences : SequencesFrom sequence rans
   pub marks : AreMarked rans rounds
-  pub draws_once : AllByRecursion DrawsOnce rans
+  pub tried : AllByRecursion (λ ran. ran.tries ≡ tries) rans
+  pub within : AllByRecursion (DrawsWithin tries) rans
+  pub once : HasTree decls → AllByRecursion RunsOnce rans
 
 -- the commit has an epoch above this one
 abbrev pub is_since : ℕ → Commit → Bool
@@ -229,7 +239,8 @@ pub record Came {D : Type 0} (v : Vaults D) (command : Command) (had left : Opti
   pub rans : List Ran
   pub ending : Ending
   pub course : Course v command bytes had left rans ending
-  pub caused : AreCaused (rounds_of course.script) course.opening.sequence rans
+  pub caused : AreCaused (tries_asked command) (decls_in course.script) (rounds_of course.script) course.opening.sequence
+      rans
   pub full : FilesAreFull v (decls_in course.script)
       (commits_of course.script course.opening bytes rans course.state course.run) course.opening rans
   pub files : RunsOver v (room_of command) (decls_in course.script) course.opening.state course.opening.saved

@@ -58,6 +58,7 @@ use Rattle.foedus.specs.Causes.{Counts, ReadsAlone, RestsAgain}
 use Rattle.foedus.specs.Ending.{IsNoText, IsReadOut, RunComes, body_text, last_line, output_text, status_of}
 use Rattle.brief_output.specs.Brief.{run_in_brief}
 use Rattle.foedus.specs.InBrief.{SumsUp, up_to}
+pub use Rattle.foedus.specs.InBrief.{ending_of_fault, ending_of_refusal}
 use Rattle.foedus.specs.Main.{AreBytes, AreCaused, FilesAreFull, Holds, Keeps}
 use Rattle.foedus.specs.RanOver.{RunsOver}
 use Rattle.foedus.specs.Vaults.{Vaults, vaults_of}
@@ -131,16 +132,6 @@ ReadsWithCause before after (Err (errors.Fault failed)) = (before ≤ after) × 
 abbrev pub EndsWithCause : ℕ → ℕ → Ending → Type 0
 EndsWithCause before after ReadFault = (before ≤ after) × Rose before after
 EndsWithCause before after ending = after ≡ before
-
--- How a call ends where recovery is refused.
-abbrev pub ending_of_fault : RecoverFault → Ending
-ending_of_fault (recovers.Device device) = NoDevice device
-ending_of_fault (recovers.Damaged device at) = Damaged device at
-
--- The same, or for want of memory.
-abbrev pub ending_of_refusal : OrMemory RecoverFault → Ending
-ending_of_refusal (errors.Fault fault) = ending_of_fault fault
-ending_of_refusal errors.Memory = NoMemory
 
 -- How a call ends whose vault can't be settled.
 abbrev pub ending_of_settle_fault : SettleFault → Ending
@@ -262,7 +253,7 @@ pub record BeginsRun {D : Type 0} (tells : D → Option Bytes) (clock : D → �
 -- ---- a script's run
 
 -- What was run of a script from what the vault stood for, to which state, and how that ended; and this is shown of it.
-pub record RunsRounds {D : Type 0} (v : Vaults D) (snap : ℕ) (script : Script)
+pub record RunsRounds {D : Type 0} (v : Vaults D) (snap tries : ℕ) (script : Script)
     (Shows : List Ran → State → Ending → Type 0) : Type 0 where
   pub rans : List Ran
   pub ending : Ending
@@ -270,30 +261,33 @@ pub record RunsRounds {D : Type 0} (v : Vaults D) (snap : ℕ) (script : Script)
   pub state : State
   pub run : IsScriptRun script opening.state opening.saved rans state
   pub comes : RunComes v snap script opening rans ending
-  pub caused : AreCaused script.rounds opening.sequence rans
+  pub caused : AreCaused tries script.decls script.rounds opening.sequence rans
   pub full : FilesAreFull v script.decls run.ordered opening rans
   pub files : RunsOver v snap script.decls opening.state opening.saved run.ordered rans
   pub kept : Keeps v script.decls run.ordered opening state rans ending
   pub shown : Shows rans state ending
 
 -- the same, where the state isn't shown
-abbrev pub RunsScript : {D : Type 0} → Vaults D → ℕ → Script → (List Ran → Ending → Type 0) → Type 0
-RunsScript v snap script Shows = RunsRounds v snap script (λ rans state ending. Shows rans ending)
+abbrev pub RunsScript : {D : Type 0} → Vaults D → ℕ → ℕ → Script → (List Ran → Ending → Type 0) → Type 0
+RunsScript v snap tries script Shows = RunsRounds v snap tries script (λ rans state ending. Shows rans ending)
 
 -- ---- a run in brief
 
--- Behind rounds that were run so, to this state and this ending, a sum is told or none; and this is shown of the text.
-pub record TellsInBrief {D : Type 0} (v : Vaults D) (mid : Vault D) (rans : List Ran) (state : State) (ending : Ending)
-    (Shows : Bytes → Type 0) : Type 0 where
+-- Behind rounds that were run so, to this state, and ended so, a sum is told or none; and this is shown of the text and of
+-- how the call ends.
+pub record TellsInBrief {D : Type 0} (v : Vaults D) (mid : Vault D) (rans : List Ran) (state : State) (ended : Ending)
+    (Shows : Bytes → Ending → Type 0) : Type 0 where
   pub total : Option ℕ
-  pub sums : SumsUp v mid rans state ending total
-  pub shown : Shows (run_in_brief rans total)
+  pub ending : Ending
+  pub sums : SumsUp v mid rans state ended total ending
+  pub shown : Shows (run_in_brief rans total) ending
 
 -- The same of the run of a script, which left the vault so; from then on it was at most read.
-pub record RunsInBrief {D : Type 0} (v : Vaults D) (snap : ℕ) (script : Script) (Shows : Bytes → Ending → Type 0)
+pub record RunsInBrief {D : Type 0} (v : Vaults D) (snap tries : ℕ) (script : Script) (Shows : Bytes → Ending → Type 0)
     : Type 0 where
   pub mid : Vault D
   pub total : Option ℕ
-  pub runs : RunsRounds (up_to v mid) snap script
-      (λ rans state ending. SumsUp v mid rans state ending total × Shows (run_in_brief rans total) ending)
+  pub ending : Ending
+  pub runs : RunsRounds (up_to v mid) snap tries script
+      (λ rans state ended. SumsUp v mid rans state ended total ending × Shows (run_in_brief rans total) ending)
   pub reads : VaultOnlyReads v.tells v.clock v.image_at v.faults mid v.is

@@ -1,5 +1,5 @@
 -- What is told of a run while it goes on: its lines, or nothing, where what came of it is counted and summed up.
-use Rattle.std.specs.Prelude.{◌≡◌, ◌++◌, ℕ, Bool, true, false, List, [], ◌∷◌, Option, Some, Result, Ok, Err, ⊤}
+use Rattle.std.specs.Prelude.{◌≡◌, ◌++◌, ℕ, Bool, true, false, List, [], ◌∷◌, Option, Some, None, Result, Ok, Err, ⊤}
 use Rattle.outside.specs.declared.fault.Failed.{Failed}
 use Rattle.serial_model.specs.State.{State}
 use Rattle.text_output.specs.Output.{Adds, Breaks, Output, Prints}
@@ -34,21 +34,21 @@ abbrev pub HasTold : Bool → Tally → Output → Output → List Ran → Type 
 HasTold true tally old new rans = (new ≡ old) × (tally ≡ tally_of rans)
 HasTold false tally old new rans = Adds old new (run_text rans)
 
--- Of a run that finished the sum of its state is told, where rounds were run; and no other sum is.
-pub record IsSumOf (total : Option ℕ) (rans : List Ran) (state : State) (ending : Ending) : Type 0 where
-  pub finished : (rans ≡ [] → ⊥) → ending ≡ Finished → total ≡ Some (total_of state)
-  pub only : (sum : ℕ) → total ≡ Some sum → (ending ≡ Finished) × (sum ≡ total_of state)
+-- A sum that is known is that of a run that finished, and of its state.
+abbrev pub IsSumOf : Option ℕ → State → Ending → Type 0
+IsSumOf None state ending = ⊤
+IsSumOf (Some sum) state ending = (ending ≡ Finished) × (sum ≡ total_of state)
 
 -- so it is in brief
-abbrev pub HasSum : Bool → Option ℕ → List Ran → State → Ending → Type 0
-HasSum true total rans state ending = IsSumOf total rans state ending
-HasSum false total rans state ending = ⊤
+abbrev pub HasSum : Bool → Option ℕ → State → Ending → Type 0
+HasSum true total state ending = IsSumOf total state ending
+HasSum false total state ending = ⊤
 
 -- The run came to this ending, and its rounds and its sum were told; or the sink failed within their lines and the last
 -- one.
 abbrev pub TellsRun : Bool → Tally → Option ℕ → Output → Output → Result Ending Failed → List Ran → State → Ending
     → Type 0
 TellsRun brief tally total old new (Ok came) rans state ending =
-    (ending ≡ came) × HasTold brief tally old new rans × HasSum brief total rans state ending
+    (ending ≡ came) × HasTold brief tally old new rans × HasSum brief total state ending
 TellsRun true tally total old new (Err failed) rans state ending = ⊥
 TellsRun false tally total old new (Err failed) rans state ending = Breaks old new (run_text rans ++ last_line ending)

@@ -96,7 +96,7 @@ pub fn top<R: Threads + Wait + Sync, S: Source, K: Sink, D: Disk + Send + Drop, 
 }
 
 // Does what the words ask for, and prints all of its text.
-fn call<R: Threads + Wait + Sync, S: Source, K: Sink, D: Disk + Drop, G: Watcher + Sync>(
+fn call<R: Threads + Wait + Sync, S: Source, K: Sink, D: Disk + Send + Drop, G: Watcher + Sync>(
     rt: &R,
     alloc: Global,
     words: &[&str],
@@ -145,7 +145,13 @@ fn call<R: Threads + Wait + Sync, S: Source, K: Sink, D: Disk + Drop, G: Watcher
 }
 
 // Does what the words ask for, and adds the text of what was run.
-fn run_words<R: Threads + Wait + Sync, S: Source, K: Sink, D: Disk + Drop, G: Watcher + Sync>(
+fn run_words<
+    R: Threads + Wait + Sync,
+    S: Source,
+    K: Sink,
+    D: Disk + Send + Drop,
+    G: Watcher + Sync,
+>(
     rt: &R,
     alloc: Global,
     words: &[&str],

@@ -9,13 +9,9 @@ use std::time::{Clock, Instant};
 // The clock is looked at once in so many lines of the script.
 const LINES: u64 = 4_096;
 
-// The maintenance thread, as gates count workers. On the plain map each line of another worker that a gate lets through
-// commits: none is ever refused a number.
-const MAINTENANCE: u8 = 255;
-
 /// Counts the lines of the script that are run. Where standard error is a terminal it shows which round of how many is
-/// run, how many lines were, how many transactions committed, and the seconds since the call began, once a second, in
-/// one line of the terminal that is written again.
+/// run, how many lines were, and the seconds since the call began, once a second, in one line of the terminal that is
+/// written again.
 #[derive(Drop)]
 pub(crate) struct Progress<'a, R: Clock> {
     rt: &'a R,
@@ -25,9 +21,8 @@ pub(crate) struct Progress<'a, R: Clock> {
     // The round that is run, from 1 on, and how many there are.
     round: AtomicU64,
     rounds: AtomicU64,
-    // Lines of transactions, and those of the maintenance thread.
-    commits: AtomicU64,
-    asked: AtomicU64,
+    // The lines that were run, of all workers and of the maintenance thread.
+    lines: AtomicU64,
     // The seconds that are shown, 0 where nothing stands on the terminal.
     seconds: AtomicU64,
 }
@@ -45,8 +40,7 @@ impl<'a, R: Clock> Progress<'a, R> {
             begin,
             round: AtomicU64::new(0),
             rounds: AtomicU64::new(0),
-            commits: AtomicU64::new(0),
-            asked: AtomicU64::new(0),
+            lines: AtomicU64::new(0),
             seconds: AtomicU64::new(0),
         }
     }
@@ -68,12 +62,11 @@ impl<'a, R: Clock> Progress<'a, R> {
             self.round.load(Ordering::SeqCst),
             self.rounds.load(Ordering::SeqCst),
         );
-        let commits = self.commits.load(Ordering::SeqCst);
-        let lines = commits.wrapping_add(self.asked.load(Ordering::SeqCst));
+        let lines = self.lines.load(Ordering::SeqCst);
         let mut errors = &self.errors;
         let _ = write!(
             errors,
-            "\r\x1b[Kround {round} of {rounds}, {lines} lines, {commits} commits, {seconds} s"
+            "\r\x1b[Kround {round} of {rounds}, {lines} lines, {seconds} s"
         );
     }
 
@@ -89,16 +82,11 @@ impl<'a, R: Clock> Progress<'a, R> {
 impl<'a, R: Clock> Gate for Progress<'a, R> {
     fn before(&self, _worker: u8, _line: u32) {}
 
-    fn after(&self, worker: u8, _line: u32) {
+    fn after(&self, _worker: u8, _line: u32) {
         let Some(begin) = self.begin else {
             return;
         };
-        let counter = if worker == MAINTENANCE {
-            &self.asked
-        } else {
-            &self.commits
-        };
-        let lines = counter.fetch_add(1, Ordering::SeqCst).wrapping_add(1);
+        let lines = self.lines.fetch_add(1, Ordering::SeqCst).wrapping_add(1);
         if lines % LINES == 0 {
             self.show(begin);
         }

@@ -37,7 +37,13 @@ use text_output::Printer;
 use tx_script::Script;
 
 /// Does what the command asks for, and adds the text of what was run.
-pub(crate) fn run<R: Threads + Wait + Sync, S: Source, K: Sink, D: Disk + Drop, G: Watcher + Sync>(
+pub(crate) fn run<
+    R: Threads + Wait + Sync,
+    S: Source,
+    K: Sink,
+    D: Disk + Send + Drop,
+    G: Watcher + Sync,
+>(
     rt: &R,
     alloc: Global,
     command: Command,
@@ -102,7 +108,7 @@ fn make<K: Sink>(printer: &mut Printer<'_, K>, arguments: MakeArguments) -> Resu
 }
 
 /// Runs a script on what the vault keeps, and adds the text of what was run.
-fn run_script<R: Threads + Wait + Sync, K: Sink, D: Disk + Drop, G: Watcher + Sync>(
+fn run_script<R: Threads + Wait + Sync, K: Sink, D: Disk + Send + Drop, G: Watcher + Sync>(
     rt: &R,
     alloc: Global,
     options: RunOptions,
@@ -117,11 +123,11 @@ fn run_script<R: Threads + Wait + Sync, K: Sink, D: Disk + Drop, G: Watcher + Sy
     requires whole { IsWhole vault.old }
     requires one { IfTold (D.tells vault.old.save) (Only D.clock D.image_at vault.old.save) }
     ensures full { options.brief ≡ false
-        → RunsScript (vaults_of D.tells D.clock D.image_at D.faults vault.old vault.new) options.snap script.now
-        (AddsRun (Command.Run options) printer.old printer.new result) }
+        → RunsScript (vaults_of D.tells D.clock D.image_at D.faults vault.old vault.new) options.snap options.tries
+        script.now (AddsRun (Command.Run options) printer.old printer.new result) }
     ensures brief { options.brief ≡ true
-        → RunsInBrief (vaults_of D.tells D.clock D.image_at D.faults vault.old vault.new) options.snap script.now
-        (AddsText printer.old printer.new result) }
+        → RunsInBrief (vaults_of D.tells D.clock D.image_at D.faults vault.old vault.new) options.snap options.tries
+        script.now (AddsText printer.old printer.new result) }
     ensures usage { result ≢ Ok Ending.Usage }
     ensures statuses { IsRunStatus (status_told result) }
     ensures faults { (source : ℕ) → AnswersFaults (record { before = source; after = source })
@@ -140,7 +146,7 @@ fn run_script<R: Threads + Wait + Sync, K: Sink, D: Disk + Drop, G: Watcher + Sy
 }
 
 /// Runs a script, and adds the lines of its rounds.
-fn run_in_full<R: Threads + Wait + Sync, K: Sink, D: Disk + Drop, G: Watcher + Sync>(
+fn run_in_full<R: Threads + Wait + Sync, K: Sink, D: Disk + Send + Drop, G: Watcher + Sync>(
     rt: &R,
     alloc: Global,
     options: RunOptions,
@@ -155,7 +161,7 @@ fn run_in_full<R: Threads + Wait + Sync, K: Sink, D: Disk + Drop, G: Watcher + S
     requires whole { IsWhole vault.old }
     requires one { IfTold (D.tells vault.old.save) (Only D.clock D.image_at vault.old.save) }
     ensures runs { RunsScript (vaults_of D.tells D.clock D.image_at D.faults vault.old vault.new) options.snap
-        script.now (AddsRun (Command.Run options) printer.old printer.new result) }
+        options.tries script.now (AddsRun (Command.Run options) printer.old printer.new result) }
     ensures reads { IsReadStatus (status_told result)
         → VaultOnlyReads D.tells D.clock D.image_at D.faults vault.old vault.new }
     ensures damage { ReadsDamage D.tells D.clock D.image_at D.faults (status_told result) vault.old vault.new }
@@ -175,7 +181,7 @@ fn run_in_full<R: Threads + Wait + Sync, K: Sink, D: Disk + Drop, G: Watcher + S
 }
 
 /// Runs a script, and adds the counts and the sum of it.
-fn run_in_brief<R: Threads + Wait + Sync, K: Sink, D: Disk + Drop, G: Watcher + Sync>(
+fn run_in_brief<R: Threads + Wait + Sync, K: Sink, D: Disk + Send + Drop, G: Watcher + Sync>(
     rt: &R,
     alloc: Global,
     options: RunOptions,
@@ -190,7 +196,7 @@ fn run_in_brief<R: Threads + Wait + Sync, K: Sink, D: Disk + Drop, G: Watcher + 
     requires whole { IsWhole vault.old }
     requires one { IfTold (D.tells vault.old.save) (Only D.clock D.image_at vault.old.save) }
     ensures runs { RunsInBrief (vaults_of D.tells D.clock D.image_at D.faults vault.old vault.new) options.snap
-        script.now (AddsText printer.old printer.new result) }
+        options.tries script.now (AddsText printer.old printer.new result) }
     ensures damage { ReadsDamage D.tells D.clock D.image_at D.faults (status_told result) vault.old vault.new }
     ensures devices { AnswersDevices D.faults vault.old vault.new (status_told result) }
     ensures reads { IsReadStatus (status_told result)
@@ -208,12 +214,11 @@ fn run_in_brief<R: Threads + Wait + Sync, K: Sink, D: Disk + Drop, G: Watcher + 
         vault,
         gate,
     )?;
-    tell_in_brief(alloc, teller, printer, vault)?;
-    Ok(ending)
+    tell_in_brief(alloc, teller, ending, printer, vault)
 }
 
 /// Runs the rounds of a script on what the vault keeps, up to one that ends the run, and has each of them told.
-fn run_rounds<R: Threads + Wait + Sync, K: Sink, D: Disk + Drop, G: Watcher + Sync>(
+fn run_rounds<R: Threads + Wait + Sync, K: Sink, D: Disk + Send + Drop, G: Watcher + Sync>(
     rt: &R,
     alloc: Global,
     options: RunOptions,
@@ -231,7 +236,8 @@ fn run_rounds<R: Threads + Wait + Sync, K: Sink, D: Disk + Drop, G: Watcher + Sy
     requires whole { IsWhole vault.old }
     requires one { IfTold (D.tells vault.old.save) (Only D.clock D.image_at vault.old.save) }
     ensures runs { RunsRounds (vaults_of D.tells D.clock D.image_at D.faults vault.old vault.new) options.snap
-        script.now (TellsRun teller.old.brief teller.new.tally teller.new.total printer.old printer.new result) }
+        options.tries script.now
+        (TellsRun teller.old.brief teller.new.tally teller.new.total printer.old printer.new result) }
     ensures whole { teller.new.tally.ran ≡ true → IsWhole vault.new }
     ensures reads { IsReadStatus (status_told result)
         → VaultOnlyReads D.tells D.clock D.image_at D.faults vault.old vault.new }

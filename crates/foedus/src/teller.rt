@@ -1,5 +1,5 @@
 // What is told of a run while it goes on.
-ghost use Rattle.std.specs.Prelude.{◌≡◌, ◌+◌, ◌<◌, ◌^◌, [], None, Some, length, sum_by, true};
+ghost use Rattle.std.specs.Prelude.{◌≡◌, ◌+◌, ◌<◌, ◌^◌, [], None, length, option_map, sum_by, true};
 ghost use Rattle.brief_output.specs.Brief.{tally_of, total_of};
 ghost use Rattle.foedus.specs.Telling.{TellsRound};
 
@@ -17,7 +17,7 @@ pub(crate) struct Teller {
     pub(crate) brief: bool,
     /// What came of those that were counted.
     pub(crate) tally: Tally,
-    /// The sum of all values behind them, where all rounds were run.
+    /// The sum of all values behind them, where all rounds were run and it is known.
     pub(crate) total: Option<u128>,
 }
 
@@ -53,14 +53,22 @@ impl Teller {
         put_round(printer, &report.outcomes, &report.keeper, report.durable)
     }
 
-    /// All rounds were run, to this state.
-    pub(crate) fn sum_up(&mut self, state: &State)
+    /// All rounds were run, to this state, if it is known.
+    pub(crate) fn sum_up(&mut self, state: Option<&State>)
         ensures tally { self.new.tally ≡ self.old.tally }
-        ensures total { self.old.brief ≡ true → self.new.total ≡ Some (total_of state.now) }
+        ensures total { self.old.brief ≡ true → self.new.total ≡ option_map (λ known. total_of known.now) state.entry }
     {
         if !self.brief {
             return;
         }
-        self.total = Some(total_of(state));
+        self.total = sum_of(state);
     }
+}
+
+// The sum of all values of a state, if it is known.
+fn sum_of(state: Option<&State>) -> Option<u128>
+    ensures { result ≡ option_map (λ known. total_of known.now) state.entry }
+{
+    let known = state?;
+    Some(total_of(known))
 }

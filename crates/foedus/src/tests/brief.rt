@@ -1,4 +1,6 @@
 // Runs that are told in brief.
+ghost use Rattle.outside.specs.Disk.{IfTold, Only};
+
 use super::failing_devices::failing_vault;
 use super::stops::fused_vault;
 use super::*;
@@ -15,33 +17,66 @@ dump # # 0 # epoch 2|1 2 7|
 // Nothing is told but the last line where no round was run, and what is kept is all that was kept before too.
 #[test]
 fn in_brief_over_what_is_kept(rt: HostRuntime) -> Result<(), Fail> {
-    let mut vault = fresh_vault(rt.alloc())?;
-    for row in CALLS.lines() {
-        check_row(&rt, &mut vault, row)?;
-    }
-    Ok(())
+    check_fresh(&rt, CALLS)
 }
 
+// One line, on threads and, where a tree is declared, on the plain map.
+const SHARED: &[u8] = b"array 1 4\n0 w 1 2 7\n";
+
+const PLAIN: &[u8] = b"array 1 4\ntree 2\n0 w 1 2 7\n";
+
 // The device and the number of its call that fails, the status and the text. The run makes 15 calls of the save and
-// three of bank 0, and no later ones where it finishes: its sum is known. Else what is kept is read.
+// three of bank 0. Then what is kept is read, by three calls of the save.
 const FAILING: &str = "\
 save # 0 # 5 # device save|
+save # 9 # 5 # commits 1|total 0|device save|
+save # 15 # 5 # commits 1|durable 1|device save|
+save # 18 # 0 # commits 1|total 7|durable 1|
+bank0 # 1 # 5 # commits 1|total 0|device bank0|
+bank0 # 3 # 5 # commits 1|durable 1|device bank0|
+";
+
+// Where a run on the plain map finishes, its sum is known, and nothing is read.
+const FAILING_PLAIN: &str = "\
 save # 9 # 5 # commits 1|total 0|device save|
 save # 15 # 0 # commits 1|total 7|durable 1|
 bank0 # 1 # 5 # commits 1|total 0|device bank0|
 bank0 # 3 # 0 # commits 1|total 7|durable 1|
 ";
 
+// Makes the run of a row over a vault.
+fn check_run<R: Threads + Wait + Sync + AllocGlobal + Abort, D: Disk + Send + Drop>(
+    rt: &R,
+    vault: &mut Vault<D>,
+    script: &[u8],
+    row: &str,
+) -> Result<(), Fail>
+    requires { IfTold (D.tells vault.old.save) (Only D.clock D.image_at vault.old.save) }
+{
+    let [_, _, status, text] = parts(row);
+    let (got, told) = answer(rt, vault, "run --brief", script)?;
+    check_told(rt, row, (got, &told), (status, text))
+}
+
+fn check_failing<R: Threads + Wait + Sync + AllocGlobal + Abort>(
+    rt: &R,
+    fresh: &Vault<MemDisk>,
+    script: &[u8],
+    row: &str,
+) -> Result<(), Fail> {
+    let [device, call, _, _] = parts(row);
+    let mut vault = failing_vault(rt.alloc(), fresh, device, call.parse::<u64>()?)?;
+    check_run(rt, &mut vault, script, row)
+}
+
 #[test]
 fn a_device_fails_in_brief(rt: HostRuntime) -> Result<(), Fail> {
+    let fresh = fresh_vault(rt.alloc())?;
     for row in FAILING.lines() {
-        let [device, call, status, text] = parts(row);
-        let fresh = fresh_vault(rt.alloc())?;
-        let mut vault = failing_vault(rt.alloc(), &fresh, device, call.parse::<u64>()?)?;
-        let (got, told) = answer(&rt, &mut vault, "run --brief", b"array 1 4\n0 w 1 2 7\n")?;
-        let text = lines(rt.alloc(), text)?;
-        assert_eq!(rt; got, status.parse::<u8>()?, "{row}");
-        assert_eq!(rt; told.as_slice(), text.as_slice(), "{row}");
+        check_failing(&rt, &fresh, SHARED, row)?;
+    }
+    for row in FAILING_PLAIN.lines() {
+        check_failing(&rt, &fresh, PLAIN, row)?;
     }
     Ok(())
 }
@@ -50,19 +85,33 @@ fn a_device_fails_in_brief(rt: HostRuntime) -> Result<(), Fail> {
 const BROKEN: &str = "\
 save # 9 # 5 # commits 1|device save|
 bank0 # 1 # 5 # commits 1|device bank0|
+bank0 # 3 # 5 # commits 1|durable 1|device bank0|
+";
+
+const BROKEN_PLAIN: &str = "\
+bank0 # 1 # 5 # commits 1|device bank0|
 bank0 # 3 # 0 # commits 1|total 7|durable 1|
 ";
 
+fn check_broken<R: Threads + Wait + Sync + AllocGlobal + Abort>(
+    rt: &R,
+    fresh: &Vault<MemDisk>,
+    script: &[u8],
+    row: &str,
+) -> Result<(), Fail> {
+    let [device, passes, _, _] = parts(row);
+    let mut vault = fused_vault(rt.alloc(), fresh, device, passes.parse::<u64>()?)?;
+    check_run(rt, &mut vault, script, row)
+}
+
 #[test]
 fn a_device_stays_broken_in_brief(rt: HostRuntime) -> Result<(), Fail> {
+    let fresh = fresh_vault(rt.alloc())?;
     for row in BROKEN.lines() {
-        let [device, passes, status, text] = parts(row);
-        let fresh = fresh_vault(rt.alloc())?;
-        let mut vault = fused_vault(rt.alloc(), &fresh, device, passes.parse::<u64>()?)?;
-        let (got, told) = answer(&rt, &mut vault, "run --brief", b"array 1 4\n0 w 1 2 7\n")?;
-        let text = lines(rt.alloc(), text)?;
-        assert_eq!(rt; got, status.parse::<u8>()?, "{row}");
-        assert_eq!(rt; told.as_slice(), text.as_slice(), "{row}");
+        check_broken(&rt, &fresh, SHARED, row)?;
+    }
+    for row in BROKEN_PLAIN.lines() {
+        check_broken(&rt, &fresh, PLAIN, row)?;
     }
     Ok(())
 }
@@ -71,25 +120,25 @@ fn a_device_stays_broken_in_brief(rt: HostRuntime) -> Result<(), Fail> {
 #[test]
 fn damage_in_brief(rt: HostRuntime) -> Result<(), Fail> {
     let mut vault = vault_of(rt.alloc(), &[0; 3], &[], &[], &[])?;
-    let (status, text) = answer(&rt, &mut vault, "run --brief", b"array 1 4\n0 w 1 2 7\n")?;
-    assert_eq!(rt; status, 6);
-    assert_eq!(rt; text.as_slice(), b"damaged save 0\n".as_slice());
-    Ok(())
+    check_run(&rt, &mut vault, SHARED, "# # 6 # damaged save 0|")
+}
+
+// Makes a long script, and runs it.
+fn make_and_run<R: Threads + Wait + Sync + AllocGlobal + Abort>(
+    rt: &R,
+    vault: &mut Vault<MemDisk>,
+) -> Result<(), Fail> {
+    let (made, script) = answer_anew(rt, vault, "make 7 8 65536", b"")?;
+    assert!(rt; made == 0);
+    let text = b"commits 65536\ntotal 131072\ndurable 1\n";
+    check_answer(rt, vault, "run --brief", &script, (0, text.as_slice()))
 }
 
 // The long script that everybody can make.
 #[test]
 fn a_long_script_in_brief(rt: HostRuntime) -> Result<(), Fail> {
     let mut vault = fresh_vault(rt.alloc())?;
-    let (made, script) = answer(&rt, &mut vault, "make 7 8 65536", b"")?;
-    assert_eq!(rt; made, 0);
-    let (status, text) = answer_anew(&rt, &mut vault, "run --brief", &script)?;
-    assert_eq!(rt; status, 0);
-    assert_eq!(rt;
-        text.as_slice(),
-        b"commits 65536\ntotal 131072\ndurable 1\n".as_slice()
-    );
-    Ok(())
+    make_and_run(&rt, &mut vault)
 }
 
 // The session of the README.
@@ -105,9 +154,5 @@ dump # # 0 # epoch 2|1 454 1|1 897 1|2 107 5|
 
 #[test]
 fn the_session_of_the_readme(rt: HostRuntime) -> Result<(), Fail> {
-    let mut vault = fresh_vault(rt.alloc())?;
-    for row in SESSION.lines() {
-        check_row(&rt, &mut vault, row)?;
-    }
-    Ok(())
+    check_fresh(&rt, SESSION)
 }

@@ -1,5 +1,5 @@
-// The scripts of the folder examples, each with the text beside it and what the database keeps then: those of
-// `NAME.txt`, `NAME.out` and `NAME.kept`.
+// The scripts of the folder examples, one line after another, each with the text beside it and what the database keeps
+// then: those of `NAME.txt`, `NAME.out` and `NAME.kept`.
 use super::*;
 
 const LEDGER: [&str; 3] = [
@@ -190,15 +190,26 @@ epoch 2
 ",
 ];
 
+fn check_example<R: Threads + Wait + Sync + AllocGlobal + Abort>(
+    rt: &R,
+    example: [&str; 3],
+) -> Result<(), Fail> {
+    let [script, text, kept] = example;
+    let mut vault = fresh_vault(rt.alloc())?;
+    check_answer(
+        rt,
+        &mut vault,
+        "run",
+        script.as_bytes(),
+        (0, text.as_bytes()),
+    )?;
+    check_answer(rt, &mut vault, "dump", b"", (0, kept.as_bytes()))
+}
+
 #[test]
 fn each_example_comes_to_its_text(rt: HostRuntime) -> Result<(), Fail> {
-    for [script, text, kept] in [LEDGER, TRANSFERS, INVENTORY, QUEUE, PRICES] {
-        let mut vault = fresh_vault(rt.alloc())?;
-        let (status, told) = answer_anew(&rt, &mut vault, "run", script.as_bytes())?;
-        assert_eq!(rt; status, 0, "{script}");
-        assert_eq!(rt; told.as_slice(), text.as_bytes(), "{script}");
-        let (_status, told) = answer_anew(&rt, &mut vault, "dump", b"")?;
-        assert_eq!(rt; told.as_slice(), kept.as_bytes(), "{script}");
+    for example in [LEDGER, TRANSFERS, INVENTORY, QUEUE, PRICES] {
+        check_example(&rt, example)?;
     }
     Ok(())
 }

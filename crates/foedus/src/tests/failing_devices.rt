@@ -33,28 +33,45 @@ fn failing_disk(
     disk_of(alloc, disk.bytes(), &fails_of(alloc, is_meant, call)?)
 }
 
+// Disks of what log files of even number hold, or of odd number, of which this call of this device fails.
+fn failing_disks(
+    alloc: Global,
+    disks: &[MemDisk],
+    is_odd: bool,
+    device: &str,
+    call: u64,
+) -> Result<Vec<MemDisk>, AllocError> {
+    let mut failing = Vec::new(alloc);
+    for worker in 0..disks.len().min(8) {
+        let is_meant = is_bank(worker, is_odd, device);
+        failing.push(failing_disk(alloc, &disks[worker], is_meant, call)?)?;
+    }
+    Ok(failing)
+}
+
+// Whether a device is this log file of a worker.
+pub(super) fn is_bank(worker: usize, is_odd: bool, device: &str) -> bool {
+    let bank = if is_odd { 1 } else { 0 };
+    BANKS[(worker % 8) * 2 + bank] == device
+}
+
 // A vault of what another holds, of which this call of this device fails.
 pub(super) fn failing_vault(
     alloc: Global,
     vault: &Vault<MemDisk>,
     device: &str,
     call: u64,
-) -> Result<Vault<MemDisk>, Fail>
+) -> Result<Vault<MemDisk>, AllocError>
     ensures { IfOk result (λ vault. IfTold (⟦<MemDisk as Disk>⟧.tells vault.save)
         (Only ⟦<MemDisk as Disk>⟧.clock ⟦<MemDisk as Disk>⟧.image_at vault.save)) }
 {
-    if !vault.is_whole() {
-        return Err(Fail::from("a vault without a log file"));
-    }
-    let (mut even, mut odd) = (Vec::new(alloc), Vec::new(alloc));
-    for worker in 0..8 {
-        let (first, second) = (BANKS[2 * worker] == device, BANKS[2 * worker + 1] == device);
-        even.push(failing_disk(alloc, &vault.even[worker], first, call)?)?;
-        odd.push(failing_disk(alloc, &vault.odd[worker], second, call)?)?;
-    }
+    let save = failing_disk(alloc, &vault.save, device == "save", call)?;
+    let snaps = failing_disk(alloc, &vault.snaps, device == "snaps", call)?;
+    let even = failing_disks(alloc, &vault.even, false, device, call)?;
+    let odd = failing_disks(alloc, &vault.odd, true, device, call)?;
     Ok(Vault {
-        save: failing_disk(alloc, &vault.save, device == "save", call)?,
-        snaps: failing_disk(alloc, &vault.snaps, device == "snaps", call)?,
+        save,
+        snaps,
         even,
         odd,
         ties: Vec::new(alloc),
@@ -121,11 +138,25 @@ fn check_failure<R: Threads + Wait + Sync + AllocGlobal + Abort>(
     kept: &[u8],
 ) -> Result<(), Fail> {
     let mut vault = failing_vault(rt.alloc(), vault, device, call)?;
-    let (status, text) = answer(rt, &mut vault, "run", script)?;
-    assert_eq!(rt; status, ended.0, "{device} {call}");
+    check_run(rt, &mut vault, script, (device, call), ended)?;
+    check_answer(rt, &mut vault, "dump", b"", (0, kept))
+}
+
+// Makes a run over a vault of which a call of a device fails.
+pub(super) fn check_run<R: Threads + Wait + Sync + AllocGlobal + Abort>(
+    rt: &R,
+    vault: &mut Vault<MemDisk>,
+    script: &[u8],
+    failing: (&str, u64),
+    ended: (u8, &[u8]),
+) -> Result<(), Fail>
+    requires { IfTold (⟦<MemDisk as Disk>⟧.tells vault.old.save)
+        (Only ⟦<MemDisk as Disk>⟧.clock ⟦<MemDisk as Disk>⟧.image_at vault.old.save) }
+{
+    let (device, call) = failing;
+    let (status, text) = answer(rt, vault, "run", script)?;
+    assert!(rt; status == ended.0, "{device} {call}");
     assert_eq!(rt; text.as_slice(), ended.1, "{device} {call}");
-    let (_status, told) = answer_anew(rt, &mut vault, "dump", b"")?;
-    assert_eq!(rt; told.as_slice(), kept, "{device} {call}");
     Ok(())
 }
 
@@ -169,43 +200,63 @@ fn each_call_of_a_settling_may_fail(rt: HostRuntime) -> Result<(), Fail> {
     Ok(())
 }
 
+fn check_cut<R: Threads + Wait + Sync + AllocGlobal + Abort>(
+    rt: &R,
+    vault: &Vault<MemDisk>,
+    bank: &str,
+) -> Result<(), Fail> {
+    let text = format!(in rt.alloc(); "device {bank}\n")?;
+    let ended = (5, text.as_bytes());
+    check_failure(rt, (vault, SCRIPT), bank, 0, ended, b"epoch 0\n")
+}
+
 // The other log files are cut, and not called again.
 #[test]
 fn each_cut_of_a_settling_may_fail(rt: HostRuntime) -> Result<(), Fail> {
     let vault = fresh_vault(rt.alloc())?;
-    for bank in BANKS {
-        let text = format!(in rt.alloc(); "device {bank}\n")?;
-        let ended = (5, text.as_bytes());
-        check_failure(&rt, (&vault, SCRIPT), bank, 0, ended, b"epoch 0\n")?;
+    for bank in &BANKS {
+        check_cut(&rt, &vault, bank)?;
     }
     Ok(())
 }
 
-// The script of a hundred lines that set a value, and what is told of it: 93 lines of 40 bytes leave fewer than 400
-// bytes of the buffer free, so the first write of the log file, its second call, stands before the next one.
-fn hundred_lines(alloc: Global) -> Result<(Vec<u8>, Vec<u8>), AllocError> {
-    let mut script = b"array 1 4\n".to_vec(alloc)?;
-    let mut text = Vec::new(alloc);
-    for index in 0..100u32 {
+// A hundred lines that set a value, and what is told of them: 93 lines of 40 bytes leave fewer than 400 bytes of the
+// buffer free, so the first write of the log file, its second call, stands before the next one.
+fn hundred_lines(
+    alloc: Global,
+    script: &mut Vec<u8>,
+    text: &mut Vec<u8>,
+) -> Result<(), AllocError> {
+    script.extend_from_slice(b"array 1 4\n")?;
+    for index in 0..100 {
         script.extend_from_slice(b"0 w 1 0 1\n")?;
-        let line = if index < 93 {
-            format!(in alloc; "0.{index} ok 1:{}\n", index + 1)?
-        } else {
-            format!(in alloc; "0.{index} unrun\n")?
-        };
-        text.extend_from_slice(line.as_bytes())?;
+        add_line(alloc, text, index)?;
     }
-    text.extend_from_slice(b"device bank0\n")?;
-    Ok((script, text))
+    text.extend_from_slice(b"device bank0\n")
+}
+
+fn add_line(alloc: Global, text: &mut Vec<u8>, index: u32) -> Result<(), AllocError> {
+    let line = if index < 93 {
+        format!(in alloc; "0.{index} ok 1:{}\n", index + 1)?
+    } else {
+        format!(in alloc; "0.{index} unrun\n")?
+    };
+    text.extend_from_slice(line.as_bytes())
+}
+
+fn check_hundred<R: Threads + Wait + Sync + AllocGlobal + Abort>(
+    rt: &R,
+    fresh: &Vault<MemDisk>,
+    script: &[u8],
+    text: &[u8],
+) -> Result<(), Fail> {
+    check_failure(rt, (fresh, script), "bank0", 1, (5, text), b"epoch 0\n")
 }
 
 #[test]
 fn a_log_file_that_fails_ends_its_worker(rt: HostRuntime) -> Result<(), Fail> {
-    let (script, text) = hundred_lines(rt.alloc())?;
+    let (mut script, mut text) = (Vec::new(rt.alloc()), Vec::new(rt.alloc()));
+    hundred_lines(rt.alloc(), &mut script, &mut text)?;
     let fresh = fresh_vault(rt.alloc())?;
-    let mut vault = failing_vault(rt.alloc(), &fresh, "bank0", 1)?;
-    let (status, told) = answer(&rt, &mut vault, "run", &script)?;
-    assert_eq!(rt; status, 5);
-    assert_eq!(rt; told.as_slice(), text.as_slice());
-    check_row(&rt, &mut vault, "dump # # 0 # epoch 0|")
+    check_hundred(&rt, &fresh, &script, &text)
 }

@@ -1,6 +1,5 @@
 // Runs that make snapshots, and what is told of them afterwards.
-use super::failing_devices::{BANKS, failing_vault, part};
-use super::kept_runs::check_rows;
+use super::failing_devices::{BANKS, check_run, failing_vault, part};
 use super::*;
 
 // The words after the name, the script, the status and the text, with bars for newlines; one call after another. The
@@ -90,67 +89,124 @@ snap 5 # # 0 # epoch 5|2 0 5|2 1 0|2 18446744073709551615 4|
 snap 1 # # 0 # epoch 1|1 1 1|2 0 5|2 1 2|2 18446744073709551615 4|3 1 3|
 ";
 
+const ROWS: [&str; 6] = [
+    A_SNAPSHOT,
+    AGAIN,
+    A_HIGH_ARRAY,
+    NO_ROOM,
+    A_TREE,
+    TREES_AND_AN_ARRAY,
+];
+
 #[test]
 fn snapshots_within_a_run(rt: HostRuntime) -> Result<(), Fail> {
-    for rows in [
-        A_SNAPSHOT,
-        AGAIN,
-        A_HIGH_ARRAY,
-        NO_ROOM,
-        A_TREE,
-        TREES_AND_AN_ARRAY,
-    ] {
-        let mut vault = fresh_vault(rt.alloc())?;
-        check_rows(&rt, &mut vault, rows)?;
+    for rows in &ROWS {
+        check_fresh(&rt, rows)?;
     }
     Ok(())
+}
+
+fn add_round(alloc: Global, script: &mut String, round: u64) -> Result<(), AllocError> {
+    let line = format!(in alloc;
+        "{} w 1 {} {round}; a 2 {} 1; w 3 {} {round}; w 4 {} {round}; d 4 {}\n{}join\n",
+        round % 3,
+        round % 4,
+        round.wrapping_mul(40) % 160,
+        round.wrapping_mul(13_000) % 131_072,
+        round.wrapping_mul(7) % 5,
+        round % 3,
+        if round % 3 == 0 { "k glean\n" } else { "" }
+    )?;
+    script.push_str(line.as_str())
 }
 
 // Arrays of all heights and a tree. Each round changes each of them at other keys, and each third one makes a snapshot.
 fn rounds(alloc: Global, count: u64) -> Result<String, AllocError> {
     let mut script = String::from_str(alloc, "array 1 4\narray 2 160\narray 3 131072\ntree 4\n")?;
     for round in 1..=count {
-        let line = format!(in alloc;
-            "{} w 1 {} {round}; a 2 {} 1; w 3 {} {round}; w 4 {} {round}; d 4 {}\n{}join\n",
-            round % 3,
-            round % 4,
-            round.wrapping_mul(40) % 160,
-            round.wrapping_mul(13_000) % 131_072,
-            round.wrapping_mul(7) % 5,
-            round % 3,
-            if round % 3 == 0 { "k glean\n" } else { "" }
-        )?;
-        script.push_str(line.as_str())?;
+        add_round(alloc, &mut script, round)?;
     }
     Ok(script)
 }
 
+fn run_rounds<R: Threads + Wait + Sync + AllocGlobal + Abort>(
+    rt: &R,
+    vault: &mut Vault<MemDisk>,
+    count: u64,
+) -> Result<(), Fail> {
+    let script = rounds(rt.alloc(), count)?;
+    let (status, _text) = answer_anew(rt, vault, "run", script.as_bytes())?;
+    assert_eq!(rt; status, 0);
+    Ok(())
+}
+
+// The epochs of the snapshots but the first, and the words that ask for each.
+const EPOCHS: [(u64, &str); 3] = [(1, "snap 1"), (3, "snap 3"), (6, "snap 6")];
+
+// How many lines begin with this, and with ` at `.
+fn lines_of(text: &[u8], start: &str) -> usize {
+    let mut count: usize = 0;
+    for line in str::from_utf8(text).unwrap_or("").lines() {
+        if let Some(rest) = line.strip_prefix(start) {
+            if rest.starts_with(" at ") {
+                count = count.wrapping_add(1);
+            }
+        }
+    }
+    count
+}
+
+fn check_listed<R: Threads + Wait + Sync + AllocGlobal + Abort>(
+    rt: &R,
+    vault: &mut Vault<MemDisk>,
+) -> Result<(), Fail> {
+    let (_status, told) = answer_anew(rt, vault, "snaps", b"")?;
+    for (_, asked) in &EPOCHS {
+        assert_eq!(rt; lines_of(&told, asked), 1, "{asked}");
+    }
+    let lines = str::from_utf8(&told).unwrap_or("").lines().count();
+    assert_eq!(rt; lines, 4);
+    Ok(())
+}
+
+// What a run keeps that was cut off at an epoch, and what the snapshot of that epoch has.
+fn check_cut_off<R: Threads + Wait + Sync + AllocGlobal + Abort>(
+    rt: &R,
+    vault: &mut Vault<MemDisk>,
+    epoch: u64,
+    asked: &str,
+) -> Result<(), Fail> {
+    let kept = kept_at(rt, epoch)?;
+    check_answer(rt, vault, asked, b"", (0, &kept))
+}
+
+fn kept_at<R: Threads + Wait + Sync + AllocGlobal + Abort>(
+    rt: &R,
+    epoch: u64,
+) -> Result<Vec<u8>, Fail> {
+    let mut cut = fresh_vault(rt.alloc())?;
+    run_rounds(rt, &mut cut, epoch)?;
+    let (_status, kept) = answer_anew(rt, &mut cut, "dump", b"")?;
+    Ok(kept)
+}
+
 // A snapshot has what a database keeps whose run was cut off at its epoch.
+fn check_snapshots<R: Threads + Wait + Sync + AllocGlobal + Abort>(
+    rt: &R,
+    vault: &mut Vault<MemDisk>,
+) -> Result<(), Fail> {
+    run_rounds(rt, vault, 10)?;
+    check_listed(rt, vault)?;
+    for (epoch, asked) in &EPOCHS {
+        check_cut_off(rt, vault, *epoch, asked)?;
+    }
+    Ok(())
+}
+
 #[test]
 fn a_snapshot_is_the_run_cut_off(rt: HostRuntime) -> Result<(), Fail> {
-    let alloc = rt.alloc();
-    let mut vault = fresh_vault(alloc)?;
-    let script = rounds(alloc, 10)?;
-    let (status, _text) = answer_anew(&rt, &mut vault, "run", script.as_bytes())?;
-    assert_eq!(rt; status, 0);
-    let (_status, told) = answer_anew(&rt, &mut vault, "snaps", b"")?;
-    let told = String::from_str(alloc, str::from_utf8(&told).unwrap_or(""))?;
-    for (epoch, asked) in [(1, "snap 1"), (3, "snap 3"), (6, "snap 6")] {
-        let start = format!(in alloc; "{asked} at ")?;
-        assert!(rt;
-            told.lines().any(|line| line.starts_with(start.as_str())),
-            "{told}"
-        );
-        let mut cut = fresh_vault(alloc)?;
-        let script = rounds(alloc, epoch)?;
-        let (_status, _text) = answer_anew(&rt, &mut cut, "run", script.as_bytes())?;
-        let (_status, kept) = answer_anew(&rt, &mut cut, "dump", b"")?;
-        let (status, had) = answer_anew(&rt, &mut vault, asked, b"")?;
-        assert_eq!(rt; status, 0);
-        assert_eq!(rt; had.as_slice(), kept.as_slice(), "{epoch}");
-    }
-    assert_eq!(rt; told.lines().count(), 4, "{told}");
-    Ok(())
+    let mut vault = fresh_vault(rt.alloc())?;
+    check_snapshots(&rt, &mut vault)
 }
 
 const SCRIPT: &[u8] = b"array 1 4\n0 w 1 2 7\njoin\nk glean\njoin\n";
@@ -183,26 +239,46 @@ bank1 # 1 # 1 # 5 # 0.0 ok 1:1|durable 1|device bank1| # epoch 1|1 2 7| # snap 0
 bank1 # 2 # 2 # 0 # 0.0 ok 1:1|durable 1|k.0 snap 1 new 2|durable 2| # epoch 2|1 2 7| # snap 0 at 1|snap 1 at 3|
 ";
 
-// Makes the run with each failure of a row, and compares what is told.
+// What is told of a run of which a call of a device fails, and of what it keeps: the row's texts.
+#[derive(Drop)]
+struct Texts {
+    run: Vec<u8>,
+    dump: Vec<u8>,
+    snaps: Vec<u8>,
+}
+
+fn row_texts(alloc: Global, row: &str) -> Result<Texts, Fail> {
+    let run = lines(alloc, part(row, 4))?;
+    let dump = lines(alloc, part(row, 5))?;
+    let snaps = lines(alloc, part(row, 6))?;
+    Ok(Texts { run, dump, snaps })
+}
+
+// Makes the run with a failure of a row, and compares what is told.
+fn check_failure<R: Threads + Wait + Sync + AllocGlobal + Abort>(
+    rt: &R,
+    fresh: &Vault<MemDisk>,
+    failing: (&str, u64),
+    status: u8,
+    texts: &Texts,
+) -> Result<(), Fail> {
+    let mut vault = failing_vault(rt.alloc(), fresh, failing.0, failing.1)?;
+    check_run(rt, &mut vault, SCRIPT, failing, (status, &texts.run))?;
+    check_answer(rt, &mut vault, "dump", b"", (0, &texts.dump))?;
+    check_answer(rt, &mut vault, "snaps", b"", (0, &texts.snaps))
+}
+
 fn check_failures<R: Threads + Wait + Sync + AllocGlobal + Abort>(
     rt: &R,
     fresh: &Vault<MemDisk>,
     row: &str,
 ) -> Result<(), Fail> {
-    let alloc = rt.alloc();
     let [device, first, last, status] = parts(row);
-    let text = lines(alloc, part(row, 4))?;
-    let dump = lines(alloc, part(row, 5))?;
-    let snaps = lines(alloc, part(row, 6))?;
-    for call in first.parse::<u64>()?..=last.parse::<u64>()? {
-        let mut vault = failing_vault(alloc, fresh, device, call)?;
-        let (got, told) = answer(rt, &mut vault, "run", SCRIPT)?;
-        assert_eq!(rt; got, status.parse::<u8>()?, "{device} {call}");
-        assert_eq!(rt; told.as_slice(), text.as_slice(), "{device} {call}");
-        let (_status, told) = answer_anew(rt, &mut vault, "dump", b"")?;
-        assert_eq!(rt; told.as_slice(), dump.as_slice(), "{device} {call}");
-        let (_status, told) = answer_anew(rt, &mut vault, "snaps", b"")?;
-        assert_eq!(rt; told.as_slice(), snaps.as_slice(), "{device} {call}");
+    let (first, last) = (first.parse::<u64>()?, last.parse::<u64>()?);
+    let status = status.parse::<u8>()?;
+    let texts = row_texts(rt.alloc(), row)?;
+    for call in first..=last {
+        check_failure(rt, fresh, (device, call), status, &texts)?;
     }
     Ok(())
 }
@@ -231,45 +307,66 @@ snap 0 at 1|snap 1 at 3|
     Ok(())
 }
 
+fn check_all_files<R: Threads + Wait + Sync + AllocGlobal + Abort>(
+    rt: &R,
+    fresh: &Vault<MemDisk>,
+) -> Result<(), Fail> {
+    for worker in 1..8 {
+        check_files(rt, fresh, BANKS[2 * worker], BANKS[2 * worker + 1])?;
+    }
+    Ok(())
+}
+
 #[test]
 fn each_call_of_a_glean_may_fail(rt: HostRuntime) -> Result<(), Fail> {
     let fresh = fresh_vault(rt.alloc())?;
     for row in FAILING.lines() {
         check_failures(&rt, &fresh, row)?;
     }
-    for worker in 1..8 {
-        check_files(&rt, &fresh, BANKS[2 * worker], BANKS[2 * worker + 1])?;
-    }
-    Ok(())
+    check_all_files(&rt, &fresh)
 }
 
-// A script of so many rounds over a tree, and its text. Each puts nine keys behind the eight in the last leaf, which is
-// cut: the snapshot of so many levels has the pages above that leaf once more, three in its place, and its catalogue.
-fn deepening(alloc: Global, rounds: u64) -> Result<(String, String), AllocError> {
-    let first =
-        "tree 2\n0 w 2 1 1; w 2 2 1; w 2 3 1; w 2 4 1; w 2 5 1; w 2 6 1; w 2 7 1; w 2 8 1\n";
-    let mut script = String::from_str(alloc, first)?;
-    let mut text = String::from_str(alloc, "0.0 ok 1:1\ndurable 1\n")?;
-    for round in 2..=rounds {
-        let lines = format!(in alloc;
-            "\
+fn add_nine(alloc: Global, script: &mut String, round: u64) -> Result<(), AllocError> {
+    let lines = format!(in alloc;
+        "\
 join
 0 w 2 {round}1 1; w 2 {round}2 1; w 2 {round}3 1; w 2 {round}4 1; w 2 {round}5 1; w 2 {round}6 1; w 2 {round}7 1; \
 w 2 {round}8 1; w 2 {round}9 1
 k glean
 "
-        )?;
-        script.push_str(lines.as_str())?;
-        let (epoch, new) = (
-            round.wrapping_sub(1),
-            if round == 2 { 2 } else { round.wrapping_add(1) },
-        );
-        let told = format!(in alloc;
-            "0.0 ok {round}:{round}\nk.0 snap {epoch} new {new}\ndurable {round}\n"
-        )?;
-        text.push_str(told.as_str())?;
+    )?;
+    script.push_str(lines.as_str())
+}
+
+fn add_told(alloc: Global, text: &mut String, round: u64) -> Result<(), AllocError> {
+    let (epoch, new) = (
+        round.wrapping_sub(1),
+        if round == 2 { 2 } else { round.wrapping_add(1) },
+    );
+    let told = format!(in alloc;
+        "0.0 ok {round}:{round}\nk.0 snap {epoch} new {new}\ndurable {round}\n"
+    )?;
+    text.push_str(told.as_str())
+}
+
+// Adds a script of so many rounds over a tree, and its text. Each puts nine keys behind the eight in the last leaf,
+// which is cut: the snapshot of so many levels has the pages above that leaf once more, three in its place, and its
+// catalogue.
+fn add_deepening(
+    alloc: Global,
+    script: &mut String,
+    text: &mut String,
+    rounds: u64,
+) -> Result<(), AllocError> {
+    let first =
+        "tree 2\n0 w 2 1 1; w 2 2 1; w 2 3 1; w 2 4 1; w 2 5 1; w 2 6 1; w 2 7 1; w 2 8 1\n";
+    script.push_str(first)?;
+    text.push_str("0.0 ok 1:1\ndurable 1\n")?;
+    for round in 2..=rounds {
+        add_nine(alloc, script, round)?;
+        add_told(alloc, text, round)?;
     }
-    Ok((script, text))
+    Ok(())
 }
 
 // A page below 32 others can't be made. That is told before the want of pages, both within a run and as one begins.
@@ -278,15 +375,28 @@ run --snap 592 # tree 2|k glean # 7 # limit height|
 snap 33 # # 9 # no snapshot 33|
 ";
 
+// A script of 33 rounds and two that find no page, and its text.
+fn deep_script(alloc: Global, script: &mut String, text: &mut String) -> Result<(), AllocError> {
+    add_deepening(alloc, script, text, 33)?;
+    script.push_str("join\nk glean\njoin\n0 r 2 339\nk glean\n")?;
+    text.push_str("k.0 deep\ndurable 34\n0.0 ok 35:34 1\nk.0 deep\ndurable 35\n")
+}
+
+fn check_deep<R: Threads + Wait + Sync + AllocGlobal + Abort>(
+    rt: &R,
+    script: &str,
+    text: &str,
+) -> Result<(), Fail> {
+    let mut vault = fresh_vault(rt.alloc())?;
+    let ended = (0, text.as_bytes());
+    check_answer(rt, &mut vault, "run --snap 592", script.as_bytes(), ended)?;
+    check_rows(rt, &mut vault, TOO_DEEP)
+}
+
 #[test]
 fn a_tree_has_no_more_than_32_levels(rt: HostRuntime) -> Result<(), Fail> {
     let alloc = rt.alloc();
-    let (mut script, mut text) = deepening(alloc, 33)?;
-    script.push_str("join\nk glean\njoin\n0 r 2 339\nk glean\n")?;
-    text.push_str("k.0 deep\ndurable 34\n0.0 ok 35:34 1\nk.0 deep\ndurable 35\n")?;
-    let mut vault = fresh_vault(alloc)?;
-    let (status, told) = answer_anew(&rt, &mut vault, "run --snap 592", script.as_bytes())?;
-    assert_eq!(rt; told.as_slice(), text.as_bytes());
-    assert_eq!(rt; status, 0);
-    check_rows(&rt, &mut vault, TOO_DEEP)
+    let (mut script, mut text) = (String::new(alloc), String::new(alloc));
+    deep_script(alloc, &mut script, &mut text)?;
+    check_deep(&rt, script.as_str(), text.as_str())
 }

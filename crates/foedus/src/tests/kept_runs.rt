@@ -1,10 +1,6 @@
 // Calls one after another over one vault: each begins where those before it ended.
 use super::*;
 
-const OPEN: u64 = 0xA500_0000_0000_0000;
-
-const VERSION: u64 = 0x464F_4544_5553_0001;
-
 // The savepoint of this sequence in its place, the other place closed; none of sequence 0. It has a saved epoch, so
 // many pages of which the last is the newest catalogue, and of the first log file so many bytes.
 fn save_of(
@@ -14,42 +10,32 @@ fn save_of(
     pages: u64,
     counted: u64,
 ) -> Result<Vec<u8>, Fail> {
-    let closed = page(alloc, &[])?;
+    let open = [
+        (0, OPEN),
+        (1, VERSION),
+        (2, sequence),
+        (3, epoch),
+        (4, pages),
+        (5, pages),
+        (6, counted),
+    ];
     if sequence == 0 {
-        return both(&closed, &closed);
+        both(alloc, &[], &[])
+    } else if sequence % 2 == 0 {
+        both(alloc, &[], &open)
+    } else {
+        both(alloc, &open, &[])
     }
-    let open = page(
-        alloc,
-        &[
-            (0, OPEN),
-            (1, VERSION),
-            (2, sequence),
-            (3, epoch),
-            (4, pages),
-            (5, pages),
-            (6, counted),
-        ],
-    )?;
-    if sequence % 2 == 0 {
-        return both(&closed, &open);
-    }
-    both(&open, &closed)
-}
-
-// The bytes of two places.
-fn both(first: &Vec<u8>, second: &[u8]) -> Result<Vec<u8>, Fail> {
-    let mut bytes = first.clone()?;
-    bytes.extend_from_slice(second)?;
-    Ok(bytes)
 }
 
 // The pages of an array of 4: the catalogue of epoch 0, a leaf whose value 2 was set to 5, and the catalogue of
 // epoch 1.
 fn three_pages(alloc: Global) -> Result<Vec<u8>, Fail> {
     let storages = 0x4341_5400_0000_0001;
-    let mut bytes = page(alloc, &[(0, storages), (16, 257), (17, 4)])?;
-    bytes.extend_from_slice(&page(alloc, &[(4, 0x0000_0100_0000_0001), (5, 5)])?)?;
+    let first = [(0, storages), (16, 257), (17, 4)];
+    let leaf = [(4, 0x0000_0100_0000_0001), (5, 5)];
     let newest = [(0, storages), (1, 1), (2, 1), (16, 257), (17, 4), (18, 2)];
+    let mut bytes = both(alloc, &first, &leaf)?;
     bytes.extend_from_slice(&page(alloc, &newest)?)?;
     Ok(bytes)
 }
@@ -65,30 +51,8 @@ pub(super) fn kept_vault(
 ) -> Result<Vault<MemDisk>, Fail> {
     let save = save_of(alloc, sequence, epoch, pages, counted)?;
     let snaps = three_pages(alloc)?;
-    let mut line = page(
-        alloc,
-        &[
-            (0, 0x0000_0100_0000_0001),
-            (1, 1),
-            (2, 0x101),
-            (3, 2),
-            (4, 7),
-        ],
-    )?;
-    line.truncate(40);
+    let line = log_line(alloc, 7)?;
     Ok(vault_of(alloc, &save, &snaps, &line, &[])?)
-}
-
-// Makes the calls of some rows one after another over a vault.
-pub(super) fn check_rows<R: Threads + Wait + Sync + AllocGlobal + Abort>(
-    rt: &R,
-    vault: &mut Vault<MemDisk>,
-    rows: &str,
-) -> Result<(), Fail> {
-    for row in rows.lines() {
-        check_row(rt, vault, row)?;
-    }
-    Ok(())
 }
 
 const AFTER_RUNS_THAT_READ: &str = "\
@@ -192,50 +156,63 @@ run # walk| # 1 # script 1 Word|
 run # array 1 5| # 6 # damaged bank0 40|
 ";
 
+const LAST: u64 = (1 << 63) - 1;
+
 // What the vault's savepoint says at first: sequence, epoch, pages and counted bytes; and the calls.
+const CALLS: [(u64, u64, u64, u64, &str); 14] = [
+    (0, 0, 0, 0, AFTER_RUNS_THAT_READ),
+    (0, 0, 0, 0, AFTER_A_RUN_THAT_WROTE),
+    (0, 0, 0, 0, AFTER_A_RUN_OVER_A_TREE),
+    (0, 0, 0, 0, OTHER_STORAGES),
+    (0, 0, 0, 0, NO_STORAGES),
+    (0, 0, 0, 0, NOTHING_CHANGED),
+    (2, 1_048_573, 1, 0, NEAR_THE_LAST_EPOCH),
+    (LAST, 1, 1, 0, AT_THE_LAST_SEQUENCE),
+    (LAST, 0, 1, 40, NO_SEQUENCE_FOR_SETTLING),
+    (LAST, 1, 1, 40, NO_SEQUENCE_FOR_A_SNAPSHOT),
+    (
+        2,
+        0,
+        1,
+        40,
+        "run # array 1 4|0 r 1 2| # 0 # 0.0 ok 1:1 0|durable 1|",
+    ),
+    (
+        2,
+        1,
+        1,
+        40,
+        "run # array 1 4| # 0 # durable 2|\ndump # # 0 # epoch 2|1 2 7|",
+    ),
+    (2, 1, 3, 0, MORE_PAGES_THAN_ARE_LET_IN),
+    (2, 1, 1, 41, DAMAGED),
+];
+
+fn check_kept<R: Threads + Wait + Sync + AllocGlobal + Abort>(
+    rt: &R,
+    kept: &(u64, u64, u64, u64, &str),
+) -> Result<(), Fail> {
+    let (sequence, epoch, pages, counted, rows) = *kept;
+    let mut vault = kept_vault(rt.alloc(), sequence, epoch, pages, counted)?;
+    check_rows(rt, &mut vault, rows)
+}
+
 #[test]
 fn a_call_begins_where_the_last_one_ended(rt: HostRuntime) -> Result<(), Fail> {
-    let last = (1 << 63) - 1;
-    let cases: [(u64, u64, u64, u64, &str); 14] = [
-        (0, 0, 0, 0, AFTER_RUNS_THAT_READ),
-        (0, 0, 0, 0, AFTER_A_RUN_THAT_WROTE),
-        (0, 0, 0, 0, AFTER_A_RUN_OVER_A_TREE),
-        (0, 0, 0, 0, OTHER_STORAGES),
-        (0, 0, 0, 0, NO_STORAGES),
-        (0, 0, 0, 0, NOTHING_CHANGED),
-        (2, 1_048_573, 1, 0, NEAR_THE_LAST_EPOCH),
-        (last, 1, 1, 0, AT_THE_LAST_SEQUENCE),
-        (last, 0, 1, 40, NO_SEQUENCE_FOR_SETTLING),
-        (last, 1, 1, 40, NO_SEQUENCE_FOR_A_SNAPSHOT),
-        (
-            2,
-            0,
-            1,
-            40,
-            "run # array 1 4|0 r 1 2| # 0 # 0.0 ok 1:1 0|durable 1|",
-        ),
-        (
-            2,
-            1,
-            1,
-            40,
-            "run # array 1 4| # 0 # durable 2|\ndump # # 0 # epoch 2|1 2 7|",
-        ),
-        (2, 1, 3, 0, MORE_PAGES_THAN_ARE_LET_IN),
-        (2, 1, 1, 41, DAMAGED),
-    ];
-    for (sequence, epoch, pages, counted, rows) in cases {
-        let mut vault = kept_vault(rt.alloc(), sequence, epoch, pages, counted)?;
-        check_rows(&rt, &mut vault, rows)?;
+    for kept in &CALLS {
+        check_kept(&rt, kept)?;
     }
     Ok(())
 }
+
+const A_SHORT_SAVE: &str = "\
+run # array 1 4|0 w 1 2 7; r 1 2|0 r 1 0| # 6 # damaged save 0|
+run # walk| # 1 # script 1 Word|
+";
 
 // A save device of another length, with and without a script.
 #[test]
 fn a_damaged_savepoint_runs_nothing(rt: HostRuntime) -> Result<(), Fail> {
     let mut vault = vault_of(rt.alloc(), &[0; 3], &[], &[], &[])?;
-    let row = "run # array 1 4|0 w 1 2 7; r 1 2|0 r 1 0| # 6 # damaged save 0|";
-    check_row(&rt, &mut vault, row)?;
-    check_row(&rt, &mut vault, "run # walk| # 1 # script 1 Word|")
+    check_rows(&rt, &mut vault, A_SHORT_SAVE)
 }

@@ -42,24 +42,19 @@ snap 2 # # 0 # epoch 2|2 5 4|
 snap 3 # # 9 # no snapshot 3|
 ";
 
-fn check_all<R: Threads + Wait + Sync + AllocGlobal + Abort>(
-    rt: &R,
-    vault: &mut Vault<MemDisk>,
-    rows: &str,
-) -> Result<(), Fail> {
-    for row in rows.lines() {
-        check_row(rt, vault, row)?;
-    }
-    Ok(())
-}
-
 #[test]
 fn each_snapshot_has_what_was_kept_then(rt: HostRuntime) -> Result<(), Fail> {
-    for rows in [RUNS, RUNS_OVER_A_TREE] {
-        let mut vault = fresh_vault(rt.alloc())?;
-        check_all(&rt, &mut vault, rows)?;
+    check_fresh(&rt, RUNS)?;
+    check_fresh(&rt, RUNS_OVER_A_TREE)
+}
+
+// The bytes with this one at a place that they have.
+fn with_byte(alloc: Global, bytes: &[u8], at: usize, byte: u8) -> Result<Vec<u8>, AllocError> {
+    let mut bytes = bytes.to_vec(alloc)?;
+    if at < bytes.len() {
+        bytes[at] = byte;
     }
-    Ok(())
+    Ok(bytes)
 }
 
 // The vault whose snapshots have this byte at this place.
@@ -68,13 +63,11 @@ fn changed(
     vault: &Vault<MemDisk>,
     at: usize,
     byte: u8,
-) -> Result<Vault<MemDisk>, Fail> {
-    let mut bytes = vault.snaps.bytes().to_vec(alloc)?;
-    if at < bytes.len() {
-        bytes[at] = byte;
-    }
+) -> Result<Vault<MemDisk>, AllocError> {
+    let bytes = with_byte(alloc, vault.snaps.bytes(), at, byte)?;
+    let snaps = disk_of(alloc, &bytes, &[])?;
     let mut changed = anew(alloc, vault, &[])?;
-    changed.snaps = disk_of(alloc, &bytes, &[])?;
+    changed.snaps = snaps;
     Ok(changed)
 }
 
@@ -122,30 +115,72 @@ snap 1 # # 6 # damaged snaps 1536|
     ),
 ];
 
+fn check_changed<R: Threads + Wait + Sync + AllocGlobal + Abort>(
+    rt: &R,
+    vault: &Vault<MemDisk>,
+    at: usize,
+    rows: &str,
+) -> Result<(), Fail> {
+    let mut broken = changed(rt.alloc(), vault, at, 9)?;
+    check_rows(rt, &mut broken, rows)
+}
+
+fn check_broken<R: Threads + Wait + Sync + AllocGlobal + Abort>(
+    rt: &R,
+    vault: &Vault<MemDisk>,
+) -> Result<(), Fail> {
+    for (at, rows) in &BROKEN {
+        check_changed(rt, vault, *at, rows)?;
+    }
+    Ok(())
+}
+
+fn check_short<R: Threads + Wait + Sync + AllocGlobal + Abort>(rt: &R) -> Result<(), Fail> {
+    let mut short = kept_vault(rt.alloc(), 2, 1, 1, 41)?;
+    check_row(rt, &mut short, "snap 7 # # 6 # damaged bank0 40|")
+}
+
 #[test]
 fn a_damaged_page_is_told(rt: HostRuntime) -> Result<(), Fail> {
     let mut vault = fresh_vault(rt.alloc())?;
-    check_all(&rt, &mut vault, RUNS)?;
-    for (at, rows) in BROKEN {
-        let mut broken = changed(rt.alloc(), &vault, at, 9)?;
-        check_all(&rt, &mut broken, rows)?;
-    }
-    let mut short = kept_vault(rt.alloc(), 2, 1, 1, 41)?;
-    check_row(&rt, &mut short, "snap 7 # # 6 # damaged bank0 40|")
+    check_rows(&rt, &mut vault, RUNS)?;
+    check_broken(&rt, &vault)?;
+    check_short(&rt)
+}
+
+// The device, and what is asked for.
+const FAILING: [(&str, &str); 9] = [
+    ("save", "snaps"),
+    ("save", "snap 0"),
+    ("save", "snap 7"),
+    ("snaps", "snaps"),
+    ("snaps", "snap 0"),
+    ("snaps", "snap 7"),
+    ("bank0", "snaps"),
+    ("bank0", "snap 0"),
+    ("bank0", "snap 7"),
+];
+
+fn check_failing<R: Threads + Wait + Sync + AllocGlobal + Abort>(
+    rt: &R,
+    kept: &Vault<MemDisk>,
+    device: &str,
+    asked: &str,
+) -> Result<(), Fail> {
+    let mut vault = failing_vault(rt.alloc(), kept, device, 0)?;
+    let (status, told) = answer(rt, &mut vault, asked, b"")?;
+    assert!(rt; status == 5, "{device} {asked}");
+    let text = format!(in rt.alloc(); "device {device}\n")?;
+    assert_eq!(rt; told.as_slice(), text.as_bytes(), "{device} {asked}");
+    Ok(())
 }
 
 // The first call of each device that is read.
 #[test]
 fn a_device_that_fails_ends_a_listing(rt: HostRuntime) -> Result<(), Fail> {
     let kept = kept_vault(rt.alloc(), 2, 1, 1, 40)?;
-    for device in ["save", "snaps", "bank0"] {
-        let text = format!(in rt.alloc(); "device {device}\n")?;
-        for asked in ["snaps", "snap 0", "snap 7"] {
-            let mut vault = failing_vault(rt.alloc(), &kept, device, 0)?;
-            let (status, told) = answer(&rt, &mut vault, asked, b"")?;
-            assert_eq!(rt; status, 5, "{device} {asked}");
-            assert_eq!(rt; told.as_slice(), text.as_bytes(), "{device} {asked}");
-        }
+    for (device, asked) in &FAILING {
+        check_failing(&rt, &kept, device, asked)?;
     }
     Ok(())
 }
@@ -153,11 +188,6 @@ fn a_device_that_fails_ends_a_listing(rt: HostRuntime) -> Result<(), Fail> {
 // The sink fails in the last line, and no source is read.
 #[test]
 fn a_sink_that_fails_ends_a_listing(rt: HostRuntime) -> Result<(), Fail> {
-    let (status, held) = call(&rt, "snap 0", b"", 0, 9, &OpenGate)?;
-    assert_eq!(rt; status, 9);
-    assert_eq!(rt; held.as_slice(), b"no snapshot 0\n".as_slice());
-    let (status, held) = call(&rt, "snap 0", b"", 0, 0, &OpenGate)?;
-    assert_eq!(rt; status, 4);
-    assert_eq!(rt; held.as_slice(), b"no snap".as_slice());
-    Ok(())
+    check_call(&rt, ("snap 0", b""), (0, 9), 9, "no snapshot 0\n")?;
+    check_call(&rt, ("snap 0", b""), (0, 0), 4, "no snap")
 }

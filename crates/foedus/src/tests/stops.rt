@@ -2,7 +2,7 @@
 ghost use Rattle.std.specs.Prelude.{IfOk};
 ghost use Rattle.outside.specs.Disk.{IfTold, Only};
 
-use super::failing_devices::BANKS;
+use super::failing_devices::is_bank;
 use super::*;
 use outside::{Call, FuseDisk, Made};
 
@@ -71,29 +71,39 @@ fn fused_disk(alloc: Global, disk: &MemDisk, passes: u64) -> Result<FuseDisk<Mem
     Ok(FuseDisk::new(disk, passes))
 }
 
+// Disks of what log files of even number hold, or of odd number, of which this device passes so many calls.
+fn fused_disks(
+    alloc: Global,
+    disks: &[MemDisk],
+    is_odd: bool,
+    device: &str,
+    passes: u64,
+) -> Result<Vec<FuseDisk<MemDisk>>, AllocError> {
+    let mut fused = Vec::new(alloc);
+    for worker in 0..disks.len().min(8) {
+        let calls = passes_of(is_bank(worker, is_odd, device), passes);
+        fused.push(fused_disk(alloc, &disks[worker], calls)?)?;
+    }
+    Ok(fused)
+}
+
 // A vault of what another holds, of which this device passes so many calls.
 pub(super) fn fused_vault(
     alloc: Global,
     vault: &Vault<MemDisk>,
     device: &str,
     passes: u64,
-) -> Result<Vault<FuseDisk<MemDisk>>, Fail>
+) -> Result<Vault<FuseDisk<MemDisk>>, AllocError>
     ensures { IfOk result (λ vault. IfTold (⟦<FuseDisk<MemDisk> as Disk>⟧.tells vault.save)
         (Only ⟦<FuseDisk<MemDisk> as Disk>⟧.clock ⟦<FuseDisk<MemDisk> as Disk>⟧.image_at vault.save)) }
 {
-    if !vault.is_whole() {
-        return Err(Fail::from("a vault without a log file"));
-    }
-    let (mut even, mut odd) = (Vec::new(alloc), Vec::new(alloc));
-    for worker in 0..8 {
-        let calls = passes_of(BANKS[2 * worker] == device, passes);
-        even.push(fused_disk(alloc, &vault.even[worker], calls)?)?;
-        let calls = passes_of(BANKS[2 * worker + 1] == device, passes);
-        odd.push(fused_disk(alloc, &vault.odd[worker], calls)?)?;
-    }
+    let save = fused_disk(alloc, &vault.save, passes_of(device == "save", passes))?;
+    let snaps = fused_disk(alloc, &vault.snaps, passes_of(device == "snaps", passes))?;
+    let even = fused_disks(alloc, &vault.even, false, device, passes)?;
+    let odd = fused_disks(alloc, &vault.odd, true, device, passes)?;
     Ok(Vault {
-        save: fused_disk(alloc, &vault.save, passes_of(device == "save", passes))?,
-        snaps: fused_disk(alloc, &vault.snaps, passes_of(device == "snaps", passes))?,
+        save,
+        snaps,
         even,
         odd,
         ties: Vec::new(alloc),
@@ -103,11 +113,7 @@ pub(super) fn fused_vault(
 
 // Puts bytes over those of a file, from a byte on that it has or ends at.
 fn put(alloc: Global, file: &mut Vec<u8>, at: usize, written: &[u8]) -> Result<(), AllocError> {
-    let end = at.saturating_add(written.len());
-    let mut behind = Vec::new(alloc);
-    if end < file.len() {
-        behind.extend_from_slice(&file[end..])?;
-    }
+    let behind = file[at.saturating_add(written.len()).min(file.len())..].to_vec(alloc)?;
     file.truncate(at);
     file.extend_from_slice(written)?;
     file.extend_from_slice(&behind)
@@ -143,11 +149,10 @@ fn stopped_disk(
     pending: bool,
 ) -> Result<MemDisk, AllocError> {
     let disk = fuse.disk();
-    let bytes = if pending {
-        disk.bytes().to_vec(alloc)?
-    } else {
-        synced(alloc, first.bytes(), disk.calls())?
-    };
+    if pending {
+        return disk_of(alloc, disk.bytes(), &[]);
+    }
+    let bytes = synced(alloc, first.bytes(), disk.calls())?;
     disk_of(alloc, &bytes, &[])
 }
 
@@ -172,11 +177,15 @@ fn stopped(
     first: &Vault<MemDisk>,
     pending: bool,
 ) -> Result<Vault<MemDisk>, AllocError> {
+    let save = stopped_disk(alloc, &vault.save, &first.save, pending)?;
+    let snaps = stopped_disk(alloc, &vault.snaps, &first.snaps, pending)?;
+    let even = stopped_disks(alloc, &vault.even, &first.even, pending)?;
+    let odd = stopped_disks(alloc, &vault.odd, &first.odd, pending)?;
     Ok(Vault {
-        save: stopped_disk(alloc, &vault.save, &first.save, pending)?,
-        snaps: stopped_disk(alloc, &vault.snaps, &first.snaps, pending)?,
-        even: stopped_disks(alloc, &vault.even, &first.even, pending)?,
-        odd: stopped_disks(alloc, &vault.odd, &first.odd, pending)?,
+        save,
+        snaps,
+        even,
+        odd,
         ties: Vec::new(alloc),
         cuts: Vec::new(alloc),
     })
@@ -197,21 +206,70 @@ fn is_saved(saved: &[&str], dump: &[u8], from: usize) -> bool {
         .any(|saved| saved.as_bytes() == dump)
 }
 
-// Compares each snapshot of the rounds' epochs with what a dump tells once that epoch is saved.
+// Compares the snapshot of an epoch, if there is one, with what a dump tells once that epoch is saved.
+fn check_snapshot<R: Threads + Wait + Sync + AllocGlobal + Abort>(
+    rt: &R,
+    vault: &mut Vault<MemDisk>,
+    epoch: usize,
+    saved: &str,
+) -> Result<(), Fail> {
+    let asked = format!(in rt.alloc(); "snap {epoch}")?;
+    let (status, text) = answer_anew(rt, vault, asked.as_str(), b"")?;
+    if status != 9 {
+        assert!(rt; status == 0, "{epoch}");
+        assert_eq!(rt; text.as_slice(), saved.as_bytes());
+    }
+    Ok(())
+}
+
 fn check_snapshots<R: Threads + Wait + Sync + AllocGlobal + Abort>(
     rt: &R,
     vault: &mut Vault<MemDisk>,
     rounds: &Rounds,
 ) -> Result<(), Fail> {
     for index in 0..4 {
-        let asked = format!(in rt.alloc(); "snap {}", rounds.first.wrapping_add(index))?;
-        let (status, text) = answer_anew(rt, vault, asked.as_str(), b"")?;
-        if status != 9 {
-            assert_eq!(rt; status, 0, "{asked}");
-            assert_eq!(rt; text.as_slice(), rounds.saved[index].as_bytes());
-        }
+        let epoch = rounds.first.wrapping_add(index);
+        check_snapshot(rt, vault, epoch, rounds.saved[index])?;
     }
     Ok(())
+}
+
+// Recovers what is held, with what is pending or without: one of the epochs is saved, from as many on as were told
+// durable.
+fn check_left<R: Threads + Wait + Sync + AllocGlobal + Abort>(
+    rt: &R,
+    left: &mut Vault<MemDisk>,
+    rounds: &Rounds,
+    told: usize,
+) -> Result<(), Fail> {
+    let (_status, dump) = answer_anew(rt, left, "dump", b"")?;
+    assert!(rt; is_saved(&rounds.saved, &dump, told), "{told}");
+    check_snapshots(rt, left, rounds)
+}
+
+fn check_held<R: Threads + Wait + Sync + AllocGlobal + Abort>(
+    rt: &R,
+    vaults: (&Vault<FuseDisk<MemDisk>>, &Vault<MemDisk>),
+    pending: bool,
+    rounds: &Rounds,
+    told: usize,
+) -> Result<(), Fail> {
+    let (vault, first) = vaults;
+    let mut left = stopped(rt.alloc(), vault, first, pending)?;
+    check_left(rt, &mut left, rounds, told)
+}
+
+// The status of a run of the rounds, and how many epochs it tells durable.
+fn run_stopped<R: Threads + Wait + Sync + AllocGlobal + Abort>(
+    rt: &R,
+    vault: &mut Vault<FuseDisk<MemDisk>>,
+    rounds: &Rounds,
+) -> Result<(u8, usize), Fail>
+    requires { IfTold (⟦<FuseDisk<MemDisk> as Disk>⟧.tells vault.old.save)
+        (Only ⟦<FuseDisk<MemDisk> as Disk>⟧.clock ⟦<FuseDisk<MemDisk> as Disk>⟧.image_at vault.old.save) }
+{
+    let (status, text) = answer(rt, vault, "run", rounds.script)?;
+    Ok((status, told_durable(str::from_utf8(&text).unwrap_or(""))))
 }
 
 // Runs the rounds over what a vault holds, of which this device passes so many calls, and recovers what is held then.
@@ -224,17 +282,9 @@ fn check_stop<R: Threads + Wait + Sync + AllocGlobal + Abort>(
     passes: u64,
 ) -> Result<bool, Fail> {
     let mut vault = fused_vault(rt.alloc(), first, device, passes)?;
-    let (status, text) = answer(rt, &mut vault, "run", rounds.script)?;
-    let told = told_durable(str::from_utf8(&text).unwrap_or(""));
-    for pending in [false, true] {
-        let mut left = stopped(rt.alloc(), &vault, first, pending)?;
-        let (_status, dump) = answer_anew(rt, &mut left, "dump", b"")?;
-        assert!(rt;
-            is_saved(&rounds.saved, &dump, told),
-            "{device} {passes} {pending}"
-        );
-        check_snapshots(rt, &mut left, rounds)?;
-    }
+    let (status, told) = run_stopped(rt, &mut vault, rounds)?;
+    check_held(rt, (&vault, first), false, rounds, told)?;
+    check_held(rt, (&vault, first), true, rounds, told)?;
     Ok(status == 0)
 }
 
@@ -259,7 +309,7 @@ fn check_stops<R: Threads + Wait + Sync + AllocGlobal + Abort>(
     vault: &mut Vault<MemDisk>,
     rounds: &Rounds,
 ) -> Result<(), Fail> {
-    for device in DEVICES {
+    for device in &DEVICES {
         let calls = calls_needed(rt, vault, rounds, device)?;
         assert!(rt; calls < MOST_CALLS, "{device}");
     }
@@ -268,12 +318,18 @@ fn check_stops<R: Threads + Wait + Sync + AllocGlobal + Abort>(
     Ok(())
 }
 
+fn check_with_snapshots<R: Threads + Wait + Sync + AllocGlobal + Abort>(
+    rt: &R,
+) -> Result<(), Fail> {
+    let mut vault = fresh_vault(rt.alloc())?;
+    check_stops(rt, &mut vault, &WITH_SNAPSHOTS)
+}
+
 // A saved epoch covers every one that was told durable, with exactly its commits, wherever a device is stopped.
 #[test]
 fn what_was_told_durable_is_kept(rt: HostRuntime) -> Result<(), Fail> {
     let mut vault = fresh_vault(rt.alloc())?;
     check_stops(&rt, &mut vault, &FIRST)?;
     check_stops(&rt, &mut vault, &SECOND)?;
-    let mut vault = fresh_vault(rt.alloc())?;
-    check_stops(&rt, &mut vault, &WITH_SNAPSHOTS)
+    check_with_snapshots(&rt)
 }

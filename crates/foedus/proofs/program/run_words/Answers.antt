@@ -1,5 +1,6 @@
 -- What the words ask for was run, or nothing for want of memory.
 use Rattle.std.proofs.Common.{◌∙◌, sym, subst, refl, arith}
+use Rattle.foedus.proofs.Here.{here}
 use Rattle.foedus.proofs.Makes.{memory_made}
 use Rattle.foedus.specs.Vaults.{vaults_of}
 use Rattle.foedus.proofs.Courses.{command_as, memory_ran, memory_in_brief}
@@ -29,10 +30,10 @@ returns-in-Ok-clause-asked g c = words_done _ _ _ c.in-Ok.ensures.command (λ is
     (λ asks. cc (c.in-Ok.ensures.help asks)) c.run.ensures.usage c.run.ensures.refused
 
 pub returns-in-Err-clause-came : goal.returns-in-Err-clause-came
-returns-in-Err-clause-came g c = λ other. memory_ran (vaults_of g.D.Disk.tells g.D.Disk.clock g.D.Disk.image_at g.D.Disk.faults c.args.vault.now c.args.vault.now) c.requires.whole g.met.D.Disk.reads _ _ _ _ other refl
+returns-in-Err-clause-came g c = λ other. memory_ran (vaults_of g.D.Disk.tells g.D.Disk.clock g.D.Disk.image_at g.D.Disk.faults c.args.vault.now c.args.vault.now) c.requires.whole (g.met.D.Disk g.world.𝓛 g.world.𝓜 g.world.𝓡 (here _)).reads _ _ _ _ other refl
 
 pub returns-in-Err-clause-brief : goal.returns-in-Err-clause-brief
-returns-in-Err-clause-brief g c = λ options is brief. memory_in_brief (vaults_of g.D.Disk.tells g.D.Disk.clock g.D.Disk.image_at g.D.Disk.faults c.args.vault.now c.args.vault.now) c.requires.whole g.met.D.Disk.reads options _ _ refl (refl, adds_nothing _)
+returns-in-Err-clause-brief g c = λ options is brief. memory_in_brief (vaults_of g.D.Disk.tells g.D.Disk.clock g.D.Disk.image_at g.D.Disk.faults c.args.vault.now c.args.vault.now) c.requires.whole (g.met.D.Disk g.world.𝓛 g.world.𝓜 g.world.𝓡 (here _)).reads options _ _ refl (refl, adds_nothing _)
 
 pub returns-in-Err-clause-asked : goal.returns-in-Err-clause-asked
 returns-in-Err-clause-asked g c = words_at_8 _

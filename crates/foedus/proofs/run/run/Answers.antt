@@ -2,6 +2,7 @@
 use Rattle.std.proofs.Common.{◌≡◌, ◌∙◌, ap, refl, arith}
 use Rattle.text_output.specs.Printed.{adds_nothing}
 use Rattle.foedus.specs.Vaults.{vaults_of}
+use Rattle.foedus.proofs.Here.{here}
 use Rattle.foedus.proofs.Courses.{made_came, script_came, unread_came, usage_came, brief_of, script_in_brief, unread_in_brief}
 use Rattle.foedus.proofs.NotBegun.{rests_read}
 use Rattle.foedus.proofs.Statuses.{devices_unread, faults_unread, no_device_told, source_as, unread_most}
@@ -39,11 +40,11 @@ returns-in-Ok-clause-statuses g c = rw c.in-Run.is c.run_script.ensures.statuses
 
 pub returns-in-Err-clause-came : goal.returns-in-Err-clause-came
 returns-in-Err-clause-came g c = λ other.
-    rw c.in-Run.is (unread_came (vaults_of g.D.Disk.tells g.D.Disk.clock g.D.Disk.image_at g.D.Disk.faults c.args.vault.now c.args.vault.now) c.requires.whole g.met.D.Disk.reads c.in-Run.options _ _ c.in-Err.ending c.in-Err.ensures.read refl (refl, adds_nothing _))
+    rw c.in-Run.is (unread_came (vaults_of g.D.Disk.tells g.D.Disk.clock g.D.Disk.image_at g.D.Disk.faults c.args.vault.now c.args.vault.now) c.requires.whole (g.met.D.Disk g.world.𝓛 g.world.𝓜 g.world.𝓡 (here _)).reads c.in-Run.options _ _ c.in-Err.ending c.in-Err.ensures.read refl (refl, adds_nothing _))
 
 pub returns-in-Err-clause-brief : goal.returns-in-Err-clause-brief
 returns-in-Err-clause-brief g c = λ options is brief.
-    unread_in_brief (vaults_of g.D.Disk.tells g.D.Disk.clock g.D.Disk.image_at g.D.Disk.faults c.args.vault.now c.args.vault.now) c.requires.whole g.met.D.Disk.reads options _ _ c.in-Err.ending c.in-Err.ensures.read refl (refl, adds_nothing _)
+    unread_in_brief (vaults_of g.D.Disk.tells g.D.Disk.clock g.D.Disk.image_at g.D.Disk.faults c.args.vault.now c.args.vault.now) c.requires.whole (g.met.D.Disk g.world.𝓛 g.world.𝓜 g.world.𝓡 (here _)).reads options _ _ c.in-Err.ending c.in-Err.ensures.read refl (refl, adds_nothing _)
 
 pub returns-in-Err-clause-faults : goal.returns-in-Err-clause-faults
 returns-in-Err-clause-faults g c = faults_unread _ _ c.in-Err.ending c.in-Err.ensures.cause refl
@@ -63,7 +64,7 @@ returns-in-Err-clause-rests g c = record { again = λ not_4 not_5 one. one }
 -- ---- the words were refused
 
 pub returns-in-Refused-clause-came : goal.returns-in-Refused-clause-came
-returns-in-Refused-clause-came g c = λ other. rw c.in-Refused.is (usage_came (vaults_of g.D.Disk.tells g.D.Disk.clock g.D.Disk.image_at g.D.Disk.faults c.args.vault.now c.args.vault.now) c.requires.whole g.met.D.Disk.reads _ _ refl (refl, adds_nothing _))
+returns-in-Refused-clause-came g c = λ other. rw c.in-Refused.is (usage_came (vaults_of g.D.Disk.tells g.D.Disk.clock g.D.Disk.image_at g.D.Disk.faults c.args.vault.now c.args.vault.now) c.requires.whole (g.met.D.Disk g.world.𝓛 g.world.𝓜 g.world.𝓡 (here _)).reads _ _ refl (refl, adds_nothing _))
 
 pub returns-in-Refused-clause-devices : goal.returns-in-Refused-clause-devices
 returns-in-Refused-clause-devices g c = no_device_told _ _ _ 2 (λ five. omega arith) (λ zero. omega arith)
@@ -155,7 +156,7 @@ returns-in-Snap-clause-came g c = λ full. absurd (rw c.in-Snap.is at full)
 -- ---- a script was made
 
 pub returns-in-Make-clause-came : goal.returns-in-Make-clause-came
-returns-in-Make-clause-came g c = λ other. rw c.in-Make.is (made_came (vaults_of g.D.Disk.tells g.D.Disk.clock g.D.Disk.image_at g.D.Disk.faults c.args.vault.now c.args.vault.now) c.requires.whole g.met.D.Disk.reads c.in-Make.arguments _ _ refl c.make.ensures)
+returns-in-Make-clause-came g c = λ other. rw c.in-Make.is (made_came (vaults_of g.D.Disk.tells g.D.Disk.clock g.D.Disk.image_at g.D.Disk.faults c.args.vault.now c.args.vault.now) c.requires.whole (g.met.D.Disk g.world.𝓛 g.world.𝓜 g.world.𝓡 (here _)).reads c.in-Make.arguments _ _ refl c.make.ensures)
 
 pub returns-in-Make-clause-usage : goal.returns-in-Make-clause-usage
 returns-in-Make-clause-usage g c = λ usage. absurd (usage_not_made c.in-Make.arguments _ _ _ c.make.ensures usage)

@@ -1,0 +1,311 @@
+// Workers' lines on threads: they overlap, and what they come to is what they come to one after another, by number.
+use super::failing_devices::failing_vault;
+use super::*;
+use serial_model::{Number, Op, Plain, fits, run_one};
+use std::collections::BTreeMap;
+use tx_script::{Line, LineOps, Outcome, Script, write_outcome};
+
+// A line that was told: its worker, its place among that worker's, and its text.
+type Told<'a> = (u8, u32, &'a str);
+
+// A line's worker and its place, by its first word.
+fn place_of(line: &str) -> Result<(u8, u32), Fail> {
+    let mut parts = line.split_whitespace().next().unwrap_or("").split('.');
+    let worker = parts.next().unwrap_or("").parse::<u8>()?;
+    Ok((worker, parts.next().unwrap_or("").parse::<u32>()?))
+}
+
+// The number that a line tells, if its transaction got one.
+fn number_of(line: &str) -> Result<Option<Number>, Fail> {
+    let Some(number) = line.split_whitespace().nth(2) else {
+        return Ok(None);
+    };
+    let mut parts = number.split(':');
+    let epoch = parts.next().unwrap_or("").parse::<u32>()?;
+    let draw = parts.next().unwrap_or("").parse::<u64>()?;
+    Ok(Some(Number { epoch, draw }))
+}
+
+// The operations of a worker's line of a round.
+fn ops_of(
+    alloc: Global,
+    round: &Round<'_>,
+    worker: u8,
+    line: u32,
+) -> Result<Option<Vec<Op>>, AllocError> {
+    let mut room = LineOps::new();
+    let mut count = 0u32;
+    for index in 0..round.len() {
+        if round.worker(index) == Some(worker) {
+            if count == line {
+                return match round.line(index, &mut room) {
+                    Line::Worker { ops, .. } => Ok(Some(ops.to_vec(alloc)?)),
+                    Line::Keeper(_) => Ok(None),
+                };
+            }
+            count = count.wrapping_add(1);
+        }
+    }
+    Ok(None)
+}
+
+// The line of a transaction that got this number, if it is run now on the plain engine.
+fn plain_line(
+    alloc: Global,
+    plain: &mut Plain,
+    (worker, line): (u8, u32),
+    number: Number,
+    ops: &[Op],
+) -> Result<Vec<u8>, Fail> {
+    if !ops.iter().all(|op| fits(plain.decls.as_slice(), op)) {
+        return Err(Fail::from("an operation that doesn't fit"));
+    }
+    let (verdict, replies) = run_one(alloc, plain, ops)?;
+    let outcome = Outcome::Committed {
+        verdict,
+        number,
+        replies,
+    };
+    let mut sink = MemSink::new(alloc, Vec::new(alloc));
+    write_outcome(&mut sink, worker, line, &outcome)?;
+    Ok(sink.bytes().to_vec(alloc)?)
+}
+
+// The lines of a round that got numbers, by draw. No two have one.
+fn by_number<'a, R: AllocGlobal + Abort>(
+    rt: &R,
+    told: &[&'a str],
+) -> Result<BTreeMap<u64, Told<'a>>, Fail> {
+    let mut lines = BTreeMap::new(rt.alloc());
+    for text in told {
+        if let Some(number) = number_of(text)? {
+            let (worker, line) = place_of(text)?;
+            let other = lines.insert(number.draw, (worker, line, *text))?;
+            assert!(rt; other.is_none(), "{text}");
+        }
+    }
+    Ok(lines)
+}
+
+// Checks what is told of a round: by number its commits are what the plain engine gives, and each worker's rise.
+fn check_round<R: AllocGlobal + Abort>(
+    rt: &R,
+    plain: &mut Plain,
+    round: &Round<'_>,
+    told: &[&str],
+) -> Result<(), Fail> {
+    let alloc = rt.alloc();
+    let mut last = [None; 8];
+    for (draw, (worker, line, text)) in by_number(rt, told)?.iter() {
+        let Some(ops) = ops_of(alloc, round, *worker, *line)? else {
+            return Err(Fail::from("a line that isn't the script's"));
+        };
+        let epoch = number_of(text)?
+            .unwrap_or(Number { epoch: 0, draw: 0 })
+            .epoch;
+        let number = Number { epoch, draw: *draw };
+        let mut want = plain_line(alloc, plain, (*worker, *line), number, &ops)?;
+        let _newline = want.pop();
+        assert_eq!(rt; text.as_bytes(), want.as_slice(), "{text}");
+        let before = &mut last[*worker as usize % 8];
+        assert!(rt; *before < Some(*line), "{text}");
+        *before = Some(*line);
+    }
+    Ok(())
+}
+
+// Checks what is told of a run over a fresh database: a line for each of the script's, and each round as above.
+fn check_serial<R: AllocGlobal + Abort>(rt: &R, script: &Script, told: &str) -> Result<(), Fail> {
+    let alloc = rt.alloc();
+    let mut plain = Plain::new(alloc, script.decls())?;
+    let mut lines = told.lines();
+    for index in 0..script.rounds() {
+        let round = script.round(index);
+        let mut of_round = Vec::new(alloc);
+        for _ in 0..round.len() {
+            of_round.push(lines.next().unwrap_or(""))?;
+        }
+        check_round(rt, &mut plain, &round, &of_round)?;
+        assert!(rt; lines.next().unwrap_or("").starts_with("durable "));
+    }
+    assert!(rt; lines.next().is_none());
+    Ok(())
+}
+
+// Runs a script on threads over a fresh database, and checks what is told of it. Answers the database.
+fn run_checked<R: Threads + Wait + Sync + AllocGlobal + Abort>(
+    rt: &R,
+    bytes: &[u8],
+) -> Result<Vault<MemDisk>, Fail> {
+    let alloc = rt.alloc();
+    let Ok(script) = read_script(alloc, bytes) else {
+        return Err(Fail::from("no script"));
+    };
+    let mut vault = fresh_vault(alloc)?;
+    let (status, told) = answer_by(rt, &mut vault, "run --tries 1000000", bytes, &OpenGate)?;
+    assert_eq!(rt; status, 0);
+    check_serial(rt, &script, str::from_utf8(&told)?)?;
+    Ok(vault)
+}
+
+// So many lines of each of these workers, in turn.
+fn repeated(alloc: Global, lines: &[&str], count: u32) -> Result<Vec<u8>, AllocError> {
+    let mut script = b"array 1 3\n".to_vec(alloc)?;
+    for _ in 0..count {
+        for line in lines {
+            script.extend_from_slice(line.as_bytes())?;
+            script.push(b'\n')?;
+        }
+    }
+    Ok(script)
+}
+
+#[test]
+fn no_raise_is_lost(rt: HostRuntime) -> Result<(), Fail> {
+    let script = repeated(rt.alloc(), &["0 a 1 0 1", "1 a 1 0 1"], 100)?;
+    let mut vault = run_checked(&rt, &script)?;
+    check_row(&rt, &mut vault, "dump # # 0 # epoch 1|1 0 200|")
+}
+
+// What workers do again and again, all of them at once.
+const AT_ONCE: [&str; 8] = [
+    "0 t 1 0 3; a 1 1 3; r 1 2",
+    "1 a 1 0 2; a 1 2 1",
+    "2 r 1 0; r 1 1; r 1 2",
+    "3 t 1 1 2; a 1 0 2",
+    "4 w 1 2 7; r 1 2",
+    "5 a 1 2 18446744073709551615",
+    "6 r 1 1; w 1 0 5",
+    "7 t 1 2 1; a 1 1 1; r 1 0",
+];
+
+#[test]
+fn eight_workers_are_serial(rt: HostRuntime) -> Result<(), Fail> {
+    let script = repeated(rt.alloc(), &AT_ONCE, 40)?;
+    let _vault = run_checked(&rt, &script)?;
+    Ok(())
+}
+
+// A script with its lines dealt to so many workers, one after another.
+fn dealt(alloc: Global, script: &str, workers: u8) -> Result<Vec<u8>, AllocError> {
+    let mut bytes = Vec::new(alloc);
+    let mut worker = 0u8;
+    for line in script.split('|') {
+        let mut row = line.as_bytes().to_vec(alloc)?;
+        if row.first().is_some_and(|byte| byte.is_ascii_digit()) {
+            row[0] = b'0'.wrapping_add(worker);
+            worker = worker.wrapping_add(1) % workers.max(1);
+        }
+        bytes.extend_from_slice(&row)?;
+        bytes.push(b'\n')?;
+    }
+    Ok(bytes)
+}
+
+// The scripts of the rows that are run to their end, and have no line of the maintenance thread's.
+#[test]
+fn lines_may_be_any_workers(rt: HostRuntime) -> Result<(), Fail> {
+    for row in CASES.lines() {
+        let [asked, script, status, _text] = parts(row);
+        if asked.starts_with("run") && status == "0" && !script.contains("k ") {
+            for workers in [1, 2, 8] {
+                let _vault = run_checked(&rt, &dealt(rt.alloc(), script, workers)?)?;
+            }
+        }
+    }
+    Ok(())
+}
+
+// A gate that holds the first line of each of two workers until the other's begins.
+#[derive(Drop)]
+struct Meeting {
+    begun: [AtomicU64; 2],
+    met: AtomicU64,
+}
+
+impl Gate for Meeting {
+    fn before(&self, worker: u8, _line: u32) {
+        let (mine, other) = if worker == 0 { (0, 1) } else { (1, 0) };
+        self.begun[mine].store(1, Ordering::SeqCst);
+        for _ in 0..1u64 << 30 {
+            if self.begun[other].load(Ordering::SeqCst) == 1 {
+                let _before = self.met.fetch_add(1, Ordering::SeqCst);
+                return;
+            }
+        }
+    }
+
+    fn after(&self, _worker: u8, _line: u32) {}
+}
+
+impl Watcher for Meeting {}
+
+#[test]
+fn workers_overlap(rt: HostRuntime) -> Result<(), Fail> {
+    let gate = Meeting {
+        begun: [AtomicU64::new(0), AtomicU64::new(0)],
+        met: AtomicU64::new(0),
+    };
+    let (status, _text) = call(&rt, "run", b"array 1 1\n0 r 1 0\n1 r 1 0\n", 9, 9, &gate)?;
+    assert_eq!(rt; status, 0);
+    assert_eq!(rt; gate.met.load(Ordering::SeqCst), 2);
+    Ok(())
+}
+
+// The words of each line of a text but for its number.
+fn without_numbers(alloc: Global, text: &str) -> Result<Vec<u8>, AllocError> {
+    let mut bytes = Vec::new(alloc);
+    for line in text.lines() {
+        for word in line.split_whitespace() {
+            if !word.contains(':') {
+                bytes.extend_from_slice(word.as_bytes())?;
+                bytes.push(b' ')?;
+            }
+        }
+        bytes.push(b'\n')?;
+    }
+    Ok(bytes)
+}
+
+// What is told of two workers with a hundred lines each, where the log file of one of them fails at its second call: 93
+// lines lie in the buffer before the first write.
+fn half_run(alloc: Global, failing: u8) -> Result<Vec<u8>, AllocError> {
+    let mut text = Vec::new(alloc);
+    for worker in 0..2u8 {
+        for index in 0..100u32 {
+            let word = if worker == failing && index >= 93 {
+                "unrun"
+            } else {
+                "ok"
+            };
+            let line = format!(in alloc; "{worker}.{index} {word} \n")?;
+            text.extend_from_slice(line.as_bytes())?;
+        }
+    }
+    Ok(text)
+}
+
+// A log file that fails ends its own worker's lines, and no other's.
+#[test]
+fn others_go_on(rt: HostRuntime) -> Result<(), Fail> {
+    let alloc = rt.alloc();
+    let script = repeated(alloc, &["0 w 1 0 1", "1 w 1 1 1"], 100)?;
+    let cases: [(u8, &str, &str); 2] = [
+        (0, "bank0", "device bank0 \n"),
+        (1, "bank2", "device bank2 \n"),
+    ];
+    for (failing, device, last) in cases {
+        let fresh = fresh_vault(alloc)?;
+        let mut vault = failing_vault(alloc, &fresh, device, 1)?;
+        let (status, told) = answer_by(&rt, &mut vault, "run", &script, &OpenGate)?;
+        let mut want = half_run(alloc, failing)?;
+        want.extend_from_slice(last.as_bytes())?;
+        assert_eq!(rt; status, 5);
+        assert_eq!(rt;
+            without_numbers(alloc, str::from_utf8(&told)?)?.as_slice(),
+            want.as_slice()
+        );
+        check_row(&rt, &mut vault, "dump # # 0 # epoch 0|")?;
+    }
+    Ok(())
+}

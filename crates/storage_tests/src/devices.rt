@@ -7,7 +7,7 @@ use outside::{
     OpenGate, Sink, Source, StdSink, StdSource, SureSource, Vault,
 };
 use std::alloc::{AllocError, Global};
-use std::fs::{self, OpenOptions};
+use std::fs::{self, File, Files, OpenOptions};
 use std::io::{self, ErrorKind, Read, Write};
 use std::process::Abort;
 use std::test::Fail;
@@ -18,6 +18,14 @@ const CALLS: u64 = 9;
 // Calls of a disk, each without what its trait says of it.
 fn cut<D: Disk>(disk: &mut D, len: u64) -> Result<(), Failed> {
     disk.cut(len)
+}
+
+// Writes six bytes, asks for the length, and writes past the end.
+fn write_twice<D: Disk>(disk: &mut D) -> Result<u64, Failed> {
+    disk.write(0, b"abcdef")?;
+    let size = disk.len()?;
+    disk.write(4, b"xyz")?;
+    Ok(size)
 }
 
 fn sync<D: Disk>(disk: &mut D) -> Result<(), Failed> {
@@ -31,22 +39,29 @@ fn read<D: Disk>(disk: &mut D, at: u64) -> Result<(usize, [u8; 4]), Failed> {
     Ok((count, buf))
 }
 
+fn writes<D: Disk>(rt: &impl Abort, disk: &mut D) -> Result<(), Failed> {
+    let size = write_twice(disk)?;
+    assert_eq!(rt; size, 6);
+    Ok(())
+}
+
+fn reads<D: Disk>(rt: &impl Abort, disk: &mut D) -> Result<(), Failed> {
+    let (count, found) = read(disk, 3)?;
+    assert!(rt; count == 3);
+    assert!(rt; found.as_slice() == b"dxy.".as_slice());
+    let (count, _) = read(disk, 7)?;
+    assert!(rt; count == 0);
+    Ok(())
+}
+
 // The calls of a disk, each of which changes what the next ones give.
 fn write_and_read<D: Disk>(rt: &impl Abort, disk: &mut D) -> Result<(), Failed> {
-    disk.cut(0)?;
-    disk.write(0, b"abcdef")?;
-    let size = disk.len()?;
-    assert_eq!(rt; size, 6);
-    disk.write(4, b"xyz")?;
+    cut(disk, 0)?;
+    writes(rt, disk)?;
     cut(disk, 9)?;
     cut(disk, 6)?;
     sync(disk)?;
-    let (count, found) = read(disk, 3)?;
-    assert_eq!(rt; count, 3);
-    assert_eq!(rt; found.as_slice(), b"dxy.".as_slice());
-    let (count, _) = read(disk, 7)?;
-    assert_eq!(rt; count, 0);
-    Ok(())
+    reads(rt, disk)
 }
 
 fn mem_disk(alloc: Global, fails: &[u64]) -> Result<MemDisk, AllocError> {
@@ -72,45 +87,66 @@ fn last_call(disk: &MemDisk) -> Option<(bool, bool)> {
     Some((last.failed, last.call == Call::Sync))
 }
 
+// A disk had so many faults, and its clock is this.
+fn is_at<D: Disk>(rt: &impl Abort, disk: &D, faults: u64, clock: u64) {
+    assert_eq!(rt; counts(disk), (faults, clock));
+}
+
+// All calls of a disk succeed.
+fn finishes<D: Disk>(rt: &impl Abort, disk: &mut D) {
+    let answer = write_and_read(rt, disk);
+    assert_eq!(rt; answer, Ok(()));
+    is_at(rt, disk, 0, 2 * CALLS);
+}
+
+// What a disk has whose call of this number failed.
+fn is_left(rt: &impl Abort, disk: &MemDisk, number: u64, left: &[u8]) {
+    assert!(rt; fails(disk) == [number].as_slice());
+    assert!(rt; bytes(disk) == left, "at {number}");
+    assert!(rt; last_call(disk) == Some((true, number == 6)), "at {number}");
+}
+
 // The call of this number fails, at this clock, and leaves these bytes.
+fn fails_on(rt: &impl Abort, disk: &mut MemDisk, number: u64, clock: u64, left: &[u8]) {
+    let answer = write_and_read(rt, disk);
+    assert!(rt; answer.is_err(), "at {number}");
+    is_at(rt, disk, 1, clock);
+    is_left(rt, disk, number, left);
+}
+
 fn fails_at(
     rt: &impl Abort,
     alloc: Global,
     number: u64,
     clock: u64,
     left: &[u8],
-) -> Result<(), Fail> {
+) -> Result<(), AllocError> {
     let mut disk = mem_disk(alloc, &[number])?;
-    let answer = write_and_read(rt, &mut disk);
-    assert_eq!(rt; answer, Err(Failed), "at {number}");
-    assert_eq!(rt; counts(&disk), (1, clock), "at {number}");
-    assert_eq!(rt; fails(&disk), [number].as_slice());
-    assert_eq!(rt; bytes(&disk), left, "at {number}");
-    assert_eq!(rt; last_call(&disk), Some((true, number == 6)), "at {number}");
+    fails_on(rt, &mut disk, number, clock, left);
     Ok(())
 }
+
+// What each call of `write_and_read` finds, at which clock it ends, and so leaves where it fails.
+const FOUND: [(u64, u64, &str); 9] = [
+    (0, 2, "old"),
+    (1, 4, ""),
+    (2, 6, "abcdef"),
+    (3, 8, "abcdef"),
+    (4, 10, "abcdxyz"),
+    (5, 12, "abcdxyz"),
+    (6, 14, "abcdxy"),
+    (7, 16, "abcdxy"),
+    (8, 18, "abcdxy"),
+];
 
 #[test]
 fn a_memory_disk_fails_at_the_listed_call(rt: HostRuntime) -> Result<(), Fail> {
     let alloc = rt.alloc();
-    // What each call of `write_and_read` finds, and so leaves where it fails.
-    for (number, clock, found) in [
-        (0, 2, "old"),
-        (1, 4, ""),
-        (2, 6, "abcdef"),
-        (3, 8, "abcdef"),
-        (4, 10, "abcdxyz"),
-        (5, 12, "abcdxyz"),
-        (6, 14, "abcdxy"),
-        (7, 16, "abcdxy"),
-        (8, 18, "abcdxy"),
-    ] {
-        fails_at(&rt, alloc, number, clock, found.as_bytes())?;
+    for (number, clock, found) in &FOUND {
+        fails_at(&rt, alloc, *number, *clock, found.as_bytes())?;
     }
     let mut disk = mem_disk(alloc, &[CALLS])?;
-    let answer = write_and_read(&rt, &mut disk);
-    assert_eq!(rt; answer, Ok(()));
-    assert_eq!(rt; counts(&disk), (0, 2 * CALLS));
+    finishes(&rt, &mut disk);
     Ok(())
 }
 
@@ -126,15 +162,19 @@ fn passes(disk: &FuseDisk<MemDisk>) -> (u64, u64) {
 }
 
 // After so many passes, with this clock, each call fails.
-fn burns_after(rt: &impl Abort, alloc: Global, number: u64, clock: u64) -> Result<(), Fail> {
+fn burns(rt: &impl Abort, disk: &mut FuseDisk<MemDisk>, number: u64, clock: u64) {
+    let answer = write_and_read(rt, disk);
+    assert!(rt; answer.is_err(), "after {number}");
+    is_at(rt, disk, 1, clock);
+    let again = sync(disk);
+    assert!(rt; again.is_err(), "after {number}");
+    is_at(rt, disk, 2, clock);
+    assert!(rt; passes(disk) == (0, 0), "after {number}");
+}
+
+fn burns_after(rt: &impl Abort, alloc: Global, number: u64) -> Result<(), AllocError> {
     let mut disk = fused(alloc, number)?;
-    let answer = write_and_read(rt, &mut disk);
-    assert_eq!(rt; answer, Err(Failed), "after {number}");
-    assert_eq!(rt; counts(&disk), (1, clock), "after {number}");
-    let again = sync(&mut disk);
-    assert_eq!(rt; again, Err(Failed), "after {number}");
-    assert_eq!(rt; counts(&disk), (2, clock), "after {number}");
-    assert_eq!(rt; passes(&disk), (0, 0), "after {number}");
+    burns(rt, &mut disk, number, number.wrapping_mul(2));
     Ok(())
 }
 
@@ -142,32 +182,41 @@ fn burns_after(rt: &impl Abort, alloc: Global, number: u64, clock: u64) -> Resul
 fn a_fuse_passes_so_many_calls(rt: HostRuntime) -> Result<(), Fail> {
     let alloc = rt.alloc();
     for number in 0..CALLS {
-        burns_after(&rt, alloc, number, 2 * number)?;
+        burns_after(&rt, alloc, number)?;
     }
     let mut disk = fused(alloc, CALLS)?;
-    let answer = write_and_read(&rt, &mut disk);
-    assert_eq!(rt; answer, Ok(()));
-    assert_eq!(rt; counts(&disk), (0, 2 * CALLS));
+    finishes(&rt, &mut disk);
     Ok(())
 }
 
-#[test]
-fn a_file_is_a_disk(rt: HostRuntime) -> Result<(), Fail> {
-    let path = "outside_file_disk";
+fn new_file<R: Files<File = File>>(rt: &R, path: &str) -> io::Result<FileDisk> {
     let file = OpenOptions::new()
         .read(true)
         .write(true)
         .create(true)
         .truncate(true)
-        .open(&rt, path)?;
-    let mut disk = FileDisk::new(file);
-    let answer = write_and_read(&rt, &mut disk);
-    assert_eq!(rt; answer, Ok(()));
-    assert_eq!(rt; counts(&disk), (0, 2 * CALLS));
+        .open(rt, path)?;
+    Ok(FileDisk::new(file))
+}
+
+#[test]
+fn a_file_is_a_disk(rt: HostRuntime) -> Result<(), Fail> {
+    let path = "outside_file_disk";
+    let mut disk = new_file(&rt, path)?;
+    finishes(&rt, &mut disk);
     let kept = fs::read(&rt, path)?;
     fs::remove_file(&rt, path)?;
     assert_eq!(rt; kept.as_slice(), b"abcdxy".as_slice());
     Ok(())
+}
+
+// What a disk of three bytes answers that can only be read.
+fn refuses(rt: &impl Abort, disk: &mut FileDisk) {
+    let size = disk.len();
+    assert!(rt; size == Ok(3));
+    let answer = disk.write(0, b"x");
+    assert!(rt; answer == Err(Failed));
+    assert!(rt; counts(disk) == (1, 4));
 }
 
 #[test]
@@ -175,12 +224,8 @@ fn a_closed_way_is_a_fault(rt: HostRuntime) -> Result<(), Fail> {
     let path = "outside_read_only";
     fs::write(&rt, path, b"abc".as_slice())?;
     let mut disk = FileDisk::new(fs::open(&rt, path)?);
-    let size = disk.len();
-    assert_eq!(rt; size, Ok(3));
-    let answer = disk.write(0, b"x");
-    assert_eq!(rt; answer, Err(Failed));
+    refuses(&rt, &mut disk);
     fs::remove_file(&rt, path)?;
-    assert_eq!(rt; counts(&disk), (1, 4));
     Ok(())
 }
 
@@ -191,21 +236,29 @@ fn piece<S: Source>(source: &mut S) -> (Result<usize, Failed>, [u8; 2]) {
     (answer, buf)
 }
 
+fn word(answer: Result<usize, Failed>) -> &'static str {
+    match answer {
+        Ok(0) => "end ",
+        Ok(1) => "one ",
+        Ok(_) => "two ",
+        Err(Failed) => "failed ",
+    }
+}
+
+// Reads two bytes, and says what came.
+fn say<S: Source>(source: &mut S, text: &mut String) -> Result<(), AllocError> {
+    let (answer, [first, second]) = piece(source);
+    text.push_str(word(answer))?;
+    text.push(char::from(first))?;
+    text.push(char::from(second))?;
+    text.push(' ')
+}
+
 // Reads two bytes at a time, and says what came.
 fn pieces<S: Source>(alloc: Global, source: &mut S, reads: u8) -> Result<String, AllocError> {
     let mut text = String::new(alloc);
     for _ in 0..reads {
-        let (answer, bytes) = piece(source);
-        text.push_str(match answer {
-            Ok(0) => "end ",
-            Ok(1) => "one ",
-            Ok(_) => "two ",
-            Err(Failed) => "failed ",
-        })?;
-        for byte in bytes {
-            text.push(char::from(byte))?;
-        }
-        text.push(' ')?;
+        say(source, &mut text)?;
     }
     Ok(text)
 }
@@ -214,20 +267,33 @@ fn faults<S: Source>(source: &S) -> u64 {
     source.faults()
 }
 
+// So many reads give this, with so many faults in all.
+fn gives<S: Source>(
+    rt: &impl Abort,
+    alloc: Global,
+    source: &mut S,
+    (reads, want): (u8, &str),
+    failed: u64,
+) -> Result<(), AllocError> {
+    let came = pieces(alloc, source, reads)?;
+    assert_eq!(rt; came.as_str(), want);
+    assert_eq!(rt; faults(source), failed);
+    Ok(())
+}
+
+fn a_sure_source(rt: &impl Abort, alloc: Global) -> Result<(), AllocError> {
+    let mut source = SureSource::new(b"abc".to_vec(alloc)?);
+    gives(rt, alloc, &mut source, (3, "two ab one c. end .. "), 0)
+}
+
 #[test]
 fn a_source_loses_nothing_to_a_fault(rt: HostRuntime) -> Result<(), Fail> {
     let alloc = rt.alloc();
     let mut source = MemSource::new(b"abcde".to_vec(alloc)?, [1, 3].to_vec(alloc)?);
-    let came = pieces(alloc, &mut source, 6)?;
-    assert_eq!(rt;
-        came.as_str(),
-        "two ab failed .. two cd failed .. one e. end .. "
-    );
-    assert_eq!(rt; (faults(&source), source.calls()), (2, 6));
-    let mut source = SureSource::new(b"abc".to_vec(alloc)?);
-    let came = pieces(alloc, &mut source, 3)?;
-    assert_eq!(rt; came.as_str(), "two ab one c. end .. ");
-    assert_eq!(rt; faults(&source), 0);
+    let want = "two ab failed .. two cd failed .. one e. end .. ";
+    gives(&rt, alloc, &mut source, (6, want), 2)?;
+    assert_eq!(rt; source.calls(), 6);
+    a_sure_source(&rt, alloc)?;
     Ok(())
 }
 
@@ -236,13 +302,25 @@ fn put<S: Sink>(sink: &mut S, bytes: &[u8]) -> (Result<(), Failed>, u64) {
     (answer, sink.faults())
 }
 
+// Bytes, what a sink answers to them, and how many faults it had by then.
+type Put = (&'static str, Result<(), Failed>, u64);
+
+fn takes<S: Sink>(rt: &impl Abort, sink: &mut S, puts: &[Put]) {
+    for (text, answer, faults) in puts {
+        assert_eq!(rt; put(sink, text.as_bytes()), (*answer, *faults));
+    }
+}
+
 #[test]
 fn a_sink_takes_half_at_a_fault(rt: HostRuntime) -> Result<(), Fail> {
     let alloc = rt.alloc();
     let mut sink = MemSink::new(alloc, [1].to_vec(alloc)?);
-    assert_eq!(rt; put(&mut sink, b"ab"), (Ok(()), 0));
-    assert_eq!(rt; put(&mut sink, b"cdefg"), (Err(Failed), 1));
-    assert_eq!(rt; put(&mut sink, b"h"), (Ok(()), 1));
+    let puts = [
+        ("ab", Ok(()), 0),
+        ("cdefg", Err(Failed), 1),
+        ("h", Ok(()), 1),
+    ];
+    takes(&rt, &mut sink, &puts);
     assert_eq!(rt; sink.bytes(), b"abcdh".as_slice());
     assert_eq!(rt; sink.calls(), 3);
     Ok(())
@@ -291,12 +369,14 @@ impl Write for Faltering {
 #[test]
 fn a_broken_stream_is_a_fault(rt: HostRuntime) -> Result<(), Fail> {
     let mut source = StdSource::over(Faltering { call: 0 });
-    let came = pieces(rt.alloc(), &mut source, 3)?;
-    assert_eq!(rt; came.as_str(), "two zz failed .. two zz ");
-    assert_eq!(rt; faults(&source), 1);
+    let want = "two zz failed .. two zz ";
+    gives(&rt, rt.alloc(), &mut source, (3, want), 1)?;
     let mut sink = StdSink::over(Faltering { call: 0 });
-    assert_eq!(rt; put(&mut sink, b"abc"), (Err(Failed), 1));
-    assert_eq!(rt; put(&mut sink, b"ab"), (Ok(()), 1));
+    takes(
+        &rt,
+        &mut sink,
+        &[("abc", Err(Failed), 1), ("ab", Ok(()), 1)],
+    );
     Ok(())
 }
 
@@ -304,16 +384,17 @@ fn a_broken_stream_is_a_fault(rt: HostRuntime) -> Result<(), Fail> {
 fn the_standard_streams_work(rt: HostRuntime) -> Result<(), Fail> {
     let alloc = rt.alloc();
     let mut source = StdSource::over(b"abc".as_slice());
-    let came = pieces(alloc, &mut source, 3)?;
-    assert_eq!(rt; came.as_str(), "two ab one c. end .. ");
-    assert_eq!(rt;
-        put(&mut StdSink::over(Vec::new(alloc)), b"abc"),
-        (Ok(()), 0)
+    gives(&rt, alloc, &mut source, (3, "two ab one c. end .. "), 0)?;
+    takes(
+        &rt,
+        &mut StdSink::over(Vec::new(alloc)),
+        &[("abc", Ok(()), 0)],
     );
     assert_eq!(rt; faults(&StdSource::new(&rt)), 0);
-    assert_eq!(rt;
-        put(&mut StdSink::new(&rt), b"a line of the test\n"),
-        (Ok(()), 0)
+    takes(
+        &rt,
+        &mut StdSink::new(&rt),
+        &[("a line of the test\n", Ok(()), 0)],
     );
     Ok(())
 }
@@ -337,92 +418,118 @@ fn asked_disk(alloc: Global, times: u8) -> Result<MemDisk, AllocError> {
     Ok(disk)
 }
 
+// Two disks that were asked so many times.
+fn two_disks(alloc: Global, first: u8, second: u8) -> Result<Vec<MemDisk>, AllocError>
+    ensures { IfOk result (λ disks. length disks.items ≡ 2) }
+{
+    let mut disks = Vec::new(alloc);
+    disks.push(asked_disk(alloc, first)?)?;
+    disks.push(asked_disk(alloc, second)?)?;
+    Ok(disks)
+}
+
 // The devices of two workers, and room for one cut. Each disk's clock is another.
 fn two_workers(alloc: Global) -> Result<Vault<MemDisk>, AllocError>
     ensures even { IfOk result (λ vault. length vault.even.items ≡ 2) }
     ensures odd { IfOk result (λ vault. length vault.odd.items ≡ 2) }
     ensures room { IfOk result (λ vault. vec_len vault.cuts < vec_capacity vault.cuts) }
 {
-    let mut even = Vec::new(alloc);
-    even.push(asked_disk(alloc, 2)?)?;
-    even.push(asked_disk(alloc, 4)?)?;
-    let mut odd = Vec::new(alloc);
-    odd.push(asked_disk(alloc, 3)?)?;
-    odd.push(asked_disk(alloc, 5)?)?;
+    let cuts = Vec::with_capacity(alloc, 1)?;
+    let save = asked_disk(alloc, 0)?;
+    let snaps = asked_disk(alloc, 1)?;
+    let even = two_disks(alloc, 2, 4)?;
+    let odd = two_disks(alloc, 3, 5)?;
     Ok(Vault {
-        save: asked_disk(alloc, 0)?,
-        snaps: asked_disk(alloc, 1)?,
+        save,
+        snaps,
         even,
         odd,
         ties: Vec::new(alloc),
-        cuts: Vec::with_capacity(alloc, 1)?,
+        cuts,
     })
 }
 
-// The lengths of all devices: the save, the snapshots, and the banks 0, 2, 1 and 3.
-fn lengths(alloc: Global, vault: &Vault<MemDisk>) -> Result<Vec<usize>, AllocError> {
-    let mut lengths = Vec::new(alloc);
-    lengths.push(vault.save.bytes().len())?;
-    lengths.push(vault.snaps.bytes().len())?;
-    for disk in vault.even.iter() {
-        lengths.push(disk.bytes().len())?;
+// Whether disks have these lengths.
+fn have_lengths(disks: &[MemDisk], lengths: &[usize]) -> bool {
+    if disks.len() != lengths.len() {
+        return false;
     }
-    for disk in vault.odd.iter() {
-        lengths.push(disk.bytes().len())?;
+    for i in 0..disks.len() {
+        if disks[i].bytes().len() != lengths[i] {
+            return false;
+        }
     }
-    Ok(lengths)
+    true
 }
 
-// Cuts a device, and says what was recorded, the device's next clock and all lengths.
-fn cut_once(
-    rt: &impl Abort,
-    alloc: Global,
-    vault: &mut Vault<MemDisk>,
-    device: Device,
-    at: u64,
-    left: [usize; 6],
-) -> Result<(), Fail>
+// Whether devices have these lengths: the save, the snapshots, and the banks 0, 2, 1 and 3.
+fn are_left(vault: &Vault<MemDisk>, left: &[usize; 6]) -> bool {
+    let alone = (bytes(&vault.save).len(), bytes(&vault.snaps).len()) == (left[0], left[1]);
+    let even = have_lengths(&vault.even, &left[2..4]);
+    alone & even & have_lengths(&vault.odd, &left[4..])
+}
+
+// Cuts a device that is there, and says so in a list that has room.
+fn cut_in(vault: &mut Vault<MemDisk>, device: Device) -> Result<(), Failed>
     requires room { vec_len vault.old.cuts < vec_capacity vault.old.cuts }
     requires device { IsSome (disk_in vault.old device) }
     requires not_save { device ≢ Device.Save }
 {
-    assert_eq!(rt; vault.cut_in(device, 7), Ok(()), "{device:?}");
+    vault.cut_in(device, 7)
+}
+
+// A device was cut as its clock was this: what was recorded, and all lengths.
+fn is_cut(
+    rt: &impl Abort,
+    vault: &Vault<MemDisk>,
+    (answer, device): (Result<(), Failed>, Device),
+    at: u64,
+    left: [usize; 6],
+) {
+    assert!(rt; answer == Ok(()), "{device:?}");
     let cut = Cut {
         device,
         at,
         after: 7,
     };
-    assert_eq!(rt; vault.cuts.as_slice(), [cut].as_slice());
-    let lengths = lengths(alloc, vault)?;
-    assert_eq!(rt; lengths.as_slice(), left.as_slice(), "{device:?}");
+    assert!(rt; vault.cuts.as_slice() == [cut].as_slice());
+    assert!(rt; are_left(vault, &left), "{device:?}");
+}
+
+fn snaps_are_cut(rt: &impl Abort, alloc: Global) -> Result<(), AllocError> {
+    let mut vault = two_workers(alloc)?;
+    assert!(rt; !vault.is_whole());
+    let answer = cut_in(&mut vault, Device::Snaps);
+    is_cut(rt, &vault, (answer, Device::Snaps), 2, [3, 0, 3, 3, 3, 3]);
+    assert_eq!(rt; vault.snaps.clock(), 4);
+    Ok(())
+}
+
+fn a_first_bank_is_cut(rt: &impl Abort, alloc: Global) -> Result<(), AllocError> {
+    let mut vault = two_workers(alloc)?;
+    let answer = cut_in(&mut vault, Device::Bank(0));
+    is_cut(rt, &vault, (answer, Device::Bank(0)), 4, [3, 3, 0, 3, 3, 3]);
+    Ok(())
+}
+
+fn a_last_bank_is_cut(rt: &impl Abort, alloc: Global) -> Result<(), AllocError> {
+    let mut vault = two_workers(alloc)?;
+    let answer = cut_in(&mut vault, Device::Bank(3));
+    is_cut(
+        rt,
+        &vault,
+        (answer, Device::Bank(3)),
+        10,
+        [3, 3, 3, 3, 3, 0],
+    );
     Ok(())
 }
 
 #[test]
 fn a_cut_of_a_device_is_recorded(rt: HostRuntime) -> Result<(), Fail> {
-    let alloc = rt.alloc();
-    let mut vault = two_workers(alloc)?;
-    assert!(rt; !vault.is_whole());
-    cut_once(&rt, alloc, &mut vault, Device::Snaps, 2, [3, 0, 3, 3, 3, 3])?;
-    assert_eq!(rt; vault.snaps.clock(), 4);
-    let mut vault = two_workers(alloc)?;
-    cut_once(
-        &rt,
-        alloc,
-        &mut vault,
-        Device::Bank(0),
-        4,
-        [3, 3, 0, 3, 3, 3],
-    )?;
-    let mut vault = two_workers(alloc)?;
-    cut_once(
-        &rt,
-        alloc,
-        &mut vault,
-        Device::Bank(3),
-        10,
-        [3, 3, 3, 3, 3, 0],
-    )?;
+    snaps_are_cut(&rt, rt.alloc())?;
+    a_first_bank_is_cut(&rt, rt.alloc())?;
+    a_last_bank_is_cut(&rt, rt.alloc())?;
     Ok(())
 }
 
@@ -435,19 +542,32 @@ fn disks(alloc: Global, count: u8) -> Result<Vec<MemDisk>, AllocError> {
     Ok(disks)
 }
 
+// A vault with so many log files of even and of odd number.
+fn vault_of(alloc: Global, even: u8, odd: u8) -> Result<Vault<MemDisk>, AllocError> {
+    let save = mem_disk(alloc, &[])?;
+    let snaps = mem_disk(alloc, &[])?;
+    let even = disks(alloc, even)?;
+    let odd = disks(alloc, odd)?;
+    Ok(Vault {
+        save,
+        snaps,
+        even,
+        odd,
+        ties: Vec::new(alloc),
+        cuts: Vec::new(alloc),
+    })
+}
+
+fn is_whole(alloc: Global, even: u8, odd: u8) -> Result<bool, AllocError> {
+    let vault = vault_of(alloc, even, odd)?;
+    Ok(vault.is_whole())
+}
+
 #[test]
 fn a_whole_vault_has_sixteen_log_files(rt: HostRuntime) -> Result<(), Fail> {
-    let alloc = rt.alloc();
-    for (even, odd, whole) in [(8, 8, true), (7, 8, false), (8, 9, false)] {
-        let vault = Vault {
-            save: mem_disk(alloc, &[])?,
-            snaps: mem_disk(alloc, &[])?,
-            even: disks(alloc, even)?,
-            odd: disks(alloc, odd)?,
-            ties: Vec::new(alloc),
-            cuts: Vec::new(alloc),
-        };
-        assert_eq!(rt; vault.is_whole(), whole, "{even} and {odd}");
+    for (even, odd, whole) in &[(8, 8, true), (7, 8, false), (8, 9, false)] {
+        let found = is_whole(rt.alloc(), *even, *odd)?;
+        assert_eq!(rt; found, *whole, "{even} and {odd}");
     }
     Ok(())
 }

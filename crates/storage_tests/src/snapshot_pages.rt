@@ -5,6 +5,7 @@ use lists::OrMemory;
 use outside::{Disk, MemDisk};
 use snapshot_store::{SnapStore, StoreFault};
 use std::alloc::{AllocError, Global};
+use std::process::Abort;
 use std::test::Fail;
 use wire_form::{Page, PageKind};
 
@@ -40,23 +41,30 @@ fn refusal(alloc: Global, len: usize, count: u32) -> Result<Option<OrMemory<Stor
     Ok(SnapStore::load(alloc, &mut snaps, count).err())
 }
 
+fn is_found(rt: &impl Abort, found: &[u8]) {
+    assert!(rt; found.len() == 512);
+    assert!(rt; &found[..8] == [1, 2, 3, 4, 5, 6, 7, 8].as_slice());
+}
+
+// Adds a page to a store that has none, brings it to the device, and loads it again.
+fn comes_back(rt: &impl Abort, alloc: Global, snaps: &mut MemDisk) {
+    let mut store = SnapStore::load(alloc, snaps, 0).expect(rt, "no page");
+    let first = store.append(snaps, &[page(1, 0x0102_0304_0506_0708)]);
+    assert!(rt; first == Ok(1));
+    assert!(rt; store.count() == 1);
+    assert!(rt; store.sound());
+    let synced = store.sync(snaps);
+    assert!(rt; synced.is_ok());
+    is_found(rt, bytes(snaps));
+    let again = SnapStore::load(alloc, snaps, 1).expect(rt, "one page");
+    assert!(rt; again.count() == 1);
+    assert!(rt; again.page(1) == store.page(1));
+}
+
 #[test]
 fn pages_come_back(rt: HostRuntime) -> Result<(), Fail> {
-    let alloc = rt.alloc();
-    let mut snaps = disk(alloc, 0, &[])?;
-    let mut store = SnapStore::load(alloc, &mut snaps, 0).expect(&rt, "no page");
-    let first = store.append(&mut snaps, &[page(1, 0x0102_0304_0506_0708)]);
-    assert_eq!(rt; first, Ok(1));
-    assert_eq!(rt; store.count(), 1);
-    assert!(rt; store.sound());
-    let synced = store.sync(&mut snaps);
-    assert_eq!(rt; synced, Ok(()));
-    let found = bytes(&snaps);
-    assert_eq!(rt; found.len(), 512);
-    assert_eq!(rt; &found[..8], [1, 2, 3, 4, 5, 6, 7, 8].as_slice());
-    let again = SnapStore::load(alloc, &mut snaps, 1).expect(&rt, "one page");
-    assert_eq!(rt; again.count(), 1);
-    assert!(rt; again.page(1) == store.page(1));
+    let mut snaps = disk(rt.alloc(), 0, &[])?;
+    comes_back(&rt, rt.alloc(), &mut snaps);
     Ok(())
 }
 
@@ -70,20 +78,30 @@ fn use_pages(alloc: Global, snaps: &mut MemDisk) -> Result<(), OrMemory<StoreFau
     }
 }
 
+// What they answer over a device of two pages whose call of this number fails, how many faults it had, and how many
+// bytes it has then.
+fn used_with(
+    alloc: Global,
+    number: u64,
+) -> Result<(Result<(), OrMemory<StoreFault>>, u64, usize), AllocError> {
+    let mut snaps = disk(alloc, 1024, &[number])?;
+    let used = use_pages(alloc, &mut snaps);
+    Ok((used, faults(&snaps), bytes(&snaps).len()))
+}
+
+const DEVICE: OrMemory<StoreFault> = OrMemory::Fault(StoreFault::Device);
+
 #[test]
 fn each_call_fails_once(rt: HostRuntime) -> Result<(), Fail> {
     let alloc = rt.alloc();
     for number in 0..5 {
-        let mut snaps = disk(alloc, 1024, &[number])?;
-        let fault = OrMemory::Fault(StoreFault::Device);
-        let used = use_pages(alloc, &mut snaps);
-        assert_eq!(rt; used, Err(fault), "at {number}");
-        assert_eq!(rt; faults(&snaps), 1, "at {number}");
+        let (used, faults, _) = used_with(alloc, number)?;
+        assert!(rt; used == Err(DEVICE), "at {number}");
+        assert!(rt; faults == 1, "at {number}");
     }
-    let mut snaps = disk(alloc, 1024, &[5])?;
-    let used = use_pages(alloc, &mut snaps);
-    assert_eq!(rt; used, Ok(()));
-    assert_eq!(rt; bytes(&snaps).len(), 1536);
+    let (used, _, length) = used_with(alloc, 5)?;
+    assert!(rt; used.is_ok());
+    assert!(rt; length == 1536);
     Ok(())
 }
 

@@ -91,37 +91,63 @@ fn cut(range: Range, keys: &[u64], leaves: &mut Vec<Range>) -> Result<usize, Mem
     Ok(count)
 }
 
+// Cuts a range with changes, as keys of the map have it, and answers how many pages that makes.
+fn cut_changed(
+    alloc: Global,
+    range: Range,
+    map: &BTreeMap<u64, u64>,
+    leaves: &mut Vec<Range>,
+    above: &mut Vec<Range>,
+) -> Result<usize, Memory> {
+    let keys = keys_in(alloc, range, map)?;
+    let count = cut(range, &keys, leaves)?;
+    if count == 1 {
+        return Ok(1);
+    }
+    above.push(range)?;
+    Ok(count.wrapping_add(1))
+}
+
+// Cuts the leaves with changes, and answers how many pages that makes.
+fn cut_leaves(
+    alloc: Global,
+    tree: &mut TreeRanges,
+    map: &BTreeMap<u64, u64>,
+    changes: &[Change],
+) -> Result<usize, Memory> {
+    let mut next = Vec::new(alloc);
+    let mut pages: usize = 0;
+    for range in &tree.leaves {
+        if is_changed(*range, changes) {
+            let made = cut_changed(alloc, *range, map, &mut next, &mut tree.above)?;
+            pages = pages.wrapping_add(made);
+        } else {
+            next.push(*range)?;
+        }
+    }
+    tree.leaves = next;
+    Ok(pages)
+}
+
+fn changed_above(above: &[Range], changes: &[Change]) -> usize {
+    let mut count: usize = 0;
+    for range in above {
+        if is_changed(*range, changes) {
+            count = count.wrapping_add(1);
+        }
+    }
+    count
+}
+
 /// A page for each range of a tree with changes, where more than 16 keys take more, and a catalogue. The
 /// map is the one with the changes.
 pub fn tree_pages(
     alloc: Global,
-    tree: TreeRanges,
+    tree: &mut TreeRanges,
     map: &BTreeMap<u64, u64>,
     changes: &[Change],
-) -> Result<(usize, TreeRanges), Memory> {
-    let TreeRanges { leaves, mut above } = tree;
-    let mut pages = 1
-        + above
-            .iter()
-            .filter(|range| is_changed(**range, changes))
-            .count();
-    let mut next = Vec::new(alloc);
-    for range in &leaves {
-        if !is_changed(*range, changes) {
-            next.push(*range)?;
-            continue;
-        }
-        let keys = keys_in(alloc, *range, map)?;
-        let count = cut(*range, &keys, &mut next)?;
-        pages = pages.wrapping_add(count);
-        if count > 1 {
-            above.push(*range)?;
-            pages = pages.wrapping_add(1);
-        }
-    }
-    let tree = TreeRanges {
-        leaves: next,
-        above,
-    };
-    Ok((pages, tree))
+) -> Result<usize, Memory> {
+    let above = changed_above(&tree.above, changes);
+    let cut = cut_leaves(alloc, tree, map, changes)?;
+    Ok(cut.wrapping_add(above).wrapping_add(1))
 }

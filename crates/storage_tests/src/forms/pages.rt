@@ -1,19 +1,10 @@
+use super::words_of;
 use serial_model::Decl;
 use wire_form::{Page, PageKind, Stored, catalogue_words, read_page, words_of_page, write_page};
 
 const CATALOGUE: u64 = 0x4341_5400_0000_0000;
 // Epoch 1, draw 1.
 const NUMBER: u64 = 0x100_0000_0001;
-
-fn words_of(places: &[(usize, u64)]) -> [u64; 64] {
-    let mut words = [0; 64];
-    for (at, word) in places {
-        if *at < 64 {
-            words[*at] = *word;
-        }
-    }
-    words
-}
 
 fn is_read(kind: PageKind, number: u32, words: [u64; 64]) -> bool {
     let mut bytes = [9; 512];
@@ -33,10 +24,19 @@ fn is_strict(kind: PageKind, number: u32, good: [u64; 64], others: &[(usize, u64
         let mut words = good;
         if *at < 64 {
             words[*at] = *word;
-            strict = strict && !is_read(kind, number, words);
+            strict = strict & !is_read(kind, number, words);
         }
     }
     strict
+}
+
+const ARRAY: Stored = Stored {
+    decl: Decl::Array { id: 1, size: 4 },
+    root: 0,
+};
+
+fn first_words() -> [u64; 64] {
+    catalogue_words(0, 0, &[ARRAY])
 }
 
 // The first catalogue of an array of 4, and that page with a root that is the page itself.
@@ -44,26 +44,14 @@ fn is_strict(kind: PageKind, number: u32, good: [u64; 64], others: &[(usize, u64
 fn first_catalogue(rt: HostRuntime) {
     let mut words = words_of(&[(0, 0x4341_5400_0000_0001), (16, 257), (17, 4)]);
     assert!(rt; is_read(PageKind::Catalogue, 1, words));
-    let array = Stored {
-        decl: Decl::Array { id: 1, size: 4 },
-        root: 0,
-    };
-    assert_eq!(rt; catalogue_words(0, 0, &[array]), words);
+    assert!(rt; first_words() == words);
     words[18] = 1;
     assert!(rt; !is_read(PageKind::Catalogue, 1, words));
 }
 
-// A page number out of range, and words of little-endian bytes.
-#[test]
-fn numbers_and_bytes(rt: HostRuntime) {
-    let words = words_of(&[(0, CATALOGUE)]);
-    for (number, want) in [(0, false), (1, true), (65_536, true), (65_537, false)] {
-        assert_eq!(rt;
-            is_read(PageKind::Catalogue, number, words),
-            want,
-            "page {number}"
-        );
-    }
+const NUMBERS: [(u32, bool); 4] = [(0, false), (1, true), (65_536, true), (65_537, false)];
+
+fn first_bytes(words: [u64; 64]) -> [u8; 4] {
     let mut bytes = [0; 512];
     let page = Page {
         number: 1,
@@ -71,47 +59,56 @@ fn numbers_and_bytes(rt: HostRuntime) {
         words,
     };
     write_page(&page, &mut bytes);
-    assert_eq!(rt; bytes[..4], [0x43, 0x41, 0x54, 0][..]);
+    [bytes[0], bytes[1], bytes[2], bytes[3]]
+}
+
+// A page number out of range, and words of little-endian bytes.
+#[test]
+fn numbers_and_bytes(rt: HostRuntime) {
+    let words = words_of(&[(0, CATALOGUE)]);
+    for (number, want) in &NUMBERS {
+        let found = is_read(PageKind::Catalogue, *number, words);
+        assert!(rt; found == *want, "page {number}");
+    }
+    assert!(rt; first_bytes(words) == [0x43, 0x41, 0x54, 0]);
 }
 
 // From here on each rule of a kind is broken once.
+const NO_ARRAY_LEAF: [(usize, u64); 6] = [
+    (0, NUMBER + (1 << 60)), // a lock
+    (0, NUMBER + (1 << 61)), // an absent record
+    (0, 1), // no number
+    (3, 1), // a value without a number
+    (6, NUMBER), // a record that isn't used
+    (63, 1), // the last word
+];
+
+const NO_ARRAY_INNER: [(usize, u64); 6] = [
+    (0, 5), // the page itself
+    (1, 6), // a page above its own
+    (1, 1 << 32), // a slot
+    (1, 1 << 60), // a pointer that is shut
+    (3, 1), // a child that isn't used
+    (63, 1), // the last word
+];
+
+const RECORDS: [(u32, bool); 4] = [(0, false), (2, false), (32, true), (33, false)];
+
+const CHILDREN: [(u32, bool); 4] = [(0, false), (2, false), (64, true), (65, false)];
+
 #[test]
 fn array_pages(rt: HostRuntime) {
     let leaf = words_of(&[(0, NUMBER), (1, 7), (4, NUMBER), (5, 8)]);
-    let kind = PageKind::ArrayLeaf { used: 3 };
-    let others = [
-        (0, NUMBER + (1 << 60)), // a lock
-        (0, NUMBER + (1 << 61)), // an absent record
-        (0, 1), // no number
-        (3, 1), // a value without a number
-        (6, NUMBER), // a record that isn't used
-        (63, 1), // the last word
-    ];
-    assert!(rt; is_strict(kind, 1, leaf, &others));
-    for (used, want) in [(0, false), (2, false), (32, true), (33, false)] {
-        assert_eq!(rt;
-            is_read(PageKind::ArrayLeaf { used }, 1, leaf),
-            want,
-            "{used} records"
-        );
+    assert!(rt; is_strict(PageKind::ArrayLeaf { used: 3 }, 1, leaf, &NO_ARRAY_LEAF));
+    for (used, want) in &RECORDS {
+        let found = is_read(PageKind::ArrayLeaf { used: *used }, 1, leaf);
+        assert_eq!(rt; found, *want, "{used} records");
     }
     let inner = words_of(&[(0, 2), (2, 4)]);
-    let kind = PageKind::ArrayInner { used: 3 };
-    let others = [
-        (0, 5), // the page itself
-        (1, 6), // a page above its own
-        (1, 1 << 32), // a slot
-        (1, 1 << 60), // a pointer that is shut
-        (3, 1), // a child that isn't used
-        (63, 1), // the last word
-    ];
-    assert!(rt; is_strict(kind, 5, inner, &others));
-    for (used, want) in [(0, false), (2, false), (64, true), (65, false)] {
-        assert_eq!(rt;
-            is_read(PageKind::ArrayInner { used }, 5, inner),
-            want,
-            "{used} children"
-        );
+    assert!(rt; is_strict(PageKind::ArrayInner { used: 3 }, 5, inner, &NO_ARRAY_INNER));
+    for (used, want) in &CHILDREN {
+        let found = is_read(PageKind::ArrayInner { used: *used }, 5, inner);
+        assert_eq!(rt; found, *want, "{used} children");
     }
 }
 

@@ -1,10 +1,10 @@
-ghost use Rattle.std.specs.Prelude.{◌≤◌};
+ghost use Rattle.std.specs.Prelude.{◌^◌, ◌<◌, ◌≤◌};
 ghost use Rattle.log_writer.specs.Journal.{Reaches, DurableStays};
 
 use crate::disks::disk;
 use log_writer::{Journal, LogFault};
 use outside::{Disk, MemDisk};
-use serial_model::{Change, Changes, Commit, Key, Number};
+use serial_model::{Change, Changes, Commit, Key, Memory, Number};
 use std::alloc::Global;
 use std::process::Abort;
 use std::test::Fail;
@@ -75,150 +75,225 @@ fn lengths(journal: &Journal) -> (usize, u64) {
     (journal.waiting(), journal.durable())
 }
 
-// The log file's clock, and its bytes.
-fn clock(bank: &MemDisk) -> u64 {
-    bank.clock()
-}
-
 fn bytes(bank: &MemDisk) -> &[u8] {
     bank.bytes()
 }
 
-#[test]
-fn a_journal_ends_at_its_limit(rt: HostRuntime) -> Result<(), Fail> {
-    let alloc = rt.alloc();
-    let mut bank = disk(alloc, &[], &[])?;
-    let mut journal = Journal::new(alloc, 1000).expect(&rt, "memory");
-    let full = Err(LogFault::Limit { length: 640 });
-    let lines = put_lines(&mut journal, &mut bank, 15);
-    assert_eq!(rt; lines, Ok(()));
-    let free = room(&mut journal, &mut bank);
-    assert_eq!(rt; free, Ok(()));
-    let line = put_line(&mut journal, &mut bank);
-    assert_eq!(rt; line, Ok(()));
-    let free = room(&mut journal, &mut bank);
-    assert_eq!(rt; free, full);
-    assert_eq!(rt;
-        (lengths(&journal), clock(&bank)),
-        ((640, 0), 0),
-        "no flush"
-    );
-    let flushed = flush(&mut journal, &mut bank);
-    assert_eq!(rt; flushed, Ok(640));
-    let free = room(&mut journal, &mut bank);
-    assert_eq!(rt; free, full);
-    assert_eq!(rt; bytes(&bank).len(), 640);
-    for line in bytes(&bank).chunks(40) {
-        assert_eq!(rt; line, LINE.as_slice());
+// A step of a journal, or a question to it.
+#[derive(Clone, Copy)]
+enum Step {
+    // Put so many lines.
+    Lines(u64),
+    // Make room for a line.
+    Room,
+    Flush,
+    // How many bytes wait.
+    Waiting,
+    // How many bytes are durable.
+    Durable,
+    // The log file's clock.
+    Clock,
+}
+
+// A step, and what it answers: 0 where it answers nothing.
+type Row = (Step, Result<u64, LogFault>);
+
+fn answer<D: Disk>(journal: &mut Journal, bank: &mut D, step: Step) -> Result<u64, LogFault>
+    requires { Reaches D.tells bank.old journal.old }
+    ensures { Reaches D.tells bank.new journal.new }
+{
+    match step {
+        Step::Lines(count) => put_lines(journal, bank, count)?,
+        Step::Room => room(journal, bank)?,
+        Step::Flush => return flush(journal, bank),
+        Step::Waiting => return Ok(lengths(journal).0 as u64),
+        Step::Durable => return Ok(lengths(journal).1),
+        Step::Clock => return Ok(bank.clock()),
     }
+    Ok(0)
+}
+
+fn follows<D: Disk>(rt: &impl Abort, journal: &mut Journal, bank: &mut D, rows: &[Row])
+    requires { Reaches D.tells bank.old journal.old }
+    ensures { Reaches D.tells bank.new journal.new }
+{
+    for row in rows {
+        let (step, want) = *row;
+        let came = answer(journal, bank, step);
+        assert_eq!(rt; came, want);
+    }
+}
+
+// What a journal of this limit does over a log file that has nothing yet.
+fn runs<D: Disk>(
+    rt: &impl Abort,
+    alloc: Global,
+    bank: &mut D,
+    limit: u64,
+    rows: &[Row],
+) -> Result<(), Memory>
+    requires { limit < 2 ^ 40 }
+{
+    let mut journal = Journal::new(alloc, limit)?;
+    follows(rt, &mut journal, bank, rows);
     Ok(())
 }
+
+// The same over one in memory whose calls of these numbers fail.
+fn runs_over(
+    rt: &impl Abort,
+    alloc: Global,
+    fails: &[u64],
+    limit: u64,
+    rows: &[Row],
+) -> Result<(), Fail>
+    requires { limit < 2 ^ 40 }
+{
+    let mut bank = disk(alloc, &[], fails)?;
+    runs(rt, alloc, &mut bank, limit, rows)?;
+    Ok(())
+}
+
+const FULL: LogFault = LogFault::Limit { length: 640 };
+
+// Where there is no room, nothing is flushed.
+const ENDS: [Row; 9] = [
+    (Step::Lines(15), Ok(0)),
+    (Step::Room, Ok(0)),
+    (Step::Lines(1), Ok(0)),
+    (Step::Room, Err(FULL)),
+    (Step::Waiting, Ok(640)),
+    (Step::Durable, Ok(0)),
+    (Step::Clock, Ok(0)),
+    (Step::Flush, Ok(640)),
+    (Step::Room, Err(FULL)),
+];
+
+fn has_lines(rt: &impl Abort, bytes: &[u8]) {
+    for line in bytes.chunks(40) {
+        assert_eq!(rt; line, LINE.as_slice());
+    }
+}
+
+#[test]
+fn a_journal_ends_at_its_limit(rt: HostRuntime) -> Result<(), Fail> {
+    let mut bank = disk(rt.alloc(), &[], &[])?;
+    runs(&rt, rt.alloc(), &mut bank, 1000, &ENDS)?;
+    assert_eq!(rt; bytes(&bank).len(), 640);
+    has_lines(&rt, bytes(&bank));
+    Ok(())
+}
+
+// A flush of nothing touches nothing.
+const FLUSHES: [Row; 14] = [
+    (Step::Flush, Ok(0)),
+    (Step::Lines(93), Ok(0)),
+    (Step::Clock, Ok(0)),
+    (Step::Waiting, Ok(3720)),
+    (Step::Durable, Ok(0)),
+    (Step::Lines(1), Ok(0)),
+    (Step::Clock, Ok(4)),
+    (Step::Waiting, Ok(40)),
+    (Step::Durable, Ok(3720)),
+    (Step::Flush, Ok(3760)),
+    (Step::Flush, Ok(3760)),
+    (Step::Waiting, Ok(0)),
+    (Step::Durable, Ok(3760)),
+    (Step::Clock, Ok(8)),
+];
 
 #[test]
 fn a_full_buffer_is_flushed(rt: HostRuntime) -> Result<(), Fail> {
-    let alloc = rt.alloc();
-    let mut bank = disk(alloc, &[], &[])?;
-    let mut journal = Journal::new(alloc, (1 << 40) - 1).expect(&rt, "memory");
-    let flushed = flush(&mut journal, &mut bank);
-    assert_eq!(rt; flushed, Ok(0));
-    let lines = put_lines(&mut journal, &mut bank, 93);
-    assert_eq!(rt; lines, Ok(()));
-    assert_eq!(rt; (clock(&bank), lengths(&journal)), (0, (3720, 0)));
-    let line = put_line(&mut journal, &mut bank);
-    assert_eq!(rt; line, Ok(()));
-    assert_eq!(rt; (clock(&bank), lengths(&journal)), (4, (40, 3720)));
-    let flushed = flush(&mut journal, &mut bank);
-    assert_eq!(rt; flushed, Ok(3760));
-    let flushed = flush(&mut journal, &mut bank);
-    assert_eq!(rt; flushed, Ok(3760));
-    assert_eq!(rt; clock(&bank), 8, "a flush of nothing touches nothing");
-    Ok(())
+    runs_over(&rt, rt.alloc(), &[], (1 << 40) - 1, &FLUSHES)
 }
 
-// A line, a flush, a line, a flush, over a log file whose call of this number fails: what the flushes answer, how many
-// bytes are durable, and whether there is room for a line more. Another line would be above the limit too; that the
-// journal is down comes first.
-fn fails_at(
-    rt: &impl Abort,
-    alloc: Global,
-    number: u64,
-    answers: [Result<u64, LogFault>; 2],
-    durable: u64,
-    refusal: LogFault,
-) -> Result<(), Fail> {
-    let mut bank = disk(alloc, &[], &[number])?;
-    let mut journal = Journal::new(alloc, 479)?;
-    let line = put_line(&mut journal, &mut bank);
-    assert_eq!(rt; line, Ok(()));
-    let first = flush(&mut journal, &mut bank);
-    assert_eq!(rt; first, answers[0], "at {number}");
-    if first.is_ok() {
-        let line = put_line(&mut journal, &mut bank);
-        assert_eq!(rt; line, Ok(()));
-    }
-    let second = flush(&mut journal, &mut bank);
-    assert_eq!(rt; second, answers[1], "at {number}");
-    let (_, length) = lengths(&journal);
-    assert_eq!(rt; length, durable, "at {number}");
-    let free = room(&mut journal, &mut bank);
-    assert_eq!(rt; free, Err(refusal), "at {number}");
-    Ok(())
-}
+const DOWN: LogFault = LogFault::Down { faults: 1 };
 
+// A line and a flush that fails. Another line would be above the limit too; that the journal is down comes first.
+const A_FIRST_FLUSH_FAILS: [Row; 5] = [
+    (Step::Lines(1), Ok(0)),
+    (Step::Flush, Err(LogFault::Device)),
+    (Step::Flush, Err(DOWN)),
+    (Step::Durable, Ok(0)),
+    (Step::Room, Err(DOWN)),
+];
+
+const A_SECOND_FLUSH_FAILS: [Row; 6] = [
+    (Step::Lines(1), Ok(0)),
+    (Step::Flush, Ok(40)),
+    (Step::Lines(1), Ok(0)),
+    (Step::Flush, Err(LogFault::Device)),
+    (Step::Durable, Ok(40)),
+    (Step::Room, Err(DOWN)),
+];
+
+const NO_FLUSH_FAILS: [Row; 6] = [
+    (Step::Lines(1), Ok(0)),
+    (Step::Flush, Ok(40)),
+    (Step::Lines(1), Ok(0)),
+    (Step::Flush, Ok(80)),
+    (Step::Durable, Ok(80)),
+    (Step::Room, Err(LogFault::Limit { length: 80 })),
+];
+
+// Each call of the log file fails once: those of the first flush, those of the second one, and one that isn't made.
 #[test]
 fn a_journal_goes_down_at_a_fault(rt: HostRuntime) -> Result<(), Fail> {
     let alloc = rt.alloc();
-    let down = LogFault::Down { faults: 1 };
-    let full = LogFault::Limit { length: 80 };
-    let failed = Err(LogFault::Device);
-    for (number, answers, durable, refusal) in [
-        (0, [failed, Err(down)], 0, down),
-        (1, [failed, Err(down)], 0, down),
-        (2, [Ok(40), failed], 40, down),
-        (3, [Ok(40), failed], 40, down),
-        (4, [Ok(40), Ok(80)], 80, full),
-    ] {
-        fails_at(&rt, alloc, number, answers, durable, refusal)?;
+    for number in 0..2 {
+        runs_over(&rt, alloc, &[number], 479, &A_FIRST_FLUSH_FAILS)?;
     }
-    Ok(())
+    for number in 2..4 {
+        runs_over(&rt, alloc, &[number], 479, &A_SECOND_FLUSH_FAILS)?;
+    }
+    runs_over(&rt, alloc, &[4], 479, &NO_FLUSH_FAILS)
 }
+
+const NO_ROOM_IS_MADE: [Row; 5] = [
+    (Step::Lines(93), Ok(0)),
+    (Step::Lines(1), Err(LogFault::Device)),
+    (Step::Waiting, Ok(3720)),
+    (Step::Durable, Ok(0)),
+    (Step::Lines(1), Err(DOWN)),
+];
 
 // The flush that makes room fails: the first call of the log file, once 93 lines wait.
 #[test]
 fn a_fault_in_making_room(rt: HostRuntime) -> Result<(), Fail> {
-    let alloc = rt.alloc();
-    let mut bank = disk(alloc, &[], &[0])?;
-    let mut journal = Journal::new(alloc, 1 << 20).expect(&rt, "memory");
-    let lines = put_lines(&mut journal, &mut bank, 93);
-    assert_eq!(rt; lines, Ok(()));
-    let line = put_line(&mut journal, &mut bank);
-    assert_eq!(rt; line, Err(LogFault::Device));
-    assert_eq!(rt; lengths(&journal), (3720, 0));
-    let line = put_line(&mut journal, &mut bank);
-    assert_eq!(rt; line, Err(LogFault::Down { faults: 1 }));
-    Ok(())
+    runs_over(&rt, rt.alloc(), &[0], 1 << 20, &NO_ROOM_IS_MADE)
 }
 
+const BEFORE_A_CUT: [Row; 3] = [
+    (Step::Lines(2), Ok(0)),
+    (Step::Flush, Ok(80)),
+    (Step::Waiting, Ok(0)),
+];
+
+const BEHIND_A_CUT: [Row; 4] = [
+    (Step::Waiting, Ok(0)),
+    (Step::Durable, Ok(0)),
+    (Step::Lines(1), Ok(0)),
+    (Step::Flush, Ok(40)),
+];
+
 // A log file is written, cut, and written anew.
-#[test]
-fn a_log_file_begins_anew(rt: HostRuntime) -> Result<(), Fail> {
-    let alloc = rt.alloc();
-    let mut bank = disk(alloc, &[], &[])?;
-    let mut journal = Journal::new(alloc, 1000).expect(&rt, "memory");
-    let lines = put_lines(&mut journal, &mut bank, 2);
-    assert_eq!(rt; lines, Ok(()));
-    let flushed = flush(&mut journal, &mut bank);
-    assert_eq!(rt; flushed, Ok(80));
+fn begins_anew<D: Disk>(rt: &impl Abort, journal: &mut Journal, bank: &mut D)
+    requires { Reaches D.tells bank.old journal.old }
+{
+    follows(rt, journal, bank, &BEFORE_A_CUT);
     let cut = bank.cut(0);
     assert_eq!(rt; cut, Ok(()));
     if journal.waiting() == 0 {
         journal.reset();
-        assert_eq!(rt; lengths(&journal), (0, 0));
-        let line = put_line(&mut journal, &mut bank);
-        assert_eq!(rt; line, Ok(()));
-        let flushed = flush(&mut journal, &mut bank);
-        assert_eq!(rt; flushed, Ok(40));
+        follows(rt, journal, bank, &BEHIND_A_CUT);
     }
+}
+
+#[test]
+fn a_log_file_begins_anew(rt: HostRuntime) -> Result<(), Fail> {
+    let mut bank = disk(rt.alloc(), &[], &[])?;
+    let mut journal = Journal::new(rt.alloc(), 1000)?;
+    begins_anew(&rt, &mut journal, &mut bank);
     assert_eq!(rt; bytes(&bank), LINE.as_slice());
     Ok(())
 }

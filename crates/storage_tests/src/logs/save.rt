@@ -4,6 +4,7 @@ ghost use Rattle.log_writer.specs.Points.{IsSaved};
 ghost use Rattle.log_writer.specs.Save.{IsStored};
 
 use crate::disks::disk;
+use crate::forms::savepoint::is_second;
 use log_writer::{Save, SaveFault, SaveOpen, Saved, one_newest};
 use outside::{Disk, MemDisk, Tie, Vault};
 use std::alloc::{AllocError, Global};
@@ -52,50 +53,74 @@ fn load(disk: &mut MemDisk) -> Result<(u64, Option<Saved>), SaveOpen> {
     Ok((save.sequence(), saved))
 }
 
+// What a device of these bytes answers as it is loaded.
+fn loads(
+    rt: &impl Abort,
+    alloc: Global,
+    bytes: &[u8],
+    want: Result<(u64, Option<Saved>), SaveOpen>,
+) -> Result<(), AllocError> {
+    let mut disk = disk(alloc, bytes, &[])?;
+    let loaded = load(&mut disk);
+    assert_eq!(rt; loaded, want);
+    Ok(())
+}
+
+const LAST: u64 = (1 << 63) - 1;
+
+// The sequences and the first bytes of the places, the newest sequence, and the epoch of its savepoint.
+const PLACES: [([u64; 2], [u8; 2], u64, Option<u32>); 7] = [
+    ([1, 2], [0, 0], 0, None),
+    ([1, 2], [0xA5, 0], 1, Some(0)),
+    ([1, 2], [0, 0xA5], 2, Some(1)),
+    ([1, 2], [0xA5, 0xA5], 2, Some(1)),
+    ([3, 2], [0xA5, 0xA5], 3, Some(0)),
+    ([3, 2], [0xA4, 0xA5], 2, Some(1)),
+    ([LAST, 2], [0xA5, 0xA5], LAST, Some(0)),
+];
+
+// What the savepoint of this epoch says: of the first log file 40 bytes count from epoch 1 on.
+fn saved_at(epoch: Option<u32>) -> Option<Saved> {
+    match epoch {
+        None => None,
+        Some(0) => Some(saved(0, 0)),
+        Some(epoch) => Some(saved(epoch, 40)),
+    }
+}
+
 #[test]
 fn which_place_counts(rt: HostRuntime) -> Result<(), Fail> {
-    let alloc = rt.alloc();
-    let last = (1 << 63) - 1;
-    for (sequences, valid, sequence, found) in [
-        ([1, 2], [0, 0], 0, None),
-        ([1, 2], [0xA5, 0], 1, Some(saved(0, 0))),
-        ([1, 2], [0, 0xA5], 2, Some(saved(1, 40))),
-        ([1, 2], [0xA5, 0xA5], 2, Some(saved(1, 40))),
-        ([3, 2], [0xA5, 0xA5], 3, Some(saved(0, 0))),
-        ([3, 2], [0xA4, 0xA5], 2, Some(saved(1, 40))),
-        ([last, 2], [0xA5, 0xA5], last, Some(saved(0, 0))),
-    ] {
-        let mut disk = disk(alloc, &device(sequences, valid), &[])?;
-        let loaded = load(&mut disk);
-        assert_eq!(rt; loaded, Ok((sequence, found)));
+    for (sequences, valid, sequence, epoch) in &PLACES {
+        let want = Ok((*sequence, saved_at(*epoch)));
+        loads(&rt, rt.alloc(), &device(*sequences, *valid), want)?;
     }
     Ok(())
 }
 
+// The sequences and the first bytes of the places, and where the damage is.
+const DAMAGED: [([u64; 2], [u8; 2], u64); 5] = [
+    ([2, 2], [0xA5, 0xA5], 0),
+    ([0, 2], [0xA5, 0xA5], 0),
+    ([1, 3], [0xA5, 0xA5], 512),
+    ([1, 0], [0, 0xA5], 512),
+    ([2, 1], [0xA5, 0xA5], 0),
+];
+
 #[test]
 fn an_open_place_without_a_savepoint(rt: HostRuntime) -> Result<(), Fail> {
-    let alloc = rt.alloc();
-    for (sequences, valid, at) in [
-        ([2, 2], [0xA5, 0xA5], 0),
-        ([0, 2], [0xA5, 0xA5], 0),
-        ([1, 3], [0xA5, 0xA5], 512),
-        ([1, 0], [0, 0xA5], 512),
-        ([2, 1], [0xA5, 0xA5], 0),
-    ] {
-        let mut disk = disk(alloc, &device(sequences, valid), &[])?;
-        let loaded = load(&mut disk);
-        assert_eq!(rt; loaded, Err(SaveOpen::Damaged { at }));
+    for (sequences, valid, at) in &DAMAGED {
+        let want = Err(SaveOpen::Damaged { at: *at });
+        loads(&rt, rt.alloc(), &device(*sequences, *valid), want)?;
     }
     Ok(())
 }
 
 #[test]
 fn another_length(rt: HostRuntime) -> Result<(), Fail> {
-    let alloc = rt.alloc();
+    let bytes = device([1, 2], [0xA5, 0xA5]);
     for len in [0, 3, 512, 1023] {
-        let mut disk = disk(alloc, &device([1, 2], [0xA5, 0xA5])[..len], &[])?;
-        let loaded = load(&mut disk);
-        assert_eq!(rt; loaded, Err(SaveOpen::Damaged { at: 0 }));
+        let want = Err(SaveOpen::Damaged { at: 0 });
+        loads(&rt, rt.alloc(), &bytes[..len], want)?;
     }
     Ok(())
 }
@@ -145,9 +170,11 @@ fn vault(alloc: Global, bytes: &[u8], fails: &[u64]) -> Result<Vault<MemDisk>, A
 {
     let mut ties = Vec::new(alloc);
     ties.reserve(2)?;
+    let save = disk(alloc, bytes, fails)?;
+    let snaps = disk(alloc, &[], &[])?;
     Ok(Vault {
-        save: disk(alloc, bytes, fails)?,
-        snaps: disk(alloc, &[], &[])?,
+        save,
+        snaps,
         even: Vec::new(alloc),
         odd: Vec::new(alloc),
         ties,
@@ -159,18 +186,8 @@ fn bytes(disk: &MemDisk) -> &[u8] {
     disk.bytes()
 }
 
-// The third store, over a device whose call of this number fails: what comes of it, and the newest sequence behind it.
-// One tie tells of it, where it was begun.
-fn store_at(
-    rt: &impl Abort,
-    alloc: Global,
-    number: u64,
-    came: Came,
-    sequence: u64,
-) -> Result<(), Fail> {
-    let mut vault = vault(alloc, &device([1, 2], [0xA5, 0xA5]), &[number])?;
-    let answer = store_once(&mut vault, saved(7, 80));
-    assert_eq!(rt; answer, came, "at {number}");
+// One tie tells of a third store, where it was begun.
+fn is_tied(rt: &impl Abort, ties: &[Tie], came: Came, number: u64) {
     let ended = if came == Came::Stored { Some(20) } else { None };
     let tie = Tie {
         sequence: 3,
@@ -178,52 +195,84 @@ fn store_at(
         ended,
     };
     if came == Came::Refused(SaveOpen::Device) {
-        assert!(rt; vault.ties.is_empty(), "at {number}");
+        assert!(rt; ties.is_empty(), "at {number}");
     } else {
-        assert_eq!(rt; vault.ties.as_slice(), [tie].as_slice(), "at {number}");
+        assert!(rt; ties == [tie].as_slice(), "at {number}");
     }
-    let mut after = disk(alloc, bytes(&vault.save), &[])?;
-    let (found, _) = load(&mut after).expect(rt, "no damage");
-    assert_eq!(rt; found, sequence, "at {number}");
-    Ok(())
 }
+
+// The newest sequence of a device of these bytes.
+fn newest(alloc: Global, bytes: &[u8]) -> Result<u64, Fail> {
+    let mut disk = disk(alloc, bytes, &[])?;
+    match load(&mut disk) {
+        Ok((sequence, _)) => Ok(sequence),
+        Err(_) => Err(Fail::from("damage")),
+    }
+}
+
+// What comes of a third store, over a device whose call of this number fails, and the newest sequence behind it.
+fn is_stored(rt: &impl Abort, vault: &mut Vault<MemDisk>, number: u64, came: Came)
+    requires settled { IfTold (⟦<MemDisk as Disk>⟧.tells vault.old.save)
+        (Only ⟦<MemDisk as Disk>⟧.clock ⟦<MemDisk as Disk>⟧.image_at vault.old.save) }
+    requires room { vec_len vault.old.ties + 1 < vec_capacity vault.old.ties }
+{
+    let answer = store_once(vault, saved(7, 80));
+    assert!(rt; answer == came, "at {number}");
+    is_tied(rt, vault.ties.as_slice(), came, number);
+}
+
+fn store_at(rt: &impl Abort, alloc: Global, number: u64, came: Came) -> Result<u64, Fail> {
+    let mut vault = vault(alloc, &device([1, 2], [0xA5, 0xA5]), &[number])?;
+    is_stored(rt, &mut vault, number, came);
+    newest(alloc, bytes(&vault.save))
+}
+
+const REFUSED: Came = Came::Refused(SaveOpen::Device);
+
+const FAULTY: Came = Came::Faulty(Err(SaveFault::Down { faults: 1 }));
+
+const STORES: [(u64, Came, u64); 11] = [
+    (0, REFUSED, 2),
+    (1, REFUSED, 2),
+    (2, REFUSED, 2),
+    (3, FAULTY, 2),
+    (4, FAULTY, 2),
+    (5, FAULTY, 2),
+    (6, FAULTY, 2),
+    (7, FAULTY, 2),
+    (8, FAULTY, 2),
+    (9, FAULTY, 3),
+    (10, Came::Stored, 3),
+];
 
 // The third store, in the first place: the calls of loading and storing, each of which fails once.
 #[test]
 fn a_store_at_each_fault(rt: HostRuntime) -> Result<(), Fail> {
-    let alloc = rt.alloc();
-    let refused = Came::Refused(SaveOpen::Device);
-    let faulty = Came::Faulty(Err(SaveFault::Down { faults: 1 }));
-    for (number, came, sequence) in [
-        (0, refused, 2),
-        (1, refused, 2),
-        (2, refused, 2),
-        (3, faulty, 2),
-        (4, faulty, 2),
-        (5, faulty, 2),
-        (6, faulty, 2),
-        (7, faulty, 2),
-        (8, faulty, 2),
-        (9, faulty, 3),
-        (10, Came::Stored, 3),
-    ] {
-        store_at(&rt, alloc, number, came, sequence)?;
+    for (number, came, sequence) in &STORES {
+        let found = store_at(&rt, rt.alloc(), *number, *came)?;
+        assert!(rt; found == *sequence, "at {number}");
     }
     Ok(())
 }
 
+// A store behind the last sequence is refused, and changes nothing.
+fn is_last(rt: &impl Abort, vault: &mut Vault<MemDisk>, was: &[u8])
+    requires settled { IfTold (⟦<MemDisk as Disk>⟧.tells vault.old.save)
+        (Only ⟦<MemDisk as Disk>⟧.clock ⟦<MemDisk as Disk>⟧.image_at vault.old.save) }
+    requires room { vec_len vault.old.ties + 1 < vec_capacity vault.old.ties }
+{
+    let came = store_once(vault, saved(7, 80));
+    let limit = SaveFault::Limit { sequence: LAST };
+    assert!(rt; came == Came::Faulty(Err(limit)));
+    assert!(rt; vault.ties.is_empty());
+    assert!(rt; bytes(&vault.save) == was);
+}
+
 #[test]
 fn the_last_sequence_is_a_limit(rt: HostRuntime) -> Result<(), Fail> {
-    let last = (1 << 63) - 1;
-    let was = device([last, 2], [0xA5, 0xA5]);
+    let was = device([LAST, 2], [0xA5, 0xA5]);
     let mut vault = vault(rt.alloc(), &was, &[])?;
-    let came = store_once(&mut vault, saved(7, 80));
-    assert_eq!(rt;
-        came,
-        Came::Faulty(Err(SaveFault::Limit { sequence: last }))
-    );
-    assert!(rt; vault.ties.is_empty());
-    assert_eq!(rt; bytes(&vault.save), was.as_slice());
+    is_last(&rt, &mut vault, &was);
     Ok(())
 }
 
@@ -241,39 +290,29 @@ fn store_both<D: Disk>(
     save.store(disk, second)
 }
 
-// Two stores on a fresh device; the second one stands in place 1 as the formats have it.
-#[test]
-fn two_stores(rt: HostRuntime) -> Result<(), Fail> {
-    let alloc = rt.alloc();
-    let mut disk = disk(alloc, &[0; 1024], &[])?;
+// Two stores on a fresh device.
+fn stores_twice<D: Disk>(rt: &impl Abort, disk: &mut D)
+    requires { IfTold (D.tells disk.old) (Only D.clock D.image_at disk.old) }
+{
     one_newest();
-    let mut save = open(&mut disk).expect(&rt, "a fresh device");
-    assert_eq!(rt; save.sequence(), 0);
+    let mut save = open(disk).expect(rt, "a fresh device");
+    assert!(rt; save.sequence() == 0);
     let (first, second) = (saved(0, 0), saved(1, 40));
     if first.is_valid() && second.is_valid() {
-        let stored = store_both(&mut save, &mut disk, first, second);
-        assert_eq!(rt; stored, Ok(()));
+        let stored = store_both(&mut save, disk, first, second);
+        assert!(rt; stored == Ok(()));
     }
-    assert_eq!(rt; save.sequence(), 2);
+    assert!(rt; save.sequence() == 2);
+}
+
+// The second one stands in place 1 as the formats have it.
+#[test]
+fn two_stores(rt: HostRuntime) -> Result<(), Fail> {
+    let mut disk = disk(rt.alloc(), &[0; 1024], &[])?;
+    stores_twice(&rt, &mut disk);
     let want = device([1, 2], [0xA5, 0xA5]);
-    let found = bytes(&disk);
-    assert_eq!(rt; found, want.as_slice());
-    assert_eq!(rt; disk.calls().len(), 3 + 6 + 6, "no place is closed twice");
-    for (at, byte) in found[512..].iter().enumerate() {
-        let want = match at {
-            0 => 0xA5,
-            8 => b'F',
-            9 => b'O',
-            10 => b'E',
-            11 => b'D',
-            12 => b'U',
-            13 => b'S',
-            15 | 31 | 39 | 47 => 1,
-            23 => 2,
-            55 => 40,
-            _ => 0,
-        };
-        assert_eq!(rt; *byte, want, "at {at}");
-    }
+    assert!(rt; bytes(&disk) == want.as_slice());
+    assert!(rt; disk.calls().len() == 3 + 6 + 6, "no place is closed twice");
+    is_second(&rt, &want[512..]);
     Ok(())
 }

@@ -1,7 +1,7 @@
 // A log file and the savepoint that counts it, on two devices: each call speaks of one of them, and
 // what a stop leaves of both is put together from a moment of each.
 ghost use Rattle.std.specs.Prelude.{◌≡◌, ℕ, ◌+◌, ◌<◌, ◌≤◌, List, Some, true, length, take, ◌++◌, None};
-ghost use Rattle.outside.specs.Disk.{IfTold};
+ghost use Rattle.outside.specs.Disk.{IfTold, Only};
 ghost use Rattle.log_writer.specs.Journal.{Reaches, IsDurable};
 ghost use Rattle.log_writer.specs.Points.{IsSaved, point_of, sequence_of};
 ghost use Rattle.log_writer.specs.Save.{IsStored, NamesOldOrNew};
@@ -11,6 +11,7 @@ use super::save::{open, saved};
 use crate::disks::disk;
 use log_writer::{Journal, Save, Saved};
 use outside::Disk;
+use std::process::Abort;
 use std::test::Fail;
 
 // Makes the lines that wait durable, stores a savepoint that may count them, and goes on with a line.
@@ -46,19 +47,27 @@ fn save_between<D: Disk>(
     journal.flush(bank).is_ok()
 }
 
-#[test]
-fn a_log_file_and_its_savepoint(rt: HostRuntime) -> Result<(), Fail> {
-    let alloc = rt.alloc();
-    let (mut bank, mut device) = (disk(alloc, &[], &[])?, disk(alloc, &[0; 1024], &[])?);
-    let mut journal = Journal::new(alloc, 1000).expect(&rt, "memory");
-    let mut save = open(&mut device).expect(&rt, "a fresh device");
-    let line = put_line(&mut journal, &mut bank);
-    assert_eq!(rt; line, Ok(()));
+// A line, and the store that counts it.
+fn counts<D: Disk>(rt: &impl Abort, journal: &mut Journal, bank: &mut D, device: &mut D)
+    requires reaches { Reaches D.tells bank.old journal.old }
+    requires settled { IfTold (D.tells device.old) (Only D.clock D.image_at device.old) }
+{
+    let mut save = open(device).expect(rt, "a fresh device");
+    let line = put_line(journal, bank);
+    assert!(rt; line == Ok(()));
     let saved = saved(1, 40);
     if saved.is_valid() {
-        let done = save_between(&mut journal, &mut bank, &mut save, &mut device, saved);
+        let done = save_between(journal, bank, &mut save, device, saved);
         assert!(rt; done);
     }
-    assert_eq!(rt; (journal.durable(), save.sequence()), (80, 1));
+    assert!(rt; (journal.durable(), save.sequence()) == (80, 1));
+}
+
+#[test]
+fn a_log_file_and_its_savepoint(rt: HostRuntime) -> Result<(), Fail> {
+    let mut bank = disk(rt.alloc(), &[], &[])?;
+    let mut device = disk(rt.alloc(), &[0; 1024], &[])?;
+    let mut journal = Journal::new(rt.alloc(), 1000)?;
+    counts(&rt, &mut journal, &mut bank, &mut device);
     Ok(())
 }

@@ -4,6 +4,8 @@ use Rattle.std.proofs.Common.{List, length, get_or, set, refl, sym, ap, ◌∙�
 use Rattle.std.specs.Prelude.{MatchBool}
 use Rattle.std.proofs.lemmas.Bool.Decides.{nat_tests}
 use mathlib.Core.Option as option
+use mathlib.Core.Option.{some}
+use lib.ListN.{get_elem?}
 use Rattle.atomic_table.specs.Table.{Me, Allows, step}
 use Rattle.lists.specs.Each.{all_weaker}
 use Rattle.lists.specs.Fronts.{front_refl}
@@ -141,12 +143,13 @@ pub begins : EachActKeeps → EachActLeaves → (l : Layout) (slots id : ℕ) (m
     (λ n now. (now.1 ≡ me.1) × Begins (step slots 0 0 0 option.none) me.0 n now.0)
 begins keeps leaves l slots id me worker is undue =
     allows_at keeps leaves l slots id me 0 (λ n. n) (Begins (step slots 0 0 0 option.none)) (worker_acts me.0.role worker is)
-    (λ words views s h f own at. by_clock words views s h f own (ltb (get_or words 0 0 % 2 ^ 40) draw_limit) refl)
+    (λ words views s h f own at. by_clock words views s h f own at (ltb (get_or words 0 0 % 2 ^ 40) draw_limit) refl)
   where
     by_clock : (words : List ℕ) (views : List View) (s : Shared) → Sound l words views s → Fits l s.story s.seats me.0
-        → Own l s.story s.seats me.0 (seat_number me.0.role) → (b : Bool) → ltb (get_or words 0 0 % 2 ^ 40) draw_limit ≡ b
+        → Own l s.story s.seats me.0 (seat_number me.0.role) → get_elem? views id ≡ some me.0
+        → (b : Bool) → ltb (get_or words 0 0 % 2 ^ 40) draw_limit ≡ b
         → Stride l words views s (seat_number me.0.role) me.0 0 (λ n. n) (Begins (step slots 0 0 0 option.none))
-    by_clock words views s h f own true less =
+    by_clock words views s h f own at true less =
         let v = me.0 in
         let m = s.story in
         let n : ℕ = get_or words 0 0 in
@@ -160,7 +163,8 @@ begins keeps leaves l slots id me worker is undue =
         let waited : waits v ≡ 0 = ap (λ b. cond b 1 0) undue in
         let look = looked l words views s v (glanced 0 n v) 0 h own
         (seen_fits l m s.seats v (glanced 0 n v) active f refl refl refl refl refl refl refl refl refl refl refl f.loaded refl refl
-        (front_refl v.history) (front_refl v.decided) f.history f.decided) refl refl refl refl refl refl in record {
+        (front_refl v.history) (front_refl v.decided) f.history f.decided)
+        refl refl refl refl refl refl refl in record {
           act = None;
           story = m;
           view = w;
@@ -181,16 +185,17 @@ begins keeps leaves l slots id me worker is undue =
             role = refl;
             made = refl;
             mine = λ k. refl;
+            drew = refl;
             few = omega arith;
             room = omega (arith, few_wait l words views s h);
           };
           tells-so = (
             u,
-            clock_told l words views s v h f own,
+            clock_told l words views s id v h at f own,
             subst (λ b. MatchBool b (w ≡ readied u) (w ≡ refused_for (NumberLimit n) u)) (sym less) refl,
           );
         }
-    by_clock words views s h f own false more =
+    by_clock words views s h f own at false more =
         let v = me.0 in
         let m = s.story in
         let n : ℕ = get_or words 0 0 in
@@ -206,10 +211,10 @@ begins keeps leaves l slots id me worker is undue =
           turn = looked l words views s v w 0 h own
               (own_fits l m m s.seats v w active f f.part refl refl refl refl refl (λ mark has. has)
               (clock_refused l words views s v worker is h f own))
-              refl refl refl refl refl refl;
+              refl refl refl refl refl refl refl;
           tells-so = (
             u,
-            clock_told l words views s v h f own,
+            clock_told l words views s id v h at f own,
             subst (λ b. MatchBool b (w ≡ readied u) (w ≡ refused_for (NumberLimit n) u)) (sym more) refl,
           );
         }

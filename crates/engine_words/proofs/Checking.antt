@@ -60,7 +60,7 @@ use Rattle.engine_words.proofs.OwnView.{own_fits, part_goes}
 use Rattle.engine_words.proofs.Placing.{low_none}
 use Rattle.engine_words.proofs.Seats.{at_front, records_none, past_stays}
 use Rattle.engine_words.proofs.Settling.{settled_trying, settled_tried, settled_marks, settled_kept}
-use Rattle.engine_words.proofs.Trying.{tried_at, attempt_here, tried_over}
+use Rattle.engine_words.proofs.Trying.{tried_at, attempt_here, never_idle, tried_over}
 use Rattle.engine_words.proofs.Turns.{Stride, allows_at, looked, marks_stay, tried_goes, unwritten}
 
 -- ---- a word and a version
@@ -364,6 +364,7 @@ checks_word keeps leaves l slots id me k x at word own-lock c active is can word
             role = refl;
             made = refl;
             mine = λ g. refl;
+            drew = refl;
             few = omega arith;
             room = omega (arith, h.sums.room);
           };
@@ -426,7 +427,7 @@ checks_word keeps leaves l slots id me k x at word own-lock c active is can word
                 (over_given m.decided m.given_up a.number) h.tried;
             fits = own_fits l m next s.seats v w active f
                 (part_goes v.role active v.made v.due v.due v.seat.stage w.seat.stage v.mine v.mine (λ y. y)
-                (λ _ _. settled_trying s') f.part)
+                (λ _ idle. absurd (never_idle v.seat.stage i can.stage idle)) f.part)
                 refl refl refl refl refl
                 (λ mark has. subst (λ (y : List Mark). Contains y mark) (sym (settled_marks s')) has) record {
                   history = f.history;
@@ -449,6 +450,7 @@ checks_word keeps leaves l slots id me k x at word own-lock c active is can word
             role = refl;
             made = refl;
             mine = λ g. refl;
+            drew = refl;
             few = omega arith;
             room = omega (arith, h.sums.room);
           };

@@ -25,7 +25,8 @@ use Rattle.engine_words.specs.declared.layout.Layout.{Layout}
 use Rattle.engine_words.specs.declared.view.Role.{Role}
 use Rattle.engine_words.specs.declared.view.Role.TheVariants.{Keeper, Worker, Note, Spent}
 use Rattle.engine_words.specs.declared.view.View.{View}
-use Rattle.engine_words.specs.Views.{IsAt, HasPart, HasNothing, sits, sits_by, makes, waits, tries, owns}
+use Rattle.engine_words.specs.Views.{IsActive, IsAt, HasPart, HasNothing, drawn_by, sits, sits_by, makes, waits, tries}
+use Rattle.engine_words.specs.Views.{owns}
 use Rattle.engine_words.specs.Cuts.{note_view, spent_view, heard_of, learned, seated, worker_view, HasSeen}
 use Rattle.engine_words.specs.Steps.{HasTimed}
 use Rattle.engine_words.specs.declared.view.Heard.{Heard}
@@ -42,6 +43,7 @@ pub record Cut (l : Layout) (views : List View) (s : Shared) (before after : Lis
       ≡ total (sits (suc worker)) before + total (makes worker) after
   pub once : (p : ℕ) → total (sits p) views + total (sits p) after ≤ 1 + total (sits p) before
   pub mine : (h : Number → ℕ) → total (owns h) after ≡ total (owns h) before
+  pub drew : total drawn_by after ≡ total drawn_by before
   pub few : total tries after ≤ total tries before
   pub room : total waits after ≤ total waits before
 
@@ -56,6 +58,7 @@ cuts l words views views' before after s h change cut = record {
   story = h.story;
   seats = h.seats;
   tried = h.tried;
+  others = h.others;
   marks = h.marks;
   marked = h.marked;
   small = h.small;
@@ -71,6 +74,7 @@ cuts l words views views' before after s h change cut = record {
     );
     once = λ p. omega (arith, change.sums (sits p), cut.once p);
     mine_are = λ k. omega (arith, change.sums (owns k), cut.mine k, h.sums.mine_are k);
+    draws_are = omega (arith, change.sums drawn_by, cut.drew, h.sums.draws_are);
     few_open = omega (arith, change.sums tries, cut.few, h.sums.few_open);
     room = omega (arith, change.sums waits, cut.room, h.sums.room);
   };
@@ -121,6 +125,7 @@ note_fits l s v f = record {
   own = λ p at. absurd at;
   low = omega arith;
   part = has_nothing;
+  seatless = λ none. refl;
   keepers = λ keeper. absurd (cc);
   met = λ met has. absurd (in_none met has);
 }
@@ -138,6 +143,7 @@ spent_fits l s = record {
   own = λ p at. absurd at;
   low = omega arith;
   part = has_nothing;
+  seatless = λ none. refl;
   keepers = λ keeper. absurd (cc);
   met = λ met has. absurd (in_none met has);
 }
@@ -149,6 +155,7 @@ notes l id v = splits l id v v (note_view v) (λ words views s h f at. record {
   made = λ worker. refl;
   once = λ p. omega (arith, h.sums.once p);
   mine = λ k. refl;
+  drew = omega arith;
   few = omega arith;
   room = omega arith;
 })
@@ -214,6 +221,7 @@ learns l id other v u note = joins l id other v u (learned v u) spent_view (λ w
               };
           low = f.low;
           part = f.part;
+          seatless = f.seatless;
           keepers = λ keeper.
               let was = f.keepers keeper in
               record { epoch = was.epoch; past = was.past; parked_are = was.parked_are; parked = was.parked };
@@ -225,6 +233,7 @@ learns l id other v u note = joins l id other v u (learned v u) spent_view (λ w
       made = λ worker. omega (arith, unsat (suc worker), ap (times worker) p.nobody);
       once = λ k. omega (arith, unsat k, h.sums.once k);
       mine = λ k. omega (arith, ap (total (λ (x : Attempt). k x.number)) p.no_commits);
+      drew = omega (arith, g.seatless (λ active. subst IsActive note active));
       few = omega arith;
       room = omega arith;
     })
@@ -264,6 +273,7 @@ seats l id v worker is few free = splits l id v (seated worker v) (worker_view w
           own = λ p here. let o = f.own p here in record { layout = o.layout; seat = o.seat; tried = o.tried; took = o.took };
           low = f.low;
           part = keeper_part v.role is v.made (v.made ++ worker ∷ []) v.due v.seat.stage v.mine v.mine f.part;
+          seatless = f.seatless;
           keepers = λ keeper. record {
             epoch = keepers.epoch;
             past = keepers.past;
@@ -291,6 +301,7 @@ seats l id v worker is few free = splits l id v (seated worker v) (worker_view w
             };
             low = f.low;
             part = (few, refl);
+            seatless = λ none. refl;
             keepers = λ keeper. absurd (cc);
             met = λ met has. absurd (in_none met has);
           },
@@ -308,6 +319,7 @@ seats l id v worker is few free = splits l id v (seated worker v) (worker_view w
           (λ other.
           let none : one_at p (suc worker) ≡ 0 = grind (arith, nat_tests) in omega (arith, h.sums.once p));
       mine = λ k. refl;
+      drew = omega arith;
       few =
           let idle : tries (worker_view worker v) ≡ 0 =
           ap (λ (t : Seat). cond (is_trying t.stage) 1 0) (sym parked.is)

@@ -42,7 +42,7 @@ use Rattle.engine_words.proofs.OwnView.{own_fits, part_goes}
 use Rattle.engine_words.proofs.Placing.{low_none}
 use Rattle.engine_words.proofs.Seats.{at_front, own_longer, records_none, past_stays}
 use Rattle.engine_words.proofs.Settling.{settled_trying, settled_tried, settled_marks, settled_kept}
-use Rattle.engine_words.proofs.Trying.{tried_at, attempt_here, tried_over}
+use Rattle.engine_words.proofs.Trying.{tried_at, attempt_here, never_idle, tried_over}
 use Rattle.engine_words.proofs.Turns.{allows_at, marks_stay, written, records_same}
 
 all_same : (f g : Part → Bool) (parts : List Part) → ((x : Part) → f x ≡ g x) → list_all f parts ≡ list_all g parts
@@ -130,7 +130,7 @@ decides keeps leaves serial l slots id me active can =
             (over_decided m.decided m.given_up a.number) h.tried;
         fits = own_fits l m next s.seats v w active f
             (part_goes v.role active v.made v.due v.due v.seat.stage w.seat.stage v.mine w.mine (λ z. z)
-            (λ _ _. settled_trying s' ∙ ends) f.part)
+            (λ _ idle. absurd (never_idle v.seat.stage i can.stage idle)) f.part)
             refl refl refl refl refl
             (λ mark has. subst (λ (z : List Mark). Contains z mark) (sym (settled_marks s')) has) record {
               history = front_refl m.history;
@@ -173,6 +173,7 @@ decides keeps leaves serial l slots id me active can =
           total-append (λ (b : Attempt). g b.number) v.mine (a ∷ []),
           total-append g m.decided (a.number ∷ []),
         );
+        drew = refl;
         few = omega (arith, more);
         room = omega (arith, h.sums.room);
       };

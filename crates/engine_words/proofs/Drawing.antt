@@ -134,6 +134,7 @@ draws keeps leaves l slots id me writes active due idle same values =
         role = refl;
         made = refl;
         mine = λ g. refl;
+        drew = omega (arith, more);
         few = omega (arith, more);
         room = omega (arith, more, h.sums.room);
       };

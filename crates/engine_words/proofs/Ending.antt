@@ -15,7 +15,7 @@ use Rattle.engine_words.specs.declared.layout.Layout.{Layout}
 use Rattle.engine_words.specs.declared.view.Role.{Role}
 use Rattle.engine_words.specs.declared.view.Role.TheVariants.{Keeper, Worker, Note, Spent}
 use Rattle.engine_words.specs.declared.view.View.{View}
-use Rattle.engine_words.specs.Views.{IsAt, HasPart, IsResting, bare_seat, sits, sits_by, makes, waits, tries}
+use Rattle.engine_words.specs.Views.{IsActive, IsAt, HasPart, IsResting, bare_seat, sits, sits_by, makes, waits, tries}
 use Rattle.engine_words.specs.Cuts.{spent_view, worker_of, ended}
 use Rattle.engine_words.specs.Gathered.{in_gathered, order_gathered, total_gathered}
 use Rattle.engine_words.specs.Rule.{IsParked, Shows}
@@ -30,7 +30,7 @@ apart_roles role worker keeper is = cc
 
 keeper_rests : (v : View) → v.role ≡ Keeper → (role : Role) → role ≡ v.role
     → HasPart role v.made v.due v.seat.stage v.mine → is_trying v.seat.stage ≡ false
-keeper_rests v is Keeper same part = part.1
+keeper_rests v is Keeper same part = ap is_trying part.1
 keeper_rests v is (Worker w) same part = absurd (cc)
 keeper_rests v is Note same part = absurd (cc)
 keeper_rests v is Spent same part = absurd (cc)
@@ -84,6 +84,7 @@ ends l id other v u worker is theirs undue resting = joins l id other v u (ended
               };
           low = f.low;
           part = keeper_part v.role is v.made w.made v.due v.seat.stage v.mine w.mine f.part;
+          seatless = λ none. absurd (none (subst IsActive (sym is) tt));
           keepers = λ keeper. record {
             epoch = keepers.epoch;
             past = keepers.past;
@@ -114,6 +115,7 @@ ends l id other v u worker is theirs undue resting = joins l id other v u (ended
           omega (arith, sat (suc x), less x, ap (times x) part.1);
       once = λ k. omega (arith, h.sums.once k);
       mine = λ k. omega (arith, total_gathered (λ (x : Attempt). k x.number) v.mine u.mine);
+      drew = omega arith;
       few = omega arith;
       room = omega arith;
     })

@@ -185,6 +185,7 @@ opens law l words can first =
             (law l.opening places homes l.first (suc p) open-to).seats p (fresh_seat l.first)
             (fresh_at p (suc p) (fresh_seat l.first) (omega arith));
         tried = λ i a there now. absurd (cc);
+        others = λ p most. refl;
         marks = λ worker few. record {
           before = [];
           mark = record { epoch = Some (l.first.epoch - 1); length = 0 };
@@ -211,6 +212,7 @@ opens law l words can first =
             own = λ p at. record { layout = refl; seat = refl; tried = tt; took = λ t has. absurd (in_none t has) };
             low = omega arith;
             part = (refl, refl);
+            seatless = λ none. refl;
             keepers = λ keeper. record {
               epoch = omega arith;
               past = record { clock = let begun = can.begun in omega arith; tried = λ a has now. absurd (in_none a has) };
@@ -229,6 +231,7 @@ opens law l words can first =
           made_are = later_none;
           once = once_first;
           mine_are = λ h. refl;
+          draws_are = refl;
           few_open = omega arith;
           room = let d = can.first.draw in omega arith;
         };

@@ -64,6 +64,7 @@ forgets keeps leaves l slots id me why active idle =
         role = refl;
         made = refl;
         mine = λ g. refl;
+        drew = refl;
         few = omega arith;
         room = omega (arith, h.sums.room);
       };

@@ -146,6 +146,7 @@ locks keeps leaves l slots id me k x at expected active idle is few =
             role = refl;
             made = refl;
             mine = λ g. refl;
+            drew = refl;
             few = omega arith;
             room = omega (arith, h.sums.room);
           };
@@ -167,6 +168,6 @@ locks keeps leaves l slots id me k x at expected active idle is few =
               (looked l words views s v w at h own
               (seen_fits l s.story s.seats v w active f refl refl refl refl refl refl refl refl refl refl refl f.loaded refl
               refl (front_refl v.history) (front_refl v.decided) f.history f.decided)
-              refl refl refl refl refl refl);
+              refl refl refl refl refl refl refl);
           tells-so = subst (λ b. MatchBool b (w ≡ locked k at n v) (w ≡ read_at at n v)) (sym e) refl;
         }

@@ -7,6 +7,7 @@ pub mod Contents
 pub mod Settling
 pub mod Placing
 pub mod Looking
+pub mod Standing
 pub mod Values
 pub mod Holding
 pub mod Opening

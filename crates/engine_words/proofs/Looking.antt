@@ -32,7 +32,8 @@ use Rattle.engine_words.specs.declared.view.Took.{Took}
 use Rattle.engine_words.specs.declared.view.Role.{Role}
 use Rattle.engine_words.specs.declared.view.Role.TheVariants.{Keeper, Worker, Note, Spent}
 use Rattle.engine_words.specs.declared.view.View.{View}
-use Rattle.engine_words.specs.Views.{IsAt, IsActive, IsResting, HasPart, bare_seat, sits, sits_by, makes, owns}
+use Rattle.engine_words.specs.Views.{IsAt, IsActive, IsResting, HasPart, bare_seat, drawn_by, sits, sits_by, makes}
+use Rattle.engine_words.specs.Views.{owns}
 use Rattle.engine_words.specs.Views.{seat_number}
 use Rattle.engine_words.specs.Rule.{Shared, IsInOrder, IsOwn, EachIsTried, Tried, Own, IsHeld, IsParked, IsPast}
 use Rattle.engine_words.specs.Rule.{IsKeepers, WasMarked, KeptAreRecords, KeptIsLow, StillLoaded, Fits, Sound, Shows}
@@ -90,6 +91,7 @@ seen_fits l m seats v w active f layout role made past parked epoch mine due sea
           (subst (λ x. HasPart v.role v.made x w.seat.stage w.mine) (sym due)
           (subst (λ (s : Seat). HasPart v.role v.made v.due s.stage w.mine) (sym seat)
           (subst (λ x. HasPart v.role v.made v.due v.seat.stage x) (sym mine) f.part))));
+      seatless = λ none. absurd (none (subst IsActive (sym role) active));
       keepers = λ keeper.
           let was = f.keepers (sym role ∙ keeper) in record {
             epoch = omega (arith, was.epoch, epoch);
@@ -109,6 +111,59 @@ seen_fits l m seats v w active f layout role made past parked epoch mine due sea
           );
     }
 
+-- ---- where nobody is seated, all is the keeper's
+
+-- a view that is neither the keeper's nor a worker's has no commits
+owned_by_seats : (h : Number → ℕ) (v : View) (role : Role) → v.role ≡ role
+    → HasPart role v.made v.due v.seat.stage v.mine
+    → sits_by 0 role ≡ 0 → ((x : ℕ) → sits_by (suc x) role ≡ 0) → owns h v ≡ 0
+owned_by_seats h v Keeper is part none others = absurd (omega arith)
+owned_by_seats h v (Worker w) is part none others = absurd (let nobody = others w in grind (arith, nat_tests))
+owned_by_seats h v Note is part none others = ap (total (λ (a : Attempt). h a.number)) part.no_commits
+owned_by_seats h v Spent is part none others = ap (total (λ (a : Attempt). h a.number)) part.no_commits
+
+nobody_sits : (views : List View) → ((x : ℕ) → total (sits (suc x)) views ≡ 0)
+    → AllByRecursion (λ v. (x : ℕ) → sits (suc x) v ≡ 0) views
+nobody_sits [] none = tt
+nobody_sits (v ∷ views) none = ((λ x. omega (arith, none x)), nobody_sits views (λ x. omega (arith, none x)))
+
+-- and drew nothing
+drew_by_seats : (v : View) (role : Role) → v.role ≡ role → ((IsActive role → ⊥) → drawn_by v ≡ 0) → sits_by 0 role ≡ 0
+    → ((x : ℕ) → sits_by (suc x) role ≡ 0) → drawn_by v ≡ 0
+drew_by_seats v Keeper is seatless none others = absurd (omega arith)
+drew_by_seats v (Worker w) is seatless none others = absurd (let nobody = others w in grind (arith, nat_tests))
+drew_by_seats v Note is seatless none others = seatless (λ active. active)
+drew_by_seats v Spent is seatless none others = seatless (λ active. active)
+
+-- what weighs nothing for who has no seat is the keeper's alone, where nobody is seated
+alone_weighs : (l : Layout) (words : List ℕ) (views : List View) (s : Shared) (id : ℕ) (v : View)
+    → Sound l words views s → get_elem? views id ≡ some v → v.role ≡ Keeper → v.made ≡ [] → (weight : View → ℕ)
+    → ((u : View) → Fits l s.story s.seats u → sits 0 u ≡ 0 → ((x : ℕ) → sits (suc x) u ≡ 0) → weight u ≡ 0)
+    → weight v ≡ total weight views
+alone_weighs l words views s id v h at keeper none weight nothing =
+    let made : (x : ℕ) → total (makes x) views ≡ makes x v =
+    each_at (MadeByOne views) views id v (made_by_one l s views words h) at (ap (sits_by 0) keeper) in
+    let idle = nobody_sits views (λ x. h.sums.made_are x ∙ made x ∙ ap (times x) none) in
+    let only =
+    both_hold (Fits l s.story s.seats) (λ u. (x : ℕ) → sits (suc x) u ≡ 0) (λ u. sits 0 u ≡ 0 → weight u ≡ 0)
+    (λ u f nobody e. nothing u f e nobody) views h.fits idle in
+    sym (alone (sits 0) weight views id v only h.sums.one_keeper at (ap (sits_by 0) keeper))
+
+pub all_own : (l : Layout) (words : List ℕ) (views : List View) (s : Shared) (id : ℕ) (v : View) → Sound l words views s
+    → get_elem? views id ≡ some v → v.role ≡ Keeper → v.made ≡ [] → (h : Number → ℕ)
+    → owns h v ≡ total h s.story.decided
+all_own l words views s id v h at keeper none k =
+    alone_weighs l words views s id v h at keeper none (owns k)
+    (λ u f unseated nobody. owned_by_seats k u u.role refl f.part unseated nobody)
+    ∙ h.sums.mine_are k
+
+all_drawn : (l : Layout) (words : List ℕ) (views : List View) (s : Shared) (id : ℕ) (v : View) → Sound l words views s
+    → get_elem? views id ≡ some v → v.role ≡ Keeper → v.made ≡ [] → drawn_by v ≡ length s.story.history
+all_drawn l words views s id v h at keeper none =
+    alone_weighs l words views s id v h at keeper none drawn_by
+    (λ u f unseated nobody. drew_by_seats u u.role refl f.seatless unseated nobody)
+    ∙ h.sums.draws_are
+
 -- ---- the clock
 
 -- no attempt is in progress where the keeper has seated nobody
@@ -123,7 +178,7 @@ nobody_tries l m seats v keeper none f tried a has now =
     by_seat zero i few tries =
         let rests = subst (λ r. HasPart r v.made v.due v.seat.stage v.mine) keeper f.part in
         let own = f.own 0 (subst (IsAt 0) (sym keeper) refl) in
-        true≢false (sym (ap is_trying (ap (λ (x : Seat). x.stage) own.seat ∙ tries)) ∙ rests.1)
+        true≢false (sym (ap is_trying (ap (λ (x : Seat). x.stage) own.seat ∙ tries)) ∙ ap is_trying rests.1)
     by_seat (suc worker) i few tries =
         let parked = (f.keepers keeper).parked worker (omega arith) (ap (times worker) none) in
         true≢false (sym (ap is_trying (sym parked.resting.stage ∙ tries)))
@@ -142,10 +197,11 @@ past_now l m seats v Note is made same f tried keeper = absurd (cc)
 past_now l m seats v Spent is made same f tried keeper = absurd (cc)
 
 -- what a load of the clock tells
-pub clock_told : (l : Layout) (words : List ℕ) (views : List View) (s : Shared) (v : View) → Sound l words views s
-    → Fits l s.story s.seats v → Own l s.story s.seats v (seat_number v.role)
+pub clock_told : (l : Layout) (words : List ℕ) (views : List View) (s : Shared) (id : ℕ) (v : View)
+    → Sound l words views s → get_elem? views id ≡ some v → Fits l s.story s.seats v
+    → Own l s.story s.seats v (seat_number v.role)
     → HasTimed v (get_or words 0 0) (timed s.story.history s.story.decided (get_or words 0 0) v)
-clock_told l words views s v h f own =
+clock_told l words views s id v h at f own =
     let m = s.story in
     let n : ℕ = get_or words 0 0 in
     let epoch : n / 2 ^ 40 ≡ m.epoch = let clock = h.shown.clock in let room = h.sums.room in omega arith in
@@ -164,6 +220,7 @@ clock_told l words views s v h f own =
       marked =
           let below = h.marked (seat_number v.role) in
           let same = ap (λ (x : Seat). last_marked x.marks) own.seat in omega (arith, epoch, same);
+      own = all_drawn l words views s id v h at;
       is = refl;
     }
 
@@ -205,35 +262,11 @@ times_clock keeps leaves l slots id me active =
                 subst (λ e. IsPast m (past_at v.role v.made v.past e)) (sym epoch)
                 (past_now l m s.seats v v.role refl v.made refl f h.tried keeper);
           })
-          refl refl refl refl refl refl;
-      tells-so = clock_told l words views s v h f own;
+          refl refl refl refl refl refl refl;
+      tells-so = clock_told l words views s id v h at f own;
     })
 
 -- ---- the count of decisions
-
--- a view that is neither the keeper's nor a worker's has no commits
-owned_by_seats : (h : Number → ℕ) (v : View) (role : Role) → v.role ≡ role → HasPart role v.made v.due v.seat.stage v.mine
-    → sits_by 0 role ≡ 0 → ((x : ℕ) → sits_by (suc x) role ≡ 0) → owns h v ≡ 0
-owned_by_seats h v Keeper is part none others = absurd (omega arith)
-owned_by_seats h v (Worker w) is part none others = absurd (let nobody = others w in grind (arith, nat_tests))
-owned_by_seats h v Note is part none others = ap (total (λ (a : Attempt). h a.number)) part.no_commits
-owned_by_seats h v Spent is part none others = ap (total (λ (a : Attempt). h a.number)) part.no_commits
-
-nobody_sits : (views : List View) → ((x : ℕ) → total (sits (suc x)) views ≡ 0)
-    → AllByRecursion (λ v. (x : ℕ) → sits (suc x) v ≡ 0) views
-nobody_sits [] none = tt
-nobody_sits (v ∷ views) none = ((λ x. omega (arith, none x)), nobody_sits views (λ x. omega (arith, none x)))
-
-all_own : (l : Layout) (words : List ℕ) (views : List View) (s : Shared) (id : ℕ) (v : View) → Sound l words views s
-    → get_elem? views id ≡ some v → v.role ≡ Keeper → v.made ≡ [] → (h : Number → ℕ) → owns h v ≡ total h s.story.decided
-all_own l words views s id v h at keeper none k =
-    let made : (x : ℕ) → total (makes x) views ≡ makes x v =
-    each_at (MadeByOne views) views id v (made_by_one l s views words h) at (ap (sits_by 0) keeper) in
-    let idle = nobody_sits views (λ x. h.sums.made_are x ∙ made x ∙ ap (times x) none) in
-    let only =
-    both_hold (Fits l s.story s.seats) (λ u. (x : ℕ) → sits (suc x) u ≡ 0) (λ u. sits 0 u ≡ 0 → owns k u ≡ 0)
-    (λ u f nobody e. owned_by_seats k u u.role refl f.part e nobody) views h.fits idle in
-    sym (alone (sits 0) (owns k) views id v only h.sums.one_keeper at (ap (sits_by 0) keeper)) ∙ h.sums.mine_are k
 
 pub counts : EachActKeeps → EachActLeaves → SoundIsSerial → (l : Layout) (slots id : ℕ) (me : Me (Unit {0}) View)
     → IsActive me.0.role
@@ -255,7 +288,7 @@ counts keeps leaves serial l slots id me active =
       turn = looked l words views s v w 1 h own
           (seen_fits l m s.seats v w active f refl refl refl refl refl refl refl refl refl refl refl f.loaded refl refl f.history f.decided
           (front_refl m.history) (front_refl m.decided))
-          refl refl refl refl refl refl;
+          refl refl refl refl refl refl refl;
       tells-so = record {
         history = f.history;
         decided = f.decided;
@@ -265,6 +298,7 @@ counts keeps leaves serial l slots id me active =
         serial = subst (λ (x : Layout). AreSerial x.opening m.history m.decided) (sym own.layout)
             record { run = commits.run; reads = commits.reads };
         all = all_own l words views s id v h at;
+        draws = all_drawn l words views s id v h at;
         is = refl;
       };
     })

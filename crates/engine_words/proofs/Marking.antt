@@ -117,6 +117,7 @@ advances keeps leaves l slots id me is few =
         role = refl;
         made = refl;
         mine = λ g. refl;
+        drew = refl;
         few = omega arith;
         room = omega (arith, h.sums.room);
       };
@@ -211,6 +212,7 @@ marks_word keeps leaves l slots id me worker n mark is resting can small n-is =
         role = refl;
         made = refl;
         mine = λ g. refl;
+        drew = refl;
         few = omega arith;
         room = omega (arith, h.sums.room);
       };
@@ -259,7 +261,7 @@ meets keeps leaves l slots id me worker active few =
             epoch = λ keeper. (f.keepers keeper).epoch;
             past = λ keeper. (f.keepers keeper).past;
           })
-          refl refl refl refl refl refl;
+          refl refl refl refl refl refl refl;
       tells-so = record {
         mark = shows.mark;
         small = shows.small;

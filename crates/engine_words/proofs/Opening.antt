@@ -45,7 +45,7 @@ use Rattle.engine_words.proofs.LayoutLaws.{stands_at_key, word_in}
 use Rattle.engine_words.proofs.OwnView.{own_fits, part_goes}
 use Rattle.engine_words.proofs.Placing.{replaced_shows, low_replaced, low_none, held_other, not_at_other}
 use Rattle.engine_words.proofs.Seats.{at_front, records_none}
-use Rattle.engine_words.proofs.Settling.{settled_trying, settled_tried, settled_marks, settled_kept}
+use Rattle.engine_words.proofs.Settling.{settled_trying, settled_idle, settled_tried, settled_marks, settled_kept}
 use Rattle.engine_words.proofs.Turns.{Stride, allows_at, marks_stay, tried_goes, written}
 
 pub held_alive : (p : ℕ) (h : Holder) → holder_is p h ≡ true → h ≡ Dead → ⊥
@@ -140,7 +140,7 @@ opens_to keeps leaves l slots id me k x at n active is resting mine gives =
         tried = tried_goes m next s.seats p v.seat w.seat own.seat refl refl refl (inr resting) h.tried;
         fits = own_fits l m next s.seats v w active f
             (part_goes v.role active v.made v.due v.due v.seat.stage w.seat.stage v.mine v.mine (λ e. e)
-            (λ _ e. settled_trying s' ∙ e) f.part)
+            (λ _ e. settled_idle s' e) f.part)
             refl refl refl refl refl
             (λ mark has. subst (λ (y : List Mark). Contains y mark) (sym (settled_marks s')) has) record {
               history = f.history;
@@ -168,6 +168,7 @@ opens_to keeps leaves l slots id me k x at n active is resting mine gives =
         role = refl;
         made = refl;
         mine = λ g. refl;
+        drew = refl;
         few = omega arith;
         room = omega (arith, h.sums.room);
       };

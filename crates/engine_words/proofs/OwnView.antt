@@ -7,7 +7,7 @@ use Rattle.commit_core.specs.declared.attempt.Attempt.{Attempt}
 use Rattle.commit_core.specs.declared.seat.Mark.{Mark}
 use Rattle.commit_core.specs.declared.seat.Seat.{Seat}
 use Rattle.commit_core.specs.declared.seat.Stage.{Stage}
-use Rattle.commit_core.specs.CoreState.{is_trying}
+use Rattle.commit_core.specs.declared.seat.Stage.TheVariants.{Idle}
 use Rattle.commit_core.specs.declared.story.Story.{Story}
 use Rattle.commit_core.specs.Keys.{opening_number}
 use Rattle.views.specs.Sums.{times}
@@ -47,7 +47,7 @@ pub record Now (opening : List (Key × Content)) (n : Story) (p : ℕ) (w : View
 -- what a pass of its role has, where the stage, the due draw and the own commits change: a worker's may
 pub part_goes : (role : Role) → IsActive role → (made : List ℕ) (due due' : Bool) (stage stage' : Stage)
     (mine mine' : List Attempt) → (due ≡ false → due' ≡ false)
-    → (due ≡ false → is_trying stage ≡ false → is_trying stage' ≡ false) → HasPart role made due stage mine
+    → (due ≡ false → stage ≡ Idle → stage' ≡ Idle) → HasPart role made due stage mine
     → HasPart role made due' stage' mine'
 part_goes Keeper active made due due' stage stage' mine mine' still rests part = (still part.0, rests part.0 part.1)
 part_goes (Worker w) active made due due' stage stage' mine mine' still rests part = part
@@ -78,6 +78,7 @@ own_fits_met l m n seats v w active f part layout role made parked met marks now
           };
       low = now.low;
       part = part;
+      seatless = λ none. absurd (none (subst IsActive (sym role) active));
       keepers = λ keeper.
           let was = f.keepers (sym role ∙ keeper) in
           let zero-is : p ≡ 0 = ap seat_number (sym role ∙ keeper) in record {

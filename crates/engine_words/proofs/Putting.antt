@@ -111,6 +111,7 @@ puts keeps leaves l slots id me k x at value active is can =
         role = refl;
         made = refl;
         mine = λ g. refl;
+        drew = refl;
         few = omega arith;
         room = omega (arith, h.sums.room);
       };

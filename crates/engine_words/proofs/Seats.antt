@@ -345,6 +345,7 @@ fits_stays l m n seats p s u left drawn marks none apart f =
           };
       low = omega (arith, f.low, g.epoch);
       part = f.part;
+      seatless = f.seatless;
       keepers = λ keeper.
           let was = f.keepers keeper in
           let zero-not : p ≡ 0 → ⊥ = λ e. elsewhere 0 (subst (IsAt 0) (sym keeper) refl) (sym e) in record {

@@ -24,6 +24,19 @@ settled_trying s = by_lock (eqb (length s.locks) 0)
     by_lock true = by_stage s.stage refl
     by_lock false = refl
 
+pub settled_idle : (s : Seat) → s.stage ≡ Idle → (settled s).stage ≡ Idle
+settled_idle s idle = by_lock (eqb (length s.locks) 0)
+  where
+    by_stage : (stage : Stage) → stage ≡ Idle → (settled_at stage s).stage ≡ Idle
+    by_stage Idle e = idle
+    by_stage (Trying i) e = absurd (cc)
+    by_stage Ended e = absurd (cc)
+    by_stage (Decided i) e = absurd (cc)
+
+    by_lock : (b : Bool) → (cond b (settled_at s.stage s) s).stage ≡ Idle
+    by_lock true = by_stage s.stage idle
+    by_lock false = idle
+
 pub settled_tried : (p : ℕ) (history : List Attempt) (checks : List Check) (checked : List Word) (mine : List Attempt)
     (s : Seat) → Tried p history checks checked mine s.stage → Tried p history checks checked mine (settled s).stage
 settled_tried p history checks checked mine s h = by_lock (eqb (length s.locks) 0)

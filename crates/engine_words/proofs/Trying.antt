@@ -33,6 +33,10 @@ pub attempt_here : (history all : List Attempt) (stage : Stage) (i : ℕ) (a : A
     → slice_get history i ≡ Some a → IsFront history all → attempt_tried all stage ≡ Some a
 attempt_here history all stage i a is at front = ap (attempt_tried all) is ∙ at_front history all i a front at
 
+-- who has an attempt in progress isn't idle
+pub never_idle : (stage : Stage) (i : ℕ) → stage ≡ Trying i → stage ≡ Idle → ⊥
+never_idle stage i tries idle = cc
+
 -- a seat's number is that of the keeper or of one of eight workers
 pub few_seats : (role : Role) → IsActive role → (made : List ℕ) (due : Bool) (stage : Stage) (mine : List Attempt)
     → HasPart role made due stage mine → seat_number role < 9

@@ -37,10 +37,11 @@ use Rattle.engine_words.specs.declared.view.Role.{Role}
 use Rattle.engine_words.specs.declared.view.Role.TheVariants.{Keeper, Worker, Note, Spent}
 use Rattle.engine_words.specs.declared.view.View.{View}
 use Rattle.engine_words.specs.Layout.{records_at, StandsAt, IsLaidOut}
-use Rattle.engine_words.specs.Views.{IsActive, HasPart, sits, sits_by, makes, waits, tries, owns, seat_number}
+use Rattle.engine_words.specs.Views.{IsActive, HasPart, drawn_by, sits, sits_by, makes, waits, tries, owns, seat_number}
 use Rattle.engine_words.specs.Rule.{Shared, AllSmall, WriteValues, ShowsRecord, ShowsWords, ShowsMark, EachIsTried}
 use Rattle.engine_words.specs.Rule.{Own, Fits, Sound, Shows}
 use Rattle.engine_words.proofs.LayoutLaws.{word_in}
+use Rattle.engine_words.proofs.Trying.{few_seats}
 use Rattle.engine_words.proofs.Marks.{marked_after}
 use Rattle.engine_words.proofs.Seats.{by_equal, put_seat, put_same, put_other, is_at, sits_here, done, Allowed}
 use Rattle.engine_words.proofs.Seats.{MachineAfter, machine_after, leaves_after, DrawnNow, fits_stays}
@@ -64,6 +65,7 @@ pub record Turn
   pub role : w.role ≡ v.role
   pub made : w.made ≡ v.made
   pub mine : (h : Number → ℕ) → owns h w + total h m.decided ≡ owns h v + total h n.decided
+  pub drew : drawn_by w + length m.history ≡ drawn_by v + length n.history
   pub few : (tries w + length n.decided) + length m.history ≤ (tries v + length m.decided) + length n.history
   pub room : ((n.first_draw + length n.history) + total waits views) + waits w < 2 ^ 40 + waits v
 
@@ -137,6 +139,10 @@ turns keeps leaves l words views s id v i f tells h at active r =
       story = machine.story;
       seats = machine.each;
       tried = t.tried;
+      others = λ q most.
+          let few = few_seats v.role active v.made v.due v.seat.stage v.mine fv.part in
+          ap (λ (x : Seat). x.stage) (put_other s.seats p r.view.seat q (λ e. absurd (omega (arith, few, e))))
+          ∙ h.others q most;
       marks = t.marks;
       marked = marked_after s r.story p v.seat r.view.seat r.act mine.seat r.allowed left.grows.epoch r.seat-is h.marked;
       small = t.small;
@@ -159,6 +165,7 @@ turns keeps leaves l words views s id v i f tells h at active r =
         );
         once = λ q. omega (arith, total-set (sits q) views id v r.view at, sat q, h.sums.once q);
         mine_are = λ k. omega (arith, total-set (owns k) views id v r.view at, t.mine k, h.sums.mine_are k);
+        draws_are = omega (arith, total-set drawn_by views id v r.view at, t.drew, h.sums.draws_are);
         few_open = omega (arith, total-set tries views id v r.view at, t.few, h.sums.few_open);
         room = omega (arith, total-set waits views id v r.view at, t.room, h.sums.room);
       };
@@ -269,9 +276,9 @@ tried_goes m n seats p s t is history decided given_up stage h i a at now =
 pub looked : (l : Layout) (words : List ℕ) (views : List View) (s : Shared) (v w : View) (i : ℕ) → Sound l words views s
     → Own l s.story s.seats v (seat_number v.role)
     → Fits l s.story (put_seat s.seats (seat_number v.role) w.seat) w → w.role ≡ v.role → w.made ≡ v.made → w.mine ≡ v.mine
-    → w.due ≡ v.due → w.seat.stage ≡ v.seat.stage → w.seat.marks ≡ v.seat.marks
+    → w.draws ≡ v.draws → w.due ≡ v.due → w.seat.stage ≡ v.seat.stage → w.seat.marks ≡ v.seat.marks
     → Turn l words (set words i (get_or words i 0)) views l.opening s.story s.story s.seats (seat_number v.role) v w
-looked l words views s v w i h own fits role made mine due stage marks = record {
+looked l words views s v w i h own fits role made mine same-draws due stage marks = record {
   homes = refl;
   small = h.small;
   valued = h.valued;
@@ -285,6 +292,7 @@ looked l words views s v w i h own fits role made mine due stage marks = record 
   role = role;
   made = made;
   mine = λ k. ap (λ (x : List Attempt). total (λ a. k a.number) x + total k s.story.decided) mine;
+  drew = ap (λ x. x + length s.story.history) same-draws;
   few = let same : tries w ≡ tries v = ap (λ (x : Stage). cond (is_trying x) 1 0) stage in omega arith;
   room = let same : waits w ≡ waits v = ap (λ (b : Bool). cond b 1 0) due in omega (arith, h.sums.room);
 }

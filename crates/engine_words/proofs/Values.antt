@@ -20,7 +20,7 @@ use Rattle.commit_core.specs.declared.attempt.Attempt.{Attempt}
 use Rattle.commit_core.specs.declared.place.Place.{Place}
 use Rattle.commit_core.specs.Keys.{IsUpTo, content_at}
 use Rattle.commit_core.specs.CoreState.{is_decided}
-use Rattle.commit_core.specs.Law.{EachActKeeps, EachActLeaves}
+use Rattle.commit_core.specs.Law.{EachActKeeps, EachActLeaves, SoundIsSerial}
 use Rattle.commit_core.specs.Parts.{record_part}
 use Rattle.commit_core.specs.Places.{place_of, home_of, stands, holder_is}
 use Rattle.commit_core.specs.Serial.{content_after, last_write}
@@ -31,7 +31,7 @@ use Rattle.commit_core.specs.Lemmas.Values.{Overwrites, IsLeftOrPut, version_or,
 use Rattle.engine_words.specs.declared.layout.Layout.{Layout}
 use Rattle.engine_words.specs.declared.view.View.{View}
 use Rattle.engine_words.specs.Layout.{StandsAt, IsAtKey}
-use Rattle.engine_words.specs.Reads.{loaded_at, valued, Confirmed}
+use Rattle.engine_words.specs.Reads.{loaded_at, valued, Confirmed, HasLoaded}
 use Rattle.engine_words.specs.Rule.{Shared, lock_field, ShowsRecord, StillLoaded, Fits, Own, Sound, Shows}
 use Rattle.engine_words.specs.Steps.{read_at}
 use Rattle.engine_words.specs.Views.{IsActive, seat_number}
@@ -39,6 +39,7 @@ use Rattle.engine_words.proofs.Contents.{free_below, small_word, one_number, ver
 use Rattle.engine_words.proofs.Contents.{stands_there, free_last, kept_version}
 use Rattle.engine_words.proofs.LayoutLaws.{stands_at_key}
 use Rattle.engine_words.proofs.Looking.{seen_fits}
+use Rattle.engine_words.proofs.Standing.{place_own}
 use Rattle.engine_words.proofs.Turns.{Stride, allows_at, looked}
 
 -- ---- the load of the value
@@ -92,12 +93,13 @@ still l words views s v k x at h f there c has =
       )
     ]
 
-pub loads : EachActKeeps → EachActLeaves → (l : Layout) (slots id : ℕ) (me : Me (Unit {0}) View) (k : Key) (x : Spot) (at : ℕ)
+pub loads : EachActKeeps → EachActLeaves → SoundIsSerial → (l : Layout) (slots id : ℕ) (me : Me (Unit {0}) View)
+    (k : Key) (x : Spot) (at : ℕ)
     → IsActive me.0.role → IsAtKey l.decls k x at
     → Allows (λ s. Shows l s.words s.views) slots id me (at + 1) (λ n. n)
-    (λ n now. (now.1 ≡ me.1) × (now.0 ≡ valued k x (at + 1) n me.0))
-loads keeps leaves l slots id me k x at active is =
-    allows_at keeps leaves l slots id me (at + 1) (λ n. n) (λ v n w. w ≡ valued k x (at + 1) n v) active
+    (λ n now. (now.1 ≡ me.1) × HasLoaded k x (at + 1) me.0 n now.0)
+loads keeps leaves serial l slots id me k x at active is =
+    allows_at keeps leaves l slots id me (at + 1) (λ n. n) (HasLoaded k x (at + 1)) active
     (λ words views s h f own there.
     let v = me.0 in
     let n : ℕ = get_or words (at + 1) 0 in
@@ -115,8 +117,13 @@ loads keeps leaves l slots id me k x at active is =
           (subst (λ y. StillLoaded s.story.history s.story.decided v.seat.kept (loaded_at k x y)) (sym shows.value)
           (still l words views s v k x at h f stands))
           refl refl (front_refl v.history) (front_refl v.decided) f.history f.decided)
-          refl refl refl refl refl refl;
-      tells-so = refl;
+          refl refl refl refl refl refl refl;
+      tells-so = record {
+        is = refl;
+        own = λ keeper none.
+            shows.value ∙ ap (λ (c : Content). unwrap_or c.value 0)
+            (place_own serial l words views s id v h there f own keeper none k x at stands);
+      };
     })
 
 -- ---- the second load of the record's word
@@ -161,7 +168,7 @@ confirms keeps leaves l slots id me k x at active is =
       turn = looked l words views s v w at h own
           (seen_fits l m s.seats v w active f refl refl refl refl refl refl refl refl refl refl refl f.loaded refl refl
           (front_refl v.history) (front_refl v.decided) f.history f.decided)
-          refl refl refl refl refl refl;
+          refl refl refl refl refl refl refl;
       tells-so = record {
         is = refl;
         value = λ c value has loaded word.

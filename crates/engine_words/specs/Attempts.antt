@@ -39,11 +39,12 @@ pub record CanDraw (writes : List Change) (v : View) : Type 0 where
 abbrev pub attempt_of : View → Number → List Change → Attempt
 attempt_of v n writes = record { seat = seat_number v.role; number = n; parts = v.seat.kept; writes = writes }
 
--- the attempt stands behind all others, and is in progress
+-- the attempt stands behind all others, and is in progress; the pass drew one number more
 abbrev pub drew : List Attempt → Attempt → View → View
 drew all a v = record v {
   epoch = a.number.epoch;
   history = all ++ a ∷ [];
+  draws = v.draws + 1;
   due = false;
   seat = record v.seat { stage = Trying (length all) };
   checked = [];

@@ -66,7 +66,7 @@ pub record Splits (was history : List Attempt) (old decided : List Number) (befo
 abbrev pub number_is : Number → Number → ℕ
 number_is n m = cond (same_number m n) 1 0
 
-in_total : (n : Number) (decided : List Number) → is_decided decided n ≡ true → 1 ≤ total (number_is n) decided
+pub in_total : (n : Number) (decided : List Number) → is_decided decided n ≡ true → 1 ≤ total (number_is n) decided
 in_total n [] is = absurd (true≢false (sym is))
 in_total n (m ∷ more) is = by_test (same_number m n) is (in_total n more)
   where
@@ -93,7 +93,7 @@ none_total n (m ∷ more) miss = by_test (same_number m n) miss (none_total n mo
     by_test true miss rest = absurd (true≢false miss)
     by_test false miss rest = let none = rest miss in omega arith
 
-once_total : (n : Number) (decided : List Number) → EachOnce decided → total (number_is n) decided ≤ 1
+pub once_total : (n : Number) (decided : List Number) → EachOnce decided → total (number_is n) decided ≤ 1
 once_total n [] once = omega arith
 once_total n (m ∷ more) once = by_test (same_number m n) refl (once_total n more once.1)
   where
@@ -118,7 +118,7 @@ own_in_total n a (x ∷ xs) has is = elim (in_cases a x xs has) [
   | inr later ↦ let rest = own_in_total n a xs later is in omega arith
 ]
 
-total_own : (n : Number) (xs : List Attempt) → 1 ≤ numbered n xs → (a : Attempt) × Contains xs a × (a.number ≡ n)
+pub total_own : (n : Number) (xs : List Attempt) → 1 ≤ numbered n xs → (a : Attempt) × Contains xs a × (a.number ≡ n)
 total_own n [] most = absurd (omega arith)
 total_own n (x ∷ xs) most = by_test (same_number x.number n) refl most (total_own n xs)
   where
@@ -154,7 +154,7 @@ rises_apart low (x ∷ xs) ys rises = λ a b has there. elim (in_cases a x xs ha
 ]
 
 -- one number is that of one attempt
-rises_once : (low : Number) (xs : List Attempt) → RisesFrom low xs → (a b : Attempt) → Contains xs a → Contains xs b
+pub rises_once : (low : Number) (xs : List Attempt) → RisesFrom low xs → (a b : Attempt) → Contains xs a → Contains xs b
     → a.number ≡ b.number → a ≡ b
 rises_once low [] rises a b has there same = absurd (in_none a has)
 rises_once low (x ∷ xs) rises a b has there same =
@@ -180,7 +180,7 @@ tail_in x y xs ys same rises a has there = elim (in_cases a y ys there) [
 ]
 
 -- two such lists with the same elements are one
-rises_same : (low high : Number) (xs ys : List Attempt) → RisesFrom low xs → RisesFrom high ys
+pub rises_same : (low high : Number) (xs ys : List Attempt) → RisesFrom low xs → RisesFrom high ys
     → ((a : Attempt) → Contains xs a → Contains ys a) → ((a : Attempt) → Contains ys a → Contains xs a) → xs ≡ ys
 rises_same low high [] [] first next to from = refl
 rises_same low high [] (y ∷ ys) first next to from = absurd (in_none y (from y (in_head y ys)))
@@ -207,7 +207,7 @@ order_above low (x ∷ xs) order a has = elim (in_cases a x xs has) [
 ]
 
 -- numbers in order, none of them twice, rise
-rises_strictly : (low start : Number) (xs : List Attempt) → ((a : Attempt) → Contains xs a → IsBelow low a.number)
+pub rises_strictly : (low start : Number) (xs : List Attempt) → ((a : Attempt) → Contains xs a → IsBelow low a.number)
     → IsInOrder start xs → ((n : Number) → numbered n xs ≤ 1) → RisesFrom low xs
 rises_strictly low start [] above order once = tt
 rises_strictly low start (x ∷ xs) above order once = (

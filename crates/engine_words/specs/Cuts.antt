@@ -1,5 +1,5 @@
 -- How views are cut and joined.
-use Rattle.std.specs.Prelude.{ℕ, Bool, false, cond, List, [], ◌∷◌, ◌++◌, get_or, slice_set, None}
+use Rattle.std.specs.Prelude.{ℕ, ◌+◌, Bool, false, cond, List, [], ◌∷◌, ◌++◌, get_or, slice_set, None}
 use Rattle.serial_model.specs.Numbers.{is_below}
 use Rattle.commit_core.specs.declared.attempt.Attempt.{Attempt}
 use Rattle.commit_core.specs.Keys.{opening_number}
@@ -27,6 +27,7 @@ note_view v = record {
   decided = v.decided;
   heard = [];
   mine = [];
+  draws = 0;
   due = false;
   seat = bare_seat;
   checked = [];
@@ -52,6 +53,7 @@ spent_view = record {
   decided = [];
   heard = [];
   mine = [];
+  draws = 0;
   due = false;
   seat = bare_seat;
   checked = [];
@@ -111,6 +113,7 @@ abbrev pub ended : View → View → View
 ended v u = record (learned v u) {
   made = without (worker_of u.role) v.made;
   mine = gathered v.mine u.mine;
+  draws = v.draws + u.draws;
   refused = v.refused ++ u.refused;
   parked = slice_set v.parked (worker_of u.role) u.seat;
 }

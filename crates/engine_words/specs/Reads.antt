@@ -1,13 +1,15 @@
 -- What the loads of a read tell.
-use Rattle.std.specs.Prelude.{◌≡◌, ℕ, ◌+◌, ◌^◌, nat_lt, Some, None, Contains, MatchBool, unwrap_or}
+use Rattle.std.specs.Prelude.{◌≡◌, ℕ, ◌+◌, ◌^◌, nat_lt, true, [], Some, None, Contains, MatchBool, unwrap_or}
 use Rattle.atomic_table.specs.Table.{Step}
 use Rattle.serial_model.specs.declared.key.Key.{Key}
 use Rattle.homes.specs.declared.places.Content.{Content}
 use Rattle.homes.specs.declared.places.Spot.{Spot}
 use Rattle.wire_form.specs.Words.{number_word}
-use Rattle.commit_core.specs.Keys.{opening_number}
+use Rattle.commit_core.specs.Keys.{content_at, opening_number}
 use Rattle.commit_core.specs.Parts.{record_part, with_part}
+use Rattle.commit_core.specs.Serial.{after_all}
 use Rattle.engine_words.specs.declared.view.Loaded.{Loaded}
+use Rattle.engine_words.specs.declared.view.Role.TheVariants.{Keeper}
 use Rattle.engine_words.specs.declared.view.View.{View}
 use Rattle.engine_words.specs.Rule.{IsSmall}
 use Rattle.engine_words.specs.Steps.{read_at, spot_in}
@@ -38,9 +40,20 @@ loaded_at k x value = record { key = k; spot = x; value = value }
 abbrev pub valued : Key → Spot → ℕ → ℕ → View → View
 valued k x at n v = record (read_at at n v) { loaded = Some (loaded_at k x n) }
 
+-- What the view's own commits leave at the key: the last write of it by one of them, which are in order of number, or
+-- what stood there at first.
+abbrev pub own_content : View → Key → Content
+own_content v k = after_all (λ _. true) k v.mine (content_at v.layout.opening k)
+
+-- The value was loaded. Where it is the keeper who loads, and no worker is seated, it is the one that the keeper's own
+-- commits leave at the key, and 0 where they leave none.
+pub record HasLoaded (k : Key) (x : Spot) (at : ℕ) (v : View) (n : ℕ) (w : View) : Type 0 where
+  pub is : w ≡ valued k x at n v
+  pub own : v.role ≡ Keeper → v.made ≡ [] → n ≡ unwrap_or (own_content v k).value 0
+
 -- the same of the step
 abbrev pub Loads : Key → Step (Unit {0}) → View → ℕ → View → Type 0
-Loads k s v n w = w ≡ valued k (spot_in v k) s.word n v
+Loads k s v n w = HasLoaded k (spot_in v k) s.word v n w
 
 -- The record's word is loaded again: where it is still that of the part which is kept, the value that was loaded in
 -- between is that part's.

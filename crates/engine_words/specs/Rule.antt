@@ -41,7 +41,8 @@ use Rattle.engine_words.specs.declared.view.Role.{Role}
 use Rattle.engine_words.specs.declared.view.Role.TheVariants.{Keeper, Worker}
 use Rattle.engine_words.specs.declared.view.View.{View}
 use Rattle.engine_words.specs.Layout.{clock_at, decisions_at, mark_at, records_at, words_of, StandsAt, IsLaidOut}
-use Rattle.engine_words.specs.Views.{IsAt, HasPart, IsResting, bare_seat, sits, makes, waits, tries, owns}
+use Rattle.engine_words.specs.Views.{IsActive, IsAt, HasPart, IsResting, bare_seat, drawn_by, sits, makes, waits, tries}
+use Rattle.engine_words.specs.Views.{owns}
 
 -- ---- what all passes share: the machine's state, with each seat by its number, also of those that no pass has now
 
@@ -224,18 +225,22 @@ pub record Fits (l : Layout) (m : Story) (seats : ℕ → Seat) (v : View) : Typ
   pub own : (p : ℕ) → IsAt p v.role → Own l m seats v p
   pub low : v.epoch ≤ m.epoch
   pub part : HasPart v.role v.made v.due v.seat.stage v.mine
+  -- a note or a spent pass drew none
+  pub seatless : (IsActive v.role → ⊥) → v.draws ≡ 0
   pub keepers : v.role ≡ Keeper → IsKeepers m seats v
   pub met : (met : Met) → Contains v.met met → WasMarked seats met
 
 -- ---- sums over the views
 
 -- One pass is the keeper's, each seated worker has one pass, the commits that passes own are together those that were
--- decided, and there is room for the numbers of those that have yet to draw.
+-- decided, the numbers that passes drew are together all that were drawn, and there is room for the numbers of those
+-- that have yet to draw.
 pub record Sums (views : List View) (m : Story) : Type 0 where
   pub one_keeper : total (sits 0) views ≡ 1
   pub made_are : (worker : ℕ) → total (sits (suc worker)) views ≡ total (makes worker) views
   pub once : (p : ℕ) → total (sits p) views ≤ 1
   pub mine_are : (h : Number → ℕ) → total (owns h) views ≡ total h m.decided
+  pub draws_are : total drawn_by views ≡ length m.history
   pub few_open : total tries views + length m.decided ≤ length m.history
   pub room : (m.first_draw + length m.history) + total waits views < 2 ^ 40
 
@@ -250,6 +255,7 @@ pub record Sound (l : Layout) (words : List ℕ) (views : List View) (s : Shared
   pub story : IsSoundStory l.opening s.story
   pub seats : (p : ℕ) → IsSoundSeat l.opening s.story p (s.seats p)
   pub tried : EachIsTried s.story s.seats
+  pub others : (p : ℕ) → 9 ≤ p → (s.seats p).stage ≡ Idle
   pub marks : (worker : ℕ) → worker < 8 → ShowsMark words worker (s.seats (suc worker)).marks
   pub marked : MarkedBelow s.story.epoch s.seats
   pub small : AllSmall l.opening s.story

@@ -90,7 +90,8 @@ timed all chosen n v = record (glanced clock_at n v) {
 -- The clock was seen, and with it all draws and decisions: it counts the draws from the first one on, and is the next
 -- number, above all that were drawn. It is in no epoch below the one that was seen, and for the keeper, who alone
 -- advances it, in that one. What was heard stands at the beginning of what is seen, in an epoch that is none above it.
--- The last epoch that the pass's seat marked, whichever pass had the seat then, is below the clock's.
+-- The last epoch that the pass's seat marked, whichever pass had the seat then, is below the clock's. Where no worker
+-- is seated, the keeper drew as many numbers as there are.
 pub record HasTimed (v : View) (n : ℕ) (w : View) : Type 0 where
   pub history : IsFront v.history w.history
   pub decided : IsFront v.decided w.decided
@@ -104,6 +105,7 @@ pub record HasTimed (v : View) (n : ℕ) (w : View) : Type 0 where
   pub epoch : v.epoch ≤ n / 2 ^ 40
   pub keepers : v.role ≡ Keeper → n / 2 ^ 40 ≡ v.epoch
   pub marked : last_marked v.seat.marks < n / 2 ^ 40
+  pub own : v.role ≡ Keeper → v.made ≡ [] → v.draws ≡ length w.history
   pub is : w ≡ timed w.history w.decided n v
 
 -- the same of the step
@@ -111,7 +113,8 @@ abbrev pub Times : Step (Unit {0}) → View → ℕ → View → Type 0
 Times s v n w = HasTimed v n w
 
 -- All draws and decisions are now seen, and so many attempts count, each of which was drawn and counts once. They are
--- serial from what stood at keys at first. Where no worker is seated, they are the keeper's own.
+-- serial from what stood at keys at first. Where no worker is seated, they are the keeper's own, and it drew as many
+-- numbers as there are.
 pub record HasCounted (v : View) (n : ℕ) (w : View) : Type 0 where
   pub history : IsFront v.history w.history
   pub decided : IsFront v.decided w.decided
@@ -121,6 +124,7 @@ pub record HasCounted (v : View) (n : ℕ) (w : View) : Type 0 where
   pub once : EachOnce w.decided
   pub serial : AreSerial v.layout.opening w.history w.decided
   pub all : v.role ≡ Keeper → v.made ≡ [] → (h : Number → ℕ) → total (λ a. h a.number) v.mine ≡ total h w.decided
+  pub draws : v.role ≡ Keeper → v.made ≡ [] → v.draws ≡ length w.history
   pub is : w ≡ record (glanced decisions_at n v) { history = w.history; decided = w.decided }
 
 -- the clock was seen, and then the count of decisions

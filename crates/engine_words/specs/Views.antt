@@ -63,6 +63,10 @@ tries v = cond (is_trying v.seat.stage) 1 0
 abbrev pub owns : (Number → ℕ) → View → ℕ
 owns h v = total (λ a. h a.number) v.mine
 
+-- how many numbers it drew
+abbrev pub drawn_by : View → ℕ
+drawn_by v = v.draws
+
 -- ---- what passes of the roles have
 
 -- no commits, no attempt, and nobody seated
@@ -72,9 +76,9 @@ pub record HasNothing (made : List ℕ) (due : Bool) (stage : Stage) (mine : Lis
   pub no_attempt : is_trying stage ≡ false
   pub no_commits : mine ≡ []
 
--- the keeper begins no transaction, and a worker seats nobody
+-- the keeper begins no transaction and so has no attempt, and a worker seats nobody
 abbrev pub HasPart : Role → List ℕ → Bool → Stage → List Attempt → Type 0
-HasPart Keeper made due stage mine = (due ≡ false) × (is_trying stage ≡ false)
+HasPart Keeper made due stage mine = (due ≡ false) × (stage ≡ Idle)
 HasPart (Worker w) made due stage mine = (w < 8) × (made ≡ [])
 HasPart Note made due stage mine = HasNothing made due stage mine
 HasPart Spent made due stage mine = HasNothing made due stage mine
@@ -105,6 +109,7 @@ opening_view l = record {
   decided = [];
   heard = [];
   mine = [];
+  draws = 0;
   due = false;
   seat = fresh_seat l.first;
   checked = [];

@@ -37,6 +37,6 @@ pub use engine::{Engine, Pass};
 pub use law::{Law, Writing};
 pub use layout::Layout;
 pub use locking::{LOCK, lock, open_again, open_anew, put};
-pub use reading::{confirm, load_value, see};
+pub use reading::{confirm, load_content, load_value, see};
 pub use seating::{end, learn, note, seat};
 pub use view::{Glance, Heard, Loaded, Met, Read, Refused, Role, SetName, Took, View};

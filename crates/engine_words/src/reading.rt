@@ -1,8 +1,9 @@
 // The loads of a read.
-ghost use Rattle.std.specs.Prelude.{◌≡◌, ◌+◌, false};
+ghost use Rattle.std.specs.Prelude.{◌≡◌, ◌+◌, false, unwrap_or, []};
 ghost use Rattle.commit_core.specs.CoreState.{is_trying};
+ghost use Rattle.engine_words.specs.declared.view.Role.TheVariants.{Keeper};
 ghost use Rattle.engine_words.specs.Passes.{view, IsPassOf};
-ghost use Rattle.engine_words.specs.Reads.{Saw, valued, Confirmed};
+ghost use Rattle.engine_words.specs.Reads.{Saw, valued, own_content, HasLoaded, Confirmed};
 ghost use Rattle.engine_words.specs.Steps.{spot_in, IsKeyAt};
 ghost use Rattle.engine_words.specs.Views.{IsActive};
 
@@ -46,13 +47,27 @@ pub fn load_value(engine: &Engine, pass: &mut Pass, key: Key, at: u32) -> u64
     load_value_as::<Brand>(engine, pass, key, at)
 }
 
+/// Loads the value of a key, whose record's word stands here, where no worker is seated: it is the one that the
+/// keeper's own commits leave at the key, and 0 where they leave none.
+pub fn load_content(engine: &Engine, keeper: &mut Pass, key: Key, at: u32) -> u64
+    requires of { IsPassOf engine.now keeper.old }
+    requires keeper { (view keeper.old).role ≡ Keeper }
+    requires alone { (view keeper.old).made ≡ [] }
+    requires place { IsKeyAt (view keeper.old) key at }
+    ensures of { IsPassOf engine.now keeper.new }
+    ensures loads { view keeper.new ≡ valued key (spot_in (view keeper.old) key) (at + 1) result (view keeper.old) }
+    ensures content { result ≡ unwrap_or (own_content (view keeper.old) key).value 0 }
+{
+    load_value_as::<Brand>(engine, keeper, key, at)
+}
+
 fn load_value_as<J: Keyed>(engine: &Engine, pass: &mut Pass, key: Key, at: u32) -> u64
     requires of { IsPassOf engine.now pass.old }
     requires pass { IsActive (view pass.old).role }
     requires place { IsKeyAt (view pass.old) key at }
     requires named { key ≡ J.key }
     ensures of { IsPassOf engine.now pass.new }
-    ensures loads { view pass.new ≡ valued key (spot_in (view pass.old) key) (at + 1) result (view pass.old) }
+    ensures loads { HasLoaded key (spot_in (view pass.old) key) (at + 1) (view pass.old) result (view pass.new) }
 {
     commits_are_serial();
     engine

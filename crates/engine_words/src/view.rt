@@ -110,6 +110,8 @@ pub struct View {
     pub heard: Sequence<Heard>,
     /// Its own commits, and those of the passes that were ended into it, in order of number.
     pub mine: Sequence<Attempt>,
+    /// How many numbers it drew, with those of the passes that were ended into it.
+    pub draws: u64,
     /// Its transaction has yet to draw.
     pub due: bool,
     /// Its seat in the machine of commits.

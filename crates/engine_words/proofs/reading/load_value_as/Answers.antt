@@ -3,7 +3,7 @@ use Rattle.atomic_table.specs.Table.{Allows}
 use Rattle.serial_model.specs.declared.key.Key.{Key}
 use Rattle.engine_words.specs.declared.layout.Layout.{Layout}
 use Rattle.engine_words.specs.Layout.{IsAtKey, spot_for}
-use Rattle.engine_words.specs.Reads.{valued}
+use Rattle.engine_words.specs.Reads.{HasLoaded}
 use Rattle.engine_words.specs.Rule.{Shows}
 use Rattle.engine_words.proofs.LayoutLaws.{word_within}
 use Rattle.engine_words.proofs.Values.{loads}
@@ -23,8 +23,9 @@ load-requires g c =
           let within = (word_within l.decls c.args.key (spot_for v.layout.decls c.args.key) c.args.at here).1 in omega arith),
       subst
           (λ (k : Key). Allows (λ s. Shows l s.words s.views) slots c.args.pass.now.id me (c.args.at + 1) (λ n. n)
-          (λ n now. (now.1 ≡ me.1) × (now.0 ≡ valued k (spot_for v.layout.decls k) (c.args.at + 1) n v)))
+          (λ n now. (now.1 ≡ me.1) × HasLoaded k (spot_for v.layout.decls k) (c.args.at + 1) v n now.0))
           c.requires.named
-          (loads c.commits_are_serial.ensures.each_act c.commits_are_serial.ensures.each_act_leaves l slots c.args.pass.now.id me
-          c.args.key (spot_for v.layout.decls c.args.key) c.args.at c.requires.pass here),
+          (loads c.commits_are_serial.ensures.each_act c.commits_are_serial.ensures.each_act_leaves
+          c.commits_are_serial.ensures.sound_serial l slots c.args.pass.now.id me c.args.key
+          (spot_for v.layout.decls c.args.key) c.args.at c.requires.pass here),
     )

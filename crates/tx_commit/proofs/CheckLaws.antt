@@ -1,24 +1,22 @@
 -- Checks of what was read, one after another.
-use Rattle.std.proofs.Common.{◌≡◌, ◌≢◌, ◌⊎◌, inl, inr, ℕ, zero, suc, ◌+◌, ◌<◌, ◌≤◌, ◌^◌, Bool, true, false, true≢false}
-use Rattle.std.proofs.Common.{cond, eqb, List, [], ◌∷◌, ◌++◌, map, length, take, get_or, Some, None, Option}
+use Rattle.std.proofs.Common.{◌≡◌, ◌≢◌, inl, inr, ℕ, zero, suc, ◌+◌, ◌<◌, ◌≤◌, ◌^◌, Bool, true, false, true≢false}
+use Rattle.std.proofs.Common.{cond, List, [], ◌∷◌, map, length, take, get_or, Some, None, Option}
 use Rattle.std.proofs.Common.{refl, sym, ap, ◌∙◌, subst, arith}
 use Rattle.std.specs.Prelude.{Contains, MatchBool, filter, not, ◌&&◌, ◌||◌, ◌==◌}
-use Rattle.std.specs.List.{slice_get, list_all, list_any, find, AllByRecursion}
-use Rattle.std.proofs.lemmas.Bool.{cases_Bool, and_from, or_left, or_right, or_from, or_parts, false_from_ne_true}
-use Rattle.std.proofs.lemmas.Bool.{eq-eqb, ne_eqb}
+use Rattle.std.specs.List.{slice_get, list_all, AllByRecursion}
+use Rattle.std.proofs.lemmas.Bool.{and_from, or_left, or_right, or_from, false_from_ne_true}
+use Rattle.std.proofs.lemmas.Bool.{eq-eqb}
 use Rattle.std.proofs.lemmas.List.{take_more}
 use Rattle.lists.specs.Each.{AreDistinct}
 use Rattle.lists.specs.Elements.{in_none, in_head, in_tail, in_cases, in_push_new}
 use Rattle.serial_model.specs.declared.key.Key.{Key}
 use Rattle.serial_model.specs.declared.decl.Decl.{Decl}
-use Rattle.homes.specs.Homes.{same_key, same_spot, has_key}
+use Rattle.homes.specs.Homes.{same_key, has_key}
 use Rattle.homes.specs.Laws.{same_key-self, same_key-true, same_spot-self}
 use Rattle.homes.specs.declared.places.Content.{Content}
-use Rattle.wire_form.specs.Words.{number_word}
 use Rattle.commit_core.specs.declared.part.Part.{Part}
 use Rattle.commit_core.specs.declared.part.Word.{Word}
 use Rattle.commit_core.specs.declared.part.Word.TheVariants.{Record}
-use Rattle.commit_core.specs.declared.seat.Stage.TheVariants.{Ended}
 use Rattle.commit_core.specs.Parts.{same_word, record_part}
 use Rattle.tx_sets.specs.declared.reads.ReadEntry.{ReadEntry}
 use Rattle.tx_sets.specs.declared.writes.Write.{Write}
@@ -34,7 +32,7 @@ use Rattle.engine_words.specs.Rule.{has_word}
 use Rattle.engine_words.specs.Steps.{seen_at, IsKeyAt}
 use Rattle.engine_words.specs.Views.{IsActive}
 use Rattle.array_storage.specs.Finding.{IsWordFor}
-use Rattle.tx_commit.specs.Live.{IsPartOf, AreParts}
+use Rattle.tx_commit.specs.Live.{AreParts}
 use Rattle.tx_commit.specs.Refusing.{IsConflict}
 use Rattle.tx_commit.specs.Steps.{keys_of, HasTried, HasChecked, HasFailed}
 use Rattle.tx_commit.proofs.Layouts.{words_apart}

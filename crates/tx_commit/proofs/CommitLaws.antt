@@ -176,9 +176,10 @@ can_forget ws v w active h = (
 -- what a given-up transaction leaves, where the pass's view was this before
 pub refused_from : (why : Refused) (sets : Sets) (ws : List Write) (v w x : View) → IsLive sets v → w.layout ≡ v.layout
     → w.role ≡ v.role
-    → HasSeen v w → w.mine ≡ v.mine → w.seat.marks ≡ v.seat.marks → w.refused ≡ v.refused → HasGivenUp ws why w x
+    → HasSeen v w → w.mine ≡ v.mine → w.draws ≤ v.draws + 1 → w.seat.marks ≡ v.seat.marks → w.refused ≡ v.refused
+    → HasGivenUp ws why w x
     → HasRefused why v x
-refused_from why sets ws v w x live layout role seen mine marks refused h =
+refused_from why sets ws v w x live layout role seen mine draws marks refused h =
     let layout' : x.layout ≡ v.layout = ap (λ (y : View). y.layout) h.is ∙ layout in
     let role' : x.role ≡ v.role = ap (λ (y : View). y.role) h.is ∙ role in record {
       over = record {
@@ -195,6 +196,7 @@ refused_from why sets ws v w x live layout role seen mine marks refused h =
         decided = subst (λ (y : View). IsFront v.decided y.decided) (sym h.is) seen.decided;
       };
       mine = ap (λ (y : View). y.mine) h.is ∙ mine;
+      draws = let same = ap (λ (y : View). y.draws) h.is in omega (arith, same, draws);
       marks = ap (λ (y : View). y.seat.marks) h.is ∙ (h.marks ∙ marks);
       refused = ap (λ (y : View). y.refused) h.is ∙ ap (λ l. l ++ why ∷ []) refused;
     }
@@ -207,7 +209,8 @@ locked_refused why sets ws found v w x live h g =
       history = subst (λ (y : View). IsFront v.history y.history) (sym h.is) (front_refl v.history);
       decided = subst (λ (y : View). IsFront v.decided y.decided) (sym h.is) (front_refl v.decided);
     }
-    (ap (λ (y : View). y.mine) h.is) (ap (λ (y : View). y.seat.marks) h.is) (ap (λ (y : View). y.refused) h.is) g
+    (ap (λ (y : View). y.mine) h.is) (let same = ap (λ (y : View). y.draws) h.is in omega (arith, same))
+    (ap (λ (y : View). y.seat.marks) h.is) (ap (λ (y : View). y.refused) h.is) g
 
 -- ---- the draw
 
@@ -290,10 +293,15 @@ failed_refused why sets ws us found changes n v w x y z live h d f g =
           (subst (λ (u : View). IsFront v.decided u.decided) (sym h.is) (front_refl v.decided)));
     }
     (ap (λ (u : View). u.mine) f.is ∙ (ap (λ (u : View). u.mine) d.is ∙ ap (λ (u : View). u.mine) h.is))
+    (omega (arith, failed_draws))
     (ap (λ (u : View). u.seat.marks) f.is ∙ (settled_marks s
     ∙ (ap (λ (u : View). u.seat.marks) d.is ∙ ap (λ (u : View). u.seat.marks) h.is)))
     (ap (λ (u : View). u.refused) f.is ∙ (ap (λ (u : View). u.refused) d.is ∙ ap (λ (u : View). u.refused) h.is))
     g
+  where
+    failed_draws : y.draws ≡ v.draws + 1
+    failed_draws = ap (λ (u : View). u.draws) f.is ∙ (ap (λ (u : View). u.draws) d.is
+        ∙ ap (λ (u : View). u.draws + 1) h.is)
 
 -- ---- the decision
 
@@ -307,6 +315,7 @@ pub record IsChosen (changes : List Change) (found : List ℕ) (ws : List Write)
   pub earlier : List Number
   pub counts : z.decided ≡ earlier ++ a.number ∷ []
   pub mine : z.mine ≡ x.mine ++ a ∷ []
+  pub draws : z.draws ≡ x.draws
   pub reads : ReadsFrom (state_below x.layout.opening z.history z.decided a.number) a
   pub layout : z.layout ≡ x.layout
   pub role : z.role ≡ x.role
@@ -379,6 +388,7 @@ is_chosen sets found changes n m v w x y z live h d is k c =
       counts = ap (λ (u : View). u.decided) c.is ∙ ap (λ (b : Attempt). c.decided ++ b.number ∷ []) same;
       mine = ap (λ (u : View). u.mine) c.is ∙ (ap (λ l. l ++ c.attempt ∷ []) (ap (λ (u : View). u.mine) k.is)
           ∙ ap (λ (b : Attempt). x.mine ++ b ∷ []) same);
+      draws = ap (λ (u : View). u.draws) c.is ∙ ap (λ (u : View). u.draws) k.is;
       reads =
           let was : ReadsFrom (state_below x.layout.opening c.history (c.decided ++ c.attempt.number ∷ [])
           c.attempt.number) c.attempt =
@@ -467,6 +477,8 @@ committed sets found changes n number v w x z u live h d is c p =
       decided = decided ∙ (c.counts ∙ ap (λ (m : Number). c.earlier ++ m ∷ []) numbered);
       mine = ap (λ (y : View). y.mine) p.is ∙ (c.mine ∙ ap (λ l. l ++ a ∷ [])
           (ap (λ (y : View). y.mine) d.is ∙ ap (λ (y : View). y.mine) h.is));
+      draws = ap (λ (y : View). y.draws) p.is ∙ (c.draws ∙ (ap (λ (y : View). y.draws) d.is
+          ∙ ap (λ (y : View). y.draws + 1) h.is));
       above = λ b in'. subst (IsBelow b.number) numbered (d.above b (in_front v.history d.all b was in'));
       reads =
           let base = subst (λ (l : Layout). ReadsFrom (state_below l.opening z.history z.decided a.number) a) layout

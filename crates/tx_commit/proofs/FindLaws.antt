@@ -1,6 +1,6 @@
 -- What is read anew, and what a refused call leaves.
-use Rattle.std.proofs.Common.{◌≡◌, ◌≢◌, ◌⊎◌, inl, inr, ℕ, ◌+◌, ◌*◌, ◌%◌, ◌<◌, ◌≤◌, ◌^◌, Bool, true, false, true≢false}
-use Rattle.std.proofs.Common.{List, [], ◌∷◌, ◌++◌, length, Option, Some, None}
+use Rattle.std.proofs.Common.{◌≡◌, ◌≢◌, inl, inr, ℕ, ◌+◌, ◌%◌, ◌<◌, ◌≤◌, ◌^◌, Bool, true, false}
+use Rattle.std.proofs.Common.{List, [], ◌∷◌, ◌++◌, length, Some, None}
 use Rattle.std.proofs.Common.{refl, sym, ap, ◌∙◌, subst, arith}
 use Rattle.std.specs.Prelude.{Contains, MatchBool, filter, not, ◌==◌, nat_lt, unwrap_or, length, Result, Ok, Err, OnOk}
 use Rattle.std.specs.Prelude.{IsOk}
@@ -20,22 +20,21 @@ use Rattle.commit_core.specs.declared.part.Part.{Part}
 use Rattle.commit_core.specs.Parts.{record_part, with_part}
 use Rattle.tx_sets.specs.declared.reads.ReadEntry.{ReadEntry}
 use Rattle.tx_sets.specs.declared.sets.Sets.{Sets}
-use Rattle.tx_sets.specs.declared.writes.Write.{Write}
-use Rattle.tx_sets.specs.Entries.{has_read, has_write, read_of, IsPushed}
+use Rattle.tx_sets.specs.Entries.{has_read, read_of, IsPushed}
 use Rattle.tx_sets.specs.Gathered.{AreEmpty}
 use Rattle.engine_words.specs.declared.view.Read.{Read}
 use Rattle.engine_words.specs.declared.view.Refused.{Refused}
 use Rattle.engine_words.specs.declared.view.Refused.TheVariants.{NumberLimit}
 use Rattle.engine_words.specs.declared.view.View.{View}
-use Rattle.engine_words.specs.Layout.{clock_at, spot_for, IsAtKey}
+use Rattle.engine_words.specs.Layout.{IsAtKey}
 use Rattle.engine_words.specs.ReadLaws.{seen_at-same, seen_at-other}
 use Rattle.engine_words.specs.Reads.{saw, valued}
-use Rattle.engine_words.specs.Steps.{glanced, read_at, seen_at, with_read, spot_in, timed, readied, refused_for}
+use Rattle.engine_words.specs.Steps.{read_at, seen_at, with_read, spot_in, timed, readied, refused_for}
 use Rattle.engine_words.specs.Steps.{forgot_for}
 use Rattle.engine_words.specs.Steps.{Begun, IsKeyAt}
 use Rattle.array_storage.specs.Finding.{HasFound, HasClashed}
 use Rattle.tx_commit.specs.Committing.{HasBegun, HasAborted}
-use Rattle.tx_commit.specs.Live.{IsPartOf, AreParts, AreFresh, IsWriteOf, IsLive, IsOver}
+use Rattle.tx_commit.specs.Live.{IsPartOf, AreParts, IsWriteOf, IsLive, IsOver}
 use Rattle.tx_commit.specs.Refusing.{IsConflict, HasRefused, RefusesBegin}
 use Rattle.tx_commit.specs.Steps.{HasEntry}
 use Rattle.tx_commit.specs.Turning.{HasLoaded, Keeps}
@@ -230,6 +229,7 @@ loaded_refused sets why v w x live h is =
       role = refl;
       seen = record { history = front_refl v.history; decided = front_refl v.decided };
       mine = refl;
+      draws = omega arith;
       marks = refl;
       refused = refl;
     }
@@ -282,6 +282,7 @@ not_begun clock v w over b high =
       high = high;
       draws = b.1.draws ∙ ap (λ (l : List Attempt). v.layout.first.draw + length l)
           (sym (ap (λ (z : View). z.history) now));
+      undrawn = ap (λ (z : View). z.draws) is;
       refused = subst (HasRefused (NumberLimit clock) v) (sym is) record {
         over = record {
           decls = over.decls;
@@ -294,6 +295,7 @@ not_begun clock v w over b high =
         role = refl;
         seen = record { history = b.1.history; decided = b.1.decided };
         mine = refl;
+        draws = omega arith;
         marks = refl;
         refused = refl;
       };
@@ -313,6 +315,7 @@ aborted sets v w live is =
       role = refl;
       seen = record { history = front_refl v.history; decided = front_refl v.decided };
       mine = refl;
+      draws = refl;
       marks = refl;
       refused = refl;
     }

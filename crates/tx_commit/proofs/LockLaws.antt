@@ -1,12 +1,11 @@
 -- Locks one after another.
-use Rattle.std.proofs.Common.{◌≡◌, ◌≢◌, ◌⊎◌, inl, inr, ℕ, zero, suc, ◌+◌, ◌<◌, ◌≤◌, ◌^◌, Bool, true, false, eqb, cond}
-use Rattle.std.proofs.Common.{List, [], ◌∷◌, ◌++◌, map, length, take, get_or, nat_lt}
+use Rattle.std.proofs.Common.{◌≡◌, ◌≢◌, ◌⊎◌, inr, ℕ, zero, suc, ◌+◌, ◌<◌, ◌≤◌, ◌^◌, Bool, true, false, eqb}
+use Rattle.std.proofs.Common.{List, [], ◌∷◌, ◌++◌, length, take, get_or}
 use Rattle.std.proofs.Common.{refl, sym, ap, ◌∙◌, subst, arith, Some, None, Option}
-use Rattle.std.specs.Prelude.{MatchBool, Contains, ⊤, filter, not, ◌==◌, unwrap_or}
+use Rattle.std.specs.Prelude.{MatchBool, Contains, filter, not, ◌==◌, unwrap_or}
 use Rattle.std.specs.List.{list_any, AllByRecursion}
-use Rattle.std.proofs.lemmas.Bool.{cases_Bool, eq-eqb, eqb-true, ne_eqb, or_parts, or_from, or_left, or_right}
+use Rattle.std.proofs.lemmas.Bool.{eq-eqb, ne_eqb, or_parts, or_from, or_left, or_right}
 use Rattle.std.proofs.lemmas.Bool.{true≢false}
-use Rattle.std.proofs.lemmas.Bool.Decides.{nat_tests}
 use Rattle.std.proofs.lemmas.List.{take_more}
 use Rattle.lists.specs.Elements.{in_push_new}
 use Rattle.serial_model.specs.declared.key.Key.{Key}
@@ -24,7 +23,7 @@ use Rattle.engine_words.specs.declared.view.View.{View}
 use Rattle.engine_words.specs.Layout.{spot_for, IsAtKey}
 use Rattle.engine_words.specs.Locks.{lock_bit, took_at, locked, Locked}
 use Rattle.engine_words.specs.ReadLaws.{seen_at-same, seen_at-other}
-use Rattle.engine_words.specs.Steps.{glance, read_at, seen_at, with_read, IsKeyAt}
+use Rattle.engine_words.specs.Steps.{read_at, seen_at, with_read, IsKeyAt}
 use Rattle.engine_words.specs.Views.{IsActive}
 use Rattle.tx_commit.specs.Live.{IsWriteOf}
 use Rattle.tx_commit.specs.Refusing.{IsConflict}

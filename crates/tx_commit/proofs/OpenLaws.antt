@@ -1,5 +1,5 @@
 -- Locks that are opened again, one after another.
-use Rattle.std.proofs.Common.{◌≡◌, ℕ, zero, suc, ◌+◌, ◌<◌, ◌≤◌, Bool, true, false, cond, List, [], ◌∷◌, map, length}
+use Rattle.std.proofs.Common.{◌≡◌, ℕ, zero, suc, ◌+◌, ◌<◌, ◌≤◌, Bool, true, false, cond, List, [], ◌∷◌, length}
 use Rattle.std.proofs.Common.{drop, get_or}
 use Rattle.std.proofs.Common.{refl, sym, ap, ◌∙◌, subst, arith}
 use Rattle.std.specs.Prelude.{filter, not, Contains, ◌||◌, Option}
@@ -10,7 +10,6 @@ use Rattle.lists.specs.Elements.{in_head, in_push_old, in_filtered}
 use Rattle.serial_model.specs.declared.key.Key.{Key}
 use Rattle.homes.specs.Homes.{same_key, has_key}
 use Rattle.homes.specs.Laws.{same_key-self}
-use Rattle.commit_core.specs.declared.seat.Mark.{Mark}
 use Rattle.commit_core.specs.declared.seat.Seat.{Seat}
 use Rattle.commit_core.specs.declared.seat.Stage.TheVariants.{Idle}
 use Rattle.commit_core.specs.CoreState.{can_begin, settled}

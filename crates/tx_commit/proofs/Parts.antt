@@ -1,9 +1,9 @@
 -- The parts of what was read: one more of them, and what they have.
-use Rattle.std.proofs.Common.{◌≡◌, inl, inr, ℕ, ◌<◌, ◌≤◌, ◌^◌, Bool, true, false, true≢false, cond, List, [], ◌∷◌, ◌++◌}
+use Rattle.std.proofs.Common.{◌≡◌, inl, inr, ℕ, true, false, true≢false, cond, List, [], ◌∷◌, ◌++◌}
 use Rattle.std.proofs.Common.{Option, Some, None}
 use Rattle.std.proofs.Common.{refl, sym, ap, ◌∙◌, subst, arith}
 use Rattle.std.specs.Prelude.{filter, not, ◌&&◌, ◌==◌, unwrap_or, nat_le}
-use Rattle.std.specs.List.{find, list_any}
+use Rattle.std.specs.List.{find}
 use Rattle.std.specs.Option.{option_map}
 use Rattle.std.proofs.lemmas.Bool.{cases_Bool, or_parts, and_parts, and_from, false_from_ne_true, eq-eqb, eqb-true}
 use Rattle.std.proofs.lemmas.Bool.{le-leb, leb-true}
@@ -24,7 +24,7 @@ use Rattle.engine_words.specs.Layout.{spot_for, IsAtKey}
 use Rattle.array_storage.specs.Finding.{IsWordFor}
 use Rattle.tx_commit.specs.Live.{IsPartOf, AreParts}
 use Rattle.tx_commit.specs.Turning.{Keeps}
-use Rattle.tx_commit.proofs.Layouts.{not_same, words_apart}
+use Rattle.tx_commit.proofs.Layouts.{words_apart}
 
 -- ---- one part more
 

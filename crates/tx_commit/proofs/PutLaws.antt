@@ -1,9 +1,9 @@
 -- Values that are put, and locks opened with the new number, one after another.
-use Rattle.std.proofs.Common.{◌≡◌, ℕ, zero, suc, ◌+◌, ◌<◌, ◌≤◌, Bool, true, false, cond, List, [], ◌∷◌, ◌++◌, map}
+use Rattle.std.proofs.Common.{◌≡◌, ℕ, zero, suc, ◌+◌, ◌<◌, ◌≤◌, Bool, true, false, cond, List, [], ◌∷◌, ◌++◌}
 use Rattle.std.proofs.Common.{length, drop, get_or, Some, None, Option}
 use Rattle.std.proofs.Common.{refl, sym, ap, ◌∙◌, subst, arith}
 use Rattle.std.specs.Prelude.{filter, not, ◌||◌, unwrap_or, is_some}
-use Rattle.std.specs.List.{slice_get, find, AllByRecursion, list_any}
+use Rattle.std.specs.List.{slice_get, find, AllByRecursion}
 use Rattle.std.specs.Option.{option_map}
 use Rattle.lists.specs.Elements.{any_push_new}
 use Rattle.serial_model.specs.declared.key.Key.{Key}
@@ -11,9 +11,7 @@ use Rattle.serial_model.specs.declared.decl.Decl.{Decl}
 use Rattle.serial_model.specs.declared.number.Change.{Change}
 use Rattle.homes.specs.Homes.{same_key, has_key}
 use Rattle.homes.specs.Laws.{same_key-self}
-use Rattle.commit_core.specs.declared.attempt.Attempt.{Attempt}
 use Rattle.commit_core.specs.declared.seat.Seat.{Seat}
-use Rattle.commit_core.specs.declared.seat.Stage.{Stage}
 use Rattle.commit_core.specs.declared.seat.Stage.TheVariants.{Idle, Decided}
 use Rattle.commit_core.specs.Keys.{written}
 use Rattle.commit_core.specs.CoreState.{settled}

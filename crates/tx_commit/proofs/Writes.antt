@@ -1,11 +1,11 @@
 -- The write set after one write: which values it has, and that each key is that of an array's record.
-use Rattle.std.proofs.Common.{◌≡◌, inl, inr, ℕ, ◌<◌, Bool, true, false, true≢false, cond, List, [], ◌∷◌, ◌++◌, Option}
+use Rattle.std.proofs.Common.{◌≡◌, inl, inr, ℕ, Bool, true, false, true≢false, cond, List, [], ◌∷◌, ◌++◌, Option}
 use Rattle.std.proofs.Common.{Some, None, ◌+◌, ◌≤◌, length, length-append}
 use Rattle.std.proofs.Common.{refl, sym, ap, ◌∙◌, subst, arith}
-use Rattle.std.specs.Prelude.{is_some, unwrap_or, ◌==◌}
+use Rattle.std.specs.Prelude.{is_some, ◌==◌}
 use Rattle.std.specs.List.{find, list_any, AllByRecursion}
 use Rattle.std.specs.Option.{option_map}
-use Rattle.std.proofs.lemmas.Bool.{cases_Bool, or_parts, or_from, eqb-true, ne_eqb, false_from_ne_true}
+use Rattle.std.proofs.lemmas.Bool.{cases_Bool, or_parts, or_from, ne_eqb}
 use Rattle.serial_model.specs.declared.key.Key.{Key}
 use Rattle.serial_model.specs.declared.number.Change.{Change}
 use Rattle.serial_model.specs.declared.decl.Decl.{Decl}
@@ -14,7 +14,7 @@ use Rattle.homes.specs.Laws.{same_key-self, same_key-true}
 use Rattle.commit_core.specs.Keys.{written}
 use Rattle.serial_bridge.specs.Transaction.{wrote}
 use Rattle.tx_sets.specs.declared.writes.Write.{Write}
-use Rattle.tx_sets.specs.Entries.{has_write, value_of, writes_at, IsInserted, IsReplaced, IsRewritten}
+use Rattle.tx_sets.specs.Entries.{has_write, value_of, writes_at, IsInserted, IsRewritten}
 use Rattle.engine_words.specs.declared.engine.Engine.{Engine}
 use Rattle.engine_words.specs.declared.layout.Layout.{Layout}
 use Rattle.engine_words.specs.declared.view.View.{View}

@@ -37,13 +37,14 @@ pub record HasBegun (new : Sets) (v w : View) : Type 0 where
   pub timed : HasTimed v clock loaded
   pub is : w ≡ readied loaded
 
--- the transaction is over: what the pass had seen, its own commits and its refusals stay
+-- the transaction is over: what the pass had seen, its own commits, its draws and its refusals stay
 pub record HasAborted (v w : View) : Type 0 where
   pub over : IsOver w
   pub layout : w.layout ≡ v.layout
   pub role : w.role ≡ v.role
   pub seen : HasSeen v w
   pub mine : w.mine ≡ v.mine
+  pub draws : w.draws ≡ v.draws
   pub marks : w.seat.marks ≡ v.seat.marks
   pub refused : w.refused ≡ v.refused
 
@@ -64,8 +65,8 @@ kept_writes true writes = writes
 kept_writes false writes = []
 
 -- The transaction is over, and one attempt more counts, which is the last of the pass's own commits. Its parts are just
--- what was kept, its writes these changes; its number is above each that the pass had seen, in an epoch above the
--- worker's mark, and it read exactly what the state below its number has.
+-- what was kept, its writes these changes; its number, the one that the call drew, is above each that the pass had
+-- seen, in an epoch above the worker's mark, and it read exactly what the state below its number has.
 pub record HasCommitted (changes : List Change) (number : Number) (v w : View) : Type 0 where
   pub over : IsOver w
   pub layout : w.layout ≡ v.layout
@@ -83,6 +84,7 @@ pub record HasCommitted (changes : List Change) (number : Number) (v w : View) :
   pub earlier : List Number
   pub decided : w.decided ≡ earlier ++ number ∷ []
   pub mine : w.mine ≡ v.mine ++ attempt ∷ []
+  pub draws : w.draws ≡ v.draws + 1
   pub above : (b : Attempt) → Contains v.history b → IsBelow b.number number
   pub reads : ReadsFrom (state_below v.layout.opening w.history w.decided number) attempt
   pub epoch : v.epoch ≤ number.epoch

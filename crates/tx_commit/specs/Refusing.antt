@@ -1,5 +1,5 @@
 -- Why a call of a transaction is refused, and what a refusal leaves.
-use Rattle.std.specs.Prelude.{◌≡◌, ◌≢◌, ◌⊎◌, ℕ, ◌+◌, ◌%◌, ◌^◌, ◌≤◌, ◌<◌, true, false, List, ◌∷◌, ◌++◌, [], Option, Some}
+use Rattle.std.specs.Prelude.{◌≡◌, ◌≢◌, ◌⊎◌, ℕ, ◌+◌, ◌%◌, ◌^◌, ◌≤◌, ◌<◌, false, List, ◌∷◌, ◌++◌, [], Option, Some}
 use Rattle.std.specs.Prelude.{None, length, Contains, unwrap_or}
 use Rattle.serial_model.specs.declared.key.Key.{Key}
 use Rattle.serial_model.specs.Numbers.{draw_limit}
@@ -15,18 +15,20 @@ use Rattle.engine_words.specs.Layout.{clock_at}
 use Rattle.engine_words.specs.Steps.{glance, IsKeyAt}
 use Rattle.tx_commit.specs.Live.{IsOver}
 
--- The transaction is over: what the pass had seen and its own commits stay, and this is the last of its refusals.
+-- The transaction is over: what the pass had seen and its own commits stay, and this is the last of its refusals. It
+-- drew one number at most.
 pub record HasRefused (why : Refused) (v w : View) : Type 0 where
   pub over : IsOver w
   pub layout : w.layout ≡ v.layout
   pub role : w.role ≡ v.role
   pub seen : HasSeen v w
   pub mine : w.mine ≡ v.mine
+  pub draws : w.draws ≤ v.draws + 1
   pub marks : w.seat.marks ≡ v.seat.marks
   pub refused : w.refused ≡ v.refused ++ why ∷ []
 
--- the transaction was not begun, since the clock, which the call loaded and with which all draws are seen, is at the
--- last draws
+-- the transaction was not begun, and drew no number, since the clock, which the call loaded and with which all draws
+-- are seen, is at the last draws
 pub record RefusesBegin (why : Refused) (v w : View) : Type 0 where
   pub clock : ℕ
   pub is : why ≡ refusals.NumberLimit clock
@@ -34,6 +36,7 @@ pub record RefusesBegin (why : Refused) (v w : View) : Type 0 where
   pub last : w.last ≡ Some (glance v.steps clock_at clock)
   pub high : draw_limit ≤ clock % 2 ^ 40
   pub draws : clock % 2 ^ 40 ≡ v.layout.first.draw + length w.history
+  pub undrawn : w.draws ≡ v.draws
   pub refused : HasRefused why v w
 
 -- The last load or compare_exchange is one of this call, of the word of this key's record, and found it locked or not

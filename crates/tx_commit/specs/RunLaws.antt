@@ -1,5 +1,5 @@
 -- That calls are the operations of a transaction, and its commit an attempt of it, as laws that proofs above can cite.
-use Rattle.std.proofs.Common.{◌≡◌, ◌⊎◌, inl, inr, ℕ, Bool, true, false, cond, List, [], ◌∷◌, ◌++◌, Option, Some, None}
+use Rattle.std.proofs.Common.{◌≡◌, inl, ℕ, Bool, true, false, cond, List, [], ◌∷◌, ◌++◌, Option, Some, None}
 use Rattle.std.proofs.Common.{refl, sym, ap, ◌∙◌, subst, append_assoc}
 use Rattle.std.specs.Prelude.{option_to_list, IsTrue, IsSome}
 use Rattle.std.specs.FinMap.{get}
@@ -14,19 +14,17 @@ use Rattle.serial_model.specs.declared.op.Op.TheVariants.{Read, Write, Remove, A
 use Rattle.serial_model.specs.declared.reply.Reply.{Reply}
 use Rattle.serial_model.specs.declared.reply.Verdict.TheVariants.{Done}
 use Rattle.serial_model.specs.Keys.{fits}
-use Rattle.serial_model.specs.State.{State, is_within, rows_of}
-use Rattle.serial_model.specs.History.{Entry}
-use Rattle.commit_core.specs.declared.attempt.Attempt.{Attempt}
+use Rattle.serial_model.specs.State.{State}
 use Rattle.commit_core.specs.declared.part.Part.{Part}
 use Rattle.commit_core.specs.Keys.{same_key, written}
 use Rattle.serial_bridge.specs.Transaction.{vouched, seen, SeesRows, Turn, Turns, Continues, Stops, Finished, finished}
-use Rattle.serial_bridge.specs.Transaction.{FinishesBy, Runs, IsAttemptOf}
+use Rattle.serial_bridge.specs.Transaction.{Runs}
 use Rattle.tx_sets.specs.declared.writes.Write as writes_of
 use Rattle.tx_sets.specs.Entries.{value_of}
 use Rattle.engine_words.specs.declared.layout.Layout.{Layout}
 use Rattle.engine_words.specs.declared.view.View.{View}
-use Rattle.tx_commit.specs.Committing.{changes_of, HasCommitted}
-use Rattle.tx_commit.specs.Running.{GoesOn, HasRun, HasEnded, BeginsRun, GoesOnRun, EndsRun, CommitsRun, CommitsEnd}
+use Rattle.tx_commit.specs.Committing.{changes_of}
+use Rattle.tx_commit.specs.Running.{GoesOn, BeginsRun, GoesOnRun, EndsRun, CommitsRun, CommitsEnd}
 use Rattle.tx_commit.specs.Turning.{Keeps}
 
 -- ---- a turn over parts is one over more

@@ -1,10 +1,9 @@
 -- What the parts of an operation and of a commit do.
-use Rattle.std.specs.Prelude.{◌≡◌, ◌≢◌, ◌⊎◌, ℕ, ◌^◌, ◌<◌, ◌≤◌, true, false, List, [], ◌∷◌, ◌++◌, map, length, take}
+use Rattle.std.specs.Prelude.{◌≡◌, ◌≢◌, ◌⊎◌, ℕ, ◌^◌, ◌<◌, ◌≤◌, true, false, List, [], ◌∷◌, ◌++◌, map, length}
 use Rattle.std.specs.Prelude.{slice_get, Option, Some, None, unwrap_or, Contains, ⊤}
 use Rattle.std.specs.List.{AllByRecursion}
 use Rattle.lists.specs.Each.{AreDistinct}
 use Rattle.serial_model.specs.declared.key.Key.{Key}
-use Rattle.serial_model.specs.declared.number.Number.{Number}
 use Rattle.commit_core.specs.declared.attempt.Attempt.{Attempt}
 use Rattle.commit_core.specs.declared.part.Word.{Word}
 use Rattle.commit_core.specs.declared.seat.Seat.{Seat}
@@ -24,7 +23,6 @@ use Rattle.engine_words.specs.declared.view.Took.{Took}
 use Rattle.engine_words.specs.declared.view.View.{View}
 use Rattle.engine_words.specs.Attempts.{CanDecide}
 use Rattle.engine_words.specs.Locks.{took_at}
-use Rattle.engine_words.specs.Rule.{IsSmall}
 use Rattle.engine_words.specs.Steps.{seen_at, IsKeyAt}
 use Rattle.engine_words.specs.Views.{IsActive, IsResting}
 use Rattle.tx_commit.specs.Live.{AreParts, IsWriteOf, IsLive}

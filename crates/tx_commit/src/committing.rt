@@ -178,12 +178,21 @@ pub(crate) fn put_changes(changes: &mut Changes, writes: &[Write])
     requires { length writes.now ≤ 16 }
     ensures { changes.new ≡ changes_of writes.now }
 {
-    *changes = Changes::new();
+    empty(changes);
     for write in writes {
         changes.push(Change {
             key: write.key,
             value: write.value,
         });
+    }
+}
+
+// There is nothing in it. A new list is all its room over, so it isn't made where nothing is to be let go.
+fn empty(changes: &mut Changes)
+    ensures { changes.new ≡ [] }
+{
+    if !changes.as_slice().is_empty() {
+        *changes = Changes::new();
     }
 }
 

@@ -8,8 +8,8 @@
 //! step's on the state below its number, then and for good. No call takes memory or waits.
 //! Terms: *entry*, a record as the transaction first read it; *own*, what the transaction writes itself.
 //! Layout: specs/Live.antt, what a transaction has; specs/Turning.antt, what operations come to; specs/Refusing.antt,
-//! why calls are refused; specs/Committing.antt, what a commit leaves; specs/Running.antt, what calls are together, with
-//! its laws in RunLaws; specs/Steps.antt, what the parts of a commit do.
+//! why calls are refused; specs/Committing.antt, what a commit leaves; specs/Running.antt, what calls are together,
+//! with its laws in RunLaws; specs/Steps.antt, what the parts of a commit do.
 //! Design: docs/COMMIT.md.
 #![tactic(auto)]
 

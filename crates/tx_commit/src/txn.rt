@@ -139,8 +139,8 @@ impl Txn {
         alter(engine, pass, &mut self.sets, key, By::Take(amount))
     }
 
-    /// Commits the transaction, with its writes or without them, or gives it up. A commit answers its number, and leaves
-    /// what it wrote in `changes`.
+    /// Commits the transaction, with its writes or without them, or gives it up. A commit answers its number, and
+    /// leaves what it wrote in `changes`.
     pub fn commit(
         &mut self,
         engine: &Engine,

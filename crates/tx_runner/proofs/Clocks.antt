@@ -35,6 +35,7 @@ seen_epoch v w clock epoch a is =
       past = ap (λ (x : View). x.past) a.is ∙ ap (λ e. past_at v.role v.made v.past e) (sym is);
       parked = ap (λ (x : View). x.parked) a.is;
       mine = ap (λ (x : View). x.mine) a.is;
+      draws = ap (λ (x : View). x.draws) a.is;
       due = ap (λ (x : View). x.due) a.is;
       seat = ap (λ (x : View). x.seat) a.is;
       took = ap (λ (x : View). x.took) a.is;

@@ -114,6 +114,7 @@ try_committed ops verdict replies commit sets u v w s run written rises few c le
   marks = c.marks ∙ s.marks;
   attempt = c.attempt;
   mine = c.mine ∙ ap (λ l. l ++ c.attempt ∷ []) s.mine;
+  draws = let one = c.draws in let same = s.draws in omega (arith, one, same);
   seat = c.seat ∙ ap seat_number s.role;
   numbered = c.numbered;
   writes = c.writes;
@@ -168,6 +169,9 @@ line_committed ops done tries verdict replies commit u v w less h k = record {
   marks = k.marks ∙ h.tried.marks;
   attempt = k.attempt;
   mine = k.mine ∙ ap (λ l. l ++ k.attempt ∷ []) h.tried.mine;
+  draws =
+      let first = h.tried.draws in let second = k.draws in
+      omega (arith, first, second, length-append h.whys k.whys);
   seat = k.seat ∙ ap seat_number h.tried.role;
   numbered = k.numbered;
   writes = k.writes;

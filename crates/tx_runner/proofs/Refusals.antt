@@ -31,6 +31,7 @@ tried_once why u v w s r = record {
   role = r.role ∙ s.role;
   seen = seen_then u v w s.seen r.seen;
   mine = r.mine ∙ s.mine;
+  draws = let few = r.draws in let same = s.draws in omega (arith, few, same);
   marks = r.marks ∙ s.marks;
   refused = r.refused ∙ ap (λ l. l ++ why ∷ []) s.refused;
 }
@@ -39,7 +40,7 @@ tried_once why u v w s r = record {
 pub begin_refused : (why : Refused) (v w : View) → RefusesBegin why v w → RefusesTry why v w
 begin_refused why v w r = record {
   tried = tried_once why v v w (still v) r.refused;
-  cause = subst (λ x. IsTryCause x v w) (sym r.is) (r.high, r.draws, v.steps, r.last);
+  cause = subst (λ x. IsTryCause x v w) (sym r.is) (r.high, r.draws, r.undrawn, v.steps, r.last);
 }
 
 op_try : (why : Refused) (v w : View) → HasDrawsLeft v → IsOpCause why → IsTryCause why v w
@@ -78,6 +79,7 @@ none_tried v over = record {
     role = refl;
     seen = record { history = front_refl v.history; decided = front_refl v.decided };
     mine = refl;
+    draws = omega arith;
     marks = refl;
     refused = sym (append-nil v.refused);
   };
@@ -91,6 +93,8 @@ tried_then xs ys u v w a b = record {
   role = b.role ∙ a.role;
   seen = seen_then u v w a.seen b.seen;
   mine = b.mine ∙ a.mine;
+  draws =
+      let first = a.draws in let second = b.draws in let all = length-append xs ys in omega (arith, first, second, all);
   marks = b.marks ∙ a.marks;
   refused = b.refused ∙ ap (λ l. l ++ ys) a.refused ∙ append_assoc u.refused xs ys;
 }
@@ -117,14 +121,15 @@ line_limited done tries (refusals.NumberLimit clock) u v w less h r is = record 
   clock = clock;
   high = r.cause.0;
   draws = r.cause.1 ∙ ap (λ (l : Layout). l.first.draw + length w.history) h.tried.layout;
-  step = r.cause.2;
-  last = r.cause.3;
+  step = r.cause.3;
+  last = r.cause.4;
   refused = record {
     whys = h.whys;
     fewer = omega (arith, less, h.count);
     each = h.each;
     tried = tried_then h.whys (refusals.NumberLimit clock ∷ []) u v w h.tried r.tried;
   };
+  undrawn = let before = h.tried.draws in let none = r.cause.2 in omega (arith, before, none);
 }
 
 -- ---- the line's tries

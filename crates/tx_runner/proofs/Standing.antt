@@ -20,12 +20,13 @@ use Rattle.tx_runner.specs.Lines.{try_steps, IsOnArray}
 use Rattle.tx_runner.specs.Steps.{AreWithin}
 use Rattle.tx_runner.specs.Tries.{HasDrawsLeft}
 
--- what the pass had seen, its own commits, its marks and its refusals stay
+-- what the pass had seen, its own commits, its draws, its marks and its refusals stay
 pub record StandsAs (v w : View) : Type 0 where
   pub layout : w.layout ≡ v.layout
   pub role : w.role ≡ v.role
   pub seen : HasSeen v w
   pub mine : w.mine ≡ v.mine
+  pub draws : w.draws ≡ v.draws
   pub marks : w.seat.marks ≡ v.seat.marks
   pub refused : w.refused ≡ v.refused
 
@@ -41,6 +42,7 @@ begun_stands sets v w b =
             b.timed.decided;
       };
       mine = ap (λ (x : View). x.mine) is;
+      draws = ap (λ (x : View). x.draws) is;
       marks = ap (λ (x : View). x.seat.marks) is;
       refused = ap (λ (x : View). x.refused) is;
     }
@@ -56,6 +58,7 @@ loaded_stands v w l = record {
         (front_refl v.decided);
   };
   mine = ap (λ (x : View). x.mine) l.is;
+  draws = ap (λ (x : View). x.draws) l.is;
   marks = ap (λ (x : View). x.seat.marks) l.is;
   refused = ap (λ (x : View). x.refused) l.is;
 }
@@ -75,6 +78,7 @@ run_stands sets u v w b l =
       role = second.role ∙ first.role;
       seen = seen_then u v w first.seen second.seen;
       mine = second.mine ∙ first.mine;
+      draws = second.draws ∙ first.draws;
       marks = second.marks ∙ first.marks;
       refused = second.refused ∙ first.refused;
     }
@@ -100,6 +104,7 @@ still v = record {
   role = refl;
   seen = record { history = front_refl v.history; decided = front_refl v.decided };
   mine = refl;
+  draws = refl;
   marks = refl;
   refused = refl;
 }
@@ -114,6 +119,7 @@ refused_since why u v w l r = let s = loaded_stands u v l in record {
   role = r.role ∙ s.role;
   seen = seen_then u v w s.seen r.seen;
   mine = r.mine ∙ s.mine;
+  draws = let few = r.draws in let same = s.draws in omega (arith, few, same);
   marks = r.marks ∙ s.marks;
   refused = r.refused ∙ ap (λ l. l ++ why ∷ []) s.refused;
 }

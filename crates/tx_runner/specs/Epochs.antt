@@ -35,6 +35,7 @@ pub record HasSeenEpoch (epoch : ℕ) (v w : View) : Type 0 where
   pub past : w.past ≡ past_at v.role v.made v.past epoch
   pub parked : w.parked ≡ v.parked
   pub mine : w.mine ≡ v.mine
+  pub draws : w.draws ≡ v.draws
   pub due : w.due ≡ v.due
   pub seat : w.seat ≡ v.seat
   pub took : w.took ≡ v.took
@@ -61,12 +62,6 @@ pub record IsMarkedUpTo (clock : ℕ) (v : View) : Type 0 where
   pub epoch : ℕ
   pub mark : mark_of v.seat.marks ≡ Some epoch
   pub late : clock ≤ epoch + 1
-
--- the last of the marks has this length
-pub record HasLength (length : ℕ) (marks : List core.Mark) : Type 0 where
-  pub before : List core.Mark
-  pub epoch : Option ℕ
-  pub is : marks ≡ before ++ record { epoch = epoch; length = length } ∷ []
 
 -- the marks of the workers from this one on, as they are met
 abbrev pub mets_of : ℕ → List Mark → List Met

@@ -44,8 +44,8 @@ IsAsAlone decls opening history decided a e =
 -- The line was committed with this verdict, these replies, and the commit's number and changes: one attempt more is the
 -- pass's own, and counts. Its epoch is above the worker's mark, and its changes are those of a log line. It is that of
 -- the line's transaction, whose answers are the serial step's on the state below its number, now (`now`) and as any
--- later audit has it (`later`). The tries before, which were fewer than the line has, were refused with Conflict; as the
--- first of all began, the clock was not at the last draws (`began`).
+-- later audit has it (`later`). The tries before, which were fewer than the line has, were refused with Conflict, and
+-- each of them drew one number at most; as the first of all began, the clock was not at the last draws (`began`).
 pub record HasCommittedLine (ops : List Op) (tries : ℕ) (verdict : Verdict) (replies : List Reply) (commit : Commit)
     (v w : View) : Type 0 where
   pub began : HasDrawsLeft v
@@ -60,6 +60,7 @@ pub record HasCommittedLine (ops : List Op) (tries : ℕ) (verdict : Verdict) (r
   pub marks : w.seat.marks ≡ v.seat.marks
   pub attempt : Attempt
   pub mine : w.mine ≡ v.mine ++ attempt ∷ []
+  pub draws : w.draws ≤ v.draws + length whys + 1
   pub seat : attempt.seat ≡ seat_number v.role
   pub numbered : attempt.number ≡ commit.number
   pub writes : attempt.writes ≡ commit.changes

@@ -65,12 +65,13 @@ IsOpCause (refusals.NumberLimit clock) = ⊥
 
 -- ---- tries
 
--- the cause of a refusal: a conflict of a try that began, or the clock, which was loaded last
+-- The cause of a refusal: a conflict of a try that began, or the clock, which was loaded last; then no number was
+-- drawn.
 abbrev pub IsTryCause : Refused → View → View → Type 0
 IsTryCause (refusals.Conflict at expected seen) v w = ((2 ^ 60 ≤ seen) ⊎ (seen ≢ expected)) × HasDrawsLeft v
 IsTryCause (refusals.Wide set) v w = ⊥
 IsTryCause (refusals.NumberLimit clock) v w =
-    (draw_limit ≤ clock % 2 ^ 40) × (clock % 2 ^ 40 ≡ v.layout.first.draw + length w.history)
+    (draw_limit ≤ clock % 2 ^ 40) × (clock % 2 ^ 40 ≡ v.layout.first.draw + length w.history) × (w.draws ≡ v.draws)
     × (step : ℕ) × (w.last ≡ Some (glance step clock_at clock))
 
 -- the try was refused for this

@@ -17,13 +17,14 @@ IsConflicting (refusals.Wide set) = ⊥
 IsConflicting (refusals.NumberLimit clock) = ⊥
 
 -- One try for each of these refusals, in their order: no transaction is under way, so nothing is locked, and of the
--- pass's own nothing is new but the refusals.
+-- pass's own nothing is new but the refusals and its draws, of which each try made one at most.
 pub record HasTriedFor (whys : List Refused) (v w : View) : Type 0 where
   pub over : IsOver w
   pub layout : w.layout ≡ v.layout
   pub role : w.role ≡ v.role
   pub seen : HasSeen v w
   pub mine : w.mine ≡ v.mine
+  pub draws : w.draws ≤ v.draws + length whys
   pub marks : w.seat.marks ≡ v.seat.marks
   pub refused : w.refused ≡ v.refused ++ whys
 
@@ -46,7 +47,8 @@ pub record IsRefusedFor (why : Refused) (tries : ℕ) (v w : View) : Type 0 wher
   pub each : AllByRecursion IsConflicting whys
   pub tried : HasTriedFor (whys ++ why ∷ []) v w
 
--- The last try wasn't begun: the clock, which it loaded and with which all draws are seen, is at the last draws.
+-- The last try wasn't begun, and drew no number: the clock, which it loaded and with which all draws are seen, is at
+-- the last draws.
 pub record IsAtLimit (tries : ℕ) (v w : View) : Type 0 where
   pub clock : ℕ
   pub high : draw_limit ≤ clock % 2 ^ 40
@@ -54,3 +56,4 @@ pub record IsAtLimit (tries : ℕ) (v w : View) : Type 0 where
   pub step : ℕ
   pub last : w.last ≡ Some (glance step clock_at clock)
   pub refused : IsRefusedFor (refusals.NumberLimit clock) tries v w
+  pub undrawn : w.draws ≤ v.draws + length refused.whys

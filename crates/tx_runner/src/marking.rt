@@ -10,7 +10,7 @@ ghost use Rattle.engine_words.specs.Passes.{view, IsPassOf};
 ghost use Rattle.engine_words.specs.Rule.{IsSmallMark, word_of_mark};
 ghost use Rattle.engine_words.specs.Views.{IsActive};
 ghost use Rattle.tx_commit.specs.Live.{IsOver};
-ghost use Rattle.tx_runner.specs.Epochs.{HasLength, HasMetAll, IsMarkedUpTo};
+ghost use Rattle.tx_runner.specs.Epochs.{HasMetAll, IsMarkedUpTo};
 
 use engine_words::{Engine, Pass, load_mark};
 use wire_form::Mark;
@@ -40,12 +40,12 @@ pub fn mark(engine: &Engine, pass: &mut Pass, worker: u8, clock: u32, length: u6
     engine_words::mark(engine, pass, worker, mark);
 }
 
-/// Marks this worker as idle: it holds no epoch back. The length stays that of its last mark, which is this one.
+/// Marks this worker as idle: it holds no epoch back. The length is that of its log's mark, what a save counts of its
+/// log file.
 pub fn idle(engine: &Engine, pass: &mut Pass, worker: u8, length: u64)
     requires of { IsPassOf engine.now pass.old }
     requires over { IsOver (view pass.old) }
     requires worker { ((view pass.old).role ≡ Worker worker) × (worker < 8) }
-    requires kept { HasLength length (view pass.old).seat.marks }
     requires length { length < 2 ^ 40 }
     ensures of { IsPassOf engine.now pass.new }
     ensures marks { view pass.new ≡ marked (record { epoch = None; length = length }) (view pass.old) }

@@ -3,18 +3,67 @@ ghost use Rattle.std.specs.Prelude.{◌≡◌, ◌<◌, [], ◌∷◌, ◌++◌,
 ghost use Rattle.serial_model.specs.ReplyWords.{replies_words};
 ghost use Rattle.serial_model.specs.declared.reply.Reply.{Reply};
 
-use arrayvec::ArrayVec;
 use serial_model::LentReplies;
 use std::marker::Model;
 
 /// Each of the 16 operations of a line replies one value at most, which has one word or two.
 const CAPACITY: usize = 32;
 
+/// Words in room that is made once: what was let go isn't blanked.
+#[derive(Drop)]
+struct Words {
+    /// The first `count` of them are in the list.
+    items: [u64; CAPACITY],
+    count: usize,
+}
+
+impl Model for Words {
+    ghost use Rattle.std.specs.Prelude.{ℕ, List, ◌≡◌, ◌≤◌, length, take};
+
+    ghost Value = { List ℕ };
+
+    ghost view = { λ w. take w.count w.items };
+
+    ghost invariant = { λ w. (w.count ≤ 32) × (length w.items ≡ 32) };
+}
+
+impl Words {
+    fn new() -> Self
+        ensures { result ≡ [] }
+    {
+        Words {
+            items: [0; CAPACITY],
+            count: 0,
+        }
+    }
+
+    fn push(&mut self, word: u64)
+        requires { length self.old < 32 }
+        ensures { self.new ≡ self.old ++ word ∷ [] }
+    {
+        let count = self.count;
+        self.items[count] = word;
+        self.count = count + 1;
+    }
+
+    fn as_slice(&self) -> &[u64]
+        ensures { result.now ≡ self.now }
+    {
+        &self.items[..self.count]
+    }
+
+    fn clear(&mut self)
+        ensures { self.new ≡ [] }
+    {
+        self.count = 0;
+    }
+}
+
 /// The replies of a line, 16 at most, which contracts see as the list of them. They lie in words, as `serial_model` has
 /// them, and in room that is made once.
 #[derive(Drop)]
 pub struct LineReplies {
-    words: ArrayVec<u64, CAPACITY>,
+    words: Words,
 }
 
 impl Model for LineReplies {
@@ -26,9 +75,9 @@ impl Model for LineReplies {
     ghost use Rattle.serial_model.specs.ReplyWords.{replies_of};
     ghost use Rattle.tx_runner.specs.Lines.{AreFewWords};
 
-    ghost view = { λ r. replies_of r.words.items };
+    ghost view = { λ r. replies_of r.words };
 
-    ghost invariant = { λ r. AreFewWords r.words.items };
+    ghost invariant = { λ r. AreFewWords r.words };
 }
 
 impl LineReplies {
@@ -36,7 +85,7 @@ impl LineReplies {
         ensures { result ≡ [] }
     {
         LineReplies {
-            words: ArrayVec::new(),
+            words: Words::new(),
         }
     }
 

@@ -1,4 +1,4 @@
-use Rattle.std.proofs.Common.{refl, sym, ap, ◌∙◌, subst, length, arith, get_or}
+use Rattle.std.proofs.Common.{length, arith}
 use Rattle.engine_words.specs.Passes.{view}
 use Rattle.tx_commit.proofs.Lists.{in_at}
 use Rattle.tx_commit.proofs.StepLaws.{more_checked, stops_checked, ends_so}

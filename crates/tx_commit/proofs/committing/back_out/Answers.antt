@@ -1,6 +1,4 @@
-use Rattle.std.proofs.Common.{ℕ, List, sym, ap, ◌∙◌, subst, length, take, arith}
-use Rattle.std.specs.List.{AllByRecursion}
-use Rattle.tx_sets.specs.Entries.{IsAscending}
+use Rattle.std.proofs.Common.{ℕ, List, sym, ap, subst, length, take, arith}
 use Rattle.engine_words.specs.Passes.{view}
 use Rattle.tx_commit.specs.Live.{IsWriteOf}
 use Rattle.tx_commit.specs.Steps.{HasLocks, HasGivenUp}

@@ -1,8 +1,8 @@
-use Rattle.std.proofs.Common.{List, length, sym, ap, ◌∙◌, subst, refl}
+use Rattle.std.proofs.Common.{List, length, sym, ap, subst, refl}
 use Rattle.engine_words.specs.Passes.{view}
 use Rattle.serial_model.specs.declared.number.Change.{Change}
 use Rattle.tx_commit.specs.Committing.{changes_of, HasCommitted}
-use Rattle.tx_commit.proofs.CommitLaws.{sets_places, sets_ascending, sets_few, sets_draw, sets_active, sets_tried}
+use Rattle.tx_commit.proofs.CommitLaws.{sets_ascending, sets_draw, sets_active, sets_tried}
 use Rattle.tx_commit.proofs.CommitLaws.{drawn_active, checked_active, failed_active, chosen_active, chosen_places}
 use Rattle.tx_commit.proofs.CommitLaws.{chosen_decided, all_committed, check_locks, check_places, found_within}
 use Rattle.tx_commit.proofs.CommitLaws.{found_locks, check_refused, check_cause}

@@ -1,4 +1,4 @@
-use Rattle.std.proofs.Common.{Some, sym, ap, subst, length}
+use Rattle.std.proofs.Common.{Some, length}
 use Rattle.engine_words.specs.declared.view.Refused.TheVariants as refusals
 use Rattle.engine_words.specs.Passes.{view}
 use Rattle.tx_commit.proofs.CommitLaws.{given_up, can_forget}

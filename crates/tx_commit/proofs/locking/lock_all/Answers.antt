@@ -1,10 +1,8 @@
 use Rattle.std.specs.Prelude.{Err}
-use Rattle.std.proofs.Common.{◌≡◌, [], refl, sym, ap, ◌∙◌, subst, take, length, get_or, arith}
-use Rattle.std.proofs.lemmas.List.{take_more}
-use Rattle.tx_sets.specs.declared.writes.Write.{Write}
+use Rattle.std.proofs.Common.{◌≡◌, [], sym, subst, length, arith}
 use Rattle.engine_words.specs.Passes.{view}
 use Rattle.tx_commit.specs.Steps.{AreAsRead, HasLocked}
-use Rattle.tx_commit.proofs.LockLaws.{IsUnmet, blank, can_lock, place_at, unmet_at, locked_none, locked_one}
+use Rattle.tx_commit.proofs.LockLaws.{can_lock, place_at, unmet_at, locked_none}
 use Rattle.tx_commit.proofs.LockLaws.{locked_so_far, read_so_far, unmet_so_far, lock_stopped, lock_apart, lock_refused}
 use Rattle.tx_commit.proofs.LockLaws.{found_count}
 use Rattle.std.proofs.lemmas.Result.{err_from_is_err_and}

@@ -1,4 +1,4 @@
-use Rattle.std.proofs.Common.{inl, inr, arith}
+use Rattle.std.proofs.Common.{inl, inr}
 use Rattle.engine_words.specs.Passes.{view}
 use Rattle.tx_commit.proofs.LockLaws.{load_conflict, lock_conflict, taken}
 use Rattle.tx_commit.proofs.StepLaws.{load_most, take_steps, take_most}

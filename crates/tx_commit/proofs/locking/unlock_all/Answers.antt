@@ -1,6 +1,5 @@
-use Rattle.std.proofs.Common.{refl, sym, ap, subst, length, arith}
+use Rattle.std.proofs.Common.{refl, length, arith}
 use Rattle.engine_words.specs.Passes.{view}
-use Rattle.engine_words.specs.Views.{IsActive}
 use Rattle.tx_commit.proofs.Lists.{apart}
 use Rattle.tx_commit.proofs.StepLaws.{more_opened, ends_so}
 use Rattle.tx_commit.proofs.OpenLaws.{starts_unlocking, still_active, still_there, can_open_again, unlocked_one}

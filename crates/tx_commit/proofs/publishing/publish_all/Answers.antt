@@ -1,4 +1,4 @@
-use Rattle.std.proofs.Common.{refl, sym, ap, subst, length, arith}
+use Rattle.std.proofs.Common.{length, arith}
 use Rattle.engine_words.specs.Passes.{view}
 use Rattle.tx_commit.proofs.Lists.{apart}
 use Rattle.tx_commit.proofs.StepLaws.{more_put, ends_at}

@@ -1,4 +1,4 @@
-use Rattle.std.proofs.Common.{Some, refl, sym}
+use Rattle.std.proofs.Common.{Some, refl}
 use Rattle.engine_words.specs.declared.view.Refused.TheVariants as refusals
 use Rattle.engine_words.specs.Passes.{view}
 use Rattle.tx_commit.proofs.FindLaws.{found_entry, clash_loaded, clash_conflict, loaded_refused, has_room, pushed_is}

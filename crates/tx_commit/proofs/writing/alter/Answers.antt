@@ -1,7 +1,7 @@
 use Rattle.std.proofs.Common.{refl, sym, ◌∙◌, ap}
 use Rattle.engine_words.specs.Passes.{view}
 use Rattle.tx_commit.specs.Turning.{altered}
-use Rattle.tx_commit.proofs.Dones.{own_altered, own_ends}
+use Rattle.tx_commit.proofs.Dones.{own_altered}
 use Rattle.tx_commit.proofs.Writes.{none_written, some_written, rewritten_writes, rewritten_all}
 use Rattle.tx_commit.proofs.writing.alter.Goals as goal
 

@@ -1,4 +1,4 @@
-use Rattle.std.proofs.Common.{refl, sym, ◌∙◌, ap, subst}
+use Rattle.std.proofs.Common.{sym, ◌∙◌}
 use Rattle.engine_words.specs.Passes.{view}
 use Rattle.tx_commit.proofs.Dones.{entry_altered, entry_ends, entry_apart, entry_all, entry_writes, entry_layout}
 use Rattle.tx_commit.proofs.writing.alter_record.Goals as goal

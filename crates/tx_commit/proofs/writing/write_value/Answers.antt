@@ -1,4 +1,4 @@
-use Rattle.std.proofs.Common.{refl, sym, ◌∙◌, arith}
+use Rattle.std.proofs.Common.{refl, sym, ◌∙◌}
 use Rattle.engine_words.specs.Passes.{view}
 use Rattle.tx_commit.proofs.Dones.{value_written}
 use Rattle.tx_commit.proofs.Writes.{inserted_writes, inserted_all, rewritten_writes, rewritten_all, word_apart}

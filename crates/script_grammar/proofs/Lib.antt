@@ -20,3 +20,8 @@ pub mod FirstFault
 pub mod GoodOps
 pub mod GoodLines
 pub mod Rows
+pub mod FrontNumbers
+pub mod FrontOps
+pub mod FrontLines
+pub mod FirstLines
+pub mod Limits

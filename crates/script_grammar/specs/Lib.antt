@@ -4,3 +4,4 @@ pub mod Reading
 pub mod Faults
 pub mod Lines
 pub mod FlatOps
+pub mod Front

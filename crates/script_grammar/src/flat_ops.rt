@@ -1,8 +1,14 @@
 // Operations in memory: 20 bytes for each, where an `Op` takes 32, and room for those of a line as they are.
-ghost use Rattle.std.specs.Prelude.{◌≡◌, ℕ, ◌+◌, ◌<◌, ◌≤◌, [], ◌∷◌, ◌++◌, length, take, drop, OnOk, OnErr};
+ghost use Rattle.std.specs.Prelude.{◌≡◌, ℕ, ◌+◌, ◌<◌, ◌≤◌, [], ◌∷◌, ◌++◌, length, take, drop, IfSome, List, OnOk, OnErr};
+ghost use Rattle.serial_model.specs.Keys.{fits, has_key};
+ghost use Rattle.serial_model.specs.declared.decl.Decl.{Decl as DeclMeaning};
 ghost use Rattle.script_grammar.specs.FlatOps.{wide, op_of, op_of_kind};
+ghost use Rattle.script_grammar.specs.Front.{MayTakeOps};
 
-use lists::{Memory, Sequence};
+use crate::front_op::ops_from;
+use crate::read_op::MOST_OPS;
+use crate::storages::Storages;
+use lists::Memory;
 use serial_model::{Key, Op};
 use std::alloc::Global;
 use std::marker::Model;
@@ -68,7 +74,7 @@ impl FlatOp {
     }
 
     /// The operation of a kind, with a key, and with a value or the highest key.
-    fn of(kind: OpKind, key: Key, value: u64) -> Self
+    pub(crate) fn of(kind: OpKind, key: Key, value: u64) -> Self
         ensures { op_of result ≡ op_of_kind kind key value }
     {
         FlatOp {
@@ -79,7 +85,21 @@ impl FlatOp {
         }
     }
 
-    fn op(&self) -> Op
+    /// The key of an operation that fits each storage with that key.
+    pub(crate) fn point(&self) -> Option<Key>
+        ensures { IfSome result (λ key. (decls : List DeclMeaning)
+            → fits decls (op_of self.now) ≡ has_key decls key) }
+    {
+        match self.kind {
+            OpKind::Read | OpKind::Write | OpKind::Add | OpKind::Take => Some(Key {
+                storage: self.storage,
+                key: self.key.number(),
+            }),
+            OpKind::Remove | OpKind::Scan => None,
+        }
+    }
+
+    pub(crate) fn op(&self) -> Op
         ensures { result ≡ op_of self.now }
     {
         let key = Key {
@@ -104,7 +124,7 @@ impl FlatOp {
 /// Operations, which contracts see as they are.
 #[derive(Drop)]
 pub(crate) struct FlatOps {
-    list: Sequence<FlatOp>,
+    list: Vec<FlatOp>,
 }
 
 impl Model for FlatOps {
@@ -114,7 +134,7 @@ impl Model for FlatOps {
 
     ghost Value = { List Op };
 
-    ghost view = { λ o. map op_of o.list };
+    ghost view = { λ o. map op_of o.list.items };
 }
 
 impl FlatOps {
@@ -122,7 +142,7 @@ impl FlatOps {
         ensures { result ≡ [] }
     {
         FlatOps {
-            list: Sequence::new(alloc),
+            list: Vec::new(alloc),
         }
     }
 
@@ -137,7 +157,8 @@ impl FlatOps {
         ensures ok { OnOk result (self.new ≡ self.old ++ op.now ∷ []) }
         ensures memory { OnErr result (self.new ≡ self.old) }
     {
-        self.list.push(FlatOp::new(op))
+        self.list.push(FlatOp::new(op))?;
+        Ok(())
     }
 
     /// After want of memory there are some of these operations more.
@@ -149,6 +170,20 @@ impl FlatOps {
             self.push(op)?;
         }
         Ok(())
+    }
+
+    /// Adds the operations that stand among the bytes from this place up to a newline, and answers how many, and where
+    /// the newline stands. Where not all are plainly such, there may be some of them more.
+    pub(crate) fn take(
+        &mut self,
+        bytes: &[u8],
+        start: usize,
+        storages: &Storages,
+    ) -> Result<Option<(u8, usize)>, Memory>
+        ensures { MayTakeOps result bytes.now start storages.now self.old self.new }
+    {
+        self.list.reserve(MOST_OPS)?;
+        Ok(ops_from(bytes, start, storages, &mut self.list))
     }
 
     /// Puts the operations from this one on, so many, into the room.

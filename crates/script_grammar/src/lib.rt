@@ -6,12 +6,16 @@
 //! Terms: *round*, the lines up to a join; *part*, what stands between semicolons in a worker's line.
 //! Grammar: `specs/Script.antt`, by the spelling of a script; `specs/Faults.antt`, by the tests of a line, in order; both
 //! the reader and the tests find words, parts and numbers by `specs/Words.antt`.
+//! Design: most lines are a worker's, and are read as their bytes are passed, where they plainly are by the rules
+//! (`front_op`, `specs/Front.antt`); whatever isn't is cut into words, and only there anything is refused (`reader`).
 #![tactic(auto)]
 
 mod cut;
 mod fault;
 mod faults;
 mod flat_ops;
+mod front_number;
+mod front_op;
 mod lines;
 mod op_faults;
 mod read;
@@ -20,6 +24,7 @@ mod read_op;
 mod reader;
 mod rounds;
 mod script;
+mod storages;
 mod words;
 
 pub use fault::{FaultKind, ScriptFault};

@@ -1,10 +1,13 @@
 // Lines in memory: one list of operations for all, and a span of it for each, so that a line takes no list of its own.
-ghost use Rattle.std.specs.Prelude.{◌≡◌, ◌<◌, ◌≤◌, [], ◌∷◌, ◌++◌, length, slice_get, Some, OnOk, OnErr, option_map};
+ghost use Rattle.std.specs.Prelude.{◌≡◌, ◌+◌, ◌<◌, ◌≤◌, [], ◌∷◌, ◌++◌, drop, length, slice_get, IfSome, Some, OnOk, OnErr, option_map};
 ghost use Rattle.script_grammar.specs.Script.{Keeper, Worker, keeper_line_of, worker_of};
 ghost use Rattle.script_grammar.specs.Lines.{line_lent};
+ghost use Rattle.script_grammar.specs.Front.{MayTakeLine};
 
 use crate::flat_ops::{FlatOps, LineOps};
-use lists::{Memory, Sequence};
+use crate::reader::LONGEST_LINE;
+use crate::storages::Storages;
+use lists::Memory;
 use serial_model::Op;
 use std::alloc::Global;
 use std::marker::Model;
@@ -43,7 +46,7 @@ pub enum Line<'a> {
 #[derive(Drop)]
 pub(crate) struct Lines {
     ops: FlatOps,
-    spans: Sequence<Span>,
+    spans: Vec<Span>,
 }
 
 impl Model for Lines {
@@ -53,9 +56,29 @@ impl Model for Lines {
 
     ghost Value = { List Line };
 
-    ghost view = { λ l. lines_in l.ops l.spans };
+    ghost view = { λ l. lines_in l.ops l.spans.items };
 
-    ghost invariant = { λ l. AreWithin l.ops l.spans };
+    ghost invariant = { λ l. AreWithin l.ops l.spans.items };
+}
+
+/// After want of memory the spans are as they were.
+fn push_span(spans: &mut Vec<Span>, span: Span) -> Result<(), Memory>
+    ensures ok { OnOk result (spans.new.items ≡ spans.old.items ++ span ∷ []) }
+    ensures memory { OnErr result (spans.new.items ≡ spans.old.items) }
+{
+    spans.reserve(1)?;
+    spans.push_reserved(span);
+    Ok(())
+}
+
+/// The worker of the line at the front, 0 to 7, with the space behind it.
+fn worker_at(bytes: &[u8]) -> Option<u8>
+    ensures { IfSome result (λ worker. (worker < 8) × (bytes.now ≡ (48 + worker) ∷ 32 ∷ drop 2 bytes.now)) }
+{
+    match bytes {
+        [digit @ b'0'..=b'7', b' ', ..] => Some(*digit - b'0'),
+        _ => None,
+    }
 }
 
 impl Lines {
@@ -64,7 +87,7 @@ impl Lines {
     {
         Lines {
             ops: FlatOps::new(alloc),
-            spans: Sequence::new(alloc),
+            spans: Vec::new(alloc),
         }
     }
 
@@ -85,12 +108,43 @@ impl Lines {
         };
         let count = ops.len() as u8;
         self.ops.append(ops)?;
-        self.spans.push(Span::Worker {
+        let span = Span::Worker {
             worker,
             count,
             start,
-        })?;
+        };
+        push_span(&mut self.spans, span)?;
         Ok(())
+    }
+
+    /// One more is the worker's line that stands at the front of the bytes, up to a newline; answers where that stands.
+    /// Else, and after want of memory, the lines are as they were.
+    pub(crate) fn take(
+        &mut self,
+        bytes: &[u8],
+        storages: &Storages,
+    ) -> Result<Option<usize>, Memory>
+        ensures { MayTakeLine result bytes.now storages.now self.old self.new }
+    {
+        let Some(worker) = worker_at(bytes) else {
+            return Ok(None);
+        };
+        let Ok(start) = u32::try_from(self.ops.len()) else {
+            return Ok(None);
+        };
+        let Some((count, end)) = self.ops.take(bytes, 2, storages)? else {
+            return Ok(None);
+        };
+        if end > LONGEST_LINE {
+            return Ok(None);
+        }
+        let span = Span::Worker {
+            worker,
+            count,
+            start,
+        };
+        push_span(&mut self.spans, span)?;
+        Ok(Some(end))
     }
 
     /// A line of the maintenance thread more. After want of memory the lines are as they were.
@@ -98,7 +152,7 @@ impl Lines {
         ensures ok { OnOk result (self.new ≡ self.old ++ Keeper line ∷ []) }
         ensures memory { OnErr result (self.new ≡ self.old) }
     {
-        self.spans.push(Span::Keeper(line))
+        push_span(&mut self.spans, Span::Keeper(line))
     }
 
     /// The worker whose line it is, if it is one's.
@@ -106,7 +160,7 @@ impl Lines {
         requires { index < length self.now }
         ensures { option_map worker_of (slice_get self.now index) ≡ Some result }
     {
-        match self.spans.as_slice()[index] {
+        match self.spans[index] {
             Span::Worker { worker, .. } => Some(worker),
             Span::Keeper(_) => None,
         }
@@ -117,7 +171,7 @@ impl Lines {
         requires { index < length self.now }
         ensures { option_map keeper_line_of (slice_get self.now index) ≡ Some result }
     {
-        match self.spans.as_slice()[index] {
+        match self.spans[index] {
             Span::Worker { .. } => None,
             Span::Keeper(line) => Some(line),
         }
@@ -128,7 +182,7 @@ impl Lines {
         requires { index < length self.now }
         ensures { slice_get self.now index ≡ Some (line_lent result) }
     {
-        match self.spans.as_slice()[index] {
+        match self.spans[index] {
             Span::Worker {
                 worker,
                 count,

@@ -1,10 +1,11 @@
 // Scripts from bytes.
-ghost use Rattle.std.specs.Prelude.{◌≡◌, ◌==◌, ◌≤◌, length, IfOk, Err};
+ghost use Rattle.std.specs.Prelude.{◌≡◌, ◌==◌, ◌≤◌, length, IfOk, Err, MatchOption, MatchResult};
 ghost use Rattle.std.specs.List.{slice_split};
 ghost use Rattle.lists.specs.declared.memory.OrMemory.{OrMemory};
 ghost use Rattle.script_grammar.specs.Script.{IsTextOf, Script as Meaning};
 ghost use Rattle.script_grammar.specs.Reading.{FindsOrTells, Gives, no_parts, parts_of, steps};
 ghost use Rattle.script_grammar.specs.Faults.{IsFirstFault, fault_of, first_fault, first_place};
+ghost use Rattle.script_grammar.specs.Front.{IsLastLine, LeavesOthers, RefusesFirst};
 
 use crate::cut::cut;
 use crate::fault::{FaultKind, ScriptFault};
@@ -16,6 +17,28 @@ use std::alloc::Global;
 /// In bytes.
 const LONGEST_SOURCE: usize = 67_108_864;
 
+/// Reads the first of the lines, and answers those behind it, if a newline ends it. Most are workers' lines, read as
+/// they are passed; any other is cut out and read as what it may be.
+fn read_first<'a>(
+    reader: &mut Reader,
+    number: u32,
+    bytes: &'a [u8],
+) -> Result<Option<&'a [u8]>, OrMemory<ScriptFault>>
+    ensures { MatchResult result
+        (λ others. MatchOption others (IsLastLine bytes.now reader.old reader.new)
+        (λ rest. LeavesOthers bytes.now rest.now reader.old reader.new))
+        (λ fault. RefusesFirst fault bytes.now number reader.old) }
+{
+    if let Some(end) = reader.take_front(bytes)? {
+        return Ok(Some(&bytes[end + 1..]));
+    }
+    let Some((line, after)) = cut(b'\n', bytes) else {
+        return Ok(None);
+    };
+    reader.step(number, line)?;
+    Ok(Some(after))
+}
+
 /// Reads the lines one after another.
 fn read_lines(reader: &mut Reader, bytes: &[u8]) -> Result<(), OrMemory<ScriptFault>>
     requires fresh { reader.old ≡ no_parts }
@@ -25,8 +48,7 @@ fn read_lines(reader: &mut Reader, bytes: &[u8]) -> Result<(), OrMemory<ScriptFa
 {
     let mut rest = bytes;
     let mut number: u32 = 1;
-    while let Some((line, after)) = cut(b'\n', rest) {
-        reader.step(number, line)?;
+    while let Some(after) = read_first(reader, number, rest)? {
         rest = after;
         number += 1;
     }

@@ -9,8 +9,9 @@ use crate::flat_ops::LineOps;
 use crate::read_line::{decl_at, is_join, keeper_in, read_worker};
 use crate::rounds::Rounds;
 use crate::script::Script;
+use crate::storages::{Storages, id_of};
 use lists::{Memory, OrMemory};
-use serial_model::{Decl, Decls, Op, fits};
+use serial_model::{Decl, Op, fits};
 use std::alloc::Global;
 use std::marker::Model;
 
@@ -24,7 +25,7 @@ pub(crate) const LONGEST_LINE: usize = 1024;
 /// The declarations and the rounds so far, and memory for the operations of a line.
 #[derive(Drop)]
 pub(crate) struct Reader {
-    decls: Decls,
+    decls: Storages,
     rounds: Rounds,
     ops: LineOps,
 }
@@ -35,14 +36,6 @@ impl Model for Reader {
     ghost Value = { Parts };
 
     ghost view = { λ r. record { decls = r.decls; joined = r.rounds.joined; lines = r.rounds.rest } };
-}
-
-fn id_of(decl: &Decl) -> u8
-    ensures { result ≡ id_of decl.now }
-{
-    match *decl {
-        Decl::Array { id, .. } | Decl::Tree { id } => id,
-    }
 }
 
 fn is_declared(decls: &[Decl], id: u8) -> bool
@@ -61,12 +54,13 @@ impl Reader {
     ghost use Rattle.std.specs.Prelude.{[], ◌∷◌, true, false};
     ghost use Rattle.script_grammar.specs.Reading.{no_parts, begins_keeper, is_fresh, may_declare, may_run, with_decl, with_line, with_join, with_some_line, step, script_from, Reads, FindsOrTells};
     ghost use Rattle.script_grammar.specs.Faults.{place_after, kind_of, fault_or};
+    ghost use Rattle.script_grammar.specs.Front.{MayReadFirst};
 
     pub(crate) fn new(alloc: Global) -> Self
         ensures { result ≡ no_parts }
     {
         Reader {
-            decls: Decls::new(alloc),
+            decls: Storages::new(alloc),
             rounds: Rounds::new(alloc),
             ops: LineOps::new(),
         }
@@ -142,6 +136,17 @@ impl Reader {
         }
         self.rounds.push(worker, self.ops.as_slice())?;
         Ok(())
+    }
+
+    /// Reads the first of the lines, if it is plainly one of a worker by the rules, and answers where its newline
+    /// stands. Else, and after want of memory, nothing was read.
+    pub(crate) fn take_front(&mut self, bytes: &[u8]) -> Result<Option<usize>, Memory>
+        ensures { MayReadFirst result bytes.now self.old self.new }
+    {
+        if self.rounds.rest_len() >= MOST_LINES {
+            return Ok(None);
+        }
+        self.rounds.take(bytes, &self.decls)
     }
 
     /// A join ends the round.
@@ -235,6 +240,6 @@ impl Reader {
             ops: _,
         } = self;
         rounds.finish()?;
-        Ok(Script::new(decls, rounds))
+        Ok(Script::new(decls.into_decls(), rounds))
     }
 }

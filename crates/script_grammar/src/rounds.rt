@@ -2,9 +2,11 @@
 ghost use Rattle.std.specs.Prelude.{◌≡◌, ◌<◌, ◌≤◌, [], ◌∷◌, ◌++◌, length, slice_get, option_map, Some, OnOk, OnErr};
 ghost use Rattle.script_grammar.specs.Script.{Keeper, Worker, keeper_line_of, last_round, worker_of};
 ghost use Rattle.script_grammar.specs.Lines.{line_lent};
+ghost use Rattle.script_grammar.specs.Front.{MayTakeLine};
 
 use crate::flat_ops::LineOps;
 use crate::lines::{KeeperLine, Line, Lines};
+use crate::storages::Storages;
 use lists::{Memory, Sequence};
 use serial_model::Op;
 use std::alloc::Global;
@@ -88,6 +90,19 @@ impl Rounds {
         ensures memory { OnErr result (self.new ≡ self.old) }
     {
         self.lines.push(worker, ops)
+    }
+
+    /// One more is the worker's line that stands at the front of the bytes, up to a newline; answers where that stands.
+    /// Else, and after want of memory, all is as it was.
+    pub(crate) fn take(
+        &mut self,
+        bytes: &[u8],
+        storages: &Storages,
+    ) -> Result<Option<usize>, Memory>
+        ensures line { MayTakeLine result bytes.now storages.now self.old.rest self.new.rest }
+        ensures joined { self.new.joined ≡ self.old.joined }
+    {
+        self.lines.take(bytes, storages)
     }
 
     /// One line of the maintenance thread more. After want of memory all is as it was.

@@ -58,3 +58,6 @@ pub mod StopsNow
 pub mod Stories
 pub mod Swapping
 mod Powers
+mod Apart
+mod NothingRun
+mod WhoseLines

@@ -1,21 +1,18 @@
 -- Loops over lines and over the ends of logs.
-use Rattle.std.proofs.Common.{◌≡◌, ◌≢◌, ◌∙◌, ◌≤◌, ◌<◌, ◌+◌, ◌++◌, ◌∷◌, sym, ap, refl, ℕ, zero, suc, List, [], length}
-use Rattle.std.proofs.Common.{subst, take, drop, Bool, true, false, cond, not, Option, Some, None, arith, eqb, eq-eqb, length-append}
-use Rattle.std.specs.Prelude.{is_some, slice_get}
-use Rattle.std.specs.List.{AllByRecursion, cons_option, filter_map}
+use Rattle.std.proofs.Common.{◌≡◌, ◌≢◌, ◌∙◌, ◌≤◌, ◌+◌, ◌++◌, ◌∷◌, sym, ap, refl, ℕ, zero, suc, List, [], length}
+use Rattle.std.proofs.Common.{subst, take, drop, Bool, Option, Some, None, arith, length-append}
+use Rattle.std.specs.Prelude.{slice_get}
+use Rattle.std.specs.List.{AllByRecursion, filter_map}
 use Rattle.std.specs.Option.{option_map}
 use Rattle.std.proofs.lemmas.Bool.{ne_eqb}
 use Rattle.std.proofs.lemmas.List.{append-nil, take-append-drop}
 use Rattle.std.proofs.lemmas.List.Elements.{filter_map-append}
 use Rattle.lists.specs.Each.{all_at}
 use Rattle.serial_model.specs.declared.decl.Decl.{Decl}
-use Rattle.serial_model.specs.declared.op.Op.{Op}
 use Rattle.script_grammar.specs.Script.{IsAsked, Line, Worker, Keeper, keeper_line_of, worker_of}
 use Rattle.script_grammar.specs.declared.lines.KeeperLine.{KeeperLine}
 use Rattle.tx_script.specs.Run.{CanRunLine}
-use Rattle.round_engine.specs.Workers.{is_busy}
 use Rattle.round_engine.proofs.Fronts.{ops_of, take_line, ops_of-append}
-use Rattle.round_engine.proofs.Places.{item_at}
 
 -- ---- lines
 
@@ -55,30 +52,6 @@ keeper_one lines i is = let at = line_there lines i None is in
     ∙ length-append (filter_map keeper_line_of (take i lines)) (filter_map keeper_line_of (at.0 ∷ []))
     ∙ ap (λ n. length (filter_map keeper_line_of (take i lines)) + n) (is_keeper at.0 at.2)
 
--- an index with nothing at it, told by a test
-pub nobody : (o : Option ℕ) (b : Bool) → is_some o ≡ not b → b ≡ true → o ≡ None
-nobody None b is test = refl
-nobody (Some x) b is test = absurd (let no = is ∙ ap not test in cc)
-
-pub somebody : (o : Option ℕ) (b : Bool) → is_some o ≡ not b → b ≡ false → (x : ℕ) × (o ≡ Some x)
-somebody None b is test = absurd (let no = is ∙ ap not test in cc)
-somebody (Some x) b is test = (x, refl)
-
-pub keeper_counted : (lines : List Line) (i count : ℕ) (o : Option ℕ) (b : Bool)
-    → option_map worker_of (slice_get lines i) ≡ Some o → is_some o ≡ not b → b ≡ true
-    → count ≡ length (filter_map keeper_line_of (take i lines))
-    → count + 1 ≡ length (filter_map keeper_line_of (take (i + 1) lines))
-keeper_counted lines i count o b at is test so =
-    ap (λ n. n + 1) so ∙ sym (keeper_one lines i (at ∙ ap Some (nobody o b is test)))
-
-pub keeper_passed : (lines : List Line) (i count : ℕ) (o : Option ℕ) (b : Bool)
-    → option_map worker_of (slice_get lines i) ≡ Some o → is_some o ≡ not b → b ≡ false
-    → count ≡ length (filter_map keeper_line_of (take i lines))
-    → count ≡ length (filter_map keeper_line_of (take (i + 1) lines))
-keeper_passed lines i count o b at is test so =
-    let one = somebody o b is test in
-    so ∙ sym (ap length (keeper_none lines i one.0 (at ∙ ap Some one.1)))
-
 pub not_his : (line : Line) (worker : ℕ) → worker_of line ≢ Some worker → ops_of worker (line ∷ []) ≡ []
 not_his (Worker other ops) worker apart = rw (ne_eqb other worker (λ same. apart (ap Some same))) refl
 not_his (Keeper line) worker apart = refl
@@ -90,29 +63,6 @@ other_worker lines i worker o is apart = let at = line_there lines i o is in
     ap (ops_of worker) (take_line lines i at.0 at.1) ∙ ops_of-append worker (take i lines) (at.0 ∷ [])
     ∙ ap (λ l. ops_of worker (take i lines) ++ l) (not_his at.0 worker (λ his. apart (sym at.2 ∙ his)))
     ∙ append-nil (ops_of worker (take i lines))
-
-pub other_line : (lines : List Line) (i worker : ℕ) → i < length lines
-    → (option_map worker_of (slice_get lines i) ≡ Some (Some worker) → ⊥)
-    → ops_of worker (take (i + 1) lines) ≡ ops_of worker (take i lines)
-other_line lines i worker within apart =
-    let line = item_at lines i within in
-    let at = ap (option_map worker_of) line.1 in
-    other_worker lines i worker (worker_of line.0) at (λ his. apart (at ∙ ap Some his))
-
-pub busy_more : (mine : Bool) (ops : List Op) (rest : List (List Op)) → is_busy rest ≡ true
-    → is_busy (cons_option (cond mine (Some ops) None) rest) ≡ true
-busy_more true ops rest busy = refl
-busy_more false ops rest busy = busy
-
--- a worker with a line is busy
-pub busy_at : (lines : List Line) (i worker : ℕ) → option_map worker_of (slice_get lines i) ≡ Some (Some worker)
-    → is_busy (ops_of worker lines) ≡ true
-busy_at [] i worker is = absurd cc
-busy_at (Worker other ops ∷ lines) zero worker is =
-    let same : other ≡ worker = cc in rw (eq-eqb other worker same) refl
-busy_at (Keeper line ∷ lines) zero worker is = absurd cc
-busy_at (Worker other ops ∷ lines) (suc i) worker is = busy_more (eqb other worker) ops (ops_of worker lines) (busy_at lines i worker is)
-busy_at (Keeper line ∷ lines) (suc i) worker is = busy_at lines i worker is
 
 -- ---- what the maintenance thread is asked
 

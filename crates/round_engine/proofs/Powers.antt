@@ -1,6 +1,6 @@
 -- What an engine's standing tells of what runs its lines, and of lists that are lent to it.
 use Rattle.std.proofs.Common.{◌≡◌, ◌∙◌, ◌+◌, ap, arith, sym, subst, Bool, false, length, List, ℕ, Option}
-use Rattle.std.specs.Prelude.{◌==◌, true, Result, Ok, Err, IfOk}
+use Rattle.std.specs.Prelude.{◌==◌, true, Result, Ok, Err, IfErr, IfOk}
 use Rattle.std.proofs.lemmas.Bool.{false≢true}
 use Rattle.std.proofs.lemmas.Bool.Decides.{nat_tests}
 use Rattle.std.proofs.lemmas.List.Folds.{list_any_at}
@@ -16,7 +16,7 @@ use Rattle.shared_rounds.specs.SharedState.{SharedState}
 use Rattle.shared_rounds.specs.Standing.{Standing}
 use Rattle.shared_rounds.specs.declared.ends.WorkersRan.{WorkersRan}
 use Rattle.round_engine.specs.Plainly.{DrewOnce}
-use Rattle.round_engine.specs.Powers.{standing_of}
+use Rattle.round_engine.specs.Powers.{SharesWords, standing_of}
 use Rattle.round_engine.specs.declared.engine.Power.{Power}
 use Rattle.round_engine.specs.declared.engine.Power.TheVariants.{Plain, Shared}
 
@@ -54,8 +54,13 @@ no_tree decls none has =
     let some = list_any_at (is_tree_of has.0) decls has.1.0 (Tree has.0) has.1.1 (ap (is_tree_of has.0) has.1.2 ∙ same) in
     false≢true (sym (none has.0) ∙ some)
 
+-- what follows of what holds where lines were run
+pub ok_then : {P Q : Type 0} → (P → Q) → (result : Result WorkersRan Memory) → IfOk result (λ ran. P) → IfOk result (λ ran. Q)
+ok_then so (Ok ran) is = so is
+ok_then so (Err memory) is = tt
+
 -- nothing is said of an engine without a tree
-pub shared_once : (s t : Standing) (result : Result WorkersRan Memory) → (HasTree s.decls → ⊥)
+pub shared_once : (s t : Standing) (result : Result WorkersRan Memory) → IfOk result (λ ran. HasTree s.decls → ⊥)
     → IfOk result (λ ran. HasTree s.decls → DrewOnce s t ran.outcomes)
 shared_once s t (Ok ran) none = λ has. absurd (none has)
 shared_once s t (Err memory) none = tt
@@ -76,3 +81,15 @@ module _ {D : Type 0} {tells : D → Option (List ℕ)} {clock : D → ℕ} {ima
       → length banks ≡ length banks_was
   files_stay (Ok ran) is = is.come.over.banks_length
   files_stay (Err memory) is = is.come.over.banks_length
+
+-- the plain map is apart from words
+pub plain_apart : (s : Standing) (Unrun : Type 0) (result : Result WorkersRan Memory) → (SharesWords s → ⊥)
+    → IfErr result (λ memory. SharesWords s → Unrun)
+plain_apart s Unrun (Ok ran) apart = tt
+plain_apart s Unrun (Err memory) apart = λ shares. absurd (apart shares)
+
+-- and where lines run on words wanted memory no room was made for them
+pub shared_enough : (s : Standing) (Made : Type 0) (result : Result WorkersRan Memory) → IfErr result (λ memory. Made)
+    → IfErr result (λ memory. SharesWords s → Made)
+shared_enough s Made (Ok ran) made = tt
+shared_enough s Made (Err memory) made = λ shares. made

@@ -31,7 +31,8 @@ use Rattle.round_engine.specs.Crashes.{CarriesCrashes}
 use Rattle.round_engine.specs.Ends.{comes_to_advance, comes_to_save, durable_of, end_of, epoch_joined, swaps, where_true}
 use Rattle.round_engine.specs.Gleans.{RoundGleans}
 use Rattle.round_engine.specs.Keeping.{IsSavedBySeen, Keeps, keeper_on}
-use Rattle.round_engine.specs.Phases.{RoomAlone, RunsAll}
+use Rattle.round_engine.specs.Phases.{RunsAll}
+use Rattle.round_engine.specs.Unbegun.{RoomAlone}
 use Rattle.round_engine.specs.RanRound.{AreRoundMarks, LeavesVault, Rounds, SwapsFiles}
 use Rattle.round_engine.specs.Saves.{AreSaved, saves_told}
 use Rattle.round_engine.specs.Shares.{Share, logged_in}

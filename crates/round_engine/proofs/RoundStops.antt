@@ -405,7 +405,7 @@ module _ {D : Type 0} {tells : D → Option (List ℕ)} {clock : D → ℕ} {ima
   unfolding files
   stopped reads memory =
       let made = left reads in
-      let run = λ (index : ℕ). shares_run front ran runs of index mid.stands.state refl in (
+      let run = λ (index : ℕ). shares_run front ran runs of index mid.stands.state refl in inr (
         record {
           front = front;
           first = record {

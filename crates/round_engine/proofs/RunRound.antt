@@ -15,7 +15,8 @@ use Rattle.worker_logs.specs.declared.savepoints.Side.{Side}
 use Rattle.worker_logs.specs.declared.savepoints.Side.TheVariants.{Even, Odd}
 use Rattle.worker_logs.specs.Rows.{AreLogsUp}
 use Rattle.round_engine.specs.Keeping.{CanKeep, RunsKeeper}
-use Rattle.round_engine.specs.Phases.{IsReadyToJoin, RoomAlone, RunsSome}
+use Rattle.round_engine.specs.Phases.{IsReadyToJoin, RunsSome}
+use Rattle.round_engine.specs.Unbegun.{RoomAlone}
 use Rattle.round_engine.specs.Refusals.{device_in, device_refused, first_failed, leaves_out}
 use Rattle.round_engine.specs.Saves.{beside_at_end}
 use Rattle.round_engine.specs.Shares.{Share}

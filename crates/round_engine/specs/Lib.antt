@@ -22,3 +22,5 @@ pub mod Keeping
 pub mod Refusals
 pub mod Phases
 pub mod Powers
+pub mod Unbegun
+pub mod Owners

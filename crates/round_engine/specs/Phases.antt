@@ -19,6 +19,7 @@ use Rattle.round_engine.specs.Refusals.{device_refused, end_told, first_full, le
 use Rattle.round_engine.specs.Sides.{growing_in, SameButGrowing}
 use Rattle.round_engine.specs.Standing.{AreClosed, HasSnapshot, RuntimeState}
 use Rattle.round_engine.specs.Swaps.{SwapsAt}
+use Rattle.round_engine.specs.Unbegun.{RoomAlone}
 use Rattle.round_engine.specs.Workers.{RunsWorkers, StopsWorkers}
 use Rattle.round_engine.specs.declared.report.End.{End}
 use Rattle.round_engine.specs.declared.report.Report.{Report}
@@ -41,15 +42,6 @@ refused_by (Err end) = Some end
 abbrev pub fails_device : Option End → Bool
 fails_device None = false
 fails_device (Some end) = names_device end
-
--- the devices are as they were, and so is what was recorded of them
-pub record RoomAlone {D : Type 0} (old new : Vault D) : Type 0 where
-  pub save : new.save ≡ old.save
-  pub snaps : new.snaps ≡ old.snaps
-  pub even : new.even ≡ old.even
-  pub odd : new.odd ≡ old.odd
-  pub ties : new.ties.items ≡ old.ties.items
-  pub cuts : new.cuts.items ≡ old.cuts.items
 
 -- The swap stands behind a save that was made.
 abbrev pub SwapsBehind : {D : Type 0} → (D → Option (List ℕ)) → (D → ℕ) → (D → ℕ → List ℕ → Type 0) → (D → ℕ)

@@ -1,6 +1,7 @@
 -- What the workers' lines are run on, as a standing.
-use Rattle.std.specs.Prelude.{Bool}
+use Rattle.std.specs.Prelude.{◌≡◌, Bool, true}
 use Rattle.shared_rounds.specs.Lines.{standing}
+use Rattle.shared_rounds.specs.SharedState.{are_arrays}
 use Rattle.shared_rounds.specs.Standing.{Standing}
 use Rattle.round_engine.specs.declared.engine.Power.{Power}
 use Rattle.round_engine.specs.declared.engine.Power.TheVariants.{Plain, Shared}
@@ -9,3 +10,8 @@ use Rattle.round_engine.specs.declared.engine.Power.TheVariants.{Plain, Shared}
 abbrev pub standing_of : Power → Bool → Standing
 standing_of (Plain engine) ended = record engine { ended = ended }
 standing_of (Shared engine) ended = standing ended engine
+
+-- All storages are arrays, and each key that has a value is one of theirs: then lines are run on words that threads
+-- share.
+abbrev pub SharesWords : Standing → Type 0
+SharesWords s = are_arrays s.decls s.state ≡ true

@@ -46,6 +46,7 @@ use Rattle.round_engine.specs.Sides.{closed_numbers, other_side}
 use Rattle.round_engine.specs.Shares.{all_conflicts}
 use Rattle.round_engine.specs.Standing.{beside_of, files_of, RuntimeState, StandsOn}
 use Rattle.round_engine.specs.Swaps.{CutsBanks, behind_swap, since_swap}
+use Rattle.round_engine.specs.Unbegun.{IsUnbegun}
 use Rattle.round_engine.specs.declared.report.Report.{Report}
 
 -- ---- what was run
@@ -260,11 +261,13 @@ pub record StopsIn (tries : ℕ) (round : Round) (old new : RuntimeState) : Type
 
 module _ {D : Type 0} (tells : D → Option (List ℕ)) (clock : D → ℕ) (image_at : D → ℕ → List ℕ → Type 0)
     (faults : D → ℕ) where
-  -- A round was run, or stopped for want of memory, over the vault; and what was known of crashes is known still.
+  -- A round was run, or stopped for want of memory, over the vault; and what was known of crashes is known still. Or
+  -- memory was wanted before anything was done.
   abbrev pub Rounds : ℕ → Round → RuntimeState → RuntimeState → Vault D → Vault D → Result Report Memory → Type 0
   Rounds tries round old new before now (Ok report) = (r : RanRound tries round old new report)
       × (v : LeavesVault tells clock image_at faults r.ran r.logged old new before now)
       × CarriesCrashes tells clock image_at r.logged (v.stored ++ option_to_list v.failed) r.ran old new before now
-  Rounds tries round old new before now (Err memory) = (r : StopsIn tries round old new)
+  Rounds tries round old new before now (Err memory) = IsUnbegun old new before now
+      ⊎ ((r : StopsIn tries round old new)
       × (v : LeavesVault tells clock image_at faults r.ran r.logged old new before now)
-      × CarriesCrashes tells clock image_at r.logged (v.stored ++ option_to_list v.failed) r.ran old new before now
+      × CarriesCrashes tells clock image_at r.logged (v.stored ++ option_to_list v.failed) r.ran old new before now)

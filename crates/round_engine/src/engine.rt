@@ -1,19 +1,22 @@
 // What the workers' lines are run on: a map, one line after another, or words that threads share.
-ghost use Rattle.std.specs.Prelude.{◌≡◌, ◌+◌, ◌<◌, ◌≤◌, [], IfOk, IfSome, false, length};
+ghost use Rattle.std.specs.Prelude.{◌≡◌, ◌+◌, ◌<◌, ◌≤◌, [], Bool, IfErr, IfOk, IfSome, IsSome, None, false, length};
 ghost use Rattle.std.specs.List.{AllByRecursion};
 ghost use Rattle.serial_model.specs.Decls.{AreDecls};
 ghost use Rattle.serial_model.specs.Numbers.{IsNumber, last_epoch};
 ghost use Rattle.tx_script.specs.Draws.{HasTree};
 ghost use Rattle.tx_script.specs.Run.{CanRun};
 ghost use Rattle.worker_logs.specs.Rows.{AreLogsUp};
-ghost use Rattle.shared_rounds.specs.Lines.{LinesCome};
+ghost use Rattle.shared_rounds.specs.Lines.{LinesCome, standing};
+ghost use Rattle.shared_rounds.specs.Rooms.{IsRoomOf};
 ghost use Rattle.round_engine.specs.Plainly.{DrewOnce};
-ghost use Rattle.round_engine.specs.Powers.{standing_of};
+ghost use Rattle.round_engine.specs.Powers.{SharesWords, standing_of};
+ghost use Rattle.brief_output.specs.Brief.{total_of};
 
 use crate::workers::run_workers;
+use brief_output::total_of;
 use outside::{Disk, Gate};
 use serial_model::{Decl, Decls, Memory, Number, Plain, State};
-use shared_rounds::{SharedEngine, WorkersRan, are_arrays};
+use shared_rounds::{Rooms, SharedEngine, WorkersRan, are_arrays, make_rooms};
 use std::alloc::Global;
 use std::marker::Model;
 use std::thread::Threads;
@@ -31,11 +34,12 @@ pub(crate) struct PlainEngine {
 
 impl Model for PlainEngine {
     ghost use Rattle.shared_rounds.specs.Standing.{Standing};
-    ghost use Rattle.std.specs.Prelude.{false};
+    ghost use Rattle.std.specs.Prelude.{◌≡◌, false};
     ghost use Rattle.std.specs.Coded.{codes, coded_ℕ};
     ghost use Rattle.std.specs.FinMap as finite;
     ghost use Rattle.serial_model.specs.Keys.{coded_key, key_cmp};
     ghost use Rattle.serial_model.specs.Numbers.{IsNumber};
+    ghost use Rattle.shared_rounds.specs.SharedState.{are_arrays};
 
     ghost Value = { Standing };
 
@@ -49,7 +53,8 @@ impl Model for PlainEngine {
       ended = false;
     } };
 
-    ghost invariant = { λ e. IsNumber e.clock };
+    // Where words that threads share can have the contents, they do.
+    ghost invariant = { λ e. IsNumber e.clock × (are_arrays e.plain.decls e.plain.state ≡ false) };
 }
 
 impl PlainEngine {
@@ -57,6 +62,7 @@ impl PlainEngine {
         ensures value { result ≡ self.now.clock }
         ensures number { IsNumber result }
         ensures goes_on { self.now.ended ≡ false }
+        ensures apart { SharesWords self.now → ⊥ }
     {
         self.clock
     }
@@ -75,18 +81,19 @@ impl PlainEngine {
         self.plain.decls.as_slice()
     }
 
-    fn state(&self) -> &State
-        ensures { result.now ≡ self.now.state }
+    fn total(&self) -> u128
+        ensures { result ≡ total_of self.now.state }
     {
-        &self.plain.state
+        total_of(&self.plain.state)
     }
 
-    // Runs all workers' lines. None needs a second try.
-    fn run_all<D: Disk, G: Gate>(
+    // Runs all workers' lines. None needs a second try, and none takes room that was made for lines on words.
+    fn run_all<D: Disk + Drop, G: Gate>(
         &mut self,
         alloc: Global,
         logs: &mut Vec<WorkerLog>,
         growing: &mut Vec<D>,
+        rooms: Option<Rooms<D>>,
         round: &Round<'_>,
         tries: u32,
         gate: &G,
@@ -100,9 +107,11 @@ impl PlainEngine {
         ensures runs { LinesCome D.tells D.clock D.image_at D.faults tries round.now self.old self.new
             logs.old.items logs.new.items growing.old.items growing.new.items result }
         ensures once { IfOk result (λ ran. DrewOnce self.old self.new ran.outcomes) }
+        ensures apart { SharesWords self.old → ⊥ }
         ensures before { self.old.ended ≡ false }
         ensures after { self.new.ended ≡ false }
     {
+        drop(rooms);
         let _ = tries;
         let _ = self.clock();
         let ran = run_workers(alloc, self, logs, growing, round, gate);
@@ -193,13 +202,14 @@ impl Engine {
         }
     }
 
-    /// What stands at each key, where it lies in a map.
-    pub(crate) fn state(&self) -> Option<&State>
-        ensures { IfSome result (λ state. state.now ≡ self.now.state) }
+    /// The sum of all values.
+    pub(crate) fn total(&mut self) -> u128
+        ensures value { result ≡ total_of self.old.state }
+        ensures alone { self.new ≡ self.old }
     {
-        match &self.power {
-            Power::Plain(engine) => Some(engine.state()),
-            Power::Shared(_) => None,
+        match &mut self.power {
+            Power::Plain(engine) => engine.total(),
+            Power::Shared(engine) => engine.total(),
         }
     }
 
@@ -216,13 +226,32 @@ impl Engine {
         self.ended = ended;
     }
 
-    /// Runs all workers' lines, each of them so often at most, over their logs and log files.
+    /// All room that the workers' lines of a round take, where words that threads share run them. Lines on the map make
+    /// theirs as they are run.
+    pub(crate) fn make_rooms<D: Disk + Drop>(
+        &self,
+        alloc: Global,
+        round: &Round<'_>,
+    ) -> Result<Option<Rooms<D>>, Memory>
+        requires { length round.now.lines ≤ 65536 }
+        ensures room { IfOk result (λ rooms. IfSome rooms (IsRoomOf round.now)) }
+        ensures made { IfOk result (λ rooms. SharesWords self.now → IsSome rooms) }
+    {
+        match &self.power {
+            Power::Plain(engine) => Ok(no_rooms(engine)),
+            Power::Shared(_) => Ok(Some(make_rooms(alloc, round)?)),
+        }
+    }
+
+    /// Runs all workers' lines, each of them so often at most, over their logs and log files. In room that was made for
+    /// them they want no memory.
     pub(crate) fn run_workers<R: Threads + Sync, D: Disk + Send + Drop, G: Gate + Sync>(
         &mut self,
         rt: &R,
         alloc: Global,
         logs: &mut Vec<WorkerLog>,
         growing: &mut Vec<D>,
+        rooms: Option<Rooms<D>>,
         round: &Round<'_>,
         tries: u32,
         gate: &G,
@@ -234,17 +263,64 @@ impl Engine {
         requires growing { length growing.old.items ≡ 8 }
         requires up { AreLogsUp D.tells logs.old.items growing.old.items }
         requires flushed { AllByRecursion (λ log. log.journal.lines ≡ []) logs.old.items }
+        requires room { IfSome rooms (IsRoomOf round.now) }
         ensures runs { LinesCome D.tells D.clock D.image_at D.faults tries round.now self.old self.new
             logs.old.items logs.new.items growing.old.items growing.new.items result }
         ensures once { IfOk result (λ ran. HasTree self.old.decls → DrewOnce self.old self.new ran.outcomes) }
+        ensures enough { IfErr result (λ memory. SharesWords self.old → IsSome rooms → ⊥) }
     {
         match &mut self.power {
-            Power::Plain(engine) => engine.run_all(alloc, logs, growing, round, tries, gate),
-            Power::Shared(engine) => shared_rounds::run_workers(
-                rt, alloc, engine, logs, growing, round, tries, gate,
-            ),
+            Power::Plain(engine) => {
+                engine.run_all(alloc, logs, growing, rooms, round, tries, gate)
+            }
+            Power::Shared(engine) => {
+                run_shared(rt, alloc, engine, logs, growing, rooms, round, tries, gate)
+            }
         }
     }
+}
+
+// Lines on the map have no room made for them.
+fn no_rooms<D: Disk + Drop>(engine: &PlainEngine) -> Option<Rooms<D>>
+    ensures none { result ≡ None }
+    ensures apart { SharesWords engine.now → ⊥ }
+{
+    // Called for what it promises of the contents: words that threads share couldn't have them.
+    let _ = engine.clock();
+    None
+}
+
+// Runs all workers' lines on words that threads share, in this room, or else in room that is made first.
+fn run_shared<R: Threads + Sync, D: Disk + Send + Drop, G: Gate + Sync>(
+    rt: &R,
+    alloc: Global,
+    engine: &mut SharedEngine,
+    logs: &mut Vec<WorkerLog>,
+    growing: &mut Vec<D>,
+    rooms: Option<Rooms<D>>,
+    round: &Round<'_>,
+    tries: u32,
+    gate: &G,
+) -> Result<WorkersRan, Memory>
+    requires lines { CanRun engine.old.decls round.now }
+    requires some_try { 1 ≤ tries }
+    requires logs { length logs.old.items ≡ 8 }
+    requires growing { length growing.old.items ≡ 8 }
+    requires up { AreLogsUp D.tells logs.old.items growing.old.items }
+    requires flushed { AllByRecursion (λ log. log.journal.lines ≡ []) logs.old.items }
+    requires room { IfSome rooms (IsRoomOf round.now) }
+    ensures runs { (ended : Bool) → LinesCome D.tells D.clock D.image_at D.faults tries round.now
+        (standing ended engine.old) (standing ended engine.new)
+        logs.old.items logs.new.items growing.old.items growing.new.items result }
+    ensures arrays { IfOk result (λ ran. HasTree engine.old.decls → ⊥) }
+    ensures enough { IfErr result (λ memory. IsSome rooms → ⊥) }
+{
+    let rooms = match rooms {
+        Some(rooms) => rooms,
+        None => make_rooms(alloc, round)?,
+    };
+    let ran = shared_rounds::run_workers(rt, engine, logs, growing, rooms, round, tries, gate);
+    Ok(ran)
 }
 
 // What runs lines on these storages.

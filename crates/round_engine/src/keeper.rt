@@ -1,7 +1,6 @@
 // The lines of the maintenance thread in a round.
-ghost use Rattle.std.specs.Prelude.{◌≡◌, ◌≤◌, ◌<◌, ◌+◌, ◌||◌, [], None, Some, length, option_map};
-ghost use Rattle.std.specs.Prelude.{slice_get, vec_capacity, vec_len};
-ghost use Rattle.script_grammar.specs.Script.{IsAsked, keeper_line_of, keeper_lines};
+ghost use Rattle.std.specs.Prelude.{◌≡◌, ◌≤◌, ◌<◌, ◌+◌, ◌||◌, [], None, length, vec_capacity, vec_len};
+ghost use Rattle.script_grammar.specs.Script.{IsAsked, keeper_lines};
 ghost use Rattle.tx_script.specs.Run.{CanRun};
 ghost use Rattle.worker_logs.specs.Saves.{SavesMarks, logs_marks};
 ghost use Rattle.round_engine.specs.Ends.{save_limited};
@@ -16,25 +15,11 @@ use lists::OrMemory;
 use log_writer::SaveFault;
 use outside::{Device, Disk, Gate, Vault};
 use std::alloc::Global;
-use tx_script::{Answer, KeeperLine, Line, LineOps, Round};
+use tx_script::{Answer, KeeperLine, Round};
 use worker_logs::{Beside, save_marks};
 
 /// The maintenance thread, as a gate is told of it.
 const KEEPER: u8 = 255;
-
-/// How many lines of the round are the maintenance thread's.
-pub(crate) fn keeper_count(round: &Round<'_>) -> usize
-    ensures lines { result ≡ length (keeper_lines round.now) }
-    ensures few { result ≤ length round.now.lines }
-{
-    let mut count = 0;
-    for index in 0..round.len() {
-        if round.worker(index).is_none() {
-            count += 1;
-        }
-    }
-    count
-}
 
 /// What the maintenance thread's lines were refused.
 #[derive(Clone, Copy)]
@@ -63,14 +48,17 @@ pub(crate) fn run_keeper<D: Disk, G: Gate>(
         result.refusal runtime.old runtime.new vault.old vault.new }
     ensures limited { result.limited ≡ save_limited (keeper_lines round.now) answers.new.items }
 {
-    let mut line_ops = LineOps::new();
-    let mut count = 0;
     let mut end = KeeperEnd {
         refusal: None,
         limited: false,
     };
+    // Where there is no room for an answer, no line is the maintenance thread's.
+    if answers.capacity() == 0 {
+        return end;
+    }
+    let mut count = 0;
     for index in 0..round.len() {
-        if let Some(line) = keeper_line(round, index, &mut line_ops) {
+        if let Some(line) = round.keeper(index) {
             let answer = answer_line(alloc, runtime, vault, gate, line, count, &mut end);
             answers.push_reserved(answer);
             count += 1;
@@ -114,20 +102,6 @@ fn met_limit(line: KeeperLine, answer: Answer) -> bool
     match line {
         KeeperLine::Save => matches!(answer, Answer::Limit),
         KeeperLine::Epoch | KeeperLine::Glean | KeeperLine::Drop => false,
-    }
-}
-
-// What the line asks for, where it is the maintenance thread's.
-fn keeper_line(round: &Round<'_>, index: usize, line_ops: &mut LineOps) -> Option<KeeperLine>
-    requires { index < length round.now.lines }
-    ensures { option_map keeper_line_of (slice_get round.now.lines index) ≡ Some result }
-{
-    if round.worker(index).is_some() {
-        return None;
-    }
-    match round.line(index, line_ops) {
-        Line::Keeper(line) => Some(line),
-        Line::Worker { .. } => None,
     }
 }
 

@@ -1,9 +1,9 @@
 // One round over a vault.
-ghost use Rattle.std.specs.Prelude.{◌≡◌, ◌≤◌, ◌<◌, ◌+◌, ℕ, List, [], false, IfOk, OnOk, flat_map, is_some};
-ghost use Rattle.std.specs.Prelude.{Some, length, option_map, slice_get, vec_capacity, vec_len};
+ghost use Rattle.std.specs.Prelude.{◌≡◌, ◌≤◌, ◌<◌, ◌+◌, ℕ, List, [], false, IfErr, IfOk, IfSome, OnOk, is_some};
+ghost use Rattle.std.specs.Prelude.{Bool, IsSome, Some, length, option_map, slice_get, vec_capacity, vec_len};
 ghost use Rattle.std.specs.List.{AllByRecursion, list_any};
 ghost use Rattle.outside.specs.Vault.{IsWhole};
-ghost use Rattle.script_grammar.specs.Script.{lines_of_worker};
+ghost use Rattle.script_grammar.specs.Script.{keeper_lines};
 ghost use Rattle.log_writer.specs.Points.{sequence_of};
 ghost use Rattle.tx_script.specs.Draws.{HasTree};
 ghost use Rattle.tx_script.specs.Run.{CanRun, is_limit};
@@ -11,7 +11,7 @@ ghost use Rattle.worker_logs.specs.Logs.{LogState};
 ghost use Rattle.worker_logs.specs.Rows.{AreLogsUp};
 ghost use Rattle.round_engine.specs.RanRound.{Rounds};
 ghost use Rattle.round_engine.specs.Ends.{device_place, limit_at, where_true};
-ghost use Rattle.round_engine.specs.Phases.{IsReadyToJoin, JoinsAs, RoomAlone, RunsPhases, ended_as, fails_device};
+ghost use Rattle.round_engine.specs.Phases.{IsReadyToJoin, JoinsAs, RunsPhases, ended_as, fails_device};
 ghost use Rattle.round_engine.specs.Refusals.{damage_in as damage_of_end, device_in as device_of_end};
 ghost use Rattle.round_engine.specs.Refusals.{device_refused as device_of, end_told, first_failed as failed_from};
 ghost use Rattle.round_engine.specs.Refusals.{first_full as full_of, first_told as told_first, leaves_out};
@@ -22,18 +22,22 @@ ghost use Rattle.round_engine.specs.Keeping.{CanKeep};
 ghost use Rattle.round_engine.specs.Standing.{StandsOn};
 ghost use Rattle.round_engine.specs.Lines.{LinesCome};
 ghost use Rattle.round_engine.specs.Plainly.{DrewOnce};
-ghost use Rattle.round_engine.specs.Workers.{idled};
+ghost use Rattle.round_engine.specs.Powers.{SharesWords};
+ghost use Rattle.round_engine.specs.Unbegun.{IsUnbegun, RoomAlone};
+ghost use Rattle.shared_rounds.specs.Rooms.{IsRoomOf};
+ghost use Rattle.round_engine.specs.Workers.{idle_if_not};
 ghost use Rattle.round_engine.specs.declared.report.End.TheVariants as ends;
 
 use crate::joins::{join_logs, limit};
-use crate::keeper::{KeeperEnd, keeper_count, run_keeper};
+use crate::keeper::{KeeperEnd, run_keeper};
+use crate::owners::owners_of;
 use crate::runtime::WORKERS;
 use crate::sides::growing_number;
 use crate::workers::idle_without_lines;
 use crate::{End, LimitName, Report, Runtime};
 use outside::{Device, Disk, Gate, Vault};
 use serial_model::Memory;
-use shared_rounds::{LogEnd, WorkersRan};
+use shared_rounds::{LogEnd, Rooms, WorkersRan};
 use std::alloc::Global;
 use std::sync::Wait;
 use std::thread::Threads;
@@ -48,7 +52,10 @@ use worker_logs::Side;
 /// From the line on at which its log is refused a worker runs none. Then, and where the maintenance thread was
 /// refused by a device, by damage or by want of memory, the join is left out, and the run ends.
 ///
-/// After want of memory a front of the round has been run, and no further round is.
+/// All room that may be wanting is made before anything is done; after want of memory then the runtime and the devices
+/// are as they were, and the round may be run again. On arrays alone no line wants any behind that, but those of the
+/// maintenance thread, which answer it. Where a tree is declared a worker's line may want memory, too: then a front of
+/// the round has been run, and no further round is.
 pub fn round<R: Threads + Wait + Sync, D: Disk + Send + Drop, G: Gate + Sync>(
     rt: &R,
     alloc: Global,
@@ -67,10 +74,17 @@ pub fn round<R: Threads + Wait + Sync, D: Disk + Send + Drop, G: Gate + Sync>(
     // the vault is as the saves left it.
     ensures rounds { Rounds D.tells D.clock D.image_at D.faults tries round.now runtime.old runtime.new
         vault.old vault.new result }
+    ensures unbegun { IfErr result (λ memory. SharesWords runtime.old.stands
+        → IsUnbegun runtime.old runtime.new vault.old vault.new) }
 {
     reads_are_images(vault);
-    idle_logs(runtime, round);
-    match run_round(rt, alloc, runtime, vault, round, tries, gate) {
+    let owners = owners_of(round);
+    let rooms = runtime.engine.make_rooms(alloc, round)?;
+    let answers = make_room(alloc, vault, owners.keeper)?;
+    idle_logs(runtime, &owners.busy);
+    match run_round(
+        rt, alloc, runtime, vault, round, rooms, answers, tries, gate,
+    ) {
         Ok(report) => Ok(report),
         Err(Memory) => {
             runtime.end_with(Some(End::Memory), true);
@@ -85,25 +99,28 @@ pub fn reads_are_images<D: Disk>(_vault: &Vault<D>)
     ensures { (disk : D) (file : List ℕ) → D.tells disk ≡ Some file → D.image_at disk (D.clock disk) file }
 {}
 
-// The marks of workers without a line in the round hold no epoch back.
-fn idle_logs(runtime: &mut Runtime, round: &Round<'_>)
+// The marks of workers that aren't busy hold no epoch back.
+fn idle_logs(runtime: &mut Runtime, busy: &[bool])
     requires workers { length runtime.old.logs ≡ 8 }
-    ensures idle { (worker : ℕ) (log : LogState) → slice_get runtime.old.logs worker ≡ Some log
-        → slice_get runtime.new.logs worker ≡ Some (idled (lines_of_worker round.now worker) log) }
+    requires busy { length busy.now ≡ 8 }
+    ensures idle { (worker : ℕ) (log : LogState) (has : Bool) → slice_get runtime.old.logs worker ≡ Some log
+        → slice_get busy.now worker ≡ Some has → slice_get runtime.new.logs worker ≡ Some (idle_if_not has log) }
     ensures length { length runtime.new.logs ≡ length runtime.old.logs }
     ensures alone { runtime.new ≡ record runtime.old { logs = runtime.new.logs } }
 {
-    idle_without_lines(&mut runtime.logs, round);
+    idle_without_lines(&mut runtime.logs, busy);
 }
 
-// Runs and joins a round. All that is recorded of stores and cuts, and all answers, get their room first: behind
-// the lines nothing wants memory.
+// Runs and joins a round, in this room for its lines and its answers, if there is some for the lines. All that is
+// recorded of stores and cuts has its room: behind the workers' lines nothing but a glean wants memory.
 fn run_round<R: Threads + Sync, D: Disk + Send + Drop, G: Gate + Sync>(
     rt: &R,
     alloc: Global,
     runtime: &mut Runtime,
     vault: &mut Vault<D>,
     round: &Round<'_>,
+    rooms: Option<Rooms<D>>,
+    answers: Vec<Answer>,
     tries: u32,
     gate: &G,
 ) -> Result<Report, Memory>
@@ -113,12 +130,17 @@ fn run_round<R: Threads + Sync, D: Disk + Send + Drop, G: Gate + Sync>(
     requires ready { CanKeep D.tells D.clock D.image_at runtime.old vault.old }
     requires logs { AreLogsUp D.tells runtime.old.logs (growing_in runtime.old.side vault.old) }
     requires flushed { AllByRecursion (λ log. log.journal.lines ≡ []) runtime.old.logs }
+    requires room { IfSome rooms (IsRoomOf round.now) }
+    requires none { answers.items ≡ [] }
+    requires answer_room { length (keeper_lines round.now) ≤ vec_capacity answers }
+    requires tie_room { vec_len vault.old.ties + length (keeper_lines round.now) + 1 ≤ vec_capacity vault.old.ties }
+    requires cut_room { vec_len vault.old.cuts + 8 ≤ vec_capacity vault.old.cuts }
     ensures phases { RunsPhases D.tells D.clock D.image_at D.faults tries round.now runtime.old runtime.new
         vault.old vault.new result }
+    ensures enough { IfErr result (λ memory. SharesWords runtime.old.stands → IsSome rooms → ⊥) }
 {
-    let asked = keeper_count(round);
-    let mut answers = make_room(alloc, vault, asked)?;
-    let ran = run_lent(rt, alloc, runtime, vault, round, tries, gate)?;
+    let mut answers = answers;
+    let ran = run_lent(rt, alloc, runtime, vault, round, rooms, tries, gate)?;
     let keeper = run_keeper(alloc, runtime, vault, round, gate, &mut answers);
     let refused = Refused::in_lines(runtime, &ran, keeper);
     let (durable, end) = join(runtime, vault, refused);
@@ -156,6 +178,7 @@ fn run_lent<R: Threads + Sync, D: Disk + Send + Drop, G: Gate + Sync>(
     runtime: &mut Runtime,
     vault: &mut Vault<D>,
     round: &Round<'_>,
+    rooms: Option<Rooms<D>>,
     tries: u32,
     gate: &G,
 ) -> Result<WorkersRan, Memory>
@@ -166,11 +189,13 @@ fn run_lent<R: Threads + Sync, D: Disk + Send + Drop, G: Gate + Sync>(
     requires workers { length runtime.old.logs ≡ 8 }
     requires up { AreLogsUp D.tells runtime.old.logs (growing_in runtime.old.side vault.old) }
     requires flushed { AllByRecursion (λ log. log.journal.lines ≡ []) runtime.old.logs }
+    requires room { IfSome rooms (IsRoomOf round.now) }
     ensures runs { LinesCome D.tells D.clock D.image_at D.faults tries round.now
         runtime.old.stands runtime.new.stands runtime.old.logs runtime.new.logs
         (growing_in runtime.old.side vault.old) (growing_in runtime.old.side vault.new) result }
     ensures once { IfOk result (λ ran. HasTree runtime.old.stands.decls
         → DrewOnce runtime.old.stands runtime.new.stands ran.outcomes) }
+    ensures enough { IfErr result (λ memory. SharesWords runtime.old.stands → IsSome rooms → ⊥) }
     ensures runtime { runtime.new ≡ record runtime.old { stands = runtime.new.stands; logs = runtime.new.logs } }
     ensures vault { SameButGrowing runtime.old.side vault.old vault.new }
 {
@@ -180,6 +205,7 @@ fn run_lent<R: Threads + Sync, D: Disk + Send + Drop, G: Gate + Sync>(
         alloc,
         &mut runtime.logs,
         &mut growing,
+        rooms,
         round,
         tries,
         gate,

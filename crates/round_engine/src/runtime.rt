@@ -1,5 +1,5 @@
 // The engine with its clock, the store of savepoints and the workers' logs.
-ghost use Rattle.std.specs.Prelude.{◌≡◌, ◌≤◌, ℕ, [], Some, None, true, IfOk, IfSome, length, replicate};
+ghost use Rattle.std.specs.Prelude.{◌≡◌, ◌≤◌, ℕ, [], Some, None, true, IfOk, length, replicate};
 ghost use Rattle.std.specs.Option.{option_map};
 ghost use Rattle.outside.specs.Vault.{IsWhole, disk_in};
 ghost use Rattle.outside.specs.declared.vault.Device.TheVariants as devices;
@@ -11,6 +11,7 @@ ghost use Rattle.log_writer.specs.Save.{IsStored};
 ghost use Rattle.snapshot_store.specs.Content.{SnapshotStands, words_of};
 ghost use Rattle.snapshot_store.specs.Store.{Holds};
 ghost use Rattle.tx_script.specs.Run.{clock_after};
+ghost use Rattle.brief_output.specs.Brief.{total_of};
 ghost use Rattle.worker_logs.specs.Logs.{fresh_log};
 ghost use Rattle.worker_logs.specs.Saves.{CountsOf};
 ghost use Rattle.worker_logs.specs.declared.savepoints.Side.TheVariants.{Even};
@@ -22,7 +23,7 @@ use crate::engine::Engine;
 use log_writer::Save;
 use outside::{Disk, Vault};
 use recovery_core::Settled;
-use serial_model::{Config, Memory, State};
+use serial_model::{Config, Memory};
 use snapshot_store::SnapStore;
 use std::alloc::Global;
 use std::marker::Model;
@@ -50,7 +51,7 @@ pub struct Runtime {
     pub(crate) closed_at: u32,
     /// The workers' logs.
     pub(crate) logs: Vec<WorkerLog>,
-    /// Whether a device failed, or memory was wanted in a round.
+    /// Whether a device failed, or memory was wanted within a round.
     pub(crate) down: bool,
 }
 
@@ -119,22 +120,23 @@ impl Runtime {
         begin(alloc, settled, config)
     }
 
-    /// What stands at each key behind the rounds that were run.
-    /// None, where it doesn't lie in a map: then the vault tells it, behind a join.
-    pub fn state(&self) -> Option<&State>
-        ensures { IfSome result (λ state. state.now ≡ self.now.stands.state) }
+    /// The sum of all values behind the rounds that were run. It calls no device.
+    pub fn total(&mut self) -> u128
+        ensures value { result ≡ total_of self.old.stands.state }
+        ensures alone { self.new ≡ self.old }
     {
-        self.engine.state()
+        self.engine.total()
     }
 
-    /// Whether a round or a join ended the run: by a refusal, or for want of memory. Then no further round is run.
+    /// Whether a round or a join ended the run: by a refusal, or for want of memory within it. Then no further
+    /// round is run.
     pub fn has_ended(&self) -> bool
         ensures { result ≡ self.now.stands.ended }
     {
         self.engine.has_ended()
     }
 
-    /// Whether a device failed, or memory was wanted in a round. Then nothing is joined any more.
+    /// Whether a device failed, or memory was wanted within a round. Then nothing is joined any more.
     pub fn is_down(&self) -> bool
         ensures { result ≡ self.now.down }
     {

@@ -1,21 +1,21 @@
 // The workers' lines of a round, each over its log and its log file.
-ghost use Rattle.std.specs.Prelude.{◌≡◌, ◌≢◌, ◌↔◌, ◌⊎◌, ◌*◌, ◌+◌, ◌-◌, ◌<◌, ◌≤◌, [], ◌∷◌, ◌++◌, ℕ, IfOk, IfSome, IsTrue};
-ghost use Rattle.std.specs.Prelude.{OnErr, OnOk, None, Some, true, is_some, length, map, option_map, slice_get};
+ghost use Rattle.std.specs.Prelude.{◌≡◌, ◌≢◌, ◌⊎◌, ◌+◌, ◌-◌, ◌<◌, ◌≤◌, [], ◌∷◌, ◌++◌, ℕ, IfOk, IfSome, IsTrue};
+ghost use Rattle.std.specs.Prelude.{OnErr, OnOk, Bool, None, Some, is_some, length, option_map, slice_get};
 ghost use Rattle.std.specs.List.{AllByRecursion};
 ghost use Rattle.std.specs.Option.{option_copied};
 ghost use Rattle.serial_model.specs.Keys.{fits};
 ghost use Rattle.serial_model.specs.Numbers.{draw_limit};
-ghost use Rattle.script_grammar.specs.Script.{lines_of_worker, ops_of_worker, worker_of};
+ghost use Rattle.script_grammar.specs.Script.{ops_of_worker};
 ghost use Rattle.wire_form.specs.LogLine.{IsLogLine, IsLoggable};
 ghost use Rattle.log_writer.specs.Journal.{Reaches, end_of, free};
 ghost use Rattle.tx_script.specs.Run.{CanRun};
-ghost use Rattle.worker_logs.specs.Logs.{LogState, idle_log};
+ghost use Rattle.worker_logs.specs.Logs.{LogState};
 ghost use Rattle.worker_logs.specs.Rows.{AreLogsUp, IsLogUp, TakesCommit, full_after};
 ghost use Rattle.round_engine.specs.Plainly.{DrewOnce, after_line, outcome_at};
 ghost use Rattle.round_engine.specs.Steps.{Moves, TakesLine};
 ghost use Rattle.round_engine.specs.InTurn.{RunsWorker};
 ghost use Rattle.round_engine.specs.Lines.{LinesCome};
-ghost use Rattle.round_engine.specs.Workers.{idle_if_not, idled, is_busy};
+ghost use Rattle.round_engine.specs.Workers.{idle_if_not};
 
 use crate::engine::PlainEngine;
 use crate::runtime::WORKERS;
@@ -28,16 +28,16 @@ use std::alloc::Global;
 use tx_script::{Line, LineOps, Outcomes, Refused, Round, RoundOutcomes};
 use worker_logs::{WorkerLog, WriteSet};
 
-/// The marks of workers without a line in the round hold no epoch back.
-pub(crate) fn idle_without_lines(logs: &mut [WorkerLog], round: &Round<'_>)
-    requires { length logs.old ≡ 8 }
-    ensures idle { (worker : ℕ) (log : LogState) → slice_get logs.old worker ≡ Some log
-        → slice_get logs.new worker ≡ Some (idled (lines_of_worker round.now worker) log) }
+/// The marks of workers without a line in the round, who aren't busy, hold no epoch back.
+pub(crate) fn idle_without_lines(logs: &mut [WorkerLog], busy: &[bool])
+    requires logs { length logs.old ≡ 8 }
+    requires busy { length busy.now ≡ 8 }
+    ensures idle { (worker : ℕ) (log : LogState) (has : Bool) → slice_get logs.old worker ≡ Some log
+        → slice_get busy.now worker ≡ Some has → slice_get logs.new worker ≡ Some (idle_if_not has log) }
     ensures length { length logs.new ≡ length logs.old }
 {
     for worker in 0..WORKERS {
-        let busy = has_line(round, worker as u8);
-        idle_unless(logs, worker, busy);
+        idle_unless(logs, worker, busy[worker]);
     }
 }
 
@@ -52,29 +52,6 @@ fn idle_unless(logs: &mut [WorkerLog], worker: usize, busy: bool)
 {
     if !busy {
         logs[worker].idle();
-    }
-}
-
-// Whether the worker has a line in the round.
-fn has_line(round: &Round<'_>, worker: u8) -> bool
-    ensures { result ≡ is_busy (lines_of_worker round.now worker) }
-{
-    for index in 0..round.len() {
-        if is_of(round, index, worker) {
-            return true;
-        }
-    }
-    false
-}
-
-// Whether the line of this index is the worker's.
-fn is_of(round: &Round<'_>, index: usize, worker: u8) -> bool
-    requires { index < length round.now.lines }
-    ensures { (result ≡ true) ↔ (option_map worker_of (slice_get round.now.lines index) ≡ Some (Some worker)) }
-{
-    match round.worker(index) {
-        Some(owner) => owner == worker,
-        None => false,
     }
 }
 

@@ -1,24 +1,23 @@
 -- Cells in the other order: from what is lent to threads to the workers one by one.
-use Rattle.std.proofs.Common.{◌≡◌, ◌∙◌, sym, ap, subst, refl, ℕ, suc, zero, ◌+◌, ◌<◌, List, [], ◌∷◌, ◌++◌, length}
+use Rattle.std.proofs.Common.{◌≡◌, ◌∙◌, sym, ap, subst, refl, ℕ, suc, ◌+◌, ◌<◌, List, [], ◌∷◌, ◌++◌, length}
 use Rattle.std.proofs.Common.{arith}
-use Rattle.std.proofs.Common.{Option, Result, Ok, Err}
-use Rattle.std.specs.Prelude.{OnErr, OnOk, ⊤, slice_index_or}
+use Rattle.std.proofs.Common.{Option}
+use Rattle.std.specs.Prelude.{◌≤◌, ⊤, slice_index_or}
 use Rattle.std.specs.List.{AllByRecursion}
-use Rattle.lists.specs.declared.memory.Memory.{Memory}
 use Rattle.script_grammar.specs.Script.{Round, lines_of_worker}
 use Rattle.engine_words.specs.Cuts.{worker_view}
-use Rattle.engine_words.specs.Passes.{IsPassOf, view}
+use Rattle.engine_words.specs.Passes.{view}
 use Rattle.engine_words.specs.declared.engine.Engine.{Engine}
 use Rattle.engine_words.specs.declared.layout.Layout.{Layout}
 use Rattle.engine_words.specs.declared.view.Role.TheVariants.{Worker}
 use Rattle.engine_words.specs.declared.view.View.{View}
-use Rattle.tx_commit.specs.Live.{IsOver}
 use Rattle.tx_runner.specs.Lines.{HasNoTree}
 use Rattle.tx_script.specs.Run.{CanRun}
-use Rattle.worker_cells.specs.Cells.{RunsCell, StopsCell}
+use Rattle.worker_cells.specs.Cells.{RunsCell}
 use Rattle.worker_cells.specs.declared.cell.Cell.{Cell}
 use Rattle.worker_logs.specs.Logs.{LogState}
-use Rattle.shared_rounds.specs.Seated.{AreRan, AreSeated, HasRun, IsRan, IsReady, IsSeated, MayEnd, backward}
+use Rattle.shared_rounds.specs.Rooms.{AreCounts}
+use Rattle.shared_rounds.specs.Seated.{AreRan, AreSeated, HasRun, IsBegun, IsRan, IsReady, IsSeated, MayEnd, backward}
 
 pub backward_push : {X : Type 0} (xs : List X) (x : X) → backward (xs ++ x ∷ []) ≡ x ∷ backward xs
 backward_push [] x = refl
@@ -65,109 +64,98 @@ both_backward R (x ∷ xs) [] both = absurd both
 both_backward R (x ∷ xs) (y ∷ ys) both = both_push R (backward xs) (backward ys) x y
     (both_backward R xs ys both.1) both.0
 
-ok_weaker : (r : Result (Unit {0}) Memory) (P Q : Type 0) → (P → Q) → OnOk r P → OnOk r Q
-ok_weaker (Ok x) P Q so h = so h
-ok_weaker (Err x) P Q so h = tt
-
-err_weaker : (r : Result (Unit {0}) Memory) (P Q : Type 0) → (P → Q) → OnErr r P → OnErr r Q
-err_weaker (Ok x) P Q so h = tt
-err_weaker (Err x) P Q so h = so h
-
-pub either_so : (r : Result (Unit {0}) Memory) (P Q S : Type 0) → OnOk r P → OnErr r Q → (P → S) → (Q → S) → S
-either_so (Ok x) P Q S ok err first next = first ok
-either_so (Err x) P Q S ok err first next = next err
-
 module _ {D : Type 0} (tells : D → Option (List ℕ)) (clock : D → ℕ) (image_at : D → ℕ → List ℕ → Type 0)
     (faults : D → ℕ) where
   -- ---- before the lines
 
-  ready_one : (words : Engine) (was : View) (worker : ℕ) (round : Round) (cell : Cell D) (log : LogState) (bank : D)
-      → CanRun was.layout.decls round → HasNoTree was.layout.decls → IsSeated tells words was worker cell log bank
-      → IsReady tells words round cell
-  ready_one words was worker round cell log bank lines arrays s = record {
+  ready_one : (words : Engine) (was : View) (counts : List ℕ) (worker : ℕ) (round : Round) (cell : Cell D)
+      (log : LogState) (bank : D) → CanRun was.layout.decls round → HasNoTree was.layout.decls
+      → AreCounts round counts → IsSeated tells words was counts worker cell log bank → IsReady tells words round cell
+  ready_one words was counts worker round cell log bank lines arrays counted s = record {
     of = s.of;
     ready = s.ready;
-    role = ap (λ (v : View). v.role) s.seated ∙ ap Worker (sym s.number);
+    role = s.begun.goes.role ∙ ap Worker (sym s.number);
     small = subst (λ n. n < 8) (sym s.number) s.small;
-    lines = subst (λ (l : Layout). CanRun l.decls round) (sym (ap (λ (v : View). v.layout) s.seated)) lines;
-    arrays = subst (λ (l : Layout). HasNoTree l.decls) (sym (ap (λ (v : View). v.layout) s.seated)) arrays;
-    outcomes = s.outcomes;
+    lines = subst (λ (l : Layout). CanRun l.decls round) (sym s.begun.goes.layout) lines;
+    arrays = subst (λ (l : Layout). HasNoTree l.decls) (sym s.begun.goes.layout) arrays;
+    none = s.none;
+    count = s.lines ∙ counted.each worker s.small
+        ∙ ap (λ n. length (lines_of_worker round n)) (sym s.number);
+    room = let many = counted.each worker s.small in
+        subst (λ n. length (lines_of_worker round n) ≤ cell.outcomes.left) (sym s.number)
+        (omega (arith, many, s.room));
   }
 
-  ready_all : (words : Engine) (was : View) (worker : ℕ) (round : Round) (cells : List (Cell D)) (logs : List LogState)
-      (banks : List D) → CanRun was.layout.decls round → HasNoTree was.layout.decls
-      → AreSeated tells words was worker cells logs banks → AllByRecursion (IsReady tells words round) cells
-  ready_all words was worker round [] logs banks lines arrays are = tt
-  ready_all words was worker round (cell ∷ cells) [] banks lines arrays are = absurd are
-  ready_all words was worker round (cell ∷ cells) (log ∷ logs) [] lines arrays are = absurd are
-  ready_all words was worker round (cell ∷ cells) (log ∷ logs) (bank ∷ banks) lines arrays are = (
-    ready_one words was worker round cell log bank lines arrays are.0,
-    ready_all words was (worker + 1) round cells logs banks lines arrays are.1,
+  ready_all : (words : Engine) (was : View) (counts : List ℕ) (worker : ℕ) (round : Round) (cells : List (Cell D))
+      (logs : List LogState) (banks : List D) → CanRun was.layout.decls round → HasNoTree was.layout.decls
+      → AreCounts round counts → AreSeated tells words was counts worker cells logs banks
+      → AllByRecursion (IsReady tells words round) cells
+  ready_all words was counts worker round [] logs banks lines arrays counted are = tt
+  ready_all words was counts worker round (cell ∷ cells) [] banks lines arrays counted are = absurd are
+  ready_all words was counts worker round (cell ∷ cells) (log ∷ logs) [] lines arrays counted are = absurd are
+  ready_all words was counts worker round (cell ∷ cells) (log ∷ logs) (bank ∷ banks) lines arrays counted are = (
+    ready_one words was counts worker round cell log bank lines arrays counted are.0,
+    ready_all words was counts (worker + 1) round cells logs banks lines arrays counted are.1,
   )
 
   -- seated cells may run
-  pub cells_ready : (words : Engine) (was : View) (round : Round) (cells : List (Cell D)) (logs : List LogState)
-      (banks : List D) → CanRun was.layout.decls round → HasNoTree was.layout.decls
-      → AreSeated tells words was 0 (backward cells) logs banks → AllByRecursion (IsReady tells words round) cells
-  cells_ready words was round cells logs banks lines arrays are =
-      all_backward (IsReady tells words round) cells (ready_all words was 0 round
-      (backward cells) logs banks lines arrays are)
+  pub cells_ready : (words : Engine) (was : View) (counts : List ℕ) (round : Round) (cells : List (Cell D))
+      (logs : List LogState) (banks : List D) → CanRun was.layout.decls round → HasNoTree was.layout.decls
+      → AreCounts round counts → AreSeated tells words was counts 0 (backward cells) logs banks
+      → AllByRecursion (IsReady tells words round) cells
+  cells_ready words was counts round cells logs banks lines arrays counted are =
+      all_backward (IsReady tells words round) cells
+      (ready_all words was counts 0 round (backward cells) logs banks lines arrays counted are)
 
   -- ---- behind them
 
-  ran_one : (tries : ℕ) (round : Round) (words : Engine) (was : View) (worker : ℕ) (old new : Cell D) (log : LogState)
-      (bank : D) → IsSeated tells words was worker old log bank
+  ran_one : (tries : ℕ) (round : Round) (words : Engine) (was : View) (counts : List ℕ) (worker : ℕ)
+      (old new : Cell D) (log : LogState) (bank : D) → AreCounts round counts
+      → IsSeated tells words was counts worker old log bank
       → HasRun tells clock image_at faults tries round words old new
       → IsRan tells clock image_at faults tries round words was worker new log bank
-  ran_one tries round words was worker old new log bank s ran = record {
+  ran_one tries round words was counts worker old new log bank counted s ran = record {
     of = ran.of;
     number = ran.number ∙ s.number;
     small = s.small;
-    runs = subst (λ (b : D). OnOk new.ran (RunsCell tells clock image_at faults tries (lines_of_worker round worker)
-        new.outcomes new.end (worker_view worker was) (view new.pass) log new.log b new.bank)) s.bank_is
-        (subst (λ (l : LogState). OnOk new.ran (RunsCell tells clock image_at faults tries
-        (lines_of_worker round worker)
-        new.outcomes new.end (worker_view worker was) (view new.pass) l new.log old.bank new.bank)) s.log_is
-        (subst (λ (v : View). OnOk new.ran (RunsCell tells clock image_at faults tries (lines_of_worker round worker)
-        new.outcomes new.end v (view new.pass) old.log new.log old.bank new.bank)) s.seated
-        (subst (λ (n : ℕ). OnOk new.ran (RunsCell tells clock image_at faults tries (lines_of_worker round n)
-        new.outcomes new.end (view old.pass) (view new.pass) old.log new.log old.bank new.bank)) s.number ran.runs)));
-    stops = subst (λ (b : D). OnErr new.ran (StopsCell tells clock image_at faults tries (lines_of_worker round worker)
-        (worker_view worker was) (view new.pass) log new.log b new.bank)) s.bank_is
-        (subst (λ (l : LogState). OnErr new.ran (StopsCell tells clock image_at faults tries
-        (lines_of_worker round worker)
-        (worker_view worker was) (view new.pass) l new.log old.bank new.bank)) s.log_is
-        (subst (λ (v : View). OnErr new.ran (StopsCell tells clock image_at faults tries (lines_of_worker round worker)
-        v (view new.pass) old.log new.log old.bank new.bank)) s.seated
-        (subst (λ (n : ℕ). OnErr new.ran (StopsCell tells clock image_at faults tries (lines_of_worker round n)
-        (view old.pass) (view new.pass) old.log new.log old.bank new.bank)) s.number ran.stops)));
+    from = view old.pass;
+    begun = subst (λ n. IsBegun n log.mark.length (worker_view worker was) (view old.pass))
+        (counted.each worker s.small) s.begun;
+    runs = subst (λ (b : D). RunsCell tells clock image_at faults tries (lines_of_worker round worker)
+        new.outcomes.told new.end (view old.pass) (view new.pass) log new.log b new.bank) s.bank_is
+        (subst (λ (l : LogState). RunsCell tells clock image_at faults tries (lines_of_worker round worker)
+        new.outcomes.told new.end (view old.pass) (view new.pass) l new.log old.bank new.bank) s.log_is
+        (subst (λ (n : ℕ). RunsCell tells clock image_at faults tries (lines_of_worker round n)
+        new.outcomes.told new.end (view old.pass) (view new.pass) old.log new.log old.bank new.bank) s.number
+        ran.runs));
   }
 
-  ran_all : (tries : ℕ) (round : Round) (words : Engine) (was : View) (worker : ℕ) (olds news : List (Cell D))
-      (logs : List LogState) (banks : List D) → AreSeated tells words was worker olds logs banks
+  ran_all : (tries : ℕ) (round : Round) (words : Engine) (was : View) (counts : List ℕ) (worker : ℕ)
+      (olds news : List (Cell D)) (logs : List LogState) (banks : List D) → AreCounts round counts
+      → AreSeated tells words was counts worker olds logs banks
       → BothBy (HasRun tells clock image_at faults tries round words) olds news
       → AreRan tells clock image_at faults tries round words was worker news logs banks
-  ran_all tries round words was worker [] [] [] [] are both = tt
-  ran_all tries round words was worker [] [] [] (b ∷ banks) are both = absurd are
-  ran_all tries round words was worker [] [] (l ∷ logs) banks are both = absurd are
-  ran_all tries round words was worker [] (n ∷ news) logs banks are both = absurd both
-  ran_all tries round words was worker (o ∷ olds) [] logs banks are both = absurd both
-  ran_all tries round words was worker (o ∷ olds) (n ∷ news) [] banks are both = absurd are
-  ran_all tries round words was worker (o ∷ olds) (n ∷ news) (l ∷ logs) [] are both = absurd are
-  ran_all tries round words was worker (o ∷ olds) (n ∷ news) (l ∷ logs) (b ∷ banks) are both = (
-    ran_one tries round words was worker o n l b are.0 both.0,
-    ran_all tries round words was (worker + 1) olds news logs banks are.1 both.1,
+  ran_all tries round words was counts worker [] [] [] [] counted are both = tt
+  ran_all tries round words was counts worker [] [] [] (b ∷ banks) counted are both = absurd are
+  ran_all tries round words was counts worker [] [] (l ∷ logs) banks counted are both = absurd are
+  ran_all tries round words was counts worker [] (n ∷ news) logs banks counted are both = absurd both
+  ran_all tries round words was counts worker (o ∷ olds) [] logs banks counted are both = absurd both
+  ran_all tries round words was counts worker (o ∷ olds) (n ∷ news) [] banks counted are both = absurd are
+  ran_all tries round words was counts worker (o ∷ olds) (n ∷ news) (l ∷ logs) [] counted are both = absurd are
+  ran_all tries round words was counts worker (o ∷ olds) (n ∷ news) (l ∷ logs) (b ∷ banks) counted are both = (
+    ran_one tries round words was counts worker o n l b counted are.0 both.0,
+    ran_all tries round words was counts (worker + 1) olds news logs banks counted are.1 both.1,
   )
 
   -- what threads made of seated cells
-  pub cells_ran : (tries : ℕ) (round : Round) (words : Engine) (was : View) (olds news : List (Cell D))
-      (logs : List LogState) (banks : List D) → length news ≡ length olds
-      → AreSeated tells words was 0 (backward olds) logs banks
+  pub cells_ran : (tries : ℕ) (round : Round) (words : Engine) (was : View) (counts : List ℕ)
+      (olds news : List (Cell D)) (logs : List LogState) (banks : List D) → AreCounts round counts
+      → length news ≡ length olds → AreSeated tells words was counts 0 (backward olds) logs banks
       → ((k : ℕ) (d : Cell D) → k < length olds → HasRun tells clock image_at faults tries round words
       (slice_index_or olds k d) (slice_index_or news k d))
       → AreRan tells clock image_at faults tries round words was 0 (backward news) logs banks
-  cells_ran tries round words was olds news logs banks same are each =
-      ran_all tries round words was 0 (backward olds) (backward news) logs banks are
+  cells_ran tries round words was counts olds news logs banks counted same are each =
+      ran_all tries round words was counts 0 (backward olds) (backward news) logs banks counted are
       (both_backward (HasRun tells clock image_at faults tries round words) olds news
       (both_from (HasRun tells clock image_at faults tries round words) olds news same each))
 
@@ -175,8 +163,7 @@ module _ {D : Type 0} (tells : D → Option (List ℕ)) (clock : D → ℕ) (ima
       (bank : D) → IsRan tells clock image_at faults tries round words was worker cell log bank → MayEnd words cell
   end_one tries round words was worker cell log bank ran = record {
     of = ran.of;
-    over = either_so cell.ran _ _ (IsOver (view cell.pass)) ran.runs ran.stops (λ r. r.lines_run.did.over)
-        (λ r. r.stops.did.over);
+    over = ran.runs.lines_run.did.over;
   }
 
   end_each : (tries : ℕ) (round : Round) (words : Engine) (was : View) (worker : ℕ) (cells : List (Cell D))

@@ -1,16 +1,15 @@
 -- How many tries in conflict there are, as the keeper counts them and as shares tell them.
-use Rattle.std.proofs.Common.{◌≡◌, ◌∙◌, sym, ap, refl, ℕ, suc, ◌+◌, Bool, true, false, cond, List, [], ◌∷◌, ◌++◌}
+use Rattle.std.proofs.Common.{◌≡◌, ◌∙◌, sym, ap, refl, ℕ, suc, ◌+◌, List, [], ◌∷◌, ◌++◌}
 use Rattle.std.proofs.Common.{length, map, arith}
 use Rattle.std.proofs.Common.{length-append}
 use Rattle.std.specs.Prelude.{filter, sum_by}
 use Rattle.std.proofs.lemmas.List.Elements.{filter-append}
-use Rattle.std.proofs.lemmas.List.Sums.{sum_by-append, sum_by-cons}
+use Rattle.std.proofs.lemmas.List.Sums.{sum_by-cons}
 use Rattle.serial_model.specs.declared.op.Op.{Op}
 use Rattle.engine_words.specs.declared.view.Refused.{Refused}
 use Rattle.engine_words.specs.declared.view.Refused.TheVariants as refusals
 use Rattle.engine_words.specs.declared.view.View.{View}
 use Rattle.tx_script.specs.Run.{TryRefusal}
-use Rattle.tx_script.specs.Tries.{is_conflict}
 use Rattle.worker_cells.specs.InARow.{row_refused}
 use Rattle.worker_cells.specs.Rows.{LineRan, refused_of}
 use Rattle.shared_rounds.specs.Parts.{IsPart, Part, no_tries, share_of, tries_of, try_refusal}

@@ -2,9 +2,9 @@
 use Rattle.std.proofs.Common.{◌≡◌, ◌∙◌, sym, ap, refl, ℕ, Bool, true, false, cond, List, [], ◌∷◌, ◌++◌, Option, Some}
 use Rattle.std.proofs.Common.{None}
 use Rattle.std.proofs.Common.{inl, inr, subst, true≢false}
-use Rattle.std.specs.Prelude.{unwrap_or}
+use Rattle.std.specs.Prelude.{if◌then◌else◌, unwrap_or}
 use Rattle.std.specs.Option.{option_or}
-use Rattle.std.specs.FinMap.{get, get-insert, get-remove, same_map}
+use Rattle.std.specs.FinMap.{get, get-empty, get-insert, get-remove, same_map}
 use Rattle.std.specs.Cmp.{eq_by_cmp_equiv}
 use Rattle.std.specs.Ordering.{eq_by_cmp}
 use Rattle.std.proofs.lemmas.Bool.{cases_Bool, false_from_ne_true}
@@ -18,11 +18,12 @@ use Rattle.commit_core.specs.Lemmas.Keys.{same_key-self, same_key-true}
 use Rattle.homes.specs.declared.places.Content.{Content}
 use Rattle.serial_model.specs.declared.decl.Decl.{Decl}
 use Rattle.serial_model.specs.History.{Entry, state_after_all}
-use Rattle.commit_core.specs.Keys.{same_key, written}
+use Rattle.commit_core.specs.Keys.{content_at, same_key, written}
 use Rattle.serial_bridge.specs.Bridge.{RunsSerially, last_written}
 use Rattle.serial_bridge.specs.Laws.{IsOver}
 use Rattle.serial_bridge.specs.WriteLaws.{written-cons}
 use Rattle.shared_rounds.specs.Contents.{after_changes, after_commits, with_value}
+use Rattle.shared_rounds.specs.SharedState.{opened}
 
 -- attempts behind others
 pub commits_append : (s : State) (xs ys : List Attempt)
@@ -35,7 +36,7 @@ pub same_state : (s t : State) → ((q : Key) → get s q ≡ get t q) → s ≡
 same_state s t h = same_map keys_total exact_keys s t h
 
 -- the map's test of keys is that of equal keys
-key_test : (q k : Key) → eq_by_cmp key_cmp q k ≡ same_key k q
+pub key_test : (q k : Key) → eq_by_cmp key_cmp q k ≡ same_key k q
 key_test q k =
     elim (cases_Bool (same_key k q)) [
       | inl hit ↦ subst (λ (x : Key). eq_by_cmp key_cmp q x ≡ true) (sym (same_key-true k q hit))
@@ -51,6 +52,17 @@ pub value_put : (w : State) (k : Key) (value : Option ℕ) (q : Key)
 value_put w k (Some v) q = get-insert keys_total w k v q ∙ ap (λ b. cond b (Some v) (get w q)) (key_test q k)
 value_put w k None q = get-remove keys_total w k q ∙ ap (λ b. cond b None (get w q)) (key_test q k)
 
+-- at first
+pub opened_is : (opening : List (Key × Content)) (k : Key) → get (opened opening) k ≡ (content_at opening k).value
+opened_is [] k = get-empty key_cmp k
+opened_is (e ∷ more) k =
+    value_put (opened more) e.0 e.1.value k ∙ by_test (same_key e.0 k) (opened_is more k)
+  where
+    by_test : (b : Bool) → get (opened more) k ≡ (content_at more k).value
+        → cond b e.1.value (get (opened more) k) ≡ (if b then e.1 else content_at more k).value
+    by_test true rest = refl
+    by_test false rest = rest
+
 -- changes of an attempt: of each key the first one counts
 pub changes_over : (s : State) (changes : List Change) → IsOver s changes (after_changes s changes)
 changes_over s [] = λ q. refl
@@ -64,7 +76,7 @@ changes_over s (c ∷ changes) = λ q.
     by_test true q rest = refl
     by_test false q rest = rest
 
-either_way : (x y : Option (Option ℕ)) (z : Option ℕ) → unwrap_or x (unwrap_or y z) ≡ unwrap_or (option_or x y) z
+pub either_way : (x y : Option (Option ℕ)) (z : Option ℕ) → unwrap_or x (unwrap_or y z) ≡ unwrap_or (option_or x y) z
 either_way (Some v) y z = refl
 either_way None y z = refl
 

@@ -1,19 +1,14 @@
 -- What the count behind the lines tells of the one before them.
-use Rattle.std.proofs.Common.{◌≡◌, ◌∙◌, sym, ap, subst, refl, ℕ, List, [], ◌∷◌, ◌++◌}
-use Rattle.std.specs.List.{Contains, filter}
-use Rattle.lists.specs.Fronts.{IsFront, front_then}
-use Rattle.serial_model.specs.declared.key.Key.{Key}
+use Rattle.std.proofs.Common.{◌≡◌, ◌∙◌, sym, ap, subst, ℕ, List, ◌++◌}
+use Rattle.std.specs.List.{filter}
 use Rattle.serial_model.specs.declared.number.Number.{Number}
 use Rattle.commit_core.specs.declared.attempt.Attempt.{Attempt}
-use Rattle.commit_core.specs.CoreState.{is_decided}
 use Rattle.commit_core.specs.Keys.{content_at, opening_number}
 use Rattle.commit_core.specs.Serial.{ReadsAreSerial}
 use Rattle.views.specs.Sums.{total}
 use Rattle.engine_words.specs.Between.{Between, Splits, counts, splits}
 use Rattle.engine_words.specs.Cuts.{HasSeen}
-use Rattle.engine_words.specs.Gathered.{gathered_all, joined}
 use Rattle.engine_words.specs.declared.layout.Layout.{Layout}
-use Rattle.engine_words.specs.declared.view.Role.TheVariants.{Keeper}
 use Rattle.engine_words.specs.declared.view.View.{View}
 use Rattle.shared_rounds.specs.Parts.{IsRound, Part}
 use Rattle.shared_rounds.specs.SharedState.{IsCounted}

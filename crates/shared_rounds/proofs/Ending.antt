@@ -1,35 +1,31 @@
 -- One seat more is taken in again.
-use Rattle.std.proofs.Common.{◌≡◌, ◌≢◌, ◌∙◌, sym, ap, subst, refl, ℕ, suc, zero, ◌+◌, ◌-◌, ◌/◌, ◌^◌, ◌<◌, ◌≤◌, List}
+use Rattle.std.proofs.Common.{◌≡◌, ◌∙◌, sym, ap, subst, refl, ℕ, suc, zero, ◌+◌, ◌-◌, ◌<◌, List}
 use Rattle.std.proofs.Common.{[], ◌∷◌, ◌++◌}
-use Rattle.std.proofs.Common.{append-nil, append_assoc, length, length-append, map, arith, Bool, true, false, cond}
-use Rattle.std.proofs.Common.{Option, Some, None, Result, Ok, Err}
-use Rattle.std.specs.Prelude.{OnErr, OnOk, ⊤, get_or, ◌==◌, slice_set}
-use Rattle.std.proofs.lemmas.Bool.{cond-false, cond-true}
+use Rattle.std.proofs.Common.{append-nil, append_assoc, length, length-append, map, arith}
+use Rattle.std.proofs.Common.{Option, Some, inl, inr, mul-add, ◌⊎◌, ◌*◌}
+use Rattle.std.specs.Prelude.{get_or, ◌==◌, slice_get, slice_set}
+use Rattle.std.proofs.lemmas.Bool.{cases_order, cond-false, cond-true}
 use Rattle.std.proofs.lemmas.Bool.Decides.{nat_tests}
-use Rattle.lists.specs.Elements.{in_head, in_tail}
-use Rattle.lists.specs.Fronts.{IsFront, front_refl}
-use Rattle.lists.specs.declared.memory.Memory.{Memory}
+use Rattle.std.proofs.lemmas.List.Sums.{sum_by_push}
+use Rattle.std.proofs.lemmas.Option.{same_Some}
 use Rattle.script_grammar.specs.Script.{Round, lines_of_worker}
-use Rattle.serial_model.specs.declared.op.Op.{Op}
 use Rattle.commit_core.specs.declared.attempt.Attempt.{Attempt}
 use Rattle.commit_core.specs.declared.seat.Seat.{Seat}
 use Rattle.views.specs.Sums.{without}
-use Rattle.engine_words.specs.Cuts.{HasSeen, ended, gathered, heard_of, worker_of, worker_view}
+use Rattle.engine_words.specs.Cuts.{HasSeen, ended, gathered, worker_of}
 use Rattle.engine_words.specs.Gathered.{gathered_all}
-use Rattle.engine_words.specs.Passes.{IsPassOf, view}
 use Rattle.engine_words.specs.Steps.{HasTimed}
 use Rattle.engine_words.specs.Views.{IsResting, bare_seat}
-use Rattle.engine_words.specs.declared.engine.Engine.{Engine}
-use Rattle.engine_words.specs.declared.view.Role.TheVariants.{Keeper, Worker}
+use Rattle.engine_words.specs.declared.view.Role.TheVariants.{Worker}
 use Rattle.engine_words.specs.declared.view.View.{View}
 use Rattle.tx_script.specs.declared.outcome.Outcome.{Outcome}
-use Rattle.worker_cells.specs.Cells.{RunsCell, StopsCell}
-use Rattle.worker_cells.specs.Rows.{lines_of, logged_of}
+use Rattle.worker_cells.specs.InARow.{row_draws}
+use Rattle.worker_cells.specs.Rows.{logged_of}
 use Rattle.worker_cells.specs.declared.cell.LogEnd.{LogEnd}
 use Rattle.worker_logs.specs.Logs.{LogState}
 use Rattle.shared_rounds.specs.Ended.{AreLeft, AreTold, EndedSoFar}
 use Rattle.shared_rounds.specs.Left.{LeavesPart, TellsPart}
-use Rattle.shared_rounds.specs.Parts.{AreParts, Part, share_of}
+use Rattle.shared_rounds.specs.Parts.{Part, ran_in, share_of}
 use Rattle.shared_rounds.specs.SharedState.{conflicts_in}
 use Rattle.shared_rounds.specs.Shares.{Share, all_conflicts}
 use Rattle.shared_rounds.proofs.Conflicts.{conflicts_append, more_conflicts}
@@ -70,6 +66,38 @@ mines_push : (parts : List Part) (p : Part)
 mines_push [] p = refl
 mines_push (q ∷ parts) p = ap (λ (l : List (List Attempt)). q.to.mine ∷ l) (mines_push parts p)
 
+-- ---- seats and parts by their places
+
+set_here : (seats : List Seat) (i : ℕ) (seat : Seat) → i < length seats
+    → get_or (slice_set seats i seat) i bare_seat ≡ seat
+set_here [] i seat less = absurd (omega (arith, less))
+set_here (x ∷ seats) zero seat less = refl
+set_here (x ∷ seats) (suc i) seat less = set_here seats i seat (omega (arith, less))
+
+set_other : (seats : List Seat) (i j : ℕ) (seat : Seat) → j < i
+    → get_or (slice_set seats i seat) j bare_seat ≡ get_or seats j bare_seat
+set_other [] zero j seat less = refl
+set_other [] (suc i) j seat less = refl
+set_other (x ∷ seats) zero j seat less = absurd (omega (arith, less))
+set_other (x ∷ seats) (suc i) zero seat less = refl
+set_other (x ∷ seats) (suc i) (suc j) seat less = set_other seats i j seat (omega (arith, less))
+
+at_last : (parts : List Part) (p q : Part) → slice_get (parts ++ p ∷ []) (length parts) ≡ Some q → p ≡ q
+at_last [] p q there = same_Some p q there
+at_last (x ∷ parts) p q there = at_last parts p q there
+
+at_front : (parts : List Part) (p q : Part) (i : ℕ) → i < length parts → slice_get (parts ++ p ∷ []) i ≡ Some q
+    → slice_get parts i ≡ Some q
+at_front [] p q i less there = absurd (omega (arith, less))
+at_front (x ∷ parts) p q zero less there = there
+at_front (x ∷ parts) p q (suc i) less there = at_front parts p q i (omega (arith, less)) there
+
+at_none : (parts : List Part) (p q : Part) (i : ℕ) → length parts < i → slice_get (parts ++ p ∷ []) i ≡ Some q → ⊥
+at_none [] p q zero more there = absurd (omega (arith, more))
+at_none [] p q (suc i) more there = absurd cc
+at_none (x ∷ parts) p q zero more there = absurd (omega (arith, more))
+at_none (x ∷ parts) p q (suc i) more there = at_none parts p q i (omega (arith, more)) there
+
 -- ---- one more
 
 pub told_push : (round : Round) (worker next : ℕ) (parts : List Part) (outcomes : List (List Outcome))
@@ -103,50 +131,45 @@ module _ {D : Type 0} (tells : D → Option (List ℕ)) (clock : D → ℕ) (ima
       (banks_was banks : List D) (p : Part) (old new : LogState) (before now : D) → next ≡ worker + length parts
       → AreLeft tells clock image_at faults round epoch worker parts logs_was logs banks_was banks
       → LeftBy tells clock image_at faults epoch epoch (logged_of p.ran) p.refusal old new before now
-      → IsFront (lines_of p.ran ++ p.left) (lines_of_worker round next)
       → AreLeft tells clock image_at faults round epoch worker (parts ++ p ∷ []) (logs_was ++ old ∷ [])
       (logs ++ new ∷ [])
       (banks_was ++ before ∷ []) (banks ++ now ∷ [])
-  left_push round epoch worker next [] [] [] [] [] p old new before now is are one front =
-      let same : next ≡ worker = omega (arith, is) in
-      (one, subst (λ w. IsFront (lines_of p.ran ++ p.left) (lines_of_worker round w)) same front, tt)
+  left_push round epoch worker next [] [] [] [] [] p old new before now is are one =
+      (one, tt)
   left_push round epoch worker next (q ∷ parts) (a ∷ lw) (b ∷ ls) (c ∷ bw)
-      (d ∷ bs) p old new before now is are one front = (
+      (d ∷ bs) p old new before now is are one = (
         are.0,
-        are.1,
-        left_push round epoch (worker + 1) next parts lw ls bw bs p old new before now (omega (arith, is))
-            are.2 one front,
+        left_push round epoch (worker + 1) next parts lw ls bw bs p old new before now (omega (arith, is)) are.1 one,
       )
-  left_push round epoch worker next [] [] [] [] (d ∷ bs) p old new before now is are one front = absurd are
-  left_push round epoch worker next [] [] [] (c ∷ bw) bs p old new before now is are one front = absurd are
-  left_push round epoch worker next [] [] (b ∷ ls) bw bs p old new before now is are one front = absurd are
-  left_push round epoch worker next [] (a ∷ lw) ls bw bs p old new before now is are one front = absurd are
-  left_push round epoch worker next (q ∷ parts) [] ls bw bs p old new before now is are one front = absurd are
-  left_push round epoch worker next (q ∷ parts) (a ∷ lw) [] bw bs p old new before now is are one front = absurd are
-  left_push round epoch worker next (q ∷ parts) (a ∷ lw) (b ∷ ls) [] bs p old new before now is are one front = absurd
+  left_push round epoch worker next [] [] [] [] (d ∷ bs) p old new before now is are one = absurd are
+  left_push round epoch worker next [] [] [] (c ∷ bw) bs p old new before now is are one = absurd are
+  left_push round epoch worker next [] [] (b ∷ ls) bw bs p old new before now is are one = absurd are
+  left_push round epoch worker next [] (a ∷ lw) ls bw bs p old new before now is are one = absurd are
+  left_push round epoch worker next (q ∷ parts) [] ls bw bs p old new before now is are one = absurd are
+  left_push round epoch worker next (q ∷ parts) (a ∷ lw) [] bw bs p old new before now is are one = absurd are
+  left_push round epoch worker next (q ∷ parts) (a ∷ lw) (b ∷ ls) [] bs p old new before now is are one = absurd
       are
-  left_push round epoch worker next (q ∷ parts) (a ∷ lw) (b ∷ ls) (c ∷ bw) [] p old new before now is are one front =
+  left_push round epoch worker next (q ∷ parts) (a ∷ lw) (b ∷ ls) (c ∷ bw) [] p old new before now is are one =
       absurd are
 
   -- One more seat was taken in, that of this part.
   pub ends_one : (tries : ℕ) (round : Round) (was mid now u : View) (n count : ℕ) (logs_was logs : List LogState)
-      (banks_was banks : List D) (memory : Result (Unit {0}) Memory) (outcomes : List (List Outcome))
-      (ends : List LogEnd)
-      → (so : EndedSoFar tells clock image_at faults tries round was mid count logs_was logs banks_was banks memory
+      (banks_was banks : List D) (outcomes : List (List Outcome)) (ends : List LogEnd)
+      → (so : EndedSoFar tells clock image_at faults tries round was mid count logs_was logs banks_was banks
       outcomes ends)
       → count < 8 → u.role ≡ Worker count → IsResting u.seat
       → HasTimed (ended mid u) n now → HasSeen mid now
       → (p : Part) (old new : LogState) (before bank : D) → p.to ≡ u
-      → LeavesPart tells clock image_at faults tries (lines_of_worker round count) was now count p old new before bank
-      → (after : Result (Unit {0}) Memory) (told : List (List Outcome)) (left : List LogEnd)
-      → OnOk after (AreTold round 0 (so.parts ++ p ∷ []) told left (logs_was ++ old ∷ []) (logs ++ new ∷ []))
+      → LeavesPart tells clock image_at faults tries was now count p old new before bank
+      → (told : List (List Outcome)) (left : List LogEnd)
+      → AreTold round 0 (so.parts ++ p ∷ []) told left (logs_was ++ old ∷ []) (logs ++ new ∷ [])
       → EndedSoFar tells clock image_at faults tries round was now (count + 1) (logs_was ++ old ∷ []) (logs ++ new ∷ [])
-      (banks_was ++ before ∷ []) (banks ++ bank ∷ []) after told left
-  ends_one tries round was mid now u n count logs_was logs banks_was banks memory outcomes ends so less seat rests
+      (banks_was ++ before ∷ []) (banks ++ bank ∷ []) told left
+  ends_one tries round was mid now u n count logs_was logs banks_was banks outcomes ends so less seat rests
       timed seen
-      p old new before bank is leaves after told left then =
+      p old new before bank is leaves told left then =
       let here : count ≡ 0 + length so.parts = omega (arith, so.many) in
-      let who : worker_of u.role ≡ count = ap worker_of seat in record {
+      record {
         parts = so.parts ++ p ∷ [];
         many = length-append so.parts (p ∷ []) ∙ ap (λ k. k + 1) so.many;
         are = parts_push tries was now 0 count so.parts p here (parts_later tries was mid now 0 so.parts seen so.are)
@@ -168,17 +191,51 @@ module _ {D : Type 0} (tells : D → Option (List ℕ)) (clock : D → ℕ) (ima
             + all_conflicts (map (λ (share : Share). share.tries_refused)
             (map share_of so.parts)) + conflicts_in v.refused)
             (sym is) ∙ more_conflicts tries was now count so.parts p (conflicts_in was.refused) leaves.part;
+        draws =
+            let drew : now.draws ≡ mid.draws + u.draws = ap (λ (v : View). v.draws) timed.is in
+            let own : p.to.draws ≡ u.draws = ap (λ (v : View). v.draws) is in
+            let begun : p.from.draws ≡ 0 = ap (λ (v : View). v.draws) leaves.part.seated in
+            let row = row_draws tries p.from p.ran p.to leaves.part.row in
+            let more : ran_in (so.parts ++ p ∷ []) ≡ ran_in so.parts + length p.ran =
+            sum_by_push (λ (q : Part). length q.ran) so.parts p in
+            let times : tries * ran_in (so.parts ++ p ∷ []) ≡ tries * ran_in so.parts + tries * length p.ran =
+            ap (λ n. tries * n) more ∙ mul-add tries (ran_in so.parts) (length p.ran) in
+            omega (arith, drew, own, begun, row, times, so.draws);
         parked_are = ap (λ (v : View). length v.parked) timed.is ∙ length_set mid.parked (worker_of u.role) u.seat
             ∙ so.parked_are;
         parked = λ worker small. subst (λ (l : List Seat). IsResting (get_or l worker bare_seat))
             (sym (ap (λ (v : View). v.parked) timed.is))
             (rests_set mid.parked (worker_of u.role) u.seat worker rests (so.parked worker small));
+        taken = λ worker q there. ap (λ (v : View). get_or v.parked worker bare_seat) timed.is
+            ∙ by_place worker q (cases_order worker count) there;
         left = left_push round was.epoch 0 count so.parts logs_was logs banks_was banks p old new before bank here
             so.left
-            leaves.left_by leaves.front;
+            leaves.left_by;
         told = then;
       }
     where
+      who : worker_of u.role ≡ count
+      who = ap worker_of seat
+
+      place : count ≡ length so.parts
+      place = sym so.many
+
+      by_place : (worker : ℕ) (q : Part) → (worker ≡ count) ⊎ ((worker < count) ⊎ (count < worker))
+          → slice_get (so.parts ++ p ∷ []) worker ≡ Some q
+          → get_or (slice_set mid.parked (worker_of u.role) u.seat) worker bare_seat ≡ q.to.seat
+      by_place worker q (inl same) there =
+          ap (λ w. get_or (slice_set mid.parked w u.seat) worker bare_seat) (who ∙ sym same)
+          ∙ set_here mid.parked worker u.seat (omega (arith, same, less, so.parked_are))
+          ∙ ap (λ (v : View). v.seat) (sym is)
+          ∙ ap (λ (x : Part). x.to.seat) (at_last so.parts p q (ap (slice_get (so.parts ++ p ∷ [])) (sym
+          (same ∙ place)) ∙ there))
+      by_place worker q (inr (inl before)) there =
+          ap (λ w. get_or (slice_set mid.parked w u.seat) worker bare_seat) who
+          ∙ set_other mid.parked count worker u.seat (omega (arith, before))
+          ∙ so.taken worker q (at_front so.parts p q worker (omega (arith, before, so.many)) there)
+      by_place worker q (inr (inr after)) there =
+          absurd (at_none so.parts p q worker (omega (arith, after, so.many)) there)
+
       less_made : (count : ℕ) → count < 8 → without count (seats_from (8 - count) count) ≡ seats_from (8 -
           (count + 1)) (count + 1)
       less_made count less =

@@ -1,29 +1,25 @@
 -- The commits of all workers' parts.
 use Rattle.std.proofs.Common.{◌≡◌, ◌∙◌, sym, ap, subst, refl, ℕ, suc, ◌+◌, List, [], ◌∷◌, ◌++◌, map, inl, inr}
-use Rattle.std.specs.Prelude.{⊤}
 use Rattle.std.specs.List.{AllByRecursion, Contains}
 use Rattle.std.proofs.lemmas.List.Elements.{Contains-append_cases}
 use Rattle.lists.specs.Elements.{in_head, in_none}
-use Rattle.lists.specs.Fronts.{IsFront, front_refl}
-use Rattle.serial_model.specs.declared.decl.Decl.{Decl}
-use Rattle.serial_model.specs.declared.number.Commit.{Commit}
+use Rattle.lists.specs.Fronts.{front_refl}
 use Rattle.serial_model.specs.declared.number.Number.{Number}
 use Rattle.serial_model.specs.declared.op.Op.{Op}
 use Rattle.serial_model.specs.History.{Entry}
 use Rattle.commit_core.specs.declared.attempt.Attempt.{Attempt}
 use Rattle.commit_core.specs.Keys.{IsUpTo, opening_number}
-use Rattle.engine_words.specs.Cuts.{HasSeen, worker_view}
+use Rattle.engine_words.specs.Cuts.{HasSeen}
 use Rattle.engine_words.specs.Gathered.{joined, up_from_opening}
 use Rattle.engine_words.specs.Rule.{IsInOrder}
 use Rattle.engine_words.specs.Views.{seat_number}
 use Rattle.engine_words.specs.declared.layout.Layout.{Layout}
 use Rattle.engine_words.specs.declared.view.View.{View}
 use Rattle.tx_script.specs.Run.{entries_of_line, entries_of_worker, entries_of_workers}
-use Rattle.tx_script.specs.declared.outcome.Outcome.{Outcome}
 use Rattle.worker_cells.specs.Rows.{LineRan, lines_of, logged_of, outcomes_of, unrun}
 use Rattle.shared_rounds.specs.Parts.{AreParts, IsPart, Part, share_of}
 use Rattle.shared_rounds.specs.Shares.{Share}
-use Rattle.shared_rounds.proofs.Made.{Ascend, IsMade, Made, logged_from, made_wider, seen_same, seen_then}
+use Rattle.shared_rounds.proofs.Made.{Ascend, IsMade, logged_from, made_wider}
 use Rattle.shared_rounds.proofs.Pairs.{ArePairs, pairs_append}
 use Rattle.shared_rounds.proofs.Rows.{made_row}
 

@@ -1,12 +1,13 @@
 -- What a cell's own relation gives of its part of the round.
-use Rattle.std.proofs.Common.{◌≡◌, ◌∙◌, sym, ap, subst, refl, ℕ, ◌+◌, ◌<◌, ◌≤◌, Bool, true, false, List, [], ◌∷◌}
+use Rattle.std.proofs.Common.{◌≡◌, ◌∙◌, sym, ap, subst, refl, ℕ, ◌≤◌, Bool, true, false, List, [], ◌∷◌}
 use Rattle.std.proofs.Common.{◌++◌, arith}
-use Rattle.std.proofs.Common.{append-nil, Option, Some, None}
-use Rattle.std.specs.Prelude.{is_some}
-use Rattle.lists.specs.Fronts.{IsFront, front_refl}
+use Rattle.std.proofs.Common.{length, Option, Some, None}
+use Rattle.std.specs.Prelude.{fold, is_some}
 use Rattle.serial_model.specs.declared.op.Op.{Op}
 use Rattle.log_writer.specs.Journal.{JournalState}
 use Rattle.engine_words.specs.Cuts.{HasSeen, worker_view}
+use Rattle.commit_core.specs.declared.seat.Mark.{Mark}
+use Rattle.engine_words.specs.declared.layout.Layout.{Layout}
 use Rattle.engine_words.specs.declared.view.View.{View}
 use Rattle.tx_script.specs.Run.{LogRefusal, LogFailed}
 use Rattle.tx_script.specs.declared.outcome.Outcome.{Outcome}
@@ -14,11 +15,14 @@ use Rattle.worker_logs.specs.Logs.{LogState}
 use Rattle.wire_form.specs.LogFile.{IsLineOf}
 use Rattle.std.specs.List.{AllByRecursion}
 use Rattle.worker_logs.specs.Rows.{IsFull, KeepsMarkIn, LogTakes}
-use Rattle.worker_cells.specs.Cells.{RanOver, RunsCell, StopsCell}
-use Rattle.worker_cells.specs.Rows.{IsSince, LineRan, lines_of, logged_of}
+use Rattle.worker_cells.specs.Cells.{RanOver, RunsCell, core_mark}
+use Rattle.worker_cells.specs.InARow.{goes_then}
+use Rattle.worker_cells.specs.Rows.{AreInARow, Goes, IsSince, LineRan, logged_of}
 use Rattle.worker_cells.specs.declared.cell.LogEnd.{LogEnd}
 use Rattle.shared_rounds.specs.Left.{LeavesPart, TellsPart}
 use Rattle.shared_rounds.specs.Parts.{IsPart, Part}
+use Rattle.shared_rounds.specs.Seated.{IsBegun}
+use Rattle.shared_rounds.specs.SharedState.{last_mark, no_mark}
 use Rattle.shared_rounds.specs.Workers.{IsRefusedBy, LeftBy, refusal_of, refused_as}
 
 -- what refused the log, by what its file and its journal tell
@@ -44,33 +48,29 @@ none_refused false (Some size) down is none = absurd cc
 none_refused false None None is none = (refl, refl)
 none_refused false None (Some count) is none = absurd cc
 
--- a log that was stopped is refused by its file alone
-abbrev stopped_by : Bool → Option LogRefusal
-stopped_by true = Some LogFailed
-stopped_by false = None
+-- a pass goes on to its lines from the view with which its worker was seated
+row_from : (tries : ℕ) (u v : View) (ran : List LineRan) (w : View) → Goes u v → AreInARow tries v ran w
+    → AreInARow tries u ran w
+row_from tries u v [] w first row = goes_then u v w first row
+row_from tries u v (line ∷ more) w first row = (goes_then u v line.before first row.0, row.1, row.2)
 
-stopped_so : (journal : JournalState) (failed : Bool) → is_some journal.down ≡ failed
-    → IsRefusedBy (stopped_by failed) journal
-stopped_so journal true is = is
-stopped_so journal false is = by_down journal.down refl
-  where
-    by_down : (down : Option ℕ) → journal.down ≡ down → journal.down ≡ None
-    by_down None same = same
-    by_down (Some count) same = absurd (let no = sym is ∙ ap is_some same in cc)
+last_so : (first : Mark) (before : List Mark) (mark : Mark) → fold (λ b m. m) first (before ++ mark ∷ []) ≡ mark
+last_so first [] mark = refl
+last_so first (m ∷ before) mark = last_so m before mark
 
-stopped_failed : (failed : Bool) → failed ≡ true → stopped_by failed ≡ Some LogFailed
-stopped_failed true is = refl
-stopped_failed false is = absurd cc
+-- the last of them
+pub last_push : (before : List Mark) (mark : Mark) → last_mark (before ++ mark ∷ []) ≡ mark
+last_push before mark = last_so no_mark before mark
 
 module _ {D : Type 0} (tells : D → Option (List ℕ)) (clock : D → ℕ) (image_at : D → ℕ → List ℕ → Type 0)
     (faults : D → ℕ) where
-  left_over : (tries high worker : ℕ) (was ended : View) (refusal : Option LogRefusal) (ran : List LineRan) (v w : View)
-      (old new : LogState) (before now : D) → v ≡ worker_view worker was → high ≤ was.epoch
-      → RanOver tells clock image_at faults tries high ran v w old new before now
+  left_over : (tries high lines size worker : ℕ) (was : View) (refusal : Option LogRefusal) (ran : List LineRan)
+      (v w : View) (old new : LogState) (before now : D) → IsBegun lines size (worker_view worker was) v
+      → high ≤ was.epoch → RanOver tells clock image_at faults tries high ran v w old new before now
       → IsRefusedBy refusal new.journal → (is_some new.journal.down ≡ true → refusal ≡ Some LogFailed)
       → LeftBy tells clock image_at faults was.epoch was.epoch (logged_of ran) refusal old new before now
-  left_over tries high worker was ended refusal ran v w old new before now seated low did refused failed =
-      let epoch : v.epoch ≡ was.epoch = ap (λ (x : View). x.epoch) seated in
+  left_over tries high lines size worker was refusal ran v w old new before now begun low did refused failed =
+      let epoch : v.epoch ≡ was.epoch = begun.epoch in
       let later = did.later in
       let same : high ≡ was.epoch = omega arith in record {
         takes = subst (λ h. LogTakes tells clock image_at was.epoch h (logged_of ran) old new before now) same
@@ -84,42 +84,42 @@ module _ {D : Type 0} (tells : D → Option (List ℕ)) (clock : D → ℕ) (ima
         failed = failed;
       }
 
-  part_over : (tries high worker : ℕ) (was ended : View) (left : List (List Op)) (refusal : Option LogRefusal)
-      (ran : List LineRan) (v w : View) (old new : LogState) (before now : D) → v ≡ worker_view worker was
+  part_over : (tries high lines size worker : ℕ) (was ended : View) (left : List (List Op))
+      (refusal : Option LogRefusal) (ran : List LineRan) (v w : View) (old new : LogState) (before now : D)
+      → IsBegun lines size (worker_view worker was) v
       → RanOver tells clock image_at faults tries high ran v w old new before now → HasSeen w ended
       → (refusal ≡ None → left ≡ [])
-      → IsPart tries was ended worker (record { ran = ran; left = left; refusal = refusal; from = v; to = w })
-  part_over tries high worker was ended left refusal ran v w old new before now seated did seen all = record {
-    seated = seated;
-    row = did.row;
-    since = subst (λ (x : View). AllByRecursion (λ (line : LineRan). IsSince x.epoch line.outcome) ran) seated
-        did.since;
-    lines_are = subst (λ (x : View). AllByRecursion (IsLineOf x.layout.decls) (logged_of ran)) seated did.lines_are;
+      → IsPart tries was ended worker
+      (record { ran = ran; left = left; refusal = refusal; from = worker_view worker was; to = w })
+  part_over tries high lines size worker was ended left refusal ran v w old new before now begun did seen all = record {
+    seated = refl;
+    row = row_from tries (worker_view worker was) v ran w begun.goes did.row;
+    since = subst (λ e. AllByRecursion (λ (line : LineRan). IsSince e line.outcome) ran) begun.epoch did.since;
+    lines_are = subst (λ (l : Layout). AllByRecursion (IsLineOf l.decls) (logged_of ran)) begun.goes.layout
+        did.lines_are;
     all = all;
     seen = seen;
   }
 
   -- All lines of the worker.
-  pub cell_left : (tries worker : ℕ) (lines : List (List Op)) (outcomes : List Outcome) (end : LogEnd)
-      (was ended v w : View)
-      (old new : LogState) (before now : D) → v ≡ worker_view worker was → HasSeen w ended → w.epoch ≤ was.epoch
+  pub cell_left : (tries size worker : ℕ) (lines : List (List Op)) (outcomes : List Outcome) (end : LogEnd)
+      (was ended v w : View) (old new : LogState) (before now : D) → size ≡ old.mark.length
+      → IsBegun (length lines) size (worker_view worker was) v → HasSeen w ended → w.epoch ≤ was.epoch
       → RunsCell tells clock image_at faults tries lines outcomes end v w old new before now
-      → (p : Part) × LeavesPart tells clock image_at faults tries lines was ended worker p old new before now
+      → (p : Part) × LeavesPart tells clock image_at faults tries was ended worker p old new before now
       × TellsPart lines outcomes end p old new × (p.to ≡ w)
-  cell_left tries worker lines outcomes end was ended v w old new before now seated seen low runs =
+  cell_left tries size worker lines outcomes end was ended v w old new before now sized begun seen low runs =
       let run = runs.lines_run in
       let refusal = refusal_of end in (
-        record { ran = run.ran; left = run.left; refusal = refusal; from = v; to = w },
+        record { ran = run.ran; left = run.left; refusal = refusal; from = worker_view worker was; to = w },
         record {
-          part = part_over tries w.epoch worker was ended run.left refusal run.ran v w old new before now seated
-              run.did seen
+          part = part_over tries w.epoch (length lines) size worker was ended run.left refusal run.ran v w old new
+              before now begun run.did seen
               (λ none. let up = none_refused end.failed end.full new.journal.down runs.failed none in run.all up.0
               up.1);
-          left_by = left_over tries w.epoch worker was ended refusal run.ran v w old new before now seated low run.did
-              (refused_so end.failed end.full new.journal runs.failed run.full_is)
+          left_by = left_over tries w.epoch (length lines) size worker was refusal run.ran v w old new before now begun
+              low run.did (refused_so end.failed end.full new.journal runs.failed run.full_is)
               (failed_so end.failed end.full new.journal.down runs.failed);
-          front = subst (λ l. IsFront (lines_of run.ran ++ run.left) l) (sym run.whole)
-              (front_refl (lines_of run.ran ++ run.left));
         },
         record {
           lines_are = sym run.whole;
@@ -128,27 +128,11 @@ module _ {D : Type 0} (tells : D → Option (List ℕ)) (clock : D → ℕ) (ima
           idle = λ none. (run.none none).0;
           failed = runs.failed;
           flushed = runs.flushed;
-        },
-        refl,
-      )
-
-  -- Some first lines of the worker, where memory was wanted.
-  pub cell_stops : (tries worker : ℕ) (lines : List (List Op)) (was ended v w : View) (old new : LogState)
-      (before now : D)
-      → v ≡ worker_view worker was → HasSeen w ended → w.epoch ≤ was.epoch
-      → StopsCell tells clock image_at faults tries lines v w old new before now
-      → (p : Part) × LeavesPart tells clock image_at faults tries lines was ended worker p old new before now ×
-      (p.to ≡ w)
-  cell_stops tries worker lines was ended v w old new before now seated seen low stops =
-      let run = stops.stops in
-      let refusal = stopped_by (is_some new.journal.down) in (
-        record { ran = run.ran; left = []; refusal = refusal; from = v; to = w },
-        record {
-          part = part_over tries w.epoch worker was ended [] refusal run.ran v w old new before now seated run.did seen
-              (λ none. refl);
-          left_by = left_over tries w.epoch worker was ended refusal run.ran v w old new before now seated low run.did
-              (stopped_so new.journal (is_some new.journal.down) refl) (stopped_failed (is_some new.journal.down));
-          front = subst (λ l. IsFront l lines) (sym (append-nil (lines_of run.ran))) run.front;
+          rests = λ none. ap (λ (x : View). last_mark x.seat.marks) (run.none none).2
+              ∙ begun.rests (ap (λ (l : List (List Op)). length l) none)
+              ∙ ap (λ n. let mark : Mark = record { epoch = None; length = n } in mark) sized;
+          tied = λ some up. let tied = runs.tied some up in
+              ap last_mark tied.last ∙ last_push tied.earlier (core_mark new.mark);
         },
         refl,
       )

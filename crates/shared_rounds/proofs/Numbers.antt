@@ -1,5 +1,5 @@
 -- The numbers of a round's commits lie between the clocks.
-use Rattle.std.proofs.Common.{◌≡◌, ◌∙◌, sym, ap, subst, refl, ℕ, suc, ◌+◌, ◌/◌, ◌%◌, ◌^◌, ◌<◌, ◌≤◌, List, [], ◌∷◌}
+use Rattle.std.proofs.Common.{◌≡◌, ◌∙◌, sym, ap, subst, refl, ℕ, ◌+◌, ◌/◌, ◌%◌, ◌^◌, ◌≤◌, List, [], ◌∷◌}
 use Rattle.std.proofs.Common.{◌++◌, length, arith}
 use Rattle.std.proofs.Common.{inl, inr, length-append}
 use Rattle.std.specs.List.{Contains}
@@ -14,7 +14,6 @@ use Rattle.commit_core.specs.declared.attempt.Attempt.{Attempt}
 use Rattle.engine_words.specs.Gathered.{joined}
 use Rattle.engine_words.specs.Rule.{IsSmall}
 use Rattle.engine_words.specs.declared.layout.Layout.{Layout}
-use Rattle.engine_words.specs.declared.view.Role.TheVariants.{Keeper}
 use Rattle.engine_words.specs.declared.view.View.{View}
 use Rattle.tx_script.specs.Run.{IsBetween}
 use Rattle.shared_rounds.specs.Parts.{IsClockOf, IsRound, Part, clock_number}

@@ -1,16 +1,10 @@
 -- The commits of a round are a serial run, in the order of their numbers.
-use Rattle.std.proofs.Common.{◌≡◌, ◌∙◌, sym, ap, subst, refl, ℕ, ◌+◌, ◌/◌, ◌^◌, ◌<◌, ◌≤◌, Bool, List, [], ◌∷◌, ◌++◌}
+use Rattle.std.proofs.Common.{◌≡◌, ◌∙◌, sym, ap, subst, ℕ, ◌+◌, Bool, List, ◌++◌}
 use Rattle.std.proofs.Common.{arith}
-use Rattle.std.specs.Prelude.{◌==◌}
 use Rattle.std.specs.List.{AllByRecursion, Contains, filter}
-use Rattle.std.specs.List.Sorted.{IsPermutation}
 use Rattle.std.proofs.lemmas.List.Sorted.{Contains-permutation, IsPermutation-sym}
 use Rattle.lists.specs.Each.{all_weaker}
 use Rattle.lists.specs.Elements.{filter_only, in_filter, in_filtered}
-use Rattle.homes.specs.declared.places.Content.{Content}
-use Rattle.serial_model.specs.declared.decl.Decl.{Decl}
-use Rattle.serial_model.specs.declared.key.Key.{Key}
-use Rattle.serial_model.specs.declared.number.Commit.{Commit}
 use Rattle.serial_model.specs.declared.number.Number.{Number}
 use Rattle.serial_model.specs.Keys.{IsKeyBelow}
 use Rattle.serial_model.specs.State.{State}
@@ -18,7 +12,7 @@ use Rattle.serial_model.specs.History.{Entry, Rises}
 use Rattle.wire_form.specs.Items.{Rises as Ascending}
 use Rattle.commit_core.specs.declared.attempt.Attempt.{Attempt}
 use Rattle.commit_core.specs.Keys.{content_at}
-use Rattle.serial_bridge.specs.Bridge.{Agrees, RunsSerially, after_attempts}
+use Rattle.serial_bridge.specs.Bridge.{Agrees, after_attempts}
 use Rattle.serial_bridge.specs.Transaction.{AreAttemptsOf}
 use Rattle.serial_bridge.specs.WriteLaws.{each_in, runs_behind, writes_behind}
 use Rattle.serial_bridge.specs.WriteSets.{keys_of}
@@ -28,12 +22,12 @@ use Rattle.tx_script.specs.Run.{IsBetween, of_worker}
 use Rattle.shared_rounds.specs.Changes.{AreLogged}
 use Rattle.shared_rounds.specs.Contents.{after_commits}
 use Rattle.shared_rounds.specs.Parts.{IsClockOf, IsRound, Part, clock_number}
-use Rattle.shared_rounds.specs.Shares.{AreOrdered, entries_in, logged_in}
+use Rattle.shared_rounds.specs.Shares.{AreOrdered, entries_in}
 use Rattle.shared_rounds.specs.Standing.{Standing}
 use Rattle.shared_rounds.proofs.Contents.{run_leaves}
 use Rattle.shared_rounds.proofs.Counted.{serial_now, split}
 use Rattle.shared_rounds.proofs.Joined.{joined_made, joined_pairs, mines_of, shares_of}
-use Rattle.shared_rounds.proofs.LoggedAlong.{AllRise, logged_along, logged_by}
+use Rattle.shared_rounds.proofs.LoggedAlong.{AllRise, logged_along}
 use Rattle.shared_rounds.proofs.Made.{Ascend, IsMade, logged_from}
 use Rattle.shared_rounds.proofs.Numbers.{made_between, same_epoch}
 use Rattle.shared_rounds.proofs.Orders.{ascend_filter, ascend_same, draws_rise, is_on, logged_on, pairs_each, pairs_on}

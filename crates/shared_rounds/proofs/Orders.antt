@@ -1,8 +1,8 @@
 -- Orders of attempts and of their entries.
-use Rattle.std.proofs.Common.{◌≡◌, ◌∙◌, sym, ap, subst, refl, ℕ, suc, ◌+◌, ◌<◌, ◌≤◌, Bool, true, false, cond, List}
+use Rattle.std.proofs.Common.{◌≡◌, ◌∙◌, sym, ap, subst, refl, ℕ, suc, ◌<◌, Bool, true, false, cond, List}
 use Rattle.std.proofs.Common.{[], ◌∷◌}
-use Rattle.std.proofs.Common.{◌++◌, inl, inr, ◌⊎◌, arith, true≢false, Option, Some, None}
-use Rattle.std.specs.Prelude.{◌==◌, option_to_list, ⊤}
+use Rattle.std.proofs.Common.{◌++◌, inl, inr, ◌⊎◌, arith, None}
+use Rattle.std.specs.Prelude.{◌==◌, option_to_list}
 use Rattle.std.specs.List.{AllByRecursion, Contains, filter}
 use Rattle.std.proofs.lemmas.Bool.Decides.{nat_tests}
 use Rattle.lists.specs.Elements.{in_cases, in_filter, in_head, in_none, in_tail}
@@ -14,7 +14,7 @@ use Rattle.serial_model.specs.Numbers.{IsBelow, not_below_itself, not_both_below
 use Rattle.commit_core.specs.declared.attempt.Attempt.{Attempt}
 use Rattle.shared_rounds.proofs.LoggedAlong.{logged_as, logged_by}
 use Rattle.shared_rounds.proofs.Made.{Ascend, logged_from}
-use Rattle.shared_rounds.proofs.Pairs.{ArePairs, IsPair}
+use Rattle.shared_rounds.proofs.Pairs.{ArePairs}
 
 -- ---- entries and their attempts
 

@@ -1,50 +1,39 @@
 -- What the engine is behind a round, as between two rounds.
-use Rattle.std.proofs.Common.{◌≡◌, ◌∙◌, sym, ap, subst, refl, ℕ, ◌+◌, ◌/◌, ◌%◌, ◌^◌, ◌<◌, ◌≤◌, Bool, true, false}
-use Rattle.std.proofs.Common.{cond, List, [], ◌∷◌}
-use Rattle.std.proofs.Common.{◌++◌, length, get_or, arith, Option, Some, None}
-use Rattle.std.specs.Prelude.{if◌then◌else◌, unwrap_or}
+use Rattle.std.proofs.Common.{◌≡◌, ◌∙◌, sym, ap, subst, refl, ℕ, ◌+◌, ◌%◌, ◌^◌, ◌<◌}
+use Rattle.std.proofs.Common.{List, [], ◌∷◌}
+use Rattle.std.proofs.Common.{length, get_or, arith, Option, Some, None}
+use Rattle.std.specs.Prelude.{unwrap_or}
 use Rattle.std.specs.Option.{option_map_or}
-use Rattle.std.specs.FinMap.{get, get-empty}
-use Rattle.lists.specs.Fronts.{front_length}
+use Rattle.std.specs.FinMap.{get}
 use Rattle.serial_model.specs.declared.decl.Decl.{Decl}
 use Rattle.serial_model.specs.declared.key.Key.{Key}
 use Rattle.serial_model.specs.declared.number.Number.{Number}
 use Rattle.serial_model.specs.Decls.{AreDecls}
-use Rattle.serial_model.specs.Keys.{is_tree, key_cmp}
-use Rattle.serial_model.specs.Numbers.{IsNumber, last_epoch}
+use Rattle.serial_model.specs.Keys.{is_tree}
+use Rattle.serial_model.specs.Numbers.{IsNumber}
 use Rattle.serial_model.specs.State.{State}
 use Rattle.serial_model.specs.Step.{reply_of}
 use Rattle.homes.specs.declared.places.Content.{Content}
 use Rattle.commit_core.specs.declared.attempt.Attempt.{Attempt}
-use Rattle.commit_core.specs.Keys.{content_at, content_of, same_key, written}
+use Rattle.commit_core.specs.Keys.{content_at, content_of, written}
 use Rattle.commit_core.specs.Serial.{after_writes}
 use Rattle.commit_core.specs.declared.seat.Seat.{Seat}
 use Rattle.serial_bridge.specs.Bridge.{Agrees, after_attempts}
 use Rattle.serial_bridge.specs.WriteSets.{HasNoTree}
+use Rattle.engine_words.specs.Layout.{has_record}
 use Rattle.engine_words.specs.Steps.{AreSerial}
 use Rattle.engine_words.specs.Views.{IsResting, bare_seat}
 use Rattle.engine_words.specs.declared.layout.Layout.{Layout}
-use Rattle.engine_words.specs.declared.view.Role.TheVariants.{Keeper}
 use Rattle.engine_words.specs.declared.view.View.{View}
-use Rattle.shared_rounds.specs.Contents.{after_changes, after_commits, with_value}
-use Rattle.shared_rounds.specs.Parts.{IsClockOf, IsRound, Part, clock_number}
+use Rattle.shared_rounds.specs.Contents.{after_changes, after_commits}
+use Rattle.shared_rounds.specs.Parts.{IsRound, Part, clock_number}
 use Rattle.shared_rounds.specs.SharedState.{IsKept, opened, state_of}
-use Rattle.shared_rounds.proofs.Contents.{changes_over, commits_append, value_put}
-use Rattle.shared_rounds.proofs.Counted.{now_counted, now_layout, now_mine, split}
+use Rattle.shared_rounds.proofs.Contents.{changes_over, commits_append, opened_is}
+use Rattle.shared_rounds.proofs.Counted.{now_counted, now_layout, split}
 use Rattle.shared_rounds.proofs.Numbers.{epoch_of_word, same_epoch}
+use Rattle.shared_rounds.proofs.Records.{records_stay}
 
 -- ---- contents
-
--- at first
-opened_is : (opening : List (Key × Content)) (k : Key) → get (opened opening) k ≡ (content_at opening k).value
-opened_is [] k = get-empty key_cmp k
-opened_is (e ∷ more) k =
-    value_put (opened more) e.0 e.1.value k ∙ by_test (same_key e.0 k) (opened_is more k)
-  where
-    by_test : (b : Bool) → get (opened more) k ≡ (content_at more k).value
-        → cond b e.1.value (get (opened more) k) ≡ (if b then e.1 else content_at more k).value
-    by_test true rest = refl
-    by_test false rest = rest
 
 -- after the writes of an attempt
 agrees_then : (decls : List Decl) (s : State) (contents : Key → Content) (a : Attempt) → Agrees decls s contents
@@ -89,7 +78,14 @@ module _ (tries : ℕ) (was now : View) (parts : List Part) (r : IsRound tries w
         decls = subst (λ (l : Layout). AreDecls l.decls) (sym layout) kept.decls;
         arrays = subst (λ (l : Layout). HasNoTree l.decls) (sym layout) kept.arrays;
         first = subst (λ (l : Layout). IsNumber l.first) (sym layout) kept.first;
+        records = λ k none. ap (λ (t : State). get t k) state_now
+            ∙ records_stay tries was now parts r (state_of was) k
+            (ap (λ (l : Layout). has_record l.decls k) (sym layout) ∙ none)
+            (kept.records k (ap (λ (l : Layout). has_record l.decls k) (sym layout) ∙ none));
         counted = now_counted tries was now parts r;
+        draws = ap (λ (v : View). v.draws) r.audited.2.is
+            ∙ r.audited.2.draws (ap (λ (v : View). v.role) r.audited.1.is ∙ r.role)
+            (ap (λ (v : View). v.made) r.audited.1.is ∙ r.made);
         once = r.audited.2.once;
         serial = subst (λ (l : Layout). AreSerial l.opening now.history now.decided)
             (sym (ap (λ (v : View). v.layout) r.audited.2.is)) r.audited.2.serial;
@@ -121,19 +117,19 @@ module _ (tries : ℕ) (was now : View) (parts : List Part) (r : IsRound tries w
   pub clock_stands : (clock_number r.clock).epoch ≡ now.epoch
   clock_stands = sym (ap (λ (v : View). v.epoch) r.audited.2.is ∙ ap (λ (v : View). v.epoch) r.audited.1.is)
 
-  pub clock_from : now.layout.first.draw ≤ (clock_number r.clock).draw
-  clock_from =
+  -- the clock counts the draws
+  pub clock_draws : r.clock % 2 ^ 40 ≡ was.layout.first.draw + r.ended.draws
+  clock_draws =
+      let own = r.audited.1.own r.role r.made in
       let draws = r.audited.1.draws in
-      let first : now.layout.first.draw ≡ was.layout.first.draw =
-      ap (λ (l : Layout). l.first.draw) (now_layout tries was now parts r) in
       let layout : r.ended.layout.first.draw ≡ was.layout.first.draw = ap (λ (l : Layout). l.first.draw) r.layout in
-      omega arith
+      omega (arith, own, draws, layout)
 
-  pub clock_to : (clock_number r.clock).draw ≤ now.layout.first.draw + length now.history
-  clock_to =
-      let draws = r.audited.1.draws in
+  pub now_draws : now.draws ≡ r.ended.draws
+  now_draws = ap (λ (v : View). v.draws) r.audited.2.is ∙ ap (λ (v : View). v.draws) r.audited.1.is
+
+  pub clock_now_draws : (clock_number r.clock).draw ≡ now.layout.first.draw + now.draws
+  clock_now_draws =
       let first : now.layout.first.draw ≡ was.layout.first.draw =
       ap (λ (l : Layout). l.first.draw) (now_layout tries was now parts r) in
-      let layout : r.ended.layout.first.draw ≡ was.layout.first.draw = ap (λ (l : Layout). l.first.draw) r.layout in
-      let long = front_length r.audited.0.history now.history r.audited.2.history in
-      omega arith
+      omega (arith, clock_draws, now_draws, first)

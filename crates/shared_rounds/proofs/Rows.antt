@@ -1,8 +1,8 @@
 -- What a worker's lines commit, line after line.
-use Rattle.std.proofs.Common.{◌≡◌, ◌∙◌, sym, ap, subst, refl, ℕ, suc, ◌+◌, ◌≤◌, ◌<◌, List, [], ◌∷◌, ◌++◌, length, arith}
+use Rattle.std.proofs.Common.{◌≡◌, ◌∙◌, sym, ap, subst, refl, ℕ, ◌+◌, ◌≤◌, List, [], ◌∷◌, ◌++◌}
 use Rattle.std.proofs.Common.{append-nil, inl, inr, Option, Some, None}
-use Rattle.std.specs.Prelude.{option_to_list, ⊤}
-use Rattle.std.specs.List.{AllByRecursion, Contains}
+use Rattle.std.specs.Prelude.{option_to_list}
+use Rattle.std.specs.List.{AllByRecursion}
 use Rattle.lists.specs.Elements.{in_cases, in_none}
 use Rattle.serial_model.specs.declared.decl.Decl.{Decl}
 use Rattle.serial_model.specs.declared.number.Change.{Change}
@@ -20,7 +20,6 @@ use Rattle.serial_bridge.specs.Transaction.{IsAttemptOf}
 use Rattle.serial_bridge.specs.WriteSets.{keys_of}
 use Rattle.engine_words.specs.declared.layout.Layout.{Layout}
 use Rattle.engine_words.specs.declared.view.Refused.{Refused}
-use Rattle.engine_words.specs.declared.view.Role.{Role}
 use Rattle.engine_words.specs.declared.view.Role.TheVariants.{Worker}
 use Rattle.engine_words.specs.declared.view.View.{View}
 use Rattle.engine_words.specs.Cuts.{HasSeen}
@@ -33,8 +32,7 @@ use Rattle.tx_script.specs.declared.outcome.Outcome.TheVariants.{Committed, Conf
 use Rattle.worker_cells.specs.Rows.{AreInARow, ComesOf, Goes, IsSince, LineRan, lines_of, logged_by, logged_of}
 use Rattle.worker_cells.specs.Rows.{outcomes_of}
 use Rattle.shared_rounds.proofs.LoggedAlong.{logged_as}
-use Rattle.shared_rounds.proofs.Pairs.{ArePairs}
-use Rattle.shared_rounds.proofs.Made.{Ascend, IsMade, Made, logged_from, made_then}
+use Rattle.shared_rounds.proofs.Made.{IsMade, Made, made_then}
 
 -- ---- nothing
 

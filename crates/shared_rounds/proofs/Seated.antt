@@ -1,25 +1,26 @@
 -- One worker more is seated.
 use Rattle.std.proofs.Common.{◌≡◌, ◌∙◌, sym, ap, subst, refl, ℕ, suc, zero, ◌+◌, ◌-◌, ◌<◌, ◌≤◌, List, [], ◌∷◌, ◌++◌}
 use Rattle.std.proofs.Common.{length, arith}
-use Rattle.std.proofs.Common.{append-nil, append_assoc, get_or, Option, Some, None, cond}
-use Rattle.std.specs.Prelude.{slice_get, ◌==◌, ⊤}
+use Rattle.std.proofs.Common.{append-nil, append_assoc, get_or, Option, Some}
+use Rattle.std.specs.Prelude.{slice_get}
 use Rattle.std.specs.List.{AllByRecursion}
-use Rattle.std.proofs.lemmas.Bool.{cond-false}
 use Rattle.std.proofs.lemmas.Bool.Decides.{nat_tests}
 use Rattle.serial_model.specs.Decls.{AreDecls}
 use Rattle.tx_commit.specs.Live.{IsOver}
-use Rattle.views.specs.Sums.{one_at, times, total, total-append}
-use Rattle.engine_words.specs.Cuts.{seated, worker_view}
+use Rattle.views.specs.Sums.{one_at, times, total-append}
+use Rattle.engine_words.specs.Cuts.{worker_view}
 use Rattle.engine_words.specs.Passes.{IsPassOf, view}
 use Rattle.engine_words.specs.Views.{IsResting, bare_seat}
 use Rattle.engine_words.specs.declared.engine.Engine.{Engine}
+use Rattle.engine_words.specs.declared.layout.Layout.{Layout}
 use Rattle.engine_words.specs.declared.view.View.{View}
-use Rattle.worker_cells.specs.Cells.{IsCell}
+use Rattle.tx_script.specs.Room.{RoomState}
 use Rattle.worker_cells.specs.declared.cell.Cell.{Cell}
 use Rattle.worker_logs.specs.Logs.{LogState}
-use Rattle.worker_logs.specs.Rows.{AreLogsUp, IsLogUp}
-use Rattle.shared_rounds.specs.Seated.{AreSeated, IsSeated, SeatedSoFar, backward}
-use Rattle.shared_rounds.specs.Seating.{CanSeat, seats_from, with_made}
+use Rattle.worker_logs.specs.Rows.{AreLogsUp}
+use Rattle.shared_rounds.specs.Rooms.{AreRooms}
+use Rattle.shared_rounds.specs.Seated.{AreSeated, IsBegun, SeatedSoFar, backward}
+use Rattle.shared_rounds.specs.Seating.{CanSeat, seats_from}
 use Rattle.shared_rounds.proofs.Backward.{backward_push}
 
 -- ---- who is seated
@@ -50,21 +51,39 @@ at_place : {X : Type 0} (rest : List X) (x : X) (back : List X)
 at_place [] x back = refl
 at_place (y ∷ rest) x back = at_place rest x back
 
+front_place : {X : Type 0} (rest : List X) (x : X) (i : ℕ) (y : X) → slice_get rest i ≡ Some y
+    → slice_get (rest ++ x ∷ []) i ≡ Some y
+front_place [] x i y is = absurd cc
+front_place (z ∷ rest) x zero y is = is
+front_place (z ∷ rest) x (suc i) y is = front_place rest x i y is
+
 all_at_place : {X : Type 0} (P : X → Type 0) (rest : List X) (x : X) (back : List X)
     → AllByRecursion P ((rest ++ x ∷ []) ++ back) → P x
 all_at_place P [] x back all = all.0
 all_at_place P (y ∷ rest) x back all = all_at_place P rest x back all.1
 
+-- the last of the rooms is that of the worker of this number, and the others are those of the workers before it
+pub last_room : (counts : List ℕ) (rest : List RoomState) (room : RoomState) → AreRooms counts (rest ++ room ∷ [])
+    → (room.told ≡ []) × (room.left ≡ get_or counts (length rest) 0) × AreRooms counts rest
+last_room counts rest room are = (
+  (are (length rest) room at).0,
+  (are (length rest) room at).1,
+  (λ worker r is. are worker r (front_place rest room worker r is)),
+)
+  where
+    at : slice_get (rest ++ room ∷ []) (length rest) ≡ Some room
+    at = ap (λ l. slice_get l (length rest)) (sym (append-nil (rest ++ room ∷ []))) ∙ at_place rest room []
+
 -- ---- a worker's pass
 
-over_at : (was : View) (worker : ℕ) → AreDecls was.layout.decls → IsResting (get_or was.parked worker bare_seat)
+pub over_at : (was : View) (worker : ℕ) → AreDecls was.layout.decls → IsResting (get_or was.parked worker bare_seat)
     → IsOver (worker_view worker was)
 over_at was worker decls rests = record { decls = decls; worker = refl; due = refl; took = refl; seat = rests }
 
 module _ {D : Type 0} (tells : D → Option (List ℕ)) where
-  pub none_seated : (words : Engine) (was : View) (worker : ℕ) (logs : List LogState) (banks : List D)
-      → SeatedSoFar tells words was worker [] logs logs banks banks
-  none_seated words was worker logs banks = record {
+  pub none_seated : (words : Engine) (was : View) (counts : List ℕ) (worker : ℕ) (logs : List LogState)
+      (banks : List D) → SeatedSoFar tells words was counts worker [] logs logs banks banks
+  none_seated words was counts worker logs banks = record {
     their_logs = [];
     their_banks = [];
     logs_are = sym (append-nil logs);
@@ -72,18 +91,19 @@ module _ {D : Type 0} (tells : D → Option (List ℕ)) where
     seated = tt;
   }
 
-  pub seats_one : (words : Engine) (was : View) (worker : ℕ) (cells : List (Cell D))
+  pub seats_one : (words : Engine) (was : View) (counts : List ℕ) (worker : ℕ) (cells : List (Cell D))
       (logs_was logs rest : List LogState)
       (banks_was banks others : List D) (cell : Cell D) → CanSeat was → AreLogsUp tells logs_was banks_was
       → AllByRecursion (λ (log : LogState). log.journal.lines ≡ []) logs_was
       → worker < 8 → length rest ≡ worker → length others ≡ worker
       → logs ≡ rest ++ cell.log ∷ [] → banks ≡ others ++ cell.bank ∷ []
-      → IsPassOf words cell.pass → cell.worker ≡ worker → view cell.pass ≡ worker_view worker was → cell.outcomes ≡ []
-      → SeatedSoFar tells words was (worker + 1) cells logs_was logs banks_was banks
-      → SeatedSoFar tells words was worker (cells ++ cell ∷ []) logs_was rest banks_was others
-  seats_one words was worker cells logs_was logs rest banks_was banks others cell can up flushed less place bank_place
-      log_is
-      bank_is of number seated outcomes so =
+      → IsPassOf words cell.pass → cell.worker ≡ worker → cell.lines ≡ get_or counts worker 0
+      → IsBegun (get_or counts worker 0) cell.log.mark.length (worker_view worker was) (view cell.pass)
+      → IsOver (view cell.pass) → cell.outcomes.told ≡ [] → cell.outcomes.left ≡ get_or counts worker 0
+      → SeatedSoFar tells words was counts (worker + 1) cells logs_was logs banks_was banks
+      → SeatedSoFar tells words was counts worker (cells ++ cell ∷ []) logs_was rest banks_was others
+  seats_one words was counts worker cells logs_was logs rest banks_was banks others cell can up flushed less place
+      bank_place log_is bank_is of number lines begun over none room so =
       let logs_here : logs_was ≡ (rest ++ cell.log ∷ []) ++ so.their_logs =
       so.logs_are ∙ ap (λ (l : List LogState). l ++ so.their_logs) log_is in
       let banks_here : banks_was ≡ (others ++ cell.bank ∷ []) ++ so.their_banks =
@@ -98,31 +118,33 @@ module _ {D : Type 0} (tells : D → Option (List ℕ)) where
         their_banks = cell.bank ∷ so.their_banks;
         logs_are = logs_here ∙ append_assoc rest (cell.log ∷ []) so.their_logs;
         banks_are = banks_here ∙ append_assoc others (cell.bank ∷ []) so.their_banks;
-        seated = subst (λ l. AreSeated tells words was worker l (cell.log ∷ so.their_logs) (cell.bank ∷ so.their_banks))
-            (sym (backward_push cells cell)) (
+        seated = subst (λ l. AreSeated tells words was counts worker l (cell.log ∷ so.their_logs)
+            (cell.bank ∷ so.their_banks)) (sym (backward_push cells cell)) (
               record {
                 of = of;
                 number = number;
                 small = less;
-                seated = seated;
+                lines = lines;
+                begun = begun;
                 log_is = refl;
                 bank_is = refl;
                 ready = record {
-                  over = subst IsOver (sym seated) (over_at was worker can.decls (can.parked worker less));
-                  draws = subst (λ (v : View). 1 ≤ v.layout.first.draw) (sym seated) can.draws;
+                  over = over;
+                  draws = subst (λ (l : Layout). 1 ≤ l.first.draw) (sym begun.goes.layout) can.draws;
                   up = up worker cell.log cell.bank at bank_at;
                   flushed = all_at_place (λ (log : LogState). log.journal.lines ≡ []) rest cell.log so.their_logs
                       (subst (AllByRecursion (λ (log : LogState). log.journal.lines ≡ [])) logs_here flushed);
                 };
-                outcomes = outcomes;
+                none = none;
+                room = room;
               },
               so.seated,
             );
       }
 
-  pub all_seated : (words : Engine) (was : View) (cells : List (Cell D)) (logs_was : List LogState) (banks_was : List D)
-      → SeatedSoFar tells words was 0 cells logs_was [] banks_was []
-      → AreSeated tells words was 0 (backward cells) logs_was banks_was
-  all_seated words was cells logs_was banks_was so =
-      subst (λ l. AreSeated tells words was 0 (backward cells) l banks_was) (sym so.logs_are)
-      (subst (λ b. AreSeated tells words was 0 (backward cells) so.their_logs b) (sym so.banks_are) so.seated)
+  pub all_seated : (words : Engine) (was : View) (counts : List ℕ) (cells : List (Cell D)) (logs_was : List LogState)
+      (banks_was : List D) → SeatedSoFar tells words was counts 0 cells logs_was [] banks_was []
+      → AreSeated tells words was counts 0 (backward cells) logs_was banks_was
+  all_seated words was counts cells logs_was banks_was so =
+      subst (λ l. AreSeated tells words was counts 0 (backward cells) l banks_was) (sym so.logs_are)
+      (subst (λ b. AreSeated tells words was counts 0 (backward cells) so.their_logs b) (sym so.banks_are) so.seated)

@@ -1,23 +1,20 @@
 -- The shares of a round's workers.
-use Rattle.std.proofs.Common.{◌≡◌, ◌∙◌, sym, ap, subst, refl, ℕ, suc, zero, ◌+◌, ◌%◌, ◌^◌, ◌≤◌, Bool, List, [], ◌∷◌}
+use Rattle.std.proofs.Common.{◌≡◌, ◌∙◌, sym, ap, subst, refl, ℕ, suc, ◌+◌, ◌%◌, ◌^◌, ◌≤◌, Bool, List, [], ◌∷◌}
 use Rattle.std.proofs.Common.{◌++◌, length, arith}
-use Rattle.std.proofs.Common.{map, Option, Some, None}
 use Rattle.std.specs.List.{AllByRecursion}
 use Rattle.lists.specs.Fronts.{front_length}
-use Rattle.serial_model.specs.declared.number.Commit.{Commit}
 use Rattle.serial_model.specs.declared.number.Number.{Number}
 use Rattle.serial_model.specs.declared.op.Op.{Op}
 use Rattle.serial_model.specs.State.{State}
 use Rattle.commit_core.specs.Keys.{content_at}
 use Rattle.serial_bridge.specs.Bridge.{Agrees, after_attempts}
-use Rattle.engine_words.specs.Cuts.{HasSeen, worker_view}
-use Rattle.engine_words.specs.declared.layout.Layout.{Layout}
+use Rattle.engine_words.specs.Cuts.{HasSeen}
 use Rattle.engine_words.specs.declared.view.View.{View}
 use Rattle.worker_cells.specs.Rows.{LineRan, lines_of, logged_of}
 use Rattle.shared_rounds.specs.Contents.{after_commits}
 use Rattle.shared_rounds.specs.Parts.{AreParts, IsClockOf, IsPart, IsRound, Part, clock_number, share_of}
 use Rattle.shared_rounds.specs.SharedState.{conflicts_in}
-use Rattle.shared_rounds.specs.Shares.{IsShare, RunsShares, Share}
+use Rattle.shared_rounds.specs.Shares.{IsShare, RunsShares}
 use Rattle.shared_rounds.proofs.Comes.{row_comes, row_each, row_last}
 use Rattle.shared_rounds.proofs.Counted.{split}
 use Rattle.shared_rounds.proofs.Joined.{shares_of}
@@ -77,7 +74,8 @@ round_runs tries was now parts r state clock done some agrees at =
       draw = omega arith;
       conflicts = ap (λ (v : View). conflicts_in v.refused) r.audited.2.is
           ∙ ap (λ (v : View). conflicts_in v.refused) r.audited.1.is ∙ r.conflicts;
-      each = parts_share clock.draw tries (r.clock % 2 ^ 40) was r.ended 0 parts some begins ends r.parts_are;
+      each = parts_share clock.draw tries (r.clock % 2 ^ 40) was r.ended 0 parts some (omega (arith, begins)) ends
+          r.parts_are;
       ordered = λ index. ordered_so tries was now parts r index state clock (conflicts_in was.refused)
           (conflicts_in now.refused) done agrees at;
     }

@@ -1,18 +1,23 @@
 -- What is told worker by worker, as lists and by index.
-use Rattle.std.proofs.Common.{◌≡◌, ◌∙◌, sym, ap, subst, refl, ℕ, suc, zero, ◌+◌, ◌<◌, List, [], ◌∷◌, length, map, arith}
-use Rattle.std.proofs.Common.{Option, Some, None}
-use Rattle.std.specs.Prelude.{is_some, slice_get}
+use Rattle.std.proofs.Common.{◌≡◌, ◌∙◌, sym, ap, subst, refl, ℕ, suc, zero, ◌+◌, ◌≤◌, List, [], ◌∷◌, ◌++◌, length, map}
+use Rattle.std.proofs.Common.{arith, length-append, Option, Some, None}
+use Rattle.std.specs.Prelude.{get_or, is_some, slice_get, sum_by}
+use Rattle.std.proofs.lemmas.List.{length-map}
+use Rattle.std.proofs.lemmas.List.Sums.{sum_by-cons}
 use Rattle.std.proofs.lemmas.Option.{same_Some}
-use Rattle.lists.specs.Fronts.{IsFront}
 use Rattle.serial_model.specs.declared.op.Op.{Op}
-use Rattle.script_grammar.specs.Script.{Round, lines_of_worker, worker_lines}
+use Rattle.commit_core.specs.declared.seat.Mark.{Mark}
+use Rattle.commit_core.specs.declared.seat.Seat.{Seat}
+use Rattle.engine_words.specs.Views.{bare_seat}
+use Rattle.script_grammar.specs.Script.{Round, lines_of_worker}
 use Rattle.tx_script.specs.declared.outcome.Outcome.{Outcome}
-use Rattle.worker_cells.specs.Rows.{lines_of, logged_of}
+use Rattle.worker_cells.specs.Cells.{core_mark}
+use Rattle.worker_cells.specs.Rows.{LineRan, logged_of, outcomes_of, unrun}
 use Rattle.worker_cells.specs.declared.cell.LogEnd.{LogEnd}
 use Rattle.worker_logs.specs.Logs.{LogState}
 use Rattle.shared_rounds.specs.Ended.{AreLeft, AreTold}
-use Rattle.shared_rounds.specs.Left.{TellsPart}
-use Rattle.shared_rounds.specs.Parts.{Part, share_of}
+use Rattle.shared_rounds.specs.Parts.{Part, ran_in, share_of}
+use Rattle.shared_rounds.specs.SharedState.{last_mark, marks_of}
 use Rattle.shared_rounds.specs.Shares.{Share}
 use Rattle.shared_rounds.specs.Workers.{LeftBy, refusal_of}
 use Rattle.shared_rounds.proofs.Joined.{shares_of}
@@ -88,6 +93,73 @@ module _ (round : Round) where
       told_flushed (worker + 1) parts outcomes ends lw ls are.1 i log is
   told_flushed worker _ _ _ _ _ are i log is = absurd are
 
+  -- no more lines were run than there are outcomes
+  pub ran_told : (worker : ℕ) (parts : List Part) (outcomes : List (List Outcome)) (ends : List LogEnd)
+      (logs_was logs : List LogState) → AreTold round worker parts outcomes ends logs_was logs
+      → ran_in parts ≤ sum_by length outcomes
+  ran_told worker [] [] [] [] [] are = omega arith
+  ran_told worker (p ∷ parts) (o ∷ outcomes) (e ∷ ends) (old ∷ lw) (new ∷ ls) are =
+      let rest = ran_told (worker + 1) parts outcomes ends lw ls are.1 in
+      let told : length o ≡ length (outcomes_of p.ran ++ unrun p.left) =
+      ap (λ (l : List Outcome). length l) are.0.told in
+      let both : length (outcomes_of p.ran ++ unrun p.left) ≡ length (outcomes_of p.ran) + length (unrun p.left) =
+      length-append (outcomes_of p.ran) (unrun p.left) in
+      let ran : length (outcomes_of p.ran) ≡ length p.ran = length-map p.ran (λ (line : LineRan). line.outcome) in
+      omega (
+        arith,
+        rest,
+        told,
+        both,
+        ran,
+        sum_by-cons (λ (q : Part). length q.ran) p parts,
+        sum_by-cons (λ (l : List Outcome). length l) o outcomes,
+      )
+  ran_told worker _ _ _ _ _ are = absurd are
+
+  -- the mark of a worker without a line
+  pub told_rests : (worker : ℕ) (parts : List Part) (outcomes : List (List Outcome)) (ends : List LogEnd)
+      (logs_was logs : List LogState) → AreTold round worker parts outcomes ends logs_was logs
+      → (i place : ℕ) (log : LogState) (mark : Mark) → slice_get logs i ≡ Some log → place ≡ worker + i
+      → ((p : Part) → slice_get parts i ≡ Some p → mark ≡ last_mark p.to.seat.marks)
+      → lines_of_worker round place ≡ [] → mark ≡ record { epoch = None; length = log.mark.length }
+  told_rests worker [] [] [] [] [] are i place log mark is here seat none = absurd cc
+  told_rests worker (p ∷ parts) (o ∷ outcomes) (e ∷ ends) (a ∷ lw) (b ∷ ls) are zero place log mark is here seat none =
+      let same : place ≡ worker = omega (arith, here) in
+      let mine : lines_of_worker round worker ≡ [] = ap (lines_of_worker round) (sym same) ∙ none in
+      seat p refl ∙ are.0.rests mine
+      ∙ ap (λ (l : LogState). let m : Mark = record { epoch = None; length = l.mark.length } in m)
+      (sym (are.0.idle mine) ∙ same_Some b log is)
+  told_rests worker (p ∷ parts) (o ∷ outcomes) (e ∷ ends) (a ∷ lw) (b ∷ ls) are (suc i) place log mark is here seat
+      none = told_rests (worker + 1) parts outcomes ends lw ls are.1 i place log mark is (omega (arith, here)) seat none
+  told_rests worker _ _ _ _ _ are i place log mark is here seat none = absurd are
+
+  -- and of one with lines, whose log is up
+  pub told_tied : (worker : ℕ) (parts : List Part) (outcomes : List (List Outcome)) (ends : List LogEnd)
+      (logs_was logs : List LogState) → AreTold round worker parts outcomes ends logs_was logs
+      → (i place : ℕ) (log : LogState) (mark : Mark) → slice_get logs i ≡ Some log → place ≡ worker + i
+      → ((p : Part) → slice_get parts i ≡ Some p → mark ≡ last_mark p.to.seat.marks)
+      → (lines_of_worker round place ≡ [] → ⊥) → log.journal.down ≡ None → mark ≡ core_mark log.mark
+  told_tied worker [] [] [] [] [] are i place log mark is here seat some up = absurd cc
+  told_tied worker (p ∷ parts) (o ∷ outcomes) (e ∷ ends) (a ∷ lw) (b ∷ ls) are zero place log mark is here seat some
+      up =
+      let same : place ≡ worker = omega (arith, here) in
+      let log_is : b ≡ log = same_Some b log is in
+      seat p refl
+      ∙ are.0.tied (λ none. some (ap (lines_of_worker round) same ∙ none))
+      (ap (λ (l : LogState). l.journal.down) log_is ∙ up)
+      ∙ ap (λ (l : LogState). core_mark l.mark) log_is
+  told_tied worker (p ∷ parts) (o ∷ outcomes) (e ∷ ends) (a ∷ lw) (b ∷ ls) are (suc i) place log mark is here seat some
+      up = told_tied (worker + 1) parts outcomes ends lw ls are.1 i place log mark is (omega (arith, here)) seat some up
+  told_tied worker _ _ _ _ _ are i place log mark is here seat some up = absurd are
+
+-- the mark of the seat at a place
+pub seat_mark : (seats : List Seat) (worker : ℕ) (seat : Seat) (mark : Mark)
+    → slice_get (marks_of seats) worker ≡ Some mark → get_or seats worker bare_seat ≡ seat → mark ≡ last_mark seat.marks
+seat_mark [] worker seat mark is at = absurd cc
+seat_mark (s ∷ seats) zero seat mark is at =
+    sym (same_Some (last_mark s.marks) mark is) ∙ ap (λ (x : Seat). last_mark x.marks) at
+seat_mark (s ∷ seats) (suc worker) seat mark is at = seat_mark seats worker seat mark is at
+
 module _ {D : Type 0} (tells : D → Option (List ℕ)) (clock : D → ℕ) (image_at : D → ℕ → List ℕ → Type 0)
     (faults : D → ℕ) (round : Round) (epoch : ℕ) where
   pub left_many : (worker : ℕ) (parts : List Part) (logs_was logs : List LogState) (banks_was banks : List D)
@@ -95,7 +167,7 @@ module _ {D : Type 0} (tells : D → Option (List ℕ)) (clock : D → ℕ) (ima
       → (length logs ≡ length logs_was) × (length banks ≡ length banks_was)
   left_many worker [] [] [] [] [] are = (refl, refl)
   left_many worker (p ∷ parts) (a ∷ lw) (b ∷ ls) (c ∷ bw) (d ∷ bs) are =
-      let rest = left_many (worker + 1) parts lw ls bw bs are.2 in (ap suc rest.0, ap suc rest.1)
+      let rest = left_many (worker + 1) parts lw ls bw bs are.1 in (ap suc rest.0, ap suc rest.1)
   left_many worker _ _ _ _ _ are = absurd are
 
   pub left_at : (worker : ℕ) (parts : List Part) (logs_was logs : List LogState) (banks_was banks : List D)
@@ -118,18 +190,5 @@ module _ {D : Type 0} (tells : D → Option (List ℕ)) (clock : D → ℕ) (ima
       (at_first (λ x. LeftBy tells clock image_at faults epoch epoch (logged_of p.ran) p.refusal a b c x) d now bank_is
       are.0))))
   left_at worker (p ∷ parts) (a ∷ lw) (b ∷ ls) (c ∷ bw) (d ∷ bs) are (suc i) share old new before now at was is bank_was
-      bank_is = left_at (worker + 1) parts lw ls bw bs are.2 i share old new before now at was is bank_was bank_is
+      bank_is = left_at (worker + 1) parts lw ls bw bs are.1 i share old new before now at was is bank_was bank_is
   left_at worker _ _ _ _ _ are i share old new before now at was is bank_was bank_is = absurd are
-
-  pub front_at : (worker : ℕ) (parts : List Part) (logs_was logs : List LogState) (banks_was banks : List D)
-      → AreLeft tells clock image_at faults round epoch worker parts logs_was logs banks_was banks
-      → (i place : ℕ) (share : Share) → place ≡ worker + i → slice_get (shares_of parts) i ≡ Some share
-      → IsFront share.lines (lines_of_worker round place)
-  front_at worker [] [] [] [] [] are i place share here at = absurd cc
-  front_at worker (p ∷ parts) (a ∷ lw) (b ∷ ls) (c ∷ bw) (d ∷ bs) are zero place share here at =
-      let same : place ≡ worker = omega (arith, here) in
-      subst (λ w. IsFront share.lines (lines_of_worker round w)) (sym same)
-      (at_first (λ (q : Share). IsFront q.lines (lines_of_worker round worker)) (share_of p) share at are.1)
-  front_at worker (p ∷ parts) (a ∷ lw) (b ∷ ls) (c ∷ bw) (d ∷ bs) are (suc i) place share here at =
-      front_at (worker + 1) parts lw ls bw bs are.2 i place share (omega (arith, here)) at
-  front_at worker _ _ _ _ _ are i place share here at = absurd are

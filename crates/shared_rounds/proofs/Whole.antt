@@ -1,11 +1,12 @@
 -- A round's lines on seats, from the ends of all seats and the count behind them.
-use Rattle.std.proofs.Common.{◌≡◌, ◌∙◌, sym, ap, subst, refl, ℕ, ◌+◌, ◌/◌, ◌%◌, ◌*◌, ◌^◌, ◌<◌, ◌≤◌, Bool, List, []}
-use Rattle.std.proofs.Common.{◌∷◌, length, arith, map}
-use Rattle.std.proofs.Common.{Option, Some, None, Result, Ok, Err}
-use Rattle.std.specs.Prelude.{OnOk, slice_get, sum_by}
-use Rattle.lists.specs.declared.memory.Memory.{Memory}
+use Rattle.std.proofs.Common.{◌≡◌, ◌∙◌, sym, ap, subst, ℕ, ◌/◌, ◌*◌, ◌^◌, ◌≤◌, Bool, List}
+use Rattle.std.proofs.Common.{length, arith}
+use Rattle.std.proofs.Common.{mul-le-mul_left, Option}
+use Rattle.std.specs.Prelude.{sum_by}
+use Rattle.std.proofs.lemmas.List.{length-map}
+use Rattle.commit_core.specs.declared.seat.Seat.{Seat}
 use Rattle.serial_model.specs.declared.number.Number.{Number}
-use Rattle.script_grammar.specs.Script.{Round, worker_lines}
+use Rattle.script_grammar.specs.Script.{Round}
 use Rattle.engine_words.specs.Steps.{HasAudited}
 use Rattle.engine_words.specs.declared.layout.Layout.{Layout}
 use Rattle.engine_words.specs.declared.view.View.{View}
@@ -13,21 +14,21 @@ use Rattle.tx_script.specs.declared.outcome.Outcome.{Outcome}
 use Rattle.worker_cells.specs.declared.cell.LogEnd.{LogEnd}
 use Rattle.worker_logs.specs.Logs.{LogState}
 use Rattle.shared_rounds.specs.Contents.{after_commits}
-use Rattle.shared_rounds.specs.Ended.{AreTold, EndedSoFar}
-use Rattle.shared_rounds.specs.Parts.{IsClockOf, IsRound, clock_number}
-use Rattle.shared_rounds.specs.SharedState.{IsKept, conflicts_in, state_of}
-use Rattle.shared_rounds.specs.Shares.{RunsShares, Share}
+use Rattle.shared_rounds.specs.Ended.{EndedSoFar}
+use Rattle.shared_rounds.specs.Marks.{AreMarksBehind}
+use Rattle.shared_rounds.specs.Parts.{IsClockOf, IsRound, clock_number, ran_in}
+use Rattle.shared_rounds.specs.SharedState.{IsKept, conflicts_in, last_mark, marks_of, state_of}
+use Rattle.shared_rounds.specs.Shares.{RunsShares}
 use Rattle.shared_rounds.specs.Standing.{Standing}
-use Rattle.shared_rounds.specs.Workers.{LeftBy, RunsOver, RunsWorkers, StopsWorkers}
+use Rattle.shared_rounds.specs.Workers.{LeftBy, RunsOver, RunsWorkers}
 use Rattle.shared_rounds.proofs.Counted.{now_layout, split}
 use Rattle.shared_rounds.proofs.Joined.{shares_of}
 use Rattle.shared_rounds.proofs.Numbers.{same_epoch}
 use Rattle.shared_rounds.proofs.Ordered.{standing_at}
-use Rattle.shared_rounds.proofs.Renewed.{state_agrees, state_now}
+use Rattle.shared_rounds.proofs.Renewed.{clock_draws, state_agrees, state_now}
 use Rattle.shared_rounds.proofs.Shared.{round_runs}
-use Rattle.shared_rounds.proofs.Told.{front_at, left_at, left_many, told_failed, told_flushed, told_idle, told_lines}
-use Rattle.shared_rounds.proofs.Told.{lines_from}
-use Rattle.shared_rounds.proofs.Told.{told_outcomes, told_refusals}
+use Rattle.shared_rounds.proofs.Told.{left_at, left_many, ran_told, seat_mark, told_failed, told_flushed, told_idle}
+use Rattle.shared_rounds.proofs.Told.{lines_from, told_lines, told_outcomes, told_refusals, told_rests, told_tied}
 
 -- where the engine stands, as the keeper's view and the clock have it
 abbrev pub stands : View → Number → Bool → Standing
@@ -35,9 +36,8 @@ stands v clock done = standing_at v (state_of v) clock (conflicts_in v.refused) 
 
 module _ {D : Type 0} (tells : D → Option (List ℕ)) (clock : D → ℕ) (image_at : D → ℕ → List ℕ → Type 0)
     (faults : D → ℕ) (tries : ℕ) (round : Round) (was ended now : View) (logs_was logs : List LogState)
-    (banks_was banks : List D) (memory : Result (Unit {0}) Memory) (outcomes : List (List Outcome)) (ends : List LogEnd)
-    (so : EndedSoFar tells clock image_at faults tries round was ended 8 logs_was logs banks_was banks memory outcomes
-    ends)
+    (banks_was banks : List D) (outcomes : List (List Outcome)) (ends : List LogEnd)
+    (so : EndedSoFar tells clock image_at faults tries round was ended 8 logs_was logs banks_was banks outcomes ends)
     (kept : IsKept was) (word count : ℕ) (audited : HasAudited ended word count now) where
   abbrev pub round_is : IsRound tries was now so.parts
   round_is = record {
@@ -53,6 +53,7 @@ module _ {D : Type 0} (tells : D → Option (List ℕ)) (clock : D → ℕ) (ima
     gathers = so.gathers;
     seen = so.seen;
     conflicts = so.conflicts;
+    draws = so.draws;
     clock = word;
     count = count;
     audited = audited;
@@ -101,30 +102,38 @@ module _ {D : Type 0} (tells : D → Option (List ℕ)) (clock : D → ℕ) (ima
         }
 
     -- all lines were run
-    pub workers_run : AreTold round 0 so.parts outcomes ends logs_was logs
-        → word % 2 ^ 40 ≤ first.draw + tries * sum_by length outcomes
-        → RunsWorkers tells clock image_at faults tries round (stands was first done) (stands now
+    pub workers_run : RunsWorkers tells clock image_at faults tries round (stands was first done) (stands now
         (clock_number word) done)
         outcomes ends logs_was logs banks_was banks
-    workers_run told few = record {
+    workers_run = record {
       shares = shares_of so.parts;
       over = over_so;
-      lines = told_lines round 0 so.parts outcomes ends logs_was logs told ∙ ap (lines_from round 0) so.many;
-      drawn = few;
-      told = told_outcomes round 0 so.parts outcomes ends logs_was logs told;
-      idle = told_idle round 0 so.parts outcomes ends logs_was logs told;
-      ends_failed = told_failed round 0 so.parts outcomes ends logs_was logs told;
-      flushed = λ i log less is. told_flushed round 0 so.parts outcomes ends logs_was logs told i log is;
-      ends_are = told_refusals round 0 so.parts outcomes ends logs_was logs told;
+      lines = told_lines round 0 so.parts outcomes ends logs_was logs so.told ∙ ap (lines_from round 0) so.many;
+      drawn =
+          let few = ran_told round 0 so.parts outcomes ends logs_was logs so.told in
+          let times : tries * ran_in so.parts ≤ tries * sum_by length outcomes = mul-le-mul_left tries few in
+          let begins = at.draw in
+          let drew = so.draws in
+          let clock_is = clock_draws tries was now so.parts round_is in
+          omega (arith, times, begins, drew, clock_is, kept.draws);
+      told = told_outcomes round 0 so.parts outcomes ends logs_was logs so.told;
+      idle = told_idle round 0 so.parts outcomes ends logs_was logs so.told;
+      ends_failed = told_failed round 0 so.parts outcomes ends logs_was logs so.told;
+      flushed = λ i log less is. told_flushed round 0 so.parts outcomes ends logs_was logs so.told i log is;
+      ends_are = told_refusals round 0 so.parts outcomes ends logs_was logs so.told;
     }
 
-    -- some first ones of each worker were
-    pub workers_stop : StopsWorkers tells clock image_at faults tries round (stands was first done)
-        (stands now (clock_number word) done) logs_was logs banks_was banks
-    workers_stop = record {
-      shares = shares_of so.parts;
-      over = over_so;
-      fronts = λ i share place. front_at tells clock image_at faults round was.epoch 0 so.parts logs_was logs
-          banks_was banks
-          so.left i i share (omega arith) place;
-    }
+  -- the marks of the seats are those of the round
+  pub marks_so : AreMarksBehind round logs (marks_of now.parked)
+  marks_so =
+      let parked : now.parked ≡ ended.parked =
+      ap (λ (v : View). v.parked) audited.2.is ∙ ap (λ (v : View). v.parked) audited.1.is in
+      subst (λ (l : List Seat). AreMarksBehind round logs (marks_of l)) (sym parked) (record {
+        workers = length-map ended.parked (λ (seat : Seat). last_mark seat.marks) ∙ so.parked_are;
+        idle = λ worker log mark is marked none.
+            told_rests round 0 so.parts outcomes ends logs_was logs so.told worker worker log mark is (omega arith)
+            (λ p there. seat_mark ended.parked worker p.to.seat mark marked (so.taken worker p there)) none;
+        busy = λ worker log mark is marked some up.
+            told_tied round 0 so.parts outcomes ends logs_was logs so.told worker worker log mark is (omega arith)
+            (λ p there. seat_mark ended.parked worker p.to.seat mark marked (so.taken worker p there)) some up;
+      })

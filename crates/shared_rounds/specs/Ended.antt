@@ -1,8 +1,6 @@
 -- Workers' seats that were taken in again, one worker after another.
-use Rattle.std.specs.Prelude.{◌≡◌, ◌<◌, ◌≤◌, ◌+◌, ◌-◌, ◌*◌, ◌++◌, ℕ, List, [], ◌∷◌, Option, OnOk, Result, Ok, Err}
-use Rattle.std.specs.Prelude.{map, length, get_or, sum_by, ⊤}
-use Rattle.lists.specs.Fronts.{IsFront}
-use Rattle.lists.specs.declared.memory.Memory.{Memory}
+use Rattle.std.specs.Prelude.{◌≡◌, ◌<◌, ◌≤◌, ◌+◌, ◌-◌, ◌*◌, ◌++◌, ℕ, List, [], ◌∷◌, Option, Some}
+use Rattle.std.specs.Prelude.{map, length, get_or, slice_get, ⊤}
 use Rattle.script_grammar.specs.Script.{Round, lines_of_worker}
 use Rattle.engine_words.specs.Cuts.{HasSeen}
 use Rattle.engine_words.specs.Gathered.{gathered_all}
@@ -10,19 +8,18 @@ use Rattle.engine_words.specs.Views.{IsResting, bare_seat}
 use Rattle.engine_words.specs.declared.view.Role.TheVariants.{Keeper}
 use Rattle.engine_words.specs.declared.view.View.{View}
 use Rattle.tx_script.specs.declared.outcome.Outcome.{Outcome}
-use Rattle.worker_cells.specs.Rows.{lines_of, logged_of}
+use Rattle.worker_cells.specs.Rows.{logged_of}
 use Rattle.engine_words.specs.declared.engine.Engine.{Engine}
 use Rattle.worker_cells.specs.declared.cell.Cell.{Cell}
 use Rattle.worker_cells.specs.declared.cell.LogEnd.{LogEnd}
 use Rattle.worker_logs.specs.Logs.{LogState}
 use Rattle.shared_rounds.specs.Left.{TellsPart}
-use Rattle.shared_rounds.specs.Parts.{AreParts, Part, share_of}
+use Rattle.shared_rounds.specs.Parts.{AreParts, Part, ran_in, share_of}
 use Rattle.shared_rounds.specs.Seated.{AreRan, backward}
 use Rattle.shared_rounds.specs.Seating.{seats_from}
 use Rattle.shared_rounds.specs.SharedState.{conflicts_in}
 use Rattle.shared_rounds.specs.Shares.{Share, all_conflicts}
 use Rattle.shared_rounds.specs.Workers.{LeftBy}
-use Rattle.shared_rounds.specs.declared.ends.WorkersRan.{WorkersRan}
 
 -- what is told of all lines of the workers from this one on
 abbrev pub AreTold : Round → ℕ → List Part → List (List Outcome) → List LogEnd → List LogState → List LogState → Type 0
@@ -32,11 +29,6 @@ AreTold round worker (p ∷ parts) (o ∷ outcomes) (e ∷ ends) (old ∷ logs_w
     (worker + 1) parts outcomes ends logs_was logs
 AreTold round worker _ _ _ _ _ = ⊥
 
--- what the ends answered, where no more numbers were drawn than the lines have tries
-abbrev pub IsWithin : ℕ → ℕ → ℕ → Result WorkersRan Memory → Result WorkersRan Memory → Type 0
-IsWithin tries before after ran (Ok r) = (ran ≡ Ok r) × (after ≤ before + tries * sum_by length r.outcomes)
-IsWithin tries before after ran (Err memory) = ⊤
-
 module _ {D : Type 0} (tells : D → Option (List ℕ)) (clock : D → ℕ) (image_at : D → ℕ → List ℕ → Type 0)
     (faults : D → ℕ) where
   -- what the workers from this one on, whose lines were run in this epoch, left of their logs and log files
@@ -44,14 +36,12 @@ module _ {D : Type 0} (tells : D → Option (List ℕ)) (clock : D → ℕ) (ima
   AreLeft round epoch worker [] [] [] [] [] = ⊤
   AreLeft round epoch worker (p ∷ parts) (old ∷ logs_was) (new ∷ logs) (before ∷ banks_was) (now ∷ banks) =
       LeftBy tells clock image_at faults epoch epoch (logged_of p.ran) p.refusal old new before now
-      × IsFront (lines_of p.ran ++ p.left) (lines_of_worker round worker)
       × AreLeft round epoch (worker + 1) parts logs_was logs banks_was banks
   AreLeft round epoch worker _ _ _ _ _ = ⊥
 
   -- The first workers' seats were taken in again, so many of eight.
   pub record EndedSoFar (tries : ℕ) (round : Round) (was now : View) (count : ℕ) (logs_was logs : List LogState)
-      (banks_was banks : List D) (memory : Result (Unit {0}) Memory) (outcomes : List (List Outcome))
-      (ends : List LogEnd) : Type 0 where
+      (banks_was banks : List D) (outcomes : List (List Outcome)) (ends : List LogEnd) : Type 0 where
     pub parts : List Part
     pub many : length parts ≡ count
     pub are : AreParts tries was now 0 parts
@@ -63,29 +53,23 @@ module _ {D : Type 0} (tells : D → Option (List ℕ)) (clock : D → ℕ) (ima
     pub gathers : now.mine ≡ gathered_all was.mine (map (λ (p : Part). p.to.mine) parts)
     pub conflicts : conflicts_in now.refused
         ≡ conflicts_in was.refused + all_conflicts (map (λ (share : Share). share.tries_refused) (map share_of parts))
+    pub draws : now.draws ≤ was.draws + tries * ran_in parts
     pub parked_are : length now.parked ≡ 8
     pub parked : (worker : ℕ) → worker < 8 → IsResting (get_or now.parked worker bare_seat)
+    pub taken : (worker : ℕ) (p : Part) → slice_get parts worker ≡ Some p
+        → get_or now.parked worker bare_seat ≡ p.to.seat
     pub left : AreLeft round was.epoch 0 parts logs_was logs banks_was banks
-    pub told : OnOk memory (AreTold round 0 parts outcomes ends logs_was logs)
+    pub told : AreTold round 0 parts outcomes ends logs_was logs
 
   -- Some first workers' seats were taken in again, and the cells of the others, the last one first, are as they were.
   pub record EndsOn (tries : ℕ) (round : Round) (words : Engine) (was now : View) (count : ℕ) (cells : List (Cell D))
-      (logs_was logs : List LogState) (banks_was banks : List D) (memory : Result (Unit {0}) Memory)
-      (outcomes : List (List Outcome)) (ends : List LogEnd) : Type 0 where
+      (logs_was logs : List LogState) (banks_was banks : List D) (outcomes : List (List Outcome))
+      (ends : List LogEnd) : Type 0 where
     pub logs_done : List LogState
     pub logs_left : List LogState
     pub banks_done : List D
     pub banks_left : List D
     pub logs_are : logs_was ≡ logs_done ++ logs_left
     pub banks_are : banks_was ≡ banks_done ++ banks_left
-    pub so_far : EndedSoFar tries round was now count logs_done logs banks_done banks memory outcomes ends
+    pub so_far : EndedSoFar tries round was now count logs_done logs banks_done banks outcomes ends
     pub ran : AreRan tells clock image_at faults tries round words was count (backward cells) logs_left banks_left
-
-  -- All seats were taken in again: with an answer all lines were run, else memory was wanted.
-  abbrev pub EndsAll : ℕ → Round → View → View → List LogState → List LogState → List D → List D
-      → Result WorkersRan Memory → Type 0
-  EndsAll tries round was now logs_was logs banks_was banks (Ok ran) =
-      EndedSoFar tries round was now 8 logs_was logs banks_was banks (Ok tt) ran.outcomes ran.ends.items
-  EndsAll tries round was now logs_was logs banks_was banks (Err memory) =
-      (outcomes : List (List Outcome)) × (ends : List LogEnd)
-      × EndedSoFar tries round was now 8 logs_was logs banks_was banks (Err memory) outcomes ends

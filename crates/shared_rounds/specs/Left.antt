@@ -1,16 +1,17 @@
 -- What a worker's cell leaves of its log, told by its part of the round.
 use Rattle.std.specs.Prelude.{◌≡◌, ℕ, List, [], ◌++◌, Option, None, is_some}
-use Rattle.lists.specs.Fronts.{IsFront}
 use Rattle.serial_model.specs.declared.op.Op.{Op}
 use Rattle.engine_words.specs.declared.view.View.{View}
 use Rattle.tx_script.specs.declared.outcome.Outcome.{Outcome}
+use Rattle.worker_cells.specs.Cells.{core_mark}
 use Rattle.worker_cells.specs.Rows.{lines_of, logged_of}
 use Rattle.worker_cells.specs.declared.cell.LogEnd.{LogEnd}
 use Rattle.worker_logs.specs.Logs.{LogState}
 use Rattle.shared_rounds.specs.Parts.{IsPart, Part, share_of}
+use Rattle.shared_rounds.specs.SharedState.{last_mark}
 use Rattle.shared_rounds.specs.Workers.{LeftBy, refusal_of}
 
--- The part of all these lines: what is told of them, and of the log.
+-- The part of all these lines: what is told of them, of the log, and of the mark on the words.
 pub record TellsPart (lines : List (List Op)) (outcomes : List Outcome) (end : LogEnd) (p : Part) (old new : LogState)
     : Type 0 where
   pub lines_are : lines_of p.ran ++ p.left ≡ lines
@@ -19,12 +20,13 @@ pub record TellsPart (lines : List (List Op)) (outcomes : List Outcome) (end : L
   pub idle : lines ≡ [] → new ≡ old
   pub failed : end.failed ≡ is_some new.journal.down
   pub flushed : new.journal.down ≡ None → new.journal.lines ≡ []
+  pub rests : lines ≡ [] → last_mark p.to.seat.marks ≡ record { epoch = None; length = old.mark.length }
+  pub tied : (lines ≡ [] → ⊥) → new.journal.down ≡ None → last_mark p.to.seat.marks ≡ core_mark new.mark
 
 module _ {D : Type 0} (tells : D → Option (List ℕ)) (clock : D → ℕ) (image_at : D → ℕ → List ℕ → Type 0)
     (faults : D → ℕ) where
-  -- The worker's part, of some first ones of these lines, and what it left of its log.
-  pub record LeavesPart (tries : ℕ) (lines : List (List Op)) (was ended : View) (worker : ℕ) (p : Part)
+  -- The worker's part, and what it left of its log.
+  pub record LeavesPart (tries : ℕ) (was ended : View) (worker : ℕ) (p : Part)
       (old new : LogState) (before now : D) : Type 0 where
     pub part : IsPart tries was ended worker p
     pub left_by : LeftBy tells clock image_at faults was.epoch was.epoch (logged_of p.ran) p.refusal old new before now
-    pub front : IsFront (lines_of p.ran ++ p.left) lines

@@ -12,3 +12,5 @@ pub mod Ended
 pub mod Lines
 pub mod Gathers
 pub mod Rooms
+pub mod Marks
+pub mod Totals

@@ -1,5 +1,6 @@
 -- What the workers of a round did on their own seats, between two counts of the maintenance thread's pass.
-use Rattle.std.specs.Prelude.{◌≡◌, ◌≤◌, ◌+◌, ◌/◌, ◌%◌, ◌^◌, ◌++◌, ℕ, List, [], ◌∷◌, length, map, Option, None, ⊤}
+use Rattle.std.specs.Prelude.{◌≡◌, ◌≤◌, ◌+◌, ◌*◌, ◌/◌, ◌%◌, ◌^◌, ◌++◌, ℕ, List, [], ◌∷◌, length, map, sum_by}
+use Rattle.std.specs.Prelude.{Option, None, ⊤}
 use Rattle.std.specs.List.{AllByRecursion}
 use Rattle.serial_model.specs.declared.number.Number.{Number}
 use Rattle.serial_model.specs.declared.op.Op.{Op}
@@ -12,7 +13,6 @@ use Rattle.engine_words.specs.declared.view.Refused.{Refused}
 use Rattle.engine_words.specs.declared.view.Refused.TheVariants as refusals
 use Rattle.engine_words.specs.declared.view.Role.TheVariants.{Keeper}
 use Rattle.engine_words.specs.declared.view.View.{View}
-use Rattle.tx_script.specs.declared.outcome.Outcome.{Outcome}
 use Rattle.worker_cells.specs.Rows.{AreInARow, IsSince, LineRan, lines_of, logged_of, outcomes_of, unrun}
 use Rattle.tx_script.specs.Run.{LogRefusal, TryRefusal, InConflict, NoNumber}
 use Rattle.shared_rounds.specs.SharedState.{IsCounted, conflicts_in}
@@ -74,12 +74,17 @@ AreParts tries was ended worker (p ∷ parts) =
 abbrev pub clock_number : ℕ → Number
 clock_number n = record { epoch = n / 2 ^ 40; draw = n % 2 ^ 40 }
 
--- the number is the clock's as the view last saw it: no draw that it has seen later is below it
+-- the number is the clock's, of which the view knows each draw
 pub record IsClockOf (clock : Number) (v : View) : Type 0 where
   pub epoch : clock.epoch ≡ v.epoch
-  pub draw : clock.draw ≤ v.layout.first.draw + length v.history
+  pub draw : clock.draw ≡ v.layout.first.draw + length v.history
 
--- Between two counts eight workers were seated, and taken in again with these parts.
+-- how many lines were run
+abbrev pub ran_in : List Part → ℕ
+ran_in parts = sum_by (λ (p : Part). length p.ran) parts
+
+-- Between two counts eight workers were seated, and taken in again with these parts. No more numbers were drawn than
+-- their lines had tries.
 pub record IsRound (tries : ℕ) (was now : View) (parts : List Part) : Type 0 where
   pub arrays : HasNoTree was.layout.decls
   pub counted : IsCounted was
@@ -94,6 +99,7 @@ pub record IsRound (tries : ℕ) (was now : View) (parts : List Part) : Type 0 w
   pub seen : HasSeen was ended
   pub conflicts : conflicts_in ended.refused
       ≡ conflicts_in was.refused + all_conflicts (map (λ (share : Share). share.tries_refused) (map share_of parts))
+  pub draws : ended.draws ≤ was.draws + tries * ran_in parts
   pub clock : ℕ
   pub count : ℕ
   pub audited : HasAudited ended clock count now

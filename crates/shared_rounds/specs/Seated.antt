@@ -1,7 +1,6 @@
 -- The cells of a round's workers, as their lines begin and behind them.
-use Rattle.std.specs.Prelude.{◌≡◌, ◌<◌, ◌+◌, ◌++◌, ℕ, List, [], ◌∷◌, Option, OnOk, OnErr, ⊤}
-use Rattle.std.specs.Prelude.{Result, Ok, Err}
-use Rattle.serial_model.specs.declared.op.Op.{Op}
+use Rattle.std.specs.Prelude.{◌≡◌, ◌<◌, ◌+◌, ◌++◌, get_or, ℕ, List, [], ◌∷◌, Option, None, ⊤}
+use Rattle.std.specs.Prelude.{◌≤◌, length}
 use Rattle.script_grammar.specs.Script.{Round, lines_of_worker}
 use Rattle.engine_words.specs.Cuts.{worker_view}
 use Rattle.engine_words.specs.Passes.{IsPassOf, view}
@@ -11,44 +10,56 @@ use Rattle.engine_words.specs.declared.view.View.{View}
 use Rattle.tx_commit.specs.Live.{IsOver}
 use Rattle.tx_runner.specs.Lines.{HasNoTree}
 use Rattle.tx_script.specs.Run.{CanRun}
-use Rattle.worker_cells.specs.Cells.{IsCell, RunsCell, StopsCell}
+use Rattle.worker_cells.specs.Cells.{IsCell, RunsCell}
+use Rattle.worker_cells.specs.Rows.{Goes}
 use Rattle.worker_cells.specs.declared.cell.Cell.{Cell}
 use Rattle.worker_logs.specs.Logs.{LogState}
+use Rattle.shared_rounds.specs.SharedState.{last_mark}
 
 -- the same in the other order
 abbrev pub backward : {X : Type 0} → List X → List X
 backward [] = []
 backward (x ∷ xs) = backward xs ++ x ∷ []
 
+-- A pass of a worker of so many lines as these begin: it is as it was seated, and without a line its mark is idle, and
+-- has this length.
+pub record IsBegun (lines size : ℕ) (from now : View) : Type 0 where
+  pub goes : Goes from now
+  pub epoch : now.epoch ≡ from.epoch
+  pub stands : (lines ≡ 0 → ⊥) → now ≡ from
+  pub rests : lines ≡ 0 → last_mark now.seat.marks ≡ record { epoch = None; length = size }
+
 module _ {D : Type 0} (tells : D → Option (List ℕ)) where
   -- The worker's cell, with this log and log file.
-  pub record IsSeated (words : Engine) (was : View) (worker : ℕ) (cell : Cell D) (log : LogState)
+  pub record IsSeated (words : Engine) (was : View) (counts : List ℕ) (worker : ℕ) (cell : Cell D) (log : LogState)
       (bank : D) : Type 0 where
     pub of : IsPassOf words cell.pass
     pub number : cell.worker ≡ worker
     pub small : worker < 8
-    pub seated : view cell.pass ≡ worker_view worker was
+    pub lines : cell.lines ≡ get_or counts worker 0
+    pub begun : IsBegun (get_or counts worker 0) log.mark.length (worker_view worker was) (view cell.pass)
     pub log_is : cell.log ≡ log
     pub bank_is : cell.bank ≡ bank
     pub ready : IsCell tells (view cell.pass) cell.log cell.bank
-    pub outcomes : cell.outcomes ≡ []
+    pub none : cell.outcomes.told ≡ []
+    pub room : cell.outcomes.left ≡ get_or counts worker 0
 
   -- the cells of the workers from this one on
-  abbrev pub AreSeated : Engine → View → ℕ → List (Cell D) → List LogState → List D → Type 0
-  AreSeated words was worker [] [] [] = ⊤
-  AreSeated words was worker (cell ∷ cells) (log ∷ logs) (bank ∷ banks) =
-      IsSeated words was worker cell log bank × AreSeated words was (worker + 1) cells logs banks
-  AreSeated words was worker _ _ _ = ⊥
+  abbrev pub AreSeated : Engine → View → List ℕ → ℕ → List (Cell D) → List LogState → List D → Type 0
+  AreSeated words was counts worker [] [] [] = ⊤
+  AreSeated words was counts worker (cell ∷ cells) (log ∷ logs) (bank ∷ banks) =
+      IsSeated words was counts worker cell log bank × AreSeated words was counts (worker + 1) cells logs banks
+  AreSeated words was counts worker _ _ _ = ⊥
 
   -- The workers from this one on are seated, the last one first: what logs and log files are left, and theirs.
-  pub record SeatedSoFar (words : Engine) (was : View) (worker : ℕ) (cells : List (Cell D))
+  pub record SeatedSoFar (words : Engine) (was : View) (counts : List ℕ) (worker : ℕ) (cells : List (Cell D))
       (logs_was logs : List LogState)
       (banks_was banks : List D) : Type 0 where
     pub their_logs : List LogState
     pub their_banks : List D
     pub logs_are : logs_was ≡ logs ++ their_logs
     pub banks_are : banks_was ≡ banks ++ their_banks
-    pub seated : AreSeated words was worker (backward cells) their_logs their_banks
+    pub seated : AreSeated words was counts worker (backward cells) their_logs their_banks
 
   -- what a cell has as its thread begins
   pub record IsReady (words : Engine) (round : Round) (cell : Cell D) : Type 0 where
@@ -58,7 +69,9 @@ module _ {D : Type 0} (tells : D → Option (List ℕ)) where
     pub small : cell.worker < 8
     pub lines : CanRun (view cell.pass).layout.decls round
     pub arrays : HasNoTree (view cell.pass).layout.decls
-    pub outcomes : cell.outcomes ≡ []
+    pub none : cell.outcomes.told ≡ []
+    pub count : cell.lines ≡ length (lines_of_worker round cell.worker)
+    pub room : length (lines_of_worker round cell.worker) ≤ cell.outcomes.left
 
 -- a cell whose seat may end
 pub record MayEnd {D : Type 0} (words : Engine) (cell : Cell D) : Type 0 where
@@ -71,10 +84,8 @@ module _ {D : Type 0} (tells : D → Option (List ℕ)) (clock : D → ℕ) (ima
   pub record HasRun (tries : ℕ) (round : Round) (words : Engine) (old new : Cell D) : Type 0 where
     pub of : IsPassOf words new.pass
     pub number : new.worker ≡ old.worker
-    pub runs : OnOk new.ran (RunsCell tells clock image_at faults tries (lines_of_worker round old.worker) new.outcomes
-        new.end (view old.pass) (view new.pass) old.log new.log old.bank new.bank)
-    pub stops : OnErr new.ran (StopsCell tells clock image_at faults tries (lines_of_worker round old.worker)
-        (view old.pass) (view new.pass) old.log new.log old.bank new.bank)
+    pub runs : RunsCell tells clock image_at faults tries (lines_of_worker round old.worker) new.outcomes.told new.end
+        (view old.pass) (view new.pass) old.log new.log old.bank new.bank
 
   -- The worker's cell behind its lines, which began with this log and log file.
   pub record IsRan (tries : ℕ) (round : Round) (words : Engine) (was : View) (worker : ℕ) (cell : Cell D)
@@ -82,10 +93,10 @@ module _ {D : Type 0} (tells : D → Option (List ℕ)) (clock : D → ℕ) (ima
     pub of : IsPassOf words cell.pass
     pub number : cell.worker ≡ worker
     pub small : worker < 8
-    pub runs : OnOk cell.ran (RunsCell tells clock image_at faults tries (lines_of_worker round worker) cell.outcomes
-        cell.end (worker_view worker was) (view cell.pass) log cell.log bank cell.bank)
-    pub stops : OnErr cell.ran (StopsCell tells clock image_at faults tries (lines_of_worker round worker)
-        (worker_view worker was) (view cell.pass) log cell.log bank cell.bank)
+    pub from : View
+    pub begun : IsBegun (length (lines_of_worker round worker)) log.mark.length (worker_view worker was) from
+    pub runs : RunsCell tells clock image_at faults tries (lines_of_worker round worker) cell.outcomes.told cell.end
+        from (view cell.pass) log cell.log bank cell.bank
 
   -- the cells of the workers from this one on
   abbrev pub AreRan : ℕ → Round → Engine → View → ℕ → List (Cell D) → List LogState → List D → Type 0

@@ -1,8 +1,8 @@
 -- What an engine of words is between two rounds, as the pass of the maintenance thread knows it.
-use Rattle.std.specs.Prelude.{◌≡◌, ◌+◌, ◌-◌, ◌<◌, ◌≤◌, ◌&&◌, ℕ, Bool, true, false, List, [], ◌∷◌, filter, length}
-use Rattle.std.specs.Prelude.{Contains, Some, get_or}
+use Rattle.std.specs.Prelude.{◌≡◌, ◌+◌, ◌-◌, ◌<◌, ◌&&◌, ℕ, Bool, true, false, List, [], ◌∷◌, filter, length, map}
+use Rattle.std.specs.Prelude.{Contains, None, Some, fold, get_or}
 use Rattle.std.specs.List.{list_all}
-use Rattle.std.specs.FinMap.{empty, entries}
+use Rattle.std.specs.FinMap.{empty, entries, get}
 use Rattle.views.specs.Sums.{total}
 use Rattle.serial_model.specs.declared.decl.Decl.{Decl}
 use Rattle.serial_model.specs.declared.decl.Decl.TheVariants.{Array, Tree}
@@ -16,6 +16,8 @@ use Rattle.commit_core.specs.declared.attempt.Attempt.{Attempt}
 use Rattle.commit_core.specs.CoreState.{is_decided}
 use Rattle.commit_core.specs.Keys.{content_of}
 use Rattle.commit_core.specs.Sound.Numbers.{EachOnce}
+use Rattle.commit_core.specs.declared.seat.Mark.{Mark}
+use Rattle.commit_core.specs.declared.seat.Seat.{Seat}
 use Rattle.serial_bridge.specs.WriteSets.{HasNoTree}
 use Rattle.engine_words.specs.declared.engine.Engine.{Engine}
 use Rattle.engine_words.specs.declared.view.Refused.{Refused}
@@ -58,6 +60,18 @@ opened (e ∷ more) = with_value (opened more) e.0 e.1.value
 abbrev pub state_of : View → State
 state_of v = after_commits (opened v.layout.opening) v.mine
 
+-- an idle mark of no bytes
+abbrev pub no_mark : Mark
+no_mark = record { epoch = None; length = 0 }
+
+-- the last of the marks that a seat set
+abbrev pub last_mark : List Mark → Mark
+last_mark marks = fold (λ before mark. mark) no_mark marks
+
+-- of each worker, who isn't seated, the mark on the words: the last one of its seat
+abbrev pub marks_of : List Seat → List Mark
+marks_of seats = map (λ (seat : Seat). last_mark seat.marks) seats
+
 -- the refusal is a conflict
 abbrev pub was_conflict : Refused → Bool
 was_conflict (Conflict word expected seen) = true
@@ -68,14 +82,15 @@ was_conflict (NumberLimit clock) = false
 abbrev pub conflicts_in : List Refused → ℕ
 conflicts_in refused = length (filter was_conflict refused)
 
--- the storages, their contents, the number that the next commit gets, the attempts that count, in order of number, and
--- how many tries were refused with a conflict so far
+-- the storages, their contents, the number that the next commit gets, the attempts that count, in order of number, how
+-- many tries were refused with a conflict so far, and the workers' marks on the words, worker 0's first
 pub record SharedState : Type 0 where
   pub decls : List Decl
   pub state : State
   pub clock : Number
   pub mine : List Attempt
   pub conflicts : ℕ
+  pub marks : List Mark
 
 -- what the keeper's pass and the clock are
 abbrev pub shared_by : Pass → Number → SharedState
@@ -85,6 +100,7 @@ shared_by keeper clock = record {
   clock = clock;
   mine = (view keeper).mine;
   conflicts = conflicts_in (view keeper).refused;
+  marks = marks_of (view keeper).parked;
 }
 
 -- What a count told of the keeper's view, with nobody seated: its own commits are those that count.
@@ -94,26 +110,28 @@ pub record IsCounted (v : View) : Type 0 where
   pub drawn : (n : Number) → is_decided v.decided n ≡ true → (a : Attempt) × Contains v.history a × (a.number ≡ n)
 
 -- What the keeper's pass knows between two rounds: nobody is seated, and no worker's seat has a transaction; each
--- storage is an array; and the attempts that count are its own, and serial.
+-- storage is an array, and only their keys have values; the attempts that count are its own, and serial; and each
+-- number was drawn by this pass, or by one that was ended into it.
 pub record IsKept (v : View) : Type 0 where
   pub role : v.role ≡ Keeper
   pub made : v.made ≡ []
   pub decls : AreDecls v.layout.decls
   pub arrays : HasNoTree v.layout.decls
   pub first : IsNumber v.layout.first
+  pub records : (k : Key) → has_record v.layout.decls k ≡ false → get (state_of v) k ≡ None
   pub counted : IsCounted v
+  pub draws : v.draws ≡ length v.history
   pub once : EachOnce v.decided
   pub serial : AreSerial v.layout.opening v.history v.decided
   pub parked_are : length v.parked ≡ 8
   pub parked : (worker : ℕ) → worker < 8 → IsResting (get_or v.parked worker bare_seat)
 
--- The words with the keeper's pass, the storages, and the clock as it was last loaded: its draw is at most the one
--- behind all that the pass has seen.
+-- The words with the keeper's pass, the storages, and the clock as it was last loaded: its draw is the one behind all
+-- that were drawn.
 pub record AreKept (words : Engine) (keeper : Pass) (decls : List Decl) (clock : Number) : Type 0 where
   pub of : IsPassOf words keeper
   pub kept : IsKept (view keeper)
   pub decls_are : decls ≡ (view keeper).layout.decls
   pub number : IsNumber clock
   pub epoch : clock.epoch ≡ (view keeper).epoch
-  pub from : (view keeper).layout.first.draw ≤ clock.draw
-  pub to : clock.draw ≤ (view keeper).layout.first.draw + length (view keeper).history
+  pub draw : clock.draw ≡ (view keeper).layout.first.draw + (view keeper).draws

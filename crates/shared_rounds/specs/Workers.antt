@@ -76,8 +76,8 @@ module _ {D : Type 0} (tells : D → Option (List ℕ)) (clock : D → ℕ) (ima
         → LeftBy s.clock.epoch t.clock.epoch share.logged share.refusal old new before now
 
   -- All lines of a round were run, or left out: what is told of them, and what was found of each log. No more numbers
-  -- were drawn than the lines have tries. The log of a worker without a line is as it was; where a log is up none of its
-  -- lines waits.
+  -- were drawn than the lines have tries. The log of a worker without a line is as it was; where a log is up none of
+  -- its lines waits.
   pub record RunsWorkers (tries : ℕ) (round : Round) (s t : Standing) (outcomes : List (List Outcome))
       (ends : List LogEnd) (logs_was logs : List LogState) (banks_was banks : List D) : Type 0 where
     pub shares : List Share

@@ -1,35 +1,39 @@
 // The cells of a round's workers: made, lent to threads, and taken apart again.
-ghost use Rattle.std.specs.Prelude.{◌≡◌, ◌<◌, ◌≤◌, ℕ, [], length, slice_index_or, vec_capacity, vec_len};
+ghost use Rattle.std.specs.Prelude.{◌≡◌, ◌<◌, ◌≤◌, ◌^◌, ℕ, [], length, slice_index_or, vec_capacity, vec_len};
 ghost use Rattle.std.specs.List.{AllByRecursion};
+ghost use Rattle.std.specs.Thread.{IsSend, IsSync};
 ghost use Rattle.worker_logs.specs.Logs.{LogState};
 ghost use Rattle.worker_logs.specs.Rows.{AreLogsUp};
+ghost use Rattle.views.specs.Sums.{times};
+ghost use Rattle.engine_words.specs.Cuts.{seated, worker_view};
 ghost use Rattle.engine_words.specs.Passes.{IsPassOf, view};
-ghost use Rattle.engine_words.specs.declared.view.View.{View};
-ghost use Rattle.shared_rounds.specs.Seated.{AreSeated, HasRun, IsReady, backward};
+ghost use Rattle.engine_words.specs.declared.view.Role.TheVariants.{Keeper};
+ghost use Rattle.shared_rounds.specs.Rooms.{AreRooms};
+ghost use Rattle.shared_rounds.specs.Seated.{AreSeated, HasRun, IsBegun, IsReady, backward};
 ghost use Rattle.shared_rounds.specs.Seating.{CanSeat, seats_from, with_made};
+ghost use Rattle.tx_commit.specs.Live.{IsOver};
 
-use crate::rooms::Rooms;
 use engine_words::{Engine, Pass, seat};
 use outside::{Disk, Gate};
-use std::alloc::Global;
-use std::thread::{Threads, for_each_mut};
+use std::thread::{Threads, for_each_mut, join_mut};
 use tx_commit::Txn;
-use tx_runner::LineRoom;
-use tx_script::Round;
+use tx_runner::{LineRoom, idle};
+use tx_script::{OutcomeRoom, Round};
 use worker_cells::{Cell, LogEnd, run_cell};
 use worker_logs::WorkerLog;
 
 /// How many workers there are.
 pub(crate) const WORKERS: usize = 8;
 
-/// Seats the workers, the last one first, each with its log and its log file.
+/// Seats the workers, the last one first, each with its log, its log file and its room. Those that have none of so many
+/// lines hold no epoch back from then on.
 pub(crate) fn seat_all<D: Disk + Drop>(
     engine: &Engine,
     keeper: &mut Pass,
-    alloc: Global,
     logs: &mut Vec<WorkerLog>,
     growing: &mut Vec<D>,
-    rooms: &mut Rooms,
+    counts: &[u32; WORKERS],
+    rooms: &mut Vec<OutcomeRoom>,
     cells: &mut Vec<Cell<D>>,
 )
     requires of { IsPassOf engine.now keeper.old }
@@ -37,6 +41,8 @@ pub(crate) fn seat_all<D: Disk + Drop>(
     requires logs { (vec_len logs.old ≡ 8) × (vec_len growing.old ≡ 8) }
     requires up { AreLogsUp D.tells logs.old.items growing.old.items }
     requires flushed { AllByRecursion (λ (log : LogState). log.journal.lines ≡ []) logs.old.items }
+    requires counts { length counts.now ≡ 8 }
+    requires rooms { (vec_len rooms.old ≡ 8) × AreRooms counts.now rooms.old.items }
     requires cells { (vec_len cells.old ≡ 0) × (cells.old.items ≡ []) × (8 ≤ vec_capacity cells.old) }
     ensures of { IsPassOf engine.now keeper.new }
     ensures keeper { view keeper.new ≡ with_made (seats_from 8 0) (view keeper.old) }
@@ -44,7 +50,7 @@ pub(crate) fn seat_all<D: Disk + Drop>(
         × (logs.new.items ≡ []) × (growing.new.items ≡ []) }
     ensures room { (8 ≤ vec_capacity logs.new) × (8 ≤ vec_capacity growing.new) }
     ensures len { vec_len cells.new ≡ 8 }
-    ensures seated { AreSeated D.tells engine.now (view keeper.old) 0 (backward cells.new.items)
+    ensures seated { AreSeated D.tells engine.now (view keeper.old) counts.now 0 (backward cells.new.items)
         logs.old.items growing.old.items }
 {
     for count in 0..WORKERS {
@@ -54,57 +60,131 @@ pub(crate) fn seat_all<D: Disk + Drop>(
         let Some(bank) = growing.pop() else {
             return;
         };
-        let worker = (WORKERS - 1 - count) as u8;
-        let pass = seat(engine, keeper, worker);
+        let Some(outcomes) = rooms.pop() else {
+            return;
+        };
+        let index = WORKERS - 1 - count;
+        let worker = index as u8;
+        let pass = seat_one(engine, keeper, worker, counts[index], log.mark().length);
         cells.push_reserved(Cell {
             worker,
+            lines: counts[index],
             pass,
             txn: Txn::new(),
             room: LineRoom::new(),
             log,
             shown: None,
             bank,
-            outcomes: rooms.take(alloc),
+            outcomes,
             end: LogEnd::default(),
-            ran: Ok(()),
         });
     }
 }
 
-/// Runs the lines of each cell's worker: of the last ones each in a thread of its own, of so many threads, and of those
-/// before them one after another.
+// Seats a worker of so many lines. Without one its mark is idle, at this length.
+fn seat_one(engine: &Engine, keeper: &mut Pass, worker: u8, lines: u32, length: u64) -> Pass
+    requires of { IsPassOf engine.now keeper.old }
+    requires keeper { (view keeper.old).role ≡ Keeper }
+    requires worker { (worker < 8) × (times worker (view keeper.old).made ≡ 0) }
+    requires over { IsOver (worker_view worker (view keeper.old)) }
+    requires length { length < 2 ^ 40 }
+    ensures of { IsPassOf engine.now keeper.new × IsPassOf engine.now result }
+    ensures keeper { view keeper.new ≡ seated worker (view keeper.old) }
+    ensures begun { IsBegun lines length (worker_view worker (view keeper.old)) (view result) }
+    ensures over { IsOver (view result) }
+{
+    let mut pass = seat(engine, keeper, worker);
+    if lines == 0 {
+        idle(engine, &mut pass, worker, length);
+    }
+    pass
+}
+
+/// Runs the lines of each cell's worker. There are as many threads as cells with lines, of which this thread is one; a
+/// cell without lines is gone over beside one that has some.
+#[cycle(parts)]
 pub(crate) fn run_all<R: Threads + Sync, D: Disk + Send + Drop, G: Gate + Sync>(
     rt: &R,
     engine: &Engine,
-    cells: &mut [Cell<D>],
-    threads: usize,
     round: &Round<'_>,
     tries: u32,
     gate: &G,
+    cells: &mut [Cell<D>],
 )
-    requires threads { 0 < threads }
     requires tries { 1 ≤ tries }
     requires ready { AllByRecursion (IsReady D.tells engine.now round.now) cells.old }
     ensures ran { (k : ℕ) (d : _) → k < length cells.old → HasRun D.tells D.clock D.image_at D.faults tries
         round.now engine.now (slice_index_or cells.old k d) (slice_index_or cells.new k d) }
 {
-    let first = cells.len().saturating_sub(threads);
-    let (idle, busy) = cells.split_at_mut(first);
-    run_part(rt, engine, idle, 1, round, tries, gate);
-    run_part(rt, engine, busy, threads, round, tries, gate);
+    let end = end_of_part(cells);
+    if end >= cells.len() {
+        run_in_turn(rt, engine, round, tries, gate, cells);
+        return;
+    }
+    let (part, rest) = cells.split_at_mut(end);
+    run_both(rt, engine, round, tries, gate, part, rest);
 }
 
-// Runs the lines of each cell's worker, in so many threads.
-fn run_part<R: Threads + Sync, D: Disk + Send + Drop, G: Gate + Sync>(
+// Runs the cells of the one part in a new thread, or last where none can be made, and those of the other here.
+#[cycle(parts)]
+fn run_both<R: Threads + Sync, D: Disk + Send + Drop, G: Gate + Sync>(
     rt: &R,
     engine: &Engine,
-    cells: &mut [Cell<D>],
-    threads: usize,
     round: &Round<'_>,
     tries: u32,
     gate: &G,
+    part: &mut [Cell<D>],
+    rest: &mut [Cell<D>],
 )
-    requires threads { 0 < threads }
+    requires tries { 1 ≤ tries }
+    requires part { AllByRecursion (IsReady D.tells engine.now round.now) part.old }
+    requires rest { AllByRecursion (IsReady D.tells engine.now round.now) rest.old }
+    ensures part { (k : ℕ) (d : _) → k < length part.old → HasRun D.tells D.clock D.image_at D.faults tries
+        round.now engine.now (slice_index_or part.old k d) (slice_index_or part.new k d) }
+    ensures rest { (k : ℕ) (d : _) → k < length rest.old → HasRun D.tells D.clock D.image_at D.faults tries
+        round.now engine.now (slice_index_or rest.old k d) (slice_index_or rest.new k d) }
+{
+    let mut there = ||
+        requires { IsSync R.row × IsSend D.row × IsSync G.row × (1 ≤ tries)
+            × AllByRecursion (IsReady D.tells engine.now round.now) part.now }
+        ensures { (k : ℕ) (d : _) → k < length part.entry.now → HasRun D.tells D.clock D.image_at D.faults tries
+            round.entry.now engine.entry.now (slice_index_or part.entry.now k d) (slice_index_or part.exit.now k d) }
+    { run_in_turn(rt, engine, round, tries, gate, part) };
+    let mut here = ||
+        requires { IsSync R.row × IsSend D.row × IsSync G.row × (1 ≤ tries)
+            × AllByRecursion (IsReady D.tells engine.now round.now) rest.now }
+        ensures { (k : ℕ) (d : _) → k < length rest.entry.now → HasRun D.tells D.clock D.image_at D.faults tries
+            round.entry.now engine.entry.now (slice_index_or rest.entry.now k d) (slice_index_or rest.exit.now k d) }
+    { run_all(rt, engine, round, tries, gate, rest) };
+    join_mut(rt, &mut there, &mut here);
+}
+
+// Where the first cell that has lines ends, if one behind it has some too, and else where all cells end.
+fn end_of_part<D>(cells: &[Cell<D>]) -> usize
+    ensures inside { result ≤ length cells.now }
+    ensures some { 0 < length cells.now → 0 < result }
+{
+    let mut end = 0;
+    for index in 0..cells.len() {
+        if cells[index].lines > 0 {
+            if end > 0 {
+                return end;
+            }
+            end = index + 1;
+        }
+    }
+    cells.len()
+}
+
+// Runs the lines of each cell's worker on this thread, one cell after another.
+fn run_in_turn<R: Threads + Sync, D: Disk + Send + Drop, G: Gate + Sync>(
+    rt: &R,
+    engine: &Engine,
+    round: &Round<'_>,
+    tries: u32,
+    gate: &G,
+    cells: &mut [Cell<D>],
+)
     requires tries { 1 ≤ tries }
     requires ready { AllByRecursion (IsReady D.tells engine.now round.now) cells.old }
     ensures ran { (k : ℕ) (d : _) → k < length cells.old → HasRun D.tells D.clock D.image_at D.faults tries
@@ -113,7 +193,7 @@ fn run_part<R: Threads + Sync, D: Disk + Send + Drop, G: Gate + Sync>(
     for_each_mut(
         rt,
         cells,
-        threads,
+        1,
         &|_index: usize, cell: &mut Cell<D>|
             requires { (1 ≤ tries) × IsReady D.tells engine.now round.now cell.now }
             ensures { HasRun D.tells D.clock D.image_at D.faults tries round.entry.now

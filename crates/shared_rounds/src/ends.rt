@@ -1,21 +1,18 @@
 // How the seats of a round's workers end.
-ghost use Rattle.std.specs.Prelude.{◌≡◌, ◌<◌, ◌≤◌, ◌++◌, ◌∷◌, ℕ, List, [], Ok, OnOk, vec_capacity, vec_len};
+ghost use Rattle.std.specs.Prelude.{◌≡◌, ◌≤◌, ℕ, List, [], vec_capacity, vec_len};
 ghost use Rattle.std.specs.List.{AllByRecursion};
 ghost use Rattle.script_grammar.specs.Script.{Round};
 ghost use Rattle.worker_logs.specs.Logs.{LogState};
 ghost use Rattle.engine_words.specs.Passes.{IsPassOf, view};
 ghost use Rattle.engine_words.specs.declared.view.Role.TheVariants.{Keeper};
 ghost use Rattle.engine_words.specs.declared.view.View.{View};
-ghost use Rattle.shared_rounds.specs.Ended.{EndsAll};
+ghost use Rattle.shared_rounds.specs.Ended.{EndedSoFar};
 ghost use Rattle.shared_rounds.specs.Seated.{AreRan, MayEnd, backward};
 ghost use Rattle.shared_rounds.specs.Seating.{StandsFor};
 
-use crate::cells::WORKERS;
 use arrayvec::ArrayVec;
 use engine_words::{Engine, Pass, end};
 use outside::Disk;
-use serial_model::Memory;
-use std::alloc::Global;
 use tx_script::{Outcomes, RoundOutcomes};
 use worker_cells::{Cell, LogEnd};
 use worker_logs::WorkerLog;
@@ -33,14 +30,15 @@ pub struct WorkersRan {
 pub(crate) fn end_all<D: Disk + Drop>(
     engine: &Engine,
     keeper: &mut Pass,
-    alloc: Global,
     mut cells: Vec<Cell<D>>,
+    mut told: Vec<Outcomes>,
     logs: &mut Vec<WorkerLog>,
     growing: &mut Vec<D>,
-) -> Result<WorkersRan, Memory>
+) -> WorkersRan
     requires of { IsPassOf engine.now keeper.old }
     requires keeper { (view keeper.old).role ≡ Keeper }
     requires cells { (vec_len cells ≡ 8) × AllByRecursion (MayEnd engine.now) cells.items }
+    requires told { (vec_len told ≡ 0) × (told.items ≡ []) × (8 ≤ vec_capacity told) }
     requires empty { (vec_len logs.old ≡ 0) × (vec_len growing.old ≡ 0)
         × (logs.old.items ≡ []) × (growing.old.items ≡ []) }
     requires room { (8 ≤ vec_capacity logs.old) × (8 ≤ vec_capacity growing.old) }
@@ -50,47 +48,31 @@ pub(crate) fn end_all<D: Disk + Drop>(
         → StandsFor was (view keeper.old)
         → AreRan D.tells D.clock D.image_at D.faults tries round engine.now was 0
         (backward cells.items) logs_was banks_was
-        → EndsAll D.tells D.clock D.image_at D.faults tries round was (view keeper.new) logs_was logs.new.items
-        banks_was growing.new.items result }
+        → EndedSoFar D.tells D.clock D.image_at D.faults tries round was (view keeper.new) 8 logs_was logs.new.items
+        banks_was growing.new.items result.outcomes result.ends.items }
 {
-    let mut outcomes = RoundOutcomes::new(alloc);
     let mut ends = ArrayVec::new();
-    let mut memory = Ok(());
     while let Some(cell) = cells.pop() {
         let Cell {
             worker: _,
+            lines: _,
             pass,
             txn: _,
             room: _,
             log,
             shown: _,
             bank,
-            outcomes: told,
+            outcomes,
             end: log_end,
-            ran,
         } = cell;
         end(engine, keeper, pass);
         logs.push_reserved(log);
         growing.push_reserved(bank);
+        told.push_reserved(outcomes.into_outcomes());
         ends.push(log_end);
-        memory = keep(memory, ran, told, &mut outcomes);
     }
-    match memory {
-        Ok(()) => Ok(WorkersRan { outcomes, ends }),
-        Err(Memory) => Err(Memory),
+    WorkersRan {
+        outcomes: RoundOutcomes::from_vec(told),
+        ends,
     }
-}
-
-// Keeps a worker's outcomes, unless memory was wanted, now or before.
-fn keep(
-    before: Result<(), Memory>,
-    ran: Result<(), Memory>,
-    told: Outcomes,
-    outcomes: &mut RoundOutcomes,
-) -> Result<(), Memory>
-    ensures kept { OnOk result ((before ≡ Ok tt) × (ran ≡ Ok tt) × (outcomes.new ≡ outcomes.old ++ told ∷ [])) }
-{
-    before?;
-    ran?;
-    outcomes.push(told)
 }

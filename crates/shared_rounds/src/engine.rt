@@ -1,5 +1,5 @@
 // The engine of words that a runtime keeps.
-ghost use Rattle.std.specs.Prelude.{◌≡◌, ◌+◌, ◌<◌, [], true, IfOk};
+ghost use Rattle.std.specs.Prelude.{◌≡◌, ◌+◌, ◌-◌, ◌<◌, [], true, IfOk, Some, replicate};
 ghost use Rattle.serial_model.specs.Decls.{AreDecls};
 ghost use Rattle.serial_model.specs.Numbers.{IsNumber, last_epoch};
 ghost use Rattle.shared_rounds.specs.SharedState.{are_arrays};
@@ -56,6 +56,7 @@ impl SharedEngine {
           clock = first;
           mine = [];
           conflicts = 0;
+          marks = replicate 8 (record { epoch = Some (first.epoch - 1); length = 0 });
         }) }
     {
         let layout = first_layout(alloc, decls, state, first)?;

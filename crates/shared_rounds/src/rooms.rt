@@ -1,64 +1,84 @@
-// Room for what comes of the workers' lines of a round, made before the first line.
-ghost use Rattle.std.specs.Prelude.{◌≡◌, ◌≤◌, [], length};
+// Room for what comes of the workers' lines of a round, made before the first worker is seated.
+ghost use Rattle.std.specs.Prelude.{◌≡◌, ◌+◌, ◌<◌, ◌≤◌, ℕ, IfOk, get_or, length, vec_len};
+ghost use Rattle.shared_rounds.specs.Rooms.{AreCounts, AreRooms, IsRoomOf, counts_for};
 
 use crate::cells::WORKERS;
+use outside::Disk;
 use serial_model::Memory;
 use std::alloc::Global;
-use std::marker::Model;
-use tx_script::{Outcomes, Round};
+use tx_script::{OutcomeRoom, Outcomes, Round};
+use worker_cells::Cell;
 
-/// Each of the 16 operations of a line replies one value at most, which has one word or two.
-const WORDS: usize = 32;
-
-/// Room for the outcomes of each worker's lines, worker 0's first. Contracts see it as how many there are.
+/// All memory that the workers' lines of a round take.
 #[derive(Drop)]
-pub(crate) struct Rooms {
-    list: Vec<Outcomes>,
+pub struct Rooms<D> {
+    /// How many lines each worker has.
+    pub(crate) counts: [u32; WORKERS],
+    /// For a cell of each worker; none is made yet.
+    pub(crate) cells: Vec<Cell<D>>,
+    /// For the outcomes of each worker's lines, worker 0's first.
+    pub(crate) outcomes: Vec<OutcomeRoom>,
+    /// For what is told of each worker's lines.
+    pub(crate) told: Vec<Outcomes>,
 }
 
-impl Model for Rooms {
-    ghost use Rattle.std.specs.Prelude.{ℕ, length};
-    ghost use Rattle.shared_rounds.specs.Rooms.{AreBlank};
-
-    ghost Value = { ℕ };
-
-    ghost view = { λ r. length r.list.items };
-
-    ghost invariant = { λ r. AreBlank r.list.items };
-}
-
-impl Rooms {
-    pub(crate) fn new(alloc: Global, round: &Round<'_>) -> Result<Rooms, Memory>
-        requires { length round.now.lines ≤ 65536 }
-    {
-        let mut list = Vec::with_capacity(alloc, WORKERS)?;
-        for worker in 0..WORKERS {
-            let lines = count_lines(round, worker as u8);
-            list.push(Outcomes::with_room(alloc, lines, lines * WORDS)?)?;
-        }
-        Ok(Rooms { list })
-    }
-
-    /// The room of the last worker whose room wasn't taken.
-    pub(crate) fn take(&mut self, alloc: Global) -> Outcomes
-        ensures { result ≡ [] }
-    {
-        match self.list.pop() {
-            Some(room) => room,
-            None => Outcomes::new(alloc),
-        }
-    }
-}
-
-// How many lines the worker has.
-fn count_lines(round: &Round<'_>, worker: u8) -> usize
-    ensures { result ≤ length round.now.lines }
+/// Room for the workers' lines of this round, over log files of this kind of disk. Where it can't be had it is refused
+/// whole.
+pub fn make_rooms<D: Disk + Drop>(alloc: Global, round: &Round<'_>) -> Result<Rooms<D>, Memory>
+    requires { length round.now.lines ≤ 65536 }
+    ensures { IfOk result (λ rooms. IsRoomOf round.now rooms) }
 {
-    let mut count = 0;
+    let counts = count_lines(round);
+    let outcomes = make_outcomes(alloc, &counts)?;
+    let cells = Vec::with_capacity(alloc, WORKERS)?;
+    let told = Vec::with_capacity(alloc, WORKERS)?;
+    Ok(Rooms {
+        counts,
+        cells,
+        outcomes,
+        told,
+    })
+}
+
+// How many lines of the round each worker has.
+fn count_lines(round: &Round<'_>) -> [u32; WORKERS]
+    requires { length round.now.lines ≤ 65536 }
+    ensures { AreCounts round.now result }
+{
+    let mut counts = [0; WORKERS];
     for index in 0..round.len() {
-        if round.worker(index) == Some(worker) {
-            count += 1;
-        }
+        count_one(&mut counts, round.worker(index));
     }
-    count
+    counts
+}
+
+// Counts one line more, if it is a worker's.
+fn count_one(counts: &mut [u32; WORKERS], worker: Option<u8>)
+    requires workers { length counts.old ≡ 8 }
+    requires few { (other : ℕ) → other < 8 → get_or counts.old other 0 ≤ 65536 }
+    ensures workers { length counts.new ≡ 8 }
+    ensures counts { (other : ℕ) → other < 8
+        → get_or counts.new other 0 ≡ get_or counts.old other 0 + counts_for worker other }
+{
+    let Some(worker) = worker else {
+        return;
+    };
+    let index = usize::from(worker);
+    if index >= WORKERS {
+        return;
+    }
+    counts[index] += 1;
+}
+
+// Room for so many lines of each worker.
+fn make_outcomes(alloc: Global, counts: &[u32; WORKERS]) -> Result<Vec<OutcomeRoom>, Memory>
+    requires workers { length counts.now ≡ 8 }
+    requires few { (worker : ℕ) → worker < 8 → get_or counts.now worker 0 ≤ 65536 }
+    ensures { IfOk result (λ rooms. (vec_len rooms ≡ 8) × AreRooms counts.now rooms.items) }
+{
+    let mut rooms = Vec::with_capacity(alloc, WORKERS)?;
+    for worker in 0..WORKERS {
+        rooms.push_reserved(OutcomeRoom::new(alloc, counts[worker] as usize)?);
+    }
+    Ok(rooms)
 }

@@ -1,4 +1,5 @@
 mod WorkedRows
 pub mod TextSoFar
 pub mod FlatOutcomes
+mod RoomMore
 pub mod KeyLines

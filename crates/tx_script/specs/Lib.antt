@@ -5,4 +5,5 @@ pub mod Counts
 pub mod Draws
 pub mod Text
 pub mod Flat
+pub mod Room
 pub mod StateText

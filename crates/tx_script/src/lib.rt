@@ -3,7 +3,7 @@
 //! Promises: `write_outcome` and `write_keeper` write exactly the line of an outcome or of an answer (`written`), or a
 //! beginning of it where the sink failed (`prefix`); `put_round` adds exactly the lines of a round. `write_state` and
 //! `put_state` do the same of the text of a state. `Outcomes` are seen as a list, and take a head of 16 bytes and the
-//! words of their replies each.
+//! words of their replies each. An `OutcomeRoom` takes outcomes of so many lines without wanting memory.
 //! Laws: a round of a script can be run (`can_run`); a line is refused a number only where the draws are used up
 //! (`limited_at_draws`).
 //! Terms: *round*, the lines up to a join; *outcome*, what came of a worker's line; *answer*, what came of a line of
@@ -15,12 +15,14 @@
 
 mod answer;
 mod outcome;
+mod outcome_room;
 mod outcomes;
 mod print;
 mod state;
 
 pub use answer::{Answer, Answers};
 pub use outcome::{LentOutcome, Outcome};
+pub use outcome_room::OutcomeRoom;
 pub use outcomes::{LentOutcomes, Outcomes, Refused, RoundOutcomes};
 pub use print::{put_round, write_keeper, write_outcome};
 pub use script_grammar::{

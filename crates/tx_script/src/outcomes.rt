@@ -1,8 +1,10 @@
 // The outcomes of a round's lines, flat: a head for each, and the words of all replies in one list.
-ghost use Rattle.std.specs.Prelude.{◌≡◌, ◌<◌, [], ◌∷◌, ◌++◌, length, IfOk, MatchOption, OnOk, OnErr};
+ghost use Rattle.std.specs.Prelude.{◌≡◌, ◌<◌, [], ◌∷◌, ◌++◌, length, MatchOption, OnOk, OnErr};
 ghost use Rattle.std.specs.List.{list_any};
-ghost use Rattle.serial_model.specs.ReplyWords.{AreReplyWords, replies_of, replies_words};
-ghost use Rattle.tx_script.specs.Flat.{is_refused, outcome_in, outcome_lent, outcome_refused};
+ghost use Rattle.serial_model.specs.ReplyWords.{AreReplyWords, replies_words};
+ghost use Rattle.tx_script.specs.Flat.{AreOutcomeWords, outcome_in, outcomes_in};
+ghost use Rattle.tx_script.specs.Flat.{is_refused, outcome_lent, outcome_refused};
+ghost use Rattle.tx_script.specs.declared.outcomes.Kind.TheVariants as kinds;
 ghost use Rattle.tx_script.specs.Run.{is_limit};
 ghost use Rattle.tx_script.specs.declared.outcome.Outcome.TheVariants as outcomes;
 
@@ -24,14 +26,14 @@ pub enum Refused {
 
 /// What an outcome is, but for its number and its replies.
 #[derive(Clone, Copy)]
-enum Kind {
+pub(crate) enum Kind {
     Committed(Verdict),
     Refused(Refused),
 }
 
 /// An outcome, but for its replies.
 #[derive(Clone, Copy)]
-struct Head {
+pub(crate) struct Head {
     kind: Kind,
     /// How many words its replies take.
     count: u16,
@@ -92,16 +94,15 @@ impl Outcomes {
         }
     }
 
-    /// With room for so many lines, whose replies take so many words in all, so that pushes within it need no more.
-    pub fn with_room(alloc: Global, lines: usize, words: usize) -> Result<Self, Memory>
-        ensures { IfOk result (λ outcomes. outcomes ≡ []) }
+    /// Of heads and of the words of their replies.
+    pub(crate) fn of_parts(heads: Vec<Head>, words: Vec<u64>) -> Self
+        requires { AreOutcomeWords heads.items words.items }
+        ensures { result ≡ outcomes_in heads.items words.items }
     {
-        let heads = Vec::with_capacity(alloc, lines)?;
-        let words = Vec::with_capacity(alloc, words)?;
-        Ok(Outcomes {
+        Outcomes {
             heads: Sequence::from_vec(heads),
             words: Sequence::from_vec(words),
-        })
+        }
     }
 
     /// A transaction that committed. After want of memory the list is as it was.
@@ -116,28 +117,8 @@ impl Outcomes {
             ≡ self.old ++ outcomes.Committed verdict number replies.now ∷ []) }
         ensures memory { OnErr result (self.new ≡ self.old) }
     {
-        self.push_words(verdict, number, replies.words())
-    }
-
-    /// A transaction that committed, with the words of its replies. After want of memory the list is as it was.
-    pub fn push_words(
-        &mut self,
-        verdict: Verdict,
-        number: Number,
-        words: &[u64],
-    ) -> Result<(), Memory>
-        requires are { AreReplyWords words.now }
-        requires few { length words.now < 65536 }
-        ensures ok { OnOk result (self.new
-            ≡ self.old ++ outcomes.Committed verdict number (replies_of words.now) ∷ []) }
-        ensures memory { OnErr result (self.new ≡ self.old) }
-    {
-        let head = Head {
-            kind: Kind::Committed(verdict),
-            count: words.len() as u16,
-            epoch: number.epoch,
-            draw: number.draw,
-        };
+        let words = replies.words();
+        let head = head_of_commit(verdict, number, words.len() as u16);
         let before = self.words.len();
         self.words.append(words)?;
         match self.heads.push(head) {
@@ -154,12 +135,7 @@ impl Outcomes {
         ensures ok { OnOk result (self.new ≡ self.old ++ outcome_refused refused ∷ []) }
         ensures memory { OnErr result (self.new ≡ self.old) }
     {
-        self.heads.push(Head {
-            kind: Kind::Refused(refused),
-            count: 0,
-            epoch: 0,
-            draw: 0,
-        })?;
+        self.heads.push(head_of_refused(refused))?;
         Ok(())
     }
 
@@ -196,6 +172,35 @@ impl<'a> LentOutcomes<'a> {
         let (head, heads) = self.heads.split_first()?;
         let (replies, words) = self.words.split_at(head.count as usize);
         Some((outcome_at(*head, replies), LentOutcomes { heads, words }))
+    }
+}
+
+// The head of a commit whose replies take so many words.
+pub(crate) fn head_of_commit(verdict: Verdict, number: Number, count: u16) -> Head
+    ensures { result ≡ record {
+      kind = kinds.Committed verdict;
+      count = count;
+      epoch = number.epoch;
+      draw = number.draw;
+    } }
+{
+    Head {
+        kind: Kind::Committed(verdict),
+        count,
+        epoch: number.epoch,
+        draw: number.draw,
+    }
+}
+
+// The head of a line that was not committed.
+pub(crate) fn head_of_refused(refused: Refused) -> Head
+    ensures { result ≡ record { kind = kinds.Refused refused; count = 0; epoch = 0; draw = 0 } }
+{
+    Head {
+        kind: Kind::Refused(refused),
+        count: 0,
+        epoch: 0,
+        draw: 0,
     }
 }
 

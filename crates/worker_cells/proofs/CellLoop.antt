@@ -3,7 +3,6 @@ use Rattle.std.proofs.Common.{◌≡◌, ◌∙◌, ◌≤◌, ◌<◌, ◌+◌,
 use Rattle.std.proofs.Common.{take, arith}
 use Rattle.std.proofs.Common.{Bool, Option, Some, None}
 use Rattle.std.specs.Prelude.{is_some}
-use Rattle.std.proofs.lemmas.List.{take_all}
 use Rattle.serial_model.specs.declared.op.Op.{Op}
 use Rattle.script_grammar.specs.Script.{Line}
 use Rattle.wire_form.specs.declared.clock.Mark.{Mark}
@@ -13,12 +12,11 @@ use Rattle.tx_commit.specs.Live.{IsOver}
 use Rattle.tx_script.specs.declared.outcome.Outcome.{Outcome}
 use Rattle.worker_logs.specs.Logs.{LogState}
 use Rattle.worker_cells.specs.declared.cell.LogEnd.{LogEnd}
-use Rattle.worker_cells.specs.Cells.{IsCell, IsShown, IsTied, ReadiesSome, RunsCell, RunsLines, StepsOne, StopsSome}
-use Rattle.worker_cells.specs.Cells.{StopsOne}
+use Rattle.worker_cells.specs.Cells.{IsCell, IsShown, IsTied, ReadiesSome, RunsCell, RunsLines, StepsOne}
 use Rattle.worker_cells.specs.InARow.{row_layout, row_role}
-use Rattle.worker_cells.proofs.LinesOf.{HasOps, count_more, front_of, ops_of, take_mine}
-use Rattle.worker_cells.proofs.LinesOf.{take_other}
-use Rattle.worker_cells.proofs.Loop.{lines_begin, lines_marked, lines_step, some_lines, stops_step}
+use Rattle.worker_cells.proofs.LinesOf.{HasOps, count_more, few_of, ops_of, take_mine}
+use Rattle.worker_cells.proofs.LinesOf.{take_other, whole_of, within_of}
+use Rattle.worker_cells.proofs.Loop.{lines_begin, lines_marked, lines_step, some_lines}
 
 -- a list with nothing in it
 empty_of : {X : Type 0} (xs : List X) → length xs ≡ 0 → xs ≡ []
@@ -58,6 +56,14 @@ module _ {D : Type 0} {tells : D → Option (List ℕ)} {clock : D → ℕ} {ima
     few = omega arith;
     idle = λ none. refl;
   }
+
+  -- where there are more, a line of the round is left
+  pub so_within : {tries worker i count : ℕ} {lines : List Line} {outcomes : List Outcome} {end : LogEnd}
+      {shown : Option Mark} {v w : View} {old new : LogState} {before now : D} → count < length (ops_of worker lines)
+      → SoFar tells clock image_at faults tries worker i lines outcomes end shown count v w old new before now
+      → i < length lines
+  so_within {worker = worker} {i = i} {lines = lines} fewer so =
+      within_of worker i lines (omega (arith, fewer, so.count_is))
 
   -- a line of another worker was passed over
   pub so_other : {tries worker i count : ℕ} {lines : List Line} {outcomes : List Outcome} {end : LogEnd}
@@ -104,20 +110,10 @@ module _ {D : Type 0} {tells : D → Option (List ℕ)} {clock : D → ℕ} {ima
         idle = λ none. absurd (some_lines (ops_of worker (take i lines)) ops (sym mine ∙ none));
       }
 
-  -- memory was wanted at one of them
-  pub so_stops : {tries worker i count : ℕ} {lines : List Line} {outcomes : List Outcome} {end : LogEnd}
-      {shown : Option Mark} {v w x : View} {old mid left : LogState} {before between now : D} (ops : List Op)
-      → HasOps worker lines i (Some ops)
-      → SoFar tells clock image_at faults tries worker i lines outcomes end shown count v w old mid before between
-      → StopsOne tells clock image_at faults tries ops end.full w x mid left between now
-      → StopsSome tells clock image_at faults tries (ops_of worker lines) v x old left before now
-  so_stops {worker = worker} {i = i} {lines = lines} ops has so stops =
-      stops_step ops (front_of worker i lines ops has) so.runs stops
-
   -- behind the last line, with some of the worker: what waits was made durable, and marked
   pub so_marked : {tries worker i count : ℕ} {lines : List Line} {outcomes : List Outcome} {end : LogEnd}
       {shown : Option Mark} {v w x : View} {old mid left : LogState} {before between now : D} (failed : Bool)
-      → length lines ≤ i → 0 < count
+      → length (ops_of worker lines) ≤ count → 0 < count
       → SoFar tells clock image_at faults tries worker i lines outcomes end shown count v w old mid before between
       → ReadiesSome tells clock image_at faults w x mid left between now
       → failed ≡ is_some left.journal.down → (left.journal.down ≡ None → left.journal.lines ≡ [])
@@ -126,11 +122,11 @@ module _ {D : Type 0} {tells : D → Option (List ℕ)} {clock : D → ℕ} {ima
       v x old left before now
   so_marked {tries = tries} {worker = worker} {i = i} {lines = lines} {outcomes = outcomes} {end = end} {v = v} {x = x}
       {old = old} {left = left} {before = before} {now = now} failed all some so readied is flushed tied =
-      let whole : take i lines ≡ lines = take_all i lines all in
+      let whole : ops_of worker (take i lines) ≡ ops_of worker lines =
+      whole_of worker i lines (omega (arith, all, so.count_is)) in
       let not : ops_of worker (take i lines) ≡ [] → ⊥ = λ none. omega (arith, some, so.count_is, ap length none) in
       record {
-        lines_run = subst (λ l. RunsLines tells clock image_at faults tries x.epoch (ops_of worker l) outcomes
-            end.full v x
+        lines_run = subst (λ l. RunsLines tells clock image_at faults tries x.epoch l outcomes end.full v x
             old left before now) whole (lines_marked readied.fault not so.runs readied.readies);
         failed = is;
         flushed = flushed;
@@ -140,23 +136,23 @@ module _ {D : Type 0} {tells : D → Option (List ℕ)} {clock : D → ℕ} {ima
   -- and with none
   pub so_idle : {tries worker i : ℕ} {lines : List Line} {outcomes : List Outcome} {end : LogEnd}
       {shown : Option Mark} {v w : View} {old new : LogState} {before now : D}
-      → length lines ≤ i → old.journal.lines ≡ []
+      → length (ops_of worker lines) ≤ 0 → old.journal.lines ≡ []
       → SoFar tells clock image_at faults tries worker i lines outcomes end shown 0 v w old new before now
       → RunsCell tells clock image_at faults tries (ops_of worker lines) outcomes end v w old new before now
   so_idle {tries = tries} {worker = worker} {i = i} {lines = lines} {outcomes = outcomes} {end = end} {v = v} {w = w}
       {old = old} {new = new} {before = before} {now = now} all flushed so =
-      let whole : take i lines ≡ lines = take_all i lines all in
+      let whole : ops_of worker (take i lines) ≡ ops_of worker lines =
+      whole_of worker i lines (omega (arith, all, so.count_is)) in
       let none : ops_of worker (take i lines) ≡ [] = empty_of (ops_of worker (take i lines)) (sym so.count_is) in
       record {
-        lines_run = subst (λ l. RunsLines tells clock image_at faults tries w.epoch (ops_of worker l) outcomes
-            end.full v w
+        lines_run = subst (λ l. RunsLines tells clock image_at faults tries w.epoch l outcomes end.full v w
             old new before now) whole
             (subst (λ h. RunsLines tells clock image_at faults tries h (ops_of worker (take i lines)) outcomes
             end.full v w
             old new before now) (so.idle none) so.runs);
         failed = so.failed;
         flushed = λ up. ap (λ (l : LogState). l.journal.lines) (so.runs.none none).0 ∙ flushed;
-        tied = λ some up. absurd (some (ap (ops_of worker) (sym whole) ∙ none));
+        tied = λ some up. absurd (some (sym whole ∙ none));
       }
 
   -- ---- what a line of the worker finds
@@ -179,3 +175,8 @@ module _ {D : Type 0} {tells : D → Option (List ℕ)} {clock : D → ℕ} {ima
 
       pub so_reaches : Reaches tells now new.journal
       so_reaches = so.runs.did.reaches
+
+      -- room for all lines isn't full yet
+      pub so_room : (ops : List Op) (size left : ℕ) → HasOps worker lines i (Some ops)
+          → length (ops_of worker lines) ≤ size → count + left ≡ size → 1 ≤ left
+      so_room ops size left has most is = omega (arith, few_of worker i lines ops has, so.count_is, most, is)

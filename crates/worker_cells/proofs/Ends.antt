@@ -1,7 +1,7 @@
 -- What came of a line, and what its log got.
 use Rattle.std.proofs.Common.{◌≡◌, ◌∙◌, ◌++◌, ◌≤◌, ◌<◌, ◌*◌, ◌-◌, ◌∷◌, refl, sym, ap, subst, ℕ, List, [], length, arith}
 use Rattle.std.proofs.Common.{None}
-use Rattle.std.specs.Prelude.{option_to_list, OnErr, OnOk, Result, Ok, Err}
+use Rattle.std.specs.Prelude.{option_to_list}
 use Rattle.std.specs.List.{AllByRecursion}
 use Rattle.serial_model.specs.declared.number.Change.{Change}
 use Rattle.serial_model.specs.declared.number.Commit.{Commit}
@@ -152,16 +152,3 @@ kept_one {was = was} one told = record {
   logs = one.0;
   told_is = told ∙ ap (λ o. was ++ o ∷ []) (sym one.1);
 }
-
--- what is known where a call was done, or where it wanted memory
-pub ok_then : {T E P Q : Type 0} (result : Result T E) → (P → Q) → OnOk result P → OnOk result Q
-ok_then (Ok x) from is = from is
-ok_then (Err e) from is = tt
-
-pub err_then : {T E P : Type 0} (result : Result T E) → P → OnErr result P
-err_then (Ok x) is = tt
-err_then (Err e) is = is
-
-pub err_map : {T E P Q : Type 0} (result : Result T E) → (P → Q) → OnErr result P → OnErr result Q
-err_map (Ok x) from is = tt
-err_map (Err e) from is = from is

@@ -1,16 +1,15 @@
 -- The lines of a worker among those of a round.
 use Rattle.std.proofs.Common.{◌≡◌, ◌∙◌, ap, sym, subst, refl, ℕ, zero, suc, ◌+◌, eqb, List, [], ◌∷◌, ◌++◌, take, Option}
-use Rattle.std.proofs.Common.{Some, None, inl, inr, length, length-append}
+use Rattle.std.proofs.Common.{Some, None, inl, inr, length, length-append, arith, ◌<◌, ◌≤◌}
 use Rattle.std.specs.Prelude.{drop}
 use Rattle.std.specs.List.{AllByRecursion, filter_map, slice_get}
 use Rattle.std.specs.Option.{option_map}
 use Rattle.std.specs.Prelude.{IsTrue}
-use Rattle.std.proofs.lemmas.Bool.{cases_Bool, eqb-true}
-use Rattle.std.proofs.lemmas.List.{append-nil, take-append-drop, take_more}
+use Rattle.std.proofs.lemmas.Bool.{cases_Bool, cases_order, eqb-true}
+use Rattle.std.proofs.lemmas.List.{append-nil, take-append-drop, take_all, take_more}
 use Rattle.std.proofs.lemmas.List.Elements.{filter_map-append}
 use Rattle.std.proofs.lemmas.Option.{slice_get_within, get_or_from_slice_get}
 use Rattle.lists.specs.Each.{all_at, all_weaker}
-use Rattle.lists.specs.Fronts.{IsFront, front_from}
 use Rattle.serial_model.specs.declared.decl.Decl.{Decl}
 use Rattle.serial_model.specs.declared.op.Op.{Op}
 use Rattle.serial_model.specs.Keys.{fits}
@@ -72,14 +71,47 @@ take_other worker lines i has =
     let at = line_at worker lines i None has in
     take_one worker lines i at.0 None at.1 at.2 ∙ append-nil (ops_of worker (take i lines))
 
--- the worker's lines among the first lines, with one more of its lines, are first ones of its lines
-pub front_of : (worker i : ℕ) (lines : List Line) (ops : List Op) → HasOps worker lines i (Some ops)
-    → IsFront (ops_of worker (take i lines) ++ ops ∷ []) (ops_of worker lines)
-front_of worker i lines ops has =
-    subst (λ l. IsFront l (ops_of worker lines)) (take_mine worker lines i ops has)
-    (front_from (ops_of worker (take (i + 1) lines)) (ops_of worker (drop (i + 1) lines)) (ops_of worker lines)
-    (sym (ops_of-append worker (take (i + 1) lines) (drop (i + 1) lines))
-    ∙ ap (ops_of worker) (take-append-drop (i + 1) lines)))
+-- the worker has fewer lines before one of its lines than in all
+pub few_of : (worker i : ℕ) (lines : List Line) (ops : List Op) → HasOps worker lines i (Some ops)
+    → length (ops_of worker (take i lines)) < length (ops_of worker lines)
+few_of worker i lines ops has =
+    let upto = ops_of worker (take i lines) in
+    let past = ops_of worker (drop (i + 1) lines) in
+    let all : (upto ++ ops ∷ []) ++ past ≡ ops_of worker lines =
+    ap (λ l. l ++ past) (sym (take_mine worker lines i ops has))
+    ∙ sym (ops_of-append worker (take (i + 1) lines) (drop (i + 1) lines))
+    ∙ ap (ops_of worker) (take-append-drop (i + 1) lines) in
+    omega (arith, ap length all, length-append (upto ++ ops ∷ []) past, length-append upto (ops ∷ []))
+
+-- where these are as many as all of them, they are all
+pub whole_of : (worker i : ℕ) (lines : List Line)
+    → length (ops_of worker lines) ≤ length (ops_of worker (take i lines))
+    → ops_of worker (take i lines) ≡ ops_of worker lines
+whole_of worker i lines most =
+    let upto = ops_of worker (take i lines) in
+    let past = ops_of worker (drop i lines) in
+    let all : upto ++ past ≡ ops_of worker lines =
+    sym (ops_of-append worker (take i lines) (drop i lines)) ∙ ap (ops_of worker) (take-append-drop i lines) in
+    let none : past ≡ [] = nothing past (omega (arith, most, ap length all, length-append upto past)) in
+    sym (append-nil upto) ∙ ap (λ l. upto ++ l) (sym none) ∙ all
+  where
+    nothing : (xs : List (List Op)) → length xs ≡ 0 → xs ≡ []
+    nothing [] is = refl
+    nothing (x ∷ xs) is = absurd (omega (arith, is))
+
+-- where these are fewer, lines are left
+pub within_of : (worker i : ℕ) (lines : List Line)
+    → length (ops_of worker (take i lines)) < length (ops_of worker lines) → i < length lines
+within_of worker i lines fewer = elim (cases_order i (length lines)) [
+  | inl same ↦ absurd (past (omega (arith, same)))
+  | inr order ↦ elim order [
+    | inl less ↦ less
+    | inr more ↦ absurd (past (omega (arith, more)))
+  ]
+]
+  where
+    past : length lines ≤ i → ⊥
+    past all = omega (arith, fewer, ap (λ l. length (ops_of worker l)) (take_all i lines all))
 
 -- a worker's line more
 pub count_more : (worker i count : ℕ) (lines : List Line) (ops : List Op) → HasOps worker lines i (Some ops)

@@ -3,23 +3,20 @@ use Rattle.std.proofs.Common.{◌≡◌, ◌∙◌, ◌++◌, ◌∷◌, ◌⊎�
 use Rattle.std.proofs.Common.{Bool, true, true≢false, Option, Some, None, append_assoc}
 use Rattle.std.specs.Prelude.{is_some}
 use Rattle.std.proofs.lemmas.List.{append-nil}
-use Rattle.lists.specs.Fronts.{IsFront, front_append, front_then}
 use Rattle.serial_model.specs.declared.number.Commit.{Commit}
 use Rattle.serial_model.specs.declared.op.Op.{Op}
 use Rattle.log_writer.specs.declared.journal.LogFault.{LogFault}
 use Rattle.log_writer.specs.declared.journal.LogFault.TheVariants.{Limit as AtLimit}
 use Rattle.engine_words.specs.declared.view.View.{View}
-use Rattle.tx_runner.specs.Epochs.{HasSeenEpoch}
 use Rattle.tx_script.specs.declared.outcome.Outcome.{Outcome}
 use Rattle.tx_script.specs.declared.outcome.Outcome.TheVariants.{Unrun}
 use Rattle.worker_logs.specs.Logs.{LogState}
 use Rattle.worker_logs.specs.Rows.{IsFull, TakesCommit, full_after}
 use Rattle.worker_logs.specs.RowLaws.{full_at, never_up, still_down, still_full, was_up}
-use Rattle.worker_cells.specs.Cells.{IsCell, IsMarkedBelow, Readies, RunsLines, RunsOne, StepsOne, StopsCell, StopsOne}
-use Rattle.worker_cells.specs.Cells.{StopsSome}
+use Rattle.worker_cells.specs.Cells.{IsCell, IsMarkedBelow, Readies, RunsLines, RunsOne, StepsOne}
 use Rattle.worker_cells.specs.declared.cell.LogEnd.{LogEnd}
 use Rattle.worker_cells.specs.Rows.{LineRan, lines_of, outcomes_of, unrun}
-use Rattle.worker_cells.proofs.Over.{ran_begin, ran_line, ran_ready, ran_seen}
+use Rattle.worker_cells.proofs.Over.{ran_begin, ran_line, ran_ready}
 
 -- ---- lists
 
@@ -39,15 +36,6 @@ unrun_push (first ∷ left) ops = ap (λ o. Unrun ∷ o) (unrun_push left ops)
 pub some_lines : (lines : List (List Op)) (ops : List Op) → lines ++ ops ∷ [] ≡ [] → ⊥
 some_lines [] ops is = absurd cc
 some_lines (first ∷ lines) ops is = absurd cc
-
--- what was run are first ones of all lines
-ran_front : (ran : List LineRan) (left lines : List (List Op)) (ops : List Op) (all : List (List Op))
-    → lines ≡ lines_of ran ++ left → IsFront (lines ++ ops ∷ []) all → IsFront (lines_of ran) all
-ran_front ran left lines ops all whole front =
-    front_then (lines_of ran) (lines ++ ops ∷ []) all
-    (front_then (lines_of ran) lines (lines ++ ops ∷ [])
-    (subst (IsFront (lines_of ran)) (sym whole) (front_append (lines_of ran) left)) (front_append lines (ops ∷ [])))
-    front
 
 -- a commit leaves a log as up as it was
 down_took : (mid new : LogState) (commit : Option Commit) → TakesCommit commit mid new
@@ -206,52 +194,3 @@ module _ {D : Type 0} {tells : D → Option (List ℕ)} {clock : D → ℕ} {ima
         lines_passed ops (shut first.failed first.full mid.journal.down failed passed.refused) so passed.told_is,
         failed,
       )
-
-  -- memory was wanted at a line, behind the first ones
-  pub stops_step : {tries high : ℕ} {lines all : List (List Op)} {outcomes : List Outcome} {full : Option ℕ}
-      {v w x : View} {old mid left : LogState} {before between now : D} (ops : List Op)
-      → IsFront (lines ++ ops ∷ []) all
-      → RunsLines tells clock image_at faults tries high lines outcomes full v w old mid before between
-      → StopsOne tells clock image_at faults tries ops full w x mid left between now
-      → StopsSome tells clock image_at faults tries all v x old left before now
-  stops_step {tries = tries} {high = high} {lines = lines} {all = all} {v = v} {old = old} {before = before}
-      ops front so (inl (view, log, bank)) = rw (view, log, bank) (record {
-        high = high;
-        stops = record { ran = so.ran; front = ran_front so.ran so.left lines ops all so.whole front; did = so.did };
-      })
-  stops_step {lines = lines} {all = all} {x = x} ops front so (inr (inl some)) = record {
-    high = x.epoch;
-    stops = record {
-      ran = so.ran;
-      front = ran_front so.ran so.left lines ops all so.whole front;
-      did = ran_ready some.fault so.did some.readies;
-    };
-  }
-  stops_step {tries = tries} {lines = lines} {all = all} {x = x} ops front so (inr (inr (unfilled, ran))) =
-      let none : so.left ≡ [] = so.all unfilled (was_up ran.readies.moves) in
-      let line : LineRan = record {
-        ops = ops;
-        outcome = ran.one.outcome;
-        refused = ran.one.refused;
-        logged = ran.one.logged;
-        before = ran.mid;
-        after = x;
-      } in
-      record {
-        high = ran.mid.epoch;
-        stops = record {
-          ran = so.ran ++ line ∷ [];
-          front = subst (λ l. IsFront l all)
-              (ap (λ l. l ++ ops ∷ []) (so.whole ∙ ap (λ l. lines_of so.ran ++ l) none ∙ append-nil (lines_of so.ran))
-              ∙ sym (lines_push so.ran line)) front;
-          did = ran_line ops refl (ran_ready None so.did ran.readies) ran.marked ran.one;
-        };
-      }
-
-  -- what memory was wanted behind, as the clock was loaded once more
-  pub stops_seen : {tries epoch : ℕ} {all : List (List Op)} {v w x : View} {old new : LogState} {before now : D}
-      → StopsSome tells clock image_at faults tries all v w old new before now → HasSeenEpoch epoch w x
-      → StopsCell tells clock image_at faults tries all v x old new before now
-  stops_seen so seen = record {
-    stops = record { ran = so.stops.ran; front = so.stops.front; did = ran_seen so.stops.did seen };
-  }

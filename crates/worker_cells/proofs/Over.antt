@@ -13,19 +13,13 @@ use Rattle.wire_form.specs.declared.clock.Mark.{Mark}
 use Rattle.commit_core.specs.CoreState.{last_marked, mark_of}
 use Rattle.commit_core.specs.declared.seat.Mark as core
 use Rattle.log_writer.specs.declared.journal.LogFault.{LogFault}
-use Rattle.serial_model.specs.Decls.{AreDecls}
-use Rattle.engine_words.specs.Cuts.{worker_of}
-use Rattle.engine_words.specs.Views.{IsResting}
-use Rattle.engine_words.specs.declared.view.Role.TheVariants.{Worker}
-use Rattle.tx_commit.specs.Live.{IsOver}
-use Rattle.tx_runner.specs.Epochs.{HasSeenEpoch, IsMarkedUpTo}
+use Rattle.tx_runner.specs.Epochs.{IsMarkedUpTo}
 use Rattle.engine_words.specs.declared.view.Refused.{Refused}
 use Rattle.engine_words.specs.declared.view.View.{View}
 use Rattle.tx_script.specs.declared.outcome.Outcome.{Outcome}
 use Rattle.tx_script.specs.declared.outcome.Outcome.TheVariants.{Committed, Conflict, Full, Wide, Limit, Unrun}
 use Rattle.worker_logs.specs.Logs.{LogState}
 use Rattle.worker_logs.specs.Rows.{LogTakes, TakesCommit}
-use Rattle.worker_logs.specs.RowLaws.{keeps_later, takes_later}
 use Rattle.worker_logs.specs.RowLaws.{blames_move, blames_none, blames_took, keeps_commit, keeps_then, limit_took}
 use Rattle.worker_logs.specs.RowLaws.{reaches_took, takes_commit, takes_move, takes_none}
 use Rattle.worker_cells.specs.Cells.{IsCell, IsMarkedBelow, IsReached, IsShown, IsTied, LogsLine, RanOver}
@@ -78,17 +72,6 @@ shown_still (Some shown) mid new (Some c) marks after is same takes = (
   is.0 ∙ sym takes.mark,
   tied_still mid new (Some c) marks after is.1 same takes,
 )
-
--- a pass without a transaction stays one, if nothing of its own has changed
-over_still : (v w : View) → IsOver v → w.layout ≡ v.layout → w.role ≡ v.role → w.due ≡ v.due → w.took ≡ v.took
-    → w.seat ≡ v.seat → IsOver w
-over_still v w over layout role due took seat = record {
-  decls = subst (λ l. AreDecls l.decls) (sym layout) over.decls;
-  worker = role ∙ over.worker ∙ ap (λ r. Worker (worker_of r)) (sym role);
-  due = due ∙ over.due;
-  took = took ∙ over.took;
-  seat = subst IsResting (sym seat) over.seat;
-}
 
 -- an epoch that was reached is none above one that a load finds later
 pub reached_by : (high epoch : ℕ) (v : View) → IsReached high v → v.epoch ≤ epoch → last_marked v.seat.marks < epoch
@@ -237,33 +220,4 @@ module _ {D : Type 0} {tells : D → Option (List ℕ)} {clock : D → ℕ} {ima
         blames = blames_took mid new line.logged so.blames line.takes;
         reaches = reaches_took tells now mid new line.logged so.reaches line.takes;
         limit = limit_took mid new line.logged line.takes ∙ so.limit;
-      }
-
-  -- the clock was loaded once more
-  pub ran_seen : {tries high epoch : ℕ} {ran : List LineRan} {v w x : View} {old new : LogState} {before now : D}
-      → RanOver tells clock image_at faults tries high ran v w old new before now → HasSeenEpoch epoch w x
-      → RanOver tells clock image_at faults tries x.epoch ran v x old new before now
-  ran_seen {tries = tries} {high = high} {epoch = epoch} {ran = ran} {v = v} {w = w} {x = x} {old = old} {new = new} so
-      seen =
-      let reached : high ≤ epoch = reached_by high epoch w so.reached seen.rises seen.marked in
-      let most : high ≤ x.epoch = omega (arith, reached, seen.now) in
-      record {
-        row = row_goes tries v ran w x so.row (record {
-          seen = seen.seen;
-          layout = seen.layout;
-          role = seen.role;
-          mine = seen.mine;
-          refused = seen.refused;
-        });
-        over = over_still w x so.over seen.layout seen.role seen.due seen.took seen.seat;
-        later = omega (arith, so.later, most);
-        reached = inl (omega arith);
-        since = so.since;
-        marked = so.marked;
-        lines_are = so.lines_are;
-        takes = takes_later most so.takes;
-        mark = keeps_later v.epoch high x.epoch old new most so.mark;
-        blames = so.blames;
-        reaches = so.reaches;
-        limit = so.limit;
       }

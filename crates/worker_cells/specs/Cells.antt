@@ -2,7 +2,6 @@
 use Rattle.std.specs.Prelude.{◌≡◌, ◌⊎◌, ◌+◌, ◌-◌, ◌≤◌, ◌<◌, ◌++◌, ℕ, List, [], ◌∷◌, Option, Some, None, is_some}
 use Rattle.std.specs.Prelude.{Bool, false, option_to_list, true, ⊤}
 use Rattle.std.specs.List.{AllByRecursion}
-use Rattle.lists.specs.Fronts.{IsFront}
 use Rattle.serial_model.specs.declared.number.Commit.{Commit}
 use Rattle.serial_model.specs.declared.op.Op.{Op}
 use Rattle.wire_form.specs.LogFile.{IsLineOf}
@@ -169,20 +168,6 @@ module _ {D : Type 0} (tells : D → Option (List ℕ)) (clock : D → ℕ) (ima
       ⊎ ((first.full ≡ None) × LeftNow was told end v w old new before now)
       ⊎ PassedNow was told first end v w old new before now
 
-  -- and the line was run, on a log that was not full before
-  pub record RanToo (tries : ℕ) (ops : List Op) (v w : View) (old new : LogState) (before now : D) : Type 0 where
-    pub mid : View
-    pub ready : LogState
-    pub readies : Readies None v mid old ready before now
-    pub marked : IsMarkedBelow ready.mark mid
-    pub one : LogsLine tries ops mid w ready new
-
-  -- Memory was wanted: the log was called or not, and the line was run or not.
-  abbrev pub StopsOne : ℕ → List Op → Option ℕ → View → View → LogState → LogState → D → D → Type 0
-  StopsOne tries ops full v w old new before now =
-      ((w ≡ v) × (new ≡ old) × (now ≡ before)) ⊎ ReadiesSome v w old new before now
-      ⊎ ((full ≡ None) × RanToo tries ops v w old new before now)
-
   -- ---- all lines of a worker
 
   -- Lines of a worker were run, one after another, and behind the last one that its log took none.
@@ -197,13 +182,6 @@ module _ {D : Type 0} (tells : D → Option (List ℕ)) (clock : D → ℕ) (ima
     pub all : full ≡ None → new.journal.down ≡ None → left ≡ []
     pub none : lines ≡ [] → (new ≡ old) × (now ≡ before) × (w ≡ v)
 
-  -- Memory was wanted, behind some first lines of a worker.
-  pub record StopsLines (tries high : ℕ) (lines : List (List Op)) (v w : View) (old new : LogState) (before now : D)
-      : Type 0 where
-    pub ran : List LineRan
-    pub front : IsFront (lines_of ran) lines
-    pub did : RanOver tries high ran v w old new before now
-
   -- All lines of the worker were run, or left out. What waits was flushed then, and marked by the epoch that the pass
   -- saw last, on the words too, if it had lines.
   pub record RunsCell (tries : ℕ) (lines : List (List Op)) (outcomes : List Outcome) (end : LogEnd) (v w : View)
@@ -212,14 +190,3 @@ module _ {D : Type 0} (tells : D → Option (List ℕ)) (clock : D → ℕ) (ima
     pub failed : end.failed ≡ is_some new.journal.down
     pub flushed : new.journal.down ≡ None → new.journal.lines ≡ []
     pub tied : (lines ≡ [] → ⊥) → new.journal.down ≡ None → IsTied new.mark w.seat.marks
-
-  -- Some first lines were run, where memory was wanted, at epochs up to the one that the pass saw last.
-  pub record StopsCell (tries : ℕ) (lines : List (List Op)) (v w : View) (old new : LogState) (before now : D)
-      : Type 0 where
-    pub stops : StopsLines tries w.epoch lines v w old new before now
-
-  -- the same, up to some epoch
-  pub record StopsSome (tries : ℕ) (lines : List (List Op)) (v w : View) (old new : LogState) (before now : D)
-      : Type 0 where
-    pub high : ℕ
-    pub stops : StopsLines tries high lines v w old new before now

@@ -1,7 +1,9 @@
 -- Lines in a row: one more of them, and what a pass keeps through them.
-use Rattle.std.proofs.Common.{◌≡◌, ◌∙◌, ◌++◌, ◌∷◌, refl, sym, ap, ℕ, List, [], Option, Some, None, append_assoc}
+use Rattle.std.proofs.Common.{◌≡◌, ◌∙◌, ◌++◌, ◌∷◌, ◌≤◌, ◌+◌, ◌*◌, refl, sym, ap, ℕ, suc, List, [], length}
+use Rattle.std.proofs.Common.{Option, Some, None, append_assoc, arith, length-append}
 use Rattle.std.specs.Prelude.{option_to_list}
 use Rattle.std.proofs.lemmas.List.{append-nil}
+use Rattle.std.proofs.Math.Nat.{mul-suc}
 use Rattle.lists.specs.Fronts.{front_refl, front_then}
 use Rattle.serial_model.specs.declared.number.Commit.{Commit}
 use Rattle.serial_model.specs.declared.op.Op.{Op}
@@ -30,6 +32,7 @@ goes_none v = record {
   role = refl;
   mine = refl;
   refused = refl;
+  draws = refl;
 }
 
 pub goes_then : (u v w : View) → Goes u v → Goes v w → Goes u w
@@ -39,32 +42,36 @@ goes_then u v w first next = record {
   role = next.role ∙ first.role;
   mine = next.mine ∙ first.mine;
   refused = next.refused ∙ first.refused;
+  draws = next.draws ∙ first.draws;
 }
 
 -- ---- one line
 
--- What a line keeps of its pass, whatever comes of it: no transaction is under way, the marks are as they were, and
--- what it was refused for, the line's tries were.
-pub record Kept (refused : List Refused) (v w : View) : Type 0 where
+-- What a line with so many tries keeps of its pass, whatever comes of it: no transaction is under way, the marks are as
+-- they were, what it was refused for, the line's tries were, and it drew no more numbers than there are tries.
+pub record Kept (tries : ℕ) (refused : List Refused) (v w : View) : Type 0 where
   pub over : IsOver w
   pub layout : w.layout ≡ v.layout
   pub role : w.role ≡ v.role
   pub marks : w.seat.marks ≡ v.seat.marks
   pub seen : HasSeen v w
   pub more : w.refused ≡ v.refused ++ refused
+  pub draws : w.draws ≤ v.draws + tries
 
-tries_keep : (whys refused : List Refused) (v w : View) → HasTriedFor whys v w → refused ≡ whys → Kept refused v w
-tries_keep whys refused v w t is = record {
+tries_keep : (tries : ℕ) (whys refused : List Refused) (v w : View) → HasTriedFor whys v w → refused ≡ whys
+    → length whys ≤ tries → Kept tries refused v w
+tries_keep tries whys refused v w t is few = record {
   over = t.over;
   layout = t.layout;
   role = t.role;
   marks = t.marks;
   seen = t.seen;
   more = t.refused ∙ ap (λ l. v.refused ++ l) (sym is);
+  draws = omega (arith, t.draws, few);
 }
 
 pub line_keeps : (tries : ℕ) (ops : List Op) (outcome : Outcome) (refused : List Refused) (logged : Option Commit)
-    (v w : View) → ComesOf tries ops outcome refused logged v w → Kept refused v w
+    (v w : View) → ComesOf tries ops outcome refused logged v w → Kept tries refused v w
 line_keeps tries ops (Committed verdict number replies) refused logged v w comes =
     let line = comes.3 in
     record {
@@ -74,12 +81,15 @@ line_keeps tries ops (Committed verdict number replies) refused logged v w comes
       marks = line.marks;
       seen = line.seen;
       more = line.refused ∙ ap (λ l. v.refused ++ l) (sym comes.4);
+      draws = omega (arith, line.draws, line.fewer);
     }
 line_keeps tries ops Conflict refused logged v w comes =
-    tries_keep comes.1.whys refused v w comes.1.tried comes.2
+    tries_keep tries comes.1.whys refused v w comes.1.tried comes.2 (omega (arith, comes.1.count))
 line_keeps tries ops Limit refused logged v w comes =
-    tries_keep (comes.1.refused.whys ++ refusals.NumberLimit comes.1.clock ∷ []) refused v w comes.1.refused.tried
-    comes.2
+    let whys = comes.1.refused.whys in
+    let why = refusals.NumberLimit comes.1.clock in
+    tries_keep tries (whys ++ why ∷ []) refused v w comes.1.refused.tried comes.2
+    (omega (arith, comes.1.refused.fewer, length-append whys (why ∷ [])))
 line_keeps tries ops Full refused logged v w comes = absurd comes
 line_keeps tries ops Wide refused logged v w comes = absurd comes
 line_keeps tries ops Unrun refused logged v w comes = absurd comes
@@ -133,6 +143,16 @@ row_refused tries v (line ∷ more) w row =
     ((line_keeps tries line.ops line.outcome line.refused line.logged line.before line.after row.1).more
     ∙ ap (λ l. l ++ line.refused) row.0.refused)
     ∙ append_assoc v.refused line.refused (refused_of more)
+
+-- it drew no more numbers than its lines had tries
+pub row_draws : (tries : ℕ) (v : View) (ran : List LineRan) (w : View) → AreInARow tries v ran w
+    → w.draws ≤ v.draws + tries * length ran
+row_draws tries v [] w row = omega (arith, row.draws)
+row_draws tries v (line ∷ more) w row =
+    let kept = line_keeps tries line.ops line.outcome line.refused line.logged line.before line.after row.1 in
+    let rest : w.draws ≤ line.after.draws + tries * length more = row_draws tries line.after more w row.2 in
+    let one : tries * suc (length more) ≡ tries * length more + tries = mul-suc tries (length more) in
+    omega (arith, row.0.draws, kept.draws, rest, one)
 
 -- what the log gets of one more
 pub logged_push : (ran : List LineRan) (line : LineRan)

@@ -54,13 +54,14 @@ pub record LineRan : Type 0 where
 
 -- ---- lines in a row
 
--- Between two lines a pass loads the clock and sets its mark: of its commits and refusals none is new.
+-- Between two lines a pass loads the clock and sets its mark: of its commits, refusals and draws none is new.
 pub record Goes (v w : View) : Type 0 where
   pub seen : HasSeen v w
   pub layout : w.layout ≡ v.layout
   pub role : w.role ≡ v.role
   pub mine : w.mine ≡ v.mine
   pub refused : w.refused ≡ v.refused
+  pub draws : w.draws ≡ v.draws
 
 -- the lines were run one after another, each with so many tries, from the one view to the other
 abbrev pub AreInARow : ℕ → View → List LineRan → View → Type 0

@@ -1,9 +1,8 @@
 // What one worker's thread is lent for a round.
 use engine_words::Pass;
-use serial_model::Memory;
 use tx_commit::Txn;
 use tx_runner::LineRoom;
-use tx_script::Outcomes;
+use tx_script::OutcomeRoom;
 use wire_form::Mark;
 use worker_logs::WorkerLog;
 
@@ -20,6 +19,8 @@ pub struct LogEnd {
 #[derive(Drop)]
 pub struct Cell<D> {
     pub worker: u8,
+    /// How many of the round's lines are its own.
+    pub lines: u32,
     pub pass: Pass,
     pub txn: Txn,
     pub room: LineRoom,
@@ -28,8 +29,7 @@ pub struct Cell<D> {
     pub shown: Option<Mark>,
     /// The log file that grows.
     pub bank: D,
-    pub outcomes: Outcomes,
+    /// Room for the outcomes of its lines, which takes no memory as they are run.
+    pub outcomes: OutcomeRoom,
     pub end: LogEnd,
-    /// Whether memory was wanted as its lines were run.
-    pub ran: Result<(), Memory>,
 }

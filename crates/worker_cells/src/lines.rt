@@ -1,5 +1,5 @@
 // One worker's lines of a round.
-ghost use Rattle.std.specs.Prelude.{◌≡◌, ◌⊎◌, ◌+◌, ◌<◌, ◌≤◌, [], Some, None, OnErr, OnOk, is_some, length};
+ghost use Rattle.std.specs.Prelude.{◌≡◌, ◌⊎◌, ◌+◌, ◌-◌, ◌<◌, ◌≤◌, [], Some, None, is_some, length};
 ghost use Rattle.std.specs.Prelude.{option_map, option_to_list, slice_get, true, false};
 ghost use Rattle.std.specs.List.{AllByRecursion};
 ghost use Rattle.std.specs.Option.{option_copied};
@@ -12,8 +12,7 @@ ghost use Rattle.engine_words.specs.Passes.{IsPassOf, view};
 ghost use Rattle.tx_commit.specs.Live.{IsOver};
 ghost use Rattle.tx_runner.specs.Lines.{HasNoTree, IsOnArray};
 ghost use Rattle.tx_script.specs.Run.{CanRun};
-ghost use Rattle.worker_cells.specs.Cells.{IsCell, IsMarkedBelow, IsShown, LogsLine, RunsCell, RunsOne, StepsOne};
-ghost use Rattle.worker_cells.specs.Cells.{StopsCell, StopsOne, StopsSome, fails};
+ghost use Rattle.worker_cells.specs.Cells.{IsCell, IsMarkedBelow, IsShown, RunsCell, RunsOne, StepsOne, fails};
 ghost use Rattle.worker_cells.specs.Rows.{logged_by};
 
 use crate::cell::{Cell, LogEnd};
@@ -21,13 +20,13 @@ use crate::readying::{make_ready, mark_last};
 use engine_words::Engine;
 use log_writer::LogFault;
 use outside::{Disk, Gate};
-use serial_model::{Commit, Memory, Op};
-use tx_runner::{LineEnd, load_epoch, run_line};
+use serial_model::{Commit, Op};
+use tx_runner::{LineEnd, run_line};
 use tx_script::{Line, LineOps, Refused, Round};
 use worker_logs::WorkerLog;
 
 /// Runs the lines of the cell's worker, and then makes durable what waits and marks it. From the line on at which its
-/// log is refused it runs none. After want of memory, which the cell keeps, some first ones were run.
+/// log is refused it runs none. Without lines nothing of the cell changes but that its end is told.
 pub fn run_cell<D: Disk, G: Gate>(
     engine: &Engine,
     cell: &mut Cell<D>,
@@ -40,57 +39,28 @@ pub fn run_cell<D: Disk, G: Gate>(
     requires worker { ((view cell.old.pass).role ≡ Worker cell.old.worker) × (cell.old.worker < 8) }
     requires lines { CanRun (view cell.old.pass).layout.decls round.now }
     requires arrays { HasNoTree (view cell.old.pass).layout.decls }
-    requires outcomes { cell.old.outcomes ≡ [] }
+    requires told { cell.old.outcomes.told ≡ [] }
+    requires count { cell.old.lines ≡ length (lines_of_worker round.now cell.old.worker) }
+    requires room { length (lines_of_worker round.now cell.old.worker) ≤ cell.old.outcomes.left }
     requires tries { 1 ≤ tries }
     ensures of { IsPassOf engine.now cell.new.pass }
     ensures worker { cell.new.worker ≡ cell.old.worker }
-    ensures runs { OnOk cell.new.ran (RunsCell D.tells D.clock D.image_at D.faults tries
-        (lines_of_worker round.now cell.old.worker) cell.new.outcomes cell.new.end
-        (view cell.old.pass) (view cell.new.pass) cell.old.log cell.new.log cell.old.bank cell.new.bank) }
-    ensures stops { OnErr cell.new.ran (StopsCell D.tells D.clock D.image_at D.faults tries
-        (lines_of_worker round.now cell.old.worker)
-        (view cell.old.pass) (view cell.new.pass) cell.old.log cell.new.log cell.old.bank cell.new.bank) }
+    ensures runs { RunsCell D.tells D.clock D.image_at D.faults tries
+        (lines_of_worker round.now cell.old.worker) cell.new.outcomes.told cell.new.end
+        (view cell.old.pass) (view cell.new.pass) cell.old.log cell.new.log cell.old.bank cell.new.bank }
 {
-    cell.ran = run_all(engine, cell, round, tries, gate);
-    if cell.ran.is_err() {
-        // So that no line saw a later epoch than the pass.
-        let _epoch = load_epoch(engine, &mut cell.pass);
-    }
-}
-
-// Runs the lines of the cell's worker. After want of memory some first ones were run, at epochs up to some.
-fn run_all<D: Disk, G: Gate>(
-    engine: &Engine,
-    cell: &mut Cell<D>,
-    round: &Round<'_>,
-    tries: u32,
-    gate: &G,
-) -> Result<(), Memory>
-    requires of { IsPassOf engine.now cell.old.pass }
-    requires cell { IsCell D.tells (view cell.old.pass) cell.old.log cell.old.bank }
-    requires worker { ((view cell.old.pass).role ≡ Worker cell.old.worker) × (cell.old.worker < 8) }
-    requires lines { CanRun (view cell.old.pass).layout.decls round.now }
-    requires arrays { HasNoTree (view cell.old.pass).layout.decls }
-    requires outcomes { cell.old.outcomes ≡ [] }
-    requires tries { 1 ≤ tries }
-    ensures of { IsPassOf engine.now cell.new.pass }
-    ensures worker { cell.new.worker ≡ cell.old.worker }
-    ensures runs { OnOk result (RunsCell D.tells D.clock D.image_at D.faults tries
-        (lines_of_worker round.now cell.old.worker) cell.new.outcomes cell.new.end
-        (view cell.old.pass) (view cell.new.pass) cell.old.log cell.new.log cell.old.bank cell.new.bank) }
-    ensures stops { OnErr result (StopsSome D.tells D.clock D.image_at D.faults tries
-        (lines_of_worker round.now cell.old.worker)
-        (view cell.old.pass) (view cell.new.pass) cell.old.log cell.new.log cell.old.bank cell.new.bank) }
-{
+    let lines = cell.lines;
     let mut line_ops = LineOps::new();
+    let mut index = 0;
     let mut count = 0;
     cell.end = LogEnd::default();
     cell.shown = None;
-    for index in 0..round.len() {
+    while count < lines {
         if let Some(ops) = ops_of(round, index, cell.worker, &mut line_ops) {
-            run_one(engine, cell, ops, tries, count, gate)?;
+            run_one(engine, cell, ops, tries, count, gate);
             count += 1;
         }
+        index += 1;
     }
     if count > 0 {
         cell.end.failed = mark_last(
@@ -102,7 +72,6 @@ fn run_all<D: Disk, G: Gate>(
             &mut cell.bank,
         );
     }
-    Ok(())
 }
 
 // Runs a line, unless the log is refused, now or before.
@@ -113,7 +82,7 @@ fn run_one<D: Disk, G: Gate>(
     tries: u32,
     count: u32,
     gate: &G,
-) -> Result<(), Memory>
+)
     requires of { IsPassOf engine.now cell.old.pass }
     requires worker { ((view cell.old.pass).role ≡ Worker cell.old.worker) × (cell.old.worker < 8) }
     requires over { IsOver (view cell.old.pass) }
@@ -124,17 +93,18 @@ fn run_one<D: Disk, G: Gate>(
     requires arrays { AllByRecursion (IsOnArray (view cell.old.pass).layout.decls) ops.now }
     requires few { length ops.now ≤ 16 }
     requires tries { 1 ≤ tries }
+    requires room { 1 ≤ cell.old.outcomes.left }
     ensures of { IsPassOf engine.now cell.new.pass }
     ensures worker { cell.new.worker ≡ cell.old.worker }
-    ensures shown { OnOk result (IsShown cell.new.shown cell.new.log.mark (view cell.new.pass).seat.marks) }
-    ensures steps { OnOk result (StepsOne D.tells D.clock D.image_at D.faults tries ops.now
-        cell.old.outcomes cell.new.outcomes cell.old.end cell.new.end (view cell.old.pass) (view cell.new.pass)
-        cell.old.log cell.new.log cell.old.bank cell.new.bank) }
-    ensures stops { OnErr result (StopsOne D.tells D.clock D.image_at D.faults tries ops.now cell.old.end.full
-        (view cell.old.pass) (view cell.new.pass) cell.old.log cell.new.log cell.old.bank cell.new.bank) }
+    ensures left { cell.new.outcomes.left ≡ cell.old.outcomes.left - 1 }
+    ensures shown { IsShown cell.new.shown cell.new.log.mark (view cell.new.pass).seat.marks }
+    ensures steps { StepsOne D.tells D.clock D.image_at D.faults tries ops.now
+        cell.old.outcomes.told cell.new.outcomes.told cell.old.end cell.new.end
+        (view cell.old.pass) (view cell.new.pass) cell.old.log cell.new.log cell.old.bank cell.new.bank }
 {
     if is_refused(&cell.end) {
-        return cell.outcomes.push_refused(Refused::Unrun);
+        cell.outcomes.push_refused(Refused::Unrun);
+        return;
     }
     match make_ready(
         engine,
@@ -146,13 +116,12 @@ fn run_one<D: Disk, G: Gate>(
     ) {
         Ok(()) => {
             gate.before(cell.worker, count);
-            run_logged(engine, cell, ops, tries)?;
+            run_logged(engine, cell, ops, tries);
             gate.after(cell.worker, count);
-            Ok(())
         }
         Err(fault) => {
             cell.end = end_by(fault);
-            cell.outcomes.push_refused(Refused::Unrun)
+            cell.outcomes.push_refused(Refused::Unrun);
         }
     }
 }
@@ -183,12 +152,7 @@ fn end_by(fault: LogFault) -> LogEnd
 }
 
 // Runs a line for which the log was made ready, logs what it changed, and keeps its outcome.
-fn run_logged<D: Disk>(
-    engine: &Engine,
-    cell: &mut Cell<D>,
-    ops: &[Op],
-    tries: u32,
-) -> Result<(), Memory>
+fn run_logged<D: Disk>(engine: &Engine, cell: &mut Cell<D>, ops: &[Op], tries: u32)
     requires of { IsPassOf engine.now cell.old.pass }
     requires over { IsOver (view cell.old.pass) }
     requires draws { 1 ≤ (view cell.old.pass).layout.first.draw }
@@ -198,13 +162,13 @@ fn run_logged<D: Disk>(
     requires tries { 1 ≤ tries }
     requires free { 400 ≤ free cell.old.log.journal }
     requires limit { end_of cell.old.log.journal + 400 ≤ cell.old.log.journal.limit }
+    requires room { 1 ≤ cell.old.outcomes.left }
     ensures of { IsPassOf engine.now cell.new.pass }
     ensures kept { (cell.new.worker ≡ cell.old.worker) × (cell.new.bank ≡ cell.old.bank)
         × (cell.new.end ≡ cell.old.end) × (cell.new.shown ≡ cell.old.shown) }
-    ensures runs { OnOk result (RunsOne tries ops.now cell.old.outcomes cell.new.outcomes
-        (view cell.old.pass) (view cell.new.pass) cell.old.log cell.new.log) }
-    ensures stops { OnErr result (LogsLine tries ops.now
-        (view cell.old.pass) (view cell.new.pass) cell.old.log cell.new.log) }
+    ensures left { cell.new.outcomes.left ≡ cell.old.outcomes.left - 1 }
+    ensures runs { RunsOne tries ops.now cell.old.outcomes.told cell.new.outcomes.told
+        (view cell.old.pass) (view cell.new.pass) cell.old.log cell.new.log }
 {
     match run_line(
         engine,
@@ -216,7 +180,7 @@ fn run_logged<D: Disk>(
     ) {
         LineEnd::Committed(verdict) => {
             log_commit(&mut cell.log, &cell.room.commit);
-            cell.outcomes.push_words(verdict, cell.room.commit.number, cell.room.replies.words())
+            cell.outcomes.push_words(verdict, cell.room.commit.number, cell.room.replies.words());
         }
         LineEnd::Conflict => cell.outcomes.push_refused(Refused::Conflict),
         LineEnd::Limit => cell.outcomes.push_refused(Refused::Limit),

@@ -2,8 +2,8 @@
 use Rattle.std.proofs.Common.{◌≡◌, ◌∙◌, ◌++◌, ◌∷◌, ap, arith, length, List, Option, None, refl, subst, sym, take, []}
 use Rattle.std.specs.Prelude.{◌||◌, vec_len}
 use Rattle.std.specs.List.{filter_map}
-use Rattle.std.proofs.lemmas.List.{take_all}
-use Rattle.script_grammar.specs.Script.{keeper_line_of}
+use Rattle.std.proofs.lemmas.List.{nil_from_length, take_all}
+use Rattle.script_grammar.specs.Script.{keeper_line_of, keeper_lines}
 use Rattle.script_grammar.specs.declared.lines.KeeperLine.{KeeperLine}
 use Rattle.tx_script.specs.declared.answer.Answer.{Answer}
 use Rattle.round_engine.specs.Ends.{save_limited}
@@ -13,6 +13,17 @@ use Rattle.round_engine.proofs.KeeperSteps.{can_keep, keeper_begin, keeper_step,
 use Rattle.round_engine.proofs.Loops.{asked_there, keeper_at, keeper_not, keepers_fewer}
 use Rattle.round_engine.proofs.keeper.run_keeper.Goals as goal
 use Rattle.round_engine.proofs.keeper.run_keeper.Goals.{in-Some, in_default}
+
+-- no line asks for anything
+pub returns-then-capacity-eq0-clause-runs : goal.returns-then-capacity-eq0-clause-runs
+returns-then-capacity-eq0-clause-runs g c =
+    let none : keeper_lines c.args.round.now ≡ [] = nil_from_length _ (omega (arith, c.requires.answer_room, c.capacity.ensures, c.if-capacity-eq0.true)) in
+    rw (none, c.requires.none) (keeper_begin c.args.runtime.now c.args.vault.now c.requires.ready)
+
+pub returns-then-capacity-eq0-clause-limited : goal.returns-then-capacity-eq0-clause-limited
+returns-then-capacity-eq0-clause-limited g c =
+    let none : keeper_lines c.args.round.now ≡ [] = nil_from_length _ (omega (arith, c.requires.answer_room, c.capacity.ensures, c.if-capacity-eq0.true)) in
+    rw none refl
 
 pub loop-index-init : goal.loop-index-init
 loop-index-init g c = record {
@@ -59,7 +70,7 @@ pub loop-index-preserved : goal.loop-index-preserved
 loop-index-preserved g c =
     let inv = c.loop-index.invariant in
     let lines : List KeeperLine = filter_map keeper_line_of (take c.loop-index.index c.args.round.now.lines) in
-    elim c.match-keeper_line.branch [
+    elim c.match-keeper.branch [
       | in-Some w ↦
           let next = w.answer_line-answer in
           let one = keeper_step c.requires.ready c.loop-index.end.refusal w.in-Some.line next.result next.new.end.refusal

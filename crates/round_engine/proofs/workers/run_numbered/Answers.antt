@@ -1,12 +1,14 @@
 -- A transaction's replies take few words, and its log gets what it changed.
 use Rattle.std.proofs.Common.{◌∙◌, ap, false, inr, subst, sym}
-use Rattle.std.specs.Prelude.{IsTrue}
+use Rattle.std.specs.Prelude.{◌<◌, IsTrue}
 use Rattle.std.specs.List.{AllByRecursion}
 use Rattle.serial_model.specs.Keys.{fits}
+use Rattle.serial_model.specs.Numbers.{draw_limit}
 use Rattle.serial_model.specs.Step.{Ended}
 use Rattle.round_engine.specs.Plainly.{after_line}
 use Rattle.round_engine.specs.Standing.{Standing}
 use Rattle.round_engine.specs.Steps.{TakesLine}
+use Rattle.round_engine.proofs.Apart.{apart_run, next_is}
 use Rattle.round_engine.proofs.FewWords.{few_words}
 use Rattle.round_engine.proofs.LineSteps.{after_numbered, number_there, on_err, on_ok, takes_number}
 use Rattle.round_engine.proofs.workers.run_numbered.Goals as goal
@@ -55,3 +57,15 @@ returns-clause-stops c =
           (takes_number view c.args.ops.now c.commit-commit.result c.args.log.now c.log_commit.new.log has fitting logged
           c.log_commit.ensures.line c.log_commit.ensures.takes),
     ))
+
+-- the number is one more, and words couldn't have the contents still
+pub invariant_of-engine-2 : goal.invariant_of-engine-2
+invariant_of-engine-2 c =
+    let inside = c.engine.inside in
+    let fitting = subst (λ (s : Standing). AllByRecursion (λ op. IsTrue (fits s.decls op)) c.args.ops.now) (sym c.engine.view_is)
+    c.requires.fits in
+    let few = subst (λ (s : Standing). s.clock.draw < draw_limit) (sym c.engine.view_is) c.requires.number in (
+      next_is inside.clock c.engine.invariant.0 few,
+      apart_run inside.plain.decls inside.plain.state c.args.ops.now c.run_in.new.plain.decls c.run_in.new.plain.state
+          fitting c.engine.invariant.1 c.in_ok-verdict.ensures.decls (ap (λ (e : Ended). e.state) c.in_ok-verdict.ensures.step),
+    )

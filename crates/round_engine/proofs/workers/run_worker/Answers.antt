@@ -48,7 +48,7 @@ returns-in_err-run_line-in-Ok g c =
     ∙ lines_epoch so.0.ran c.args.engine.now in
     let moves = subst (λ e. MovesLog g.D.Disk.tells g.D.Disk.clock g.D.Disk.image_at g.D.Disk.faults (e - 1) c.loop-index.log
     c.prepare.new.self c.loop-index.bank c.prepare.new.bank None) epoch c.in-Ok.ensures.moves in
-    let some : 1 ≤ c.args.engine.now.clock.epoch = omega (arith, epoch, c.engine.invariant.some_epoch) in
+    let some : 1 ≤ c.args.engine.now.clock.epoch = omega (arith, epoch, c.engine.invariant.0.some_epoch) in
     rw p.1 (record {
       runs = elim c.in_err-run_line-in-Ok.ensures.stops [
         | inl same ↦ rw (same.0, same.1)
@@ -84,7 +84,7 @@ loop-index-preserved g c =
           let epoch : w.engine.inside.clock.epoch ≡ c.args.engine.now.clock.epoch =
           ap (λ (s : Standing). s.clock.epoch) w.engine.view_is ∙ ap (λ (s : Standing). s.clock.epoch) so.0.standing
           ∙ lines_epoch so.0.ran c.args.engine.now in
-          let some : 1 ≤ c.args.engine.now.clock.epoch = omega (arith, epoch, w.engine.invariant.some_epoch) in
+          let some : 1 ≤ c.args.engine.now.clock.epoch = omega (arith, epoch, w.engine.invariant.0.some_epoch) in
           elim w.match-prepare.branch [
             | in-Ok+in_ok-run_line-in-Ok v ↦
                 let moves = subst (λ e. MovesLog g.D.Disk.tells g.D.Disk.clock g.D.Disk.image_at g.D.Disk.faults (e - 1)

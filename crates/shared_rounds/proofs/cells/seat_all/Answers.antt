@@ -1,15 +1,16 @@
-use Rattle.std.proofs.Common.{rules, ◌≡◌, ◌∙◌, ◌<◌, ◌≤◌, ◌+◌, ◌-◌, ℕ, List, [], ◌∷◌, ◌++◌, length, vec_len, arith, ap}
-use Rattle.std.proofs.Common.{sym, refl, subst}
-use Rattle.std.specs.Prelude.{option_to_list}
-use Rattle.std.specs.FinMap.{empty}
-use Rattle.worker_logs.specs.Logs.{LogState}
+use Rattle.std.proofs.Common.{rules, ◌≡◌, ◌∙◌, ◌<◌, ◌+◌, ◌-◌, [], ◌∷◌, ◌++◌, length, vec_len, arith, ap}
+use Rattle.std.proofs.Common.{sym, subst}
+use Rattle.std.specs.Prelude.{get_or}
+use Rattle.wire_form.specs.declared.clock.Mark.{Mark}
+use Rattle.tx_commit.specs.Live.{IsOver}
 use Rattle.views.specs.Sums.{times}
 use Rattle.engine_words.specs.Cuts.{seated, worker_view}
-use Rattle.engine_words.specs.Passes.{IsPassOf, view}
+use Rattle.engine_words.specs.Passes.{view}
 use Rattle.engine_words.specs.declared.view.View.{View}
-use Rattle.shared_rounds.specs.Seated.{SeatedSoFar}
-use Rattle.shared_rounds.specs.Seating.{CanSeat, seats_from, with_made}
-use Rattle.shared_rounds.proofs.Seated.{none_seated, not_seated, seats_more, seats_one}
+use Rattle.shared_rounds.specs.Rooms.{AreRooms}
+use Rattle.shared_rounds.specs.Seated.{IsBegun, SeatedSoFar}
+use Rattle.shared_rounds.specs.Seating.{with_made}
+use Rattle.shared_rounds.proofs.Seated.{last_room, none_seated, not_seated, over_at, seats_more, seats_one}
 use Rattle.shared_rounds.proofs.cells.seat_all.Goals as goal
 
 pub loop-count-init : goal.loop-count-init
@@ -20,26 +21,34 @@ loop-count-init g c =
       len = c.requires.cells.0;
       logs_len = omega (arith, c.requires.logs.0);
       banks_len = omega (arith, c.requires.logs.1);
+      rooms_len = omega (arith, c.requires.rooms.0);
+      rooms_are = c.requires.rooms.1;
       room = c.requires.cells.2;
       logs_room = search rules;
       banks_room = search rules;
       seated = subst (λ l. SeatedSoFar g.D.Disk.tells c.args.engine.now
-          (view c.args.keeper.now) 8 l c.args.logs.now.items
+          (view c.args.keeper.now) c.args.counts.now 8 l c.args.logs.now.items
           c.args.logs.now.items c.args.growing.now.items c.args.growing.now.items) (sym none)
-          (none_seated g.D.Disk.tells c.args.engine.now (view c.args.keeper.now) 8 c.args.logs.now.items
-          c.args.growing.now.items);
+          (none_seated g.D.Disk.tells c.args.engine.now (view c.args.keeper.now) c.args.counts.now 8
+          c.args.logs.now.items c.args.growing.now.items);
     }
   where
     unmade : (v : View) → v.made ≡ [] → v ≡ with_made [] v
     unmade v none = ap (λ l. with_made l v) none
 
-pub seat-pass-requires-clause-worker : goal.seat-pass-requires-clause-worker
-seat-pass-requires-clause-worker g c =
+pub seat_one-pass-requires-clause-worker : goal.seat_one-pass-requires-clause-worker
+seat_one-pass-requires-clause-worker g c =
     let less : c.loop-count.count < 8 = omega (arith, c.loop-count-test.true) in (
       omega arith,
       ap (λ (v : View). times (7 - c.loop-count.count) v.made) c.loop-count.invariant.keeper
           ∙ not_seated c.loop-count.count (8 - c.loop-count.count) (7 - c.loop-count.count) (omega (arith, less)),
     )
+
+pub seat_one-pass-requires-clause-over : goal.seat_one-pass-requires-clause-over
+seat_one-pass-requires-clause-over g c =
+    subst (λ (v : View). IsOver (worker_view (7 - c.loop-count.count) v)) (sym c.loop-count.invariant.keeper)
+    (over_at (view c.args.keeper.now) (7 - c.loop-count.count) c.requires.keeper.decls
+    (c.requires.keeper.parked (7 - c.loop-count.count) (omega arith)))
 
 pub loop-count-preserved : goal.loop-count-preserved
 loop-count-preserved g c =
@@ -47,37 +56,56 @@ loop-count-preserved g c =
     let less : c.loop-count.count < 8 = omega (arith, c.loop-count-test.true) in
     let logs_less : vec_len c.pop.new.self + 1 ≡ vec_len c.loop-count.logs = search rules in
     let banks_less : vec_len c.pop-in-loop-count.new.self + 1 ≡ vec_len c.loop-count.growing = search rules in
+    let rooms_less : vec_len c.pop-in-loop-count-2.new.self + 1 ≡ vec_len c.loop-count.rooms = search rules in
     let worker : 8 - c.loop-count.count ≡ (8 - (c.loop-count.count + 1)) + 1 = omega (arith, less) in
     let number : 7 - c.loop-count.count ≡ 8 - (c.loop-count.count + 1) = omega arith in
     let logs_place : length c.pop.new.self.items ≡ vec_len c.pop.new.self = search rules in
     let banks_place : length c.pop-in-loop-count.new.self.items ≡ vec_len c.pop-in-loop-count.new.self = search rules in
+    let rooms_place : length c.pop-in-loop-count-2.new.self.items ≡ vec_len c.pop-in-loop-count-2.new.self =
+    search rules in
     let logs_count : vec_len c.pop.new.self ≡ 8 - (c.loop-count.count + 1) = omega (arith, inv.logs_len, logs_less) in
     let banks_count : vec_len c.pop-in-loop-count.new.self ≡ 8 - (c.loop-count.count + 1) =
     omega (arith, inv.banks_len, banks_less) in
+    let rooms_count : vec_len c.pop-in-loop-count-2.new.self ≡ 8 - (c.loop-count.count + 1) =
+    omega (arith, inv.rooms_len, rooms_less) in
     let log_is : c.loop-count.logs.items ≡ c.pop.new.self.items ++ c.in-Some.log ∷ [] = search rules in
     let bank_is : c.loop-count.growing.items ≡ c.pop-in-loop-count.new.self.items ++ c.in-Some-pop.bank ∷ [] = search
     rules in
+    let room_is : c.loop-count.rooms.items ≡ c.pop-in-loop-count-2.new.self.items ++ c.in-Some-pop-2.outcomes ∷ [] =
+    search rules in
+    let rooms = last_room c.args.counts.now c.pop-in-loop-count-2.new.self.items c.in-Some-pop-2.outcomes
+    (subst (AreRooms c.args.counts.now) room_is inv.rooms_are) in
     record {
       of = search rules;
-      keeper = c.seat-pass.ensures.keeper ∙ ap (seated (7 - c.loop-count.count)) inv.keeper
+      keeper = c.seat_one-pass.ensures.keeper ∙ ap (seated (7 - c.loop-count.count)) inv.keeper
           ∙ ap (λ l. with_made l (view c.args.keeper.now)) (seats_more c.loop-count.count less);
       len = search rules;
       logs_len = omega (arith, inv.logs_len, logs_less);
       banks_len = omega (arith, inv.banks_len, banks_less);
+      rooms_len = omega (arith, inv.rooms_len, rooms_less);
+      rooms_are = rooms.2;
       room = search rules;
       logs_room = search rules;
       banks_room = search rules;
-      seated = subst (λ l. SeatedSoFar g.D.Disk.tells c.args.engine.now (view c.args.keeper.now)
+      seated = subst (λ l. SeatedSoFar g.D.Disk.tells c.args.engine.now (view c.args.keeper.now) c.args.counts.now
           (8 - (c.loop-count.count + 1)) l c.args.logs.now.items c.pop.new.self.items c.args.growing.now.items
           c.pop-in-loop-count.new.self.items) (sym c.push_reserved.ensures.items)
-          (seats_one g.D.Disk.tells c.args.engine.now (view c.args.keeper.now) (8 - (c.loop-count.count + 1))
-          c.loop-count.cells.items c.args.logs.now.items c.loop-count.logs.items c.pop.new.self.items
-          c.args.growing.now.items c.loop-count.growing.items c.pop-in-loop-count.new.self.items _ c.requires.keeper
-          c.requires.up c.requires.flushed (omega arith) (logs_place ∙ logs_count) (banks_place ∙ banks_count)
-          log_is bank_is c.seat-pass.ensures.of.1 number
-          (c.seat-pass.ensures.seat ∙ ap (worker_view (7 - c.loop-count.count)) inv.keeper
-          ∙ ap (λ w. worker_view w (view c.args.keeper.now)) number) c.take.ensures
-          (subst (λ w. SeatedSoFar g.D.Disk.tells c.args.engine.now (view c.args.keeper.now) w c.loop-count.cells.items
-          c.args.logs.now.items c.loop-count.logs.items c.args.growing.now.items c.loop-count.growing.items) worker
-          inv.seated));
+          (seats_one g.D.Disk.tells c.args.engine.now (view c.args.keeper.now) c.args.counts.now
+          (8 - (c.loop-count.count + 1)) c.loop-count.cells.items c.args.logs.now.items c.loop-count.logs.items
+          c.pop.new.self.items c.args.growing.now.items c.loop-count.growing.items c.pop-in-loop-count.new.self.items _
+          c.requires.keeper c.requires.up c.requires.flushed (omega arith) (logs_place ∙ logs_count)
+          (banks_place ∙ banks_count) log_is bank_is c.seat_one-pass.ensures.of.1 number
+          (ap (λ n. get_or c.args.counts.now n 0) number)
+          (subst (λ n. IsBegun (get_or c.args.counts.now n 0) c.in-Some.log.mark.length
+          (worker_view n (view c.args.keeper.now)) (view c.seat_one-pass.result)) number
+          (subst (λ (v : View). IsBegun (get_or c.args.counts.now (7 - c.loop-count.count) 0)
+          c.in-Some.log.mark.length (worker_view (7 - c.loop-count.count) v) (view c.seat_one-pass.result)) inv.keeper
+          (subst (λ (m : Mark). IsBegun (get_or c.args.counts.now (7 - c.loop-count.count) 0) m.length
+          (worker_view (7 - c.loop-count.count) (view c.loop-count.keeper)) (view c.seat_one-pass.result))
+          c.mark.ensures.mark c.seat_one-pass.ensures.begun)))
+          c.seat_one-pass.ensures.over rooms.0
+          (rooms.1 ∙ ap (λ n. get_or c.args.counts.now n 0) (rooms_place ∙ rooms_count))
+          (subst (λ w. SeatedSoFar g.D.Disk.tells c.args.engine.now (view c.args.keeper.now) c.args.counts.now w
+          c.loop-count.cells.items c.args.logs.now.items c.loop-count.logs.items c.args.growing.now.items
+          c.loop-count.growing.items) worker inv.seated));
     }

@@ -1,5 +1,6 @@
 use Rattle.std.proofs.Common.{◌≡◌, ◌≤◌, ◌+◌, ◌-◌, vec_capacity, vec_len}
 use Rattle.engine_words.specs.Passes.{IsPassOf, view}
+use Rattle.shared_rounds.specs.Rooms.{AreRooms}
 use Rattle.shared_rounds.specs.Seated.{SeatedSoFar}
 use Rattle.shared_rounds.specs.Seating.{seats_from, with_made}
 use Rattle.shared_rounds.proofs.cells.seat_all.Given as goal
@@ -11,9 +12,11 @@ invariant-loop-count g l = record {
   len : vec_len l.cells ≡ l.count;
   logs_len : vec_len l.logs + l.count ≡ 8;
   banks_len : vec_len l.growing + l.count ≡ 8;
+  rooms_len : vec_len l.rooms + l.count ≡ 8;
+  rooms_are : AreRooms l.counts l.rooms.items;
   room : 8 ≤ vec_capacity l.cells;
   logs_room : 8 ≤ vec_capacity l.logs;
   banks_room : 8 ≤ vec_capacity l.growing;
-  seated : SeatedSoFar g.D.Disk.tells l.engine (view l.initial.keeper) (8 - l.count) l.cells.items
+  seated : SeatedSoFar g.D.Disk.tells l.engine (view l.initial.keeper) l.counts (8 - l.count) l.cells.items
       l.initial.logs.items l.logs.items l.initial.growing.items l.growing.items;
 }

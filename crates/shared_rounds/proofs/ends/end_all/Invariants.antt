@@ -18,16 +18,17 @@ invariant-loop-cell g l = record {
   logs_len : vec_len l.logs + vec_len l.cells ≡ 8;
   banks_len : vec_len l.growing + vec_len l.cells ≡ 8;
   ends_len : length l.ends.items + vec_len l.cells ≡ 8;
+  told_len : vec_len l.told + vec_len l.cells ≡ 8;
   logs_room : 8 ≤ vec_capacity l.logs;
   banks_room : 8 ≤ vec_capacity l.growing;
+  told_room : 8 ≤ vec_capacity l.told;
   cells : AllByRecursion (MayEnd l.engine) l.cells.items;
   ended : (tries : ℕ) (round : Round) (was : View) (logs_was : List LogState) (banks_was : List g.row.D.Denot)
       → StandsFor was (view l.fn.keeper)
       → AreRan g.D.Disk.tells g.D.Disk.clock g.D.Disk.image_at g.D.Disk.faults tries round l.engine was 0
       (backward l.initial.cells.items) logs_was banks_was
       → EndsOn g.D.Disk.tells g.D.Disk.clock g.D.Disk.image_at g.D.Disk.faults tries round l.engine was (view l.keeper)
-      (8 - vec_len l.cells) l.cells.items logs_was l.logs.items banks_was l.growing.items l.memory l.outcomes
-      l.ends.items;
+      (8 - vec_len l.cells) l.cells.items logs_was l.logs.items banks_was l.growing.items l.told.items l.ends.items;
 }
 
 abbrev pub decreases-loop-cell : goal.decreases-loop-cell

@@ -1,6 +1,12 @@
--- At most one for each line.
-use Rattle.std.proofs.Common.{◌≤◌}
+-- The counts are those of the lines so far.
+use Rattle.std.proofs.Common.{◌≡◌, ◌<◌, ℕ, length}
+use Rattle.std.specs.Prelude.{filter_map, get_or, take}
+use Rattle.script_grammar.specs.Script.{ops_of_worker}
 use Rattle.shared_rounds.proofs.rooms.count_lines.Given as goal
 
 abbrev pub invariant-loop-index : goal.invariant-loop-index
-invariant-loop-index l = l.count ≤ l.index
+invariant-loop-index l = record {
+  workers : length l.counts ≡ 8;
+  each : (worker : ℕ) → worker < 8
+      → get_or l.counts worker 0 ≡ length (filter_map (ops_of_worker worker) (take l.index l.round.lines));
+}

@@ -1,8 +1,104 @@
--- Behind want of memory the clock is loaded once more.
-use Rattle.worker_cells.proofs.Ends.{err_map}
-use Rattle.worker_cells.proofs.Loop.{stops_seen}
+-- One line after another, and the mark behind the last one.
+use Rattle.std.proofs.Common.{◌∙◌, ◌<◌, ◌≤◌, Some, None, ap, sym, subst, refl, arith, length}
+use Rattle.std.specs.Prelude.{is_some}
+use Rattle.std.specs.List.{AllByRecursion}
+use Rattle.script_grammar.specs.Script.{lines_of_worker}
+use Rattle.engine_words.specs.declared.view.Role.TheVariants.{Worker}
+use Rattle.engine_words.specs.Passes.{view}
+use Rattle.tx_runner.specs.Lines.{IsOnArray}
+use Rattle.worker_cells.proofs.CellLoop.{so_begin, so_layout, so_marked, so_other, so_role, so_room, so_step, so_within}
+use Rattle.worker_cells.proofs.LinesOf.{HasOps, on_arrays, runnable_at}
 use Rattle.worker_cells.proofs.lines.run_cell.Goals as goal
+use Rattle.worker_cells.proofs.lines.run_cell.Goals.{in-Some, in_default}
 
-pub returns-then-is_err-clause-stops : goal.returns-then-is_err-clause-stops
-returns-then-is_err-clause-stops g c =
-    err_map c.run_all-cell.result (λ so. stops_seen so c.load_epoch-epoch.ensures.seen) c.run_all-cell.ensures.stops
+pub loop-count-init : goal.loop-count-init
+loop-count-init g c = (
+  so_begin c.args.tries c.args.cell.now.worker c.args.round.now.lines c.args.cell.now.outcomes.told
+      c.default-cell.result None c.requires.cell c.requires.told c.default-cell.ensures.1
+      (c.default-cell.ensures.0 ∙ sym (ap is_some c.requires.cell.up.up)) tt,
+  c.requires.of,
+  refl,
+  omega arith,
+)
+
+pub ops_of-requires : goal.ops_of-requires
+ops_of-requires g c =
+    so_within (omega (arith, c.loop-count-test.true, c.requires.count)) c.loop-count.invariant.0
+
+pub overflow_add-index : goal.overflow_add-index
+overflow_add-index g c =
+    let within = so_within (omega (arith, c.loop-count-test.true, c.requires.count)) c.loop-count.invariant.0 in
+    omega (arith, within, c.requires.lines.few_lines)
+
+pub run_one-requires-clause-worker : goal.run_one-requires-clause-worker
+run_one-requires-clause-worker g c =
+    let so = c.loop-count.invariant in (
+      so_role so.0 ∙ c.requires.worker.0 ∙ ap Worker (sym so.2),
+      subst (λ n. n < 8) (sym so.2) c.requires.worker.1,
+    )
+
+pub run_one-requires-clause-arrays : goal.run_one-requires-clause-arrays
+run_one-requires-clause-arrays g c =
+    let decls = (view c.args.cell.now.pass).layout.decls in
+    subst (λ l. AllByRecursion (IsOnArray l.decls) c.in-Some.ops.now) (sym (so_layout c.loop-count.invariant.0))
+    (on_arrays decls c.loop-count.cell.worker c.in-Some.ops.now c.requires.arrays
+    (runnable_at decls c.loop-count.cell.worker c.args.round.now c.loop-count.index c.in-Some.ops.now c.requires.lines
+    c.in-Some.ensures))
+
+pub run_one-requires-clause-few : goal.run_one-requires-clause-few
+run_one-requires-clause-few g c =
+    (runnable_at (view c.args.cell.now.pass).layout.decls c.loop-count.cell.worker c.args.round.now c.loop-count.index
+    c.in-Some.ops.now c.requires.lines c.in-Some.ensures).few
+
+pub run_one-requires-clause-room : goal.run_one-requires-clause-room
+run_one-requires-clause-room g c =
+    let so = c.loop-count.invariant in
+    let has : HasOps c.args.cell.now.worker c.args.round.now.lines c.loop-count.index (Some c.in-Some.ops.now) =
+    subst (λ n. HasOps n c.args.round.now.lines c.loop-count.index (Some c.in-Some.ops.now)) so.2 c.in-Some.ensures in
+    so_room so.0 c.in-Some.ops.now c.args.cell.now.outcomes.left c.loop-count.cell.outcomes.left has c.requires.room
+    so.3
+
+pub loop-count-preserved : goal.loop-count-preserved
+loop-count-preserved g c =
+    let so = c.loop-count.invariant in
+    elim c.match-ops_of.branch [
+      | in-Some w ↦
+          let has : HasOps c.args.cell.now.worker c.args.round.now.lines c.loop-count.index (Some w.in-Some.ops.now) =
+          subst (λ n. HasOps n c.args.round.now.lines c.loop-count.index (Some w.in-Some.ops.now)) so.2
+          w.in-Some.ensures in
+          rw (w.cell-is, w.count-is) (
+            so_step w.in-Some.ops.now has so.0 w.run_one.ensures.steps w.run_one.ensures.shown,
+            w.run_one.ensures.of,
+            w.run_one.ensures.worker ∙ so.2,
+            omega (
+              arith,
+              so.3,
+              w.run_one.ensures.left,
+              so_room so.0 w.in-Some.ops.now c.args.cell.now.outcomes.left
+                  c.loop-count.cell.outcomes.left has c.requires.room so.3,
+            ),
+          )
+      | in_default w ↦
+          rw (w.cell-is, w.count-is) (
+            so_other (subst (λ n. HasOps n c.args.round.now.lines c.loop-count.index None) so.2 w.in_default.ensures)
+                so.0,
+            so.1,
+            so.2,
+            so.3,
+          )
+    ]
+
+pub mark_last-cell-requires-clause-worker : goal.mark_last-cell-requires-clause-worker
+mark_last-cell-requires-clause-worker g c =
+    let so = c.loop-count.invariant in (
+      so_role so.0 ∙ c.requires.worker.0 ∙ ap Worker (sym so.2),
+      subst (λ n. n < 8) (sym so.2) c.requires.worker.1,
+    )
+
+pub returns-then-count-gt0-clause-runs : goal.returns-then-count-gt0-clause-runs
+returns-then-count-gt0-clause-runs g c =
+    let all : length (lines_of_worker c.args.round.now c.args.cell.now.worker) ≤ c.loop-count.count =
+    omega (arith, c.loop-count-test.false, c.requires.count) in
+    so_marked c.mark_last-cell.result all (omega (arith, c.if-count-gt0.true)) c.loop-count.invariant.0
+    c.mark_last-cell.ensures.readies c.mark_last-cell.ensures.failed c.mark_last-cell.ensures.flushed
+    c.mark_last-cell.ensures.tied

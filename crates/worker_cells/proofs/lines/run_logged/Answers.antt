@@ -3,8 +3,8 @@ use Rattle.std.proofs.Common.{◌∙◌, ◌++◌, ◌∷◌, [], sym, subst, ap
 use Rattle.serial_model.specs.ReplyWords.{AreReplyWords, are_words, replies_of, replies_of-words}
 use Rattle.engine_words.specs.Passes.{view}
 use Rattle.tx_script.specs.declared.outcome.Outcome.TheVariants.{Committed}
-use Rattle.worker_cells.proofs.Ends.{committed_logs, conflict_logs, err_then, kept_one, limit_logs, loggable}
-use Rattle.worker_cells.proofs.Ends.{ok_then, replies_few}
+use Rattle.tx_script.specs.Room.{RoomState}
+use Rattle.worker_cells.proofs.Ends.{committed_logs, conflict_logs, kept_one, limit_logs, loggable, replies_few}
 use Rattle.worker_cells.proofs.lines.run_logged.Goals as goal
 
 pub log_commit-requires-clause-loggable : goal.log_commit-requires-clause-loggable
@@ -21,38 +21,20 @@ push_words-requires-clause-few g c =
 
 pub returns-in-Committed-clause-runs : goal.returns-in-Committed-clause-runs
 returns-in-Committed-clause-runs g c =
-    let logs = committed_logs c.args.tries c.args.ops.now c.in-Committed.verdict c.run_line.new.room.replies
+    kept_one (committed_logs c.args.tries c.args.ops.now c.in-Committed.verdict c.run_line.new.room.replies
     c.run_line.new.room.commit (view c.args.cell.now.pass) (view c.run_line.new.pass) c.args.cell.now.log
-    c.log_commit.new.log c.in-Committed.ensures.runs c.log_commit.ensures.takes c.log_commit.ensures.line in
-    ok_then c.push_words.result (λ told. kept_one logs (told
-    ∙ ap (λ rs. c.args.cell.now.outcomes ++ Committed c.in-Committed.verdict c.run_line.new.room.commit.number rs ∷ [])
-    (ap replies_of c.words.ensures ∙ replies_of-words c.run_line.new.room.replies))) c.push_words.ensures.ok
-
-pub returns-in-Committed-clause-stops : goal.returns-in-Committed-clause-stops
-returns-in-Committed-clause-stops g c =
-    err_then c.push_words.result
-    (committed_logs c.args.tries c.args.ops.now c.in-Committed.verdict c.run_line.new.room.replies
-    c.run_line.new.room.commit (view c.args.cell.now.pass) (view c.run_line.new.pass) c.args.cell.now.log
-    c.log_commit.new.log c.in-Committed.ensures.runs c.log_commit.ensures.takes c.log_commit.ensures.line).0
+    c.log_commit.new.log c.in-Committed.ensures.runs c.log_commit.ensures.takes c.log_commit.ensures.line)
+    (ap (λ (r : RoomState). r.told) c.push_words.ensures
+    ∙ ap (λ rs. c.args.cell.now.outcomes.told
+    ++ Committed c.in-Committed.verdict c.run_line.new.room.commit.number rs ∷ [])
+    (ap replies_of c.words.ensures ∙ replies_of-words c.run_line.new.room.replies))
 
 pub returns-in-Conflict-clause-runs : goal.returns-in-Conflict-clause-runs
 returns-in-Conflict-clause-runs g c =
-    ok_then c.push_refused.result (λ told. kept_one (conflict_logs c.args.tries c.args.ops.now
-    (view c.args.cell.now.pass) (view c.run_line.new.pass) c.args.cell.now.log c.in-Conflict.ensures.runs) told)
-    c.push_refused.ensures.ok
-
-pub returns-in-Conflict-clause-stops : goal.returns-in-Conflict-clause-stops
-returns-in-Conflict-clause-stops g c =
-    err_then c.push_refused.result (conflict_logs c.args.tries c.args.ops.now (view c.args.cell.now.pass)
-    (view c.run_line.new.pass) c.args.cell.now.log c.in-Conflict.ensures.runs).0
+    kept_one (conflict_logs c.args.tries c.args.ops.now (view c.args.cell.now.pass) (view c.run_line.new.pass)
+    c.args.cell.now.log c.in-Conflict.ensures.runs) (ap (λ (r : RoomState). r.told) c.push_refused.ensures)
 
 pub returns-in-Limit-clause-runs : goal.returns-in-Limit-clause-runs
 returns-in-Limit-clause-runs g c =
-    ok_then c.push_refused-in-Limit.result (λ told. kept_one (limit_logs c.args.tries c.args.ops.now
-    (view c.args.cell.now.pass) (view c.run_line.new.pass) c.args.cell.now.log c.in-Limit.ensures.runs) told)
-    c.push_refused-in-Limit.ensures.ok
-
-pub returns-in-Limit-clause-stops : goal.returns-in-Limit-clause-stops
-returns-in-Limit-clause-stops g c =
-    err_then c.push_refused-in-Limit.result (limit_logs c.args.tries c.args.ops.now (view c.args.cell.now.pass)
-    (view c.run_line.new.pass) c.args.cell.now.log c.in-Limit.ensures.runs).0
+    kept_one (limit_logs c.args.tries c.args.ops.now (view c.args.cell.now.pass) (view c.run_line.new.pass)
+    c.args.cell.now.log c.in-Limit.ensures.runs) (ap (λ (r : RoomState). r.told) c.push_refused-in-Limit.ensures)

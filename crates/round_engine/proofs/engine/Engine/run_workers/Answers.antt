@@ -1,15 +1,18 @@
 -- The lines are run on what the engine has.
 use Rattle.std.proofs.Common.{◌∙◌, ap, subst, sym}
+use Rattle.std.specs.Prelude.{IsSome}
 use Rattle.tx_script.specs.Draws.{HasTree}
 use Rattle.tx_script.specs.Run.{CanRun}
 use Rattle.shared_rounds.specs.Lines.{LinesCome, standing}
 use Rattle.shared_rounds.specs.Standing.{Standing}
-use Rattle.round_engine.proofs.Powers.{no_tree, plain_goes, plain_once, plain_stands, shared_once, shared_stands}
+use Rattle.round_engine.specs.Powers.{SharesWords}
+use Rattle.round_engine.proofs.Powers.{ok_then, plain_apart, plain_goes, plain_once, plain_stands, shared_enough}
+use Rattle.round_engine.proofs.Powers.{shared_once, shared_stands}
 use Rattle.round_engine.proofs.engine.Engine.run_workers.Goals as goal
 use Rattle.round_engine.proofs.engine.Engine.run_workers.Goals.{in-Plain, in-Shared}
 
-pub run_workers-requires-clause-lines : goal.run_workers-requires-clause-lines
-run_workers-requires-clause-lines g c κs within =
+pub run_shared-requires-clause-lines : goal.run_shared-requires-clause-lines
+run_shared-requires-clause-lines g c κs within =
     subst (λ ds. CanRun ds c.args.round.now)
     (sym (ap (λ (s : Standing). s.decls) (shared_stands c.self.inside.ended c.in-Shared.is c.self.view_is)))
     c.requires.lines
@@ -31,17 +34,21 @@ returns g c = elim c.match-self.branch [
             w.run_all.result) (ran.after ∙ sym goes) ran.runs);
         once = plain_once w.in-Plain.engine w.run_all.new.self c.args.self.now c.self.inside.ended w.run_all.result old
             ran.once;
+        enough = plain_apart c.args.self.now (IsSome c.args.rooms → ⊥) w.run_all.result
+            (λ shares. ran.apart (subst SharesWords (sym old) shares));
       })
   | in-Shared w ↦
       let old = shared_stands c.self.inside.ended w.in-Shared.is c.self.view_is in
+      let ran = w.run_shared.ensures in
       rw (w.logs-is, w.growing-is, w.result-is, w.self-inside-is)
       (record {
         runs = subst (λ s. LinesCome g.D.Disk.tells g.D.Disk.clock g.D.Disk.image_at g.D.Disk.faults c.args.tries
-            c.args.round.now s (standing c.self.inside.ended w.run_workers.new.engine) c.args.logs.now.items
-            w.run_workers.new.logs.items c.args.growing.now.items w.run_workers.new.growing.items w.run_workers.result) old
-            (w.run_workers.ensures.runs c.self.inside.ended);
-        once = shared_once c.args.self.now (standing c.self.inside.ended w.run_workers.new.engine) w.run_workers.result
-            (λ has. no_tree w.in-Shared.engine.decls w.run_workers.ensures.arrays
-            (subst HasTree (sym (ap (λ (s : Standing). s.decls) old)) has));
+            c.args.round.now s (standing c.self.inside.ended w.run_shared.new.engine) c.args.logs.now.items
+            w.run_shared.new.logs.items c.args.growing.now.items w.run_shared.new.growing.items w.run_shared.result) old
+            (ran.runs c.self.inside.ended);
+        once = shared_once c.args.self.now (standing c.self.inside.ended w.run_shared.new.engine) w.run_shared.result
+            (ok_then (λ none has. none (subst HasTree (sym (ap (λ (s : Standing). s.decls) old)) has)) w.run_shared.result
+            ran.arrays);
+        enough = shared_enough c.args.self.now (IsSome c.args.rooms → ⊥) w.run_shared.result ran.enough;
       })
 ]

@@ -1,5 +1,5 @@
 -- The clock alone goes on.
-use Rattle.std.proofs.Common.{◌+◌, ◌<◌, ◌∙◌, arith, sym, ap, subst, length}
+use Rattle.std.proofs.Common.{◌+◌, ◌<◌, ◌∙◌, arith, sym, ap, subst}
 use Rattle.serial_model.specs.Numbers.{last_epoch}
 use Rattle.engine_words.specs.declared.view.View.{View}
 use Rattle.shared_rounds.specs.SharedState.{SharedState}
@@ -22,6 +22,5 @@ invariant_of-self c =
         most_draw = number.most_draw;
       };
       epoch = ap (λ e. e + 1) was.epoch ∙ ap (λ (v : View). v.epoch) (sym next);
-      from = let first = ap (λ (v : View). v.layout.first.draw) next in omega (arith, was.from, first);
-      to = let first = ap (λ (v : View). v.layout.first.draw + length v.history) next in omega (arith, was.to, first);
+      draw = let first = ap (λ (v : View). v.layout.first.draw + v.draws) next in omega (arith, was.draw, first);
     }

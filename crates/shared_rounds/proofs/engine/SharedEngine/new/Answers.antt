@@ -27,8 +27,8 @@ invariant_of-result c =
       decls_are = ap (λ (v : View). v.layout.decls) (sym c.in_ok-words.ensures.ok.1);
       number = subst IsNumber (sym clock-is) c.requires.first;
       epoch = ap (λ (n : Number). n.epoch) clock-is ∙ ap (λ (v : View). v.epoch) (sym view-is);
-      from = omega (arith, draw-is, first-is);
-      to = omega (arith, draw-is, first-is);
+      draw =
+          let draws-is = ap (λ (v : View). v.draws) view-is in omega (arith, draw-is, first-is, draws-is);
     }
 
 pub returns : goal.returns

@@ -1,15 +1,15 @@
--- The words of the replies are those of the transaction's.
-use Rattle.std.proofs.Common.{◌≡◌, ◌++◌, ◌∷◌, [], OnOk, ◌∙◌, ap, subst, sym}
-use Rattle.serial_model.specs.ReplyWords.{AreReplyWords, are_words, replies_of, replies_of-words}
-use Rattle.tx_script.specs.declared.outcome.Outcome.TheVariants as outcomes
+-- The head and the words of the replies are appended.
+use Rattle.std.proofs.Common.{refl}
+use Rattle.tx_script.proofs.FlatOutcomes.{commit_are, commit_in}
 use Rattle.tx_script.proofs.outcomes.Outcomes.push_commit.Goals as goal
 
-pub push_words-requires-clause-are : goal.push_words-requires-clause-are
-push_words-requires-clause-are c =
-    subst AreReplyWords (sym c.words.ensures) (are_words c.args.replies.now)
+pub invariant_of-self-in-Ok : goal.invariant_of-self-in-Ok
+invariant_of-self-in-Ok c =
+    rw (c.in-Ok.ensures.ok, c.in_ok-append.ensures.ok, c.head_of_commit-head.ensures)
+    (commit_are _ _ _ _ c.args.replies.now c.self.invariant refl c.words-words.ensures)
 
-pub returns-clause-ok : goal.returns-clause-ok
-returns-clause-ok c =
-    subst (λ rs. OnOk c.push_words.result (c.push_words.new.self
-    ≡ c.args.self.now ++ outcomes.Committed c.args.verdict c.args.number rs ∷ []))
-    (ap replies_of c.words.ensures ∙ replies_of-words c.args.replies.now) c.push_words.ensures.ok
+pub returns-in-Ok-clause-ok : goal.returns-in-Ok-clause-ok
+returns-in-Ok-clause-ok c =
+    rw (c.in-Ok.ensures.ok, c.in_ok-append.ensures.ok, c.head_of_commit-head.ensures)
+    (commit_in _ _ _ _ _ c.args.verdict c.args.replies.now c.self.invariant refl c.words-words.ensures refl
+    c.self.view_is)

@@ -1,0 +1,102 @@
+-- Where room is made first: a vault with more room for records is the same vault, and a round over it one over that.
+use Rattle.std.proofs.Common.{◌≡◌, ◌∙◌, ap, refl, sym, subst, ℕ, List, length}
+use Rattle.std.specs.Prelude.{◌/◌, ◌%◌, ◌==◌, if◌then◌else◌, Option, slice_get}
+use Rattle.outside.specs.Vault.{IsWhole, disk_in}
+use Rattle.outside.specs.declared.vault.Device.TheVariants.{Bank}
+use Rattle.outside.specs.declared.vault.Vault.{Vault}
+use Rattle.script_grammar.specs.Script.{Round}
+use Rattle.log_writer.specs.Save.{IsStored}
+use Rattle.worker_logs.specs.Saves.{growing_number}
+use Rattle.round_engine.specs.Phases.{RunsAll, RunsSome}
+use Rattle.round_engine.specs.Sides.{growing_in}
+use Rattle.round_engine.specs.Standing.{HasSnapshot, RuntimeState, StandsOn}
+use Rattle.round_engine.specs.Unbegun.{RoomAlone}
+use Rattle.round_engine.specs.Workers.{RunsWorkers, StopsWorkers}
+use Rattle.round_engine.specs.declared.report.Report.{Report}
+use Rattle.round_engine.proofs.RunRound.{same_growing_in}
+
+pub room_none : {D : Type 0} (vault : Vault D) → RoomAlone vault vault
+room_none vault = record { save = refl; snaps = refl; even = refl; odd = refl; ties = refl; cuts = refl }
+
+pub room_then : {D : Type 0} {a b c : Vault D} → RoomAlone a b → RoomAlone b c → RoomAlone a c
+room_then one two = record {
+  save = two.save ∙ one.save;
+  snaps = two.snaps ∙ one.snaps;
+  even = two.even ∙ one.even;
+  odd = two.odd ∙ one.odd;
+  ties = two.ties ∙ one.ties;
+  cuts = two.cuts ∙ one.cuts;
+}
+
+module _ {D : Type 0} {before lent : Vault D} (room : RoomAlone before lent) where
+  -- each log file is the same
+  disk_room : (n : ℕ) → disk_in lent (Bank n) ≡ disk_in before (Bank n)
+  disk_room n =
+      ap (λ v. slice_get (if n % 2 == 0 then v.items else lent.odd.items) (n / 2)) room.even
+      ∙ ap (λ v. slice_get (if n % 2 == 0 then before.even.items else v.items) (n / 2)) room.odd
+
+  -- the vault is whole as before
+  pub whole_room : IsWhole before → IsWhole lent
+  whole_room whole = record {
+    even = ap (λ v. length v.items) room.even ∙ whole.even;
+    odd = ap (λ v. length v.items) room.odd ∙ whole.odd;
+  }
+
+  module _ {tells : D → Option (List ℕ)} {clock : D → ℕ} {image_at : D → ℕ → List ℕ → Type 0} where
+    -- a runtime stands on it as before
+    pub stands_in_room : {r : RuntimeState} → StandsOn tells clock image_at r before → StandsOn tells clock image_at r lent
+    stands_in_room {r = r} stands = record {
+      whole = whole_room stands.whole;
+      workers = stands.workers;
+      limits = stands.limits;
+      above = stands.above;
+      marked = stands.marked;
+      closed = stands.closed;
+      most_pages = stands.most_pages;
+      up = stands.up;
+      goes_on = stands.goes_on;
+      stored = λ up. subst (λ d. IsStored tells clock image_at d r.save.newest) (sym room.save) (stands.stored up);
+      snapshot = λ sound. subst (HasSnapshot tells r) (sym room.snaps) (stands.snapshot sound);
+      reaches = λ worker log bank at bank_at.
+          stands.reaches worker log bank at (sym (disk_room (growing_number r.side worker)) ∙ bank_at);
+    }
+
+  module _ {tells : D → Option (List ℕ)} {clock : D → ℕ} {image_at : D → ℕ → List ℕ → Type 0} {faults : D → ℕ} where
+    -- a round that was run over it is one over the vault before, and so is one that stopped
+    pub all_in_room : {tries : ℕ} {round : Round} {old new : RuntimeState} {now : Vault D} {report : Report}
+        → RunsAll tells clock image_at faults tries round old new lent now report
+        → RunsAll tells clock image_at faults tries round old new before now report
+    all_in_room {tries = tries} {round = round} {old = old} {report = report} all = record {
+      mid = all.mid;
+      lent = all.lent;
+      between = all.between;
+      kept = all.kept;
+      after = all.after;
+      ends = all.ends;
+      refused = all.refused;
+      lines = subst (λ b. RunsWorkers tells clock image_at faults tries round old.stands all.mid.stands report.outcomes
+          all.ends old.logs all.mid.logs b (growing_in old.side all.between)) (same_growing_in old.side before lent room)
+          all.lines;
+      once = all.once;
+      alone = all.alone;
+      room = room_then room all.room;
+      beside = all.beside;
+      keeper = all.keeper;
+      device_is = all.device_is;
+      sequence_is = all.sequence_is;
+      draw_is = all.draw_is;
+      full_is = all.full_is;
+      join = all.join;
+    }
+
+    pub some_in_room : {tries : ℕ} {round : Round} {old new : RuntimeState} {now : Vault D}
+        → RunsSome tells clock image_at faults tries round old new lent now
+        → RunsSome tells clock image_at faults tries round old new before now
+    some_in_room {tries = tries} {round = round} {old = old} {new = new} {now = now} some = record {
+      stops = subst (λ b. StopsWorkers tells clock image_at faults tries round old.stands new.stands old.logs new.logs b
+          (growing_in old.side now)) (same_growing_in old.side before lent room) some.stops;
+      alone = some.alone;
+      lent = some.lent;
+      room = room_then room some.room;
+      beside = some.beside;
+    }

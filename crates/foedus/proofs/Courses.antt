@@ -95,14 +95,14 @@ module _ {D : Type 0} (v : Vaults D) where
   }
 
   -- what a stop leaves behind a run in brief, also while the vault is read for its sum
-  stops_behind : (mid : Vault D) (rans : List Ran) (ended : Ending) (total : Option ℕ) (ending : Ending) (decls : List Decl)
-      (commits : List Entry) (opening : Opening) (t : State) → SumsUp v mid rans t ended total ending
+  stops_behind : (mid : Vault D) (rans : List Ran) (ended : Ending) (total : Option ℕ) (decls : List Decl)
+      (commits : List Entry) (opening : Opening) (t : State) → SumsUp v mid rans t ended total
       → VaultOnlyReads v.tells v.clock v.image_at v.faults mid v.is
       → Keeps (up_to v mid) decls commits opening t rans ended → StandsWhenStopped v decls commits opening rans
-  stops_behind mid [] ended total ending decls commits opening t sums reads kept = subst (λ (x : Vault D).
+  stops_behind mid [] ended total decls commits opening t sums reads kept = subst (λ (x : Vault D).
       StandsWhenStopped (vaults_of v.tells v.clock v.image_at v.faults v.was x) decls commits opening []) (sym sums.1)
       kept.stops
-  stops_behind mid (ran ∷ rans) ended total ending decls commits opening t sums reads kept =
+  stops_behind mid (ran ∷ rans) ended total decls commits opening t sums reads kept =
       kept.through_reads (λ none. cc) v.is reads
 
   -- the same of a run in brief
@@ -113,7 +113,6 @@ module _ {D : Type 0} (v : Vaults D) where
       record {
         mid = brief.mid;
         total = brief.total;
-        ending = brief.ending;
         came = record {
           bytes = text.bytes;
           are_bytes = text.are_bytes;
@@ -135,7 +134,7 @@ module _ {D : Type 0} (v : Vaults D) where
         };
         sums = shown.0;
         reads = brief.reads;
-        stops = stops_behind brief.mid brief.runs.rans brief.runs.ending brief.total brief.ending _ _ _ _ shown.0 brief.reads
+        stops = stops_behind brief.mid brief.runs.rans brief.runs.ending brief.total _ _ _ _ shown.0 brief.reads
             brief.runs.kept;
       }
 
@@ -150,7 +149,6 @@ module _ {D : Type 0} (v : Vaults D) where
   brief_as has brief = record {
     mid = brief.mid;
     total = brief.total;
-    ending = brief.ending;
     came = record {
       bytes = brief.came.bytes;
       are_bytes = brief.came.are_bytes;
@@ -161,7 +159,7 @@ module _ {D : Type 0} (v : Vaults D) where
       full = brief.came.full;
       files = brief.came.files;
       kept = brief.came.kept;
-      shown = has (run_in_brief brief.came.rans brief.total) brief.ending brief.came.shown;
+      shown = has (run_in_brief brief.came.rans brief.total) brief.came.ending brief.came.shown;
     };
     sums = brief.sums;
     reads = brief.reads;
@@ -209,7 +207,6 @@ module _ {D : Type 0} (v : Vaults D) (whole : IsWhole v.was)
   nothing_in_brief options had left bytes ending are comes reads same shown = record {
     mid = v.is;
     total = None;
-    ending = ending;
     came = record {
       bytes = bytes;
       are_bytes = are;
@@ -229,7 +226,7 @@ module _ {D : Type 0} (v : Vaults D) (whole : IsWhole v.was)
       };
       shown = shown;
     };
-    sums = (refl, refl, refl);
+    sums = (refl, refl);
     reads = vault_reads_none v.is;
     stops = stops_untouched v reads_told [] nowhere whole same;
   }

@@ -50,3 +50,5 @@ pub mod KeptSaves
 pub mod SinceSwap
 pub mod KeptOver
 pub mod KeptBegun
+mod Unfinished
+mod SameVault

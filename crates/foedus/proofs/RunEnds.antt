@@ -1,9 +1,11 @@
 -- How a run ends, from what was run so far: what is kept then, and what the next call may begin on.
 use Rattle.std.proofs.Common.{◌≡◌, inl, inr, ◌∙◌, sym, subst, refl, ◌≤◌, ℕ, false, true, List, [], ◌∷◌, ◌++◌, length, Option}
-use Rattle.std.proofs.Common.{ap, Some, None, arith}
+use Rattle.std.proofs.Common.{ap, Some, None, Err, arith}
 use Rattle.std.specs.Prelude.{option_to_list, slice_get, IsSome, take}
 use Rattle.std.specs.List.{AllByRecursion}
 use Rattle.lists.specs.Each.{all_push}
+use Rattle.lists.specs.declared.memory.Memory.{Memory}
+use Rattle.outside.specs.Disk.{IfTold, Only}
 use Rattle.outside.specs.Vault.{IsWhole}
 use Rattle.outside.specs.declared.vault.Device.TheVariants.{Snaps}
 use Rattle.outside.specs.declared.vault.Vault.{Vault}
@@ -12,15 +14,16 @@ use Rattle.serial_model.specs.State.{State}
 use Rattle.serial_model.specs.declared.decl.Decl.{Decl}
 use Rattle.script_grammar.specs.Script.{Bytes, Round, Script}
 use Rattle.recovery_core.specs.Images.{Images, count_of}
-use Rattle.recovery_core.specs.JointCrash.{IsNow, Moments, parts_of}
+use Rattle.recovery_core.specs.JointCrash.{IsNow, Moments, Parts, parts_of}
 use Rattle.recovery_core.specs.Recoverable.{IsRecoverable, Reading}
 use Rattle.recovery_core.specs.Resting.{AreTold, IsResting}
 use Rattle.recovery_core.specs.VaultReads.{whole_read}
 use Rattle.tx_script.specs.Run.{Ran}
 use Rattle.round_engine.specs.Crashes.{CarriesCrashes}
 use Rattle.round_engine.specs.Ends.{end_of}
-use Rattle.round_engine.specs.RanRound.{AreFailed, LeavesVault, RanRound, StopsIn}
+use Rattle.round_engine.specs.RanRound.{AreFailed, LeavesVault, RanRound, Rounds, StopsIn}
 use Rattle.round_engine.specs.Standing.{RuntimeState, StandsOn}
+use Rattle.round_engine.specs.Unbegun.{IsUnbegun}
 use Rattle.round_engine.specs.declared.report.End.{End}
 use Rattle.round_engine.specs.declared.report.End.TheVariants as ends
 use Rattle.round_engine.specs.declared.report.Report.{Report}
@@ -42,6 +45,7 @@ use Rattle.foedus.proofs.CrashesMore.{crashes_stopped}
 use Rattle.foedus.proofs.CrashesRead.{crashes_read}
 use Rattle.foedus.proofs.KeptAll.{IsLasting, kept_all}
 use Rattle.foedus.proofs.KeptEnd.{StandsBehind, kept_at_end, kept_stopped}
+use Rattle.foedus.proofs.SameVault.{crashes_room, parts_room, whole_room}
 use Rattle.foedus.proofs.SnapshotsKept.{each_told}
 use Rattle.foedus.proofs.KeptThrough.{one_kept, storages_kept}
 use Rattle.foedus.proofs.SameRun.{as_of_same}
@@ -429,8 +433,54 @@ module _ {D : Type 0} (tells : D → Option Bytes) (clock : D → ℕ) (image_at
       all_last [] durable on = tt
       all_last (ran ∷ rans) durable on = (durable.0.lasts on.0, all_last rans durable.1 on.1)
 
+  -- memory was wanted before a round began
+  at_begin : {Shows : List Ran → State → Ending → Type 0} (r s : RuntimeState) (count : ℕ) (before now : Vault D)
+      → (so : RanSoFar tells clock image_at faults snap tries script was r count before)
+      → IsUnbegun r s before now → Shows so.rans r.stands.state NoMemory
+      → RunsRounds (at_now tells clock image_at faults snap tries script was now) snap tries script Shows
+  at_begin r s count before now so unbegun shown =
+      let room = unbegun.devices in
+      let up : r.save.down ≡ None = store_up r before so.stands so.unended in
+      let sound : r.store.sound ≡ true = pages_sound r before so.stands so.unended in
+      let keeps : (found now_found : Images) → AreTold tells (parts_of was) found → AreTold tells (parts_of now) now_found
+      → StandsBehind found now_found r.stands.decls so.opening.saved so.opening.state so.run.ordered (last_saved so.opening.saved so.rans) (as_of r.stands.decls so.opening.state so.run.ordered (last_saved so.opening.saved so.rans))
+      (words_of r.store.pages) (count_of r.save.newest) =
+      λ found now_found told told_now. kept_at_end reads found now_found (so.kept found told) so.stands up sound
+      so.run.serial.rising so.run.serial.epochs
+      (subst (λ (p : Parts D). AreTold tells p now_found) (parts_room room) told_now) in
+      record {
+        rans = so.rans;
+        ending = NoMemory;
+        opening = so.opening;
+        state = r.stands.state;
+        run = so.run;
+        comes = inl (so.went_on, inr so.begins);
+        caused = so.caused;
+        full = λ found told. all_none_full script.decls so.opening.state so.run.ordered so.rans so.went_on;
+        files = runs_over r count before now so (pages_behind so.opening so.rans so.run.ordered r.stands.decls now
+            (words_of r.store.pages) (count_of r.save.newest) keeps (λ durable found told.
+            so.paged found told ∙ sym (words_many r.store.pages)) (λ before last is none.
+            absurd (goes_durable so.rans before last is so.went_on so.caused.durable none)));
+        kept = record {
+          stands = λ sound. through so.opening so.rans so.run.ordered r.stands.decls now (words_of r.store.pages) (count_of r.save.newest) so.begins so.same keeps;
+          snapshots = λ sound. snapshots_behind so.opening so.rans so.run.ordered r.stands.decls now (words_of r.store.pages) (count_of r.save.newest) so.same keeps;
+          declared = λ some sound. declares so.opening so.rans so.run.ordered r.stands.decls now (words_of r.store.pages) (count_of r.save.newest) so.same keeps;
+          whole = λ finished. absurd (memory_not_finished finished);
+          stops = stopped_through so.opening so.rans so.run.ordered r.stands.decls now so.begins so.same
+              (whole_room room so.stands.whole)
+              (λ found from told rest here. crashes_room room (so.crashes found from told rest here).kept);
+          through_reads = λ some. stopped_reading so.opening so.rans so.run.ordered r.stands.decls now so.begins so.same
+              (whole_room room so.stands.whole)
+              (λ found from told rest here. crashes_room room (so.crashes found from told rest here).kept);
+        };
+        shown = shown;
+      }
+    where
+      memory_not_finished : (let e : Ending = NoMemory in e ≡ Finished) → ⊥
+      memory_not_finished is = cc
+
   -- memory was wanted in a round
-  pub at_memory : {Shows : List Ran → State → Ending → Type 0} (r s : RuntimeState) (count : ℕ) (before now : Vault D) (round : Round)
+  at_memory : {Shows : List Ran → State → Ending → Type 0} (r s : RuntimeState) (count : ℕ) (before now : Vault D) (round : Round)
       → (so : RanSoFar tells clock image_at faults snap tries script was r count before)
       → (stop : StopsIn tries round r s) → (leaves : LeavesVault tells clock image_at faults stop.ran stop.logged r s before now)
       → CarriesCrashes tells clock image_at stop.logged (leaves.stored ++ option_to_list leaves.failed) stop.ran r s
@@ -473,6 +523,26 @@ module _ {D : Type 0} (tells : D → Option Bytes) (clock : D → ℕ) (image_at
       memory_not_finished : (let e : Ending = NoMemory in e ≡ Finished) → ⊥
       memory_not_finished is = cc
 
+  -- it was wanted before it, or in it
+  pub at_want : {Shows : List Ran → State → Ending → Type 0} (r s : RuntimeState) (count : ℕ) (before now : Vault D)
+      (round : Round) (memory : Memory)
+      → (so : RanSoFar tells clock image_at faults snap tries script was r count before)
+      → Rounds tells clock image_at faults tries round r s before now (Err memory) → Shows so.rans r.stands.state NoMemory
+      → RunsRounds (at_now tells clock image_at faults snap tries script was now) snap tries script Shows
+  at_want r s count before now round memory so rounds shown = elim rounds [
+    | inl unbegun ↦ at_begin r s count before now so unbegun shown
+    | inr some ↦ at_memory r s count before now round so some.0 some.1 some.2 shown
+  ]
+
+  -- the vault is whole then
+  pub want_whole : (r s : RuntimeState) (count : ℕ) (before now : Vault D) (round : Round) (memory : Memory)
+      → RanSoFar tells clock image_at faults snap tries script was r count before
+      → Rounds tells clock image_at faults tries round r s before now (Err memory) → IsWhole now
+  want_whole r s count before now round memory so rounds = elim rounds [
+    | inl unbegun ↦ whole_room unbegun.devices so.stands.whole
+    | inr some ↦ some.1.stands.whole
+  ]
+
   -- a run that doesn't begin
   pub not_begun : {Shows : List Ran → State → Ending → Type 0} (now : Vault D) (ending : Ending)
       → (before : EndsBefore tells clock image_at faults snap script was now ending) → Shows [] before.opening.state ending → RunsRounds (at_now tells clock image_at faults snap tries script was now) snap tries script Shows
@@ -498,10 +568,24 @@ module _ {D : Type 0} (tells : D → Option Bytes) (clock : D → ℕ) (image_at
   rests_on status r now stands up = record { again = λ not_4 not_5 one bytes told. (stands.stored up bytes told).only }
 
   -- memory was wanted in a round: nothing was stored
-  pub rests_stopped : (r s : RuntimeState) (before now : Vault D) (round : Round) → (stop : StopsIn tries round r s)
+  rests_stopped : (r s : RuntimeState) (before now : Vault D) (round : Round) → (stop : StopsIn tries round r s)
       → LeavesVault tells clock image_at faults stop.ran stop.logged r s before now → RestsAgain tells clock image_at 8 was now
   rests_stopped r s before now round stop leaves =
       rests_on 8 s now leaves.stands (down_none s.save.down leaves.failed leaves.has_stored.down (λ fails. stop.unstored (leaves.has_stored.fails.0 fails)))
+
+  pub rests_wanting : (r s : RuntimeState) (count : ℕ) (before now : Vault D) (round : Round) (memory : Memory)
+      → RanSoFar tells clock image_at faults snap tries script was r count before
+      → Rounds tells clock image_at faults tries round r s before now (Err memory)
+      → RestsAgain tells clock image_at 8 was now
+  rests_wanting r s count before now round memory so rounds = elim rounds [
+    | inl unbegun ↦
+        let stored = so.stands.stored (store_up r before so.stands so.unended) in
+        record {
+          again = λ not_4 not_5 one. subst (λ d. IfTold (tells d) (Only clock image_at d)) (sym unbegun.devices.save)
+              (λ bytes told. (stored bytes told).only);
+        }
+    | inr some ↦ rests_stopped r s before now round some.0 some.1
+  ]
 
   -- a round ended the run by a limit
   rests_ended : (s : RuntimeState) (now : Vault D) (opening : Opening) (rans : List Ran) (ran : Ran)

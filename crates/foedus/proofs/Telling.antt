@@ -1,6 +1,6 @@
 -- What is told of one round more.
 use Rattle.std.proofs.Common.{◌≡◌, ◌∙◌, sym, ap, subst, refl, ℕ, ◌+◌, ◌<◌, ◌^◌, Bool, true, false, List, [], ◌∷◌, ◌++◌, length, append_assoc, Option, Some, None, Result, Ok, Err}
-use Rattle.std.specs.Prelude.{IfSome, option_map, sum_by}
+use Rattle.std.specs.Prelude.{sum_by}
 use Rattle.std.proofs.lemmas.List.{append-nil}
 use Rattle.outside.specs.declared.fault.Failed.{Failed}
 use Rattle.serial_model.specs.State.{State}
@@ -48,26 +48,18 @@ none_told false tally out is = adds_nothing out
 pub none_ran : (tally : Tally) → tally ≡ tally_of [] → tally.ran ≡ true → ⊥
 none_ran tally is ran = let none : tally.ran ≡ false = ap (λ (t : Tally). t.ran) is in cc
 
--- no sum is known
-pub no_sum : (brief : Bool) (total : Option ℕ) (state : State) (ending : Ending) → total ≡ None
-    → HasSum brief total state ending
-no_sum true total state ending none = subst (λ (o : Option ℕ). IsSumOf o state ending) (sym none) tt
-no_sum false total state ending none = tt
+-- no sum is known of a run that didn't finish
+pub no_sum : (brief : Bool) (total : Option ℕ) (state : State) (ending : Ending) → (ending ≡ Finished → ⊥)
+    → total ≡ None → HasSum brief total state ending
+no_sum true total state ending apart none = subst (λ (o : Option ℕ). IsSumOf o state ending) (sym none) apart
+no_sum false total state ending apart none = tt
 
--- one is where the run finished, or none
-pub has_sum : (brief : Bool) (total : Option ℕ) (state : State)
-    → (brief ≡ true → IfSome total (λ sum. sum ≡ total_of state)) → HasSum brief total state Finished
-has_sum true None state told = tt
-has_sum true (Some sum) state told = (refl, told refl)
+-- and that of one that did is its state's
+pub has_sum : (brief : Bool) (total : Option ℕ) (state : State) → (brief ≡ true → total ≡ Some (total_of state))
+    → HasSum brief total state Finished
+has_sum true total state told =
+    subst (λ (o : Option ℕ). IsSumOf o state Finished) (sym (told refl)) (refl, refl)
 has_sum false total state told = tt
-
--- where the state is known it is that of the run, and so is its sum
-pub sum_known : {A : Type 0} (state_of : A → State) (known : Option A) (total : Option ℕ) (state : State)
-    → total ≡ option_map (λ x. total_of (state_of x)) known → IfSome known (λ x. state_of x ≡ state)
-    → IfSome total (λ sum. sum ≡ total_of state)
-sum_known state_of None total state is same = subst (λ (o : Option ℕ). IfSome o (λ sum. sum ≡ total_of state)) (sym is) tt
-sum_known state_of (Some x) total state is same =
-    subst (λ (o : Option ℕ). IfSome o (λ sum. sum ≡ total_of state)) (sym is) (ap total_of same)
 
 -- one round more was told
 pub told_more : {T : Type 0} (brief now : Bool) (before after : Tally) (old mid new : Output) (report : Report) (rans : List Ran) (ran : Ran) (done : T) → now ≡ brief

@@ -1,5 +1,5 @@
 -- What a call comes to that tells a run in brief: counts and sums in place of its lines (`run --brief`).
-use Rattle.std.specs.Prelude.{◌≡◌, ◌⊎◌, ℕ, List, [], ◌∷◌, Option, Some, None, Result, Ok, Err, ⊤}
+use Rattle.std.specs.Prelude.{◌≡◌, ℕ, List, [], ◌∷◌, Option, Some, None, ⊤}
 use Rattle.lists.specs.declared.memory.OrMemory.{OrMemory}
 use Rattle.lists.specs.declared.memory.OrMemory.TheVariants as errors
 use Rattle.outside.specs.declared.vault.Vault.{Vault}
@@ -18,7 +18,7 @@ use Rattle.brief_output.specs.Brief.{run_in_brief, total_of}
 use Rattle.command_line.specs.declared.command.Command.TheVariants.{Run}
 use Rattle.command_line.specs.declared.command.RunOptions.{RunOptions}
 use Rattle.foedus.specs.declared.ending.Ending.{Ending}
-use Rattle.foedus.specs.declared.ending.Ending.TheVariants.{Damaged, Finished, NoDevice, NoMemory}
+use Rattle.foedus.specs.declared.ending.Ending.TheVariants.{Finished}
 use Rattle.foedus.specs.Main.{Came, StandsWhenStopped, commits_of, decls_in}
 use Rattle.foedus.specs.Vaults.{Vaults, vaults_of}
 
@@ -37,64 +37,42 @@ IsUnreadable v mid (errors.Fault (causes.Damaged device at)) =
     (now : Images) → AreTold v.tells (parts_of mid) now → IsDamagedIn now device at
 IsUnreadable v mid errors.Memory = ⊤
 
--- What the vault keeps was read, which the run left so: this is its sum, or this was refused.
-abbrev pub IsRead : {D : Type 0} → Vaults D → Vault D → Result ℕ (OrMemory RecoverFault) → Type 0
-IsRead v mid (Ok total) = AreQuiet v.faults mid v.is × IsTotal v total
-IsRead v mid (Err refusal) = IsUnreadable v mid refusal
-
--- How a call ends where recovery is refused.
-abbrev pub ending_of_fault : RecoverFault → Ending
-ending_of_fault (causes.Device device) = NoDevice device
-ending_of_fault (causes.Damaged device at) = Damaged device at
-
--- The same, or for want of memory.
-abbrev pub ending_of_refusal : OrMemory RecoverFault → Ending
-ending_of_refusal (errors.Fault fault) = ending_of_fault fault
-ending_of_refusal errors.Memory = NoMemory
-
--- How it ends where its run ended so and the vault can't be read for the sum: by that refusal, if the run finished.
-abbrev pub ended_unread : Ending → OrMemory RecoverFault → Ending
-ended_unread Finished refusal = ending_of_refusal refusal
-ended_unread ended refusal = ended
-
--- The sum of a run that finished is that of its state, no device is called any more, and so the call ends.
-pub record IsKnown {D : Type 0} (v : Vaults D) (mid : Vault D) (state : State) (ended : Ending) (total : Option ℕ)
-    (ending : Ending) : Type 0 where
-  pub finished : ended ≡ Finished
+-- The sum of a run that finished is that of its state, and no device is called for it.
+pub record IsKnown {D : Type 0} (v : Vaults D) (mid : Vault D) (state : State) (total : Option ℕ) : Type 0 where
   pub sum : total ≡ Some (total_of state)
   pub alone : v.is ≡ mid
-  pub ends : ending ≡ ended
 
--- The vault was read for the sum behind a run that ended so, and so the call ends.
-abbrev pub SumsRead : {D : Type 0} → Vaults D → Vault D → Ending → Option ℕ → Ending → Type 0
-SumsRead v mid ended (Some total) ending = AreQuiet v.faults mid v.is × IsTotal v total × (ending ≡ ended)
-SumsRead v mid ended None ending =
-    (refusal : OrMemory RecoverFault) × IsUnreadable v mid refusal × (ending ≡ ended_unread ended refusal)
+-- What the vault keeps was read, which the run left so: this is its sum; or that was refused, and there is none.
+abbrev pub SumsRead : {D : Type 0} → Vaults D → Vault D → Option ℕ → Type 0
+SumsRead v mid (Some total) = AreQuiet v.faults mid v.is × IsTotal v total
+SumsRead v mid None = (refusal : OrMemory RecoverFault) × IsUnreadable v mid refusal
 
--- The sum that is told of these rounds, behind which the run ended so, in this state, and left the vault so; and how the
--- call ends. Of a run that finished on an engine with its state in a map it is that of the state. Behind another it is
--- that of what the vault keeps, which is read; none is told where this is refused, which ends a call whose run finished.
--- Where the devices tell their bytes both are the sum of the state behind all commits (law `sum_stands` of
--- proofs/BriefDone). Where no round was run none is told, and nothing is read.
-abbrev pub SumsUp : {D : Type 0} → Vaults D → Vault D → List Ran → State → Ending → Option ℕ → Ending → Type 0
-SumsUp v mid [] state ended total ending = (total ≡ None) × (v.is ≡ mid) × (ending ≡ ended)
-SumsUp v mid (ran ∷ rans) state ended total ending =
-    IsKnown v mid state ended total ending ⊎ SumsRead v mid ended total ending
+-- The sum behind rounds of a run that ended so, in this state: it is known where the run finished, and else read.
+pub record SumsBehind {D : Type 0} (v : Vaults D) (mid : Vault D) (state : State) (ended : Ending) (total : Option ℕ)
+    : Type 0 where
+  pub known : ended ≡ Finished → IsKnown v mid state total
+  pub read : (ended ≡ Finished → ⊥) → SumsRead v mid total
+
+-- The sum that is told of these rounds, behind which the run ended so, in this state, and left the vault so. Where the
+-- devices tell their bytes it is that of what the vault stands for, also where it is the run's that finished (law
+-- `sum_stands` of proofs/BriefDone). Where no round was run none is told, and nothing is read.
+abbrev pub SumsUp : {D : Type 0} → Vaults D → Vault D → List Ran → State → Ending → Option ℕ → Type 0
+SumsUp v mid [] state ended total = (total ≡ None) × (v.is ≡ mid)
+SumsUp v mid (ran ∷ rans) state ended total = SumsBehind v mid state ended total
 
 -- the vault of the call, up to how the run left it
 abbrev pub up_to : {D : Type 0} → Vaults D → Vault D → Vaults D
 up_to v mid = vaults_of v.tells v.clock v.image_at v.faults v.was mid
 
 -- What `run --brief` comes to over a source: over the vault up to how the run left it, all that a run comes to that is
--- told line by line; and of the call's ending, with a text that has nothing but the counts and the sum, this is shown.
--- From then on the vault was at most read, and each stop leaves what it leaves of that run, also while it is read.
+-- told line by line; and of its ending, with a text that has nothing but the counts and the sum, this is shown. From
+-- then on the vault was at most read, and each stop leaves what it leaves of that run, also while it is read.
 pub record CameInBrief {D : Type 0} (v : Vaults D) (options : RunOptions) (had left : Option Bytes)
     (Shows : Bytes → Ending → Type 0) : Type 0 where
   pub mid : Vault D
   pub total : Option ℕ
-  pub ending : Ending
-  pub came : Came (up_to v mid) (Run options) had left (λ rans ended. Shows (run_in_brief rans total) ending)
-  pub sums : SumsUp v mid came.rans came.course.state came.ending total ending
+  pub came : Came (up_to v mid) (Run options) had left (λ rans ended. Shows (run_in_brief rans total) ended)
+  pub sums : SumsUp v mid came.rans came.course.state came.ending total
   pub reads : VaultOnlyReads v.tells v.clock v.image_at v.faults mid v.is
   pub stops : StandsWhenStopped v (decls_in came.course.script)
       (commits_of came.course.script came.course.opening came.bytes came.rans came.course.state came.course.run)

@@ -1,6 +1,6 @@
 -- On the way to the main theorem: what the functions below `top`, and the program round it, tell of an ending, of text,
 -- and of the begin of a run.
-use Rattle.std.specs.Prelude.{◌≡◌, ◌⊎◌, ◌<◌, ◌≤◌, ◌++◌, ◌^◌, ℕ, List, [], Option, Some, Result, Ok, Err, ⊤}
+use Rattle.std.specs.Prelude.{◌≡◌, ◌⊎◌, ◌<◌, ◌≤◌, ◌++◌, ◌^◌, ℕ, List, [], Option, Result, Ok, Err, ⊤}
 use Rattle.std.specs.Prelude.{IfSome, IsSome, MatchResult}
 use Rattle.std.specs.Io.KnownBytes.{Appends, IsAtEnd}
 use Rattle.std.specs.List.{AllByRecursion}
@@ -58,7 +58,6 @@ use Rattle.foedus.specs.Causes.{Counts, ReadsAlone, RestsAgain}
 use Rattle.foedus.specs.Ending.{IsNoText, IsReadOut, RunComes, body_text, last_line, output_text, status_of}
 use Rattle.brief_output.specs.Brief.{run_in_brief}
 use Rattle.foedus.specs.InBrief.{SumsUp, up_to}
-pub use Rattle.foedus.specs.InBrief.{ending_of_fault, ending_of_refusal}
 use Rattle.foedus.specs.Main.{AreBytes, AreCaused, FilesAreFull, Holds, Keeps}
 use Rattle.foedus.specs.RanOver.{RunsOver}
 use Rattle.foedus.specs.Vaults.{Vaults, vaults_of}
@@ -132,6 +131,16 @@ ReadsWithCause before after (Err (errors.Fault failed)) = (before ≤ after) × 
 abbrev pub EndsWithCause : ℕ → ℕ → Ending → Type 0
 EndsWithCause before after ReadFault = (before ≤ after) × Rose before after
 EndsWithCause before after ending = after ≡ before
+
+-- How a call ends where recovery is refused.
+abbrev pub ending_of_fault : RecoverFault → Ending
+ending_of_fault (recovers.Device device) = NoDevice device
+ending_of_fault (recovers.Damaged device at) = Damaged device at
+
+-- The same, or for want of memory.
+abbrev pub ending_of_refusal : OrMemory RecoverFault → Ending
+ending_of_refusal (errors.Fault fault) = ending_of_fault fault
+ending_of_refusal errors.Memory = NoMemory
 
 -- How a call ends whose vault can't be settled.
 abbrev pub ending_of_settle_fault : SettleFault → Ending
@@ -273,21 +282,18 @@ RunsScript v snap tries script Shows = RunsRounds v snap tries script (λ rans s
 
 -- ---- a run in brief
 
--- Behind rounds that were run so, to this state, and ended so, a sum is told or none; and this is shown of the text and of
--- how the call ends.
+-- Behind rounds that were run so, to this state, and ended so, a sum is told or none; and this is shown of the text.
 pub record TellsInBrief {D : Type 0} (v : Vaults D) (mid : Vault D) (rans : List Ran) (state : State) (ended : Ending)
     (Shows : Bytes → Ending → Type 0) : Type 0 where
   pub total : Option ℕ
-  pub ending : Ending
-  pub sums : SumsUp v mid rans state ended total ending
-  pub shown : Shows (run_in_brief rans total) ending
+  pub sums : SumsUp v mid rans state ended total
+  pub shown : Shows (run_in_brief rans total) ended
 
 -- The same of the run of a script, which left the vault so; from then on it was at most read.
 pub record RunsInBrief {D : Type 0} (v : Vaults D) (snap tries : ℕ) (script : Script) (Shows : Bytes → Ending → Type 0)
     : Type 0 where
   pub mid : Vault D
   pub total : Option ℕ
-  pub ending : Ending
   pub runs : RunsRounds (up_to v mid) snap tries script
-      (λ rans state ended. SumsUp v mid rans state ended total ending × Shows (run_in_brief rans total) ending)
+      (λ rans state ended. SumsUp v mid rans state ended total × Shows (run_in_brief rans total) ended)
   pub reads : VaultOnlyReads v.tells v.clock v.image_at v.faults mid v.is

@@ -34,9 +34,9 @@ abbrev pub HasTold : Bool → Tally → Output → Output → List Ran → Type 
 HasTold true tally old new rans = (new ≡ old) × (tally ≡ tally_of rans)
 HasTold false tally old new rans = Adds old new (run_text rans)
 
--- A sum that is known is that of a run that finished, and of its state.
+-- The sum of a run that finished is known, and is that of its state; of one that ended otherwise none is known.
 abbrev pub IsSumOf : Option ℕ → State → Ending → Type 0
-IsSumOf None state ending = ⊤
+IsSumOf None state ending = ending ≡ Finished → ⊥
 IsSumOf (Some sum) state ending = (ending ≡ Finished) × (sum ≡ total_of state)
 
 -- so it is in brief

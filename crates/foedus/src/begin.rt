@@ -1,5 +1,5 @@
 // From what a vault keeps to the first round of a run.
-ghost use Rattle.std.specs.Prelude.{◌≡◌, IfErr, IfOk};
+ghost use Rattle.std.specs.Prelude.{◌≡◌, ◌≢◌, IfErr, IfOk};
 ghost use Rattle.outside.specs.Disk.{IfTold, Only};
 ghost use Rattle.outside.specs.Vault.{IsWhole};
 ghost use Rattle.command_line.specs.Options.{AreInRange};
@@ -36,6 +36,7 @@ pub(crate) fn begin<D: Disk>(
         vault.old vault.new) }
     ensures ends { IfErr result (EndsBefore D.tells D.clock D.image_at D.faults options.snap script.now
         vault.old vault.new) }
+    ensures unfinished { IfErr result (λ ended. ended ≢ Ending.Finished) }
 {
     let recovered = match recover(alloc, vault) {
         Ok(recovered) => recovered,

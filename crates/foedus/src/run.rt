@@ -260,6 +260,6 @@ fn run_rounds<R: Threads + Wait + Sync, K: Sink, D: Disk + Send + Drop, G: Watch
             return Ok(ending_of(end));
         }
     }
-    teller.sum_up(runtime.state());
+    teller.sum_up(&mut runtime);
     Ok(Ending::Finished)
 }

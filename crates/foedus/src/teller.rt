@@ -1,12 +1,11 @@
 // What is told of a run while it goes on.
-ghost use Rattle.std.specs.Prelude.{◌≡◌, ◌+◌, ◌<◌, ◌^◌, [], None, length, option_map, sum_by, true};
+ghost use Rattle.std.specs.Prelude.{◌≡◌, ◌+◌, ◌<◌, ◌^◌, [], None, Some, length, sum_by, true};
 ghost use Rattle.brief_output.specs.Brief.{tally_of, total_of};
 ghost use Rattle.foedus.specs.Telling.{TellsRound};
 
-use brief_output::{Tally, total_of};
+use brief_output::Tally;
 use outside::{Failed, Sink};
-use round_engine::Report;
-use serial_model::State;
+use round_engine::{Report, Runtime};
 use text_output::Printer;
 use tx_script::put_round;
 
@@ -17,7 +16,7 @@ pub(crate) struct Teller {
     pub(crate) brief: bool,
     /// What came of those that were counted.
     pub(crate) tally: Tally,
-    /// The sum of all values behind them, where all rounds were run and it is known.
+    /// The sum of all values behind them, where all rounds were run.
     pub(crate) total: Option<u128>,
 }
 
@@ -53,22 +52,14 @@ impl Teller {
         put_round(printer, &report.outcomes, &report.keeper, report.durable)
     }
 
-    /// All rounds were run, to this state, if it is known.
-    pub(crate) fn sum_up(&mut self, state: Option<&State>)
+    /// All rounds were run on this runtime: their sum is that of what it has.
+    pub(crate) fn sum_up(&mut self, runtime: &mut Runtime)
         ensures tally { self.new.tally ≡ self.old.tally }
-        ensures total { self.old.brief ≡ true → self.new.total ≡ option_map (λ known. total_of known.now) state.entry }
+        ensures total { self.old.brief ≡ true → self.new.total ≡ Some (total_of runtime.old.stands.state) }
+        ensures alone { runtime.new ≡ runtime.old }
     {
-        if !self.brief {
-            return;
+        if self.brief {
+            self.total = Some(runtime.total());
         }
-        self.total = sum_of(state);
     }
-}
-
-// The sum of all values of a state, if it is known.
-fn sum_of(state: Option<&State>) -> Option<u128>
-    ensures { result ≡ option_map (λ known. total_of known.now) state.entry }
-{
-    let known = state?;
-    Some(total_of(known))
 }

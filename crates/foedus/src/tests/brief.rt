@@ -26,18 +26,9 @@ const SHARED: &[u8] = b"array 1 4\n0 w 1 2 7\n";
 const PLAIN: &[u8] = b"array 1 4\ntree 2\n0 w 1 2 7\n";
 
 // The device and the number of its call that fails, the status and the text. The run makes 15 calls of the save and
-// three of bank 0. Then what is kept is read, by three calls of the save.
+// three of bank 0. Where it finishes its sum is known, and none is called behind it; else what is kept is read.
 const FAILING: &str = "\
 save # 0 # 5 # device save|
-save # 9 # 5 # commits 1|total 0|device save|
-save # 15 # 5 # commits 1|durable 1|device save|
-save # 18 # 0 # commits 1|total 7|durable 1|
-bank0 # 1 # 5 # commits 1|total 0|device bank0|
-bank0 # 3 # 5 # commits 1|durable 1|device bank0|
-";
-
-// Where a run on the plain map finishes, its sum is known, and nothing is read.
-const FAILING_PLAIN: &str = "\
 save # 9 # 5 # commits 1|total 0|device save|
 save # 15 # 0 # commits 1|total 7|durable 1|
 bank0 # 1 # 5 # commits 1|total 0|device bank0|
@@ -74,21 +65,16 @@ fn a_device_fails_in_brief(rt: HostRuntime) -> Result<(), Fail> {
     let fresh = fresh_vault(rt.alloc())?;
     for row in FAILING.lines() {
         check_failing(&rt, &fresh, SHARED, row)?;
-    }
-    for row in FAILING_PLAIN.lines() {
         check_failing(&rt, &fresh, PLAIN, row)?;
     }
     Ok(())
 }
 
-// The same of a device of which each later call fails too: what is kept can't be read behind the run, and isn't told.
+// The same of a device of which each later call fails too: what is kept can't be read behind a run that it ended, and
+// isn't told.
 const BROKEN: &str = "\
 save # 9 # 5 # commits 1|device save|
-bank0 # 1 # 5 # commits 1|device bank0|
-bank0 # 3 # 5 # commits 1|durable 1|device bank0|
-";
-
-const BROKEN_PLAIN: &str = "\
+save # 15 # 0 # commits 1|total 7|durable 1|
 bank0 # 1 # 5 # commits 1|device bank0|
 bank0 # 3 # 0 # commits 1|total 7|durable 1|
 ";
@@ -109,8 +95,6 @@ fn a_device_stays_broken_in_brief(rt: HostRuntime) -> Result<(), Fail> {
     let fresh = fresh_vault(rt.alloc())?;
     for row in BROKEN.lines() {
         check_broken(&rt, &fresh, SHARED, row)?;
-    }
-    for row in BROKEN_PLAIN.lines() {
         check_broken(&rt, &fresh, PLAIN, row)?;
     }
     Ok(())

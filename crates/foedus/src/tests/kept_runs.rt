@@ -1,4 +1,5 @@
 // Calls one after another over one vault: each begins where those before it ended.
+use super::dumps::{OPEN, VERSION, both, log_line, page};
 use super::*;
 
 // The savepoint of this sequence in its place, the other place closed; none of sequence 0. It has a saved epoch, so

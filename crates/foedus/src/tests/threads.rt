@@ -1,9 +1,12 @@
 // Workers' lines on threads: they overlap, and what they come to is what they come to one after another, by number.
+use super::calls::CASES;
 use super::failing_devices::failing_vault;
 use super::*;
+use outside::Gate;
 use serial_model::{Number, Op, Plain, fits, run_one};
 use std::collections::BTreeMap;
-use tx_script::{Line, LineOps, Outcome, Script, write_outcome};
+use std::sync::atomic::{AtomicU64, Ordering};
+use tx_script::{Line, LineOps, Outcome, Round, Script, read_script, write_outcome, write_state};
 
 // A line that was told: its worker, its place among that worker's, and its text.
 type Told<'a> = (u8, u32, &'a str);
@@ -114,8 +117,13 @@ fn check_round<R: AllocGlobal + Abort>(
     Ok(())
 }
 
-// Checks what is told of a run over a fresh database: a line for each of the script's, and each round as above.
-fn check_serial<R: AllocGlobal + Abort>(rt: &R, script: &Script, told: &str) -> Result<(), Fail> {
+// Checks what is told of a run over a fresh database: a line for each of the script's, and each round as above. Answers
+// what the plain engine has then.
+fn check_serial<R: AllocGlobal + Abort>(
+    rt: &R,
+    script: &Script,
+    told: &str,
+) -> Result<Plain, Fail> {
     let alloc = rt.alloc();
     let mut plain = Plain::new(alloc, script.decls())?;
     let mut lines = told.lines();
@@ -129,10 +137,18 @@ fn check_serial<R: AllocGlobal + Abort>(rt: &R, script: &Script, told: &str) -> 
         assert!(rt; lines.next().unwrap_or("").starts_with("durable "));
     }
     assert!(rt; lines.next().is_none());
-    Ok(())
+    Ok(plain)
 }
 
-// Runs a script on threads over a fresh database, and checks what is told of it. Answers the database.
+// What a database is to keep that saved this epoch last: all that the plain engine has.
+fn text_of(alloc: Global, plain: &Plain, epoch: u32) -> Result<Vec<u8>, Fail> {
+    let mut sink = MemSink::new(alloc, Vec::new(alloc));
+    write_state(&mut sink, epoch, &plain.state, plain.decls.as_slice())?;
+    Ok(sink.bytes().to_vec(alloc)?)
+}
+
+// Runs a script on threads over a fresh database, and checks what is told of it, and that the database keeps what the
+// plain engine has then. Answers the database.
 fn run_checked<R: Threads + Wait + Sync + AllocGlobal + Abort>(
     rt: &R,
     bytes: &[u8],
@@ -143,14 +159,28 @@ fn run_checked<R: Threads + Wait + Sync + AllocGlobal + Abort>(
     };
     let mut vault = fresh_vault(alloc)?;
     let (status, told) = answer_by(rt, &mut vault, "run --tries 1000000", bytes, &OpenGate)?;
-    assert_eq!(rt; status, 0);
-    check_serial(rt, &script, str::from_utf8(&told)?)?;
+    assert!(rt; status == 0);
+    let plain = check_serial(rt, &script, str::from_utf8(&told)?)?;
+    let Ok(epoch) = u32::try_from(script.rounds()) else {
+        return Err(Fail::from("too many rounds"));
+    };
+    let kept = text_of(alloc, &plain, epoch)?;
+    check_answer(rt, &mut vault, "dump", b"", (0, kept.as_slice()))?;
     Ok(vault)
 }
 
-// So many lines of each of these workers, in turn.
-fn repeated(alloc: Global, lines: &[&str], count: u32) -> Result<Vec<u8>, AllocError> {
-    let mut script = b"array 1 3\n".to_vec(alloc)?;
+const ARRAY: &[u8] = b"array 1 3\n";
+
+const ARRAY_AND_TREE: &[u8] = b"array 1 3\ntree 2\n";
+
+// So many lines of each of these workers, in turn, behind these declarations.
+fn repeated(
+    alloc: Global,
+    decls: &[u8],
+    lines: &[&str],
+    count: u32,
+) -> Result<Vec<u8>, AllocError> {
+    let mut script = decls.to_vec(alloc)?;
     for _ in 0..count {
         for line in lines {
             script.extend_from_slice(line.as_bytes())?;
@@ -162,7 +192,7 @@ fn repeated(alloc: Global, lines: &[&str], count: u32) -> Result<Vec<u8>, AllocE
 
 #[test]
 fn no_raise_is_lost(rt: HostRuntime) -> Result<(), Fail> {
-    let script = repeated(rt.alloc(), &["0 a 1 0 1", "1 a 1 0 1"], 100)?;
+    let script = repeated(rt.alloc(), ARRAY, &["0 a 1 0 1", "1 a 1 0 1"], 100)?;
     let mut vault = run_checked(&rt, &script)?;
     check_row(&rt, &mut vault, "dump # # 0 # epoch 1|1 0 200|")
 }
@@ -181,8 +211,35 @@ const AT_ONCE: [&str; 8] = [
 
 #[test]
 fn eight_workers_are_serial(rt: HostRuntime) -> Result<(), Fail> {
-    let script = repeated(rt.alloc(), &AT_ONCE, 40)?;
+    let script = repeated(rt.alloc(), ARRAY, &AT_ONCE, 40)?;
     let _vault = run_checked(&rt, &script)?;
+    Ok(())
+}
+
+// What workers add again and again: together 36 in a turn.
+const ADDED: [&str; 8] = [
+    "0 a 1 0 1",
+    "1 a 1 0 2",
+    "2 a 1 1 3",
+    "3 a 1 1 1; a 1 2 3",
+    "4 a 1 2 5",
+    "5 a 1 0 6",
+    "6 a 1 1 7",
+    "7 a 1 2 4; a 1 0 4",
+];
+
+// The sum of what eight threads added is that of what the plain map, which a tree asks for, has.
+#[test]
+fn eight_workers_are_summed_up(rt: HostRuntime) -> Result<(), Fail> {
+    let alloc = rt.alloc();
+    for decls in [ARRAY, ARRAY_AND_TREE] {
+        let script = repeated(alloc, decls, &ADDED, 50)?;
+        let mut vault = fresh_vault(alloc)?;
+        let asked = "run --brief --tries 1000000";
+        let (status, told) = answer_by(&rt, &mut vault, asked, &script, &OpenGate)?;
+        assert!(rt; status == 0);
+        assert!(rt; told.as_slice() == b"commits 400\ntotal 1800\ndurable 1\n".as_slice());
+    }
     Ok(())
 }
 
@@ -289,7 +346,7 @@ fn half_run(alloc: Global, failing: u8) -> Result<Vec<u8>, AllocError> {
 #[test]
 fn others_go_on(rt: HostRuntime) -> Result<(), Fail> {
     let alloc = rt.alloc();
-    let script = repeated(alloc, &["0 w 1 0 1", "1 w 1 1 1"], 100)?;
+    let script = repeated(alloc, ARRAY, &["0 w 1 0 1", "1 w 1 1 1"], 100)?;
     let cases: [(u8, &str, &str); 2] = [
         (0, "bank0", "device bank0 \n"),
         (1, "bank2", "device bank2 \n"),

@@ -6,6 +6,7 @@ use Rattle.log_writer.specs.Save.{IsStored}
 use Rattle.recovery_core.specs.declared.fault.RecoverFault.{RecoverFault}
 use Rattle.recovery_core.specs.declared.fault.SettleFault.{SettleFault}
 use Rattle.foedus.proofs.NotBegun.{begins_over, is_read, recovery_refused, settled_memory, settling_refused, shape_refused}
+use Rattle.foedus.proofs.Unfinished.{other_apart, refused_apart, settling_apart}
 use Rattle.foedus.proofs.begin.begin.Goals as goal
 
 pub returns-in-Err-clause-ends : goal.returns-in-Err-clause-ends
@@ -62,3 +63,16 @@ returns-in-Ok-new-clause-begins g c =
       | inr limit ↦ absurd cc
     ])
     c.in-Ok-new.ensures.begins c.pages_fit.ensures.whole c.pages_fit.ensures.fit c.in-Ok-new.ensures.stands c.in-Ok-new.ensures.logs c.in-Ok-new.ensures.counts
+
+-- none of these is the end of a run that finished
+pub returns-in-Err-clause-unfinished : goal.returns-in-Err-clause-unfinished
+returns-in-Err-clause-unfinished g c = rw c.ending_of_refusal.ensures (refused_apart c.in-Err.refusal)
+
+pub returns-in_err-check_shape-clause-unfinished : goal.returns-in_err-check_shape-clause-unfinished
+returns-in_err-check_shape-clause-unfinished g c =
+    let p = err_from_is_err_and c.from_residual.result c.from_residual.ensures.1 in
+    let shape = c.in_err-check_shape.ensures.other in
+    rw p.1 (other_apart c.decls.result.now c.in-Ok.recovered.decls _ (rw p.2 shape.other))
+
+pub returns-in-Err-settle-clause-unfinished : goal.returns-in-Err-settle-clause-unfinished
+returns-in-Err-settle-clause-unfinished g c = rw c.ending_of_settling.ensures (settling_apart c.in-Err-settle.refusal)

@@ -1,18 +1,13 @@
 -- The sum is known, or read.
-use Rattle.std.proofs.Common.{refl}
-use Rattle.foedus.specs.InBrief.{SumsUp}
-use Rattle.foedus.specs.Vaults.{vaults_of}
-use Rattle.foedus.proofs.Briefs.{sums_known, sums_read, sums_unread}
+use Rattle.std.proofs.Common.{◌∙◌, refl, sym}
+use Rattle.foedus.proofs.Briefs.{sums_known, sums_read}
 use Rattle.foedus.proofs.brief.sum_of.Goals as goal
 
-pub returns-in-Some-clause-sums : goal.returns-in-Some-clause-sums
-returns-in-Some-clause-sums g c = λ was ran rans state has.
-    sums_known _ _ ran rans state c.args.ended c.in-Some.total refl (rw c.in-Some.is at has)
+pub returns-then-is_some-clause-sums : goal.returns-then-is_some-clause-sums
+returns-then-is_some-clause-sums g c = λ was state ended has.
+    sums_known _ _ c.args.known state ended (sym c.is_some.ensures ∙ c.if-is_some.true) refl has
 
-pub returns-in-Ok-clause-sums : goal.returns-in-Ok-clause-sums
-returns-in-Ok-clause-sums g c = λ was ran rans state has.
-    sums_read _ _ ran rans state c.args.ended c.in-Ok.total (c.in-Ok.ensures.total was)
-
-pub returns-in-Err-clause-sums : goal.returns-in-Err-clause-sums
-returns-in-Err-clause-sums g c = λ was ran rans state has. rw c.ended_unread.ensures
-    (sums_unread _ _ ran rans state c.args.ended c.in-Err.refusal (c.in-Err.ensures.total was))
+pub returns-clause-sums : goal.returns-clause-sums
+returns-clause-sums g c = λ was state ended has.
+    sums_read _ _ c.args.known state ended c.read_total.result
+    (sym c.is_some.ensures ∙ c.if-is_some.false) (c.read_total.ensures.total was) has

@@ -12,10 +12,10 @@ pub returns-in_err-put_brief-clause-tells : goal.returns-in_err-put_brief-clause
 returns-in_err-put_brief-clause-tells g c =
     let p = err_from_is_err_and c.from_residual.result c.from_residual.ensures.1 in
     rw p.1 (λ was rans state is has.
-    tells_broke _ _ rans c.args.teller.tally state c.args.ended c.sum_of-total.result.0 c.sum_of-total.result.1 _ _ _ is
-    (is_so _ c.if-not-teller.false) (λ ran more. c.sum_of-total.ensures.sums was ran more state has) c.in_err-put_brief.ensures)
+    tells_broke _ _ rans c.args.teller.tally state c.args.ended c.sum_of-total.result _ _ _ is
+    (is_so _ c.if-not-teller.false) (c.sum_of-total.ensures.sums was state c.args.ended has) c.in_err-put_brief.ensures)
 
 pub returns-clause-tells : goal.returns-clause-tells
 returns-clause-tells g c = λ was rans state is has.
-    tells_sum _ _ rans c.args.teller.tally state c.args.ended c.sum_of-total.result.0 c.sum_of-total.result.1 _ _ tt is
-    (is_so _ c.if-not-teller.false) (λ ran more. c.sum_of-total.ensures.sums was ran more state has) c.in_ok-put_brief.ensures
+    tells_sum _ _ rans c.args.teller.tally state c.args.ended c.sum_of-total.result _ _ tt is
+    (is_so _ c.if-not-teller.false) (c.sum_of-total.ensures.sums was state c.args.ended has) c.in_ok-put_brief.ensures

@@ -40,7 +40,7 @@ returns-clause-devices g c = devices_told _ _ _ _ _ _ _ c.run_rounds.new.teller.
     c.run_rounds.new.printer c.tell_in_brief.new.printer c.in_ok-ending.ending c.tell_in_brief.result
     (told_as _ _ _ c.new-teller.result.brief true c.run_rounds.new.teller.tally c.run_rounds.new.teller.total c.args.printer.now
     c.run_rounds.new.printer (Ok c.in_ok-ending.ending) (ap (λ (t : Teller). t.brief) c.new-teller.ensures) c.in_ok-ending.ensures.runs)
-    c.tell_in_brief.ensures.reads (c.tell_in_brief.ensures.tells _) c.requires.whole c.in_ok-ending.ensures.whole
+    c.tell_in_brief.ensures.reads (c.tell_in_brief.ensures.tells _)
 
 pub returns-clause-damage : goal.returns-clause-damage
 returns-clause-damage g c = damage_told _ _ _ _ _ _ _ c.run_rounds.new.teller.tally c.run_rounds.new.teller.total c.args.printer.now

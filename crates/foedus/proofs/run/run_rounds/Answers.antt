@@ -6,9 +6,10 @@ use Rattle.brief_output.specs.declared.tally.Tally.{Tally}
 use Rattle.foedus.specs.Telling.{HasTold}
 use Rattle.foedus.proofs.Here.{here}
 use Rattle.foedus.proofs.SameRun.{can_run_same}
-use Rattle.foedus.proofs.RunEnds.{all_run, at_memory, broke, not_begun, rests_after, rests_all, rests_stopped, stopped}
+use Rattle.foedus.proofs.RunEnds.{all_run, at_want, broke, not_begun, not_finished, rests_after, rests_all, rests_wanting}
+use Rattle.foedus.proofs.RunEnds.{stopped, want_whole}
 use Rattle.foedus.proofs.SoFar.{goes_on, none_so_far, one_more}
-use Rattle.foedus.proofs.Telling.{fits_in, has_sum, no_sum, none_ran, none_told, of_round, sum_known, told_broken}
+use Rattle.foedus.proofs.Telling.{fits_in, has_sum, no_sum, none_ran, none_told, of_round, told_broken}
 use Rattle.foedus.proofs.Telling.{told_more, told_text}
 use Rattle.foedus.proofs.run.run_rounds.Goals as goal
 
@@ -19,7 +20,7 @@ returns-in-Err-clause-runs g c =
     not_begun _ _ _ _ _ _ _ _ (g.met.D.Disk g.world.𝓛 g.world.𝓜 g.world.𝓡 (here _)).reads _ c.in-Err.ending c.in-Err.ensures.ends (
       refl,
       none_told c.args.teller.now.brief _ _ c.requires.fresh,
-      no_sum c.args.teller.now.brief _ _ _ c.requires.unsummed,
+      no_sum c.args.teller.now.brief _ _ _ (λ is. c.in-Err.ensures.unfinished is) c.requires.unsummed,
     )
 
 pub returns-in-Err-clause-whole : goal.returns-in-Err-clause-whole
@@ -64,19 +65,22 @@ round-requires-clause-stands g c κs within = c.loop-index.invariant.0.stands
 
 pub returns-in-Err-round-clause-runs : goal.returns-in-Err-round-clause-runs
 returns-in-Err-round-clause-runs g c =
-    at_memory _ _ _ _ _ _ _ _ (g.met.D.Disk g.world.𝓛 g.world.𝓜 g.world.𝓡 (here _)).reads _ _ _ _ _ _ c.loop-index.invariant.0 c.in-Err-round.ensures.rounds.0 c.in-Err-round.ensures.rounds.1
-    c.in-Err-round.ensures.rounds.2 (
+    at_want _ _ _ _ _ _ _ _ (g.met.D.Disk g.world.𝓛 g.world.𝓜 g.world.𝓡 (here _)).reads _ _ _ _ _ c.round-lines.result
+    c.in-Err-round.field-0 c.loop-index.invariant.0 c.in-Err-round.ensures.rounds (
       refl,
       c.loop-index.invariant.1,
-      no_sum c.args.teller.now.brief _ _ _ c.loop-index.invariant.3,
+      no_sum c.args.teller.now.brief _ _ _ (λ is. cc) c.loop-index.invariant.3,
     )
 
 pub returns-in-Err-round-clause-whole : goal.returns-in-Err-round-clause-whole
-returns-in-Err-round-clause-whole g c = λ ran. c.in-Err-round.ensures.rounds.1.stands.whole
+returns-in-Err-round-clause-whole g c = λ ran.
+    want_whole _ _ _ _ c.args.options.snap c.args.options.tries c.args.script.now _ (g.met.D.Disk g.world.𝓛 g.world.𝓜 g.world.𝓡 (here _)).reads _ _ _ _ _
+    c.round-lines.result c.in-Err-round.field-0 c.loop-index.invariant.0 c.in-Err-round.ensures.rounds
 
 pub returns-in-Err-round-clause-rests : goal.returns-in-Err-round-clause-rests
 returns-in-Err-round-clause-rests g c =
-    rests_stopped _ _ _ _ c.args.options.snap c.args.options.tries c.args.script.now _ (g.met.D.Disk g.world.𝓛 g.world.𝓜 g.world.𝓡 (here _)).reads _ _ _ _ _ c.in-Err-round.ensures.rounds.0 c.in-Err-round.ensures.rounds.1
+    rests_wanting _ _ _ _ c.args.options.snap c.args.options.tries c.args.script.now _ (g.met.D.Disk g.world.𝓛 g.world.𝓜 g.world.𝓡 (here _)).reads _ _ _ _ _
+    c.round-lines.result c.in-Err-round.field-0 c.loop-index.invariant.0 c.in-Err-round.ensures.rounds
 
 -- ---- the round is told
 
@@ -109,7 +113,7 @@ returns-in-Some-clause-runs g c = rw c.ending_of.ensures
       refl,
       told_more c.args.teller.now.brief c.loop-index.teller.brief _ _ _ _ _ _ _ _ _ c.loop-index.invariant.2 (told_text _ _ _ _ c.in-Ok-round.ensures.rounds.0) (of_round _ _ _ _ c.in-Ok-round.ensures.rounds.0)
           c.loop-index.invariant.1 c.in_ok-tell.ensures.tells,
-      no_sum c.args.teller.now.brief _ _ _ (c.in_ok-tell.ensures.total ∙ c.loop-index.invariant.3),
+      no_sum c.args.teller.now.brief _ _ _ (not_finished c.in-Some.end) (c.in_ok-tell.ensures.total ∙ c.loop-index.invariant.3),
     ))
 
 pub returns-in-Some-clause-whole : goal.returns-in-Some-clause-whole
@@ -153,8 +157,7 @@ returns-clause-runs g c =
       refl,
       subst (λ (t : Tally). HasTold c.args.teller.now.brief t c.args.printer.now c.loop-index.printer kept.0.rans)
           (sym c.sum_up.ensures.tally) kept.1,
-      has_sum c.args.teller.now.brief _ _ (λ brief. sum_known (λ s. s.now) c.state.result _ _
-          (c.sum_up.ensures.total (kept.2 ∙ brief)) c.state.ensures),
+      has_sum c.args.teller.now.brief _ _ (λ brief. c.sum_up.ensures.total (kept.2 ∙ brief)),
     )
 
 pub returns-clause-whole : goal.returns-clause-whole

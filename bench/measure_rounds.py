@@ -1,13 +1,13 @@
 #!/usr/bin/env python3
-"""Measures rounds on threads: `foedus run --brief` with scripts over arrays, beside plain_rounds.cpp, which makes the same
-atomic steps, log lines, writes and syncs in the same rhythm.
+"""Measures rounds on threads: `foedus run --brief` with scripts over arrays, beside plain_rounds.cpp, which makes the
+same atomic steps, log lines, writes and syncs in the same rhythm.
 
 Scripts of 65,536 lines by 1, 2, 4 and 8 workers: two additions a line to two arrays, as `foedus make` has them; the
 same with each worker on keys of its own; transfers among 1,024 keys; additions to one key; sixteen reads; and rounds
-of 64 lines, with fewer lines in all. A line is tried up to a million times; where one was in conflict at each of them,
-the run is made again. Each run begins with a fresh database whose files were made before it. Both programs have to tell
-as many commits, the same sum and the same epoch. They run in turn, and of each the middle and the least of its seconds
-are told.
+of 64 and of 8 lines, with fewer lines in all. A line is tried up to a million times; where one was in conflict at each
+of them, the run is made again. Each run begins with a fresh database whose files were made before it. Both programs
+have to tell as many commits, the same sum and the same epoch. They run in turn, and of each the middle and the least of
+its seconds are told.
 Usage: bench/measure_rounds.py PROGRAM [FOLDER], where PROGRAM is the built program and FOLDER lies on the disk that is
 to be measured; without it, in memory.
 """

@@ -24,6 +24,3 @@ mod settlement;
 mod writing;
 
 pub use settlement::settle;
-
-#[cfg(test)]
-mod tests;

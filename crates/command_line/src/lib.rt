@@ -34,6 +34,3 @@ pub use law::{
     plain_words_dump, plain_words_make, plain_words_run, plain_words_snap, plain_words_snaps,
 };
 pub use words::read_words;
-
-#[cfg(test)]
-mod tests;

@@ -11,6 +11,3 @@ mod write;
 
 pub use read::{number_at, number_of};
 pub use write::{write_digits, write_wide_digits};
-
-#[cfg(test)]
-mod tests;

@@ -10,6 +10,3 @@
 mod places;
 
 pub use places::{At, Content, Holder, Home, Move, Span, Spot};
-
-#[cfg(test)]
-mod tests;

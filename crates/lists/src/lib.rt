@@ -11,6 +11,3 @@ mod sequence;
 
 pub use memory::{Memory, OrMemory};
 pub use sequence::Sequence;
-
-#[cfg(test)]
-mod tests;

@@ -9,6 +9,3 @@
 mod printer;
 
 pub use printer::Printer;
-
-#[cfg(test)]
-mod tests;

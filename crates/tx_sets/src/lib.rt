@@ -20,6 +20,3 @@ pub use reads::{ReadEntry, ReadSet};
 pub use seen::Seen;
 pub use sets::Sets;
 pub use writes::{Write, WriteSet};
-
-#[cfg(test)]
-mod tests;

@@ -1,5 +1,5 @@
 // Lists that grow, and the refusals of memory that `?` turns into one error.
-use super::*;
+use lists::{Memory, OrMemory, Sequence};
 use std::alloc::{AllocError, Global};
 use std::collections::{BTreeMap, BTreeSet};
 use std::test::Fail;

@@ -1,5 +1,5 @@
 // Numbers read and written, with texts by hand.
-use super::*;
+use decimals::{number_at, number_of, write_digits, write_wide_digits};
 use std::test::Fail;
 
 #[test]

@@ -1,5 +1,5 @@
 // The ends of spans.
-use super::*;
+use homes::Span;
 use serial_model::Key;
 
 /// Both ends are in the span, also the greatest keys.

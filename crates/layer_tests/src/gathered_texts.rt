@@ -1,7 +1,7 @@
 // Texts on their way, and what the sink's writes are.
-use super::*;
 use outside::{Failed, MemSink, Sink};
 use std::test::Fail;
+use text_output::Printer;
 
 /// Prints a short text, a long one and a number.
 fn print<K: Sink>(printer: &mut Printer<K>, long: &[u8]) -> Result<(), Failed> {

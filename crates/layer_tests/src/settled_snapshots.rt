@@ -4,7 +4,7 @@ ghost use Rattle.std.specs.Prelude.{◌≤◌, IfOk};
 ghost use Rattle.outside.specs.Disk.{IfTold, Only};
 ghost use Rattle.serial_model.specs.Decls.{AreDecls};
 
-use super::*;
+use checkpoints::settle;
 use lists::OrMemory;
 use outside::{Disk, MemDisk, Vault};
 use recovery_core::{SettleFault, recover};

@@ -1,4 +1,5 @@
-use crate::{Command, MakeArguments, RunOptions, read_words};
+// Words of calls, and what they ask for.
+use command_line::{Command, MakeArguments, RunOptions, read_words};
 use serial_model::Memory;
 use std::test::Fail;
 

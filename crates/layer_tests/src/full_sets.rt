@@ -1,7 +1,7 @@
 // Full sets, and writes in order.
-use super::*;
 use serial_model::Key;
 use std::test::Fail;
+use tx_sets::{ReadEntry, ReadSet, Sets, Write, WriteSet};
 
 // How many of the keys from `low` on, below `high`, that are not in the set are given back.
 fn refused(reads: &mut ReadSet, low: u32, high: u32) -> u32 {

@@ -41,8 +41,9 @@
 //! first fail at the calls of chosen numbers; [`FuseDisk`], which fails at each call after some; [`StdSource`],
 //! [`StdSink`] and [`FileDisk`] over the system. The images of a `MemDisk` are had by going through its calls
 //! again (`specs/Replay.antt`), and those of a `FileDisk` are any bytes. Of files and terminals nothing is
-//! proved but that each fault which was answered was counted: an error of the system that is passed over in
-//! silence would be seen by tests alone.
+//! proved but that each fault is counted: a file's calls stand in five functions of one line each
+//! (`system_file.rt`), in which each refusal of the system raises the count, so that no call of a [`FileDisk`]
+//! answers `Ok` past one. That these five hand on what the system answers is seen by tests alone.
 //!
 //! Design: docs/DURABILITY.md.
 #![tactic(auto)]
@@ -62,6 +63,7 @@ mod source;
 mod std_sink;
 mod std_source;
 mod sure_source;
+mod system_file;
 mod vault;
 
 pub use call::{Call, Made};

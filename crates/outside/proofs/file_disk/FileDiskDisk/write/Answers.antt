@@ -5,7 +5,7 @@ use Rattle.outside.proofs.file_disk.FileDiskDisk.write.Goals as goal
 pub returns-clause-goes : goal.returns-clause-goes
 returns-clause-goes c = record {
   moments = record {
-    later = omega (arith, c.in_ok-begin.ensures.ok, c.end.ensures.clock);
+    later = omega (arith, c.in_ok-begin.ensures.ok);
     kept = λ m d le left. left;
     no_new = λ m d le left. left;
     from = λ m d gt le left. (d, left, torn_same c.args.at (length c.args.bytes.now) d);

@@ -81,6 +81,9 @@ module _ (homes : Key → Home) (d : Table) (grips : List Grip) (sound : IsSound
   opens : (is_open d x ≡ true) × ((is_target d n (pointer_of d x).span && (is_chain p d x c && stands)) ≡ true)
   opens = and_parts (is_open d x) (is_target d n (pointer_of d x).span && (is_chain p d x c && stands)) can
 
+  pub chain_open : is_open d x ≡ true
+  chain_open = opens.0
+
   pub chain_live : is_live d x ≡ true
   chain_live = (and_parts (is_live d x) (is_free (pointer_of d x).holder) opens.0).0
 
@@ -120,7 +123,7 @@ module _ (homes : Key → Home) (d : Table) (grips : List Grip) (sound : IsSound
   outside : is_in c.slots x ≡ false
   outside = not_true (is_in c.slots x) outer.0
 
-  link : (s : ℕ) → has_slot c.slots s ≡ true
+  pub link : (s : ℕ) → has_slot c.slots s ≡ true
       → (holder_is p (header_of d s) ≡ true) × ((is_led_within x c.slots (slot_of d s).led && is_chain_page d c s (page_of d s)) ≡ true)
   link s hit = and_parts (holder_is p (header_of d s)) (is_led_within x c.slots (slot_of d s).led && is_chain_page d c s (page_of d s))
       (all-slots (λ t. is_link p d x c t) c.slots s lists.0 hit)

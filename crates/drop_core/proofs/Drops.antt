@@ -20,7 +20,7 @@ use Rattle.drop_core.specs.declared.table.Pointer.{Pointer}
 use Rattle.drop_core.specs.declared.table.Table.{Table}
 use Rattle.drop_core.specs.declared.grip.Grip.{Grip}
 use Rattle.drop_core.specs.Table.{slot_of, page_of, pointer_of, has_slot, at_index, snap_home, is_led, has_pointer, is_live, is_inner, is_last_to, is_last}
-use Rattle.drop_core.specs.Event.{is_owned, is_in, bury, buried, dropped}
+use Rattle.drop_core.specs.Event.{is_given, is_in, bury, buried, dropped}
 use Rattle.drop_core.specs.Sound.{span_at, TiesPage, TiesTo, Ties, Apart, HomesAreOwn, DeadStaysDead, IsLedSo, LeadsBack, SnapshotsFixed, IsSoundTable}
 use Rattle.drop_core.specs.HomeLaws.{snap-fixed}
 use Rattle.drop_core.proofs.Conditions.{CanDrop}
@@ -229,7 +229,7 @@ module _ (homes : Key → Home) (d : Table) (grips : List Grip) (x : At) (n : �
         | inl g ↦
             let led = can.led t g in
             let so = subst (λ (l : Led). IsLedSo d t (slot_of d t).state l) led.1 (sound.holds_counted.led t) in
-            subst (λ (q : Slot). IsLedSo d' t q.state q.led) (sym (slot-gone d x n gone t g)) (ap is_owned so.0)
+            subst (λ (q : Slot). IsLedSo d' t q.state q.led) (sym (slot-gone d x n gone t g)) (ap is_given so.0)
         | inr out ↦ subst (λ (q : Slot). IsLedSo d' t q.state q.led) (sym (slot-kept d x n gone t out)) (led_kept t (slot_of d t).state (slot_of d t).led out (sound.holds_counted.led t))
       ]
 

@@ -15,6 +15,7 @@ use Rattle.homes.specs.Laws.{same_at-true, number_or_other}
 use Rattle.drop_core.specs.declared.table.Led.{Led}
 use Rattle.drop_core.specs.declared.table.Led.TheVariants.{Never, From, Away}
 use Rattle.drop_core.specs.declared.table.SlotState.{SlotState}
+use Rattle.drop_core.specs.declared.table.SlotState.TheVariants.{Unused, Owned, Published, Retired}
 use Rattle.drop_core.specs.declared.table.Page.{Page}
 use Rattle.drop_core.specs.declared.table.Pointer.{Pointer}
 use Rattle.drop_core.specs.declared.table.SnapPage.{SnapPage}
@@ -22,7 +23,7 @@ use Rattle.drop_core.specs.declared.table.SnapPage.TheVariants.{Missing, Entries
 use Rattle.drop_core.specs.declared.table.Table.{Table}
 use Rattle.drop_core.specs.declared.grip.Grip.{Grip}
 use Rattle.drop_core.specs.Table.{slot_of, page_of, pointer_of, snap_of, child_of, snap_step, snap_walk, snap_home, is_led, has_pointer, is_live, is_inner, is_last_to, is_last}
-use Rattle.drop_core.specs.Event.{is_owned, all_below, leads_down, with_pointer}
+use Rattle.drop_core.specs.Event.{is_owned, is_given, all_below, leads_down, with_pointer}
 use Rattle.drop_core.specs.Sound.{span_at, TiesPage, TiesTo, DeadPage, IsLedSo, LeadsWithin, IsSoundTable}
 use Rattle.drop_core.proofs.PageLaws.{page_ties-same}
 
@@ -32,7 +33,13 @@ module _ (homes : Key → Home) (d : Table) (grips : List Grip) (sound : IsSound
   pub owned_never : (led : Led) → IsLedSo d s (slot_of d s).state led → led ≡ Never
   owned_never Never so = refl
   owned_never (From x) so = absurd (true≢false (sym own ∙ ap is_owned so.0))
-  owned_never Away so = absurd (true≢false (sym own ∙ so))
+  owned_never Away so = absurd (not_given (slot_of d s).state own so)
+    where
+      not_given : (state : SlotState) → is_owned state ≡ true → is_given state ≡ true → ⊥
+      not_given Unused own given = true≢false (sym own)
+      not_given Owned own given = true≢false (sym given)
+      not_given Published own given = true≢false (sym own)
+      not_given Retired own given = true≢false (sym own)
 
   pub never_led : (slot_of d s).led ≡ Never
   never_led = owned_never (slot_of d s).led (sound.holds_counted.led s)

@@ -1,6 +1,6 @@
 -- Headers: no homes and no pointers depend on them, and those of pages that are gone are dead.
 use Rattle.std.proofs.Common.{◌≡◌, ℕ, ◌+◌, ◌-◌, Bool, true, false, true≢false, eqb, ◌&&◌, ◌||◌, inl, inr, List, [], ◌∷◌, refl, sym, ap, ◌∙◌, subst, Option, Some, None}
-use Rattle.std.proofs.lemmas.Bool.{cases_Bool, and_parts, or_cases, cond-true, cond-false}
+use Rattle.std.proofs.lemmas.Bool.{cases_Bool, and_parts, or_cases, or_left, or_right, cond-true, cond-false, false_from_ne_true}
 use Rattle.serial_model.specs.declared.key.Key.{Key}
 use Rattle.homes.specs.declared.places.Holder.{Holder}
 use Rattle.homes.specs.declared.places.Holder.TheVariants.{Free, Held, Dead}
@@ -102,4 +102,14 @@ buried-stays (g ∷ more) headers t e =
     elim (number_or_other g t) [
       | inl is ↦ cond-true (eqb g t) Dead (header_in (dead_headers more headers) t) is.1
       | inr o ↦ cond-false (eqb g t) Dead (header_in (dead_headers more headers) t) o.1 ∙ buried-stays more headers t e
+    ]
+
+-- the others are as they were
+pub buried-other : (gone : List ℕ) (headers : List (ℕ × Holder)) (t : ℕ) → has_slot gone t ≡ false → header_in (dead_headers gone headers) t ≡ header_in headers t
+buried-other [] headers t e = refl
+buried-other (g ∷ more) headers t e =
+    elim (number_or_other g t) [
+      | inl is ↦ absurd (true≢false (sym (or_left (eqb g t) (has_slot more t) is.1) ∙ e))
+      | inr o ↦ cond-false (eqb g t) Dead (header_in (dead_headers more headers) t) o.1
+          ∙ buried-other more headers t (false_from_ne_true (has_slot more t) (λ m. true≢false (sym (or_right (eqb g t) (has_slot more t) m) ∙ e)))
     ]

@@ -10,7 +10,7 @@ use Rattle.drop_core.specs.Event.{can_be_given, most_times, is_usable}
 use Rattle.drop_core.specs.Sound.{HoldsCounted}
 
 -- what one seat adds
-one-le-sum : (f : Grip → ℕ) (grips : List Grip) (i : ℕ) (g : Grip) → slice_get grips i ≡ Some g → f g ≤ sum_by f grips
+pub one-le-sum : (f : Grip → ℕ) (grips : List Grip) (i : ℕ) (g : Grip) → slice_get grips i ≡ Some g → f g ≤ sum_by f grips
 one-le-sum f [] i g e = cc
 one-le-sum f (x ∷ grips) zero g e =
     let is : x ≡ g = cc in

@@ -25,3 +25,6 @@ pub mod Grows
 pub mod Splitting
 pub mod Halves
 pub mod ChainDrops
+pub mod Owners
+pub mod Noted
+pub mod Splits

@@ -6,7 +6,7 @@ use Rattle.std.proofs.lemmas.List.Sums.{sum_by-cons}
 use Rattle.std.specs.List.{list_any}
 use Rattle.std.specs.Prelude.{replicate}
 use Rattle.serial_model.specs.declared.key.Key.{Key}
-use Rattle.homes.specs.declared.places.Holder.TheVariants.{Free}
+use Rattle.homes.specs.declared.places.Holder.TheVariants.{Free, Held, Dead}
 use Rattle.homes.specs.declared.places.Spot.{Spot}
 use Rattle.homes.specs.declared.places.At.{At}
 use Rattle.homes.specs.declared.places.At.TheVariants.{Root, In}
@@ -19,7 +19,7 @@ use Rattle.drop_core.specs.declared.table.Led.TheVariants.{Never, From, Away}
 use Rattle.drop_core.specs.declared.table.Pointer.{Pointer}
 use Rattle.drop_core.specs.declared.table.SnapPage.{SnapPage}
 use Rattle.drop_core.specs.declared.table.Table.{Table}
-use Rattle.drop_core.specs.Table.{no_pointer, child_of, snap_walk, snap_home, is_led, counts_hold, holders}
+use Rattle.drop_core.specs.Table.{no_pointer, child_of, snap_walk, snap_home, is_led, counts_hold, holders, counts_made, makers, counts_taken, takers}
 use Rattle.drop_core.specs.Sound.{span_at, TiesTo, IsSoundTable, IsSoundPages, IsRooted}
 use Rattle.drop_core.specs.Opening.{root_pointers, opening_table, fresh_grip, opening_homes, has_root, SpansApart, PagesWithin, CanOpen}
 use Rattle.drop_core.specs.HomeLaws.{snap-fixed}
@@ -97,6 +97,39 @@ none_hold s (suc seats) =
     let whole = sum_by-cons (counts_hold s) fresh_grip (replicate seats fresh_grip) in
     let mine : counts_hold s fresh_grip ≡ 0 = refl in
     omega (arith, rest, whole, mine)
+
+-- nobody made a slot, nor took one
+none_made : (s seats : ℕ) → makers s (replicate seats fresh_grip) ≡ 0
+none_made s zero = refl
+none_made s (suc seats) =
+    let rest = none_made s seats in
+    let whole = sum_by-cons (counts_made s) fresh_grip (replicate seats fresh_grip) in
+    let mine : counts_made s fresh_grip ≡ 0 = refl in
+    omega (arith, rest, whole, mine)
+
+none_taken : (s seats : ℕ) → takers s (replicate seats fresh_grip) ≡ 0
+none_taken s zero = refl
+none_taken s (suc seats) =
+    let rest = none_taken s seats in
+    let whole = sum_by-cons (counts_taken s) fresh_grip (replicate seats fresh_grip) in
+    let mine : counts_taken s fresh_grip ≡ 0 = refl in
+    omega (arith, rest, whole, mine)
+
+-- nobody shut a root's pointer
+root_held : (i : ℕ) (roots : List (Span × ℕ)) (y : At) (q : ℕ) → (pointer_in i roots y).holder ≡ Held q → ⊥
+root_held i [] y q e = dead_held q e
+  where
+    dead_held : (q : ℕ) → Dead ≡ Held q → ⊥
+    dead_held q e = cc
+root_held i (e ∷ more) y q is =
+    let here : Pointer = record { span = e.0; slot = None; page = e.1; holder = Free } in
+    elim (cases_Bool (same_at (Root i) y)) [
+      | inl hit ↦ free_held q (sym (ap (λ (w : Pointer). w.holder) (cond-true (same_at (Root i) y) here (pointer_in (suc i) more y) hit)) ∙ is)
+      | inr miss ↦ root_held (suc i) more y q (sym (ap (λ (w : Pointer). w.holder) (cond-false (same_at (Root i) y) here (pointer_in (suc i) more y) miss)) ∙ is)
+    ]
+  where
+    free_held : (q : ℕ) → Free ≡ Held q → ⊥
+    free_held q e = cc
 
 -- a root of a lower index isn't among these
 root-before : (j : ℕ) (roots : List (Span × ℕ)) (i : ℕ) (k : Key) → i < j → in_span (pointer_in j roots (Root i)).span k ≡ true → ⊥
@@ -193,8 +226,18 @@ module _ (snaps : List (ℕ × SnapPage)) (published : ℕ) (roots : List (Span 
     rooted = rooted_from;
     published = can.right;
     headers = λ s away. absurd (never_away away);
+    held = record {
+      headers = λ s q is. absurd (dead_held q is);
+      pointers = λ x q live is. absurd (root_held 0 roots x q is);
+      splits = λ s j led page there. absurd (none_led led);
+    };
+    within = λ s above. refl;
+    noted = record { made = λ s. none_made s seats; taken = λ s. none_taken s seats };
   }
     where
+      dead_held : (q : ℕ) → Dead ≡ Held q → ⊥
+      dead_held q e = cc
+
       -- a key below no root has no home
       rooted_from : (k : Key) → (homes k ≡ Nowhere) ⊎ IsRooted (span_at d) k
       rooted_from k = elim (root-or-none 0 roots k) [

@@ -2,6 +2,7 @@
 use Rattle.std.proofs.Common.{◌≡◌, ℕ, zero, suc, ◌+◌, ◌<◌, ◌≤◌, Bool, true, false, true≢false, eqb, leb, ltb, cond, ◌&&◌, inl, inr, List, [], ◌∷◌, length, refl, sym, ap, ◌∙◌, subst, arith, set, Option, Some, None}
 use Rattle.std.proofs.lemmas.Bool.{and_parts, cases_Bool, cond-true, cond-false, false_from_ne_true}
 use Rattle.std.proofs.lemmas.Bool.Decides.{nat_tests}
+use Rattle.std.proofs.lemmas.List.{length-set}
 use Rattle.std.proofs.lemmas.List.Sums.{sum_by-cons}
 use Rattle.std.specs.List.{slice_get, slice_set}
 use Rattle.std.specs.Option.{option_map_or}
@@ -20,7 +21,7 @@ use Rattle.drop_core.specs.declared.event.Act.TheVariants.{Enter, Leave, Give, P
 use Rattle.drop_core.specs.declared.event.Event.{Event}
 use Rattle.drop_core.specs.Table.{slot_of, page_of, snap_of, has_slot, leaf_place, counts_hold, holders}
 use Rattle.drop_core.specs.Event.{DropState, is_owned, most_passes, all_below, leads_down, is_right, leaf_keys, slot_span, is_allowed, with_pointer, with_header, grown, twinned, without, effect, twin_home, next_place, moves, may_happen, with_turned, happened, next, next_homes, run, run_homes}
-use Rattle.drop_core.specs.Sound.{IsSoundTable, IsRanked, IsSoundPages, IsSound}
+use Rattle.drop_core.specs.Sound.{IsSoundTable, IsRanked, HeldBySeats, IsSoundPages, IsSound}
 use Rattle.drop_core.proofs.Aways.{headers_keep}
 use Rattle.drop_core.proofs.ChainDrops.{chain_keeps}
 use Rattle.drop_core.proofs.Grows.{has_key-head, only_key, grown_sound}
@@ -32,6 +33,8 @@ use Rattle.drop_core.proofs.Fills.{layout_sound, link_sound, snap_sound, count_s
 use Rattle.drop_core.proofs.PointerTurns.{shut_keeps, reopen_keeps, renew_keeps}
 use Rattle.drop_core.proofs.Swings.{install_keeps, swing_keeps, recount}
 use Rattle.drop_core.proofs.Stays.{act_leaves}
+use Rattle.drop_core.proofs.Owners.{held_over, act_over}
+use Rattle.drop_core.proofs.Noted.{within_keeps, noted_keeps}
 use Rattle.drop_core.proofs.Ranks.{ranked_keeps, rooted_keeps, right_keeps}
 
 module _ (homes : Key → Home) (d : Table) (grips : List Grip) (p : ℕ) (g : Grip) (at : slice_get grips p ≡ Some g) (sound : IsSoundTable homes d grips)
@@ -89,6 +92,12 @@ module _ (homes : Key → Home) (d : Table) (grips : List Grip) (p : ℕ) (g : G
       (twin_sound homes d grips two.0 span w (leaf_keys (page_of d w.slot)) two.2 sound)
   keeps (SwingChain x n c) can = chain_keeps homes d grips sound p g x n c can ranked at
 
+-- a seat that is there has a number below theirs
+seat_within : (grips : List Grip) (p : ℕ) (g : Grip) → slice_get grips p ≡ Some g → p < length grips
+seat_within [] p g e = cc
+seat_within (x ∷ grips) zero g e = omega arith
+seat_within (x ∷ grips) (suc p) g e = let more = seat_within grips p g e in omega (arith, more)
+
 pub keeps_act : (homes : Key → Home) (d : Table) (grips : List Grip) (p : ℕ) (g : Grip) (act : Act) → slice_get grips p ≡ Some g → is_allowed p d g act ≡ true → IsSoundPages homes d grips
     → IsSoundPages (moved (moves d act) homes) (effect p d g act).table (slice_set grips p (effect p d g act).grip)
 keeps_act homes d grips p g act at can sound = record {
@@ -97,6 +106,10 @@ keeps_act homes d grips p g act at can sound = record {
   rooted = rooted_keeps homes d grips sound.table sound.ranked p g act can (act_leaves homes d grips p g act at can sound.table) sound.rooted;
   published = right_keeps homes d grips sound.table sound.published p g act can;
   headers = headers_keep homes d grips sound.table p g sound.headers act can;
+  held = subst (λ (n : ℕ). HeldBySeats (effect p d g act).table n) (sym (length-set grips p (effect p d g act).grip))
+      (held_over p (length grips) d (effect p d g act).table (seat_within grips p g at) (act_over homes d grips sound.table p g act can) sound.held);
+  within = within_keeps homes d grips sound.table sound.within p g at act can;
+  noted = noted_keeps homes d grips sound.table sound.noted p g at act can;
 }
 
 -- ---- lists of events

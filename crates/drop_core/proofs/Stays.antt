@@ -1,5 +1,5 @@
 -- What each act leaves as it was: pages that some seat holds, roots, and published snapshot pages.
-use Rattle.std.proofs.Common.{◌≡◌, ℕ, ◌+◌, ◌-◌, ◌<◌, ◌≤◌, Bool, true, false, true≢false, eqb, leb, ltb, ◌&&◌, ◌⊎◌, inl, inr, List, [], ◌∷◌, refl, sym, ap, ◌∙◌, subst, arith, Option, Some, None}
+use Rattle.std.proofs.Common.{◌≡◌, ℕ, ◌+◌, ◌-◌, ◌<◌, ◌≤◌, Bool, true, false, true≢false, eqb, leb, ltb, ◌&&◌, ◌||◌, not, ◌⊎◌, inl, inr, List, [], ◌∷◌, refl, sym, ap, ◌∙◌, subst, arith, Option, Some, None}
 use Rattle.std.proofs.lemmas.Bool.{and_parts, cases_Bool, cond-true, cond-false}
 use Rattle.std.proofs.lemmas.Bool.Decides.{nat_tests}
 use Rattle.std.specs.List.{slice_get}
@@ -10,7 +10,7 @@ use Rattle.homes.specs.declared.places.At.{At}
 use Rattle.homes.specs.declared.places.At.TheVariants.{Root, In}
 use Rattle.homes.specs.declared.places.Span.{Span}
 use Rattle.homes.specs.declared.places.Home.{Home}
-use Rattle.homes.specs.Homes.{same_at}
+use Rattle.homes.specs.Homes.{same_at, is_free, holder_is}
 use Rattle.homes.specs.Laws.{at_or_other, number_or_other}
 use Rattle.drop_core.specs.declared.table.Led.{Led}
 use Rattle.drop_core.specs.declared.table.Led.TheVariants.{Never, From, Away}
@@ -24,7 +24,7 @@ use Rattle.drop_core.specs.declared.grip.Grip.{Grip}
 use Rattle.drop_core.specs.declared.event.Twins.{Twins}
 use Rattle.drop_core.specs.declared.event.Act.{Act}
 use Rattle.drop_core.specs.declared.event.Act.TheVariants.{Enter, Leave, Give, Publish, Retire, FillPage, FillPointer, FillSnapshot, Extend, Install, Swing, Renew, Shut, Reopen, FillHeader, LockHeader, OpenHeader, Twin, SwingChain}
-use Rattle.drop_core.specs.Table.{slot_of, page_of, pointer_of, snap_of, has_slot, at_index, snap_home, is_never, has_pointer, is_live}
+use Rattle.drop_core.specs.Table.{slot_of, page_of, pointer_of, header_of, snap_of, has_slot, at_index, snap_home, is_led, is_never, has_pointer, is_live, is_split}
 use Rattle.drop_core.specs.Event.{is_owned, is_usable, all_below, leads_down, is_right, leaf_keys, slot_span, is_allowed, with_slot, with_pointer, grown, twinned, installed, dropped, swung, effect}
 use Rattle.drop_core.specs.Sound.{span_at, IsLedSo, IsSoundTable}
 use Rattle.drop_core.specs.Law.{IsGrown, LeavesPage, Leaves}
@@ -34,7 +34,8 @@ use Rattle.drop_core.proofs.Repoints.{slot-other, span-same}
 use Rattle.drop_core.proofs.Drops.{slot-gone, slot-kept, drop_span}
 use Rattle.drop_core.proofs.Fills.{never_led, page-other, live_other, at-index, snap-other, snap-stable}
 use Rattle.drop_core.proofs.Grows.{grown-page, grown-other}
-use Rattle.drop_core.proofs.Halves.{adds_key, grows, splits}
+use Rattle.drop_core.proofs.Halves.{opens_held, adds_key, grows, splits, splits_held}
+use Rattle.drop_core.proofs.Headers.{header_in, header-same, header-other, buried-stays}
 use Rattle.drop_core.proofs.Splitting.{is_page, old_same, at-other, never_now, slot-other as slot-other_twin, page-other as page-other_twin}
 use Rattle.drop_core.proofs.Swings.{install_asks}
 
@@ -59,18 +60,21 @@ module _ (homes : Key → Home) (d : Table) (grips : List Grip) (sound : IsSound
   by_pages new pages roots snaps homes more = record { pages = λ q s h at holds known. pages s (q, h, at, holds) known; roots = roots; snaps = snaps; homes = homes; published = more }
 
   -- where no page and no pointer changed
-  same_pages : (new : Table) (s : ℕ) → page_of new s ≡ page_of d s → ((x : At) → span_at new x ≡ span_at d x) → is_never (slot_of new s).led ≡ false
+  same_pages : (new : Table) (s : ℕ) → page_of new s ≡ page_of d s → (header_of d s ≡ Dead → header_of new s ≡ Dead)
+      → ((x : At) → span_at new x ≡ span_at d x) → is_never (slot_of new s).led ≡ false
       → ((x : At) → (slot_of new s).led ≡ From x → (slot_of d s).led ≡ From x) → LeavesPage d new s
-  same_pages new s page spans known led = record { page = inl page; spans = λ j _. spans (at_index s j); known = known; led = λ x is. (led x is, spans x) }
+  same_pages new s page dead spans known led =
+      record { page = inl page; dead = dead; spans = λ j _. spans (at_index s j); known = known; led = λ x is. (led x is, spans x) }
 
   unchanged : Leaves grips d d
-  unchanged = by_pages d (λ s held known. same_pages d s refl (λ x. refl) known (λ x is. is)) (λ r. refl) (λ n l. refl) (λ n k l. refl) (at_least d.published)
+  unchanged = by_pages d (λ s held known. same_pages d s refl (λ dead. dead) (λ x. refl) known (λ x is. is)) (λ r. refl) (λ n l. refl) (λ n k l. refl) (at_least d.published)
 
-  -- headers are no part of it
-  any_headers : (new : Table) (headers : List (ℕ × Holder)) → Leaves grips d new → Leaves grips d (record new { headers = headers })
-  any_headers new headers leaves = by_pages (record new { headers = headers })
+  -- headers that leave dead ones so
+  any_headers : (new : Table) (headers : List (ℕ × Holder)) → ((s : ℕ) → Known s → header_of d s ≡ Dead → header_in headers s ≡ Dead) → Leaves grips d new
+      → Leaves grips d (record new { headers = headers })
+  any_headers new headers dead leaves = by_pages (record new { headers = headers })
       (λ s held known. let was = leaves.pages held.0 s held.1 held.2 held.3 known in
-      record { page = was.page; spans = was.spans; known = was.known; led = was.led })
+      record { page = was.page; dead = dead s known; spans = was.spans; known = was.known; led = was.led })
       leaves.roots leaves.snaps leaves.homes leaves.published
 
   -- a slot that is led to as before, or another one
@@ -81,7 +85,7 @@ module _ (homes : Key → Home) (d : Table) (grips : List Grip) (sound : IsSound
         | inl e ↦ ap (λ (y : Slot). y.led) (cond-true (eqb t s) x (slot_of d s) e.1) ∙ same s e.0 held known
         | inr o ↦ ap (λ (y : Slot). y.led) (cond-false (eqb t s) x (slot_of d s) o.1)
       ] in
-      same_pages (with_slot d t x) s refl (λ y. refl) (ap is_never is ∙ known) (λ y from. sym is ∙ from))
+      same_pages (with_slot d t x) s refl (λ dead. dead) (λ y. refl) (ap is_never is ∙ known) (λ y from. sym is ∙ from))
       (λ r. refl) (λ n l. refl) (λ n k l. refl) (at_least d.published)
 
   same_led : (t : ℕ) (x : Slot) → x.led ≡ (slot_of d t).led → Leaves grips d (with_slot d t x)
@@ -97,7 +101,7 @@ module _ (homes : Key → Home) (d : Table) (grips : List Grip) (sound : IsSound
 
   same_span_leaves : (x : At) (q : Pointer) → q.span ≡ span_at d x → Leaves grips d (with_pointer d x q)
   same_span_leaves x q same = by_pages (with_pointer d x q)
-      (λ s held known. same_pages (with_pointer d x q) s refl (span_stays x q same) known (λ y is. is))
+      (λ s held known. same_pages (with_pointer d x q) s refl (λ dead. dead) (span_stays x q same) known (λ y is. is))
       (λ r. span_stays x q same (Root r)) (λ n l. refl) (λ n k l. refl) (at_least d.published)
 
   -- a slot that nothing has led to is none of those
@@ -116,7 +120,7 @@ module _ (homes : Key → Home) (d : Table) (grips : List Grip) (sound : IsSound
 
   dropped_leaves : (x : At) (n : ℕ) (gone : List ℕ) → Leaves grips d (dropped d x n gone)
   dropped_leaves x n gone = by_pages (dropped d x n gone)
-      (λ s held known. same_pages (dropped d x n gone) s refl (drop_span d x n gone)
+      (λ s held known. same_pages (dropped d x n gone) s refl (buried-stays gone d.headers s) (drop_span d x n gone)
       (elim (cases_Bool (has_slot gone s)) [
         | inl e ↦ ap (λ (y : Slot). is_never y.led) (slot-gone d x n gone s e)
         | inr e ↦ ap (λ (y : Slot). is_never y.led) (slot-kept d x n gone s e) ∙ known
@@ -131,15 +135,23 @@ module _ (homes : Key → Home) (d : Table) (grips : List Grip) (sound : IsSound
   swung_leaves g x n None = unchanged
   swung_leaves g x n (Some t) = dropped_leaves x n (t ∷ [])
 
+  -- a header that is set, and wasn't dead
+  set_alive : (t : ℕ) (h : Holder) → (header_of d t ≡ Dead → ⊥) → (s : ℕ) → header_of d s ≡ Dead → header_in ((t, h) ∷ d.headers) s ≡ Dead
+  set_alive t h alive s dead = header-other d.headers t h s (λ e. alive (ap (header_of d) e ∙ dead)) ∙ dead
+
+  held_alive : (p t : ℕ) → holder_is p (header_of d t) ≡ true → header_of d t ≡ Dead → ⊥
+  held_alive p t held dead = true≢false (sym held ∙ ap (holder_is p) dead)
+
   -- a leaf that gets one more key
-  grown_leaves : (t : ℕ) (k : Key) (keys : List Key) → page_of d t ≡ Leaf keys → Leaves grips d (grown d t k)
-  grown_leaves t k keys page = by_pages (grown d t k)
+  grown_leaves : (t : ℕ) (k : Key) (keys : List Key) → page_of d t ≡ Leaf keys → (header_of d t ≡ Dead → ⊥) → Leaves grips d (grown d t k)
+  grown_leaves t k keys page alive = by_pages (grown d t k)
       (λ s held known. record {
         page = elim (number_or_other t s) [
-          | inl e ↦ subst (λ (u : ℕ). (page_of (grown d t k) u ≡ page_of d u) ⊎ IsGrown (page_of d u) (page_of (grown d t k) u)) e.0
-              (inr (keys, page, inr (k, grown-page d t k keys page)))
+          | inl e ↦ subst (λ (u : ℕ). (page_of (grown d t k) u ≡ page_of d u) ⊎ (IsGrown (page_of d u) (page_of (grown d t k) u) × (header_of d u ≡ Dead → ⊥))) e.0
+              (inr ((keys, page, inr (k, grown-page d t k keys page)), alive))
           | inr o ↦ inl (grown-other d t k s o.0)
         ];
+        dead = set_alive t Free alive s;
         spans = λ j _. refl;
         known = known;
         led = λ x is. (is, refl);
@@ -156,11 +168,12 @@ module _ (homes : Key → Home) (d : Table) (grips : List Grip) (sound : IsSound
     same_slot s known =
         slot-other_twin homes d grips x span w keys can sound s (not_fresh w.minor can.a_led s known) (not_fresh w.major can.b_led s known)
 
-    twinned_page : (s : ℕ) → (page_of new s ≡ page_of d s) ⊎ IsGrown (page_of d s) (page_of new s)
-    twinned_page s =
+    twinned_page : (header_of d w.slot ≡ Dead → ⊥) → (s : ℕ)
+        → (page_of new s ≡ page_of d s) ⊎ (IsGrown (page_of d s) (page_of new s) × (header_of d s ≡ Dead → ⊥))
+    twinned_page alive s =
         elim (number_or_other w.slot s) [
-          | inl e ↦ subst (λ (u : ℕ). (page_of new u ≡ page_of d u) ⊎ IsGrown (page_of d u) (page_of new u)) e.0
-              (inr (keys, can.page, inl (is_page homes d grips x span w keys can sound)))
+          | inl e ↦ subst (λ (u : ℕ). (page_of new u ≡ page_of d u) ⊎ (IsGrown (page_of d u) (page_of new u) × (header_of d u ≡ Dead → ⊥))) e.0
+              (inr ((keys, can.page, inl (is_page homes d grips x span w keys can sound)), alive))
           | inr o ↦ inl (page-other_twin homes d grips x span w keys can sound s o.0)
         ]
 
@@ -170,10 +183,11 @@ module _ (homes : Key → Home) (d : Table) (grips : List Grip) (sound : IsSound
         ap (λ (q : Pointer). q.span) (at-other homes d grips x span w keys can sound s j (λ e. true≢false (sym there
         ∙ ap (λ (u : ℕ). has_pointer (page_of d u) j) (sym e) ∙ ap (λ (q : Page). has_pointer q j) can.page)))
 
-    twinned_leaves : Leaves grips d new
-    twinned_leaves = by_pages new
+    twinned_leaves : (header_of d w.slot ≡ Dead → ⊥) → Leaves grips d new
+    twinned_leaves alive = by_pages new
         (λ s held known. record {
-          page = twinned_page s;
+          page = twinned_page alive s;
+          dead = set_alive w.slot Free alive s;
           spans = twinned_span s;
           known = never_now homes d grips x span w keys can sound s known;
           led = λ y is.
@@ -188,7 +202,10 @@ module _ (homes : Key → Home) (d : Table) (grips : List Grip) (sound : IsSound
     leaves (Leave t) can = same_led t (record (slot_of d t) { passes = (slot_of d t).passes - 1 }) refl
     leaves (Give t) can =
         let given : Slot = record (slot_of d t) { state = Owned; times = (slot_of d t).times + 1; led = Never } in
-        any_headers (with_slot d t given) ((t, Dead) ∷ d.headers) (with_slot_leaves t given
+        any_headers (with_slot d t given) ((t, Dead) ∷ d.headers) (λ s known dead. elim (number_or_other t s) [
+          | inl e ↦ subst (λ (u : ℕ). header_in ((t, Dead) ∷ d.headers) u ≡ Dead) e.0 (header-same d.headers t Dead)
+          | inr o ↦ header-other d.headers t Dead s o.0 ∙ dead
+        ]) (with_slot_leaves t given
         (λ s e held known. absurd (true≢false (sym (and_parts (ltb t d.room) (is_usable (slot_of d t)) can).1 ∙ ap (λ (u : ℕ). is_usable (slot_of d u)) e
         ∙ held_not_given d grips held.0 s held.1 sound.holds_counted held.2 held.3))))
     leaves (Publish t) can = same_led t (record (slot_of d t) { state = Published }) refl
@@ -197,13 +214,14 @@ module _ (homes : Key → Home) (d : Table) (grips : List Grip) (sound : IsSound
         let own = (and_parts (is_owned (slot_of d t).state) (has_slot g.made t) can).0 in
         by_pages (record d { pages = (t, page) ∷ d.pages })
         (λ s held known. same_pages (record d { pages = (t, page) ∷ d.pages }) s (page-other homes d grips sound t own page s (not_owned t own s known))
-        (λ x. refl) known (λ x is. is))
+        (λ dead. dead) (λ x. refl) known (λ x is. is))
         (λ r. refl) (λ n l. refl) (λ n k l. refl) (at_least d.published)
     leaves (FillPointer x q) can =
         let own = (and_parts (is_owned (slot_of d x.slot).state) (has_slot g.made x.slot) can).0 in
         by_pages (with_pointer d (In x) q)
         (λ s held known. record {
           page = inl refl;
+          dead = λ dead. dead;
           spans = λ j _. ap (λ (p : Pointer). p.span) (at-index homes d grips sound x.slot own x q refl s j (not_owned x.slot own s known));
           known = known;
           led = λ y is. (is, ap (λ (p : Pointer). p.span) (live_other homes d grips sound x.slot own x q refl y (from_live s y is)));
@@ -212,14 +230,14 @@ module _ (homes : Key → Home) (d : Table) (grips : List Grip) (sound : IsSound
     leaves (FillSnapshot n page) can =
         let over = above d.published n (and_parts (eqb p 0) (ltb d.published n) can).1 in
         by_pages (record d { snaps = (n, page) ∷ d.snaps })
-        (λ s held known. same_pages (record d { snaps = (n, page) ∷ d.snaps }) s refl (λ x. refl) known (λ x is. is))
+        (λ s held known. same_pages (record d { snaps = (n, page) ∷ d.snaps }) s refl (λ dead. dead) (λ x. refl) known (λ x is. is))
         (λ r. refl) (λ m l. snap-other homes d grips sound n page over m l) (λ m k l. snap-stable homes d grips sound n page over m k l) (at_least d.published)
       where
         above : (a b : ℕ) → ltb a b ≡ true → a < b
         above a b e = grind (arith, nat_tests)
     leaves (Extend n) can =
         by_pages (record d { published = n })
-        (λ s held known. same_pages (record d { published = n }) s refl (λ x. refl) known (λ x is. is))
+        (λ s held known. same_pages (record d { published = n }) s refl (λ dead. dead) (λ x. refl) known (λ x is. is))
         (λ r. refl) (λ m l. refl) (λ m k l. refl)
         (let right : Bool = all_below n (λ l. leads_down (l + 1) (snap_of d (l + 1))) && all_below n (λ l. is_right (snap_of d) (snap_of d (l + 1))) in
         at_most d.published n (and_parts (leb d.published n) right (and_parts (eqb p 0) (leb d.published n && right) can).1).0)
@@ -231,19 +249,26 @@ module _ (homes : Key → Home) (d : Table) (grips : List Grip) (sound : IsSound
         by_pages (installed d x t)
         (λ s held known.
         let is = ap (λ (y : Slot). y.led) (slot-other d x t (From x) (Some t) (pointer_of d x).page s (not_fresh t fresh s known)) in
-        same_pages (installed d x t) s refl (span-same d x t (From x) (Some t) (pointer_of d x).page) (ap is_never is ∙ known) (λ y from. sym is ∙ from))
+        same_pages (installed d x t) s refl (λ dead. dead) (span-same d x t (From x) (Some t) (pointer_of d x).page) (ap is_never is ∙ known) (λ y from. sym is ∙ from))
         (λ r. span-same d x t (From x) (Some t) (pointer_of d x).page (Root r)) (λ n l. refl) (λ n k l. refl) (at_least d.published)
     leaves (Swing x n) can = swung_leaves g x n (pointer_of d x).slot
     leaves (Renew x n) can = same_span_leaves x (record (pointer_of d x) { page = n }) refl
     leaves (Shut x) can = same_span_leaves x (record (pointer_of d x) { holder = Held p }) refl
     leaves (Reopen x) can = same_span_leaves x (record (pointer_of d x) { holder = Free }) refl
-    leaves (FillHeader t) can = any_headers d ((t, Free) ∷ d.headers) unchanged
-    leaves (LockHeader t) can = any_headers d ((t, Held p) ∷ d.headers) unchanged
-    leaves (OpenHeader t None) can = any_headers d ((t, Free) ∷ d.headers) unchanged
+    leaves (FillHeader t) can =
+        let own = (and_parts (is_owned (slot_of d t).state) (has_slot g.made t) can).0 in
+        any_headers d ((t, Free) ∷ d.headers) (λ s known dead. header-other d.headers t Free s (not_owned t own s known) ∙ dead) unchanged
+    leaves (LockHeader t) can =
+        let free = (and_parts (is_free (header_of d t)) (eqb p 0 || not (is_split (page_of d t)))
+        (and_parts (is_led (slot_of d t).led) (is_free (header_of d t) && (eqb p 0 || not (is_split (page_of d t)))) can).1).0 in
+        any_headers d ((t, Held p) ∷ d.headers) (λ s known. set_alive t (Held p) (λ dead. true≢false (sym free ∙ ap is_free dead)) s) unchanged
+    leaves (OpenHeader t None) can = any_headers d ((t, Free) ∷ d.headers) (λ s known. set_alive t Free (held_alive p t can) s) unchanged
     leaves (OpenHeader t (Some k)) can =
         let grow = grows homes d grips sound t k (adds_key p d t k can) in grown_leaves t k grow.2 grow.3.page
+        (held_alive p t (opens_held p d t k can))
     leaves (Twin w) can =
         let two = splits homes d grips sound p g w can in twinned_leaves two.0 (slot_span d w.slot) w (leaf_keys (page_of d w.slot)) two.2
+        (held_alive p w.slot (splits_held p d g w can))
     leaves (SwingChain x n c) can = dropped_leaves x n c.slots
 
 pub act_leaves : (homes : Key → Home) (d : Table) (grips : List Grip) (p : ℕ) (g : Grip) (act : Act) → slice_get grips p ≡ Some g → is_allowed p d g act ≡ true → IsSoundTable homes d grips

@@ -63,13 +63,21 @@ is_published Owned = false
 is_published Published = true
 is_published Retired = false
 
+-- the slot was published, and may have been retired since
+abbrev pub is_given : SlotState → Bool
+is_given Unused = false
+is_given Owned = false
+is_given Published = true
+is_given Retired = true
+
 -- a slot may be given so many times
 abbrev pub most_times : ℕ
 most_times = 70368744177663
 
--- A slot is held by fewer seats than this. `enters` says that this is no limit where there are no more seats.
+-- A slot is held by so many seats at most, as its word counts them in 16 bits. `enters` says that this is no limit where
+-- there are no more seats.
 abbrev pub most_passes : ℕ
-most_passes = 4294967296
+most_passes = 65535
 
 -- The slot may be given: it is unused or retired, no seat holds it, and it was not given too often.
 abbrev pub is_usable : Slot → Bool

@@ -1,10 +1,11 @@
 -- What holds under every list of events.
-use Rattle.std.specs.Prelude.{◌≡◌, ◌↔◌, ◌⊎◌, ℕ, ◌+◌, ◌≤◌, true, false, List, [], ◌∷◌, ◌++◌, length, Some, slice_get, slice_set}
+use Rattle.std.specs.Prelude.{◌≡◌, ◌↔◌, ◌⊎◌, ℕ, ◌+◌, ◌<◌, ◌≤◌, true, false, List, [], ◌∷◌, ◌++◌, length, Some, slice_get, slice_set}
 use Rattle.serial_model.specs.declared.key.Key.{Key}
 use Rattle.homes.specs.declared.places.At.{At}
+use Rattle.homes.specs.declared.places.Holder.TheVariants.{Held, Dead}
 use Rattle.homes.specs.declared.places.Span.{Span}
 use Rattle.homes.specs.declared.places.Home.{Home}
-use Rattle.homes.specs.declared.places.Home.TheVariants.{Nowhere}
+use Rattle.homes.specs.declared.places.Home.TheVariants.{InSlot, Nowhere}
 use Rattle.homes.specs.Homes.{has_key, in_span, moved}
 use Rattle.drop_core.specs.declared.table.Led.TheVariants.{From, Away}
 use Rattle.drop_core.specs.declared.table.Page.{Page}
@@ -13,12 +14,13 @@ use Rattle.drop_core.specs.declared.table.SnapPage.{SnapPage}
 use Rattle.drop_core.specs.declared.table.Table.{Table}
 use Rattle.drop_core.specs.declared.grip.Grip.{Grip}
 use Rattle.drop_core.specs.declared.event.Chain.{Chain}
+use Rattle.drop_core.specs.declared.event.Twins.{Twins}
 use Rattle.drop_core.specs.declared.event.Act.{Act}
-use Rattle.drop_core.specs.declared.event.Act.TheVariants.{Install, Swing, SwingChain}
+use Rattle.drop_core.specs.declared.event.Act.TheVariants.{Install, Swing, SwingChain, Twin}
 use Rattle.drop_core.specs.declared.event.Event.{Event}
 use Rattle.homes.specs.declared.places.At.TheVariants.{Root}
-use Rattle.drop_core.specs.Table.{slot_of, page_of, pointer_of, has_slot, at_index, snap_of, snap_home, leaf_home, has_pointer, is_never, is_live}
-use Rattle.drop_core.specs.Event.{DropState, leaves_none_out, same_below, is_usable, is_allowed, effect, moves, leaf_keys, keys_in, run, run_homes, most_passes}
+use Rattle.drop_core.specs.Table.{slot_of, page_of, pointer_of, header_of, has_slot, at_index, snap_of, snap_home, leaf_home, has_pointer, is_never, is_live}
+use Rattle.drop_core.specs.Event.{DropState, leaves_none_out, same_below, is_usable, is_allowed, effect, moves, leaf_keys, keys_in, run, run_homes, most_passes, most_records}
 use Rattle.drop_core.specs.Sound.{span_at, IsSoundTable, IsSoundPages, IsSound}
 use Rattle.drop_core.specs.Opening.{CanOpen, opening_state, opening_homes}
 use Rattle.drop_core.specs.Way.{way}
@@ -82,11 +84,13 @@ abbrev pub IsGrown : Page → Page → Type 0
 IsGrown old new =
     (keys : List Key) × (old ≡ Leaf keys) × ((new ≡ Split) ⊎ ((k : Key) × (new ≡ Leaf (keys ++ k ∷ []))))
 
--- What an act leaves as it was of a slot's page: its layout, unless it is a leaf that grows or is split, and the keys
--- that its pointers are over; and that something has led to the slot since it was given: what leads to it now did so,
--- over the same keys.
+-- What an act leaves as it was of a slot's page: its layout, unless it is a leaf that grows or is split, under a header
+-- that isn't dead, and a dead header; the keys that its pointers are over; and that something has led to the slot since
+-- it was given: what leads to it now did so, over the same keys.
 pub record LeavesPage (old new : Table) (s : ℕ) : Type 0 where
-  pub page : (page_of new s ≡ page_of old s) ⊎ IsGrown (page_of old s) (page_of new s)
+  pub page : (page_of new s ≡ page_of old s)
+      ⊎ (IsGrown (page_of old s) (page_of new s) × (header_of old s ≡ Dead → ⊥))
+  pub dead : header_of old s ≡ Dead → header_of new s ≡ Dead
   pub spans : (j : ℕ) → has_pointer (page_of old s) j ≡ true
       → span_at new (at_index s j) ≡ span_at old (at_index s j)
   pub known : is_never (slot_of new s).led ≡ false
@@ -109,6 +113,20 @@ EachActLeaves = (homes : Key → Home) (d : Table) (grips : List Grip) (p : ℕ)
     → slice_get grips p ≡ Some g → is_allowed p d g act ≡ true → IsSoundTable homes d grips
     → Leaves grips d (effect p d g act).table
 
+-- A header that another seat holds stays so through an act of seat p, with its page, as does a live pointer that another
+-- seat shut: so the seat may open it by a store, without a look at it. A swing asks for the header because of that.
+pub record LeavesHeld (p : ℕ) (old new : Table) : Type 0 where
+  pub headers : (q s : ℕ) → (q ≡ p → ⊥) → header_of old s ≡ Held q
+      → (header_of new s ≡ Held q) × (page_of new s ≡ page_of old s)
+  pub pointers : (q : ℕ) (x : At) → (q ≡ p → ⊥) → is_live old x ≡ true → (pointer_of old x).holder ≡ Held q
+      → pointer_of new x ≡ pointer_of old x
+
+-- each act leaves alone what another seat holds
+abbrev pub EachActLeavesHeld : Type 0
+EachActLeavesHeld = (homes : Key → Home) (d : Table) (grips : List Grip) (p : ℕ) (g : Grip) (act : Act)
+    → slice_get grips p ≡ Some g → is_allowed p d g act ≡ true → IsSoundPages homes d grips
+    → LeavesHeld p d (effect p d g act).table
+
 -- The slot was so before the act, with the same page; or the act is the swing that took away what led to it.
 abbrev pub WasAway : Table → Act → ℕ → Type 0
 WasAway old act s =
@@ -121,6 +139,20 @@ abbrev pub SwingsTakeAway : Type 0
 SwingsTakeAway = (homes : Key → Home) (d : Table) (grips : List Grip) (p : ℕ) (g : Grip) (act : Act) (s : ℕ)
     → is_allowed p d g act ≡ true → IsSoundTable homes d grips → (slot_of (effect p d g act).table s).led ≡ Away
     → (page_of (effect p d g act).table s ≡ page_of d s) × WasAway d act s
+
+-- the page is one that was split, in a slot that something has led to since it was given
+abbrev pub IsSplitAt : Table → ℕ → Type 0
+IsSplitAt d s = (page_of d s ≡ Split) × (is_never (slot_of d s).led ≡ false)
+
+-- A page that was split was so before the act, or the act is the split that its leaf came to; which moves the key of each
+-- place that the leaf's records had.
+pub record SplitsComeOfTwins : Type 0 where
+  pub comes : (homes : Key → Home) (d : Table) (grips : List Grip) (p : ℕ) (g : Grip) (act : Act) (s : ℕ)
+      → is_allowed p d g act ≡ true → IsSoundTable homes d grips → IsSplitAt (effect p d g act).table s
+      → IsSplitAt d s ⊎ ((w : Twins) × (act ≡ Twin w) × (w.slot ≡ s))
+  pub moves : (homes : Key → Home) (d : Table) (grips : List Grip) (p : ℕ) (g : Grip) (w : Twins) (i : ℕ)
+      → is_allowed p d g (Twin w) ≡ true → IsSoundTable homes d grips → i < most_records
+      → (k : Key) × (has_key w.keys k ≡ true) × (homes k ≡ InSlot (record { slot = w.slot; index = i }))
 
 -- The tests of an install and a swing are true exactly where what they stand for holds of all keys: that page n has no other
 -- key of the span, and that two pages give the span's keys the same homes.

@@ -1,7 +1,7 @@
 -- The sound state. `homes` is where the keys' records stand, which the machine of commits keeps.
-use Rattle.std.specs.Prelude.{◌≡◌, ◌⊎◌, ℕ, ◌<◌, ◌≤◌, true, false, List, Option, Some, None, Result, Ok, Err, ⊤}
+use Rattle.std.specs.Prelude.{◌≡◌, ◌⊎◌, ℕ, ◌<◌, ◌≤◌, ◌&&◌, ◌||◌, Bool, true, false, cond, length, List, Option, Some, None, Result, Ok, Err, ⊤}
 use Rattle.serial_model.specs.declared.key.Key.{Key}
-use Rattle.homes.specs.declared.places.Holder.TheVariants.{Dead}
+use Rattle.homes.specs.declared.places.Holder.TheVariants.{Held, Dead}
 use Rattle.homes.specs.declared.places.Spot.{Spot}
 use Rattle.homes.specs.declared.places.At.{At}
 use Rattle.homes.specs.declared.places.Span.{Span}
@@ -16,14 +16,15 @@ use Rattle.drop_core.specs.declared.table.Led.{Led}
 use Rattle.drop_core.specs.declared.table.Led.TheVariants.{Never, From, Away}
 use Rattle.drop_core.specs.declared.table.SlotState.{SlotState}
 use Rattle.drop_core.specs.declared.table.SlotState.TheVariants.{Published}
+use Rattle.drop_core.specs.declared.table.Slot.{Slot}
 use Rattle.drop_core.specs.declared.table.Page.{Page}
 use Rattle.drop_core.specs.declared.table.Page.TheVariants.{Blank, Leaf, Inner, Split}
 use Rattle.drop_core.specs.declared.table.SnapPage.{SnapPage}
 use Rattle.drop_core.specs.declared.table.SnapPage.TheVariants.{Missing, Entries, Children}
 use Rattle.drop_core.specs.declared.table.Table.{Table}
 use Rattle.drop_core.specs.declared.grip.Grip.{Grip}
-use Rattle.drop_core.specs.Table.{slot_of, page_of, pointer_of, header_of, snap_of, at_index, child_of, snap_home, leaf_home, has_pointer, is_led, is_live, is_last, holders}
-use Rattle.drop_core.specs.Event.{DropState, each_once, is_owned, leads_down, is_right}
+use Rattle.drop_core.specs.Table.{slot_of, page_of, pointer_of, header_of, snap_of, at_index, child_of, snap_home, leaf_home, has_pointer, is_led, is_never, is_away, is_live, is_last, holders, makers, takers, fresh_slot}
+use Rattle.drop_core.specs.Event.{DropState, each_once, is_owned, is_published, is_given, leads_down, is_right}
 
 -- ---- one home each: from the roots the pointers lead to each key's home
 
@@ -97,11 +98,11 @@ pub record OneHomeEach (homes : Key → Home) (d : Table) : Type 0 where
 
 -- ---- holds counted
 
--- what a slot's state says of what leads to it
+-- what a slot's state says of what leads to it: a slot that was taken away is published still, or retired
 abbrev pub IsLedSo : Table → ℕ → SlotState → Led → Type 0
 IsLedSo d s state Never = ⊤
 IsLedSo d s state (From x) = (state ≡ Published) × (is_live d x ≡ true) × ((pointer_of d x).slot ≡ Some s)
-IsLedSo d s state Away = is_owned state ≡ false
+IsLedSo d s state Away = is_given state ≡ true
 
 -- each slot is led to from one place alone
 abbrev pub LeadsBack : Table → Type 0
@@ -160,6 +161,32 @@ pub record PublishedAreRight (snaps : ℕ → SnapPage) (published : ℕ) : Type
 abbrev pub HeadersStayDead : Table → Type 0
 HeadersStayDead d = (s : ℕ) → (slot_of d s).led ≡ Away → header_of d s ≡ Dead
 
+-- Own part: who holds a header is a seat, and something leads to that page; who shut a live pointer is a seat; and the
+-- pointers of a page that was split are dead.
+pub record HeldBySeats (d : Table) (seats : ℕ) : Type 0 where
+  pub headers : (s q : ℕ) → header_of d s ≡ Held q → (q < seats) × (is_led (slot_of d s).led ≡ true)
+  pub pointers : (x : At) (q : ℕ) → is_live d x ≡ true → (pointer_of d x).holder ≡ Held q → q < seats
+  pub splits : (s j : ℕ) → is_led (slot_of d s).led ≡ true → page_of d s ≡ Split → has_pointer Split j ≡ true
+      → (pointer_of d (at_index s j)).holder ≡ Dead
+
+-- Own part: a slot from the room on was never given, so nothing leads to it and no seat holds it.
+abbrev pub SlotsWithin : Table → Type 0
+SlotsWithin d = (s : ℕ) → d.room ≤ s → slot_of d s ≡ fresh_slot
+
+-- the slot is in the hands of the seat that made it: it is owned, or was published and nothing has led to it
+abbrev pub is_in_making : Slot → Bool
+is_in_making x = is_owned x.state || (is_published x.state && is_never x.led)
+
+-- what led to the slot was taken away, and it wasn't retired yet
+abbrev pub is_left : Slot → Bool
+is_left x = is_published x.state && is_away x.led
+
+-- Own part: a slot that is in the making was made by one seat, one that is left was taken by one, and no other slot is
+-- noted by any.
+pub record NotedByOne (d : Table) (grips : List Grip) : Type 0 where
+  pub made : (s : ℕ) → makers s grips ≡ cond (is_in_making (slot_of d s)) 1 0
+  pub taken : (s : ℕ) → takers s grips ≡ cond (is_left (slot_of d s)) 1 0
+
 -- the pages are sound, with these homes of the keys
 pub record IsSoundPages (homes : Key → Home) (d : Table) (grips : List Grip) : Type 0 where
   pub table : IsSoundTable homes d grips
@@ -167,6 +194,9 @@ pub record IsSoundPages (homes : Key → Home) (d : Table) (grips : List Grip) :
   pub rooted : HomesAreRooted homes (span_at d)
   pub published : PublishedAreRight (snap_of d) d.published
   pub headers : HeadersStayDead d
+  pub held : HeldBySeats d (length grips)
+  pub within : SlotsWithin d
+  pub noted : NotedByOne d grips
 
 -- the whole state is
 abbrev pub IsSound : (Key → Home) → DropState → Type 0

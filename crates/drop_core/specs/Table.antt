@@ -123,6 +123,12 @@ is_never Never = true
 is_never (From x) = false
 is_never Away = false
 
+-- what led to the slot was taken away
+abbrev pub is_away : Led → Bool
+is_away Never = false
+is_away (From x) = false
+is_away Away = true
+
 -- the page has a pointer with this index
 abbrev pub has_pointer : Page → ℕ → Bool
 has_pointer Blank j = false
@@ -167,3 +173,19 @@ counts_hold s g = cond (has_slot g.holds s) 1 0
 -- how many of the seats hold the slot
 abbrev pub holders : ℕ → List Grip → ℕ
 holders s grips = sum_by (counts_hold s) grips
+
+-- a seat counts once where it made the slot
+abbrev pub counts_made : ℕ → Grip → ℕ
+counts_made s g = cond (has_slot g.made s) 1 0
+
+-- how many of the seats made the slot, and have neither led to it nor retired it
+abbrev pub makers : ℕ → List Grip → ℕ
+makers s grips = sum_by (counts_made s) grips
+
+-- a seat counts once where it took away what led to the slot
+abbrev pub counts_taken : ℕ → Grip → ℕ
+counts_taken s g = cond (has_slot g.taken s) 1 0
+
+-- how many of the seats took away what led to the slot, and haven't retired it
+abbrev pub takers : ℕ → List Grip → ℕ
+takers s grips = sum_by (counts_taken s) grips

@@ -13,8 +13,8 @@ use std::mem;
 /// What an act answers: the moves of keys that it is.
 pub type Answer = Result<Sequence<Move>, OrMemory<Refused>>;
 
-/// A slot is held by fewer seats than this.
-pub const MOST_PASSES: u64 = 4_294_967_296;
+/// A slot is held by so many seats at most: its word has 16 bits for them.
+pub const MOST_PASSES: u64 = 65_535;
 
 /// The moves of an act that moves no key.
 pub fn no_moves(table: &Table) -> Sequence<Move>

@@ -1,5 +1,5 @@
 // What holds under every list of events.
-ghost use Rattle.drop_core.specs.Law.{EachActKeeps, EachActLeaves, StartsSound, StaysSound, HeldIsNotGiven, Enters, WaysLeadHome, InstallsMoveUp, SwingsMoveDown, ChainsMoveDown, SwingsTakeAway, TestsDecide};
+ghost use Rattle.drop_core.specs.Law.{EachActKeeps, EachActLeaves, EachActLeavesHeld, StartsSound, StaysSound, HeldIsNotGiven, Enters, WaysLeadHome, InstallsMoveUp, SwingsMoveDown, ChainsMoveDown, SplitsComeOfTwins, SwingsTakeAway, TestsDecide};
 
 /// The theorem, about the very condition and effect that `DropCore::step` follows. Each act keeps the pages sound,
 /// with the homes after its moves, and leaves alone the pages that any seat holds; the start is sound; so every
@@ -10,6 +10,7 @@ ghost use Rattle.drop_core.specs.Law.{EachActKeeps, EachActLeaves, StartsSound, 
 pub fn pages_stay_sound()
     ensures each_act { EachActKeeps }
     ensures each_act_leaves { EachActLeaves }
+    ensures each_act_leaves_held { EachActLeavesHeld }
     ensures starts { StartsSound }
     ensures stays { StaysSound }
     ensures held { HeldIsNotGiven }
@@ -19,5 +20,6 @@ pub fn pages_stay_sound()
     ensures swing { SwingsMoveDown }
     ensures chains { ChainsMoveDown }
     ensures away { SwingsTakeAway }
+    ensures splits { SplitsComeOfTwins }
     ensures tests { TestsDecide }
 {}

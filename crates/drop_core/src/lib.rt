@@ -9,8 +9,12 @@
 //! Who keeps pages beside another machine makes the acts that move keys in two steps: what that comes to, which changes
 //! nothing (`prepare_install`, `prepare_swing`, `prepare_swing_chain`, `prepare_key`, `prepare_split`), and to put it, which
 //! takes no memory (`put`).
-//! Invariants: the sound state (`IsSound`): `one_home_each`, `holds_counted`, `snapshots_fixed`. It speaks of the
-//! homes of keys, which the machine of commits keeps; what stands there and who has it locked is not known here.
+//! What a seat holds of headers and pointers stays through each act of another (`each_act_leaves_held`), so that it may
+//! open them without a look.
+//! Invariants: the sound state (`IsSound`): `one_home_each`, `holds_counted`, `snapshots_fixed`; who holds headers and
+//! pointers is a seat (`held`), slots below the room alone are given (`within`), and each slot that was made or taken away
+//! is noted by one seat (`noted`). It speaks of the homes of keys, which the machine of commits keeps; what stands there
+//! and who has it locked is not known here.
 //! Terms: *slot*, a place for a page in memory; *live*, led to from a root; *grip*, what one seat has of the pages;
 //! a *snapshot page* never changes, once it is published; a *header* says how many records a tree's leaf has; a leaf that
 //! was *split* leads to its two *halves*; a *chain* is such a leaf with all that came of it.

@@ -37,7 +37,7 @@ use Rattle.drop_core.specs.Event.{leaf_keys, most_records, led_span, slot_span, 
 use Rattle.drop_core.specs.Sound.{span_at, IsSoundTable}
 use Rattle.drop_core.specs.HomeLaws.{leaf-in}
 use Rattle.engine_rule.specs.Event.{next_spot}
-use Rattle.engine_rule.specs.Sound.{HasRecords, FitsWord, IsSoundKept, LeavesStayDead}
+use Rattle.engine_rule.specs.Sound.{HasRecords, FitsWord, IsSoundKept, LeavesStayDead, SplitsStayDead}
 
 -- ---- lists and homes
 
@@ -170,6 +170,13 @@ module _ (m : Story) (d : Table) (grips : List Grip) (sound : IsSoundTable (home
 
   led_not : From it.x ≡ Away → ⊥
   led_not e = cc
+
+  pub added_splits : (c : Content) → SplitsStayDead (place_of m.places) d → SplitsStayDead (place_of (filled x0 c m).places) d
+  added_splits c splits s i split less =
+      let y : Spot = record { slot = s; index = i } in
+      ap (λ (q : Place). q.holder)
+      (place_other c y (λ is. leaf_not_split (sym it.page ∙ ap (λ (z : Spot). page_of d z.slot) is ∙ split.0)))
+      ∙ splits s i split less
 
   pub added_leaves : (c : Content) → LeavesStayDead (place_of m.places) d → LeavesStayDead (place_of (filled x0 c m).places) d
   added_leaves c leaves s keys gone page q y home =

@@ -28,13 +28,14 @@ use Rattle.commit_core.specs.Sound.Reads.{FitsWord as FitsRecord}
 use Rattle.drop_core.specs.declared.table.Led.{Led}
 use Rattle.drop_core.specs.declared.table.Led.TheVariants.{Never, From, Away}
 use Rattle.drop_core.specs.declared.table.SlotState.{SlotState}
+use Rattle.drop_core.specs.declared.table.SlotState.TheVariants.{Unused, Owned, Published, Retired}
 use Rattle.drop_core.specs.declared.table.Table.{Table}
 use Rattle.drop_core.specs.declared.grip.Grip.{Grip}
 use Rattle.drop_core.specs.Table.{slot_of, is_led, is_never}
-use Rattle.drop_core.specs.Event.{is_owned}
+use Rattle.drop_core.specs.Event.{is_owned, is_given}
 use Rattle.drop_core.specs.Sound.{IsLedSo, IsSoundTable}
 use Rattle.drop_core.specs.HomeLaws.{leaf-in}
-use Rattle.engine_rule.specs.Sound.{IsHeld, KeptIsHeld, LeavesStayDead}
+use Rattle.engine_rule.specs.Sound.{IsHeld, KeptIsHeld, LeavesStayDead, SplitsStayDead}
 
 module _ (m : Story) (d : Table) (grips : List Grip) (sound : IsSoundTable (home_of m.homes) d grips) (x : Spot) (c : Content)
     (owned : is_owned (slot_of d x.slot).state ≡ true) where
@@ -42,7 +43,13 @@ module _ (m : Story) (d : Table) (grips : List Grip) (sound : IsSoundTable (home
   owned_never : (state : SlotState) (led : Led) → is_owned state ≡ true → IsLedSo d x.slot state led → is_never led ≡ true
   owned_never state Never own so = refl
   owned_never state (From y) own so = absurd (true≢false (sym own ∙ ap is_owned so.0))
-  owned_never state Away own so = absurd (true≢false (sym own ∙ so))
+  owned_never state Away own so = absurd (true≢false (sym so ∙ not_given state own))
+    where
+      not_given : (state : SlotState) → is_owned state ≡ true → is_given state ≡ false
+      not_given Unused own = refl
+      not_given Owned own = refl
+      not_given Published own = absurd (true≢false (sym own))
+      not_given Retired own = absurd (true≢false (sym own))
 
   fresh : is_never (slot_of d x.slot).led ≡ true
   fresh = owned_never (slot_of d x.slot).state (slot_of d x.slot).led owned (sound.holds_counted.led x.slot)
@@ -123,6 +130,11 @@ module _ (m : Story) (d : Table) (grips : List Grip) (sound : IsSoundTable (home
   filled_leaves leaves t keys gone page k y home =
       let at = (leaf-in t 0 keys k y home).slot in
       ap (λ (q : Place). q.holder) (place_other y (other_slot y (ap (λ (u : ℕ). is_never (slot_of d u).led) at ∙ ap is_never gone))) ∙ leaves t keys gone page k y home
+
+  pub filled_splits : SplitsStayDead (place_of m.places) d → SplitsStayDead (place_of (filled x c m).places) d
+  filled_splits splits t i split less =
+      let y : Spot = record { slot = t; index = i } in
+      ap (λ (q : Place). q.holder) (place_other y (other_slot y split.1)) ∙ splits t i split less
 
 -- the whole state of commits
 pub filled_sound : (c : CoreState) (d : Table) (grips : List Grip) → IsSoundTable (home_of c.story.homes) d grips → (x : Spot) (y : Content) → is_owned (slot_of d x.slot).state ≡ true

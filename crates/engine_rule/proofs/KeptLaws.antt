@@ -73,20 +73,23 @@ module _ (old new : Table) (grips : List Grip) (leaves : Leaves grips old new) (
   page_left : (s : ℕ) → Known s → LeavesPage old new s
   page_left s known = leaves.pages q s h at known.0 known.1
 
+  only_grown : (s : ℕ) → Known s → (page_of new s ≡ page_of old s) ⊎ IsGrown (page_of old s) (page_of new s)
+  only_grown s known = elim (page_left s known).page [ inl same ↦ inl same | inr grown ↦ inr grown.0 ]
+
   held_stays : (o : Option ℕ) → OnSlot o Known → OnSlot o (λ s. (has_slot h.holds s ≡ true) × (is_never (slot_of new s).led ≡ false))
   held_stays None held = tt
   held_stays (Some s) held = (held.0, (page_left s held).known)
 
   there_stays : (x : At) → IsHeld old h.holds (Pointer x) → IsPointerThere (page_of old) x → IsPointerThere (page_of new) x
   there_stays (Root r) held there = tt
-  there_stays (In z) held there = pointer_left (page_of old z.slot) (page_of new z.slot) z.index (page_left z.slot held).page there
+  there_stays (In z) held there = pointer_left (page_of old z.slot) (page_of new z.slot) z.index (only_grown z.slot held) there
 
   span_stays : (x : At) → IsHeld old h.holds (Pointer x) → IsPointerThere (page_of old) x → span_at new x ≡ span_at old x
   span_stays (Root r) held there = leaves.roots r
   span_stays (In z) held there = (page_left z.slot held).spans z.index there
 
   fits_stays : (part : Part) (w : Word) → IsHeld old h.holds w → FitsWord old part w → FitsWord new part w
-  fits_stays part (Record x) held fits = records_left (page_of old x.slot) (page_of new x.slot) (x.index + 1) (page_left x.slot held).page fits
+  fits_stays part (Record x) held fits = records_left (page_of old x.slot) (page_of new x.slot) (x.index + 1) (only_grown x.slot held) fits
   fits_stays part (Pointer x) held fits = record {
     page = fits.page;
     there = there_stays x held fits.there;
@@ -97,7 +100,7 @@ module _ (old new : Table) (grips : List Grip) (leaves : Leaves grips old new) (
   }
   fits_stays part (Header s) held fits = record {
     version = fits.version;
-    keys = keys_left (page_of old s) (page_of new s) part.less (page_left s held).page fits.keys;
+    keys = keys_left (page_of old s) (page_of new s) part.less (only_grown s held) fits.keys;
     within = λ x from k c.
         let was = (page_left s held).led x from in
         ap (λ (w : Span). in_span w k) was.1 ∙ fits.within x was.0 k c;

@@ -1,7 +1,7 @@
 -- What the theorems of the two machines say, of which the joint one is made.
 use Rattle.commit_core.specs.Fill.{FillKeeps}
 use Rattle.commit_core.specs.Law.{EachActKeeps as CommitsKeep, EachActLeaves as CommitsLeave, OpensSound, SoundIsSerial}
-use Rattle.drop_core.specs.Law.{EachActKeeps as PagesKeep, EachActLeaves as PagesLeave, StartsSound as PagesStart, HeldIsNotGiven, SwingsMoveDown, ChainsMoveDown, SwingsTakeAway}
+use Rattle.drop_core.specs.Law.{EachActKeeps as PagesKeep, EachActLeaves as PagesLeave, StartsSound as PagesStart, HeldIsNotGiven, SwingsMoveDown, ChainsMoveDown, SwingsTakeAway, SplitsComeOfTwins}
 
 pub record Laws : Type 0 where
   pub commits_keep : CommitsKeep
@@ -16,3 +16,4 @@ pub record Laws : Type 0 where
   pub down : SwingsMoveDown
   pub chains : ChainsMoveDown
   pub away : SwingsTakeAway
+  pub splits : SplitsComeOfTwins

@@ -1,6 +1,6 @@
 -- Both machines begin sound.
 use mathlib.Core.Path.{fun_ext}
-use Rattle.std.proofs.Common.{◌≡◌, ℕ, zero, suc, ◌<◌, ◌≤◌, inl, inr, List, [], length, refl, sym, ap, ◌∙◌, subst, arith, Some}
+use Rattle.std.proofs.Common.{true≢false, ◌≡◌, ℕ, zero, suc, ◌<◌, ◌≤◌, inl, inr, List, [], length, refl, sym, ap, ◌∙◌, subst, arith, Some}
 use Rattle.std.specs.List.{slice_get}
 use Rattle.std.specs.Prelude.{replicate}
 use Rattle.serial_model.specs.declared.key.Key.{Key}
@@ -101,6 +101,7 @@ module _ (snaps : List (ℕ × SnapPage)) (published : ℕ) (roots : List (Span 
     pages = subst (λ (f : Key → Home). PagesAreSound f (opening_state snaps published roots room seats)) (fun_ext (λ k. sym (homes_right k)))
         (pages snaps published roots room seats can.pages);
     leaves_stay_dead = λ s keys away. absurd (never_away away);
+    splits_stay_dead = λ s i split less. absurd (true≢false split.1);
     kept = λ p s g at holds. subst (λ (x : Seat). IsSoundKept (opening_table snaps published roots room) g.holds x.kept) (at_replicated seats p (fresh_seat first) s at)
         (record { kept_is_held = λ part n. absurd (in_none part n); kept_fits = λ part n. absurd (in_none part n) });
     same_seats = replicated_length seats (fresh_seat first) fresh_grip;

@@ -45,9 +45,9 @@ use Rattle.engine_rule.proofs.CommitSteps.{with_sound, unmoved_same}
 use Rattle.engine_rule.proofs.Frames.{is_rehome, homes_stay, IsNew, kept_cases}
 use Rattle.engine_rule.proofs.KeptLaws.{kept_stays, kept_fewer}
 use Rattle.engine_rule.proofs.HomesMoved.{after_homes}
-use Rattle.engine_rule.proofs.Turns.{holds_stay, leaves_turn}
-use Rattle.engine_rule.proofs.Fills.{filled_leaves, filled_sound}
-use Rattle.engine_rule.proofs.Adding.{index_below, takes, nobodys, none_kept, stands_still, added_leaves}
+use Rattle.engine_rule.proofs.Turns.{holds_stay, leaves_turn, splits_turn}
+use Rattle.engine_rule.proofs.Fills.{filled_leaves, filled_splits, filled_sound}
+use Rattle.engine_rule.proofs.Adding.{index_below, takes, nobodys, none_kept, stands_still, added_leaves, added_splits}
 
 pub spot_home : (h : Home) (x : Spot) → spot_of h ≡ Some x → h ≡ InSlot x
 spot_home (InSlot y) x e = let same : y ≡ x = cc in ap (λ (z : Spot). InSlot z) same
@@ -85,6 +85,9 @@ module _ (laws : Laws) (c : JointState) (p : ℕ) (s : Seat) (g : Grip) (at : sl
         leaves_stay_dead = λ t keys gone page k x home.
             let dead = sound.leaves_stay_dead t keys gone page k x home in
             ap (λ (q : Place). q.holder) ((laws.commits_leave c.commits.opening p m s act can sound.commits.story own).only.dead x dead) ∙ dead;
+        splits_stay_dead = λ t i split less.
+            let dead = sound.splits_stay_dead t i split less in
+            ap (λ (q : Place). q.holder) ((laws.commits_leave c.commits.opening p m s act can sound.commits.story own).only.dead (record { slot = t; index = i }) dead) ∙ dead;
         kept = λ q t h there grip. elim (number_or_other p q) [
           | inl e ↦ own_kept n t h (ap (λ (i : ℕ). slice_get (set c.commits.seats p n.seat) i) e.0 ∙ there) (ap (λ (i : ℕ). slice_get c.pages.grips i) e.0 ∙ grip)
           | inr o ↦ sound.kept q t h (sym (at_set_other c.commits.seats p q n.seat (λ e. o.0 (sym e))) ∙ there) grip
@@ -160,6 +163,8 @@ module _ (laws : Laws) (c : JointState) (p : ℕ) (s : Seat) (g : Grip) (at : sl
             (laws.pages_keep (home_of m.homes) d c.pages.grips p g act holds can sound.pages);
         leaves_stay_dead = leaves_turn laws.commits_leave laws.down laws.chains laws.away c.commits.opening p m s sound.commits.story own d c.pages.grips sound.pages.table g act can may
             sound.leaves_stay_dead;
+        splits_stay_dead = splits_turn laws.commits_leave laws.down laws.chains laws.away c.commits.opening p m s sound.commits.story own d c.pages.grips sound.pages.table g laws.splits act can may
+            sound.splits_stay_dead;
         kept = λ q t h there grip. elim (number_or_other p q) [
           | inl e ↦ own_kept t h (ap (λ (i : ℕ). slice_get (set c.commits.seats p (after_moves p m s (moves d act)).seat) i) e.0 ∙ there)
               (ap (λ (i : ℕ). slice_get (set c.pages.grips p (page_effect p d g act).grip) i) e.0 ∙ grip)
@@ -210,6 +215,7 @@ module _ (laws : Laws) (c : JointState) (p : ℕ) (s : Seat) (g : Grip) (at : sl
     commits = filled_sound c.commits d c.pages.grips sound.pages.table x y owned held sound.commits;
     pages = sound.pages;
     leaves_stay_dead = filled_leaves m d c.pages.grips sound.pages.table x y owned sound.leaves_stay_dead;
+    splits_stay_dead = filled_splits m d c.pages.grips sound.pages.table x y owned sound.splits_stay_dead;
     kept = sound.kept;
     same_seats = sound.same_seats;
   }
@@ -230,6 +236,7 @@ module _ (laws : Laws) (c : JointState) (p : ℕ) (s : Seat) (g : Grip) (at : sl
         };
         pages = sound.pages;
         leaves_stay_dead = added_leaves m d c.pages.grips sound.pages.table t k it nothing sound.leaves_stay_dead;
+        splits_stay_dead = added_splits m d c.pages.grips sound.pages.table t k it nothing sound.splits_stay_dead;
         kept = sound.kept;
         same_seats = sound.same_seats;
       }

@@ -1,5 +1,5 @@
 -- Acts on pages: what a seat holds of what it keeps, and the places of pages that are gone.
-use Rattle.std.proofs.Common.{◌≡◌, ℕ, Bool, true, false, not, true≢false, eqb, eqb-true, eq-eqb, inl, inr, List, [], ◌∷◌, refl, sym, ap, ◌∙◌, subst, Option, Some, None}
+use Rattle.std.proofs.Common.{◌≡◌, ℕ, ◌<◌, Bool, true, false, not, true≢false, eqb, eqb-true, eq-eqb, inl, inr, List, [], ◌∷◌, refl, sym, ap, ◌∙◌, subst, Option, Some, None}
 use Rattle.std.proofs.lemmas.Bool.{or_right, false_from_ne_true}
 use Rattle.std.specs.List.{Contains}
 use Rattle.serial_model.specs.declared.key.Key.{Key}
@@ -27,13 +27,13 @@ use Rattle.drop_core.specs.declared.event.Chain.{Chain}
 use Rattle.drop_core.specs.declared.event.Act.{Act}
 use Rattle.drop_core.specs.declared.event.Act.TheVariants.{Enter, Leave, Give, Publish, Retire, FillPage, FillPointer, FillSnapshot, Extend, Install, Swing, Renew, Shut, Reopen, FillHeader, LockHeader, OpenHeader, Twin, SwingChain}
 use Rattle.drop_core.specs.Table.{page_of, pointer_of, snap_home, leaf_home, has_slot}
-use Rattle.drop_core.specs.Event.{is_allowed, without, swung, effect, leaf_keys, keys_in, moves}
+use Rattle.drop_core.specs.Event.{most_records, slot_span, twin_home, is_allowed, without, swung, effect, leaf_keys, keys_in, moves}
 use Rattle.drop_core.specs.Sound.{IsSoundTable}
-use Rattle.drop_core.specs.Law.{SwingsMoveDown, ChainsMoveDown, SwingsTakeAway}
+use Rattle.drop_core.specs.Law.{SwingsMoveDown, ChainsMoveDown, SwingsTakeAway, SplitsComeOfTwins}
 use Rattle.drop_core.specs.HomeLaws.{leaf-in}
 use Rattle.engine_rule.specs.JointState.{slot_of_word, is_slot, keeps_word}
 use Rattle.engine_rule.specs.Event.{commit_lets, may_move, after_moves}
-use Rattle.engine_rule.specs.Sound.{LeavesStayDead}
+use Rattle.engine_rule.specs.Sound.{LeavesStayDead, SplitsStayDead}
 use Rattle.engine_rule.proofs.HomesMoved.{buried_dead, left_of}
 
 -- ---- a seat leaves no slot of which it keeps a word
@@ -124,3 +124,19 @@ module _ (commit_leaves : EachActLeaves) (down : SwingsMoveDown) (chains : Chain
               (chain_dead r.0 r.1 t r.2 keys (subst (λ (a : Act). is_allowed p d g a ≡ true) r.3 can) r.4 old k y home)
         ]
       ]
+
+  -- so it is with the places of a leaf that is split
+  module _ (twins : SplitsComeOfTwins) where
+    pub splits_turn : (act : Act) → is_allowed p d g act ≡ true → may_move p m s (moves d act) ≡ true → SplitsStayDead (place_of m.places) d
+        → SplitsStayDead (place_of (after_moves p m s (moves d act)).story.places) (effect p d g act).table
+    splits_turn act can may splits t i now less =
+        elim (twins.comes (home_of m.homes) d grips p g act t can sound now) [
+          | inl was ↦ dead_stays (moves d act) may (record { slot = t; index = i }) (splits t i was less)
+          | inr r ↦
+              let w = r.0 in
+              let moved = twins.moves (home_of m.homes) d grips p g w i (subst (λ (a : Act). is_allowed p d g a ≡ true) r.1 can) sound less in
+              subst (λ (a : Act). (place_of (after_moves p m s (moves d a)).story.places (record { slot = t; index = i })).holder ≡ Dead) (sym r.1)
+              (subst (λ (u : ℕ). (place_of (after_moves p m s (moves d (Twin w))).story.places (record { slot = u; index = i })).holder ≡ Dead) r.2
+              (left_dead (moves d (Twin w)) (record { slot = w.slot; index = i })
+              (left_of (twin_home d (slot_span d w.slot) w) w.keys m.homes moved.0 (record { slot = w.slot; index = i }) moved.1 moved.2)))
+        ]

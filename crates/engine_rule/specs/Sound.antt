@@ -1,8 +1,8 @@
 -- What holds of both machines after each event. Of the parts, `ordered_numbers`, `lock_owners`, `unlocked_homes`,
 -- `locked_homes`, `reads_stay_true`, `commits_are_checked` and `marks_are_past` are commit_core's; `one_home_each`,
 -- `holds_counted` and `snapshots_fixed` are drop_core's, with these homes of the keys. Here is what needs both: that the
--- places of a page that is gone are dead, that words which are kept are held, and that kept words vouch, which follows.
-use Rattle.std.specs.Prelude.{◌≡◌, ◌⊎◌, ℕ, ◌+◌, ◌≤◌, ◌==◌, ◌&&◌, Bool, true, false, not, List, ◌++◌, Option, Some, None, length, slice_get, Contains, ⊤}
+-- places of a page that is gone or was split are dead, that words which are kept are held, and that kept words vouch, which follows.
+use Rattle.std.specs.Prelude.{◌≡◌, ◌⊎◌, ℕ, ◌+◌, ◌<◌, ◌≤◌, ◌==◌, ◌&&◌, Bool, true, false, not, List, ◌++◌, Option, Some, None, length, slice_get, Contains, ⊤}
 use Rattle.serial_model.specs.declared.key.Key.{Key}
 use Rattle.homes.specs.declared.places.Holder.{Holder}
 use Rattle.homes.specs.declared.places.Holder.TheVariants.{Free, Held, Dead}
@@ -31,6 +31,8 @@ use Rattle.drop_core.specs.declared.table.Page.TheVariants.{Leaf, Split}
 use Rattle.drop_core.specs.declared.table.Table.{Table}
 use Rattle.drop_core.specs.declared.grip.Grip.{Grip}
 use Rattle.drop_core.specs.Table.{slot_of, page_of, pointer_of, header_of, snap_home, leaf_home, has_slot, has_pointer, is_never}
+use Rattle.drop_core.specs.Event.{most_records}
+use Rattle.drop_core.specs.Law.{IsSplitAt}
 use Rattle.drop_core.specs.Sound.{span_at, IsSound as PagesAreSound}
 use Rattle.engine_rule.specs.Pairs.{page_content}
 use Rattle.engine_rule.specs.JointState.{JointState, slot_of_word, leads_so, counts_so}
@@ -41,6 +43,11 @@ use Rattle.engine_rule.specs.JointState.{JointState, slot_of_word, leads_so, cou
 abbrev pub LeavesStayDead : (Spot → Place) → Table → Type 0
 LeavesStayDead places d = (s : ℕ) (keys : List Key) → (slot_of d s).led ≡ Away → page_of d s ≡ Leaf keys
     → (k : Key) (x : Spot) → leaf_home s 0 keys k ≡ InSlot x → (places x).holder ≡ Dead
+
+-- The places of a leaf that was split are dead, until its slot is given again.
+abbrev pub SplitsStayDead : (Spot → Place) → Table → Type 0
+SplitsStayDead places d = (s i : ℕ) → IsSplitAt d s → i < most_records
+    → (places (record { slot = s; index = i })).holder ≡ Dead
 
 -- ---- words that are kept
 
@@ -113,6 +120,7 @@ pub record IsSound (c : JointState) : Type 0 where
   pub commits : CommitsAreSound c.commits
   pub pages : PagesAreSound (home_of c.commits.story.homes) c.pages
   pub leaves_stay_dead : LeavesStayDead (place_of c.commits.story.places) c.pages.table
+  pub splits_stay_dead : SplitsStayDead (place_of c.commits.story.places) c.pages.table
   pub kept : (p : ℕ) (s : Seat) (g : Grip) → slice_get c.commits.seats p ≡ Some s → slice_get c.pages.grips p ≡ Some g
       → IsSoundKept c.pages.table g.holds s.kept
   pub same_seats : length c.commits.seats ≡ length c.pages.grips

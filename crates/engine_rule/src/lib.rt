@@ -8,7 +8,7 @@
 //! and takes some, and after either nothing is changed (`event`). `Joint::new` begins over the pages of a snapshot,
 //! soundly (`opens`, `sound`).
 //! Invariants: the sound state (`IsSound`): that of commits, that of pages with the homes that commits have, and what
-//! needs both: `leaves_stay_dead`, `kept` (`kept_is_held`, `kept_fits`).
+//! needs both: `leaves_stay_dead`, `splits_stay_dead`, `kept` (`kept_is_held`, `kept_fits`).
 //! Terms: *turn*, an act on pages; *shift*, a turn that moves keys; *word*, a record, a pointer or a header that was
 //! read and must stay valid.
 //! Layout: `JointState` says what of a word is compared, `Event` what may happen, `Sound` what holds, `Law` the

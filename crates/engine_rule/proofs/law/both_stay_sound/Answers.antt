@@ -42,6 +42,7 @@ returns c =
       down = c.pages_stay_sound.ensures.swing;
       chains = c.pages_stay_sound.ensures.chains;
       away = c.pages_stay_sound.ensures.away;
+      splits = c.pages_stay_sound.ensures.splits;
     } in
     record {
       each_event = λ state e may sound. event_sound laws state e may sound;

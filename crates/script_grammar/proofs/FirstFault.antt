@@ -1,7 +1,8 @@
 -- Where the reader stops is the first faulty line.
-use Rattle.std.proofs.Common.{◌≡◌, ℕ, ◌+◌, Bool, true, false, cond, eqb, ltb, List, [], ◌∷◌, ◌++◌, length, Option, Some, None, Result, Ok, Err, refl, sym, ap, subst, ◌∙◌, arith}
-use Rattle.std.specs.Prelude.{codes}
+use Rattle.std.proofs.Common.{◌≡◌, ℕ, suc, ◌+◌, Bool, true, false, cond, eqb, ltb, List, [], ◌∷◌, ◌++◌, length, Option, Some, None, Result, Ok, Err, refl, sym, ap, subst, ◌∙◌, arith}
+use Rattle.std.specs.Prelude.{◌==◌, codes}
 use Rattle.std.specs.Cmp.Lexicographic.{same_text}
+use Rattle.std.specs.List.{slice_split}
 use Rattle.std.proofs.lemmas.Bool.{ltb-false, ne_eqb}
 use Rattle.lists.specs.declared.memory.OrMemory.{OrMemory}
 use Rattle.lists.specs.declared.memory.OrMemory.TheVariants as errors
@@ -11,6 +12,7 @@ use Rattle.script_grammar.specs.Script.{Bytes, Script, IsTextOf}
 use Rattle.script_grammar.specs.Words.{is_join}
 use Rattle.script_grammar.specs.Reading.{Parts, no_parts, decl_at, line_at, may_declare, may_follow, with_decl, with_line, with_join, with_some_line, begins_declaration, step, steps, parts_of, FindsOrTells, Gives}
 use Rattle.script_grammar.specs.Faults.{Place, place_after, place_past, first_place, kind_of, fault_or, first_fault, fault_of, IsFirstFault}
+use Rattle.script_grammar.specs.Front.{LeavesOthers}
 use Rattle.script_grammar.proofs.Found.{bind_some, test_some, not_test_some, some_same}
 use Rattle.script_grammar.proofs.LineTexts.{decl_takes, line_takes}
 use Rattle.script_grammar.proofs.StepTexts.{IsShort}
@@ -106,6 +108,27 @@ line_read lines rest number p q line more cut e so_far =
       parts = so_far.parts ∙ ap (steps p) cut ∙ step_steps p q line more e;
       fault = so_far.fault ∙ ap (first_fault number (place_after p)) cut ∙ later_fault number (place_after p) (place_after q) line more passes.kind passes.past;
     }
+
+-- some lines more
+pub lines_read : (lines : List Bytes) (number : ℕ) (p q : Parts) (these more : List Bytes) → steps p these ≡ Some q → AreReadSoFar lines (these ++ more) number p
+    → AreReadSoFar lines more (number + length these) q
+unfolding steps
+lines_read lines number p q [] more e so_far =
+    let here : number ≡ number + 0 = omega arith in
+    subst (λ (n : ℕ). AreReadSoFar lines more n q) here (subst (AreReadSoFar lines more number) (some_same p q e) so_far)
+lines_read lines number p q (line ∷ these) more e so_far =
+    let a = bind_some (step p line) (λ r. steps r these) q e in
+    let next : number + 1 + length these ≡ number + suc (length these) = omega arith in
+    subst (λ (n : ℕ). AreReadSoFar lines more n q) next
+    (lines_read lines (number + 1) a.0 q these more a.2 (line_read lines (line ∷ (these ++ more)) number p a.0 line (these ++ more) refl a.1 so_far))
+
+-- the first lines of what is left
+pub front_read : (lines : List Bytes) (rest others : Bytes) (number count : ℕ) (p q : Parts) → LeavesOthers rest others p q count → AreReadSoFar lines (slice_split (λ b. b == 10) rest) number p
+    → AreReadSoFar lines (slice_split (λ b. b == 10) others) (number + count) q
+front_read lines rest others number count p q leaves so_far =
+    let split : Bytes → List Bytes = slice_split (λ b. b == 10) in
+    subst (λ (n : ℕ). AreReadSoFar lines (split others) (number + n) q) (sym leaves.counted)
+    (lines_read lines number p q leaves.lines (split others) leaves.read (subst (λ (ls : List Bytes). AreReadSoFar lines ls number p) leaves.cut so_far))
 
 -- the reader stops at this line
 pub stops : (X : Type 0) (answer : OrMemory ScriptFault) (lines rest : List Bytes) (number : ℕ) (p q r : Parts) (line : Bytes) (more : List Bytes) → rest ≡ line ∷ more

@@ -1,5 +1,5 @@
--- A worker's line at the front of a source, with its newline, is the first line, and reading it is reading that line.
-use Rattle.std.proofs.Common.{◌≡◌, ℕ, ◌+◌, ◌<◌, ◌≤◌, ◌^◌, true, false, List, [], ◌∷◌, ◌++◌, length, drop, Option, Some, None, Result, Ok, Err, refl, sym, ap, ◌∙◌, arith, length-append, length-drop}
+-- A worker's line at its place, with its newline, is the first line from there on, and reading it is reading that line.
+use Rattle.std.proofs.Common.{◌≡◌, ℕ, ◌+◌, ◌<◌, ◌≤◌, ◌^◌, true, false, List, [], ◌∷◌, ◌++◌, length, drop, get_or, Option, Some, None, Result, Ok, Err, refl, sym, ap, ◌∙◌, append_assoc, arith, length-append, length-drop}
 use Rattle.std.specs.Prelude.{◌==◌, nat_lt}
 use Rattle.std.specs.Fmt.{decimal}
 use Rattle.std.specs.List.{AllByRecursion, list_all, slice_split, onto_first}
@@ -15,14 +15,16 @@ use Rattle.serial_model.specs.declared.key.Key.{Key}
 use Rattle.serial_model.specs.declared.op.Op.{Op}
 use Rattle.serial_model.specs.declared.op.Op.TheVariants.{Read, Write, Remove, Add, Take, Scan}
 use Rattle.script_grammar.specs.declared.lines.Span.{Span}
-use Rattle.script_grammar.specs.declared.lines.Span.TheVariants as at
+use Rattle.script_grammar.specs.declared.lines.Span.TheVariants as span
 use Rattle.script_grammar.specs.declared.rounds.Stretch.{Stretch}
 use Rattle.script_grammar.specs.Script.{Bytes, Line, Worker, Round, key_text, op_text, more_ops_text, ops_text, line_text}
-use Rattle.script_grammar.specs.Reading.{Parts, may_follow}
+use Rattle.script_grammar.specs.Reading.{Parts, may_follow, step, steps}
 use Rattle.script_grammar.specs.Lines.{RoundsSoFar, lines_in, AreWithin, rounds_in, AreRoundsWithin}
-use Rattle.script_grammar.specs.Front.{HasText, AreOpsAt, AddsOps, MayAddOps, IsLineFront, AddsLine, MayTakeLine, IsFirstRead, MayReadFirst}
+use Rattle.script_grammar.specs.Front.{HasText, IsDigitAt, AreOpsAt, AddsOps, MayAddOps, IsLineAt, AddsLine, MayTakeLine, IsLineRead, MayReadLine, LeavesOthers}
 use Rattle.script_grammar.proofs.FlatLines.{lines_in-push}
 use Rattle.script_grammar.proofs.FlatRounds.{rounds_more}
+use Rattle.script_grammar.proofs.Found.{bind_some, some_same}
+use Rattle.script_grammar.proofs.FrontOps.{byte_there}
 use Rattle.script_grammar.proofs.WordTexts.{IsKey, digits_of}
 use Rattle.script_grammar.proofs.OpTexts.{IsSpelled, key_at}
 use Rattle.script_grammar.proofs.StepAgain.{line_step_at}
@@ -101,27 +103,32 @@ line_joined worker ops rest below =
     ap (λ (w : Bytes). ((w ++ (32 ∷ [])) ++ ops_text ops) ++ rest) (sym one)
 
 -- a text up to a newline is as long as the newline's place says
-front_length : (bytes text : Bytes) (end : ℕ) → end < length bytes → bytes ≡ text ++ 10 ∷ drop (end + 1) bytes → length text ≡ end
-front_length bytes text end lt e =
-    let all : length bytes ≡ length text + length (10 ∷ drop (end + 1) bytes) = ap (λ (b : Bytes). length b) e ∙ length-append text (10 ∷ drop (end + 1) bytes) in
+front_length : (bytes text : Bytes) (at end : ℕ) → at < length bytes → end < length bytes → drop at bytes ≡ text ++ 10 ∷ drop (end + 1) bytes → at + length text ≡ end
+front_length bytes text at end begins lt e =
+    let all : length (drop at bytes) ≡ length text + length (10 ∷ drop (end + 1) bytes) = ap (λ (b : Bytes). length b) e ∙ length-append text (10 ∷ drop (end + 1) bytes) in
     let rest : length (10 ∷ drop (end + 1) bytes) ≡ length (drop (end + 1) bytes) + 1 = omega arith in
-    omega (arith, all, rest, length-drop (end + 1) bytes)
+    omega (arith, all, rest, length-drop at bytes, length-drop (end + 1) bytes)
 
--- a worker and operations behind it are a line at the front
-pub line_front : (bytes : Bytes) (decls : List Decl) (worker : ℕ) (ops : List Op) (end : ℕ) → worker < 8 → bytes ≡ (48 + worker) ∷ 32 ∷ drop 2 bytes → AreOpsAt bytes 2 decls ops end → end ≤ 1024
-    → IsLineFront bytes decls worker ops end
-line_front bytes decls worker ops end below begins are short =
-    let text : bytes ≡ line_text (Worker worker ops) ++ 10 ∷ drop (end + 1) bytes =
-    begins ∙ ap (λ (r : Bytes). (48 + worker) ∷ 32 ∷ r) are.text ∙ line_joined worker ops (10 ∷ drop (end + 1) bytes) below in
+-- a worker and operations behind it are a line
+pub line_there : (bytes : Bytes) (at : ℕ) (decls : List Decl) (worker : ℕ) (ops : List Op) (end : ℕ) → at + 1024 ≤ length bytes → worker < 8 → IsDigitAt bytes at worker → get_or bytes (at + 1) 0 ≡ 32
+    → AreOpsAt bytes (at + 2) decls ops end → IsLineAt bytes at decls worker ops end
+line_there bytes at decls worker ops end room below begins space are =
+    let near = are.near in
+    let next : at + 1 + 1 ≡ at + 2 = omega arith in
+    let text : drop at bytes ≡ line_text (Worker worker ops) ++ 10 ∷ drop (end + 1) bytes =
+    begins ∙ ap (λ (r : Bytes). (48 + worker) ∷ r) (byte_there bytes (at + 1) 32 (omega arith) space ∙ ap (λ (n : ℕ). 32 ∷ drop n bytes) next)
+    ∙ ap (λ (r : Bytes). (48 + worker) ∷ 32 ∷ r) are.text ∙ line_joined worker ops (10 ∷ drop (end + 1) bytes) below in
+    let long = front_length bytes (line_text (Worker worker ops)) at end (omega arith) (omega arith) text in
     record {
       below = below;
       some = are.some;
       few = are.few;
       spelled = are.spelled;
       fitting = are.fitting;
-      within = are.within;
+      after = omega (arith, long);
+      within = omega arith;
       text = text;
-      short = omega (arith, short, front_length bytes (line_text (Worker worker ops)) end are.within text);
+      short = omega (arith, long);
     }
 
 -- ---- what it adds
@@ -132,16 +139,17 @@ some_more (Some found) bytes start decls old new adds = (adds.ops, adds.added)
 some_more None bytes start decls old new adds = adds
 
 -- the operations that were added are those of the line of their span
-pub line_added : (bytes : Bytes) (decls : List Decl) (ops new : List Op) (spans spans' : List Span) (worker count end start : ℕ) (adds : AddsOps bytes 2 decls ops new count end)
-    → spans' ≡ spans ++ at.Worker worker count start ∷ [] → start ≡ length ops → AreWithin ops spans → lines_in new spans' ≡ lines_in ops spans ++ Worker worker adds.ops ∷ []
-line_added bytes decls ops new spans spans' worker count end start adds e begins within =
+pub line_added : (bytes : Bytes) (at : ℕ) (decls : List Decl) (ops new : List Op) (spans spans' : List Span) (worker count end start : ℕ) (adds : AddsOps bytes at decls ops new count end)
+    → spans' ≡ spans ++ span.Worker worker count start ∷ [] → start ≡ length ops → AreWithin ops spans → lines_in new spans' ≡ lines_in ops spans ++ Worker worker adds.ops ∷ []
+line_added bytes at decls ops new spans spans' worker count end start adds e begins within =
     ap (λ (os : List Op). lines_in os spans') adds.added ∙ ap (lines_in (ops ++ adds.ops)) e
     ∙ lines_in-push ops adds.ops spans worker count start adds.counted begins within
 
 -- what is added to the lines is added to those of the last round
-pub rounds_kept : (result : Result (Option ℕ) Memory) (bytes : Bytes) (decls : List Decl) (lines new : List Line) (stretches : List Stretch) (start : ℕ) → MayTakeLine result bytes decls lines new
-    → AreRoundsWithin lines stretches → start ≤ length lines → (MayTakeLine result bytes decls (drop start lines) (drop start new)) × (rounds_in new stretches ≡ rounds_in lines stretches)
-rounds_kept (Ok (Some end)) bytes decls lines new stretches start adds within at =
+pub rounds_kept : (result : Result (Option ℕ) Memory) (bytes : Bytes) (place : ℕ) (decls : List Decl) (lines new : List Line) (stretches : List Stretch) (start : ℕ)
+    → MayTakeLine result bytes place decls lines new → AreRoundsWithin lines stretches → start ≤ length lines
+    → (MayTakeLine result bytes place decls (drop start lines) (drop start new)) × (rounds_in new stretches ≡ rounds_in lines stretches)
+rounds_kept (Ok (Some end)) bytes place decls lines new stretches start adds within at =
     let line : Line = Worker adds.worker adds.ops in
     let more = rounds_more lines (line ∷ []) stretches start within at in (
       record {
@@ -152,16 +160,18 @@ rounds_kept (Ok (Some end)) bytes decls lines new stretches start adds within at
       },
       ap (λ (ls : List Line). rounds_in ls stretches) adds.added ∙ ap (λ (r : RoundsSoFar). r.joined) more,
     )
-rounds_kept (Ok None) bytes decls lines new stretches start same within at = (ap (drop start) same, ap (λ (ls : List Line). rounds_in ls stretches) same)
-rounds_kept (Err memory) bytes decls lines new stretches start same within at = (ap (drop start) same, ap (λ (ls : List Line). rounds_in ls stretches) same)
+rounds_kept (Ok None) bytes place decls lines new stretches start same within at = (ap (drop start) same, ap (λ (ls : List Line). rounds_in ls stretches) same)
+rounds_kept (Err memory) bytes place decls lines new stretches start same within at = (ap (drop start) same, ap (λ (ls : List Line). rounds_in ls stretches) same)
+
+-- ---- what is read
 
 abbrev parts_are : List Decl → List Round → List Line → Parts
 parts_are decls joined lines = record { decls = decls; joined = joined; lines = lines }
 
--- a line at the front that may come here is one line more
-front_read : (bytes : Bytes) (decls : List Decl) (joined joined' : List Round) (lines lines' : List Line) (end : ℕ) → length lines < 65536 → AddsLine bytes decls lines lines' end → joined' ≡ joined
-    → IsFirstRead bytes (parts_are decls joined lines) (parts_are decls joined' lines') end
-front_read bytes decls joined joined' lines lines' end room adds same =
+-- a line at its place that may come here is one line more
+front_read : (bytes : Bytes) (at : ℕ) (decls : List Decl) (joined joined' : List Round) (lines lines' : List Line) (end : ℕ) → length lines < 65536 → AddsLine bytes at decls lines lines' end
+    → joined' ≡ joined → IsLineRead bytes at (parts_are decls joined lines) (parts_are decls joined' lines') end
+front_read bytes at decls joined joined' lines lines' end room adds same =
     let line : Line = Worker adds.worker adds.ops in
     let spelled = ops_spelled adds.ops adds.is.spelled in
     let test : may_follow (parts_are decls joined lines) line ≡ true =
@@ -170,14 +180,52 @@ front_read bytes decls joined joined' lines lines' end room adds same =
     ap (parts_are decls joined) (sym adds.added) ∙ ap (λ (rs : List Round). parts_are decls rs lines') (sym same) in
     record {
       line = line_text line;
+      after = adds.is.after;
       within = adds.is.within;
       cut = ap (slice_split (λ b. b == 10)) adds.is.text ∙ first_line (line_text line) (drop (end + 1) bytes) (line_newline adds.worker adds.ops adds.is.below spelled);
       read = line_step_at (parts_are decls joined lines) line (adds.is.below, record { some = adds.is.some; few = adds.is.few; each = spelled }) adds.is.short test ∙ ap Some after;
+      one = ap (λ (ls : List Line). length ls) adds.added ∙ length-append lines (line ∷ []);
     }
 
 -- the same of each answer
-pub may_read : (result : Result (Option ℕ) Memory) (bytes : Bytes) (decls : List Decl) (joined joined' : List Round) (lines lines' : List Line) → length lines < 65536
-    → MayTakeLine result bytes decls lines lines' → joined' ≡ joined → MayReadFirst result bytes (parts_are decls joined lines) (parts_are decls joined' lines')
-may_read (Ok (Some end)) bytes decls joined joined' lines lines' room adds same = front_read bytes decls joined joined' lines lines' end room adds same
-may_read (Ok None) bytes decls joined joined' lines lines' room kept same = ap (parts_are decls joined') kept ∙ ap (λ (rs : List Round). parts_are decls rs lines) same
-may_read (Err memory) bytes decls joined joined' lines lines' room kept same = ap (parts_are decls joined') kept ∙ ap (λ (rs : List Round). parts_are decls rs lines) same
+pub may_read : (result : Result (Option ℕ) Memory) (bytes : Bytes) (at : ℕ) (decls : List Decl) (joined joined' : List Round) (lines lines' : List Line) → length lines < 65536
+    → MayTakeLine result bytes at decls lines lines' → joined' ≡ joined → MayReadLine result bytes at (parts_are decls joined lines) (parts_are decls joined' lines')
+may_read (Ok (Some end)) bytes at decls joined joined' lines lines' room adds same = front_read bytes at decls joined joined' lines lines' end room adds same
+may_read (Ok None) bytes at decls joined joined' lines lines' room kept same = ap (parts_are decls joined') kept ∙ ap (λ (rs : List Round). parts_are decls rs lines) same
+may_read (Err memory) bytes at decls joined joined' lines lines' room kept same = ap (parts_are decls joined') kept ∙ ap (λ (rs : List Round). parts_are decls rs lines) same
+
+-- ---- lines, one after another
+
+-- lines, one after another, and those behind them
+steps_append : (p q : Parts) (lines more : List Bytes) → steps p lines ≡ Some q → steps p (lines ++ more) ≡ steps q more
+unfolding steps
+steps_append p q [] more e = ap (λ (r : Parts). steps r more) (some_same p q e)
+steps_append p q (line ∷ lines) more e =
+    let a = bind_some (step p line) (λ r. steps r lines) q e in
+    rw a.1 (steps_append a.0 q lines more a.2)
+
+-- one line, and no more
+steps_one : (p q : Parts) (line : Bytes) → step p line ≡ Some q → steps p (line ∷ []) ≡ Some q
+unfolding steps
+steps_one p q line e = rw e refl
+
+-- none were read yet
+pub none_read : (bytes : Bytes) (p : Parts) → LeavesOthers bytes bytes p p 0
+unfolding steps
+none_read bytes p = record { lines = []; counted = refl; cut = refl; shorter = omega arith; read = refl }
+
+-- one line more was read
+pub one_read : (bytes : Bytes) (at : ℕ) (p q r : Parts) (count end : ℕ) → LeavesOthers bytes (drop at bytes) p q count → at ≤ length bytes → IsLineRead bytes at q r end
+    → LeavesOthers bytes (drop (end + 1) bytes) p r (count + 1)
+one_read bytes at p q r count end leaves begins is =
+    let line : Bytes = is.line in
+    let shorter = leaves.shorter in
+    let after = is.after in
+    let within = is.within in
+    record {
+      lines = leaves.lines ++ line ∷ [];
+      counted = omega (arith, leaves.counted, length-append leaves.lines (line ∷ []));
+      cut = leaves.cut ∙ ap (λ (ls : List Bytes). leaves.lines ++ ls) is.cut ∙ sym (append_assoc leaves.lines (line ∷ []) (slice_split (λ b. b == 10) (drop (end + 1) bytes)));
+      shorter = omega (arith, length-drop at bytes, length-drop (end + 1) bytes);
+      read = steps_append p q leaves.lines (line ∷ []) leaves.read ∙ steps_one q r line is.read;
+    }

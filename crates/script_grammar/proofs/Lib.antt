@@ -23,5 +23,4 @@ pub mod Rows
 pub mod FrontNumbers
 pub mod FrontOps
 pub mod FrontLines
-pub mod FirstLines
 pub mod Limits

@@ -151,7 +151,8 @@ declared_by None size = []
 -- where the line behind this one stands
 unfoldable pub place_past : Place → Bytes → Place
 place_past place line =
-    if is_worker_line line || is_keeper_line line then record { decls = place.decls; begun = true; lines = place.lines + 1 }
+    if is_worker_line line || is_keeper_line line
+    then record { decls = place.decls; begun = true; lines = place.lines + 1 }
     else (if is_join line then record { decls = place.decls; begun = true; lines = 0 }
     else (if is_decl_shape line then record {
       decls = place.decls ++ declared_by (number_in (words line) 1) (number_in (words line) 2);

@@ -37,7 +37,7 @@ short_op_by letter key =
     if letter == 114 then Some (Read key)
     else (if letter == 100 then Some (Remove key) else None)
 
--- an operation of a key and a value, by its letter w, a or t, or a scan, by its letter s, whose highest key is the value
+-- an operation of a key and a value, by its letter w, a or t, or a scan, by s, whose highest key is the value
 abbrev pub long_op_by : ℕ → Key → ℕ → Option Op
 long_op_by letter key value =
     if letter == 119 then Some (Write key value)

@@ -1,7 +1,5 @@
 // Operations in memory: 20 bytes for each, where an `Op` takes 32, and room for those of a line as they are.
-ghost use Rattle.std.specs.Prelude.{◌≡◌, ℕ, ◌+◌, ◌<◌, ◌≤◌, [], ◌∷◌, ◌++◌, length, take, drop, IfSome, List, OnOk, OnErr};
-ghost use Rattle.serial_model.specs.Keys.{fits, has_key};
-ghost use Rattle.serial_model.specs.declared.decl.Decl.{Decl as DeclMeaning};
+ghost use Rattle.std.specs.Prelude.{◌≡◌, ℕ, ◌+◌, ◌<◌, ◌≤◌, [], ◌∷◌, ◌++◌, length, take, drop, OnOk, OnErr};
 ghost use Rattle.script_grammar.specs.FlatOps.{wide, op_of, op_of_kind};
 ghost use Rattle.script_grammar.specs.Front.{MayTakeOps};
 
@@ -82,20 +80,6 @@ impl FlatOp {
             value: Halves::new(value),
             storage: key.storage,
             kind,
-        }
-    }
-
-    /// The key of an operation that fits each storage with that key.
-    pub(crate) fn point(&self) -> Option<Key>
-        ensures { IfSome result (λ key. (decls : List DeclMeaning)
-            → fits decls (op_of self.now) ≡ has_key decls key) }
-    {
-        match self.kind {
-            OpKind::Read | OpKind::Write | OpKind::Add | OpKind::Take => Some(Key {
-                storage: self.storage,
-                key: self.key.number(),
-            }),
-            OpKind::Remove | OpKind::Scan => None,
         }
     }
 
@@ -180,6 +164,7 @@ impl FlatOps {
         start: usize,
         storages: &Storages,
     ) -> Result<Option<(u8, usize)>, Memory>
+        requires { start + 1022 ≤ length bytes.now }
         ensures { MayTakeOps result bytes.now start storages.now self.old self.new }
     {
         self.list.reserve(MOST_OPS)?;

@@ -1,101 +1,74 @@
 // Operations at a place among bytes, read in one pass. What isn't plainly one is left to the reader of any line.
-ghost use Rattle.std.specs.Prelude.{◌≡◌, ◌+◌, ◌<◌, ◌≤◌, ◌∷◌, ℕ, IfSome, drop, length, map, vec_capacity, vec_len};
-ghost use Rattle.serial_model.specs.declared.key.Key.{Key as KeyMeaning};
-ghost use Rattle.script_grammar.specs.Script.{op_text};
-ghost use Rattle.script_grammar.specs.FlatOps.{op_of, op_of_kind};
-ghost use Rattle.script_grammar.specs.Front.{key_op_text, value_op_text, IsKeyAt, IsOpAt, IsFittingAt, MayAddOps};
+ghost use Rattle.std.specs.Prelude.{◌≡◌, ◌+◌, ◌<◌, ◌≤◌, IfSome, length, map, vec_capacity, vec_len};
+ghost use Rattle.script_grammar.specs.FlatOps.{op_of};
+ghost use Rattle.script_grammar.specs.Front.{key_op_text, value_op_text, IsFitting, IsFittingAt, MayAddOps};
 
 use crate::flat_ops::{FlatOp, OpKind};
-use crate::front_number::{is_at, number_from};
-use crate::read_op::IDS;
+use crate::front_number::{id_from, number_from};
 use crate::storages::Storages;
 use serial_model::Key;
 
-/// The operation of a key alone that has this letter.
-fn key_kind_by(letter: u8) -> Option<OpKind>
-    ensures { IfSome result (λ kind. (key : KeyMeaning) → (value : ℕ)
-        → op_text (op_of_kind kind key value) ≡ key_op_text letter key) }
+/// The operation of a key alone that has this letter, if it fits a declared storage.
+fn key_op(letter: u8, key: Key, storages: &Storages) -> Option<FlatOp>
+    ensures { IfSome result (λ op. IsFitting storages.now (key_op_text letter key) (op_of op)) }
 {
-    match letter {
-        b'r' => Some(OpKind::Read),
-        b'd' => Some(OpKind::Remove),
-        _ => None,
+    if letter == b'r' {
+        if !storages.has_key(key) {
+            return None;
+        }
+        return Some(FlatOp::of(OpKind::Read, key, 0));
     }
-}
-
-/// The operation of a key and a value, or of a range, that has this letter.
-fn value_kind_by(letter: u8) -> Option<OpKind>
-    ensures { IfSome result (λ kind. (key : KeyMeaning) → (value : ℕ)
-        → op_text (op_of_kind kind key value) ≡ value_op_text letter key value) }
-{
-    match letter {
-        b'w' => Some(OpKind::Write),
-        b'a' => Some(OpKind::Add),
-        b't' => Some(OpKind::Take),
-        b's' => Some(OpKind::Scan),
-        _ => None,
-    }
-}
-
-/// The storage and the number of a key at this place, and where it ends. It is none where that is the end of the bytes.
-fn key_from(bytes: &[u8], start: usize) -> Option<(Key, usize)>
-    ensures { IfSome result (λ x. IsKeyAt bytes.now start x.0 x.1) }
-{
-    let (storage, end) = number_from(bytes, start);
-    if storage >= IDS || !is_at(b' ', bytes, end) {
+    if !storages.has_tree(key.storage) || letter != b'd' {
         return None;
     }
-    let (key, end) = number_from(bytes, end + 1);
-    Some((
-        Key {
-            storage: storage as u8,
-            key,
-        },
-        end,
-    ))
+    Some(FlatOp::of(OpKind::Remove, key, 0))
 }
 
-/// The operation at this place, and where it ends. It is none where that is the end of the bytes.
-fn op_from(bytes: &[u8], start: usize) -> Option<(FlatOp, usize)>
-    ensures { IfSome result (λ x. IsOpAt bytes.now start (op_of x.0) x.1) }
+/// The scan of a storage from a key on, if this is its letter and it fits a declared storage.
+fn scan_op(letter: u8, key: Key, high: u64, storages: &Storages) -> Option<FlatOp>
+    ensures { IfSome result (λ op. IsFitting storages.now (value_op_text letter key high) (op_of op)) }
 {
-    if start >= bytes.len() || !is_at(b' ', bytes, start + 1) {
+    if !storages.has_tree(key.storage) || letter != b's' {
         return None;
     }
-    let letter = bytes[start];
-    let (key, end) = key_from(bytes, start + 2)?;
-    if let Some(kind) = key_kind_by(letter) {
-        return Some((FlatOp::of(kind, key, 0), end));
-    }
-    let kind = value_kind_by(letter)?;
-    if !is_at(b' ', bytes, end) {
+    Some(FlatOp::of(OpKind::Scan, key, high))
+}
+
+/// The operation of a key and a value, or of a range, that has this letter, if it fits a declared storage.
+fn value_op(letter: u8, key: Key, value: u64, storages: &Storages) -> Option<FlatOp>
+    ensures { IfSome result (λ op. IsFitting storages.now (value_op_text letter key value) (op_of op)) }
+{
+    let kind = match letter {
+        b'a' => OpKind::Add,
+        b't' => OpKind::Take,
+        b'w' => OpKind::Write,
+        _ => return scan_op(letter, key, value, storages),
+    };
+    if !storages.has_key(key) {
         return None;
     }
-    let (value, end) = number_from(bytes, end + 1);
-    Some((FlatOp::of(kind, key, value), end))
+    Some(FlatOp::of(kind, key, value))
 }
 
 /// The operation at this place, and where it ends, if it fits a declared storage.
 fn fitting_from(bytes: &[u8], start: usize, storages: &Storages) -> Option<(FlatOp, usize)>
+    requires room { start + 64 ≤ length bytes.now }
     ensures { IfSome result (λ x. IsFittingAt bytes.now start storages.now (op_of x.0) x.1) }
 {
-    let (op, end) = op_from(bytes, start)?;
-    if storages.fits(&op) {
-        Some((op, end))
-    } else {
-        None
+    if bytes[start + 1] != b' ' {
+        return None;
     }
-}
-
-/// Where the next operation begins, behind a semicolon and a space.
-fn next_from(bytes: &[u8], end: usize) -> Option<usize>
-    ensures { IfSome result (λ next. (end < length bytes.now) × (drop end bytes.now ≡ 59 ∷ 32 ∷ drop next bytes.now)) }
-{
-    if is_at(b';', bytes, end) && is_at(b' ', bytes, end + 1) {
-        Some(end + 2)
-    } else {
-        None
+    let (storage, next) = id_from(bytes, start + 2)?;
+    let (number, end) = number_from(bytes, next)?;
+    let key = Key {
+        storage,
+        key: number,
+    };
+    if bytes[end] != b' ' {
+        return Some((key_op(bytes[start], key, storages)?, end));
     }
+    let (value, end) = number_from(bytes, end + 1)?;
+    Some((value_op(bytes[start], key, value, storages)?, end))
 }
 
 /// Adds the operations from this place up to a newline, and answers how many, and where the newline stands.
@@ -106,16 +79,21 @@ pub(crate) fn ops_from(
     list: &mut Vec<FlatOp>,
 ) -> Option<(u8, usize)>
     requires room { vec_len list.old + 16 ≤ vec_capacity list.old }
+    requires bytes { start + 1022 ≤ length bytes.now }
     ensures { MayAddOps result bytes.now start storages.now (map op_of list.old.items) (map op_of list.new.items) }
 {
     let mut at = start;
     for count in 0..16u8 {
         let (op, end) = fitting_from(bytes, at, storages)?;
         list.push_reserved(op);
-        if is_at(b'\n', bytes, end) {
+        let byte = bytes[end];
+        if byte == b'\n' {
             return Some((count + 1, end));
         }
-        at = next_from(bytes, end)?;
+        if byte != b';' || bytes[end + 1] != b' ' {
+            return None;
+        }
+        at = end + 2;
     }
     None
 }

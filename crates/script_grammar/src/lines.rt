@@ -1,10 +1,11 @@
 // Lines in memory: one list of operations for all, and a span of it for each, so that a line takes no list of its own.
-ghost use Rattle.std.specs.Prelude.{◌≡◌, ◌+◌, ◌<◌, ◌≤◌, [], ◌∷◌, ◌++◌, drop, length, slice_get, IfSome, Some, OnOk, OnErr, option_map};
+ghost use Rattle.std.specs.Prelude.{◌≡◌, ◌<◌, ◌≤◌, [], ◌∷◌, ◌++◌, length, slice_get, Some, OnOk, OnErr, option_map};
 ghost use Rattle.script_grammar.specs.Script.{Keeper, Worker, keeper_line_of, worker_of};
 ghost use Rattle.script_grammar.specs.Lines.{line_lent};
 ghost use Rattle.script_grammar.specs.Front.{MayTakeLine};
 
 use crate::flat_ops::{FlatOps, LineOps};
+use crate::front_number::digit_at;
 use crate::reader::LONGEST_LINE;
 use crate::storages::Storages;
 use lists::Memory;
@@ -71,16 +72,6 @@ fn push_span(spans: &mut Vec<Span>, span: Span) -> Result<(), Memory>
     Ok(())
 }
 
-/// The worker of the line at the front, 0 to 7, with the space behind it.
-fn worker_at(bytes: &[u8]) -> Option<u8>
-    ensures { IfSome result (λ worker. (worker < 8) × (bytes.now ≡ (48 + worker) ∷ 32 ∷ drop 2 bytes.now)) }
-{
-    match bytes {
-        [digit @ b'0'..=b'7', b' ', ..] => Some(*digit - b'0'),
-        _ => None,
-    }
-}
-
 impl Lines {
     pub(crate) fn new(alloc: Global) -> Self
         ensures { result ≡ [] }
@@ -117,33 +108,35 @@ impl Lines {
         Ok(())
     }
 
-    /// One more is the worker's line that stands at the front of the bytes, up to a newline; answers where that stands.
-    /// Else, and after want of memory, the lines are as they were.
+    /// One more is the worker's line that stands at this place, up to a newline; answers where that stands. Else, and
+    /// after want of memory, the lines are as they were. Where fewer bytes than those of a longest line are left, none
+    /// is read.
     pub(crate) fn take(
         &mut self,
         bytes: &[u8],
+        at: usize,
         storages: &Storages,
     ) -> Result<Option<usize>, Memory>
-        ensures { MayTakeLine result bytes.now storages.now self.old self.new }
+        requires { at ≤ length bytes.now }
+        ensures { MayTakeLine result bytes.now at storages.now self.old self.new }
     {
-        let Some(worker) = worker_at(bytes) else {
-            return Ok(None);
-        };
-        let Ok(start) = u32::try_from(self.ops.len()) else {
-            return Ok(None);
-        };
-        let Some((count, end)) = self.ops.take(bytes, 2, storages)? else {
-            return Ok(None);
-        };
-        if end > LONGEST_LINE {
+        let start = self.ops.len();
+        if bytes.len() - at < LONGEST_LINE || start >= 0x1_0000_0000 {
             return Ok(None);
         }
-        let span = Span::Worker {
-            worker,
-            count,
-            start,
+        let worker = digit_at(bytes, at);
+        if worker > 7 || bytes[at + 1] != b' ' {
+            return Ok(None);
+        }
+        self.spans.reserve(1)?;
+        let Some((count, end)) = self.ops.take(bytes, at + 2, storages)? else {
+            return Ok(None);
         };
-        push_span(&mut self.spans, span)?;
+        self.spans.push_reserved(Span::Worker {
+            worker: worker as u8,
+            count,
+            start: start as u32,
+        });
         Ok(Some(end))
     }
 

@@ -1,15 +1,14 @@
 // Scripts from bytes.
-ghost use Rattle.std.specs.Prelude.{◌≡◌, ◌==◌, ◌≤◌, length, IfOk, Err, MatchOption, MatchResult};
+ghost use Rattle.std.specs.Prelude.{◌≡◌, ◌==◌, ◌≤◌, length, IfOk, Err};
 ghost use Rattle.std.specs.List.{slice_split};
 ghost use Rattle.lists.specs.declared.memory.OrMemory.{OrMemory};
 ghost use Rattle.script_grammar.specs.Script.{IsTextOf, Script as Meaning};
 ghost use Rattle.script_grammar.specs.Reading.{FindsOrTells, Gives, no_parts, parts_of, steps};
 ghost use Rattle.script_grammar.specs.Faults.{IsFirstFault, fault_of, first_fault, first_place};
-ghost use Rattle.script_grammar.specs.Front.{IsLastLine, LeavesOthers, RefusesFirst};
 
 use crate::cut::cut;
 use crate::fault::{FaultKind, ScriptFault};
-use crate::reader::Reader;
+use crate::reader::{Reader, read_front};
 use crate::script::Script;
 use lists::OrMemory;
 use std::alloc::Global;
@@ -17,42 +16,22 @@ use std::alloc::Global;
 /// In bytes.
 const LONGEST_SOURCE: usize = 67_108_864;
 
-/// Reads the first of the lines, and answers those behind it, if a newline ends it. Most are workers' lines, read as
-/// they are passed; any other is cut out and read as what it may be.
-fn read_first<'a>(
-    reader: &mut Reader,
-    number: u32,
-    bytes: &'a [u8],
-) -> Result<Option<&'a [u8]>, OrMemory<ScriptFault>>
-    ensures { MatchResult result
-        (λ others. MatchOption others (IsLastLine bytes.now reader.old reader.new)
-        (λ rest. LeavesOthers bytes.now rest.now reader.old reader.new))
-        (λ fault. RefusesFirst fault bytes.now number reader.old) }
-{
-    if let Some(end) = reader.take_front(bytes)? {
-        return Ok(Some(&bytes[end + 1..]));
-    }
-    let Some((line, after)) = cut(b'\n', bytes) else {
-        return Ok(None);
-    };
-    reader.step(number, line)?;
-    Ok(Some(after))
-}
-
-/// Reads the lines one after another.
+/// Reads the lines one after another. Most are workers' lines, read as they are passed; any other is cut out and read
+/// as what it may be.
 fn read_lines(reader: &mut Reader, bytes: &[u8]) -> Result<(), OrMemory<ScriptFault>>
     requires fresh { reader.old ≡ no_parts }
     requires size { length bytes.now ≤ 67108864 }
     ensures { FindsOrTells result (steps no_parts (slice_split (λ b. b == 10) bytes.now))
         (first_fault 1 first_place (slice_split (λ b. b == 10) bytes.now)) reader.new }
 {
-    let mut rest = bytes;
-    let mut number: u32 = 1;
-    while let Some(after) = read_first(reader, number, rest)? {
-        rest = after;
-        number += 1;
+    let (mut number, mut rest) = read_front(reader, bytes)?;
+    while let Some((line, after)) = cut(b'\n', rest) {
+        reader.step(number + 1, line)?;
+        let (count, others) = read_front(reader, after)?;
+        number += 1 + count;
+        rest = others;
     }
-    reader.step(number, rest)
+    reader.step(number + 1, rest)
 }
 
 /// Reads a source of at most 64 MiB.

@@ -1,7 +1,8 @@
 // What was read of a script so far, and one line more.
-ghost use Rattle.std.specs.Prelude.{◌≡◌, ◌==◌, IfOk, OnErr, Some, None};
+ghost use Rattle.std.specs.Prelude.{◌≡◌, ◌==◌, ◌+◌, ◌<◌, ◌≤◌, length, IfOk, OnErr, Some, None};
 ghost use Rattle.std.specs.List.{list_any, list_all};
 ghost use Rattle.serial_model.specs.Keys.{id_of, fits};
+ghost use Rattle.script_grammar.specs.Front.{LeavesOthers};
 
 use crate::fault::{FaultKind, Refused, ScriptFault};
 use crate::faults::{Place, kind_of};
@@ -54,7 +55,7 @@ impl Reader {
     ghost use Rattle.std.specs.Prelude.{[], ◌∷◌, true, false};
     ghost use Rattle.script_grammar.specs.Reading.{no_parts, begins_keeper, is_fresh, may_declare, may_run, with_decl, with_line, with_join, with_some_line, step, script_from, Reads, FindsOrTells};
     ghost use Rattle.script_grammar.specs.Faults.{place_after, kind_of, fault_or};
-    ghost use Rattle.script_grammar.specs.Front.{MayReadFirst};
+    ghost use Rattle.script_grammar.specs.Front.{MayReadLine};
 
     pub(crate) fn new(alloc: Global) -> Self
         ensures { result ≡ no_parts }
@@ -138,15 +139,22 @@ impl Reader {
         Ok(())
     }
 
-    /// Reads the first of the lines, if it is plainly one of a worker by the rules, and answers where its newline
-    /// stands. Else, and after want of memory, nothing was read.
-    pub(crate) fn take_front(&mut self, bytes: &[u8]) -> Result<Option<usize>, Memory>
-        ensures { MayReadFirst result bytes.now self.old self.new }
+    /// How many lines more the round has room for.
+    fn room(&self) -> usize
+        ensures within { 0 < result → length self.now.lines + result ≤ 65536 }
+        ensures few { result ≤ 65536 }
     {
-        if self.rounds.rest_len() >= MOST_LINES {
-            return Ok(None);
-        }
-        self.rounds.take(bytes, &self.decls)
+        MOST_LINES.saturating_sub(self.rounds.rest_len())
+    }
+
+    /// Reads the line at this place, if it is plainly one of a worker by the rules, and answers where its newline
+    /// stands. Else, and after want of memory, nothing was read.
+    fn take_front(&mut self, bytes: &[u8], at: usize) -> Result<Option<usize>, Memory>
+        requires room { length self.old.lines < 65536 }
+        requires within { at ≤ length bytes.now }
+        ensures { MayReadLine result bytes.now at self.old self.new }
+    {
+        self.rounds.take(bytes, at, &self.decls)
     }
 
     /// A join ends the round.
@@ -217,8 +225,8 @@ impl Reader {
 
     /// One line more, or its first kind of fault, under this number.
     pub(crate) fn step(&mut self, number: u32, line: &[u8]) -> Result<(), OrMemory<ScriptFault>>
-        ensures { FindsOrTells result (step self.old line.now) (fault_or (kind_of (place_after self.old) line.now) number None)
-            self.new }
+        ensures { FindsOrTells result (step self.old line.now)
+            (fault_or (kind_of (place_after self.old) line.now) number None) self.new }
     {
         match self.take(line) {
             Ok(()) => Ok(()),
@@ -242,4 +250,22 @@ impl Reader {
         rounds.finish()?;
         Ok(Script::new(decls.into_decls(), rounds))
     }
+}
+
+/// Reads the first lines, as many as are plainly workers' by the rules, and answers how many, and those behind them.
+pub(crate) fn read_front<'a>(
+    reader: &mut Reader,
+    bytes: &'a [u8],
+) -> Result<(u32, &'a [u8]), Memory>
+    ensures { IfOk result (λ x. LeavesOthers bytes.now x.1.now reader.old reader.new x.0) }
+{
+    let room = reader.room() as u32;
+    let mut at = 0;
+    for count in 0..room {
+        let Some(end) = reader.take_front(bytes, at)? else {
+            return Ok((count, &bytes[at..]));
+        };
+        at = end + 1;
+    }
+    Ok((room, &bytes[at..]))
 }

@@ -92,17 +92,19 @@ impl Rounds {
         self.lines.push(worker, ops)
     }
 
-    /// One more is the worker's line that stands at the front of the bytes, up to a newline; answers where that stands.
-    /// Else, and after want of memory, all is as it was.
+    /// One more is the worker's line that stands at this place, up to a newline; answers where that stands. Else, and
+    /// after want of memory, all is as it was.
     pub(crate) fn take(
         &mut self,
         bytes: &[u8],
+        at: usize,
         storages: &Storages,
     ) -> Result<Option<usize>, Memory>
-        ensures line { MayTakeLine result bytes.now storages.now self.old.rest self.new.rest }
+        requires { at ≤ length bytes.now }
+        ensures line { MayTakeLine result bytes.now at storages.now self.old.rest self.new.rest }
         ensures joined { self.new.joined ≡ self.old.joined }
     {
-        self.lines.take(bytes, storages)
+        self.lines.take(bytes, at, storages)
     }
 
     /// One line of the maintenance thread more. After want of memory all is as it was.

@@ -1,11 +1,10 @@
 // The declared storages while a script is read, and for each id the keys that it plainly has.
-ghost use Rattle.std.specs.Prelude.{◌≡◌, ◌==◌, ◌<◌, [], ◌∷◌, ◌++◌, ℕ, IsTrue, length, true, OnOk, OnErr};
-ghost use Rattle.serial_model.specs.Keys.{fits, has_key, has_key_of, id_of};
-ghost use Rattle.script_grammar.specs.FlatOps.{op_of};
+ghost use Rattle.std.specs.Prelude.{◌≡◌, [], ◌∷◌, ◌++◌, IsTrue, length, true, OnOk, OnErr};
+ghost use Rattle.serial_model.specs.Keys.{has_key, id_of, is_tree};
+ghost use Rattle.script_grammar.specs.Front.{IsLimitOf};
 
-use crate::flat_ops::FlatOp;
 use lists::Memory;
-use serial_model::{Decl, Decls, Key, fits};
+use serial_model::{Decl, Decls, Key};
 use std::alloc::Global;
 use std::marker::Model;
 
@@ -13,7 +12,7 @@ use std::marker::Model;
 #[derive(Drop)]
 pub(crate) struct Storages {
     decls: Decls,
-    /// By the storage's id: it has each key below.
+    /// By the storage's id: it has each key below; u64::MAX is the limit of trees alone.
     limits: [u64; 256],
 }
 
@@ -37,10 +36,9 @@ pub(crate) fn id_of(decl: &Decl) -> u8
     }
 }
 
-/// Of a storage, below which it has each key. A tree has one more.
+/// Below which a storage has each key. A tree has one more.
 fn limit_of(decl: &Decl) -> u64
-    ensures { (key : ℕ) → key < result
-        → has_key_of (record { storage = id_of decl.now; key = key }) decl.now ≡ true }
+    ensures { IsLimitOf decl.now result }
 {
     match *decl {
         Decl::Array { size, .. } => u64::from(size),
@@ -80,21 +78,18 @@ impl Storages {
         Ok(())
     }
 
-    /// Some storage plainly has the key.
-    fn has_key(&self, key: Key) -> bool
+    /// The storage plainly has the key.
+    pub(crate) fn has_key(&self, key: Key) -> bool
         ensures { IsTrue result → has_key self.now key ≡ true }
     {
         key.key < self.limits[usize::from(key.storage)]
     }
 
-    /// The operation plainly fits some storage.
-    pub(crate) fn fits(&self, op: &FlatOp) -> bool
-        ensures { IsTrue result → fits self.now (op_of op.now) ≡ true }
+    /// The storage is a tree.
+    pub(crate) fn has_tree(&self, storage: u8) -> bool
+        ensures { IsTrue result → is_tree self.now storage ≡ true }
     {
-        match op.point() {
-            Some(key) => self.has_key(key),
-            None => fits(self.decls.as_slice(), &op.op()),
-        }
+        self.limits[usize::from(storage)] == u64::MAX
     }
 
     pub(crate) fn into_decls(self) -> Decls

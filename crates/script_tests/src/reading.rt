@@ -167,35 +167,52 @@ fn fault(alloc: Global, text: &[u8]) -> Option<(u32, FaultKind)> {
     }
 }
 
-/// Each row has this kind of fault, in its line.
-fn tells(rt: &impl Abort, alloc: Global, kind: FaultKind, rows: &[u8]) {
+/// More bytes than the longest line has. With as many behind it, a worker's line is read in one pass.
+const EMPTY_LINES: [u8; 1030] = [b'\n'; 1030];
+
+/// The same text with empty lines behind it, which count for nothing.
+fn with_empty_lines(alloc: Global, text: &[u8]) -> Result<Vec<u8>, Fail> {
+    let mut long = text.to_vec(alloc)?;
+    long.extend_from_slice(&EMPTY_LINES)?;
+    Ok(long)
+}
+
+/// Each row has this kind of fault, in its line, at the end of a source and far before it.
+fn tells(rt: &impl Abort, alloc: Global, kind: FaultKind, rows: &[u8]) -> Result<(), Fail> {
     for row in rows.split(|byte| *byte == b'|') {
         match row {
             [line, b' ', text @ ..] => {
                 let want = (u32::from(line.wrapping_sub(b'0')), kind);
+                let long = with_empty_lines(alloc, text)?;
                 assert_eq!(rt; fault(alloc, text), Some(want), "at {text:?}");
+                assert_eq!(rt;
+                    fault(alloc, &long),
+                    Some(want),
+                    "far before the end at {text:?}"
+                );
             }
             _ => assert!(rt; false, "no row: {row:?}"),
         }
     }
+    Ok(())
 }
 
 #[test]
-fn tells_words(rt: HostRuntime) {
-    tells(&rt, rt.alloc(), FaultKind::Word, WORD);
+fn tells_words(rt: HostRuntime) -> Result<(), Fail> {
+    tells(&rt, rt.alloc(), FaultKind::Word, WORD)
 }
 
 #[test]
-fn tells_numbers(rt: HostRuntime) {
-    tells(&rt, rt.alloc(), FaultKind::Number, NUMBER);
+fn tells_numbers(rt: HostRuntime) -> Result<(), Fail> {
+    tells(&rt, rt.alloc(), FaultKind::Number, NUMBER)
 }
 
 #[test]
-fn tells_the_other_kinds(rt: HostRuntime) {
-    tells(&rt, rt.alloc(), FaultKind::TooMany, TOO_MANY);
-    tells(&rt, rt.alloc(), FaultKind::Declared, DECLARED);
-    tells(&rt, rt.alloc(), FaultKind::Kind, KIND);
-    tells(&rt, rt.alloc(), FaultKind::Range, RANGE);
+fn tells_the_other_kinds(rt: HostRuntime) -> Result<(), Fail> {
+    tells(&rt, rt.alloc(), FaultKind::TooMany, TOO_MANY)?;
+    tells(&rt, rt.alloc(), FaultKind::Declared, DECLARED)?;
+    tells(&rt, rt.alloc(), FaultKind::Kind, KIND)?;
+    tells(&rt, rt.alloc(), FaultKind::Range, RANGE)
 }
 
 /// The first line of the round, where it is a worker's.
@@ -260,8 +277,48 @@ fn reads_the_worked_rows(rt: HostRuntime) -> Result<(), Fail> {
     Ok(())
 }
 
+/// One operation a row, of a key and a value in storage 7 or 123. The last number has more digits than are read in one
+/// pass.
 #[test]
-fn accepts(rt: HostRuntime) {
+fn reads_numbers_of_each_length(rt: HostRuntime) -> Result<(), Fail> {
+    let ops: [(&[u8], u8, u64, u64); 6] = [
+        (b"7 0 9", 7, 0, 9),
+        (b"123 12 345", 123, 12, 345),
+        (b"7 6789 12345", 7, 6_789, 12_345),
+        (b"123 1000000000 99", 123, 1_000_000_000, 99),
+        (
+            b"7 1234567890123456789 9999999999999999999",
+            7,
+            1_234_567_890_123_456_789,
+            9_999_999_999_999_999_999,
+        ),
+        (
+            b"123 1 18446744073709551615",
+            123,
+            1,
+            18_446_744_073_709_551_615,
+        ),
+    ];
+    let mut room = LineOps::new();
+    for (words, storage, key, value) in ops {
+        let mut text = b"tree 7\ntree 123\n4 w ".to_vec(rt.alloc())?;
+        text.extend_from_slice(words)?;
+        let long = with_empty_lines(rt.alloc(), &text)?;
+        let script = read_script(rt.alloc(), &long).ok().ok_or("it is a script")?;
+        let want = [Op::Write(Key { storage, key }, value)];
+        if script.rounds() == 0 {
+            return Err(Fail::from("it has a round"));
+        }
+        assert_eq!(rt;
+            worker_line(&script.round(0), &mut room),
+            Some((4, want.as_slice()))
+        );
+    }
+    Ok(())
+}
+
+#[test]
+fn accepts(rt: HostRuntime) -> Result<(), Fail> {
     let sixteen =
         b"array 1 1\n7 r 1 0; r 1 0; r 1 0; r 1 0; r 1 0; r 1 0; r 1 0; r 1 0; r 1 0; r 1 0; r 1 0; r 1 0; r 1 0; r 1 0; r 1 0; r 1 0";
     let storages =
@@ -292,8 +349,15 @@ fn accepts(rt: HostRuntime) {
         (b"array 1 4\njoin\njoin\n0 r 1 0\njoin\n", (1, 3, 1)),
     ];
     for (text, want) in texts {
+        let long = with_empty_lines(rt.alloc(), text)?;
         assert_eq!(rt; counts(rt.alloc(), text), Some(want), "at {text:?}");
+        assert_eq!(rt;
+            counts(rt.alloc(), &long),
+            Some(want),
+            "far before the end at {text:?}"
+        );
     }
+    Ok(())
 }
 
 #[test]

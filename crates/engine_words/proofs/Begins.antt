@@ -1,6 +1,6 @@
 -- A transaction begins: a draw is due, unless there were too many.
 use Rattle.std.proofs.Common.{◌≡◌, ℕ, zero, suc, ◌+◌, ◌%◌, ◌/◌, ◌^◌, ◌<◌, ◌≤◌, Bool, true, false, cond, eqb, ltb}
-use Rattle.std.proofs.Common.{List, length, get_or, set, refl, sym, ap, ◌∙◌, subst, arith, Some, None}
+use Rattle.std.proofs.Common.{inl, inr, List, length, get_or, set, refl, sym, ap, ◌∙◌, subst, arith, Some, None}
 use Rattle.std.specs.Prelude.{MatchBool}
 use Rattle.std.proofs.lemmas.Bool.Decides.{nat_tests}
 use mathlib.Core.Option as option
@@ -23,7 +23,7 @@ use Rattle.engine_words.specs.Steps.{glanced, readied, refused_for, timed, Begin
 use Rattle.lists.specs.Elements.{in_none}
 use Rattle.engine_words.proofs.Cutting.{tried_longer}
 use Rattle.engine_words.proofs.Seats.{own_longer}
-use Rattle.engine_words.proofs.Turns.{Stride, allows_at, looked}
+use Rattle.engine_words.proofs.Turns.{Stride, allows_at, looked, unwritten}
 use Rattle.engine_words.proofs.Looking.{clock_told, seen_fits}
 use Rattle.engine_words.proofs.OwnView.{own_fits, Now}
 
@@ -164,7 +164,7 @@ begins keeps leaves l slots id me worker is undue =
         let look = looked l words views s v (glanced 0 n v) 0 h own
         (seen_fits l m s.seats v (glanced 0 n v) active f refl refl refl refl refl refl refl refl refl refl refl f.loaded refl refl
         (front_refl v.history) (front_refl v.decided) f.history f.decided)
-        refl refl refl refl refl refl refl in record {
+        refl refl refl refl refl refl refl refl refl refl (inl refl) in record {
           act = None;
           story = m;
           view = w;
@@ -188,6 +188,11 @@ begins keeps leaves l slots id me worker is undue =
             drew = refl;
             few = omega arith;
             room = omega (arith, few_wait l words views s h);
+            deals = inl (
+              record { locks = refl; touched = refl; same = λ k j there. ap (λ y. get_or y j 0) (unwritten words 0) },
+              inr (inl refl),
+            );
+            blames = inl refl;
           };
           tells-so = (
             u,
@@ -211,7 +216,7 @@ begins keeps leaves l slots id me worker is undue =
           turn = looked l words views s v w 0 h own
               (own_fits l m m s.seats v w active f f.part refl refl refl refl refl (λ mark has. has)
               (clock_refused l words views s v worker is h f own))
-              refl refl refl refl refl refl refl;
+              refl refl refl refl refl refl refl refl refl refl (inl refl);
           tells-so = (
             u,
             clock_told l words views s id v h at f own,

@@ -59,7 +59,7 @@ use Rattle.engine_words.proofs.LayoutLaws.{stands_at_key, word_in}
 use Rattle.engine_words.proofs.OwnView.{own_fits, part_goes}
 use Rattle.engine_words.proofs.Placing.{low_none}
 use Rattle.engine_words.proofs.Seats.{at_front, records_none, past_stays}
-use Rattle.engine_words.proofs.Settling.{settled_trying, settled_tried, settled_marks, settled_kept}
+use Rattle.engine_words.proofs.Settling.{settled_trying, settled_tried, settled_marks, settled_kept, settled_locks}
 use Rattle.engine_words.proofs.Trying.{tried_at, attempt_here, never_idle, tried_over}
 use Rattle.engine_words.proofs.Turns.{Stride, allows_at, looked, marks_stay, tried_goes, unwritten}
 
@@ -367,6 +367,11 @@ checks_word keeps leaves l slots id me k x at word own-lock c active is can word
             drew = refl;
             few = omega arith;
             room = omega (arith, h.sums.room);
+            deals = inl (
+              record { locks = refl; touched = refl; same = λ q j there. ap (λ y. get_or y j 0) (unwritten words at) },
+              inr (inr (inl (record { at = at; reads = refl }))),
+            );
+            blames = inl refl;
           };
           tells-so = (
             subst (λ b. MatchBool b (w ≡ checked_at x at n v) (w ≡ failed_at at n v)) (sym e) refl,
@@ -453,6 +458,11 @@ checks_word keeps leaves l slots id me k x at word own-lock c active is can word
             drew = refl;
             few = omega arith;
             room = omega (arith, h.sums.room);
+            deals = inl (
+              record { locks = settled_locks s'; touched = refl; same = λ q j there. ap (λ y. get_or y j 0) (unwritten words at) },
+              inr (inr (inl (record { at = at; reads = refl }))),
+            );
+            blames = inl refl;
           };
           tells-so = (
             subst (λ b. MatchBool b (w ≡ checked_at x at n v) (w ≡ failed_at at n v)) (sym e) refl,

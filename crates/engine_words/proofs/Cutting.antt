@@ -31,8 +31,13 @@ use Rattle.engine_words.specs.Cuts.{note_view, spent_view, heard_of, learned, se
 use Rattle.engine_words.specs.Steps.{HasTimed}
 use Rattle.engine_words.specs.declared.view.Heard.{Heard}
 use Rattle.commit_core.specs.declared.story.Story.{Story}
-use Rattle.engine_words.specs.Rule.{Shared, Tried, Own, IsKeepers, Fits, Sound, Shows}
+use Rattle.engine_words.specs.Rule.{Faces, Shared, Tried, Touching, Own, IsKeepers, Fits, Sound, Shows}
+use Rattle.engine_words.specs.Faces.{Grows}
+use Rattle.engine_words.specs.Touches.{AreBlamed, Touched, takes}
+use Rattle.serial_model.specs.declared.key.Key.{Key}
 use Rattle.engine_words.proofs.Seats.{by_equal, at_front, own_longer}
+use Rattle.engine_words.proofs.Facing.{blamed_grows}
+use Rattle.engine_words.proofs.Handing.{faces_grow, takes_none, touching_kept, touching_seated}
 use Rattle.engine_words.proofs.Turns.{MadeByOne, made_by_one}
 
 -- the views before become those after, and nothing else changes
@@ -48,8 +53,9 @@ pub record Cut (l : Layout) (views : List View) (s : Shared) (before after : Lis
   pub room : total waits after ≤ total waits before
 
 cuts : (l : Layout) (words : List ℕ) (views views' before after : List View) (s : Shared) → Sound l words views s
-    → Change before after views views' → Cut l views s before after → Sound l words views' s
-cuts l words views views' before after s h change cut = record {
+    → Change before after views views' → Cut l views s before after → Touching l words views' s.story s.seats
+    → Sound l words views' s
+cuts l words views views' before after s h change cut touching = record {
   laid_out = h.laid_out;
   first = h.first;
   blank = h.blank;
@@ -78,33 +84,50 @@ cuts l words views views' before after s h change cut = record {
     few_open = omega (arith, change.sums tries, cut.few, h.sums.few_open);
     room = omega (arith, change.sums waits, cut.room, h.sums.room);
   };
+  touching = touching;
 }
+
+-- two views that are put together keep their touches
+pub record Joined (l : Layout) (words : List ℕ) (views : List View) (s : Shared) (before after : List View) : Type 0 where
+  pub more : (q : ℕ) (k : Key) → total (takes q k) before ≤ total (takes q k) after
+  pub faces : (views' : List View) → AllByRecursion (Faces l words views s.story) before
+      → Grows (Touched views) (Touched views') → AllByRecursion (Faces l words views' s.story) after
+  pub blamed : (views' : List View) → AllByRecursion (λ v. AreBlamed (Touched views) v.blamed) before
+      → Grows (Touched views) (Touched views') → AllByRecursion (λ v. AreBlamed (Touched views') v.blamed) after
 
 pub splits : (l : Layout) (id : ℕ) (v left right : View)
     → ((words : List ℕ) (views : List View) (s : Shared) → Sound l words views s → Fits l s.story s.seats v
-    → get_elem? views id ≡ some v → Cut l views s (v ∷ []) (left ∷ right ∷ []))
+    → get_elem? views id ≡ some v
+    → Cut l views s (v ∷ []) (left ∷ right ∷ [])
+    × Touching l words (set views id left ++ right ∷ []) s.story s.seats)
     → Splits {S = Unit {0}} (λ s. Shows l s.words s.views) id v left right
 splits l id v left right go t h at =
-    let s : Shared = h.0 in (
+    let s : Shared = h.0 in
+    let cut = go t.words t.views s h.1 (each_at (Fits l s.story s.seats) t.views id v h.1.fits at) at in (
       s,
       cuts l t.words t.views (set t.views id left ++ right ∷ []) (v ∷ []) (left ∷ right ∷ []) s h.1
-          (one_splits t.views id v left right at)
-          (go t.words t.views s h.1 (each_at (Fits l s.story s.seats) t.views id v h.1.fits at) at),
+          (one_splits t.views id v left right at) cut.0 cut.1,
     )
 
 pub joins : (l : Layout) (id other : ℕ) (v u both spent : View)
     → ((words : List ℕ) (views : List View) (s : Shared) → Sound l words views s → Fits l s.story s.seats v
     → Fits l s.story s.seats u → get_elem? views id ≡ some v → ((f : View → ℕ) → f u ≤ total f views)
-    → Cut l views s (v ∷ u ∷ []) (both ∷ spent ∷ []))
+    → Cut l views s (v ∷ u ∷ []) (both ∷ spent ∷ [])
+    × Joined l words views s (v ∷ u ∷ []) (both ∷ spent ∷ []))
     → Joins {S = Unit {0}} (λ s. Shows l s.words s.views) id v other u both spent
 joins l id other v u both spent go t h at apart next =
     let s : Shared = h.0 in
     let change = two_join t.views id other v u both spent at apart next in
     let there : get_elem? t.views other ≡ some u = sym (at_set_other t.views id other both apart) ∙ next in
-    let were = change.were (Fits l s.story s.seats) h.1.fits in (
+    let were = change.were (Fits l s.story s.seats) h.1.fits in
+    let cut = go t.words t.views s h.1 were.0 were.1.0 at (λ f. term_at_most f t.views other u there) in
+    let views' : List View = set (set t.views id both) other spent in (
       s,
-      cuts l t.words t.views (set (set t.views id both) other spent) (v ∷ u ∷ []) (both ∷ spent ∷ []) s h.1 change
-          (go t.words t.views s h.1 were.0 were.1.0 at (λ f. term_at_most f t.views other u there)),
+      cuts l t.words t.views views' (v ∷ u ∷ []) (both ∷ spent ∷ []) s h.1 change cut.0
+          (touching_kept l t.words t.views views' (v ∷ u ∷ []) (both ∷ spent ∷ []) s.story s.seats h.1.touching change
+          cut.1.more
+          (cut.1.faces views' (change.were (Faces l t.words t.views s.story) h.1.touching.facing))
+          (cut.1.blamed views' (change.were (λ v. AreBlamed (Touched t.views) v.blamed) h.1.touching.blamed))),
     )
 
 -- ---- notes
@@ -125,7 +148,7 @@ note_fits l s v f = record {
   own = λ p at. absurd at;
   low = omega arith;
   part = has_nothing;
-  seatless = λ none. refl;
+  seatless = λ none. (refl, refl, refl);
   keepers = λ keeper. absurd (cc);
   met = λ met has. absurd (in_none met has);
 }
@@ -143,22 +166,36 @@ spent_fits l s = record {
   own = λ p at. absurd at;
   low = omega arith;
   part = has_nothing;
-  seatless = λ none. refl;
+  seatless = λ none. (refl, refl, refl);
   keepers = λ keeper. absurd (cc);
   met = λ met has. absurd (in_none met has);
 }
 
 pub notes : (l : Layout) (id : ℕ) (v : View) → Splits {S = Unit {0}} (λ s. Shows l s.words s.views) id v v (note_view v)
-notes l id v = splits l id v v (note_view v) (λ words views s h f at. record {
-  fits = (f, (note_fits l s v f, tt));
-  keeper = refl;
-  made = λ worker. refl;
-  once = λ p. omega (arith, h.sums.once p);
-  mine = λ k. refl;
-  drew = omega arith;
-  few = omega arith;
-  room = omega arith;
-})
+notes l id v = splits l id v v (note_view v) (λ words views s h f at. (
+  record {
+    fits = (f, (note_fits l s v f, tt));
+    keeper = refl;
+    made = λ worker. refl;
+    once = λ p. omega (arith, h.sums.once p);
+    mine = λ k. refl;
+    drew = omega arith;
+    few = omega arith;
+    room = omega arith;
+  },
+  touching_kept l words views (set views id v ++ note_view v ∷ []) (v ∷ []) (v ∷ note_view v ∷ []) s.story s.seats
+      h.touching (one_splits views id v v (note_view v) at) (λ q k. omega arith)
+      (λ grows. (
+        faces_grow l words views (set views id v ++ note_view v ∷ []) s.story v grows
+            (each_at (Faces l words views s.story) views id v h.touching.facing at),
+        ((λ worker is. absurd (cc)), tt),
+      ))
+      (λ grows. (
+        blamed_grows (Touched views) (Touched (set views id v ++ note_view v ∷ [])) v.blamed grows
+            (each_at (λ u. AreBlamed (Touched views) u.blamed) views id v h.touching.blamed at),
+        ((λ b has. absurd (in_none b has)), tt),
+      )),
+))
 
 -- a view that has seen more
 pub tried_longer : (p : ℕ) (old new : List Attempt) (checks : List Check) (checked : List Word) (mine : List Attempt)
@@ -199,44 +236,58 @@ learns l id other v u note = joins l id other v u (learned v u) spent_view (λ w
     let b = longer_of v.decided u.decided s.story.decided f.decided g.decided in
     let p : HasNothing u.made u.due u.seat.stage u.mine =
     subst (λ role. HasPart role u.made u.due u.seat.stage u.mine) note g.part in
-    let unsat : (k : ℕ) → sits k u ≡ 0 = λ k. ap (sits_by k) note in record {
-      fits = (
-        record {
-          history = a.whole;
-          decided = b.whole;
-          heard = heard_both v u s.story f.history f.decided g.history g.decided f.low g.low;
-          mine = f.mine;
-          mine_own = λ x has.
-              own_longer v.role v.history (learned v u).history v.decided (learned v u).decided x a.left b.left
-              (f.mine_own x has);
-          records = f.records;
-          kept = f.kept;
-          loaded = f.loaded;
-          own = λ q here.
-              let o = f.own q here in record {
-                layout = o.layout;
-                seat = o.seat;
-                tried = tried_longer q v.history (learned v u).history s.story.checks v.checked v.mine v.seat.stage a.left o.tried;
-                took = o.took;
-              };
-          low = f.low;
-          part = f.part;
-          seatless = f.seatless;
-          keepers = λ keeper.
-              let was = f.keepers keeper in
-              record { epoch = was.epoch; past = was.past; parked_are = was.parked_are; parked = was.parked };
-          met = f.met;
-        },
-        (spent_fits l s, tt),
-      );
-      keeper = omega (arith, unsat 0);
-      made = λ worker. omega (arith, unsat (suc worker), ap (times worker) p.nobody);
-      once = λ k. omega (arith, unsat k, h.sums.once k);
-      mine = λ k. omega (arith, ap (total (λ (x : Attempt). k x.number)) p.no_commits);
-      drew = omega (arith, g.seatless (λ active. subst IsActive note active));
-      few = omega arith;
-      room = omega arith;
-    })
+    let unsat : (k : ℕ) → sits k u ≡ 0 = λ k. ap (sits_by k) note in
+    let nothing = g.seatless (λ active. subst IsActive note active) in (
+      record {
+        fits = (
+          record {
+            history = a.whole;
+            decided = b.whole;
+            heard = heard_both v u s.story f.history f.decided g.history g.decided f.low g.low;
+            mine = f.mine;
+            mine_own = λ x has.
+                own_longer v.role v.history (learned v u).history v.decided (learned v u).decided x a.left b.left
+                (f.mine_own x has);
+            records = f.records;
+            kept = f.kept;
+            loaded = f.loaded;
+            own = λ q here.
+                let o = f.own q here in record {
+                  layout = o.layout;
+                  seat = o.seat;
+                  tried = tried_longer q v.history (learned v u).history s.story.checks v.checked v.mine v.seat.stage a.left o.tried;
+                  took = o.took;
+                };
+            low = f.low;
+            part = f.part;
+            seatless = f.seatless;
+            keepers = λ keeper.
+                let was = f.keepers keeper in
+                record { epoch = was.epoch; past = was.past; parked_are = was.parked_are; parked = was.parked };
+            met = f.met;
+          },
+          (spent_fits l s, tt),
+        );
+        keeper = omega (arith, unsat 0);
+        made = λ worker. omega (arith, unsat (suc worker), ap (times worker) p.nobody);
+        once = λ k. omega (arith, unsat k, h.sums.once k);
+        mine = λ k. omega (arith, ap (total (λ (x : Attempt). k x.number)) p.no_commits);
+        drew = omega (arith, nothing.0);
+        few = omega arith;
+        room = omega arith;
+      },
+      record {
+        more = λ q k. omega (arith, takes_none q k u nothing.1);
+        faces = λ views' were grows. (
+          faces_grow l words views views' s.story v grows were.0,
+          ((λ worker is. absurd (cc)), tt),
+        );
+        blamed = λ views' were grows. (
+          blamed_grows (Touched views) (Touched views') v.blamed grows were.0,
+          ((λ b has. absurd (in_none b has)), tt),
+        );
+      },
+    ))
 
 -- ---- a worker is seated
 
@@ -258,74 +309,76 @@ seats l id v worker is few free = splits l id v (seated worker v) (worker_view w
     let parked = keepers.parked worker few free in
     let no_part : (part : Part) → Contains (worker_view worker v).seat.kept part → ⊥ = λ part has.
     in_none part
-    (subst (λ (x : List Part). Contains x part) (ap (λ (t : Seat). t.kept) (sym parked.is) ∙ parked.resting.kept) has) in
-    record {
-      fits = (
-        record {
-          history = f.history;
-          decided = f.decided;
-          heard = f.heard;
-          mine = f.mine;
-          mine_own = f.mine_own;
-          records = f.records;
-          kept = f.kept;
-          loaded = f.loaded;
-          own = λ p here. let o = f.own p here in record { layout = o.layout; seat = o.seat; tried = o.tried; took = o.took };
-          low = f.low;
-          part = keeper_part v.role is v.made (v.made ++ worker ∷ []) v.due v.seat.stage v.mine v.mine f.part;
-          seatless = f.seatless;
-          keepers = λ keeper. record {
-            epoch = keepers.epoch;
-            past = keepers.past;
-            parked_are = keepers.parked_are;
-            parked = λ x less none. keepers.parked x less (let e = more x in omega arith);
-          };
-          met = f.met;
-        },
-        (
+    (subst (λ (x : List Part). Contains x part) (ap (λ (t : Seat). t.kept) (sym parked.is) ∙ parked.resting.kept) has) in (
+      record {
+        fits = (
           record {
             history = f.history;
             decided = f.decided;
-            heard = λ x has. absurd (in_none x has);
-            mine = tt;
-            mine_own = λ a has. absurd (in_none a has);
-            records = λ part has. absurd (no_part part has);
-            kept = λ k x c has. absurd (no_part _ has);
-            loaded = tt;
-            own = λ p here. record {
-              layout = (f.own 0 (subst (IsAt 0) (sym is) refl)).layout;
-              seat = sym parked.is ∙ ap s.seats (sym here);
-              tried = subst (Tried p v.history s.story.checks [] []) (ap (λ (t : Seat). t.stage) parked.is)
-                  (subst (Tried p v.history s.story.checks [] []) (sym parked.resting.stage) tt);
-              took = λ t has. absurd (in_none t has);
-            };
+            heard = f.heard;
+            mine = f.mine;
+            mine_own = f.mine_own;
+            records = f.records;
+            kept = f.kept;
+            loaded = f.loaded;
+            own = λ p here. let o = f.own p here in record { layout = o.layout; seat = o.seat; tried = o.tried; took = o.took };
             low = f.low;
-            part = (few, refl);
-            seatless = λ none. refl;
-            keepers = λ keeper. absurd (cc);
-            met = λ met has. absurd (in_none met has);
+            part = keeper_part v.role is v.made (v.made ++ worker ∷ []) v.due v.seat.stage v.mine v.mine f.part;
+            seatless = λ none. absurd (none (subst IsActive (sym is) tt));
+            keepers = λ keeper. record {
+              epoch = keepers.epoch;
+              past = keepers.past;
+              parked_are = keepers.parked_are;
+              parked = λ x less none. keepers.parked x less (let e = more x in omega arith);
+            };
+            met = f.met;
           },
-          tt,
-        ),
-      );
-      keeper = let none : one_at 0 (suc worker) ≡ 0 = grind (arith, nat_tests) in omega arith;
-      made = λ x.
-          let same : one_at (suc x) (suc worker) ≡ one_at x worker = grind (arith, nat_tests) in omega (arith, more x);
-      once = λ p.
-          by_equal p (suc worker)
-          (λ p. total (sits p) views + (sits p v + (one_at p (suc worker) + 0)) ≤ 1 + (sits p v + 0))
-          (let one : one_at (suc worker) (suc worker) ≡ 1 = grind (arith, nat_tests) in
-          omega (arith, h.sums.made_are worker, term_at_most (sits (suc worker)) views id v at))
-          (λ other.
-          let none : one_at p (suc worker) ≡ 0 = grind (arith, nat_tests) in omega (arith, h.sums.once p));
-      mine = λ k. refl;
-      drew = omega arith;
-      few =
-          let idle : tries (worker_view worker v) ≡ 0 =
-          ap (λ (t : Seat). cond (is_trying t.stage) 1 0) (sym parked.is)
-          ∙ ap (λ (x : Stage). cond (is_trying x) 1 0) parked.resting.stage in omega arith;
-      room = omega arith;
-    })
+          (
+            record {
+              history = f.history;
+              decided = f.decided;
+              heard = λ x has. absurd (in_none x has);
+              mine = tt;
+              mine_own = λ a has. absurd (in_none a has);
+              records = λ part has. absurd (no_part part has);
+              kept = λ k x c has. absurd (no_part _ has);
+              loaded = tt;
+              own = λ p here. record {
+                layout = (f.own 0 (subst (IsAt 0) (sym is) refl)).layout;
+                seat = sym parked.is ∙ ap s.seats (sym here);
+                tried = subst (Tried p v.history s.story.checks [] []) (ap (λ (t : Seat). t.stage) parked.is)
+                    (subst (Tried p v.history s.story.checks [] []) (sym parked.resting.stage) tt);
+                took = λ t has. absurd (in_none t has);
+              };
+              low = f.low;
+              part = (few, refl);
+              seatless = λ none. (refl, refl, refl);
+              keepers = λ keeper. absurd (cc);
+              met = λ met has. absurd (in_none met has);
+            },
+            tt,
+          ),
+        );
+        keeper = let none : one_at 0 (suc worker) ≡ 0 = grind (arith, nat_tests) in omega arith;
+        made = λ x.
+            let same : one_at (suc x) (suc worker) ≡ one_at x worker = grind (arith, nat_tests) in omega (arith, more x);
+        once = λ p.
+            by_equal p (suc worker)
+            (λ p. total (sits p) views + (sits p v + (one_at p (suc worker) + 0)) ≤ 1 + (sits p v + 0))
+            (let one : one_at (suc worker) (suc worker) ≡ 1 = grind (arith, nat_tests) in
+            omega (arith, h.sums.made_are worker, term_at_most (sits (suc worker)) views id v at))
+            (λ other.
+            let none : one_at p (suc worker) ≡ 0 = grind (arith, nat_tests) in omega (arith, h.sums.once p));
+        mine = λ k. refl;
+        drew = omega arith;
+        few =
+            let idle : tries (worker_view worker v) ≡ 0 =
+            ap (λ (t : Seat). cond (is_trying t.stage) 1 0) (sym parked.is)
+            ∙ ap (λ (x : Stage). cond (is_trying x) 1 0) parked.resting.stage in omega arith;
+        room = omega arith;
+      },
+      touching_seated l words views s id worker v v.made refl h f at is,
+    ))
 
 -- after the load of the clock behind a join, both have been seen
 pub seen_both : (v u joined w : View) (n : ℕ) → joined.heard ≡ heard_of v ∷ heard_of u ∷ [] → HasTimed joined n w

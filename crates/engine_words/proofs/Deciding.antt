@@ -38,10 +38,11 @@ use Rattle.engine_words.specs.declared.view.View.{View}
 use Rattle.engine_words.specs.Attempts.{CanDecide, chose, HasChosen}
 use Rattle.engine_words.specs.Rule.{Shared, IsInOrder, IsOwn, has_word, KeptAreRecords, KeptIsLow, Tried, Shows}
 use Rattle.engine_words.specs.Views.{IsActive, seat_number, tries}
+use Rattle.engine_words.proofs.Facing.{not_low}
 use Rattle.engine_words.proofs.OwnView.{own_fits, part_goes}
 use Rattle.engine_words.proofs.Placing.{low_none}
 use Rattle.engine_words.proofs.Seats.{at_front, own_longer, records_none, past_stays}
-use Rattle.engine_words.proofs.Settling.{settled_trying, settled_tried, settled_marks, settled_kept}
+use Rattle.engine_words.proofs.Settling.{settled_trying, settled_tried, settled_marks, settled_kept, settled_locks}
 use Rattle.engine_words.proofs.Trying.{tried_at, attempt_here, never_idle, tried_over}
 use Rattle.engine_words.proofs.Turns.{allows_at, marks_stay, written, records_same}
 
@@ -176,6 +177,15 @@ decides keeps leaves serial l slots id me active can =
         drew = refl;
         few = omega (arith, more);
         room = omega (arith, h.sums.room);
+        deals = inl (
+          record {
+            locks = settled_locks s';
+            touched = refl;
+            same = λ q j there. wr.others j (λ e. not_low l m q j there (omega (arith, e)));
+          },
+          inl refl,
+        );
+        blames = inl refl;
       };
       tells-so = record {
         history = m.history;

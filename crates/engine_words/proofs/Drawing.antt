@@ -29,6 +29,7 @@ use Rattle.engine_words.specs.declared.view.View.{View}
 use Rattle.engine_words.specs.Attempts.{attempt_of, drew, HasDrawn}
 use Rattle.engine_words.specs.Rule.{Shared, IsSmall, WriteValues, IsPast, Shows}
 use Rattle.engine_words.specs.Views.{IsActive, HasPart, seat_number, waits, tries}
+use Rattle.engine_words.proofs.Facing.{not_low}
 use Rattle.engine_words.proofs.Opening.{not_trying}
 use Rattle.engine_words.proofs.OwnView.{own_fits, part_goes}
 use Rattle.engine_words.proofs.Seats.{in_front, own_longer, records_longer}
@@ -137,6 +138,15 @@ draws keeps leaves l slots id me writes active due idle same values =
         drew = omega (arith, more);
         few = omega (arith, more);
         room = omega (arith, more, h.sums.room);
+        deals = inl (
+          record {
+            locks = refl;
+            touched = refl;
+            same = λ q j there. wr.others j (λ e. not_low l m q j there (omega (arith, e)));
+          },
+          inl refl,
+        );
+        blames = inl refl;
       };
       tells-so = record {
         all = m.history;

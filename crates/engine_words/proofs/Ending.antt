@@ -8,7 +8,7 @@ use Rattle.commit_core.specs.declared.attempt.Attempt.{Attempt}
 use Rattle.commit_core.specs.declared.seat.Stage.{Stage}
 use Rattle.commit_core.specs.Keys.{opening_number}
 use Rattle.commit_core.specs.CoreState.{is_trying}
-use Rattle.views.specs.Sums.{total, one_at, times, without, times-without}
+use Rattle.views.specs.Sums.{total, total-append, one_at, times, without, times-without}
 use Rattle.views.specs.Changes.{each_at}
 use Rattle.views.specs.Longer.{longer_of}
 use Rattle.engine_words.specs.declared.layout.Layout.{Layout}
@@ -21,7 +21,11 @@ use Rattle.engine_words.specs.Gathered.{in_gathered, order_gathered, total_gathe
 use Rattle.engine_words.specs.Rule.{IsParked, Shows}
 use Rattle.engine_words.proofs.Seats.{by_equal, own_longer}
 use Rattle.engine_words.proofs.Turns.{MadeByOne, made_by_one}
-use Rattle.engine_words.proofs.Cutting.{Cut, joins, keeper_part, spent_fits, heard_both, tried_longer, tried_apart}
+use Rattle.engine_words.specs.Touches.{Touched, is_touch}
+use Rattle.lists.specs.Elements.{in_none}
+use Rattle.engine_words.proofs.Facing.{blamed_grows}
+use Rattle.engine_words.proofs.Handing.{blamed_both}
+use Rattle.engine_words.proofs.Cutting.{Cut, Joined, joins, keeper_part, spent_fits, heard_both, tried_longer, tried_apart}
 
 apart_roles : (role : Role) (worker : ℕ) → role ≡ Keeper → role ≡ Worker worker → ⊥
 apart_roles role worker keeper is = cc
@@ -57,65 +61,80 @@ ends l id other v u worker is theirs undue resting = joins l id other v u (ended
     subst (λ k. times x (without k v.made) + one_at x worker ≡ times x v.made) (sym named) (times-without x worker v.made there) in
     let w = ended v u in
     let keepers = f.keepers is in
-    let room : worker < length v.parked = omega (arith, keepers.parked_are, part.0) in record {
-      fits = (
-        record {
-          history = a.whole;
-          decided = b.whole;
-          heard = heard_both v u s.story f.history f.decided g.history g.decided f.low g.low;
-          mine = order_gathered opening_number v.mine u.mine f.mine g.mine;
-          mine_own = λ x has. elim (in_gathered x v.mine u.mine has) [
-            | inl mine ↦ own_longer v.role v.history w.history v.decided w.decided x a.left b.left (f.mine_own x mine)
-            | inr more ↦
-                let own = own_longer u.role u.history w.history u.decided w.decided x a.right b.right (g.mine_own x more) in
-                record { drawn = own.drawn; counts = own.counts; by = λ k e. absurd (apart_roles v.role k is e) }
-          ];
-          records = f.records;
-          kept = f.kept;
-          loaded = f.loaded;
-          own = λ q here.
-              let o = f.own q here in record {
-                layout = o.layout;
-                seat = o.seat;
-                tried = tried_apart q w.history s.story.checks v.checked v.mine w.mine v.seat.stage
-                    (keeper_rests v is v.role refl f.part)
-                    (tried_longer q v.history w.history s.story.checks v.checked v.mine v.seat.stage a.left o.tried);
-                took = o.took;
-              };
-          low = f.low;
-          part = keeper_part v.role is v.made w.made v.due v.seat.stage v.mine w.mine f.part;
-          seatless = λ none. absurd (none (subst IsActive (sym is) tt));
-          keepers = λ keeper. record {
-            epoch = keepers.epoch;
-            past = keepers.past;
-            parked_are = length-set v.parked (worker_of u.role) u.seat ∙ keepers.parked_are;
-            parked = λ x few none. by_equal x worker (λ x. times x w.made ≡ 0 → x < 8 → IsParked w.parked s.seats x)
-                (λ _ _. record {
-                  is = sym theirs-is
-                      ∙ sym (ap (λ k. get_or (set v.parked k u.seat) worker bare_seat) named
-                      ∙ get_or-set_same v.parked worker u.seat bare_seat room);
-                  resting = subst IsResting theirs-is resting;
-                })
-                (λ apart none few.
-                let was = keepers.parked x few (let l = less x in
-                let no_one : one_at x worker ≡ 0 = grind (arith, nat_tests) in omega arith) in record {
-                  is = was.is
-                      ∙ sym (ap (λ k. get_or (set v.parked k u.seat) x bare_seat) named
-                      ∙ get_or-set_other v.parked worker x u.seat bare_seat apart);
-                  resting = was.resting;
-                }) none few;
-          };
-          met = f.met;
-        },
-        (spent_fits l s, tt),
-      );
-      keeper = let none : one_at 0 (suc worker) ≡ 0 = grind (arith, nat_tests) in omega (arith, sat 0);
-      made = λ x.
-          let same : one_at (suc x) (suc worker) ≡ one_at x worker = grind (arith, nat_tests) in
-          omega (arith, sat (suc x), less x, ap (times x) part.1);
-      once = λ k. omega (arith, h.sums.once k);
-      mine = λ k. omega (arith, total_gathered (λ (x : Attempt). k x.number) v.mine u.mine);
-      drew = omega arith;
-      few = omega arith;
-      room = omega arith;
-    })
+    let room : worker < length v.parked = omega (arith, keepers.parked_are, part.0) in (
+      record {
+        fits = (
+          record {
+            history = a.whole;
+            decided = b.whole;
+            heard = heard_both v u s.story f.history f.decided g.history g.decided f.low g.low;
+            mine = order_gathered opening_number v.mine u.mine f.mine g.mine;
+            mine_own = λ x has. elim (in_gathered x v.mine u.mine has) [
+              | inl mine ↦ own_longer v.role v.history w.history v.decided w.decided x a.left b.left (f.mine_own x mine)
+              | inr more ↦
+                  let own = own_longer u.role u.history w.history u.decided w.decided x a.right b.right (g.mine_own x more) in
+                  record { drawn = own.drawn; counts = own.counts; by = λ k e. absurd (apart_roles v.role k is e) }
+            ];
+            records = f.records;
+            kept = f.kept;
+            loaded = f.loaded;
+            own = λ q here.
+                let o = f.own q here in record {
+                  layout = o.layout;
+                  seat = o.seat;
+                  tried = tried_apart q w.history s.story.checks v.checked v.mine w.mine v.seat.stage
+                      (keeper_rests v is v.role refl f.part)
+                      (tried_longer q v.history w.history s.story.checks v.checked v.mine v.seat.stage a.left o.tried);
+                  took = o.took;
+                };
+            low = f.low;
+            part = keeper_part v.role is v.made w.made v.due v.seat.stage v.mine w.mine f.part;
+            seatless = λ none. absurd (none (subst IsActive (sym is) tt));
+            keepers = λ keeper. record {
+              epoch = keepers.epoch;
+              past = keepers.past;
+              parked_are = length-set v.parked (worker_of u.role) u.seat ∙ keepers.parked_are;
+              parked = λ x few none. by_equal x worker (λ x. times x w.made ≡ 0 → x < 8 → IsParked w.parked s.seats x)
+                  (λ _ _. record {
+                    is = sym theirs-is
+                        ∙ sym (ap (λ k. get_or (set v.parked k u.seat) worker bare_seat) named
+                        ∙ get_or-set_same v.parked worker u.seat bare_seat room);
+                    resting = subst IsResting theirs-is resting;
+                  })
+                  (λ apart none few.
+                  let was = keepers.parked x few (let l = less x in
+                  let no_one : one_at x worker ≡ 0 = grind (arith, nat_tests) in omega arith) in record {
+                    is = was.is
+                        ∙ sym (ap (λ k. get_or (set v.parked k u.seat) x bare_seat) named
+                        ∙ get_or-set_other v.parked worker x u.seat bare_seat apart);
+                    resting = was.resting;
+                  }) none few;
+            };
+            met = f.met;
+          },
+          (spent_fits l s, tt),
+        );
+        keeper = let none : one_at 0 (suc worker) ≡ 0 = grind (arith, nat_tests) in omega (arith, sat 0);
+        made = λ x.
+            let same : one_at (suc x) (suc worker) ≡ one_at x worker = grind (arith, nat_tests) in
+            omega (arith, sat (suc x), less x, ap (times x) part.1);
+        once = λ k. omega (arith, h.sums.once k);
+        mine = λ k. omega (arith, total_gathered (λ (x : Attempt). k x.number) v.mine u.mine);
+        drew = omega arith;
+        few = omega arith;
+        room = omega arith;
+      },
+      record {
+        more = λ q k. let both = total-append (is_touch q k) v.touched u.touched in omega (arith, both);
+        faces = λ views' were grows. (
+          (λ other same. absurd (apart_roles v.role other is same)),
+          ((λ other same. absurd (cc)), tt),
+        );
+        blamed = λ views' were grows. (
+          blamed_both (Touched views') v.blamed u.blamed
+              (blamed_grows (Touched views) (Touched views') v.blamed grows were.0)
+              (blamed_grows (Touched views) (Touched views') u.blamed grows were.1.0),
+          ((λ b has. absurd (in_none b has)), tt),
+        );
+      },
+    ))

@@ -212,7 +212,7 @@ opens law l words can first =
             own = λ p at. record { layout = refl; seat = refl; tried = tt; took = λ t has. absurd (in_none t has) };
             low = omega arith;
             part = (refl, refl);
-            seatless = λ none. refl;
+            seatless = λ none. (refl, refl, refl);
             keepers = λ keeper. record {
               epoch = omega arith;
               past = record { clock = let begun = can.begun in omega arith; tried = λ a has now. absurd (in_none a has) };
@@ -234,6 +234,13 @@ opens law l words can first =
           draws_are = refl;
           few_open = omega arith;
           room = let d = can.first.draw in omega arith;
+        };
+        touching = record {
+          taken = λ q k has. absurd (cc);
+          keeper = refl;
+          others = λ p most. refl;
+          facing = ((λ worker is. absurd (cc)), tt);
+          blamed = ((λ b has. absurd (in_none b has)), tt);
         };
       },
     )

@@ -30,6 +30,9 @@ use Rattle.engine_words.specs.Locks.{lock_bit, took_at, locked, Locked}
 use Rattle.engine_words.specs.Rule.{Shared, lock_field, ShowsRecord, IsHeld, Fits, Own, Sound, Shows}
 use Rattle.engine_words.specs.Steps.{read_at}
 use Rattle.engine_words.specs.Views.{IsActive, seat_number}
+use Rattle.engine_words.specs.declared.view.Role.TheVariants.{Worker}
+use Rattle.engine_words.specs.Cuts.{worker_of}
+use Rattle.engine_words.proofs.Begins.{worker_acts}
 use Rattle.engine_words.proofs.Contents.{free_below}
 use Rattle.engine_words.proofs.LayoutLaws.{stands_at_key, word_in}
 use Rattle.engine_words.proofs.Looking.{seen_fits}
@@ -45,13 +48,16 @@ free_alive : (h : Holder) → h ≡ Free → h ≡ Dead → ⊥
 free_alive h free dead = absurd (cc)
 
 pub locks : EachActKeeps → EachActLeaves → (l : Layout) (slots id : ℕ) (me : Me (Unit {0}) View) (k : Key) (x : Spot) (at expected : ℕ)
-    → IsActive me.0.role → can_begin me.0.seat.stage ≡ true → IsAtKey l.decls k x at → expected < 2 ^ 60
+    → me.0.role ≡ Worker (worker_of me.0.role) → can_begin me.0.seat.stage ≡ true → IsAtKey l.decls k x at → expected < 2 ^ 60
     → Allows (λ s. Shows l s.words s.views) slots id me at (λ n. either (eqb n expected) (expected + lock_bit) n)
     (λ n now. (now.1 ≡ me.1) × Locked k at expected me.0 n now.0)
-locks keeps leaves l slots id me k x at expected active idle is few =
+locks keeps leaves l slots id me k x at expected is_worker idle is few =
     allows_at keeps leaves l slots id me at (λ n. either (eqb n expected) (expected + lock_bit) n) (Locked k at expected)
     active (λ words views s h f own there. by_found words views s h f own (eqb (get_or words at 0) expected) refl)
   where
+    active : IsActive me.0.role
+    active = worker_acts me.0.role (worker_of me.0.role) is_worker
+
     by_found : (words : List ℕ) (views : List View) (s : Shared) → Sound l words views s → Fits l s.story s.seats me.0
         → Own l s.story s.seats me.0 (seat_number me.0.role) → (b : Bool) → eqb (get_or words at 0) expected ≡ b
         → Stride l words views s (seat_number me.0.role) me.0 at (λ n. either (eqb n expected) (expected + lock_bit) n)
@@ -149,6 +155,19 @@ locks keeps leaves l slots id me k x at expected active idle is few =
             drew = refl;
             few = omega arith;
             room = omega (arith, h.sums.room);
+            deals = inr (inl (record {
+              worker = λ zero-is. absurd (let number = ap seat_number is_worker in omega (arith, number, zero-is));
+              key = k;
+              at = at;
+              there = (x, stands);
+              word = n;
+              locks = refl;
+              touched = refl;
+              reads = refl;
+              left = wr.here ∙ (y-is ∙ ap (λ z. z + lock_bit) found);
+              others = λ q j there other. wr.others j other;
+            }));
+            blames = inl refl;
           };
           tells-so = subst (λ b. MatchBool b (w ≡ locked k at n v) (w ≡ read_at at n v)) (sym e) refl;
         }
@@ -168,6 +187,7 @@ locks keeps leaves l slots id me k x at expected active idle is few =
               (looked l words views s v w at h own
               (seen_fits l s.story s.seats v w active f refl refl refl refl refl refl refl refl refl refl refl f.loaded refl
               refl (front_refl v.history) (front_refl v.decided) f.history f.decided)
-              refl refl refl refl refl refl refl);
+              refl refl refl refl refl refl refl refl refl refl
+              (inr (inr (inl (record { at = at; reads = refl })))));
           tells-so = subst (λ b. MatchBool b (w ≡ locked k at n v) (w ≡ read_at at n v)) (sym e) refl;
         }

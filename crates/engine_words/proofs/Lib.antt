@@ -26,3 +26,5 @@ pub mod RecordCounts
 pub mod Ending
 pub mod Begins
 pub mod Seeing
+pub mod Facing
+pub mod Handing

@@ -1,7 +1,7 @@
 -- Loads of the clock and of the count of decisions, which are no act of the machine.
 use Rattle.std.proofs.Common.{◌≡◌, ◌≢◌, ℕ, zero, suc, ◌+◌, ◌/◌, ◌%◌, ◌^◌, ◌<◌, ◌≤◌, Bool, true, false, true≢false}
 use Rattle.std.proofs.Common.{cond, List, [], ◌∷◌, length, get_or, refl, sym, ap, ◌∙◌, subst, arith, Some, None}
-use Rattle.std.proofs.Common.{IfSome}
+use Rattle.std.proofs.Common.{IfSome, inl}
 use Rattle.std.specs.List.{AllByRecursion, Contains}
 use Rattle.std.proofs.lemmas.Bool.Decides.{nat_tests}
 use mathlib.Core.Option as option
@@ -39,6 +39,9 @@ use Rattle.engine_words.specs.Rule.{Shared, IsInOrder, IsOwn, EachIsTried, Tried
 use Rattle.engine_words.specs.Rule.{IsKeepers, WasMarked, KeptAreRecords, KeptIsLow, StillLoaded, Fits, Sound, Shows}
 use Rattle.engine_words.specs.Steps.{glance, timed, past_at, HasTimed, Times, AreSerial, HasCounted, Counts}
 use Rattle.engine_words.proofs.Seats.{by_equal, put_seat, put_same, put_other, at_number, is_at, in_at, own_longer}
+use Rattle.engine_words.specs.Touches.{AreBlamed, Touched, takes, touch}
+use Rattle.engine_words.proofs.Facing.{blamed_grows}
+use Rattle.engine_words.proofs.Handing.{has_touch, nobody_sits, takes_none}
 use Rattle.engine_words.proofs.Turns.{MadeByOne, made_by_one, looked, allows_at, Stride}
 use Rattle.engine_words.proofs.Cutting.{tried_longer}
 use Rattle.engine_words.proofs.OwnView.{own_fits}
@@ -122,11 +125,6 @@ owned_by_seats h v (Worker w) is part none others = absurd (let nobody = others 
 owned_by_seats h v Note is part none others = ap (total (λ (a : Attempt). h a.number)) part.no_commits
 owned_by_seats h v Spent is part none others = ap (total (λ (a : Attempt). h a.number)) part.no_commits
 
-nobody_sits : (views : List View) → ((x : ℕ) → total (sits (suc x)) views ≡ 0)
-    → AllByRecursion (λ v. (x : ℕ) → sits (suc x) v ≡ 0) views
-nobody_sits [] none = tt
-nobody_sits (v ∷ views) none = ((λ x. omega (arith, none x)), nobody_sits views (λ x. omega (arith, none x)))
-
 -- and drew nothing
 drew_by_seats : (v : View) (role : Role) → v.role ≡ role → ((IsActive role → ⊥) → drawn_by v ≡ 0) → sits_by 0 role ≡ 0
     → ((x : ℕ) → sits_by (suc x) role ≡ 0) → drawn_by v ≡ 0
@@ -134,6 +132,14 @@ drew_by_seats v Keeper is seatless none others = absurd (omega arith)
 drew_by_seats v (Worker w) is seatless none others = absurd (let nobody = others w in grind (arith, nat_tests))
 drew_by_seats v Note is seatless none others = seatless (λ active. active)
 drew_by_seats v Spent is seatless none others = seatless (λ active. active)
+
+-- and took nothing
+took_by_seats : (q : ℕ) (k : Key) (v : View) (role : Role) → v.role ≡ role → ((IsActive role → ⊥) → v.touched ≡ [])
+    → sits_by 0 role ≡ 0 → ((x : ℕ) → sits_by (suc x) role ≡ 0) → takes q k v ≡ 0
+took_by_seats q k v Keeper is seatless none others = absurd (omega arith)
+took_by_seats q k v (Worker w) is seatless none others = absurd (let nobody = others w in grind (arith, nat_tests))
+took_by_seats q k v Note is seatless none others = takes_none q k v (seatless (λ active. active))
+took_by_seats q k v Spent is seatless none others = takes_none q k v (seatless (λ active. active))
 
 -- what weighs nothing for who has no seat is the keeper's alone, where nobody is seated
 alone_weighs : (l : Layout) (words : List ℕ) (views : List View) (s : Shared) (id : ℕ) (v : View)
@@ -161,8 +167,20 @@ all_drawn : (l : Layout) (words : List ℕ) (views : List View) (s : Shared) (id
     → get_elem? views id ≡ some v → v.role ≡ Keeper → v.made ≡ [] → drawn_by v ≡ length s.story.history
 all_drawn l words views s id v h at keeper none =
     alone_weighs l words views s id v h at keeper none drawn_by
-    (λ u f unseated nobody. drew_by_seats u u.role refl f.seatless unseated nobody)
+    (λ u f unseated nobody. drew_by_seats u u.role refl (λ none. (f.seatless none).0) unseated nobody)
     ∙ h.sums.draws_are
+
+-- what the keeper is told that others met, they met of those whose locks it is told
+all_blamed : (l : Layout) (words : List ℕ) (views : List View) (s : Shared) (id : ℕ) (v : View) → Sound l words views s
+    → get_elem? views id ≡ some v → v.role ≡ Keeper → v.made ≡ []
+    → AreBlamed (λ q k. Contains v.touched (touch q k)) v.blamed
+all_blamed l words views s id v h at keeper none =
+    blamed_grows (Touched views) (λ q k. Contains v.touched (touch q k)) v.blamed
+    (λ q k has. has_touch q k v.touched
+    (let same = alone_weighs l words views s id v h at keeper none (takes q k)
+    (λ u f unseated nobody. took_by_seats q k u u.role refl (λ off. (f.seatless off).1) unseated nobody) in
+    omega (arith, same, has)))
+    (each_at (λ u. AreBlamed (Touched views) u.blamed) views id v h.touching.blamed at)
 
 -- ---- the clock
 
@@ -262,7 +280,7 @@ times_clock keeps leaves l slots id me active =
                 subst (λ e. IsPast m (past_at v.role v.made v.past e)) (sym epoch)
                 (past_now l m s.seats v v.role refl v.made refl f h.tried keeper);
           })
-          refl refl refl refl refl refl refl;
+          refl refl refl refl refl refl refl refl refl refl (inl refl);
       tells-so = clock_told l words views s id v h at f own;
     })
 
@@ -288,7 +306,7 @@ counts keeps leaves serial l slots id me active =
       turn = looked l words views s v w 1 h own
           (seen_fits l m s.seats v w active f refl refl refl refl refl refl refl refl refl refl refl f.loaded refl refl f.history f.decided
           (front_refl m.history) (front_refl m.decided))
-          refl refl refl refl refl refl refl;
+          refl refl refl refl refl refl refl refl refl refl (inl refl);
       tells-so = record {
         history = f.history;
         decided = f.decided;
@@ -299,6 +317,7 @@ counts keeps leaves serial l slots id me active =
             record { run = commits.run; reads = commits.reads };
         all = all_own l words views s id v h at;
         draws = all_drawn l words views s id v h at;
+        blamed = all_blamed l words views s id v h at;
         is = refl;
       };
     })

@@ -31,6 +31,7 @@ use Rattle.engine_words.specs.Layout.{mark_at}
 use Rattle.engine_words.specs.Rule.{Shared, ShowsMark, IsSmallMark, word_of_mark, WasMarked, Shows}
 use Rattle.engine_words.specs.Steps.{glanced}
 use Rattle.engine_words.specs.Views.{IsActive, HasPart, seat_number}
+use Rattle.engine_words.proofs.Facing.{not_low}
 use Rattle.engine_words.proofs.Begins.{worker_acts}
 use Rattle.engine_words.proofs.OwnView.{own_fits, own_fits_met}
 use Rattle.engine_words.proofs.Seats.{by_equal, put_seat, put_same, put_other, past_stays}
@@ -120,6 +121,15 @@ advances keeps leaves l slots id me is few =
         drew = refl;
         few = omega arith;
         room = omega (arith, h.sums.room);
+        deals = inl (
+          record {
+            locks = refl;
+            touched = refl;
+            same = λ q j there. wr.others j (λ e. not_low l m q j there (omega (arith, e, few)));
+          },
+          inl refl,
+        );
+        blames = inl refl;
       };
       tells-so = refl;
     })
@@ -215,6 +225,15 @@ marks_word keeps leaves l slots id me worker n mark is resting can small n-is =
         drew = refl;
         few = omega arith;
         room = omega (arith, h.sums.room);
+        deals = inl (
+          record {
+            locks = refl;
+            touched = refl;
+            same = λ q j there. wr.others j (λ e. not_low l m q j there (omega (arith, e, few)));
+          },
+          inl refl,
+        );
+        blames = inl refl;
       };
       tells-so = refl;
     })
@@ -261,7 +280,7 @@ meets keeps leaves l slots id me worker active few =
             epoch = λ keeper. (f.keepers keeper).epoch;
             past = λ keeper. (f.keepers keeper).past;
           })
-          refl refl refl refl refl refl refl;
+          refl refl refl refl refl refl refl refl refl refl (inl refl);
       tells-so = record {
         mark = shows.mark;
         small = shows.small;

@@ -40,12 +40,12 @@ use Rattle.engine_words.specs.Locks.{took_at, opened, CanOpenAgain, CanOpenAnew}
 use Rattle.engine_words.specs.Rule.{Shared, IsSmall, WriteValues, ShowsRecord, KeptAreRecords, KeptIsLow, IsHeld}
 use Rattle.engine_words.specs.Rule.{Fits, Own, Sound, Shows}
 use Rattle.engine_words.specs.Views.{IsActive, seat_number, tries}
-use Rattle.engine_words.proofs.Contents.{stands_there, change_of}
+use Rattle.engine_words.proofs.Contents.{small_word, stands_there, change_of}
 use Rattle.engine_words.proofs.LayoutLaws.{stands_at_key, word_in}
 use Rattle.engine_words.proofs.OwnView.{own_fits, part_goes}
 use Rattle.engine_words.proofs.Placing.{replaced_shows, low_replaced, low_none, held_other, not_at_other}
 use Rattle.engine_words.proofs.Seats.{at_front, records_none}
-use Rattle.engine_words.proofs.Settling.{settled_trying, settled_idle, settled_tried, settled_marks, settled_kept}
+use Rattle.engine_words.proofs.Settling.{settled_trying, settled_idle, settled_tried, settled_marks, settled_kept, settled_locks}
 use Rattle.engine_words.proofs.Turns.{Stride, allows_at, marks_stay, tried_goes, written}
 
 pub held_alive : (p : ℕ) (h : Holder) → holder_is p h ≡ true → h ≡ Dead → ⊥
@@ -171,6 +171,20 @@ opens_to keeps leaves l slots id me k x at n active is resting mine gives =
         drew = refl;
         few = omega arith;
         room = omega (arith, h.sums.room);
+        deals = inr (inr (record {
+          key = k;
+          at = at;
+          there = (x, stands-at);
+          mine = mine;
+          word = n;
+          small = omega (arith, g.word, small_word (option_map_or (λ b. b.number) g.o q.content.number) g.small);
+          locks = settled_locks s';
+          touched = refl;
+          reads = refl;
+          left = wr.here;
+          others = λ y j there other. wr.others j other;
+        }));
+        blames = inl refl;
       };
       tells-so = refl;
     })

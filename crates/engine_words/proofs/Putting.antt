@@ -24,6 +24,8 @@ use Rattle.engine_words.specs.Layout.{IsAtKey}
 use Rattle.engine_words.specs.Locks.{put_at, CanPut}
 use Rattle.engine_words.specs.Rule.{Shared, ShowsRecord, Shows}
 use Rattle.engine_words.specs.Views.{IsActive, seat_number}
+use Rattle.engine_words.specs.Rule.{StandsIn}
+use Rattle.engine_words.proofs.Facing.{none_behind}
 use Rattle.engine_words.proofs.LayoutLaws.{stands_at_key, word_in}
 use Rattle.engine_words.proofs.Opening.{held_alive, locked_held}
 use Rattle.engine_words.proofs.OwnView.{own_fits}
@@ -114,6 +116,21 @@ puts keeps leaves l slots id me k x at value active is can =
         drew = refl;
         few = omega arith;
         room = omega (arith, h.sums.room);
+        deals = inl (
+          record {
+            locks = refl;
+            touched = refl;
+            same = λ y j there. wr.others j
+                (λ e. none_behind l m k y at (x, stands-at) (subst (λ i. StandsIn l m y i) e there));
+          },
+          inr (inr (inr (record {
+            at = at + 1;
+            word = value;
+            none = λ y there. none_behind l m k y at (x, stands-at) there;
+            reads = refl;
+          }))),
+        );
+        blames = inl refl;
       };
       tells-so = refl;
     })

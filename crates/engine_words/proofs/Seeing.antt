@@ -121,7 +121,8 @@ sees keeps leaves l slots id me k x at active resting is =
                 epoch = λ keeper. (f.keepers keeper).epoch;
                 past = λ keeper. (f.keepers keeper).past;
               })
-              refl refl refl refl refl refl refl;
+              refl refl refl refl refl refl refl refl refl refl
+              (inr (inr (inl (record { at = at; reads = refl }))));
           tells-so = subst
               (λ b. MatchBool b
               ((c : Content) × IsSmall c.number × (number_word c.number ≡ n) × (c.value ≡ None → c.number ≡ opening_number)
@@ -141,7 +142,8 @@ sees keeps leaves l slots id me k x at active resting is =
           turn = looked l words views s v w at h own
               (seen_fits l s.story s.seats v w active f refl refl refl refl refl refl refl refl refl refl refl f.loaded refl refl
               (front_refl v.history) (front_refl v.decided) f.history f.decided)
-              refl refl refl refl refl refl refl;
+              refl refl refl refl refl refl refl refl refl refl
+              (inr (inr (inl (record { at = at; reads = refl }))));
           tells-so = subst
               (λ b. MatchBool b
               ((c : Content) × IsSmall c.number × (number_word c.number ≡ n) × (c.value ≡ None → c.number ≡ opening_number)

@@ -77,3 +77,16 @@ settled_kept P s h none = by_lock (eqb (length s.locks) 0)
     by_lock : (b : Bool) → P (cond b (settled_at s.stage s) s).kept
     by_lock true = by_stage s.stage
     by_lock false = h
+
+pub settled_locks : (s : Seat) → (settled s).locks ≡ s.locks
+settled_locks s = by_lock (eqb (length s.locks) 0)
+  where
+    by_stage : (stage : Stage) → (settled_at stage s).locks ≡ s.locks
+    by_stage Idle = refl
+    by_stage (Trying i) = refl
+    by_stage Ended = refl
+    by_stage (Decided i) = refl
+
+    by_lock : (b : Bool) → (cond b (settled_at s.stage s) s).locks ≡ s.locks
+    by_lock true = by_stage s.stage
+    by_lock false = refl

@@ -40,6 +40,7 @@ use Rattle.engine_words.specs.Layout.{records_at, StandsAt, IsLaidOut}
 use Rattle.engine_words.specs.Views.{IsActive, HasPart, drawn_by, sits, sits_by, makes, waits, tries, owns, seat_number}
 use Rattle.engine_words.specs.Rule.{Shared, AllSmall, WriteValues, ShowsRecord, ShowsWords, ShowsMark, EachIsTried}
 use Rattle.engine_words.specs.Rule.{Own, Fits, Sound, Shows}
+use Rattle.engine_words.proofs.Facing.{Blames, Deals, Meets, are_apart, are_held, touches_after}
 use Rattle.engine_words.proofs.LayoutLaws.{word_in}
 use Rattle.engine_words.proofs.Trying.{few_seats}
 use Rattle.engine_words.proofs.Marks.{marked_after}
@@ -68,6 +69,8 @@ pub record Turn
   pub drew : drawn_by w + length m.history ≡ drawn_by v + length n.history
   pub few : (tries w + length n.decided) + length m.history ≤ (tries v + length m.decided) + length n.history
   pub room : ((n.first_draw + length n.history) + total waits views) + waits w < 2 ^ 40 + waits v
+  pub deals : Deals l words words' m p v w
+  pub blames : Blames views p v w
 
 -- what seat p may do at the word i, which becomes f of what it was: an act of the machine, or none
 pub record Stride
@@ -169,6 +172,10 @@ turns keeps leaves l words views s id v i f tells h at active r =
         few_open = omega (arith, total-set tries views id v r.view at, t.few, h.sums.few_open);
         room = omega (arith, total-set waits views id v r.view at, t.room, h.sums.room);
       };
+      touching = touches_after l words (set words i (f (get_or words i 0))) views s.story r.story s.seats id v r.view h.touching
+          (are_apart l words views s h) (are_held l words views s h) t.homes mine.seat t.role
+          (few_seats v.role active v.made v.due v.seat.stage v.mine fv.part) (omega (arith, h.sums.once p, here)) at t.deals
+          t.blames;
     }
   where
     Both : Shared → View → Type 0
@@ -277,8 +284,9 @@ pub looked : (l : Layout) (words : List ℕ) (views : List View) (s : Shared) (v
     → Own l s.story s.seats v (seat_number v.role)
     → Fits l s.story (put_seat s.seats (seat_number v.role) w.seat) w → w.role ≡ v.role → w.made ≡ v.made → w.mine ≡ v.mine
     → w.draws ≡ v.draws → w.due ≡ v.due → w.seat.stage ≡ v.seat.stage → w.seat.marks ≡ v.seat.marks
+    → w.seat.locks ≡ v.seat.locks → w.touched ≡ v.touched → w.blamed ≡ v.blamed → Meets l words s.story v w
     → Turn l words (set words i (get_or words i 0)) views l.opening s.story s.story s.seats (seat_number v.role) v w
-looked l words views s v w i h own fits role made mine same-draws due stage marks = record {
+looked l words views s v w i h own fits role made mine same-draws due stage marks locks touched blamed meets = record {
   homes = refl;
   small = h.small;
   valued = h.valued;
@@ -295,4 +303,9 @@ looked l words views s v w i h own fits role made mine same-draws due stage mark
   drew = ap (λ x. x + length s.story.history) same-draws;
   few = let same : tries w ≡ tries v = ap (λ (x : Stage). cond (is_trying x) 1 0) stage in omega arith;
   room = let same : waits w ≡ waits v = ap (λ (b : Bool). cond b 1 0) due in omega (arith, h.sums.room);
+  deals = inl (
+    record { locks = locks; touched = touched; same = λ k j there. ap (λ x. get_or x j 0) (unwritten words i) },
+    meets,
+  );
+  blames = inl blamed;
 }

@@ -117,7 +117,8 @@ loads keeps leaves serial l slots id me k x at active is =
           (subst (λ y. StillLoaded s.story.history s.story.decided v.seat.kept (loaded_at k x y)) (sym shows.value)
           (still l words views s v k x at h f stands))
           refl refl (front_refl v.history) (front_refl v.decided) f.history f.decided)
-          refl refl refl refl refl refl refl;
+          refl refl refl refl refl refl refl refl refl refl
+          (inr (inr (inl (record { at = at + 1; reads = refl }))));
       tells-so = record {
         is = refl;
         own = λ keeper none.
@@ -168,7 +169,8 @@ confirms keeps leaves l slots id me k x at active is =
       turn = looked l words views s v w at h own
           (seen_fits l m s.seats v w active f refl refl refl refl refl refl refl refl refl refl refl f.loaded refl refl
           (front_refl v.history) (front_refl v.decided) f.history f.decided)
-          refl refl refl refl refl refl refl;
+          refl refl refl refl refl refl refl refl refl refl
+          (inr (inr (inl (record { at = at; reads = refl }))));
       tells-so = record {
         is = refl;
         value = λ c value has loaded word.

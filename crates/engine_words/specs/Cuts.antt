@@ -10,6 +10,7 @@ use Rattle.engine_words.specs.declared.view.Role.{Role}
 use Rattle.engine_words.specs.declared.view.Role.TheVariants.{Keeper, Worker, Note, Spent}
 use Rattle.lists.specs.Fronts.{IsFront}
 use Rattle.engine_words.specs.declared.view.Heard.{Heard}
+use Rattle.engine_words.specs.declared.view.Touch.{Touch}
 use Rattle.engine_words.specs.declared.view.View.{View}
 use Rattle.engine_words.specs.Views.{bare_seat}
 
@@ -34,6 +35,8 @@ note_view v = record {
   took = [];
   reads = [];
   refused = [];
+  touched = [];
+  blamed = [];
   last = None;
   loaded = None;
   met = [];
@@ -60,6 +63,8 @@ spent_view = record {
   took = [];
   reads = [];
   refused = [];
+  touched = [];
+  blamed = [];
   last = None;
   loaded = None;
   met = [];
@@ -82,9 +87,18 @@ pub record HasSeen (v w : View) : Type 0 where
   pub history : IsFront v.history w.history
   pub decided : IsFront v.decided w.decided
 
+-- what the keeper's view has of touches as it seats a worker: where nobody was seated, nobody holds a lock
+abbrev pub since_seated : List ℕ → List Touch → List Touch
+since_seated [] touches = []
+since_seated (worker ∷ more) touches = touches
+
 -- the keeper's view with one worker more
 abbrev pub seated : ℕ → View → View
-seated worker v = record v { made = v.made ++ worker ∷ [] }
+seated worker v = record v {
+  made = v.made ++ worker ∷ [];
+  touched = since_seated v.made v.touched;
+  blamed = since_seated v.made v.blamed;
+}
 
 -- and that of the worker, with the seat and the epoch that the keeper's view had
 abbrev pub worker_view : ℕ → View → View
@@ -115,5 +129,7 @@ ended v u = record (learned v u) {
   mine = gathered v.mine u.mine;
   draws = v.draws + u.draws;
   refused = v.refused ++ u.refused;
+  touched = v.touched ++ u.touched;
+  blamed = v.blamed ++ u.blamed;
   parked = slice_set v.parked (worker_of u.role) u.seat;
 }

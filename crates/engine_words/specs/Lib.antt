@@ -12,3 +12,5 @@ pub mod Attempts
 pub mod Clock
 pub mod Making
 pub mod Passes
+pub mod Touches
+pub mod Faces

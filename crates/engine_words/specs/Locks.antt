@@ -11,6 +11,8 @@ use Rattle.commit_core.specs.CoreState.{can_begin, settled}
 use Rattle.engine_words.specs.declared.view.Took.{Took}
 use Rattle.engine_words.specs.declared.view.View.{View}
 use Rattle.engine_words.specs.Steps.{glanced, with_read, read_at}
+use Rattle.engine_words.specs.Touches.{touch}
+use Rattle.engine_words.specs.Views.{seat_number}
 
 -- the lock bit of a word
 abbrev pub lock_bit : ℕ
@@ -28,6 +30,7 @@ locked k at n v = record (glanced at n v) {
   reads = with_read v.reads at (n + lock_bit);
   seat = record v.seat { locks = v.seat.locks ++ k ∷ [] };
   took = v.took ++ took_at k n ∷ [];
+  touched = v.touched ++ touch (seat_number v.role) k ∷ [];
   loaded = None;
 }
 

@@ -11,6 +11,7 @@ use Rattle.homes.specs.declared.places.Holder.{Holder}
 use Rattle.homes.specs.declared.places.Holder.TheVariants.{Free, Held, Dead}
 use Rattle.homes.specs.declared.places.Spot.{Spot}
 use Rattle.homes.specs.declared.places.Home.TheVariants.{InSlot}
+use Rattle.homes.specs.Homes.{has_key}
 use Rattle.lists.specs.Fronts.{IsFront}
 use Rattle.wire_form.specs.Words.{at_bit, number_word, mark_epoch}
 use Rattle.commit_core.specs.declared.place.Place.{Place}
@@ -43,6 +44,7 @@ use Rattle.engine_words.specs.declared.view.View.{View}
 use Rattle.engine_words.specs.Layout.{clock_at, decisions_at, mark_at, records_at, words_of, StandsAt, IsLaidOut}
 use Rattle.engine_words.specs.Views.{IsActive, IsAt, HasPart, IsResting, bare_seat, drawn_by, sits, makes, waits, tries}
 use Rattle.engine_words.specs.Views.{owns}
+use Rattle.engine_words.specs.Touches.{AreBlamed, IsFacing, Touched}
 
 -- ---- what all passes share: the machine's state, with each seat by its number, also of those that no pass has now
 
@@ -225,8 +227,8 @@ pub record Fits (l : Layout) (m : Story) (seats : ℕ → Seat) (v : View) : Typ
   pub own : (p : ℕ) → IsAt p v.role → Own l m seats v p
   pub low : v.epoch ≤ m.epoch
   pub part : HasPart v.role v.made v.due v.seat.stage v.mine
-  -- a note or a spent pass drew none
-  pub seatless : (IsActive v.role → ⊥) → v.draws ≡ 0
+  -- a note or a spent pass drew none, and took and met none
+  pub seatless : (IsActive v.role → ⊥) → (v.draws ≡ 0) × (v.touched ≡ []) × (v.blamed ≡ [])
   pub keepers : v.role ≡ Keeper → IsKeepers m seats v
   pub met : (met : Met) → Contains v.met met → WasMarked seats met
 
@@ -243,6 +245,26 @@ pub record Sums (views : List View) (m : Story) : Type 0 where
   pub draws_are : total drawn_by views ≡ length m.history
   pub few_open : total tries views + length m.decided ≤ length m.history
   pub room : (m.first_draw + length m.history) + total waits views < 2 ^ 40
+
+-- ---- who is in the way
+
+-- the word of the key's record stands there
+abbrev pub StandsIn : Layout → Story → Key → ℕ → Type 0
+StandsIn l m k at = (x : Spot) × StandsAt l.decls (home_of m.homes) k x at
+
+-- what a worker's pass has met shows who is in its way
+abbrev pub Faces : Layout → List ℕ → List View → Story → View → Type 0
+Faces l words views m v = (worker : ℕ) → v.role ≡ Worker worker
+    → IsFacing (StandsIn l m) words (Touched views) (suc worker) v.seat.locks v.reads
+
+-- Each lock that a seat has was taken since somebody was first seated, and the keeper's seat and those above the
+-- workers' have none; what each worker's pass met shows who is in its way, and whoever was refused met another seat.
+pub record Touching (l : Layout) (words : List ℕ) (views : List View) (m : Story) (seats : ℕ → Seat) : Type 0 where
+  pub taken : (q : ℕ) (k : Key) → has_key (seats q).locks k ≡ true → Touched views q k
+  pub keeper : (seats 0).locks ≡ []
+  pub others : (p : ℕ) → 9 ≤ p → (seats p).locks ≡ []
+  pub facing : AllByRecursion (Faces l words views m) views
+  pub blamed : AllByRecursion (λ v. AreBlamed (Touched views) v.blamed) views
 
 -- ---- the rule
 
@@ -261,6 +283,7 @@ pub record Sound (l : Layout) (words : List ℕ) (views : List View) (s : Shared
   pub small : AllSmall l.opening s.story
   pub fits : AllByRecursion (Fits l s.story s.seats) views
   pub sums : Sums views s.story
+  pub touching : Touching l words views s.story s.seats
 
 -- words and views show a sound state
 abbrev pub Shows : Layout → List ℕ → List View → Type 0

@@ -1,14 +1,16 @@
 -- What a step tells the pass that makes it.
-use Rattle.std.specs.Prelude.{◌≡◌, ℕ, ◌+◌, ◌-◌, ◌/◌, ◌%◌, ◌^◌, ◌<◌, ◌==◌, Bool, true, false, not, ◌≤◌, List, [], ◌∷◌}
-use Rattle.std.specs.Prelude.{◌++◌, filter, length, nat_lt, Option, None, Some, Contains, MatchBool}
+use Rattle.std.specs.Prelude.{◌≡◌, ◌≢◌, ◌⊎◌, ℕ, ◌+◌, ◌-◌, ◌/◌, ◌%◌, ◌^◌, ◌<◌, ◌==◌, Bool, true, false, not, ◌≤◌, List, [], ◌∷◌}
+use Rattle.std.specs.Prelude.{◌++◌, filter, length, nat_lt, Option, None, Some, Contains, MatchBool, unwrap_or, ⊤}
 use Rattle.std.specs.List.{find}
 use Rattle.std.specs.Option.{option_map}
 use Rattle.atomic_table.specs.Table.{Me, Step}
 use Rattle.lists.specs.Fronts.{IsFront}
+use Rattle.serial_model.specs.declared.decl.Decl.{Decl}
 use Rattle.serial_model.specs.declared.key.Key.{Key}
 use Rattle.serial_model.specs.declared.number.Number.{Number}
 use Rattle.serial_model.specs.Numbers.{draw_limit, IsBelow}
 use Rattle.homes.specs.declared.places.Content.{Content}
+use Rattle.homes.specs.Homes.{has_key}
 use Rattle.homes.specs.declared.places.Spot.{Spot}
 use Rattle.wire_form.specs.Words.{number_word}
 use Rattle.commit_core.specs.declared.attempt.Attempt.{Attempt}
@@ -22,12 +24,15 @@ use Rattle.engine_words.specs.declared.view.Glance.{Glance}
 use Rattle.engine_words.specs.declared.view.Heard.{Heard}
 use Rattle.engine_words.specs.declared.view.Read.{Read}
 use Rattle.engine_words.specs.declared.view.Refused.{Refused}
-use Rattle.engine_words.specs.declared.view.Refused.TheVariants.{NumberLimit}
+use Rattle.engine_words.specs.declared.view.Refused.TheVariants.{Conflict, NumberLimit, Wide}
 use Rattle.engine_words.specs.declared.view.Role.{Role}
 use Rattle.engine_words.specs.declared.view.Role.TheVariants.{Keeper, Worker, Note, Spent}
 use Rattle.engine_words.specs.declared.view.View.{View}
 use Rattle.engine_words.specs.Layout.{clock_at, decisions_at, spot_for, IsAtKey}
 use Rattle.engine_words.specs.Rule.{IsSmall}
+use Rattle.engine_words.specs.Touches.{touch, AreBlamed}
+use Rattle.engine_words.specs.Views.{seat_number}
+use Rattle.engine_words.specs.declared.view.Touch.{Touch}
 
 -- a fact of the step, the view before, the number found and the view after, as a table without slots wants it
 abbrev pub told : (Step (Unit {0}) → View → ℕ → View → Type 0) → Step (Unit {0}) → Me (Unit {0}) View → ℕ
@@ -113,8 +118,9 @@ abbrev pub Times : Step (Unit {0}) → View → ℕ → View → Type 0
 Times s v n w = HasTimed v n w
 
 -- All draws and decisions are now seen, and so many attempts count, each of which was drawn and counts once. They are
--- serial from what stood at keys at first. Where no worker is seated, they are the keeper's own, and it drew as many
--- numbers as there are.
+-- serial from what stood at keys at first. Where no worker is seated, they are the keeper's own, it drew as many
+-- numbers as there are, and wherever a transaction was refused with Conflict since somebody was first seated, another
+-- seat has taken a lock of that key since then.
 pub record HasCounted (v : View) (n : ℕ) (w : View) : Type 0 where
   pub history : IsFront v.history w.history
   pub decided : IsFront v.decided w.decided
@@ -125,6 +131,7 @@ pub record HasCounted (v : View) (n : ℕ) (w : View) : Type 0 where
   pub serial : AreSerial v.layout.opening w.history w.decided
   pub all : v.role ≡ Keeper → v.made ≡ [] → (h : Number → ℕ) → total (λ a. h a.number) v.mine ≡ total h w.decided
   pub draws : v.role ≡ Keeper → v.made ≡ [] → v.draws ≡ length w.history
+  pub blamed : v.role ≡ Keeper → v.made ≡ [] → AreBlamed (λ q k. Contains v.touched (touch q k)) v.blamed
   pub is : w ≡ record (glanced decisions_at n v) { history = w.history; decided = w.decided }
 
 -- the clock was seen, and then the count of decisions
@@ -163,10 +170,46 @@ abbrev pub with_why : List Refused → Option Refused → List Refused
 with_why refused None = refused
 with_why refused (Some r) = refused ++ r ∷ []
 
--- the same, and why, where it was refused
-abbrev pub forgot_for : Option Refused → View → View
-forgot_for why v = record (forgot v) { refused = with_why v.refused why }
+-- the same, and why, where it was refused, and at which keys it met somebody
+abbrev pub forgot_for : Option Refused → List Touch → View → View
+forgot_for why met v = record (forgot v) { refused = with_why v.refused why; blamed = v.blamed ++ met }
+
+-- a refusal of this seat with Conflict is one at the key whose record's word stands there
+abbrev pub IsMetFor : Option Refused → List Touch → List Decl → ℕ → Type 0
+IsMetFor None met decls q = met ≡ []
+IsMetFor (Some (Conflict at expected seen)) met decls q =
+    (k : Key) → IsAtKey decls k (spot_for decls k) at → met ≡ touch q k ∷ []
+IsMetFor (Some (Wide set)) met decls q = met ≡ []
+IsMetFor (Some (NumberLimit clock)) met decls q = met ≡ []
+
+-- the transaction has ended, for this cause or for none
+pub record HasForgotten (why : Option Refused) (v w : View) : Type 0 where
+  pub met : List Touch
+  pub of : IsMetFor why met v.layout.decls (seat_number v.role)
+  pub is : w ≡ forgot_for why met v
 
 -- the same of the step
 abbrev pub Forgets : Option Refused → Step (Unit {0}) → View → ℕ → View → Type 0
-Forgets why s v n w = w ≡ forgot_for why v
+Forgets why s v n w = HasForgotten why v w
+
+-- ---- what a refusal needs
+
+-- Somebody is in the way at the record of this key, which the pass has not locked: its last load or compare_exchange saw
+-- this word there, and the pass has left no other one since. The word is locked, or it is not the one that this
+-- transaction saw or left there before, which is the expected one; where it had met none, that is the word seen.
+pub record IsInTheWay (k : Key) (at expected seen : ℕ) (v : View) : Type 0 where
+  pub place : IsKeyAt v k at
+  pub free : has_key v.seat.locks k ≡ false
+  pub step : ℕ
+  pub last : v.last ≡ Some (glance step at seen)
+  pub was : Option ℕ
+  pub stands : Contains v.reads (record { word = at; seen = seen; was = was })
+  pub known : expected ≡ unwrap_or was seen
+  pub cause : (2 ^ 60 ≤ seen) ⊎ ((expected < 2 ^ 60) × (seen ≢ expected))
+
+-- A transaction that ends is refused for what its pass met. A begin alone is refused a number.
+abbrev pub IsDue : Option Refused → View → Type 0
+IsDue None v = ⊤
+IsDue (Some (Conflict at expected seen)) v = (k : Key) × IsInTheWay k at expected seen v
+IsDue (Some (Wide set)) v = ⊤
+IsDue (Some (NumberLimit clock)) v = ⊥

@@ -4,8 +4,7 @@ ghost use Rattle.commit_core.specs.CoreState.{can_begin};
 ghost use Rattle.engine_words.specs.declared.view.Role.TheVariants.{Worker};
 ghost use Rattle.engine_words.specs.Passes.{view, IsPassOf};
 ghost use Rattle.engine_words.specs.Cuts.{worker_of};
-ghost use Rattle.engine_words.specs.Steps.{Begun, forgot_for};
-ghost use Rattle.engine_words.specs.Views.{IsActive};
+ghost use Rattle.engine_words.specs.Steps.{Begun, IsDue, HasForgotten};
 
 use crate::Refused;
 use crate::engine::{Engine, Pass};
@@ -26,22 +25,26 @@ pub fn begin(engine: &Engine, pass: &mut Pass) -> u64
     engine.table.shared.load::<Beginning>(pass, 0)
 }
 
-/// Drops what was kept: the transaction is over before its draw, maybe since it was refused for this.
+/// Drops what was kept: the transaction is over before its draw, maybe since it was refused for this, which is due.
 pub fn forget(engine: &Engine, pass: &mut Pass, why: Option<Refused>)
     requires of { IsPassOf engine.now pass.old }
-    requires pass { IsActive (view pass.old).role × (can_begin (view pass.old).seat.stage ≡ true) }
+    requires worker { (view pass.old).role ≡ Worker (worker_of (view pass.old).role) }
+    requires idle { can_begin (view pass.old).seat.stage ≡ true }
+    requires due { IsDue why (view pass.old) }
     ensures of { IsPassOf engine.now pass.new }
-    ensures forgets { view pass.new ≡ forgot_for why (view pass.old) }
+    ensures forgets { HasForgotten why (view pass.old) (view pass.new) }
 {
     forget_as::<Brand>(engine, pass, why);
 }
 
 fn forget_as<J: Excused>(engine: &Engine, pass: &mut Pass, why: Option<Refused>)
     requires of { IsPassOf engine.now pass.old }
-    requires pass { IsActive (view pass.old).role × (can_begin (view pass.old).seat.stage ≡ true) }
+    requires worker { (view pass.old).role ≡ Worker (worker_of (view pass.old).role) }
+    requires idle { can_begin (view pass.old).seat.stage ≡ true }
+    requires due { IsDue why (view pass.old) }
     requires named { why ≡ J.why }
     ensures of { IsPassOf engine.now pass.new }
-    ensures forgets { view pass.new ≡ forgot_for why (view pass.old) }
+    ensures forgets { HasForgotten why (view pass.old) (view pass.new) }
 {
     commits_are_serial();
     engine.table.shared.load::<Forgetting<J>>(pass, 0);

@@ -8,6 +8,7 @@
 //! `audit`, which loads two words.
 //! Layout: specs/Layout.antt, which word is which; specs/Views.antt, one view by itself; specs/Rule.antt, the rule;
 //! specs/Cuts.antt, how views are cut and joined; specs/Steps.antt, Reads, Locks, Attempts and Clock, what steps tell;
+//! specs/Touches.antt, who took locks of which keys, and specs/Faces.antt, laws of who was in the way;
 //! specs/ReadLaws.antt, laws of the words that were met; specs/Gathered.antt, laws of the own commits that a keeper's view
 //! gathers as seats end, and specs/Between.antt, what counts behind them; specs/Making.antt, what an engine is made from.
 //! Design: docs/COMMIT.md.
@@ -39,4 +40,4 @@ pub use layout::Layout;
 pub use locking::{LOCK, lock, open_again, open_anew, put};
 pub use reading::{confirm, load_content, load_value, see};
 pub use seating::{end, learn, note, seat};
-pub use view::{Glance, Heard, Loaded, Met, Read, Refused, Role, SetName, Took, View};
+pub use view::{Glance, Heard, Loaded, Met, Read, Refused, Role, SetName, Took, Touch, View};

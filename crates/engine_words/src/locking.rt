@@ -1,6 +1,8 @@
 // Locks of records, and what is put under them.
 ghost use Rattle.std.specs.Prelude.{◌≡◌, ◌+◌, ◌<◌, ◌^◌, true};
 ghost use Rattle.commit_core.specs.CoreState.{can_begin};
+ghost use Rattle.engine_words.specs.declared.view.Role.TheVariants.{Worker};
+ghost use Rattle.engine_words.specs.Cuts.{worker_of};
 ghost use Rattle.engine_words.specs.Locks.{Locked, opened, put_at, CanOpenAgain, CanOpenAnew, CanPut};
 ghost use Rattle.engine_words.specs.Passes.{view, IsPassOf};
 ghost use Rattle.engine_words.specs.Steps.{IsKeyAt};
@@ -18,7 +20,8 @@ pub const LOCK: u64 = 1 << 60;
 /// Locks the record of a key, whose word stands here, where that is the expected one. Answers the word that it found.
 pub fn lock(engine: &Engine, pass: &mut Pass, key: Key, at: u32, expected: u64) -> u64
     requires of { IsPassOf engine.now pass.old }
-    requires pass { IsActive (view pass.old).role × (can_begin (view pass.old).seat.stage ≡ true) }
+    requires worker { (view pass.old).role ≡ Worker (worker_of (view pass.old).role) }
+    requires idle { can_begin (view pass.old).seat.stage ≡ true }
     requires place { IsKeyAt (view pass.old) key at }
     requires expected { expected < 2 ^ 60 }
     ensures of { IsPassOf engine.now pass.new }
@@ -29,7 +32,8 @@ pub fn lock(engine: &Engine, pass: &mut Pass, key: Key, at: u32, expected: u64) 
 
 fn lock_as<J: Keyed>(engine: &Engine, pass: &mut Pass, key: Key, at: u32, expected: u64) -> u64
     requires of { IsPassOf engine.now pass.old }
-    requires pass { IsActive (view pass.old).role × (can_begin (view pass.old).seat.stage ≡ true) }
+    requires worker { (view pass.old).role ≡ Worker (worker_of (view pass.old).role) }
+    requires idle { can_begin (view pass.old).seat.stage ≡ true }
     requires place { IsKeyAt (view pass.old) key at }
     requires expected { expected < 2 ^ 60 }
     requires named { key ≡ J.key }

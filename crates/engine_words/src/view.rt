@@ -60,6 +60,13 @@ pub struct Read {
     pub was: Option<u64>,
 }
 
+/// A lock that a seat took of a key, or met there.
+#[derive(Clone, Copy, Debug, PartialEq, Eq)]
+pub struct Touch {
+    pub seat: u8,
+    pub key: Key,
+}
+
 /// What a pass had seen as it took another one in, and what that one had.
 #[derive(Drop)]
 pub struct Heard {
@@ -124,6 +131,12 @@ pub struct View {
     pub reads: Sequence<Read>,
     /// What its transactions were refused for, and those of the passes that were ended into it.
     pub refused: Sequence<Refused>,
+    /// The locks that its seat took, and those of the passes that were ended into it. As the keeper seats the first
+    /// worker, it forgets all that it had.
+    pub touched: Sequence<Touch>,
+    /// At which keys its seat's transactions were refused with `Conflict`, and those of the passes that were ended into
+    /// it, until the keeper seats the first worker again.
+    pub blamed: Sequence<Touch>,
     /// Its last load or compare_exchange.
     pub last: Option<Glance>,
     /// The value that it loaded last.

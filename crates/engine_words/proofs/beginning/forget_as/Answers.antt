@@ -2,7 +2,7 @@ use Rattle.std.proofs.Common.{◌≡◌, ℕ, Option, arith, subst}
 use Rattle.atomic_table.specs.Table.{Allows}
 use Rattle.engine_words.specs.declared.view.Refused.{Refused}
 use Rattle.engine_words.specs.Rule.{Shows}
-use Rattle.engine_words.specs.Steps.{forgot_for}
+use Rattle.engine_words.specs.Steps.{HasForgotten}
 use Rattle.engine_words.proofs.Forgetting.{forgets}
 use Rattle.engine_words.proofs.beginning.forget_as.Goals as goal
 
@@ -16,8 +16,8 @@ load-requires g c =
       (let long = c.args.engine.now.long in omega arith),
       subst
           (λ (why : Option Refused). Allows (λ s. Shows l s.words s.views) slots c.args.pass.now.id me 0 (λ n. n)
-          (λ n now. (now.1 ≡ me.1) × (now.0 ≡ forgot_for why v)))
+          (λ n now. (now.1 ≡ me.1) × HasForgotten why v now.0))
           c.requires.named
           (forgets c.commits_are_serial.ensures.each_act c.commits_are_serial.ensures.each_act_leaves l slots c.args.pass.now.id me
-          c.args.why c.requires.pass.0 c.requires.pass.1),
+          c.args.why c.requires.worker c.requires.idle c.requires.due),
     )

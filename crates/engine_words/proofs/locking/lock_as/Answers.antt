@@ -27,5 +27,5 @@ compare_exchange-requires g c =
           (λ n now. (now.1 ≡ me.1) × (Locked k c.args.at c.args.expected v n now.0)))
           c.requires.named
           (locks c.commits_are_serial.ensures.each_act c.commits_are_serial.ensures.each_act_leaves l slots c.args.pass.now.id me c.args.key
-          (spot_for v.layout.decls c.args.key) c.args.at c.args.expected c.requires.pass.0 c.requires.pass.1 here c.requires.expected),
+          (spot_for v.layout.decls c.args.key) c.args.at c.args.expected c.requires.worker c.requires.idle here c.requires.expected),
     )

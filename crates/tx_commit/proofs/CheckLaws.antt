@@ -2,7 +2,8 @@
 use Rattle.std.proofs.Common.{◌≡◌, ◌≢◌, inl, inr, ℕ, zero, suc, ◌+◌, ◌<◌, ◌≤◌, ◌^◌, Bool, true, false, true≢false}
 use Rattle.std.proofs.Common.{cond, List, [], ◌∷◌, map, length, take, get_or, Some, None, Option}
 use Rattle.std.proofs.Common.{refl, sym, ap, ◌∙◌, subst, arith}
-use Rattle.std.specs.Prelude.{Contains, MatchBool, filter, not, ◌&&◌, ◌||◌, ◌==◌}
+use Rattle.std.specs.Prelude.{Contains, MatchBool, filter, not, ◌&&◌, ◌||◌, ◌==◌, unwrap_or}
+use Rattle.engine_words.specs.ReadLaws.{seen_at-other}
 use Rattle.std.specs.List.{slice_get, list_all, AllByRecursion}
 use Rattle.std.proofs.lemmas.Bool.{and_from, or_left, or_right, or_from, false_from_ne_true}
 use Rattle.std.proofs.lemmas.Bool.{eq-eqb}
@@ -35,7 +36,7 @@ use Rattle.array_storage.specs.Finding.{IsWordFor}
 use Rattle.tx_commit.specs.Live.{AreParts}
 use Rattle.tx_commit.specs.Refusing.{IsConflict}
 use Rattle.tx_commit.specs.Steps.{keys_of, HasTried, HasChecked, HasFailed}
-use Rattle.tx_commit.proofs.Layouts.{words_apart}
+use Rattle.tx_commit.proofs.Layouts.{one_word_key, words_apart}
 use Rattle.tx_commit.proofs.Lists.{map_push, take_all, in_at}
 use Rattle.tx_commit.proofs.Writes.{word_apart}
 
@@ -196,6 +197,8 @@ pub record IsChecking (reads : List ReadEntry) (v w : View) (done : ℕ) : Type 
   pub last : Option Glance
   pub loaded : Option Loaded
   pub met : List Read
+  pub ahead : (i : ℕ) (d : ReadEntry) → done ≤ i → i < length reads
+      → seen_at met (get_or reads i d).at ≡ seen_at v.reads (get_or reads i d).at
   pub is : w ≡ record v {
     checked = words_of v.layout.decls (take done reads);
     steps = steps;
@@ -221,6 +224,7 @@ starts_checking reads writes v h = record {
   last = v.last;
   loaded = v.loaded;
   met = v.reads;
+  ahead = λ i d le lt. refl;
   is = ap (λ l. with_checked v l v) h.checked;
 }
 
@@ -271,12 +275,36 @@ word_small reads writes v done d h apart lt =
     let t = there v.layout.decls reads h.attempt.parts done d h.parts apart lt in
     number_small t.content (get_or reads done d).word t.shown
 
-pub checked_one : (reads : List ReadEntry) (v w x : View) (done n : ℕ) (d : ReadEntry) (own b : Bool)
-    → IsChecking reads v w done → done < length reads → b ≡ is_as_seen (get_or reads done d).word own n → b ≡ true
+-- entries have different keys, and so their words stand apart
+keys_apart : (reads : List ReadEntry) (i j : ℕ) (d e : ReadEntry) → AreDistinct (read_keys reads) → i < j → j < length reads
+    → same_key (get_or reads j e).key (get_or reads i d).key ≡ false
+keys_apart [] i j d e apart less lt = absurd (omega arith)
+keys_apart (x ∷ reads) zero zero d e apart less lt = absurd (omega arith)
+keys_apart (x ∷ reads) zero (suc j) d e apart less lt = behind x.key reads j e apart.0 (omega arith)
+keys_apart (x ∷ reads) (suc i) zero d e apart less lt = absurd (omega arith)
+keys_apart (x ∷ reads) (suc i) (suc j) d e apart less lt =
+    keys_apart reads i j d e apart.1 (omega arith) (omega arith)
+
+words_differ : (reads : List ReadEntry) (writes : List Write) (v : View) (i j : ℕ) (d e : ReadEntry)
+    → HasTried reads writes v → AreDistinct (read_keys reads) → i < j → j < length reads
+    → (get_or reads i d).at ≢ (get_or reads j e).at
+words_differ reads writes v i j d e h apart less lt same =
+    let one : ReadEntry = get_or reads i d in
+    let other : ReadEntry = get_or reads j e in
+    let first = (there v.layout.decls reads h.attempt.parts i d h.parts apart (omega arith)).place in
+    let second = (there v.layout.decls reads h.attempt.parts j e h.parts apart lt).place in
+    let key : one.key ≡ other.key = one_word_key v.layout.decls one.key other.key (spot_for v.layout.decls one.key)
+    (spot_for v.layout.decls other.key) other.at
+    (subst (IsAtKey v.layout.decls one.key (spot_for v.layout.decls one.key)) same first) second in
+    true≢false (sym (subst (λ (y : Key). same_key y one.key ≡ true) key (same_key-self one.key))
+    ∙ keys_apart reads i j d e apart less lt)
+
+pub checked_one : (reads : List ReadEntry) (writes : List Write) (v w x : View) (done n : ℕ) (d : ReadEntry) (own b : Bool)
+    → HasTried reads writes v → AreDistinct (read_keys reads) → IsChecking reads v w done → done < length reads → b ≡ is_as_seen (get_or reads done d).word own n → b ≡ true
     → Checked (spot_for w.layout.decls (get_or reads done d).key) (get_or reads done d).at (get_or reads done d).word
     own w n x
     → IsChecking reads v x (done + 1)
-checked_one reads v w x done n d own b p lt test hit c =
+checked_one reads writes v w x done n d own b h apart p lt test hit c =
     let e : ReadEntry = get_or reads done d in
     let spot = spot_for w.layout.decls e.key in
     let is : x ≡ checked_at spot e.at n w =
@@ -290,6 +318,10 @@ checked_one reads v w x done n d own b p lt test hit c =
       last = y.last;
       loaded = y.loaded;
       met = y.reads;
+      ahead = λ i f le more.
+          seen_at-other p.met e.at n (get_or reads i f).at
+          (words_differ reads writes v done i d f h apart (omega arith) more)
+          ∙ p.ahead i f (omega arith) more;
       is = is ∙ (ap (λ (z : View). checked_at (spot_for z.layout.decls e.key) e.at n z) p.is
           ∙ ap (λ l. with_checked v l y) (sym (ap (words_of v.layout.decls) (take_more reads done d lt)
           ∙ map_push (word_at v.layout.decls) (take done reads) e)));
@@ -324,20 +356,42 @@ not_seen word n own miss same =
 own_passes : (word n : ℕ) → n ≡ word + lock_bit → is_as_seen word true n ≡ true
 own_passes word n same = or_right (n == word) (true && (n == word + lock_bit)) (eq-eqb n (word + lock_bit) same)
 
+-- a record that failed its check is none that the pass has locked
+not_own : (reads : List ReadEntry) (writes : List Write) (v w : View) (done n : ℕ) (d : ReadEntry) (own : Bool)
+    → HasTried reads writes v → IsChecking reads v w done → done < length reads
+    → own ≡ has_write (get_or reads done d).key writes → is_as_seen (get_or reads done d).word own n ≡ false
+    → HeldStays (get_or reads done d).key w n → own ≡ false
+not_own reads writes v w done n d own h p lt own-is unseen held = by_own own refl
+  where
+    by_own : (o : Bool) → own ≡ o → own ≡ false
+    by_own false is = is
+    by_own true is =
+        let e : ReadEntry = get_or reads done d in
+        let took : Contains w.took (took_at e.key e.word) =
+        subst (λ (y : View). Contains y.took (took_at e.key e.word)) (sym p.is)
+        (h.took e (in_at reads done d lt) (sym own-is ∙ is)) in
+        absurd (true≢false (sym (ap (λ o. is_as_seen e.word o n) is ∙ own_passes e.word n (held e.word took)) ∙ unseen))
+
 pub check_conflict : (reads : List ReadEntry) (writes : List Write) (v w x : View) (done n : ℕ) (d : ReadEntry)
     (own b : Bool)
     → HasTried reads writes v → AreDistinct (read_keys reads) → IsChecking reads v w done → done < length reads
     → own ≡ has_write (get_or reads done d).key writes → b ≡ is_as_seen (get_or reads done d).word own n → b ≡ false
     → Checked (spot_for w.layout.decls (get_or reads done d).key) (get_or reads done d).at (get_or reads done d).word
-    own w n x
+    own w n x → HeldStays (get_or reads done d).key w n
     → IsConflict reads (get_or reads done d).key (get_or reads done d).at (get_or reads done d).word n v x
-check_conflict reads writes v w x done n d own b h apart p lt own-is test miss c =
+check_conflict reads writes v w x done n d own b h apart p lt own-is test miss c held =
     let e : ReadEntry = get_or reads done d in
     let spot = spot_for w.layout.decls e.key in
     let is : x ≡ failed_at e.at n w =
     subst (λ b. MatchBool b (x ≡ checked_at spot e.at n w) (x ≡ failed_at e.at n w)) (sym test ∙ miss) c in
     let entry : Contains reads e = in_at reads done d lt in
     let unseen : is_as_seen e.word own n ≡ false = sym test ∙ miss in
+    let free : has_write e.key writes ≡ false =
+    sym own-is ∙ not_own reads writes v w done n d own h p lt own-is unseen held in
+    let place = (there v.layout.decls reads h.attempt.parts done d h.parts apart lt).place in
+    let was : seen_at w.reads e.at ≡ Some e.word =
+    ap (λ (y : View). seen_at y.reads e.at) p.is
+    ∙ (p.ahead done d (omega arith) lt ∙ h.met e.key e e.at (entry_is reads e apart entry) place free) in
     let steps : w.steps ≡ p.steps = ap (λ (y : View). y.steps) p.is in record {
       place = (there v.layout.decls reads h.attempt.parts done d h.parts apart lt).place;
       step = w.steps;
@@ -349,15 +403,12 @@ check_conflict reads writes v w x done n d own b h apart p lt own-is test miss c
           (in_push_new (record { word = e.at; seen = n; was = seen_at w.reads e.at })
           (filter (λ (r : Read). not (r.word == e.at)) w.reads));
       read = λ f of. ap (λ (y : ReadEntry). y.word) (some_is e f (sym (entry_is reads e apart entry) ∙ of));
-      unread = λ none. absurd (some_none e (sym (entry_is reads e apart entry) ∙ none));
-      cause = inr (not_seen e.word n own unseen);
+      known = sym (ap (λ o. unwrap_or o n) was);
+      cause = inr (word_small reads writes v done d h apart lt, not_seen e.word n own unseen);
     }
   where
     some_is : (a f : ReadEntry) → Some a ≡ Some f → a ≡ f
     some_is a f same = cc
-
-    some_none : (a : ReadEntry) → Some a ≡ None → ⊥
-    some_none a same = absurd cc
 
 -- a record that failed its check is none that the pass has locked
 pub check_apart : (reads : List ReadEntry) (writes : List Write) (v w x : View) (done n : ℕ) (d : ReadEntry)
@@ -369,16 +420,7 @@ check_apart reads writes v w x done n d own b h apart p lt own-is test miss held
     let e : ReadEntry = get_or reads done d in
     word_apart v.layout.decls e.key e.at writes (there v.layout.decls reads h.attempt.parts done d h.parts apart
     lt).place
-    h.places (sym own-is ∙ by_own own refl (sym test ∙ miss))
-  where
-    by_own : (o : Bool) → own ≡ o → is_as_seen (get_or reads done d).word own n ≡ false → own ≡ false
-    by_own false is unseen = is
-    by_own true is unseen =
-        let e : ReadEntry = get_or reads done d in
-        let took : Contains w.took (took_at e.key e.word) =
-        subst (λ (y : View). Contains y.took (took_at e.key e.word)) (sym p.is)
-        (h.took e (in_at reads done d lt) (sym own-is ∙ is)) in
-        absurd (true≢false (sym (ap (λ o. is_as_seen e.word o n) is ∙ own_passes e.word n (held e.word took)) ∙ unseen))
+    h.places (sym own-is ∙ not_own reads writes v w done n d own h p lt own-is (sym test ∙ miss) held)
 
 pub all_checked : (reads : List ReadEntry) (writes : List Write) (v w : View) (done : ℕ) → HasTried reads writes v
     → IsChecking reads v w done → length reads ≤ done → HasChecked v w

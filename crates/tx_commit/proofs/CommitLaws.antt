@@ -1,5 +1,5 @@
 -- What the parts of a commit come to.
-use Rattle.std.proofs.Common.{◌≡◌, inl, inr, ℕ, zero, suc, ◌+◌, ◌<◌, ◌≤◌, Bool, true, false, true≢false}
+use Rattle.std.proofs.Common.{◌≡◌, ◌⊎◌, inl, inr, ℕ, zero, suc, ◌+◌, ◌<◌, ◌≤◌, Bool, true, false, true≢false}
 use Rattle.std.proofs.Common.{cond, List, [], ◌∷◌, ◌++◌, map, length, take, Some}
 use Rattle.std.proofs.Common.{refl, sym, ap, ◌∙◌, subst, arith}
 use Rattle.std.specs.Prelude.{Contains, ◌||◌, is_some}
@@ -42,14 +42,17 @@ use Rattle.engine_words.specs.Attempts.{CanDraw, HasDrawn, HasChosen, attempt_of
 use Rattle.engine_words.specs.Cuts.{worker_of, HasSeen}
 use Rattle.engine_words.specs.Locks.{took_at}
 use Rattle.engine_words.specs.Rule.{IsSmall}
-use Rattle.engine_words.specs.Steps.{forgot_for}
+use Rattle.engine_words.specs.Layout.{spot_for, IsAtKey}
+use Rattle.engine_words.specs.Steps.{forgot_for, seen_at, HasForgotten, IsInTheWay, IsMetFor}
+use Rattle.engine_words.specs.Touches.{touch}
+use Rattle.engine_words.specs.declared.view.Touch.{Touch}
 use Rattle.engine_words.specs.Views.{seat_number, IsActive, IsResting}
-use Rattle.tx_commit.specs.Committing.{changes_of, HasCommitted, RefusesCommit}
-use Rattle.tx_commit.specs.Live.{AreParts, IsWriteOf, IsLive}
+use Rattle.tx_commit.specs.Committing.{changes_of, touches_of, HasCommitted, RefusesCommit, TookOnly}
+use Rattle.tx_commit.specs.Live.{AreMet, AreParts, IsWriteOf, IsLive}
 use Rattle.tx_commit.specs.Refusing.{HasRefused, IsConflict}
 use Rattle.tx_commit.specs.Steps.{keys_of, tooks_of, known_word, AreSmall, AreAsRead, KeepOthers, CanCommit, IsFree}
 use Rattle.tx_commit.specs.Steps.{HasLocked, HasLocks, HasUnlocked, HasGivenUp, HasTried, HasChecked, HasFailed}
-use Rattle.tx_commit.specs.Steps.{HasDecided, HasPublished}
+use Rattle.tx_commit.specs.Steps.{HasDecided, HasMet, HasPublished}
 use Rattle.tx_commit.proofs.CheckLaws.{entry_is, number_small}
 use Rattle.tx_commit.proofs.Lists.{take_all}
 use Rattle.tx_commit.proofs.LockLaws.{conflict_since, conflict_then}
@@ -64,7 +67,7 @@ active_worker role is = subst IsActive (sym is) tt
 
 pub is_free : (sets : Sets) (v : View) → IsLive sets v → IsFree v
 is_free sets v live = record {
-  active = active_worker v.role live.worker;
+  worker = live.worker;
   locks = live.locks;
   took = live.took;
   stage = live.stage;
@@ -151,35 +154,38 @@ has_locks ws found v w free h = record {
   none = λ _. ap (λ (y : View). y.seat.stage) h.is ∙ free.stage;
 }
 
-pub given_up : (ws : List Write) (why : Refused) (v w x : View) → HasUnlocked ws v w → x ≡ forgot_for (Some why) w
+pub given_up : (ws : List Write) (why : Refused) (v w x : View) → HasUnlocked ws v w → HasForgotten (Some why) w x
     → HasGivenUp ws why v x
 given_up ws why v w x h is =
     let u : View = record v { seat = h.seat; took = []; steps = h.steps; loaded = h.loaded; reads = h.reads } in
-    let y : View = forgot_for (Some why) u in record {
+    let y : View = forgot_for (Some why) is.met u in record {
       seat = record h.seat { kept = [] };
       steps = y.steps;
       loaded = y.loaded;
       reads = y.reads;
       others = h.others;
-      is = is ∙ ap (forgot_for (Some why)) h.is;
+      met = is.met;
+      of = subst (λ (z : View). IsMetFor (Some why) is.met z.layout.decls (seat_number z.role)) h.is is.of;
+      is = is.is ∙ ap (forgot_for (Some why) is.met) h.is;
       resting = record { kept = refl; locks = h.locks; stage = h.stage };
       marks = h.marks;
     }
 
-pub can_forget : (ws : List Write) (v w : View) → IsActive v.role → HasUnlocked ws v w
-    → IsActive w.role × (can_begin w.seat.stage ≡ true)
-can_forget ws v w active h = (
-  subst IsActive (sym (ap (λ (y : View). y.role) h.is)) active,
-  ap (λ (y : View). can_begin y.seat.stage) h.is ∙ ap can_begin h.stage,
-)
+pub can_forget : (ws : List Write) (v w : View) → v.role ≡ Worker (worker_of v.role) → HasUnlocked ws v w
+    → w.role ≡ Worker (worker_of w.role)
+can_forget ws v w worker h =
+    subst (λ (r : Role). r ≡ Worker (worker_of r)) (sym (ap (λ (y : View). y.role) h.is)) worker
+
+pub idle_again : (ws : List Write) (v w : View) → HasUnlocked ws v w → can_begin w.seat.stage ≡ true
+idle_again ws v w h = ap (λ (y : View). can_begin y.seat.stage) h.is ∙ ap can_begin h.stage
 
 -- what a given-up transaction leaves, where the pass's view was this before
-pub refused_from : (why : Refused) (sets : Sets) (ws : List Write) (v w x : View) → IsLive sets v → w.layout ≡ v.layout
-    → w.role ≡ v.role
-    → HasSeen v w → w.mine ≡ v.mine → w.draws ≤ v.draws + 1 → w.seat.marks ≡ v.seat.marks → w.refused ≡ v.refused
-    → HasGivenUp ws why w x
+pub refused_from : (why : Refused) (drew : Bool) (sets : Sets) (ws : List Write) (v w x : View) → IsLive sets v
+    → w.layout ≡ v.layout → w.role ≡ v.role
+    → HasSeen v w → w.mine ≡ v.mine → w.draws ≡ v.draws + cond drew 1 0 → w.seat.marks ≡ v.seat.marks → w.refused ≡ v.refused
+    → w.blamed ≡ v.blamed → HasGivenUp ws why w x
     → HasRefused why v x
-refused_from why sets ws v w x live layout role seen mine draws marks refused h =
+refused_from why drew sets ws v w x live layout role seen mine draws marks refused blamed h =
     let layout' : x.layout ≡ v.layout = ap (λ (y : View). y.layout) h.is ∙ layout in
     let role' : x.role ≡ v.role = ap (λ (y : View). y.role) h.is ∙ role in record {
       over = record {
@@ -196,21 +202,26 @@ refused_from why sets ws v w x live layout role seen mine draws marks refused h 
         decided = subst (λ (y : View). IsFront v.decided y.decided) (sym h.is) seen.decided;
       };
       mine = ap (λ (y : View). y.mine) h.is ∙ mine;
-      draws = let same = ap (λ (y : View). y.draws) h.is in omega (arith, same, draws);
+      drew = drew;
+      draws = ap (λ (y : View). y.draws) h.is ∙ draws;
       marks = ap (λ (y : View). y.seat.marks) h.is ∙ (h.marks ∙ marks);
       refused = ap (λ (y : View). y.refused) h.is ∙ ap (λ l. l ++ why ∷ []) refused;
+      met = h.met;
+      of = subst (λ (l : Layout). IsMetFor (Some why) h.met l.decls (seat_number v.role)) layout
+          (subst (λ (r : Role). IsMetFor (Some why) h.met w.layout.decls (seat_number r)) role h.of);
+      blamed = ap (λ (y : View). y.blamed) h.is ∙ ap (λ l. l ++ h.met) blamed;
     }
 
 pub locked_refused : (why : Refused) (sets : Sets) (ws : List Write) (found : List ℕ) (v w x : View) → IsLive sets v
     → HasLocked ws found v w → HasGivenUp ws why w x → HasRefused why v x
 locked_refused why sets ws found v w x live h g =
-    refused_from why sets ws v w x live (ap (λ (y : View). y.layout) h.is) (ap (λ (y : View). y.role) h.is)
+    refused_from why false sets ws v w x live (ap (λ (y : View). y.layout) h.is) (ap (λ (y : View). y.role) h.is)
     record {
       history = subst (λ (y : View). IsFront v.history y.history) (sym h.is) (front_refl v.history);
       decided = subst (λ (y : View). IsFront v.decided y.decided) (sym h.is) (front_refl v.decided);
     }
     (ap (λ (y : View). y.mine) h.is) (let same = ap (λ (y : View). y.draws) h.is in omega (arith, same))
-    (ap (λ (y : View). y.seat.marks) h.is) (ap (λ (y : View). y.refused) h.is) g
+    (ap (λ (y : View). y.seat.marks) h.is) (ap (λ (y : View). y.refused) h.is) (ap (λ (y : View). y.blamed) h.is) g
 
 -- ---- the draw
 
@@ -234,8 +245,8 @@ took_of reads (w ∷ ws) (n ∷ found) e count read has are =
 
 pub is_tried : (sets : Sets) (found : List ℕ) (changes : List Change) (n : ℕ) (v w x : View) → IsLive sets v
     → AreDistinct (read_keys sets.reads) → HasLocked sets.writes found v w → AreAsRead sets.reads sets.writes found
-    → HasDrawn changes w n x → HasTried sets.reads sets.writes x
-is_tried sets found changes n v w x live once h are d =
+    → AreMet v.layout.decls sets.reads sets.writes w → HasDrawn changes w n x → HasTried sets.reads sets.writes x
+is_tried sets found changes n v w x live once h are met d =
     let a : Attempt = attempt_of w d.number changes in
     let kept : w.seat.kept ≡ v.seat.kept = ap (λ (y : View). y.seat.kept) h.is in
     let layout : x.layout ≡ v.layout = ap (λ (y : View). y.layout) d.is ∙ ap (λ (y : View). y.layout) h.is in record {
@@ -252,6 +263,9 @@ is_tried sets found changes n v w x live once h are d =
           subst (λ (l : List Took). Contains l (took_at e.key e.word))
           (sym (ap (λ (y : View). y.took) d.is ∙ ap (λ (y : View). y.took) h.is))
           (took_of sets.reads sets.writes found e h.count (entry_is sets.reads e once in') has are);
+      met = λ k e at of there free.
+          ap (λ (y : View). seen_at y.reads at) d.is
+          ∙ met k e at of (subst (λ (y : Layout). IsAtKey y.decls k (spot_for y.decls k) at) layout there) free;
     }
 
 -- ---- a check that failed
@@ -279,7 +293,7 @@ pub failed_refused : (why : Refused) (sets : Sets) (ws us : List Write) (found :
 failed_refused why sets ws us found changes n v w x y z live h d f g =
     let a : Attempt = attempt_of w d.number changes in
     let s : Seat = record x.seat { stage = Ended } in
-    refused_from why sets us v y z live
+    refused_from why true sets us v y z live
     (ap (λ (u : View). u.layout) f.is ∙ (ap (λ (u : View). u.layout) d.is ∙ ap (λ (u : View). u.layout) h.is))
     (ap (λ (u : View). u.role) f.is ∙ (ap (λ (u : View). u.role) d.is ∙ ap (λ (u : View). u.role) h.is))
     record {
@@ -297,6 +311,7 @@ failed_refused why sets ws us found changes n v w x y z live h d f g =
     (ap (λ (u : View). u.seat.marks) f.is ∙ (settled_marks s
     ∙ (ap (λ (u : View). u.seat.marks) d.is ∙ ap (λ (u : View). u.seat.marks) h.is)))
     (ap (λ (u : View). u.refused) f.is ∙ (ap (λ (u : View). u.refused) d.is ∙ ap (λ (u : View). u.refused) h.is))
+    (ap (λ (u : View). u.blamed) f.is ∙ (ap (λ (u : View). u.blamed) d.is ∙ ap (λ (u : View). u.blamed) h.is))
     g
   where
     failed_draws : y.draws ≡ v.draws + 1
@@ -321,6 +336,9 @@ pub record IsChosen (changes : List Change) (found : List ℕ) (ws : List Write)
   pub role : z.role ≡ x.role
   pub due : z.due ≡ x.due
   pub refused : z.refused ≡ x.refused
+  pub touched : z.touched ≡ x.touched
+  pub blamed : z.blamed ≡ x.blamed
+  pub written : changes ≡ changes_of ws
   pub marks : z.seat.marks ≡ x.seat.marks
 
 trying_is : (i j : ℕ) (s : Stage) → s ≡ Trying i → s ≡ Trying j → i ≡ j
@@ -402,6 +420,9 @@ is_chosen sets found changes n m v w x y z live h d is k c =
       role = ap (λ (u : View). u.role) c.is ∙ ap (λ (u : View). u.role) k.is;
       due = ap (λ (u : View). u.due) c.is ∙ ap (λ (u : View). u.due) k.is;
       refused = ap (λ (u : View). u.refused) c.is ∙ ap (λ (u : View). u.refused) k.is;
+      touched = ap (λ (u : View). u.touched) c.is ∙ ap (λ (u : View). u.touched) k.is;
+      blamed = ap (λ (u : View). u.blamed) c.is ∙ ap (λ (u : View). u.blamed) k.is;
+      written = is;
       marks = ap (λ (u : View). u.seat.marks) c.is ∙ (settled_marks s ∙ ap (λ (u : View). u.seat.marks) k.is);
     }
   where
@@ -495,6 +516,11 @@ committed sets found changes n number v w x z u live h d is c p =
           ∙ (ap (λ (y : View). y.seat.marks) d.is ∙ ap (λ (y : View). y.seat.marks) h.is)));
       refused = ap (λ (y : View). y.refused) p.is ∙ (c.refused
           ∙ (ap (λ (y : View). y.refused) d.is ∙ ap (λ (y : View). y.refused) h.is));
+      touched = ap (λ (y : View). y.touched) p.is ∙ (c.touched
+          ∙ (ap (λ (y : View). y.touched) d.is ∙ (ap (λ (y : View). y.touched) h.is
+          ∙ ap (λ (l : List Change). v.touched ++ touches_of (seat_number v.role) l) (sym c.written))));
+      blamed = ap (λ (y : View). y.blamed) p.is ∙ (c.blamed
+          ∙ (ap (λ (y : View). y.blamed) d.is ∙ ap (λ (y : View). y.blamed) h.is));
     }
   where
     in_front : (f l : List Attempt) (b : Attempt) → IsFront f l → Contains f b → Contains l b
@@ -516,20 +542,64 @@ sets_few sets ws is few = subst (λ (l : List Write). length l ≤ 16) (sym is) 
 
 pub can_commit : (sets : Sets) (ws : List Write) (found : List ℕ) (v w : View) → IsLive sets v
     → AreDistinct (read_keys sets.reads) → ws ≡ sets.writes → HasLocked ws found v w → AreAsRead sets.reads ws found
-    → CanCommit sets found v w
-can_commit sets ws found v w live once is h are = record {
+    → AreMet v.layout.decls sets.reads ws w → CanCommit sets found v w
+can_commit sets ws found v w live once is h are met = record {
   live = live;
   once = once;
   locked = subst (λ (l : List Write). HasLocked l found v w) is h;
   read = subst (λ (l : List Write). AreAsRead sets.reads l found) is are;
+  met = subst (λ (l : List Write). AreMet v.layout.decls sets.reads l w) is met;
 }
+
+-- ---- whose locks were taken
+
+in_either : (xs ys : List Touch) (t : Touch) → Contains (xs ++ ys) t → Contains xs t ⊎ Contains ys t
+in_either [] ys t has = inr has
+in_either (x ∷ xs) ys t has = elim (in_cases t x (xs ++ ys) has) [
+  | inl same ↦ inl (subst (λ (u : Touch). Contains (x ∷ xs) u) same (in_head x xs))
+  | inr later ↦ elim (in_either xs ys t later) [ inl old ↦ inl (in_tail t x xs old) | inr new ↦ inr new ]
+]
+
+touch_in : (q : ℕ) (ws : List Write) (t : Touch) → Contains (touches_of q (changes_of ws)) t
+    → (t.seat ≡ q) × (has_write t.key ws ≡ true)
+touch_in q [] t has = absurd (in_none t has)
+touch_in q (w ∷ ws) t has = elim (in_cases t (touch q w.key) (touches_of q (changes_of ws)) has) [
+  | inl same ↦ (
+    sym (ap (λ (u : Touch). u.seat) same),
+    or_left (same_key w.key t.key) (has_write t.key ws)
+        (subst (λ (u : Touch). same_key w.key u.key ≡ true) same (same_key-self w.key)),
+  )
+  | inr later ↦
+      let rest = touch_in q ws t later in
+      (rest.0, or_right (same_key w.key t.key) (has_write t.key ws) rest.1)
+]
+
+-- those of the first writes are those of all
+write_in_take : (n : ℕ) (ws : List Write) (k : Key) → has_write k (take n ws) ≡ true → has_write k ws ≡ true
+write_in_take zero ws k has = absurd (true≢false (sym has))
+write_in_take (suc n) [] k has = absurd (true≢false (sym has))
+write_in_take (suc n) (w ∷ ws) k has = elim (cases_Bool (same_key w.key k)) [
+  | inl hit ↦ or_left (same_key w.key k) (has_write k ws) hit
+  | inr miss ↦ or_right (same_key w.key k) (has_write k ws)
+      (write_in_take n ws k (sym (ap (λ b. b || has_write k (take n ws)) miss) ∙ has))
+]
+
+took_only : (ws locked : List Write) (v x : View) → ((k : Key) → has_write k locked ≡ true → has_write k ws ≡ true)
+    → x.touched ≡ v.touched ++ touches_of (seat_number v.role) (changes_of locked) → TookOnly ws v x
+took_only ws locked v x within is t has =
+    elim (in_either v.touched (touches_of (seat_number v.role) (changes_of locked)) t
+    (subst (λ (l : List Touch). Contains l t) is has)) [
+      | inl old ↦ inl old
+      | inr new ↦ let r = touch_in (seat_number v.role) locked t new in inr (r.0, within t.key r.1)
+    ]
 
 -- ---- where a lock failed
 
-pub stopped_active : (sets : Sets) (ws : List Write) (found : List ℕ) (v w : View) → IsLive sets v
+pub stopped_worker : (sets : Sets) (ws : List Write) (found : List ℕ) (v w : View) → IsLive sets v
     → HasLocked ws found v w
-    → IsActive w.role
-stopped_active sets ws found v w live h = active_locked ws found v w (active_worker v.role live.worker) h
+    → w.role ≡ Worker (worker_of w.role)
+stopped_worker sets ws found v w live h =
+    subst (λ (r : Role). r ≡ Worker (worker_of r)) (sym (ap (λ (y : View). y.role) h.is)) live.worker
 
 pub stopped_places : (sets : Sets) (ws all : List Write) (found : List ℕ) (v w : View) → IsLive sets v
     → HasLocked ws found v w
@@ -543,22 +613,67 @@ pub stopped_locks : (sets : Sets) (ws : List Write) (found : List ℕ) (v w : Vi
     → HasLocks ws found w
 stopped_locks sets ws found v w live h = has_locks ws found v w (is_free sets v live) h
 
-pub stopped_cause : (sets : Sets) (ws all : List Write) (found : List ℕ) (at expected seen : ℕ) (why : Refused)
+pub stopped_cause : (sets : Sets) (n : ℕ) (all : List Write) (found : List ℕ) (at expected seen : ℕ) (why : Refused)
     (v w x : View)
-    → all ≡ sets.writes → writes_at at ws ≡ false → HasGivenUp ws why w x
+    → all ≡ sets.writes → HasLocked (take n all) found v w → writes_at at (take n all) ≡ false
+    → HasGivenUp (take n all) why w x
     → (k : Key) × (has_write k all ≡ true) × IsConflict sets.reads k at expected seen v w
     → why ≡ Conflict at expected seen → RefusesCommit sets sets.writes why v x
-stopped_cause sets ws all found at expected seen why v w x is apart g c same =
+stopped_cause sets n all found at expected seen why v w x is h apart g c same =
+    let ws : List Write = take n all in
     subst (λ (r : Refused). RefusesCommit sets sets.writes r v x) (sym same) (
       c.0,
       inr (subst (λ (l : List Write). has_write c.0 l ≡ true) is c.1),
       conflict_then sets.reads ws c.0 at expected seen v w x (ap (λ (y : View). y.last) g.is)
           (kept_others ws why w x g) apart c.2,
+      took_only sets.writes ws v x
+          (λ k has. subst (λ (l : List Write). has_write k l ≡ true) is (write_in_take n all k has))
+          (ap (λ (y : View). y.touched) g.is ∙ ap (λ (y : View). y.touched) h.is),
     )
   where
     kept_others : (ws : List Write) (why : Refused) (w x : View) → HasGivenUp ws why w x → KeepOthers ws w.reads x.reads
     kept_others ws why w x g = λ r has free.
         subst (λ (l : List Read). Contains l r) (sym (ap (λ (y : View). y.reads) g.is)) (g.others r has free)
+
+-- what a conflict says of the pass itself
+pub has_met : (reads : List ReadEntry) (k : Key) (at expected seen : ℕ) (v w : View) → w.layout ≡ v.layout
+    → IsConflict reads k at expected seen v w → HasMet k at expected seen w
+has_met reads k at expected seen v w layout c = record {
+  place = subst (λ (y : Layout). IsAtKey y.decls k (spot_for y.decls k) at) (sym layout) c.place;
+  step = c.step;
+  last = c.last;
+  was = c.was;
+  stands = c.stands;
+  known = c.known;
+  cause = c.cause;
+}
+
+-- and so it is in the way, once the locks are open
+pub in_the_way : (ws : List Write) (k : Key) (at expected seen : ℕ) (v w : View) → HasMet k at expected seen v
+    → writes_at at ws ≡ false → HasUnlocked ws v w → IsInTheWay k at expected seen w
+in_the_way ws k at expected seen v w m apart h = record {
+  place = subst (λ (y : Layout). IsAtKey y.decls k (spot_for y.decls k) at) (sym (ap (λ (y : View). y.layout) h.is)) m.place;
+  free = ap (λ (y : View). has_key y.seat.locks k) h.is ∙ ap (λ l. has_key l k) h.locks;
+  step = m.step;
+  last = ap (λ (y : View). y.last) h.is ∙ m.last;
+  was = m.was;
+  stands = subst (λ (l : List Read). Contains l (record { word = at; seen = seen; was = m.was }))
+      (sym (ap (λ (y : View). y.reads) h.is))
+      (h.others (record { word = at; seen = seen; was = m.was }) m.stands apart);
+  known = m.known;
+  cause = m.cause;
+}
+
+pub stopped_met : (sets : Sets) (ws all : List Write) (found : List ℕ) (at expected seen : ℕ) (v w : View)
+    → HasLocked ws found v w → (k : Key) × (has_write k all ≡ true) × IsConflict sets.reads k at expected seen v w
+    → (k : Key) × HasMet k at expected seen w
+stopped_met sets ws all found at expected seen v w h c =
+    (c.0, has_met sets.reads c.0 at expected seen v w (ap (λ (y : View). y.layout) h.is) c.2)
+
+pub checked_met : (reads : List ReadEntry) (at expected seen : ℕ) (x y : View) → HasFailed x y
+    → (k : Key) × (has_read k reads ≡ true) × IsConflict reads k at expected seen x y → (k : Key) × HasMet k at expected seen y
+checked_met reads at expected seen x y f c =
+    (c.0, has_met reads c.0 at expected seen x y (ap (λ (z : View). z.layout) f.is) c.2)
 
 -- ---- the commit of what is locked
 
@@ -579,13 +694,17 @@ pub sets_tried : (sets : Sets) (found : List ℕ) (reads : List ReadEntry) (chan
     → CanCommit sets found v w → reads ≡ sets.reads → HasDrawn changes w n x → HasTried reads sets.writes x
 sets_tried sets found reads changes n v w x can is d =
     subst (λ (l : List ReadEntry). HasTried l sets.writes x) (sym is)
-    (is_tried sets found changes n v w x can.live can.once can.locked can.read d)
+    (is_tried sets found changes n v w x can.live can.once can.locked can.read can.met d)
 
 pub checked_active : (x y : View) → IsActive x.role → HasChecked x y → IsActive y.role
 checked_active x y active k = subst IsActive (sym (ap (λ (u : View). u.role) k.is)) active
 
-pub failed_active : (x y : View) → IsActive x.role → HasFailed x y → IsActive y.role
-failed_active x y active f = subst IsActive (sym (ap (λ (u : View). u.role) f.is)) active
+pub failed_worker : (sets : Sets) (found : List ℕ) (changes : List Change) (n : ℕ) (v w x y : View)
+    → CanCommit sets found v w → HasDrawn changes w n x → HasFailed x y → y.role ≡ Worker (worker_of y.role)
+failed_worker sets found changes n v w x y can d f =
+    subst (λ (r : Role). r ≡ Worker (worker_of r))
+    (sym (ap (λ (u : View). u.role) f.is ∙ (ap (λ (u : View). u.role) d.is ∙ ap (λ (u : View). u.role) can.locked.is)))
+    can.live.worker
 
 pub chosen_active : (m : ℕ) (y z : View) → IsActive y.role → HasChosen y m z → IsActive z.role
 chosen_active m y z active c = subst IsActive (sym (ap (λ (u : View). u.role) c.is)) active
@@ -636,6 +755,12 @@ pub found_locks : (sets : Sets) (found : List ℕ) (ws : List Write) (v w : View
     → length found ≡ length ws
 found_locks sets found ws v w can is = can.locked.count ∙ ap (λ (l : List Write). length l) (sym is)
 
+pub found_apart : (sets : Sets) (found : List ℕ) (ws : List Write) (at : ℕ) (v w : View) → CanCommit sets found v w
+    → ws ≡ sets.writes → writes_at at sets.writes ≡ false → writes_at at (take (length found) ws) ≡ false
+found_apart sets found ws at v w can is apart =
+    subst (λ (l : List Write). writes_at at l ≡ false)
+    (sym (take_found ws found (found_locks sets found ws v w can is) ∙ is)) apart
+
 pub found_within : (sets : Sets) (found : List ℕ) (ws : List Write) (v w : View) → CanCommit sets found v w → ws
     ≡ sets.writes
     → length found ≤ length ws
@@ -665,11 +790,11 @@ check_refused sets found ws changes n why v w x y z can d f g =
 pub check_cause : (sets : Sets) (found : List ℕ) (ws : List Write) (reads : List ReadEntry) (changes : List Change)
     (n : ℕ)
     (at expected seen : ℕ) (why : Refused) (v w x y z : View) → CanCommit sets found v w → HasDrawn changes w n x
-    → reads ≡ sets.reads → ws ≡ sets.writes → writes_at at sets.writes ≡ false
+    → HasFailed x y → reads ≡ sets.reads → ws ≡ sets.writes → writes_at at sets.writes ≡ false
     → HasGivenUp (take (length found) ws) why y z
     → (k : Key) × (has_read k reads ≡ true) × IsConflict reads k at expected seen x y → why ≡ Conflict at expected seen
     → RefusesCommit sets sets.writes why v z
-check_cause sets found ws reads changes n at expected seen why v w x y z can d is is' apart g c same =
+check_cause sets found ws reads changes n at expected seen why v w x y z can d f is is' apart g c same =
     let g' : HasGivenUp sets.writes why y z =
     subst (λ (l : List Write). HasGivenUp l why y z) (take_found ws found (found_locks sets found ws v w can is')
     ∙ is') g in
@@ -687,4 +812,7 @@ check_cause sets found ws reads changes n at expected seen why v w x y z can d i
           apart
           (conflict_since sets.reads c.0 at expected seen v x y layout (omega (arith, steps, steps', can.locked.since))
           c'),
+      took_only sets.writes sets.writes v z (λ k has. has)
+          (ap (λ (u : View). u.touched) g'.is ∙ (ap (λ (u : View). u.touched) f.is
+          ∙ (ap (λ (u : View). u.touched) d.is ∙ ap (λ (u : View). u.touched) can.locked.is))),
     )

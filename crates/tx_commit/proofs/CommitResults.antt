@@ -17,8 +17,8 @@ use Rattle.tx_sets.specs.Entries.{has_read, has_write, IsAscending}
 use Rattle.engine_words.specs.declared.view.Refused.{Refused}
 use Rattle.engine_words.specs.declared.view.Refused.TheVariants.{Conflict, Wide, NumberLimit}
 use Rattle.engine_words.specs.declared.view.View.{View}
-use Rattle.tx_commit.specs.Committing.{changes_of, commit_steps, kept_writes, HasCommitted, RefusesCommit}
-use Rattle.tx_commit.specs.Live.{AreParts, AreFresh, IsWriteOf, IsLive}
+use Rattle.tx_commit.specs.Committing.{changes_of, commit_steps, kept_writes, HasCommitted, RefusesCommit, TookOnly}
+use Rattle.tx_commit.specs.Live.{AreParts, AreFresh, AreMet, IsWriteOf, IsLive}
 use Rattle.tx_commit.specs.Refusing.{HasRefused, IsConflict}
 use Rattle.tx_commit.specs.Steps.{CanCommit}
 use Rattle.tx_commit.proofs.StepLaws.{all_steps, all_most}
@@ -43,6 +43,7 @@ live_dropped sets new keep v live reads writes = record {
   writes = subst (AllByRecursion (IsWriteOf v.layout.decls)) (sym writes)
       (kept_all v.layout.decls keep sets.writes live.writes);
   fresh = subst (λ (l : List ReadEntry). AreFresh l v) (sym reads) live.fresh;
+  met = subst (λ (l : List ReadEntry). AreMet v.layout.decls l [] v) (sym reads) live.met;
 }
 
 pub refuses_dropped : (sets new : Sets) (ws : List Write) (why : Refused) (v w : View) → new.reads ≡ sets.reads
@@ -54,6 +55,7 @@ refuses_dropped sets new ws (Conflict at expected seen) v w reads writes r = (
     | inr has ↦ inr (subst (λ (l : List Write). has_write r.0 l ≡ true) writes has)
   ],
   subst (λ (l : List ReadEntry). IsConflict l r.0 at expected seen v w) reads r.2,
+  subst (λ (l : List Write). TookOnly l v w) writes r.3,
 )
 refuses_dropped sets new ws (Wide set) v w reads writes r = r
 refuses_dropped sets new ws (NumberLimit clock) v w reads writes r = r

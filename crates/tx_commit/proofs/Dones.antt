@@ -1,5 +1,5 @@
 -- What operations come to, by the entry that was read and the write set.
-use Rattle.std.proofs.Common.{◌≡◌, inl, inr, ℕ, ◌+◌, ◌-◌, ◌^◌, Bool, true, false, cond, List}
+use Rattle.std.proofs.Common.{[], ◌≡◌, ◌⊎◌, inl, inr, ℕ, ◌+◌, ◌-◌, ◌^◌, Bool, true, false, cond, List}
 use Rattle.std.proofs.Common.{Option, Some, None, length, arith}
 use Rattle.std.proofs.Common.{refl, sym, ap, ◌∙◌, subst}
 use Rattle.std.specs.Prelude.{is_some, unwrap_or, nat_lt, nat_le}
@@ -24,14 +24,14 @@ use Rattle.engine_words.specs.Layout.{spot_for, IsAtKey}
 use Rattle.engine_words.specs.declared.view.View.{View}
 use Rattle.tx_commit.specs.declared.writing.By.{By}
 use Rattle.tx_commit.specs.declared.writing.By.TheVariants as ways
-use Rattle.tx_commit.specs.Live.{AreFresh, IsLive, IsWriteOf}
+use Rattle.tx_commit.specs.Live.{AreFresh, AreMet, IsLive, IsWriteOf}
 use Rattle.tx_commit.specs.Steps.{HasEntry}
 use Rattle.tx_commit.specs.Turning.{AreWritesOf, IsOfKey, ReadsOnly, HasLoaded, HasDone, HasStopped, op_of, altered}
-use Rattle.tx_commit.specs.Turning.{ended_by, Alters}
+use Rattle.tx_commit.specs.Turning.{ended_by, Alters, MayWrite}
 use Rattle.tx_commit.proofs.Layouts.{is_array}
 use Rattle.tx_commit.proofs.Parts.{keeps_all}
 use Rattle.tx_commit.proofs.Writes.{value_none, value_there, writes_more, inserted_writes, inserted_all, word_apart}
-use Rattle.tx_commit.proofs.Writes.{HasWritten}
+use Rattle.tx_commit.proofs.Writes.{HasWritten, writes_only}
 
 -- ---- what is seen
 
@@ -78,6 +78,11 @@ of_key : (by : By) (k : Key) → IsOfKey (op_of k by) k
 of_key (ways.Add amount) k = refl
 of_key (ways.Take amount) k = refl
 
+-- the key that is written is the operation's
+may_write : (by : By) (k q : Key) (W : Type 0) → W ⊎ (k ≡ q) → W ⊎ MayWrite (op_of k by) q
+may_write (ways.Add amount) k q W is = is
+may_write (ways.Take amount) k q W is = is
+
 pub own_read : (sets : Sets) (v : View) (k : Key) (value : Option ℕ) → IsLive sets v → value_of k sets.writes
     ≡ Some value
     → HasDone (Read k) (Some (Value (unwrap_or value 0))) sets sets v v
@@ -85,6 +90,7 @@ own_read sets v k value live is = record {
   live = live;
   only = nothing_loaded v;
   reads = inl refl;
+  writes = λ q has. inl has;
   grows = omega arith;
   keeps = keeps_all v.seat.kept;
   turns = λ own same. (
@@ -106,6 +112,7 @@ entry_read sets new v w k e live none h = record {
   live = h.live;
   only = h.only;
   reads = reads_key (Read k) k e sets new v w refl h;
+  writes = λ q has. inl (subst (λ (l : List written_of.Write). has_write q l ≡ true) h.writes has);
   grows = omega (arith, ap (λ (l : List written_of.Write). length l) h.writes);
   keeps = h.keeps;
   turns = λ own same. (
@@ -136,9 +143,11 @@ value_written sets new v k value live reads is all = record {
     parts = subst (λ l. Rattle.tx_commit.specs.Live.AreParts v.layout.decls l v.seat.kept) (sym reads) live.parts;
     writes = all;
     fresh = subst (λ l. AreFresh l v) (sym reads) live.fresh;
+    met = subst (λ l. AreMet v.layout.decls l [] v) (sym reads) live.met;
   };
   only = nothing_loaded v;
   reads = inl reads;
+  writes = λ q has. writes_only k value sets.writes new.writes q is has;
   grows = is.grows;
   keeps = keeps_all v.seat.kept;
   turns = λ own same. (wrote k (Some value) own, writes_more k value sets.writes new.writes own is same, refl);
@@ -212,9 +221,12 @@ own_altered by sets new v k before value live is after reads now all = record {
     parts = subst (λ l. Rattle.tx_commit.specs.Live.AreParts v.layout.decls l v.seat.kept) (sym reads) live.parts;
     writes = all;
     fresh = subst (λ l. AreFresh l v) (sym reads) live.fresh;
+    met = subst (λ l. AreMet v.layout.decls l [] v) (sym reads) live.met;
   };
   only = nothing_loaded v;
   reads = inl reads;
+  writes = λ q has. may_write by k q (has_write q sets.writes ≡ true)
+      (writes_only k value sets.writes new.writes q now has);
   grows = now.grows;
   keeps = keeps_all v.seat.kept;
   turns = λ own same. (
@@ -233,6 +245,7 @@ own_ends by sets v k before live is after = stops_so by (op_of k by) sets sets v
   live = live;
   only = nothing_loaded v;
   reads = inl refl;
+  writes = λ q has. inl has;
   grows = omega arith;
   keeps = keeps_all v.seat.kept;
   turns = λ own same.
@@ -257,10 +270,14 @@ entry_altered by sets mid new v w k e value none h after reads now all layout = 
     parts = subst (λ l. Rattle.tx_commit.specs.Live.AreParts w.layout.decls l w.seat.kept) (sym reads) h.live.parts;
     writes = all;
     fresh = subst (λ l. AreFresh l w) (sym reads) h.live.fresh;
+    met = subst (λ l. AreMet w.layout.decls l [] w) (sym reads) h.live.met;
   };
   only = h.only;
   reads = subst (λ l. ReadsOnly (op_of k by) sets.reads l) (sym reads) (reads_key (op_of k by) k e sets mid v w
       (of_key by k) h);
+  writes = λ q has. may_write by k q (has_write q sets.writes ≡ true)
+      (subst (λ (l : List written_of.Write). (has_write q l ≡ true) ⊎ (k ≡ q)) h.writes
+      (writes_only k value mid.writes new.writes q now has));
   grows = omega (arith, now.grows, ap (λ (l : List written_of.Write). length l) h.writes);
   keeps = h.keeps;
   turns = λ own same. (
@@ -279,6 +296,7 @@ entry_ends by sets new v w k e none h after = stops_so by (op_of k by) sets new 
   live = h.live;
   only = h.only;
   reads = reads_key (op_of k by) k e sets new v w (of_key by k) h;
+  writes = λ q has. inl (subst (λ (l : List written_of.Write). has_write q l ≡ true) h.writes has);
   grows = omega (arith, ap (λ (l : List written_of.Write). length l) h.writes);
   keeps = h.keeps;
   turns = λ own same.

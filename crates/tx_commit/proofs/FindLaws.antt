@@ -1,18 +1,21 @@
 -- What is read anew, and what a refused call leaves.
-use Rattle.std.proofs.Common.{◌≡◌, ◌≢◌, inl, inr, ℕ, ◌+◌, ◌%◌, ◌<◌, ◌≤◌, ◌^◌, Bool, true, false}
+use Rattle.std.proofs.Common.{◌≡◌, ◌≢◌, ◌⊎◌, inl, inr, ℕ, ◌+◌, ◌*◌, ◌%◌, ◌<◌, ◌≤◌, ◌^◌, Bool, true, false, true≢false, cond, take}
 use Rattle.std.proofs.Common.{List, [], ◌∷◌, ◌++◌, length, Some, None}
 use Rattle.std.proofs.Common.{refl, sym, ap, ◌∙◌, subst, arith}
-use Rattle.std.specs.Prelude.{Contains, MatchBool, filter, not, ◌==◌, nat_lt, unwrap_or, length, Result, Ok, Err, OnOk}
+use Rattle.std.specs.Prelude.{Contains, MatchBool, filter, not, ◌==◌, ◌||◌, nat_lt, unwrap_or, length, Result, Ok, Err, OnOk}
 use Rattle.std.specs.Prelude.{IsOk}
 use Rattle.std.proofs.lemmas.Bool.Decides.{nat_tests}
+use Rattle.std.proofs.lemmas.List.{append-nil}
 use Rattle.std.specs.List.{list_any}
-use Rattle.std.proofs.lemmas.Bool.{or_parts, or_from, ltb-true, ltb-false}
+use Rattle.std.proofs.lemmas.Bool.{or_parts, or_from, ltb-true, ltb-false, false_from_ne_true}
+use Rattle.homes.specs.Laws.{same_key-true}
+use Rattle.views.specs.Sums.{total}
 use Rattle.lists.specs.Elements.{in_push_new}
 use Rattle.lists.specs.Fronts.{front_refl}
 use Rattle.serial_model.specs.declared.key.Key.{Key}
 use Rattle.serial_model.specs.declared.decl.Decl.{Decl}
 use Rattle.serial_model.specs.Numbers.{draw_limit}
-use Rattle.homes.specs.Homes.{same_key}
+use Rattle.homes.specs.Homes.{same_key, has_key}
 use Rattle.homes.specs.declared.places.Content.{Content}
 use Rattle.homes.specs.declared.places.Spot.{Spot}
 use Rattle.commit_core.specs.declared.attempt.Attempt.{Attempt}
@@ -26,15 +29,16 @@ use Rattle.engine_words.specs.declared.view.Read.{Read}
 use Rattle.engine_words.specs.declared.view.Refused.{Refused}
 use Rattle.engine_words.specs.declared.view.Refused.TheVariants.{NumberLimit}
 use Rattle.engine_words.specs.declared.view.View.{View}
-use Rattle.engine_words.specs.Layout.{IsAtKey}
+use Rattle.engine_words.specs.Layout.{records_at, records_of, IsAtKey}
 use Rattle.engine_words.specs.ReadLaws.{seen_at-same, seen_at-other}
 use Rattle.engine_words.specs.Reads.{saw, valued}
 use Rattle.engine_words.specs.Steps.{read_at, seen_at, with_read, spot_in, timed, readied, refused_for}
-use Rattle.engine_words.specs.Steps.{forgot_for}
-use Rattle.engine_words.specs.Steps.{Begun, IsKeyAt}
-use Rattle.array_storage.specs.Finding.{HasFound, HasClashed}
+use Rattle.engine_words.specs.Views.{seat_number}
+use Rattle.engine_words.specs.Steps.{forgot_for, HasForgotten}
+use Rattle.engine_words.specs.Steps.{Begun, IsInTheWay, IsKeyAt, IsMetFor}
+use Rattle.array_storage.specs.Finding.{HasFound, HasClashed, IsWordFor}
 use Rattle.tx_commit.specs.Committing.{HasBegun, HasAborted}
-use Rattle.tx_commit.specs.Live.{IsPartOf, AreParts, IsWriteOf, IsLive, IsOver}
+use Rattle.tx_commit.specs.Live.{AreMet, IsPartOf, AreParts, IsWriteOf, IsLive, IsOver}
 use Rattle.tx_commit.specs.Refusing.{IsConflict, HasRefused, RefusesBegin}
 use Rattle.tx_commit.specs.Steps.{HasEntry}
 use Rattle.tx_commit.specs.Turning.{HasLoaded, Keeps}
@@ -65,6 +69,59 @@ apart_from decls k q x y at at' is is' other = (
 abbrev found_view : Key → Content → ℕ → ℕ → ℕ → View → View
 found_view k c at word value v = read_at at word (valued k (spot_in v k) (at + 1) value
     (saw k (spot_in v k) c at word v))
+
+-- what is read of one record more
+read_push : (reads : List ReadEntry) (e : ReadEntry) (q : Key) (x : ReadEntry) → read_of q (reads ++ e ∷ []) ≡ Some x
+    → (read_of q reads ≡ Some x) ⊎ ((e ≡ x) × (same_key e.key q ≡ true))
+read_push [] e q x of = by_test (same_key e.key q) refl of
+  where
+    by_test : (b : Bool) → same_key e.key q ≡ b → cond b (Some e) None ≡ Some x
+        → (read_of q [] ≡ Some x) ⊎ ((e ≡ x) × (same_key e.key q ≡ true))
+    by_test true is of = let same : e ≡ x = cc in inr (same, is)
+    by_test false is of = inl of
+read_push (f ∷ reads) e q x of = by_test (same_key f.key q) refl of (read_push reads e q x)
+  where
+    by_test : (b : Bool) → same_key f.key q ≡ b → cond b (Some f) (read_of q (reads ++ e ∷ [])) ≡ Some x
+        → (read_of q (reads ++ e ∷ []) ≡ Some x → (read_of q reads ≡ Some x) ⊎ ((e ≡ x) × (same_key e.key q ≡ true)))
+        → (read_of q (f ∷ reads) ≡ Some x) ⊎ ((e ≡ x) × (same_key e.key q ≡ true))
+    by_test true is of rest = inl (ap (λ b. cond b (Some f) (read_of q reads)) is ∙ of)
+    by_test false is of rest = elim (rest of) [
+      | inl old ↦ inl (ap (λ b. cond b (Some f) (read_of q reads)) is ∙ old)
+      | inr new ↦ inr new
+    ]
+
+read_has : (reads : List ReadEntry) (q : Key) (x : ReadEntry) → read_of q reads ≡ Some x → has_read q reads ≡ true
+read_has [] q x of = absurd cc
+read_has (f ∷ reads) q x of = by_test (same_key f.key q) refl of (read_has reads q x)
+  where
+    by_test : (b : Bool) → same_key f.key q ≡ b → cond b (Some f) (read_of q reads) ≡ Some x
+        → (read_of q reads ≡ Some x → has_read q reads ≡ true) → has_read q (f ∷ reads) ≡ true
+    by_test true is of rest = ap (λ b. b || has_read q reads) is
+    by_test false is of rest = ap (λ b. b || has_read q reads) is ∙ rest of
+
+-- what is known of records that were read, behind a read of one more
+met_push : (reads : List ReadEntry) (k : Key) (e : ReadEntry) (at at' value : ℕ) (q : Key) (x : ReadEntry) (v : View)
+    → (k ≡ e.key) → AreMet v.layout.decls reads [] v → has_read k reads ≡ false → IsKeyAt v k at
+    → IsAtKey v.layout.decls q (spot_in v q) at' → (read_of q reads ≡ Some x) ⊎ ((e ≡ x) × (same_key e.key q ≡ true))
+    → seen_at (with_read (with_read (with_read v.reads at e.word) (at + 1) value) at e.word) at' ≡ Some x.word
+met_push reads k e at at' value q x v key met none place there (inl of) =
+    let miss : same_key k q ≡ false = false_from_ne_true (same_key k q) (λ same.
+    true≢false (sym (read_has reads q x of) ∙ subst (λ (y : Key). has_read y reads ≡ false) (same_key-true k q same) none)) in
+    let apart = apart_from v.layout.decls k q (spot_in v k) (spot_in v q) at at' place there miss in
+    let first : List Read = with_read v.reads at e.word in
+    let second : List Read = with_read first (at + 1) value in
+    seen_at-other second at e.word at' apart.0 ∙ (seen_at-other first (at + 1) value at' apart.1
+    ∙ (seen_at-other v.reads at e.word at' apart.0 ∙ met q x at' of there refl))
+met_push reads k e at at' value q x v key met none place there (inr new) =
+    let same : k ≡ q = key ∙ same_key-true e.key q new.1 in
+    let word : at' ≡ at = there.word ∙ (subst (λ (y : Key). at_of y ≡ at_of k) same refl ∙ sym place.word) in
+    let first : List Read = with_read v.reads at e.word in
+    let second : List Read = with_read first (at + 1) value in
+    subst (λ (j : ℕ). seen_at (with_read second at e.word) j ≡ Some x.word) (sym word)
+    (seen_at-same second at e.word ∙ ap (λ (y : ReadEntry). Some y.word) new.0)
+  where
+    at_of : Key → ℕ
+    at_of y = records_at + 2 * (total records_of (take (spot_in v y).slot v.layout.decls) + y.key)
 
 pub found_entry : (sets new : Sets) (k : Key) (at word value : ℕ) (v w : View) → IsLive sets v
     → has_read k sets.reads ≡ false → IsKeyAt v k at → HasFound k at word value v w
@@ -100,6 +157,9 @@ found_entry sets new k at word value v w live none place h reads writes =
             let second : List Read = with_read first (at + 1) value in
             seen_at-other second at word at' apart.0 ∙ (seen_at-other first (at + 1) value at' apart.1
             ∙ (seen_at-other v.reads at word at' apart.0 ∙ live.fresh q at' parts.0 there));
+        met = λ q x at' of there free.
+            met_push sets.reads k e at at' value q x v refl live.met none place there
+            (read_push sets.reads e q x (subst (λ (l : List ReadEntry). read_of q l ≡ Some x) reads of));
       };
       only = record {
         kept = y.seat.kept;
@@ -139,6 +199,12 @@ old_entry sets k e v live is =
 
 -- ---- a read that clashed
 
+small_word : (c : Content) (word : ℕ) → IsWordFor c word → word < 2 ^ 60
+small_word c word is =
+    let draw = is.small.draw in
+    let epoch = is.small.epoch in
+    let number = is.number in omega arith
+
 stands_now : (reads : List Read) (at n : ℕ)
     → Contains (with_read reads at n) (record { word = at; seen = n; was = seen_at reads at })
 stands_now reads at n =
@@ -155,11 +221,11 @@ clash_loaded k at expected seen v w (inr h) =
     record { kept = y.seat.kept; steps = y.steps; last = y.last; loaded = y.loaded; reads = y.reads; is = h.is }
 
 pub clash_conflict : (sets : Sets) (k : Key) (at expected seen : ℕ) (why : Refused) (v w x : View) → IsLive sets v
-    → has_read k sets.reads ≡ false → IsKeyAt v k at → HasClashed k at expected seen v w → x ≡ forgot_for (Some why) w
+    → has_read k sets.reads ≡ false → IsKeyAt v k at → HasClashed k at expected seen v w → HasForgotten (Some why) w x
     → IsConflict sets.reads k at expected seen v x
 clash_conflict sets k at expected seen why v w x live none place (inl h) is =
-    let last : x.last ≡ w.last = ap (λ (z : View). z.last) is in
-    let reads : x.reads ≡ w.reads = ap (λ (z : View). z.reads) is in record {
+    let last : x.last ≡ w.last = ap (λ (z : View). z.last) is.is in
+    let reads : x.reads ≡ w.reads = ap (λ (z : View). z.reads) is.is in record {
       place = place;
       step = v.steps;
       last = last ∙ ap (λ (z : View). z.last) h.is;
@@ -171,15 +237,15 @@ clash_conflict sets k at expected seen why v w x live none place (inl h) is =
           (sym h.is)
           (stands_now v.reads at seen));
       read = λ e of. absurd (none_some e (sym (unread k sets.reads none) ∙ of));
-      unread = λ _. h.same ∙ sym (ap (λ o. unwrap_or o seen) (live.fresh k at none place));
+      known = h.same ∙ sym (ap (λ o. unwrap_or o seen) (live.fresh k at none place));
       cause = inl h.locked;
     }
   where
     none_some : (e : ReadEntry) → None ≡ Some e → ⊥
     none_some e same = absurd cc
 clash_conflict sets k at expected seen why v w x live none place (inr h) is =
-    let last : x.last ≡ w.last = ap (λ (z : View). z.last) is in
-    let reads : x.reads ≡ w.reads = ap (λ (z : View). z.reads) is in
+    let last : x.last ≡ w.last = ap (λ (z : View). z.last) is.is in
+    let reads : x.reads ≡ w.reads = ap (λ (z : View). z.reads) is.is in
     let first : List Read = with_read v.reads at expected in
     let second : List Read = with_read first (at + 1) h.value in
     let was : seen_at second at ≡ Some expected =
@@ -196,17 +262,46 @@ clash_conflict sets k at expected seen why v w x live none place (inr h) is =
           (sym h.is)
           (stands_now second at seen));
       read = λ e of. absurd (none_some e (sym (unread k sets.reads none) ∙ of));
-      unread = λ _. sym (ap (λ o. unwrap_or o seen) was);
-      cause = inr h.other;
+      known = sym (ap (λ o. unwrap_or o seen) was);
+      cause = inr (small_word h.content expected h.shown, h.other);
     }
   where
     none_some : (e : ReadEntry) → None ≡ Some e → ⊥
     none_some e same = absurd cc
 
+-- what is in the way of the read, as it ends
+pub clash_way : (sets : Sets) (k : Key) (at expected seen : ℕ) (v w : View) → IsLive sets v → has_read k sets.reads ≡ false
+    → IsKeyAt v k at → HasClashed k at expected seen v w → IsInTheWay k at expected seen w
+clash_way sets k at expected seen v w live none place (inl h) =
+    subst (IsInTheWay k at expected seen) (sym h.is) record {
+      place = place;
+      free = ap (λ l. has_key l k) live.locks;
+      step = v.steps;
+      last = refl;
+      was = seen_at v.reads at;
+      stands = stands_now v.reads at seen;
+      known = h.same ∙ sym (ap (λ o. unwrap_or o seen) (live.fresh k at none place));
+      cause = inl h.locked;
+    }
+clash_way sets k at expected seen v w live none place (inr h) =
+    let first : List Read = with_read v.reads at expected in
+    let second : List Read = with_read first (at + 1) h.value in
+    let was : seen_at second at ≡ Some expected =
+    seen_at-other first (at + 1) h.value at (λ same. absurd (omega arith)) ∙ seen_at-same v.reads at expected in
+    subst (IsInTheWay k at expected seen) (sym h.is) record {
+      place = place;
+      free = ap (λ l. has_key l k) live.locks;
+      step = v.steps + 1 + 1;
+      last = refl;
+      was = seen_at second at;
+      stands = stands_now second at seen;
+      known = sym (ap (λ o. unwrap_or o seen) was);
+      cause = inr (small_word h.content expected h.shown, h.other);
+    }
+
 -- ---- what a refusal before the locks leaves
 
-pub loaded_refused : (sets : Sets) (why : Refused) (v w x : View) → IsLive sets v → HasLoaded v w → x
-    ≡ forgot_for (Some why) w
+pub loaded_refused : (sets : Sets) (why : Refused) (v w x : View) → IsLive sets v → HasLoaded v w → HasForgotten (Some why) w x
     → HasRefused why v x
 loaded_refused sets why v w x live h is =
     let u : View = record v {
@@ -216,7 +311,7 @@ loaded_refused sets why v w x live h is =
       loaded = h.loaded;
       reads = h.reads;
     } in
-    let whole : x ≡ forgot_for (Some why) u = is ∙ ap (forgot_for (Some why)) h.is in
+    let whole : x ≡ forgot_for (Some why) is.met u = is.is ∙ ap (forgot_for (Some why) is.met) h.is in
     subst (HasRefused why v) (sym whole) record {
       over = record {
         decls = live.decls;
@@ -229,12 +324,25 @@ loaded_refused sets why v w x live h is =
       role = refl;
       seen = record { history = front_refl v.history; decided = front_refl v.decided };
       mine = refl;
+      drew = false;
       draws = omega arith;
       marks = refl;
       refused = refl;
+      met = is.met;
+      of = subst (λ (z : View). IsMetFor (Some why) is.met z.layout.decls (seat_number z.role)) h.is is.of;
+      blamed = refl;
     }
 
+-- and nothing was locked
+pub clash_untouched : (k : Key) (at expected seen : ℕ) (why : Refused) (v w x : View) → HasClashed k at expected seen v w
+    → HasForgotten (Some why) w x → x.touched ≡ v.touched
+clash_untouched k at expected seen why v w x h is =
+    ap (λ (z : View). z.touched) is.is ∙ ap (λ (z : View). z.touched) (clash_loaded k at expected seen v w h).is
+
 -- ---- begin and abort
+
+none_read : (k : Key) (e : ReadEntry) → read_of k [] ≡ Some e → ⊥
+none_read k e of = absurd cc
 
 pub begun : (sets : Sets) (clock : ℕ) (v w : View) → IsOver v → AreEmpty sets → Begun v clock w
     → clock % 2 ^ 40 < draw_limit → HasBegun sets v w
@@ -256,6 +364,8 @@ begun sets clock v w over empty b low =
             (subst (AreParts v.layout.decls []) (sym over.seat.kept) tt);
         writes = subst (λ l. Rattle.std.specs.List.AllByRecursion (IsWriteOf v.layout.decls) l) (sym empty.writes) tt;
         fresh = λ k at unread place. refl;
+        met = λ k e at of place free. absurd (none_read k e (subst (λ (l : List ReadEntry). read_of k l ≡ Some e)
+            empty.reads of));
       };
       empty = empty;
       clock = clock;
@@ -283,6 +393,7 @@ not_begun clock v w over b high =
       draws = b.1.draws ∙ ap (λ (l : List Attempt). v.layout.first.draw + length l)
           (sym (ap (λ (z : View). z.history) now));
       undrawn = ap (λ (z : View). z.draws) is;
+      touched = ap (λ (z : View). z.touched) is;
       refused = subst (HasRefused (NumberLimit clock) v) (sym is) record {
         over = record {
           decls = over.decls;
@@ -295,15 +406,19 @@ not_begun clock v w over b high =
         role = refl;
         seen = record { history = b.1.history; decided = b.1.decided };
         mine = refl;
+        drew = false;
         draws = omega arith;
         marks = refl;
         refused = refl;
+        met = [];
+        of = refl;
+        blamed = sym (append-nil v.blamed);
       };
     }
 
-pub aborted : (sets : Sets) (v w : View) → IsLive sets v → w ≡ forgot_for None v → HasAborted v w
+pub aborted : (sets : Sets) (v w : View) → IsLive sets v → HasForgotten None v w → HasAborted v w
 aborted sets v w live is =
-    subst (HasAborted v) (sym is) record {
+    subst (HasAborted v) (sym is.is) record {
       over = record {
         decls = live.decls;
         worker = live.worker;
@@ -318,6 +433,8 @@ aborted sets v w live is =
       draws = refl;
       marks = refl;
       refused = refl;
+      touched = refl;
+      blamed = ap (λ l. v.blamed ++ l) is.of ∙ append-nil v.blamed;
     }
 
 -- ---- a set with room

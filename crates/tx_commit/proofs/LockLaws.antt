@@ -1,12 +1,12 @@
 -- Locks one after another.
 use Rattle.std.proofs.Common.{◌≡◌, ◌≢◌, ◌⊎◌, inr, ℕ, zero, suc, ◌+◌, ◌<◌, ◌≤◌, ◌^◌, Bool, true, false, eqb}
 use Rattle.std.proofs.Common.{List, [], ◌∷◌, ◌++◌, length, take, get_or}
-use Rattle.std.proofs.Common.{refl, sym, ap, ◌∙◌, subst, arith, Some, None, Option}
-use Rattle.std.specs.Prelude.{MatchBool, Contains, filter, not, ◌==◌, unwrap_or}
+use Rattle.std.proofs.Common.{refl, sym, ap, ◌∙◌, subst, arith, Some, None, Option, append_assoc}
+use Rattle.std.specs.Prelude.{MatchBool, Contains, filter, not, ◌==◌, unwrap_or, IfSome}
 use Rattle.std.specs.List.{list_any, AllByRecursion}
 use Rattle.std.proofs.lemmas.Bool.{eq-eqb, ne_eqb, or_parts, or_from, or_left, or_right}
 use Rattle.std.proofs.lemmas.Bool.{true≢false}
-use Rattle.std.proofs.lemmas.List.{take_more}
+use Rattle.std.proofs.lemmas.List.{append-nil, take_more}
 use Rattle.lists.specs.Elements.{in_push_new}
 use Rattle.serial_model.specs.declared.key.Key.{Key}
 use Rattle.serial_model.specs.declared.decl.Decl.{Decl}
@@ -24,8 +24,14 @@ use Rattle.engine_words.specs.Layout.{spot_for, IsAtKey}
 use Rattle.engine_words.specs.Locks.{lock_bit, took_at, locked, Locked}
 use Rattle.engine_words.specs.ReadLaws.{seen_at-same, seen_at-other}
 use Rattle.engine_words.specs.Steps.{read_at, seen_at, with_read, IsKeyAt}
-use Rattle.engine_words.specs.Views.{IsActive}
-use Rattle.tx_commit.specs.Live.{IsWriteOf}
+use Rattle.engine_words.specs.Touches.{touch}
+use Rattle.engine_words.specs.Views.{seat_number}
+use Rattle.engine_words.specs.Cuts.{worker_of}
+use Rattle.engine_words.specs.declared.view.Role.{Role}
+use Rattle.engine_words.specs.declared.view.Role.TheVariants.{Worker}
+use Rattle.engine_words.specs.declared.view.Touch.{Touch}
+use Rattle.tx_commit.specs.Committing.{changes_of, touches_of}
+use Rattle.tx_commit.specs.Live.{AreMet, IsWriteOf}
 use Rattle.tx_commit.specs.Refusing.{IsConflict}
 use Rattle.tx_commit.specs.Steps.{keys_of, tooks_of, known_word, AreSmall, AreAsRead, KeepOthers, HasGlanced, HasTaken}
 use Rattle.tx_commit.specs.Steps.{HasLocked, IsFree}
@@ -83,10 +89,11 @@ stands_now reads at n =
 
 -- the load found the word locked, or not the expected one
 pub load_conflict : (reads : List ReadEntry) (k : Key) (at word expected : ℕ) (v w : View) → IsKeyAt v k at
-    → (read_of k reads ≡ None → seen_at v.reads at ≡ None) → w ≡ read_at at word v
-    → expected ≡ known_word (read_of k reads) word → (2 ^ 60 ≤ word) ⊎ (word ≢ expected)
+    → (read_of k reads ≡ None → seen_at v.reads at ≡ None)
+    → IfSome (read_of k reads) (λ e. seen_at v.reads at ≡ Some e.word) → w ≡ read_at at word v
+    → expected ≡ known_word (read_of k reads) word → (2 ^ 60 ≤ word) ⊎ ((expected < 2 ^ 60) × (word ≢ expected))
     → IsConflict reads k at expected word v w
-load_conflict reads k at word expected v w place unmet is known cause = record {
+load_conflict reads k at word expected v w place unmet met is known cause = record {
   place = place;
   step = v.steps;
   last = ap (λ (y : View). y.last) is;
@@ -95,15 +102,20 @@ load_conflict reads k at word expected v w place unmet is known cause = record {
   stands = subst (λ (y : View). Contains y.reads (record { word = at; seen = word; was = seen_at v.reads at })) (sym is)
       (stands_now v.reads at word);
   read = λ e of. known ∙ ap (λ o. known_word o word) of;
-  unread = λ none. known ∙ (ap (λ o. known_word o word) none ∙ sym (ap (λ o. unwrap_or o word) (unmet none)));
+  known = known ∙ by_entry (read_of k reads) unmet met;
   cause = cause;
 }
+  where
+    by_entry : (o : Option ReadEntry) → (o ≡ None → seen_at v.reads at ≡ None)
+        → IfSome o (λ e. seen_at v.reads at ≡ Some e.word) → known_word o word ≡ unwrap_or (seen_at v.reads at) word
+    by_entry None unmet met = sym (ap (λ o. unwrap_or o word) (unmet refl))
+    by_entry (Some e) unmet met = sym (ap (λ o. unwrap_or o word) met)
 
 -- the compare_exchange found another word than the load
 pub lock_conflict : (reads : List ReadEntry) (k : Key) (at word expected seen : ℕ) (v w x : View) → IsKeyAt v k at
-    → w ≡ read_at at word v → expected ≡ known_word (read_of k reads) word → word ≡ expected → seen ≢ expected
-    → Locked k at expected w seen x → IsConflict reads k at expected seen v x
-lock_conflict reads k at word expected seen v w x place is known same other l =
+    → w ≡ read_at at word v → expected ≡ known_word (read_of k reads) word → word ≡ expected → word < 2 ^ 60
+    → seen ≢ expected → Locked k at expected w seen x → IsConflict reads k at expected seen v x
+lock_conflict reads k at word expected seen v w x place is known same small other l =
     let miss : eqb seen expected ≡ false = ne_eqb seen expected other in
     let is2 : x ≡ read_at at seen w = subst (λ b. MatchBool b (x ≡ locked k at seen w) (x ≡ read_at at seen w)) miss l
     in
@@ -119,8 +131,8 @@ lock_conflict reads k at word expected seen v w x place is known same other l =
           (sym is2)
           (stands_now w.reads at seen);
       read = λ e of. known ∙ ap (λ o. known_word o word) of;
-      unread = λ none. sym same ∙ sym (ap (λ o. unwrap_or o seen) was);
-      cause = inr other;
+      known = sym same ∙ sym (ap (λ o. unwrap_or o seen) was);
+      cause = inr (omega (arith, small, same), other);
     }
 
 pub lock_glanced : (k : Key) (at word expected seen : ℕ) (v w x : View) → w ≡ read_at at word v → seen ≢ expected
@@ -166,7 +178,7 @@ conflict_since reads k at expected seen v w x layout steps c = record {
   was = c.was;
   stands = c.stands;
   read = c.read;
-  unread = c.unread;
+  known = c.known;
   cause = c.cause;
 }
 
@@ -182,7 +194,7 @@ conflict_then reads ws k at expected seen v x y last others apart c = record {
   was = c.was;
   stands = others (record { word = at; seen = seen; was = c.was }) c.stands apart;
   read = c.read;
-  unread = c.unread;
+  known = c.known;
   cause = c.cause;
 }
 
@@ -213,10 +225,11 @@ length_push : {A : Type 0} (xs : List A) (x : A) → length (xs ++ x ∷ []) ≡
 length_push [] x = refl
 length_push (y ∷ xs) x = let rest = length_push xs x in omega (arith, rest)
 
-abbrev with_locks : View → List Key → List Took → View → View
-with_locks v locks took w = record v {
+abbrev with_locks : View → List Key → List Took → List Touch → View → View
+with_locks v locks took touched w = record v {
   seat = record v.seat { locks = locks };
   took = took;
+  touched = touched;
   steps = w.steps;
   last = w.last;
   loaded = w.loaded;
@@ -231,8 +244,14 @@ locked_none v free = record {
   last = v.last;
   loaded = v.loaded;
   reads = v.reads;
-  is = ap (λ l. with_locks v l v.took v) free.locks ∙ ap (λ l. with_locks v [] l v) free.took;
+  is = ap (λ l. with_locks v l v.took v.touched v) free.locks ∙ (ap (λ l. with_locks v [] l v.touched v) free.took
+      ∙ ap (λ l. with_locks v [] [] l v) (sym (append-nil v.touched)));
 }
+
+touches_push : (q : ℕ) (ws : List Write) (w : Write)
+    → touches_of q (changes_of ws) ++ touch q w.key ∷ [] ≡ touches_of q (changes_of (ws ++ w ∷ []))
+touches_push q [] w = refl
+touches_push q (x ∷ ws) w = ap (λ (l : List Touch). touch q x.key ∷ l) (touches_push q ws w)
 
 pub locked_one : (ws : List Write) (found : List ℕ) (one : Write) (n : ℕ) (v w x : View) → HasLocked ws found v w
     → HasTaken one.key one.at n w x → HasLocked (ws ++ one ∷ []) (found ++ n ∷ []) v x
@@ -242,7 +261,12 @@ locked_one ws found one n v w x h t =
     let count = length_push found n in
     let count' = length_push ws one in
     let more : View → View = λ (z : View). with_locks z (z.seat.locks ++ one.key ∷ []) (z.took
-    ++ took_at one.key n ∷ []) y in record {
+    ++ took_at one.key n ∷ []) (z.touched ++ touch (seat_number z.role) one.key ∷ []) y in
+    let q : ℕ = seat_number v.role in
+    let touched : List Touch = (v.touched ++ touches_of q (changes_of ws)) ++ touch q one.key ∷ [] in
+    let touched-is : touched ≡ v.touched ++ touches_of q (changes_of (ws ++ one ∷ [])) =
+    append_assoc v.touched (touches_of q (changes_of ws)) (touch q one.key ∷ [])
+    ∙ ap (λ (l : List Touch). v.touched ++ l) (touches_push q ws one) in record {
       count = omega (arith, h.count, count, count');
       steps = t.steps;
       since = omega (arith, steps, h.since, t.since);
@@ -250,9 +274,11 @@ locked_one ws found one n v w x h t =
       loaded = t.loaded;
       reads = t.reads;
       is = t.is ∙ (ap more h.is
-          ∙ (ap (λ l. with_locks v l (tooks_of ws found ++ took_at one.key n ∷ []) y)
+          ∙ (ap (λ l. with_locks v l (tooks_of ws found ++ took_at one.key n ∷ []) touched y)
           (sym (map_push (λ (z : Write). z.key) ws one))
-          ∙ ap (λ l. with_locks v (keys_of (ws ++ one ∷ [])) l y) (sym (tooks_push ws found one n h.count))));
+          ∙ (ap (λ l. with_locks v (keys_of (ws ++ one ∷ [])) l touched y) (sym (tooks_push ws found one n h.count))
+          ∙ ap (λ l. with_locks v (keys_of (ws ++ one ∷ [])) (tooks_of (ws ++ one ∷ []) (found ++ n ∷ [])) l y)
+          touched-is)));
     }
 
 pub locked_then : (ws : List Write) (found : List ℕ) (v w x : View) → HasLocked ws found v w → HasGlanced w x
@@ -266,7 +292,7 @@ locked_then ws found v w x h g =
       last = g.last;
       loaded = g.loaded;
       reads = g.reads;
-      is = g.is ∙ ap (λ (z : View). with_locks z z.seat.locks z.took y) h.is;
+      is = g.is ∙ ap (λ (z : View). with_locks z z.seat.locks z.took z.touched y) h.is;
     }
 
 -- ---- records that were not met yet
@@ -289,17 +315,37 @@ unmet_one decls reads ws one n w x layout is t unmet k at unread place unlocked 
         let parts = or_parts (p z) (list_any p (l ++ y ∷ [])) none in
         let rest = any_parts p l y parts.1 in (or_from (p z) (list_any p l) parts.0 rest.0, rest.1)
 
+-- and of those that were read, and are none of these, it is known what was read
+pub met_one : (decls : List Decl) (reads : List ReadEntry) (ws : List Write) (one : Write) (n : ℕ) (w x : View)
+    → IsWriteOf decls one → HasTaken one.key one.at n w x → AreMet decls reads ws w → AreMet decls reads (ws ++ one ∷ []) x
+met_one decls reads ws one n w x is t met k e at of place unlocked =
+    let parts = parts_of (λ (y : Write). same_key y.key k) ws one unlocked in
+    let apart : one.at ≢ at = λ same.
+    let key : one.key ≡ k = one_word_key decls one.key k (spot_for decls one.key) (spot_for decls k) at
+    (subst (IsAtKey decls one.key (spot_for decls one.key)) same is.place) place in
+    true≢false (sym (ap (λ (z : Key). same_key z k) key ∙ same_key-self k) ∙ parts.1) in
+    ap (λ (y : View). seen_at y.reads at) t.is ∙ (t.others at apart ∙ met k e at of place parts.0)
+  where
+    parts_of : (p : Write → Bool) (l : List Write) (y : Write) → list_any p (l ++ y ∷ []) ≡ false
+        → (list_any p l ≡ false) × (p y ≡ false)
+    parts_of p [] y none = (refl, (or_parts (p y) false none).0)
+    parts_of p (z ∷ l) y none =
+        let parts = or_parts (p z) (list_any p (l ++ y ∷ [])) none in
+        let rest = parts_of p l y parts.1 in (or_from (p z) (list_any p l) parts.0 rest.0, rest.1)
+
 -- ---- the loop
 
 abbrev pub blank : Write
 blank = record { key = record { storage = 0; key = 0 }; value = None; at = 0 }
 
 pub can_lock : (ws : List Write) (found : List ℕ) (v w : View) → IsFree v → HasLocked ws found v w
-    → IsActive w.role × (can_begin w.seat.stage ≡ true)
-can_lock ws found v w free h = (
-  subst IsActive (sym (ap (λ (y : View). y.role) h.is)) free.active,
-  ap (λ (y : View). can_begin y.seat.stage) h.is ∙ ap can_begin free.stage,
-)
+    → w.role ≡ Worker (worker_of w.role)
+can_lock ws found v w free h =
+    subst (λ (r : Role). r ≡ Worker (worker_of r)) (sym (ap (λ (y : View). y.role) h.is)) free.worker
+
+pub idle_still : (ws : List Write) (found : List ℕ) (v w : View) → IsFree v → HasLocked ws found v w
+    → can_begin w.seat.stage ≡ true
+idle_still ws found v w free h = ap (λ (y : View). can_begin y.seat.stage) h.is ∙ ap can_begin free.stage
 
 pub place_at : (ws : List Write) (found : List ℕ) (done : ℕ) (d : Write) (v w : View)
     → AllByRecursion (IsWriteOf v.layout.decls) ws → HasLocked (take done ws) found v w → done < length ws
@@ -353,6 +399,30 @@ unmet_so_far reads ws found done d n v w x lt all h t unmet =
     subst (λ l. IsUnmet v.layout.decls reads l x) (sym (take_more ws done d lt))
     (unmet_one v.layout.decls reads (take done ws) (get_or ws done d) n w x
     (sym (ap (λ (y : View). y.layout.decls) h.is)) (all_get (IsWriteOf v.layout.decls) ws done d lt all) t unmet)
+
+pub met_so_far : (reads : List ReadEntry) (ws : List Write) (done : ℕ) (d : Write) (n : ℕ) (v w x : View) → done < length ws
+    → AllByRecursion (IsWriteOf v.layout.decls) ws → HasTaken (get_or ws done d).key (get_or ws done d).at n w x
+    → AreMet v.layout.decls reads (take done ws) w → AreMet v.layout.decls reads (take (done + 1) ws) x
+met_so_far reads ws done d n v w x lt all t met =
+    subst (λ l. AreMet v.layout.decls reads l x) (sym (take_more ws done d lt))
+    (met_one v.layout.decls reads (take done ws) (get_or ws done d) n w x
+    (all_get (IsWriteOf v.layout.decls) ws done d lt all) t met)
+
+pub met_at : (reads : List ReadEntry) (ws : List Write) (done : ℕ) (d : Write) (v w : View)
+    → AllByRecursion (IsWriteOf v.layout.decls) ws → IsAscending ws → AreMet v.layout.decls reads (take done ws) w
+    → done < length ws
+    → IfSome (read_of (get_or ws done d).key reads) (λ e. seen_at w.reads (get_or ws done d).at ≡ Some e.word)
+met_at reads ws done d v w all rises met lt = by_entry (read_of (get_or ws done d).key reads) refl
+  where
+    one : Write
+    one = get_or ws done d
+
+    by_entry : (o : Option ReadEntry) → read_of one.key reads ≡ o
+        → IfSome o (λ e. seen_at w.reads one.at ≡ Some e.word)
+    by_entry None of = tt
+    by_entry (Some e) of =
+        met one.key e one.at of (all_get (IsWriteOf v.layout.decls) ws done d lt all).place
+        (none_of (take done ws) one.key (not_before ws done d (apart ws rises) lt))
 
 -- where the loop stops
 

@@ -12,7 +12,7 @@ use Rattle.engine_words.specs.declared.view.View.{View}
 use Rattle.engine_words.specs.Attempts.{Checked, HasDrawn, HasChosen, is_as_seen, checked_at, failed_at}
 use Rattle.engine_words.specs.Layout.{spot_for}
 use Rattle.engine_words.specs.Locks.{locked, Locked, opened, put_at}
-use Rattle.engine_words.specs.Steps.{read_at, forgot_for}
+use Rattle.engine_words.specs.Steps.{read_at, HasForgotten}
 use Rattle.array_storage.specs.Finding.{HasFound, HasClashed}
 
 either : (b : Bool) (x p q : View) (n : ℕ) → p.steps ≡ n → q.steps ≡ n → MatchBool b (x ≡ p) (x ≡ q) → x.steps ≡ n
@@ -90,10 +90,10 @@ stops_checked reads v w z done n d own b was less test c =
 
 -- ---- a commit
 
-pub forgot_steps : (why : Option Refused) (v w x : View) (n : ℕ) → w.steps ≡ v.steps + n → x ≡ forgot_for why w
+pub forgot_steps : (why : Option Refused) (v w x : View) (n : ℕ) → w.steps ≡ v.steps + n → HasForgotten why w x
     → x.steps ≡ v.steps + n + 1
 forgot_steps why v w x n was is =
-    let now : x.steps ≡ w.steps + 1 = ap (λ (y : View). y.steps) is in omega (arith, was, now)
+    let now : x.steps ≡ w.steps + 1 = ap (λ (y : View). y.steps) is.is in omega (arith, was, now)
 
 pub commits_steps : (changes : List Change) (n m reads writes : ℕ) (w x y z u : View) → HasDrawn changes w n x
     → y.steps ≡ x.steps + reads → HasChosen y m z → u.steps ≡ z.steps + 2 * writes
@@ -130,16 +130,16 @@ found_steps k at word value v w h =
 
 pub clash_steps : (k : Key) (at expected seen : ℕ) (why : Option Refused) (v w x : View)
     → HasClashed k at expected seen v w
-    → x ≡ forgot_for why w → x.steps ≤ v.steps + 4
+    → HasForgotten why w x → x.steps ≤ v.steps + 4
 clash_steps k at expected seen why v w x (inl h) is =
     let all : w.steps ≡ v.steps + 1 = ap (λ (y : View). y.steps) h.is in
-    let now : x.steps ≡ w.steps + 1 = ap (λ (y : View). y.steps) is in omega (arith, all, now)
+    let now : x.steps ≡ w.steps + 1 = ap (λ (y : View). y.steps) is.is in omega (arith, all, now)
 clash_steps k at expected seen why v w x (inr h) is =
     let all : w.steps ≡ v.steps + 1 + 1 + 1 = ap (λ (y : View). y.steps) h.is in
-    let now : x.steps ≡ w.steps + 1 = ap (λ (y : View). y.steps) is in omega (arith, all, now)
+    let now : x.steps ≡ w.steps + 1 = ap (λ (y : View). y.steps) is.is in omega (arith, all, now)
 
-pub forgot_most : (why : Option Refused) (v x : View) → x ≡ forgot_for why v → x.steps ≤ v.steps + 4
-forgot_most why v x is = let now : x.steps ≡ v.steps + 1 = ap (λ (y : View). y.steps) is in omega (arith, now)
+pub forgot_most : (why : Option Refused) (v x : View) → HasForgotten why v x → x.steps ≤ v.steps + 4
+forgot_most why v x is = let now : x.steps ≡ v.steps + 1 = ap (λ (y : View). y.steps) is.is in omega (arith, now)
 
 pub none_most : (v : View) → v.steps ≤ v.steps + 4
 none_most v = omega arith

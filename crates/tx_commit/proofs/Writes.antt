@@ -1,8 +1,8 @@
 -- The write set after one write: which values it has, and that each key is that of an array's record.
-use Rattle.std.proofs.Common.{◌≡◌, inl, inr, ℕ, Bool, true, false, true≢false, cond, List, [], ◌∷◌, ◌++◌, Option}
+use Rattle.std.proofs.Common.{◌≡◌, ◌⊎◌, inl, inr, ℕ, Bool, true, false, true≢false, cond, List, [], ◌∷◌, ◌++◌, Option}
 use Rattle.std.proofs.Common.{Some, None, ◌+◌, ◌≤◌, length, length-append}
 use Rattle.std.proofs.Common.{refl, sym, ap, ◌∙◌, subst, arith}
-use Rattle.std.specs.Prelude.{is_some, ◌==◌}
+use Rattle.std.specs.Prelude.{is_some, ◌==◌, ◌||◌}
 use Rattle.std.specs.List.{find, list_any, AllByRecursion}
 use Rattle.std.specs.Option.{option_map}
 use Rattle.std.proofs.lemmas.Bool.{cases_Bool, or_parts, or_from, ne_eqb}
@@ -148,6 +148,29 @@ rewritten_writes k value old new is =
         length-append before (x ∷ after),
       );
     }
+
+has_is : (ws : List Write) (q : Key) → has_write q ws ≡ is_some (value_of q ws)
+has_is [] q = refl
+has_is (w ∷ ws) q = by_test (same_key w.key q) refl (has_is ws q)
+  where
+    by_test : (b : Bool) → same_key w.key q ≡ b → has_write q ws ≡ is_some (value_of q ws)
+        → (same_key w.key q || has_write q ws) ≡ is_some (value_of q (w ∷ ws))
+    by_test true is rest =
+        ap (λ b. b || has_write q ws) is
+        ∙ sym (ap (λ b. is_some (option_map (λ (x : Write). x.value) (cond b (Some w) (find (λ x. same_key x.key q) ws)))) is)
+    by_test false is rest =
+        ap (λ b. b || has_write q ws) is
+        ∙ (rest
+        ∙ sym (ap (λ b. is_some (option_map (λ (x : Write). x.value) (cond b (Some w) (find (λ x. same_key x.key q) ws)))) is))
+
+-- at most this key is written now
+pub writes_only : (k : Key) (value : ℕ) (old new : List Write) (q : Key) → HasWritten k value old new
+    → has_write q new ≡ true → (has_write q old ≡ true) ⊎ (k ≡ q)
+writes_only k value old new q is has =
+    elim (cases_Bool (same_key k q)) [
+      | inl hit ↦ inr (same_key-true k q hit)
+      | inr miss ↦ inl (has_is old q ∙ (sym (ap is_some (is.others q miss)) ∙ (sym (has_is new q) ∙ has)))
+    ]
 
 written_head : (k : Key) (value : Option ℕ) (own : List Change) (q : Key) (b : Bool) → same_key k q ≡ b
     → written q (wrote k value own) ≡ cond b (Some value) (written q own)

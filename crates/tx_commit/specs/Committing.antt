@@ -16,10 +16,12 @@ use Rattle.tx_sets.specs.Gathered.{AreEmpty}
 use Rattle.serial_model.specs.declared.key.Key.{Key}
 use Rattle.engine_words.specs.declared.view.Refused.{Refused}
 use Rattle.engine_words.specs.declared.view.Refused.TheVariants as refusals
+use Rattle.engine_words.specs.declared.view.Touch.{Touch}
 use Rattle.engine_words.specs.declared.view.View.{View}
 use Rattle.engine_words.specs.Cuts.{HasSeen}
 use Rattle.engine_words.specs.Rule.{IsSmall}
 use Rattle.engine_words.specs.Steps.{readied, HasTimed}
+use Rattle.engine_words.specs.Touches.{touch}
 use Rattle.engine_words.specs.Views.{seat_number}
 use Rattle.tx_commit.specs.Live.{IsLive, IsOver}
 use Rattle.tx_commit.specs.Refusing.{IsConflict}
@@ -37,7 +39,7 @@ pub record HasBegun (new : Sets) (v w : View) : Type 0 where
   pub timed : HasTimed v clock loaded
   pub is : w ≡ readied loaded
 
--- the transaction is over: what the pass had seen, its own commits, its draws and its refusals stay
+-- the transaction is over: what the pass had seen, its own commits, its draws, its refusals and its locks so far stay
 pub record HasAborted (v w : View) : Type 0 where
   pub over : IsOver w
   pub layout : w.layout ≡ v.layout
@@ -47,12 +49,18 @@ pub record HasAborted (v w : View) : Type 0 where
   pub draws : w.draws ≡ v.draws
   pub marks : w.seat.marks ≡ v.seat.marks
   pub refused : w.refused ≡ v.refused
+  pub touched : w.touched ≡ v.touched
+  pub blamed : w.blamed ≡ v.blamed
 
 -- ---- commits
 
 -- the writes as a log has them
 abbrev pub changes_of : List Write → List Change
 changes_of writes = map (λ w. record { key = w.key; value = w.value }) writes
+
+-- the locks of the seat at the keys of changes
+abbrev pub touches_of : ℕ → List Change → List Touch
+touches_of q changes = map (λ c. touch q c.key) changes
 
 -- The steps of a commit that counts: of each write a load, a compare_exchange, a put and an opening, of each read a
 -- check, and the draw and the decision. So each lock is tried once, and nothing is waited for.
@@ -92,11 +100,18 @@ pub record HasCommitted (changes : List Change) (number : Number) (v w : View) :
   pub marked : (e : ℕ) → mark_of v.seat.marks ≡ Some e → e < number.epoch
   pub marks : w.seat.marks ≡ v.seat.marks
   pub refused : w.refused ≡ v.refused
+  pub touched : w.touched ≡ v.touched ++ touches_of (seat_number v.role) changes
+  pub blamed : w.blamed ≡ v.blamed
 
--- a commit is refused only for a conflict at a key of its sets
+-- the seat took locks of these writes' keys at most
+abbrev pub TookOnly : List Write → View → View → Type 0
+TookOnly writes v w = (t : Touch) → Contains w.touched t
+    → Contains v.touched t ⊎ ((t.seat ≡ seat_number v.role) × (has_write t.key writes ≡ true))
+
+-- a commit is refused only for a conflict at a key of its sets, and has locked keys of its writes alone
 abbrev pub RefusesCommit : Sets → List Write → Refused → View → View → Type 0
 RefusesCommit sets writes (refusals.Conflict at expected seen) v w =
     (k : Key) × ((has_read k sets.reads ≡ true) ⊎ (has_write k writes ≡ true))
-    × IsConflict sets.reads k at expected seen v w
+    × IsConflict sets.reads k at expected seen v w × TookOnly writes v w
 RefusesCommit sets writes (refusals.Wide set) v w = ⊥
 RefusesCommit sets writes (refusals.NumberLimit clock) v w = ⊥

@@ -1,5 +1,5 @@
 -- A transaction and its pass: what the sets have, and what the view knows of it.
-use Rattle.std.specs.Prelude.{◌≡◌, ℕ, true, false, is_some, None, List, [], ◌∷◌, unwrap_or, ⊤}
+use Rattle.std.specs.Prelude.{◌≡◌, ℕ, true, false, is_some, None, Some, List, [], ◌∷◌, unwrap_or, ⊤}
 use Rattle.std.specs.List.{AllByRecursion}
 use Rattle.serial_model.specs.declared.decl.Decl.{Decl}
 use Rattle.serial_model.specs.declared.key.Key.{Key}
@@ -11,7 +11,7 @@ use Rattle.commit_core.specs.Parts.{record_part}
 use Rattle.tx_sets.specs.declared.reads.ReadEntry.{ReadEntry}
 use Rattle.tx_sets.specs.declared.sets.Sets.{Sets}
 use Rattle.tx_sets.specs.declared.writes.Write.{Write}
-use Rattle.tx_sets.specs.Entries.{has_read}
+use Rattle.tx_sets.specs.Entries.{has_read, has_write, read_of}
 use Rattle.engine_words.specs.declared.view.Role.TheVariants.{Worker}
 use Rattle.engine_words.specs.declared.view.View.{View}
 use Rattle.engine_words.specs.Cuts.{worker_of}
@@ -44,6 +44,11 @@ pub record IsWriteOf (decls : List Decl) (w : Write) : Type 0 where
 abbrev pub AreFresh : List ReadEntry → View → Type 0
 AreFresh reads v = (k : Key) (at : ℕ) → has_read k reads ≡ false → IsKeyAt v k at → seen_at v.reads at ≡ None
 
+-- of a record that was read, and is none of these, the transaction saw last what it read
+abbrev pub AreMet : List Decl → List ReadEntry → List Write → View → Type 0
+AreMet decls reads ws v = (k : Key) (e : ReadEntry) (at : ℕ) → read_of k reads ≡ Some e
+    → IsAtKey decls k (spot_for decls k) at → has_write k ws ≡ false → seen_at v.reads at ≡ Some e.word
+
 -- A transaction is under way, and no call of it was refused: it has yet to draw, what it read is kept as its parts, and
 -- nothing is locked.
 pub record IsLive (sets : Sets) (v : View) : Type 0 where
@@ -56,6 +61,7 @@ pub record IsLive (sets : Sets) (v : View) : Type 0 where
   pub parts : AreParts v.layout.decls sets.reads v.seat.kept
   pub writes : AllByRecursion (IsWriteOf v.layout.decls) sets.writes
   pub fresh : AreFresh sets.reads v
+  pub met : AreMet v.layout.decls sets.reads [] v
 
 -- the pass of a worker without a transaction
 pub record IsOver (v : View) : Type 0 where

@@ -23,11 +23,15 @@ use Rattle.engine_words.specs.declared.view.Took.{Took}
 use Rattle.engine_words.specs.declared.view.View.{View}
 use Rattle.engine_words.specs.Attempts.{CanDecide}
 use Rattle.engine_words.specs.Locks.{took_at}
-use Rattle.engine_words.specs.Steps.{seen_at, IsKeyAt}
-use Rattle.engine_words.specs.Views.{IsActive, IsResting}
-use Rattle.tx_commit.specs.Live.{AreParts, IsWriteOf, IsLive}
+use Rattle.engine_words.specs.Cuts.{worker_of}
+use Rattle.engine_words.specs.Steps.{glance, seen_at, IsKeyAt, IsMetFor}
+use Rattle.engine_words.specs.Touches.{touch}
+use Rattle.engine_words.specs.Views.{IsResting, seat_number}
+use Rattle.engine_words.specs.declared.view.Role.TheVariants.{Worker}
+use Rattle.engine_words.specs.declared.view.Touch.{Touch}
+use Rattle.tx_commit.specs.Live.{AreMet, AreParts, IsWriteOf, IsLive}
 use Rattle.tx_commit.specs.Turning.{HasLoaded, Keeps}
-use Rattle.tx_commit.specs.Committing.{changes_of}
+use Rattle.tx_commit.specs.Committing.{changes_of, touches_of}
 
 -- ---- reads
 
@@ -64,9 +68,9 @@ pub record HasGlanced (v w : View) : Type 0 where
   pub reads : List Read
   pub is : w ≡ record v { steps = steps; last = last; loaded = loaded; reads = reads }
 
--- a pass of a worker or the keeper that has no locks, and no attempt
+-- a worker's pass that has no locks, and no attempt
 pub record IsFree (v : View) : Type 0 where
-  pub active : IsActive v.role
+  pub worker : v.role ≡ Worker (worker_of v.role)
   pub locks : v.seat.locks ≡ []
   pub took : v.took ≡ []
   pub stage : v.seat.stage ≡ Idle
@@ -91,6 +95,7 @@ pub record HasTaken (k : Key) (at word : ℕ) (v w : View) : Type 0 where
   pub is : w ≡ record v {
     seat = record v.seat { locks = v.seat.locks ++ k ∷ [] };
     took = v.took ++ took_at k word ∷ [];
+    touched = v.touched ++ touch (seat_number v.role) k ∷ [];
     steps = steps;
     last = last;
     loaded = loaded;
@@ -114,6 +119,7 @@ pub record HasLocked (writes : List Write) (found : List ℕ) (v w : View) : Typ
   pub is : w ≡ record v {
     seat = record v.seat { locks = keys_of writes };
     took = tooks_of writes found;
+    touched = v.touched ++ touches_of (seat_number v.role) (changes_of writes);
     steps = steps;
     last = last;
     loaded = loaded;
@@ -156,6 +162,7 @@ pub record CanCommit (sets : Sets) (found : List ℕ) (v w : View) : Type 0 wher
   pub once : AreDistinct (read_keys sets.reads)
   pub locked : HasLocked sets.writes found v w
   pub read : AreAsRead sets.reads sets.writes found
+  pub met : AreMet v.layout.decls sets.reads sets.writes w
 
 -- nothing is locked or kept, and this is one refusal more
 pub record HasGivenUp (writes : List Write) (why : Refused) (v w : View) : Type 0 where
@@ -164,6 +171,8 @@ pub record HasGivenUp (writes : List Write) (why : Refused) (v w : View) : Type 
   pub loaded : Option Loaded
   pub reads : List Read
   pub others : KeepOthers writes v.reads reads
+  pub met : List Touch
+  pub of : IsMetFor (Some why) met v.layout.decls (seat_number v.role)
   pub is : w ≡ record v {
     due = false;
     seat = seat;
@@ -172,9 +181,21 @@ pub record HasGivenUp (writes : List Write) (why : Refused) (v w : View) : Type 
     loaded = loaded;
     reads = reads;
     refused = v.refused ++ why ∷ [];
+    blamed = v.blamed ++ met;
   }
   pub resting : IsResting seat
   pub marks : seat.marks ≡ v.seat.marks
+
+-- The pass met this word last, at the record of this key: it is locked, or not the one that the transaction had seen there
+-- before, which is the expected one.
+pub record HasMet (k : Key) (at expected seen : ℕ) (v : View) : Type 0 where
+  pub place : IsKeyAt v k at
+  pub step : ℕ
+  pub last : v.last ≡ Some (glance step at seen)
+  pub was : Option ℕ
+  pub stands : Contains v.reads (record { word = at; seen = seen; was = was })
+  pub known : expected ≡ unwrap_or was seen
+  pub cause : (2 ^ 60 ≤ seen) ⊎ ((expected < 2 ^ 60) × (seen ≢ expected))
 
 -- ---- checks
 
@@ -190,6 +211,7 @@ pub record HasTried (reads : List ReadEntry) (writes : List Write) (v : View) : 
   pub locks : v.seat.locks ≡ keys_of writes
   pub places : AllByRecursion (IsWriteOf v.layout.decls) writes
   pub took : (e : ReadEntry) → Contains reads e → has_write e.key writes ≡ true → Contains v.took (took_at e.key e.word)
+  pub met : AreMet v.layout.decls reads writes v
 
 -- all parts are checked, and nothing else of the pass has changed but by loads
 pub record HasChecked (v w : View) : Type 0 where

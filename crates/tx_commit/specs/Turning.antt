@@ -1,5 +1,5 @@
 -- What an operation of a transaction comes to: the turn of the serial step, over the parts and the own writes.
-use Rattle.std.specs.Prelude.{◌≡◌, ℕ, ◌⊎◌, ◌+◌, ◌-◌, ◌^◌, ◌≤◌, length, List, [], ◌∷◌, ◌++◌, Option, Some, None}
+use Rattle.std.specs.Prelude.{◌≡◌, ℕ, ◌⊎◌, ◌+◌, ◌-◌, ◌^◌, ◌≤◌, length, List, [], ◌∷◌, ◌++◌, Option, Some, None, true}
 use Rattle.std.specs.Prelude.{if◌then◌else◌}
 use Rattle.std.specs.Prelude.{nat_lt, nat_le}
 use Rattle.serial_model.specs.declared.key.Key.{Key}
@@ -15,7 +15,7 @@ use Rattle.serial_bridge.specs.Transaction.{vouched, Turns, Continues, Stops}
 use Rattle.tx_sets.specs.declared.reads.ReadEntry.{ReadEntry}
 use Rattle.tx_sets.specs.declared.sets.Sets.{Sets}
 use Rattle.tx_sets.specs.declared.writes.Write.{Write}
-use Rattle.tx_sets.specs.Entries.{value_of}
+use Rattle.tx_sets.specs.Entries.{has_write, value_of}
 use Rattle.engine_words.specs.declared.view.Glance.{Glance}
 use Rattle.engine_words.specs.declared.view.Loaded.{Loaded}
 use Rattle.engine_words.specs.declared.view.Read.{Read}
@@ -45,6 +45,19 @@ IsOfKey (ops.Scan storage low high) q = ⊥
 abbrev pub ReadsOnly : Op → List ReadEntry → List ReadEntry → Type 0
 ReadsOnly op old new = (new ≡ old) ⊎ ((e : ReadEntry) × IsOfKey op e.key × (new ≡ old ++ e ∷ []))
 
+-- the operation may write this key
+abbrev pub MayWrite : Op → Key → Type 0
+MayWrite (ops.Read k) q = ⊥
+MayWrite (ops.Write k v) q = k ≡ q
+MayWrite (ops.Remove k) q = k ≡ q
+MayWrite (ops.Add k v) q = k ≡ q
+MayWrite (ops.Take k v) q = k ≡ q
+MayWrite (ops.Scan storage low high) q = ⊥
+
+-- at most the key of the operation is written now
+abbrev pub WritesOnly : Op → List Write → List Write → Type 0
+WritesOnly op old new = (q : Key) → has_write q new ≡ true → (has_write q old ≡ true) ⊎ MayWrite op q
+
 -- some loads more, and maybe parts: all else that the pass knows is as it was
 pub record HasLoaded (v w : View) : Type 0 where
   pub kept : List Part
@@ -66,6 +79,7 @@ pub record HasDone (op : Op) (reply : Option Reply) (sets new : Sets) (v w : Vie
   pub live : IsLive new w
   pub only : HasLoaded v w
   pub reads : ReadsOnly op sets.reads new.reads
+  pub writes : WritesOnly op sets.writes new.writes
   pub grows : length new.writes ≤ length sets.writes + 1
   pub keeps : Keeps v.seat.kept w.seat.kept
   pub turns : (own : List Change) → AreWritesOf sets.writes own
@@ -77,6 +91,7 @@ pub record HasStopped (op : Op) (verdict : Verdict) (sets new : Sets) (v w : Vie
   pub live : IsLive new w
   pub only : HasLoaded v w
   pub reads : ReadsOnly op sets.reads new.reads
+  pub writes : WritesOnly op sets.writes new.writes
   pub grows : length new.writes ≤ length sets.writes + 1
   pub keeps : Keeps v.seat.kept w.seat.kept
   pub turns : (own : List Change) → AreWritesOf sets.writes own

@@ -1,19 +1,21 @@
 // Commits.
-ghost use Rattle.std.specs.Prelude.{◌≡◌, ◌+◌, ◌*◌, ◌≤◌, [], IfOk, IfErr, OnOk, OnErr, length, take};
+ghost use Rattle.std.specs.Prelude.{◌≡◌, ◌+◌, ◌*◌, ◌≤◌, [], IfOk, IfErr, OnOk, OnErr, length, take, false};
 ghost use Rattle.std.specs.List.{AllByRecursion};
 ghost use Rattle.lists.specs.Each.{AreDistinct};
 ghost use Rattle.serial_model.specs.declared.number.Number.{Number as TheNumber};
 ghost use Rattle.wire_form.specs.Words.{number_word};
-ghost use Rattle.tx_sets.specs.Entries.{read_keys, IsAscending};
+ghost use Rattle.tx_sets.specs.Entries.{read_keys, writes_at, IsAscending};
+ghost use Rattle.serial_model.specs.declared.key.Key.{Key as TheKey};
 ghost use Rattle.engine_words.specs.declared.view.Refused.TheVariants as refusals;
 ghost use Rattle.engine_words.specs.declared.view.View.{View as TheView};
+ghost use Rattle.engine_words.specs.declared.view.Role.TheVariants.{Worker};
+ghost use Rattle.engine_words.specs.Cuts.{worker_of};
 ghost use Rattle.engine_words.specs.Passes.{view, IsPassOf};
 ghost use Rattle.engine_words.specs.Rule.{IsSmall};
-ghost use Rattle.engine_words.specs.Views.{IsActive};
 ghost use Rattle.tx_commit.specs.Live.{IsLive, IsWriteOf};
 ghost use Rattle.tx_commit.specs.Refusing.{HasRefused};
 ghost use Rattle.tx_commit.specs.Committing.{changes_of, commit_steps, HasCommitted, RefusesCommit};
-ghost use Rattle.tx_commit.specs.Steps.{CanCommit, HasLocks, HasGivenUp};
+ghost use Rattle.tx_commit.specs.Steps.{CanCommit, HasLocks, HasGivenUp, HasMet};
 
 use crate::checking::check_all;
 use crate::locking::{Found, lock_all, unlock_all};
@@ -131,11 +133,13 @@ fn back_out(
     conflict: Conflict,
 ) -> Refused
     requires of { IsPassOf engine.now pass.old }
-    requires pass { IsActive (view pass.old).role }
+    requires worker { (view pass.old).role ≡ Worker (worker_of (view pass.old).role) }
     requires places { AllByRecursion (IsWriteOf (view pass.old).layout.decls) writes.now }
     requires ascending { IsAscending writes.now }
     requires within { length found.now ≤ length writes.now }
     requires locked { HasLocks (take (length found.now) writes.now) found.now (view pass.old) }
+    requires met { (k : TheKey) × HasMet k conflict.word conflict.expected conflict.seen (view pass.old) }
+    requires apart { writes_at conflict.word (take (length found.now) writes.now) ≡ false }
     ensures of { IsPassOf engine.now pass.new }
     ensures why { result ≡ refusals.Conflict conflict.word conflict.expected conflict.seen }
     ensures gives_up { HasGivenUp (take (length found.now) writes.now) result (view pass.old) (view pass.new) }
@@ -154,10 +158,12 @@ fn give_up(
     conflict: Conflict,
 ) -> Refused
     requires of { IsPassOf engine.now pass.old }
-    requires pass { IsActive (view pass.old).role }
+    requires worker { (view pass.old).role ≡ Worker (worker_of (view pass.old).role) }
     requires places { AllByRecursion (IsWriteOf (view pass.old).layout.decls) writes.now }
     requires ascending { IsAscending writes.now }
     requires locked { HasLocks writes.now found.now (view pass.old) }
+    requires met { (k : TheKey) × HasMet k conflict.word conflict.expected conflict.seen (view pass.old) }
+    requires apart { writes_at conflict.word writes.now ≡ false }
     ensures of { IsPassOf engine.now pass.new }
     ensures why { result ≡ refusals.Conflict conflict.word conflict.expected conflict.seen }
     ensures gives_up { HasGivenUp writes.now result (view pass.old) (view pass.new) }

@@ -1,14 +1,16 @@
 // The locks of a commit.
 ghost use Rattle.std.specs.Prelude.{◌≡◌, ◌+◌, ◌*◌, ◌≤◌, ◌<◌, true, false, [], ◌∷◌, ◌++◌, None, IfOk, IfErr, OnOk};
-ghost use Rattle.std.specs.Prelude.{OnErr, length, take};
+ghost use Rattle.std.specs.Prelude.{OnErr, length, take, Some, IfSome};
 ghost use Rattle.std.specs.List.{AllByRecursion};
 ghost use Rattle.serial_model.specs.declared.key.Key.{Key as TheKey};
 ghost use Rattle.commit_core.specs.CoreState.{can_begin};
 ghost use Rattle.tx_sets.specs.Entries.{has_write, read_of, writes_at, IsAscending};
+ghost use Rattle.engine_words.specs.declared.view.Role.TheVariants.{Worker};
+ghost use Rattle.engine_words.specs.Cuts.{worker_of};
 ghost use Rattle.engine_words.specs.Passes.{view, IsPassOf};
 ghost use Rattle.engine_words.specs.Steps.{seen_at, IsKeyAt};
 ghost use Rattle.engine_words.specs.Views.{IsActive};
-ghost use Rattle.tx_commit.specs.Live.{AreFresh, IsWriteOf};
+ghost use Rattle.tx_commit.specs.Live.{AreFresh, AreMet, IsWriteOf};
 ghost use Rattle.tx_commit.specs.Refusing.{IsConflict};
 ghost use Rattle.tx_commit.specs.Steps.{known_word, AreAsRead, AreSmall, IsFree, HasGlanced, HasTaken, HasLocked};
 ghost use Rattle.tx_commit.specs.Steps.{HasLocks, HasUnlocked};
@@ -88,9 +90,11 @@ pub(crate) fn lock_all(
     requires small { AreSmall reads.now }
     requires fresh { found.old ≡ [] }
     requires unmet { AreFresh reads.now (view pass.old) }
+    requires met { AreMet (view pass.old).layout.decls reads.now [] (view pass.old) }
     ensures of { IsPassOf engine.now pass.new }
     ensures ok { OnOk result (HasLocked writes.now found.new (view pass.old) (view pass.new)) }
     ensures known { OnOk result (AreAsRead reads.now writes.now found.new) }
+    ensures met { OnOk result (AreMet (view pass.old).layout.decls reads.now writes.now (view pass.new)) }
     ensures steps { OnOk result ((view pass.new).steps ≡ (view pass.old).steps + 2 * length writes.now) }
     ensures within { OnErr result (length found.new < length writes.now) }
     ensures most { OnErr result ((view pass.new).steps ≤ (view pass.old).steps + 2 * length found.new + 2) }
@@ -119,10 +123,12 @@ fn take(
     at: u32,
 ) -> Result<u64, Conflict>
     requires of { IsPassOf engine.now pass.old }
-    requires pass { IsActive (view pass.old).role × (can_begin (view pass.old).seat.stage ≡ true) }
+    requires worker { (view pass.old).role ≡ Worker (worker_of (view pass.old).role) }
+    requires idle { can_begin (view pass.old).seat.stage ≡ true }
     requires place { IsKeyAt (view pass.old) key at }
     requires small { AreSmall reads.now }
     requires unmet { read_of key reads.now ≡ None → seen_at (view pass.old).reads at ≡ None }
+    requires met { IfSome (read_of key reads.now) (λ e. seen_at (view pass.old).reads at ≡ Some e.word) }
     ensures of { IsPassOf engine.now pass.new }
     ensures takes { IfOk result (λ word. HasTaken key at word (view pass.old) (view pass.new)) }
     ensures known { IfOk result (λ word. word ≡ known_word (read_of key reads.now) word) }

@@ -62,7 +62,7 @@ returns-then-not-is_as_read-clause-conflict c = (
   check_conflict c.args.reads.now c.args.writes.now (view c.args.pass.now) (view c.loop-done.pass)
       (view c.check-seen.new.pass) c.loop-done.done c.check-seen.result _ c.contains-own.result c.is_as_read.result
       c.requires.tried c.requires.once c.loop-done.invariant.so c.loop-done-test.true c.contains-own.ensures
-      c.is_as_read.ensures c.if-not-is_as_read.true c.check-seen.ensures.checks,
+      c.is_as_read.ensures c.if-not-is_as_read.true c.check-seen.ensures.checks c.check-seen.ensures.held,
 )
 
 pub loop-done-preserved : goal.loop-done-preserved
@@ -72,8 +72,9 @@ loop-done-preserved c = record {
   steps = more_checked c.args.reads.now (view c.args.pass.now) (view c.loop-done.pass) (view c.check-seen.new.pass)
       c.loop-done.done c.check-seen.result _ c.contains-own.result c.is_as_read.result c.loop-done.invariant.steps
       c.is_as_read.ensures c.check-seen.ensures.checks;
-  so = checked_one c.args.reads.now (view c.args.pass.now) (view c.loop-done.pass) (view c.check-seen.new.pass)
-      c.loop-done.done c.check-seen.result _ c.contains-own.result c.is_as_read.result c.loop-done.invariant.so
+  so = checked_one c.args.reads.now c.args.writes.now (view c.args.pass.now) (view c.loop-done.pass)
+      (view c.check-seen.new.pass) c.loop-done.done c.check-seen.result _ c.contains-own.result c.is_as_read.result
+      c.requires.tried c.requires.once c.loop-done.invariant.so
       c.loop-done-test.true c.is_as_read.ensures c.if-not-is_as_read.false c.check-seen.ensures.checks;
 }
 

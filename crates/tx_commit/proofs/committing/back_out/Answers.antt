@@ -1,4 +1,5 @@
-use Rattle.std.proofs.Common.{ℕ, List, sym, ap, subst, length, take, arith}
+use Rattle.tx_sets.specs.Entries.{writes_at}
+use Rattle.std.proofs.Common.{◌≡◌, false, ℕ, List, sym, ap, subst, length, take, arith}
 use Rattle.engine_words.specs.Passes.{view}
 use Rattle.tx_commit.specs.Live.{IsWriteOf}
 use Rattle.tx_commit.specs.Steps.{HasLocks, HasGivenUp}
@@ -34,3 +35,9 @@ returns-clause-steps c =
     c.requires.within) in
     let same = ap (λ (l : List ℕ). length l) c.as_slice-held.ensures in
     let steps = c.give_up.ensures.steps in omega (arith, count, same, steps)
+
+pub give_up-requires-clause-apart : goal.give_up-requires-clause-apart
+give_up-requires-clause-apart c =
+    subst (λ (l : List ℕ). writes_at c.args.conflict.word (take (length l) c.args.writes.now) ≡ false)
+    (sym c.as_slice-held.ensures)
+    c.requires.apart

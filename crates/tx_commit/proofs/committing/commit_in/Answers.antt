@@ -2,7 +2,7 @@ use Rattle.std.proofs.Common.{List, length, ap, arith}
 use Rattle.tx_sets.specs.declared.writes.Write.{Write}
 use Rattle.engine_words.specs.Passes.{view}
 use Rattle.tx_commit.proofs.CommitLaws.{is_free, are_small, sets_places, sets_ascending, sets_few, can_commit}
-use Rattle.tx_commit.proofs.CommitLaws.{stopped_active, stopped_places, stopped_locks, locked_refused, stopped_cause}
+use Rattle.tx_commit.proofs.CommitLaws.{stopped_met, stopped_worker, stopped_places, stopped_locks, locked_refused, stopped_cause}
 use Rattle.tx_commit.proofs.CommitResults.{commits_for, caused_for, refused_for_all, steps_for, most_for}
 use Rattle.tx_commit.proofs.StepLaws.{stopped_most}
 use Rattle.tx_commit.proofs.committing.commit_in.Goals as goal
@@ -31,14 +31,14 @@ pub commit_locked-requires-clause-can : goal.commit_locked-requires-clause-can
 commit_locked-requires-clause-can c = (
   view c.args.pass.now,
   can_commit c.args.sets.now c.args.writes.now c.lock_all.new.found (view c.args.pass.now) (view c.lock_all.new.pass)
-      c.requires.live c.requires.once c.requires.writes c.in-Ok.ensures.ok c.in-Ok.ensures.known,
+      c.requires.live c.requires.once c.requires.writes c.in-Ok.ensures.ok c.in-Ok.ensures.known c.in-Ok.ensures.met,
 )
 
 pub returns-in-Ok-clause-commits : goal.returns-in-Ok-clause-commits
 returns-in-Ok-clause-commits c =
     let can = can_commit c.args.sets.now c.args.writes.now c.lock_all.new.found (view c.args.pass.now)
     (view c.lock_all.new.pass)
-    c.requires.live c.requires.once c.requires.writes c.in-Ok.ensures.ok c.in-Ok.ensures.known in
+    c.requires.live c.requires.once c.requires.writes c.in-Ok.ensures.ok c.in-Ok.ensures.known c.in-Ok.ensures.met in
     commits_for c.commit_locked.result c.args.sets.now c.lock_all.new.found (view c.args.pass.now)
     (view c.lock_all.new.pass)
     (view c.commit_locked.new.pass) can c.commit_locked.ensures.commits
@@ -47,7 +47,7 @@ pub returns-in-Ok-clause-cause : goal.returns-in-Ok-clause-cause
 returns-in-Ok-clause-cause c =
     let can = can_commit c.args.sets.now c.args.writes.now c.lock_all.new.found (view c.args.pass.now)
     (view c.lock_all.new.pass)
-    c.requires.live c.requires.once c.requires.writes c.in-Ok.ensures.ok c.in-Ok.ensures.known in
+    c.requires.live c.requires.once c.requires.writes c.in-Ok.ensures.ok c.in-Ok.ensures.known c.in-Ok.ensures.met in
     caused_for c.commit_locked.result c.args.sets.now c.lock_all.new.found (view c.args.pass.now)
     (view c.lock_all.new.pass)
     (view c.commit_locked.new.pass) can c.commit_locked.ensures.cause
@@ -56,14 +56,14 @@ pub returns-in-Ok-clause-refused : goal.returns-in-Ok-clause-refused
 returns-in-Ok-clause-refused c =
     let can = can_commit c.args.sets.now c.args.writes.now c.lock_all.new.found (view c.args.pass.now)
     (view c.lock_all.new.pass)
-    c.requires.live c.requires.once c.requires.writes c.in-Ok.ensures.ok c.in-Ok.ensures.known in
+    c.requires.live c.requires.once c.requires.writes c.in-Ok.ensures.ok c.in-Ok.ensures.known c.in-Ok.ensures.met in
     refused_for_all c.commit_locked.result c.args.sets.now c.lock_all.new.found (view c.args.pass.now)
     (view c.lock_all.new.pass)
     (view c.commit_locked.new.pass) can c.commit_locked.ensures.refused
 
-pub back_out-requires-clause-pass : goal.back_out-requires-clause-pass
-back_out-requires-clause-pass c =
-    stopped_active c.args.sets.now _ c.lock_all.new.found (view c.args.pass.now) (view c.lock_all.new.pass)
+pub back_out-requires-clause-worker : goal.back_out-requires-clause-worker
+back_out-requires-clause-worker c =
+    stopped_worker c.args.sets.now _ c.lock_all.new.found (view c.args.pass.now) (view c.lock_all.new.pass)
     c.requires.live
     c.in-Err.ensures.stopped
 
@@ -85,11 +85,13 @@ back_out-requires-clause-locked c =
 
 pub returns-in-Err-clause-cause : goal.returns-in-Err-clause-cause
 returns-in-Err-clause-cause c =
-    stopped_cause c.args.sets.now _ c.args.writes.now c.lock_all.new.found c.in-Err.conflict.word
+    stopped_cause c.args.sets.now (length c.lock_all.new.found) c.args.writes.now c.lock_all.new.found
+    c.in-Err.conflict.word
     c.in-Err.conflict.expected
     c.in-Err.conflict.seen c.back_out.result (view c.args.pass.now) (view c.lock_all.new.pass)
     (view c.back_out.new.pass)
-    c.requires.writes c.in-Err.ensures.apart c.back_out.ensures.gives_up c.in-Err.ensures.conflict
+    c.requires.writes c.in-Err.ensures.stopped c.in-Err.ensures.apart c.back_out.ensures.gives_up
+    c.in-Err.ensures.conflict
     c.back_out.ensures.why
 
 pub returns-in-Err-clause-refused : goal.returns-in-Err-clause-refused
@@ -119,3 +121,15 @@ returns-in-Err-clause-most c =
 
 pub back_out-requires-clause-within : goal.back_out-requires-clause-within
 back_out-requires-clause-within c = let less = c.in-Err.ensures.within in omega (arith, less)
+
+pub lock_all-requires-clause-met : goal.lock_all-requires-clause-met
+lock_all-requires-clause-met c = c.requires.live.met
+
+pub back_out-requires-clause-met : goal.back_out-requires-clause-met
+back_out-requires-clause-met c =
+    stopped_met c.args.sets.now _ c.args.writes.now c.lock_all.new.found c.in-Err.conflict.word c.in-Err.conflict.expected
+    c.in-Err.conflict.seen
+    (view c.args.pass.now) (view c.lock_all.new.pass) c.in-Err.ensures.stopped c.in-Err.ensures.conflict
+
+pub back_out-requires-clause-apart : goal.back_out-requires-clause-apart
+back_out-requires-clause-apart c = c.in-Err.ensures.apart

@@ -3,9 +3,9 @@ use Rattle.engine_words.specs.Passes.{view}
 use Rattle.serial_model.specs.declared.number.Change.{Change}
 use Rattle.tx_commit.specs.Committing.{changes_of, HasCommitted}
 use Rattle.tx_commit.proofs.CommitLaws.{sets_ascending, sets_draw, sets_active, sets_tried}
-use Rattle.tx_commit.proofs.CommitLaws.{drawn_active, checked_active, failed_active, chosen_active, chosen_places}
+use Rattle.tx_commit.proofs.CommitLaws.{drawn_active, checked_active, failed_worker, chosen_active, chosen_places}
 use Rattle.tx_commit.proofs.CommitLaws.{chosen_decided, all_committed, check_locks, check_places, found_within}
-use Rattle.tx_commit.proofs.CommitLaws.{found_locks, check_refused, check_cause}
+use Rattle.tx_commit.proofs.CommitLaws.{found_apart, found_locks, check_refused, check_cause, checked_met}
 use Rattle.tx_commit.proofs.StepLaws.{commits_steps, fails_steps}
 use Rattle.tx_commit.proofs.committing.commit_locked.Goals as goal
 
@@ -93,12 +93,11 @@ returns-in-Ok-clause-commits c = λ v can.
     (view c.decide.new.pass) (view c.publish_all.new.pass) can c.draw_as-word.ensures.draws refl
     c.requires.writes c.in-Ok.ensures.checked m.1 c.publish_all.ensures.published c.number_of.ensures)
 
-pub back_out-requires-clause-pass : goal.back_out-requires-clause-pass
-back_out-requires-clause-pass c =
+pub back_out-requires-clause-worker : goal.back_out-requires-clause-worker
+back_out-requires-clause-worker c =
     let can = c.requires.can in
-    failed_active (view c.draw_as-word.new.pass) (view c.check_all.new.pass)
-    (drawn_active (changes_of c.args.writes.now) c.draw_as-word.result (view c.args.pass.now) (view c.draw_as-word.new.pass)
-    (sets_active c.args.sets.now c.args.found.now can.0 (view c.args.pass.now) can.1) c.draw_as-word.ensures.draws)
+    failed_worker c.args.sets.now c.args.found.now (changes_of c.args.writes.now) c.draw_as-word.result can.0
+    (view c.args.pass.now) (view c.draw_as-word.new.pass) (view c.check_all.new.pass) can.1 c.draw_as-word.ensures.draws
     c.in-Err.ensures.failed
 
 pub back_out-requires-clause-places : goal.back_out-requires-clause-places
@@ -129,7 +128,7 @@ returns-in-Err-clause-cause c = λ v can.
     check_cause c.args.sets.now c.args.found.now c.args.writes.now c.args.reads.now (changes_of c.args.writes.now)
     c.draw_as-word.result c.in-Err.conflict.word c.in-Err.conflict.expected c.in-Err.conflict.seen c.back_out.result v
     (view c.args.pass.now) (view c.draw_as-word.new.pass) (view c.check_all.new.pass) (view c.back_out.new.pass) can
-    c.draw_as-word.ensures.draws c.requires.reads c.requires.writes c.in-Err.ensures.apart c.back_out.ensures.gives_up
+    c.draw_as-word.ensures.draws c.in-Err.ensures.failed c.requires.reads c.requires.writes c.in-Err.ensures.apart c.back_out.ensures.gives_up
     c.in-Err.ensures.conflict c.back_out.ensures.why
 
 pub returns-in-Err-clause-refused : goal.returns-in-Err-clause-refused
@@ -155,3 +154,14 @@ returns-in-Err-clause-most c =
     (found_locks c.args.sets.now c.args.found.now c.args.writes.now can.0 (view c.args.pass.now) can.1
     c.requires.writes)
     c.back_out.ensures.steps
+
+pub back_out-requires-clause-met : goal.back_out-requires-clause-met
+back_out-requires-clause-met c =
+    checked_met c.args.reads.now c.in-Err.conflict.word c.in-Err.conflict.expected c.in-Err.conflict.seen
+    (view c.draw_as-word.new.pass) (view c.check_all.new.pass) c.in-Err.ensures.failed c.in-Err.ensures.conflict
+
+pub back_out-requires-clause-apart : goal.back_out-requires-clause-apart
+back_out-requires-clause-apart c =
+    let can = c.requires.can in
+    found_apart c.args.sets.now c.args.found.now c.args.writes.now c.in-Err.conflict.word can.0 (view c.args.pass.now) can.1
+    c.requires.writes c.in-Err.ensures.apart

@@ -1,9 +1,10 @@
 use Rattle.std.specs.Prelude.{Err}
 use Rattle.std.proofs.Common.{◌≡◌, [], sym, subst, length, arith}
 use Rattle.engine_words.specs.Passes.{view}
+use Rattle.tx_commit.specs.Live.{AreMet}
 use Rattle.tx_commit.specs.Steps.{AreAsRead, HasLocked}
-use Rattle.tx_commit.proofs.LockLaws.{can_lock, place_at, unmet_at, locked_none}
-use Rattle.tx_commit.proofs.LockLaws.{locked_so_far, read_so_far, unmet_so_far, lock_stopped, lock_apart, lock_refused}
+use Rattle.tx_commit.proofs.LockLaws.{can_lock, idle_still, place_at, unmet_at, locked_none}
+use Rattle.tx_commit.proofs.LockLaws.{met_at, met_so_far, locked_so_far, read_so_far, unmet_so_far, lock_stopped, lock_apart, lock_refused}
 use Rattle.tx_commit.proofs.LockLaws.{found_count}
 use Rattle.std.proofs.lemmas.Result.{err_from_is_err_and}
 use Rattle.tx_commit.proofs.Lists.{take_all}
@@ -19,10 +20,15 @@ loop-done-init c = record {
   read = tt;
   steps = omega arith;
   unmet = λ k at unread place free. c.requires.unmet k at unread place;
+  met = c.requires.met;
 }
 
-pub take-requires-clause-pass : goal.take-requires-clause-pass
-take-requires-clause-pass c = can_lock _ c.loop-done.found (view c.args.pass.now) (view c.loop-done.pass)
+pub take-requires-clause-worker : goal.take-requires-clause-worker
+take-requires-clause-worker c = can_lock _ c.loop-done.found (view c.args.pass.now) (view c.loop-done.pass)
+    c.requires.free c.loop-done.invariant.locked
+
+pub take-requires-clause-idle : goal.take-requires-clause-idle
+take-requires-clause-idle c = idle_still _ c.loop-done.found (view c.args.pass.now) (view c.loop-done.pass)
     c.requires.free c.loop-done.invariant.locked
 
 pub take-requires-clause-place : goal.take-requires-clause-place
@@ -34,6 +40,11 @@ pub take-requires-clause-unmet : goal.take-requires-clause-unmet
 take-requires-clause-unmet c =
     unmet_at c.args.reads.now c.args.writes.now c.loop-done.done _ (view c.args.pass.now) (view c.loop-done.pass)
     c.requires.places c.requires.ascending c.loop-done.invariant.unmet c.loop-done-test.true
+
+pub take-requires-clause-met : goal.take-requires-clause-met
+take-requires-clause-met c =
+    met_at c.args.reads.now c.args.writes.now c.loop-done.done _ (view c.args.pass.now) (view c.loop-done.pass)
+    c.requires.places c.requires.ascending c.loop-done.invariant.met c.loop-done-test.true
 
 pub loop-done-preserved : goal.loop-done-preserved
 loop-done-preserved c = record {
@@ -51,6 +62,9 @@ loop-done-preserved c = record {
   unmet = unmet_so_far c.args.reads.now c.args.writes.now c.loop-done.found c.loop-done.done _ c.in_ok-word.word
       (view c.args.pass.now) (view c.loop-done.pass) (view c.take.new.pass) c.loop-done-test.true c.requires.places
       c.loop-done.invariant.locked c.in_ok-word.ensures.takes c.loop-done.invariant.unmet;
+  met = met_so_far c.args.reads.now c.args.writes.now c.loop-done.done _ c.in_ok-word.word (view c.args.pass.now)
+      (view c.loop-done.pass) (view c.take.new.pass) c.loop-done-test.true c.requires.places c.in_ok-word.ensures.takes
+      c.loop-done.invariant.met;
 }
 
 pub returns-in_err-word-clause-within : goal.returns-in_err-word-clause-within
@@ -112,3 +126,9 @@ pub returns-clause-known : goal.returns-clause-known
 returns-clause-known c =
     let all = take_all c.args.writes.now c.loop-done.done c.loop-done-test.false in
     subst (λ l. AreAsRead c.args.reads.now l c.loop-done.found) all c.loop-done.invariant.read
+
+pub returns-clause-met : goal.returns-clause-met
+returns-clause-met c =
+    let all = take_all c.args.writes.now c.loop-done.done c.loop-done-test.false in
+    subst (λ l. AreMet (view c.args.pass.now).layout.decls c.args.reads.now l (view c.loop-done.pass)) all
+    c.loop-done.invariant.met

@@ -3,6 +3,7 @@ use Rattle.tx_sets.specs.declared.reads.ReadEntry.{ReadEntry}
 use Rattle.tx_sets.specs.declared.writes.Write.{Write}
 use Rattle.engine_words.specs.declared.engine.Engine.{Engine}
 use Rattle.engine_words.specs.Passes.{Pass, view, IsPassOf}
+use Rattle.tx_commit.specs.Live.{AreMet}
 use Rattle.tx_commit.specs.Steps.{AreAsRead, HasLocked}
 use Rattle.tx_commit.proofs.LockLaws.{IsUnmet}
 use Rattle.tx_commit.proofs.locking.lock_all.Given as goal
@@ -17,6 +18,7 @@ pub record IsLockingAll
   pub read : AreAsRead reads (take done writes) found
   pub steps : (view new).steps ≡ (view old).steps + 2 * done
   pub unmet : IsUnmet (view old).layout.decls reads (take done writes) (view new)
+  pub met : AreMet (view old).layout.decls reads (take done writes) (view new)
 
 abbrev pub invariant-loop-done : goal.invariant-loop-done
 invariant-loop-done l = IsLockingAll l.engine l.fn.pass l.pass l.reads l.writes l.found l.done

@@ -1,7 +1,7 @@
 use Rattle.std.proofs.Common.{Some, refl}
 use Rattle.engine_words.specs.declared.view.Refused.TheVariants as refusals
 use Rattle.engine_words.specs.Passes.{view}
-use Rattle.tx_commit.proofs.FindLaws.{found_entry, clash_loaded, clash_conflict, loaded_refused, has_room, pushed_is}
+use Rattle.tx_commit.proofs.FindLaws.{clash_way, found_entry, clash_loaded, clash_conflict, clash_untouched, loaded_refused, has_room, pushed_is}
 use Rattle.tx_commit.proofs.StepLaws.{found_steps, clash_steps}
 use Rattle.tx_commit.proofs.reading.read_anew.Goals as goal
 
@@ -22,6 +22,9 @@ returns-in-Err-clause-cause c = (
   clash_conflict c.args.sets.now c.args.key c.in-Err.conflict.word c.in-Err.conflict.expected c.in-Err.conflict.seen _
       (view c.args.pass.now) (view c.find.new.pass) (view c.forget-in-Err.new.pass) c.requires.live c.requires.unread
       c.in-Err.ensures.clash c.in-Err.ensures.clashed c.forget-in-Err.ensures.forgets,
+  clash_untouched c.args.key c.in-Err.conflict.word c.in-Err.conflict.expected c.in-Err.conflict.seen _
+      (view c.args.pass.now) (view c.find.new.pass) (view c.forget-in-Err.new.pass) c.in-Err.ensures.clashed
+      c.forget-in-Err.ensures.forgets,
 )
 
 pub returns-in-Err-clause-refused : goal.returns-in-Err-clause-refused
@@ -45,3 +48,11 @@ returns-in-Err-clause-steps c =
     (Some (refusals.Conflict c.in-Err.conflict.word c.in-Err.conflict.expected c.in-Err.conflict.seen))
     (view c.args.pass.now)
     (view c.find.new.pass) (view c.forget-in-Err.new.pass) c.in-Err.ensures.clashed c.forget-in-Err.ensures.forgets
+
+pub forget-requires-in-Err-clause-due : goal.forget-requires-in-Err-clause-due
+forget-requires-in-Err-clause-due c = (
+  c.args.key,
+  clash_way c.args.sets.now c.args.key c.in-Err.conflict.word c.in-Err.conflict.expected c.in-Err.conflict.seen
+      (view c.args.pass.now)
+      (view c.find.new.pass) c.requires.live c.requires.unread c.in-Err.ensures.clash c.in-Err.ensures.clashed,
+)

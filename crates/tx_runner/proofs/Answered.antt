@@ -2,10 +2,14 @@
 use Rattle.std.proofs.Common.{◌≡◌, inl, inr, ℕ, zero, suc, ◌+◌, ◌*◌, ◌≤◌, ◌<◌, Bool, true, false, List, [], ◌∷◌, ◌++◌}
 use Rattle.std.proofs.Common.{length, take, drop}
 use Rattle.std.proofs.Common.{Option, Some, None, Result, Ok, Err, refl, sym, ap, ◌∙◌, subst, arith, get_or}
-use Rattle.std.proofs.Common.{length-append}
+use Rattle.std.proofs.Common.{length-append, true≢false, ◌⊎◌}
 use Rattle.std.specs.Prelude.{IfOk, IfErr, option_to_list}
-use Rattle.std.specs.List.{AllByRecursion}
+use Rattle.std.specs.List.{AllByRecursion, Contains}
 use Rattle.std.proofs.lemmas.List.{append-nil, take_more, take-append-drop}
+use Rattle.std.proofs.lemmas.List.Elements.{Contains-append_left}
+use Rattle.lists.specs.Elements.{any_in, any_is, in_push_cases, in_push_new, in_push_old}
+use Rattle.homes.specs.Homes.{same_key}
+use Rattle.homes.specs.Laws.{same_key-true}
 use Rattle.serial_model.specs.declared.decl.Decl.{Decl}
 use Rattle.serial_model.specs.declared.key.Key.{Key}
 use Rattle.serial_model.specs.declared.number.Change.{Change}
@@ -19,18 +23,21 @@ use Rattle.serial_bridge.specs.Transaction.{Turn, Continues, Stops, Finished, fi
 use Rattle.tx_sets.specs.declared.reads.ReadEntry.{ReadEntry}
 use Rattle.tx_sets.specs.declared.sets.Sets.{Sets}
 use Rattle.tx_sets.specs.declared.writes.Write.{Write}
+use Rattle.tx_sets.specs.Entries.{has_read, has_write}
 use Rattle.tx_sets.specs.Gathered.{AreEmpty}
+use Rattle.engine_words.specs.Layout.{IsAtKey, spot_for}
 use Rattle.engine_words.specs.declared.layout.Layout.{Layout}
 use Rattle.engine_words.specs.declared.view.Refused.{Refused}
 use Rattle.engine_words.specs.declared.view.Refused.TheVariants as refusals
 use Rattle.engine_words.specs.declared.view.View.{View}
 use Rattle.tx_commit.specs.Live.{IsLive}
-use Rattle.tx_commit.specs.Turning.{HasLoaded, HasDone, HasStopped, ReadsOnly, Alters}
+use Rattle.tx_commit.specs.Turning.{Alters, HasDone, HasLoaded, HasStopped, IsOfKey, ReadsOnly, WritesOnly}
 use Rattle.tx_commit.specs.Refusing.{RefusesRead, RefusesWrite, RefusesAlter}
 use Rattle.tx_commit.specs.Running.{HasRun, HasEnded}
 use Rattle.tx_commit.specs.RunLaws.{goes_on_run, ends_run}
 use Rattle.tx_runner.specs.Lines.{keeps, IsOnArray}
-use Rattle.tx_runner.specs.Steps.{AreWithin, OpGoesOn, OpEndsIt, HasAnswered, HasAnsweredAll, IsOpCause}
+use Rattle.tx_runner.specs.Steps.{AreKeysOf, AreWithin, HasAnswered, HasAnsweredAll, IsCauseAmong, IsOpCause}
+use Rattle.tx_runner.specs.Steps.{OpEndsIt, OpGoesOn}
 use Rattle.tx_runner.proofs.Arrays.{array_fits}
 
 -- ---- one operation
@@ -65,24 +72,25 @@ alters_answered (Err why) op replies sets new v w a = tt
 
 -- ---- why it was refused
 
-pub read_cause : (sets : Sets) (k : Key) (why : Refused) (v w : View) → AreWithin 15 sets
-    → RefusesRead sets k why v w → IsOpCause why
-read_cause sets k (refusals.Conflict at expected seen) v w few r = r.3.cause
-read_cause sets k (refusals.Wide set) v w few r = absurd (omega (arith, r.1, few.reads))
-read_cause sets k (refusals.NumberLimit clock) v w few r = absurd r
+pub read_cause : (op : Op) (sets : Sets) (k : Key) (why : Refused) (v w : View) → IsOfKey op k → AreWithin 15 sets
+    → RefusesRead sets k why v w → IsOpCause op why v w
+read_cause op sets k (refusals.Conflict at expected seen) v w of few r = (r.3.cause, k, of, r.3.place, r.4)
+read_cause op sets k (refusals.Wide set) v w of few r = absurd (omega (arith, r.1, few.reads))
+read_cause op sets k (refusals.NumberLimit clock) v w of few r = absurd r
 
-pub write_cause : (sets : Sets) (k : Key) (why : Refused) → AreWithin 15 sets → RefusesWrite sets k why → IsOpCause why
-write_cause sets k why few r = absurd (omega (arith, r.1, few.writes))
+pub write_cause : (op : Op) (sets : Sets) (k : Key) (why : Refused) (v w : View) → AreWithin 15 sets
+    → RefusesWrite sets k why → IsOpCause op why v w
+write_cause op sets k why v w few r = absurd (omega (arith, r.1, few.writes))
 
-alter_cause : (sets : Sets) (k : Key) (why : Refused) (v w : View) → AreWithin 15 sets → RefusesAlter sets k why v w
-    → IsOpCause why
-alter_cause sets k why v w few (inl r) = write_cause sets k why few r
-alter_cause sets k why v w few (inr r) = read_cause sets k why v w few r.1
+alter_cause : (op : Op) (sets : Sets) (k : Key) (why : Refused) (v w : View) → IsOfKey op k → AreWithin 15 sets
+    → RefusesAlter sets k why v w → IsOpCause op why v w
+alter_cause op sets k why v w of few (inl r) = write_cause op sets k why v w few r
+alter_cause op sets k why v w of few (inr r) = read_cause op sets k why v w of few r.1
 
-pub alters_caused : (r : Result Verdict Refused) (sets : Sets) (k : Key) (v w : View) → AreWithin 15 sets
-    → IfErr r (λ why. RefusesAlter sets k why v w) → IfErr r IsOpCause
-alters_caused (Ok verdict) sets k v w few a = tt
-alters_caused (Err why) sets k v w few a = alter_cause sets k why v w few a
+pub alters_caused : (r : Result Verdict Refused) (op : Op) (sets : Sets) (k : Key) (v w : View) → IsOfKey op k
+    → AreWithin 15 sets → IfErr r (λ why. RefusesAlter sets k why v w) → IfErr r (λ why. IsOpCause op why v w)
+alters_caused (Ok verdict) op sets k v w of few a = tt
+alters_caused (Err why) op sets k v w of few a = alter_cause op sets k why v w of few a
 
 -- ---- how many keys there are
 
@@ -119,6 +127,74 @@ pub within_more : (m n : ℕ) (sets : Sets) → m ≤ n → AreWithin m sets →
 within_more m n sets le few = record {
   reads = omega (arith, le, few.reads);
   writes = omega (arith, le, few.writes);
+}
+
+-- ---- which keys
+
+-- an operation more is one of those up to it
+among_take : (ops : List Op) (d : Op) (i : ℕ) → i < length ops → Contains (take (i + 1) ops) (get_or ops i d)
+among_take ops d i less =
+    subst (λ (l : List Op). Contains l (get_or ops i d)) (sym (take_more ops i d less))
+    (in_push_new (get_or ops i d) (take i ops))
+
+-- and those before it are so still
+among_later : (ops : List Op) (d op : Op) (i : ℕ) → i < length ops → Contains (take i ops) op
+    → Contains (take (i + 1) ops) op
+among_later ops d op i less has =
+    subst (λ (l : List Op). Contains l op) (sym (take_more ops i d less))
+    (in_push_old op (get_or ops i d) (take i ops) has)
+
+no_keys : (ops : List Op) (sets : Sets) → AreEmpty sets → AreKeysOf ops sets
+no_keys ops sets empty = record {
+  reads = λ k has. absurd (let none : has_read k sets.reads ≡ false = ap (has_read k) empty.reads in true≢false (sym has ∙ none));
+  writes = λ k has. absurd (let none : has_write k sets.writes ≡ false = ap (has_write k) empty.writes in true≢false (sym has ∙ none));
+}
+
+read_among : (op : Op) (old new : List ReadEntry) (k : Key) → ReadsOnly op old new → has_read k new ≡ true
+    → (has_read k old ≡ true) ⊎ IsOfKey op k
+read_among op old new k (inl same) has = inl (ap (has_read k) (sym same) ∙ has)
+read_among op old new k (inr more) has = by_test (has_read k old) refl
+  where
+    by_test : (b : Bool) → has_read k old ≡ b → (has_read k old ≡ true) ⊎ IsOfKey op k
+    by_test true is = inl is
+    by_test false is =
+        let found = any_is (λ (e : ReadEntry). same_key e.key k) new has in
+        elim (in_push_cases found.0 more.0 old (subst (λ (l : List ReadEntry). Contains l found.0) more.2 found.1)) [
+          | inl before ↦ inl (any_in (λ (e : ReadEntry). same_key e.key k) old found.0 before found.2)
+          | inr last ↦ inr (subst (IsOfKey op) (same_key-true more.0.key k
+              (subst (λ (e : ReadEntry). same_key e.key k ≡ true) (sym last) found.2)) more.1)
+        ]
+
+-- the keys of one operation more
+keys_more : (ops : List Op) (d : Op) (done : ℕ) (sets new : Sets) → done < length ops
+    → AreKeysOf (take done ops) sets → ReadsOnly (get_or ops done d) sets.reads new.reads
+    → WritesOnly (get_or ops done d) sets.writes new.writes → AreKeysOf (take (done + 1) ops) new
+keys_more ops d done sets new less are reads writes = record {
+  reads = λ k has. elim (read_among (get_or ops done d) sets.reads new.reads k reads has) [
+    | inl before ↦
+        let key = are.reads k before in
+        record { op = key.op; among = among_later ops d key.op done less key.among; at = key.at }
+    | inr here ↦ record { op = get_or ops done d; among = among_take ops d done less; at = here }
+  ];
+  writes = λ k has. elim (writes k has) [
+    | inl before ↦
+        let key = are.writes k before in
+        record { op = key.op; among = among_later ops d key.op done less key.among; writes = key.writes }
+    | inr here ↦ record { op = get_or ops done d; among = among_take ops d done less; writes = here }
+  ];
+}
+
+-- those of first operations are keys of all
+in_taken : (ops : List Op) (op : Op) (i : ℕ) → Contains (take i ops) op → Contains ops op
+in_taken ops op i has =
+    subst (λ (l : List Op). Contains l op) (take-append-drop i ops) (Contains-append_left (take i ops) (drop i ops) op has)
+
+keys_of_all : (ops : List Op) (done : ℕ) (sets : Sets) → AreKeysOf (take done ops) sets → AreKeysOf ops sets
+keys_of_all ops done sets are = record {
+  reads = λ k has. let key = are.reads k has in
+      record { op = key.op; among = in_taken ops key.op done key.among; at = key.at };
+  writes = λ k has. let key = are.writes k has in
+      record { op = key.op; among = in_taken ops key.op done key.among; writes = key.writes };
 }
 
 -- ---- loads
@@ -163,6 +239,7 @@ pub record HasRunSome (ops : List Op) (done : ℕ) (replies : List Reply) (sets 
   pub sized : AreWithin done sets
   pub steps : w.steps ≤ v.steps + 4 * done
   pub run : HasRun (take done ops) replies sets w
+  pub keys : AreKeysOf (take done ops) sets
 
 pub run_none : (ops : List Op) (replies : List Reply) (sets : Sets) (v : View) → replies ≡ [] → IsLive sets v
     → AreEmpty sets → HasRun [] [] sets v → HasRunSome ops 0 replies sets v v
@@ -174,6 +251,7 @@ run_none ops replies sets v none live empty run = record {
   sized = none_within sets empty;
   steps = omega arith;
   run = subst (λ l. HasRun [] l sets v) (sym none) run;
+  keys = no_keys (take 0 ops) sets empty;
 }
 
 few_more : (reply : Option Reply) → length (option_to_list reply) ≤ 1
@@ -196,6 +274,7 @@ run_more ops d done old now sets new u v w less on h g four = record {
       (subst (λ l. HasRun (take done ops ++ get_or ops done d ∷ []) l new w) (sym g.replies)
       (goes_on_run (take done ops) old (get_or ops done d) g.reply sets new v w h.run
       (array_fits v.layout.decls (get_or ops done d) on) g.done));
+  keys = keys_more ops d done sets new less h.keys g.done.reads g.done.writes;
 }
 
 -- an operation behind which the transaction goes on
@@ -246,7 +325,7 @@ ended_line ops done verdict replies w stops e = record {
 stops_at : (ops : List Op) (d : Op) (done : ℕ) (verdict : Verdict) (old now : List Reply) (sets new : Sets)
     (u v w : View) → keeps verdict ≡ false → done < length ops → IsOnArray v.layout.decls (get_or ops done d)
     → HasRunSome ops done old sets u v → OpEndsIt (get_or ops done d) verdict old now sets new v w
-    → HasEnded ops verdict now w × IsLive new w × HasLoaded u w × AreWithin (length ops) new
+    → HasEnded ops verdict now w × IsLive new w × HasLoaded u w × AreWithin (length ops) new × AreKeysOf ops new
 stops_at ops d done verdict old now sets new u v w stops less on h e = (
   ended_line ops (done + 1) verdict now w stops
       (subst (λ l. HasEnded l verdict now w) (sym (take_more ops done d less))
@@ -257,6 +336,7 @@ stops_at ops d done verdict old now sets new u v w stops less on h e = (
   loaded_then u v w h.only e.stopped.only,
   within_more (done + 1) (length ops) new (omega (arith, less))
       (stopped_within (get_or ops done d) verdict sets new v w done e.stopped h.sized),
+  keys_of_all ops (done + 1) new (keys_more ops d done sets new less h.keys e.stopped.reads e.stopped.writes),
 )
 
 -- an operation that ends the transaction
@@ -267,10 +347,10 @@ pub run_ended : (ops : List Op) (d : Op) (done : ℕ) (verdict : Verdict) (old n
 run_ended ops d done Done old now sets new u v w less stops on h a four = absurd cc
 run_ended ops d done Short old now sets new u v w less stops on h a four =
     let e = stops_at ops d done Short old now sets new u v w refl less on h a in
-    record { live = e.1; only = e.2; sized = e.3; steps = omega (arith, h.steps, four, less); run = e.0 }
+    record { live = e.1; only = e.2; sized = e.3; steps = omega (arith, h.steps, four, less); run = e.0; keys = e.4 }
 run_ended ops d done Over old now sets new u v w less stops on h a four =
     let e = stops_at ops d done Over old now sets new u v w refl less on h a in
-    record { live = e.1; only = e.2; sized = e.3; steps = omega (arith, h.steps, four, less); run = e.0 }
+    record { live = e.1; only = e.2; sized = e.3; steps = omega (arith, h.steps, four, less); run = e.0; keys = e.4 }
 
 -- all operations were run
 pub run_all : (ops : List Op) (done : ℕ) (replies : List Reply) (sets : Sets) (v w : View) → take done ops ≡ ops
@@ -281,7 +361,27 @@ run_all ops done replies sets v w all h = record {
   sized = within_more done (length ops) sets h.within h.sized;
   steps = omega (arith, h.steps, h.within);
   run = subst (λ l. HasRun l replies sets w) all h.run;
+  keys = keys_of_all ops done sets h.keys;
 }
+
+-- ---- a refusal among the operations
+
+-- an operation was refused, behind loads
+pub cause_among : (ops : List Op) (d : Op) (i : ℕ) (why : Refused) (u v w : View) → i < length ops → HasLoaded u v
+    → IsOpCause (get_or ops i d) why v w → IsCauseAmong ops why u w
+cause_among ops d i (refusals.Conflict at expected seen) u v w less l c = record {
+  op = get_or ops i d;
+  among = in_taken ops (get_or ops i d) (i + 1) (among_take ops d i less);
+  cause = (
+    c.0,
+    c.1,
+    c.2,
+    subst (λ (y : Layout). IsAtKey y.decls c.1 (spot_for y.decls c.1) at) (loaded_layout u v l) c.3,
+    c.4 ∙ ap (λ (x : View). x.touched) l.is,
+  );
+}
+cause_among ops d i (refusals.Wide set) u v w less l c = absurd c
+cause_among ops d i (refusals.NumberLimit clock) u v w less l c = absurd c
 
 -- ---- by index
 

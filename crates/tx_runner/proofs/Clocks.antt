@@ -40,6 +40,8 @@ seen_epoch v w clock epoch a is =
       seat = ap (λ (x : View). x.seat) a.is;
       took = ap (λ (x : View). x.took) a.is;
       refused = ap (λ (x : View). x.refused) a.is;
+      touched = ap (λ (x : View). x.touched) a.is;
+      blamed = ap (λ (x : View). x.blamed) a.is;
       met = ap (λ (x : View). x.met) a.is;
     }
 

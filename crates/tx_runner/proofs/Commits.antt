@@ -1,9 +1,14 @@
 -- Tries that committed.
-use Rattle.std.proofs.Common.{◌≡◌, ◌≢◌, ℕ, ◌+◌, ◌≤◌, ◌<◌, true, map, List, [], ◌∷◌, ◌++◌, length}
+use Rattle.std.proofs.Common.{◌≡◌, ◌≢◌, ◌⊎◌, inl, inr, ℕ, ◌+◌, ◌≤◌, ◌<◌, Bool, true, false, map, List, [], ◌∷◌, ◌++◌, length}
 use Rattle.std.proofs.Common.{refl, sym, ap, ◌∙◌, subst, arith, append_assoc, drop, length-append}
 use Rattle.std.specs.Prelude.{Contains}
-use Rattle.std.proofs.lemmas.List.{append-nil}
+use Rattle.std.proofs.lemmas.List.{append-nil, map-append}
+use Rattle.std.proofs.lemmas.List.Sums.{sum_by-append}
+use Rattle.std.proofs.lemmas.Bool.{or_left, or_right}
 use Rattle.std.proofs.lemmas.List.Elements.{Contains-append_left}
+use Rattle.lists.specs.Elements.{in_cases, in_head, in_none, in_tail}
+use Rattle.homes.specs.Homes.{same_key}
+use Rattle.homes.specs.Laws.{same_key-self}
 use Rattle.lists.specs.Each.{all_append}
 use Rattle.lists.specs.Fronts.{IsFront, front_rest, front_then}
 use Rattle.serial_model.specs.declared.number.Change.{Change}
@@ -24,17 +29,22 @@ use Rattle.serial_bridge.specs.Laws.{attempt_steps}
 use Rattle.serial_bridge.specs.Transaction.{IsAttemptOf}
 use Rattle.tx_sets.specs.declared.sets.Sets.{Sets}
 use Rattle.tx_sets.specs.declared.writes.Write.{Write}
+use Rattle.tx_sets.specs.Entries.{has_write}
 use Rattle.engine_words.specs.declared.layout.Layout.{Layout}
+use Rattle.engine_words.specs.declared.view.Touch.{Touch}
 use Rattle.engine_words.specs.declared.view.View.{View}
 use Rattle.engine_words.specs.Steps.{AreSerial}
+use Rattle.engine_words.specs.Touches.{touch}
 use Rattle.engine_words.specs.Views.{seat_number}
-use Rattle.tx_commit.specs.Committing.{changes_of, kept_writes, HasCommitted}
+use Rattle.tx_commit.specs.Committing.{changes_of, kept_writes, touches_of, HasCommitted}
 use Rattle.tx_commit.specs.Running.{HasRun, HasEnded}
 use Rattle.tx_commit.specs.RunLaws.{commits_run, commits_end}
 use Rattle.tx_runner.specs.Lines.{keeps, IsAnswered}
 use Rattle.tx_runner.specs.LineEnds.{HasCommittedLine, IsAsAlone}
-use Rattle.tx_runner.specs.Steps.{HasRunTo}
-use Rattle.tx_runner.specs.Tries.{HasDrawsLeft, HasConflicted, IsConflicting}
+use Rattle.tx_runner.specs.Steps.{AreKeysOf, HasRunTo}
+use Rattle.tx_runner.specs.Tries.{HasConflicted, HasDrawsLeft, IsClash, IsWrittenBy, blames_of, drawn_for}
+use Rattle.tx_runner.specs.Tries.{why_of, whys_of}
+use Rattle.tx_runner.proofs.Refusals.{blames_then, touches_then}
 use Rattle.tx_runner.proofs.Standing.{StandsAs, left_before, seen_then}
 
 -- ---- the attempt is the line's
@@ -93,17 +103,50 @@ in_front : (f l : List Attempt) (b : Attempt) → IsFront f l → Contains f b �
 in_front f l b front has = subst (λ (y : List Attempt). Contains y b) (front_rest f l front)
     (Contains-append_left f (drop (length f) l) b has)
 
+-- ---- the locks of a commit
+
+-- a lock is of one of the changes
+of_change : (q : ℕ) (changes : List Change) (t : Touch) → Contains (touches_of q changes) t
+    → (x : Change) × Contains changes x × (touch q x.key ≡ t)
+of_change q [] t has = absurd (in_none t has)
+of_change q (c ∷ changes) t has = elim (in_cases t (touch q c.key) (touches_of q changes) has) [
+  | inl same ↦ (c, in_head c changes, same)
+  | inr later ↦ let x = of_change q changes t later in (x.0, in_tail x.0 c changes x.1, x.2)
+]
+
+-- and a change is of one of the writes
+change_written : (x : Change) (writes : List Write) → Contains (changes_of writes) x → has_write x.key writes ≡ true
+change_written x [] has = absurd (in_none x has)
+change_written x (w ∷ writes) has =
+    elim (in_cases x (record { key = w.key; value = w.value }) (changes_of writes) has) [
+      | inl same ↦ or_left (same_key w.key x.key) (has_write x.key writes)
+          (subst (λ (y : Change). same_key w.key y.key ≡ true) same (same_key-self w.key))
+      | inr later ↦ or_right (same_key w.key x.key) (has_write x.key writes) (change_written x writes later)
+    ]
+
+of_kept : (b : Bool) (x : Change) (writes : List Write) → Contains (changes_of (kept_writes b writes)) x
+    → has_write x.key writes ≡ true
+of_kept true x writes has = change_written x writes has
+of_kept false x writes has = absurd (in_none x has)
+
+in_either : (t : Touch) (xs ys : List Touch) → Contains (xs ++ ys) t → Contains xs t ⊎ Contains ys t
+in_either t [] ys has = inr has
+in_either t (x ∷ xs) ys has = elim (in_cases t x (xs ++ ys) has) [
+  | inl e ↦ inl (subst (λ (u : Touch). Contains (x ∷ xs) u) e (in_head x xs))
+  | inr more ↦ elim (in_either t xs ys more) [ inl old ↦ inl (in_tail t x xs old) | inr new ↦ inr new ]
+]
+
 -- ---- one try
 
 -- the operations were run since the try began, and then it was committed
 pub try_committed : (ops : List Op) (verdict : Verdict) (replies : List Reply) (commit : Commit) (sets : Sets)
-    (u v w : View) → StandsAs u v → HasRunTo ops verdict replies sets v
+    (u v w : View) → StandsAs u v → AreKeysOf ops sets → HasRunTo ops verdict replies sets v
     → commit.changes ≡ changes_of (kept_writes (keeps verdict) sets.writes)
     → Rises IsKeyBelow (map (λ (x : Change). x.key) commit.changes) → length commit.changes ≤ 16
     → HasCommitted commit.changes commit.number v w → HasDrawsLeft u → HasCommittedLine ops 1 verdict replies commit u w
-try_committed ops verdict replies commit sets u v w s run written rises few c left = record {
+try_committed ops verdict replies commit sets u v w s keys run written rises few c left = record {
   began = left;
-  whys = [];
+  losts = [];
   fewer = omega arith;
   each = tt;
   refused = c.refused ∙ s.refused ∙ sym (append-nil u.refused);
@@ -115,6 +158,18 @@ try_committed ops verdict replies commit sets u v w s run written rises few c le
   attempt = c.attempt;
   mine = c.mine ∙ ap (λ l. l ++ c.attempt ∷ []) s.mine;
   draws = let one = c.draws in let same = s.draws in omega (arith, one, same);
+  blamed = c.blamed ∙ s.blamed ∙ sym (append-nil u.blamed);
+  touched = λ t has. elim (in_either t v.touched (touches_of (seat_number v.role) commit.changes)
+      (subst (λ (l : List Touch). Contains l t) c.touched has)) [
+        | inl before ↦ inl (subst (λ (l : List Touch). Contains l t) s.touched before)
+        | inr own ↦
+            let x = of_change (seat_number v.role) commit.changes t own in
+            inr (
+              ap (λ (y : Touch). y.seat) (sym x.2) ∙ ap seat_number s.role,
+              subst (IsWrittenBy ops) (ap (λ (y : Touch). y.key) x.2) (keys.writes x.0.key (of_kept (keeps verdict) x.0 sets.writes
+                  (subst (λ (l : List Change). Contains l x.0) written x.1))),
+            )
+      ];
   seat = c.seat ∙ ap seat_number s.role;
   numbered = c.numbered;
   writes = c.writes;
@@ -151,14 +206,16 @@ try_committed ops verdict replies commit sets u v w s run written rises few c le
 
 -- some tries were refused with Conflict, and the one behind them was committed
 pub line_committed : (ops : List Op) (done tries : ℕ) (verdict : Verdict) (replies : List Reply) (commit : Commit)
-    (u v w : View) → done < tries → HasConflicted done u v → HasCommittedLine ops 1 verdict replies commit v w
+    (u v w : View) → done < tries → HasConflicted ops done u v → HasCommittedLine ops 1 verdict replies commit v w
     → HasCommittedLine ops tries verdict replies commit u w
 line_committed ops done tries verdict replies commit u v w less h k = record {
   began = left_before u v h.tried.layout h.tried.seen k.began;
-  whys = h.whys ++ k.whys;
-  fewer = omega (arith, less, h.count, k.fewer, length-append h.whys k.whys);
-  each = all_append IsConflicting h.whys k.whys h.each k.each;
-  refused = k.refused ∙ ap (λ l. l ++ k.whys) h.tried.refused ∙ append_assoc u.refused h.whys k.whys;
+  losts = h.losts ++ k.losts;
+  fewer = omega (arith, less, h.count, k.fewer, length-append h.losts k.losts);
+  each = all_append (IsClash ops) h.losts k.losts h.each k.each;
+  refused = k.refused ∙ ap (λ l. l ++ whys_of k.losts) h.tried.refused
+      ∙ append_assoc u.refused (whys_of h.losts) (whys_of k.losts)
+      ∙ ap (λ l. u.refused ++ l) (sym (map-append why_of h.losts k.losts));
   over = k.over;
   layout = k.layout ∙ h.tried.layout;
   role = k.role ∙ h.tried.role;
@@ -171,7 +228,10 @@ line_committed ops done tries verdict replies commit u v w less h k = record {
   mine = k.mine ∙ ap (λ l. l ++ k.attempt ∷ []) h.tried.mine;
   draws =
       let first = h.tried.draws in let second = k.draws in
-      omega (arith, first, second, length-append h.whys k.whys);
+      omega (arith, first, second, sum_by-append drawn_for h.losts k.losts);
+  blamed = blames_then (seat_number u.role) h.losts k.losts u.blamed v.blamed w.blamed h.tried.blamed
+      (k.blamed ∙ ap (λ (q : ℕ). v.blamed ++ blames_of q k.losts) (ap seat_number h.tried.role));
+  touched = touches_then ops u v w h.tried.role h.tried.touched k.touched;
   seat = k.seat ∙ ap seat_number h.tried.role;
   numbered = k.numbered;
   writes = k.writes;

@@ -1,6 +1,6 @@
 -- What stays of a pass while its transaction runs.
 use Rattle.std.proofs.Common.{◌≡◌, ℕ, ◌+◌, ◌*◌, ◌≤◌, Bool, true, false, length, arith, List, [], ◌∷◌, ◌++◌, refl, sym}
-use Rattle.std.proofs.Common.{ap, ◌∙◌, subst}
+use Rattle.std.proofs.Common.{ap, ◌∙◌, subst, Some}
 use Rattle.std.specs.List.{AllByRecursion}
 use Rattle.lists.specs.Fronts.{IsFront, front_refl, front_then, front_length}
 use Rattle.serial_model.specs.declared.number.Number.{Number}
@@ -12,7 +12,8 @@ use Rattle.engine_words.specs.declared.layout.Layout.{Layout}
 use Rattle.engine_words.specs.declared.view.Refused.{Refused}
 use Rattle.engine_words.specs.declared.view.View.{View}
 use Rattle.engine_words.specs.Cuts.{HasSeen}
-use Rattle.engine_words.specs.Steps.{readied, timed}
+use Rattle.engine_words.specs.Steps.{IsMetFor, readied, timed}
+use Rattle.engine_words.specs.Views.{seat_number}
 use Rattle.tx_commit.specs.Turning.{HasLoaded}
 use Rattle.tx_commit.specs.Committing.{commit_steps, kept_writes, HasBegun}
 use Rattle.tx_commit.specs.Refusing.{HasRefused}
@@ -20,7 +21,7 @@ use Rattle.tx_runner.specs.Lines.{try_steps, IsOnArray}
 use Rattle.tx_runner.specs.Steps.{AreWithin}
 use Rattle.tx_runner.specs.Tries.{HasDrawsLeft}
 
--- what the pass had seen, its own commits, its draws, its marks and its refusals stay
+-- what the pass had seen, its own commits, its draws, its marks, its refusals and its locks so far stay
 pub record StandsAs (v w : View) : Type 0 where
   pub layout : w.layout ≡ v.layout
   pub role : w.role ≡ v.role
@@ -29,6 +30,8 @@ pub record StandsAs (v w : View) : Type 0 where
   pub draws : w.draws ≡ v.draws
   pub marks : w.seat.marks ≡ v.seat.marks
   pub refused : w.refused ≡ v.refused
+  pub touched : w.touched ≡ v.touched
+  pub blamed : w.blamed ≡ v.blamed
 
 begun_stands : (sets : Sets) (v w : View) → HasBegun sets v w → StandsAs v w
 begun_stands sets v w b =
@@ -45,6 +48,8 @@ begun_stands sets v w b =
       draws = ap (λ (x : View). x.draws) is;
       marks = ap (λ (x : View). x.seat.marks) is;
       refused = ap (λ (x : View). x.refused) is;
+      touched = ap (λ (x : View). x.touched) is;
+      blamed = ap (λ (x : View). x.blamed) is;
     }
 
 loaded_stands : (v w : View) → HasLoaded v w → StandsAs v w
@@ -61,6 +66,8 @@ loaded_stands v w l = record {
   draws = ap (λ (x : View). x.draws) l.is;
   marks = ap (λ (x : View). x.seat.marks) l.is;
   refused = ap (λ (x : View). x.refused) l.is;
+  touched = ap (λ (x : View). x.touched) l.is;
+  blamed = ap (λ (x : View). x.blamed) l.is;
 }
 
 -- what is seen since then was seen since before
@@ -81,6 +88,8 @@ run_stands sets u v w b l =
       draws = second.draws ∙ first.draws;
       marks = second.marks ∙ first.marks;
       refused = second.refused ∙ first.refused;
+      touched = second.touched ∙ first.touched;
+      blamed = second.blamed ∙ first.blamed;
     }
 
 pub begins_stands : (sets : Sets) (v w : View) → HasBegun sets v w → StandsAs v w
@@ -107,6 +116,8 @@ still v = record {
   draws = refl;
   marks = refl;
   refused = refl;
+  touched = refl;
+  blamed = refl;
 }
 
 -- ---- refusals behind loads
@@ -119,9 +130,14 @@ refused_since why u v w l r = let s = loaded_stands u v l in record {
   role = r.role ∙ s.role;
   seen = seen_then u v w s.seen r.seen;
   mine = r.mine ∙ s.mine;
+  drew = r.drew;
   draws = let few = r.draws in let same = s.draws in omega (arith, few, same);
   marks = r.marks ∙ s.marks;
   refused = r.refused ∙ ap (λ l. l ++ why ∷ []) s.refused;
+  met = r.met;
+  of = subst (λ (q : ℕ). IsMetFor (Some why) r.met u.layout.decls q) (ap seat_number s.role)
+      (subst (λ (y : Layout). IsMetFor (Some why) r.met y.decls (seat_number v.role)) s.layout r.of);
+  blamed = r.blamed ∙ ap (λ l. l ++ r.met) s.blamed;
 }
 
 -- ---- steps

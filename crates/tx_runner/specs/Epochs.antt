@@ -40,6 +40,8 @@ pub record HasSeenEpoch (epoch : ℕ) (v w : View) : Type 0 where
   pub seat : w.seat ≡ v.seat
   pub took : w.took ≡ v.took
   pub refused : w.refused ≡ v.refused
+  pub touched : w.touched ≡ v.touched
+  pub blamed : w.blamed ≡ v.blamed
   pub met : w.met ≡ v.met
 
 -- the keeper saw the clock in its epoch, which was not the last, and has moved it on to this one

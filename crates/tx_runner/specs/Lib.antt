@@ -4,3 +4,4 @@ pub mod LineEnds
 pub mod Epochs
 pub mod Steps
 pub mod LineWrites
+pub mod OwnThreads

@@ -21,7 +21,6 @@ use Rattle.commit_core.specs.CoreState.{is_decided, mark_of}
 use Rattle.commit_core.specs.Serial.{ReadsFrom, state_below}
 use Rattle.serial_bridge.specs.Bridge.{Agrees, StepsAs}
 use Rattle.serial_bridge.specs.Transaction.{IsAttemptOf}
-use Rattle.engine_words.specs.declared.view.Refused.{Refused}
 use Rattle.engine_words.specs.declared.view.View.{View}
 use Rattle.engine_words.specs.Cuts.{HasSeen}
 use Rattle.engine_words.specs.Rule.{IsSmall}
@@ -32,7 +31,8 @@ use Rattle.tx_runner.specs.declared.lines.LineEnd.{LineEnd}
 use Rattle.tx_runner.specs.declared.lines.LineEnd.TheVariants as answers
 use Rattle.tx_runner.specs.declared.room.LineRoom.{LineRoom}
 use Rattle.tx_runner.specs.Lines.{keeps, IsAnswered}
-use Rattle.tx_runner.specs.Tries.{HasDrawsLeft, IsConflicting, HasConflicted, IsAtLimit}
+use Rattle.tx_runner.specs.Tries.{HasConflicted, HasDrawsLeft, IsAtLimit, IsClash, Lost, TouchesOnly}
+use Rattle.tx_runner.specs.Tries.{blames_of, lost_to, whys_of}
 
 -- The entry's transaction, alone on whatever state agrees with the one below its number, as these attempts and
 -- decisions have it, answers what was answered and changes what the attempt writes.
@@ -45,14 +45,15 @@ IsAsAlone decls opening history decided a e =
 -- pass's own, and counts. Its epoch is above the worker's mark, and its changes are those of a log line. It is that of
 -- the line's transaction, whose answers are the serial step's on the state below its number, now (`now`) and as any
 -- later audit has it (`later`). The tries before, which were fewer than the line has, were refused with Conflict, and
--- each of them drew one number at most; as the first of all began, the clock was not at the last draws (`began`).
+-- besides the commit's number just theirs were drawn, and the line took locks of keys at most that it may write; as the
+-- first of all began, the clock was not at the last draws (`began`).
 pub record HasCommittedLine (ops : List Op) (tries : ℕ) (verdict : Verdict) (replies : List Reply) (commit : Commit)
     (v w : View) : Type 0 where
   pub began : HasDrawsLeft v
-  pub whys : List Refused
-  pub fewer : length whys < tries
-  pub each : AllByRecursion IsConflicting whys
-  pub refused : w.refused ≡ v.refused ++ whys
+  pub losts : List Lost
+  pub fewer : length losts < tries
+  pub each : AllByRecursion (IsClash ops) losts
+  pub refused : w.refused ≡ v.refused ++ whys_of losts
   pub over : IsOver w
   pub layout : w.layout ≡ v.layout
   pub role : w.role ≡ v.role
@@ -60,7 +61,9 @@ pub record HasCommittedLine (ops : List Op) (tries : ℕ) (verdict : Verdict) (r
   pub marks : w.seat.marks ≡ v.seat.marks
   pub attempt : Attempt
   pub mine : w.mine ≡ v.mine ++ attempt ∷ []
-  pub draws : w.draws ≤ v.draws + length whys + 1
+  pub draws : w.draws ≡ v.draws + lost_to losts + 1
+  pub blamed : w.blamed ≡ v.blamed ++ blames_of (seat_number v.role) losts
+  pub touched : TouchesOnly ops v w
   pub seat : attempt.seat ≡ seat_number v.role
   pub numbered : attempt.number ≡ commit.number
   pub writes : attempt.writes ≡ commit.changes
@@ -89,5 +92,5 @@ pub record HasCommittedLine (ops : List Op) (tries : ℕ) (verdict : Verdict) (r
 abbrev pub RunsLine : List Op → ℕ → LineEnd → LineRoom → View → View → Type 0
 RunsLine ops tries (answers.Committed verdict) room v w =
     HasCommittedLine ops tries verdict room.replies room.commit v w
-RunsLine ops tries answers.Conflict room v w = HasConflicted tries v w
-RunsLine ops tries answers.Limit room v w = IsAtLimit tries v w
+RunsLine ops tries answers.Conflict room v w = HasConflicted ops tries v w
+RunsLine ops tries answers.Limit room v w = IsAtLimit ops tries v w

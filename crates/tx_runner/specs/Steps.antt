@@ -1,22 +1,25 @@
 -- What the parts of a try do.
-use Rattle.std.specs.Prelude.{◌≡◌, ◌≢◌, ◌⊎◌, ℕ, ◌+◌, ◌*◌, ◌%◌, ◌^◌, ◌≤◌, length, List, [], ◌∷◌, ◌++◌, Some, Option}
+use Rattle.std.specs.Prelude.{◌≡◌, ◌≢◌, ◌⊎◌, ℕ, ◌+◌, ◌*◌, ◌%◌, ◌^◌, ◌≤◌, ◌<◌, length, List, [], ◌∷◌, ◌++◌, Some, Option}
 use Rattle.std.specs.Prelude.{Bool, true, false}
-use Rattle.std.specs.Prelude.{option_to_list}
+use Rattle.std.specs.Prelude.{Contains, option_to_list}
+use Rattle.serial_model.specs.declared.key.Key.{Key}
 use Rattle.serial_model.specs.declared.op.Op.{Op}
 use Rattle.serial_model.specs.declared.reply.Reply.{Reply}
 use Rattle.serial_model.specs.declared.reply.Verdict.{Verdict}
 use Rattle.serial_model.specs.declared.reply.Verdict.TheVariants.{Done, Short, Over}
 use Rattle.serial_model.specs.Numbers.{draw_limit}
 use Rattle.tx_sets.specs.declared.sets.Sets.{Sets}
+use Rattle.tx_sets.specs.Entries.{has_read, has_write}
 use Rattle.engine_words.specs.declared.view.Refused.{Refused}
 use Rattle.engine_words.specs.declared.view.Refused.TheVariants as refusals
 use Rattle.engine_words.specs.declared.view.View.{View}
 use Rattle.engine_words.specs.Layout.{clock_at}
-use Rattle.engine_words.specs.Steps.{glance}
+use Rattle.engine_words.specs.Steps.{glance, IsKeyAt}
 use Rattle.tx_commit.specs.Live.{IsLive}
-use Rattle.tx_commit.specs.Turning.{HasDone, HasStopped, HasLoaded}
+use Rattle.tx_commit.specs.Turning.{HasDone, HasStopped, HasLoaded, IsOfKey}
 use Rattle.tx_commit.specs.Running.{HasRun, HasEnded}
-use Rattle.tx_runner.specs.Tries.{HasDrawsLeft, HasTriedFor}
+use Rattle.tx_runner.specs.Tries.{HasDrawsLeft, HasTriedFor, IsConflicting, IsKeyOf, IsWrittenBy, Lost}
+use Rattle.tx_runner.specs.Tries.{ToClock, ToOther, why_of}
 
 -- ---- operations
 
@@ -48,6 +51,11 @@ HasRunTo ops Done replies sets w = HasRun ops replies sets w
 HasRunTo ops Short replies sets w = HasEnded ops Short replies w
 HasRunTo ops Over replies sets w = HasEnded ops Over replies w
 
+-- what the transaction has read are keys of the operations, and what it has written are keys that they may write
+pub record AreKeysOf (ops : List Op) (sets : Sets) : Type 0 where
+  pub reads : (k : Key) → has_read k sets.reads ≡ true → IsKeyOf ops k
+  pub writes : (k : Key) → has_write k sets.writes ≡ true → IsWrittenBy ops k
+
 -- and is still under way, with nothing new but loads and parts
 pub record HasAnsweredAll (ops : List Op) (verdict : Verdict) (replies : List Reply) (sets : Sets) (v w : View)
     : Type 0 where
@@ -56,28 +64,36 @@ pub record HasAnsweredAll (ops : List Op) (verdict : Verdict) (replies : List Re
   pub sized : AreWithin (length ops) sets
   pub steps : w.steps ≤ v.steps + 4 * length ops
   pub run : HasRunTo ops verdict replies sets w
+  pub keys : AreKeysOf ops sets
 
--- an operation is refused for a conflict alone: 16 operations fill no set
-abbrev pub IsOpCause : Refused → Type 0
-IsOpCause (refusals.Conflict at expected seen) = (2 ^ 60 ≤ seen) ⊎ (seen ≢ expected)
-IsOpCause (refusals.Wide set) = ⊥
-IsOpCause (refusals.NumberLimit clock) = ⊥
+-- An operation is refused for a conflict alone, at the record of its key: 16 operations fill no set. Nothing was locked.
+abbrev pub IsOpCause : Op → Refused → View → View → Type 0
+IsOpCause op (refusals.Conflict at expected seen) v w = ((2 ^ 60 ≤ seen) ⊎ ((expected < 2 ^ 60) × (seen ≢ expected)))
+    × (k : Key) × IsOfKey op k × IsKeyAt v k at × (w.touched ≡ v.touched)
+IsOpCause op (refusals.Wide set) v w = ⊥
+IsOpCause op (refusals.NumberLimit clock) v w = ⊥
+
+-- the same of one of these operations
+pub record IsCauseAmong (ops : List Op) (why : Refused) (v w : View) : Type 0 where
+  pub op : Op
+  pub among : Contains ops op
+  pub cause : IsOpCause op why v w
 
 -- ---- tries
 
--- The cause of a refusal: a conflict of a try that began, or the clock, which was loaded last; then no number was
--- drawn.
-abbrev pub IsTryCause : Refused → View → View → Type 0
-IsTryCause (refusals.Conflict at expected seen) v w = ((2 ^ 60 ≤ seen) ⊎ (seen ≢ expected)) × HasDrawsLeft v
-IsTryCause (refusals.Wide set) v w = ⊥
-IsTryCause (refusals.NumberLimit clock) v w =
-    (draw_limit ≤ clock % 2 ^ 40) × (clock % 2 ^ 40 ≡ v.layout.first.draw + length w.history) × (w.draws ≡ v.draws)
+-- The cause of a refusal: a conflict of a try that began, or the clock, which was loaded last.
+abbrev pub IsTryCause : List Op → Lost → View → View → Type 0
+IsTryCause ops (ToOther clash) v w = IsConflicting clash.why × IsKeyOf ops clash.key × HasDrawsLeft v
+IsTryCause ops (ToClock clock) v w =
+    (draw_limit ≤ clock % 2 ^ 40) × (clock % 2 ^ 40 ≡ v.layout.first.draw + length w.history)
     × (step : ℕ) × (w.last ≡ Some (glance step clock_at clock))
 
 -- the try was refused for this
-pub record RefusesTry (why : Refused) (v w : View) : Type 0 where
-  pub tried : HasTriedFor (why ∷ []) v w
-  pub cause : IsTryCause why v w
+pub record RefusesTry (ops : List Op) (why : Refused) (v w : View) : Type 0 where
+  pub lost : Lost
+  pub is : why_of lost ≡ why
+  pub tried : HasTriedFor ops (lost ∷ []) v w
+  pub cause : IsTryCause ops lost v w
 
 -- the try was refused by the clock
 abbrev pub is_limit : Refused → Bool

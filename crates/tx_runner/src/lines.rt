@@ -11,6 +11,7 @@ use crate::LineRoom;
 use crate::tries::try_line;
 use engine_words::{Engine, Pass, Refused};
 use serial_model::{Op, Verdict};
+use std::thread::yield_now;
 use tx_commit::Txn;
 
 /// What came of a line.
@@ -25,7 +26,7 @@ pub enum LineEnd {
 }
 
 /// Runs a line of 16 operations at most, which fill no set of a transaction, and runs it again after each conflict, up
-/// to so many tries.
+/// to so many tries. Between two tries other threads may go first.
 pub fn run_line(
     engine: &Engine,
     pass: &mut Pass,
@@ -54,6 +55,9 @@ pub fn run_line(
             }
         }
         tried += 1;
+        // Whoever is in the way may have lost its core while it holds a lock, and all tries would be over before it is
+        // back.
+        yield_now();
     }
     LineEnd::Conflict
 }

@@ -8,7 +8,7 @@ ghost use Rattle.tx_commit.specs.Refusing.{HasRefused};
 ghost use Rattle.tx_commit.specs.Running.{HasRun};
 ghost use Rattle.tx_runner.specs.Lines.{keeps, try_steps, IsOnArray};
 ghost use Rattle.tx_runner.specs.LineEnds.{HasCommittedLine};
-ghost use Rattle.tx_runner.specs.Steps.{AreWithin, HasAnswered, HasAnsweredAll, IsOpCause, RefusesTry};
+ghost use Rattle.tx_runner.specs.Steps.{AreWithin, HasAnswered, HasAnsweredAll, IsCauseAmong, IsOpCause, RefusesTry};
 
 use crate::{LineReplies, LineRoom};
 use engine_words::{Engine, Pass, Refused};
@@ -30,7 +30,7 @@ pub(crate) fn try_line(
     ensures of { IsPassOf engine.now pass.new }
     ensures commits { IfOk result (λ verdict. HasCommittedLine ops.now 1 verdict room.new.replies room.new.commit
         (view pass.old) (view pass.new)) }
-    ensures refused { IfErr result (λ why. RefusesTry why (view pass.old) (view pass.new)) }
+    ensures refused { IfErr result (λ why. RefusesTry ops.now why (view pass.old) (view pass.new)) }
     ensures steps { (view pass.new).steps ≤ (view pass.old).steps + try_steps (length ops.now) }
 {
     room.replies.clear();
@@ -69,7 +69,7 @@ fn run_ops(
     ensures answers { IfOk result (λ verdict. HasAnsweredAll ops.now verdict replies.new txn.new.sets
         (view pass.old) (view pass.new)) }
     ensures refused { IfErr result (λ why. HasRefused why (view pass.old) (view pass.new)) }
-    ensures cause { IfErr result IsOpCause }
+    ensures cause { IfErr result (λ why. IsCauseAmong ops.now why (view pass.old) (view pass.new)) }
     ensures steps { (view pass.new).steps ≤ (view pass.old).steps + 4 * length ops.now }
 {
     let mut done = 0;
@@ -100,7 +100,7 @@ fn run_op(
     ensures answers { IfOk result (λ verdict. HasAnswered op verdict replies.old replies.new txn.old.sets txn.new.sets
         (view pass.old) (view pass.new)) }
     ensures refused { IfErr result (λ why. HasRefused why (view pass.old) (view pass.new)) }
-    ensures cause { IfErr result IsOpCause }
+    ensures cause { IfErr result (λ why. IsOpCause op why (view pass.old) (view pass.new)) }
     ensures steps { (view pass.new).steps ≤ (view pass.old).steps + 4 }
 {
     match op {

@@ -10,7 +10,7 @@ pub loop-tried-init : goal.loop-tried-init
 loop-tried-init c = record {
   of = c.requires.of;
   within = omega arith;
-  conflicted = none_tried (view c.args.pass.now) c.requires.over;
+  conflicted = none_tried c.args.ops.now (view c.args.pass.now) c.requires.over;
   steps = omega arith;
 }
 
@@ -29,7 +29,7 @@ returns-in-Ok-clause-runs c =
 
 pub returns-then-is_limit-clause-runs : goal.returns-then-is_limit-clause-runs
 returns-then-is_limit-clause-runs c =
-    line_limited c.loop-tried.tried c.args.tries c.in-Err.why (view c.args.pass.now) (view c.loop-tried.pass)
+    line_limited c.args.ops.now c.loop-tried.tried c.args.tries c.in-Err.why (view c.args.pass.now) (view c.loop-tried.pass)
     (view c.try_line.new.pass) c.loop-tried-test.true c.loop-tried.invariant.conflicted c.in-Err.ensures.refused
     (sym c.is_limit.ensures ∙ c.if-is_limit.true)
 
@@ -37,7 +37,7 @@ pub loop-tried-preserved : goal.loop-tried-preserved
 loop-tried-preserved c = record {
   of = c.try_line.ensures.of;
   within = omega arith;
-  conflicted = conflicted_more c.loop-tried.tried c.in-Err.why (view c.args.pass.now) (view c.loop-tried.pass)
+  conflicted = conflicted_more c.args.ops.now c.loop-tried.tried c.in-Err.why (view c.args.pass.now) (view c.loop-tried.pass)
       (view c.try_line.new.pass) c.loop-tried.invariant.conflicted c.in-Err.ensures.refused
       (sym c.is_limit.ensures ∙ c.if-is_limit.false);
   steps = tries_steps c.loop-tried.tried (try_steps (length c.args.ops.now)) (view c.args.pass.now).steps
@@ -46,7 +46,7 @@ loop-tried-preserved c = record {
 }
 
 pub returns-clause-runs : goal.returns-clause-runs
-returns-clause-runs c = all_tried c.loop-tried.tried c.args.tries (view c.args.pass.now) (view c.loop-tried.pass)
+returns-clause-runs c = all_tried c.args.ops.now c.loop-tried.tried c.args.tries (view c.args.pass.now) (view c.loop-tried.pass)
     c.loop-tried.invariant.within c.loop-tried-test.false c.loop-tried.invariant.conflicted
 
 pub returns-in-Ok-clause-steps : goal.returns-in-Ok-clause-steps

@@ -3,7 +3,7 @@ use Rattle.std.proofs.Common.{◌≡◌, arith}
 use Rattle.std.proofs.lemmas.Result.{err_from_is_err_and}
 use Rattle.engine_words.specs.Passes.{view}
 use Rattle.tx_runner.proofs.Answered.{run_none, run_on, run_ended, run_all, taken_all, loaded_array, kept_so}
-use Rattle.tx_runner.proofs.Answered.{dropped_so, within_more}
+use Rattle.tx_runner.proofs.Answered.{cause_among, dropped_so, within_more}
 use Rattle.tx_runner.proofs.Standing.{refused_since}
 use Rattle.tx_runner.proofs.tries.run_ops.Goals as goal
 
@@ -47,7 +47,9 @@ pub returns-in_err-verdict-clause-cause : goal.returns-in_err-verdict-clause-cau
 returns-in_err-verdict-clause-cause c =
     let p = err_from_is_err_and c.from_residual.result c.from_residual.ensures.1 in
     let told : c.from_residual.result ≡ Err c.in_err-verdict.field-0.0 = let a = p.1 in let b = p.2 in cc in
-    rw told c.in_err-verdict.ensures.cause
+    rw told (cause_among c.args.ops.now _ c.loop-done.done c.in_err-verdict.field-0.0 (view c.args.pass.now)
+    (view c.loop-done.pass) (view c.run_op.new.pass) c.loop-done-test.true c.loop-done.invariant.some.only
+    c.in_err-verdict.ensures.cause)
 
 pub returns-then-not-keeps-clause-answers : goal.returns-then-not-keeps-clause-answers
 returns-then-not-keeps-clause-answers c =

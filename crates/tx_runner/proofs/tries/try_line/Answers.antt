@@ -1,8 +1,11 @@
-use Rattle.std.proofs.Common.{ap, ◌∙◌, length, arith}
+use Rattle.std.specs.Prelude.{Err}
+use Rattle.std.proofs.Common.{◌≡◌, ap, ◌∙◌, length, arith}
+use Rattle.std.proofs.lemmas.Result.{err_from_is_err_and}
 use Rattle.engine_words.specs.Passes.{view}
 use Rattle.tx_commit.specs.Committing.{changes_of, kept_writes}
 use Rattle.tx_runner.proofs.Commits.{try_committed}
-use Rattle.tx_runner.proofs.Standing.{run_stands, begun_below, begun_steps, begun_arrays, try_took}
+use Rattle.tx_runner.proofs.Refusals.{begin_refused, commit_refused, op_refused}
+use Rattle.tx_runner.proofs.Standing.{begins_stands, run_stands, begun_below, begun_steps, begun_arrays, try_took}
 use Rattle.tx_runner.proofs.tries.try_line.Goals as goal
 
 pub returns-clause-commits : goal.returns-clause-commits
@@ -13,7 +16,7 @@ returns-clause-commits c =
     c.run_ops.new.txn.sets
     (view c.args.pass.now) (view c.run_ops.new.pass) (view c.commit.new.pass)
     (run_stands c.begin.new.self.sets (view c.args.pass.now) (view c.begin.new.pass) (view c.run_ops.new.pass)
-    c.in_ok-begin.ensures.begins a.only) a.run
+    c.in_ok-begin.ensures.begins a.only) a.keys a.run
     (c.in_ok-room.ensures.changes
     ∙ ap (λ b. changes_of (kept_writes b c.run_ops.new.txn.sets.writes)) c.keeps.ensures)
     c.in_ok-room.ensures.rising c.in_ok-room.ensures.few c.in_ok-room.ensures.commits
@@ -27,6 +30,13 @@ returns-clause-steps c =
     (begun_steps c.begin.new.self.sets (view c.args.pass.now) (view c.begin.new.pass) c.in_ok-begin.ensures.begins)
     a.steps a.sized (omega (arith, c.in_ok-room.ensures.steps))
 
+pub returns-in_err-begin-clause-refused : goal.returns-in_err-begin-clause-refused
+returns-in_err-begin-clause-refused c =
+    let p = err_from_is_err_and c.from_residual.result c.from_residual.ensures.1 in
+    let told : c.from_residual.result ≡ Err c.in_err-begin.field-0.0 = let a = p.1 in let b = p.2 in cc in
+    rw told (begin_refused c.args.ops.now c.in_err-begin.field-0.0 (view c.args.pass.now) (view c.begin.new.pass)
+    c.in_err-begin.ensures.refused)
+
 pub returns-in_err-begin-clause-steps : goal.returns-in_err-begin-clause-steps
 returns-in_err-begin-clause-steps c = let one = c.in_err-begin.ensures.refused.steps in omega (arith, one)
 
@@ -34,11 +44,36 @@ pub run_ops-requires-clause-arrays : goal.run_ops-requires-clause-arrays
 run_ops-requires-clause-arrays c = begun_arrays c.args.ops.now c.begin.new.self.sets (view c.args.pass.now)
     (view c.begin.new.pass) c.in_ok-begin.ensures.begins c.requires.arrays
 
+pub returns-in_err-verdict-clause-refused : goal.returns-in_err-verdict-clause-refused
+returns-in_err-verdict-clause-refused c =
+    let p = err_from_is_err_and c.from_residual-in_err-verdict.result c.from_residual-in_err-verdict.ensures.1 in
+    let told : c.from_residual-in_err-verdict.result ≡ Err c.in_err-verdict.field-0.0 =
+    let a = p.1 in let b = p.2 in cc in
+    rw told (op_refused c.args.ops.now c.in_err-verdict.field-0.0 (view c.args.pass.now) (view c.begin.new.pass)
+    (view c.run_ops.new.pass)
+    (begun_below c.begin.new.self.sets (view c.args.pass.now) (view c.begin.new.pass) c.in_ok-begin.ensures.begins)
+    (begins_stands c.begin.new.self.sets (view c.args.pass.now) (view c.begin.new.pass) c.in_ok-begin.ensures.begins)
+    c.in_err-verdict.ensures.refused c.in_err-verdict.ensures.cause)
+
 pub returns-in_err-verdict-clause-steps : goal.returns-in_err-verdict-clause-steps
 returns-in_err-verdict-clause-steps c =
     let one = begun_steps c.begin.new.self.sets (view c.args.pass.now) (view c.begin.new.pass)
     c.in_ok-begin.ensures.begins in
     omega (arith, one, c.run_ops.ensures.steps)
+
+pub returns-in_err-room-clause-refused : goal.returns-in_err-room-clause-refused
+returns-in_err-room-clause-refused c =
+    let a = c.in_ok-verdict.ensures.answers in
+    let p = err_from_is_err_and c.from_residual-in_err-room.result c.from_residual-in_err-room.ensures.1 in
+    let told : c.from_residual-in_err-room.result ≡ Err c.in_err-room.field-0.0 =
+    let a = p.1 in let b = p.2 in cc in
+    rw told (commit_refused c.args.ops.now c.in_err-room.field-0.0 c.run_ops.new.txn.sets c.keeps.result
+    (view c.args.pass.now)
+    (view c.run_ops.new.pass) (view c.commit.new.pass)
+    (begun_below c.begin.new.self.sets (view c.args.pass.now) (view c.begin.new.pass) c.in_ok-begin.ensures.begins)
+    (run_stands c.begin.new.self.sets (view c.args.pass.now) (view c.begin.new.pass) (view c.run_ops.new.pass)
+    c.in_ok-begin.ensures.begins a.only) a.keys
+    c.in_err-room.ensures.refused c.in_err-room.ensures.cause)
 
 pub returns-in_err-room-clause-steps : goal.returns-in_err-room-clause-steps
 returns-in_err-room-clause-steps c =

@@ -5,17 +5,25 @@
 //! transaction stands is answered `Wrong`, and is not made (`AreWorkers`). So tests ask for nothing, and are proved in
 //! seconds.
 //! Terms: *call*, what a worker is asked for; *phase*, where its transaction stands; *hold*, to lock key 0 by hand.
-//! It stands above the crates that it tests, because a crate with tests is proved a second time.
+//! It stands above the crates that it tests, because a crate with tests is proved a second time; and all but the types
+//! that its definitions speak of is for tests alone, so that without them there is next to nothing to prove.
 //! Design: docs/COMMIT.md.
 #![tactic(auto)]
 
+#[cfg(test)]
 mod one_key;
+#[cfg(test)]
+mod plays;
+#[cfg(test)]
 mod seating;
-mod worker;
-mod workers;
-
-pub use worker::{Answer, Call, Phase, Work, Worker};
-pub use workers::Workers;
-
 #[cfg(test)]
 mod tests;
+mod worker;
+#[cfg(test)]
+mod workers;
+
+#[cfg(test)]
+pub use plays::{Answer, Call, Work};
+pub use worker::{Phase, Worker};
+#[cfg(test)]
+pub use workers::Workers;

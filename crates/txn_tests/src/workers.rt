@@ -2,6 +2,7 @@
 ghost use Rattle.std.specs.List.{AllByRecursion};
 ghost use Rattle.txn_tests.specs.Standing.{IsKeeper, Stands};
 
+use crate::plays::repeat;
 use crate::seating::{new_engine, seat_next};
 use crate::{Answer, Call, Phase, Work, Worker};
 use engine_words::{Engine, Pass, audit, end};
@@ -58,7 +59,7 @@ impl Workers {
         if worker >= self.workers.len() {
             return;
         }
-        self.workers[worker].repeat(&self.engine, work, rounds);
+        repeat(&mut self.workers[worker], &self.engine, work, rounds);
     }
 
     /// Each worker adds to two keys so many times, in a thread of its own: to keys of its own, or all to 0 and 1.
@@ -128,7 +129,7 @@ fn add_all<R: Threads + Sync>(
         &|i: usize, worker: &mut Worker|
             requires { Stands engine.now worker.now }
             ensures { Stands engine.entry.now worker.exit.now }
-        { worker.repeat(engine, Work::AddTwo(first_of(i, apart)), rounds) },
+        { repeat(worker, engine, Work::AddTwo(first_of(i, apart)), rounds) },
     );
 }
 

@@ -1,5 +1,0 @@
-use Rattle.txn_tests.specs.Standing.{Stands}
-use Rattle.txn_tests.proofs.worker.Worker.repeat.Given as goal
-
-abbrev pub invariant-loop : goal.invariant-loop
-invariant-loop l = Stands l.engine l.self

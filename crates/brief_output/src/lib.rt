@@ -14,6 +14,3 @@ mod total;
 pub use print::put_brief;
 pub use tally::Tally;
 pub use total::total_of;
-
-#[cfg(test)]
-mod tests;

@@ -12,6 +12,3 @@ mod make;
 
 pub use law::made_is_a_script;
 pub use make::{make_script, put_script};
-
-#[cfg(test)]
-mod tests;

@@ -1,9 +1,10 @@
--- How many numbers a round draws, and how many lines a script's text has; and the laws that a line is refused a number
--- only where the draws are used up, and that with few tries a line no script comes to that.
+-- How many numbers a round draws: one for each commit, and one for each try that was refused behind its draw. And how
+-- many lines a script's text has; and the laws that a round draws no more numbers than its lines have tries, that a line
+-- is refused a number only where the draws are used up, and that with few tries a line no script comes to that.
 use Rattle.std.specs.Prelude.{◌≡◌, ◌⊎◌, ◌≤◌, ◌<◌, ◌+◌, ◌-◌, ◌*◌, ◌==◌, ◌||◌, ℕ, Bool, true, false, Option}
-use Rattle.std.specs.Prelude.{List, [], ◌∷◌, ◌++◌, length, map, filter, sum_by, codes, nat_lt, Contains, ⊤}
+use Rattle.std.specs.Prelude.{List, [], ◌∷◌, ◌++◌, length, map, filter, sum_by, codes, cond, nat_lt, Contains, ⊤}
 use Rattle.std.specs.List.{AllByRecursion, list_any, slice_split}
-use Rattle.std.proofs.Common.{refl, ap, inl, inr, arith, length-append}
+use Rattle.std.proofs.Common.{refl, ap, ◌∙◌, inl, inr, arith, length-append}
 use Rattle.std.proofs.lemmas.List.{length-map}
 use Rattle.std.proofs.lemmas.List.Sums.{sum_by-cons, count_by-le-length, length-filter}
 use Rattle.std.proofs.lemmas.List.Splits.{length-slice_split}
@@ -19,15 +20,34 @@ use Rattle.tx_script.specs.declared.outcome.Outcome.{Outcome}
 use Rattle.tx_script.specs.declared.outcome.Outcome.TheVariants.{Committed, Conflict, Full, Wide, Limit, Unrun}
 use Rattle.tx_script.specs.Causes.{AllCaused, WorkersCaused}
 use Rattle.tx_script.specs.Counts.{total, total-worker_lines}
-use Rattle.tx_script.specs.Run.{LogRefusal, Ran, AreOfFirst, IsOfRound, IsScriptRun, OneForEach, RunsClocks, TryRefusal}
-use Rattle.tx_script.specs.Run.{clock_after, is_commit, is_limit, joined}
-use Rattle.tx_script.specs.Tries.{AllCome}
+use Rattle.tx_script.specs.Run.{AreOfFirst, InConflict, IsOfRound, IsScriptRun, LogRefusal, NoNumber, OneForEach, Ran}
+use Rattle.tx_script.specs.Run.{RunsClocks, TryRefusal, clock_after, is_commit, is_limit, joined}
+use Rattle.tx_script.specs.Tries.{AllCome, ComesTo}
 
 -- how many of the outcomes are commits
 abbrev pub commits_of : List (List Outcome) → ℕ
 commits_of = sum_by (λ outcomes. length (filter is_commit outcomes))
 
--- A number was drawn for each commit of the round, and none besides: no line was tried twice.
+-- 1 for a try that was refused behind its draw
+abbrev pub drew_by : TryRefusal → ℕ
+drew_by (InConflict met) = cond met.drew 1 0
+drew_by NoNumber = 0
+
+-- how many numbers were drawn for tries of a line that were refused, of a worker's lines, and of all lines
+abbrev pub lost_of_line : List TryRefusal → ℕ
+lost_of_line refusals = sum_by drew_by refusals
+
+abbrev pub lost_of_lines : List (List TryRefusal) → ℕ
+lost_of_lines refused = sum_by lost_of_line refused
+
+abbrev pub lost_of : List (List (List TryRefusal)) → ℕ
+lost_of refused = sum_by lost_of_lines refused
+
+-- Each number of the round was drawn for one of its commits, or for a try that was refused behind its draw.
+abbrev pub DrawsAreCounted : Ran → Type 0
+DrawsAreCounted ran = ran.end.draw ≡ ran.begin.draw + commits_of ran.outcomes + lost_of ran.refused
+
+-- A number was drawn for each commit of the round, and none besides.
 abbrev pub DrawsOnce : Ran → Type 0
 DrawsOnce ran = ran.end.draw ≡ ran.begin.draw + commits_of ran.outcomes
 
@@ -48,10 +68,133 @@ IsPlain Limit = ⊤
 IsPlain Unrun = ⊤
 IsPlain _ = ⊥
 
+-- no try met another transaction
+abbrev pub IsAlone : TryRefusal → Type 0
+IsAlone (InConflict met) = ⊥
+IsAlone NoNumber = ⊤
+
+-- so it is of each line of the round, and of each of its tries
+pub record RunsPlainly (ran : Ran) : Type 0 where
+  pub plain : AllByRecursion (AllByRecursion IsPlain) ran.outcomes
+  pub alone : AllByRecursion (AllByRecursion (AllByRecursion IsAlone)) ran.refused
+
 -- so it is of each line of the round, and each number that was drawn is a commit's
 pub record RunsOnce (ran : Ran) : Type 0 where
   pub once : DrawsOnce ran
   pub plain : AllByRecursion (AllByRecursion IsPlain) ran.outcomes
+
+-- ---- what a round draws
+
+lost_none : (refusals : List TryRefusal) → AllByRecursion IsAlone refusals → lost_of_line refusals ≡ 0
+lost_none [] all = refl
+lost_none (InConflict met ∷ more) all = absurd all.0
+lost_none (NoNumber ∷ more) all = omega (arith, sum_by-cons drew_by NoNumber more, lost_none more all.1)
+
+lost_no_lines : (refused : List (List TryRefusal)) → AllByRecursion (AllByRecursion IsAlone) refused
+    → lost_of_lines refused ≡ 0
+lost_no_lines [] all = refl
+lost_no_lines (refusals ∷ more) all =
+    omega (arith, sum_by-cons lost_of_line refusals more, lost_none refusals all.0, lost_no_lines more all.1)
+
+-- nothing was drawn for tries that met nobody
+pub lost_nothing : (refused : List (List (List TryRefusal)))
+    → AllByRecursion (AllByRecursion (AllByRecursion IsAlone)) refused → lost_of refused ≡ 0
+lost_nothing [] all = refl
+lost_nothing (mine ∷ more) all =
+    omega (arith, sum_by-cons lost_of_lines mine more, lost_no_lines mine all.0, lost_nothing more all.1)
+
+-- A round in which no try met another transaction drew a number for each commit, and none besides.
+pub counted_once : (ran : Ran) → DrawsAreCounted ran → RunsPlainly ran → RunsOnce ran
+counted_once ran counted plainly = record {
+  once = omega (arith, counted, lost_nothing ran.refused plainly.alone);
+  plain = plainly.plain;
+}
+
+drew_at_most_one : (refusal : TryRefusal) → drew_by refusal ≤ 1
+drew_at_most_one (InConflict met) = one met.drew
+  where
+    one : (b : Bool) → cond b 1 0 ≤ 1
+    one true = omega arith
+    one false = omega arith
+drew_at_most_one NoNumber = omega arith
+
+lost_few : (refusals : List TryRefusal) → lost_of_line refusals ≤ length refusals
+lost_few [] = omega arith
+lost_few (refusal ∷ more) =
+    omega (arith, sum_by-cons drew_by refusal more, drew_at_most_one refusal, lost_few more)
+
+-- a line with its commit draws no more numbers than it has tries
+line_within : (first last tries : ℕ) (log : Option LogRefusal) (outcome : Outcome) (refusals : List TryRefusal)
+    → ComesTo first last tries log outcome refusals → cond (is_commit outcome) 1 0 + lost_of_line refusals ≤ tries
+line_within first last tries log (Committed verdict number replies) refusals come =
+    let fewer = come.3 in omega (arith, fewer, lost_few refusals)
+line_within first last tries log Conflict refusals come = let all = come.2 in omega (arith, all, lost_few refusals)
+line_within first last tries log Full refusals come = absurd come
+line_within first last tries log Wide refusals come = absurd come
+line_within first last tries log Limit refusals come =
+    let ends = come.0 in
+    let long : length refusals ≡ length ends.before + 1 = ap length ends.all ∙ length-append ends.before (NoNumber ∷ []) in
+    let fewer = ends.fewer in
+    omega (arith, long, fewer, lost_few refusals)
+line_within first last tries log Unrun refusals come =
+    let none : lost_of_line refusals ≡ 0 = ap lost_of_line come.0 in omega (arith, none)
+
+commits_in_line : (outcome : Outcome) (outcomes : List Outcome)
+    → length (filter is_commit (outcome ∷ outcomes)) ≡ cond (is_commit outcome) 1 0 + length (filter is_commit outcomes)
+commits_in_line outcome outcomes = by_test (is_commit outcome)
+  where
+    by_test : (b : Bool)
+        → length (cond b (outcome ∷ filter is_commit outcomes) (filter is_commit outcomes))
+        ≡ cond b 1 0 + length (filter is_commit outcomes)
+    by_test true = omega arith
+    by_test false = omega arith
+
+one_more_line : (tries n : ℕ) → tries * (n + 1) ≡ tries * n + tries
+one_more_line tries n = omega arith
+
+lines_within : (first last tries : ℕ) (log : Option LogRefusal) (outcomes : List Outcome)
+    (refused : List (List TryRefusal)) → AllCome first last tries log outcomes refused
+    → length (filter is_commit outcomes) + lost_of_lines refused ≤ tries * length outcomes
+lines_within first last tries log [] [] come = omega arith
+lines_within first last tries log [] (refusals ∷ more) come = absurd come
+lines_within first last tries log (outcome ∷ outcomes) [] come = absurd come
+lines_within first last tries log (outcome ∷ outcomes) (refusals ∷ more) come =
+    let rest = lines_within first last tries log outcomes more come.1 in
+    let here = line_within first last tries log outcome refusals come.0 in
+    let times = one_more_line tries (length outcomes) in
+    omega (arith, rest, here, times, sum_by-cons lost_of_line refusals more, commits_in_line outcome outcomes)
+
+tries_add : (tries m n : ℕ) → tries * (m + n) ≡ tries * m + tries * n
+tries_add tries m n = omega arith
+
+workers_within : (ran : Ran) (logs : List (Option LogRefusal)) (outcomes : List (List Outcome))
+    (refused : List (List (List TryRefusal))) → WorkersCaused ran logs outcomes refused
+    → commits_of outcomes + lost_of refused ≤ ran.tries * sum_by length outcomes
+workers_within ran [] [] [] caused = omega arith
+workers_within ran [] [] (tried ∷ others) caused = absurd caused
+workers_within ran [] (mine ∷ more) refused caused = absurd caused
+workers_within ran (log ∷ logs) [] refused caused = absurd caused
+workers_within ran (log ∷ logs) (mine ∷ more) [] caused = absurd caused
+workers_within ran (log ∷ logs) (mine ∷ more) (tried ∷ others) caused =
+    let rest = workers_within ran logs more others caused.2 in
+    let here = lines_within ran.begin.draw ran.end.draw ran.tries log mine tried caused.0 in
+    let times = tries_add ran.tries (length mine) (sum_by length more) in
+    let whole : ran.tries * sum_by length (mine ∷ more) ≡ ran.tries * (length mine + sum_by length more) =
+    ap (λ (n : ℕ). ran.tries * n) (sum_by-cons length mine more) in
+    omega (
+      arith,
+      rest,
+      here,
+      times,
+      whole,
+      sum_by-cons lost_of_lines tried others,
+      sum_by-cons (λ (os : List Outcome). length (filter is_commit os)) mine more,
+    )
+
+-- So a round whose lines have their causes drew no more numbers than these have tries.
+pub counted_within : (ran : Ran) → AllCaused ran → DrawsAreCounted ran → DrawsWithin ran.tries ran
+counted_within ran caused counted =
+    omega (arith, counted, workers_within ran ran.logs ran.outcomes ran.refused caused.outcomes)
 
 -- ---- a round
 
@@ -126,9 +269,6 @@ few_outcomes ran round of =
 abbrev pub lines_in : List Round → ℕ
 lines_in [] = 0
 lines_in (round ∷ rounds) = length round.lines + lines_in rounds
-
-tries_add : (tries m n : ℕ) → tries * (m + n) ≡ tries * m + tries * n
-tries_add tries m n = omega arith
 
 more_tries : (tries m n : ℕ) → m ≤ n → tries * m ≤ tries * n
 more_tries tries m n le =

@@ -3,6 +3,7 @@ pub mod Tries
 pub mod Causes
 pub mod Counts
 pub mod Draws
+pub mod Conflicts
 pub mod Text
 pub mod Flat
 pub mod Room

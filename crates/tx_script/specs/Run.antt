@@ -8,6 +8,7 @@ use Rattle.lists.specs.Each.{all_at, all_weaker}
 use Rattle.serial_model.specs.Keys.{fits}
 use Rattle.serial_model.specs.State.{State}
 use Rattle.serial_model.specs.History.{Entry, InOrder, Rises, IsSerialRun, state_after_all}
+use Rattle.serial_model.specs.declared.key.Key.{Key}
 use Rattle.serial_model.specs.declared.op.Op.{Op}
 use Rattle.serial_model.specs.declared.decl.Decl.{Decl}
 use Rattle.serial_model.specs.declared.number.Number.{Number}
@@ -25,9 +26,14 @@ pub data LogRefusal : Type 0 where
   LogFailed : LogRefusal
   LogFull : ℕ → LogRefusal
 
+-- Where a try met another transaction: at this key, and `drew` where it had drawn its number by then.
+pub record Met : Type 0 where
+  pub key : Key
+  pub drew : Bool
+
 -- Why a try of a line was refused: another transaction was in its way, or no number was left for it.
 pub data TryRefusal : Type 0 where
-  InConflict : TryRefusal
+  InConflict : Met → TryRefusal
   NoNumber : TryRefusal
 
 -- The log files at the begin of a round: of each worker that of odd number grows, or that of even number; the other

@@ -8,12 +8,12 @@ use Rattle.tx_script.specs.Run.{LogRefusal, TryRefusal, InConflict, NoNumber}
 
 -- the refusal is a conflict
 abbrev pub is_conflict : TryRefusal → Bool
-is_conflict InConflict = true
+is_conflict (InConflict met) = true
 is_conflict NoNumber = false
 
 -- each try was refused with a conflict
 abbrev pub AreConflicts : List TryRefusal → Type 0
-AreConflicts refusals = AllByRecursion (λ refusal. refusal ≡ InConflict) refusals
+AreConflicts refusals = AllByRecursion (λ refusal. is_conflict refusal ≡ true) refusals
 
 -- Of a line's tries each was refused with a conflict, but for the last one, which was refused so. A conflict alone is
 -- tried again.

@@ -1,0 +1,123 @@
+-- Whom tries in conflict met: at a key of their line, another worker with a line of the same round that may change it.
+use Rattle.std.specs.Prelude.{◌≡◌, ◌≢◌, ◌+◌, ◌==◌, ◌&&◌, ℕ, Bool, true, false, List, [], ◌∷◌, nat_le, Contains, Some}
+use Rattle.std.specs.Prelude.{slice_get, ◌≤◌, Option, ⊤}
+use Rattle.std.specs.List.{AllByRecursion, list_any}
+use Rattle.std.proofs.Common.{arith, subst}
+use Rattle.lists.specs.Elements.{in_none}
+use Rattle.serial_model.specs.declared.key.Key.{Key}
+use Rattle.serial_model.specs.declared.op.Op.{Op}
+use Rattle.serial_model.specs.declared.op.Op.TheVariants.{Read, Write, Remove, Add, Take, Scan}
+use Rattle.script_grammar.specs.Script.{Round, worker_lines}
+use Rattle.tx_script.specs.Draws.{IsAlone}
+use Rattle.tx_script.specs.Run.{InConflict, LogRefusal, Met, NoNumber, Ran, TryRefusal}
+use Rattle.tx_script.specs.Tries.{ComesTo}
+use Rattle.tx_script.specs.declared.outcome.Outcome.TheVariants.{Conflict}
+
+-- ---- the keys of a line
+
+abbrev pub same_key : Key → Key → Bool
+same_key a b = (a.storage == b.storage) && (a.key == b.key)
+
+-- the operation touches the key
+abbrev pub touches_key : Key → Op → Bool
+touches_key k (Read q) = same_key q k
+touches_key k (Write q value) = same_key q k
+touches_key k (Remove q) = same_key q k
+touches_key k (Add q value) = same_key q k
+touches_key k (Take q value) = same_key q k
+touches_key k (Scan storage low high) = (storage == k.storage) && (nat_le low k.key && nat_le k.key high)
+
+-- the operation may change it
+abbrev pub changes_key : Key → Op → Bool
+changes_key k (Read q) = false
+changes_key k (Write q value) = same_key q k
+changes_key k (Remove q) = same_key q k
+changes_key k (Add q value) = same_key q k
+changes_key k (Take q value) = same_key q k
+changes_key k (Scan storage low high) = false
+
+-- a line touches it, and may change it
+abbrev pub touches : List Op → Key → Bool
+touches ops k = list_any (touches_key k) ops
+
+abbrev pub changes : List Op → Key → Bool
+changes ops k = list_any (changes_key k) ops
+
+-- ---- the law of conflicts
+
+-- The worker has a line in the round that may change the key.
+pub record ChangesIn (lines : List (List (List Op))) (worker : ℕ) (k : Key) : Type 0 where
+  pub mine : List (List Op)
+  pub at : slice_get lines worker ≡ Some mine
+  pub ops : List Op
+  pub among : Contains mine ops
+  pub changes : changes ops k ≡ true
+
+-- A try of a worker's line met another worker's, at a key that the line touches and that one may change.
+pub record IsMetBy (lines : List (List (List Op))) (worker : ℕ) (ops : List Op) (met : Met) : Type 0 where
+  pub key : touches ops met.key ≡ true
+  pub by : ℕ
+  pub other : by ≢ worker
+  pub changer : ChangesIn lines by met.key
+
+abbrev pub IsMet : List (List (List Op)) → ℕ → List Op → TryRefusal → Type 0
+IsMet lines worker ops (InConflict met) = IsMetBy lines worker ops met
+IsMet lines worker ops NoNumber = ⊤
+
+-- so it is of the tries of each line of a worker
+abbrev pub LinesMet : List (List (List Op)) → ℕ → List (List Op) → List (List TryRefusal) → Type 0
+LinesMet lines worker [] [] = ⊤
+LinesMet lines worker (ops ∷ mine) (refusals ∷ more) =
+    AllByRecursion (IsMet lines worker ops) refusals × LinesMet lines worker mine more
+LinesMet lines worker [] (refusals ∷ more) = ⊥
+LinesMet lines worker (ops ∷ mine) [] = ⊥
+
+-- and of each worker from this one on
+abbrev pub WorkersMet : List (List (List Op)) → ℕ → List (List (List Op)) → List (List (List TryRefusal)) → Type 0
+WorkersMet lines worker [] [] = ⊤
+WorkersMet lines worker (mine ∷ more) (refused ∷ others) =
+    LinesMet lines worker mine refused × WorkersMet lines (worker + 1) more others
+WorkersMet lines worker [] (refused ∷ others) = ⊥
+WorkersMet lines worker (mine ∷ more) [] = ⊥
+
+-- Each conflict of the round is with a line of another worker in it.
+pub record AreMet (ran : Ran) (round : Round) : Type 0 where
+  pub workers : WorkersMet (worker_lines round) 0 (worker_lines round) ran.refused
+
+-- ---- what is told
+
+-- A line that is told in conflict met a line of another worker.
+pub conflict_met : (lines : List (List (List Op))) (worker first last tries : ℕ) (log : Option LogRefusal) (ops : List Op)
+    (refusals : List TryRefusal) → 1 ≤ tries → ComesTo first last tries log Conflict refusals
+    → AllByRecursion (IsMet lines worker ops) refusals → (met : Met) × IsMetBy lines worker ops met
+conflict_met lines worker first last tries log ops [] some come all = absurd (let none = come.2 in omega (arith, some, none))
+conflict_met lines worker first last tries log ops (InConflict met ∷ more) some come all = (met, all.0)
+conflict_met lines worker first last tries log ops (NoNumber ∷ more) some come all = absurd (let no = come.1.0 in cc)
+
+-- ---- a worker by itself
+
+-- but for this worker nobody has a line
+abbrev pub IsByItself : List (List (List Op)) → ℕ → Type 0
+IsByItself lines worker =
+    (other : ℕ) (mine : List (List Op)) → other ≢ worker → slice_get lines other ≡ Some mine → mine ≡ []
+
+meets_nobody : (lines : List (List (List Op))) (worker : ℕ) (ops : List Op) (met : Met) → IsByItself lines worker
+    → IsMetBy lines worker ops met → ⊥
+meets_nobody lines worker ops met alone m =
+    let c = m.changer in
+    in_none c.ops (subst (λ (l : List (List Op)). Contains l c.ops) (alone m.by c.mine m.other c.at) c.among)
+
+no_try_met : (lines : List (List (List Op))) (worker : ℕ) (ops : List Op) (refusals : List TryRefusal)
+    → IsByItself lines worker → AllByRecursion (IsMet lines worker ops) refusals → AllByRecursion IsAlone refusals
+no_try_met lines worker ops [] alone all = tt
+no_try_met lines worker ops (InConflict met ∷ more) alone all = absurd (meets_nobody lines worker ops met alone all.0)
+no_try_met lines worker ops (NoNumber ∷ more) alone all = (tt, no_try_met lines worker ops more alone all.1)
+
+-- A worker that has a round to itself meets nobody.
+pub alone_met : (lines : List (List (List Op))) (worker : ℕ) (mine : List (List Op)) (refused : List (List TryRefusal))
+    → IsByItself lines worker → LinesMet lines worker mine refused → AllByRecursion (AllByRecursion IsAlone) refused
+alone_met lines worker [] [] alone all = tt
+alone_met lines worker [] (refusals ∷ more) alone all = absurd all
+alone_met lines worker (ops ∷ mine) [] alone all = absurd all
+alone_met lines worker (ops ∷ mine) (refusals ∷ more) alone all =
+    (no_try_met lines worker ops refusals alone all.0, alone_met lines worker mine more alone all.1)

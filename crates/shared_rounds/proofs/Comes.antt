@@ -10,11 +10,9 @@ use Rattle.serial_model.specs.declared.number.Number.{Number}
 use Rattle.serial_model.specs.declared.op.Op.{Op}
 use Rattle.serial_model.specs.Numbers.{draw_limit}
 use Rattle.engine_words.specs.declared.layout.Layout.{Layout}
-use Rattle.engine_words.specs.declared.view.Refused.{Refused}
-use Rattle.engine_words.specs.declared.view.Refused.TheVariants as refusals
 use Rattle.engine_words.specs.declared.view.View.{View}
 use Rattle.engine_words.specs.Cuts.{HasSeen}
-use Rattle.tx_runner.specs.Tries.{IsConflicting}
+use Rattle.tx_runner.specs.Tries.{IsClash, Lost, ToClock, ToOther}
 use Rattle.tx_script.specs.Causes.{UnrunLast, is_unrun}
 use Rattle.tx_script.specs.Run.{LogRefusal, NoNumber}
 use Rattle.tx_script.specs.declared.outcome.Outcome.{Outcome}
@@ -26,24 +24,23 @@ use Rattle.shared_rounds.proofs.Made.{seen_then}
 
 -- ---- one line
 
-refused_so : (whys : List Refused) → AllByRecursion IsConflicting whys → AreConflicts (map try_refusal whys)
-refused_so [] each = tt
-refused_so (refusals.Conflict at expected seen ∷ whys) each = (refl, refused_so whys each.1)
-refused_so (refusals.Wide set ∷ whys) each = absurd each.0
-refused_so (refusals.NumberLimit clock ∷ whys) each = absurd each.0
+refused_so : (ops : List Op) (losts : List Lost) → AllByRecursion (IsClash ops) losts → AreConflicts (map try_refusal losts)
+refused_so ops [] each = tt
+refused_so ops (ToOther clash ∷ losts) each = (refl, refused_so ops losts each.1)
+refused_so ops (ToClock clock ∷ losts) each = absurd each.0
 
-as_many : (whys : List Refused) → length (map try_refusal whys) ≡ length whys
+as_many : (losts : List Lost) → length (map try_refusal losts) ≡ length losts
 as_many [] = refl
-as_many (why ∷ whys) = ap suc (as_many whys)
+as_many (lost ∷ losts) = ap suc (as_many losts)
 
-refused_last : (whys : List Refused) (why : Refused)
-    → map try_refusal (whys ++ why ∷ []) ≡ map try_refusal whys ++ try_refusal why ∷ []
-refused_last [] why = refl
-refused_last (first ∷ whys) why = ap (λ l. try_refusal first ∷ l) (refused_last whys why)
+refused_last : (losts : List Lost) (last : Lost)
+    → map try_refusal (losts ++ last ∷ []) ≡ map try_refusal losts ++ try_refusal last ∷ []
+refused_last [] last = refl
+refused_last (first ∷ losts) last = ap (λ l. try_refusal first ∷ l) (refused_last losts last)
 
 -- what comes of a line, where the draws end at this one
 pub line_comes : (first tries last : ℕ) (log : Option LogRefusal) (ops : List Op) (outcome : Outcome)
-    (refused : List Refused)
+    (refused : List Lost)
     (logged : Option Commit) (v w : View) → 1 ≤ tries → first ≤ v.layout.first.draw + length v.history
     → v.layout.first.draw + length w.history ≤ last
     → ComesOf tries ops outcome refused logged v w → ComesTo first last tries log outcome (map try_refusal refused)
@@ -53,20 +50,20 @@ line_comes first tries last log ops (Committed verdict number replies) refused l
     let small : number.draw < 2 ^ 40 = subst (λ (n : Number). n.draw < 2 ^ 40) comes.1 line.small.draw in
     subst (λ l. (first < draw_limit) × (number.draw < 2 ^ 40) × AreConflicts (map try_refusal l)
     × (length (map try_refusal l) < tries)) (sym comes.4)
-    (began, small, refused_so line.whys line.each, subst (λ n. n < tries) (sym (as_many line.whys)) line.fewer)
+    (began, small, refused_so ops line.losts line.each, subst (λ n. n < tries) (sym (as_many line.losts)) line.fewer)
 line_comes first tries last log ops Conflict refused logged v w some from below comes =
     let line = comes.1 in
     subst (λ l. (first < draw_limit) × AreConflicts (map try_refusal l) × (length (map try_refusal l) ≡ tries))
     (sym comes.2)
-    (omega (arith, line.began some, from), refused_so line.whys line.each, as_many line.whys ∙ line.count)
+    (omega (arith, line.began some, from), refused_so ops line.losts line.each, as_many line.losts ∙ line.count)
 line_comes first tries last log ops Limit refused logged v w some from below comes =
     let line = comes.1 in
     let so = line.refused in (
       subst (λ l. EndsWith tries NoNumber (map try_refusal l)) (sym comes.2) (record {
-        before = map try_refusal so.whys;
-        all = refused_last so.whys (refusals.NumberLimit line.clock);
-        conflicts = refused_so so.whys so.each;
-        fewer = subst (λ n. n < tries) (sym (as_many so.whys)) so.fewer;
+        before = map try_refusal so.losts;
+        all = refused_last so.losts (ToClock line.clock);
+        conflicts = refused_so ops so.losts so.each;
+        fewer = subst (λ n. n < tries) (sym (as_many so.losts)) so.fewer;
       }),
       omega (arith, line.high, line.draws, below),
     )
@@ -75,7 +72,7 @@ line_comes first tries last log ops Full refused logged v w some from below come
 line_comes first tries last log ops Unrun refused logged v w some from below comes = absurd comes
 
 -- what a line keeps of its pass
-line_seen : (tries : ℕ) (ops : List Op) (outcome : Outcome) (refused : List Refused) (logged : Option Commit)
+line_seen : (tries : ℕ) (ops : List Op) (outcome : Outcome) (refused : List Lost) (logged : Option Commit)
     (v w : View) → ComesOf tries ops outcome refused logged v w → HasSeen v w × (w.layout ≡ v.layout)
 line_seen tries ops (Committed verdict number replies) refused logged v w comes = (comes.3.seen, comes.3.layout)
 line_seen tries ops Conflict refused logged v w comes = (comes.1.tried.seen, comes.1.tried.layout)
@@ -132,7 +129,7 @@ left_last : (left : List (List Op)) → UnrunLast (unrun left)
 left_last [] = tt
 left_last (ops ∷ left) = left_all left
 
-line_last : (tries : ℕ) (ops : List Op) (outcome : Outcome) (refused : List Refused) (logged : Option Commit)
+line_last : (tries : ℕ) (ops : List Op) (outcome : Outcome) (refused : List Lost) (logged : Option Commit)
     (v w : View) (more : List Outcome) → ComesOf tries ops outcome refused logged v w → UnrunLast more
     → UnrunLast (outcome ∷ more)
 line_last tries ops (Committed verdict number replies) refused logged v w more comes rest = rest

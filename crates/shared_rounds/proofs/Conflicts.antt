@@ -1,17 +1,24 @@
 -- How many tries in conflict there are, as the keeper counts them and as shares tell them.
-use Rattle.std.proofs.Common.{◌≡◌, ◌∙◌, sym, ap, refl, ℕ, suc, ◌+◌, List, [], ◌∷◌, ◌++◌}
+use Rattle.std.proofs.Common.{◌≡◌, ◌∙◌, sym, ap, subst, refl, ℕ, suc, ◌+◌, true, cond, List, [], ◌∷◌, ◌++◌, Option}
 use Rattle.std.proofs.Common.{length, map, arith}
 use Rattle.std.proofs.Common.{length-append}
-use Rattle.std.specs.Prelude.{filter, sum_by}
+use Rattle.std.specs.Prelude.{filter, sum_by, ⊤}
+use Rattle.std.specs.List.{AllByRecursion}
+use Rattle.std.proofs.lemmas.List.{map-append}
 use Rattle.std.proofs.lemmas.List.Elements.{filter-append}
 use Rattle.std.proofs.lemmas.List.Sums.{sum_by-cons}
+use Rattle.lists.specs.Each.{all_push}
+use Rattle.serial_model.specs.declared.number.Commit.{Commit}
 use Rattle.serial_model.specs.declared.op.Op.{Op}
 use Rattle.engine_words.specs.declared.view.Refused.{Refused}
 use Rattle.engine_words.specs.declared.view.Refused.TheVariants as refusals
 use Rattle.engine_words.specs.declared.view.View.{View}
+use Rattle.tx_runner.specs.Tries.{IsClash, IsConflicting, IsKeyOf, Lost, ToClock, ToOther, why_of, whys_of}
 use Rattle.tx_script.specs.Run.{TryRefusal}
+use Rattle.tx_script.specs.declared.outcome.Outcome.{Outcome}
+use Rattle.tx_script.specs.declared.outcome.Outcome.TheVariants.{Committed, Conflict, Full, Wide, Limit, Unrun}
 use Rattle.worker_cells.specs.InARow.{row_refused}
-use Rattle.worker_cells.specs.Rows.{LineRan, refused_of}
+use Rattle.worker_cells.specs.Rows.{AreInARow, ComesOf, LineRan, refused_of}
 use Rattle.shared_rounds.specs.Parts.{IsPart, Part, no_tries, share_of, tries_of, try_refusal}
 use Rattle.shared_rounds.specs.SharedState.{conflicts_in, was_conflict}
 use Rattle.shared_rounds.specs.Shares.{Share, all_conflicts, conflicts_among}
@@ -21,30 +28,67 @@ conflicts_append xs ys =
     ap (λ (l : List Refused). length l) (filter-append was_conflict xs ys)
     ∙ length-append (filter was_conflict xs) (filter was_conflict ys)
 
-conflicts_same : (xs : List Refused) → conflicts_among (map try_refusal xs) ≡ conflicts_in xs
-conflicts_same [] = refl
-conflicts_same (refusals.Conflict at expected seen ∷ xs) = ap suc (conflicts_same xs)
-conflicts_same (refusals.Wide set ∷ xs) = conflicts_same xs
-conflicts_same (refusals.NumberLimit clock ∷ xs) = conflicts_same xs
+-- each try of a line that was lost to another transaction was refused with a conflict at a key of its
+abbrev pub IsLostOf : List Op → Lost → Type 0
+IsLostOf ops (ToOther clash) = IsConflicting clash.why × IsKeyOf ops clash.key
+IsLostOf ops (ToClock clock) = ⊤
+
+conflicting : (why : Refused) → IsConflicting why → was_conflict why ≡ true
+conflicting (refusals.Conflict at expected seen) is = refl
+conflicting (refusals.Wide set) is = absurd is
+conflicting (refusals.NumberLimit clock) is = absurd is
+
+clashes_lost : (ops : List Op) (losts : List Lost) → AllByRecursion (IsClash ops) losts → AllByRecursion (IsLostOf ops) losts
+clashes_lost ops [] each = tt
+clashes_lost ops (ToOther clash ∷ losts) each = (each.0, clashes_lost ops losts each.1)
+clashes_lost ops (ToClock clock ∷ losts) each = absurd each.0
+
+pub line_lost : (tries : ℕ) (ops : List Op) (outcome : Outcome) (refused : List Lost) (logged : Option Commit) (v w : View)
+    → ComesOf tries ops outcome refused logged v w → AllByRecursion (IsLostOf ops) refused
+line_lost tries ops (Committed verdict number replies) refused logged v w comes =
+    subst (AllByRecursion (IsLostOf ops)) (sym comes.4) (clashes_lost ops comes.3.losts comes.3.each)
+line_lost tries ops Conflict refused logged v w comes =
+    subst (AllByRecursion (IsLostOf ops)) (sym comes.2) (clashes_lost ops comes.1.losts comes.1.each)
+line_lost tries ops Limit refused logged v w comes =
+    subst (AllByRecursion (IsLostOf ops)) (sym comes.2)
+    (all_push (IsLostOf ops) comes.1.refused.losts (ToClock comes.1.clock)
+    (clashes_lost ops comes.1.refused.losts comes.1.refused.each) tt)
+line_lost tries ops Wide refused logged v w comes = absurd comes
+line_lost tries ops Full refused logged v w comes = absurd comes
+line_lost tries ops Unrun refused logged v w comes = absurd comes
+
+conflicts_same : (ops : List Op) (xs : List Lost) → AllByRecursion (IsLostOf ops) xs
+    → conflicts_among (map try_refusal xs) ≡ conflicts_in (whys_of xs)
+conflicts_same ops [] each = refl
+conflicts_same ops (ToOther clash ∷ xs) each =
+    ap suc (conflicts_same ops xs each.1)
+    ∙ sym (ap (λ b. length (cond b (clash.why ∷ filter was_conflict (whys_of xs)) (filter was_conflict (whys_of xs)))) (conflicting clash.why each.0.0))
+conflicts_same ops (ToClock clock ∷ xs) each = conflicts_same ops xs each.1
 
 none_tried : (left : List (List Op)) → sum_by conflicts_among (no_tries left) ≡ 0
 none_tried [] = refl
 none_tried (ops ∷ left) = omega (arith, sum_by-cons conflicts_among [] (no_tries left), none_tried left)
 
-row_conflicts : (ran : List LineRan) (left : List (List Op))
-    → sum_by conflicts_among (tries_of ran ++ no_tries left) ≡ conflicts_in (refused_of ran)
-row_conflicts [] left = none_tried left
-row_conflicts (r ∷ more) left =
+row_conflicts : (tries : ℕ) (v : View) (ran : List LineRan) (left : List (List Op)) (w : View)
+    → AreInARow tries v ran w
+    → sum_by conflicts_among (tries_of ran ++ no_tries left) ≡ conflicts_in (whys_of (refused_of ran))
+row_conflicts tries v [] left w row = none_tried left
+row_conflicts tries v (r ∷ more) left w row =
     sum_by-cons conflicts_among (map try_refusal r.refused) (tries_of more ++ no_tries left)
-    ∙ omega (arith, conflicts_same r.refused, row_conflicts more left)
-    ∙ sym (conflicts_append r.refused (refused_of more))
+    ∙ omega (
+      arith,
+      conflicts_same r.ops r.refused (line_lost tries r.ops r.outcome r.refused r.logged r.before r.after row.1),
+      row_conflicts tries r.after more left w row.2,
+    )
+    ∙ sym (conflicts_append (whys_of r.refused) (whys_of (refused_of more)))
+    ∙ ap conflicts_in (sym (map-append why_of r.refused (refused_of more)))
 
 part_conflicts : (tries : ℕ) (was ended : View) (worker : ℕ) (p : Part) → IsPart tries was ended worker p
     → conflicts_in p.to.refused ≡ sum_by conflicts_among (share_of p).tries_refused
 part_conflicts tries was ended worker p part =
     ap conflicts_in (row_refused tries p.from p.ran p.to part.row
-    ∙ ap (λ (v : View). v.refused ++ refused_of p.ran) part.seated)
-    ∙ sym (row_conflicts p.ran p.left)
+    ∙ ap (λ (v : View). v.refused ++ whys_of (refused_of p.ran)) part.seated)
+    ∙ sym (row_conflicts tries p.from p.ran p.left p.to part.row)
 
 push_conflicts : (parts : List Part) (p : Part)
     → all_conflicts (map (λ (share : Share). share.tries_refused) (map share_of (parts ++ p ∷ [])))

@@ -2,12 +2,15 @@
 use Rattle.std.proofs.Common.{◌≡◌, ◌∙◌, sym, ap, subst, refl, ℕ, suc, zero, ◌+◌, ◌-◌, ◌<◌, List}
 use Rattle.std.proofs.Common.{[], ◌∷◌, ◌++◌}
 use Rattle.std.proofs.Common.{append-nil, append_assoc, length, length-append, map, arith}
-use Rattle.std.proofs.Common.{Option, Some, inl, inr, mul-add, ◌⊎◌, ◌*◌}
+use Rattle.std.proofs.Common.{Option, Some, inl, inr, ◌⊎◌}
 use Rattle.std.specs.Prelude.{get_or, ◌==◌, slice_get, slice_set}
 use Rattle.std.proofs.lemmas.Bool.{cases_order, cond-false, cond-true}
 use Rattle.std.proofs.lemmas.Bool.Decides.{nat_tests}
 use Rattle.std.proofs.lemmas.List.Sums.{sum_by_push}
+use Rattle.std.specs.List.{Contains}
+use Rattle.std.proofs.lemmas.List.Elements.{Contains-append_left, Contains-append_right}
 use Rattle.std.proofs.lemmas.Option.{same_Some}
+use Rattle.lists.specs.Elements.{at_push_new, in_none}
 use Rattle.script_grammar.specs.Script.{Round, lines_of_worker}
 use Rattle.commit_core.specs.declared.attempt.Attempt.{Attempt}
 use Rattle.commit_core.specs.declared.seat.Seat.{Seat}
@@ -15,23 +18,26 @@ use Rattle.views.specs.Sums.{without}
 use Rattle.engine_words.specs.Cuts.{HasSeen, ended, gathered, worker_of}
 use Rattle.engine_words.specs.Gathered.{gathered_all}
 use Rattle.engine_words.specs.Steps.{HasTimed}
-use Rattle.engine_words.specs.Views.{IsResting, bare_seat}
+use Rattle.engine_words.specs.Views.{IsResting, bare_seat, seat_number}
+use Rattle.engine_words.specs.declared.view.Touch.{Touch}
 use Rattle.engine_words.specs.declared.view.Role.TheVariants.{Worker}
 use Rattle.engine_words.specs.declared.view.View.{View}
 use Rattle.tx_script.specs.declared.outcome.Outcome.{Outcome}
-use Rattle.worker_cells.specs.InARow.{row_draws}
-use Rattle.worker_cells.specs.Rows.{logged_of}
+use Rattle.tx_runner.specs.Tries.{blames_of}
+use Rattle.worker_cells.specs.InARow.{IsTakenBy, row_blamed, row_draws, row_touched}
+use Rattle.worker_cells.specs.Rows.{draws_of, logged_of, refused_of}
 use Rattle.worker_cells.specs.declared.cell.LogEnd.{LogEnd}
 use Rattle.worker_logs.specs.Logs.{LogState}
 use Rattle.shared_rounds.specs.Ended.{AreLeft, AreTold, EndedSoFar}
 use Rattle.shared_rounds.specs.Left.{LeavesPart, TellsPart}
-use Rattle.shared_rounds.specs.Parts.{Part, ran_in, share_of}
+use Rattle.shared_rounds.specs.Parts.{Part, drawn_in_all, share_of}
 use Rattle.shared_rounds.specs.SharedState.{conflicts_in}
 use Rattle.shared_rounds.specs.Shares.{Share, all_conflicts}
 use Rattle.shared_rounds.proofs.Conflicts.{conflicts_append, more_conflicts}
 use Rattle.shared_rounds.specs.Seating.{seats_from}
 use Rattle.shared_rounds.specs.Workers.{LeftBy}
 use Rattle.shared_rounds.proofs.Made.{seen_then}
+use Rattle.shared_rounds.proofs.Meets.{in_either}
 use Rattle.shared_rounds.proofs.Shared.{parts_later, parts_push}
 
 -- ---- who is seated
@@ -196,11 +202,25 @@ module _ {D : Type 0} (tells : D → Option (List ℕ)) (clock : D → ℕ) (ima
             let own : p.to.draws ≡ u.draws = ap (λ (v : View). v.draws) is in
             let begun : p.from.draws ≡ 0 = ap (λ (v : View). v.draws) leaves.part.seated in
             let row = row_draws tries p.from p.ran p.to leaves.part.row in
-            let more : ran_in (so.parts ++ p ∷ []) ≡ ran_in so.parts + length p.ran =
-            sum_by_push (λ (q : Part). length q.ran) so.parts p in
-            let times : tries * ran_in (so.parts ++ p ∷ []) ≡ tries * ran_in so.parts + tries * length p.ran =
-            ap (λ n. tries * n) more ∙ mul-add tries (ran_in so.parts) (length p.ran) in
-            omega (arith, drew, own, begun, row, times, so.draws);
+            let more : drawn_in_all (so.parts ++ p ∷ []) ≡ drawn_in_all so.parts + draws_of p.ran =
+            sum_by_push (λ (q : Part). draws_of q.ran) so.parts p in
+            omega (arith, drew, own, begun, row, more, so.draws);
+        touched = λ t has.
+            let drew : now.touched ≡ mid.touched ++ u.touched = ap (λ (v : View). v.touched) timed.is in
+            elim (in_either t mid.touched u.touched (subst (λ (l : List Touch). Contains l t) drew has)) [
+              | inl before ↦
+                  let x = so.touched t before in (x.0, x.1, at_older so.parts p x.1 x.0 x.2, x.3)
+              | inr own ↦ (
+                count,
+                p,
+                ap (λ n. slice_get (so.parts ++ p ∷ []) n) place ∙ at_push_new so.parts p,
+                taken_here t (row_touched tries p.from p.ran p.to leaves.part.row t
+                    (subst (λ (v : View). Contains v.touched t) (sym is) own)),
+              )
+            ];
+        blamed = λ worker q there b has.
+            subst (λ (l : List Touch). Contains l b) (sym (ap (λ (v : View). v.blamed) timed.is))
+            (blamed_by worker q (cases_order worker count) there b has);
         parked_are = ap (λ (v : View). length v.parked) timed.is ∙ length_set mid.parked (worker_of u.role) u.seat
             ∙ so.parked_are;
         parked = λ worker small. subst (λ (l : List Seat). IsResting (get_or l worker bare_seat))
@@ -219,6 +239,40 @@ module _ {D : Type 0} (tells : D → Option (List ℕ)) (clock : D → ℕ) (ima
 
       place : count ≡ length so.parts
       place = sym so.many
+
+      seat_is : seat_number p.from.role ≡ suc count
+      seat_is = ap (λ (v : View). seat_number v.role) leaves.part.seated
+
+      taken_here : (t : Touch) → Contains p.from.touched t ⊎ IsTakenBy (seat_number p.from.role) p.ran t
+          → IsTakenBy (suc count) p.ran t
+      taken_here t (inl before) = absurd (in_none t
+          (subst (λ (v : View). Contains v.touched t) leaves.part.seated before))
+      taken_here t (inr own) = subst (λ n. IsTakenBy n p.ran t) seat_is own
+
+      blamed_by : (worker : ℕ) (q : Part) → (worker ≡ count) ⊎ ((worker < count) ⊎ (count < worker))
+          → slice_get (so.parts ++ p ∷ []) worker ≡ Some q → (b : Touch)
+          → Contains (blames_of (suc worker) (refused_of q.ran)) b → Contains (mid.blamed ++ u.blamed) b
+      blamed_by worker q (inl same) there b has =
+          let here : p ≡ q = at_last so.parts p q
+          (ap (slice_get (so.parts ++ p ∷ [])) (sym (same ∙ place)) ∙ there) in
+          let own : u.blamed ≡ blames_of (suc worker) (refused_of q.ran) =
+          ap (λ (v : View). v.blamed) (sym is)
+          ∙ row_blamed tries p.from p.ran p.to leaves.part.row
+          ∙ ap (λ (v : View). v.blamed ++ blames_of (seat_number p.from.role) (refused_of p.ran)) leaves.part.seated
+          ∙ ap (λ n. blames_of n (refused_of p.ran)) (seat_is ∙ ap suc (sym same))
+          ∙ ap (λ (x : Part). blames_of (suc worker) (refused_of x.ran)) here in
+          Contains-append_right mid.blamed u.blamed b (subst (λ (l : List Touch). Contains l b) (sym own) has)
+      blamed_by worker q (inr (inl before)) there b has =
+          Contains-append_left mid.blamed u.blamed b
+          (so.blamed worker q (at_front so.parts p q worker (omega (arith, before, so.many)) there) b has)
+      blamed_by worker q (inr (inr after)) there b has =
+          absurd (at_none so.parts p q worker (omega (arith, after, so.many)) there)
+
+      at_older : (parts : List Part) (x q : Part) (i : ℕ) → slice_get parts i ≡ Some q
+          → slice_get (parts ++ x ∷ []) i ≡ Some q
+      at_older [] x q i there = absurd cc
+      at_older (y ∷ parts) x q zero there = there
+      at_older (y ∷ parts) x q (suc i) there = at_older parts x q i there
 
       by_place : (worker : ℕ) (q : Part) → (worker ≡ count) ⊎ ((worker < count) ⊎ (count < worker))
           → slice_get (so.parts ++ p ∷ []) worker ≡ Some q

@@ -45,17 +45,22 @@ module _ {D : Type 0} (tells : D → Option (List ℕ)) (clock : D → ℕ) (ima
       let lines = told_lines round 0 so.parts ran.outcomes ran.ends.items logs_was logs so.told
       ∙ ap (lines_from round 0) so.many in
       let told = told_outcomes round 0 so.parts ran.outcomes ran.ends.items logs_was logs so.told in
-      let same : entries_of_workers 0 0 ran.outcomes (worker_lines round) ≡ entries_in 0 (shares_of so.parts) =
-      ap (λ o. entries_of_workers 0 0 o (worker_lines round)) told
-      ∙ ap (λ l. entries_of_workers 0 0 (map (λ (share : Share). share.outcomes) (shares_of so.parts)) l) (sym lines) in
-      let pairs = joined_pairs tries was ended 0 0 so.parts so.are in
+      let same : (index : ℕ) → entries_of_workers index 0 ran.outcomes (worker_lines round)
+      ≡ entries_in index (shares_of so.parts) =
+      λ index. ap (λ o. entries_of_workers index 0 o (worker_lines round)) told
+      ∙ ap (λ l. entries_of_workers index 0 (map (λ (share : Share). share.outcomes) (shares_of so.parts)) l) (sym lines) in
+      let pairs : (index : ℕ)
+      → ArePairs was.layout.decls (entries_in index (shares_of so.parts)) (joined (mines_of so.parts)) =
+      λ index. joined_pairs tries was ended index 0 so.parts so.are in
       record {
         new = (split tries was now so.parts r).new;
         all = (split tries was now so.parts r).own;
         told = joined (mines_of so.parts);
         same = (split tries was now so.parts r).same;
-        are = subst (λ (es : List Entry). AreAttemptsOf was.layout.decls es (joined (mines_of so.parts))) (sym same)
-            (pairs_attempts was.layout.decls (entries_in 0 (shares_of so.parts)) (joined (mines_of so.parts)) pairs);
-        seats = ap (map (λ (e : Entry). suc e.worker)) same
-            ∙ seats_same was.layout.decls (entries_in 0 (shares_of so.parts)) (joined (mines_of so.parts)) pairs;
+        are = λ index. subst (λ (es : List Entry). AreAttemptsOf was.layout.decls es (joined (mines_of so.parts)))
+            (sym (same index))
+            (pairs_attempts was.layout.decls (entries_in index (shares_of so.parts)) (joined (mines_of so.parts))
+            (pairs index));
+        seats = λ index. ap (map (λ (e : Entry). suc e.worker)) (same index)
+            ∙ seats_same was.layout.decls (entries_in index (shares_of so.parts)) (joined (mines_of so.parts)) (pairs index);
       }

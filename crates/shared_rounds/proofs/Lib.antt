@@ -6,6 +6,7 @@ mod Conflicts
 mod Contents
 mod Counted
 mod Counts
+mod Draws
 mod Ending
 mod Gathering
 mod Halves
@@ -14,6 +15,7 @@ mod Kept
 mod Left
 mod LoggedAlong
 mod Made
+mod Meets
 mod Numbers
 mod Onward
 mod Ordered
@@ -26,6 +28,7 @@ mod Rows
 mod Seated
 mod Seats
 mod Shared
+mod StillArrays
 mod Told
 mod Totals
 mod Values

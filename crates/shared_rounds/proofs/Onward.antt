@@ -2,7 +2,7 @@
 use Rattle.std.proofs.Common.{◌≡◌, ◌∙◌, sym, subst, refl, ℕ, ◌+◌, List, []}
 use Rattle.std.proofs.Common.{◌∷◌, ◌++◌}
 use Rattle.std.proofs.Common.{append-nil, append_assoc, length, arith, Option}
-use Rattle.lists.specs.Elements.{in_head, in_tail}
+use Rattle.lists.specs.Elements.{in_head, in_none, in_tail}
 use Rattle.lists.specs.Fronts.{front_refl}
 use Rattle.script_grammar.specs.Script.{Round, lines_of_worker}
 use Rattle.engine_words.specs.Cuts.{HasSeen, ended, heard_of}
@@ -100,6 +100,8 @@ module _ {D : Type 0} (tells : D → Option (List ℕ)) (clock : D → ℕ) (ima
           gathers = refl;
           conflicts = omega arith;
           draws = omega arith;
+          touched = λ t has. absurd (in_none t has);
+          blamed = λ worker p there. absurd cc;
           parked_are = stands.parked_are;
           parked = stands.parked;
           taken = λ worker p there. absurd cc;

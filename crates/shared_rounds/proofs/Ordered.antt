@@ -36,11 +36,12 @@ use Rattle.shared_rounds.proofs.Pairs.{ArePairs, pairs_attempts, pairs_permuted}
 use Rattle.shared_rounds.proofs.Seats.{mine_ascends, mine_at, mine_logged, mine_on}
 
 -- where the engine stands, with the layout's storages
-abbrev pub standing_at : View → State → Number → ℕ → Bool → Standing
-standing_at v state clock conflicts done = record {
+abbrev pub standing_at : View → State → Number → List Attempt → ℕ → Bool → Standing
+standing_at v state clock mine conflicts done = record {
   decls = v.layout.decls;
   state = state;
   clock = clock;
+  mine = mine;
   conflicts = conflicts;
   ended = done;
 }
@@ -104,12 +105,13 @@ module _ (tries : ℕ) (was now : View) (parts : List Part) (r : IsRound tries w
       (in_new a (in_filter (is_on worker) a (joined (mines_of parts)) there))
       (filter_only (is_on worker) a (joined (mines_of parts)) there))
 
-  pub ordered_so : (index : ℕ) (state : State) (clock : Number) (before after : ℕ) (done : Bool)
+  pub ordered_so : (index : ℕ) (state : State) (clock : Number) (mine_was mine : List Attempt)
+      (before after : ℕ) (done : Bool)
       → Agrees was.layout.decls state (after_attempts (content_at was.layout.opening) was.mine) → IsClockOf clock was
-      → AreOrdered index (standing_at was state clock before done)
-      (standing_at was (after_commits state (split tries was now parts r).new) (clock_number r.clock) after done)
+      → AreOrdered index (standing_at was state clock mine_was before done)
+      (standing_at was (after_commits state (split tries was now parts r).new) (clock_number r.clock) mine after done)
       (shares_of parts)
-  ordered_so index state clock before after done agrees at =
+  ordered_so index state clock mine_was mine before after done agrees at =
       let decls = was.layout.decls in
       let new = (split tries was now parts r).new in
       let moved = pairs_permuted decls (entries_in index (shares_of parts)) (joined (mines_of parts)) new

@@ -19,13 +19,12 @@ use Rattle.commit_core.specs.declared.attempt.Attempt.{Attempt}
 use Rattle.serial_bridge.specs.Transaction.{IsAttemptOf}
 use Rattle.serial_bridge.specs.WriteSets.{keys_of}
 use Rattle.engine_words.specs.declared.layout.Layout.{Layout}
-use Rattle.engine_words.specs.declared.view.Refused.{Refused}
 use Rattle.engine_words.specs.declared.view.Role.TheVariants.{Worker}
 use Rattle.engine_words.specs.declared.view.View.{View}
 use Rattle.engine_words.specs.Cuts.{HasSeen}
 use Rattle.engine_words.specs.Views.{seat_number}
 use Rattle.tx_runner.specs.LineEnds.{HasCommittedLine}
-use Rattle.tx_runner.specs.Tries.{HasTriedFor}
+use Rattle.tx_runner.specs.Tries.{HasTriedFor, Lost}
 use Rattle.tx_script.specs.Run.{entries_of_line, entries_of_worker}
 use Rattle.tx_script.specs.declared.outcome.Outcome.{Outcome}
 use Rattle.tx_script.specs.declared.outcome.Outcome.TheVariants.{Committed, Conflict, Full, Wide, Limit, Unrun}
@@ -54,9 +53,9 @@ made_none decls low v w mine seen layout role = record {
 made_goes : (decls : List Decl) (low : ℕ) (v w : View) → Goes v w → Made decls low v w (λ index line. []) []
 made_goes decls low v w goes = made_none decls low v w goes.mine goes.seen goes.layout goes.role
 
-made_tried : (decls : List Decl) (low : ℕ) (whys : List Refused) (v w : View) → HasTriedFor whys v w
+made_tried : (decls : List Decl) (low : ℕ) (ops : List Op) (losts : List Lost) (v w : View) → HasTriedFor ops losts v w
     → Made decls low v w (λ index line. []) []
-made_tried decls low whys v w tried = made_none decls low v w tried.mine tried.seen tried.layout tried.role
+made_tried decls low ops losts v w tried = made_none decls low v w tried.mine tried.seen tried.layout tried.role
 
 -- ---- a commit
 
@@ -125,7 +124,7 @@ made_commit decls low worker tries ops verdict number replies logged commit v w 
 
 -- ---- a line
 
-made_line : (decls : List Decl) (low worker tries : ℕ) (ops : List Op) (outcome : Outcome) (refused : List Refused)
+made_line : (decls : List Decl) (low worker tries : ℕ) (ops : List Op) (outcome : Outcome) (refused : List Lost)
     (logged : Option Commit) (v w : View) → v.layout.decls ≡ decls → v.role ≡ Worker worker → IsSince low outcome
     → ComesOf tries ops outcome refused logged v w
     → Made decls low v w (λ index line. entries_of_line index worker line ops outcome) (option_to_list logged)
@@ -134,10 +133,10 @@ made_line decls low worker tries ops (Committed verdict number replies) refused 
     comes.3
 made_line decls low worker tries ops Conflict refused logged v w layout role since comes =
     subst (λ (l : Option Commit). Made decls low v w (λ index line. []) (option_to_list l)) (sym comes.0)
-    (made_tried decls low comes.1.whys v w comes.1.tried)
+    (made_tried decls low ops comes.1.losts v w comes.1.tried)
 made_line decls low worker tries ops Limit refused logged v w layout role since comes =
     subst (λ (l : Option Commit). Made decls low v w (λ index line. []) (option_to_list l)) (sym comes.0)
-    (made_tried decls low _ v w comes.1.refused.tried)
+    (made_tried decls low ops _ v w comes.1.refused.tried)
 made_line decls low worker tries ops Wide refused logged v w layout role since comes = absurd comes
 made_line decls low worker tries ops Full refused logged v w layout role since comes = absurd comes
 made_line decls low worker tries ops Unrun refused logged v w layout role since comes = absurd comes

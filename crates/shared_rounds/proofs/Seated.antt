@@ -5,12 +5,10 @@ use Rattle.std.proofs.Common.{append-nil, append_assoc, get_or, Option, Some}
 use Rattle.std.specs.Prelude.{slice_get}
 use Rattle.std.specs.List.{AllByRecursion}
 use Rattle.std.proofs.lemmas.Bool.Decides.{nat_tests}
-use Rattle.serial_model.specs.Decls.{AreDecls}
 use Rattle.tx_commit.specs.Live.{IsOver}
 use Rattle.views.specs.Sums.{one_at, times, total-append}
-use Rattle.engine_words.specs.Cuts.{worker_view}
+use Rattle.engine_words.specs.Cuts.{seated, worker_view}
 use Rattle.engine_words.specs.Passes.{IsPassOf, view}
-use Rattle.engine_words.specs.Views.{IsResting, bare_seat}
 use Rattle.engine_words.specs.declared.engine.Engine.{Engine}
 use Rattle.engine_words.specs.declared.layout.Layout.{Layout}
 use Rattle.engine_words.specs.declared.view.View.{View}
@@ -20,10 +18,15 @@ use Rattle.worker_logs.specs.Logs.{LogState}
 use Rattle.worker_logs.specs.Rows.{AreLogsUp}
 use Rattle.shared_rounds.specs.Rooms.{AreRooms}
 use Rattle.shared_rounds.specs.Seated.{AreSeated, IsBegun, SeatedSoFar, backward}
-use Rattle.shared_rounds.specs.Seating.{CanSeat, seats_from}
+use Rattle.shared_rounds.specs.Seating.{CanSeat, seats_from, with_made}
 use Rattle.shared_rounds.proofs.Backward.{backward_push}
 
 -- ---- who is seated
+
+-- one worker more is seated
+pub seated_made : (made : List ℕ) (worker : ℕ) (v : View) → seated worker (with_made made v) ≡ with_made (made ++ worker ∷ []) v
+seated_made [] worker v = refl
+seated_made (first ∷ more) worker v = refl
 
 -- nobody below them
 pub not_seated : (n low worker : ℕ) → worker < low → times worker (seats_from n low) ≡ 0
@@ -75,10 +78,6 @@ last_room counts rest room are = (
     at = ap (λ l. slice_get l (length rest)) (sym (append-nil (rest ++ room ∷ []))) ∙ at_place rest room []
 
 -- ---- a worker's pass
-
-pub over_at : (was : View) (worker : ℕ) → AreDecls was.layout.decls → IsResting (get_or was.parked worker bare_seat)
-    → IsOver (worker_view worker was)
-over_at was worker decls rests = record { decls = decls; worker = refl; due = refl; took = refl; seat = rests }
 
 module _ {D : Type 0} (tells : D → Option (List ℕ)) where
   pub none_seated : (words : Engine) (was : View) (counts : List ℕ) (worker : ℕ) (logs : List LogState)

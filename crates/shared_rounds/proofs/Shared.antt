@@ -19,7 +19,10 @@ use Rattle.shared_rounds.proofs.Comes.{row_comes, row_each, row_last}
 use Rattle.shared_rounds.proofs.Counted.{split}
 use Rattle.shared_rounds.proofs.Joined.{shares_of}
 use Rattle.shared_rounds.proofs.Made.{seen_then}
+use Rattle.shared_rounds.proofs.Draws.{parts_drawn}
+use Rattle.shared_rounds.proofs.Meets.{all_met}
 use Rattle.shared_rounds.proofs.Numbers.{ended_draws, same_epoch}
+use Rattle.shared_rounds.proofs.Renewed.{clock_draws}
 use Rattle.shared_rounds.proofs.Ordered.{ordered_so, standing_at}
 
 no_lines : (ran : List LineRan) (left : List (List Op)) → lines_of ran ++ left ≡ [] → logged_of ran ≡ []
@@ -61,22 +64,27 @@ share_count (p ∷ parts) = ap suc (share_count parts)
 pub round_runs : (tries : ℕ) (was now : View) (parts : List Part) (r : IsRound tries was now parts) (state : State)
     (clock : Number) (done : Bool) → 1 ≤ tries
     → Agrees was.layout.decls state (after_attempts (content_at was.layout.opening) was.mine) → IsClockOf clock was
-    → RunsShares tries (standing_at was state clock (conflicts_in was.refused) done)
-    (standing_at was (after_commits state (split tries was now parts r).new) (clock_number r.clock)
+    → was.draws ≡ length was.history
+    → RunsShares tries (standing_at was state clock was.mine (conflicts_in was.refused) done)
+    (standing_at was (after_commits state (split tries was now parts r).new) (clock_number r.clock) now.mine
     (conflicts_in now.refused) done) (shares_of parts)
-round_runs tries was now parts r state clock done some agrees at =
+round_runs tries was now parts r state clock done some agrees at drew =
     let ends = ended_draws tries was now parts r in
     let begins = at.draw in
     let long = front_length was.history r.ended.history r.seen.history in record {
       workers = share_count parts ∙ r.eight;
       only = refl;
       epoch = same_epoch tries was now parts r ∙ sym at.epoch;
-      draw = omega arith;
+      draw =
+          let clock_is = clock_draws tries was now parts r in
+          let drawn = r.draws in
+          omega (arith, clock_is, drawn, begins, drew, parts_drawn parts);
+      met = all_met tries was now parts r;
       conflicts = ap (λ (v : View). conflicts_in v.refused) r.audited.2.is
           ∙ ap (λ (v : View). conflicts_in v.refused) r.audited.1.is ∙ r.conflicts;
       each = parts_share clock.draw tries (r.clock % 2 ^ 40) was r.ended 0 parts some (omega (arith, begins)) ends
           r.parts_are;
-      ordered = λ index. ordered_so tries was now parts r index state clock (conflicts_in was.refused)
+      ordered = λ index. ordered_so tries was now parts r index state clock was.mine now.mine (conflicts_in was.refused)
           (conflicts_in now.refused) done agrees at;
     }
 

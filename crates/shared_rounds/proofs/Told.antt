@@ -1,9 +1,7 @@
 -- What is told worker by worker, as lists and by index.
 use Rattle.std.proofs.Common.{◌≡◌, ◌∙◌, sym, ap, subst, refl, ℕ, suc, zero, ◌+◌, ◌≤◌, List, [], ◌∷◌, ◌++◌, length, map}
-use Rattle.std.proofs.Common.{arith, length-append, Option, Some, None}
-use Rattle.std.specs.Prelude.{get_or, is_some, slice_get, sum_by}
-use Rattle.std.proofs.lemmas.List.{length-map}
-use Rattle.std.proofs.lemmas.List.Sums.{sum_by-cons}
+use Rattle.std.proofs.Common.{arith, Option, Some, None}
+use Rattle.std.specs.Prelude.{get_or, is_some, slice_get}
 use Rattle.std.proofs.lemmas.Option.{same_Some}
 use Rattle.serial_model.specs.declared.op.Op.{Op}
 use Rattle.commit_core.specs.declared.seat.Mark.{Mark}
@@ -12,11 +10,11 @@ use Rattle.engine_words.specs.Views.{bare_seat}
 use Rattle.script_grammar.specs.Script.{Round, lines_of_worker}
 use Rattle.tx_script.specs.declared.outcome.Outcome.{Outcome}
 use Rattle.worker_cells.specs.Cells.{core_mark}
-use Rattle.worker_cells.specs.Rows.{LineRan, logged_of, outcomes_of, unrun}
+use Rattle.worker_cells.specs.Rows.{logged_of}
 use Rattle.worker_cells.specs.declared.cell.LogEnd.{LogEnd}
 use Rattle.worker_logs.specs.Logs.{LogState}
 use Rattle.shared_rounds.specs.Ended.{AreLeft, AreTold}
-use Rattle.shared_rounds.specs.Parts.{Part, ran_in, share_of}
+use Rattle.shared_rounds.specs.Parts.{Part, share_of}
 use Rattle.shared_rounds.specs.SharedState.{last_mark, marks_of}
 use Rattle.shared_rounds.specs.Shares.{Share}
 use Rattle.shared_rounds.specs.Workers.{LeftBy, refusal_of}
@@ -92,29 +90,6 @@ module _ (round : Round) where
   told_flushed worker (p ∷ parts) (o ∷ outcomes) (e ∷ ends) (a ∷ lw) (b ∷ ls) are (suc i) log is =
       told_flushed (worker + 1) parts outcomes ends lw ls are.1 i log is
   told_flushed worker _ _ _ _ _ are i log is = absurd are
-
-  -- no more lines were run than there are outcomes
-  pub ran_told : (worker : ℕ) (parts : List Part) (outcomes : List (List Outcome)) (ends : List LogEnd)
-      (logs_was logs : List LogState) → AreTold round worker parts outcomes ends logs_was logs
-      → ran_in parts ≤ sum_by length outcomes
-  ran_told worker [] [] [] [] [] are = omega arith
-  ran_told worker (p ∷ parts) (o ∷ outcomes) (e ∷ ends) (old ∷ lw) (new ∷ ls) are =
-      let rest = ran_told (worker + 1) parts outcomes ends lw ls are.1 in
-      let told : length o ≡ length (outcomes_of p.ran ++ unrun p.left) =
-      ap (λ (l : List Outcome). length l) are.0.told in
-      let both : length (outcomes_of p.ran ++ unrun p.left) ≡ length (outcomes_of p.ran) + length (unrun p.left) =
-      length-append (outcomes_of p.ran) (unrun p.left) in
-      let ran : length (outcomes_of p.ran) ≡ length p.ran = length-map p.ran (λ (line : LineRan). line.outcome) in
-      omega (
-        arith,
-        rest,
-        told,
-        both,
-        ran,
-        sum_by-cons (λ (q : Part). length q.ran) p parts,
-        sum_by-cons (λ (l : List Outcome). length l) o outcomes,
-      )
-  ran_told worker _ _ _ _ _ are = absurd are
 
   -- the mark of a worker without a line
   pub told_rests : (worker : ℕ) (parts : List Part) (outcomes : List (List Outcome)) (ends : List LogEnd)

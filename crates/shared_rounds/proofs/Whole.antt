@@ -1,8 +1,6 @@
 -- A round's lines on seats, from the ends of all seats and the count behind them.
-use Rattle.std.proofs.Common.{◌≡◌, ◌∙◌, sym, ap, subst, ℕ, ◌/◌, ◌*◌, ◌^◌, ◌≤◌, Bool, List}
-use Rattle.std.proofs.Common.{length, arith}
-use Rattle.std.proofs.Common.{mul-le-mul_left, Option}
-use Rattle.std.specs.Prelude.{sum_by}
+use Rattle.std.proofs.Common.{◌≡◌, ◌∙◌, sym, ap, subst, ℕ, ◌/◌, ◌^◌, ◌≤◌, Bool, List}
+use Rattle.std.proofs.Common.{length, arith, Option}
 use Rattle.std.proofs.lemmas.List.{length-map}
 use Rattle.commit_core.specs.declared.seat.Seat.{Seat}
 use Rattle.serial_model.specs.declared.number.Number.{Number}
@@ -16,7 +14,7 @@ use Rattle.worker_logs.specs.Logs.{LogState}
 use Rattle.shared_rounds.specs.Contents.{after_commits}
 use Rattle.shared_rounds.specs.Ended.{EndedSoFar}
 use Rattle.shared_rounds.specs.Marks.{AreMarksBehind}
-use Rattle.shared_rounds.specs.Parts.{IsClockOf, IsRound, clock_number, ran_in}
+use Rattle.shared_rounds.specs.Parts.{IsClockOf, IsRound, clock_number}
 use Rattle.shared_rounds.specs.SharedState.{IsKept, conflicts_in, last_mark, marks_of, state_of}
 use Rattle.shared_rounds.specs.Shares.{RunsShares}
 use Rattle.shared_rounds.specs.Standing.{Standing}
@@ -25,14 +23,14 @@ use Rattle.shared_rounds.proofs.Counted.{now_layout, split}
 use Rattle.shared_rounds.proofs.Joined.{shares_of}
 use Rattle.shared_rounds.proofs.Numbers.{same_epoch}
 use Rattle.shared_rounds.proofs.Ordered.{standing_at}
-use Rattle.shared_rounds.proofs.Renewed.{clock_draws, state_agrees, state_now}
+use Rattle.shared_rounds.proofs.Renewed.{state_agrees, state_now}
 use Rattle.shared_rounds.proofs.Shared.{round_runs}
-use Rattle.shared_rounds.proofs.Told.{left_at, left_many, ran_told, seat_mark, told_failed, told_flushed, told_idle}
+use Rattle.shared_rounds.proofs.Told.{left_at, left_many, seat_mark, told_failed, told_flushed, told_idle}
 use Rattle.shared_rounds.proofs.Told.{lines_from, told_lines, told_outcomes, told_refusals, told_rests, told_tied}
 
 -- where the engine stands, as the keeper's view and the clock have it
 abbrev pub stands : View → Number → Bool → Standing
-stands v clock done = standing_at v (state_of v) clock (conflicts_in v.refused) done
+stands v clock done = standing_at v (state_of v) clock v.mine (conflicts_in v.refused) done
 
 module _ {D : Type 0} (tells : D → Option (List ℕ)) (clock : D → ℕ) (image_at : D → ℕ → List ℕ → Type 0)
     (faults : D → ℕ) (tries : ℕ) (round : Round) (was ended now : View) (logs_was logs : List LogState)
@@ -54,6 +52,8 @@ module _ {D : Type 0} (tells : D → Option (List ℕ)) (clock : D → ℕ) (ima
     seen = so.seen;
     conflicts = so.conflicts;
     draws = so.draws;
+    touched = so.touched;
+    blamed = so.blamed;
     clock = word;
     count = count;
     audited = audited;
@@ -63,18 +63,19 @@ module _ {D : Type 0} (tells : D → Option (List ℕ)) (clock : D → ℕ) (ima
     runs_so : RunsShares tries (stands was first done) (stands now (clock_number word) done) (shares_of so.parts)
     runs_so =
         subst (λ (t : Standing). RunsShares tries (stands was first done) t (shares_of so.parts)) same
-        (round_runs tries was now so.parts round_is (state_of was) first done some (state_agrees was) at)
+        (round_runs tries was now so.parts round_is (state_of was) first done some (state_agrees was) at kept.draws)
       where
         same : standing_at was (after_commits (state_of was) (split tries was now so.parts round_is).new)
-            (clock_number word)
+            (clock_number word) now.mine
             (conflicts_in now.refused) done ≡ stands now (clock_number word) done
         same =
-            ap (λ s. standing_at was s (clock_number word) (conflicts_in now.refused) done) (sym
+            ap (λ s. standing_at was s (clock_number word) now.mine (conflicts_in now.refused) done) (sym
             (state_now tries was now so.parts round_is))
             ∙ ap (λ (l : Layout). let t : Standing = record {
               decls = l.decls;
               state = state_of now;
               clock = clock_number word;
+              mine = now.mine;
               conflicts = conflicts_in now.refused;
               ended = done;
             } in t) (sym (now_layout tries was now so.parts round_is))
@@ -109,13 +110,6 @@ module _ {D : Type 0} (tells : D → Option (List ℕ)) (clock : D → ℕ) (ima
       shares = shares_of so.parts;
       over = over_so;
       lines = told_lines round 0 so.parts outcomes ends logs_was logs so.told ∙ ap (lines_from round 0) so.many;
-      drawn =
-          let few = ran_told round 0 so.parts outcomes ends logs_was logs so.told in
-          let times : tries * ran_in so.parts ≤ tries * sum_by length outcomes = mul-le-mul_left tries few in
-          let begins = at.draw in
-          let drew = so.draws in
-          let clock_is = clock_draws tries was now so.parts round_is in
-          omega (arith, times, begins, drew, clock_is, kept.draws);
       told = told_outcomes round 0 so.parts outcomes ends logs_was logs so.told;
       idle = told_idle round 0 so.parts outcomes ends logs_was logs so.told;
       ends_failed = told_failed round 0 so.parts outcomes ends logs_was logs so.told;

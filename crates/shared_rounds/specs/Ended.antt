@@ -14,7 +14,7 @@ use Rattle.worker_cells.specs.declared.cell.Cell.{Cell}
 use Rattle.worker_cells.specs.declared.cell.LogEnd.{LogEnd}
 use Rattle.worker_logs.specs.Logs.{LogState}
 use Rattle.shared_rounds.specs.Left.{TellsPart}
-use Rattle.shared_rounds.specs.Parts.{AreParts, Part, ran_in, share_of}
+use Rattle.shared_rounds.specs.Parts.{AreParts, HasBlames, Part, TouchesAre, drawn_in_all, share_of}
 use Rattle.shared_rounds.specs.Seated.{AreRan, backward}
 use Rattle.shared_rounds.specs.Seating.{seats_from}
 use Rattle.shared_rounds.specs.SharedState.{conflicts_in}
@@ -53,7 +53,9 @@ module _ {D : Type 0} (tells : D → Option (List ℕ)) (clock : D → ℕ) (ima
     pub gathers : now.mine ≡ gathered_all was.mine (map (λ (p : Part). p.to.mine) parts)
     pub conflicts : conflicts_in now.refused
         ≡ conflicts_in was.refused + all_conflicts (map (λ (share : Share). share.tries_refused) (map share_of parts))
-    pub draws : now.draws ≤ was.draws + tries * ran_in parts
+    pub draws : now.draws ≡ was.draws + drawn_in_all parts
+    pub touched : TouchesAre parts now
+    pub blamed : HasBlames parts now
     pub parked_are : length now.parked ≡ 8
     pub parked : (worker : ℕ) → worker < 8 → IsResting (get_or now.parked worker bare_seat)
     pub taken : (worker : ℕ) (p : Part) → slice_get parts worker ≡ Some p

@@ -14,6 +14,7 @@ standing ended s = record {
   decls = s.decls;
   state = s.state;
   clock = s.clock;
+  mine = s.mine;
   conflicts = s.conflicts;
   ended = ended;
 }

@@ -1,6 +1,6 @@
 -- What the workers of a round did on their own seats, between two counts of the maintenance thread's pass.
 use Rattle.std.specs.Prelude.{◌≡◌, ◌≤◌, ◌+◌, ◌*◌, ◌/◌, ◌%◌, ◌^◌, ◌++◌, ℕ, List, [], ◌∷◌, length, map, sum_by}
-use Rattle.std.specs.Prelude.{Option, None, ⊤}
+use Rattle.std.specs.Prelude.{Contains, Option, None, Some, slice_get, suc, ⊤}
 use Rattle.std.specs.List.{AllByRecursion}
 use Rattle.serial_model.specs.declared.number.Number.{Number}
 use Rattle.serial_model.specs.declared.op.Op.{Op}
@@ -9,11 +9,13 @@ use Rattle.serial_bridge.specs.WriteSets.{HasNoTree}
 use Rattle.engine_words.specs.Cuts.{HasSeen, worker_view}
 use Rattle.engine_words.specs.Gathered.{gathered_all}
 use Rattle.engine_words.specs.Steps.{HasAudited}
-use Rattle.engine_words.specs.declared.view.Refused.{Refused}
-use Rattle.engine_words.specs.declared.view.Refused.TheVariants as refusals
 use Rattle.engine_words.specs.declared.view.Role.TheVariants.{Keeper}
+use Rattle.engine_words.specs.declared.view.Touch.{Touch}
 use Rattle.engine_words.specs.declared.view.View.{View}
-use Rattle.worker_cells.specs.Rows.{AreInARow, IsSince, LineRan, lines_of, logged_of, outcomes_of, unrun}
+use Rattle.tx_runner.specs.Tries.{Lost, ToClock, ToOther, blames_of}
+use Rattle.worker_cells.specs.InARow.{IsTakenBy}
+use Rattle.worker_cells.specs.Rows.{AreInARow, IsSince, LineRan, draws_of, lines_of, logged_of, outcomes_of, refused_of}
+use Rattle.worker_cells.specs.Rows.{unrun}
 use Rattle.tx_script.specs.Run.{LogRefusal, TryRefusal, InConflict, NoNumber}
 use Rattle.shared_rounds.specs.SharedState.{IsCounted, conflicts_in}
 use Rattle.shared_rounds.specs.Shares.{Share, all_conflicts}
@@ -29,11 +31,10 @@ pub record Part : Type 0 where
   pub from : View
   pub to : View
 
--- what a try was refused for; no line's sets get full
-abbrev pub try_refusal : Refused → TryRefusal
-try_refusal (refusals.Conflict at expected seen) = InConflict
-try_refusal (refusals.Wide set) = NoNumber
-try_refusal (refusals.NumberLimit clock) = NoNumber
+-- what a try was refused for
+abbrev pub try_refusal : Lost → TryRefusal
+try_refusal (ToOther clash) = InConflict (record { key = clash.key; drew = clash.drew })
+try_refusal (ToClock clock) = NoNumber
 
 -- the refusals of each line's tries
 abbrev pub tries_of : List LineRan → List (List TryRefusal)
@@ -79,12 +80,22 @@ pub record IsClockOf (clock : Number) (v : View) : Type 0 where
   pub epoch : clock.epoch ≡ v.epoch
   pub draw : clock.draw ≡ v.layout.first.draw + length v.history
 
--- how many lines were run
-abbrev pub ran_in : List Part → ℕ
-ran_in parts = sum_by (λ (p : Part). length p.ran) parts
+-- how many numbers were drawn for the lines that were run
+abbrev pub drawn_in_all : List Part → ℕ
+drawn_in_all parts = sum_by (λ (p : Part). draws_of p.ran) parts
 
--- Between two counts eight workers were seated, and taken in again with these parts. No more numbers were drawn than
--- their lines had tries.
+-- each lock that the keeper's pass has gathered was taken by a line of one of these parts
+abbrev pub TouchesAre : List Part → View → Type 0
+TouchesAre parts v = (t : Touch) → Contains v.touched t
+    → (worker : ℕ) × (p : Part) × (slice_get parts worker ≡ Some p) × IsTakenBy (suc worker) p.ran t
+
+-- and it has gathered at which keys tries of these lines met others
+abbrev pub HasBlames : List Part → View → Type 0
+HasBlames parts v = (worker : ℕ) (p : Part) → slice_get parts worker ≡ Some p
+    → (b : Touch) → Contains (blames_of (suc worker) (refused_of p.ran)) b → Contains v.blamed b
+
+-- Between two counts eight workers were seated, and taken in again with these parts. Numbers were drawn for their lines
+-- alone, and locks were taken for them alone.
 pub record IsRound (tries : ℕ) (was now : View) (parts : List Part) : Type 0 where
   pub arrays : HasNoTree was.layout.decls
   pub counted : IsCounted was
@@ -99,7 +110,9 @@ pub record IsRound (tries : ℕ) (was now : View) (parts : List Part) : Type 0 w
   pub seen : HasSeen was ended
   pub conflicts : conflicts_in ended.refused
       ≡ conflicts_in was.refused + all_conflicts (map (λ (share : Share). share.tries_refused) (map share_of parts))
-  pub draws : ended.draws ≤ was.draws + tries * ran_in parts
+  pub draws : ended.draws ≡ was.draws + drawn_in_all parts
+  pub touched : TouchesAre parts ended
+  pub blamed : HasBlames parts ended
   pub clock : ℕ
   pub count : ℕ
   pub audited : HasAudited ended clock count now

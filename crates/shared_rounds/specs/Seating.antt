@@ -3,11 +3,21 @@ use Rattle.std.specs.Prelude.{◌≡◌, ◌<◌, ◌≤◌, ◌+◌, ℕ, zero,
 use Rattle.serial_model.specs.Decls.{AreDecls}
 use Rattle.engine_words.specs.Views.{IsResting, bare_seat}
 use Rattle.engine_words.specs.declared.view.Role.TheVariants.{Keeper}
+use Rattle.engine_words.specs.declared.view.Touch.{Touch}
 use Rattle.engine_words.specs.declared.view.View.{View}
+
+-- what it has of locks and of refusals in conflict with these workers seated: nothing yet, where there are some
+abbrev pub since_made : List ℕ → List Touch → List Touch
+since_made [] touches = touches
+since_made (worker ∷ more) touches = []
 
 -- the keeper's view with these workers seated
 abbrev pub with_made : List ℕ → View → View
-with_made workers v = record v { made = workers }
+with_made workers v = record v {
+  made = workers;
+  touched = since_made workers v.touched;
+  blamed = since_made workers v.blamed;
+}
 
 -- so many workers, the last of which is this one, the greatest number first
 abbrev pub seats_from : ℕ → ℕ → List ℕ

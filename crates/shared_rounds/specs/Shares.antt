@@ -10,6 +10,8 @@ use Rattle.serial_model.specs.declared.number.Commit.{Commit}
 use Rattle.serial_model.specs.declared.op.Op.{Op}
 use Rattle.wire_form.specs.LogFile.{IsLineOf}
 use Rattle.tx_script.specs.Causes.{UnrunLast}
+use Rattle.tx_script.specs.Conflicts.{WorkersMet}
+use Rattle.tx_script.specs.Draws.{commits_of, lost_of}
 use Rattle.tx_script.specs.Run.{IsBetween, LogRefusal, TryRefusal, entries_of_workers, of_worker}
 use Rattle.tx_script.specs.Tries.{AllCome, is_conflict}
 use Rattle.tx_script.specs.declared.outcome.Outcome.{Outcome}
@@ -68,14 +70,18 @@ conflicts_among refusals = length (filter is_conflict refusals)
 abbrev pub all_conflicts : List (List (List TryRefusal)) → ℕ
 all_conflicts refused = sum_by (λ of_worker. sum_by conflicts_among of_worker) refused
 
--- The lines of eight workers were run from s to t, each with so many tries. Contents, clock and the count of conflicts
--- change alone; the epoch stays, as long as the maintenance thread's lines don't run beside them. The engine counted
--- each conflict that is told of a line, and no others.
+-- The lines of eight workers were run from s to t, each with so many tries. Contents, clock, the attempts that count and
+-- the count of conflicts change alone; the epoch stays, as long as the maintenance thread's lines don't run beside them. Each number was drawn
+-- for a commit of theirs, or for a try of theirs that was refused behind its draw. Each conflict that is told of a line is
+-- with a line of another worker, and the engine counted it, and no others.
 pub record RunsShares (tries : ℕ) (s t : Standing) (shares : List Share) : Type 0 where
   pub workers : length shares ≡ 8
-  pub only : t ≡ record s { state = t.state; clock = t.clock; conflicts = t.conflicts }
+  pub only : t ≡ record s { state = t.state; clock = t.clock; mine = t.mine; conflicts = t.conflicts }
   pub epoch : t.clock.epoch ≡ s.clock.epoch
-  pub draw : s.clock.draw ≤ t.clock.draw
+  pub draw : t.clock.draw ≡ s.clock.draw + commits_of (map (λ (share : Share). share.outcomes) shares)
+      + lost_of (map (λ (share : Share). share.tries_refused) shares)
+  pub met : WorkersMet (map (λ (share : Share). share.lines) shares) 0 (map (λ (share : Share). share.lines) shares)
+      (map (λ (share : Share). share.tries_refused) shares)
   pub conflicts : t.conflicts ≡ s.conflicts + all_conflicts (map (λ (share : Share). share.tries_refused) shares)
   pub each : AllByRecursion (IsShare s.decls s.clock.draw t.clock.draw tries) shares
   pub ordered : (index : ℕ) → AreOrdered index s t shares

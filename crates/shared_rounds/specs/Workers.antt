@@ -1,5 +1,5 @@
 -- What the workers' lines of a round leave of their logs and log files, whichever engine ran them.
-use Rattle.std.specs.Prelude.{◌≡◌, ◌<◌, ◌≤◌, ◌+◌, ◌*◌, ℕ, Bool, true, false, List, [], ◌∷◌, length, map, sum_by}
+use Rattle.std.specs.Prelude.{◌≡◌, ◌<◌, ◌≤◌, ◌+◌, ℕ, Bool, true, false, List, [], ◌∷◌, length, map}
 use Rattle.std.specs.Prelude.{Option, Some, None, is_some, slice_get}
 use Rattle.std.specs.Option.{option_map}
 use Rattle.lists.specs.Fronts.{IsFront}
@@ -75,16 +75,14 @@ module _ {D : Type 0} (tells : D → Option (List ℕ)) (clock : D → ℕ) (ima
         → slice_get banks_was i ≡ Some before → slice_get banks i ≡ Some now
         → LeftBy s.clock.epoch t.clock.epoch share.logged share.refusal old new before now
 
-  -- All lines of a round were run, or left out: what is told of them, and what was found of each log. No more numbers
-  -- were drawn than the lines have tries. The log of a worker without a line is as it was; where a log is up none of
-  -- its lines waits.
+  -- All lines of a round were run, or left out: what is told of them, and what was found of each log. The log of a
+  -- worker without a line is as it was; where a log is up none of its lines waits.
   pub record RunsWorkers (tries : ℕ) (round : Round) (s t : Standing) (outcomes : List (List Outcome))
       (ends : List LogEnd) (logs_was logs : List LogState) (banks_was banks : List D) : Type 0 where
     pub shares : List Share
     pub over : RunsOver tries s t shares logs_was logs banks_was banks
     pub lines : map (λ (share : Share). share.lines) shares ≡ worker_lines round
     pub told : outcomes ≡ map (λ (share : Share). share.outcomes) shares
-    pub drawn : t.clock.draw ≤ s.clock.draw + tries * sum_by length outcomes
     pub idle : (i : ℕ) (share : Share) (old new : LogState) → slice_get shares i ≡ Some share → share.lines ≡ []
         → slice_get logs_was i ≡ Some old → slice_get logs i ≡ Some new → new ≡ old
     pub ends_failed : (i : ℕ) (end : LogEnd) (log : LogState) → slice_get ends i ≡ Some end

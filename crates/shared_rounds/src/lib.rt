@@ -7,13 +7,14 @@
 //!
 //! `RunsWorkers` says what a round's lines come to, whichever engine ran them: each line's outcome with its cause, an
 //! order of all commits in which they are serial from the standing before to the one after, and of each log that it
-//! took what its own worker's commits changed. `StopsWorkers` says it of some first lines, on an engine whose lines may
-//! want memory. Here [`make_rooms`] takes all memory that the lines of a round want (`IsRoomOf`), and [`run_workers`],
-//! which is lent it, wants none: it runs the lines in as many threads as workers have lines, of which the caller's is
-//! one. What it tells is `LinesCome`, and the commits that it tells are those that came to the history, each the
-//! attempt of its line's transaction (`HasGathered`). Behind the lines the mark of a worker without a line is idle, and
-//! that of one with lines, whose log is up, is its log's (`AreMarksBehind`). After it the engine is kept as between two
-//! rounds.
+//! took what its own worker's commits changed. Each number was drawn for a commit, or for a try that was refused behind
+//! its draw, and a try in conflict met a line of another worker (`RunsShares`). `StopsWorkers` says it of some first
+//! lines, on an engine whose lines may want memory. Here [`make_rooms`] takes all memory that the lines of a round want
+//! (`IsRoomOf`), and [`run_workers`], which is lent it, wants none: it runs the lines in as many threads as workers
+//! have lines, of which the caller's is one. What it tells is `LinesCome`, and the commits that it tells are those that
+//! came to the history, each the attempt of its line's transaction (`HasGathered`). Behind the lines the mark of a
+//! worker without a line is idle, and that of one with lines, whose log is up, is its log's (`AreMarksBehind`). After
+//! it the engine is kept as between two rounds.
 //! Terms: *standing*, the storages, their contents and the clock; *share*, a worker's lines with what came of them;
 //! *keeper*, the pass of the maintenance thread; *part*, a share with what the worker's pass knew at its begin and
 //! behind its lines; *room*, memory that was taken before it is wanted.

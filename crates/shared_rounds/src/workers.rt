@@ -1,5 +1,5 @@
 // All workers' lines of a round.
-ghost use Rattle.std.specs.Prelude.{◌≡◌, ◌<◌, ◌≤◌, [], Bool, Ok, length};
+ghost use Rattle.std.specs.Prelude.{◌≡◌, ◌<◌, ◌≤◌, [], Bool, Ok, length, true};
 ghost use Rattle.std.specs.List.{AllByRecursion};
 ghost use Rattle.worker_logs.specs.Logs.{LogState};
 ghost use Rattle.worker_logs.specs.Rows.{AreLogsUp};
@@ -10,6 +10,7 @@ ghost use Rattle.shared_rounds.specs.Lines.{LinesCome, standing};
 ghost use Rattle.shared_rounds.specs.Marks.{AreMarksBehind};
 ghost use Rattle.shared_rounds.specs.Parts.{clock_number};
 ghost use Rattle.shared_rounds.specs.Rooms.{IsRoomOf};
+ghost use Rattle.shared_rounds.specs.SharedState.{are_arrays};
 
 use crate::SharedEngine;
 use crate::cells::{WORKERS, run_all, seat_all};
@@ -43,6 +44,7 @@ pub fn run_workers<R: Threads + Sync, D: Disk + Send + Drop, G: Gate + Sync>(
     requires rooms { IsRoomOf round.now rooms }
     ensures arrays { HasNoTree engine.old.decls }
     ensures history { HasGathered engine.old.decls round.now result.outcomes engine.old.mine engine.new.mine }
+    ensures stays { are_arrays engine.new.decls engine.new.state ≡ true }
     ensures runs { (ended : Bool) → LinesCome D.tells D.clock D.image_at D.faults tries round.now
         (standing ended engine.old) (standing ended engine.new)
         logs.old.items logs.new.items growing.old.items growing.new.items (Ok result) }

@@ -14,12 +14,11 @@ use Rattle.serial_model.specs.ReplyWords.{replies_words}
 use Rattle.wire_form.specs.LogFile.{IsChangeOf, IsLineOf}
 use Rattle.wire_form.specs.LogLine.{IsLogLine, IsLoggable}
 use Rattle.serial_bridge.specs.WriteSets.{EachCounts}
-use Rattle.engine_words.specs.declared.view.Refused.TheVariants as refusals
 use Rattle.engine_words.specs.declared.view.View.{View}
 use Rattle.tx_runner.specs.LineEnds.{HasCommittedLine}
 use Rattle.tx_runner.specs.LineWrites.{rising_counts}
 use Rattle.tx_runner.specs.Lines.{IsAnswered, IsOnArray}
-use Rattle.tx_runner.specs.Tries.{HasConflicted, IsAtLimit}
+use Rattle.tx_runner.specs.Tries.{HasConflicted, IsAtLimit, ToClock}
 use Rattle.tx_script.specs.declared.outcome.Outcome.{Outcome}
 use Rattle.tx_script.specs.declared.outcome.Outcome.TheVariants.{Committed, Conflict, Limit}
 use Rattle.worker_logs.specs.Logs.{LogState}
@@ -107,7 +106,7 @@ pub committed_logs : (tries : ℕ) (ops : List Op) (verdict : Verdict) (replies 
 committed_logs tries ops verdict replies commit v w old new line takes logged = (
   record {
     outcome = Committed verdict commit.number replies;
-    refused = line.whys;
+    refused = line.losts;
     logged = logged_by commit commit.changes;
     comes = (commit, refl, refl, line, refl);
     line = line_of v.layout.decls commit commit.changes (changes_of line) logged;
@@ -116,12 +115,12 @@ committed_logs tries ops verdict replies commit v w old new line takes logged = 
   refl,
 )
 
-pub conflict_logs : (tries : ℕ) (ops : List Op) (v w : View) (log : LogState) → HasConflicted tries v w
+pub conflict_logs : (tries : ℕ) (ops : List Op) (v w : View) (log : LogState) → HasConflicted ops tries v w
     → LogsAs Conflict tries ops v w log log
 conflict_logs tries ops v w log line = (
   record {
     outcome = Conflict;
-    refused = line.whys;
+    refused = line.losts;
     logged = None;
     comes = (refl, line, refl);
     line = tt;
@@ -130,12 +129,12 @@ conflict_logs tries ops v w log line = (
   refl,
 )
 
-pub limit_logs : (tries : ℕ) (ops : List Op) (v w : View) (log : LogState) → IsAtLimit tries v w
+pub limit_logs : (tries : ℕ) (ops : List Op) (v w : View) (log : LogState) → IsAtLimit ops tries v w
     → LogsAs Limit tries ops v w log log
 limit_logs tries ops v w log line = (
   record {
     outcome = Limit;
-    refused = line.refused.whys ++ refusals.NumberLimit line.clock ∷ [];
+    refused = line.refused.losts ++ ToClock line.clock ∷ [];
     logged = None;
     comes = (refl, line, refl);
     line = tt;

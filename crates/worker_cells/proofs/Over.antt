@@ -14,7 +14,7 @@ use Rattle.commit_core.specs.CoreState.{last_marked, mark_of}
 use Rattle.commit_core.specs.declared.seat.Mark as core
 use Rattle.log_writer.specs.declared.journal.LogFault.{LogFault}
 use Rattle.tx_runner.specs.Epochs.{IsMarkedUpTo}
-use Rattle.engine_words.specs.declared.view.Refused.{Refused}
+use Rattle.tx_runner.specs.Tries.{Lost}
 use Rattle.engine_words.specs.declared.view.View.{View}
 use Rattle.tx_script.specs.declared.outcome.Outcome.{Outcome}
 use Rattle.tx_script.specs.declared.outcome.Outcome.TheVariants.{Committed, Conflict, Full, Wide, Limit, Unrun}
@@ -87,7 +87,7 @@ logged_is commit [] c is = absurd cc
 logged_is commit (first ∷ more) c is = cc
 
 -- a commit behind a mark has a later epoch
-line_above : (tries : ℕ) (ops : List Op) (outcome : Outcome) (refused : List Refused) (logged : Option Commit)
+line_above : (tries : ℕ) (ops : List Op) (outcome : Outcome) (refused : List Lost) (logged : Option Commit)
     (v w : View) (marked : ℕ) → ComesOf tries ops outcome refused logged v w → mark_of v.seat.marks ≡ Some marked
     → (c : Commit) → logged ≡ Some c → marked < c.number.epoch
 line_above tries ops (Committed verdict number replies) refused logged v w marked comes mark c is =
@@ -100,7 +100,7 @@ line_above tries ops Full refused logged v w marked comes mark c is = absurd com
 line_above tries ops Unrun refused logged v w marked comes mark c is = absurd comes
 
 -- whatever it changed
-line_since : (tries : ℕ) (ops : List Op) (outcome : Outcome) (refused : List Refused) (logged : Option Commit)
+line_since : (tries : ℕ) (ops : List Op) (outcome : Outcome) (refused : List Lost) (logged : Option Commit)
     (v w : View) (marked : ℕ) → ComesOf tries ops outcome refused logged v w → mark_of v.seat.marks ≡ Some marked
     → IsSince (marked + 1) outcome
 line_since tries ops (Committed verdict number replies) refused logged v w marked comes mark =

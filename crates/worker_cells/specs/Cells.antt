@@ -11,10 +11,10 @@ use Rattle.commit_core.specs.declared.seat.Mark as core
 use Rattle.log_writer.specs.Journal.{Reaches}
 use Rattle.log_writer.specs.declared.journal.LogFault.{LogFault}
 use Rattle.log_writer.specs.declared.journal.LogFault.TheVariants.{Device, Down, Limit as AtLimit}
-use Rattle.engine_words.specs.declared.view.Refused.{Refused}
 use Rattle.engine_words.specs.declared.view.View.{View}
 use Rattle.tx_commit.specs.Live.{IsOver}
 use Rattle.tx_runner.specs.Epochs.{IsMarkedUpTo}
+use Rattle.tx_runner.specs.Tries.{Lost}
 use Rattle.tx_script.specs.declared.outcome.Outcome.{Outcome}
 use Rattle.tx_script.specs.declared.outcome.Outcome.TheVariants.{Unrun}
 use Rattle.worker_logs.specs.Logs.{LogState}
@@ -79,7 +79,7 @@ fails (AtLimit size) = false
 -- A line was run, and its log got what it changed.
 pub record LogsLine (tries : ℕ) (ops : List Op) (v w : View) (old new : LogState) : Type 0 where
   pub outcome : Outcome
-  pub refused : List Refused
+  pub refused : List Lost
   pub logged : Option Commit
   pub comes : ComesOf tries ops outcome refused logged v w
   pub line : AllByRecursion (IsLineOf v.layout.decls) (option_to_list logged)

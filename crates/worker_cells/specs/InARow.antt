@@ -1,21 +1,25 @@
 -- Lines in a row: one more of them, and what a pass keeps through them.
-use Rattle.std.proofs.Common.{◌≡◌, ◌∙◌, ◌++◌, ◌∷◌, ◌≤◌, ◌+◌, ◌*◌, refl, sym, ap, ℕ, suc, List, [], length}
-use Rattle.std.proofs.Common.{Option, Some, None, append_assoc, arith, length-append}
-use Rattle.std.specs.Prelude.{option_to_list}
-use Rattle.std.proofs.lemmas.List.{append-nil}
-use Rattle.std.proofs.Math.Nat.{mul-suc}
+use Rattle.std.proofs.Common.{◌≡◌, ◌⊎◌, inl, inr, subst, ◌∙◌, ◌++◌, ◌∷◌, ◌+◌, refl, sym, ap, ℕ, Bool, false, cond, List, []}
+use Rattle.std.proofs.Common.{Option, Some, None, append_assoc, arith}
+use Rattle.std.specs.Prelude.{Contains, option_to_list}
+use Rattle.std.proofs.lemmas.List.{append-nil, map-append}
+use Rattle.std.proofs.lemmas.Grind.{flat_map-append}
+use Rattle.std.proofs.lemmas.List.Sums.{sum_by-cons}
+use Rattle.lists.specs.Elements.{in_head, in_tail}
 use Rattle.lists.specs.Fronts.{front_refl, front_then}
 use Rattle.serial_model.specs.declared.number.Commit.{Commit}
 use Rattle.serial_model.specs.declared.op.Op.{Op}
-use Rattle.engine_words.specs.declared.view.Refused.{Refused}
-use Rattle.engine_words.specs.declared.view.Refused.TheVariants as refusals
+use Rattle.engine_words.specs.declared.view.Touch.{Touch}
 use Rattle.engine_words.specs.declared.view.View.{View}
+use Rattle.engine_words.specs.Views.{seat_number}
 use Rattle.engine_words.specs.Cuts.{HasSeen}
 use Rattle.tx_commit.specs.Live.{IsOver}
-use Rattle.tx_runner.specs.Tries.{HasTriedFor}
+use Rattle.tx_runner.specs.Tries.{HasTriedFor, IsWrittenBy, Lost, ToClock, TouchesOnly, blame_of, blames_of, lost_to}
+use Rattle.tx_runner.specs.Tries.{why_of, whys_of}
+use Rattle.tx_script.specs.Run.{is_commit}
 use Rattle.tx_script.specs.declared.outcome.Outcome.{Outcome}
 use Rattle.tx_script.specs.declared.outcome.Outcome.TheVariants.{Committed, Conflict, Full, Wide, Limit, Unrun}
-use Rattle.worker_cells.specs.Rows.{AreInARow, ComesOf, Goes, LineRan, logged_of, refused_of}
+use Rattle.worker_cells.specs.Rows.{AreInARow, ComesOf, Goes, LineRan, drawn_in, draws_of, logged_of, refused_of}
 
 -- ---- between lines
 
@@ -33,6 +37,8 @@ goes_none v = record {
   mine = refl;
   refused = refl;
   draws = refl;
+  touched = refl;
+  blamed = refl;
 }
 
 pub goes_then : (u v w : View) → Goes u v → Goes v w → Goes u w
@@ -43,35 +49,46 @@ goes_then u v w first next = record {
   mine = next.mine ∙ first.mine;
   refused = next.refused ∙ first.refused;
   draws = next.draws ∙ first.draws;
+  touched = next.touched ∙ first.touched;
+  blamed = next.blamed ∙ first.blamed;
 }
 
 -- ---- one line
 
--- What a line with so many tries keeps of its pass, whatever comes of it: no transaction is under way, the marks are as
--- they were, what it was refused for, the line's tries were, and it drew no more numbers than there are tries.
-pub record Kept (tries : ℕ) (refused : List Refused) (v w : View) : Type 0 where
+-- What a line keeps of its pass, whatever comes of it: no transaction is under way, the marks are as they were, what the
+-- pass was refused for, the line's tries were, at the keys that are told, so many numbers were drawn for it, and locks
+-- were taken of keys that it may write.
+pub record Kept (ops : List Op) (outcome : Outcome) (refused : List Lost) (v w : View) : Type 0 where
   pub over : IsOver w
   pub layout : w.layout ≡ v.layout
   pub role : w.role ≡ v.role
   pub marks : w.seat.marks ≡ v.seat.marks
   pub seen : HasSeen v w
-  pub more : w.refused ≡ v.refused ++ refused
-  pub draws : w.draws ≤ v.draws + tries
+  pub more : w.refused ≡ v.refused ++ whys_of refused
+  pub draws : w.draws ≡ v.draws + (cond (is_commit outcome) 1 0 + lost_to refused)
+  pub blamed : w.blamed ≡ v.blamed ++ blames_of (seat_number v.role) refused
+  pub touched : TouchesOnly ops v w
 
-tries_keep : (tries : ℕ) (whys refused : List Refused) (v w : View) → HasTriedFor whys v w → refused ≡ whys
-    → length whys ≤ tries → Kept tries refused v w
-tries_keep tries whys refused v w t is few = record {
+tries_keep : (ops : List Op) (outcome : Outcome) (losts refused : List Lost) (v w : View) → HasTriedFor ops losts v w
+    → refused ≡ losts → is_commit outcome ≡ false → Kept ops outcome refused v w
+tries_keep ops outcome losts refused v w t is none = record {
   over = t.over;
   layout = t.layout;
   role = t.role;
   marks = t.marks;
   seen = t.seen;
-  more = t.refused ∙ ap (λ l. v.refused ++ l) (sym is);
-  draws = omega (arith, t.draws, few);
+  more = t.refused ∙ ap (λ (l : List Lost). v.refused ++ whys_of l) (sym is);
+  draws =
+      let drew = t.draws in
+      let same : lost_to refused ≡ lost_to losts = ap lost_to is in
+      let zero : ◌≡◌ {A = ℕ} (cond (is_commit outcome) 1 0) 0 = ap (λ (b : Bool). cond {A = ℕ} b 1 0) none in
+      omega (arith, drew, same, zero);
+  blamed = t.blamed ∙ ap (λ (l : List Lost). v.blamed ++ blames_of (seat_number v.role) l) (sym is);
+  touched = t.touched;
 }
 
-pub line_keeps : (tries : ℕ) (ops : List Op) (outcome : Outcome) (refused : List Refused) (logged : Option Commit)
-    (v w : View) → ComesOf tries ops outcome refused logged v w → Kept tries refused v w
+pub line_keeps : (tries : ℕ) (ops : List Op) (outcome : Outcome) (refused : List Lost) (logged : Option Commit)
+    (v w : View) → ComesOf tries ops outcome refused logged v w → Kept ops outcome refused v w
 line_keeps tries ops (Committed verdict number replies) refused logged v w comes =
     let line = comes.3 in
     record {
@@ -80,16 +97,16 @@ line_keeps tries ops (Committed verdict number replies) refused logged v w comes
       role = line.role;
       marks = line.marks;
       seen = line.seen;
-      more = line.refused ∙ ap (λ l. v.refused ++ l) (sym comes.4);
-      draws = omega (arith, line.draws, line.fewer);
+      more = line.refused ∙ ap (λ (l : List Lost). v.refused ++ whys_of l) (sym comes.4);
+      draws = let drew = line.draws in let same : lost_to refused ≡ lost_to line.losts = ap lost_to comes.4 in
+          omega (arith, drew, same);
+      blamed = line.blamed ∙ ap (λ (l : List Lost). v.blamed ++ blames_of (seat_number v.role) l) (sym comes.4);
+      touched = line.touched;
     }
 line_keeps tries ops Conflict refused logged v w comes =
-    tries_keep tries comes.1.whys refused v w comes.1.tried comes.2 (omega (arith, comes.1.count))
+    tries_keep ops Conflict comes.1.losts refused v w comes.1.tried comes.2 refl
 line_keeps tries ops Limit refused logged v w comes =
-    let whys = comes.1.refused.whys in
-    let why = refusals.NumberLimit comes.1.clock in
-    tries_keep tries (whys ++ why ∷ []) refused v w comes.1.refused.tried comes.2
-    (omega (arith, comes.1.refused.fewer, length-append whys (why ∷ [])))
+    tries_keep ops Limit (comes.1.refused.losts ++ ToClock comes.1.clock ∷ []) refused v w comes.1.refused.tried comes.2 refl
 line_keeps tries ops Full refused logged v w comes = absurd comes
 line_keeps tries ops Wide refused logged v w comes = absurd comes
 line_keeps tries ops Unrun refused logged v w comes = absurd comes
@@ -135,24 +152,67 @@ row_seen tries v (line ∷ more) w row =
 
 -- what the pass was refused for, the tries of its lines were, one line after another
 pub row_refused : (tries : ℕ) (v : View) (ran : List LineRan) (w : View) → AreInARow tries v ran w
-    → w.refused ≡ v.refused ++ refused_of ran
+    → w.refused ≡ v.refused ++ whys_of (refused_of ran)
 row_refused tries v [] w row = row.refused ∙ sym (append-nil v.refused)
 row_refused tries v (line ∷ more) w row =
     row_refused tries line.after more w row.2
-    ∙ ap (λ l. l ++ refused_of more)
+    ∙ ap (λ l. l ++ whys_of (refused_of more))
     ((line_keeps tries line.ops line.outcome line.refused line.logged line.before line.after row.1).more
-    ∙ ap (λ l. l ++ line.refused) row.0.refused)
-    ∙ append_assoc v.refused line.refused (refused_of more)
+    ∙ ap (λ l. l ++ whys_of line.refused) row.0.refused)
+    ∙ append_assoc v.refused (whys_of line.refused) (whys_of (refused_of more))
+    ∙ ap (λ l. v.refused ++ l) (sym (map-append why_of line.refused (refused_of more)))
 
--- it drew no more numbers than its lines had tries
+-- at which keys it met others, line after line
+pub row_blamed : (tries : ℕ) (v : View) (ran : List LineRan) (w : View) → AreInARow tries v ran w
+    → w.blamed ≡ v.blamed ++ blames_of (seat_number v.role) (refused_of ran)
+row_blamed tries v [] w row = row.blamed ∙ sym (append-nil v.blamed)
+row_blamed tries v (line ∷ more) w row =
+    let q = seat_number v.role in
+    let kept = line_keeps tries line.ops line.outcome line.refused line.logged line.before line.after row.1 in
+    let here : seat_number line.before.role ≡ q = ap seat_number row.0.role in
+    let after : seat_number line.after.role ≡ q = ap seat_number kept.role ∙ here in
+    row_blamed tries line.after more w row.2
+    ∙ ap (λ (n : ℕ). line.after.blamed ++ blames_of n (refused_of more)) after
+    ∙ ap (λ l. l ++ blames_of q (refused_of more))
+    (kept.blamed ∙ ap (λ (n : ℕ). line.before.blamed ++ blames_of n line.refused) here
+    ∙ ap (λ l. l ++ blames_of q line.refused) row.0.blamed)
+    ∙ append_assoc v.blamed (blames_of q line.refused) (blames_of q (refused_of more))
+    ∙ ap (λ l. v.blamed ++ l) (sym (flat_map-append (blame_of q) line.refused (refused_of more)))
+
+-- a lock that it took is of a key that one of its lines may write
+pub record IsTakenBy (seat : ℕ) (ran : List LineRan) (t : Touch) : Type 0 where
+  pub own : t.seat ≡ seat
+  pub line : LineRan
+  pub among : Contains ran line
+  pub written : IsWrittenBy line.ops t.key
+
+pub row_touched : (tries : ℕ) (v : View) (ran : List LineRan) (w : View) → AreInARow tries v ran w → (t : Touch)
+    → Contains w.touched t → Contains v.touched t ⊎ IsTakenBy (seat_number v.role) ran t
+row_touched tries v [] w row t has = inl (subst (λ (l : List Touch). Contains l t) row.touched has)
+row_touched tries v (line ∷ more) w row t has =
+    let kept = line_keeps tries line.ops line.outcome line.refused line.logged line.before line.after row.1 in
+    let here : seat_number line.before.role ≡ seat_number v.role = ap seat_number row.0.role in
+    elim (row_touched tries line.after more w row.2 t has) [
+      | inr later ↦ inr (record {
+        own = later.own ∙ ap seat_number kept.role ∙ here;
+        line = later.line;
+        among = in_tail later.line line more later.among;
+        written = later.written;
+      })
+      | inl before ↦ elim (kept.touched t before) [
+        | inl first ↦ inl (subst (λ (l : List Touch). Contains l t) row.0.touched first)
+        | inr own ↦ inr (record { own = own.0 ∙ here; line = line; among = in_head line more; written = own.1 })
+      ]
+    ]
+
+-- the numbers that it drew were drawn for its lines
 pub row_draws : (tries : ℕ) (v : View) (ran : List LineRan) (w : View) → AreInARow tries v ran w
-    → w.draws ≤ v.draws + tries * length ran
+    → w.draws ≡ v.draws + draws_of ran
 row_draws tries v [] w row = omega (arith, row.draws)
 row_draws tries v (line ∷ more) w row =
     let kept = line_keeps tries line.ops line.outcome line.refused line.logged line.before line.after row.1 in
-    let rest : w.draws ≤ line.after.draws + tries * length more = row_draws tries line.after more w row.2 in
-    let one : tries * suc (length more) ≡ tries * length more + tries = mul-suc tries (length more) in
-    omega (arith, row.0.draws, kept.draws, rest, one)
+    let rest : w.draws ≡ line.after.draws + draws_of more = row_draws tries line.after more w row.2 in
+    omega (arith, row.0.draws, kept.draws, rest, sum_by-cons drawn_in line more)
 
 -- what the log gets of one more
 pub logged_push : (ran : List LineRan) (line : LineRan)

@@ -1,14 +1,14 @@
 -- What comes of a worker's lines on words that threads share, one after another.
-use Rattle.std.specs.Prelude.{◌≡◌, ◌≤◌, ◌++◌, ℕ, List, [], ◌∷◌, filter_map, flat_map, map, Option, Some, None, ⊤}
+use Rattle.std.specs.Prelude.{◌≡◌, ◌+◌, ◌≤◌, ◌++◌, ℕ, List, [], ◌∷◌, cond, filter_map, flat_map, map, sum_by, Option}
+use Rattle.std.specs.Prelude.{Some, None, ⊤}
 use Rattle.serial_model.specs.declared.number.Change.{Change}
 use Rattle.serial_model.specs.declared.number.Commit.{Commit}
 use Rattle.serial_model.specs.declared.op.Op.{Op}
-use Rattle.engine_words.specs.declared.view.Refused.{Refused}
-use Rattle.engine_words.specs.declared.view.Refused.TheVariants as refusals
 use Rattle.engine_words.specs.declared.view.View.{View}
 use Rattle.engine_words.specs.Cuts.{HasSeen}
 use Rattle.tx_runner.specs.LineEnds.{HasCommittedLine}
-use Rattle.tx_runner.specs.Tries.{HasConflicted, IsAtLimit}
+use Rattle.tx_runner.specs.Tries.{HasConflicted, IsAtLimit, Lost, ToClock, lost_to}
+use Rattle.tx_script.specs.Run.{is_commit}
 use Rattle.tx_script.specs.declared.outcome.Outcome.{Outcome}
 use Rattle.tx_script.specs.declared.outcome.Outcome.TheVariants.{Committed, Conflict, Full, Wide, Limit, Unrun}
 
@@ -21,15 +21,15 @@ logged_by commit (first ∷ more) = Some commit
 
 -- What came of a line with so many tries, from the one view to the other: its outcome, the refusals of its tries, and
 -- what the log gets. An array wants no slot, a line's operations fill no set, and a line that was left out isn't run.
-abbrev pub ComesOf : ℕ → List Op → Outcome → List Refused → Option Commit → View → View → Type 0
+abbrev pub ComesOf : ℕ → List Op → Outcome → List Lost → Option Commit → View → View → Type 0
 ComesOf tries ops (Committed verdict number replies) refused logged v w =
     (commit : Commit) × (commit.number ≡ number) × (logged ≡ logged_by commit commit.changes)
-    × (line : HasCommittedLine ops tries verdict replies commit v w) × (refused ≡ line.whys)
+    × (line : HasCommittedLine ops tries verdict replies commit v w) × (refused ≡ line.losts)
 ComesOf tries ops Conflict refused logged v w =
-    (logged ≡ None) × (line : HasConflicted tries v w) × (refused ≡ line.whys)
+    (logged ≡ None) × (line : HasConflicted ops tries v w) × (refused ≡ line.losts)
 ComesOf tries ops Limit refused logged v w =
-    (logged ≡ None) × (line : IsAtLimit tries v w)
-    × (refused ≡ line.refused.whys ++ refusals.NumberLimit line.clock ∷ [])
+    (logged ≡ None) × (line : IsAtLimit ops tries v w)
+    × (refused ≡ line.refused.losts ++ ToClock line.clock ∷ [])
 ComesOf tries ops Full refused logged v w = ⊥
 ComesOf tries ops Wide refused logged v w = ⊥
 ComesOf tries ops Unrun refused logged v w = ⊥
@@ -47,14 +47,14 @@ IsSince epoch Unrun = ⊤
 pub record LineRan : Type 0 where
   pub ops : List Op
   pub outcome : Outcome
-  pub refused : List Refused
+  pub refused : List Lost
   pub logged : Option Commit
   pub before : View
   pub after : View
 
 -- ---- lines in a row
 
--- Between two lines a pass loads the clock and sets its mark: of its commits, refusals and draws none is new.
+-- Between two lines a pass loads the clock and sets its mark: of its commits, refusals, draws and locks none is new.
 pub record Goes (v w : View) : Type 0 where
   pub seen : HasSeen v w
   pub layout : w.layout ≡ v.layout
@@ -62,6 +62,8 @@ pub record Goes (v w : View) : Type 0 where
   pub mine : w.mine ≡ v.mine
   pub refused : w.refused ≡ v.refused
   pub draws : w.draws ≡ v.draws
+  pub touched : w.touched ≡ v.touched
+  pub blamed : w.blamed ≡ v.blamed
 
 -- the lines were run one after another, each with so many tries, from the one view to the other
 abbrev pub AreInARow : ℕ → View → List LineRan → View → Type 0
@@ -77,11 +79,19 @@ lines_of ran = map (λ (line : LineRan). line.ops) ran
 abbrev pub outcomes_of : List LineRan → List Outcome
 outcomes_of ran = map (λ (line : LineRan). line.outcome) ran
 
-abbrev pub refused_of : List LineRan → List Refused
+abbrev pub refused_of : List LineRan → List Lost
 refused_of ran = flat_map (λ (line : LineRan). line.refused) ran
 
 abbrev pub logged_of : List LineRan → List Commit
 logged_of ran = filter_map (λ (line : LineRan). line.logged) ran
+
+-- how many numbers were drawn for a line: one for its commit, and those of its tries that were refused behind a draw
+abbrev pub drawn_in : LineRan → ℕ
+drawn_in line = cond (is_commit line.outcome) 1 0 + lost_to line.refused
+
+-- and for the lines
+abbrev pub draws_of : List LineRan → ℕ
+draws_of ran = sum_by drawn_in ran
 
 -- the outcomes of lines that were left out
 abbrev pub unrun : List (List Op) → List Outcome

@@ -3,14 +3,15 @@ use Rattle.std.proofs.Common.{sym, subst}
 use Rattle.std.specs.Prelude.{get_or}
 use Rattle.wire_form.specs.declared.clock.Mark.{Mark}
 use Rattle.tx_commit.specs.Live.{IsOver}
+use Rattle.tx_runner.specs.OwnThreads.{seat_over}
 use Rattle.views.specs.Sums.{times}
 use Rattle.engine_words.specs.Cuts.{seated, worker_view}
 use Rattle.engine_words.specs.Passes.{view}
 use Rattle.engine_words.specs.declared.view.View.{View}
 use Rattle.shared_rounds.specs.Rooms.{AreRooms}
 use Rattle.shared_rounds.specs.Seated.{IsBegun, SeatedSoFar}
-use Rattle.shared_rounds.specs.Seating.{with_made}
-use Rattle.shared_rounds.proofs.Seated.{last_room, none_seated, not_seated, over_at, seats_more, seats_one}
+use Rattle.shared_rounds.specs.Seating.{seats_from, with_made}
+use Rattle.shared_rounds.proofs.Seated.{last_room, none_seated, not_seated, seated_made, seats_more, seats_one}
 use Rattle.shared_rounds.proofs.cells.seat_all.Goals as goal
 
 pub loop-count-init : goal.loop-count-init
@@ -34,7 +35,7 @@ loop-count-init g c =
     }
   where
     unmade : (v : View) → v.made ≡ [] → v ≡ with_made [] v
-    unmade v none = ap (λ l. with_made l v) none
+    unmade v none = ap (λ l. record v { made = l }) none
 
 pub seat_one-pass-requires-clause-worker : goal.seat_one-pass-requires-clause-worker
 seat_one-pass-requires-clause-worker g c =
@@ -47,7 +48,7 @@ seat_one-pass-requires-clause-worker g c =
 pub seat_one-pass-requires-clause-over : goal.seat_one-pass-requires-clause-over
 seat_one-pass-requires-clause-over g c =
     subst (λ (v : View). IsOver (worker_view (7 - c.loop-count.count) v)) (sym c.loop-count.invariant.keeper)
-    (over_at (view c.args.keeper.now) (7 - c.loop-count.count) c.requires.keeper.decls
+    (seat_over (view c.args.keeper.now) (7 - c.loop-count.count) c.requires.keeper.decls
     (c.requires.keeper.parked (7 - c.loop-count.count) (omega arith)))
 
 pub loop-count-preserved : goal.loop-count-preserved
@@ -78,6 +79,8 @@ loop-count-preserved g c =
     record {
       of = search rules;
       keeper = c.seat_one-pass.ensures.keeper ∙ ap (seated (7 - c.loop-count.count)) inv.keeper
+          ∙ seated_made (seats_from c.loop-count.count (8 - c.loop-count.count)) (7 - c.loop-count.count)
+          (view c.args.keeper.now)
           ∙ ap (λ l. with_made l (view c.args.keeper.now)) (seats_more c.loop-count.count less);
       len = search rules;
       logs_len = omega (arith, inv.logs_len, logs_less);

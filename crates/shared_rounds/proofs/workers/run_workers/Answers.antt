@@ -11,6 +11,7 @@ use Rattle.shared_rounds.specs.SharedState.{AreKept, shared_by}
 use Rattle.shared_rounds.proofs.Backward.{cells_end, cells_ready}
 use Rattle.shared_rounds.proofs.Gathering.{gathered_so}
 use Rattle.shared_rounds.proofs.Rounded.{clock_so, lent_ran, round_comes, round_kept, round_marks, stand_for}
+use Rattle.shared_rounds.proofs.StillArrays.{still_arrays}
 use Rattle.shared_rounds.proofs.workers.run_workers.Goals as goal
 
 pub run_all-requires-clause-ready : goal.run_all-requires-clause-ready
@@ -88,6 +89,27 @@ returns-clause-history g c =
     (view c.engine.inside.keeper) (view c.end_all-ran.new.keeper) (view c.audit-word.new.pass) c.args.logs.now.items
     c.end_all-ran.new.logs.items c.args.growing.now.items c.end_all-ran.new.growing.items
     c.end_all-ran.result ended inv.kept c.audit-word.result.0 c.audit-word.result.1 c.audit-word.ensures.counts)
+
+pub returns-clause-stays : goal.returns-clause-stays
+returns-clause-stays g c =
+    let inv = c.engine.invariant in
+    let same : length c.run_all.new.cells ≡ length c.seat_all.new.cells.items = search rules in
+    let len : c.seat_all.new.cells.len ≡ length c.seat_all.new.cells.items = search rules in
+    let ran = lent_ran g.D.Disk.tells g.D.Disk.clock g.D.Disk.image_at g.D.Disk.faults c.args.tries c.args.round.now
+    c.engine.inside.words (view c.engine.inside.keeper) c.args.rooms.counts c.seat_all.new.cells.items
+    c.run_all.new.cells c.as_mut_slice.result.now c.seat_all.new.cells.len c.args.logs.now.items
+    c.args.growing.now.items c.requires.rooms.counts same len c.as_mut_slice.ensures.value c.seat_all.ensures.seated
+    c.run_all.ensures.ran in
+    let ended = c.end_all-ran.ensures.ended c.args.tries c.args.round.now
+    (view c.engine.inside.keeper) c.args.logs.now.items c.args.growing.now.items
+    (stand_for (view c.engine.inside.keeper) (view c.seat_all.new.keeper) c.seat_all.ensures.keeper inv.kept) ran in
+    still_arrays (view c.audit-word.new.pass) (round_kept g.D.Disk.tells g.D.Disk.clock g.D.Disk.image_at
+    g.D.Disk.faults c.args.tries c.args.round.now
+    c.engine.inside.words (view c.engine.inside.keeper) (view c.end_all-ran.new.keeper) c.audit-word.new.pass
+    c.engine.inside.decls c.args.logs.now.items c.end_all-ran.new.logs.items c.args.growing.now.items
+    c.end_all-ran.new.growing.items c.end_all-ran.result.outcomes c.end_all-ran.result.ends.items ended inv.kept
+    c.audit-word.result.0 c.audit-word.result.1 c.audit-word.ensures.counts c.audit-word.ensures.of inv.decls_are
+    c.engine.inside.clock inv.number inv.epoch).kept
 
 pub returns-clause-runs : goal.returns-clause-runs
 returns-clause-runs g c =

@@ -1,0 +1,201 @@
+-- Whom tries in conflict met: where one met another's lock, a line of another worker may change that key.
+use Rattle.std.proofs.Common.{◌≡◌, ◌≢◌, ◌⊎◌, ◌∙◌, inl, inr, sym, ap, subst, refl, ℕ, zero, suc, ◌+◌, true, List, []}
+use Rattle.std.proofs.Common.{◌∷◌, ◌++◌, map, arith, Option, Some}
+use Rattle.std.specs.Prelude.{slice_get}
+use Rattle.std.specs.List.{AllByRecursion, Contains}
+use Rattle.std.proofs.lemmas.Bool.Decides.{nat_tests}
+use Rattle.std.proofs.lemmas.List.Elements.{Contains-append_left, Contains-append_right}
+use Rattle.lists.specs.Elements.{any_in, in_cases, in_head, in_none, in_tail}
+use Rattle.serial_model.specs.declared.key.Key.{Key}
+use Rattle.serial_model.specs.declared.op.Op.{Op}
+use Rattle.serial_model.specs.declared.op.Op.TheVariants.{Read, Write, Remove, Add, Take, Scan}
+use Rattle.engine_words.specs.Touches.{AreBlamed, Other, touch}
+use Rattle.engine_words.specs.declared.view.Touch.{Touch}
+use Rattle.engine_words.specs.declared.view.View.{View}
+use Rattle.tx_commit.specs.Turning.{IsOfKey, MayWrite}
+use Rattle.tx_runner.specs.Tries.{IsKeyOf, IsWrittenBy, Lost, ToClock, ToOther, blame_of, blames_of}
+use Rattle.tx_script.specs.Conflicts.{ChangesIn, IsMet, IsMetBy, LinesMet, WorkersMet, changes, changes_key, same_key, touches}
+use Rattle.tx_script.specs.Conflicts.{touches_key}
+use Rattle.tx_script.specs.Run.{TryRefusal}
+use Rattle.worker_cells.specs.Rows.{AreInARow, ComesOf, LineRan, lines_of, refused_of}
+use Rattle.shared_rounds.specs.Parts.{AreParts, IsPart, IsRound, Part, no_tries, share_of, tries_of, try_refusal}
+use Rattle.shared_rounds.specs.Shares.{Share}
+use Rattle.shared_rounds.proofs.Conflicts.{IsLostOf, line_lost}
+use Rattle.shared_rounds.proofs.Joined.{shares_of}
+
+-- ---- lists
+
+pub in_either : {A : Type 0} (t : A) (xs ys : List A) → Contains (xs ++ ys) t → Contains xs t ⊎ Contains ys t
+in_either t [] ys has = inr has
+in_either t (x ∷ xs) ys has = elim (in_cases t x (xs ++ ys) has) [
+  | inl e ↦ inl (subst (λ u. Contains (x ∷ xs) u) e (in_head x xs))
+  | inr more ↦ elim (in_either t xs ys more) [ inl old ↦ inl (in_tail t x xs old) | inr new ↦ inr new ]
+]
+
+-- ---- keys
+
+same_self : (k : Key) → same_key k k ≡ true
+same_self k = grind (arith, nat_tests)
+
+same_of : (q k : Key) → q ≡ k → same_key q k ≡ true
+same_of q k is = subst (λ (x : Key). same_key q x ≡ true) is (same_self q)
+
+touched_by : (op : Op) (k : Key) → IsOfKey op k → touches_key k op ≡ true
+touched_by (Read q) k of = same_of q k of
+touched_by (Write q value) k of = same_of q k of
+touched_by (Remove q) k of = same_of q k of
+touched_by (Add q value) k of = same_of q k of
+touched_by (Take q value) k of = same_of q k of
+touched_by (Scan storage low high) k of = absurd of
+
+changed_by : (op : Op) (k : Key) → MayWrite op k → changes_key k op ≡ true
+changed_by (Read q) k may = absurd may
+changed_by (Write q value) k may = same_of q k may
+changed_by (Remove q) k may = same_of q k may
+changed_by (Add q value) k may = same_of q k may
+changed_by (Take q value) k may = same_of q k may
+changed_by (Scan storage low high) k may = absurd may
+
+line_touches : (ops : List Op) (k : Key) → IsKeyOf ops k → touches ops k ≡ true
+line_touches ops k key = any_in (touches_key k) ops key.op key.among (touched_by key.op k key.at)
+
+line_changes : (ops : List Op) (k : Key) → IsWrittenBy ops k → changes ops k ≡ true
+line_changes ops k key = any_in (changes_key k) ops key.op key.among (changed_by key.op k key.writes)
+
+-- ---- lines that were run
+
+-- a refusal is among those of its line, and so of all lines
+blame_in : (q : ℕ) (k : Key) (losts : List Lost) (lost : Lost) → Contains losts lost → Contains (blame_of q lost) (touch q k)
+    → Contains (blames_of q losts) (touch q k)
+blame_in q k [] lost has here = absurd (in_none lost has)
+blame_in q k (x ∷ losts) lost has here = elim (in_cases lost x losts has) [
+  | inl same ↦ Contains-append_left (blame_of q x) (blames_of q losts) (touch q k)
+      (subst (λ (y : Lost). Contains (blame_of q y) (touch q k)) (sym same) here)
+  | inr later ↦ Contains-append_right (blame_of q x) (blames_of q losts) (touch q k) (blame_in q k losts lost later here)
+]
+
+refused_in : (ran : List LineRan) (line : LineRan) (lost : Lost) → Contains ran line → Contains line.refused lost
+    → Contains (refused_of ran) lost
+refused_in [] line lost has there = absurd (in_none line has)
+refused_in (x ∷ ran) line lost has there = elim (in_cases line x ran has) [
+  | inl same ↦ Contains-append_left x.refused (refused_of ran) lost
+      (subst (λ (y : LineRan). Contains y.refused lost) (sym same) there)
+  | inr later ↦ Contains-append_right x.refused (refused_of ran) lost (refused_in ran line lost later there)
+]
+
+ops_in : (ran : List LineRan) (left : List (List Op)) (line : LineRan) → Contains ran line
+    → Contains (lines_of ran ++ left) line.ops
+ops_in [] left line has = absurd (in_none line has)
+ops_in (x ∷ ran) left line has = elim (in_cases line x ran has) [
+  | inl same ↦ subst (λ (y : LineRan). Contains (x.ops ∷ (lines_of ran ++ left)) y.ops) same
+      (in_head x.ops (lines_of ran ++ left))
+  | inr later ↦ in_tail line.ops x.ops (lines_of ran ++ left) (ops_in ran left line later)
+]
+
+row_lost : (tries : ℕ) (v : View) (ran : List LineRan) (w : View) → AreInARow tries v ran w → (line : LineRan)
+    → Contains ran line → AllByRecursion (IsLostOf line.ops) line.refused
+row_lost tries v [] w row line has = absurd (in_none line has)
+row_lost tries v (x ∷ ran) w row line has = elim (in_cases line x ran has) [
+  | inl same ↦ subst (λ (y : LineRan). AllByRecursion (IsLostOf y.ops) y.refused) same
+      (line_lost tries x.ops x.outcome x.refused x.logged x.before x.after row.1)
+  | inr later ↦ row_lost tries x.after ran w row.2 line later
+]
+
+part_at : (tries : ℕ) (was ended : View) (first : ℕ) (parts : List Part) (i : ℕ) (p : Part)
+    → AreParts tries was ended first parts → slice_get parts i ≡ Some p → IsPart tries was ended (first + i) p
+part_at tries was ended first [] i p are there = absurd cc
+part_at tries was ended first (x ∷ parts) zero p are there =
+    let same : x ≡ p = cc in
+    let here : first ≡ first + 0 = omega arith in
+    subst (λ n. IsPart tries was ended n p) here (subst (IsPart tries was ended first) same are.0)
+part_at tries was ended first (x ∷ parts) (suc i) p are there =
+    let later : (first + 1) + i ≡ first + suc i = omega arith in
+    subst (λ n. IsPart tries was ended n p) later (part_at tries was ended (first + 1) parts i p are.1 there)
+
+share_there : (parts : List Part) (i : ℕ) (p : Part) → slice_get parts i ≡ Some p
+    → slice_get (map (λ (share : Share). share.lines) (shares_of parts)) i ≡ Some (lines_of p.ran ++ p.left)
+share_there [] i p there = absurd cc
+share_there (x ∷ parts) zero p there =
+    let same : x ≡ p = cc in ap (λ (y : Part). Some (lines_of y.ran ++ y.left)) same
+share_there (x ∷ parts) (suc i) p there = share_there parts i p there
+
+-- ---- all parts
+
+module _ (tries : ℕ) (was now : View) (parts : List Part) (r : IsRound tries was now parts) where
+  abbrev lines_all : List (List (List Op))
+  lines_all = map (λ (share : Share). share.lines) (shares_of parts)
+
+  blamed_all : AreBlamed (λ q k. Contains r.ended.touched (touch q k)) r.ended.blamed
+  blamed_all b has =
+      let o = r.audited.2.blamed (ap (λ (v : View). v.role) r.audited.1.is ∙ r.role)
+      (ap (λ (v : View). v.made) r.audited.1.is ∙ r.made) b
+      (subst (λ (l : List Touch). Contains l b) (sym (ap (λ (v : View). v.blamed) r.audited.1.is)) has) in
+      record {
+        by = o.by;
+        apart = o.apart;
+        taken = subst (λ (l : List Touch). Contains l (touch o.by b.key)) (ap (λ (v : View). v.touched) r.audited.1.is) o.taken;
+      }
+
+  lost_met : (worker : ℕ) (p : Part) → slice_get parts worker ≡ Some p → (line : LineRan) → Contains p.ran line
+      → (lost : Lost) → Contains line.refused lost → IsLostOf line.ops lost
+      → IsMet lines_all worker line.ops (try_refusal lost)
+  lost_met worker p at line among (ToClock clock) has of = tt
+  lost_met worker p at line among (ToOther clash) has of =
+      let b : Touch = touch (suc worker) clash.key in
+      let o = blamed_all b (r.blamed worker p at b (blame_in (suc worker) clash.key (refused_of p.ran) (ToOther clash)
+      (refused_in p.ran line (ToOther clash) among has) (in_head b []))) in
+      let x = r.touched (touch o.by clash.key) o.taken in
+      let own : o.by ≡ suc x.0 = x.3.own in
+      record {
+        key = line_touches line.ops clash.key of.1;
+        by = x.0;
+        other = λ same. o.apart (own ∙ ap suc same);
+        changer = record {
+          mine = lines_of x.1.ran ++ x.1.left;
+          at = share_there parts x.0 x.1 x.2;
+          ops = x.3.line.ops;
+          among = ops_in x.1.ran x.1.left x.3.line x.3.among;
+          changes = line_changes x.3.line.ops clash.key x.3.written;
+        };
+      }
+
+  line_met : (worker : ℕ) (p : Part) → slice_get parts worker ≡ Some p → (line : LineRan) → Contains p.ran line
+      → (losts : List Lost) → ((lost : Lost) → Contains losts lost → Contains line.refused lost)
+      → AllByRecursion (IsLostOf line.ops) losts
+      → AllByRecursion (IsMet lines_all worker line.ops) (map try_refusal losts)
+  line_met worker p at line among [] within of = tt
+  line_met worker p at line among (lost ∷ losts) within of = (
+    lost_met worker p at line among lost (within lost (in_head lost losts)) of.0,
+    line_met worker p at line among losts (λ x has. within x (in_tail x lost losts has)) of.1,
+  )
+
+  left_met : (worker : ℕ) (left : List (List Op)) → LinesMet lines_all worker left (no_tries left)
+  left_met worker [] = tt
+  left_met worker (ops ∷ left) = (tt, left_met worker left)
+
+  lines_met : (worker : ℕ) (p : Part) → slice_get parts worker ≡ Some p → (ran : List LineRan)
+      → ((line : LineRan) → Contains ran line → Contains p.ran line) → (left : List (List Op))
+      → LinesMet lines_all worker (lines_of ran ++ left) (tries_of ran ++ no_tries left)
+  lines_met worker p at [] within left = left_met worker left
+  lines_met worker p at (line ∷ ran) within left =
+      let among = within line (in_head line ran) in
+      let part = part_at tries was r.ended 0 parts worker p r.parts_are at in (
+        line_met worker p at line among line.refused (λ lost has. has) (row_lost tries p.from p.ran p.to part.row line among),
+        lines_met worker p at ran (λ x has. within x (in_tail x line ran has)) left,
+      )
+
+  workers_met : (first : ℕ) (rest : List Part)
+      → ((i : ℕ) (p : Part) → slice_get rest i ≡ Some p → slice_get parts (first + i) ≡ Some p)
+      → WorkersMet lines_all first (map (λ (share : Share). share.lines) (shares_of rest))
+      (map (λ (share : Share). share.tries_refused) (shares_of rest))
+  workers_met first [] there = tt
+  workers_met first (p ∷ rest) there =
+      let here : first + 0 ≡ first = omega arith in (
+        lines_met first p (ap (λ n. slice_get parts n) (sym here) ∙ there 0 p refl) p.ran (λ line has. has) p.left,
+        workers_met (first + 1) rest (λ i q is.
+            let later : (first + 1) + i ≡ first + suc i = omega arith in
+            ap (λ n. slice_get parts n) later ∙ there (suc i) q is),
+      )
+
+  pub all_met : WorkersMet lines_all 0 lines_all (map (λ (share : Share). share.tries_refused) (shares_of parts))
+  all_met = workers_met 0 parts (λ i p is. let same : 0 + i ≡ i = omega arith in ap (λ n. slice_get parts n) same ∙ is)

@@ -16,6 +16,3 @@ mod reducing;
 
 pub use latest::Logged;
 pub use reducing::reduce;
-
-#[cfg(test)]
-mod tests;

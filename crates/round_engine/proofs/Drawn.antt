@@ -12,7 +12,8 @@ use Rattle.tx_script.specs.declared.outcome.Outcome.{Outcome}
 use Rattle.tx_script.specs.declared.outcome.Outcome.TheVariants.{Committed, Conflict, Full, Limit, Unrun, Wide}
 use Rattle.tx_script.specs.Run.{LogRefusal, is_commit}
 use Rattle.tx_script.specs.Causes.{UnrunLast, is_unrun}
-use Rattle.tx_script.specs.Draws.{IsPlain, commits_of}
+use Rattle.tx_script.specs.Conflicts.{IsMet, LinesMet}
+use Rattle.tx_script.specs.Draws.{IsPlain, commits_of, lost_of_line, lost_of_lines}
 use Rattle.round_engine.specs.Shares.{AllCome, ComesTo, NoNumber, TryRefusal, conflicts_among}
 use Rattle.round_engine.specs.Standing.{Standing}
 use Rattle.round_engine.specs.Plainly.{after_line, after_lines, committed, has_number, next_number, outcomes_at}
@@ -132,6 +133,42 @@ part_plain (ops ∷ lines) left s = (
   (ran_comes 0 s.clock.draw 1 None ops s (has_number s) (omega arith) refl (omega arith) (omega arith)).1,
   part_plain lines left (after_line s ops),
 )
+
+-- nothing was drawn for tries of it that were refused
+line_lost : (outcome : Outcome) → lost_of_line (refusals_at outcome) ≡ 0
+line_lost (Committed verdict number replies) = refl
+line_lost Conflict = refl
+line_lost Full = refl
+line_lost Wide = refl
+line_lost Limit = refl
+line_lost Unrun = refl
+
+pub lines_lost : (outcomes : List Outcome) → lost_of_lines (map refusals_at outcomes) ≡ 0
+lines_lost [] = refl
+lines_lost (outcome ∷ outcomes) = omega (
+  arith,
+  sum_by-cons lost_of_line (refusals_at outcome) (map refusals_at outcomes),
+  line_lost outcome,
+  lines_lost outcomes,
+)
+
+-- no try of it met anybody
+line_meets : (lines : List (List (List Op))) (worker : ℕ) (ops : List Op) (outcome : Outcome)
+    → AllByRecursion (IsMet lines worker ops) (refusals_at outcome)
+line_meets lines worker ops (Committed verdict number replies) = tt
+line_meets lines worker ops Conflict = tt
+line_meets lines worker ops Full = tt
+line_meets lines worker ops Wide = tt
+line_meets lines worker ops Limit = (tt, tt)
+line_meets lines worker ops Unrun = tt
+
+pub lines_meet : (lines : List (List (List Op))) (worker : ℕ) (mine : List (List Op)) (outcomes : List Outcome)
+    → length outcomes ≡ length mine → LinesMet lines worker mine (map refusals_at outcomes)
+lines_meet lines worker [] [] same = tt
+lines_meet lines worker [] (outcome ∷ outcomes) same = absurd (omega (arith, same))
+lines_meet lines worker (ops ∷ mine) [] same = absurd (omega (arith, same))
+lines_meet lines worker (ops ∷ mine) (outcome ∷ outcomes) same =
+    (line_meets lines worker ops outcome, lines_meet lines worker mine outcomes (omega (arith, same)))
 
 -- no try of it is in conflict
 line_free : (outcome : Outcome) → conflicts_among (refusals_at outcome) ≡ 0

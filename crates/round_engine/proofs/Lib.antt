@@ -1,3 +1,4 @@
+pub mod Alone
 pub mod Beginning
 pub mod Beside
 pub mod Chains

@@ -55,10 +55,10 @@ number_there s view is less =
 -- where a line that got a number leaves the engine
 pub after_numbered : (s : Standing) (ops : List Op) (decls : List Decl) (state : State) → has_number s ≡ true
     → decls ≡ s.decls → (step s.decls s.state ops).state ≡ state
-    → ◌≡◌ {A = Standing} (record { decls = decls; state = state; clock = next_number s.clock; conflicts = s.conflicts; ended = s.ended })
+    → ◌≡◌ {A = Standing} (record { decls = decls; state = state; clock = next_number s.clock; mine = s.mine; conflicts = s.conflicts; ended = s.ended })
     (after_line s ops)
 after_numbered s ops decls state has same is =
-    let t : Standing = record { decls = decls; state = state; clock = next_number s.clock; conflicts = s.conflicts; ended = s.ended } in
+    let t : Standing = record { decls = decls; state = state; clock = next_number s.clock; mine = s.mine; conflicts = s.conflicts; ended = s.ended } in
     let kept : t ≡ record s { state = state; clock = next_number s.clock } =
     ap (λ ds. record s { decls = ds; state = state; clock = next_number s.clock }) same in
     let left : record s { state = state; clock = next_number s.clock }

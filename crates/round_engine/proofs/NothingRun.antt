@@ -78,6 +78,7 @@ module _ {D : Type 0} {before lent : Vault D} (room : RoomAlone before lent) whe
           all.ends old.logs all.mid.logs b (growing_in old.side all.between)) (same_growing_in old.side before lent room)
           all.lines;
       once = all.once;
+      history = all.history;
       alone = all.alone;
       room = room_then room all.room;
       beside = all.beside;

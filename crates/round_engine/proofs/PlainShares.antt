@@ -16,7 +16,8 @@ use Rattle.serial_model.specs.declared.number.Commit.{Commit}
 use Rattle.serial_model.specs.declared.op.Op.{Op}
 use Rattle.script_grammar.specs.Script.{Round, lines_of_worker}
 use Rattle.tx_script.specs.declared.outcome.Outcome.{Outcome}
-use Rattle.tx_script.specs.Draws.{IsPlain, commits_of, commits_of-le}
+use Rattle.tx_script.specs.Conflicts.{WorkersMet}
+use Rattle.tx_script.specs.Draws.{IsPlain, commits_of, lost_of, lost_of_lines}
 use Rattle.tx_script.specs.Run.{entries_of_workers, of_worker}
 use Rattle.worker_logs.specs.Logs.{LogState}
 use Rattle.worker_logs.specs.Rows.{AreLogsUp}
@@ -33,7 +34,7 @@ use Rattle.round_engine.specs.Workers.{LeftBy, RunsOver, RunsWorkers, StopsWorke
 use Rattle.worker_cells.specs.declared.cell.LogEnd.{LogEnd}
 use Rattle.round_engine.proofs.Chains.{Chained, after_lines-decls, chained_answers, chained_clock, chained_state}
 use Rattle.round_engine.proofs.Chains.{consecutive_between, consecutive_rise, in_order-kept, length-outcomes_in}
-use Rattle.round_engine.proofs.Drawn.{lines_free, lines_grow, part_comes, part_plain, parts_counted, parts_grow, refusals_at}
+use Rattle.round_engine.proofs.Drawn.{lines_free, lines_grow, lines_lost, lines_meet, part_comes, part_plain, parts_counted, parts_grow, refusals_at}
 use Rattle.round_engine.proofs.Logged.{parts_logged}
 use Rattle.round_engine.proofs.PlainRun.{chained, plain_consecutive, plain_kept, printed}
 use Rattle.round_engine.proofs.Places.{within_of}
@@ -95,6 +96,27 @@ share_at (p ∷ parts) s (suc i) q at = share_at parts (after_lines s p.ran) i q
 pub shares_plain : (parts : List Part) (s : Standing) → AllByRecursion (AllByRecursion IsPlain) (outcomes_of s parts)
 shares_plain [] s = tt
 shares_plain (p ∷ parts) s = (part_plain p.ran p.left s, shares_plain parts (after_lines s p.ran))
+
+-- nothing was drawn for tries of theirs that were refused
+pub shares_lost : (parts : List Part) (s : Standing)
+    → lost_of (map (λ (p : Share). p.tries_refused) (shares_of s parts)) ≡ 0
+shares_lost [] s = refl
+shares_lost (p ∷ parts) s = omega (
+  arith,
+  sum_by-cons lost_of_lines (map refusals_at (outcomes_in s p))
+      (map (λ (q : Share). q.tries_refused) (shares_of (after_lines s p.ran) parts)),
+  lines_lost (outcomes_in s p),
+  shares_lost parts (after_lines s p.ran),
+)
+
+-- no try of theirs met anybody
+pub shares_meet : (lines : List (List (List Op))) (first : ℕ) (parts : List Part) (s : Standing)
+    → WorkersMet lines first (lines_of (shares_of s parts)) (map (λ (p : Share). p.tries_refused) (shares_of s parts))
+shares_meet lines first [] s = tt
+shares_meet lines first (p ∷ parts) s = (
+  lines_meet lines first (lines_in p) (outcomes_in s p) (length-outcomes_in s p),
+  shares_meet lines (first + 1) parts (after_lines s p.ran),
+)
 
 -- no try of theirs is in conflict
 pub shares_free : (parts : List Part) (s : Standing)
@@ -193,13 +215,18 @@ plain_shares parts s tries some eight are =
     let kept = plain_kept parts s in
     record {
       workers = shares_many parts s ∙ eight;
-      only = parts_only parts s ∙ ap (λ n. record s {
+      only = parts_only parts s ∙ ap (λ (x : Standing). record s {
         state = (after_parts s parts).state;
         clock = (after_parts s parts).clock;
-        conflicts = n;
-      }) (sym (parts_free parts s));
+        mine = x.mine;
+        conflicts = x.conflicts;
+      }) (sym (parts_only parts s));
       epoch = kept.1;
-      draw = parts_grow parts s;
+      draw =
+          let same : commits_of (map (λ (share : Share). share.outcomes) (shares_of s parts))
+          ≡ commits_of (outcomes_of s parts) = ap commits_of (shares_told parts s) in
+          omega (arith, parts_counted parts s, same, shares_lost parts s);
+      met = shares_meet (lines_of (shares_of s parts)) 0 parts s;
       conflicts = omega (arith, parts_free parts s, shares_free parts s);
       each = shares_are parts s s.clock.draw (after_parts s parts).clock.draw tries some are (omega arith) (omega arith);
       ordered = λ index. plain_ordered index parts s are;
@@ -249,10 +276,6 @@ pad_at (suc n) (q ∷ parts) (suc w) p at = elim (pad_at n parts w p at) [
   | inr none ↦ inr (none.0, omega (arith, none.1))
 ]
 
-at_least : (tries n : ℕ) → 1 ≤ tries → n ≤ tries * n
-at_least zero n some = absurd (omega (arith, some))
-at_least (suc tries) n some = omega arith
-
 -- ---- over the logs
 
 module _ {D : Type 0} {tells : D → Option (List ℕ)} {clock : D → ℕ} {image_at : D → ℕ → List ℕ → Type 0}
@@ -265,6 +288,7 @@ module _ {D : Type 0} {tells : D → Option (List ℕ)} {clock : D → ℕ} {ima
   once_all {s = s} so = record {
     once = ap (λ (x : Standing). x.clock.draw) so.first.standing ∙ parts_counted so.parts s
         ∙ ap (λ o. s.clock.draw + commits_of o) (sym so.told);
+    alone = ap (λ (x : Standing). x.conflicts) so.first.standing ∙ parts_free so.parts s;
     plain = subst (AllByRecursion (AllByRecursion IsPlain)) (sym so.told) (shares_plain so.parts s);
   }
 
@@ -301,10 +325,6 @@ module _ {D : Type 0} {tells : D → Option (List ℕ)} {clock : D → ℕ} {ima
       → WorkersSoFar tells clock image_at faults round 8 s t outcomes ends logs_was logs banks_was banks
       → RunsWorkers tells clock image_at faults tries round s t outcomes ends logs_was logs banks_was banks
   plain_runs {s = s} {t = t} {outcomes = outcomes} some so = record {
-    drawn =
-        let once : t.clock.draw ≡ s.clock.draw + commits_of outcomes = (once_all so).once in
-        let many = commits_of-le outcomes in
-        omega (arith, once, many, at_least tries (sum_by length outcomes) some);
     shares = shares_of s so.parts;
     over = plain_over so.parts some so.first.count so.first.are so.first.standing so.first.logs_length
         so.first.banks_length so.first.each;

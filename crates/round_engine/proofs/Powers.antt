@@ -15,6 +15,7 @@ use Rattle.shared_rounds.specs.Lines.{LinesCome, standing}
 use Rattle.shared_rounds.specs.SharedState.{SharedState}
 use Rattle.shared_rounds.specs.Standing.{Standing}
 use Rattle.shared_rounds.specs.declared.ends.WorkersRan.{WorkersRan}
+use Rattle.round_engine.specs.Histories.{KeepsHistory}
 use Rattle.round_engine.specs.Plainly.{DrewOnce}
 use Rattle.round_engine.specs.Powers.{SharesWords, standing_of}
 use Rattle.round_engine.specs.declared.engine.Power.{Power}
@@ -43,9 +44,24 @@ pub plain_once : (e now s : Standing) (ended : Bool) (result : Result WorkersRan
     → IfOk result (λ ran. HasTree s.decls → DrewOnce s (record now { ended = ended }) ran.outcomes)
 plain_once e now s ended (Ok ran) same drew = λ has. record {
   once = drew.once ∙ ap (λ (x : Standing). x.clock.draw + commits_of ran.outcomes) same;
+  alone = drew.alone ∙ ap (λ (x : Standing). x.conflicts) same;
   plain = drew.plain;
 }
 plain_once e now s ended (Err memory) same drew = tt
+
+-- nothing is said of the history of an engine that has none
+pub plain_history : (round : Round) (s t : Standing) (result : Result WorkersRan Memory) → (SharesWords s → ⊥)
+    → IfOk result (λ ran. SharesWords s → KeepsHistory round ran.outcomes s t)
+plain_history round s t (Ok ran) apart = λ shares. absurd (apart shares)
+plain_history round s t (Err memory) apart = tt
+
+-- what is said of it on words
+pub shared_history : (round : Round) (e s t : Standing) (result : Result WorkersRan Memory) → e ≡ s
+    → IfOk result (λ ran. KeepsHistory round ran.outcomes e t)
+    → IfOk result (λ ran. SharesWords s → KeepsHistory round ran.outcomes s t)
+shared_history round e s t (Ok ran) same kept =
+    λ shares. subst (λ (x : Standing). KeepsHistory round ran.outcomes x t) same kept
+shared_history round e s t (Err memory) same kept = tt
 
 -- where no storage's number is a tree's none is declared
 pub no_tree : (decls : List Decl) → ((storage : ℕ) → is_tree decls storage ≡ false) → HasTree decls → ⊥

@@ -21,15 +21,19 @@ use Rattle.recovery_core.specs.VaultReads.{RoseIn}
 use Rattle.tx_script.specs.Run.{AdvancesTo, LogFailed, LogFiles, LogFull, LogRefusal, Ran}
 use Rattle.tx_script.specs.Causes.{AllCaused, AnswersCaused, AreMarksOf, KeeperAt, LogsCaused, keeper_at_end, keeper_before}
 use Rattle.tx_script.specs.Causes.{last_sequence, log_limit as file_limit, log_of, longest_line, some_counted}
+use Rattle.tx_script.specs.Conflicts.{WorkersMet}
+use Rattle.tx_script.specs.Draws.{commits_of}
 use Rattle.worker_logs.specs.Logs.{IsJoined, LogState, log_limit}
 use Rattle.worker_logs.specs.Saves.{closed_number, growing_number, logs_marks}
 use Rattle.worker_logs.specs.declared.savepoints.Side.{Side}
 use Rattle.worker_logs.specs.declared.savepoints.Side.TheVariants.{Even, Odd}
 use Rattle.worker_logs.specs.Rows.{AreLogsUp, IsBeforeOne, IsLogUp, KeepsMarkIn, NeverFall}
+use Rattle.shared_rounds.specs.SharedState.{are_arrays}
 use Rattle.round_engine.specs.Changes.{AreLogged}
 use Rattle.round_engine.specs.Crashes.{CarriesCrashes}
 use Rattle.round_engine.specs.Ends.{comes_to_advance, comes_to_save, durable_of, end_of, epoch_joined, swaps, where_true}
 use Rattle.round_engine.specs.Gleans.{RoundGleans}
+use Rattle.round_engine.specs.Histories.{HasGathered}
 use Rattle.round_engine.specs.Keeping.{IsSavedBySeen, Keeps, keeper_on}
 use Rattle.round_engine.specs.Phases.{RunsAll}
 use Rattle.round_engine.specs.Unbegun.{RoomAlone}
@@ -42,6 +46,7 @@ use Rattle.round_engine.specs.Logs.{IsRefusedBy}
 use Rattle.round_engine.specs.Workers.{idled}
 use Rattle.round_engine.specs.declared.report.End.{End}
 use Rattle.round_engine.specs.declared.report.Report.{Report}
+use Rattle.round_engine.proofs.Alone.{all_alone}
 use Rattle.round_engine.proofs.Beside.{SameSaves}
 use Rattle.round_engine.proofs.CrashesLeft.{with_crashes}
 use Rattle.round_engine.proofs.Devices.{are_down, at_first, bank_in, banks_in, down_at, IsBeside, others_in, save_in}
@@ -229,6 +234,7 @@ module _ {D : Type 0} (tells : D → Option (List ℕ)) (clock : D → ℕ) (ima
     pub between_whole : IsWhole files.between
     pub rests : swaps (ran_with logs failed others) ≡ true → (w : ℕ) (log : LogState) → slice_get logs w ≡ Some log → IsAtRest log
     pub conflicts : new.stands.conflicts ≡ all.kept.stands.conflicts
+    pub mine : new.stands.mine ≡ all.kept.stands.mine
     pub decls : new.stands.decls ≡ all.kept.stands.decls
     pub state : new.stands.state ≡ all.kept.stands.state
     pub durable : report.durable ≡ durable_of (ran_with logs failed others)
@@ -456,13 +462,30 @@ module _ {D : Type 0} {tells : D → Option (List ℕ)} {clock : D → ℕ} {ima
               logged_are = λ index w below. subst (λ es. AreLogged old.stands.decls w old.stands.state es (logged_in shares w))
                   (sym (run index).1) ((all.lines.over.runs.ordered index).logged w below);
             };
-            within = subst (λ d. d ≤ old.stands.clock.draw + tries * sum_by length report.outcomes)
-                (sym (ap (λ (x : Standing). x.clock.draw) all.keeper.stands)) all.lines.drawn;
-            once = λ tree.
+            counted =
+                let after = ap (λ (x : Standing). x.clock.draw) all.keeper.stands in
+                let told = ap commits_of all.lines.told in
+                omega (arith, after, told, all.lines.over.runs.draw);
+            met = record {
+              workers = subst (λ l. WorkersMet l 0 l (map (λ (share : Share). share.tries_refused) shares)) all.lines.lines
+                  all.lines.over.runs.met;
+            };
+            plain = λ tree.
                 let is = all.once tree in
                 record {
-                  once = ap (λ (x : Standing). x.clock.draw) all.keeper.stands ∙ is.once;
                   plain = is.plain;
+                  alone = all_alone (map (λ (share : Share). share.tries_refused) shares)
+                      (let counted = all.lines.over.runs.conflicts in omega (arith, counted, is.alone));
+                };
+            history = λ shared.
+                let kept = all.history shared in
+                record {
+                  gathered = subst (λ m. HasGathered old.stands.decls round report.outcomes old.stands.mine m)
+                      (sym (ends.mine ∙ ap (λ (x : Standing). x.mine) all.keeper.stands)) kept.gathered;
+                  shares = ap (λ ds. are_arrays ds new.stands.state)
+                      (ends.decls ∙ ap (λ (x : Standing). x.decls) all.keeper.stands)
+                      ∙ ap (are_arrays all.mid.stands.decls)
+                      (ends.state ∙ ap (λ (x : Standing). x.state) all.keeper.stands) ∙ kept.shares;
                 };
             durable = ends.durable;
             lasts = ends.lasts;

@@ -1,5 +1,5 @@
 -- How a runtime begins.
-use Rattle.std.specs.Prelude.{◌-◌, ℕ, List, replicate, false}
+use Rattle.std.specs.Prelude.{◌-◌, ℕ, List, [], replicate, false}
 use Rattle.serial_model.specs.State.{State}
 use Rattle.serial_model.specs.declared.decl.Decl.{Decl}
 use Rattle.serial_model.specs.declared.number.Number.{Number}
@@ -13,7 +13,7 @@ use Rattle.round_engine.specs.Standing.{RuntimeState}
 -- number grow, with empty logs marked at the epoch before, which is also that at which the others were closed.
 abbrev pub begun : List Decl → State → SaveState → StoreState → ℕ → Number → RuntimeState
 begun decls state save store room first = record {
-  stands = record { decls = decls; state = state; clock = first; conflicts = 0; ended = false };
+  stands = record { decls = decls; state = state; clock = first; mine = []; conflicts = 0; ended = false };
   save = save;
   store = store;
   room = room;

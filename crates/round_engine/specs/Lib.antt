@@ -22,5 +22,6 @@ pub mod Keeping
 pub mod Refusals
 pub mod Phases
 pub mod Powers
+pub mod Histories
 pub mod Unbegun
 pub mod Owners

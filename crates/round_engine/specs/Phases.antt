@@ -14,7 +14,9 @@ use Rattle.log_writer.specs.Points.{sequence_of}
 use Rattle.worker_logs.specs.Rows.{AreLogsUp}
 use Rattle.round_engine.specs.Ends.{first_of, save_limited, where_true}
 use Rattle.round_engine.specs.Keeping.{RunsJoin, RunsKeeper}
+use Rattle.round_engine.specs.Histories.{KeepsHistory}
 use Rattle.round_engine.specs.Plainly.{DrewOnce}
+use Rattle.round_engine.specs.Powers.{SharesWords}
 use Rattle.round_engine.specs.Refusals.{device_refused, end_told, first_full, leaves_out, lines_refused, names_device}
 use Rattle.round_engine.specs.Sides.{growing_in, SameButGrowing}
 use Rattle.round_engine.specs.Standing.{AreClosed, HasSnapshot, RuntimeState}
@@ -99,6 +101,7 @@ module _ {D : Type 0} (tells : D → Option (List ℕ)) (clock : D → ℕ) (ima
     pub lines : RunsWorkers tells clock image_at faults tries round old.stands mid.stands report.outcomes ends
         old.logs mid.logs (growing_in old.side before) (growing_in old.side between)
     pub once : HasTree old.stands.decls → DrewOnce old.stands mid.stands report.outcomes
+    pub history : SharesWords old.stands → KeepsHistory round report.outcomes old.stands mid.stands
     pub alone : mid ≡ record old { stands = mid.stands; logs = mid.logs }
     pub room : RoomAlone before lent
     pub beside : SameButGrowing old.side lent between

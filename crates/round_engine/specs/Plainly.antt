@@ -57,7 +57,8 @@ AreConsecutive n (e ∷ es) = (e.number ≡ n) × AreConsecutive (next_number n)
 
 -- ---- what only the plain map gives
 
--- Nobody is in a line's way, and each number that was drawn is a commit's.
+-- Nobody is in a line's way, and each number that was drawn is a commit's. No conflict was counted.
 pub record DrewOnce (s t : Standing) (outcomes : List (List Outcome)) : Type 0 where
   pub once : t.clock.draw ≡ s.clock.draw + commits_of outcomes
+  pub alone : t.conflicts ≡ s.conflicts
   pub plain : AllByRecursion (AllByRecursion IsPlain) outcomes

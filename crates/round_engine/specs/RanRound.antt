@@ -33,13 +33,16 @@ use Rattle.recovery_core.specs.Images.{counted_of, epoch_of}
 use Rattle.recovery_core.specs.Marks.{IsAbove}
 use Rattle.tx_script.specs.Run.{LogFailed, LogRefusal, Ran, IsRun}
 use Rattle.tx_script.specs.Causes.{AllCaused, keeper_at_end, last_sequence, log_of, some_counted}
-use Rattle.tx_script.specs.Draws.{DrawsWithin, HasTree, RunsOnce}
+use Rattle.tx_script.specs.Conflicts.{AreMet}
+use Rattle.tx_script.specs.Draws.{DrawsAreCounted, HasTree, RunsPlainly}
 use Rattle.round_engine.specs.Changes.{AreLogged}
 use Rattle.round_engine.specs.Crashes.{CarriesCrashes}
 use Rattle.round_engine.specs.Ends.{comes_to_advance, comes_to_save, comes_to_swap, durable_of, end_of, epoch_joined}
 use Rattle.round_engine.specs.Ends.{swaps}
 use Rattle.round_engine.specs.Gleans.{RoundGleans}
+use Rattle.round_engine.specs.Histories.{KeepsHistory}
 use Rattle.round_engine.specs.Logs.{AreClosedFiles, AreLogs, IsRefusedBy, LeavesLog}
+use Rattle.round_engine.specs.Powers.{SharesWords}
 use Rattle.round_engine.specs.Saves.{ArePages, AreSaved, beside_at_end, GoesOnWith, IsSavedBy, newest_after}
 use Rattle.round_engine.specs.Saves.{HaveEnded, saves_told}
 use Rattle.round_engine.specs.Sides.{closed_numbers, other_side}
@@ -218,16 +221,20 @@ module _ {D : Type 0} (tells : D → Option (List ℕ)) (clock : D → ℕ) (ima
 
 -- ---- a round
 
--- A round was run, each line being tried so often at most, and joined. Where nothing ends the run, its last epoch is
--- durable. Where a tree is declared no line is in another's way.
+-- A round was run, each line being tried so often at most, and joined. Each number was drawn for a commit, or for a try
+-- that was refused behind its draw. A try in conflict met a line of another worker of the round, at a key that it touches
+-- and that one may change. Where nothing ends the run, its last epoch is durable. Where a tree is declared no
+-- line is in another's way; on words that threads share the commits are those which came to their history.
 pub record RanRound (tries : ℕ) (round : Round) (old new : RuntimeState) (report : Report) : Type 0 where
   pub ran : Ran
   pub logged : ℕ → List Commit
   pub reports : Reports ran report
   pub begins : Begins tries round old ran
   pub lines : RunsLines round old new ran logged
-  pub within : DrawsWithin tries ran
-  pub once : HasTree old.stands.decls → RunsOnce ran
+  pub counted : DrawsAreCounted ran
+  pub met : AreMet ran round
+  pub plain : HasTree old.stands.decls → RunsPlainly ran
+  pub history : SharesWords old.stands → KeepsHistory round ran.outcomes old.stands new.stands
   pub durable : ran.durable ≡ durable_of ran
   pub lasts : report.end ≡ None → ran.durable ≡ Some ran.end.epoch
   pub clock : new.stands.clock ≡ record { epoch = epoch_joined ran; draw = ran.end.draw }

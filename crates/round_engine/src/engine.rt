@@ -8,6 +8,7 @@ ghost use Rattle.tx_script.specs.Run.{CanRun};
 ghost use Rattle.worker_logs.specs.Rows.{AreLogsUp};
 ghost use Rattle.shared_rounds.specs.Lines.{LinesCome, standing};
 ghost use Rattle.shared_rounds.specs.Rooms.{IsRoomOf};
+ghost use Rattle.round_engine.specs.Histories.{KeepsHistory};
 ghost use Rattle.round_engine.specs.Plainly.{DrewOnce};
 ghost use Rattle.round_engine.specs.Powers.{SharesWords, standing_of};
 ghost use Rattle.brief_output.specs.Brief.{total_of};
@@ -34,7 +35,7 @@ pub(crate) struct PlainEngine {
 
 impl Model for PlainEngine {
     ghost use Rattle.shared_rounds.specs.Standing.{Standing};
-    ghost use Rattle.std.specs.Prelude.{◌≡◌, false};
+    ghost use Rattle.std.specs.Prelude.{◌≡◌, [], false};
     ghost use Rattle.std.specs.Coded.{codes, coded_ℕ};
     ghost use Rattle.std.specs.FinMap as finite;
     ghost use Rattle.serial_model.specs.Keys.{coded_key, key_cmp};
@@ -49,6 +50,7 @@ impl Model for PlainEngine {
       decls = e.plain.decls;
       state = e.plain.state;
       clock = e.clock;
+      mine = [];
       conflicts = 0;
       ended = false;
     } };
@@ -161,7 +163,7 @@ impl Engine {
         requires decls { AreDecls decls }
         requires first { IsNumber first }
         ensures { IfOk result (λ engine. engine
-            ≡ record { decls = decls; state = state; clock = first; conflicts = 0; ended = false }) }
+            ≡ record { decls = decls; state = state; clock = first; mine = []; conflicts = 0; ended = false }) }
     {
         Ok(Engine {
             power: power_for(alloc, decls, state, first)?,
@@ -267,6 +269,8 @@ impl Engine {
         ensures runs { LinesCome D.tells D.clock D.image_at D.faults tries round.now self.old self.new
             logs.old.items logs.new.items growing.old.items growing.new.items result }
         ensures once { IfOk result (λ ran. HasTree self.old.decls → DrewOnce self.old self.new ran.outcomes) }
+        ensures history { IfOk result (λ ran. SharesWords self.old
+            → KeepsHistory round.now ran.outcomes self.old self.new) }
         ensures enough { IfErr result (λ memory. SharesWords self.old → IsSome rooms → ⊥) }
     {
         match &mut self.power {
@@ -313,6 +317,8 @@ fn run_shared<R: Threads + Sync, D: Disk + Send + Drop, G: Gate + Sync>(
         (standing ended engine.old) (standing ended engine.new)
         logs.old.items logs.new.items growing.old.items growing.new.items result }
     ensures arrays { IfOk result (λ ran. HasTree engine.old.decls → ⊥) }
+    ensures history { (ended : Bool) → IfOk result (λ ran. KeepsHistory round.now ran.outcomes
+        (standing ended engine.old) (standing ended engine.new)) }
     ensures enough { IfErr result (λ memory. IsSome rooms → ⊥) }
 {
     let rooms = match rooms {
@@ -328,7 +334,7 @@ fn power_for(alloc: Global, decls: Decls, state: State, first: Number) -> Result
     requires decls { AreDecls decls }
     requires first { IsNumber first }
     ensures { IfOk result (λ power. standing_of power false
-        ≡ record { decls = decls; state = state; clock = first; conflicts = 0; ended = false }) }
+        ≡ record { decls = decls; state = state; clock = first; mine = []; conflicts = 0; ended = false }) }
 {
     if are_arrays(decls.as_slice(), &state) {
         let engine = SharedEngine::new(alloc, decls.as_slice(), &state, first)?;

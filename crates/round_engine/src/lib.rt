@@ -4,11 +4,13 @@
 //! share; that workers overlap on these is shown by a test of the program alone:
 //! - [`round`]: one outcome for each line and one answer for each line of the maintenance thread, each with its cause;
 //!   the commits, in order of number, are a serial run from the standing before to the one after, and the logs have
-//!   what they changed; the join makes the round's last epoch durable or ends the run, with the first refusal
-//!   (`rounds`, by `RanRound`). Of the vault, each log file grew by its worker's lines and its marks count what is
-//!   durable; the savepoints stored are those that are told (`rounds`, by `LeavesVault`). After want of memory
-//!   all is as it was (`IsUnbegun`), as always where lines run on words (`unbegun`); or a front of the workers' lines
-//!   was run on the map, nothing was stored, and the run has ended (`rounds`, by `StopsIn`).
+//!   what they changed; each number was drawn for a commit or for a try that was refused behind its draw; a try in
+//!   conflict met a line of another worker of the round; on words the commits are those of their history; the join
+//!   makes the round's last epoch durable or ends the run, with the first refusal (`rounds`, by `RanRound`). Of the
+//!   vault, each log file grew by its worker's lines and its marks count what is durable; the savepoints stored are
+//!   those that are told (`rounds`, by `LeavesVault`). After want of memory all is as it was (`IsUnbegun`), as always
+//!   where lines run on words (`unbegun`); or a front of the workers' lines was run on the map, nothing was stored, and
+//!   the run has ended (`rounds`, by `StopsIn`).
 //! - [`join_round`]: the same of a round without lines (`joins`, by `Joins`).
 //! - [`Runtime::total`]: the sum of all values behind the rounds that were run, without a device.
 //! - [`Runtime::new`] begins in the settled state, in the epoch after the saved one, with empty logs (`begins`).

@@ -21,6 +21,7 @@ ghost use Rattle.round_engine.specs.Sides.{SameButGrowing, growing_in};
 ghost use Rattle.round_engine.specs.Keeping.{CanKeep};
 ghost use Rattle.round_engine.specs.Standing.{StandsOn};
 ghost use Rattle.round_engine.specs.Lines.{LinesCome};
+ghost use Rattle.round_engine.specs.Histories.{KeepsHistory};
 ghost use Rattle.round_engine.specs.Plainly.{DrewOnce};
 ghost use Rattle.round_engine.specs.Powers.{SharesWords};
 ghost use Rattle.round_engine.specs.Unbegun.{IsUnbegun, RoomAlone};
@@ -195,6 +196,8 @@ fn run_lent<R: Threads + Sync, D: Disk + Send + Drop, G: Gate + Sync>(
         (growing_in runtime.old.side vault.old) (growing_in runtime.old.side vault.new) result }
     ensures once { IfOk result (λ ran. HasTree runtime.old.stands.decls
         → DrewOnce runtime.old.stands runtime.new.stands ran.outcomes) }
+    ensures history { IfOk result (λ ran. SharesWords runtime.old.stands
+        → KeepsHistory round.now ran.outcomes runtime.old.stands runtime.new.stands) }
     ensures enough { IfErr result (λ memory. SharesWords runtime.old.stands → IsSome rooms → ⊥) }
     ensures runtime { runtime.new ≡ record runtime.old { stands = runtime.new.stands; logs = runtime.new.logs } }
     ensures vault { SameButGrowing runtime.old.side vault.old vault.new }

@@ -64,6 +64,7 @@ returns-clause-phases g c =
       refused = c.in_lines-refused.result;
       lines = lent.runs.come;
       once = lent.once;
+      history = lent.history;
       alone = lent.runtime;
       room = room_none c.args.vault.now;
       beside = lent.vault;

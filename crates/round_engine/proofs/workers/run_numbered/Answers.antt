@@ -1,5 +1,5 @@
 -- A transaction's replies take few words, and its log gets what it changed.
-use Rattle.std.proofs.Common.{◌∙◌, ap, false, inr, subst, sym}
+use Rattle.std.proofs.Common.{◌∙◌, ap, false, inr, subst, sym, []}
 use Rattle.std.specs.Prelude.{◌<◌, IsTrue}
 use Rattle.std.specs.List.{AllByRecursion}
 use Rattle.serial_model.specs.Keys.{fits}
@@ -23,6 +23,7 @@ returns-clause-takes c =
       decls = c.engine.inside.plain.decls;
       state = c.engine.inside.plain.state;
       clock = c.engine.inside.clock;
+      mine = [];
       conflicts = 0;
       ended = false;
     } in
@@ -42,6 +43,7 @@ returns-clause-stops c =
       decls = c.engine.inside.plain.decls;
       state = c.engine.inside.plain.state;
       clock = c.engine.inside.clock;
+      mine = [];
       conflicts = 0;
       ended = false;
     } in

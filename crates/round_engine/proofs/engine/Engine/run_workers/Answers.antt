@@ -6,8 +6,8 @@ use Rattle.tx_script.specs.Run.{CanRun}
 use Rattle.shared_rounds.specs.Lines.{LinesCome, standing}
 use Rattle.shared_rounds.specs.Standing.{Standing}
 use Rattle.round_engine.specs.Powers.{SharesWords}
-use Rattle.round_engine.proofs.Powers.{ok_then, plain_apart, plain_goes, plain_once, plain_stands, shared_enough}
-use Rattle.round_engine.proofs.Powers.{shared_once, shared_stands}
+use Rattle.round_engine.proofs.Powers.{ok_then, plain_apart, plain_goes, plain_history, plain_once, plain_stands}
+use Rattle.round_engine.proofs.Powers.{shared_enough, shared_history, shared_once, shared_stands}
 use Rattle.round_engine.proofs.engine.Engine.run_workers.Goals as goal
 use Rattle.round_engine.proofs.engine.Engine.run_workers.Goals.{in-Plain, in-Shared}
 
@@ -34,6 +34,9 @@ returns g c = elim c.match-self.branch [
             w.run_all.result) (ran.after ∙ sym goes) ran.runs);
         once = plain_once w.in-Plain.engine w.run_all.new.self c.args.self.now c.self.inside.ended w.run_all.result old
             ran.once;
+        history = plain_history c.args.round.now c.args.self.now (record w.run_all.new.self {
+          ended = c.self.inside.ended;
+        }) w.run_all.result (λ shares. ran.apart (subst SharesWords (sym old) shares));
         enough = plain_apart c.args.self.now (IsSome c.args.rooms → ⊥) w.run_all.result
             (λ shares. ran.apart (subst SharesWords (sym old) shares));
       })
@@ -49,6 +52,9 @@ returns g c = elim c.match-self.branch [
         once = shared_once c.args.self.now (standing c.self.inside.ended w.run_shared.new.engine) w.run_shared.result
             (ok_then (λ none has. none (subst HasTree (sym (ap (λ (s : Standing). s.decls) old)) has)) w.run_shared.result
             ran.arrays);
+        history = shared_history c.args.round.now (standing c.self.inside.ended w.in-Shared.engine) c.args.self.now
+            (standing c.self.inside.ended w.run_shared.new.engine) w.run_shared.result old
+            (ran.history c.self.inside.ended);
         enough = shared_enough c.args.self.now (IsSome c.args.rooms → ⊥) w.run_shared.result ran.enough;
       })
 ]

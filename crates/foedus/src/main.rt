@@ -1,58 +1,23 @@
 //! The program `foedus`: runs a script on a database and prints what came of each line, tells what the database keeps
-//! and which snapshots it has, or makes a script.
-//!
-//! Promises: `top` states them, in the words of `specs/Main.antt`. Ordered by their numbers, the commits that are
-//! printed are transactions of the script that ran one after another on the state that the vault stood for, and each
-//! reply is what this gives; where no device failed, the vault stands afterwards for the last epoch that was saved and
-//! the state as of that epoch, and has the snapshots that it had, each as it was, and those of the run, in the words of
-//! `specs/Snapshots.antt`; and a stop of all devices, at any moment of the call, leaves an epoch, at least the last one
-//! that was saved by then, and the state as of it (`answer`). Of a run that is told in brief the same holds, and its
-//! counts and its sum are those of the run and of what the vault keeps (`brief`, in the words of `specs/InBrief.antt`).
-//! A dump tells what the devices of the vault stand for, `snaps` their snapshots and `snap` what one of them has, or
-//! else where they are damaged (`listed`, `complete`, in the words of `specs/Listings.antt`). A script is made of its
-//! numbers alone (`made`, in those of `specs/Made.antt`). Each status comes only for its cause (`statuses`, `asked`,
-//! `faults`, `devices`, and the table `Comes` of `specs/Ending.antt`), and a run with nothing in its way is done
-//! (`specs/Laws.antt`).
-//! Terms: *ending*, how a call ends; *course*, what was read and run until then; *opening*, where a run begins.
-//!
-//! Design: docs/ARCHITECTURE.md, docs/DURABILITY.md.
+//! and which snapshots it has, or makes a script. What it promises, `program_calls::top` states.
 #![tactic(auto)]
 
-mod begin;
-mod brief;
-mod ending;
-mod entry;
-mod explanation;
-mod files;
-mod input;
-mod kept;
-mod program;
-mod progress;
-mod run;
-mod shape;
-mod teller;
-mod watcher;
-
-pub use ending::Ending;
-use entry::{read_args, run_program};
 use outside::{StdSink, StdSource};
-pub use program::top;
-use progress::{Cleared, Progress};
+use program_entry::{Cleared, Progress, ScriptSource, read_args, run_program};
+use std::io::IsTerminal;
 use std::process::ExitCode;
-pub use watcher::Watcher;
-
-#[cfg(test)]
-mod tests;
 
 fn main(rt: HostRuntime) -> ExitCode {
     let errors = rt.stderr();
     let progress = Progress::new(&rt, rt.stderr());
+    let is_typed = rt.stdin().is_terminal();
     let code = run_program(
         &rt,
         read_args(&rt),
         "vault",
-        &mut StdSource::new(&rt),
+        &mut ScriptSource::new(rt.alloc(), StdSource::new(&rt), is_typed),
         &mut Cleared::new(&progress, StdSink::new(&rt)),
+        &mut Cleared::new(&progress, StdSink::new(&errors)),
         &mut Cleared::new(&progress, StdSink::new(&errors)),
         &progress,
     );

@@ -1,6 +1,0 @@
--- The snapshots so far were added.
-use Rattle.foedus.proofs.SnapshotsTold.{LinesSoFar}
-use Rattle.foedus.proofs.kept.put_snapshots.Given as goal
-
-abbrev pub invariant-loop-index : goal.invariant-loop-index
-invariant-loop-index g l = LinesSoFar l.fn.printer l.printer l.marks l.index

@@ -1,7 +1,0 @@
--- Where the vault isn't fresh, its storages were compared.
-use Rattle.foedus.specs.Beginning.{SameDecls}
-use Rattle.foedus.proofs.DeclsTold.{ok_if_some}
-use Rattle.foedus.proofs.shape.check_shape.Goals as goal
-
-pub returns-in-Some-clause-same : goal.returns-in-Some-clause-same
-returns-in-Some-clause-same c = ok_if_some (SameDecls c.args.decls.now c.args.recovered.now.decls) c.check_same.result c.args.recovered.now.saved (rw c.as_slice.ensures at c.check_same.ensures.same)

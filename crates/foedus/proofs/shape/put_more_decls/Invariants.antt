@@ -1,6 +1,0 @@
--- The storages so far were added.
-use Rattle.foedus.proofs.DeclsTold.{DeclsSoFar}
-use Rattle.foedus.proofs.shape.put_more_decls.Given as goal
-
-abbrev pub invariant-loop-index : goal.invariant-loop-index
-invariant-loop-index g l = DeclsSoFar l.fn.printer l.printer l.decls l.index

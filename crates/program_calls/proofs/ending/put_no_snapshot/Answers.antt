@@ -1,0 +1,16 @@
+-- The words, and the epoch.
+use Rattle.std.proofs.Common.{[], ◌∷◌}
+use Rattle.std.specs.Prelude.{decimal}
+use Rattle.text_output.specs.Printed.{adds_then, breaks_then, breaks_within, prints_at_stop, prints_then}
+use Rattle.program_calls.proofs.ending.put_no_snapshot.Goals as goal
+
+pub returns-in_err-put : goal.returns-in_err-put
+returns-in_err-put g c = prints_at_stop _ _ c.from_residual.ensures.1
+    (breaks_within (10 ∷ []) (breaks_within (decimal c.args.epoch) c.in_err-put.ensures))
+
+pub returns-in_err-put_number : goal.returns-in_err-put_number
+returns-in_err-put_number g c = prints_at_stop _ _ c.from_residual-in_err-put_number.ensures.1
+    (breaks_within (10 ∷ []) (breaks_then c.in_ok-put.ensures c.in_err-put_number.ensures))
+
+pub returns : goal.returns
+returns g c = prints_then _ (10 ∷ []) _ (adds_then c.in_ok-put.ensures c.in_ok-put_number.ensures) c.put-2.ensures

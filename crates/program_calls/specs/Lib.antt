@@ -1,0 +1,16 @@
+pub mod Vaults
+pub mod Beginning
+pub mod Main
+pub mod Ending
+pub mod Causes
+pub mod Devices
+pub mod Listings
+pub mod Snapshots
+pub mod RanOver
+pub mod Made
+pub mod InBrief
+pub mod Telling
+pub mod OnTheWay
+pub mod EndLaws
+pub mod Laws
+pub mod Rounds

@@ -1,0 +1,6 @@
+-- Each status of the call is one of the program's.
+use Rattle.program_entry.proofs.Statuses.{exit_of}
+use Rattle.program_entry.proofs.entry.call_over.Goals as goal
+
+pub returns-clause-statuses : goal.returns-clause-statuses
+returns-clause-statuses g c = exit_of _ _ c.top.ensures.statuses

@@ -1,0 +1,281 @@
+// What the program does over its streams, once they are made.
+ghost use Rattle.std.specs.Prelude.{◌≡◌, IfErr, map};
+ghost use Rattle.std.specs.Process.{exit_status};
+ghost use Rattle.outside.specs.Vault.{IsWhole};
+ghost use Rattle.command_line.specs.Options.{command_of};
+ghost use Rattle.program_calls.specs.Causes.{AnswersFaults, LeavesVault};
+ghost use Rattle.program_calls.specs.OnTheWay.{Explains, IsEarly, IsExit, TellsEnding};
+
+use crate::explanations::{USAGE, explanation};
+use crate::files::{no_vault, open_vault};
+use crate::notes::{
+    Asked, tell_causes, tell_faulty_line, tell_no_text, tell_not_opened, tell_opened, tell_refused,
+};
+use crate::opening::Access;
+use crate::script_source::Remembers;
+use crate::streams::fill_places;
+use command_line::{Command, read_words};
+use lists::Memory;
+use outside::{FileDisk, Sink, Source, Vault};
+use program_calls::{Ending, Watcher, finish, status_told, top};
+use std::alloc::{AllocError, Global};
+use std::env::{self, Env};
+use std::fs::{File, Files};
+use std::io::ErrorKind;
+use std::process::ExitCode;
+use std::sync::Wait;
+use std::thread::Threads;
+use text_output::Printer;
+
+/// The words of the command line. Words that aren't UTF-8 ask for nothing that the program does.
+pub fn read_args(rt: &(impl Env + AllocGlobal)) -> Result<Vec<String>, Ending>
+    ensures { IfErr result IsEarly }
+{
+    let words = match env::args(rt) {
+        Ok(words) => words,
+        Err(error) if error.kind() == ErrorKind::OutOfMemory => return Err(Ending::NoMemory),
+        Err(_) => return Err(Ending::Usage),
+    };
+    match words.collect(rt.alloc()) {
+        Ok(words) => Ok(words),
+        Err(AllocError) => Err(Ending::NoMemory),
+    }
+}
+
+/// Answers the words over the database in a folder, and explains a status other than 0 on `errors`. What a person may
+/// want to know beside it, whatever the status is, stands on `notes`: why the system refused a device, which line is
+/// faulty, which word was refused, that a database was made or a script is typed.
+///
+/// While it runs, a standard stream that is closed fails, and no file of the database has its place.
+pub fn run_program<R, S: Source + Remembers, K: Sink, E: Sink, N: Sink, G: Watcher + Sync>(
+    rt: &R,
+    words: Result<Vec<String>, Ending>,
+    folder: &str,
+    source: &mut S,
+    sink: &mut K,
+    errors: &mut E,
+    notes: &mut N,
+    gate: &G,
+) -> ExitCode
+where
+    R: Threads + Wait + Sync + Files<File = File> + AllocGlobal,
+    requires { IfErr words IsEarly }
+    ensures statuses { IsExit (exit_status result) }
+    ensures faults { AnswersFaults
+        (record { before = S.faults source.old; after = S.faults source.new })
+        (record { before = K.faults sink.old; after = K.faults sink.new }) (exit_status result) }
+    // An explanation stands where errors are told, unless they can't be: of refused words what the program does, of all
+    // done nothing.
+    ensures explained { Explains (exit_status result) USAGE.now (E.held errors.old) (E.held errors.new)
+        (E.faults errors.old) (E.faults errors.new) }
+    ensures quiet { exit_status result ≡ 0 → errors.new ≡ errors.old }
+{
+    let _places = fill_places(rt);
+    let status = match words {
+        Ok(words) => answer_words(rt, &words, folder, source, sink, notes, gate),
+        Err(ending) => answer_none(sink, notes, ending),
+    };
+    explain(errors, status);
+    ExitCode::from(status)
+}
+
+/// Answers words that can't be had.
+fn answer_none<K: Sink, N: Sink>(sink: &mut K, notes: &mut N, ending: Ending) -> u8
+    ensures { TellsEnding ending (record { before = K.faults sink.old; after = K.faults sink.new })
+        (K.held sink.old) (K.held sink.new) result }
+{
+    let status = tell(sink, ending);
+    if status == 2 {
+        tell_no_text(notes);
+    }
+    status
+}
+
+/// Answers the words over the database in a folder, or over none, where they leave the database alone.
+fn answer_words<R, S: Source + Remembers, K: Sink, N: Sink, G: Watcher + Sync>(
+    rt: &R,
+    words: &[String],
+    folder: &str,
+    source: &mut S,
+    sink: &mut K,
+    notes: &mut N,
+    gate: &G,
+) -> u8
+where
+    R: Threads + Wait + Sync + Files<File = File> + AllocGlobal,
+    ensures statuses { IsExit result }
+    ensures faults { AnswersFaults
+        (record { before = S.faults source.old; after = S.faults source.new })
+        (record { before = K.faults sink.old; after = K.faults sink.new }) result }
+{
+    let Ok(texts) = texts(rt.alloc(), words) else {
+        return tell(sink, Ending::NoMemory);
+    };
+    match read_words(rt.alloc(), &texts) {
+        Ok(Command::Make(_)) => answer_alone(rt, &texts, source, sink, gate),
+        Ok(Command::Refused) => {
+            tell_refused(rt.alloc(), notes, &texts);
+            answer_alone(rt, &texts, source, sink, gate)
+        }
+        Ok(Command::Run(_)) => answer_run(rt, &texts, folder, source, sink, notes, gate),
+        Ok(_) => answer_listing(rt, &texts, folder, source, sink, notes, gate),
+        Err(Memory) => tell(sink, Ending::NoMemory),
+    }
+}
+
+/// Runs a script on the database in a folder.
+fn answer_run<R, S: Source + Remembers, K: Sink, N: Sink, G: Watcher + Sync>(
+    rt: &R,
+    words: &[&str],
+    folder: &str,
+    source: &mut S,
+    sink: &mut K,
+    notes: &mut N,
+    gate: &G,
+) -> u8
+where
+    R: Threads + Wait + Sync + Files<File = File> + AllocGlobal,
+    ensures statuses { IsExit result }
+    ensures faults { AnswersFaults
+        (record { before = S.faults source.old; after = S.faults source.new })
+        (record { before = K.faults sink.old; after = K.faults sink.new }) result }
+{
+    let asked = Asked {
+        folder,
+        access: Access::Alone,
+        is_typed: source.is_typed(),
+    };
+    let status = answer_over(rt, words, asked, source, sink, notes, gate);
+    if status == 1 {
+        tell_faulty_line(rt.alloc(), notes, source);
+    }
+    status
+}
+
+/// Tells what the database in a folder keeps.
+fn answer_listing<R, S: Source, K: Sink, N: Sink, G: Watcher + Sync>(
+    rt: &R,
+    words: &[&str],
+    folder: &str,
+    source: &mut S,
+    sink: &mut K,
+    notes: &mut N,
+    gate: &G,
+) -> u8
+where
+    R: Threads + Wait + Sync + Files<File = File> + AllocGlobal,
+    ensures statuses { IsExit result }
+    ensures faults { AnswersFaults
+        (record { before = S.faults source.old; after = S.faults source.new })
+        (record { before = K.faults sink.old; after = K.faults sink.new }) result }
+{
+    let asked = Asked {
+        folder,
+        access: Access::Shared,
+        is_typed: false,
+    };
+    answer_over(rt, words, asked, source, sink, notes, gate)
+}
+
+/// Calls `top` over the database in a folder.
+fn answer_over<R, S: Source, K: Sink, N: Sink, G: Watcher + Sync>(
+    rt: &R,
+    words: &[&str],
+    asked: Asked<'_>,
+    source: &mut S,
+    sink: &mut K,
+    notes: &mut N,
+    gate: &G,
+) -> u8
+where
+    R: Threads + Wait + Sync + Files<File = File> + AllocGlobal,
+    ensures statuses { IsExit result }
+    ensures faults { AnswersFaults
+        (record { before = S.faults source.old; after = S.faults source.new })
+        (record { before = K.faults sink.old; after = K.faults sink.new }) result }
+{
+    match open_vault(rt, rt.alloc(), asked.folder, asked.access) {
+        Ok(mut opened) => {
+            tell_opened(rt.alloc(), notes, asked, &opened);
+            let status = call_over(rt, words, source, sink, &mut opened.vault, gate);
+            tell_causes(rt.alloc(), notes, asked.folder, &opened.vault);
+            status
+        }
+        Err(error) => {
+            tell_not_opened(rt.alloc(), notes, asked.folder, &error);
+            tell(sink, error.ending)
+        }
+    }
+}
+
+/// Calls `top` over a database that was opened.
+fn call_over<R, S: Source, K: Sink, G: Watcher + Sync>(
+    rt: &R,
+    words: &[&str],
+    source: &mut S,
+    sink: &mut K,
+    vault: &mut Vault<FileDisk>,
+    gate: &G,
+) -> u8
+where
+    R: Threads + Wait + Sync + AllocGlobal,
+    requires whole { IsWhole vault.old }
+    ensures statuses { IsExit result }
+    ensures faults { AnswersFaults
+        (record { before = S.faults source.old; after = S.faults source.new })
+        (record { before = K.faults sink.old; after = K.faults sink.new }) result }
+{
+    top(rt, rt.alloc(), words, source, sink, vault, gate)
+}
+
+/// Calls `top` with words that leave the database alone, over none. No file is opened or made: a script is often made
+/// for a run beside it, which makes the files of the same folder, and would be in the way of another that does.
+fn answer_alone<R, S: Source, K: Sink, G: Watcher + Sync>(
+    rt: &R,
+    words: &[&str],
+    source: &mut S,
+    sink: &mut K,
+    gate: &G,
+) -> u8
+where
+    R: Threads + Wait + Sync + AllocGlobal,
+    requires alone { LeavesVault (command_of (map (λ word. word.now) words.now)) }
+    ensures statuses { IsExit result }
+    ensures faults { AnswersFaults
+        (record { before = S.faults source.old; after = S.faults source.new })
+        (record { before = K.faults sink.old; after = K.faults sink.new }) result }
+{
+    match no_vault(rt.alloc()) {
+        Ok(mut vault) => top(rt, rt.alloc(), words, source, sink, &mut vault, gate),
+        Err(AllocError) => tell(sink, Ending::NoMemory),
+    }
+}
+
+// The words as texts.
+fn texts(alloc: Global, words: &[String]) -> Result<Vec<&str>, AllocError> {
+    words.iter().map(|word| word.as_str()).collect(alloc)
+}
+
+/// Prints how a call ends that doesn't reach `top`, and answers the status.
+fn tell<K: Sink>(sink: &mut K, ending: Ending) -> u8
+    ensures { TellsEnding ending (record { before = K.faults sink.old; after = K.faults sink.new })
+        (K.held sink.old) (K.held sink.new) result }
+{
+    let mut printer = Printer::new(sink);
+    let outcome = finish(&mut printer, ending);
+    let _ = printer.into_sink();
+    status_told(outcome)
+}
+
+/// Explains a status other than 0. The answer stands on standard output, so where this can't be written nothing is
+/// missing.
+fn explain<E: Sink>(errors: &mut E, status: u8)
+    ensures explained { Explains status USAGE.now (E.held errors.old) (E.held errors.new)
+        (E.faults errors.old) (E.faults errors.new) }
+    ensures quiet { status ≡ 0 → errors.new ≡ errors.old }
+{
+    if status == 0 {
+        return;
+    }
+    let _ = errors.write(explanation(status).as_bytes());
+}

@@ -1,0 +1,140 @@
+// What a person is told on standard error beside the explanation of the status: what this call met.
+use crate::faulty_line::fault_lines;
+use crate::files::Opened;
+use crate::not_opened::{NotOpened, Why};
+use crate::opening::Access;
+use crate::paths::device_path;
+use crate::refused_words::reason;
+use crate::script_source::Remembers;
+use outside::{Device, FileDisk, Sink, Vault};
+use program_calls::Ending;
+use std::alloc::{AllocError, Global};
+use std::io;
+
+const TYPED: &[u8] =
+    b"foedus: reading the script from the terminal; it ends with Ctrl-D on a line of its own, and is run then\n";
+
+// Where there is no memory for it, or it can't be written, nothing else is missing.
+fn put<N: Sink>(notes: &mut N, text: Result<String, AllocError>) {
+    if let Ok(text) = text {
+        let _ = notes.write(text.as_bytes());
+    }
+}
+
+/// That words were refused which are no text.
+pub(crate) fn tell_no_text<N: Sink>(notes: &mut N) {
+    let _ = notes.write(b"foedus: a word isn't UTF-8 text\n");
+}
+
+/// What is wrong with refused words.
+pub(crate) fn tell_refused<N: Sink>(alloc: Global, notes: &mut N, words: &[&str]) {
+    put(notes, refusal(alloc, words));
+}
+
+fn refusal(alloc: Global, words: &[&str]) -> Result<String, AllocError> {
+    let reason = reason(alloc, words)?;
+    if reason.is_empty() {
+        return Ok(reason);
+    }
+    format!(in alloc; "foedus: {reason}\n\n")
+}
+
+/// What a call asks of the database in a folder.
+#[derive(Clone, Copy)]
+pub(crate) struct Asked<'a> {
+    pub(crate) folder: &'a str,
+    pub(crate) access: Access,
+    /// Whether it reads a script that somebody types.
+    pub(crate) is_typed: bool,
+}
+
+/// That a script is read which somebody types, or that a database was made by a call that was to tell of one.
+pub(crate) fn tell_opened<N: Sink>(
+    alloc: Global,
+    notes: &mut N,
+    asked: Asked<'_>,
+    opened: &Opened,
+) {
+    if asked.is_typed {
+        let _ = notes.write(TYPED);
+    }
+    if opened.is_new && asked.access == Access::Shared {
+        put(notes, new_told(alloc, asked.folder));
+    }
+}
+
+fn new_told(alloc: Global, folder: &str) -> Result<String, AllocError> {
+    format!(in alloc;
+        "foedus: there was no database in the folder {folder}, so an empty one was made there\n"
+    )
+}
+
+/// Why a database couldn't be opened.
+pub(crate) fn tell_not_opened<N: Sink>(
+    alloc: Global,
+    notes: &mut N,
+    folder: &str,
+    error: &NotOpened,
+) {
+    if let (Ending::NoDevice(device), Some(why)) = (&error.ending, &error.why) {
+        put(notes, cause(alloc, folder, *device, why));
+    }
+}
+
+fn cause(alloc: Global, folder: &str, device: Device, why: &Why) -> Result<String, AllocError> {
+    let path = device_path(alloc, folder, device)?;
+    match why {
+        Why::System(error) => system_cause(alloc, path.as_str(), *error),
+        Why::Locked => format!(in alloc; "foedus: {path}: another process has the database open\n"),
+        Why::Lost => format!(in alloc;
+            "foedus: {path} is missing, and other files of the database have bytes: put \
+            back a copy of the folder whose files are all of one moment, or remove it\n"
+        ),
+        Why::Closed => format!(in alloc;
+            "foedus: {path}: a standard stream is closed, and the file would take its \
+            place\n"
+        ),
+    }
+}
+
+fn system_cause(alloc: Global, path: &str, error: io::Error) -> Result<String, AllocError> {
+    format!(in alloc; "foedus: {path}: {error}\n")
+}
+
+/// What the system said to the calls of devices that it refused.
+pub(crate) fn tell_causes<N: Sink>(
+    alloc: Global,
+    notes: &mut N,
+    folder: &str,
+    vault: &Vault<FileDisk>,
+) {
+    tell_cause(alloc, notes, folder, Device::Save, &vault.save);
+    tell_cause(alloc, notes, folder, Device::Snaps, &vault.snaps);
+    for (worker, disk) in vault.even.iter().enumerate() {
+        tell_cause(alloc, notes, folder, log_of(worker, 0), disk);
+    }
+    for (worker, disk) in vault.odd.iter().enumerate() {
+        tell_cause(alloc, notes, folder, log_of(worker, 1), disk);
+    }
+}
+
+fn log_of(worker: usize, side: u8) -> Device {
+    Device::Bank(((worker % 8) as u8) * 2 + side % 2)
+}
+
+fn tell_cause<N: Sink>(
+    alloc: Global,
+    notes: &mut N,
+    folder: &str,
+    device: Device,
+    disk: &FileDisk,
+) {
+    if let Some(error) = disk.cause() {
+        put(notes, cause(alloc, folder, device, &Why::System(error)));
+    }
+}
+
+/// The faulty line of a script, and what its kind of fault is.
+pub(crate) fn tell_faulty_line<N: Sink, S: Remembers>(alloc: Global, notes: &mut N, source: &S) {
+    put(notes, fault_lines(alloc, source.front(), source.is_whole()));
+}

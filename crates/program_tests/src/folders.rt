@@ -1,0 +1,148 @@
+// The files of a vault in a folder.
+use super::*;
+use outside::FileDisk;
+use program_entry::{Access, Opened, Why, open_vault};
+use std::fs::{self, File, Files};
+
+// The first byte of each disk.
+fn first_bytes(alloc: Global, disks: &mut Vec<FileDisk>) -> Result<Vec<u8>, Fail> {
+    let mut bytes = Vec::new(alloc);
+    for disk in disks.iter_mut() {
+        let mut buf = [255];
+        disk.read(0, &mut buf)?;
+        bytes.push(buf[0])?;
+    }
+    Ok(bytes)
+}
+
+fn check_disks<R: AllocGlobal + Abort>(
+    rt: &R,
+    disks: &mut Vec<FileDisk>,
+    first: [u8; 8],
+) -> Result<(), Fail> {
+    let bytes = first_bytes(rt.alloc(), disks)?;
+    assert_eq!(rt; bytes.as_slice(), first.as_slice());
+    Ok(())
+}
+
+// Makes the files that are missing.
+fn make_files<R: Files<File = File> + AllocGlobal>(rt: &R, folder: &str) -> Result<(), Fail> {
+    let opened = open_for(rt, folder, Access::Alone)?;
+    if !opened.is_new {
+        return Err(Fail::from("a new database"));
+    }
+    Ok(())
+}
+
+fn open_for<R: Files<File = File> + AllocGlobal>(
+    rt: &R,
+    folder: &str,
+    access: Access,
+) -> Result<Opened, Fail> {
+    match open_vault(rt, rt.alloc(), folder, access) {
+        Ok(opened) => Ok(opened),
+        Err(_) => Err(Fail::from("a vault")),
+    }
+}
+
+// Whether a database can't be opened since another process, or another opening here, has it.
+fn is_locked<R: Files<File = File> + AllocGlobal>(rt: &R, folder: &str, access: Access) -> bool {
+    match open_vault(rt, rt.alloc(), folder, access) {
+        Ok(_) => false,
+        Err(error) => matches!(error.why, Some(Why::Locked)),
+    }
+}
+
+// Whether a database can't be opened since its savepoint is missing.
+fn is_lost<R: Files<File = File> + AllocGlobal>(rt: &R, folder: &str, access: Access) -> bool {
+    match open_vault(rt, rt.alloc(), folder, access) {
+        Ok(_) => false,
+        Err(error) => matches!(error.why, Some(Why::Lost)),
+    }
+}
+
+// Each bank's file has its number as its first byte.
+fn check_banks<R: Files<File = File> + AllocGlobal + Abort>(
+    rt: &R,
+    folder: &str,
+) -> Result<(), Fail> {
+    let mut opened = open_for(rt, folder, Access::Shared)?;
+    check_disks(rt, &mut opened.vault.even, [0, 2, 4, 6, 8, 10, 12, 14])?;
+    check_disks(rt, &mut opened.vault.odd, [1, 3, 5, 7, 9, 11, 13, 15])
+}
+
+pub(super) fn check_file<R: Files<File = File> + AllocGlobal + Abort>(
+    rt: &R,
+    path: &str,
+    bytes: &[u8],
+) -> Result<(), Fail> {
+    let found = fs::read(rt, path)?;
+    assert_eq!(rt; found.as_slice(), bytes);
+    Ok(())
+}
+
+fn number_bank<R: Files<File = File> + AllocGlobal>(
+    rt: &R,
+    folder: &str,
+    bank: u8,
+) -> Result<(), Fail> {
+    let path = format!(in rt.alloc(); "{folder}/bank{bank}")?;
+    fs::write(rt, path.as_str(), [bank].as_slice())?;
+    Ok(())
+}
+
+// Files are made, the savepoint's with 1,024 zero bytes, and found again, each bank under its number.
+#[test]
+fn a_folder_is_a_vault(rt: HostRuntime) -> Result<(), Fail> {
+    let folder = "foedus_vault";
+    let _old = fs::remove_dir_all(&rt, folder);
+    // A process that was stopped while it made the savepoint's file leaves some of it under another name.
+    fs::create_dir(&rt, folder)?;
+    fs::write(&rt, "foedus_vault/save.new", [165; 3].as_slice())?;
+    make_files(&rt, folder)?;
+    check_file(&rt, "foedus_vault/save", &[0; 1024])?;
+    check_file(&rt, "foedus_vault/snaps", &[])?;
+    check_file(&rt, "foedus_vault/bank15", &[])?;
+    for bank in 0..16u8 {
+        number_bank(&rt, folder, bank)?;
+    }
+    check_banks(&rt, folder)?;
+    fs::remove_dir_all(&rt, folder)?;
+    Ok(())
+}
+
+// While a database is open to be written nobody else opens it, and while it is open to be read nobody writes it.
+#[test]
+fn an_open_database_is_locked(rt: HostRuntime) -> Result<(), Fail> {
+    let folder = "foedus_locked";
+    let _old = fs::remove_dir_all(&rt, folder);
+    let alone = open_for(&rt, folder, Access::Alone)?;
+    assert!(rt; is_locked(&rt, folder, Access::Alone));
+    assert!(rt; is_locked(&rt, folder, Access::Shared));
+    drop(alone);
+    let first = open_for(&rt, folder, Access::Shared)?;
+    let second = open_for(&rt, folder, Access::Shared)?;
+    assert!(rt; is_locked(&rt, folder, Access::Alone));
+    drop(first);
+    drop(second);
+    assert!(rt; !is_locked(&rt, folder, Access::Alone));
+    fs::remove_dir_all(&rt, folder)?;
+    Ok(())
+}
+
+// Files with bytes beside a missing savepoint are no new database, and stay as they are.
+#[test]
+fn a_lost_savepoint_is_no_new_database(rt: HostRuntime) -> Result<(), Fail> {
+    let folder = "foedus_lost";
+    let _old = fs::remove_dir_all(&rt, folder);
+    make_files(&rt, folder)?;
+    number_bank(&rt, folder, 9)?;
+    fs::remove_file(&rt, "foedus_lost/save")?;
+    assert!(rt; is_lost(&rt, folder, Access::Alone));
+    assert!(rt; is_lost(&rt, folder, Access::Shared));
+    check_file(&rt, "foedus_lost/bank9", &[9])?;
+    fs::remove_file(&rt, "foedus_lost/bank9")?;
+    make_files(&rt, folder)?;
+    fs::remove_dir_all(&rt, folder)?;
+    Ok(())
+}

@@ -1,0 +1,125 @@
+#!/usr/bin/env python3
+"""Makes a script that writes rows into a database, of what `foedus dump` printed or of CSV: so a dump can be loaded
+into a new database, and tables from elsewhere too.
+
+Usage: tools/load.py [--csv] (--vault FOLDER | --declare STORAGE ..) [--out NAME] [FILE]
+
+  FILE               what `foedus dump` or `foedus snap` printed, or with --csv a table with the columns storage, key,
+                     value, which its first line names; standard input if it is left out
+  --vault FOLDER     the script declares the storages of the database there; a dump doesn't tell their sizes
+  --declare STORAGE  the script declares this storage, as in --declare "array 1 1024" --declare "tree 2"
+  --out NAME         writes NAME1.txt and, since a script has at most 64 MiB, as many more as it takes, which are to be
+                     run one after another; without it there is one script, on standard output
+
+A line has sixteen writes, a round 65,536 lines. Nothing is written unless the whole input is well. Status: 0; 1 where
+the input, the storages or the output can't be used, which standard error names; 2 for other words.
+"""
+import argparse
+import sys
+
+from rows import HEADER, Refused, csv_rows, dump_rows, each_once, number_in, open_input, write_files, write_out
+from vault_format import Storage, Unreadable, Vault
+
+OPS = 16  # of a line
+LINES = 65536  # of a round
+WORKERS = 8
+STORAGES = 16
+MOST_VALUES = 131072
+BYTES = 64 << 20  # of a script
+ROUND = "join\n"
+
+
+def storage_of(text):
+    """The storage that a declaration declares."""
+    words = text.split()
+    id = number_in(words[1], 255) if len(words) > 1 else None
+    if id is not None and words[0] == "tree" and len(words) == 2:
+        return Storage(id, None)
+    size = number_in(words[2], MOST_VALUES) if len(words) > 2 else None
+    if id is not None and size and words[0] == "array" and len(words) == 3:
+        return Storage(id, size)
+    raise Refused(f"--declare {text!r}: not `array ID SIZE` or `tree ID`, ID 0 to 255, SIZE 1 to {MOST_VALUES}")
+
+
+def storages_of(options):
+    """The storages by their ids, and where they are declared."""
+    if options.vault is None:
+        found, where = [storage_of(text) for text in options.declare], "by --declare"
+    else:
+        vault = Vault(options.vault)
+        found, where = vault.snapshots[-1].storages if vault.snapshots else [], f"in {options.vault}"
+    if not found or len(found) > STORAGES or len({storage.id for storage in found}) < len(found):
+        raise Refused(f"1 to {STORAGES} storages with ids of their own are wanted, and {len(found)} stand {where}")
+    return {storage.id: storage for storage in found}, where
+
+
+def writes_of(rows, storages, where, name):
+    """The rows as operations."""
+    for (id, key, value), line in rows:
+        if id not in storages:
+            raise Refused(f"{name} line {line}: storage {id} isn't declared {where}")
+        size = storages[id].size
+        if size is not None and key >= size:
+            raise Refused(f"{name} line {line}: key {key} is past the end of storage {id}, an array of {size} {where}")
+        yield f"w {id} {key} {value}"
+
+
+def lines_of(writes):
+    """The operations in lines of the workers by turns. Each key stands in one line, so no line is in another's way."""
+    ops, count = [], 0
+    for op in writes:
+        ops.append(op)
+        if len(ops) == OPS:
+            yield f"{count % WORKERS} {'; '.join(ops)}\n"
+            ops, count = [], count + 1
+    if ops:
+        yield f"{count % WORKERS} {'; '.join(ops)}\n"
+
+
+def scripts_of(declared, lines):
+    """The lines in scripts, each with the declarations, in rounds."""
+    parts, size, count = [declared], len(declared), 0
+    for line in lines:
+        if size + len(line) + len(ROUND) > BYTES:
+            yield "".join(parts)
+            parts, size, count = [declared], len(declared), 0
+        if count == LINES:
+            parts.append(ROUND)
+            size, count = size + len(ROUND), 0
+        parts.append(line)
+        size, count = size + len(line), count + 1
+    yield "".join(parts)
+
+
+def load(options):
+    storages, where = storages_of(options)
+    source, name = open_input(options.file)
+    rows = each_once((csv_rows if options.csv else dump_rows)(iter(source), name), name)
+    declared = "".join(f"{storage.declaration()}\n" for storage in storages.values())
+    scripts = list(scripts_of(declared, lines_of(writes_of(rows, storages, where, name))))
+    if options.out is not None:
+        write_files(scripts, [f"{options.out}{place}.txt" for place in range(1, len(scripts) + 1)])
+    elif len(scripts) > 1:
+        raise Refused(f"{name}: too long for one script, which has at most 64 MiB: name files by --out")
+    else:
+        write_out(scripts[0])
+
+
+def main():
+    parser = argparse.ArgumentParser(usage=__doc__, add_help=False)
+    parser.add_argument("file", nargs="?")
+    parser.add_argument("--csv", action="store_true")
+    storages = parser.add_mutually_exclusive_group(required=True)
+    storages.add_argument("--vault")
+    storages.add_argument("--declare", action="append")
+    parser.add_argument("--out")
+    try:
+        load(parser.parse_args())
+    except (Refused, Unreadable) as error:
+        print(f"load: {error}", file=sys.stderr)
+        return 1
+    return 0
+
+
+if __name__ == "__main__":
+    sys.exit(main())

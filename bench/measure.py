@@ -1,12 +1,14 @@
 #!/usr/bin/env python3
-"""Measures what a run of a long script takes: seconds, and peak memory as a multiple of the script's size.
+"""Measures what a run of a long script takes: seconds, and peak memory: first that of a script of the same declarations
+alone, then how much more, also as a multiple of the script's size. An array has two words in memory for each of its
+values, whatever the script's length, and each worker with lines has sets of its own.
 
-The scripts of long lines and of short ones have a quarter, a half and all of 64 MiB. In those of 16 writes a line and of
-16 reads a line each line is padded to 1,024 bytes by empty lines, which count for nothing; those of the shortest lines
-have full rounds. Then come scripts of 25,000, 50,000 and 100,000 rounds without a line, and of one line each; and of
-scans: of a tree with 16,384, 32,768 and 65,536 keys, as many scans from a key on, of 16 rows each but near the last key.
-The databases are in a folder in memory, where a sync costs nothing: what it costs to make commits durable on a device
-measure_log.py tells.
+The scripts of long lines and of short ones have a quarter, a half and all of 64 MiB. In those of 16 writes a line and
+of 16 reads a line each line is padded to 1,024 bytes by empty lines, which count for nothing; those of the shortest
+lines have full rounds. Then come scripts of 25,000, 50,000 and 100,000 rounds without a line, and of one line each; and
+of scans: of a tree with 16,384, 32,768 and 65,536 keys, as many scans from a key on, of 16 rows each but near the last
+key. The databases are in a folder in memory, where a sync costs nothing: what it costs to make commits durable on a
+device measure_log.py tells.
 Usage: bench/measure.py PROGRAM, where PROGRAM is `./foedus` or the built program. It takes some minutes.
 """
 import os
@@ -21,6 +23,11 @@ READ = "0 r 1 0\n"
 MEMORY = "/dev/shm"
 
 
+ARRAYS = "".join(f"array {storage} 131072\n" for storage in range(16))
+SMALL = "array 1 4\n"
+TREE = "tree 2\n"
+
+
 def line(number, kind):
     ops = []
     for place in range(16):
@@ -31,9 +38,8 @@ def line(number, kind):
 
 
 def script(lines, kind):
-    heads = "".join(f"array {storage} 131072\n" for storage in range(16))
     body = "".join(line(number, kind) for number in range(lines))
-    return (heads + body)[: lines * BYTES]
+    return (ARRAYS + body)[: lines * BYTES]
 
 
 def repeated(block, size):
@@ -41,8 +47,7 @@ def repeated(block, size):
 
 
 def short_lines(size):
-    head = "array 1 4\n"
-    return head + repeated(READ * LINES + "join\n", size - len(head))
+    return SMALL + repeated(READ * LINES + "join\n", size - len(SMALL))
 
 
 def scans(keys):
@@ -52,7 +57,7 @@ def scans(keys):
     writes = [f"w 2 {key(number)} {number}" for number in range(keys)]
     lines = ["0 " + "; ".join(writes[first : first + 16]) for first in range(0, keys, 16)]
     reads = [f"0 s 2 {key(number)} {2**64 - 1}" for number in range(keys)]
-    return "\n".join(["tree 2"] + lines + ["join"] + reads) + "\n"
+    return TREE + "\n".join(lines + ["join"] + reads) + "\n"
 
 
 def run(program, path):
@@ -69,8 +74,8 @@ def run(program, path):
 
 
 def write_apart(path, make):
-    """Writes a script from a process of its own. A program's peak counts what the process that starts it ever had, so this
-    one never holds a script."""
+    """Writes a script from a process of its own. A program's peak counts what the process that starts it ever had, so
+    this one never holds a script."""
     child = os.fork()
     if child == 0:
         with open(path, "w") as source:
@@ -79,25 +84,34 @@ def write_apart(path, make):
     os.waitpid(child, 0)
 
 
-def measure(program, name, make):
+def run_made(program, make):
+    """The status, the seconds and the peak memory of a run of a script, and the script's size."""
     with tempfile.NamedTemporaryFile(suffix=".txt") as source:
         write_apart(source.name, make)
-        size = os.path.getsize(source.name)
-        status, seconds, peak = run(program, source.name)
-    print(f"{name}, {size:9} bytes: status {status}, {seconds:5.2f} s, peak {peak / size:4.1f} times the size")
+        return *run(program, source.name), os.path.getsize(source.name)
+
+
+def measure(program, name, declared, make):
+    bare = run_made(program, lambda: declared)[2]
+    status, seconds, peak, size = run_made(program, make)
+    if status != 0:
+        sys.exit(f"{name}: status {status}")
+    more = peak - bare
+    told = f"{bare / 1e6:4.0f} MB and {more / 1e6:4.0f} MB more, {more / size:4.1f} times the size"
+    print(f"{name}, {size:9} bytes: {seconds:5.2f} s, {told}", flush=True)
 
 
 def main():
     program = os.path.abspath(sys.argv[1])
     for lines in (LINES // 4, LINES // 2, LINES):
         for kind in ("writes", "reads"):
-            measure(program, f"16 {kind} a line, {lines:6} lines", lambda: script(lines, kind))
-        measure(program, "shortest lines, in full rounds", lambda: short_lines(lines * BYTES))
+            measure(program, f"16 {kind} a line, {lines:6} lines", ARRAYS, lambda: script(lines, kind))
+        measure(program, "shortest lines, in full rounds", SMALL, lambda: short_lines(lines * BYTES))
     for rounds in (ROUNDS // 4, ROUNDS // 2, ROUNDS):
-        measure(program, f"{rounds:6} rounds without a line", lambda: "join\n" * rounds)
-        measure(program, f"{rounds:6} rounds of a line", lambda: "array 1 4\n" + (READ + "join\n") * rounds)
+        measure(program, f"{rounds:6} rounds without a line", "", lambda: "join\n" * rounds)
+        measure(program, f"{rounds:6} rounds of a line", SMALL, lambda: SMALL + (READ + "join\n") * rounds)
     for keys in (LINES // 4, LINES // 2, LINES):
-        measure(program, f"{keys:6} scans of a tree with as many keys", lambda: scans(keys))
+        measure(program, f"{keys:6} scans of a tree with as many keys", TREE, lambda: scans(keys))
 
 
 if __name__ == "__main__":

@@ -1,6 +1,7 @@
 #!/usr/bin/env python3
-"""Measures what it takes to make commits durable: a run of 16,384 lines of two additions each by one worker, beside a
-plain C++ program that does the same map operations, writes and syncs in the same rhythm.
+"""Measures what it takes to make commits durable: a run of 16,384 lines of two additions each to an array by one
+worker, beside a plain C++ program that keeps the values in a row in memory, as the engine does, and does the same
+writes and syncs in the same rhythm, but nothing of what threads would want.
 
 Each run begins with a fresh database, whose files were made before it. Both programs have to print the same, and to
 leave the same bytes in each file. They run in turn, and of each the least and the middle one of its times are told.

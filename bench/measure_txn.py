@@ -5,7 +5,8 @@ One worker makes transactions of two additions and of sixteen reads; then 1, 2 a
 apart and on the same two. Both programs run in turn, and of each the middle and the best of its times are told: a
 transaction's nanoseconds, and of those in threads how many commit in a second, all workers together.
 Usage: bench/measure_txn.py FOLDER. The proved program is made in FOLDER, from a copy of the crates as they stand here
-and a crate of a few lines, and stays there: the first time all crates below are proved, which takes as long as for the
+and a crate of a few lines, and stays there (txn_tests, which drives the transactions, is for tests alone here; in the
+copy it is a library): the first time all crates below are proved, which takes as long as for the
 gate; after that only what has changed is.
 """
 import os
@@ -76,6 +77,10 @@ def make(folder):
     with open(f"{folder}/crates.txt", "a", encoding="utf-8") as crates:
         crates.write(f"{NAME}: lists serial_model homes views wire_form commit_core serial_bridge engine_words tx_sets")
         crates.write(" array_storage tx_commit txn_tests # times of transactions\n")
+    with open(f"{folder}/crates/txn_tests/src/lib.rt", encoding="utf-8") as root:
+        text = root.read()
+    with open(f"{folder}/crates/txn_tests/src/lib.rt", "w", encoding="utf-8") as root:
+        root.write(text.replace("#[cfg(test)]\nmod tests;\n", "").replace("#[cfg(test)]\n", ""))
     os.makedirs(f"{folder}/crates/{NAME}/src", exist_ok=True)
     with open(f"{folder}/crates/{NAME}/src/main.rt", "w", encoding="utf-8") as program:
         program.write(MAIN)

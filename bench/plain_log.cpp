@@ -1,6 +1,7 @@
-// What `foedus run` does with a script of additions by one worker, written by hand in the plainest way: the same map
-// operations and log lines, and the same writes and syncs in the same rhythm. It checks nothing and recovers nothing,
-// and is there for measure_log.py to compare with. Usage, in the folder of a fresh database: plain_log < SCRIPT
+// What `foedus run` does with a script of additions to an array by one worker, written by hand in the plainest way: the
+// values stand in a row in memory, as the engine's do, and log lines, writes and syncs are the same, in the same
+// rhythm. It takes no lock and no other precaution against threads, since it has one, checks nothing and recovers
+// nothing, and is there for measure_log.py to compare with. Usage, in the folder of a fresh database: plain_log < SCRIPT
 #include <fcntl.h>
 #include <unistd.h>
 
@@ -8,11 +9,8 @@
 #include <cstdio>
 #include <cstdlib>
 #include <cstring>
-#include <map>
 #include <string>
-#include <utility>
-
-using Key = std::pair<uint64_t, uint64_t>;
+#include <vector>
 
 static void check(bool ok, const char *what) {
     if (!ok) {
@@ -67,6 +65,24 @@ static void write_catalogue(Device &device, uint64_t id, uint64_t size) {
     device.sync();
 }
 
+// What a line changes, in ascending order of its keys.
+struct Changes {
+    uint64_t keys[16], values[16];
+    size_t count = 0;
+
+    void put(uint64_t key, uint64_t value) {
+        size_t at = 0;
+        while (at < count && keys[at] < key) at++;
+        if (at == count || keys[at] != key) {
+            memmove(keys + at + 1, keys + at, (count - at) * sizeof *keys);
+            memmove(values + at + 1, values + at, (count - at) * sizeof *values);
+            keys[at] = key;
+            count++;
+        }
+        values[at] = value;
+    }
+};
+
 struct Journal {
     Device device{"bank0"};
     unsigned char lines[4096];
@@ -85,14 +101,14 @@ struct Journal {
         if (sizeof lines - filled < 400) flush();
     }
 
-    void put(uint64_t number, const std::map<Key, uint64_t> &changes) {
+    void put(uint64_t number, uint64_t id, const Changes &changes) {
         put_word(lines + filled, number);
-        put_word(lines + filled + 8, changes.size());
+        put_word(lines + filled + 8, changes.count);
         filled += 16;
-        for (const auto &[key, value] : changes) {
-            put_word(lines + filled, key.first + 256);
-            put_word(lines + filled + 8, key.second);
-            put_word(lines + filled + 16, value);
+        for (size_t i = 0; i < changes.count; i++) {
+            put_word(lines + filled, id + 256);
+            put_word(lines + filled + 8, changes.keys[i]);
+            put_word(lines + filled + 16, changes.values[i]);
             filled += 24;
         }
     }
@@ -105,15 +121,15 @@ static uint64_t number(const char *&at) {
 }
 
 // Runs a worker's line, `0 a S K V; a S K V ..`, and gives what it changes.
-static std::map<Key, uint64_t> run_line(std::map<Key, uint64_t> &state, const char *&at) {
-    std::map<Key, uint64_t> changes;
+static Changes run_line(std::vector<uint64_t> &values, const char *&at) {
+    Changes changes;
     number(at);
     while (*at != '\n') {
         at += *at == ';' ? 4 : 3;
-        uint64_t storage = number(at);
+        number(at);
         uint64_t key = number(++at);
         uint64_t value = number(++at);
-        changes[{storage, key}] = state[{storage, key}] += value;
+        changes.put(key, values[key] += value);
     }
     at++;
     return changes;
@@ -133,12 +149,12 @@ int main() {
     write_catalogue(snaps, id, size);
     save(save_device, 1, 0, 0);
 
-    std::map<Key, uint64_t> state;
+    std::vector<uint64_t> values(size);
     Journal journal;
     check(ftruncate(journal.device.file, 0) == 0, "cut");
     for (uint64_t draw = 1; *at; draw++) {
         journal.room();
-        journal.put((uint64_t)1 << 40 | draw, run_line(state, at));
+        journal.put((uint64_t)1 << 40 | draw, id, run_line(values, at));
         char text[64];
         out.append(text, (size_t)snprintf(text, sizeof text, "0.%llu ok 1:%llu\n", (unsigned long long)(draw - 1),
                                           (unsigned long long)draw));

@@ -59,7 +59,7 @@ def peak_of(program, script, folder):
 def over_fresh(program, command, place, source, folder):
     """The same over a fresh database, and what it prints and leaves there."""
     with tempfile.TemporaryDirectory(dir=folder) as around:
-        subprocess.run([program, "dump"], cwd=around, check=True, stdout=subprocess.DEVNULL)
+        subprocess.run([program, "dump"], cwd=around, check=True, stdout=subprocess.DEVNULL, stderr=subprocess.DEVNULL)
         seconds = timed(command, f"{around}/{place}", source, f"{around}/told")
         with open(f"{around}/told", "rb") as told:
             return seconds, (told.read(), contents(f"{around}/vault"))

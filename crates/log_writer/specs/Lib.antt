@@ -1,7 +1,11 @@
+pub mod Cuts
 pub mod Flushes
 pub mod Growing
 pub mod Journal
 pub mod Newest
 pub mod Points
+pub mod Recorded
+pub mod Records
 pub mod Save
 pub mod Stores
+pub mod Vault

@@ -3,6 +3,7 @@ use Rattle.std.specs.Prelude.{◌≡◌, ◌≢◌, ◌⊎◌, ℕ, ◌*◌, Lis
 use Rattle.wire_form.specs.declared.savepoint.Savepoint.{Savepoint}
 use Rattle.wire_form.specs.Savepoint.{IsSavepointOf, place_bytes, valid_byte}
 use Rattle.outside.specs.Disk.{IfTold, written, Torn, Only}
+use Rattle.log_writer.specs.Points.{sequence_of}
 
 -- place 0 is the first half of the device, and place 1 the second
 abbrev pub place_in : List ℕ → ℕ → List ℕ
@@ -60,3 +61,9 @@ closed at file = if slice_index file at == valid_byte then written at (0 ∷ [])
 -- what a stop leaves meanwhile: a place that isn't open is not written
 abbrev pub ClosedOrTorn : ℕ → List ℕ → List ℕ → Type 0
 ClosedOrTorn at file c = (c ≡ file) ⊎ ((slice_index file at ≡ valid_byte) × Torn at 1 file c)
+
+-- the save device names a savepoint of this sequence for the newest, as far as it tells its bytes, and nothing of it is
+-- pending
+abbrev pub IsNewest : {D : Type 0} → (tells : D → Option (List ℕ)) → (clock : D → ℕ) → (image_at : D → ℕ → List ℕ → Type 0) → D → ℕ → Type 0
+IsNewest tells clock image_at disk sequence =
+    (newest : Option Savepoint) × IsStored tells clock image_at disk newest × (sequence_of newest ≡ sequence)

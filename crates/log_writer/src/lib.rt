@@ -8,6 +8,11 @@
 //!   begun (`tied`, `begun`, `untied`).
 //! - [`Save::load`] gives the savepoint that the device names (`found`, by `Finds`), or the byte from which on
 //!   it names none (`damaged`). A device names at most one ([`one_newest`]).
+//! - [`Vault::cut_in`] cuts one device of a vault, of which the trait's clauses hold, and leaves the others (`cut`,
+//!   by `CutsIn` in `specs/Vault.antt`). It records just one cut, whether the device did it or not: the device's
+//!   clock as it began, and the sequence that the save then names (`recorded`, `newest`). Nobody but these two
+//!   calls can add a tie or a cut ([`Records`]), so none is recorded late. [`Vault::is_whole`] tells a vault with
+//!   two log files for each of eight workers; laws of vaults stand in `specs/Cuts.antt`.
 //! - [`Journal::flush`] and [`Journal::room`]: after `Ok` every crash image begins with all bytes that were
 //!   made durable (`durable` of the record `Flushes`, in `specs/Flushes.antt`), and over later calls, whatever
 //!   they answer, the images of every moment keep beginning with them (`stays`), until the log file is cut.
@@ -33,12 +38,16 @@ mod flush;
 mod journal;
 mod laws;
 mod line_buffer;
+mod records;
 mod save;
 mod saved;
 mod store_in;
+mod vault;
 mod write_and_sync;
 
 pub use journal::{Journal, LogFault};
 pub use laws::one_newest;
+pub use records::{Cut, Records, Tie};
 pub use save::{Save, SaveFault, SaveOpen};
 pub use saved::Saved;
+pub use vault::Vault;

@@ -1,11 +1,11 @@
 // A store into the save device of a database's devices, recorded beside them.
-ghost use Rattle.std.specs.Prelude.{◌≡◌, ◌≢◌, ◌+◌, ◌<◌, [], ◌∷◌, ◌++◌, Some, None, Err, OnOk, OnErr, vec_len, vec_capacity};
+ghost use Rattle.std.specs.Prelude.{◌≡◌, ◌≢◌, ◌+◌, ◌≤◌, [], ◌∷◌, ◌++◌, Some, None, Err, OnOk, OnErr};
 ghost use Rattle.log_writer.specs.Points.{IsSaved, sequence_of};
 ghost use Rattle.log_writer.specs.Save.{IsStored};
 ghost use Rattle.log_writer.specs.Stores.{Stores};
 
-use crate::{Save, SaveFault, Saved};
-use outside::{Disk, Tie, Vault};
+use crate::{Save, SaveFault, Saved, Tie, Vault};
+use outside::Disk;
 
 impl Save {
     /// `store` on the save device of the vault, which records a tie for each store that was begun:
@@ -15,7 +15,7 @@ impl Save {
         requires saved { IsSaved saved }
         requires stored { self.old.down ≡ None
             → IsStored D.tells D.clock D.image_at vault.old.save self.old.newest }
-        requires room { vec_len vault.old.ties < vec_capacity vault.old.ties }
+        requires room { 1 ≤ vault.old.ties.room }
         ensures stores { Stores D.tells D.clock D.image_at D.faults saved
             self.old self.new vault.old.save vault.new.save result }
         ensures tied { OnOk result (vault.new.ties.items ≡ vault.old.ties.items
@@ -31,7 +31,7 @@ impl Save {
               ended = None;
             } ∷ [] }
         ensures untied { result ≢ Err SaveFault.Device → OnErr result (vault.new ≡ vault.old) }
-        ensures capacity { vec_capacity vault.new.ties ≡ vec_capacity vault.old.ties }
+        ensures room { vault.old.ties.room ≤ vault.new.ties.room + 1 }
         ensures others { (vault.new.snaps ≡ vault.old.snaps) × (vault.new.even ≡ vault.old.even)
             × (vault.new.odd ≡ vault.old.odd) × (vault.new.cuts ≡ vault.old.cuts) }
     {
@@ -40,7 +40,7 @@ impl Save {
         match self.store(&mut vault.save, saved) {
             Ok(()) => {
                 let ended = Some(vault.save.clock());
-                vault.ties.push_reserved(Tie {
+                vault.ties.push(Tie {
                     sequence: sequence + 1,
                     snaps,
                     ended,
@@ -48,7 +48,7 @@ impl Save {
                 Ok(())
             }
             Err(SaveFault::Device) => {
-                vault.ties.push_reserved(Tie {
+                vault.ties.push(Tie {
                     sequence: sequence + 1,
                     snaps,
                     ended: None,

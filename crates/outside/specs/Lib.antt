@@ -1,4 +1,3 @@
-pub mod Cuts
 pub mod Disk
 pub mod Faults
 pub mod Fronts
@@ -12,4 +11,3 @@ pub mod Reads
 pub mod Replay
 pub mod Replayed
 pub mod Stream
-pub mod Vault

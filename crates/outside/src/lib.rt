@@ -22,14 +22,10 @@
 //!   records each call that it made, in order, and no other (`recorded`, by `IsRecorded` in
 //!   `specs/Listed.antt`). A [`FuseDisk`] takes a pass for each call, and once none is left each call fails and
 //!   changes nothing (`fused`, by `IsFused` in `specs/Fuse.antt`). Tests of stops stand on both.
-//! - [`Vault::cut_in`] cuts one device of a vault, of which the trait's clauses hold, and leaves the others
-//!   (`cut`, by `CutsIn` in `specs/Vault.antt`). It records just one cut, with the device's clock as it began,
-//!   whether the device did it or not (`recorded`). [`Vault::is_whole`] tells a vault with two log files for
-//!   each of eight workers.
 //!
 //! Laws for those who use a disk stand in `specs/Ranges.antt` (what a write leaves), `specs/Moments.antt` (how
 //! images go on), `specs/Fronts.antt` (what all images begin with) and `specs/Growth.antt` (how a log file
-//! grows between two cuts), those for a vault in `specs/Cuts.antt`.
+//! grows between two cuts).
 //!
 //! Terms: the bytes that a disk *tells* are those that reads give, where anything is known of them; the objects
 //! in memory tell theirs, and those over the system tell none, so that their calls promise no more than counts.
@@ -49,6 +45,7 @@
 #![tactic(auto)]
 
 mod call;
+mod device;
 mod disk;
 mod fault;
 mod file_disk;
@@ -64,9 +61,9 @@ mod std_sink;
 mod std_source;
 mod sure_source;
 mod system_file;
-mod vault;
 
 pub use call::{Call, Made};
+pub use device::Device;
 pub use disk::Disk;
 pub use fault::Failed;
 pub use file_disk::FileDisk;
@@ -80,4 +77,3 @@ pub use source::Source;
 pub use std_sink::StdSink;
 pub use std_source::StdSource;
 pub use sure_source::SureSource;
-pub use vault::{Cut, Device, Tie, Vault};

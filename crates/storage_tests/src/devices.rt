@@ -1,10 +1,12 @@
 // The objects at work: what they give, what they leave after a fault, and that a call can succeed.
-ghost use Rattle.std.specs.Prelude.{◌≡◌, ◌≢◌, ◌<◌, ◌≤◌, length, IfOk, IsSome, vec_len, vec_capacity};
-ghost use Rattle.outside.specs.Vault.{disk_in};
+ghost use Rattle.std.specs.Prelude.{◌≡◌, ◌≢◌, ◌<◌, ◌≤◌, length, IfOk, IsSome};
+ghost use Rattle.log_writer.specs.Vault.{disk_in};
+ghost use Rattle.log_writer.specs.Save.{IsNewest};
 
+use log_writer::{Cut, Records, Save, Vault};
 use outside::{
-    Call, Cut, Device, Disk, Failed, FileDisk, FuseDisk, Gate, MemDisk, MemSink, MemSource,
-    OpenGate, Sink, Source, StdSink, StdSource, SureSource, Vault,
+    Call, Device, Disk, Failed, FileDisk, FuseDisk, Gate, MemDisk, MemSink, MemSource, OpenGate,
+    Sink, Source, StdSink, StdSource, SureSource,
 };
 use std::alloc::{AllocError, Global};
 use std::fs::{self, File, Files, OpenOptions};
@@ -428,14 +430,32 @@ fn two_disks(alloc: Global, first: u8, second: u8) -> Result<Vec<MemDisk>, Alloc
     Ok(disks)
 }
 
-// The devices of two workers, and room for one cut. Each disk's clock is another.
+// A save device that names no savepoint.
+fn fresh_save(alloc: Global) -> Result<MemDisk, AllocError>
+    ensures newest { IfOk result (λ disk. IsNewest ⟦<MemDisk as Disk>⟧.tells
+        ⟦<MemDisk as Disk>⟧.clock ⟦<MemDisk as Disk>⟧.image_at disk 0) }
+{
+    let mut disk = MemDisk::new(alloc, [0; 1024].to_vec(alloc)?, Vec::new(alloc))?;
+    let Ok((save, _)) = Save::load(&mut disk) else {
+        return Err(AllocError);
+    };
+    if save.sequence() != 0 {
+        return Err(AllocError);
+    }
+    Ok(disk)
+}
+
+// The devices of two workers, and room for one cut. Each disk's clock but the first is another.
 fn two_workers(alloc: Global) -> Result<Vault<MemDisk>, AllocError>
+    ensures newest { IfOk result (λ vault. IsNewest ⟦<MemDisk as Disk>⟧.tells
+        ⟦<MemDisk as Disk>⟧.clock ⟦<MemDisk as Disk>⟧.image_at vault.save 0) }
     ensures even { IfOk result (λ vault. length vault.even.items ≡ 2) }
     ensures odd { IfOk result (λ vault. length vault.odd.items ≡ 2) }
-    ensures room { IfOk result (λ vault. vec_len vault.cuts < vec_capacity vault.cuts) }
+    ensures room { IfOk result (λ vault. 1 ≤ vault.cuts.room) }
 {
-    let cuts = Vec::with_capacity(alloc, 1)?;
-    let save = asked_disk(alloc, 0)?;
+    let mut cuts = Records::new(alloc);
+    cuts.reserve(1)?;
+    let save = fresh_save(alloc)?;
     let snaps = asked_disk(alloc, 1)?;
     let even = two_disks(alloc, 2, 4)?;
     let odd = two_disks(alloc, 3, 5)?;
@@ -444,7 +464,7 @@ fn two_workers(alloc: Global) -> Result<Vault<MemDisk>, AllocError>
         snaps,
         even,
         odd,
-        ties: Vec::new(alloc),
+        ties: Records::new(alloc),
         cuts,
     })
 }
@@ -469,13 +489,15 @@ fn are_left(vault: &Vault<MemDisk>, left: &[usize; 6]) -> bool {
     alone & even & have_lengths(&vault.odd, &left[4..])
 }
 
-// Cuts a device that is there, and says so in a list that has room.
+// Cuts a device that is there, and says so in a list that has room, behind what the save device names.
 fn cut_in(vault: &mut Vault<MemDisk>, device: Device) -> Result<(), Failed>
-    requires room { vec_len vault.old.cuts < vec_capacity vault.old.cuts }
+    requires newest { IsNewest ⟦<MemDisk as Disk>⟧.tells ⟦<MemDisk as Disk>⟧.clock
+        ⟦<MemDisk as Disk>⟧.image_at vault.old.save 0 }
+    requires room { 1 ≤ vault.old.cuts.room }
     requires device { IsSome (disk_in vault.old device) }
     requires not_save { device ≢ Device.Save }
 {
-    vault.cut_in(device, 7)
+    vault.cut_in(device, 0)
 }
 
 // A device was cut as its clock was this: what was recorded, and all lengths.
@@ -490,7 +512,7 @@ fn is_cut(
     let cut = Cut {
         device,
         at,
-        after: 7,
+        after: 0,
     };
     assert!(rt; vault.cuts.as_slice() == [cut].as_slice());
     assert!(rt; are_left(vault, &left), "{device:?}");
@@ -500,7 +522,13 @@ fn snaps_are_cut(rt: &impl Abort, alloc: Global) -> Result<(), AllocError> {
     let mut vault = two_workers(alloc)?;
     assert!(rt; !vault.is_whole());
     let answer = cut_in(&mut vault, Device::Snaps);
-    is_cut(rt, &vault, (answer, Device::Snaps), 2, [3, 0, 3, 3, 3, 3]);
+    is_cut(
+        rt,
+        &vault,
+        (answer, Device::Snaps),
+        2,
+        [1024, 0, 3, 3, 3, 3],
+    );
     assert_eq!(rt; vault.snaps.clock(), 4);
     Ok(())
 }
@@ -508,7 +536,13 @@ fn snaps_are_cut(rt: &impl Abort, alloc: Global) -> Result<(), AllocError> {
 fn a_first_bank_is_cut(rt: &impl Abort, alloc: Global) -> Result<(), AllocError> {
     let mut vault = two_workers(alloc)?;
     let answer = cut_in(&mut vault, Device::Bank(0));
-    is_cut(rt, &vault, (answer, Device::Bank(0)), 4, [3, 3, 0, 3, 3, 3]);
+    is_cut(
+        rt,
+        &vault,
+        (answer, Device::Bank(0)),
+        4,
+        [1024, 3, 0, 3, 3, 3],
+    );
     Ok(())
 }
 
@@ -520,7 +554,7 @@ fn a_last_bank_is_cut(rt: &impl Abort, alloc: Global) -> Result<(), AllocError> 
         &vault,
         (answer, Device::Bank(3)),
         10,
-        [3, 3, 3, 3, 3, 0],
+        [1024, 3, 3, 3, 3, 0],
     );
     Ok(())
 }
@@ -553,8 +587,8 @@ fn vault_of(alloc: Global, even: u8, odd: u8) -> Result<Vault<MemDisk>, AllocErr
         snaps,
         even,
         odd,
-        ties: Vec::new(alloc),
-        cuts: Vec::new(alloc),
+        ties: Records::new(alloc),
+        cuts: Records::new(alloc),
     })
 }
 

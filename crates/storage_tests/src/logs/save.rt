@@ -1,12 +1,12 @@
-ghost use Rattle.std.specs.Prelude.{◌≡◌, ◌+◌, ◌<◌, None, IfOk, vec_len, vec_capacity};
+ghost use Rattle.std.specs.Prelude.{◌≤◌, ◌≡◌, ◌+◌, ◌<◌, None, IfOk};
 ghost use Rattle.outside.specs.Disk.{IfTold, Only};
 ghost use Rattle.log_writer.specs.Points.{IsSaved};
 ghost use Rattle.log_writer.specs.Save.{IsStored};
 
 use crate::disks::disk;
 use crate::forms::savepoint::is_second;
-use log_writer::{Save, SaveFault, SaveOpen, Saved, one_newest};
-use outside::{Disk, MemDisk, Tie, Vault};
+use log_writer::{Records, Save, SaveFault, SaveOpen, Saved, Tie, Vault, one_newest};
+use outside::{Disk, MemDisk};
 use std::alloc::{AllocError, Global};
 use std::process::Abort;
 use std::test::Fail;
@@ -147,7 +147,7 @@ pub(super) fn open<D: Disk>(disk: &mut D) -> Result<Save, SaveOpen>
 // Loads and stores, and stores once more where the store is down.
 fn store_once<D: Disk>(vault: &mut Vault<D>, saved: Saved) -> Came
     requires settled { IfTold (D.tells vault.old.save) (Only D.clock D.image_at vault.old.save) }
-    requires room { vec_len vault.old.ties + 1 < vec_capacity vault.old.ties }
+    requires room { 2 ≤ vault.old.ties.room }
 {
     let mut save = match open(&mut vault.save) {
         Ok(save) => save,
@@ -166,9 +166,9 @@ fn store_once<D: Disk>(vault: &mut Vault<D>, saved: Saved) -> Came
 fn vault(alloc: Global, bytes: &[u8], fails: &[u64]) -> Result<Vault<MemDisk>, AllocError>
     ensures settled { IfOk result (λ vault. IfTold (⟦<MemDisk as Disk>⟧.tells vault.save)
         (Only ⟦<MemDisk as Disk>⟧.clock ⟦<MemDisk as Disk>⟧.image_at vault.save)) }
-    ensures room { IfOk result (λ vault. vec_len vault.ties + 1 < vec_capacity vault.ties) }
+    ensures room { IfOk result (λ vault. 2 ≤ vault.ties.room) }
 {
-    let mut ties = Vec::new(alloc);
+    let mut ties = Records::new(alloc);
     ties.reserve(2)?;
     let save = disk(alloc, bytes, fails)?;
     let snaps = disk(alloc, &[], &[])?;
@@ -178,7 +178,7 @@ fn vault(alloc: Global, bytes: &[u8], fails: &[u64]) -> Result<Vault<MemDisk>, A
         even: Vec::new(alloc),
         odd: Vec::new(alloc),
         ties,
-        cuts: Vec::new(alloc),
+        cuts: Records::new(alloc),
     })
 }
 
@@ -214,7 +214,7 @@ fn newest(alloc: Global, bytes: &[u8]) -> Result<u64, Fail> {
 fn is_stored(rt: &impl Abort, vault: &mut Vault<MemDisk>, number: u64, came: Came)
     requires settled { IfTold (⟦<MemDisk as Disk>⟧.tells vault.old.save)
         (Only ⟦<MemDisk as Disk>⟧.clock ⟦<MemDisk as Disk>⟧.image_at vault.old.save) }
-    requires room { vec_len vault.old.ties + 1 < vec_capacity vault.old.ties }
+    requires room { 2 ≤ vault.old.ties.room }
 {
     let answer = store_once(vault, saved(7, 80));
     assert!(rt; answer == came, "at {number}");
@@ -259,12 +259,12 @@ fn a_store_at_each_fault(rt: HostRuntime) -> Result<(), Fail> {
 fn is_last(rt: &impl Abort, vault: &mut Vault<MemDisk>, was: &[u8])
     requires settled { IfTold (⟦<MemDisk as Disk>⟧.tells vault.old.save)
         (Only ⟦<MemDisk as Disk>⟧.clock ⟦<MemDisk as Disk>⟧.image_at vault.old.save) }
-    requires room { vec_len vault.old.ties + 1 < vec_capacity vault.old.ties }
+    requires room { 2 ≤ vault.old.ties.room }
 {
     let came = store_once(vault, saved(7, 80));
     let limit = SaveFault::Limit { sequence: LAST };
     assert!(rt; came == Came::Faulty(Err(limit)));
-    assert!(rt; vault.ties.is_empty());
+    assert!(rt; vault.ties.as_slice().is_empty());
     assert!(rt; bytes(&vault.save) == was);
 }
 

@@ -1,40 +1,13 @@
 // The devices of one database, with what was recorded of their use.
-ghost use Rattle.std.specs.Prelude.{◌≡◌, ◌≢◌, ◌↔◌, ◌+◌, ◌<◌, ℕ, [], ◌∷◌, ◌++◌, Some, IsSome, IsTrue, length, slice_get, vec_len, vec_capacity};
-ghost use Rattle.outside.specs.Vault.{disk_in, Cuts, CutsIn, IsWhole};
+ghost use Rattle.std.specs.Prelude.{◌≡◌, ◌≢◌, ◌↔◌, ◌+◌, ◌<◌, ◌≤◌, ℕ, [], ◌∷◌, ◌++◌, Some, IsSome, IsTrue, length, slice_get};
+ghost use Rattle.log_writer.specs.Save.{IsNewest};
+ghost use Rattle.log_writer.specs.Vault.{disk_in, Cuts, CutsIn, IsWhole};
 
-use crate::{Disk, Failed};
+use crate::{Cut, Records, Tie};
+use outside::{Device, Disk, Failed};
 
 // A vault has a pair of log files for each worker.
 const WORKERS: usize = 8;
-
-/// A device of the vault. Bank 2w is `even[w]`, and bank 2w + 1 is `odd[w]`.
-#[derive(Clone, Copy, Debug, PartialEq, Eq)]
-pub enum Device {
-    Save,
-    Snaps,
-    Bank(u8),
-}
-
-/// A store of a savepoint that was begun.
-#[derive(Clone, Copy, Debug, PartialEq, Eq)]
-pub struct Tie {
-    /// The sequence that was stored.
-    pub sequence: u64,
-    /// The clock of `snaps` as the store began.
-    pub snaps: u64,
-    /// The clock of `save` once the store answered `Ok`.
-    pub ended: Option<u64>,
-}
-
-/// A cut of a device to nothing that was begun.
-#[derive(Clone, Copy, Debug, PartialEq, Eq)]
-pub struct Cut {
-    pub device: Device,
-    /// The device's clock as the cut began.
-    pub at: u64,
-    /// The newest sequence then.
-    pub after: u64,
-}
 
 /// The devices of one database directory. Worker w writes the log files `even[w]` and `odd[w]` in
 /// turn, so that one is closed while the other grows.
@@ -46,9 +19,9 @@ pub struct Vault<D> {
     pub snaps: D,
     pub even: Vec<D>,
     pub odd: Vec<D>,
-    /// The stores of `save`, and the cuts, in the order in which they began.
-    pub ties: Vec<Tie>,
-    pub cuts: Vec<Cut>,
+    /// The stores of `save`, and the cuts, in the order in which they began: what each says was so as it began.
+    pub ties: Records<Tie>,
+    pub cuts: Records<Cut>,
 }
 
 impl<D: Disk> Vault<D> {
@@ -61,21 +34,23 @@ impl<D: Disk> Vault<D> {
 
     /// Cuts a device to nothing, and records the cut. What is recorded stands whether the cut answers
     /// `Ok` or not, since one that failed may be done in part. The save is never cut, and room for the
-    /// record is made before: a cut must not begin and then go unrecorded for want of memory.
+    /// record is made before: a cut must not begin and then go unrecorded for want of memory. The save
+    /// names a savepoint of the sequence that is recorded, and nothing is pending of it: so a stop that
+    /// meets the device behind the cut meets the save behind the store of that savepoint.
     pub fn cut_in(&mut self, device: Device, after: u64) -> Result<(), Failed>
-        requires room { vec_len self.old.cuts < vec_capacity self.old.cuts }
+        requires room { 1 ≤ self.old.cuts.room }
         requires device { IsSome (disk_in self.old device) }
         requires not_save { device ≢ Device.Save }
+        requires newest { IsNewest D.tells D.clock D.image_at self.old.save after }
         ensures cut { CutsIn D.tells D.clock D.image_at D.faults device self.old self.new result }
         ensures recorded { (was : D) → disk_in self.old device ≡ Some was → self.new.cuts.items
             ≡ self.old.cuts.items ++ record { device = device; at = D.clock was; after = after } ∷ [] }
-        ensures len { vec_len self.new.cuts ≡ vec_len self.old.cuts + 1 }
-        ensures capacity { vec_capacity self.new.cuts ≡ vec_capacity self.old.cuts }
+        ensures room { self.old.cuts.room ≡ self.new.cuts.room + 1 }
         ensures save { self.new.save ≡ self.old.save }
         ensures ties { self.new.ties ≡ self.old.ties }
     {
         let at = self.clock_of(device);
-        self.cuts.push_reserved(Cut { device, at, after });
+        self.cuts.push(Cut { device, at, after });
         self.cut_device(device)
     }
 

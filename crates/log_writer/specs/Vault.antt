@@ -1,8 +1,8 @@
 -- The devices of a vault, and what a cut of one of them does.
 use Rattle.std.specs.Prelude.{◌≡◌, ◌≢◌, ℕ, ◌/◌, ◌%◌, ◌==◌, List, length, take, Option, Some, is_some, slice_get, if◌then◌else◌, Result, OnOk, OnErr}
-use Rattle.outside.specs.declared.vault.Device.{Device}
-use Rattle.outside.specs.declared.vault.Device.TheVariants.{Save, Snaps, Bank}
-use Rattle.outside.specs.declared.vault.Vault.{Vault}
+use Rattle.outside.specs.declared.device.Device.{Device}
+use Rattle.outside.specs.declared.device.Device.TheVariants.{Save, Snaps, Bank}
+use Rattle.log_writer.specs.declared.vault.Vault.{Vault}
 use Rattle.outside.specs.Disk.{IfTold, Shortened, Calls}
 
 -- the disk of a device, where the vault has that device

@@ -11,7 +11,8 @@ use Rattle.root_composer.specs.Composer.{Made, AllMade, Writer, compose_each, wi
 use Rattle.snapshot_store.specs.ArrayPages.{fan, leaf_room, row}
 use Rattle.root_composer.specs.ArrayWriter.{filled, put_all, array_writer}
 use Rattle.root_composer.specs.ArrayCode.{ArrayStands, array_one, array_rest, Adds, Composes}
-use Rattle.root_composer.specs.FreshLaws.{fan_is, room_is, fits, too_wide}
+use Rattle.snapshot_store.specs.ReadLaws.{fan_is, room_is}
+use Rattle.root_composer.specs.FreshLaws.{fits, too_wide}
 use Rattle.root_composer.proofs.ArrayLaw.{some_part, cover_of}
 
 row_filled : (words : List ℕ) (n part low k : ℕ) → row (words ++ replicate n 0) part low k ≡ row words part low k

@@ -23,7 +23,8 @@ use Rattle.root_composer.specs.Overlaid.{touches, entry_for, is_between, overlai
 use Rattle.root_composer.specs.Composed.{IsMade, EachWith, all_moved}
 use Rattle.root_composer.specs.Composer.{MayName, IsLawful}
 use Rattle.root_composer.specs.ArrayWriter.{filled, put, put_all, IsPut, AnyShape, array_writer}
-use Rattle.root_composer.specs.FreshLaws.{fan_is, room_is, fits, too_wide}
+use Rattle.snapshot_store.specs.ReadLaws.{fan_is, room_is}
+use Rattle.root_composer.specs.FreshLaws.{fits, too_wide}
 use Rattle.root_composer.proofs.MadeLemmas.{leaf_made}
 use Rattle.root_composer.proofs.OverlayLemmas.{touched_range}
 

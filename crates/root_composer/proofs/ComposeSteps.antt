@@ -12,7 +12,7 @@ use Rattle.wire_form.specs.Pages.{Contents, IsCatalogue, catalogue_words}
 use Rattle.snapshot_store.specs.Content.{deepest, words_of, CatalogueAt}
 use Rattle.root_composer.specs.Storages.{compose_storages, with_roots, StoragesMade, StoragesDeep}
 use Rattle.root_composer.specs.Composition.{CanCompose, WouldCompose, next_contents, new_count, level_count}
-use Rattle.root_composer.proofs.PageLemmas.{page_at}
+use Rattle.snapshot_store.specs.ReadLaws.{page_at}
 use Rattle.root_composer.proofs.ReadyLemmas.{ready}
 use Rattle.root_composer.proofs.Compositions.{right_at, snapshot_made, length-with_roots}
 

@@ -1,35 +1,17 @@
 -- Pages of a store, by their numbers.
-use Rattle.std.proofs.Common.{◌≡◌, ℕ, ◌+◌, ◌-◌, ◌<◌, ◌≤◌, zero, suc, List, [], ◌∷◌, ◌++◌, length, get_or, take, replicate, Some, sym, ap, subst, ◌∙◌, arith, append-nil}
+use Rattle.std.proofs.Common.{◌≡◌, ℕ, ◌+◌, ◌-◌, ◌<◌, zero, suc, List, [], ◌∷◌, ◌++◌, length, get_or, take, replicate, Some, sym, ap, subst, ◌∙◌, arith, append-nil}
 use Rattle.std.specs.Prelude.{slice_get}
 use Rattle.std.proofs.lemmas.List.{map-append, take_more}
 use Rattle.wire_form.specs.declared.page.Page.{Page}
 use Rattle.wire_form.specs.Bytes.{padded}
-use Rattle.wire_form.specs.ByteLaws.{length-bytes_of}
-use Rattle.snapshot_store.specs.Store.{NumberedFrom, IsWhole}
-use Rattle.snapshot_store.specs.Places.{page}
+use Rattle.snapshot_store.specs.Store.{NumberedFrom}
 use Rattle.snapshot_store.specs.Content.{words_of}
-
-at_index : (pages : List Page) (k : ℕ) (p : Page) → slice_get pages k ≡ Some p → get_or (words_of pages) k [] ≡ p.words
-at_index [] k p e = absurd (cc)
-at_index (x ∷ xs) zero p e = let same : x ≡ p = cc in ap (λ (q : Page). q.words) same
-at_index (x ∷ xs) (suc k) p e = at_index xs k p e
-
--- the words of the page with a number
-pub page_at : (pages : List Page) (n : ℕ) (p : Page) → 1 ≤ n → slice_get pages (n - 1) ≡ Some p → page (words_of pages) n ≡ p.words
-page_at pages zero p h e = absurd (omega (arith, h))
-page_at pages (suc n) p h e =
-    let here : suc n - 1 ≡ n = omega arith in
-    at_index pages n p (subst (λ (k : ℕ). slice_get pages k ≡ Some p) here e)
 
 -- 64 words need no zeros behind them
 pub whole_page : (words : List ℕ) → length words ≡ 64 → padded 64 words ≡ words
 whole_page words h =
     let none : 64 - length words ≡ 0 = omega arith in
     ap (λ k. words ++ replicate k 0) none ∙ append-nil words
-
--- a whole page has 64 words
-pub whole_words : (p : Page) → IsWhole p → length p.words ≡ 64
-whole_words p whole = omega (arith, whole, length-bytes_of p.words)
 
 -- one more item of a list, that is there
 pub take_get : {X : Type 0} (xs : List X) (i : ℕ) (x : X) → slice_get xs i ≡ Some x → take (i + 1) xs ≡ take i xs ++ x ∷ []

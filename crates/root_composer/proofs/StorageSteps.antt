@@ -1,6 +1,6 @@
 -- Storages are composed one after another.
-use Rattle.std.proofs.Common.{◌≡◌, ℕ, ◌+◌, ◌-◌, ◌<◌, ◌≤◌, ◌^◌, zero, suc, true, false, List, [], ◌∷◌, ◌++◌, length, get_or, take, drop, refl, sym, ap, subst, ◌∙◌, arith, leb}
-use Rattle.std.specs.Prelude.{cond, OnOk, Result, Ok, Err}
+use Rattle.std.proofs.Common.{◌≡◌, ℕ, ◌+◌, ◌-◌, ◌<◌, ◌≤◌, ◌^◌, zero, suc, List, [], ◌∷◌, ◌++◌, length, get_or, take, drop, refl, sym, ap, subst, ◌∙◌, arith}
+use Rattle.std.specs.Prelude.{OnOk, Result, Ok, Err}
 use Rattle.std.specs.List.{AllByRecursion}
 use Rattle.std.proofs.lemmas.List.{length-append, drop_more, drop_all, take_more, take_all}
 use Rattle.serial_model.specs.declared.decl.Decl.{Decl}
@@ -9,6 +9,8 @@ use Rattle.wire_form.specs.declared.bucket.Entry.{Entry}
 use Rattle.wire_form.specs.declared.records.Stored.{Stored}
 use Rattle.snapshot_store.specs.Places.{StandsTo}
 use Rattle.snapshot_store.specs.Content.{deepest, last_index, root_place, format_of, IsPageOf}
+use Rattle.snapshot_store.specs.ReadLaws.{deepest_is, last_small}
+use Rattle.snapshot_store.specs.declared.place.Place.{Place}
 use Rattle.serial_model.specs.Keys.{id_of}
 use Rattle.root_composer.specs.declared.last.Last.{Last}
 use Rattle.root_composer.specs.Composer.{Made, with_one}
@@ -17,58 +19,65 @@ use Rattle.lists.specs.Each.{all_weaker, all_push}
 use Rattle.root_composer.specs.declared.fault.ComposeFault.{ComposeFault}
 use Rattle.root_composer.specs.TreeCode.{TreeStands, tree_one, AddsWithin, WouldBeDeep, LeavesRest}
 use Rattle.root_composer.specs.Storages.{part_of, FitStorage, IsReady, IsWithin, made_for, compose_one, compose_storages, with_roots, StoragesMade, StoragesDeep}
-use Rattle.root_composer.specs.FreshLaws.{deepest_is}
 use Rattle.root_composer.proofs.StoragesLaw.{array_within}
 use Rattle.root_composer.proofs.TreeSteps.{none_left_out, rest_behind, rest_deep, none_rest}
 
-pub last_small : (size : ℕ) → last_index size < 4294967296
-last_small size =
-    elim (leb size 32) as (λ b. cond {A = ℕ} b 31 (cond {A = ℕ} (leb size 2048) 2047 131071) < 4294967296) [
-      | true ↦ omega arith
-      | false ↦ elim (leb size 2048) as (λ b. cond {A = ℕ} b 2047 131071 < 4294967296) [ true ↦ omega arith | false ↦ omega arith ]
-    ]
-
 -- ---- one storage
 
--- an array's root stands as its place does
-pub array_stands : (run : List Entry) (old : List (List ℕ)) (s : Stored) (id size : ℕ) → s.decl ≡ Array id size → IsReady run old s
-    → ArrayStands size old 32 (record { number = s.root; low = 0; high = last_index size })
-array_stands run old s id size is ready =
-    let stands = subst (λ (d : Decl). StandsTo (format_of d) (IsPageOf d) old deepest (root_place d s.root)) is ready.stands in
-    subst (λ (k : ℕ). ArrayStands size old k (record { number = s.root; low = 0; high = last_index size })) deepest_is stands
+-- an array's root stands
+pub array_stands : (run : List Entry) (old : List (List ℕ)) (s : Stored) (id size wide : ℕ) (p : Place) → s.decl ≡ Array id size
+    → IsReady run old s → p ≡ root_place s.decl s.root → wide ≡ size → ArrayStands wide old 32 p
+array_stands run old s id size wide p is ready place same =
+    let stands = subst (λ (d : Decl). StandsTo (format_of d) (IsPageOf d) old deepest (root_place s.decl s.root)) is ready.stands in
+    subst (λ (k : ℕ). ArrayStands k old 32 p) (sym same)
+    (subst (λ (q : Place). ArrayStands size old 32 q) (sym place)
+    (subst (λ (k : ℕ). ArrayStands size old k (root_place s.decl s.root)) deepest_is stands))
+
+-- and its indexes are small
+pub array_small : (s : Stored) (id size : ℕ) (p : Place) → s.decl ≡ Array id size → p ≡ root_place s.decl s.root → p.high < 4294967296
+array_small s id size p is place =
+    let same : p.high ≡ last_index size = ap (λ (q : Place). q.high) place ∙ ap (λ (d : Decl). (root_place d s.root).high) is in
+    omega (arith, same, last_small size)
 
 -- what is made for an array is what is made for the storage
-pub array_adds : (run : List Entry) (old before after : List (List ℕ)) (s : Stored) (id size : ℕ) (part : List Last) (n : ℕ) → s.decl ≡ Array id size → part ≡ part_of id run
-    → Adds before after n (array_one part old 32 (record { number = s.root; low = 0; high = last_index size }) (length old + length before))
+pub array_adds : (run : List Entry) (old before after : List (List ℕ)) (s : Stored) (id size : ℕ) (p : Place) (part : List Last) (n : ℕ)
+    → s.decl ≡ Array id size → part ≡ part_of id run → p ≡ root_place s.decl s.root
+    → Adds before after n (array_one part old 32 p (length old + length before))
     → AddsWithin deepest before after n (compose_one run old s (length old + length before))
-array_adds run old before after s id size part n is same adds =
-    let at = subst (λ (k : ℕ). Adds before after n (array_one part old k (record { number = s.root; low = 0; high = last_index size }) (length old + length before))) (sym deepest_is) adds in
-    let whole = subst (λ (l : List Last). Adds before after n (array_one l old deepest (record { number = s.root; low = 0; high = last_index size }) (length old + length before))) same at in
-    subst (λ (d : Decl). AddsWithin deepest before after n (made_for d (part_of (id_of d) run) old (root_place d s.root) (length old + length before))) (sym is)
-    (record { number = whole.number; pages = whole.pages; levels = omega arith })
+array_adds run old before after s id size p part n is same place adds =
+    let deep = subst (λ (k : ℕ). Adds before after n (array_one part old k p (length old + length before))) (sym deepest_is) adds in
+    let whole = subst (λ (l : List Last). Adds before after n (array_one l old deepest p (length old + length before))) same deep in
+    let root = subst (λ (q : Place). Adds before after n (array_one (part_of id run) old deepest q (length old + length before))) place whole in
+    subst (λ (d : Decl). AddsWithin deepest before after n (made_for d (part_of (id_of d) run) old (root_place s.decl s.root) (length old + length before))) (sym is)
+    (record { number = root.number; pages = root.pages; levels = omega arith })
 
 -- the same of trees
-pub tree_adds : (run : List Entry) (old before after : List (List ℕ)) (s : Stored) (id : ℕ) (part : List Last) (n : ℕ) → s.decl ≡ Tree id → part ≡ part_of id run
-    → AddsWithin 32 before after n (tree_one part old 32 (record { number = s.root; low = 0; high = 2 ^ 64 - 1 }) (length old + length before))
+pub tree_stands : (run : List Entry) (old : List (List ℕ)) (s : Stored) (id : ℕ) (p : Place) → s.decl ≡ Tree id → IsReady run old s
+    → p ≡ root_place s.decl s.root → TreeStands old 32 p
+tree_stands run old s id p is ready place =
+    let stands = subst (λ (d : Decl). StandsTo (format_of d) (IsPageOf d) old deepest (root_place s.decl s.root)) is ready.stands in
+    subst (λ (q : Place). TreeStands old 32 q) (sym place)
+    (subst (λ (k : ℕ). TreeStands old k (root_place s.decl s.root)) deepest_is stands)
+
+pub tree_adds : (run : List Entry) (old before after : List (List ℕ)) (s : Stored) (id : ℕ) (p : Place) (part : List Last) (n : ℕ)
+    → s.decl ≡ Tree id → part ≡ part_of id run → p ≡ root_place s.decl s.root
+    → AddsWithin 32 before after n (tree_one part old 32 p (length old + length before))
     → AddsWithin deepest before after n (compose_one run old s (length old + length before))
-tree_adds run old before after s id part n is same adds =
-    subst (λ (d : Decl). AddsWithin deepest before after n (made_for d (part_of (id_of d) run) old (root_place d s.root) (length old + length before))) (sym is)
-    (subst (λ (l : List Last). AddsWithin deepest before after n (tree_one l old deepest (record { number = s.root; low = 0; high = 2 ^ 64 - 1 }) (length old + length before))) same
-    (subst (λ (k : ℕ). AddsWithin k before after n (tree_one part old k (record { number = s.root; low = 0; high = 2 ^ 64 - 1 }) (length old + length before))) (sym deepest_is) adds))
+tree_adds run old before after s id p part n is same place adds =
+    subst (λ (d : Decl). AddsWithin deepest before after n (made_for d (part_of (id_of d) run) old (root_place s.decl s.root) (length old + length before))) (sym is)
+    (subst (λ (q : Place). AddsWithin deepest before after n (tree_one (part_of id run) old deepest q (length old + length before))) place
+    (subst (λ (l : List Last). AddsWithin deepest before after n (tree_one l old deepest p (length old + length before))) same
+    (subst (λ (k : ℕ). AddsWithin k before after n (tree_one part old k p (length old + length before))) (sym deepest_is) adds)))
 
-pub tree_deep : (run : List Entry) (old before : List (List ℕ)) (s : Stored) (id : ℕ) (part : List Last) (fault : ComposeFault) → s.decl ≡ Tree id → part ≡ part_of id run
-    → WouldBeDeep 32 fault (tree_one part old 32 (record { number = s.root; low = 0; high = 2 ^ 64 - 1 }) (length old + length before))
+pub tree_deep : (run : List Entry) (old before : List (List ℕ)) (s : Stored) (id : ℕ) (p : Place) (part : List Last) (fault : ComposeFault)
+    → s.decl ≡ Tree id → part ≡ part_of id run → p ≡ root_place s.decl s.root
+    → WouldBeDeep 32 fault (tree_one part old 32 p (length old + length before))
     → WouldBeDeep deepest fault (compose_one run old s (length old + length before))
-tree_deep run old before s id part fault is same deep =
-    subst (λ (d : Decl). WouldBeDeep deepest fault (made_for d (part_of (id_of d) run) old (root_place d s.root) (length old + length before))) (sym is)
-    (subst (λ (l : List Last). WouldBeDeep deepest fault (tree_one l old deepest (record { number = s.root; low = 0; high = 2 ^ 64 - 1 }) (length old + length before))) same
-    (subst (λ (k : ℕ). WouldBeDeep k fault (tree_one part old k (record { number = s.root; low = 0; high = 2 ^ 64 - 1 }) (length old + length before))) (sym deepest_is) deep))
-
--- a tree's root stands as its place does, and its entries rise
-pub tree_stands : (run : List Entry) (old : List (List ℕ)) (s : Stored) (id : ℕ) → s.decl ≡ Tree id → IsReady run old s → TreeStands old 32 (record { number = s.root; low = 0; high = 2 ^ 64 - 1 })
-tree_stands run old s id is ready =
-    let stands = subst (λ (d : Decl). StandsTo (format_of d) (IsPageOf d) old deepest (root_place d s.root)) is ready.stands in
-    subst (λ (k : ℕ). TreeStands old k (record { number = s.root; low = 0; high = 2 ^ 64 - 1 })) deepest_is stands
+tree_deep run old before s id p part fault is same place deep =
+    subst (λ (d : Decl). WouldBeDeep deepest fault (made_for d (part_of (id_of d) run) old (root_place s.decl s.root) (length old + length before))) (sym is)
+    (subst (λ (q : Place). WouldBeDeep deepest fault (tree_one (part_of id run) old deepest q (length old + length before))) place
+    (subst (λ (l : List Last). WouldBeDeep deepest fault (tree_one l old deepest p (length old + length before))) same
+    (subst (λ (k : ℕ). WouldBeDeep k fault (tree_one part old k p (length old + length before))) (sym deepest_is) deep)))
 
 -- the entries lie in the root's range
 pub array_keys : (run : List Entry) (old : List (List ℕ)) (s : Stored) (id size : ℕ) → s.decl ≡ Array id size → IsReady run old s → IsWithin run s
@@ -170,37 +179,3 @@ pub root_pushed : {stored : List Stored} (d : Stored) (ss : List Stored) (ns : L
     → stored ≡ with_roots (take i ss) (take i ns) → i < length ss → length ns ≡ length ss → new ≡ with_roots (take (i + 1) ss) (take (i + 1) ns)
 root_pushed d ss ns i new pushed so_far here count =
     pushed ∙ ap (λ l. l ++ stored_with (get_or ss i d).decl (get_or ns i 0) ∷ []) so_far ∙ sym (root_push ss ns i d here count)
-
--- the same of a place that is told otherwise
-pub place_stands : (run : List Entry) (old : List (List ℕ)) (s : Stored) (id size number high wide : ℕ) → s.decl ≡ Array id size → IsReady run old s → number ≡ s.root → high ≡ last_index size → wide ≡ size
-    → ArrayStands wide old 32 (record { number = number; low = 0; high = high })
-place_stands run old s id size number high wide is ready root last same =
-    subst (λ (k : ℕ). ArrayStands k old 32 (record { number = number; low = 0; high = high })) (sym same)
-    (subst (λ (k : ℕ). ArrayStands size old 32 (record { number = k; low = 0; high = high })) (sym root)
-    (subst (λ (k : ℕ). ArrayStands size old 32 (record { number = s.root; low = 0; high = k })) (sym last) (array_stands run old s id size is ready)))
-
-pub place_adds : (run : List Entry) (old before after : List (List ℕ)) (s : Stored) (id size number high : ℕ) (part : List Last) (n : ℕ) → s.decl ≡ Array id size → part ≡ part_of id run → number ≡ s.root → high ≡ last_index size
-    → Adds before after n (array_one part old 32 (record { number = number; low = 0; high = high }) (length old + length before))
-    → AddsWithin deepest before after n (compose_one run old s (length old + length before))
-place_adds run old before after s id size number high part n is same root last adds =
-    array_adds run old before after s id size part n is same
-    (subst (λ (k : ℕ). Adds before after n (array_one part old 32 (record { number = s.root; low = 0; high = k }) (length old + length before))) last
-    (subst (λ (k : ℕ). Adds before after n (array_one part old 32 (record { number = k; low = 0; high = high }) (length old + length before))) root adds))
-
--- a tree's place, with the root told otherwise
-pub tree_place : (old : List (List ℕ)) (number root : ℕ) → number ≡ root → TreeStands old 32 (record { number = root; low = 0; high = 2 ^ 64 - 1 }) → TreeStands old 32 (record { number = number; low = 0; high = 2 ^ 64 - 1 })
-tree_place old number root same s = subst (λ (k : ℕ). TreeStands old 32 (record { number = k; low = 0; high = 2 ^ 64 - 1 })) (sym same) s
-
-pub tree_place_adds : (run : List Entry) (old before after : List (List ℕ)) (s : Stored) (id number : ℕ) (part : List Last) (n : ℕ) → s.decl ≡ Tree id → part ≡ part_of id run → number ≡ s.root
-    → AddsWithin 32 before after n (tree_one part old 32 (record { number = number; low = 0; high = 2 ^ 64 - 1 }) (length old + length before))
-    → AddsWithin deepest before after n (compose_one run old s (length old + length before))
-tree_place_adds run old before after s id number part n is same root adds =
-    tree_adds run old before after s id part n is same
-    (subst (λ (k : ℕ). AddsWithin 32 before after n (tree_one part old 32 (record { number = k; low = 0; high = 2 ^ 64 - 1 }) (length old + length before))) root adds)
-
-pub tree_place_deep : (run : List Entry) (old before : List (List ℕ)) (s : Stored) (id number : ℕ) (part : List Last) (fault : ComposeFault) → s.decl ≡ Tree id → part ≡ part_of id run → number ≡ s.root
-    → WouldBeDeep 32 fault (tree_one part old 32 (record { number = number; low = 0; high = 2 ^ 64 - 1 }) (length old + length before))
-    → WouldBeDeep deepest fault (compose_one run old s (length old + length before))
-tree_place_deep run old before s id number part fault is same root deep =
-    tree_deep run old before s id part fault is same
-    (subst (λ (k : ℕ). WouldBeDeep 32 fault (tree_one part old 32 (record { number = k; low = 0; high = 2 ^ 64 - 1 }) (length old + length before))) root deep)

@@ -14,22 +14,11 @@ use Rattle.snapshot_store.specs.Places.{StandsTo, Cover, Tiles}
 use Rattle.snapshot_store.specs.ArrayPages.{fan, leaf_room, span_of, row, array_below}
 use Rattle.snapshot_store.specs.TreePages.{tree_format, IsTreePage}
 use Rattle.snapshot_store.specs.Content.{deepest, last_index, words_of, RootStands}
+use Rattle.snapshot_store.specs.ReadLaws.{deepest_is, fan_is, room_is}
 use Rattle.root_composer.specs.ArrayCode.{ArrayStands}
 use Rattle.root_composer.specs.Newest.{IsNewest}
 
--- ---- constants that goals don't compute
-
-pub fan_is : fan ≡ 64
-unfolding fan
-fan_is = refl
-
-pub room_is : leaf_room ≡ 32
-unfolding leaf_room
-room_is = refl
-
-pub deepest_is : deepest ≡ 32
-unfolding deepest
-deepest_is = refl
+-- ---- tests of numbers
 
 pub too_wide : (a b : ℕ) → b < a → leb a b ≡ false
 too_wide a b h = grind (arith, nat_tests)

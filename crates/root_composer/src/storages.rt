@@ -5,7 +5,7 @@ ghost use Rattle.serial_model.specs.Keys.{IsKeyBelow};
 ghost use Rattle.serial_model.specs.Numbers.{IsNumber};
 ghost use Rattle.wire_form.specs.Items.{Rises};
 ghost use Rattle.wire_form.specs.Pages.{Contents, IsCatalogue, catalogue_words};
-ghost use Rattle.snapshot_store.specs.Content.{words_of, deepest, last_index};
+ghost use Rattle.snapshot_store.specs.Content.{words_of, deepest};
 ghost use Rattle.log_reducer.specs.Reduced.{entry_key};
 ghost use Rattle.root_composer.specs.TreeCode.{AddsWithin, WouldBeDeep};
 ghost use Rattle.root_composer.specs.Storages.{IsReady, IsWithin, compose_one, with_roots, StoragesMade, StoragesDeep};
@@ -16,28 +16,12 @@ use crate::part::entries_of;
 use crate::tree::compose_tree;
 use lists::{Memory, OrMemory};
 use serial_model::Decl;
-use snapshot_store::{Place, SnapStore};
+use snapshot_store::{DEEPEST, SnapStore, root_place};
 use std::alloc::Global;
 use wire_form::{Entry, Stored, count, storage};
 
-/// How many pages stand one below another at most.
-const DEEPEST: u32 = 32;
-
 /// The most storages of a catalogue.
 const MOST: usize = 16;
-
-// The last index for which an array's root stands.
-fn last_index(size: u32) -> u64
-    ensures { result ≡ last_index size }
-{
-    if size <= 32 {
-        31
-    } else if size <= 2048 {
-        2047
-    } else {
-        131_071
-    }
-}
 
 // Composes one storage, and gives its new root.
 fn compose_one(
@@ -58,26 +42,15 @@ fn compose_one(
         (compose_one run.now (words_of store.now.pages) stored.now
         (length (words_of store.now.pages) + length made.old.items)) }
 {
-    let number = u64::from(stored.root);
+    let place = root_place(stored);
     match stored.decl {
         Decl::Array { id, size } => {
             let part = entries_of(alloc, run, id)?;
-            let high = last_index(size);
-            let place = Place {
-                number,
-                low: 0,
-                high,
-            };
             let root = compose_array(store, made, &part, u64::from(size), DEEPEST, place)?;
             Ok(root)
         }
         Decl::Tree { id } => {
             let entries = entries_of(alloc, run, id)?;
-            let place = Place {
-                number,
-                low: 0,
-                high: u64::MAX,
-            };
             compose_tree(alloc, store, made, entries.as_slice(), DEEPEST, place)
         }
     }

@@ -14,16 +14,9 @@ use crate::row::{merged, rows_of};
 use crate::words::{page_words, put_words};
 use crate::{ComposeFault, Last};
 use lists::OrMemory;
-use snapshot_store::{Place, SnapStore};
+use snapshot_store::{Place, SnapStore, is_inner};
 use std::alloc::Global;
 use wire_form::{child, child_range, count};
-
-/// Whether words are those of an interior page of a tree.
-fn is_inner(words: &[u64; 64]) -> bool
-    ensures { result ≡ (slice_index words.now 0 / 256 == 2) }
-{
-    words[0] / 256 == 2
-}
 
 /// The place of a child of an interior page.
 fn child_place(words: &[u64; 64], i: usize) -> Place

@@ -5,7 +5,6 @@ ghost use Rattle.snapshot_store.specs.Places.{page};
 ghost use Rattle.snapshot_store.specs.Content.{words_of};
 
 use snapshot_store::SnapStore;
-use wire_form::Page;
 
 /// A page's words, or zeros where there is no page.
 pub fn page_words(store: &SnapStore, number: u64) -> [u64; 64]
@@ -17,10 +16,7 @@ pub fn page_words(store: &SnapStore, number: u64) -> [u64; 64]
     if number == 0 {
         return [0; 64];
     }
-    let count = u64::from(store.count());
-    prove!(number <= count);
-    let Page { words, .. } = *store.page(number as u32);
-    words
+    *store.words(number)
 }
 
 /// Writes words over a page's, from a place on.

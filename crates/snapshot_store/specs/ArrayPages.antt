@@ -1,6 +1,6 @@
 -- How the pages of an array are read. A page stands for a range of indexes: a leaf for 32 of them, an
 -- interior page for 64 equal parts.
-use Rattle.std.specs.Prelude.{◌≡◌, ℕ, ◌+◌, ◌-◌, ◌*◌, ◌/◌, ◌<◌, ◌==◌, List, [], ◌∷◌, Option, Some, None, nat_le, drop, min, slice_index, zero, suc, if◌then◌else◌}
+use Rattle.std.specs.Prelude.{◌≡◌, ◌⊎◌, ◌≤◌, ℕ, ◌+◌, ◌-◌, ◌*◌, ◌/◌, ◌<◌, ◌==◌, List, [], ◌∷◌, Option, Some, None, nat_le, drop, min, slice_index, zero, suc, if◌then◌else◌}
 use Rattle.std.specs.Int.{div_ceil}
 use Rattle.wire_form.specs.declared.page.PageKind.{PageKind}
 use Rattle.wire_form.specs.declared.page.PageKind.TheVariants.{ArrayLeaf, ArrayInner}
@@ -48,6 +48,11 @@ parts_of rest span = div_ceil rest span
 abbrev pub array_kind : ℕ → ℕ → ℕ → PageKind
 array_kind size low high =
     if nat_le (span_of low high) leaf_room then ArrayLeaf (min leaf_room (size - low)) else ArrayInner (min fan (parts_of (size - low) (span_of low high / fan)))
+
+-- the range of an array's leaf, or of an interior page of either height, with so many pages down to go
+abbrev pub IsLevel : ℕ → ℕ → ℕ → Type 0
+IsLevel d low high =
+    ((1 ≤ d) × (high ≡ low + 31)) ⊎ (((2 ≤ d) × (high ≡ low + 2047)) ⊎ ((3 ≤ d) × (high ≡ low + 131071)))
 
 -- no page where there is no number, else the array's page for the range
 pub record IsArrayPage (size : ℕ) (p : Place) (words : List ℕ) : Type 0 where

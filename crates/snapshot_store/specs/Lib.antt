@@ -5,3 +5,4 @@ pub mod TreePages
 pub mod Content
 pub mod StandLaws
 pub mod ContentLaws
+pub mod ReadLaws

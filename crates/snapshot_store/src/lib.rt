@@ -15,9 +15,12 @@
 //! Invariants: pages are numbered from 1 on, and at most 65,536 (`AreStored`); the device begins with them
 //! (`Holds`).
 //!
+//! A snapshot is read from its roots on: [`root_place`] is the place of a storage's root, [`SnapStore::words`] are the
+//! words of a page, and [`is_inner`] tells a tree's interior pages from its leaves.
+//!
 //! Its specs/ say what a snapshot has: which page stands for which range of keys (`Places`, `ArrayPages`,
 //! `TreePages`), and the state that a catalogue's roots lead to (`Content`), with the laws of pages that
-//! are added (`StandLaws`).
+//! are read (`ReadLaws`) or added (`StandLaws`).
 //!
 //! Terms: a *place* is a range of keys with the page that stands for it; a page *stands* where it and
 //! all that it leads to are pages of their kinds for their ranges.
@@ -28,9 +31,11 @@
 mod laws;
 mod load;
 mod place;
+mod reading;
 mod store;
 mod write;
 
 pub use laws::{content_stays, one_leaf};
 pub use place::Place;
+pub use reading::{DEEPEST, is_inner, last_index, root_place};
 pub use store::{SnapStore, StoreFault};

@@ -29,6 +29,7 @@ fn read_one<D: Disk>(disk: &mut D, number: u32) -> Result<Page, OrMemory<StoreFa
     ensures device { result ≡ Err (OrMemory.Fault StoreFault.Device)
         → Rose (D.faults disk.old) (D.faults disk.new) }
     ensures quiet { OnOk result (D.faults disk.new ≡ D.faults disk.old) }
+    ensures spared { result ≢ Err (OrMemory.Fault StoreFault.Device) → D.faults disk.new ≡ D.faults disk.old }
     ensures reads { OnlyReads D.tells D.clock D.image_at D.faults disk.old disk.new }
 {
     let at = SIZE * u64::from(number - 1);
@@ -65,6 +66,7 @@ fn read_all<D: Disk>(
     ensures device { result ≡ Err (OrMemory.Fault StoreFault.Device)
         → Rose (D.faults disk.old) (D.faults disk.new) }
     ensures quiet { OnOk result (D.faults disk.new ≡ D.faults disk.old) }
+    ensures spared { result ≢ Err (OrMemory.Fault StoreFault.Device) → D.faults disk.new ≡ D.faults disk.old }
     ensures reads { OnlyReads D.tells D.clock D.image_at D.faults disk.old disk.new }
 {
     let Ok(mut pages) = Vec::with_capacity(alloc, count as usize) else {
@@ -99,6 +101,8 @@ impl SnapStore {
         ensures device { result ≡ Err (OrMemory.Fault StoreFault.Device)
             → Rose (D.faults disk.old) (D.faults disk.new) }
         ensures quiet { OnOk result (D.faults disk.new ≡ D.faults disk.old) }
+        ensures spared { result ≢ Err (OrMemory.Fault StoreFault.Device)
+            → D.faults disk.new ≡ D.faults disk.old }
         ensures reads { OnlyReads D.tells D.clock D.image_at D.faults disk.old disk.new }
     {
         let wanted = u64::from(count);

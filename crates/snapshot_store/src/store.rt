@@ -6,6 +6,8 @@ ghost use Rattle.outside.specs.Faults.{Rose};
 ghost use Rattle.outside.specs.Fronts.{AllBegin, KeepsSince};
 ghost use Rattle.snapshot_store.specs.Store.{NumberedFrom, bytes_of_pages, IsWhole, Holds, WritesAt, Syncs};
 ghost use Rattle.snapshot_store.specs.Store.{KeepsFront};
+ghost use Rattle.snapshot_store.specs.Places.{page};
+ghost use Rattle.snapshot_store.specs.Content.{words_of};
 ghost use Rattle.snapshot_store.specs.declared.store.StoreFault.{StoreFault as Fault};
 
 use crate::write::add;
@@ -74,6 +76,19 @@ impl SnapStore {
         ensures whole { IsWhole result.now }
     {
         &self.pages[number as usize - 1]
+    }
+
+    /// The words of the page of this number, as pages name it.
+    pub fn words(&self, number: u64) -> &[u64; 64]
+        requires first { 1 ≤ number }
+        requires last { number ≤ length self.now.pages }
+        ensures words { result.now ≡ page (words_of self.now.pages) number }
+        ensures long { length result.now ≡ 64 }
+        ensures number { number ≤ 65536 }
+    {
+        let count = u64::from(self.count());
+        prove!(number <= count);
+        &self.page(number as u32).words
     }
 
     /// Adds pages behind the others, and gives the number of the first. They count once `sync` has

@@ -8,7 +8,7 @@ use Rattle.root_composer.specs.ArrayWriter.{put_all}
 use Rattle.root_composer.specs.ArrayCode.{array_one}
 use Rattle.root_composer.proofs.OverlayLemmas.{touched_range}
 use Rattle.root_composer.proofs.RangeLemmas.{put_all-within}
-use Rattle.root_composer.specs.FreshLaws.{fan_is}
+use Rattle.snapshot_store.specs.ReadLaws.{fan_is}
 use Rattle.root_composer.proofs.ArrayCode.{next_stands, one_more_composed, code_begins, leaf_end, inner_end, as_pushed, depth_some}
 use Rattle.root_composer.proofs.array.+compose_array.Goals as goal
 use Rattle.root_composer.proofs.array.+compose_array.Goals.{then-p-lt32, else-p-lt32+else-loop-i-test}

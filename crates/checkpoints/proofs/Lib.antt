@@ -1,3 +1,8 @@
+pub mod SettleOrder
+pub mod SettledReadings
+pub mod FreshStored
+pub mod LengthsStored
+pub mod FilesCut
 pub mod NextState
 pub mod OldOrNext
 pub mod DueLemmas

@@ -7,9 +7,9 @@ use Rattle.std.specs.List.{AllByRecursion, Contains}
 use Rattle.std.proofs.lemmas.List.{map-append}
 use Rattle.lists.specs.Each.{all_append, all_replicate, all_weaker}
 use Rattle.lists.specs.Fronts.{IsFront}
-use Rattle.outside.specs.Vault.{disk_in, IsWhole}
-use Rattle.outside.specs.declared.vault.Device.TheVariants.{Save, Snaps, Bank}
-use Rattle.outside.specs.declared.vault.Vault.{Vault}
+use Rattle.log_writer.specs.Vault.{disk_in, IsWhole}
+use Rattle.outside.specs.declared.device.Device.TheVariants.{Save, Snaps, Bank}
+use Rattle.log_writer.specs.declared.vault.Vault.{Vault}
 use Rattle.serial_model.specs.Numbers.{last_epoch}
 use Rattle.serial_model.specs.State.{State}
 use Rattle.wire_form.specs.declared.page.Page.{Page}
@@ -19,25 +19,25 @@ use Rattle.log_writer.specs.Save.{Names, IsStored}
 use Rattle.log_writer.specs.declared.saved.Saved.{Saved}
 use Rattle.snapshot_store.specs.Content.{words_of}
 use Rattle.snapshot_store.specs.Store.{IsWhole as IsWholePage, bytes_of_pages, Holds}
-use Rattle.recovery_core.specs.CrashesRecover.{LeavesSame, HasFiles, old_recovers, point_read}
-use Rattle.recovery_core.specs.Crashes.Rested.{point_new}
-use Rattle.recovery_core.specs.Crashes.Safe.{old_or_new}
-use Rattle.recovery_core.specs.Files.{listed_bank}
-use Rattle.recovery_core.specs.FreshLaws.{zero_at}
-use Rattle.recovery_core.specs.Images.{Images, count_of}
-use Rattle.recovery_core.specs.JointCrash.{Parts, Moments, parts_of}
-use Rattle.recovery_core.specs.Recoverable.{IsRecoverable}
+use Rattle.checkpoints.specs.CrashesRecover.{LeavesSame, HasFiles, old_recovers, point_read}
+use Rattle.joint_crashes.specs.Crashes.Rested.{point_new}
+use Rattle.joint_crashes.specs.Crashes.Safe.{old_or_new}
+use Rattle.checkpoints.specs.Files.{listed_bank}
+use Rattle.checkpoints.specs.FreshLaws.{zero_at}
+use Rattle.joint_crashes.specs.Images.{Images, count_of}
+use Rattle.joint_crashes.specs.JointCrash.{Parts, Moments, parts_of}
 use Rattle.recovery_core.specs.Recovered.{Recovers, IsUp, recovers_state, saved_epoch}
-use Rattle.recovery_core.specs.Resting.{IsResting, HasNoRecords, AreTold}
-use Rattle.recovery_core.specs.Settled.{SaysSettled, SameDevices}
-use Rattle.recovery_core.specs.SettleFiles.{all_banks}
-use Rattle.recovery_core.specs.SettleGoesOn.{GoesOn}
-use Rattle.recovery_core.specs.SettleLaws.{point_says}
-use Rattle.recovery_core.specs.SettleRests.{RestsSince}
-use Rattle.recovery_core.specs.Settling.{FoundOldOrNew, story_of}
-use Rattle.recovery_core.specs.VaultReads.{AreQuiet, some_of, quiet_of}
+use Rattle.joint_crashes.specs.Resting.{IsResting, HasNoRecords, AreTold}
+use Rattle.checkpoints.specs.Settled.{SaysSettled, SameDevices}
+use Rattle.checkpoints.specs.SettleFiles.{all_banks}
+use Rattle.checkpoints.specs.SettleGoesOn.{GoesOn}
+use Rattle.checkpoints.specs.SettleLaws.{point_says}
+use Rattle.joint_crashes.specs.SettleRests.{RestsSince}
+use Rattle.recovery_core.specs.SnapshotsKept.{StandsAsRead}
+use Rattle.joint_crashes.specs.Settling.{FoundOldOrNew, story_of}
+use Rattle.joint_crashes.specs.VaultReads.{AreQuiet, some_of, quiet_of}
 use Rattle.recovery_core.specs.declared.recovered.Recovered.{Recovered}
-use Rattle.recovery_core.specs.declared.settlement.Settled.{Settled}
+use Rattle.checkpoints.specs.declared.without_entries.Settled.{Settled}
 use Rattle.checkpoints.specs.SettlesInto.{composed_saved}
 use Rattle.checkpoints.specs.Written.{FitsDevice, RestsFrom, LeavesOldOrNext, HasWritten}
 use Rattle.checkpoints.specs.Due.{IsNextOf}
@@ -99,10 +99,10 @@ module _ {D : Type 0} {tells : D → Option (List ℕ)} {clock : D → ℕ} {ima
   -- images of the old savepoint or of the next one stand for what was recovered
   found_recovers : {old : Parts D} {found other : Images} (after : Parts D) (count : ℕ) → count ≡ length all
       → HasFiles old
-      → HasFiles after → (rest : IsResting clock image_at old) → AreTold tells old found → Recovers found r
+      → HasFiles after → (rest : IsResting clock image_at old) → AreTold tells old found → (is : Recovers found r)
       → rest.point ≡ r.save.newest
       → FoundOldOrNew r.save.newest (point r count) rest.pages (bytes_of_pages all) rest.counted after other
-      → IsRecoverable other r.epoch r.state
+      → StandsAsRead is.reading other r.epoch r.state
   found_recovers {found = found} {other = other} after count same files still rest told is named (inl was) =
       old_recovers reads after files still rest told (recovers_state found r is)
       (subst (λ x. Names other.save x) (sym named) was.0) was.1 was.2
@@ -116,14 +116,15 @@ module _ {D : Type 0} {tells : D → Option (List ℕ)} {clock : D → ℕ} {ima
       → LeavesOldOrNext clock image_at tells r.save.newest (composed_saved r.epoch count) (length r.store.pages)
       (bytes_of_pages all) old after
       → (rest : IsResting clock image_at old) → HasNoRecords old → AreTold tells old found
-      → RestsSince clock image_at from rest.point rest.pages rest.counted old → Recovers found r
-      → LeavesSame clock image_at from r.epoch r.state old after
+      → RestsSince clock image_at from rest.point rest.pages rest.counted old → (is : Recovers found r)
+      → LeavesSame clock image_at from is.reading r.epoch r.state old after
   next_leaves {after = after} {found = found} {from = from} count same files still leaves rest none told since is =
       let rests = rests_from rest none told since is in
       let safe = leaves found from rest rests in
       record {
         keeps = safe.stays;
         now = safe.instant;
+        ended = safe.ended;
         recovers = λ at other since crash. found_recovers after count same files still rest told is rests.newest_is
             (safe.stops at other since crash);
       }
@@ -134,8 +135,8 @@ module _ {D : Type 0} {tells : D → Option (List ℕ)} {clock : D → ℕ} {ima
       → HasWritten clock image_at tells r.save.newest (composed_saved r.epoch count) (length r.store.pages)
       (bytes_of_pages all) old after
       → (rest : IsResting clock image_at old) → HasNoRecords old → AreTold tells old found
-      → RestsSince clock image_at from rest.point rest.pages rest.counted old → Recovers found r
-      → GoesOn clock image_at from r.epoch r.state (sequence_of r.save.newest) (Some (point r count)) after
+      → RestsSince clock image_at from rest.point rest.pages rest.counted old → (is : Recovers found r)
+      → GoesOn clock image_at from is.reading r.epoch r.state (sequence_of r.save.newest) (Some (point r count)) after
   next_goes_on {after = after} {found = found} {from = from} count same files still written rest none told since is =
       let rests = rests_from rest none told since is in
       let known = written found from rest rests in
@@ -151,14 +152,14 @@ module _ {D : Type 0} {tells : D → Option (List ℕ)} {clock : D → ℕ} {ima
 
   -- the devices say what is handed on
   pub next_rests : {new : Vault D} {found : Images} (old : Vault D) (s : Settled) → IsWhole new
-      → AreTold tells (parts_of old) found → Recovers found r → s.save.newest ≡ Some (point r (length all))
+      → AreTold tells (parts_of old) found → s.save.newest ≡ Some (point r (length all))
       → s.store.pages ≡ all → s.decls ≡ r.decls → s.state ≡ r.state
       → is_some (tells new.save) ≡ is_some (tells old.save) → is_some (tells new.snaps) ≡ is_some (tells old.snaps)
       → IsStored tells clock image_at new.save s.save.newest → Holds tells new.snaps s.store.pages
       → ((n : ℕ) (bank : D) → Contains all_banks n → disk_in new (Bank n) ≡ Some bank → tells bank ≡ Some [])
       → (now : Images) × AreTold tells (parts_of new) now × SaysSettled now s
   next_rests {new = new} {found = found}
-      old s whole told is newest_is pages decls state told_save told_snaps stored holds emptied =
+      old s whole told newest_is pages decls state told_save told_snaps stored holds emptied =
       let q = point r (length all) in
       let file = some_of (tells new.save) (told_save ∙ ap is_some told.save) in
       let snaps = some_of (tells new.snaps) (told_snaps ∙ ap is_some told.snaps) in
@@ -180,7 +181,7 @@ module _ {D : Type 0} {tells : D → Option (List ℕ)} {clock : D → ℕ} {ima
           decls = decls ∙ next_decls r p made all next;
           lines = refl;
           state = λ key. ap (λ (st : State). get st key) state
-              ∙ next_state r p made all next found is says up.saved key;
+              ∙ next_state r p made all next key;
         },
       )
 

@@ -14,23 +14,25 @@ use Rattle.wire_form.specs.declared.savepoint.Savepoint.{Savepoint}
 use Rattle.log_writer.specs.Points.{saved_of}
 use Rattle.log_writer.specs.Save.{Names}
 use Rattle.log_writer.specs.declared.saved.Saved.{Saved}
-use Rattle.snapshot_store.specs.Content.{deepest, words_of, record_in, value_at, CatalogueAt}
+use Rattle.snapshot_store.specs.Content.{deepest, words_of, record_in, value_at}
 use Rattle.snapshot_store.specs.Store.{IsWhole, bytes_of_pages}
 use Rattle.root_composer.specs.Composition.{next_contents}
 use Rattle.root_composer.specs.Storages.{change_for}
 use Rattle.recovery_core.specs.Catalogues.{HasPages, AreCatalogues, newest_epoch, newest_storages, newest_decls}
-use Rattle.recovery_core.specs.Images.{Images, counted_of}
-use Rattle.recovery_core.specs.Recoverable.{Reading, ReadsSaved, ReadsBy, IsReading, IsRecoverable, snapshot_value}
-use Rattle.recovery_core.specs.Recoverable.{value_over}
+use Rattle.joint_crashes.specs.Images.{Images, counted_of}
+use Rattle.recovery_core.specs.Recoverable.{Reading, IsReading, ReadsSaved, ReadsBy, value_over}
+use Rattle.recovery_core.specs.RecoverableLaws.{one_chain}
 use Rattle.recovery_core.specs.Recovered.{Recovers, SnapshotsStand}
-use Rattle.recovery_core.specs.SettledLaws.{no_log, counts_nothing}
-use Rattle.recovery_core.specs.SettleLaws.{point_says}
+use Rattle.checkpoints.specs.SettledLaws.{no_log, counts_nothing}
 use Rattle.recovery_core.specs.SnapshotPages.{RootStandsUpTo}
+use Rattle.recovery_core.specs.SnapshotsKept.{StandsAsRead}
 use Rattle.recovery_core.specs.StoredPages.{whole_size, has_pages}
 use Rattle.recovery_core.specs.declared.recovered.Recovered.{Recovered}
 use Rattle.checkpoints.specs.Due.{IsNextOf}
+use Rattle.checkpoints.specs.SettleLaws.{point_says}
 use Rattle.checkpoints.specs.NextReading.{roots_early, same_storages, chain-append, chain_below, newest_is}
 use Rattle.checkpoints.specs.Overlays.{get-overlay, change_is, comes_from}
+use Rattle.checkpoints.proofs.SnapshotsSettled.{one_more_snapshot}
 
 -- what a savepoint says that names a new snapshot of this epoch, whose pages are these
 pub record NamesNext (epoch : ℕ) (all : List Page) (q : Savepoint) : Type 0 where
@@ -90,7 +92,7 @@ module _ (r : Recovered) (p : Saved) (made : List (List ℕ)) (all : List Page) 
       )
 
   -- all pages of the new snapshot, with no number above its epoch
-  roots : AllByRecursion (RootStandsUpTo r.epoch (old ++ made)) newest.storages
+  pub roots : AllByRecursion (RootStandsUpTo r.epoch (old ++ made)) newest.storages
   roots =
       let front = newest_is old (p.epoch + 1) p.catalogue is.stand.catalogues is.next.contents is.some is.stand.chain
       is.next.due.here in
@@ -127,29 +129,19 @@ module _ (r : Recovered) (p : Saved) (made : List (List ℕ)) (all : List Page) 
       }
 
   -- the new snapshot has the state that was recovered
-  pub next_state : (found : Images) → Recovers found r → r.saved ≡ Some p → r.saved ≡ option_map saved_of r.save.newest
-      → (key : Key) → get r.state key ≡ value_at (record_in (words_of all)) newest.storages key
-  next_state found recovers saved says key =
-      let reading = recovers.reading in
-      let point = point_says r.save.newest p (sym saved ∙ says) in
-      let here : reading.point ≡ Some point.0 = sym recovers.point ∙ point.1 in
-      let reads : ReadsSaved found point.0 reading = subst (λ x. ReadsBy found x reading) here recovers.is.counts in
-      let number : p.catalogue ≡ point.0.catalogue = ap (λ (x : Saved). x.catalogue) point.2 in
-      let front = newest_is old (point.0.epoch + 1) point.0.catalogue reading.catalogues is.next.contents
-      (subst (λ n. 1 ≤ n) number is.some)
-      (subst (λ ws. AreCatalogues ws (point.0.epoch + 1) None point.0.catalogue reading.catalogues)
-      (sym recovers.pages) reads.snapshot.chain)
-      (subst (λ n. CatalogueAt old n is.next.contents) number is.next.due.here) in
+  pub next_state : (key : Key) → get r.state key ≡ value_at (record_in (words_of all)) newest.storages key
+  next_state key =
+      let front = newest_is old (p.epoch + 1) p.catalogue is.stand.catalogues is.next.contents is.some is.stand.chain
+      is.next.due.here in
       let run = is.next.run in
       let was : Key → Option ℕ = λ k. value_at (record_in old) is.next.contents.storages k in
       let own = λ (k : Key) (e : Entry) (at : get r.entries k ≡ Some e). (is.stand.entries k e at).0 in
-      let snapshot : (k : Key) → snapshot_value reading k ≡ was k =
-      λ k. ap (λ ws. value_at (record_in ws) (newest_storages reading.catalogues) k) (sym recovers.pages)
-      ∙ ap (λ cs. value_at (record_in old) (newest_storages cs) k) front.1 in
+      let snapshot : (k : Key) → value_at (record_in old) (newest_storages is.stand.catalogues) k ≡ was k =
+      λ k. ap (λ cs. value_at (record_in old) (newest_storages cs) k) front.1 in
       let now : (k : Key) → get r.state k ≡ value_over (change_for run k) (was k) =
-      λ k. recovers.state k
-      ∙ ap (λ e. value_over e (snapshot_value reading k)) (sym (recovers.entries k)
-      ∙ sym (change_is r.entries run is.next.due.run_is own k))
+      λ k. is.stand.state k
+      ∙ ap (λ e. value_over e (value_at (record_in old) (newest_storages is.stand.catalogues) k))
+      (sym (change_is r.entries run is.next.due.run_is own k))
       ∙ ap (value_over (change_for run k)) (snapshot k) in
       let before = comes_from was run r.state now in
       now key
@@ -158,16 +150,35 @@ module _ (r : Recovered) (p : Saved) (made : List (List ℕ)) (all : List Page) 
       ∙ is.next.composed.content before.0 before.1 key
       ∙ ap (λ ws. value_at (record_in ws) newest.storages key) (sym is.words)
 
-  -- so they stand for what was recovered
-  pub next_recovers : (q : Savepoint) (found other : Images) → Recovers found r → r.saved ≡ Some p
+  -- so they stand for what was recovered, with one snapshot more
+  pub next_recovers : (q : Savepoint) (found other : Images) → (recovers : Recovers found r) → r.saved ≡ Some p
       → r.saved ≡ option_map saved_of r.save.newest → NamesNext r.epoch all q → Names other.save (Some q)
-      → IsFront (bytes_of_pages all) other.snaps → IsRecoverable other r.epoch r.state
-  next_recovers q found other recovers saved from says names front = record {
-    reading = next_reading q (words_of all) newest is.stand.catalogues;
-    is = next_reads q other says names front;
-    epoch_is = sym says.epoch_is;
-    state_is = next_state found recovers saved from;
-  }
+      → IsFront (bytes_of_pages all) other.snaps → StandsAsRead recovers.reading other r.epoch r.state
+  next_recovers q found other recovers saved from says names front =
+      let was = recovers.reading in
+      let point = point_says r.save.newest p (sym saved ∙ from) in
+      let reads : ReadsSaved found point.0 was =
+      subst (λ x. ReadsBy found x was) (sym recovers.point ∙ point.1) recovers.is.counts in
+      let number : p.catalogue ≡ point.0.catalogue = ap (λ (x : Saved). x.catalogue) point.2 in
+      let limit : p.epoch ≡ point.0.epoch = ap (λ (x : Saved). x.epoch) point.2 in
+      let chain_was = reads.snapshot.chain in
+      let same : is.stand.catalogues ≡ was.catalogues = one_chain was.pages (point.0.epoch + 1) None point.0.catalogue
+      is.stand.catalogues was.catalogues
+      (subst (λ ws. AreCatalogues ws (point.0.epoch + 1) None point.0.catalogue is.stand.catalogues) recovers.pages
+      (subst (λ n. AreCatalogues old (point.0.epoch + 1) None n is.stand.catalogues) number
+      (subst (λ n. AreCatalogues old (n + 1) None p.catalogue is.stand.catalogues) limit is.stand.chain))) chain_was in
+      record {
+        is = record {
+          reading = next_reading q (words_of all) newest is.stand.catalogues;
+          is = next_reads q other says names front;
+          epoch_is = sym says.epoch_is;
+          state_is = next_state;
+        };
+        keeps = one_more_snapshot was (next_reading q (words_of all) newest is.stand.catalogues) r.epoch r.state newest
+            made (point.0.epoch + 1) point.0.catalogue chain_was
+            (is.words ∙ ap (λ ws. ws ++ made) recovers.pages) (ap (λ cs. newest ∷ cs) same) refl
+            next_state;
+      }
 
   -- the storages stay
   pub next_decls : r.decls ≡ decls_of newest

@@ -5,27 +5,27 @@ use Rattle.std.specs.List.{Contains}
 use Rattle.lists.specs.Fronts.{IsFront}
 use Rattle.outside.specs.Disk.{Runs}
 use Rattle.outside.specs.Fronts.{AllBegin}
-use Rattle.outside.specs.declared.vault.Tie.{Tie}
-use Rattle.outside.specs.declared.vault.Cut.{Cut}
+use Rattle.log_writer.specs.declared.records.Tie.{Tie}
+use Rattle.log_writer.specs.declared.records.Cut.{Cut}
 use Rattle.wire_form.specs.declared.savepoint.Savepoint.{Savepoint}
 use Rattle.log_writer.specs.Points.{point_of, sequence_of}
 use Rattle.log_writer.specs.Save.{Names}
 use Rattle.log_writer.specs.declared.saved.Saved.{Saved}
-use Rattle.recovery_core.specs.Images.{Images, counted_of}
-use Rattle.recovery_core.specs.JointCrash.{Parts, Moments, KeepsCrashes}
-use Rattle.recovery_core.specs.Resting.{IsResting}
-use Rattle.recovery_core.specs.Story.{Story, IsTold, AreOpen}
-use Rattle.recovery_core.specs.Cutting.{ArePast, AreToldIn}
-use Rattle.recovery_core.specs.Settling.{RestsOn, MayStore, IsLeft, IsSettled, IsSafe, story_of}
-use Rattle.recovery_core.specs.SettleFiles.{all_banks}
-use Rattle.recovery_core.specs.SettleGoesOn.{on_settled}
-use Rattle.recovery_core.specs.SettleRests.{RestsSince}
-use Rattle.recovery_core.specs.Crashes.Instants.{keeps_then}
-use Rattle.recovery_core.specs.Crashes.Rested.{told_begun, told_appended, keeps_appended, ready_begun, may_store}
-use Rattle.recovery_core.specs.Crashes.Rested.{counted_new, point_old, pages_old, rests_on}
-use Rattle.recovery_core.specs.Crashes.Safe.{left_of, safe_of}
-use Rattle.recovery_core.specs.Crashes.StoreSteps.{now_one}
-use Rattle.recovery_core.specs.Crashes.ToldSteps.{parts}
+use Rattle.joint_crashes.specs.Images.{Images, counted_of}
+use Rattle.joint_crashes.specs.JointCrash.{Parts, Moments, KeepsCrashes}
+use Rattle.joint_crashes.specs.Resting.{IsResting}
+use Rattle.joint_crashes.specs.Story.{Story, IsTold, AreOpen}
+use Rattle.joint_crashes.specs.Cutting.{ArePast, AreToldIn}
+use Rattle.joint_crashes.specs.Settling.{RestsOn, MayStore, IsLeft, IsSettled, IsSafe, story_of}
+use Rattle.checkpoints.specs.SettleFiles.{all_banks}
+use Rattle.checkpoints.specs.SettleGoesOn.{on_settled}
+use Rattle.joint_crashes.specs.SettleRests.{RestsSince}
+use Rattle.joint_crashes.specs.Crashes.Instants.{keeps_then}
+use Rattle.joint_crashes.specs.Crashes.Rested.{told_begun, told_appended, keeps_appended, ready_begun, may_store}
+use Rattle.joint_crashes.specs.Crashes.Rested.{counted_new, point_old, pages_old, rests_on}
+use Rattle.joint_crashes.specs.Crashes.Safe.{left_of, safe_of}
+use Rattle.joint_crashes.specs.Crashes.StoreSteps.{now_one}
+use Rattle.joint_crashes.specs.Crashes.ToldSteps.{parts}
 use Rattle.checkpoints.specs.Written.{RestsFrom}
 
 module _ {D : Type 0} {tells : D → Option (List ℕ)} {clock : D → ℕ} {image_at : D → ℕ → List ℕ → Type 0}

@@ -3,16 +3,16 @@ use Rattle.std.proofs.Common.{◌≡◌, ◌≤◌, ℕ, List, Option, Some, Non
 use Rattle.std.specs.Prelude.{Result, Ok, Err, IfOk, IfSome}
 use Rattle.lists.specs.declared.memory.OrMemory.{OrMemory}
 use Rattle.lists.specs.declared.memory.OrMemory.TheVariants.{Fault, Memory}
-use Rattle.recovery_core.specs.declared.fault.SettleFault.{SettleFault}
-use Rattle.recovery_core.specs.declared.fault.SettleFault.TheVariants.{Limit}
-use Rattle.outside.specs.declared.vault.Vault.{Vault}
+use Rattle.checkpoints.specs.declared.fault.SettleFault.{SettleFault}
+use Rattle.checkpoints.specs.declared.fault.SettleFault.TheVariants.{Limit}
+use Rattle.log_writer.specs.declared.vault.Vault.{Vault}
 use Rattle.serial_model.specs.declared.decl.Decl.{Decl}
 use Rattle.log_writer.specs.declared.saved.Saved.{Saved}
 use Rattle.serial_model.specs.Decls.{AreDecls}
 use Rattle.recovery_core.specs.Recovered.{IsUp}
-use Rattle.recovery_core.specs.Settled.{Fits, Settles, settled_saved}
+use Rattle.checkpoints.specs.Settled.{Settles, settled_saved}
 use Rattle.recovery_core.specs.declared.recovered.Recovered.{Recovered}
-use Rattle.recovery_core.specs.declared.settlement.Settled.{Settled}
+use Rattle.checkpoints.specs.declared.without_entries.Settled.{Settled}
 use Rattle.checkpoints.specs.Due.{NoneCount}
 use Rattle.checkpoints.specs.SettlesInto.{StaysAsRead, Follows, SettlesInto}
 use Rattle.checkpoints.proofs.NewestSettled.{plain_newest}
@@ -37,7 +37,7 @@ plain_settles {given = given} r s up are none is = record {
   count = is.count;
   holds = is.holds;
   durable = is.durable;
-  newest = plain_newest r s given up are is.saved is.pages is.count is.declared is.kept is.rising;
+  newest = plain_newest r s given up are none is.saved is.pages is.count is.state is.declared is.kept is.rising;
   state = is.state;
   declared = is.declared;
   kept = is.kept;
@@ -48,15 +48,15 @@ plain_settles {given = given} r s up are none is = record {
 }
 
 -- pages are within what is let in
-saved_room : (r : Recovered) (snap : ℕ) → 1 ≤ snap → (o : Option Saved) → IfSome o (Fits r snap)
+saved_room : (r : Recovered) (snap : ℕ) → 1 ≤ snap → (o : Option Saved) → IfSome o (λ p. p.count ≤ snap)
     → Saved.count (settled_saved o) ≤ snap
 saved_room r snap some None fits = some
-saved_room r snap some (Some p) fits = fits.count
+saved_room r snap some (Some p) fits = fits
 
 pub plain_room : (r : Recovered) (snap : ℕ) → 1 ≤ snap → (result : Result Settled (OrMemory SettleFault))
     → IfOk result (λ s. s.saved ≡ settled_saved r.saved)
     → ((result ≡ Err Memory → ⊥)
-    → ((have more room : ℕ) → result ≡ Err (Fault (Limit have more room)) → ⊥) → IfSome r.saved (Fits r snap))
+    → ((have more room : ℕ) → result ≡ Err (Fault (Limit have more room)) → ⊥) → IfSome r.saved (λ p. p.count ≤ snap))
     → IfOk result (λ s. s.saved.count ≤ snap)
 plain_room r snap some (Ok s) saved fits =
     let within = saved_room r snap some r.saved (fits (λ same. cc same) (λ have more room same. cc same)) in

@@ -6,7 +6,7 @@ use Rattle.std.specs.List.{AllByRecursion, Contains}
 use Rattle.std.specs.Option.{option_map}
 use Rattle.std.proofs.lemmas.List.{length-append, length-map}
 use Rattle.lists.specs.Elements.{in_none, in_tail, in_cases}
-use Rattle.outside.specs.declared.vault.Vault.{Vault}
+use Rattle.log_writer.specs.declared.vault.Vault.{Vault}
 use Rattle.serial_model.specs.State.{State}
 use Rattle.serial_model.specs.declared.decl.Decl.{Decl}
 use Rattle.wire_form.specs.ContentLaws.{one_catalogue}
@@ -19,16 +19,16 @@ use Rattle.snapshot_store.specs.Content.{words_of, record_in, value_at, IsConten
 use Rattle.snapshot_store.specs.ContentLaws.{catalogue-append, content-append, snapshot_stands-append}
 use Rattle.root_composer.specs.Composition.{next_contents}
 use Rattle.recovery_core.specs.Catalogues.{AreCatalogues, newest_storages}
-use Rattle.recovery_core.specs.Images.{Images}
+use Rattle.joint_crashes.specs.Images.{Images}
 use Rattle.recovery_core.specs.Recoverable.{Reading, ReadsBy, ReadsFresh, ReadsSaved}
 use Rattle.recovery_core.specs.Recovered.{IsUp, Recovers, saved_epoch}
-use Rattle.recovery_core.specs.SettleFresh.{none_says}
-use Rattle.recovery_core.specs.SettleLaws.{point_says}
-use Rattle.recovery_core.specs.Settled.{SaysSettled, settled_saved, settled_pages}
+use Rattle.checkpoints.specs.SettleFresh.{none_says}
+use Rattle.checkpoints.specs.SettleLaws.{point_says}
+use Rattle.checkpoints.specs.Settled.{SaysSettled, settled_saved, settled_pages}
 use Rattle.recovery_core.specs.declared.recovered.Recovered.{Recovered}
-use Rattle.recovery_core.specs.declared.settlement.Settled.{Settled}
+use Rattle.checkpoints.specs.declared.without_entries.Settled.{Settled}
 use Rattle.checkpoints.specs.SettlesInto.{Follows, IsComposedInto, SettlesInto, StaysAsRead}
-use Rattle.checkpoints.specs.SnapshotsKept.{KeepsSnapshots}
+use Rattle.recovery_core.specs.SnapshotsKept.{KeepsSnapshots, first_snapshot, same_snapshots}
 
 -- ---- chains of catalogues
 
@@ -87,34 +87,8 @@ newest_of pages limit number (c ∷ cs) some chain = record { newest = c; older 
 
 -- ---- the three ways
 
--- nothing was made
-same_snapshots : (was now : Reading) (epoch : ℕ) (state : State) → now.pages ≡ was.pages
-    → now.catalogues ≡ was.catalogues → KeepsSnapshots was now epoch state
-same_snapshots was now epoch state pages catalogues = record {
-  each = λ c has. inl (subst (λ cs. Contains cs c) catalogues has);
-  stays = λ c has. subst (λ cs. Contains cs c) (sym catalogues) has;
-  content = λ c s has stands is. (
-    subst (λ ws. AllByRecursion (RootStands ws) c.storages) (sym pages) stands,
-    subst (λ ws. IsContent (record_in ws) c.storages s) (sym pages) is,
-  );
-}
-
--- there was none, and the first one was made
-first_snapshot : (was now : Reading) (epoch : ℕ) (state : State) (c : Contents) → was.catalogues ≡ []
-    → now.catalogues ≡ c ∷ [] → c.epoch ≡ epoch → IsContent (record_in now.pages) c.storages state
-    → KeepsSnapshots was now epoch state
-first_snapshot was now epoch state c none one same content = record {
-  each = λ d has. elim (in_cases d c [] (subst (λ cs. Contains cs d) one has)) [
-    | inl here ↦ inr (subst (λ (x : Contents). (x.epoch ≡ epoch) × IsContent (record_in now.pages) x.storages state)
-        here (same, content))
-    | inr later ↦ absurd (in_none d later)
-  ];
-  stays = λ d has. absurd (in_none d (subst (λ cs. Contains cs d) none has));
-  content = λ d s has stands is. absurd (in_none d (subst (λ cs. Contains cs d) none has));
-}
-
 -- one more was made, behind the others
-one_more_snapshot : (was now : Reading) (epoch : ℕ) (state : State) (c : Contents) (more : List (List ℕ))
+pub one_more_snapshot : (was now : Reading) (epoch : ℕ) (state : State) (c : Contents) (more : List (List ℕ))
     (limit number : ℕ) → AreCatalogues was.pages limit None number was.catalogues → now.pages ≡ was.pages ++ more
     → now.catalogues ≡ c ∷ was.catalogues → c.epoch ≡ epoch → IsContent (record_in now.pages) c.storages state
     → KeepsSnapshots was now epoch state

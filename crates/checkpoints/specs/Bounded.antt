@@ -13,10 +13,10 @@ use Rattle.snapshot_store.specs.Places.{Cover, Tiles, Stands, StandsTo}
 use Rattle.snapshot_store.specs.Content.{format_of, IsPageOf}
 use Rattle.recovery_core.specs.SnapshotPages.{epoch_in, IsPageUpTo}
 
-le_yes : (a b : ℕ) → a ≤ b → nat_le a b ≡ true
+pub le_yes : (a b : ℕ) → a ≤ b → nat_le a b ≡ true
 le_yes a b h = grind (arith, nat_tests)
 
-le_no : (a b : ℕ) → b < a → nat_le a b ≡ false
+pub le_no : (a b : ℕ) → b < a → nat_le a b ≡ false
 le_no a b h = grind (arith, nat_tests)
 
 -- ---- places in a row

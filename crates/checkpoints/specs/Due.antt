@@ -9,9 +9,9 @@ use Rattle.wire_form.specs.declared.bucket.Entry.{Entry}
 use Rattle.log_writer.specs.declared.saved.Saved.{Saved}
 use Rattle.snapshot_store.specs.Content.{deepest, words_of, CatalogueAt}
 use Rattle.recovery_core.specs.EntriesRun.{IsRunOf}
-use Rattle.recovery_core.specs.Settled.{stores_due}
-use Rattle.recovery_core.specs.declared.fault.SettleFault.{SettleFault}
-use Rattle.recovery_core.specs.declared.fault.SettleFault.TheVariants.{Deep, Limit}
+use Rattle.checkpoints.specs.Settled.{stores_due}
+use Rattle.checkpoints.specs.declared.fault.SettleFault.{SettleFault}
+use Rattle.checkpoints.specs.declared.fault.SettleFault.TheVariants.{Deep, Limit}
 use Rattle.recovery_core.specs.declared.recovered.Recovered.{Recovered}
 use Rattle.root_composer.specs.Composition.{CanCompose, IsComposed, IsTooDeep, WouldCompose, new_count, level_count}
 

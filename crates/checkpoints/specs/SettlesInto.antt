@@ -1,6 +1,6 @@
 -- What settling gives of a database: a savepoint that counts nothing of the log files, which are empty, over pages
 -- whose newest snapshot has the state that was recovered.
-use Rattle.std.specs.Prelude.{◌≡◌, ◌⊎◌, ℕ, ◌+◌, ◌<◌, ◌≤◌, ◌++◌, List, [], Option, Some, None, true}
+use Rattle.std.specs.Prelude.{◌≡◌, ◌⊎◌, ℕ, ◌+◌, ◌<◌, ◌++◌, List, [], Option, Some, None, true}
 use Rattle.std.specs.Prelude.{IfSome, IfNone, map, length, replicate}
 use Rattle.std.proofs.Common.{subst}
 use Rattle.std.specs.List.{Contains}
@@ -8,33 +8,34 @@ use Rattle.std.specs.List.Sorted.{IsPermutation}
 use Rattle.std.specs.Option.{option_map}
 use Rattle.outside.specs.Disk.{IfTold}
 use Rattle.outside.specs.Fronts.{AllBegin}
-use Rattle.outside.specs.Vault.{disk_in, IsWhole}
-use Rattle.outside.specs.declared.vault.Device.TheVariants.{Bank}
-use Rattle.outside.specs.declared.vault.Vault.{Vault}
+use Rattle.log_writer.specs.Vault.{disk_in, IsWhole}
+use Rattle.outside.specs.declared.device.Device.TheVariants.{Bank}
+use Rattle.log_writer.specs.declared.vault.Vault.{Vault}
 use Rattle.serial_model.specs.Keys.{id_of}
 use Rattle.serial_model.specs.State.{State}
 use Rattle.serial_model.specs.declared.decl.Decl.{Decl}
 use Rattle.wire_form.specs.Items.{Rises}
-use Rattle.wire_form.specs.Pages.{Contents, decls_of}
+use Rattle.wire_form.specs.Pages.{Contents}
 use Rattle.wire_form.specs.declared.bucket.Entry.{Entry}
 use Rattle.log_writer.specs.Points.{IsSaved, saved_of, sequence_of}
 use Rattle.log_writer.specs.Save.{IsStored}
 use Rattle.log_writer.specs.declared.saved.Saved.{Saved}
-use Rattle.snapshot_store.specs.Content.{SnapshotStands, words_of}
+use Rattle.snapshot_store.specs.Content.{words_of}
 use Rattle.snapshot_store.specs.Store.{bytes_of_pages, Holds}
 use Rattle.root_composer.specs.Composition.{IsComposed}
-use Rattle.recovery_core.specs.Cutting.{AreToldIn}
-use Rattle.recovery_core.specs.Images.{Images}
-use Rattle.recovery_core.specs.JointCrash.{Moments, parts_of}
+use Rattle.joint_crashes.specs.Cutting.{AreToldIn}
+use Rattle.joint_crashes.specs.Images.{Images}
+use Rattle.joint_crashes.specs.JointCrash.{Moments, parts_of}
+use Rattle.recovery_core.specs.NewestSnapshot.{IsNewestSnapshot}
 use Rattle.recovery_core.specs.Recovered.{Recovers}
-use Rattle.recovery_core.specs.Resting.{IsResting, HasNoRecords, AreTold}
-use Rattle.recovery_core.specs.Settled.{settled_saved, settled_pages, stores_due, SaysSettled, settled_recoverable}
+use Rattle.joint_crashes.specs.Resting.{IsResting, HasNoRecords, AreTold}
+use Rattle.checkpoints.specs.Settled.{settled_saved, settled_pages, stores_due, SaysSettled, settled_recoverable}
 use Rattle.recovery_core.specs.Recoverable.{IsRecoverable}
-use Rattle.recovery_core.specs.SettleFiles.{all_banks}
-use Rattle.recovery_core.specs.SettleGoesOn.{GoesOn}
-use Rattle.recovery_core.specs.SettleRests.{RestsSince}
+use Rattle.checkpoints.specs.SettleFiles.{all_banks}
+use Rattle.checkpoints.specs.SettleGoesOn.{GoesOn}
+use Rattle.joint_crashes.specs.SettleRests.{RestsSince}
 use Rattle.recovery_core.specs.declared.recovered.Recovered.{Recovered}
-use Rattle.recovery_core.specs.declared.settlement.Settled.{Settled}
+use Rattle.checkpoints.specs.declared.without_entries.Settled.{Settled}
 use Rattle.checkpoints.specs.Due.{NoneCount, IsDue}
 
 -- what the savepoint says behind a composition: the same epoch, so many pages, the last of which is the catalogue, and
@@ -68,11 +69,11 @@ Follows r s None = StaysAsRead r s
 Follows r s (Some p) = StaysAsRead r s ⊎ IsComposedInto r s p
 
 -- The last page that is handed on is the catalogue of a snapshot of the storages, which is no later than the saved
--- epoch, and all that its roots lead to are pages of theirs.
+-- epoch, and all that its roots lead to are pages of theirs. No record of theirs is later than the snapshot, and what
+-- they have is just the state. That is so whatever the devices tell.
 abbrev pub HasNewest : Settled → Type 0
 HasNewest s = (contents : Contents)
-    × SnapshotStands (words_of s.store.pages) (length s.store.pages) contents
-    × (s.decls ≡ decls_of contents) × (contents.epoch ≤ s.saved.epoch)
+    × IsNewestSnapshot (words_of s.store.pages) (length s.store.pages) s.decls s.state s.saved.epoch contents
 
 -- What is handed on of a database that was recovered so, for these storages, and what its devices are then.
 pub record SettlesInto {D : Type 0} (tells : D → Option (List ℕ)) (clock : D → ℕ) (image_at : D → ℕ → List ℕ → Type 0)
@@ -109,8 +110,8 @@ pub record SettlesInto {D : Type 0} (tells : D → Option (List ℕ)) (clock : D
   -- and for the stops of a run: what is known of each device since the moments from which they rested
   pub goes_on : (found : Images) (from : Moments) → (rest : IsResting clock image_at (parts_of old))
       → HasNoRecords (parts_of old) → AreTold tells (parts_of old) found
-      → RestsSince clock image_at from rest.point rest.pages rest.counted (parts_of old) → Recovers found r
-      → GoesOn clock image_at from r.epoch r.state (sequence_of r.save.newest) s.save.newest (parts_of new)
+      → RestsSince clock image_at from rest.point rest.pages rest.counted (parts_of old) → (is : Recovers found r)
+      → GoesOn clock image_at from is.reading r.epoch r.state (sequence_of r.save.newest) s.save.newest (parts_of new)
 
 -- So the devices of a database that told what was recovered stand for its epoch and its state, and say what is handed
 -- on.

@@ -6,12 +6,12 @@ use Rattle.wire_form.specs.declared.savepoint.Savepoint.{Savepoint}
 use Rattle.log_writer.specs.Points.{point_of, sequence_of}
 use Rattle.log_writer.specs.declared.saved.Saved.{Saved}
 use Rattle.snapshot_store.specs.Store.{IsWhole}
-use Rattle.recovery_core.specs.Images.{Images}
-use Rattle.recovery_core.specs.JointCrash.{Parts, Moments}
-use Rattle.recovery_core.specs.Resting.{IsResting, HasNoRecords, AreTold}
-use Rattle.recovery_core.specs.Settling.{IsSafe, story_of}
-use Rattle.recovery_core.specs.SettleRests.{RestsSince}
-use Rattle.recovery_core.specs.Story.{IsTold, AreOpen}
+use Rattle.joint_crashes.specs.Images.{Images}
+use Rattle.joint_crashes.specs.JointCrash.{Parts, Moments}
+use Rattle.joint_crashes.specs.Resting.{IsResting, HasNoRecords, AreTold}
+use Rattle.joint_crashes.specs.Settling.{IsSafe, story_of}
+use Rattle.joint_crashes.specs.SettleRests.{RestsSince}
+use Rattle.joint_crashes.specs.Story.{IsTold, AreOpen}
 
 -- a page in memory has 64 words of 64 bits
 pub record FitsDevice (page : Page) : Type 0 where

@@ -10,9 +10,10 @@ ghost use Rattle.root_composer.specs.Composition.{CanCompose, IsComposed};
 ghost use Rattle.checkpoints.specs.Due.{NoneCount, SomeCount, IsNextOf, WouldBeDeep, WouldBeMany, ComposesWithin};
 ghost use Rattle.checkpoints.specs.Due.{IsDueRefusal, TheFault};
 
+use crate::SettleFault;
 use lists::OrMemory;
 use log_writer::{Save, Saved};
-use recovery_core::{Recovered, SettleFault};
+use recovery_core::Recovered;
 use root_composer::{ComposeFault, NewPages, compose};
 use std::alloc::Global;
 

@@ -19,8 +19,15 @@
 //! Design: docs/CHECKPOINT.md, docs/DURABILITY.md.
 #![tactic(auto)]
 
+mod at_rest;
 mod due;
+mod fault;
+mod first_page;
+mod fresh;
 mod settlement;
+mod without_entries;
 mod writing;
 
+pub use fault::SettleFault;
 pub use settlement::settle;
+pub use without_entries::Settled;

@@ -1,34 +1,39 @@
 // A vault that was recovered is settled, also where log entries count above its newest snapshot.
 ghost use Rattle.std.specs.Prelude.{◌≡◌, ◌⊎◌, ◌≢◌, ℕ, ◌+◌, ◌*◌, ◌-◌, ◌^◌, ◌<◌, ◌≤◌, Some, None, Ok, Err, IfSome};
 ghost use Rattle.std.specs.Prelude.{IfOk, OnOk, OnErr};
-ghost use Rattle.std.specs.Prelude.{length};
+ghost use Rattle.std.specs.Prelude.{is_ok, length};
 ghost use Rattle.std.specs.List.{AllByRecursion};
-ghost use Rattle.outside.specs.Vault.{IsWhole};
-ghost use Rattle.outside.specs.declared.vault.Device.{Device as TheDevice};
+ghost use Rattle.log_writer.specs.Vault.{IsWhole};
+ghost use Rattle.outside.specs.declared.device.Device.{Device as TheDevice};
 ghost use Rattle.serial_model.specs.Decls.{AreDecls};
 ghost use Rattle.log_writer.specs.Points.{sequence_of};
 ghost use Rattle.log_writer.specs.Save.{IsStored};
 ghost use Rattle.snapshot_store.specs.Store.{Holds};
-ghost use Rattle.recovery_core.specs.CrashesRecover.{LeavesSame};
-ghost use Rattle.recovery_core.specs.Images.{Images};
-ghost use Rattle.recovery_core.specs.JointCrash.{Moments, parts_of};
+ghost use Rattle.joint_crashes.specs.RecordsAdded.{RecordsAdded};
+ghost use Rattle.checkpoints.specs.SettleFiles.{all_banks};
+ghost use Rattle.checkpoints.specs.SettleRecords.{SettleRecords};
+ghost use Rattle.checkpoints.specs.CrashesRecover.{LeavesSame};
+ghost use Rattle.joint_crashes.specs.Images.{Images};
+ghost use Rattle.joint_crashes.specs.JointCrash.{Moments, parts_of};
 ghost use Rattle.recovery_core.specs.Recovered.{Recovers, IsUp};
-ghost use Rattle.recovery_core.specs.Resting.{IsResting, HasNoRecords, AreTold};
-ghost use Rattle.recovery_core.specs.Settled.{SameDevices, SaysSettled};
-ghost use Rattle.recovery_core.specs.SettleRests.{RestsSince};
-ghost use Rattle.recovery_core.specs.VaultReads.{RoseIn, AreQuiet};
+ghost use Rattle.joint_crashes.specs.Resting.{IsResting, HasNoRecords, AreTold};
+ghost use Rattle.checkpoints.specs.Settled.{SameDevices, SaysSettled};
+ghost use Rattle.joint_crashes.specs.SettleRests.{RestsSince};
+ghost use Rattle.joint_crashes.specs.VaultReads.{RoseIn, AreQuiet};
 ghost use Rattle.checkpoints.specs.Due.{SomeCount, WouldBeDeep, WouldBeMany, ComposesWithin};
 ghost use Rattle.checkpoints.specs.Due.{OfSaved, IsOverLimit, IsWithin, IsStoreDue};
 ghost use Rattle.checkpoints.specs.SettlesInto.{SettlesInto};
-ghost use Rattle.checkpoints.specs.SnapshotsKept.{KeepsSnapshots};
+ghost use Rattle.recovery_core.specs.SnapshotsKept.{KeepsSnapshots};
 ghost use Rattle.checkpoints.specs.Written.{FitsDevice};
 
+use crate::SettleFault;
 use crate::due::{due_pages, saved_due};
+use crate::without_entries::{Settled, make_room, settle_without_entries};
 use crate::writing::write_snapshot;
 use lists::OrMemory;
-use log_writer::{Save, Saved};
-use outside::{Disk, Vault};
-use recovery_core::{Recovered, SettleFault, Settled, make_room, pages_fit};
+use log_writer::{Save, Saved, Vault};
+use outside::Disk;
+use recovery_core::{Recovered, pages_fit};
 use serial_model::Decl;
 use std::alloc::Global;
 use wire_form::Page;
@@ -50,7 +55,7 @@ fn refuse_last(save: &Save) -> Result<(), SettleFault>
 }
 
 // Words in memory have 64 bits.
-fn words_fit(words: &[u64])
+pub(crate) fn words_fit(words: &[u64])
     ensures { AllByRecursion (λ w. w < 2 ^ 64) words.now }
 {}
 
@@ -94,8 +99,8 @@ fn settle_entries<D: Disk>(
         → (rest : IsResting D.clock D.image_at (parts_of vault.old)) → HasNoRecords (parts_of vault.old)
         → AreTold D.tells (parts_of vault.old) found
         → RestsSince D.clock D.image_at from rest.point rest.pages rest.counted (parts_of vault.old)
-        → Recovers found recovered
-        → LeavesSame D.clock D.image_at from recovered.epoch recovered.state
+        → (is : Recovers found recovered)
+        → LeavesSame D.clock D.image_at from is.reading recovered.epoch recovered.state
         (parts_of vault.old) (parts_of vault.new) }
     ensures settles { IfOk result (λ s.
         SettlesInto D.tells D.clock D.image_at recovered decls.now vault.old vault.new s) }
@@ -117,6 +122,8 @@ fn settle_entries<D: Disk>(
     ensures quiet { OnOk result (AreQuiet D.faults vault.old vault.new) }
     ensures untouched { ((device : TheDevice) → result ≡ Err (OrMemory.Fault (SettleFault.Device device)) → ⊥)
         → OnErr result (SameDevices vault.old vault.new) }
+    ensures records { RecordsAdded (sequence_of recovered.save.newest) 1 all_banks (is_ok result)
+        vault.old vault.new }
 {
     make_room(vault)?;
     let pages = due_pages(alloc, &recovered, &saved, snap)?;
@@ -173,8 +180,8 @@ pub fn settle<D: Disk>(
         → (rest : IsResting D.clock D.image_at (parts_of vault.old)) → HasNoRecords (parts_of vault.old)
         → AreTold D.tells (parts_of vault.old) found
         → RestsSince D.clock D.image_at from rest.point rest.pages rest.counted (parts_of vault.old)
-        → Recovers found recovered
-        → LeavesSame D.clock D.image_at from recovered.epoch recovered.state
+        → (is : Recovers found recovered)
+        → LeavesSame D.clock D.image_at from is.reading recovered.epoch recovered.state
         (parts_of vault.old) (parts_of vault.new) }
     ensures settles { IfOk result (λ s.
         SettlesInto D.tells D.clock D.image_at recovered decls.now vault.old vault.new s) }
@@ -198,9 +205,10 @@ pub fn settle<D: Disk>(
     ensures quiet { OnOk result (AreQuiet D.faults vault.old vault.new) }
     ensures untouched { ((device : TheDevice) → result ≡ Err (OrMemory.Fault (SettleFault.Device device)) → ⊥)
         → OnErr result (SameDevices vault.old vault.new) }
+    ensures records { SettleRecords recovered (is_ok result) vault.old vault.new }
 {
     match saved_due(&recovered) {
-        None => recovery_core::settle(alloc, vault, recovered, decls, snap),
+        None => settle_without_entries(alloc, vault, recovered, decls, snap),
         Some(saved) => settle_entries(alloc, vault, recovered, saved, decls, snap),
     }
 }

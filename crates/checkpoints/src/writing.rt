@@ -1,31 +1,33 @@
 // A new snapshot is written: its pages, the savepoint that names it, and the cuts behind that.
 ghost use Rattle.std.specs.Prelude.{◌≡◌, ℕ, ◌+◌, ◌*◌, ◌-◌, ◌^◌, ◌<◌, ◌≤◌, ◌++◌, List, [], Some, None, Err, true};
-ghost use Rattle.std.specs.Prelude.{length, map, is_some, IfOk, OnOk, vec_len, vec_capacity};
+ghost use Rattle.std.specs.Prelude.{length, map, is_ok, is_some, IfOk, OnOk};
 ghost use Rattle.std.specs.List.{Contains};
 ghost use Rattle.outside.specs.Disk.{IfTold};
 ghost use Rattle.outside.specs.Fronts.{AllBegin};
-ghost use Rattle.outside.specs.Vault.{disk_in, IsWhole};
-ghost use Rattle.outside.specs.declared.vault.Device.{Device as TheDevice};
+ghost use Rattle.log_writer.specs.Vault.{disk_in, IsWhole};
+ghost use Rattle.outside.specs.declared.device.Device.{Device as TheDevice};
 ghost use Rattle.serial_model.specs.Numbers.{last_epoch};
 ghost use Rattle.log_writer.specs.Points.{point_of, sequence_of};
 ghost use Rattle.log_writer.specs.Save.{IsStored};
 ghost use Rattle.snapshot_store.specs.Store.{bytes_of_pages, Holds, NumberedFrom};
-ghost use Rattle.recovery_core.specs.declared.fault.SettleFault.{SettleFault as TheFault};
-ghost use Rattle.recovery_core.specs.Cutting.{AreToldIn};
-ghost use Rattle.recovery_core.specs.Images.{Images};
-ghost use Rattle.recovery_core.specs.JointCrash.{Moments, parts_of};
-ghost use Rattle.recovery_core.specs.Resting.{IsResting, HasNoRecords, AreTold};
-ghost use Rattle.recovery_core.specs.Settled.{SameDevices};
-ghost use Rattle.recovery_core.specs.SettleFiles.{all_banks};
-ghost use Rattle.recovery_core.specs.SettleRests.{RestsSince};
-ghost use Rattle.recovery_core.specs.VaultReads.{RoseIn, AreQuiet};
+ghost use Rattle.joint_crashes.specs.RecordsAdded.{RecordsAdded};
+ghost use Rattle.checkpoints.specs.declared.fault.SettleFault.{SettleFault as TheFault};
+ghost use Rattle.joint_crashes.specs.Cutting.{AreToldIn};
+ghost use Rattle.joint_crashes.specs.Images.{Images};
+ghost use Rattle.joint_crashes.specs.JointCrash.{Moments, parts_of};
+ghost use Rattle.joint_crashes.specs.Resting.{IsResting, HasNoRecords, AreTold};
+ghost use Rattle.checkpoints.specs.Settled.{SameDevices};
+ghost use Rattle.checkpoints.specs.SettleFiles.{all_banks};
+ghost use Rattle.joint_crashes.specs.SettleRests.{RestsSince};
+ghost use Rattle.joint_crashes.specs.VaultReads.{RoseIn, AreQuiet};
 ghost use Rattle.checkpoints.specs.SettlesInto.{composed_saved};
 ghost use Rattle.checkpoints.specs.Written.{LeavesOldOrNext, HasWritten};
 
+use crate::SettleFault;
+use joint_crashes::{StoreAndCutFault, store_and_cut};
 use lists::OrMemory;
-use log_writer::{Save, SaveFault, Saved};
-use outside::{Device, Disk, Vault};
-use recovery_core::{SettleFault, StoreAndCutFault, store_and_cut};
+use log_writer::{Save, SaveFault, Saved, Vault};
+use outside::{Device, Disk};
 use snapshot_store::SnapStore;
 use wire_form::Page;
 
@@ -68,8 +70,8 @@ pub(crate) fn write_snapshot<D: Disk>(
     requires up { save.old.down ≡ None }
     requires below { sequence_of save.old.newest < 2 ^ 63 - 1 }
     requires stored { IsStored D.tells D.clock D.image_at vault.old.save save.old.newest }
-    requires tie_room { vec_len vault.old.ties < vec_capacity vault.old.ties }
-    requires cut_room { vec_len vault.old.cuts + 16 ≤ vec_capacity vault.old.cuts }
+    requires tie_room { 1 ≤ vault.old.ties.room }
+    requires cut_room { 16 ≤ vault.old.cuts.room }
     ensures crashes { LeavesOldOrNext D.clock D.image_at D.tells save.old.newest
         (composed_saved epoch (length store.old.pages + length pages.now)) (length store.old.pages)
         (bytes_of_pages (store.old.pages ++ pages.now)) (parts_of vault.old) (parts_of vault.new) }
@@ -96,6 +98,7 @@ pub(crate) fn write_snapshot<D: Disk>(
         → (device : TheDevice) × (fault ≡ SettleFault.Device device) }
     ensures quiet { OnOk result (AreQuiet D.faults vault.old vault.new) }
     ensures untouched { result ≡ Err OrMemory.Memory → SameDevices vault.old vault.new }
+    ensures records { RecordsAdded (sequence_of save.old.newest) 1 all_banks (is_ok result) vault.old vault.new }
 {
     match store.append_durably(&mut vault.snaps, pages) {
         Ok(()) => {}

@@ -1,13 +1,13 @@
 // What transactions log, and what is saved by marks, worked by hand.
-ghost use Rattle.std.specs.Prelude.{◌<◌, IfOk, IfSome, vec_len, vec_capacity};
+ghost use Rattle.std.specs.Prelude.{◌≤◌, ◌<◌, IfOk, IfSome};
 ghost use Rattle.outside.specs.Disk.{IfTold, Only};
 ghost use Rattle.log_writer.specs.Journal.{Reaches};
 ghost use Rattle.log_writer.specs.Save.{IsStored};
 ghost use Rattle.worker_logs.specs.Saves.{IsBeside};
 
 use crate::disks::disk;
-use log_writer::{LogFault, Save};
-use outside::{Disk, MemDisk, Vault};
+use log_writer::{LogFault, Records, Save, Vault};
+use outside::{Disk, MemDisk};
 use serial_model::{Change, Changes, Commit, Decl, Key, Memory, Number, Op, Plain, fits, run_one};
 use std::alloc::{AllocError, Global};
 use std::test::Fail;
@@ -175,7 +175,7 @@ fn stored(
         logs.push(log(alloc, &mut bank, *lines, *clock)?)?;
         even.push(bank)?;
     }
-    let mut ties = Vec::new(alloc);
+    let mut ties = Records::new(alloc);
     ties.reserve(1)?;
     let mut vault = Vault {
         save: save_device(alloc)?,
@@ -183,7 +183,7 @@ fn stored(
         even,
         odd: Vec::new(alloc),
         ties,
-        cuts: Vec::new(alloc),
+        cuts: Records::new(alloc),
     };
     Ok(store(&logs, beside, &mut vault))
 }
@@ -207,7 +207,7 @@ fn store<D: Disk>(
 ) -> Option<(u32, Savepoint)>
     requires beside { IsBeside beside.now }
     requires settled { IfTold (D.tells vault.old.save) (Only D.clock D.image_at vault.old.save) }
-    requires room { vec_len vault.old.ties < vec_capacity vault.old.ties }
+    requires room { 1 ≤ vault.old.ties.room }
 {
     if logs.len() != 8 {
         return None;

@@ -4,7 +4,8 @@ ghost use Rattle.outside.specs.Disk.{IfTold, Only};
 
 use crate::disks::disk;
 use lists::OrMemory;
-use outside::{Device, Disk, MemDisk, Vault};
+use log_writer::{Records, Vault};
+use outside::{Device, Disk, MemDisk};
 use recovery_core::{RecoverFault, Recovered, SnapshotMark, recover};
 use serial_model::Key;
 use std::alloc::{AllocError, Global};
@@ -143,8 +144,8 @@ fn vault(
         snaps: disk(alloc, snaps, fails)?,
         even,
         odd,
-        ties: Vec::new(alloc),
-        cuts: Vec::new(alloc),
+        ties: Records::new(alloc),
+        cuts: Records::new(alloc),
     })
 }
 

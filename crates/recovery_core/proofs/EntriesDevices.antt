@@ -8,20 +8,20 @@ use Rattle.lists.specs.declared.memory.OrMemory.TheVariants.{Fault}
 use Rattle.log_mapper.specs.Mapped.{AreMapped, IsDamaged}
 use Rattle.log_mapper.specs.declared.map_file.MapFault.{MapFault}
 use Rattle.log_mapper.specs.declared.map_file.MapFault.TheVariants.{Device as Failed, Damaged}
-use Rattle.outside.specs.Cuts.{whole_bank}
+use Rattle.log_writer.specs.Cuts.{whole_bank}
 use Rattle.outside.specs.Reads.{OnlyReads}
-use Rattle.outside.specs.Vault.{disk_in, IsWhole}
-use Rattle.outside.specs.declared.vault.Device.{Device}
-use Rattle.outside.specs.declared.vault.Device.TheVariants.{Save, Snaps, Bank}
-use Rattle.outside.specs.declared.vault.Vault.{Vault}
+use Rattle.log_writer.specs.Vault.{disk_in, IsWhole}
+use Rattle.outside.specs.declared.device.Device.{Device}
+use Rattle.outside.specs.declared.device.Device.TheVariants.{Save, Snaps, Bank}
+use Rattle.log_writer.specs.declared.vault.Vault.{Vault}
 use Rattle.serial_model.specs.declared.decl.Decl.{Decl}
 use Rattle.wire_form.specs.declared.bucket.Bucket.{Bucket}
 use Rattle.recovery_core.specs.EntriesRead.{MapsIn}
-use Rattle.recovery_core.specs.Images.{Images}
-use Rattle.recovery_core.specs.JointCrash.{parts_of}
-use Rattle.recovery_core.specs.Resting.{AreTold}
-use Rattle.recovery_core.specs.VaultReads.{VaultOnlyReads, RoseIn, AreQuiet, some_of, reads_none, whole_read}
-use Rattle.recovery_core.specs.VaultReads.{told_read, rose_later}
+use Rattle.joint_crashes.specs.Images.{Images}
+use Rattle.joint_crashes.specs.JointCrash.{parts_of}
+use Rattle.joint_crashes.specs.Resting.{AreTold}
+use Rattle.joint_crashes.specs.VaultReads.{VaultOnlyReads, RoseIn, AreQuiet, some_of, reads_none, whole_read}
+use Rattle.joint_crashes.specs.VaultReads.{told_read, rose_later}
 
 banks_differ : (m n : ℕ) → m ≢ n → Bank m ≢ Bank n
 banks_differ m n differ same = differ cc
@@ -86,6 +86,21 @@ module _ {D : Type 0} {tells : D → Option (List ℕ)} {clock : D → ℕ} {ima
       let one = maps.disk was.0 was.1 in
       rose_later new (Bank n) reads (whole_bank whole n below) (was.0, one.0, was.1, one.1, one.2.device is)
 
+  -- no count of faults rose, where it isn't told to have failed
+  pub maps_spared : MapsIn tells clock image_at faults n count decls from to old new result
+      → result ≢ Err (Fault Failed) → AreQuiet faults old new
+  maps_spared maps spared Save was now before after =
+      ap faults (same_Some _ _ (sym after ∙ maps.others Save (save_differs n) ∙ before))
+  maps_spared maps spared Snaps was now before after =
+      ap faults (same_Some _ _ (sym after ∙ maps.others Snaps (snaps_differ n) ∙ before))
+  maps_spared maps spared (Bank m) was now before after = elim (cases_eq m n) [
+    | inl same ↦
+        let one = maps.disk was (subst (λ k. disk_in old (Bank k) ≡ Some was) same before) in
+        ap faults (same_Some _ _ (sym after ∙ subst (λ k. disk_in new (Bank k) ≡ Some one.0) (sym same) one.1))
+        ∙ one.2.spared spared
+    | inr differ ↦ ap faults (same_Some _ _ (sym after ∙ maps.others (Bank m) (banks_differ m n differ) ∙ before))
+  ]
+
 module _ {D : Type 0} {tells : D → Option (List ℕ)} {clock : D → ℕ} {image_at : D → ℕ → List ℕ → Type 0}
     {faults : D → ℕ}
     {n count : ℕ} {decls : List Decl} {from to : ℕ} {old new : Vault D} {buckets : List Bucket} where
@@ -101,14 +116,4 @@ module _ {D : Type 0} {tells : D → Option (List ℕ)} {clock : D → ℕ} {ima
   -- no count of faults rose
   pub maps_quiet : MapsIn tells clock image_at faults n count decls from to old new (Ok buckets)
       → AreQuiet faults old new
-  maps_quiet maps Save was now before after =
-      ap faults (same_Some _ _ (sym after ∙ maps.others Save (save_differs n) ∙ before))
-  maps_quiet maps Snaps was now before after =
-      ap faults (same_Some _ _ (sym after ∙ maps.others Snaps (snaps_differ n) ∙ before))
-  maps_quiet maps (Bank m) was now before after = elim (cases_eq m n) [
-    | inl same ↦
-        let one = maps.disk was (subst (λ k. disk_in old (Bank k) ≡ Some was) same before) in
-        ap faults (same_Some _ _ (sym after ∙ subst (λ k. disk_in new (Bank k) ≡ Some one.0) (sym same) one.1))
-        ∙ one.2.quiet
-    | inr differ ↦ ap faults (same_Some _ _ (sym after ∙ maps.others (Bank m) (banks_differ m n differ) ∙ before))
-  ]
+  maps_quiet maps = maps_spared maps (λ is. cc)

@@ -18,7 +18,7 @@ use Rattle.wire_form.specs.declared.bucket.Bucket.{Bucket}
 use Rattle.wire_form.specs.declared.bucket.Entry.{Entry}
 use Rattle.wire_form.specs.declared.savepoint.Savepoint.{Savepoint}
 use Rattle.recovery_core.specs.Damage.{FilesBreak, FilesReadBefore}
-use Rattle.recovery_core.specs.Images.{counted_of}
+use Rattle.joint_crashes.specs.Images.{counted_of}
 use Rattle.recovery_core.specs.LogEntries.{IsCountedFile, AreCounted, logged, counts, is_of, greatest, last_of}
 use Rattle.recovery_core.specs.EntriesLast.{EntryMap, HasLast, TakesIn, all_entries}
 use Rattle.recovery_core.proofs.EntriesBuckets.{counted_buckets}

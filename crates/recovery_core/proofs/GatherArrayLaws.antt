@@ -14,19 +14,16 @@ use Rattle.wire_form.specs.Pages.{IsChild, HasKind}
 use Rattle.snapshot_store.specs.declared.place.Place.{Place}
 use Rattle.snapshot_store.specs.Places.{Found, find, Cover, words_at, places_below, StandsTo}
 use Rattle.snapshot_store.specs.ArrayPages.{fan, leaf_room, row, array_below, array_found, array_look}
-use Rattle.snapshot_store.specs.ArrayPages.{array_format, array_kind}
+use Rattle.snapshot_store.specs.ArrayPages.{IsLevel, array_format, array_kind}
+use Rattle.snapshot_store.specs.ReadLaws.{fan_is}
 use Rattle.recovery_core.specs.Damage.{first_byte, BreaksTo}
 use Rattle.recovery_core.specs.SnapshotPages.{epoch_in, IsPageUpTo}
 use Rattle.recovery_core.specs.EmptyLaws.{no_page, leaf_stands, middle_stands, top_stands, leaf_finds}
 use Rattle.recovery_core.specs.EmptyLaws.{middle_finds, top_finds}
-use Rattle.recovery_core.specs.Gather.{Puts, is_from, array_records, found_at, Gathered, Gathers, IsLevel}
+use Rattle.recovery_core.specs.Gather.{Puts, is_from, array_records, found_at, Gathered, Gathers}
 use Rattle.recovery_core.proofs.GatherLaws.{le_yes, le_no, eq_no, no_found, puts_none, puts_same, gathers_begin}
 use Rattle.recovery_core.proofs.GatherLaws.{gathers_more, gathers_break, inner_gathered, leaf_gathered}
 use Rattle.recovery_core.proofs.GatherLaws.{breaks_here, breaks_below}
-
-pub fan_is : fan ≡ 64
-unfolding fan
-fan_is = refl
 
 -- ---- the kind of a page
 

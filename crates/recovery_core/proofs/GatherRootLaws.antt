@@ -17,32 +17,24 @@ use Rattle.wire_form.specs.Pages.{stored_id}
 use Rattle.wire_form.specs.declared.records.Stored.{Stored}
 use Rattle.snapshot_store.specs.declared.place.Place.{Place}
 use Rattle.snapshot_store.specs.Places.{Found}
-use Rattle.snapshot_store.specs.ArrayPages.{array_format}
+use Rattle.snapshot_store.specs.ArrayPages.{IsLevel, array_format}
 use Rattle.snapshot_store.specs.TreePages.{tree_format}
-use Rattle.snapshot_store.specs.Content.{deepest, last_index, root_place, format_of, record_in, value_of, value_at}
+use Rattle.snapshot_store.specs.Content.{deepest, root_place, format_of, record_in, value_of, value_at}
+use Rattle.snapshot_store.specs.ReadLaws.{last_small, root_level}
 use Rattle.recovery_core.specs.SnapshotPages.{IsPageUpTo, RootStandsUpTo}
 use Rattle.recovery_core.specs.Damage.{FirstBad, BreaksTo, RootBreaks}
-use Rattle.recovery_core.specs.Gather.{put_over, found_at, root_records, Gathered, RootGathered, IsLevel}
+use Rattle.recovery_core.specs.Gather.{put_over, found_at, root_records, Gathered, RootGathered}
 use Rattle.recovery_core.proofs.GatherLaws.{le_yes, le_no, lt_yes, lt_no, eq_yes, eq_no, puts_same}
 
 -- ---- a storage
 
-pub deepest_is : deepest ≡ 32
-unfolding deepest
-deepest_is = refl
-
-pub root_level : (size : ℕ) → IsLevel 32 0 (last_index size) × (last_index size < 4294967296)
-root_level size =
-    elim (nat_le size 32) as
-    (λ b. IsLevel 32 0 (cond b 31 (cond (nat_le size 2048) 2047 131071)) ×
-    (cond b 31 (cond (nat_le size 2048) 2047 131071) < 4294967296)) [
-      | true ↦ (inl (omega arith, omega arith), omega arith)
-      | false ↦ elim (nat_le size 2048) as
-          (λ b. IsLevel 32 0 (cond b 2047 131071) × (cond b 2047 131071 < 4294967296)) [
-            | true ↦ (inr (inl (omega arith, omega arith)), omega arith)
-            | false ↦ (inr (inr (omega arith, omega arith)), omega arith)
-          ]
-    ]
+-- an array's root stands for the range of a page, and its indexes are small
+pub array_level : (s : Stored) (id size : ℕ) (p : Place) → s.decl ≡ Array id size → p ≡ root_place s.decl s.root
+    → IsLevel 32 p.low p.high × (p.high < 4294967296)
+array_level s id size p is place =
+    let same : p ≡ root_place (Array id size) s.root = place ∙ ap (λ d. root_place d s.root) is in
+    subst (λ (q : Place). IsLevel 32 q.low q.high × (q.high < 4294967296)) (sym same)
+    (root_level 32 size (omega arith), last_small size)
 
 root_low : (d : Decl) (n : ℕ) → (root_place d n).low ≡ 0
 root_low (Array id size) n = refl
@@ -101,53 +93,37 @@ root_breaks pages epoch s d p n deep place b =
     subst (λ k. BreaksTo (format_of s.decl) (IsPageUpTo epoch s.decl) pages n k (root_place s.decl s.root)) deep
     (subst (λ q. BreaksTo (format_of s.decl) (IsPageUpTo epoch s.decl) pages n d q) place b)
 
-abbrev pub place_by : ℕ → ℕ → Place
-place_by number high = record { number = number; low = 0; high = high }
-
-array_place : (s : Stored) (id size number high : ℕ) → s.decl ≡ Array id size → number ≡ s.root
-    → high ≡ last_index size → place_by number high ≡ root_place s.decl s.root
-array_place s id size number high is root last =
-    ap (λ n. place_by n high) root ∙ ap (place_by s.root) last ∙ ap (λ d. root_place d s.root) (sym is)
-
-tree_place : (s : Stored) (id number : ℕ) → s.decl ≡ Tree id → number ≡ s.root
-    → place_by number 18446744073709551615 ≡ root_place s.decl s.root
-tree_place s id number is root = ap (λ n. place_by n 18446744073709551615) root
-    ∙ ap (λ d. root_place d s.root) (sym is)
-
-pub array_root : (pages : List (List ℕ)) (epoch : ℕ) (s : Stored) (d id size number high : ℕ) (old new : State)
-    → d ≡ deepest → s.decl ≡ Array id size → number ≡ s.root → high ≡ last_index size
-    → Gathered array_format (IsPageUpTo epoch (Array id size)) pages d id (place_by number high) old new
+pub array_root : (pages : List (List ℕ)) (epoch : ℕ) (s : Stored) (d id size : ℕ) (p : Place) (old new : State)
+    → d ≡ deepest → s.decl ≡ Array id size → p ≡ root_place s.decl s.root
+    → Gathered array_format (IsPageUpTo epoch (Array id size)) pages d id p old new
     → RootGathered pages epoch s old new
-array_root pages epoch s d id size number high old new deep is root last g =
-    root_gathered pages epoch s d (place_by number high) old new deep (array_place s id size number high is root last)
-    (subst (λ x. Gathered (format_of x) (IsPageUpTo epoch x) pages d (id_of x) (place_by number high) old new)
-    (sym is) g)
+array_root pages epoch s d id size p old new deep is place g =
+    root_gathered pages epoch s d p old new deep place
+    (subst (λ x. Gathered (format_of x) (IsPageUpTo epoch x) pages d (id_of x) p old new) (sym is) g)
 
-pub array_root_breaks : (pages : List (List ℕ)) (epoch : ℕ) (s : Stored) (d id size number high n : ℕ) → d ≡ deepest
-    → s.decl ≡ Array id size → number ≡ s.root → high ≡ last_index size
-    → BreaksTo array_format (IsPageUpTo epoch (Array id size)) pages n d (place_by number high)
+pub array_root_breaks : (pages : List (List ℕ)) (epoch : ℕ) (s : Stored) (d id size : ℕ) (p : Place) (n : ℕ)
+    → d ≡ deepest → s.decl ≡ Array id size → p ≡ root_place s.decl s.root
+    → BreaksTo array_format (IsPageUpTo epoch (Array id size)) pages n d p
     → RootBreaks epoch pages n s
-array_root_breaks pages epoch s d id size number high n deep is root last b =
-    root_breaks pages epoch s d (place_by number high) n deep (array_place s id size number high is root last)
-    (subst (λ x. BreaksTo (format_of x) (IsPageUpTo epoch x) pages n d (place_by number high)) (sym is) b)
+array_root_breaks pages epoch s d id size p n deep is place b =
+    root_breaks pages epoch s d p n deep place
+    (subst (λ x. BreaksTo (format_of x) (IsPageUpTo epoch x) pages n d p) (sym is) b)
 
-pub tree_root : (pages : List (List ℕ)) (epoch : ℕ) (s : Stored) (d id number : ℕ) (old new : State) → d ≡ deepest
-    → s.decl ≡ Tree id → number ≡ s.root
-    → Gathered tree_format (IsPageUpTo epoch (Tree id)) pages d id (place_by number 18446744073709551615) old new
+pub tree_root : (pages : List (List ℕ)) (epoch : ℕ) (s : Stored) (d id : ℕ) (p : Place) (old new : State)
+    → d ≡ deepest → s.decl ≡ Tree id → p ≡ root_place s.decl s.root
+    → Gathered tree_format (IsPageUpTo epoch (Tree id)) pages d id p old new
     → RootGathered pages epoch s old new
-tree_root pages epoch s d id number old new deep is root g =
-    root_gathered pages epoch s d (place_by number 18446744073709551615) old new deep (tree_place s id number is root)
-    (subst (λ x. Gathered (format_of x) (IsPageUpTo epoch x) pages d (id_of x)
-    (place_by number 18446744073709551615) old new) (sym is) g)
+tree_root pages epoch s d id p old new deep is place g =
+    root_gathered pages epoch s d p old new deep place
+    (subst (λ x. Gathered (format_of x) (IsPageUpTo epoch x) pages d (id_of x) p old new) (sym is) g)
 
-pub tree_root_breaks : (pages : List (List ℕ)) (epoch : ℕ) (s : Stored) (d id number n : ℕ) → d ≡ deepest
-    → s.decl ≡ Tree id → number ≡ s.root
-    → BreaksTo tree_format (IsPageUpTo epoch (Tree id)) pages n d (place_by number 18446744073709551615)
+pub tree_root_breaks : (pages : List (List ℕ)) (epoch : ℕ) (s : Stored) (d id : ℕ) (p : Place) (n : ℕ)
+    → d ≡ deepest → s.decl ≡ Tree id → p ≡ root_place s.decl s.root
+    → BreaksTo tree_format (IsPageUpTo epoch (Tree id)) pages n d p
     → RootBreaks epoch pages n s
-tree_root_breaks pages epoch s d id number n deep is root b =
-    root_breaks pages epoch s d (place_by number 18446744073709551615) n deep (tree_place s id number is root)
-    (subst (λ x. BreaksTo (format_of x) (IsPageUpTo epoch x) pages n d (place_by number 18446744073709551615))
-    (sym is) b)
+tree_root_breaks pages epoch s d id p n deep is place b =
+    root_breaks pages epoch s d p n deep place
+    (subst (λ x. BreaksTo (format_of x) (IsPageUpTo epoch x) pages n d p) (sym is) b)
 
 -- ---- one storage after another
 

@@ -1,12 +1,12 @@
 -- Trees: what the page of a place is, the places below it, and the records of a leaf.
 use Rattle.std.proofs.Common.{◌≡◌, ◌≢◌, ℕ, ◌+◌, ◌-◌, ◌*◌, ◌/◌, ◌^◌, ◌<◌, ◌≤◌, zero, suc, true, false, List, []}
 use Rattle.std.proofs.Common.{◌∷◌, ◌++◌, length, map, get_or, take, drop, replicate, Option, Some, None, refl}
-use Rattle.std.proofs.Common.{sym, ap, subst, ◌∙◌, arith, append_assoc, inl, inr}
+use Rattle.std.proofs.Common.{sym, ap, subst, ◌∙◌, arith, append_assoc, eq-eqb, inl, inr, Bool}
 use Rattle.std.specs.Prelude.{◌⊎◌, cond, ◌==◌, IfSome}
 use Rattle.std.specs.List.{AllByRecursion, flat_map}
 use Rattle.std.specs.FinMap.{get}
 use Rattle.std.proofs.lemmas.List.{drop_more, drop_all, drop-drop, get_or-drop, take_at, drop_at}
-use Rattle.std.proofs.lemmas.Bool.{cases_eq}
+use Rattle.std.proofs.lemmas.Bool.{cases_eq, eqb-true, false≢true}
 use Rattle.serial_model.specs.declared.decl.Decl.TheVariants.{Tree}
 use Rattle.serial_model.specs.State.{State}
 use Rattle.serial_model.specs.declared.key.Key.{Key}
@@ -26,6 +26,14 @@ use Rattle.snapshot_store.specs.TreePages.Node.{Leaf, Inner}
 use Rattle.recovery_core.specs.SnapshotPages.{epoch_in, IsPageUpTo}
 use Rattle.recovery_core.specs.Gather.{found_of, put_over, Puts, only_at, tree_records}
 use Rattle.recovery_core.proofs.GatherLaws.{key_with, eq_yes, eq_no, no_found, puts_none}
+
+-- ---- what a page's test tells
+
+pub inner_by : {x : ℕ} {b : Bool} → b ≡ (x == 2) → b ≡ true → x ≡ 2
+inner_by {x = x} is holds = eqb-true x 2 (sym is ∙ holds)
+
+pub leaf_by : {x : ℕ} {b : Bool} → b ≡ (x == 2) → b ≡ false → x ≡ 2 → ⊥
+leaf_by {x = x} is fails same = false≢true (sym fails ∙ is ∙ eq-eqb x 2 same)
 
 -- ---- the words of a leaf
 

@@ -15,8 +15,3 @@ pub mod EntriesDevices
 pub mod EntriesFit
 pub mod EntriesInOrder
 pub mod OlderSnapshots
-pub mod SettleOrder
-pub mod SettledReadings
-pub mod FreshStored
-pub mod LengthsStored
-pub mod FilesCut

@@ -6,8 +6,8 @@ use Rattle.std.specs.List.{AllByRecursion}
 use Rattle.std.specs.Option.{option_map}
 use Rattle.std.proofs.lemmas.List.{nil_from_length, length-map}
 use Rattle.std.proofs.lemmas.Option.{same_Some}
-use Rattle.outside.specs.declared.vault.Device.{Device}
-use Rattle.outside.specs.declared.vault.Device.TheVariants.{Save, Snaps, Bank}
+use Rattle.outside.specs.declared.device.Device.{Device}
+use Rattle.outside.specs.declared.device.Device.TheVariants.{Save, Snaps, Bank}
 use Rattle.serial_model.specs.Keys.{id_of, key_cmp}
 use Rattle.serial_model.specs.State.{State}
 use Rattle.serial_model.specs.declared.decl.Decl.{Decl}
@@ -27,7 +27,7 @@ use Rattle.recovery_core.specs.Catalogues.{HasPages, AreCatalogues, newest_epoch
 use Rattle.recovery_core.specs.Damage.{FirstBad, RootBreaks, SnapsBreak, FilesBreak, IsDamagedIn}
 use Rattle.recovery_core.specs.Damage.{FilesReadBefore, IsReadBefore}
 use Rattle.recovery_core.specs.EntriesLast.{EntryMap, PutsLast}
-use Rattle.recovery_core.specs.Images.{Images}
+use Rattle.joint_crashes.specs.Images.{Images}
 use Rattle.recovery_core.specs.LogEntries.{AreCounted, counts, logged, last_of}
 use Rattle.recovery_core.specs.Recoverable.{ReadsPages, value_over}
 use Rattle.recovery_core.specs.Recovered.{Recovers}

@@ -1,5 +1,5 @@
 -- Catalogues among the pages of a store.
-use Rattle.std.proofs.Common.{◌≡◌, ℕ, ◌-◌, ◌≤◌, zero, suc, List, [], ◌∷◌, length, get_or, Some, sym, ap, subst}
+use Rattle.std.proofs.Common.{◌≡◌, ℕ, ◌-◌, ◌≤◌, List, length, Some, sym, ap, subst}
 use Rattle.std.proofs.Common.{◌∙◌, arith}
 use Rattle.std.specs.Prelude.{slice_get}
 use Rattle.std.proofs.lemmas.List.{length-map}
@@ -8,21 +8,8 @@ use Rattle.std.specs.Option.{option_map}
 use Rattle.wire_form.specs.ContentLaws.{one_catalogue}
 use Rattle.wire_form.specs.Pages.{Contents, IsCatalogue, catalogue_words}
 use Rattle.wire_form.specs.declared.page.Page.{Page}
-use Rattle.snapshot_store.specs.Places.{page}
 use Rattle.snapshot_store.specs.Content.{words_of, CatalogueAt}
-
-at_index : (pages : List Page) (k : ℕ) (p : Page) → slice_get pages k ≡ Some p → get_or (words_of pages) k [] ≡ p.words
-at_index [] k p e = absurd (cc)
-at_index (x ∷ xs) zero p e = let same : x ≡ p = cc in ap (λ (q : Page). q.words) same
-at_index (x ∷ xs) (suc k) p e = at_index xs k p e
-
--- the words of the page with a number
-pub page_at : (pages : List Page) (n : ℕ) (p : Page) → 1 ≤ n → slice_get pages (n - 1) ≡ Some p
-    → page (words_of pages) n ≡ p.words
-page_at pages zero p h e = absurd (omega (arith, h))
-page_at pages (suc n) p h e =
-    let here : suc n - 1 ≡ n = omega arith in
-    at_index pages n p (subst (λ (k : ℕ). slice_get pages k ≡ Some p) here e)
+use Rattle.snapshot_store.specs.ReadLaws.{page_at}
 
 -- a page that was read as a catalogue is one
 pub catalogue_here : (pages : List Page) (n : ℕ) (p : Page) (c : Contents) → 1 ≤ n → n ≤ length pages

@@ -24,7 +24,7 @@ use Rattle.log_writer.specs.Save.{Names}
 use Rattle.snapshot_store.specs.ArrayPages.{leaf_room}
 use Rattle.snapshot_store.specs.Content.{deepest}
 use Rattle.snapshot_store.specs.Places.{page}
-use Rattle.recovery_core.specs.Images.{Images, counted_of}
+use Rattle.joint_crashes.specs.Images.{Images, counted_of}
 use Rattle.recovery_core.specs.Catalogues.{HasPages, AreCatalogues}
 use Rattle.recovery_core.specs.SnapshotPages.{RootStandsUpTo}
 use Rattle.recovery_core.specs.LogEntries.{IsCountedFile}

@@ -2,8 +2,8 @@
 -- are read: save, length of the snapshots, catalogues from the newest back, pages of the newest snapshot, log files.
 use Rattle.std.specs.Prelude.{◌≡◌, ◌⊎◌, ℕ, ◌+◌, ◌-◌, ◌*◌, ◌<◌, ◌≤◌, zero, suc, List, [], ◌∷◌, Option, Some}
 use Rattle.std.specs.Prelude.{None, length, ⊤}
-use Rattle.outside.specs.declared.vault.Device.{Device}
-use Rattle.outside.specs.declared.vault.Device.TheVariants.{Save, Snaps, Bank}
+use Rattle.outside.specs.declared.device.Device.{Device}
+use Rattle.outside.specs.declared.device.Device.TheVariants.{Save, Snaps, Bank}
 use Rattle.serial_model.specs.declared.decl.Decl.{Decl}
 use Rattle.serial_model.specs.declared.number.Commit.{Commit}
 use Rattle.wire_form.specs.declared.records.Stored.{Stored}
@@ -14,7 +14,7 @@ use Rattle.log_writer.specs.Save.{Names, IsDamaged}
 use Rattle.snapshot_store.specs.declared.place.Place.{Place}
 use Rattle.snapshot_store.specs.Places.{Format, words_at, places_below, StandsTo}
 use Rattle.snapshot_store.specs.Content.{deepest, root_place, format_of}
-use Rattle.recovery_core.specs.Images.{Images, counted_of}
+use Rattle.joint_crashes.specs.Images.{Images, counted_of}
 use Rattle.recovery_core.specs.Catalogues.{HasPages, IsCatalogueBelow, AreCatalogues, newest_epoch}
 use Rattle.recovery_core.specs.Catalogues.{newest_storages, newest_decls}
 use Rattle.recovery_core.specs.SnapshotPages.{IsPageUpTo, RootStandsUpTo}

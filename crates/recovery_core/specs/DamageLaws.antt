@@ -4,8 +4,8 @@ use Rattle.std.proofs.Common.{inl, inr, refl, sym, ap, ◌∙◌, subst, arith}
 use Rattle.std.specs.List.{AllByRecursion}
 use Rattle.std.proofs.lemmas.Bool.{cases_lt}
 use Rattle.std.proofs.lemmas.Option.{same_Some}
-use Rattle.outside.specs.declared.vault.Device.{Device}
-use Rattle.outside.specs.declared.vault.Device.TheVariants.{Save, Snaps, Bank}
+use Rattle.outside.specs.declared.device.Device.{Device}
+use Rattle.outside.specs.declared.device.Device.TheVariants.{Save, Snaps, Bank}
 use Rattle.serial_model.specs.declared.decl.Decl.{Decl}
 use Rattle.serial_model.specs.declared.number.Commit.{Commit}
 use Rattle.wire_form.specs.ContentLaws.{one_catalogue}
@@ -17,7 +17,7 @@ use Rattle.log_writer.specs.Save.{Names, IsDamaged}
 use Rattle.snapshot_store.specs.declared.place.Place.{Place}
 use Rattle.snapshot_store.specs.Places.{Format, places_below, StandsTo}
 use Rattle.snapshot_store.specs.Content.{deepest, root_place, format_of}
-use Rattle.recovery_core.specs.Images.{Images, counted_of}
+use Rattle.joint_crashes.specs.Images.{Images, counted_of}
 use Rattle.recovery_core.specs.Catalogues.{HasPages, AreCatalogues, newest_epoch, newest_storages, newest_decls}
 use Rattle.recovery_core.specs.SnapshotPages.{IsPageUpTo, RootStandsUpTo}
 use Rattle.recovery_core.specs.LogEntries.{IsCountedFile}

@@ -1,5 +1,5 @@
 -- Log files of a database that are mapped, and otherwise only read.
-use Rattle.std.specs.Prelude.{◌≡◌, ◌≢◌, ℕ, List, Option, Some, Result, Err, IfOk, OnOk, length}
+use Rattle.std.specs.Prelude.{◌≡◌, ◌≢◌, ℕ, List, Option, Some, Result, Err, IfOk, length}
 use Rattle.lists.specs.declared.memory.OrMemory.{OrMemory}
 use Rattle.lists.specs.declared.memory.OrMemory.TheVariants.{Fault}
 use Rattle.log_mapper.specs.Mapped.{AreMapped, IsDamaged}
@@ -8,10 +8,10 @@ use Rattle.log_mapper.specs.declared.map_file.MapFault.TheVariants.{Device as Fa
 use Rattle.outside.specs.Disk.{IfTold}
 use Rattle.outside.specs.Faults.{Rose}
 use Rattle.outside.specs.Reads.{OnlyReads}
-use Rattle.outside.specs.Vault.{disk_in}
-use Rattle.outside.specs.declared.vault.Device.{Device}
-use Rattle.outside.specs.declared.vault.Device.TheVariants.{Bank}
-use Rattle.outside.specs.declared.vault.Vault.{Vault}
+use Rattle.log_writer.specs.Vault.{disk_in}
+use Rattle.outside.specs.declared.device.Device.{Device}
+use Rattle.outside.specs.declared.device.Device.TheVariants.{Bank}
+use Rattle.log_writer.specs.declared.vault.Vault.{Vault}
 use Rattle.serial_model.specs.declared.decl.Decl.{Decl}
 use Rattle.wire_form.specs.declared.bucket.Bucket.{Bucket}
 
@@ -24,7 +24,7 @@ module _ {D : Type 0} (tells : D → Option (List ℕ)) (clock : D → ℕ) (ima
     pub damaged : (at : ℕ) → result ≡ Err (Fault (Damaged at))
         → IfTold (tells was) (λ file. IsDamaged count decls file at)
     pub device : result ≡ Err (Fault Failed) → Rose (faults was) (faults now)
-    pub quiet : OnOk result (faults now ≡ faults was)
+    pub spared : result ≢ Err (Fault Failed) → faults now ≡ faults was
     pub reads : OnlyReads tells clock image_at faults was now
 
   -- So it was with this log file of a database, and all else stays.

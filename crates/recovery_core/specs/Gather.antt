@@ -1,5 +1,5 @@
 -- What the pages that a storage's root leads to put into a state.
-use Rattle.std.specs.Prelude.{◌≡◌, ◌⊎◌, ℕ, ◌+◌, ◌≤◌, ◌==◌, ◌&&◌, Bool, List, Option, Some, None, cond, nat_le, nat_lt}
+use Rattle.std.specs.Prelude.{◌≡◌, ℕ, ◌+◌, ◌==◌, ◌&&◌, Bool, List, Option, Some, None, cond, nat_le, nat_lt}
 use Rattle.std.specs.List.{AllByRecursion}
 use Rattle.std.specs.FinMap.{get}
 use Rattle.serial_model.specs.Keys.{id_of}
@@ -77,8 +77,3 @@ pub record Gathers (F : Format) (Is : Place → List ℕ → Type 0) (pages : Li
   pub values : (key : Key)
       → put_over (found_among F pages d id at high rest key) (get now key)
       ≡ put_over (found_among F pages d id low high all key) (get old key)
-
--- the range of an array's leaf, or of an interior page of either height, with so many pages down to go
-abbrev pub IsLevel : ℕ → ℕ → ℕ → Type 0
-IsLevel d low high =
-    ((1 ≤ d) × (high ≡ low + 31)) ⊎ (((2 ≤ d) × (high ≡ low + 2047)) ⊎ ((3 ≤ d) × (high ≡ low + 131071)))

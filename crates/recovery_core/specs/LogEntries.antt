@@ -10,7 +10,7 @@ use Rattle.wire_form.specs.LogFile.{AreLinesOf}
 use Rattle.log_mapper.specs.Mapped.{entries_of}
 use Rattle.wire_form.specs.declared.bucket.Entry.{Entry}
 use Rattle.wire_form.specs.declared.savepoint.Savepoint.{Savepoint}
-use Rattle.recovery_core.specs.Images.{counted_of}
+use Rattle.joint_crashes.specs.Images.{counted_of}
 
 -- The first so many bytes of a log file are there, and are these whole lines, of these storages, with numbers that
 -- rise.

@@ -11,7 +11,7 @@ use Rattle.wire_form.specs.declared.bucket.Entry.{Entry}
 use Rattle.wire_form.specs.declared.savepoint.Savepoint.{Savepoint}
 use Rattle.log_writer.specs.Save.{Names}
 use Rattle.snapshot_store.specs.Content.{record_in, value_at}
-use Rattle.recovery_core.specs.Images.{Images, epoch_of}
+use Rattle.joint_crashes.specs.Images.{Images, epoch_of}
 use Rattle.recovery_core.specs.Catalogues.{HasPages, AreCatalogues, newest_epoch, newest_storages, newest_decls}
 use Rattle.recovery_core.specs.SnapshotPages.{RootStandsUpTo}
 use Rattle.recovery_core.specs.LogEntries.{AreCounted, logged, counts, last_of}

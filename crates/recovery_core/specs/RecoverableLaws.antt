@@ -19,7 +19,7 @@ use Rattle.wire_form.specs.declared.savepoint.Savepoint.{Savepoint}
 use Rattle.log_writer.specs.Newest.{names_one}
 use Rattle.log_writer.specs.Save.{Names}
 use Rattle.snapshot_store.specs.Places.{page}
-use Rattle.recovery_core.specs.Images.{Images, epoch_of, count_of, counted_of}
+use Rattle.joint_crashes.specs.Images.{Images, epoch_of, count_of, counted_of}
 use Rattle.recovery_core.specs.Catalogues.{HasPages, AreCatalogues, newest_decls}
 use Rattle.recovery_core.specs.LogEntries.{IsCountedFile, AreCounted}
 use Rattle.recovery_core.specs.Recoverable.{Reading, ReadsBy, IsReading, value_of_key, IsRecoverable}

@@ -10,13 +10,13 @@ use Rattle.wire_form.specs.Pages.{Contents}
 use Rattle.wire_form.specs.declared.savepoint.Savepoint.{Savepoint}
 use Rattle.log_writer.specs.Points.{IsSaved, saved_of}
 use Rattle.log_writer.specs.declared.saved.Saved.{Saved}
-use Rattle.snapshot_store.specs.Content.{words_of}
+use Rattle.snapshot_store.specs.Content.{words_of, record_in, value_at}
 use Rattle.recovery_core.specs.declared.recovered.Recovered.{Recovered}
-use Rattle.recovery_core.specs.Images.{Images, epoch_of}
+use Rattle.joint_crashes.specs.Images.{Images, epoch_of}
 use Rattle.recovery_core.specs.Catalogues.{AreCatalogues, newest_epoch, newest_storages, newest_decls, marks_of}
 use Rattle.recovery_core.specs.EntriesRun.{AllMayCount}
 use Rattle.recovery_core.specs.LogEntries.{last_of}
-use Rattle.recovery_core.specs.Recoverable.{Reading, IsReading, IsStateOf, IsRecoverable, counting}
+use Rattle.recovery_core.specs.Recoverable.{Reading, IsReading, IsStateOf, IsRecoverable, counting, value_over}
 use Rattle.recovery_core.specs.SnapshotPages.{RootStandsUpTo}
 
 -- the page number of the newest catalogue; it is 0 where there is none
@@ -49,8 +49,9 @@ saved_count None = 0
 saved_count (Some s) = s.count
 
 -- In the pages that a savepoint counts the catalogues stand, from the newest back, and all pages of the newest
--- snapshot. The storages that are given are that snapshot's, and each last entry is of one of them, with an epoch above
--- it.
+-- snapshot, in which no record is of a later epoch than the snapshot. The storages that are given are that snapshot's,
+-- and each last entry is of one of them, with an epoch above it. The state is what these pages have, under those
+-- entries.
 pub record SnapshotsStand (r : Recovered) (s : Saved) : Type 0 where
   pub catalogues : List Contents
   pub chain : AreCatalogues (words_of r.store.pages) (s.epoch + 1) None s.catalogue catalogues
@@ -59,15 +60,18 @@ pub record SnapshotsStand (r : Recovered) (s : Saved) : Type 0 where
   pub decls : r.decls ≡ newest_decls catalogues
   pub marks : r.catalogues ≡ reverse (marks_of s.catalogue catalogues)
   pub entries : AllMayCount r.decls (newest_epoch catalogues) s.epoch r.entries
+  pub state : (key : Key) → get r.state key
+      ≡ value_over (get r.entries key) (value_at (record_in (words_of r.store.pages)) (newest_storages catalogues) key)
 
--- and without a savepoint there is no catalogue, and no entry counts
+-- and without a savepoint there is no catalogue, no entry counts, and no key has a value
 abbrev pub HasSnapshots : Recovered → Option Saved → Type 0
 HasSnapshots r None = (r.catalogues ≡ []) × ((key : Key) → get r.entries key ≡ None)
+    × ((key : Key) → get r.state key ≡ None)
 HasSnapshots r (Some s) = SnapshotsStand r s
 
 -- Whatever the devices tell: what is given of the savepoint is what it says, it is in its ranges, both stores are up,
 -- the epoch is the saved one, as many pages are given as count, the storages are in order of their ids, and the
--- snapshots stand.
+-- snapshots stand, with the state.
 pub record IsUp (r : Recovered) : Type 0 where
   pub saved : r.saved ≡ option_map saved_of r.save.newest
   pub ranges : IfSome r.saved IsSaved
@@ -79,5 +83,5 @@ pub record IsUp (r : Recovered) : Type 0 where
   pub snapshots : HasSnapshots r r.saved
 
 -- in particular epoch and state are those that the devices stand for
-pub recovers_state : (found : Images) (r : Recovered) → Recovers found r → IsRecoverable found r.epoch r.state
+abbrev pub recovers_state : (found : Images) (r : Recovered) → Recovers found r → IsRecoverable found r.epoch r.state
 recovers_state found r is = record { reading = is.reading; is = is.is; epoch_is = is.epoch; state_is = is.state }

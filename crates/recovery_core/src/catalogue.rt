@@ -1,10 +1,12 @@
 // What a catalogue says, read from its page.
-ghost use Rattle.std.specs.Prelude.{◌≡◌, ℕ, ◌<◌, ◌≤◌, ◌^◌, Option, IfSome, IfNone, IfOk};
+ghost use Rattle.std.specs.Prelude.{◌≡◌, ℕ, ◌<◌, ◌≤◌, ◌^◌, Option, IfSome, IfNone, IfOk, length};
 ghost use Rattle.std.specs.List.{AllByRecursion};
 ghost use Rattle.wire_form.specs.Pages.{Contents, IsCatalogue, catalogue_words, HasKind};
 ghost use Rattle.wire_form.specs.declared.page.PageKind.TheVariants.{Catalogue as CatalogueKind};
+ghost use Rattle.snapshot_store.specs.Content.{CatalogueAt, words_of};
 
 use lists::{Memory, Sequence};
+use snapshot_store::SnapStore;
 use std::alloc::Global;
 use std::marker::Model;
 use wire_form::{Page, PageKind, Stored, count, epoch_and_previous, is_page, storage};
@@ -41,6 +43,16 @@ fn storages_of(alloc: Global, number: u32, words: &[u64; 64]) -> Result<Sequence
         storages.push(stored)?;
     }
     Ok(storages)
+}
+
+/// The storages of the snapshot whose catalogue is the last page, with their roots.
+pub fn newest_storages(alloc: Global, store: &SnapStore) -> Result<Sequence<Stored>, Memory>
+    requires { (c : Contents) × CatalogueAt (words_of store.now.pages) (length store.now.pages) c }
+    ensures { IfOk result (λ storages. (c : Contents)
+        → CatalogueAt (words_of store.now.pages) (length store.now.pages) c → storages ≡ c.storages) }
+{
+    let number = store.count();
+    storages_of(alloc, number, &store.page(number).words)
 }
 
 // The epoch of a catalogue and the page number of the one before it, in 32 bits each.

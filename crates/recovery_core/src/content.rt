@@ -1,7 +1,7 @@
 // What the snapshot of an epoch has.
 ghost use Rattle.std.specs.Prelude.{◌≡◌, ◌≤◌, ℕ, Err, IfSome, IfNone, IfOk, length};
 ghost use Rattle.std.specs.List.{AllByRecursion, Contains};
-ghost use Rattle.outside.specs.declared.vault.Device.{Device as TheDevice};
+ghost use Rattle.outside.specs.declared.device.Device.{Device as TheDevice};
 ghost use Rattle.wire_form.specs.Pages.{Contents};
 ghost use Rattle.snapshot_store.specs.Content.{words_of, RootStands, CatalogueAt, IsSnapshotContent};
 ghost use Rattle.recovery_core.specs.Damage.{FirstBad};

@@ -3,8 +3,8 @@ ghost use Rattle.std.specs.Prelude.{◌≡◌, ◌≢◌, ◌<◌, ◌^◌, ◌/
 ghost use Rattle.std.specs.Prelude.{filter, slice_get};
 ghost use Rattle.std.specs.List.{AllByRecursion};
 ghost use Rattle.std.specs.FinMap.{get};
-ghost use Rattle.outside.specs.Vault.{IsWhole};
-ghost use Rattle.outside.specs.declared.vault.Device.{Device as TheDevice};
+ghost use Rattle.log_writer.specs.Vault.{IsWhole};
+ghost use Rattle.outside.specs.declared.device.Device.{Device as TheDevice};
 ghost use Rattle.serial_model.specs.Keys.{id_of};
 ghost use Rattle.serial_model.specs.declared.key.Key.{Key};
 ghost use Rattle.serial_model.specs.declared.number.Commit.{Commit};
@@ -14,17 +14,18 @@ ghost use Rattle.recovery_core.specs.Damage.{FilesBreak, FilesReadBefore};
 ghost use Rattle.log_mapper.specs.Mapped.{AreMappedLines};
 ghost use Rattle.recovery_core.specs.EntriesRead.{Maps, MapsIn};
 ghost use Rattle.recovery_core.specs.EntriesRun.{AllMayCount};
-ghost use Rattle.recovery_core.specs.Images.{Images};
-ghost use Rattle.recovery_core.specs.JointCrash.{parts_of};
+ghost use Rattle.joint_crashes.specs.Images.{Images};
+ghost use Rattle.joint_crashes.specs.JointCrash.{parts_of};
 ghost use Rattle.recovery_core.specs.LogEntries.{logged, counts, last_of, AreCounted};
-ghost use Rattle.recovery_core.specs.Resting.{AreTold};
-ghost use Rattle.recovery_core.specs.VaultReads.{VaultOnlyReads, RoseIn, AreQuiet};
+ghost use Rattle.joint_crashes.specs.Resting.{AreTold};
+ghost use Rattle.joint_crashes.specs.VaultReads.{VaultOnlyReads, RoseIn, AreQuiet};
 
 use crate::fault::RecoverFault;
 use crate::last_entries::LastEntries;
 use lists::OrMemory;
 use log_mapper::{Buckets, MapFault, map_bank};
-use outside::{Device, Disk, Vault};
+use log_writer::Vault;
+use outside::{Device, Disk};
 use serial_model::Decl;
 use std::alloc::Global;
 
@@ -81,6 +82,8 @@ fn fault_of(bank: u8, fault: OrMemory<MapFault>) -> OrMemory<RecoverFault>
         → (device ≡ Device.Bank bank) × (fault ≡ OrMemory.Fault (MapFault.Damaged at)) }
     ensures device { (device : TheDevice) → result ≡ OrMemory.Fault (RecoverFault.Device device)
         → (device ≡ Device.Bank bank) × (fault ≡ OrMemory.Fault MapFault.Device) }
+    ensures failed { fault ≡ OrMemory.Fault MapFault.Device
+        → result ≡ OrMemory.Fault (RecoverFault.Device (Device.Bank bank)) }
 {
     let device = Device::Bank(bank);
     match fault {
@@ -122,6 +125,8 @@ pub(crate) fn read_entries<D: Disk>(
         → (p : Savepoint) → p.lengths ≡ lengths.now
         → (n : ℕ) × (device ≡ Device.Bank n) × FilesReadBefore decls.now p found.bank n }
     ensures quiet { OnOk result (AreQuiet D.faults vault.old vault.new) }
+    ensures spared { ((device : TheDevice) → result ≢ Err (OrMemory.Fault (RecoverFault.Device device)))
+        → AreQuiet D.faults vault.old vault.new }
     ensures reads { VaultOnlyReads D.tells D.clock D.image_at D.faults vault.old vault.new }
 {
     let mut last = LastEntries::new(alloc);

@@ -6,7 +6,7 @@ ghost use Rattle.serial_model.specs.Keys.{id_of};
 ghost use Rattle.serial_model.specs.declared.key.Key.{Key as TheKey};
 ghost use Rattle.wire_form.specs.Items.{Rises};
 ghost use Rattle.wire_form.specs.Pages.{stored_id};
-ghost use Rattle.snapshot_store.specs.Content.{words_of, last_index, record_in, value_at};
+ghost use Rattle.snapshot_store.specs.Content.{words_of, record_in, value_at};
 ghost use Rattle.recovery_core.specs.SnapshotPages.{RootStandsUpTo};
 ghost use Rattle.recovery_core.specs.Damage.{FirstBad, RootBreaks};
 ghost use Rattle.recovery_core.specs.Gather.{RootGathered};
@@ -15,24 +15,8 @@ use crate::gather_array::gather_array;
 use crate::gather_tree::gather_tree;
 use lists::OrMemory;
 use serial_model::{Decl, State};
-use snapshot_store::{Place, SnapStore};
+use snapshot_store::{DEEPEST, SnapStore, root_place};
 use wire_form::Stored;
-
-/// How many pages stand one below another at most.
-const DEEPEST: u32 = 32;
-
-// The last index for which an array's root stands.
-fn last_index(size: u32) -> u64
-    ensures { result ≡ last_index size }
-{
-    if size <= 32 {
-        31
-    } else if size <= 2048 {
-        2047
-    } else {
-        131_071
-    }
-}
 
 // Puts the records of one storage.
 fn gather_root(
@@ -46,24 +30,10 @@ fn gather_root(
     ensures breaks { (at : ℕ) → result ≡ Err (OrMemory.Fault at)
         → RootBreaks epoch (words_of store.now.pages) at stored.now }
 {
-    let number = u64::from(stored.root);
+    let place = root_place(stored);
     match stored.decl {
-        Decl::Array { id, size } => {
-            let place = Place {
-                number,
-                low: 0,
-                high: last_index(size),
-            };
-            gather_array(store, epoch, id, size, DEEPEST, place, state)
-        }
-        Decl::Tree { id } => {
-            let place = Place {
-                number,
-                low: 0,
-                high: u64::MAX,
-            };
-            gather_tree(store, epoch, id, DEEPEST, place, state)
-        }
+        Decl::Array { id, size } => gather_array(store, epoch, id, size, DEEPEST, place, state),
+        Decl::Tree { id } => gather_tree(store, epoch, id, DEEPEST, place, state),
     }
 }
 

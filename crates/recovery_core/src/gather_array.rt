@@ -2,12 +2,12 @@
 ghost use Rattle.std.specs.Prelude.{◌≡◌, ℕ, ◌+◌, ◌*◌, ◌/◌, ◌^◌, ◌<◌, ◌≤◌, Err, IsTrue, ◌↔◌, OnOk, length, slice_index};
 ghost use Rattle.serial_model.specs.declared.decl.Decl.TheVariants.{Array};
 ghost use Rattle.snapshot_store.specs.Content.{words_of};
-ghost use Rattle.snapshot_store.specs.ArrayPages.{array_format, array_found, array_kind};
+ghost use Rattle.snapshot_store.specs.ArrayPages.{IsLevel, array_format, array_found, array_kind};
 ghost use Rattle.recovery_core.specs.SnapshotPages.{IsPageUpTo};
 ghost use Rattle.recovery_core.specs.Damage.{BreaksTo};
-ghost use Rattle.recovery_core.specs.Gather.{Puts, only_at, array_records, IsLevel, Gathered};
+ghost use Rattle.recovery_core.specs.Gather.{Puts, only_at, array_records, Gathered};
 
-use crate::gather_page::{first_byte, has_kind, put, words_at};
+use crate::gather_page::{first_byte, has_kind, put};
 use lists::{Memory, OrMemory};
 use serial_model::{Key, State};
 use snapshot_store::{Place, SnapStore};
@@ -105,7 +105,7 @@ pub(crate) fn gather_array(
     if place.number == 0 {
         return Ok(());
     }
-    let words = words_at(store, place.number);
+    let words = store.words(place.number);
     if !is_array_page(epoch, size, place, words) {
         return Err(OrMemory::Fault(first_byte(store, place.number)));
     }

@@ -1,8 +1,6 @@
 // Pages of the newest snapshot, and where their records go.
 ghost use Rattle.std.specs.Prelude.{◌≡◌, ℕ, ◌≤◌, Some, IsTrue, ◌↔◌, OnOk, length};
 ghost use Rattle.wire_form.specs.Pages.{HasKind};
-ghost use Rattle.snapshot_store.specs.Places.{page};
-ghost use Rattle.snapshot_store.specs.Content.{words_of};
 ghost use Rattle.recovery_core.specs.Damage.{first_byte};
 ghost use Rattle.recovery_core.specs.Gather.{Puts, only_at, found_of};
 
@@ -21,18 +19,6 @@ pub(crate) fn first_byte(store: &SnapStore, number: u64) -> u64
     let count = u64::from(store.count());
     prove!(number <= count);
     chain::first_byte(number as u32)
-}
-
-/// The words of the page of this number.
-pub(crate) fn words_at(store: &SnapStore, number: u64) -> &[u64; 64]
-    requires first { 1 ≤ number }
-    requires last { number ≤ length store.now.pages }
-    ensures words { result.now ≡ page (words_of store.now.pages) number }
-    ensures number { number ≤ 65536 }
-{
-    let count = u64::from(store.count());
-    prove!(number <= count);
-    &store.page(number as u32).words
 }
 
 /// Whether the words are what a page of the kind and number may have in it.

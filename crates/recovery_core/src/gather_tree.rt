@@ -8,10 +8,10 @@ ghost use Rattle.recovery_core.specs.SnapshotPages.{IsPageUpTo};
 ghost use Rattle.recovery_core.specs.Damage.{BreaksTo};
 ghost use Rattle.recovery_core.specs.Gather.{Puts, tree_records, Gathered};
 
-use crate::gather_page::{first_byte, has_kind, put, words_at};
+use crate::gather_page::{first_byte, has_kind, put};
 use lists::{Memory, OrMemory};
 use serial_model::{Key, State};
-use snapshot_store::{Place, SnapStore};
+use snapshot_store::{Place, SnapStore, is_inner};
 use wire_form::PageKind;
 
 // How many records or children a page has.
@@ -20,13 +20,6 @@ fn count_of(words: &[u64; 64]) -> usize
     ensures few { result < 256 }
 {
     (words[0] % 256) as usize
-}
-
-// Whether a page has children.
-fn is_inner(words: &[u64; 64]) -> bool
-    ensures { IsTrue result ↔ (slice_index words.now 0 / 256 ≡ 2) }
-{
-    words[0] / 256 == 2
 }
 
 // The index of an interior page's last child.
@@ -108,7 +101,7 @@ pub(crate) fn gather_tree(
     if place.number == 0 {
         return Ok(());
     }
-    let words = words_at(store, place.number);
+    let words = store.words(place.number);
     if !is_tree_page(epoch, place, words) {
         return Err(OrMemory::Fault(first_byte(store, place.number)));
     }

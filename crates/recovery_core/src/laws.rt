@@ -1,11 +1,11 @@
 // Laws of what devices stand for, as calls with nothing to do.
 ghost use Rattle.std.specs.Prelude.{◌≡◌, ℕ};
 ghost use Rattle.std.specs.FinMap.{get};
-ghost use Rattle.outside.specs.declared.vault.Device.{Device};
+ghost use Rattle.outside.specs.declared.device.Device.{Device};
 ghost use Rattle.serial_model.specs.State.{State};
 ghost use Rattle.serial_model.specs.declared.key.Key.{Key};
 ghost use Rattle.recovery_core.specs.Damage.{IsDamagedIn};
-ghost use Rattle.recovery_core.specs.Images.{Images};
+ghost use Rattle.joint_crashes.specs.Images.{Images};
 ghost use Rattle.recovery_core.specs.Recoverable.{Reading, IsReading, IsRecoverable};
 
 /// Devices stand for one epoch and one state at most, or are damaged at one byte of one device; never both.

@@ -1,16 +1,17 @@
 // The pages that a savepoint counts are read.
-ghost use Rattle.std.specs.Prelude.{◌≡◌, ◌<◌, ◌≤◌, ◌*◌, ◌^◌, ℕ, Err, true, length, IfOk, OnOk};
+ghost use Rattle.std.specs.Prelude.{◌≡◌, ◌≢◌, ◌<◌, ◌≤◌, ◌*◌, ◌^◌, ℕ, Err, true, length, IfOk, OnOk};
 ghost use Rattle.std.specs.List.{AllByRecursion};
 ghost use Rattle.outside.specs.Disk.{IfTold};
 ghost use Rattle.snapshot_store.specs.Content.{words_of};
 ghost use Rattle.snapshot_store.specs.Store.{IsWhole, Holds};
 ghost use Rattle.recovery_core.specs.Catalogues.{HasPages};
-ghost use Rattle.recovery_core.specs.VaultReads.{VaultOnlyReads, RoseIn, AreQuiet};
+ghost use Rattle.joint_crashes.specs.VaultReads.{VaultOnlyReads, RoseIn, AreQuiet};
 
 use crate::RecoverFault;
 use crate::catalogue::words_fit;
 use lists::OrMemory;
-use outside::{Device, Disk, Vault};
+use log_writer::Vault;
+use outside::{Device, Disk};
 use snapshot_store::{SnapStore, StoreFault};
 use std::alloc::Global;
 
@@ -44,6 +45,8 @@ pub(crate) fn load_pages<D: Disk>(
     ensures only { (device : Device) → result ≡ Err (OrMemory.Fault (RecoverFault.Device device))
         → device ≡ Device.Snaps }
     ensures quiet { OnOk result (AreQuiet D.faults vault.old vault.new) }
+    ensures spared { ((device : Device) → result ≢ Err (OrMemory.Fault (RecoverFault.Device device)))
+        → AreQuiet D.faults vault.old vault.new }
     ensures reads { VaultOnlyReads D.tells D.clock D.image_at D.faults vault.old vault.new }
     ensures save { vault.new.save ≡ vault.old.save }
 {

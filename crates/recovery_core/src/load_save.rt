@@ -1,14 +1,14 @@
 // The newest savepoint of a database is read.
-ghost use Rattle.std.specs.Prelude.{◌≡◌, ℕ, Err, IfOk, OnOk};
+ghost use Rattle.std.specs.Prelude.{◌≡◌, ◌≢◌, ℕ, Err, IfOk, OnOk};
 ghost use Rattle.outside.specs.Disk.{IfTold};
 ghost use Rattle.log_writer.specs.Save.{IsDamaged};
 ghost use Rattle.log_writer.specs.Stores.{Finds};
-ghost use Rattle.recovery_core.specs.VaultReads.{VaultOnlyReads, RoseIn, AreQuiet};
+ghost use Rattle.joint_crashes.specs.VaultReads.{VaultOnlyReads, RoseIn, AreQuiet};
 
 use crate::RecoverFault;
 use lists::OrMemory;
-use log_writer::{Save, SaveOpen, Saved};
-use outside::{Device, Disk, Vault};
+use log_writer::{Save, SaveOpen, Saved, Vault};
+use outside::{Device, Disk};
 
 /// The newest savepoint, and what it says; none for a fresh database.
 pub(crate) fn load_save<D: Disk>(
@@ -23,6 +23,8 @@ pub(crate) fn load_save<D: Disk>(
     ensures only { (device : Device) → result ≡ Err (OrMemory.Fault (RecoverFault.Device device))
         → device ≡ Device.Save }
     ensures quiet { OnOk result (AreQuiet D.faults vault.old vault.new) }
+    ensures spared { ((device : Device) → result ≢ Err (OrMemory.Fault (RecoverFault.Device device)))
+        → AreQuiet D.faults vault.old vault.new }
     ensures reads { VaultOnlyReads D.tells D.clock D.image_at D.faults vault.old vault.new }
     ensures snaps { vault.new.snaps ≡ vault.old.snaps }
 {

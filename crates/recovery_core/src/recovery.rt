@@ -1,8 +1,8 @@
 // What a database stands for is read from its devices.
-ghost use Rattle.std.specs.Prelude.{◌≡◌, ◌*◌, ◌<◌, ℕ, Err, List, Some, None, true, length, IfOk, OnOk};
+ghost use Rattle.std.specs.Prelude.{◌≡◌, ◌≢◌, ◌*◌, ◌<◌, ℕ, Err, List, Some, None, true, length, IfOk, OnOk};
 ghost use Rattle.std.specs.Option.{option_map};
 ghost use Rattle.outside.specs.Disk.{IfTold, Only};
-ghost use Rattle.outside.specs.Vault.{IsWhole};
+ghost use Rattle.log_writer.specs.Vault.{IsWhole};
 ghost use Rattle.wire_form.specs.Pages.{Contents};
 ghost use Rattle.wire_form.specs.declared.savepoint.Savepoint.{Savepoint};
 ghost use Rattle.log_writer.specs.Points.{IsSaved, saved_of};
@@ -11,12 +11,12 @@ ghost use Rattle.snapshot_store.specs.Content.{words_of};
 ghost use Rattle.snapshot_store.specs.Store.{Holds};
 ghost use Rattle.recovery_core.specs.Catalogues.{HasPages};
 ghost use Rattle.recovery_core.specs.Damage.{IsDamagedIn, IsReadBefore, SnapsBreak};
-ghost use Rattle.recovery_core.specs.Images.{Images};
-ghost use Rattle.recovery_core.specs.JointCrash.{parts_of};
+ghost use Rattle.joint_crashes.specs.Images.{Images};
+ghost use Rattle.joint_crashes.specs.JointCrash.{parts_of};
 ghost use Rattle.recovery_core.specs.Recovered.{Recovers, IsUp};
-ghost use Rattle.recovery_core.specs.Resting.{AreTold};
+ghost use Rattle.joint_crashes.specs.Resting.{AreTold};
 ghost use Rattle.recovery_core.specs.SnapshotRead.{IsSnapshotOf};
-ghost use Rattle.recovery_core.specs.VaultReads.{VaultOnlyReads, RoseIn, AreQuiet};
+ghost use Rattle.joint_crashes.specs.VaultReads.{VaultOnlyReads, RoseIn, AreQuiet};
 
 use crate::entries::read_entries;
 use crate::last_entries::LastEntries;
@@ -25,8 +25,8 @@ use crate::load_save::load_save;
 use crate::newest::{Snapshot, read_snapshot};
 use crate::{RecoverFault, Recovered};
 use lists::{OrMemory, Sequence};
-use log_writer::{Save, Saved};
-use outside::{Device, Disk, Vault};
+use log_writer::{Save, Saved, Vault};
+use outside::{Device, Disk};
 use serial_model::State;
 use std::alloc::Global;
 
@@ -52,6 +52,8 @@ fn load_snapshot<D: Disk>(
     ensures only { (device : Device) → result ≡ Err (OrMemory.Fault (RecoverFault.Device device))
         → device ≡ Device.Snaps }
     ensures quiet { OnOk result (AreQuiet D.faults vault.old vault.new) }
+    ensures spared { ((device : Device) → result ≢ Err (OrMemory.Fault (RecoverFault.Device device)))
+        → AreQuiet D.faults vault.old vault.new }
     ensures reads { VaultOnlyReads D.tells D.clock D.image_at D.faults vault.old vault.new }
 {
     let store = load_pages(alloc, vault, saved.count)?;
@@ -84,6 +86,8 @@ fn recover_fresh<D: Disk>(
     ensures only { (device : Device) → result ≡ Err (OrMemory.Fault (RecoverFault.Device device))
         → device ≡ Device.Snaps }
     ensures quiet { OnOk result (AreQuiet D.faults vault.old vault.new) }
+    ensures spared { ((device : Device) → result ≢ Err (OrMemory.Fault (RecoverFault.Device device)))
+        → AreQuiet D.faults vault.old vault.new }
     ensures reads { VaultOnlyReads D.tells D.clock D.image_at D.faults vault.old vault.new }
 {
     let store = load_pages(alloc, vault, 0)?;
@@ -124,6 +128,8 @@ fn recover_saved<D: Disk>(
         → (found : Images) → AreTold D.tells (parts_of vault.old) found → Names found.save save.newest
         → IsReadBefore found device }
     ensures quiet { OnOk result (AreQuiet D.faults vault.old vault.new) }
+    ensures spared { ((device : Device) → result ≢ Err (OrMemory.Fault (RecoverFault.Device device)))
+        → AreQuiet D.faults vault.old vault.new }
     ensures reads { VaultOnlyReads D.tells D.clock D.image_at D.faults vault.old vault.new }
 {
     let mut snapshot = load_snapshot(alloc, vault, &saved)?;
@@ -170,6 +176,8 @@ pub fn recover<D: Disk>(
     ensures before { (device : Device) → result ≡ Err (OrMemory.Fault (RecoverFault.Device device))
         → (found : Images) → AreTold D.tells (parts_of vault.old) found → IsReadBefore found device }
     ensures quiet { OnOk result (AreQuiet D.faults vault.old vault.new) }
+    ensures spared { ((device : Device) → result ≢ Err (OrMemory.Fault (RecoverFault.Device device)))
+        → AreQuiet D.faults vault.old vault.new }
     ensures reads { VaultOnlyReads D.tells D.clock D.image_at D.faults vault.old vault.new }
 {
     let (save, saved) = load_save(vault)?;

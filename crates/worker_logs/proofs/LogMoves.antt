@@ -16,8 +16,8 @@ use Rattle.log_writer.specs.Growing.{IsJournalOf, flush_grows, flush_fails}
 use Rattle.log_writer.specs.Journal.{JournalState, Reaches, IsFlushed, Wrote}
 use Rattle.log_writer.specs.declared.journal.LogFault.{LogFault}
 use Rattle.log_writer.specs.declared.journal.LogFault.TheVariants.{Device, Down}
-use Rattle.recovery_core.specs.Marks.{Marks}
-use Rattle.recovery_core.specs.Crashes.Marking.{mark_set}
+use Rattle.joint_crashes.specs.Marks.{Marks}
+use Rattle.joint_crashes.specs.Crashes.Marking.{mark_set}
 use Rattle.worker_logs.specs.Logs.{LogState, IsMarkOf, LogRan, LogWent}
 use Rattle.worker_logs.specs.Moves.{MovesLog, refusal}
 

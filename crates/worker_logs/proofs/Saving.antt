@@ -1,7 +1,7 @@
 -- What a save by marks leaves.
 use Rattle.std.proofs.Common.{◌≡◌, ◌<◌, ◌^◌, ◌++◌, ◌∷◌, ℕ, List, [], Option, Some, None, refl, ap}
-use Rattle.std.specs.Prelude.{◌≢◌, Result, Ok, Err, vec_capacity}
-use Rattle.outside.specs.declared.vault.Vault.{Vault}
+use Rattle.std.specs.Prelude.{◌≢◌, Result, Ok, Err, ◌≤◌, ◌+◌}
+use Rattle.log_writer.specs.declared.vault.Vault.{Vault}
 use Rattle.wire_form.specs.declared.clock.Mark.{Mark}
 use Rattle.log_writer.specs.Points.{SaveState, sequence_of}
 use Rattle.log_writer.specs.Stores.{Stores}
@@ -68,11 +68,11 @@ module _ {D : Type 0} {tells : D → Option (List ℕ)} {clock : D → ℕ} {ima
         → (let answer : Result T SaveFault = Ok given in
         Stores tells clock image_at faults saved old new before.save now.save answer)
         → now.ties.items ≡ before.ties.items ++ tie_after old.newest (clock before.snaps) (Some (clock now.save)) ∷ []
-        → sequence_of old.newest < 2 ^ 63 → vec_capacity now.ties ≡ vec_capacity before.ties
+        → sequence_of old.newest < 2 ^ 63 → before.ties.room ≤ now.ties.room + 1
         → (now.snaps ≡ before.snaps) × (now.even ≡ before.even) × (now.odd ≡ before.odd) × (now.cuts ≡ before.cuts)
         → let result : Result ℕ SaveFault = Ok saved.epoch in
         SavesMarks tells clock image_at faults epoch seen beside old new before now result
-    saves_given given by_marks stores tied counted capacity others = record {
+    saves_given given by_marks stores tied counted room others = record {
       saved = saved;
       by_marks = by_marks;
       stores = stores_ok given saved.epoch stores;
@@ -81,7 +81,7 @@ module _ {D : Type 0} {tells : D → Option (List ℕ)} {clock : D → ℕ} {ima
       tied = tied;
       begun = λ is. absurd cc;
       untied = λ other. tt;
-      capacity = capacity;
+      room = room;
       snaps = others.0;
       even = others.1;
       odd = others.2;
@@ -95,11 +95,11 @@ module _ {D : Type 0} {tells : D → Option (List ℕ)} {clock : D → ℕ} {ima
         → (fault ≡ Device → now.ties.items
         ≡ before.ties.items ++ tie_after old.newest (clock before.snaps) None ∷ [])
         → (fault ≢ Device → now ≡ before)
-        → sequence_of old.newest < 2 ^ 63 → vec_capacity now.ties ≡ vec_capacity before.ties
+        → sequence_of old.newest < 2 ^ 63 → before.ties.room ≤ now.ties.room + 1
         → (now.snaps ≡ before.snaps) × (now.even ≡ before.even) × (now.odd ≡ before.odd) × (now.cuts ≡ before.cuts)
         → let result : Result ℕ SaveFault = Err fault in
         SavesMarks tells clock image_at faults epoch seen beside old new before now result
-    saves_refused fault by_marks stores begun untied counted capacity others = record {
+    saves_refused fault by_marks stores begun untied counted room others = record {
       saved = saved;
       by_marks = by_marks;
       stores = stores_err fault stores;
@@ -108,7 +108,7 @@ module _ {D : Type 0} {tells : D → Option (List ℕ)} {clock : D → ℕ} {ima
       tied = tt;
       begun = λ is. begun cc;
       untied = λ other. untied (λ is. other (ap Err is));
-      capacity = capacity;
+      room = room;
       snaps = others.0;
       even = others.1;
       odd = others.2;

@@ -11,9 +11,9 @@ use Rattle.serial_model.specs.declared.number.Commit.{Commit}
 use Rattle.wire_form.specs.LogFile.{lines_bytes}
 use Rattle.wire_form.specs.LogLine.{line_bytes}
 use Rattle.wire_form.specs.declared.clock.Mark.{Mark}
-use Rattle.recovery_core.specs.Marks.{Marks}
-use Rattle.recovery_core.specs.Rounds.{WorkerRan}
-use Rattle.recovery_core.specs.Crashes.Marking.{lines_more, mark_put, mark_set}
+use Rattle.joint_crashes.specs.Marks.{Marks}
+use Rattle.joint_crashes.specs.Rounds.{WorkerRan}
+use Rattle.joint_crashes.specs.Crashes.Marking.{lines_more, mark_put, mark_set}
 use Rattle.worker_logs.specs.Logs.{LogState, idle_log, reset_log, MarkSays, IsMarkOf, epoch_with, set_mark}
 use Rattle.worker_logs.specs.Logs.{IsEpochPassed, IsPassed}
 use Rattle.worker_logs.specs.Logs.{IsLog, LogRan}

@@ -7,7 +7,7 @@ use Rattle.wire_form.specs.LogFile.{lines_bytes}
 use Rattle.wire_form.specs.declared.clock.Mark.{Mark}
 use Rattle.log_writer.specs.Growing.{IsJournalOf}
 use Rattle.log_writer.specs.Journal.{JournalState}
-use Rattle.recovery_core.specs.Marks.{Marks}
+use Rattle.joint_crashes.specs.Marks.{Marks}
 
 -- ---- what a log is
 

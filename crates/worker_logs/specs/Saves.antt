@@ -1,10 +1,9 @@
 -- What a save by the workers' marks stores, and what it counts.
 use Rattle.std.specs.Prelude.{◌≡◌, ◌≢◌, ◌⊎◌, ◌<◌, ◌≤◌, ◌+◌, ◌-◌, ◌*◌, ◌^◌, ◌++◌, ℕ, List, [], ◌∷◌, length, map}
 use Rattle.std.specs.Prelude.{flat_map, fold, min, Option, Some, None, option_to_list, Result, Ok, Err, IfOk, OnOk, OnErr}
-use Rattle.std.specs.Prelude.{vec_capacity}
 use Rattle.std.specs.List.{AllByRecursion}
-use Rattle.outside.specs.declared.vault.Tie.{Tie}
-use Rattle.outside.specs.declared.vault.Vault.{Vault}
+use Rattle.log_writer.specs.declared.records.Tie.{Tie}
+use Rattle.log_writer.specs.declared.vault.Vault.{Vault}
 use Rattle.serial_model.specs.declared.number.Commit.{Commit}
 use Rattle.wire_form.specs.declared.clock.Mark.{Mark}
 use Rattle.wire_form.specs.declared.savepoint.Savepoint.{Savepoint}
@@ -13,8 +12,8 @@ use Rattle.log_writer.specs.Stores.{Stores}
 use Rattle.log_writer.specs.declared.save.SaveFault.{SaveFault}
 use Rattle.log_writer.specs.declared.save.SaveFault.TheVariants.{Device, Down, Limit}
 use Rattle.log_writer.specs.declared.saved.Saved.{Saved}
-use Rattle.recovery_core.specs.Images.{epoch_of, counted_of}
-use Rattle.recovery_core.specs.Marks.{Marks}
+use Rattle.joint_crashes.specs.Images.{epoch_of, counted_of}
+use Rattle.joint_crashes.specs.Marks.{Marks}
 use Rattle.worker_logs.specs.Logs.{LogState}
 use Rattle.worker_logs.specs.declared.savepoints.Beside.{Beside}
 use Rattle.worker_logs.specs.declared.savepoints.Side.{Side}
@@ -82,7 +81,7 @@ pub record SavesMarks {D : Type 0} (tells : D → Option (List ℕ)) (clock : D 
   pub begun : result ≡ Err Device → now.ties.items
       ≡ before.ties.items ++ tie_after old.newest (clock before.snaps) None ∷ []
   pub untied : result ≢ Err Device → OnErr result (now ≡ before)
-  pub capacity : vec_capacity now.ties ≡ vec_capacity before.ties
+  pub room : before.ties.room ≤ now.ties.room + 1
   pub snaps : now.snaps ≡ before.snaps
   pub even : now.even ≡ before.even
   pub odd : now.odd ≡ before.odd

@@ -7,8 +7,8 @@ use Rattle.std.proofs.lemmas.List.{length-map}
 use Rattle.std.proofs.lemmas.Option.{same_Some}
 use Rattle.outside.specs.Fronts.{AllBegin}
 use Rattle.outside.specs.Moments.{runs_weaker}
-use Rattle.outside.specs.declared.vault.Tie.{Tie}
-use Rattle.outside.specs.declared.vault.Vault.{Vault}
+use Rattle.log_writer.specs.declared.records.Tie.{Tie}
+use Rattle.log_writer.specs.declared.vault.Vault.{Vault}
 use Rattle.serial_model.specs.declared.number.Commit.{Commit}
 use Rattle.wire_form.specs.declared.clock.Mark.{Mark}
 use Rattle.wire_form.specs.declared.savepoint.Savepoint.{Savepoint}
@@ -17,12 +17,12 @@ use Rattle.log_writer.specs.Save.{Names, NamesOldOrNew}
 use Rattle.log_writer.specs.declared.save.SaveFault.{SaveFault}
 use Rattle.log_writer.specs.declared.save.SaveFault.TheVariants.{Device, Down, Limit}
 use Rattle.log_writer.specs.declared.saved.Saved.{Saved}
-use Rattle.recovery_core.specs.JointCrash.{Moments}
-use Rattle.recovery_core.specs.Marks.{IsAbove, Marks}
-use Rattle.recovery_core.specs.Rounds.{KeeperRan}
-use Rattle.recovery_core.specs.Story.{Story}
-use Rattle.recovery_core.specs.Crashes.Rounded.{keeper_stores}
-use Rattle.recovery_core.specs.Crashes.SaveSteps.{save_stored, save_failed}
+use Rattle.joint_crashes.specs.JointCrash.{Moments}
+use Rattle.joint_crashes.specs.Marks.{IsAbove, Marks}
+use Rattle.joint_crashes.specs.Rounds.{KeeperRan}
+use Rattle.joint_crashes.specs.Story.{Story}
+use Rattle.joint_crashes.specs.Crashes.Rounded.{keeper_stores}
+use Rattle.joint_crashes.specs.Crashes.SaveSteps.{save_stored, save_failed}
 use Rattle.worker_logs.specs.Logs.{LogState, MarkSays, IsLog, IsMarkOf}
 use Rattle.worker_logs.specs.LogLaws.{log_idles}
 use Rattle.worker_logs.specs.Saves.{saved_epoch, sequence_begun, IsCounted, SavesBy, SavesMarks, CountsOf}

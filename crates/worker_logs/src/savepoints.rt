@@ -1,6 +1,6 @@
 // Savepoints of a running database.
 ghost use Rattle.std.specs.Prelude.{◌≡◌, ◌<◌, ◌≤◌, ◌^◌, None, length, map, flat_map, fold, min};
-ghost use Rattle.std.specs.Prelude.{option_to_list, vec_len, vec_capacity};
+ghost use Rattle.std.specs.Prelude.{option_to_list};
 ghost use Rattle.std.specs.List.{AllByRecursion};
 ghost use Rattle.serial_model.specs.Numbers.{last_epoch};
 ghost use Rattle.log_writer.specs.Points.{IsSaved};
@@ -8,8 +8,8 @@ ghost use Rattle.log_writer.specs.Save.{IsStored};
 ghost use Rattle.worker_logs.specs.Saves.{IsBeside, SavesBy, SavesMarks, in_turn, lengths_by, logs_marks};
 
 use crate::WorkerLog;
-use log_writer::{Save, SaveFault, Saved};
-use outside::{Disk, Vault};
+use log_writer::{Save, SaveFault, Saved, Vault};
+use outside::Disk;
 
 /// Which log file of each worker grows: that of even number, or of odd. The other one is closed.
 #[derive(Clone, Copy, Debug, PartialEq, Eq)]
@@ -43,7 +43,7 @@ pub fn save_marks<D: Disk>(
     requires beside { IsBeside beside.now }
     requires stored { save.old.down ≡ None
         → IsStored D.tells D.clock D.image_at vault.old.save save.old.newest }
-    requires room { vec_len vault.old.ties < vec_capacity vault.old.ties }
+    requires room { 1 ≤ vault.old.ties.room }
     ensures saves { SavesMarks D.tells D.clock D.image_at D.faults clock (logs_marks logs.now) beside.now
         save.old save.new vault.old vault.new result }
 {

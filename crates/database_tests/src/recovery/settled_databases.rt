@@ -4,8 +4,8 @@ ghost use Rattle.outside.specs.Disk.{IfTold, Only};
 ghost use Rattle.serial_model.specs.Decls.{AreDecls};
 
 use super::*;
+use checkpoints::{SettleFault, settle};
 use outside::Disk;
-use recovery_core::{SettleFault, settle};
 use serial_model::Decl;
 
 // What a settling answers.
@@ -79,6 +79,9 @@ fn settle_in(alloc: Global, vault: &mut Vault<MemDisk>, decls: &[Decl], snap: u3
     if !vault.is_whole() {
         return Answer::Other;
     }
+    if snap > 65_536 {
+        return Answer::Other;
+    }
     match settle(alloc, vault, recovered, decls, snap) {
         Ok(settled) => Answer::Settled {
             sequence: settled.save.sequence(),
@@ -110,7 +113,7 @@ fn the_log_files_are_emptied_behind_a_savepoint_without_them(rt: HostRuntime) ->
     let first = place(1, 0, 1, &[]);
     let last = (1 << 63) - 1;
     let three = [catalogue(0, 0, 0), leaf(1, 5), catalogue(1, 1, 2)];
-    let (have, room) = (1, 1);
+    let (have, new, room) = (1, 2, 2);
     let cases = [
         Case {
             name: "fresh",
@@ -147,8 +150,18 @@ fn the_log_files_are_emptied_behind_a_savepoint_without_them(rt: HostRuntime) ->
             save: [first, place(2, 1, 1, &[40])],
             snaps: &three[..1],
             words: &line(1, 1, 7),
-            snap: 9,
-            want: refused(SettleFault::Limit { have, new: 1, room }, 1),
+            snap: 3,
+            want: settled(1, 3, 1, 3),
+            save_then: [place(3, 1, 3, &[]), place(2, 1, 1, &[40])],
+            snaps_then: &[catalogue(0, 0, 0), leaf(1, 7), catalogue(1, 1, 2)],
+        },
+        Case {
+            name: "the pages of a snapshot with it are more than are let in",
+            save: [first, place(2, 1, 1, &[40])],
+            snaps: &three[..1],
+            words: &line(1, 1, 7),
+            snap: 2,
+            want: refused(SettleFault::Limit { have, new, room }, 1),
             save_then: [first, place(2, 1, 1, &[40])],
             snaps_then: &three[..1],
         },
@@ -188,8 +201,8 @@ fn the_log_files_are_emptied_behind_a_savepoint_without_them(rt: HostRuntime) ->
         let answer = settle_in(alloc, &mut vault, &decls, case.snap);
         let outcome = Outcome {
             answer,
-            stores: vault.ties.len(),
-            cuts: vault.cuts.len(),
+            stores: vault.ties.as_slice().len(),
+            cuts: vault.cuts.as_slice().len(),
             files: filled(&vault.even).saturating_add(filled(&vault.odd)),
         };
         assert_eq!(rt; outcome, case.want, "{}", case.name);

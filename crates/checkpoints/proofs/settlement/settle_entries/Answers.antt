@@ -13,15 +13,15 @@ use Rattle.log_writer.specs.Save.{IsStored}
 use Rattle.log_writer.specs.declared.saved.Saved.{Saved}
 use Rattle.snapshot_store.specs.Content.{words_of}
 use Rattle.snapshot_store.specs.Store.{Holds, IsWhole as IsWholePage}
-use Rattle.recovery_core.specs.CrashesRecover.{LeavesSame, HasFiles}
-use Rattle.recovery_core.specs.Cutting.{AreToldIn}
-use Rattle.recovery_core.specs.Files.{has_files}
-use Rattle.recovery_core.specs.JointCrash.{parts_of}
+use Rattle.checkpoints.specs.CrashesRecover.{LeavesSame, HasFiles}
+use Rattle.joint_crashes.specs.Cutting.{AreToldIn}
+use Rattle.checkpoints.specs.Files.{has_files}
+use Rattle.joint_crashes.specs.JointCrash.{parts_of}
 use Rattle.recovery_core.specs.Recovered.{IsUp, recovers_state, saved_epoch}
-use Rattle.recovery_core.specs.SettleFiles.{all_banks}
-use Rattle.recovery_core.specs.SettleGoesOn.{GoesOn}
-use Rattle.recovery_core.specs.SettleLaws.{untouched_leaves, carry_rest}
-use Rattle.recovery_core.specs.declared.fault.SettleFault.TheVariants.{Device, Deep, Limit, Sequence}
+use Rattle.checkpoints.specs.SettleFiles.{all_banks}
+use Rattle.checkpoints.specs.SettleGoesOn.{GoesOn}
+use Rattle.checkpoints.specs.SettleLaws.{untouched_leaves, carry_rest}
+use Rattle.checkpoints.specs.declared.fault.SettleFault.TheVariants.{Device, Deep, Limit, Sequence}
 use Rattle.recovery_core.specs.declared.recovered.Recovered.{Recovered}
 use Rattle.checkpoints.specs.Due.{IsNextOf, TheFault, IsDueRefusal}
 use Rattle.checkpoints.specs.SettlesInto.{Follows, composed_saved}
@@ -31,25 +31,27 @@ use Rattle.checkpoints.proofs.DueLemmas.{ranges_of}
 use Rattle.checkpoints.proofs.NextState.{IsNext}
 use Rattle.checkpoints.proofs.NextSettled.{is_next, composed_ranges, next_leaves, next_goes_on, next_rests}
 use Rattle.checkpoints.proofs.NextSettled.{quiet_room}
+use Rattle.joint_crashes.specs.RecordsAdded.{nothing_added, records_from}
+use Rattle.joint_crashes.specs.RecordsAdded.{refused_so}
 use Rattle.checkpoints.proofs.settlement.settle_entries.Goals as goal
 
 pub returns-in_err-make_room-clause-crashes : goal.returns-in_err-make_room-clause-crashes
 returns-in_err-make_room-clause-crashes g c found from rest none told since is =
-    subst (λ p. LeavesSame g.D.Disk.clock g.D.Disk.image_at from c.args.recovered.epoch c.args.recovered.state
+    subst (λ p. LeavesSame g.D.Disk.clock g.D.Disk.image_at from is.reading c.args.recovered.epoch c.args.recovered.state
     (parts_of c.args.vault.now) p) (sym c.make_room.ensures.parts)
     (untouched_leaves g.met.D.Disk.reads (has_files c.args.vault.now c.requires.whole) rest none told since
     (recovers_state found c.args.recovered is))
 
 pub returns-in_err-pages-clause-crashes : goal.returns-in_err-pages-clause-crashes
 returns-in_err-pages-clause-crashes g c found from rest none told since is =
-    subst (λ p. LeavesSame g.D.Disk.clock g.D.Disk.image_at from c.args.recovered.epoch c.args.recovered.state
+    subst (λ p. LeavesSame g.D.Disk.clock g.D.Disk.image_at from is.reading c.args.recovered.epoch c.args.recovered.state
     (parts_of c.args.vault.now) p) (sym c.make_room.ensures.parts)
     (untouched_leaves g.met.D.Disk.reads (has_files c.args.vault.now c.requires.whole) rest none told since
     (recovers_state found c.args.recovered is))
 
 pub returns-in-Err-clause-crashes : goal.returns-in-Err-clause-crashes
 returns-in-Err-clause-crashes g c found from rest none told since is =
-    subst (λ p. LeavesSame g.D.Disk.clock g.D.Disk.image_at from c.args.recovered.epoch c.args.recovered.state
+    subst (λ p. LeavesSame g.D.Disk.clock g.D.Disk.image_at from is.reading c.args.recovered.epoch c.args.recovered.state
     (parts_of c.args.vault.now) p) (sym c.make_room.ensures.parts)
     (untouched_leaves g.met.D.Disk.reads (has_files c.args.vault.now c.requires.whole) rest none told since
     (recovers_state found c.args.recovered is))
@@ -92,7 +94,7 @@ returns-in_err-saved-clause-crashes g c found from rest none told since is =
     let slice = c.as_slice-pages.result.now in
     let next = known r p c.in_ok-pages.pages slice c.as_slice-pages.ensures c.requires.up c.requires.says
     c.in_ok-pages.ensures.composed c.pages_fit.ensures.whole c.pages_fit.ensures.fit c.new_pages_fit.ensures in
-    carry_rest (λ q. LeavesSame g.D.Disk.clock g.D.Disk.image_at from r.epoch r.state q
+    carry_rest (λ q. LeavesSame g.D.Disk.clock g.D.Disk.image_at from is.reading r.epoch r.state q
     (parts_of c.write_snapshot.new.vault)) (parts_of c.args.vault.now) (parts_of c.make_room.new.vault)
     c.make_room.ensures.parts
     (λ rest none told since. next_leaves g.met.D.Disk.reads r p (words_of slice) (r.store.pages ++ slice) c.requires.up
@@ -108,7 +110,7 @@ returns-clause-crashes g c found from rest none told since is =
     let slice = c.as_slice-pages.result.now in
     let next = known r p c.in_ok-pages.pages slice c.as_slice-pages.ensures c.requires.up c.requires.says
     c.in_ok-pages.ensures.composed c.pages_fit.ensures.whole c.pages_fit.ensures.fit c.new_pages_fit.ensures in
-    carry_rest (λ q. LeavesSame g.D.Disk.clock g.D.Disk.image_at from r.epoch r.state q
+    carry_rest (λ q. LeavesSame g.D.Disk.clock g.D.Disk.image_at from is.reading r.epoch r.state q
     (parts_of c.write_snapshot.new.vault)) (parts_of c.args.vault.now) (parts_of c.make_room.new.vault)
     c.make_room.ensures.parts
     (λ rest none told since. next_leaves g.met.D.Disk.reads r p (words_of slice) (r.store.pages ++ slice) c.requires.up
@@ -174,14 +176,14 @@ returns-clause-settles g c =
       rising = up.rising;
       emptied = emptied;
       rests = λ found told is. next_rests g.met.D.Disk.reads r p (words_of slice) all up says next c.args.vault.now _
-          c.write_snapshot.ensures.whole told is
+          c.write_snapshot.ensures.whole told
           (newest_is ∙ ap (λ n. Some (point_of (sequence_of r.save.newest + 1) (composed_saved r.epoch n))) size)
           pages refl refl told_save told_snaps e.stored e.holds
           (emptied (λ n bank has there. ap is_some (told.bank n bank there)));
       goes_on = λ found from rest none told since is.
-          subst (λ x. GoesOn g.D.Disk.clock g.D.Disk.image_at from r.epoch r.state (sequence_of r.save.newest) x
+          subst (λ x. GoesOn g.D.Disk.clock g.D.Disk.image_at from is.reading r.epoch r.state (sequence_of r.save.newest) x
           (parts_of c.write_snapshot.new.vault)) (sym newest_is)
-          (carry_rest (λ q. GoesOn g.D.Disk.clock g.D.Disk.image_at from r.epoch r.state (sequence_of r.save.newest)
+          (carry_rest (λ q. GoesOn g.D.Disk.clock g.D.Disk.image_at from is.reading r.epoch r.state (sequence_of r.save.newest)
           (Some (point_of (sequence_of r.save.newest + 1) (composed_saved r.epoch count)))
           (parts_of c.write_snapshot.new.vault)) (parts_of c.args.vault.now) (parts_of c.make_room.new.vault)
           room.parts
@@ -246,3 +248,26 @@ returns-clause-room g c =
     let length_is = ap length c.as_slice-pages.ensures in
     let count = ap (λ (x : Saved). x.count) c.in_ok-saved.ensures.says.0 in
     omega (arith, count, length_is, c.in_ok-pages.ensures.few)
+
+pub returns-in_err-make_room-clause-records : goal.returns-in_err-make_room-clause-records
+returns-in_err-make_room-clause-records g c =
+    nothing_added (refused_so _ c.from_residual.result c.from_residual.ensures.1) c.make_room.ensures.same.ties
+    c.make_room.ensures.same.cuts
+
+pub returns-in_err-pages-clause-records : goal.returns-in_err-pages-clause-records
+returns-in_err-pages-clause-records g c =
+    nothing_added (refused_so _ c.from_residual-in_err-pages.result c.from_residual-in_err-pages.ensures.1)
+    c.make_room.ensures.same.ties c.make_room.ensures.same.cuts
+
+pub returns-in-Err-clause-records : goal.returns-in-Err-clause-records
+returns-in-Err-clause-records g c =
+    nothing_added refl c.make_room.ensures.same.ties c.make_room.ensures.same.cuts
+
+pub returns-in_err-saved-clause-records : goal.returns-in_err-saved-clause-records
+returns-in_err-saved-clause-records g c =
+    let refused = refused_so _ c.from_residual-in_err-saved.result c.from_residual-in_err-saved.ensures.1 in
+    rw refused (records_from c.make_room.ensures.same.ties c.make_room.ensures.same.cuts c.in_err-saved.ensures.records)
+
+pub returns-clause-records : goal.returns-clause-records
+returns-clause-records g c =
+    records_from c.make_room.ensures.same.ties c.make_room.ensures.same.cuts c.in_ok-saved.ensures.records

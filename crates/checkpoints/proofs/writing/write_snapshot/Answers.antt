@@ -1,18 +1,19 @@
 use Rattle.std.proofs.Common.{◌≡◌, ◌+◌, ◌++◌, length, refl, ap, subst, ◌∙◌}
 use Rattle.std.proofs.lemmas.List.{length-append}
-use Rattle.outside.specs.declared.vault.Device.TheVariants.{Save, Bank}
-use Rattle.outside.specs.declared.vault.Vault.{Vault}
-use Rattle.outside.specs.Cuts.{whole_bank}
+use Rattle.outside.specs.declared.device.Device.TheVariants.{Save, Bank}
+use Rattle.log_writer.specs.declared.vault.Vault.{Vault}
+use Rattle.log_writer.specs.Cuts.{whole_bank}
 use Rattle.outside.specs.Fronts.{AllBegin}
-use Rattle.outside.specs.Vault.{IsWhole}
+use Rattle.log_writer.specs.Vault.{IsWhole}
 use Rattle.snapshot_store.specs.Store.{bytes_of_pages}
-use Rattle.recovery_core.specs.Files.{all_below, listed_bank}
-use Rattle.recovery_core.specs.FreshLaws.{zero_at}
-use Rattle.recovery_core.specs.JointCrash.{parts_of}
-use Rattle.recovery_core.specs.VaultReads.{quiet_of}
+use Rattle.checkpoints.specs.Files.{all_below, listed_bank}
+use Rattle.checkpoints.specs.FreshLaws.{zero_at}
+use Rattle.joint_crashes.specs.JointCrash.{parts_of}
+use Rattle.joint_crashes.specs.VaultReads.{quiet_of}
 use Rattle.checkpoints.specs.SettlesInto.{composed_saved}
 use Rattle.checkpoints.specs.Written.{LeavesOldOrNext, HasWritten}
 use Rattle.checkpoints.proofs.OldOrNext.{left_safe, stored_safe}
+use Rattle.joint_crashes.specs.RecordsAdded.{nothing_added, records_from}
 use Rattle.checkpoints.proofs.writing.write_snapshot.Goals as goal
 
 -- a call of the snapshots leaves the log files
@@ -99,3 +100,15 @@ returns-in-Ok-store_and_cut-clause-quiet g c =
     quiet_of c.args.vault.now c.store_and_cut.new.vault (quiet Save _ _ refl refl)
     (ap faults c.store_and_cut.ensures.snaps ∙ c.in-Ok.ensures.quiet)
     (λ n was now before after. quiet (Bank n) was now before after)
+
+pub returns-in-Err-Memory-clause-records : goal.returns-in-Err-Memory-clause-records
+returns-in-Err-Memory-clause-records g c = nothing_added refl refl refl
+
+pub returns-in-Err-Fault-clause-records : goal.returns-in-Err-Fault-clause-records
+returns-in-Err-Fault-clause-records g c = nothing_added refl refl refl
+
+pub returns-in-Ok-store_and_cut-clause-records : goal.returns-in-Ok-store_and_cut-clause-records
+returns-in-Ok-store_and_cut-clause-records g c = records_from refl refl c.in-Ok-store_and_cut.ensures.records
+
+pub returns-in-Err-clause-records : goal.returns-in-Err-clause-records
+returns-in-Err-clause-records g c = records_from refl refl c.in-Err.ensures.records

@@ -1,8 +1,9 @@
 use Rattle.std.proofs.Common.{◌≡◌, ◌<◌, Err, get_or, sym, ap, subst, ◌∙◌, arith}
 use Rattle.std.proofs.lemmas.Option.{same_Some}
+use Rattle.outside.specs.declared.device.Device.TheVariants.{Bank}
 use Rattle.recovery_core.specs.EntriesLast.{TakesIn, all_entries}
-use Rattle.recovery_core.specs.VaultReads.{RoseIn, vault_reads_none, vault_reads_then, quiet_then}
-use Rattle.recovery_core.proofs.EntriesDevices.{maps_reads, maps_damaged, maps_rose, maps_found, maps_quiet}
+use Rattle.joint_crashes.specs.VaultReads.{RoseIn, vault_reads_none, vault_reads_then, quiet_then}
+use Rattle.recovery_core.proofs.EntriesDevices.{maps_reads, maps_damaged, maps_rose, maps_found, maps_quiet, maps_spared}
 use Rattle.recovery_core.proofs.EntriesFit.{none_last, more_last, mapped_count, all_may_count}
 use Rattle.recovery_core.proofs.EntriesFiles.{CountedSoFar, none_counted, counted_more, counted_all}
 use Rattle.recovery_core.proofs.EntriesFiles.{breaks_next, reads_next}
@@ -48,6 +49,18 @@ returns-in-Err-clause-device g c device is =
 
 pub returns-in-Err-clause-reads : goal.returns-in-Err-clause-reads
 returns-in-Err-clause-reads g c = vault_reads_then c.loop-bank.invariant.reads (maps_reads c.map_in.ensures.maps)
+
+pub returns-in-Err-clause-spared : goal.returns-in-Err-clause-spared
+returns-in-Err-clause-spared g c not =
+    let n = c.loop-bank.bank in
+    let inv = c.loop-bank.invariant in
+    quiet_then c.map_in.new.vault inv.reads inv.quiet (maps_spared c.map_in.ensures.maps (λ is.
+    not (Bank n) (ap Err (c.fault_of.ensures.failed (cc (is, c.in-Err.is))))))
+
+pub returns-in_err-take_in_buckets-clause-spared : goal.returns-in_err-take_in_buckets-clause-spared
+returns-in_err-take_in_buckets-clause-spared g c not =
+    let inv = c.loop-bank.invariant in
+    quiet_then c.map_in.new.vault inv.reads inv.quiet (maps_quiet c.in-Ok.ensures.maps)
 
 pub loop-bank-preserved : goal.loop-bank-preserved
 loop-bank-preserved g c =

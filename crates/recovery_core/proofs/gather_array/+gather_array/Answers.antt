@@ -19,20 +19,20 @@ pub returns-then-not-is_array_page-clause-breaks : goal.returns-then-not-is_arra
 returns-then-not-is_array_page-clause-breaks t c at e =
     let same : c.first_byte.result ≡ at = cc in
     array_wrong (words_of c.args.store.now.pages) c.args.epoch c.args.id c.args.size c.args.depth c.args.place
-    c.words_at-words.result.now at
-    (level_some c.args.depth c.args.place.low c.args.place.high c.requires.level).0 c.words_at-words.ensures.words
+    c.words-words.result.now at
+    (level_some c.args.depth c.args.place.low c.args.place.high c.requires.level).0 c.words-words.ensures.words
     (λ right. false≢true ((c.if-not-is_array_page.ensures c.args.id).1 right)) (sym same ∙ c.first_byte.ensures)
 
 pub returns-then-place-lt32-clause-gathered : goal.returns-then-place-lt32-clause-gathered
 returns-then-place-lt32-clause-gathered t c =
     leaf_put (words_of c.args.store.now.pages) c.args.epoch c.args.id c.args.size c.args.depth c.args.place
-    c.words_at-words.result.now c.args.state.now c.put_leaf.new.state
+    c.words-words.result.now c.args.state.now c.put_leaf.new.state
     c.requires.level (omega (
       arith,
       c.requires.there,
       length-map c.args.store.now.pages
           (λ p. Page.words p),
-    )) c.if-place-lt32.true c.words_at-words.ensures.words
+    )) c.if-place-lt32.true c.words-words.ensures.words
     ((c.if-not-is_array_page.ensures c.args.id).0 refl) c.in_ok-put_leaf.ensures
 
 pub loop-i-init : goal.loop-i-init
@@ -40,7 +40,7 @@ loop-i-init t c =
     let parts = level_inner c.args.depth c.args.place.low c.args.place.high c.requires.level c.if-place-lt32.false in
     array_begins (words_of c.args.store.now.pages) c.args.epoch c.args.id c.args.size (c.args.depth - 1) c.args.place
     ((c.args.place.high - c.args.place.low + 1) / 64)
-    c.words_at-words.result.now c.args.state.now parts.1 parts.0
+    c.words-words.result.now c.args.state.now parts.1 parts.0
 
 pub gather_array-requires : goal.gather_array-requires
 gather_array-requires t c =
@@ -48,9 +48,9 @@ gather_array-requires t c =
     let deep = level_some c.args.depth c.args.place.low c.args.place.high c.requires.level in
     let within = array_within (words_of c.args.store.now.pages) c.args.epoch c.args.id c.args.size
     (c.args.depth - 1) c.args.place ((c.args.place.high - c.args.place.low + 1) / 64)
-    c.words_at-words.result.now c.args.state.now c.loop-i.low c.loop-i.i c.loop-i.state
+    c.words-words.result.now c.args.state.now c.loop-i.low c.loop-i.i c.loop-i.state
     (omega arith) c.loop-i-test.true c.loop-i.invariant in
-    let child = child_below c.args.epoch c.args.id c.args.size c.args.place c.words_at-words.result.now c.loop-i.i
+    let child = child_below c.args.epoch c.args.id c.args.size c.args.place c.words-words.result.now c.loop-i.i
     (omega (arith, c.if-place-eq0.false)) c.if-place-lt32.false
     ((c.if-not-is_array_page.ensures c.args.id).0 refl) in (
       omega (arith, deep.0),
@@ -64,9 +64,9 @@ returns-in_err-gather_array-clause-breaks t c at e =
     let was : c.in_err-gather_array.field-0.0 ≡ Fault at = let a = exit.1 in let b = exit.2 in cc in
     array_break (words_of c.args.store.now.pages) c.args.epoch c.args.id c.args.size c.args.depth c.args.place
     ((c.args.place.high - c.args.place.low + 1) / 64)
-    c.words_at-words.result.now c.args.state.now c.loop-i.low c.loop-i.i c.loop-i.state at
+    c.words-words.result.now c.args.state.now c.loop-i.low c.loop-i.i c.loop-i.state at
     (level_some c.args.depth c.args.place.low c.args.place.high c.requires.level).0 refl c.if-place-lt32.false
-    (omega arith) c.loop-i-test.true c.words_at-words.ensures.words
+    (omega arith) c.loop-i-test.true c.words-words.ensures.words
     ((c.if-not-is_array_page.ensures c.args.id).0 refl) c.loop-i.invariant
     (c.in_err-gather_array.ensures.breaks at (ap Err was))
 
@@ -75,7 +75,7 @@ loop-i-preserved t c =
     let parts = level_inner c.args.depth c.args.place.low c.args.place.high c.requires.level c.if-place-lt32.false in
     array_more (words_of c.args.store.now.pages) c.args.epoch c.args.id c.args.size (c.args.depth - 1) c.args.place
     ((c.args.place.high - c.args.place.low + 1) / 64)
-    c.words_at-words.result.now c.args.state.now c.loop-i.low c.loop-i.i c.loop-i.state c.gather_array.new.state
+    c.words-words.result.now c.args.state.now c.loop-i.low c.loop-i.i c.loop-i.state c.gather_array.new.state
     parts.1 (omega arith) c.loop-i-test.true c.loop-i.invariant
     c.in_ok-gather_array.ensures.gathered
 
@@ -85,12 +85,12 @@ returns-clause-gathered t c =
     let deep = level_some c.args.depth c.args.place.low c.args.place.high c.requires.level in
     array_end (words_of c.args.store.now.pages) c.args.epoch c.args.id c.args.size c.args.depth c.args.place
     ((c.args.place.high - c.args.place.low + 1) / 64)
-    c.words_at-words.result.now c.args.state.now c.loop-i.low c.loop-i.i c.loop-i.state deep.0 refl
+    c.words-words.result.now c.args.state.now c.loop-i.low c.loop-i.i c.loop-i.state deep.0 refl
     c.if-place-lt32.false parts.1 parts.0 (omega arith)
     (omega (
       arith,
       c.requires.there,
       length-map c.args.store.now.pages
           (λ p. Page.words p),
-    )) c.words_at-words.ensures.words
+    )) c.words-words.ensures.words
     ((c.if-not-is_array_page.ensures c.args.id).0 refl) c.loop-i.invariant

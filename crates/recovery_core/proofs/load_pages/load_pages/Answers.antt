@@ -1,5 +1,6 @@
 use Rattle.std.proofs.Common.{refl, arith}
-use Rattle.recovery_core.specs.VaultReads.{snaps_read}
+use Rattle.outside.specs.declared.device.Device.TheVariants.{Snaps}
+use Rattle.joint_crashes.specs.VaultReads.{snaps_read}
 use Rattle.recovery_core.specs.StoredPages.{has_pages}
 use Rattle.recovery_core.proofs.load_pages.load_pages.Goals as goal
 
@@ -34,3 +35,6 @@ returns-in-Ok-clause-pages g c file told =
     has_pages c.in-Ok.store.pages c.args.count file c.pages_fit.ensures.whole c.pages_fit.ensures.fit
     c.in-Ok.ensures.read.count_is
     (c.in-Ok.ensures.bytes file told)
+
+pub returns-in-Err-Fault-Device-clause-spared : goal.returns-in-Err-Fault-Device-clause-spared
+returns-in-Err-Fault-Device-clause-spared g c not = absurd (not Snaps refl)

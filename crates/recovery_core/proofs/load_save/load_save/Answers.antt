@@ -1,5 +1,6 @@
 use Rattle.std.proofs.Common.{refl}
-use Rattle.recovery_core.specs.VaultReads.{save_read}
+use Rattle.outside.specs.declared.device.Device.TheVariants.{Save}
+use Rattle.joint_crashes.specs.VaultReads.{save_read}
 use Rattle.recovery_core.proofs.load_save.load_save.Goals as goal
 
 pub returns-in-Ok-clause-reads : goal.returns-in-Ok-clause-reads
@@ -28,3 +29,6 @@ returns-in-Err-Damaged-clause-reads g c =
 
 pub returns-in-Err-Damaged-clause-damaged : goal.returns-in-Err-Damaged-clause-damaged
 returns-in-Err-Damaged-clause-damaged g c device at same = (cc same, c.load.ensures.damaged at (cc same))
+
+pub returns-in-Err-Device-clause-spared : goal.returns-in-Err-Device-clause-spared
+returns-in-Err-Device-clause-spared g c not = absurd (not Save refl)

@@ -2,15 +2,15 @@ use Rattle.std.proofs.Common.{◌≡◌, ℕ, List, Option, None, sym, subst, �
 use Rattle.std.specs.Prelude.{Result, IfOk}
 use Rattle.std.proofs.lemmas.Result.{IfOk-weaker, on_ok_weaker, err_from_is_err_and}
 use Rattle.outside.specs.Disk.{IfTold, Only}
-use Rattle.outside.specs.declared.vault.Vault.{Vault}
+use Rattle.log_writer.specs.declared.vault.Vault.{Vault}
 use Rattle.log_writer.specs.Points.{SaveState}
 use Rattle.log_writer.specs.Save.{Names, IsStored}
-use Rattle.recovery_core.specs.Images.{Images}
-use Rattle.recovery_core.specs.JointCrash.{parts_of}
+use Rattle.joint_crashes.specs.Images.{Images}
+use Rattle.joint_crashes.specs.JointCrash.{parts_of}
 use Rattle.recovery_core.specs.Recovered.{Recovers}
-use Rattle.recovery_core.specs.Resting.{AreTold}
+use Rattle.joint_crashes.specs.Resting.{AreTold}
 use Rattle.recovery_core.specs.declared.recovered.Recovered.{Recovered}
-use Rattle.recovery_core.specs.VaultReads.{VaultOnlyReads, AreQuiet, told_read, rose_then, stored_read, quiet_then}
+use Rattle.joint_crashes.specs.VaultReads.{VaultOnlyReads, AreQuiet, told_read, rose_then, stored_read, quiet_then}
 use Rattle.recovery_core.proofs.Recovering.{says_none, before_save, before_snaps}
 use Rattle.recovery_core.proofs.recovery.recover.Goals as goal
 
@@ -105,3 +105,18 @@ pub returns-in_err-save-clause-before : goal.returns-in_err-save-clause-before
 returns-in_err-save-clause-before g c device same found told =
     let p = err_from_is_err_and c.from_residual.result c.from_residual.ensures.1 in
     before_save found device (c.in_err-save.ensures.only device (cc (same, p.1, p.2)))
+
+pub returns-in_err-save-clause-spared : goal.returns-in_err-save-clause-spared
+returns-in_err-save-clause-spared g c not =
+    let p = err_from_is_err_and c.from_residual.result c.from_residual.ensures.1 in
+    c.in_err-save.ensures.spared (λ device is. not device (cc (is, p.1, p.2)))
+
+pub returns-in-None-clause-spared : goal.returns-in-None-clause-spared
+returns-in-None-clause-spared g c not =
+    quiet_then c.recover_fresh.new.vault c.load_save.ensures.reads c.in_ok-save.ensures.quiet
+    (c.recover_fresh.ensures.spared not)
+
+pub returns-in-Some-clause-spared : goal.returns-in-Some-clause-spared
+returns-in-Some-clause-spared g c not =
+    quiet_then c.recover_saved.new.vault c.load_save.ensures.reads c.in_ok-save.ensures.quiet
+    (c.recover_saved.ensures.spared not)

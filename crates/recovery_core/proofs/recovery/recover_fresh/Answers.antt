@@ -3,6 +3,7 @@ use Rattle.std.specs.FinMap.{get, get-empty}
 use Rattle.std.specs.Option.{option_map}
 use Rattle.std.proofs.lemmas.Result.{err_from_is_err_and}
 use Rattle.serial_model.specs.Keys.{key_cmp, id_of}
+use Rattle.serial_model.specs.State.{State}
 use Rattle.serial_model.specs.declared.decl.Decl.{Decl}
 use Rattle.wire_form.specs.Items.{Rises}
 use Rattle.log_writer.specs.Points.{saved_of}
@@ -34,5 +35,11 @@ returns-clause-up g c = record {
   snapshots = (
     c.new-3.ensures,
     λ key. ap (λ (m : EntryMap). get m key) c.new-4.ensures ∙ get-empty key_cmp key,
+    λ key. ap (λ (s : State). get s key) c.new-2.ensures ∙ get-empty key_cmp key,
   );
 }
+
+pub returns-in_err-store-clause-spared : goal.returns-in_err-store-clause-spared
+returns-in_err-store-clause-spared g c not =
+    let p = err_from_is_err_and c.from_residual.result c.from_residual.ensures.1 in
+    c.in_err-store.ensures.spared (λ device is. not device (cc (is, p.1, p.2)))

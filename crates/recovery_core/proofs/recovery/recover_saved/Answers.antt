@@ -1,5 +1,6 @@
 use Rattle.std.proofs.Common.{◌≡◌, ◌+◌, ◌<◌, None, List, map, refl, sym, ap, subst, ◌∙◌}
 use Rattle.std.proofs.lemmas.Result.{err_from_is_err_and}
+use Rattle.std.specs.FinMap.{get}
 use Rattle.serial_model.specs.Keys.{id_of}
 use Rattle.serial_model.specs.declared.decl.Decl.{Decl}
 use Rattle.wire_form.specs.Items.{Rises}
@@ -8,7 +9,8 @@ use Rattle.snapshot_store.specs.Content.{words_of}
 use Rattle.recovery_core.specs.Catalogues.{newest_epoch}
 use Rattle.recovery_core.specs.EntriesRun.{AllMayCount}
 use Rattle.recovery_core.specs.LogEntries.{AreCounted}
-use Rattle.recovery_core.specs.VaultReads.{vault_reads_then, told_read, rose_then, holds_read, quiet_then}
+use Rattle.recovery_core.specs.Recoverable.{value_over}
+use Rattle.joint_crashes.specs.VaultReads.{vault_reads_then, told_read, rose_then, holds_read, quiet_then}
 use Rattle.recovery_core.proofs.Recovering.{says_some, reads_pages, ids_rise, damaged_snaps, damaged_file}
 use Rattle.recovery_core.proofs.Recovering.{saved_recovers, before_snaps, before_file}
 use Rattle.recovery_core.proofs.recovery.recover_saved.Goals as goal
@@ -118,5 +120,28 @@ returns-clause-up g c =
             c.in_ok-entries.entries) decls
             (subst (λ k. AllMayCount c.as_slice-decls.result.now k c.args.saved.epoch c.in_ok-entries.entries)
             snapshot.1.epoch_is c.in_ok-entries.ensures.may_count);
+        state = λ key. c.in_ok-put_over.ensures key
+            ∙ ap (value_over (get c.in_ok-entries.entries key)) (snapshot.1.state_is key);
       };
     }
+
+pub returns-in_err-snapshot-clause-spared : goal.returns-in_err-snapshot-clause-spared
+returns-in_err-snapshot-clause-spared g c not =
+    let p = err_from_is_err_and c.from_residual.result c.from_residual.ensures.1 in
+    c.in_err-snapshot.ensures.spared (λ device is. not device (cc (is, p.1, p.2)))
+
+pub returns-in_err-entries-clause-spared : goal.returns-in_err-entries-clause-spared
+returns-in_err-entries-clause-spared g c not =
+    let p = err_from_is_err_and c.from_residual-in_err-entries.result c.from_residual-in_err-entries.ensures.1 in
+    quiet_then c.read_entries.new.vault c.load_snapshot.ensures.reads c.in_ok-snapshot.ensures.quiet
+    (c.in_err-entries.ensures.spared (λ device is. not device (cc (is, p.1, p.2))))
+
+pub returns-in_err-put_over-clause-spared : goal.returns-in_err-put_over-clause-spared
+returns-in_err-put_over-clause-spared g c not =
+    quiet_then c.read_entries.new.vault c.load_snapshot.ensures.reads c.in_ok-snapshot.ensures.quiet
+    c.in_ok-entries.ensures.quiet
+
+pub returns-clause-spared : goal.returns-clause-spared
+returns-clause-spared g c not =
+    quiet_then c.read_entries.new.vault c.load_snapshot.ensures.reads c.in_ok-snapshot.ensures.quiet
+    c.in_ok-entries.ensures.quiet

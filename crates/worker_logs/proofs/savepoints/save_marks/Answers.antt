@@ -9,7 +9,7 @@ returns-in-Ok g c =
     record {
       saves = saves_given _ c.saved_by-saved.ensures.by_marks done.stores done.tied
           (omega (arith, c.sequence-sequence.ensures.newest, c.sequence-sequence.ensures.counted))
-          done.capacity done.others;
+          done.room done.others;
     }
 
 pub returns-in-Err : goal.returns-in-Err
@@ -20,5 +20,5 @@ returns-in-Err g c =
           (λ is. done.begun (ap Err is))
           (λ other. done.untied (λ is. other (let same : c.in-Err.fault ≡ Device = cc in same)))
           (omega (arith, c.sequence-sequence.ensures.newest, c.sequence-sequence.ensures.counted))
-          done.capacity done.others;
+          done.room done.others;
     }

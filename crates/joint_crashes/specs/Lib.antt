@@ -1,0 +1,12 @@
+pub mod Images
+pub mod JointCrash
+pub mod Resting
+pub mod VaultReads
+pub mod Story
+pub mod Cutting
+pub mod Settling
+pub mod Marks
+pub mod Rounds
+pub mod Crashes
+pub mod SettleRests
+pub mod RecordsAdded

@@ -1,0 +1,22 @@
+//! What a stop of all devices at once leaves of a database, and the writes that keep it one savepoint's.
+//!
+//! A database lies on 18 devices, and a stop meets each of them at a moment of its own. Which images stand together is
+//! told by what was recorded of its stores and cuts (`IsJointCrash` in `specs/JointCrash.antt`); a *story* says of each
+//! savepoint what it counts, and each joint crash stands for one of them (`specs/Story.antt`, `specs/Crashes`).
+//!
+//! Promises:
+//! - [`store_and_cut`] and [`cut_banks`]: each joint crash stands for one savepoint, and what was a joint crash
+//!   is one (`crashes`, `cut`); a fault is answered only where that device's count of faults rose, and where the answer
+//!   is `Ok` none did (`quiet`).
+//!
+//! Its specs/ say when nothing that counts is pending (`IsResting`), what only reads all devices (`VaultOnlyReads`), and
+//! how marks, saves, stores and cuts go on with a story, for those who write to the devices of a database.
+//!
+//! Design: docs/DURABILITY.md.
+#![tactic(auto)]
+
+mod cutting;
+mod settling;
+
+pub use cutting::cut_banks;
+pub use settling::{BANKS, StoreAndCutFault, store_and_cut};

@@ -1,7 +1,0 @@
-use Rattle.std.proofs.Common.{◌≡◌, map, take}
-use Rattle.recovery_core.specs.SettlePages.{without_root}
-use Rattle.recovery_core.proofs.first_page.first_page.Given as goal
-
--- the storages so far
-abbrev pub invariant-loop-decl : goal.invariant-loop-decl
-invariant-loop-decl l = l.storages.items ≡ map without_root (take l.decl-index l.decls)

@@ -10,7 +10,8 @@ use Rattle.lists.specs.Elements.{at_below}
 use Rattle.outside.specs.Reads.{OnlyReads, reads_then}
 use Rattle.serial_model.specs.declared.decl.Decl.{Decl}
 use Rattle.wire_form.specs.declared.bucket.Bucket.{Bucket}
-use Rattle.gleaner.specs.Glean.{AreMappedFiles, IsMappedFile}
+use Rattle.gleaner.specs.Glean.{IsMappedFile}
+use Rattle.gleaner.specs.Halves.{AreMappedFrom}
 use Rattle.gleaner.specs.declared.closed.Closed.{Closed}
 
 -- what stands in a list with one thing more behind it
@@ -50,35 +51,35 @@ reads_none disk = record {
   later = omega arith;
 }
 
-module _ {D : Type 0} {tells : D → Option (List ℕ)} {closed : Closed} {decls : List Decl} {after : ℕ} where
+module _ {D : Type 0} {tells : D → Option (List ℕ)} {closed : Closed} {decls : List Decl} {after first : ℕ} where
   -- no log file so far
-  pub mapped_none : (files : List D) → AreMappedFiles tells closed decls after 0 files []
+  pub mapped_none : (files : List D) → AreMappedFrom tells closed decls after first 0 files []
   mapped_none files = record {
     parts = [];
     many = refl;
     all = refl;
-    each = λ worker file part there at. absurd (let no = at in cc);
+    each = λ at file part there here. absurd (let no = here in cc);
   }
 
   -- one more
   pub mapped_more : (files : List D) (file : D) (buckets more : List Bucket) (count : ℕ)
-      → AreMappedFiles tells closed decls after count files buckets → slice_get files count ≡ Some file
-      → IsMappedFile tells closed decls after count file more
-      → AreMappedFiles tells closed decls after (count + 1) files (buckets ++ more)
+      → AreMappedFrom tells closed decls after first count files buckets → slice_get files count ≡ Some file
+      → IsMappedFile tells closed decls after (first + count) file more
+      → AreMappedFrom tells closed decls after first (count + 1) files (buckets ++ more)
   mapped_more files file buckets more count mapped there one = record {
     parts = mapped.parts ++ more ∷ [];
     many = omega (arith, mapped.many, length-append mapped.parts (more ∷ []));
     all = ap (λ bs. bs ++ more) mapped.all
         ∙ sym (flat_map-append (λ part. part) mapped.parts (more ∷ [])
         ∙ ap (λ bs. flat_map (λ part. part) mapped.parts ++ bs) (append-nil more));
-    each = λ worker f part f_there at. elim (push_cases mapped.parts worker part more at) [
-      | inl old ↦ mapped.each worker f part f_there old
+    each = λ at f part f_there here. elim (push_cases mapped.parts at part more here) [
+      | inl old ↦ mapped.each at f part f_there old
       | inr new ↦
-          let here : worker ≡ count = new.0 ∙ mapped.many in
-          let same : file ≡ f = same_Some file f (sym there ∙ ap (slice_get files) (sym here) ∙ f_there) in
-          subst (λ w. IsMappedFile tells closed decls after w f part) (sym here)
-          (subst (λ x. IsMappedFile tells closed decls after count x part) same
-          (subst (IsMappedFile tells closed decls after count file) new.1 one))
+          let same_at : at ≡ count = new.0 ∙ mapped.many in
+          let same : file ≡ f = same_Some file f (sym there ∙ ap (slice_get files) (sym same_at) ∙ f_there) in
+          subst (λ w. IsMappedFile tells closed decls after (first + w) f part) (sym same_at)
+          (subst (λ x. IsMappedFile tells closed decls after (first + count) x part) same
+          (subst (IsMappedFile tells closed decls after (first + count) file) new.1 one))
     ];
   }
 
@@ -120,5 +121,20 @@ module _ {D : Type 0} (old mid new : List D) (i : ℕ) where
     | inl here ↦
         let between = item_at mid worker (omega (arith, at_below old worker was at, many)) in
         one between.0 is (ap (slice_get mid) (sym here) ∙ between.1) (ap (slice_get new) (sym here) ∙ there)
+        ∙ before worker was between.0 at between.1
+  ]
+
+  -- at one place alone
+  pub quiet_at : {faults : D → ℕ} (worker : ℕ)
+      → ((other : ℕ) (was is : D) → slice_get old other ≡ Some was → slice_get mid other ≡ Some is
+      → faults is ≡ faults was)
+      → ((worker ≡ i) → (was is : D) → slice_get mid i ≡ Some was → slice_get new i ≡ Some is → faults is ≡ faults was)
+      → ((other : ℕ) → other ≢ i → slice_get new other ≡ slice_get mid other) → length mid ≡ length old
+      → (was is : D) → slice_get old worker ≡ Some was → slice_get new worker ≡ Some is → faults is ≡ faults was
+  quiet_at worker before one others many was is at there = elim (at_or_beside worker) [
+    | inr apart ↦ before worker was is at (sym (others worker apart) ∙ there)
+    | inl here ↦
+        let between = item_at mid worker (omega (arith, at_below old worker was at, many)) in
+        one here between.0 is (ap (slice_get mid) (sym here) ∙ between.1) (ap (slice_get new) (sym here) ∙ there)
         ∙ before worker was between.0 at between.1
   ]

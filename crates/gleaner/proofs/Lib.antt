@@ -1,3 +1,4 @@
-pub mod Placed
-pub mod InTurn
 pub mod Appending
+pub mod HalfLaws
+pub mod InTurn
+pub mod Placed

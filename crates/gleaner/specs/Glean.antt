@@ -1,11 +1,11 @@
 -- What the counted bytes of the closed log files make of the newest snapshot.
 use Rattle.std.specs.Prelude.{◌≡◌, ◌≤◌, ◌<◌, ◌+◌, ◌*◌, ◌^◌, ◌++◌, ◌==◌, ℕ, Bool, List, get_or, length, slice_get}
-use Rattle.std.specs.Prelude.{flat_map, if◌then◌else◌, Option, Some, ⊤}
+use Rattle.std.specs.Prelude.{flat_map, if◌then◌else◌, Option, Some, Result, Ok, Err, ⊤}
 use Rattle.std.specs.List.{AllByRecursion, list_all}
 use Rattle.outside.specs.Disk.{IfTold}
 use Rattle.outside.specs.Faults.{Rose}
-use Rattle.outside.specs.declared.vault.Device.{Device}
-use Rattle.outside.specs.declared.vault.Device.TheVariants.{Save, Snaps, Bank}
+use Rattle.outside.specs.declared.device.Device.{Device}
+use Rattle.outside.specs.declared.device.Device.TheVariants.{Save, Snaps, Bank}
 use Rattle.serial_model.specs.Numbers.{last_epoch}
 use Rattle.serial_model.specs.declared.decl.Decl.{Decl}
 use Rattle.wire_form.specs.Pages.{Contents, decls_of}
@@ -18,7 +18,10 @@ use Rattle.root_composer.specs.Composition.{CanCompose, IsComposed, IsTooDeep, W
 use Rattle.root_composer.specs.Composition.{level_count, new_count}
 use Rattle.gleaner.specs.declared.closed.Closed.{Closed}
 use Rattle.gleaner.specs.declared.closed.Newest.{Newest}
+use Rattle.lists.specs.declared.memory.OrMemory.{OrMemory}
+use Rattle.lists.specs.declared.memory.OrMemory.TheVariants as or
 use Rattle.gleaner.specs.declared.gleaning.GleanFault.{GleanFault}
+use Rattle.gleaner.specs.declared.gleaning.Gleaned.{Gleaned}
 use Rattle.gleaner.specs.declared.gleaning.GleanFault.TheVariants as faults
 
 -- no bytes count
@@ -77,6 +80,23 @@ abbrev pub Refuses : {D : Type 0} → (D → ℕ) → Closed → D → D → Lis
 Refuses faults closed snaps_old snaps_new old new Save = ⊥
 Refuses faults closed snaps_old snaps_new old new Snaps = Rose (faults snaps_old) (faults snaps_new)
 Refuses faults closed snaps_old snaps_new old new (Bank number) = HasFailed faults closed old new (Bank number)
+
+-- the told device is a log file with a lower number than the one that failed beside it
+abbrev pub IsLower : Device → Device → Type 0
+IsLower (Bank number) (Bank beside) = number < beside
+IsLower _ _ = ⊥
+
+-- what is told where a log file failed beside it: a lower log file, or want of memory
+abbrev pub IsToldBefore : Result Gleaned (OrMemory GleanFault) → Device → Type 0
+IsToldBefore (Err (or.Fault (faults.Device device))) beside = IsLower device beside
+IsToldBefore (Err (or.Fault (faults.Damaged device at))) beside = IsLower device beside
+IsToldBefore (Err or.Memory) beside = ⊤
+IsToldBefore _ beside = ⊥
+
+-- a closed log file failed beside what is told
+abbrev pub FailsBeside : {D : Type 0} → (D → ℕ) → Closed → List D → List D → Result Gleaned (OrMemory GleanFault) → Device
+    → Type 0
+FailsBeside count closed old new answer device = HasFailed count closed old new device × IsToldBefore answer device
 
 -- reading a log file refuses nothing else
 abbrev pub IsReadFault : GleanFault → Type 0

@@ -1,2 +1,3 @@
 pub mod Glean
 pub mod GleanLaws
+pub mod Halves

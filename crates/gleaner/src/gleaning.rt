@@ -1,31 +1,35 @@
 // A glean.
-ghost use Rattle.std.specs.Prelude.{◌≡◌, ◌≢◌, ◌<◌, ◌≤◌, ◌+◌, ◌*◌, ◌++◌, ◌↔◌, ℕ, List, Some, Ok, Err, IfOk, OnOk, OnErr};
+ghost use Rattle.std.specs.Prelude.{◌≡◌, ◌≢◌, ◌<◌, ◌≤◌, ◌+◌, ◌*◌, ◌++◌, ◌↔◌, ℕ, List, None, Some, Ok, Err, IfOk, OnOk, OnErr};
 ghost use Rattle.std.specs.Prelude.{length};
 ghost use Rattle.std.specs.Prelude.{is_some, slice_get, false, true};
 ghost use Rattle.outside.specs.Disk.{IfTold};
 ghost use Rattle.outside.specs.Reads.{OnlyReads};
 ghost use Rattle.outside.specs.Faults.{Rose};
 ghost use Rattle.outside.specs.Fronts.{AllBegin};
-ghost use Rattle.outside.specs.declared.vault.Device.TheVariants as devices;
+ghost use Rattle.outside.specs.declared.device.Device.TheVariants as devices;
 ghost use Rattle.wire_form.specs.Pages.{Contents};
 ghost use Rattle.wire_form.specs.declared.page.Page.{Page};
 ghost use Rattle.snapshot_store.specs.Content.{words_of};
 ghost use Rattle.snapshot_store.specs.Store.{bytes_of_pages, Holds, KeepsFront, NumberedFrom};
 ghost use Rattle.snapshot_store.specs.declared.store.StoreFault.{StoreFault as TheStoreFault};
-ghost use Rattle.gleaner.specs.Glean.{CanGlean, IsDamagedFile, IsGleaned, Refuses};
-ghost use Rattle.gleaner.specs.Glean.{CanReduce, Composes, ComposesDeep, ComposesMany, WouldBeDeep, WouldBeMany};
+ghost use Rattle.root_composer.specs.Composition.{CanCompose};
+ghost use Rattle.gleaner.specs.Glean.{CanGlean, FailsBeside, IsDamagedFile, IsGleaned, Refuses};
+ghost use Rattle.gleaner.specs.Glean.{Composes, ComposesDeep, ComposesMany, WouldBeDeep, WouldBeMany};
+ghost use Rattle.log_reducer.specs.Reduced.{AreLast, all_logged};
+ghost use Rattle.wire_form.specs.declared.bucket.Bucket.{Bucket as TheBucket};
 ghost use Rattle.gleaner.specs.Glean.{bank_of as number_of, none_counted};
 
 use crate::closed::{Closed, Newest, count_nothing};
-use crate::mapping::map_closed;
+use crate::halves::{Refusal, run_of_closed};
 use lists::OrMemory;
-use log_reducer::reduce;
 use outside::{Device, Disk};
 use root_composer::{ComposeFault, NewPages, compose};
 use serial_model::Decl;
 use snapshot_store::{SnapStore, StoreFault};
 use std::alloc::Global;
-use wire_form::Bucket;
+use std::sync::Wait;
+use std::thread::Threads;
+use wire_form::Run;
 
 /// What a glean answers.
 #[derive(Clone, Copy, Debug, PartialEq, Eq)]
@@ -49,9 +53,20 @@ pub enum GleanFault {
     Limit { have: u32, new: u64, room: u32 },
 }
 
+/// What a glean comes to.
+#[derive(Clone, Copy, Debug, PartialEq, Eq)]
+pub struct Gleaning {
+    pub answer: Result<Gleaned, OrMemory<GleanFault>>,
+    /// The closed log file that failed beside the refusal that is told, if one did: one of a higher number, since two
+    /// mappers read at once.
+    pub beside: Option<Device>,
+}
+
 /// Adds the snapshot that the counted bytes of the closed log files make of the newest one. Before any write it refuses
-/// damage, [`GleanFault::Deep`] and [`GleanFault::Limit`], in this order, and so does want of memory.
-pub fn glean<D: Disk>(
+/// damage, [`GleanFault::Deep`] and [`GleanFault::Limit`], in this order, and so does want of memory. Of the log files
+/// the fault of the lowest is told.
+pub fn glean<R: Threads + Wait + Sync, D: Disk + Send>(
+    rt: &R,
     alloc: Global,
     snaps: &mut D,
     files: &mut [D],
@@ -60,58 +75,121 @@ pub fn glean<D: Disk>(
     newest: Newest,
     closed: &Closed,
     room: u32,
-) -> Result<Gleaned, OrMemory<GleanFault>>
+) -> Gleaning
     requires can { none_counted closed.now.lengths ≢ true
         → (contents : Contents) × CanGlean (words_of store.old.pages) decls.now newest closed.now contents }
     requires workers { length files.old ≡ 8 }
     requires room { room ≤ 65536 }
     requires sound { store.old.sound ≡ true }
     requires holds { Holds D.tells snaps.old store.old.pages }
-    ensures none { (result ≡ Ok Gleaned.Empty) ↔ (none_counted closed.now.lengths ≡ true) }
+    ensures none { (result.answer ≡ Ok Gleaned.Empty) ↔ (none_counted closed.now.lengths ≡ true) }
     ensures untouched { none_counted closed.now.lengths ≡ true
         → (snaps.new ≡ snaps.old) × (files.new ≡ files.old) × (store.new ≡ store.old) }
-    ensures gleaned { (epoch new : ℕ) → result ≡ Ok (Gleaned.Snap epoch new) → (epoch ≡ closed.now.epoch)
+    ensures gleaned { (epoch new : ℕ) → result.answer ≡ Ok (Gleaned.Snap epoch new) → (epoch ≡ closed.now.epoch)
         × IsGleaned D.tells (words_of store.old.pages) decls.now newest closed.now files.old (words_of store.new.pages)
         new room }
-    ensures durable { OnOk result (IfTold (D.tells snaps.old) (λ _.
+    ensures durable { OnOk result.answer (IfTold (D.tells snaps.old) (λ _.
         none_counted closed.now.lengths ≢ true
         → AllBegin (D.image_at snaps.new (D.clock snaps.new)) (bytes_of_pages store.new.pages))) }
-    ensures sound { OnOk result (store.new.sound ≡ true) }
-    ensures holds { OnOk result (Holds D.tells snaps.new store.new.pages) }
-    ensures damaged { (device : Device) (at : ℕ) → result ≡ Err (OrMemory.Fault (GleanFault.Damaged device at))
+    ensures sound { OnOk result.answer (store.new.sound ≡ true) }
+    ensures holds { OnOk result.answer (Holds D.tells snaps.new store.new.pages) }
+    ensures damaged { (device : Device) (at : ℕ) → result.answer ≡ Err (OrMemory.Fault (GleanFault.Damaged device at))
         → IsDamagedFile D.tells closed.now decls.now newest.epoch files.old device at }
-    ensures device { (device : Device) → result ≡ Err (OrMemory.Fault (GleanFault.Device device))
+    ensures device { (device : Device) → result.answer ≡ Err (OrMemory.Fault (GleanFault.Device device))
         → Refuses D.faults closed.now snaps.old snaps.new files.old files.new device }
-    ensures deep { result ≡ Err (OrMemory.Fault GleanFault.Deep)
+    ensures deep { result.answer ≡ Err (OrMemory.Fault GleanFault.Deep)
         → WouldBeDeep D.tells (words_of store.old.pages) decls.now newest closed.now files.old }
-    ensures limit { (have new most : ℕ) → result ≡ Err (OrMemory.Fault (GleanFault.Limit have new most))
+    ensures limit { (have new most : ℕ) → result.answer ≡ Err (OrMemory.Fault (GleanFault.Limit have new most))
         → (have ≡ length store.old.pages) × (most ≡ room) × (room < have + new)
         × WouldBeMany D.tells (words_of store.old.pages) decls.now newest closed.now files.old new }
-    ensures kept { OnErr result (result ≢ Err (OrMemory.Fault (GleanFault.Device devices.Snaps))
+    ensures kept { OnErr result.answer (result.answer ≢ Err (OrMemory.Fault (GleanFault.Device devices.Snaps))
         → (snaps.new ≡ snaps.old) × (store.new ≡ store.old)) }
-    ensures unsound { result ≡ Err (OrMemory.Fault (GleanFault.Device devices.Snaps)) → store.new.sound ≡ false }
+    ensures unsound { result.answer ≡ Err (OrMemory.Fault (GleanFault.Device devices.Snaps)) → store.new.sound ≡ false }
     ensures grows { (more : List Page) × (store.new.pages ≡ store.old.pages ++ more) }
+    // A closed log file failed beside what is told: that of a lower one, or want of memory.
+    ensures beside { (device : Device) → result.beside ≡ Some device
+        → FailsBeside D.faults closed.now files.old files.new result.answer device }
     // Whatever it answers: images begin with what was durable of the pages, and no other count of faults rose.
     ensures front { KeepsFront D.clock D.image_at (512 * length store.old.pages) snaps.old snaps.new }
     ensures told { is_some (D.tells snaps.new) ≡ is_some (D.tells snaps.old) }
-    ensures quiet_snaps { result ≢ Err (OrMemory.Fault (GleanFault.Device devices.Snaps))
+    ensures quiet_snaps { result.answer ≢ Err (OrMemory.Fault (GleanFault.Device devices.Snaps))
         → D.faults snaps.new ≡ D.faults snaps.old }
     ensures quiet_files { (worker : ℕ) (was is : D) → slice_get files.old worker ≡ Some was
         → slice_get files.new worker ≡ Some is
-        → result ≢ Err (OrMemory.Fault (GleanFault.Device (devices.Bank (number_of closed.now.odd worker))))
+        → result.answer ≢ Err (OrMemory.Fault (GleanFault.Device (devices.Bank (number_of closed.now.odd worker))))
+        → result.beside ≢ Some (devices.Bank (number_of closed.now.odd worker))
         → D.faults is ≡ D.faults was }
     ensures reads { (worker : ℕ) (was is : D) → slice_get files.old worker ≡ Some was
         → slice_get files.new worker ≡ Some is → OnlyReads D.tells D.clock D.image_at D.faults was is }
     ensures length { length files.new ≡ length files.old }
 {
     if count_nothing(&closed.lengths) {
-        return Ok(Gleaned::Empty);
+        return alone(Ok(Gleaned::Empty));
     }
-    let buckets = match map_closed(alloc, files, closed, decls, newest.epoch) {
-        Ok(buckets) => buckets,
-        Err(fault) => return Err(fault),
-    };
-    let pages = match pages_of(alloc, store, newest, &buckets, closed.epoch, room) {
+    match run_of_closed(rt, alloc, files, closed, decls, newest.epoch) {
+        Ok(run) => alone(add(alloc, snaps, store, newest, &run, closed.epoch, room)),
+        Err(Refusal { fault, beside }) => Gleaning {
+            answer: Err(fault),
+            beside,
+        },
+    }
+}
+
+// An answer beside which no log file failed.
+fn alone(answer: Result<Gleaned, OrMemory<GleanFault>>) -> Gleaning
+    ensures answer { result.answer ≡ answer }
+    ensures beside { result.beside ≡ None }
+{
+    Gleaning {
+        answer,
+        beside: None,
+    }
+}
+
+// Adds the snapshot that a run of last entries makes of the newest one.
+fn add<D: Disk>(
+    alloc: Global,
+    snaps: &mut D,
+    store: &mut SnapStore,
+    newest: Newest,
+    run: &Run,
+    epoch: u32,
+    room: u32,
+) -> Result<Gleaned, OrMemory<GleanFault>>
+    requires can { (contents : Contents) × CanCompose (words_of store.old.pages) newest.page contents run.now epoch }
+    requires room { room ≤ 65536 }
+    requires sound { store.old.sound ≡ true }
+    requires holds { Holds D.tells snaps.old store.old.pages }
+    ensures some { result ≢ Ok Gleaned.Empty }
+    ensures gleaned { (at new : ℕ) → result ≡ Ok (Gleaned.Snap at new) → (at ≡ epoch)
+        × (made : List (List ℕ)) × (words_of store.new.pages ≡ words_of store.old.pages ++ made)
+        × (length (words_of store.old.pages) + new ≤ room)
+        × ((buckets : List TheBucket) → AreLast (all_logged buckets) run.now
+        → Composes (words_of store.old.pages) newest buckets epoch made new) }
+    ensures durable { OnOk result (IfTold (D.tells snaps.old) (λ _.
+        AllBegin (D.image_at snaps.new (D.clock snaps.new)) (bytes_of_pages store.new.pages))) }
+    ensures sound { OnOk result (store.new.sound ≡ true) }
+    ensures holds { OnOk result (Holds D.tells snaps.new store.new.pages) }
+    ensures device { (device : Device) → result ≡ Err (OrMemory.Fault (GleanFault.Device device))
+        → (device ≡ devices.Snaps) × Rose (D.faults snaps.old) (D.faults snaps.new) }
+    ensures undamaged { (device : Device) (at : ℕ) → result ≢ Err (OrMemory.Fault (GleanFault.Damaged device at)) }
+    ensures deep { result ≡ Err (OrMemory.Fault GleanFault.Deep)
+        → (buckets : List TheBucket) → AreLast (all_logged buckets) run.now
+        → ComposesDeep (words_of store.old.pages) newest buckets }
+    ensures limit { (have new most : ℕ) → result ≡ Err (OrMemory.Fault (GleanFault.Limit have new most))
+        → (have ≡ length store.old.pages) × (most ≡ room) × (room < have + new)
+        × ((buckets : List TheBucket) → AreLast (all_logged buckets) run.now
+        → ComposesMany (words_of store.old.pages) newest buckets epoch new) }
+    ensures kept { OnErr result (result ≢ Err (OrMemory.Fault (GleanFault.Device devices.Snaps))
+        → (snaps.new ≡ snaps.old) × (store.new ≡ store.old)) }
+    ensures unsound { result ≡ Err (OrMemory.Fault (GleanFault.Device devices.Snaps)) → store.new.sound ≡ false }
+    ensures grows { (more : List Page) × (store.new.pages ≡ store.old.pages ++ more) }
+    ensures front { KeepsFront D.clock D.image_at (512 * length store.old.pages) snaps.old snaps.new }
+    ensures told { is_some (D.tells snaps.new) ≡ is_some (D.tells snaps.old) }
+    ensures quiet_snaps { result ≢ Err (OrMemory.Fault (GleanFault.Device devices.Snaps))
+        → D.faults snaps.new ≡ D.faults snaps.old }
+{
+    let pages = match pages_of(alloc, store, newest, run, epoch, room) {
         Ok(pages) => pages,
         Err(fault) => return Err(fault),
     };
@@ -120,36 +198,37 @@ pub fn glean<D: Disk>(
         Err(fault) => return Err(fault_of_store(fault)),
     }
     Ok(Gleaned::Snap {
-        epoch: closed.epoch,
+        epoch,
         new: pages.len() as u32,
     })
 }
 
-// The pages of the snapshot that the last entries of these buckets make of the newest one.
+// The pages of the snapshot that a run of last entries makes of the newest one.
 fn pages_of(
     alloc: Global,
     store: &SnapStore,
     newest: Newest,
-    buckets: &[Bucket],
+    run: &Run,
     epoch: u32,
     room: u32,
 ) -> Result<NewPages, OrMemory<GleanFault>>
-    requires can { (contents : Contents) × CanReduce (words_of store.now.pages) newest buckets.now epoch contents }
+    requires can { (contents : Contents) × CanCompose (words_of store.now.pages) newest.page contents run.now epoch }
     requires room { room ≤ 65536 }
-    ensures composed { IfOk result (λ pages.
-        Composes (words_of store.now.pages) newest buckets.now epoch (words_of pages) (length pages)) }
+    ensures composed { IfOk result (λ pages. (buckets : List TheBucket) → AreLast (all_logged buckets) run.now
+        → Composes (words_of store.now.pages) newest buckets epoch (words_of pages) (length pages)) }
     ensures numbered { IfOk result (λ pages. NumberedFrom (length store.now.pages + 1) pages) }
     ensures within { IfOk result (λ pages. length store.now.pages + length pages ≤ room) }
     ensures deep { result ≡ Err (OrMemory.Fault GleanFault.Deep)
-        → ComposesDeep (words_of store.now.pages) newest buckets.now }
+        → (buckets : List TheBucket) → AreLast (all_logged buckets) run.now
+        → ComposesDeep (words_of store.now.pages) newest buckets }
     ensures limit { (have new most : ℕ) → result ≡ Err (OrMemory.Fault (GleanFault.Limit have new most))
         → (have ≡ length store.now.pages) × (most ≡ room) × (room < have + new)
-        × ComposesMany (words_of store.now.pages) newest buckets.now epoch new }
+        × ((buckets : List TheBucket) → AreLast (all_logged buckets) run.now
+        → ComposesMany (words_of store.now.pages) newest buckets epoch new) }
     ensures only { ((device : Device) → result ≢ Err (OrMemory.Fault (GleanFault.Device device)))
         × ((device : Device) (at : ℕ) → result ≢ Err (OrMemory.Fault (GleanFault.Damaged device at))) }
 {
-    let run = reduce(alloc, buckets)?;
-    match compose(alloc, store, newest.page, &run, epoch, room) {
+    match compose(alloc, store, newest.page, run, epoch, room) {
         Ok(pages) => Ok(pages),
         Err(OrMemory::Memory) => Err(OrMemory::Memory),
         Err(OrMemory::Fault(ComposeFault::Deep)) => Err(OrMemory::Fault(GleanFault::Deep)),

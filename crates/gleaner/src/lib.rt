@@ -8,6 +8,10 @@
 //! - Before any write it refuses, in this order: damage, at a byte of a closed log file (`damaged`); a page that would
 //!   stand below 32 others (`deep`); more pages than are let in, at exactly their number (`limit`); want of memory.
 //! - It only reads the closed log files (`reads`), and a device failed only where its count of faults rose (`device`).
+//!   The fault of the lowest log file that has one is told; a higher one may have failed beside it (`beside`).
+//!
+//! Two mappers have four log files each, and pass the buckets to two reducers through queues, all in threads of their own:
+//! which bucket comes when makes no difference to the pages.
 //!
 //! Terms: *closed*, of a log file, that no journal writes it; *counted*, of bytes of a log file, that the newest
 //! savepoint counts them.
@@ -17,7 +21,8 @@
 
 mod closed;
 mod gleaning;
+mod halves;
 mod mapping;
 
 pub use closed::{Closed, Newest};
-pub use gleaning::{GleanFault, Gleaned, glean};
+pub use gleaning::{GleanFault, Gleaned, Gleaning, glean};

@@ -1,122 +1,175 @@
-// From the closed log files to buckets.
-ghost use Rattle.std.specs.Prelude.{◌≡◌, ◌≢◌, ◌<◌, ◌≤◌, ◌^◌, ◌++◌, ℕ, List, Some, Err, IfOk, OnOk};
+// From the closed log files to the last entries of their keys, by two mappers and two reducers.
+ghost use Rattle.std.specs.Prelude.{◌≡◌, ◌≢◌, ◌<◌, ◌≤◌, ◌+◌, ◌^◌, ℕ, List, Some, Err, OnOk};
 ghost use Rattle.std.specs.Prelude.{get_or, length, slice_get};
 ghost use Rattle.std.specs.List.{AllByRecursion};
+ghost use Rattle.crossbeam_queue.specs.Passes.{view, IsPassOf};
 ghost use Rattle.outside.specs.Disk.{IfTold};
 ghost use Rattle.outside.specs.Reads.{OnlyReads};
 ghost use Rattle.outside.specs.Faults.{Rose};
-ghost use Rattle.outside.specs.declared.vault.Device.TheVariants as devices;
+ghost use Rattle.outside.specs.declared.device.Device.TheVariants as devices;
+ghost use Rattle.wire_form.specs.declared.bucket.Bucket.{Bucket as TheBucket};
 ghost use Rattle.log_mapper.specs.Mapped.{IsDamaged};
-ghost use Rattle.gleaner.specs.Glean.{AreMappedFiles, FailedOf, HasFailed, IsDamagedFile, IsDamagedOf, IsMappedFile};
-ghost use Rattle.gleaner.specs.Glean.{IsReadFault};
+ghost use Rattle.bucket_queues.specs.Threads.{fault_in, HasPut, IsSameMapper};
+ghost use Rattle.gleaner.specs.Glean.{IsMappedFile, IsReadFault};
 ghost use Rattle.gleaner.specs.Glean.{bank_of as number_of};
+ghost use Rattle.gleaner.specs.Halves.{AreMappedFrom, IsHalf, LeavesHalf};
 
 use crate::GleanFault;
 use crate::closed::{Closed, bank_of};
+use bucket_queues::{BucketQueue, Mapper, Maps, map_into};
 use lists::OrMemory;
-use log_mapper::{MapFault, map_bank};
+use log_mapper::MapFault;
 use outside::{Device, Disk};
 use serial_model::Decl;
 use std::alloc::Global;
-use wire_form::Bucket;
+use std::sync::Wait;
 
-/// The buckets of the closed log files, one after another, with the entries of epochs above the newest snapshot's.
-pub(crate) fn map_closed<D: Disk>(
-    alloc: Global,
+/// Maps the closed log files of four workers, from this one on, with the entries of epochs above the newest snapshot's.
+#[derive(Clone, Copy)]
+pub(crate) struct HalfMapper<'a> {
+    pub alloc: Global,
+    pub closed: Closed,
+    pub decls: &'a [Decl],
+    pub after: u32,
+    pub first: usize,
+}
+
+impl<'a, R: Wait, D: Disk> Maps<R, D, GleanFault> for HalfMapper<'a> {
+    ghost use Rattle.gleaner.specs.Halves.{AreMappedFrom, IsHalf, LeavesHalf};
+
+    ghost can = { λ it files. IsHalf it.closed it.first files };
+
+    ghost made = { λ it old new buckets. AreMappedFrom D.tells it.closed it.decls.now it.after it.first 4 old buckets };
+
+    ghost leaves = { λ it old new fault. LeavesHalf D.tells D.clock D.image_at D.faults it.closed it.decls.now it.after
+        it.first old new fault };
+
+    fn map(
+        &self,
+        rt: &R,
+        files: &mut [D],
+        even: &BucketQueue,
+        odd: &BucketQueue,
+        mapper: &mut Mapper,
+    ) -> Result<(), OrMemory<GleanFault>> {
+        map_half(rt, self, files, even, odd, mapper)
+    }
+}
+
+// Maps the closed log files of a half, one after another.
+fn map_half<R: Wait, D: Disk>(
+    rt: &R,
+    half: &HalfMapper<'_>,
     files: &mut [D],
-    closed: &Closed,
-    decls: &[Decl],
-    after: u32,
-) -> Result<Vec<Bucket>, OrMemory<GleanFault>>
-    requires workers { length files.old ≡ 8 }
-    requires counted { AllByRecursion (λ n. n < 2 ^ 40) closed.now.lengths }
-    ensures mapped { IfOk result (λ buckets.
-        AreMappedFiles D.tells closed.now decls.now after 8 files.old buckets.items) }
-    ensures damaged { (device : Device) (at : ℕ) → result ≡ Err (OrMemory.Fault (GleanFault.Damaged device at))
-        → IsDamagedFile D.tells closed.now decls.now after files.old device at }
-    ensures device { (device : Device) → result ≡ Err (OrMemory.Fault (GleanFault.Device device))
-        → HasFailed D.faults closed.now files.old files.new device }
-    ensures only { (fault : GleanFault) → result ≡ Err (OrMemory.Fault fault) → IsReadFault fault }
-    ensures reads { (worker : ℕ) (was is : D) → slice_get files.old worker ≡ Some was
-        → slice_get files.new worker ≡ Some is → OnlyReads D.tells D.clock D.image_at D.faults was is }
-    ensures quiet { (worker : ℕ) (was is : D) → slice_get files.old worker ≡ Some was
-        → slice_get files.new worker ≡ Some is
-        → result ≢ Err (OrMemory.Fault (GleanFault.Device (devices.Bank (number_of closed.now.odd worker))))
-        → D.faults is ≡ D.faults was }
-    ensures length { length files.new ≡ length files.old }
+    even: &BucketQueue,
+    odd: &BucketQueue,
+    mapper: &mut Mapper,
+) -> Result<(), OrMemory<GleanFault>>
+    requires half { IsHalf half.now.closed half.now.first files.old }
+    requires even { IsPassOf even.now mapper.old.at_even × (0 < (view mapper.old.at_even).parts) }
+    requires odd { IsPassOf odd.now mapper.old.at_odd × (0 < (view mapper.old.at_odd).parts) }
+    ensures same { IsSameMapper mapper.old mapper.new }
+    ensures leaves { LeavesHalf D.tells D.clock D.image_at D.faults half.now.closed half.now.decls.now half.now.after
+        half.now.first files.old files.new (fault_in result) }
+    ensures made { OnOk result ((buckets : List TheBucket)
+        × AreMappedFrom D.tells half.now.closed half.now.decls.now half.now.after half.now.first 4 files.old buckets
+        × HasPut mapper.old mapper.new buckets) }
 {
-    let mut buckets = Vec::new(alloc);
-    for worker in 0..8 {
-        match map_at(alloc, files, closed, decls, after, worker, &mut buckets) {
+    for at in 0..4 {
+        match map_at(rt, half, files, at, even, odd, mapper) {
             Ok(()) => {}
             Err(fault) => return Err(fault),
         }
     }
-    Ok(buckets)
+    Ok(())
 }
 
-// Adds the buckets of the closed log file that stands here, its worker's.
-fn map_at<D: Disk>(
-    alloc: Global,
+// Maps the closed log file that stands here in a half.
+fn map_at<R: Wait, D: Disk>(
+    rt: &R,
+    half: &HalfMapper<'_>,
     files: &mut [D],
-    closed: &Closed,
-    decls: &[Decl],
-    after: u32,
-    worker: usize,
-    buckets: &mut Vec<Bucket>,
+    at: usize,
+    even: &BucketQueue,
+    odd: &BucketQueue,
+    mapper: &mut Mapper,
 ) -> Result<(), OrMemory<GleanFault>>
-    requires worker { worker < 8 }
-    requires file { worker < length files.old }
-    requires counted { AllByRecursion (λ n. n < 2 ^ 40) closed.now.lengths }
-    ensures mapped { OnOk result ((file : D) → slice_get files.old worker ≡ Some file
-        → (more : List Bucket) × (buckets.new.items ≡ buckets.old.items ++ more)
-        × IsMappedFile D.tells closed.now decls.now after worker file more) }
-    ensures damaged { (device : Device) (at : ℕ) → result ≡ Err (OrMemory.Fault (GleanFault.Damaged device at))
-        → IsDamagedOf D.tells closed.now decls.now files.old worker device at }
+    requires at { (at < 4) × (half.now.first ≤ 4) }
+    requires file { at < length files.old }
+    requires counted { AllByRecursion (λ n. n < 2 ^ 40) half.now.closed.lengths }
+    requires even { IsPassOf even.now mapper.old.at_even × (0 < (view mapper.old.at_even).parts) }
+    requires odd { IsPassOf odd.now mapper.old.at_odd × (0 < (view mapper.old.at_odd).parts) }
+    ensures same { IsSameMapper mapper.old mapper.new }
+    ensures mapped { OnOk result ((file : D) → slice_get files.old at ≡ Some file
+        → (made : List TheBucket) × HasPut mapper.old mapper.new made
+        × IsMappedFile D.tells half.now.closed half.now.decls.now half.now.after (half.now.first + at) file made) }
+    ensures damaged { (device : Device) (place : ℕ) → result ≡ Err (OrMemory.Fault (GleanFault.Damaged device place))
+        → (file : D) × (slice_get files.old at ≡ Some file)
+        × (device ≡ devices.Bank (number_of half.now.closed.odd (half.now.first + at)))
+        × IfTold (D.tells file) (λ bytes. IsDamaged (get_or half.now.closed.lengths (half.now.first + at) 0)
+        half.now.decls.now bytes place) }
     ensures device { (device : Device) → result ≡ Err (OrMemory.Fault (GleanFault.Device device))
-        → FailedOf D.faults closed.now files.old files.new worker device }
+        → (was is : D) × (slice_get files.old at ≡ Some was) × (slice_get files.new at ≡ Some is)
+        × (device ≡ devices.Bank (number_of half.now.closed.odd (half.now.first + at)))
+        × Rose (D.faults was) (D.faults is) }
     ensures only { (fault : GleanFault) → result ≡ Err (OrMemory.Fault fault) → IsReadFault fault }
-    ensures reads { (was is : D) → slice_get files.old worker ≡ Some was → slice_get files.new worker ≡ Some is
+    ensures reads { (was is : D) → slice_get files.old at ≡ Some was → slice_get files.new at ≡ Some is
         → OnlyReads D.tells D.clock D.image_at D.faults was is }
-    ensures quiet { (was is : D) → slice_get files.old worker ≡ Some was → slice_get files.new worker ≡ Some is
-        → result ≢ Err (OrMemory.Fault (GleanFault.Device (devices.Bank (number_of closed.now.odd worker))))
+    ensures quiet { (was is : D) → slice_get files.old at ≡ Some was → slice_get files.new at ≡ Some is
+        → result ≢ Err (OrMemory.Fault (GleanFault.Device
+        (devices.Bank (number_of half.now.closed.odd (half.now.first + at)))))
         → D.faults is ≡ D.faults was }
-    ensures others { (other : ℕ) → other ≢ worker → slice_get files.new other ≡ slice_get files.old other }
+    ensures others { (other : ℕ) → other ≢ at → slice_get files.new other ≡ slice_get files.old other }
     ensures length { length files.new ≡ length files.old }
 {
-    match map_file(alloc, &mut files[worker], closed, decls, after, worker) {
-        Ok(mapped) => add_all(buckets, mapped),
-        Err(fault) => Err(fault),
-    }
+    map_file(rt, half, &mut files[at], half.first + at, even, odd, mapper)
 }
 
-// The buckets of a worker's closed log file.
-fn map_file<D: Disk>(
-    alloc: Global,
+// Maps a worker's closed log file.
+fn map_file<R: Wait, D: Disk>(
+    rt: &R,
+    half: &HalfMapper<'_>,
     file: &mut D,
-    closed: &Closed,
-    decls: &[Decl],
-    after: u32,
     worker: usize,
-) -> Result<Vec<Bucket>, OrMemory<GleanFault>>
+    even: &BucketQueue,
+    odd: &BucketQueue,
+    mapper: &mut Mapper,
+) -> Result<(), OrMemory<GleanFault>>
     requires worker { worker < 8 }
-    requires counted { AllByRecursion (λ n. n < 2 ^ 40) closed.now.lengths }
-    ensures mapped { IfOk result (λ buckets.
-        IsMappedFile D.tells closed.now decls.now after worker file.old buckets.items) }
-    ensures damaged { (device : Device) (at : ℕ) → result ≡ Err (OrMemory.Fault (GleanFault.Damaged device at))
-        → (device ≡ devices.Bank (number_of closed.now.odd worker))
-        × IfTold (D.tells file.old) (λ bytes. IsDamaged (get_or closed.now.lengths worker 0) decls.now bytes at) }
+    requires counted { AllByRecursion (λ n. n < 2 ^ 40) half.now.closed.lengths }
+    requires even { IsPassOf even.now mapper.old.at_even × (0 < (view mapper.old.at_even).parts) }
+    requires odd { IsPassOf odd.now mapper.old.at_odd × (0 < (view mapper.old.at_odd).parts) }
+    ensures same { IsSameMapper mapper.old mapper.new }
+    ensures mapped { OnOk result ((made : List TheBucket) × HasPut mapper.old mapper.new made
+        × IsMappedFile D.tells half.now.closed half.now.decls.now half.now.after worker file.old made) }
+    ensures damaged { (device : Device) (place : ℕ) → result ≡ Err (OrMemory.Fault (GleanFault.Damaged device place))
+        → (device ≡ devices.Bank (number_of half.now.closed.odd worker))
+        × IfTold (D.tells file.old) (λ bytes.
+        IsDamaged (get_or half.now.closed.lengths worker 0) half.now.decls.now bytes place) }
     ensures device { (device : Device) → result ≡ Err (OrMemory.Fault (GleanFault.Device device))
-        → (device ≡ devices.Bank (number_of closed.now.odd worker)) × Rose (D.faults file.old) (D.faults file.new) }
+        → (device ≡ devices.Bank (number_of half.now.closed.odd worker)) × Rose (D.faults file.old) (D.faults file.new) }
     ensures only { (fault : GleanFault) → result ≡ Err (OrMemory.Fault fault) → IsReadFault fault }
     ensures reads { OnlyReads D.tells D.clock D.image_at D.faults file.old file.new }
-    ensures quiet { result ≢ Err (OrMemory.Fault (GleanFault.Device (devices.Bank (number_of closed.now.odd worker))))
+    ensures quiet { result ≢ Err (OrMemory.Fault (GleanFault.Device (devices.Bank (number_of half.now.closed.odd worker))))
         → D.faults file.new ≡ D.faults file.old }
 {
+    let closed = half.closed;
     let bank = bank_of(closed.odd, worker);
     let length = closed.lengths[worker];
-    match map_bank(alloc, file, bank, length, decls, after, closed.epoch) {
-        Ok(buckets) => Ok(buckets.into_vec()),
+    match map_into(
+        rt,
+        half.alloc,
+        file,
+        bank,
+        length,
+        half.decls,
+        half.after,
+        closed.epoch,
+        even,
+        odd,
+        mapper,
+    ) {
+        Ok(()) => Ok(()),
         Err(OrMemory::Memory) => Err(OrMemory::Memory),
         Err(OrMemory::Fault(fault)) => Err(OrMemory::Fault(fault_of(fault, bank))),
     }
@@ -136,15 +189,4 @@ fn fault_of(fault: MapFault, bank: u8) -> GleanFault
         MapFault::Device => GleanFault::Device(device),
         MapFault::Damaged { at } => GleanFault::Damaged { device, at },
     }
-}
-
-// Adds the one buckets behind the others.
-fn add_all(buckets: &mut Vec<Bucket>, more: Vec<Bucket>) -> Result<(), OrMemory<GleanFault>>
-    ensures added { OnOk result (buckets.new.items ≡ buckets.old.items ++ more.items) }
-    ensures memory { (fault : GleanFault) → result ≢ Err (OrMemory.Fault fault) }
-{
-    for bucket in more {
-        buckets.push(bucket)?;
-    }
-    Ok(())
 }

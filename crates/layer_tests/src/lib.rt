@@ -4,7 +4,8 @@
 //! `growing_lists` has lists and what `?` makes of refusals of memory (lists), `span_ends` the ends of spans (homes),
 //! `decimal_texts` numbers and their texts (decimals), `gathered_texts` whole writes and a sink that fails
 //! (text_output), `full_sets` sets at their bounds and in order (tx_sets). `mapped_logs` has the entries of log files
-//! (log_mapper), `reduced_logs` the last ones of keys (log_reducer), and `settled_snapshots` what a settling answers
+//! (log_mapper), `queued_buckets` their way through queues (bucket_queues), `reduced_logs` the last ones of keys
+//! (log_reducer), and `settled_snapshots` what a settling answers
 //! and leaves, to the byte (checkpoints). `call_words` has the words of calls (command_line), `made_scripts` the scripts of
 //! numbers (script_maker), `short_sums` runs in short (brief_output).
 //! They stand in one crate above those that they test, because a crate with tests is proved a second time, and one more
@@ -25,6 +26,8 @@ mod growing_lists;
 mod made_scripts;
 #[cfg(test)]
 mod mapped_logs;
+#[cfg(test)]
+mod queued_buckets;
 #[cfg(test)]
 mod reduced_logs;
 #[cfg(test)]

@@ -8,7 +8,7 @@ use std::test::Fail;
 use wire_form::write_log_line;
 
 // A commit that puts 7 at these keys, of one storage.
-fn commit(epoch: u32, draw: u64, storage: u8, keys: &[u64]) -> Commit {
+pub(super) fn commit(epoch: u32, draw: u64, storage: u8, keys: &[u64]) -> Commit {
     let mut changes = Changes::new();
     for key in keys.iter().take(16) {
         if changes.as_slice().len() < 16 {
@@ -24,7 +24,7 @@ fn commit(epoch: u32, draw: u64, storage: u8, keys: &[u64]) -> Commit {
     }
 }
 
-fn disk(alloc: Global, commits: &[Commit], more: &[u8]) -> Result<MemDisk, AllocError> {
+pub(super) fn disk(alloc: Global, commits: &[Commit], more: &[u8]) -> Result<MemDisk, AllocError> {
     let mut bytes = Vec::new(alloc);
     for commit in commits {
         let mut line = [0; 400];

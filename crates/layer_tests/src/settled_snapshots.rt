@@ -4,10 +4,11 @@ ghost use Rattle.std.specs.Prelude.{◌≤◌, IfOk};
 ghost use Rattle.outside.specs.Disk.{IfTold, Only};
 ghost use Rattle.serial_model.specs.Decls.{AreDecls};
 
-use checkpoints::settle;
+use checkpoints::{SettleFault, settle};
 use lists::OrMemory;
-use outside::{Disk, MemDisk, Vault};
-use recovery_core::{SettleFault, recover};
+use log_writer::{Records, Vault};
+use outside::{Disk, MemDisk};
+use recovery_core::recover;
 use serial_model::Decl;
 use std::alloc::{AllocError, Global};
 use std::test::Fail;
@@ -124,8 +125,8 @@ fn vault(
         snaps: disk(alloc, snaps)?,
         even,
         odd,
-        ties: Vec::new(alloc),
-        cuts: Vec::new(alloc),
+        ties: Records::new(alloc),
+        cuts: Records::new(alloc),
     })
 }
 

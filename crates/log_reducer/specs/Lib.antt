@@ -1,3 +1,5 @@
 pub mod Reduced
 pub mod Overlay
 pub mod Latest
+pub mod Gathered
+pub mod GatheredLaws

@@ -14,7 +14,7 @@ use std::collections::BTreeMap;
 use wire_form::{Bucket, Entry, Run};
 
 // Keeps the latest entries of one log file more.
-fn keep_entries(
+pub(crate) fn keep_entries(
     latest: &mut BTreeMap<Key, Logged>,
     bank: u8,
     entries: &[Entry],
@@ -35,7 +35,10 @@ fn keep_entries(
 }
 
 // The entries of a map, ascending by key.
-fn entries_of(alloc: Global, latest: &BTreeMap<Key, Logged>) -> Result<Vec<Entry>, Memory>
+pub(crate) fn entries_of(
+    alloc: Global,
+    latest: &BTreeMap<Key, Logged>,
+) -> Result<Vec<Entry>, Memory>
     ensures entries { IfOk result (λ entries. entries.items ≡ map entry_in (tree.values latest.now)) }
     ensures ordered { tree.IsOrdered key_cmp latest.now }
 {

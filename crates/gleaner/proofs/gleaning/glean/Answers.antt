@@ -1,53 +1,68 @@
-use Rattle.std.proofs.Common.{◌≡◌, ◌∙◌, ap, inl, inr, subst, sym, []}
-use Rattle.std.proofs.lemmas.List.{append-nil}
-use Rattle.std.specs.Prelude.{Err}
-use Rattle.lists.specs.declared.memory.OrMemory.TheVariants.{Fault}
-use Rattle.snapshot_store.specs.Content.{words_of}
-use Rattle.gleaner.specs.Glean.{CanReduce, ComposesMany}
+use Rattle.std.proofs.Common.{◌≡◌, ◌≢◌, ◌∙◌, ap, sym, Err, Ok, true}
+use Rattle.lists.specs.declared.memory.OrMemory.{OrMemory}
+use Rattle.lists.specs.declared.memory.OrMemory.TheVariants as or
+use Rattle.std.proofs.lemmas.Result.{on_ok_weaker}
+use Rattle.bucket_queues.specs.ThreadLaws.{gathered_last}
+use Rattle.gleaner.specs.Glean.{none_counted}
 use Rattle.gleaner.specs.declared.gleaning.GleanFault.TheVariants as faults
 use Rattle.gleaner.proofs.Placed.{may_reduce}
 use Rattle.gleaner.proofs.gleaning.glean.Goals as goal
 
-pub pages_of-requires-clause-can : goal.pages_of-requires-clause-can
-pages_of-requires-clause-can g c =
-    let can = c.requires.can (λ none. absurd (let no = sym c.if-count_nothing.false ∙ c.count_nothing.ensures ∙ none in cc)) in (
+pub add-requires-clause-can : goal.add-requires-clause-can
+add-requires-clause-can g c =
+    let can = c.requires.can (λ none. absurd (let no = sym c.if-count_nothing.false ∙ c.count_nothing.ensures ∙ none in cc)) in
+    let mapped = c.in-Ok.ensures.mapped in (
       can.0,
-      subst (λ bs. CanReduce (words_of c.args.store.now.pages) c.args.newest bs c.args.closed.now.epoch can.0)
-          (sym c.deref.ensures.value)
-          (may_reduce c.args.files.now c.in-Ok.buckets.items can.1 c.requires.workers c.in-Ok.ensures.mapped),
+      (may_reduce c.args.files.now mapped.0 can.1 c.requires.workers mapped.1).can c.in-Ok.run' (gathered_last mapped.0 c.in-Ok.run' mapped.2),
     )
 
-pub returns-in-Err-pages_of-clause-limit : goal.returns-in-Err-pages_of-clause-limit
-returns-in-Err-pages_of-clause-limit g c have new most is =
-    let same : c.in-Err-pages_of.fault ≡ Fault (faults.Limit have new most) = cc in
-    let l = c.in-Err-pages_of.ensures.limit have new most (ap Err same) in (
+pub returns-in-Ok-clause-gleaned : goal.returns-in-Ok-clause-gleaned
+returns-in-Ok-clause-gleaned g c epoch new is =
+    let mapped = c.in-Ok.ensures.mapped in
+    let made = c.add.ensures.gleaned epoch new (sym c.alone-in-Ok.ensures.answer ∙ is) in (
+      made.0,
+      record {
+        buckets = mapped.0;
+        mapped = mapped.1;
+        made = made.1;
+        added = made.2;
+        composes = made.4 mapped.0 (gathered_last mapped.0 c.in-Ok.run' mapped.2);
+        within = made.3;
+      },
+    )
+
+pub returns-in-Ok-clause-durable : goal.returns-in-Ok-clause-durable
+returns-in-Ok-clause-durable g c = rw c.alone-in-Ok.ensures.answer
+    (on_ok_weaker c.add.result (λ durable bytes told some. durable bytes told) c.add.ensures.durable)
+
+pub returns-in-Ok-clause-deep : goal.returns-in-Ok-clause-deep
+returns-in-Ok-clause-deep g c is =
+    let mapped = c.in-Ok.ensures.mapped in record {
+      buckets = mapped.0;
+      mapped = mapped.1;
+      deep = c.add.ensures.deep (sym c.alone-in-Ok.ensures.answer ∙ is) mapped.0 (gathered_last mapped.0 c.in-Ok.run' mapped.2);
+    }
+
+pub returns-in-Ok-clause-limit : goal.returns-in-Ok-clause-limit
+returns-in-Ok-clause-limit g c have new most is =
+    let mapped = c.in-Ok.ensures.mapped in
+    let l = c.add.ensures.limit have new most (sym c.alone-in-Ok.ensures.answer ∙ is) in (
       l.0,
       l.1,
       l.2,
       record {
-        buckets = c.in-Ok.buckets.items;
-        mapped = c.in-Ok.ensures.mapped;
-        many = subst (λ bs. ComposesMany (words_of c.args.store.now.pages) c.args.newest bs c.args.closed.now.epoch new)
-            c.deref.ensures.value l.3;
+        buckets = mapped.0;
+        mapped = mapped.1;
+        many = l.3 mapped.0 (gathered_last mapped.0 c.in-Ok.run' mapped.2);
       },
     )
 
 -- reading the closed log files refuses neither of these
 pub returns-in-Err-clause-deep : goal.returns-in-Err-clause-deep
 returns-in-Err-clause-deep g c is =
-    let same : c.in-Err.fault ≡ Fault faults.Deep = cc in absurd (c.in-Err.ensures.only faults.Deep (ap Err same))
+    let same : c.in-Err.field-0.fault ≡ or.Fault faults.Deep = cc in absurd (c.in-Err.ensures.refused.only faults.Deep same)
 
 pub returns-in-Err-clause-limit : goal.returns-in-Err-clause-limit
 returns-in-Err-clause-limit g c have new most is =
-    let same : c.in-Err.fault ≡ Fault (faults.Limit have new most) = cc in
-    absurd (c.in-Err.ensures.only (faults.Limit have new most) (ap Err same))
-
-pub returns-clause-durable : goal.returns-clause-durable
-returns-clause-durable g c bytes told some = c.in-Ok-append_durably.ensures.durable bytes told
-
--- the pages grew by the new ones, or not at all
-pub returns-in-Err-append_durably-clause-grows : goal.returns-in-Err-append_durably-clause-grows
-returns-in-Err-append_durably-clause-grows g c = elim c.in-Err-append_durably.ensures.grown [
-  | inl same ↦ ([], same ∙ sym (append-nil c.args.store.now.pages))
-  | inr more ↦ (_, more)
-]
+    let same : c.in-Err.field-0.fault ≡ or.Fault (faults.Limit have new most) = cc in
+    absurd (c.in-Err.ensures.refused.only (faults.Limit have new most) same)

@@ -1,5 +1,5 @@
 -- A chain that may be swung is all that hangs on the pointer: each way below it ends in one of the chain's leaves.
-use Rattle.std.proofs.Common.{◌≡◌, ℕ, zero, suc, ◌+◌, ◌<◌, ◌≤◌, Bool, true, false, not, true≢false, eqb, eqb-true, leb, ltb, ◌&&◌, ◌||◌, ◌⊎◌, inl, inr, List, [], ◌∷◌, length, refl, sym, ap, ◌∙◌, subst, arith, set, Option, Some, None}
+use Rattle.std.proofs.Common.{◌≡◌, ℕ, zero, suc, ◌+◌, ◌<◌, ◌≤◌, Bool, true, false, not, true≢false, eqb, eqb-true, leb, ◌&&◌, ◌||◌, ◌⊎◌, inl, inr, List, [], ◌∷◌, length, refl, sym, ap, ◌∙◌, subst, arith, set, Option, Some, None}
 use Rattle.std.proofs.lemmas.Bool.{cases_Bool, and_parts, and_from, or_cases, false_from_ne_true}
 use Rattle.std.proofs.lemmas.Bool.Decides.{nat_tests}
 use Rattle.std.specs.List.{slice_get, list_any, list_all}
@@ -9,8 +9,8 @@ use Rattle.homes.specs.declared.places.Spot.{Spot}
 use Rattle.homes.specs.declared.places.At.{At}
 use Rattle.homes.specs.declared.places.At.TheVariants.{Root, In}
 use Rattle.homes.specs.declared.places.Home.{Home}
-use Rattle.homes.specs.declared.places.Home.TheVariants.{InSlot, Nowhere}
-use Rattle.homes.specs.Homes.{same_at, same_span, has_key, in_span, is_free, holder_is, moved, moves_to}
+use Rattle.homes.specs.declared.places.Home.TheVariants.{Nowhere}
+use Rattle.homes.specs.Homes.{same_at, same_span, has_key, in_span, is_free, holder_is, moved}
 use Rattle.homes.specs.Laws.{same_at-true}
 use Rattle.drop_core.specs.declared.table.Led.{Led}
 use Rattle.drop_core.specs.declared.table.Led.TheVariants.{Never, From, Away}
@@ -20,8 +20,8 @@ use Rattle.drop_core.specs.declared.table.Table.{Table}
 use Rattle.drop_core.specs.declared.grip.Grip.{Grip}
 use Rattle.drop_core.specs.declared.event.Chain.{Chain}
 use Rattle.drop_core.specs.declared.event.Act.TheVariants.{SwingChain}
-use Rattle.drop_core.specs.Table.{slot_of, page_of, pointer_of, header_of, snap_of, has_slot, at_index, snap_home, page_span, leaf_home, has_pointer, is_led, is_live, is_inner, is_last_to, is_last}
-use Rattle.drop_core.specs.Event.{each_once, leaf_keys, leaves_none_out, is_open, most_pages, leads_into, is_in, is_led_within, is_chain_page, is_link, is_key_in, is_chain, is_target, can_swing_chain, is_allowed, effect, moves}
+use Rattle.drop_core.specs.Table.{slot_of, page_of, pointer_of, header_of, snap_of, has_slot, at_index, snap_home, page_span, leaf_home, has_pointer, is_led, is_live, is_inner, is_last_to}
+use Rattle.drop_core.specs.Event.{each_once, leaf_keys, leaves_none_out, is_open, most_pages, leads_into, is_in, is_led_within, is_chain_page, is_link, is_key_in, is_chain, is_target, is_allowed, effect, moves}
 use Rattle.drop_core.specs.Sound.{TiesPage, TiesTo, IsLedSo, IsSoundTable, IsRanked}
 use Rattle.drop_core.specs.HomeLaws.{leaf-none, leaf-in}
 use Rattle.drop_core.specs.KeyTests.{none-out}

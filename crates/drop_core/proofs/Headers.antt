@@ -1,14 +1,14 @@
 -- Headers: no homes and no pointers depend on them, and those of pages that are gone are dead.
-use Rattle.std.proofs.Common.{◌≡◌, ℕ, ◌+◌, ◌-◌, Bool, true, false, true≢false, eqb, ◌&&◌, ◌||◌, inl, inr, List, [], ◌∷◌, refl, sym, ap, ◌∙◌, subst, Option, Some, None}
-use Rattle.std.proofs.lemmas.Bool.{cases_Bool, and_parts, or_cases, or_left, or_right, cond-true, cond-false, false_from_ne_true}
+use Rattle.std.proofs.Common.{◌≡◌, ℕ, Bool, true, false, true≢false, eqb, ◌&&◌, inl, inr, List, [], ◌∷◌, refl, sym, ap, ◌∙◌, Option, Some, None}
+use Rattle.std.proofs.lemmas.Bool.{or_cases, or_left, or_right, cond-true, cond-false, false_from_ne_true}
 use Rattle.serial_model.specs.declared.key.Key.{Key}
 use Rattle.homes.specs.declared.places.Holder.{Holder}
-use Rattle.homes.specs.declared.places.Holder.TheVariants.{Free, Held, Dead}
+use Rattle.homes.specs.declared.places.Holder.TheVariants.{Dead}
 use Rattle.homes.specs.declared.places.At.{At}
 use Rattle.homes.specs.declared.places.At.TheVariants.{Root, In}
 use Rattle.homes.specs.declared.places.Span.{Span}
 use Rattle.homes.specs.declared.places.Home.{Home}
-use Rattle.homes.specs.Homes.{is_free, holder_is, look}
+use Rattle.homes.specs.Homes.{look}
 use Rattle.homes.specs.Laws.{number_or_other}
 use Rattle.drop_core.specs.declared.table.Led.{Led}
 use Rattle.drop_core.specs.declared.table.Led.TheVariants.{Never, From, Away}
@@ -17,7 +17,7 @@ use Rattle.drop_core.specs.declared.table.Page.{Page}
 use Rattle.drop_core.specs.declared.table.Page.TheVariants.{Blank, Leaf, Inner, Split}
 use Rattle.drop_core.specs.declared.table.Table.{Table}
 use Rattle.drop_core.specs.declared.grip.Grip.{Grip}
-use Rattle.drop_core.specs.Table.{slot_of, page_of, pointer_of, header_of, has_slot, is_live, is_last_to, is_last}
+use Rattle.drop_core.specs.Table.{slot_of, page_of, pointer_of, has_slot, is_live, is_last_to, is_last}
 use Rattle.drop_core.specs.Event.{dead_headers}
 use Rattle.drop_core.specs.Sound.{TiesPage, TiesTo, IsLedSo, IsSoundTable}
 

@@ -27,4 +27,5 @@ pub mod Halves
 pub mod ChainDrops
 pub mod Owners
 pub mod Noted
+pub mod Making
 pub mod Splits

@@ -1,12 +1,10 @@
 -- Slots below the room alone are given; and which seat made a slot, or took away what led to it, is noted by one.
-use Rattle.std.proofs.Common.{◌≡◌, ℕ, suc, ◌+◌, ◌-◌, ◌<◌, ◌≤◌, Bool, true, false, not, true≢false, cond, eqb, eqb-true, eq-eqb, ltb, ◌&&◌, ◌||◌, ◌⊎◌, inl, inr, List, [], ◌∷◌, ◌++◌, refl, sym, ap, ◌∙◌, subst, arith, set, Option, Some, None}
+use Rattle.std.proofs.Common.{◌≡◌, ℕ, ◌+◌, ◌-◌, ◌<◌, ◌≤◌, Bool, true, false, not, true≢false, cond, eqb, eqb-true, eq-eqb, ltb, ◌&&◌, ◌||◌, ◌⊎◌, inl, inr, List, [], ◌∷◌, ◌++◌, refl, sym, ap, ◌∙◌, subst, arith, set, Option, Some, None}
 use Rattle.std.proofs.lemmas.Bool.{cases_Bool, and_parts, or_cases, or_left, or_right, cond-true, cond-false, false_from_ne_true}
 use Rattle.std.proofs.lemmas.Bool.Decides.{nat_tests}
-use Rattle.std.proofs.lemmas.List.Sums.{sum_by-cons}
 use Rattle.std.specs.List.{slice_get, sum_by}
-use Rattle.std.specs.Prelude.{is_none, zero}
+use Rattle.std.specs.Prelude.{is_none}
 use Rattle.serial_model.specs.declared.key.Key.{Key}
-use Rattle.homes.specs.declared.places.Holder.TheVariants.{Dead}
 use Rattle.homes.specs.declared.places.At.{At}
 use Rattle.homes.specs.declared.places.Span.{Span}
 use Rattle.homes.specs.declared.places.Home.{Home}
@@ -22,8 +20,8 @@ use Rattle.drop_core.specs.declared.grip.Grip.{Grip}
 use Rattle.drop_core.specs.declared.event.Twins.{Twins}
 use Rattle.drop_core.specs.declared.event.Act.{Act}
 use Rattle.drop_core.specs.declared.event.Act.TheVariants.{Enter, Leave, Give, Publish, Retire, FillPage, FillPointer, FillSnapshot, Extend, Install, Swing, Renew, Shut, Reopen, FillHeader, LockHeader, OpenHeader, Twin, SwingChain}
-use Rattle.drop_core.specs.Table.{slot_of, page_of, pointer_of, header_of, snap_of, fresh_slot, has_slot, at_index, is_led, is_never, is_away, is_live, counts_hold, counts_made, counts_taken, makers, takers}
-use Rattle.drop_core.specs.Event.{is_owned, is_published, can_be_given, most_times, most_passes, is_open, is_like, stands_for, is_target, can_install, can_swing, can_swing_from, keeps_header, can_split, is_half, is_ready, is_leaf_of, is_separator, are_keys_of, lower_span, upper_span, minor_records, major_records, most_records, leaf_keys, key_in, slot_span, is_allowed, with_slot, without, twinned, installed, dropped, swung, effect}
+use Rattle.drop_core.specs.Table.{slot_of, page_of, pointer_of, header_of, snap_of, fresh_slot, has_slot, at_index, is_led, is_never, is_away, is_live, counts_hold, counts_made, counts_taken}
+use Rattle.drop_core.specs.Event.{is_owned, is_published, can_be_given, most_times, most_passes, is_open, is_like, stands_for, can_install, can_split, is_half, is_ready, is_leaf_of, is_separator, are_keys_of, lower_span, upper_span, minor_records, major_records, most_records, leaf_keys, key_in, slot_span, is_allowed, with_slot, without, twinned, installed, dropped, swung, effect}
 use Rattle.drop_core.specs.Sound.{IsLedSo, IsSoundTable, SlotsWithin, NotedByOne, is_in_making, is_left}
 use Rattle.drop_core.proofs.ChainDrops.{led_from}
 use Rattle.drop_core.proofs.Conditions.{CanTwin}
@@ -34,7 +32,7 @@ use Rattle.drop_core.proofs.Holds.{sum-set_grip, counts-held, one-le-sum}
 use Rattle.drop_core.proofs.Repoints.{slot-same, slot-other}
 use Rattle.drop_core.proofs.SlotTurns.{has-new, has-more, has-without, has-none}
 use Rattle.drop_core.proofs.Splitting.{slots}
-use Rattle.drop_core.proofs.Swings.{Installs, install_asks, swing_live, published, never}
+use Rattle.drop_core.proofs.Swings.{Installs, install_asks, swing_live, published}
 
 -- ---- below the room
 
@@ -439,7 +437,7 @@ module _ (homes : Key → Home) (d : Table) (grips : List Grip) (sound : IsSound
     }
 
   -- both halves were made by the seat
-  halves_made : (w : Twins) (span : Span) → can_split p d g span w ≡ true → (has_slot g.made w.minor ≡ true) × (has_slot g.made w.major ≡ true)
+  pub halves_made : (w : Twins) (span : Span) → can_split p d g span w ≡ true → (has_slot g.made w.minor ≡ true) × (has_slot g.made w.major ≡ true)
   halves_made w span can =
       let last : Bool = are_keys_of (leaf_keys (page_of d w.slot)) (leaf_keys (page_of d w.minor)) (leaf_keys (page_of d w.major)) w.keys && has_key (leaf_keys (page_of d w.major)) (key_in span w.separator) in
       let full : Bool = is_leaf_of span most_records (page_of d w.slot) && last in

@@ -1,5 +1,5 @@
 -- A split alone leaves a page that was split; each place of the leaf's records was the home of a key, which moves.
-use Rattle.std.proofs.Common.{◌≡◌, ℕ, zero, suc, ◌+◌, ◌-◌, ◌<◌, Bool, true, false, true≢false, not, eqb, eqb-true, ◌&&◌, ◌||◌, ◌⊎◌, inl, inr, List, [], ◌∷◌, ◌++◌, length, refl, sym, ap, ◌∙◌, subst, arith, Option, Some, None}
+use Rattle.std.proofs.Common.{◌≡◌, ℕ, zero, suc, ◌+◌, ◌-◌, ◌<◌, Bool, true, false, true≢false, not, eqb, eqb-true, ◌&&◌, ◌⊎◌, inl, inr, List, [], ◌∷◌, ◌++◌, length, refl, sym, ap, ◌∙◌, subst, arith, Option, Some, None}
 use Rattle.std.proofs.lemmas.Bool.{and_parts, or_cases, or_left, or_right, cases_Bool, cond-true, cond-false, false_from_ne_true}
 use Rattle.std.specs.List.{list_all}
 use Rattle.serial_model.specs.declared.key.Key.{Key}
@@ -9,8 +9,7 @@ use Rattle.homes.specs.declared.places.Home.{Home}
 use Rattle.homes.specs.declared.places.Home.TheVariants.{InSlot}
 use Rattle.homes.specs.Homes.{same_key, has_key, in_span, holder_is}
 use Rattle.homes.specs.Laws.{same_key-self, same_key-true, number_or_other}
-use Rattle.drop_core.specs.declared.table.Led.{Led}
-use Rattle.drop_core.specs.declared.table.Led.TheVariants.{Never, From, Away}
+use Rattle.drop_core.specs.declared.table.Led.TheVariants.{Never, From}
 use Rattle.drop_core.specs.declared.table.SlotState.TheVariants.{Owned, Published, Retired}
 use Rattle.drop_core.specs.declared.table.Slot.{Slot}
 use Rattle.drop_core.specs.declared.table.Page.{Page}
@@ -26,11 +25,11 @@ use Rattle.drop_core.specs.Law.{IsSplitAt}
 use Rattle.drop_core.specs.Sound.{TiesTo, TiesPage, IsSoundTable}
 use Rattle.drop_core.proofs.ChainDrops.{led_from}
 use Rattle.drop_core.proofs.Conditions.{CanTwin}
-use Rattle.drop_core.proofs.Drops.{slot-gone, slot-kept}
+use Rattle.drop_core.proofs.Drops.{slot-kept}
 use Rattle.drop_core.proofs.Fills.{never_led, page-other}
 use Rattle.drop_core.proofs.Grows.{grown-page, grown-other}
 use Rattle.drop_core.proofs.Halves.{adds_key, grows, splits}
-use Rattle.drop_core.proofs.Repoints.{slot-same, slot-other}
+use Rattle.drop_core.proofs.Repoints.{slot-other}
 use Rattle.drop_core.proofs.Splitting.{slots, page-other as page-other_twin}
 use Rattle.drop_core.proofs.Swings.{Installs, install_asks, swing_live}
 

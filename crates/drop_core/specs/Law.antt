@@ -6,8 +6,8 @@ use Rattle.homes.specs.declared.places.Holder.TheVariants.{Held, Dead}
 use Rattle.homes.specs.declared.places.Span.{Span}
 use Rattle.homes.specs.declared.places.Home.{Home}
 use Rattle.homes.specs.declared.places.Home.TheVariants.{InSlot, Nowhere}
-use Rattle.homes.specs.Homes.{has_key, in_span, moved}
-use Rattle.drop_core.specs.declared.table.Led.TheVariants.{From, Away}
+use Rattle.homes.specs.Homes.{has_key, holder_is, in_span, moved}
+use Rattle.drop_core.specs.declared.table.Led.TheVariants.{Never, From, Away}
 use Rattle.drop_core.specs.declared.table.Page.{Page}
 use Rattle.drop_core.specs.declared.table.Page.TheVariants.{Leaf, Split}
 use Rattle.drop_core.specs.declared.table.SnapPage.{SnapPage}
@@ -21,7 +21,7 @@ use Rattle.drop_core.specs.declared.event.Event.{Event}
 use Rattle.homes.specs.declared.places.At.TheVariants.{Root}
 use Rattle.drop_core.specs.Table.{slot_of, page_of, pointer_of, header_of, has_slot, at_index, snap_of, snap_home, leaf_home, has_pointer, is_never, is_live}
 use Rattle.drop_core.specs.Event.{DropState, leaves_none_out, same_below, is_usable, is_allowed, effect, moves, leaf_keys, keys_in, run, run_homes, most_passes, most_records}
-use Rattle.drop_core.specs.Sound.{span_at, IsSoundTable, IsSoundPages, IsSound}
+use Rattle.drop_core.specs.Sound.{span_at, is_in_making, IsSoundTable, IsSoundPages, IsSound}
 use Rattle.drop_core.specs.Opening.{CanOpen, opening_state, opening_homes}
 use Rattle.drop_core.specs.Way.{way}
 
@@ -126,6 +126,39 @@ abbrev pub EachActLeavesHeld : Type 0
 EachActLeavesHeld = (homes : Key → Home) (d : Table) (grips : List Grip) (p : ℕ) (g : Grip) (act : Act)
     → slice_get grips p ≡ Some g → is_allowed p d g act ≡ true → IsSoundPages homes d grips
     → LeavesHeld p d (effect p d g act).table
+
+-- A slot that a seat made is in its hands alone: it may not be given, nothing has led to it, and no other seat made it.
+pub record IsMade (d : Table) (grips : List Grip) (q s : ℕ) : Type 0 where
+  pub making : is_in_making (slot_of d s) ≡ true
+  pub never : (slot_of d s).led ≡ Never
+  pub alone : (p : ℕ) (g : Grip) → (q ≡ p → ⊥) → slice_get grips p ≡ Some g → has_slot g.made s ≡ false
+
+-- so it is with each that a seat has among its own
+abbrev pub MadeIsOwn : Type 0
+MadeIsOwn = (homes : Key → Home) (d : Table) (grips : List Grip) (q s : ℕ) (h : Grip)
+    → IsSoundPages homes d grips → slice_get grips q ≡ Some h → has_slot h.made s ≡ true → IsMade d grips q s
+
+-- What an act of seat p leaves as it was of a slot that another seat made, and that nothing has led to since: all but its
+-- count of seats, with its page, and each pointer of the page but one that seat p has shut itself.
+pub record LeavesMade (p : ℕ) (old new : Table) (s : ℕ) : Type 0 where
+  pub state : (slot_of new s).state ≡ (slot_of old s).state
+  pub times : (slot_of new s).times ≡ (slot_of old s).times
+  pub led : (slot_of new s).led ≡ (slot_of old s).led
+  pub page : page_of new s ≡ page_of old s
+  pub header : header_of new s ≡ header_of old s
+  pub pointers : (j : ℕ) → holder_is p (pointer_of old (at_index s j)).holder ≡ false
+      → pointer_of new (at_index s j) ≡ pointer_of old (at_index s j)
+
+-- of each slot that another seat made
+abbrev pub LeavesMades : ℕ → List Grip → Table → Table → Type 0
+LeavesMades p grips old new = (q s : ℕ) (h : Grip) → (q ≡ p → ⊥) → slice_get grips q ≡ Some h
+    → has_slot h.made s ≡ true → LeavesMade p old new s
+
+-- each act leaves alone what another seat makes
+abbrev pub EachActLeavesMade : Type 0
+EachActLeavesMade = (homes : Key → Home) (d : Table) (grips : List Grip) (p : ℕ) (g : Grip) (act : Act)
+    → slice_get grips p ≡ Some g → is_allowed p d g act ≡ true → IsSoundPages homes d grips
+    → LeavesMades p grips d (effect p d g act).table
 
 -- The slot was so before the act, with the same page; or the act is the swing that took away what led to it.
 abbrev pub WasAway : Table → Act → ℕ → Type 0

@@ -1,5 +1,5 @@
 -- The sound state. `homes` is where the keys' records stand, which the machine of commits keeps.
-use Rattle.std.specs.Prelude.{◌≡◌, ◌⊎◌, ℕ, ◌<◌, ◌≤◌, ◌&&◌, ◌||◌, Bool, true, false, cond, length, List, Option, Some, None, Result, Ok, Err, ⊤}
+use Rattle.std.specs.Prelude.{◌≡◌, ◌⊎◌, ℕ, ◌<◌, ◌≤◌, ◌&&◌, ◌||◌, Bool, true, cond, length, List, Option, Some, None, Result, Ok, Err, ⊤}
 use Rattle.serial_model.specs.declared.key.Key.{Key}
 use Rattle.homes.specs.declared.places.Holder.TheVariants.{Held, Dead}
 use Rattle.homes.specs.declared.places.Spot.{Spot}

@@ -10,7 +10,7 @@
 //! nothing (`prepare_install`, `prepare_swing`, `prepare_swing_chain`, `prepare_key`, `prepare_split`), and to put it, which
 //! takes no memory (`put`).
 //! What a seat holds of headers and pointers stays through each act of another (`each_act_leaves_held`), so that it may
-//! open them without a look.
+//! open them without a look; and so do slots that it made (`each_act_leaves_made`).
 //! Invariants: the sound state (`IsSound`): `one_home_each`, `holds_counted`, `snapshots_fixed`; who holds headers and
 //! pointers is a seat (`held`), slots below the room alone are given (`within`), and each slot that was made or taken away
 //! is noted by one seat (`noted`). It speaks of the homes of keys, which the machine of commits keeps; what stands there

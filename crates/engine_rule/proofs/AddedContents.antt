@@ -1,5 +1,5 @@
 -- A record that is set for a key, and a header that is opened with it, change no key's content.
-use Rattle.std.proofs.Common.{◌≡◌, ℕ, Bool, true, false, true≢false, not, ◌&&◌, inl, inr, List, [], ◌∷◌, length, refl, sym, ap, ◌∙◌, subst, Option, Some, None}
+use Rattle.std.proofs.Common.{◌≡◌, ℕ, true, false, true≢false, not, ◌&&◌, inl, inr, [], ◌∷◌, length, sym, ap, ◌∙◌, Option, Some, None}
 use Rattle.std.proofs.lemmas.Bool.{cases_Bool, and_parts, or_cases, cond-true, cond-false}
 use Rattle.std.specs.List.{slice_get}
 use Rattle.std.specs.Prelude.{is_none}
@@ -8,7 +8,7 @@ use Rattle.serial_model.specs.declared.key.Key.{Key}
 use Rattle.homes.specs.declared.places.Content.{Content}
 use Rattle.homes.specs.declared.places.Spot.{Spot}
 use Rattle.homes.specs.declared.places.Home.{Home}
-use Rattle.homes.specs.declared.places.Home.TheVariants.{InSlot, Nowhere}
+use Rattle.homes.specs.declared.places.Home.TheVariants.{InSlot}
 use Rattle.homes.specs.declared.places.Move.{Move}
 use Rattle.homes.specs.Homes.{same_key, same_content, moved}
 use Rattle.homes.specs.Laws.{same_key-true, same_content-true}
@@ -17,7 +17,6 @@ use Rattle.commit_core.specs.declared.seat.Seat.{Seat}
 use Rattle.commit_core.specs.declared.story.Story.{Story}
 use Rattle.commit_core.specs.Keys.{nothing}
 use Rattle.commit_core.specs.CoreState.{is_trying}
-use Rattle.commit_core.specs.Fill.{filled}
 use Rattle.commit_core.specs.Places.{place_of, home_of, stands_at, stands}
 use Rattle.commit_core.specs.Event.{Moved}
 use Rattle.commit_core.specs.Moves.{is_below_all, may_go_for, rehomed}

@@ -1,15 +1,14 @@
 -- A record that is set behind those of a leaf, by the seat that holds its header: the place is no key's home, and nobody keeps
 -- what stood there.
 use mathlib.Core.Path.{fun_ext}
-use Rattle.std.proofs.Common.{◌≡◌, ℕ, suc, ◌+◌, ◌<◌, ◌≤◌, Bool, true, false, not, true≢false, eqb, leb, ltb, ◌&&◌, inl, inr, List, [], ◌∷◌, length, refl, sym, ap, ◌∙◌, subst, arith, Option, Some, None}
+use Rattle.std.proofs.Common.{◌≡◌, ℕ, suc, ◌+◌, ◌<◌, Bool, true, false, not, true≢false, eqb, leb, ltb, ◌&&◌, inl, inr, List, [], ◌∷◌, length, refl, sym, ap, ◌∙◌, subst, arith, Some}
 use Rattle.std.proofs.lemmas.Bool.{and_parts, and_from, cases_Bool, cond-true, cond-false, false_from_ne_true, leb-true}
-use Rattle.std.specs.List.{list_all, Contains}
+use Rattle.std.specs.List.{list_all}
 use Rattle.serial_model.specs.declared.key.Key.{Key}
 use Rattle.homes.specs.declared.places.Content.{Content}
-use Rattle.homes.specs.declared.places.Holder.TheVariants.{Free, Dead}
+use Rattle.homes.specs.declared.places.Holder.TheVariants.{Free}
 use Rattle.homes.specs.declared.places.Spot.{Spot}
 use Rattle.homes.specs.declared.places.At.{At}
-use Rattle.homes.specs.declared.places.Span.{Span}
 use Rattle.homes.specs.declared.places.Home.{Home}
 use Rattle.homes.specs.declared.places.Home.TheVariants.{InSlot, InPage, Nowhere}
 use Rattle.homes.specs.Homes.{same_key, same_spot, has_key, in_span, holder_is}
@@ -19,7 +18,6 @@ use Rattle.commit_core.specs.declared.part.Word.{Word}
 use Rattle.commit_core.specs.declared.part.Word.TheVariants.{Record}
 use Rattle.commit_core.specs.declared.part.Part.{Part}
 use Rattle.commit_core.specs.declared.story.Story.{Story}
-use Rattle.commit_core.specs.Keys.{nothing}
 use Rattle.commit_core.specs.Fill.{filled, NoneKept}
 use Rattle.commit_core.specs.Places.{place, place_of, home_of, stands_at, stands, spot_of, spot_at}
 use Rattle.commit_core.specs.Parts.{same_word}
@@ -143,7 +141,7 @@ module _ (m : Story) (d : Table) (grips : List Grip) (sound : IsSoundTable (home
   nobodys = all_of (λ e. not (is_spot x0 (spot_at m.homes e.0))) m.homes (λ e. ap not (spot_free e.0))
 
   -- each record of the page that is kept has a lower index
-  fits_not : HasRecords (page_of d t) (length (leaf_keys (page_of d t)) + 1) → ⊥
+  pub fits_not : HasRecords (page_of d t) (length (leaf_keys (page_of d t)) + 1) → ⊥
   fits_not (inl split) = leaf_not_split (sym it.page ∙ split)
   fits_not (inr had) =
       let same = ap length (leaf_is had.0 (sym it.page ∙ had.1)) in

@@ -3,7 +3,6 @@ use Rattle.std.proofs.Common.{◌≡◌, ℕ, Bool, true, false, true≢false, n
 use Rattle.std.proofs.lemmas.Bool.{and_parts, cases_Bool}
 use Rattle.std.specs.List.{slice_get}
 use Rattle.std.specs.Option.{option_map_or}
-use Rattle.serial_model.specs.declared.key.Key.{Key}
 use Rattle.homes.specs.declared.places.Content.{Content}
 use Rattle.homes.specs.declared.places.Spot.{Spot}
 use Rattle.homes.specs.declared.places.Move.{Move}
@@ -40,7 +39,7 @@ prefix_self {A} xs = ([], none xs)
 prefix_then : {A : Type 0} (xs ys zs : List A) → IsPrefix xs ys → IsPrefix ys zs → IsPrefix xs zs
 prefix_then {A} xs ys zs a b = (a.0 ++ b.0, sym (append_assoc xs a.0 b.0) ∙ ap (λ (l : List A). l ++ b.0) a.1 ∙ b.1)
 
-same_grows : (m : Story) → Grows m m
+pub same_grows : (m : Story) → Grows m m
 same_grows m = record {
   history = prefix_self m.history;
   checks = prefix_self m.checks;
@@ -50,7 +49,7 @@ same_grows m = record {
   epoch = omega arith;
 }
 
-filled_grows : (m : Story) (x : Spot) (y : Content) → Grows m (filled x y m)
+pub filled_grows : (m : Story) (x : Spot) (y : Content) → Grows m (filled x y m)
 filled_grows m x y = record {
   history = prefix_self m.history;
   checks = prefix_self m.checks;

@@ -1,13 +1,12 @@
 -- A header that is read: where it says so, no other key of its leaf's span has a record; and read again.
-use Rattle.std.proofs.Common.{◌≡◌, ℕ, ◌+◌, Bool, true, false, not, true≢false, eqb-true, ◌&&◌, ◌||◌, inl, inr, List, [], ◌∷◌, ◌++◌, append-nil, length, refl, sym, ap, ◌∙◌, subst, arith, Option, Some, None}
-use Rattle.std.proofs.lemmas.Bool.{and_parts, and_from}
+use Rattle.std.proofs.Common.{◌≡◌, ℕ, Bool, true, false, not, true≢false, eqb-true, ◌&&◌, ◌||◌, inl, inr, List, [], ◌∷◌, ◌++◌, append-nil, length, refl, sym, ap, ◌∙◌, subst, arith, Option}
+use Rattle.std.proofs.lemmas.Bool.{and_parts}
 use Rattle.std.proofs.lemmas.List.{length-append}
 use Rattle.std.specs.List.{Contains}
 use Rattle.std.specs.Option.{option_map_or}
 use Rattle.serial_model.specs.declared.key.Key.{Key}
 use Rattle.homes.specs.declared.places.Holder.TheVariants.{Free, Dead}
 use Rattle.homes.specs.declared.places.At.{At}
-use Rattle.homes.specs.declared.places.Span.{Span}
 use Rattle.homes.specs.declared.places.Home.{Home}
 use Rattle.homes.specs.declared.places.Home.TheVariants.{Nowhere}
 use Rattle.homes.specs.Homes.{has_key, in_span, is_free}
@@ -21,7 +20,6 @@ use Rattle.commit_core.specs.declared.attempt.Attempt.{Attempt}
 use Rattle.commit_core.specs.declared.event.Act.TheVariants.{Confirm}
 use Rattle.commit_core.specs.declared.seat.Seat.{Seat}
 use Rattle.commit_core.specs.declared.story.Story.{Story}
-use Rattle.commit_core.specs.CoreState.{attempt_tried}
 use Rattle.commit_core.specs.Keys.{nothing}
 use Rattle.commit_core.specs.Places.{home_of, stands_at, stands, is_open_to}
 use Rattle.commit_core.specs.Parts.{same_word, covers, found}
@@ -36,7 +34,7 @@ use Rattle.drop_core.specs.declared.table.Table.{Table}
 use Rattle.drop_core.specs.declared.grip.Grip.{Grip}
 use Rattle.drop_core.specs.Table.{slot_of, page_of, pointer_of, header_of, leaf_home, has_slot, is_led, is_never}
 use Rattle.drop_core.specs.Event.{leaf_keys, led_span, slot_span}
-use Rattle.drop_core.specs.Sound.{span_at, IsLedSo, PageTies, TiesPage, TiesTo, IsSoundTable, HeadersStayDead}
+use Rattle.drop_core.specs.Sound.{span_at, IsLedSo, PageTies, TiesTo, IsSoundTable, HeadersStayDead}
 use Rattle.drop_core.specs.HomeLaws.{leaf-none}
 use Rattle.engine_rule.specs.JointState.{is_leaf, can_see_header, is_counted, counts_so, is_header_so, header_stays, is_header_so_now, header_part}
 use Rattle.engine_rule.specs.Sound.{IsHeld, HasKeys, FitsHeader, FitsWord, IsSoundKept}

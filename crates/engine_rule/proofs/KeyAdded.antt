@@ -1,10 +1,9 @@
 -- A header that is opened with a key: the key moves to the record that was set for it, and what the seat keeps of the header
 -- goes on, with the new record beside it.
-use Rattle.std.proofs.Common.{◌≡◌, ℕ, Bool, true, false, not, true≢false, ◌&&◌, inl, inr, List, [], ◌∷◌, ◌++◌, length, refl, sym, ap, ◌∙◌, subst, set, cond, Option, Some, None}
+use Rattle.std.proofs.Common.{◌≡◌, ℕ, Bool, true, false, not, true≢false, ◌&&◌, inl, inr, List, length, refl, sym, ap, ◌∙◌, subst, set, cond, Option, Some}
 use Rattle.std.proofs.lemmas.Bool.{and_parts, and_from, cases_Bool}
-use Rattle.std.specs.List.{slice_get, Contains}
+use Rattle.std.specs.List.{slice_get}
 use Rattle.serial_model.specs.declared.key.Key.{Key}
-use Rattle.homes.specs.declared.places.Holder.{Holder}
 use Rattle.homes.specs.declared.places.Spot.{Spot}
 use Rattle.homes.specs.Homes.{is_free}
 use Rattle.lists.specs.Elements.{at_set_same, any_is}
@@ -14,21 +13,19 @@ use Rattle.commit_core.specs.declared.part.Part.{Part}
 use Rattle.commit_core.specs.declared.event.Act.TheVariants.{See, Keep}
 use Rattle.commit_core.specs.declared.seat.Seat.{Seat}
 use Rattle.commit_core.specs.declared.story.Story.{Story}
-use Rattle.commit_core.specs.CoreState.{CoreState, is_trying}
-use Rattle.commit_core.specs.Places.{home_of, spot_at, is_free_at}
+use Rattle.commit_core.specs.CoreState.{is_trying}
+use Rattle.commit_core.specs.Places.{spot_at, is_free_at}
 use Rattle.commit_core.specs.Parts.{same_word}
 use Rattle.commit_core.specs.Event.{Moved, effect as commit_effect, with_moved}
 use Rattle.commit_core.specs.Lemmas.Keys.{same_word-true}
-use Rattle.drop_core.specs.declared.table.Led.{Led}
-use Rattle.drop_core.specs.declared.table.Page.{Page}
 use Rattle.drop_core.specs.declared.table.Table.{Table}
 use Rattle.drop_core.specs.declared.grip.Grip.{Grip}
 use Rattle.drop_core.specs.Table.{slot_of, page_of, header_of, has_slot, is_led}
 use Rattle.drop_core.specs.Event.{grown, leaf_keys, is_allowed as page_allows, effect as page_effect, moves, with_turned}
 use Rattle.engine_rule.specs.declared.event.JointAct.TheVariants.{Commit, AddKey, Turn}
 use Rattle.engine_rule.specs.JointState.{JointState, holds_slot, is_leaf, can_see_header, header_part, is_counted, keeps_header_at}
-use Rattle.engine_rule.specs.Event.{slot_of_spot, may_move, after_moves, next_spot, opening_with, and_seen, after_key}
-use Rattle.engine_rule.specs.Sound.{IsHeld, FitsWord, IsSoundKept, IsSound}
+use Rattle.engine_rule.specs.Event.{slot_of_spot, may_move, after_moves, opening_with, and_seen}
+use Rattle.engine_rule.specs.Sound.{IsHeld, FitsWord, IsSound}
 use Rattle.engine_rule.proofs.Laws.{Laws}
 use Rattle.engine_rule.proofs.Plainly.{with_commits, plainly}
 use Rattle.engine_rule.proofs.HeaderLaws.{header_free, header_held, header_fits}

@@ -20,10 +20,14 @@ pub mod Contents
 pub mod AddedContents
 pub mod Openings
 pub mod Growing
+pub mod Staying
 pub mod ReadTiles
 pub mod ReadRows
+pub mod ReadTrees
 pub mod ReadLists
+pub mod ReadNames
 pub mod ReadPages
+pub mod ReadThere
 pub mod ReadOpens
 pub mod Stepping
 pub mod OpeningLaws

@@ -1,14 +1,11 @@
--- Lists of pages: what is in two lists one after another, in what comes of each, and what is found by number.
-use Rattle.std.proofs.Common.{◌≡◌, ◌≢◌, ℕ, zero, suc, ◌<◌, ◌≤◌, Bool, true, false, eqb, eqb-true, eq-eqb, ◌⊎◌, inl, inr, List, [], ◌∷◌, ◌++◌, map, refl, sym, ap, ◌∙◌, subst, arith}
-use Rattle.std.proofs.lemmas.Bool.{and_from, cases_Bool, cases_eq, cond-true, cond-false, false_from_ne_true}
+-- Lists of pages: what is in two lists one after another, in what comes of each, and what is found by its name.
+use Rattle.std.proofs.Common.{◌≡◌, ℕ, Bool, true, eqb, ◌⊎◌, inl, inr, List, [], ◌∷◌, ◌++◌, map, refl, sym, subst}
+use Rattle.std.proofs.lemmas.Bool.{and_from}
 use Rattle.std.specs.List.{flat_map, list_all, AllByRecursion, Contains}
-use Rattle.lists.specs.Each.{AreDistinct}
 use Rattle.lists.specs.Elements.{in_none, in_head, in_tail, in_cases}
 use Rattle.homes.specs.Homes.{look}
 use Rattle.drop_core.specs.declared.table.SnapPage.{SnapPage}
-use Rattle.drop_core.specs.declared.table.SnapPage.TheVariants.{Missing, Entries}
-use Rattle.drop_core.specs.Table.{no_span}
-use Rattle.engine_rule.specs.Reading.{bare_pages}
+use Rattle.drop_core.specs.declared.table.SnapPage.TheVariants.{Missing}
 
 module _ {A : Type 0} where
   pub in_left : (xs ys : List A) (x : A) → Contains xs x → Contains (xs ++ ys) x
@@ -75,60 +72,3 @@ at_each {A} P (z ∷ xs) x all there = elim (in_cases x z xs there) [
 
 abbrev pub by_number : List (ℕ × SnapPage) → ℕ → SnapPage
 by_number pages n = look (λ a b. eqb a b) Missing pages n
-
--- a page whose number stands once is found, whatever follows
-pub found_once : (pages rest : List (ℕ × SnapPage)) (n : ℕ) (page : SnapPage) → AreDistinct (map (λ e. e.0) pages) → Contains pages (n, page) → by_number (pages ++ rest) n ≡ page
-found_once [] rest n page once there = absurd (in_none (n, page) there)
-found_once (e ∷ pages) rest n page once there =
-    elim (in_cases (n, page) e pages there) [
-      | inl is ↦ cond-true (eqb e.0 n) e.1 (by_number (pages ++ rest) n) (eq-eqb e.0 n (ap (λ (x : ℕ × SnapPage). x.0) is)) ∙ ap (λ (x : ℕ × SnapPage). x.1) is
-      | inr more ↦
-          let other : e.0 ≡ n → ⊥ = at_mapped (λ (m : ℕ). e.0 ≢ m) (λ (x : ℕ × SnapPage). x.0) pages (n, page) once.0 more in
-          cond-false (eqb e.0 n) e.1 (by_number (pages ++ rest) n) (false_from_ne_true (eqb e.0 n) (λ hit. other (eqb-true e.0 n hit)))
-          ∙ found_once pages rest n page once.1 more
-    ]
-
--- what is found is of the first list, or found in the second
-pub found_either : (pages rest : List (ℕ × SnapPage)) (n : ℕ)
-    → Contains pages (n, by_number (pages ++ rest) n) ⊎ (by_number (pages ++ rest) n ≡ by_number rest n)
-found_either [] rest n = inr refl
-found_either (e ∷ pages) rest n =
-    elim (cases_Bool (eqb e.0 n)) [
-      | inl hit ↦
-          let is : by_number ((e ∷ pages) ++ rest) n ≡ e.1 = cond-true (eqb e.0 n) e.1 (by_number (pages ++ rest) n) hit in
-          let whole : e ≡ (n, by_number ((e ∷ pages) ++ rest) n) =
-          ap (λ (m : ℕ). let x : ℕ × SnapPage = (m, e.1) in x) (eqb-true e.0 n hit) ∙ ap (λ (p : SnapPage). let x : ℕ × SnapPage = (n, p) in x) (sym is) in
-          inl (subst (λ (x : ℕ × SnapPage). Contains (e ∷ pages) x) whole (in_head e pages))
-      | inr miss ↦
-          let is : by_number ((e ∷ pages) ++ rest) n ≡ by_number (pages ++ rest) n = cond-false (eqb e.0 n) e.1 (by_number (pages ++ rest) n) miss in
-          elim (found_either pages rest n) [
-            | inl there ↦ inl (subst (λ (p : SnapPage). Contains (e ∷ pages) (n, p)) (sym is) (in_tail (n, by_number (pages ++ rest) n) e pages there))
-            | inr same ↦ inr (is ∙ same)
-          ]
-    ]
-
--- of the pages over no keys each is such a page, and those up to the count are there
-pub found_bare : (count n : ℕ) → (by_number (bare_pages count) n ≡ Missing) ⊎ (by_number (bare_pages count) n ≡ Entries no_span [])
-found_bare zero n = inl refl
-found_bare (suc count) n =
-    elim (cases_Bool (eqb (suc count) n)) [
-      | inl hit ↦ inr (cond-true (eqb (suc count) n) (Entries no_span []) (by_number (bare_pages count) n) hit)
-      | inr miss ↦
-          let is = cond-false (eqb (suc count) n) (Entries no_span []) (by_number (bare_pages count) n) miss in
-          elim (found_bare count n) [ inl none ↦ inl (is ∙ none) | inr some ↦ inr (is ∙ some) ]
-    ]
-
-pub bare_there : (count n : ℕ) → 0 < n → n ≤ count → by_number (bare_pages count) n ≡ Entries no_span []
-bare_there zero n some most = absurd (omega (arith, some, most))
-bare_there (suc count) n some most =
-    elim (cases_Bool (eqb (suc count) n)) [
-      | inl hit ↦ cond-true (eqb (suc count) n) (Entries no_span []) (by_number (bare_pages count) n) hit
-      | inr miss ↦
-          cond-false (eqb (suc count) n) (Entries no_span []) (by_number (bare_pages count) n) miss ∙ bare_there count n some (below (other miss))
-    ]
-  where
-    other : eqb (suc count) n ≡ false → suc count ≡ n → ⊥
-    other miss is = let hit = eq-eqb (suc count) n is in cc
-
-    below : (suc count ≡ n → ⊥) → n ≤ count
-    below other = elim (cases_eq (suc count) n) [ inl is ↦ absurd (other is) | inr apart ↦ omega (arith, apart, most) ]

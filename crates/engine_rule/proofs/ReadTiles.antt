@@ -1,6 +1,6 @@
 -- Pages as they are read: the children in a row tile a page's span, and a leaf has each key once.
-use Rattle.std.proofs.Common.{◌≡◌, ℕ, zero, suc, ◌+◌, ◌-◌, ◌*◌, ◌<◌, ◌≤◌, true, false, not, eqb, eq-eqb, ◌&&◌, List, [], ◌∷◌, ◌++◌, refl, ap, ◌∙◌, arith, Option, Some, None}
-use Rattle.std.proofs.lemmas.Bool.{and_parts, and_from, or_parts, both_ways, le-leb, false_from_ne_true}
+use Rattle.std.proofs.Common.{◌≡◌, ℕ, zero, suc, ◌+◌, ◌-◌, ◌*◌, ◌<◌, ◌≤◌, true, false, not, eqb, eq-eqb, ◌&&◌, List, [], ◌∷◌, ◌++◌, map, refl, ap, ◌∙◌, arith, Option, Some, None, inl, inr}
+use Rattle.std.proofs.lemmas.Bool.{and_parts, and_from, or_parts, both_ways, cases_lt, le-leb, false_from_ne_true}
 use Rattle.std.proofs.lemmas.Bool.Decides.{nat_tests}
 use Rattle.std.specs.List.{list_any, slice_index}
 use Rattle.std.specs.Prelude.{is_some, nat_le, nat_lt}
@@ -14,7 +14,7 @@ use Rattle.drop_core.specs.Event.{are_entries_of, is_next_part, is_first_part, t
 use Rattle.snapshot_store.specs.declared.place.Place.{Place}
 use Rattle.snapshot_store.specs.Places.{Found, Cover}
 use Rattle.snapshot_store.specs.ArrayPages.{array_found}
-use Rattle.engine_rule.specs.Reading.{span_of, number_in, entry_of, key_at, array_entries, children_at}
+use Rattle.engine_rule.specs.Reading.{span_of, number_in, entry_of, key_at, array_entries}
 
 -- ---- children
 
@@ -29,21 +29,25 @@ first_part id p q low some =
     and_from (eqb id id) (eqb q.low p.low && nat_le q.low q.high) (eq-eqb id id refl)
     (and_from (eqb q.low p.low) (nat_le q.low q.high) (eq-eqb q.low p.low low) (grind (arith, nat_tests)))
 
-tile_on : (count id : ℕ) (p : Place) (at : ℕ) (qs : List Place) → Cover (at + 1) p.high qs → tile_after (span_of id p) at (children_at count id qs) ≡ true
-tile_on count id p at [] c = eq-eqb at p.high (omega (arith, c))
-tile_on count id p at (q ∷ qs) c =
+-- children at places, whatever their names
+abbrev kids : ℕ → (Place → ℕ) → List Place → List (Span × ℕ)
+kids id name qs = map (λ q. (span_of id q, name q)) qs
+
+tile_on : (id : ℕ) (name : Place → ℕ) (p : Place) (at : ℕ) (qs : List Place) → Cover (at + 1) p.high qs → tile_after (span_of id p) at (kids id name qs) ≡ true
+tile_on id name p at [] c = eq-eqb at p.high (omega (arith, c))
+tile_on id name p at (q ∷ qs) c =
     let low = c.0 in
     let some = c.1 in
-    and_from (is_next_part (span_of id p) at (span_of id q)) (tile_after (span_of id p) q.high (children_at count id qs))
-    (next_part id p q at low (omega (arith, low, some))) (tile_on count id p q.high qs c.3)
+    and_from (is_next_part (span_of id p) at (span_of id q)) (tile_after (span_of id p) q.high (kids id name qs))
+    (next_part id p q at low (omega (arith, low, some))) (tile_on id name p q.high qs c.3)
 
 -- places that cover the keys of a place tile its span
-pub tile_covered : (count id : ℕ) (p q : Place) (qs : List Place) → Cover p.low p.high (q ∷ qs) → tile (span_of id p) (children_at count id (q ∷ qs)) ≡ true
-tile_covered count id p q qs c =
+pub tile_covered : (id : ℕ) (name : Place → ℕ) (p q : Place) (qs : List Place) → Cover p.low p.high (q ∷ qs) → tile (span_of id p) (map (λ x. (span_of id x, name x)) (q ∷ qs)) ≡ true
+tile_covered id name p q qs c =
     let low = c.0 in
     let some = c.1 in
-    and_from (is_first_part (span_of id p) (span_of id q)) (tile_after (span_of id p) q.high (children_at count id qs))
-    (first_part id p q low (omega (arith, low, some))) (tile_on count id p q.high qs c.3)
+    and_from (is_first_part (span_of id p) (span_of id q)) (tile_after (span_of id p) q.high (kids id name qs))
+    (first_part id p q low (omega (arith, low, some))) (tile_on id name p q.high qs c.3)
 
 -- ---- entries
 
@@ -105,3 +109,12 @@ entries_right id p words zero less = refl
 entries_right id p words (suc i) less =
     entry_right (span_of id p) (array_entries id p.low words i) (key_at id p.low i) (array_found (slice_index words (2 * i)) (slice_index words (2 * i + 1)))
     (entries_right id p words i (omega (arith, less))) (key_inside id p i (omega (arith, less))) (fresh id p.low words i i (omega arith))
+
+-- and so has one whose range ends before it begins
+pub range_right : (id : ℕ) (p : Place) (words : List ℕ) → are_entries_of (span_of id p) (array_entries id p.low words (p.high + 1 - p.low)) ≡ true
+range_right id p words = elim (cases_lt (p.high + 1) p.low) [
+  | inl above ↦
+      let none : p.high + 1 - p.low ≡ 0 = omega (arith, above) in
+      ap (λ (n : ℕ). are_entries_of (span_of id p) (array_entries id p.low words n)) none
+  | inr within ↦ entries_right id p words (p.high + 1 - p.low) (omega (arith, within))
+]

@@ -1,30 +1,26 @@
 -- A key that is added to a leaf: its page and its place after it, and the renewal of what the seat keeps of the header.
-use Rattle.std.proofs.Common.{◌≡◌, ℕ, zero, suc, Bool, true, false, not, true≢false, eqb, eq-eqb, cond, ◌&&◌, ◌||◌, ◌⊎◌, inl, inr, List, [], ◌∷◌, ◌++◌, length, refl, sym, ap, ◌∙◌, subst, set, Option, Some, None}
-use Rattle.std.proofs.lemmas.Bool.{and_parts, cases_Bool, cond-true, cond-false, or_cases, false_from_ne_true}
-use Rattle.std.specs.List.{slice_get, list_all, list_any}
+use Rattle.std.proofs.Common.{◌≡◌, ℕ, zero, suc, Bool, true, false, true≢false, eqb, eq-eqb, cond, ◌&&◌, inl, inr, List, [], ◌∷◌, ◌++◌, length, refl, sym, ap, ◌∙◌, set, Some}
+use Rattle.std.proofs.lemmas.Bool.{and_parts, cond-true, or_cases, false_from_ne_true}
+use Rattle.std.specs.List.{list_all}
 use Rattle.serial_model.specs.declared.key.Key.{Key}
-use Rattle.homes.specs.declared.places.Holder.{Holder}
-use Rattle.homes.specs.declared.places.Holder.TheVariants.{Free, Dead}
+use Rattle.homes.specs.declared.places.Holder.TheVariants.{Free}
 use Rattle.homes.specs.declared.places.Spot.{Spot}
-use Rattle.homes.specs.declared.places.Home.{Home}
-use Rattle.homes.specs.declared.places.Home.TheVariants.{InSlot, Nowhere}
+use Rattle.homes.specs.declared.places.Home.TheVariants.{InSlot}
 use Rattle.homes.specs.declared.places.Move.{Move}
-use Rattle.homes.specs.Homes.{same_key, is_free, look}
+use Rattle.homes.specs.Homes.{same_key, is_free}
 use Rattle.homes.specs.Laws.{same_key-self}
 use Rattle.commit_core.specs.declared.place.Place.{Place}
-use Rattle.commit_core.specs.declared.part.Part.{Part}
-use Rattle.commit_core.specs.declared.event.Act.TheVariants.{See, Keep, Rehome}
+use Rattle.commit_core.specs.declared.event.Act.TheVariants.{Keep}
 use Rattle.commit_core.specs.declared.seat.Stage.{Stage}
 use Rattle.commit_core.specs.declared.seat.Stage.TheVariants.{Idle, Trying, Ended, Decided}
 use Rattle.commit_core.specs.declared.seat.Seat.{Seat}
 use Rattle.commit_core.specs.declared.story.Story.{Story}
 use Rattle.commit_core.specs.CoreState.{is_trying, can_begin, settled_at, settled}
-use Rattle.commit_core.specs.Places.{place_of, home_of, stands_at, stands, spot_of, spot_at}
+use Rattle.commit_core.specs.Places.{place_of, home_of, stands, spot_of, spot_at}
 use Rattle.commit_core.specs.Event.{Moved, effect as commit_effect}
-use Rattle.commit_core.specs.Moves.{are_apart, is_spot, is_nobodys, is_movable, may_go_for, can_move, is_left, buried, rehomed}
+use Rattle.commit_core.specs.Moves.{are_apart, is_spot, is_nobodys, is_movable, may_go_for, can_move, is_left}
 use Rattle.commit_core.specs.Lemmas.Moves.{is_spot-true, nobodys_not, place-stays}
-use Rattle.drop_core.specs.declared.table.Page.{Page}
-use Rattle.drop_core.specs.declared.table.Page.TheVariants.{Blank, Leaf}
+use Rattle.drop_core.specs.declared.table.Page.TheVariants.{Leaf}
 use Rattle.drop_core.specs.declared.table.Table.{Table}
 use Rattle.drop_core.specs.Table.{page_of, header_of}
 use Rattle.drop_core.specs.Event.{with_key, grown, moves}

@@ -1,7 +1,6 @@
 -- Each act of one machine keeps both sound, and so does a record that is set.
-use Rattle.std.proofs.Common.{◌≡◌, ℕ, zero, suc, ◌<◌, Bool, true, false, true≢false, cond, ◌&&◌, inl, inr, List, [], ◌∷◌, length, refl, sym, ap, ◌∙◌, subst, arith, set, Option, Some, None}
+use Rattle.std.proofs.Common.{◌≡◌, ℕ, zero, suc, ◌<◌, true, false, true≢false, inl, inr, List, [], ◌∷◌, length, refl, sym, ap, ◌∙◌, subst, arith, set, Option, Some}
 use Rattle.std.proofs.Math.ListN.{length-set}
-use Rattle.std.proofs.lemmas.Bool.{and_parts, cases_Bool}
 use Rattle.std.specs.List.{slice_get, Contains}
 use Rattle.serial_model.specs.declared.key.Key.{Key}
 use Rattle.homes.specs.declared.places.Content.{Content}
@@ -13,7 +12,7 @@ use Rattle.homes.specs.Laws.{number_or_other}
 use Rattle.lists.specs.Elements.{at_set_same, at_set_other, at_below}
 use Rattle.commit_core.specs.declared.place.Place.{Place}
 use Rattle.commit_core.specs.declared.part.Word.{Word}
-use Rattle.commit_core.specs.declared.part.Word.TheVariants.{Record, Pointer, Header}
+use Rattle.commit_core.specs.declared.part.Word.TheVariants.{Record}
 use Rattle.commit_core.specs.declared.part.Part.{Part}
 use Rattle.commit_core.specs.declared.event.Act.{Act as CommitAct}
 use Rattle.commit_core.specs.declared.event.Act.TheVariants.{See, Keep, Lock, Draw, Check as Look, Confirm, Decide, Put, Open, Forget, Rehome, Advance, Mark}
@@ -34,7 +33,6 @@ use Rattle.drop_core.specs.declared.event.Act.{Act as PageAct}
 use Rattle.drop_core.specs.Table.{slot_of, has_slot, is_led, is_never}
 use Rattle.drop_core.specs.Event.{is_owned, can_open_header, is_allowed as page_allows, effect as page_effect, moves}
 use Rattle.drop_core.specs.Sound.{IsSoundPages, IsSound as PagesAreSound}
-use Rattle.engine_rule.specs.declared.event.JointAct.{JointAct}
 use Rattle.engine_rule.specs.declared.event.JointAct.TheVariants.{Commit, AddRecord, FillRecord, Turn}
 use Rattle.engine_rule.specs.JointState.{JointState, slot_of_word, holds_slot}
 use Rattle.engine_rule.specs.Event.{slot_of_spot, page_lets, commit_lets, may_move, after_moves, next_spot}

@@ -1,5 +1,5 @@
 -- Acts on pages: what a seat holds of what it keeps, and the places of pages that are gone.
-use Rattle.std.proofs.Common.{◌≡◌, ℕ, ◌<◌, Bool, true, false, not, true≢false, eqb, eqb-true, eq-eqb, inl, inr, List, [], ◌∷◌, refl, sym, ap, ◌∙◌, subst, Option, Some, None}
+use Rattle.std.proofs.Common.{◌≡◌, ℕ, Bool, true, false, not, true≢false, eqb, eqb-true, eq-eqb, inl, inr, List, [], ◌∷◌, refl, sym, ap, ◌∙◌, subst, Option, Some, None}
 use Rattle.std.proofs.lemmas.Bool.{or_right, false_from_ne_true}
 use Rattle.std.specs.List.{Contains}
 use Rattle.serial_model.specs.declared.key.Key.{Key}
@@ -27,7 +27,7 @@ use Rattle.drop_core.specs.declared.event.Chain.{Chain}
 use Rattle.drop_core.specs.declared.event.Act.{Act}
 use Rattle.drop_core.specs.declared.event.Act.TheVariants.{Enter, Leave, Give, Publish, Retire, FillPage, FillPointer, FillSnapshot, Extend, Install, Swing, Renew, Shut, Reopen, FillHeader, LockHeader, OpenHeader, Twin, SwingChain}
 use Rattle.drop_core.specs.Table.{page_of, pointer_of, snap_home, leaf_home, has_slot}
-use Rattle.drop_core.specs.Event.{most_records, slot_span, twin_home, is_allowed, without, swung, effect, leaf_keys, keys_in, moves}
+use Rattle.drop_core.specs.Event.{slot_span, twin_home, is_allowed, without, swung, effect, leaf_keys, keys_in, moves}
 use Rattle.drop_core.specs.Sound.{IsSoundTable}
 use Rattle.drop_core.specs.Law.{SwingsMoveDown, ChainsMoveDown, SwingsTakeAway, SplitsComeOfTwins}
 use Rattle.drop_core.specs.HomeLaws.{leaf-in}

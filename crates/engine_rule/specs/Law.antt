@@ -19,11 +19,17 @@ use Rattle.engine_rule.specs.declared.event.JointEvent.{JointEvent}
 use Rattle.engine_rule.specs.JointState.{JointState}
 use Rattle.engine_rule.specs.Event.{may_happen, happened, run}
 use Rattle.engine_rule.specs.Sound.{IsSound, KeptWordsVouch}
+use Rattle.engine_rule.specs.Stays.{Stays}
 use Rattle.engine_rule.specs.Opening.{opening_joint, CanOpenJoint}
 
 -- each event that may happen keeps both machines sound
 abbrev pub EachEventKeeps : Type 0
 EachEventKeeps = (c : JointState) (e : JointEvent) → may_happen c e ≡ true → IsSound c → IsSound (happened c e)
+
+-- and leaves alone what other seats rely on
+abbrev pub EachEventLeaves : Type 0
+EachEventLeaves = (c : JointState) (e : JointEvent) → may_happen c e ≡ true → IsSound c
+    → Stays e.seat c (happened c e)
 
 -- each machine starts sound
 abbrev pub StartsSound : Type 0

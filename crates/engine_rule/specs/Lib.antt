@@ -7,4 +7,5 @@ pub mod Answers
 pub mod Sound
 pub mod Opening
 pub mod Reading
+pub mod Stays
 pub mod Law

@@ -1,5 +1,5 @@
 -- Turns that move keys, which are tested and made in steps, and those that move none.
-use Rattle.std.specs.Prelude.{◌≡◌, [], Option, Some, None, ⊤}
+use Rattle.std.specs.Prelude.{◌≡◌, [], Some, None, ⊤}
 use Rattle.serial_model.specs.declared.key.Key.{Key}
 use Rattle.homes.specs.declared.places.Home.{Home}
 use Rattle.drop_core.specs.declared.table.Table.{Table}

@@ -5,8 +5,9 @@
 //! is given while a seat holds it; an act on pages changes no key's content, nor does a key that is added; and where
 //! a word is as a seat kept it, what it vouched for is so now (`both_stay_sound`). `Joint::step` follows the same
 //! condition and effect: it refuses exactly where the condition fails, wants memory only where the event is allowed
-//! and takes some, and after either nothing is changed (`event`). `Joint::new` begins over the pages of a snapshot,
-//! soundly (`opens`, `sound`).
+//! and takes some, and after either nothing is changed (`event`). `Joint::new` begins over the pages of a snapshot
+//! (`opens`), soundly where they are pages for their ranges (`sound`); one page may stand for two. What an event of one
+//! seat leaves of what another relies on is a law for all events (`each_event_leaves`).
 //! Invariants: the sound state (`IsSound`): that of commits, that of pages with the homes that commits have, and what
 //! needs both: `leaves_stay_dead`, `splits_stay_dead`, `kept` (`kept_is_held`, `kept_fits`).
 //! Terms: *turn*, an act on pages; *shift*, a turn that moves keys; *word*, a record, a pointer or a header that was
@@ -20,6 +21,8 @@
 
 mod acts;
 mod asks;
+mod below;
+mod entries;
 mod event;
 mod headers;
 mod law;

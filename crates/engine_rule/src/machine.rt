@@ -1,5 +1,5 @@
 // Both machines as one: pages over snapshot pages, and the seats that read, write and evict them.
-ghost use Rattle.std.specs.Prelude.{◌≡◌, IfOk};
+ghost use Rattle.std.specs.Prelude.{◌≡◌, ◌≤◌, IfOk, length};
 ghost use Rattle.serial_model.specs.Numbers.{IsNumber};
 ghost use Rattle.engine_rule.specs.Answers.{AnswersEvent};
 ghost use Rattle.engine_rule.specs.Opening.{opening_joint, CanOpenJoint};
@@ -10,7 +10,7 @@ use crate::acts::{Answer, act};
 use crate::event::JointEvent;
 use crate::law::both_stay_sound;
 use crate::opening::opened;
-use crate::reading::{roots_of, snaps_of, storages};
+use crate::reading::{named_places, roots_of, snaps_of, storages};
 use commit_core::{Refused, Seat, Story};
 use drop_core::{Grip, SnapPage, Table};
 use homes::{Content, Span};
@@ -41,7 +41,9 @@ impl Model for Joint {
 
 impl Joint {
     /// A machine over the pages of a snapshot, of which page n is the n-th, for these storages, each with the number of
-    /// its root's page or 0; with this first number, and this many slots and seats.
+    /// its root's page or 0; with this first number, and this many slots and seats. Its pages are those that the roots
+    /// lead to, each by its number and the place for which it stands; more of them than 32 bits can name are refused
+    /// like want of memory.
     pub fn new(
         alloc: Global,
         pages: &[Page],
@@ -51,18 +53,23 @@ impl Joint {
         slots: u32,
         passes: u32,
     ) -> Result<Self, Memory>
-        requires { IsOpening pages.now decls.now roots.now first }
+        requires few { length pages.now ≤ 65536 }
+        requires number { IsNumber first }
         ensures opens { IfOk result (λ c. c ≡ begun pages.now decls.now roots.now first slots passes) }
-        ensures sound { IfOk result IsSound }
+        ensures sound { IsOpening pages.now decls.now roots.now first → IfOk result IsSound }
     {
         both_stay_sound();
         let storages = storages(alloc, decls, roots)?;
-        let snaps = snaps_of(alloc, pages, storages.as_slice())?;
-        let spans = roots_of(alloc, storages.as_slice())?;
+        let places = named_places(alloc, pages, storages.as_slice())?;
+        if places.len() >= u32::MAX as usize {
+            return Err(Memory);
+        }
+        let snaps = snaps_of(alloc, pages, places.as_slice())?;
+        let spans = roots_of(alloc, places.as_slice(), storages.as_slice())?;
         opened(
             alloc,
             snaps,
-            pages.len() as u32,
+            places.len() as u32,
             spans.as_slice(),
             first,
             slots,

@@ -1,17 +1,18 @@
-// The pages of a snapshot, as the machines have them: each over the keys for which it is named.
-ghost use Rattle.std.specs.Prelude.{◌≡◌, ℕ, ◌^◌, ◌<◌, ◌≤◌, ◌++◌, List, IfOk, OnOk, length};
+// The pages of a snapshot, as the machines have them: each named by its number and the place for which it stands.
+ghost use Rattle.std.specs.Prelude.{◌≡◌, ℕ, ◌^◌, ◌<◌, ◌≤◌, ◌++◌, IfOk, OnOk, length};
 ghost use Rattle.std.specs.List.{flat_map, AllByRecursion};
 ghost use Rattle.serial_model.specs.declared.decl.Decl.TheVariants.{Array};
 ghost use Rattle.serial_model.specs.Keys.{id_of};
 ghost use Rattle.snapshot_store.specs.Places.{page};
-ghost use Rattle.snapshot_store.specs.ArrayPages.{array_found, array_below, row};
 ghost use Rattle.snapshot_store.specs.Content.{words_of, root_place};
-ghost use Rattle.engine_rule.specs.Reading.{IsBounded, span_of, number_in, entry_of, array_entries, page_in, children_at, page_from, array_pages, storages, root_pages, bare_pages, snaps_of, roots_of};
+ghost use Rattle.engine_rule.specs.Reading.{IsBounded, IsBoundedIn, IsThere, below_in, span_of, page_in, led_places, storages, named_places, is_same, is_place, name_from, name_of, children_at, page_from, page_at, snaps_from, snaps_of, roots_of};
 
+use crate::below::below_in;
+use crate::entries::leaf_entries;
 use drop_core::SnapPage;
-use homes::{Content, Span};
+use homes::Span;
 use lists::Sequence;
-use serial_model::{Decl, Key, Memory, Number};
+use serial_model::{Decl, Memory};
 use snapshot_store::Place;
 use std::alloc::Global;
 use wire_form::{Page, Stored};
@@ -27,87 +28,14 @@ fn span_of(id: u8, place: Place) -> Span
     }
 }
 
-/// The number in a record's word.
-fn number_in(word: u64) -> Number
-    ensures { result ≡ number_in word }
+/// The id of a storage.
+fn id_of(decl: Decl) -> u8
+    ensures { result ≡ id_of decl }
 {
-    Number {
-        epoch: (word >> 40) as u32,
-        draw: word % (1 << 40),
+    match decl {
+        Decl::Array { id, .. } => id,
+        Decl::Tree { id } => id,
     }
-}
-
-/// Adds the entry of the key with this record. One that was never written has the number 0, and is none.
-fn push_entry(
-    entries: &mut Sequence<(Key, Content)>,
-    key: Key,
-    number: u64,
-    value: u64,
-) -> Result<(), Memory>
-    ensures { OnOk result (entries.new ≡ entries.old ++ entry_of key (array_found number value)) }
-{
-    if number == 0 {
-        return Ok(());
-    }
-    let content = Content {
-        number: number_in(number),
-        value: Some(value),
-    };
-    entries.push((key, content))?;
-    Ok(())
-}
-
-/// The entries of a leaf.
-fn leaf_entries(
-    alloc: Global,
-    id: u8,
-    low: u64,
-    words: &[u64; 64],
-) -> Result<Sequence<(Key, Content)>, Memory>
-    requires { low < 2 ^ 32 }
-    ensures { IfOk result (λ entries. entries ≡ array_entries id low words.now 32) }
-{
-    let mut entries = Sequence::new(alloc);
-    for i in 0..32 {
-        let key = Key {
-            storage: id,
-            key: low + i as u64,
-        };
-        push_entry(&mut entries, key, words[2 * i], words[2 * i + 1])?;
-    }
-    Ok(entries)
-}
-
-/// The places below the page at a place, none where it is a leaf.
-fn places_below(alloc: Global, words: &[u64; 64], place: Place) -> Result<Sequence<Place>, Memory>
-    requires { IsBounded place }
-    ensures is { IfOk result (λ places. places ≡ array_below words.now place.low place.high) }
-    ensures bounded { IfOk result (λ places. AllByRecursion IsBounded places) }
-{
-    let span = (place.high + 1).saturating_sub(place.low);
-    if span <= 32 {
-        return Ok(Sequence::new(alloc));
-    }
-    row(alloc, words, span / 64, place.low)
-}
-
-/// The places in a row, each for so many indexes.
-fn row(alloc: Global, words: &[u64; 64], part: u64, low: u64) -> Result<Sequence<Place>, Memory>
-    requires part { part < 2 ^ 32 }
-    requires low { low < 2 ^ 32 }
-    ensures { IfOk result (λ places. places ≡ row words.now part low 64) }
-{
-    let mut places = Sequence::new(alloc);
-    let mut next = low;
-    for i in 0..64 {
-        places.push(Place {
-            number: words[i],
-            low: next,
-            high: next + part.saturating_sub(1),
-        })?;
-        next += part;
-    }
-    Ok(places)
 }
 
 /// The number of a page that is there, or 0.
@@ -122,42 +50,6 @@ fn page_in(pages: &[Page], number: u64) -> u32
     }
 }
 
-fn children_at(
-    alloc: Global,
-    pages: &[Page],
-    id: u8,
-    places: &[Place],
-) -> Result<Sequence<(Span, u32)>, Memory>
-    requires { length pages.now ≤ 65536 }
-    ensures { IfOk result (λ children. children ≡ children_at (length pages.now) id places.now) }
-{
-    let mut children = Sequence::new(alloc);
-    for place in places {
-        children.push((span_of(id, *place), page_in(pages, place.number)))?;
-    }
-    Ok(children)
-}
-
-/// The page, with these places below it.
-fn page_from(
-    alloc: Global,
-    pages: &[Page],
-    id: u8,
-    words: &[u64; 64],
-    place: Place,
-    below: &[Place],
-) -> Result<SnapPage, Memory>
-    requires few { length pages.now ≤ 65536 }
-    requires bounded { IsBounded place }
-    ensures { IfOk result (λ page. page ≡ page_from (length pages.now) id words.now place below.now) }
-{
-    let span = span_of(id, place);
-    if below.is_empty() {
-        return Ok(SnapPage::Entries(span, leaf_entries(alloc, id, place.low, words)?));
-    }
-    Ok(SnapPage::Children(span, children_at(alloc, pages, id, below)?))
-}
-
 /// The words of a page that is there.
 fn words_at(pages: &[Page], number: u32) -> &[u64; 64]
     requires some { 1 ≤ number }
@@ -167,75 +59,67 @@ fn words_at(pages: &[Page], number: u32) -> &[u64; 64]
     &pages[number as usize - 1].words
 }
 
-/// Adds the page at a place of an array, and those that it leads to, on ways of so many pages at most.
-#[cycle(push_array)]
-fn push_array(
+/// Adds the places with pages that a place leads to, on ways of so many pages at most, and then its own.
+#[cycle(push_place)]
+fn push_place(
     alloc: Global,
     pages: &[Page],
-    id: u8,
+    decl: Decl,
     depth: u32,
     place: Place,
-    all: &mut Sequence<(u32, SnapPage)>,
+    all: &mut Sequence<(Decl, Place)>,
 ) -> Result<(), Memory>
     requires few { length pages.now ≤ 65536 }
-    requires bounded { IsBounded place }
-    ensures { OnOk result (all.new ≡ all.old ++ array_pages depth id (words_of pages.now) place) }
+    requires bounded { IsBoundedIn decl place }
+    ensures { OnOk result (all.new ≡ all.old ++ led_places decl (words_of pages.now) depth place) }
 {
     let number = page_in(pages, place.number);
     if depth == 0 || number == 0 {
         return Ok(());
     }
     let words = words_at(pages, number);
-    let below = places_below(alloc, words, place)?;
-    let page = page_from(alloc, pages, id, words, place, below.as_slice())?;
-    all.push((number, page))?;
-    push_each(alloc, pages, id, depth - 1, below.as_slice(), all)
+    let below = below_in(alloc, decl, words, place)?;
+    push_each(alloc, pages, decl, depth - 1, below.as_slice(), all)?;
+    all.push((decl, place))?;
+    Ok(())
 }
 
 /// The same for each of these places.
-#[cycle(push_array)]
+#[cycle(push_place)]
 fn push_each(
     alloc: Global,
     pages: &[Page],
-    id: u8,
+    decl: Decl,
     depth: u32,
     places: &[Place],
-    all: &mut Sequence<(u32, SnapPage)>,
+    all: &mut Sequence<(Decl, Place)>,
 ) -> Result<(), Memory>
     requires few { length pages.now ≤ 65536 }
-    requires bounded { AllByRecursion IsBounded places.now }
-    ensures { OnOk result (all.new ≡ all.old ++ flat_map (array_pages depth id (words_of pages.now)) places.now) }
+    requires bounded { AllByRecursion (IsBoundedIn decl) places.now }
+    ensures { OnOk result (all.new ≡ all.old ++ flat_map (led_places decl (words_of pages.now) depth) places.now) }
 {
     for place in places {
-        push_array(alloc, pages, id, depth, *place, all)?;
+        push_place(alloc, pages, decl, depth, *place, all)?;
     }
     Ok(())
 }
 
-/// Adds the pages below a root. A tree has none yet.
-fn push_root(
-    alloc: Global,
-    pages: &[Page],
-    storage: Stored,
-    all: &mut Sequence<(u32, SnapPage)>,
-) -> Result<(), Memory>
-    requires { length pages.now ≤ 65536 }
-    ensures { OnOk result (all.new ≡ all.old ++ root_pages (words_of pages.now) storage.decl storage.root) }
+/// The root of a storage stands for all its keys, or for all indexes that a page of its height can have.
+fn root_of(decl: Decl, root: u32) -> Place
+    ensures is { result ≡ root_place decl root }
+    ensures bounded { IsBoundedIn decl result }
 {
-    match storage.decl {
-        Decl::Array { id, size } => push_array(
-            alloc,
-            pages,
-            id,
-            3,
-            array_root(size, storage.root),
-            all,
-        ),
-        Decl::Tree { .. } => Ok(()),
+    match decl {
+        Decl::Array { size, .. } => array_root(size, root),
+        Decl::Tree { .. } => Place {
+            number: u64::from(root),
+            low: 0,
+            high: u64::MAX,
+        },
     }
 }
 
-/// The root of an array stands for all indexes that a page of its height can have.
+/// The root of an array.
 fn array_root(size: u32, root: u32) -> Place
     ensures is { (id : ℕ) → result ≡ root_place (Array id size) root }
     ensures bounded { IsBounded result }
@@ -252,63 +136,147 @@ fn array_root(size: u32, root: u32) -> Place
     }
 }
 
-/// The pages, each over the keys for which it is named. Those that no root leads to are over none.
-pub fn snaps_of(
+/// The places of all pages that the roots lead to, in the order of their names.
+pub fn named_places(
     alloc: Global,
     pages: &[Page],
     storages: &[Stored],
-) -> Result<Sequence<(u32, SnapPage)>, Memory>
+) -> Result<Sequence<(Decl, Place)>, Memory>
     requires { length pages.now ≤ 65536 }
-    ensures { IfOk result (λ snaps. snaps ≡ snaps_of (words_of pages.now) storages.now) }
+    ensures is { IfOk result (λ places. places ≡ named_places (words_of pages.now) storages.now) }
+    ensures there { IfOk result (λ places. AllByRecursion (IsThere (length pages.now)) places) }
 {
     let mut all = Sequence::new(alloc);
     for storage in storages {
-        push_root(alloc, pages, *storage, &mut all)?;
+        let root = root_of(storage.decl, storage.root);
+        push_place(alloc, pages, storage.decl, 32, root, &mut all)?;
     }
-    push_bare(alloc, pages.len() as u32, &mut all)?;
     Ok(all)
 }
 
-/// Adds pages over no keys, up to this number.
-fn push_bare(alloc: Global, count: u32, all: &mut Sequence<(u32, SnapPage)>) -> Result<(), Memory>
-    ensures { OnOk result (all.new ≡ all.old ++ bare_pages count) }
+/// Whether it is this place, with this page, of this storage.
+fn is_place(decl: Decl, place: Place, other: (Decl, Place)) -> bool
+    ensures { result ≡ is_place decl place other }
 {
-    let mut number = count;
-    while number > 0 {
-        let span = Span {
-            storage: 0,
-            low: 1,
-            high: 0,
-        };
-        all.push((number, SnapPage::Entries(span, Sequence::new(alloc))))?;
-        number -= 1;
+    id_of(other.0) == id_of(decl) && is_same(place, other.1)
+}
+
+/// Whether it is the same place, with the same page.
+fn is_same(place: Place, other: Place) -> bool
+    ensures { result ≡ is_same place other }
+{
+    other.number == place.number && (other.low == place.low && other.high == place.high)
+}
+
+/// The name of the page at a place, or 0 where there is none.
+fn name_of(places: &[(Decl, Place)], decl: Decl, place: Place) -> u32
+    requires { length places.now < 4294967295 }
+    ensures { result ≡ name_of places.now decl place }
+{
+    if place.number == 0 {
+        return 0;
     }
-    Ok(())
+    let mut name = 1;
+    for other in places {
+        if is_place(decl, place, *other) {
+            return name;
+        }
+        name += 1;
+    }
+    0
+}
+
+/// The children at these places, by their names.
+fn children_at(
+    alloc: Global,
+    places: &[(Decl, Place)],
+    decl: Decl,
+    below: &[Place],
+) -> Result<Sequence<(Span, u32)>, Memory>
+    requires { length places.now < 4294967295 }
+    ensures { IfOk result (λ children. children ≡ children_at places.now decl below.now) }
+{
+    let mut children = Sequence::new(alloc);
+    for place in below {
+        children.push((span_of(id_of(decl), *place), name_of(places, decl, *place)))?;
+    }
+    Ok(children)
+}
+
+/// The page with these words, at a place of a storage.
+fn page_from(
+    alloc: Global,
+    places: &[(Decl, Place)],
+    decl: Decl,
+    words: &[u64; 64],
+    place: Place,
+) -> Result<SnapPage, Memory>
+    requires few { length places.now < 4294967295 }
+    requires bounded { IsBoundedIn decl place }
+    ensures { IfOk result (λ page. page ≡ page_from places.now decl words.now place (below_in decl words.now place)) }
+{
+    let span = span_of(id_of(decl), place);
+    let below = below_in(alloc, decl, words, place)?;
+    if below.is_empty() {
+        return Ok(SnapPage::Entries(span, leaf_entries(alloc, decl, words, place)?));
+    }
+    Ok(SnapPage::Children(span, children_at(alloc, places, decl, below.as_slice())?))
+}
+
+/// The page at a place where one is.
+fn page_at(
+    alloc: Global,
+    pages: &[Page],
+    places: &[(Decl, Place)],
+    at: (Decl, Place),
+) -> Result<SnapPage, Memory>
+    requires pages { length pages.now ≤ 65536 }
+    requires places { length places.now < 4294967295 }
+    requires there { IsThere (length pages.now) at }
+    ensures { IfOk result (λ page. page ≡ page_at (words_of pages.now) places.now at) }
+{
+    let words = words_at(pages, at.1.number as u32);
+    page_from(alloc, places, at.0, words, at.1)
+}
+
+/// All pages at these places, by their names.
+pub fn snaps_of(
+    alloc: Global,
+    pages: &[Page],
+    places: &[(Decl, Place)],
+) -> Result<Sequence<(u32, SnapPage)>, Memory>
+    requires pages { length pages.now ≤ 65536 }
+    requires places { length places.now < 4294967295 }
+    requires there { AllByRecursion (IsThere (length pages.now)) places.now }
+    ensures { IfOk result (λ snaps. snaps ≡ snaps_of (words_of pages.now) places.now) }
+{
+    let mut all = Sequence::new(alloc);
+    let mut name = 1;
+    for at in places {
+        all.push((name, page_at(alloc, pages, places, *at)?))?;
+        name += 1;
+    }
+    Ok(all)
 }
 
 /// The roots, each over the keys of its storage.
-pub fn roots_of(alloc: Global, storages: &[Stored]) -> Result<Sequence<(Span, u32)>, Memory>
-    ensures { IfOk result (λ roots. roots ≡ roots_of storages.now) }
+pub fn roots_of(
+    alloc: Global,
+    places: &[(Decl, Place)],
+    storages: &[Stored],
+) -> Result<Sequence<(Span, u32)>, Memory>
+    requires { length places.now < 4294967295 }
+    ensures { IfOk result (λ roots. roots ≡ roots_of places.now storages.now) }
 {
     let mut roots = Sequence::new(alloc);
     for storage in storages {
-        roots.push((root_span(storage.decl), storage.root))?;
+        let root = root_of(storage.decl, storage.root);
+        roots.push((
+            span_of(id_of(storage.decl), root),
+            name_of(places, storage.decl, root),
+        ))?;
     }
     Ok(roots)
-}
-
-/// The keys of a storage.
-fn root_span(decl: Decl) -> Span
-    ensures { (root : ℕ) → result ≡ span_of (id_of decl) (root_place decl root) }
-{
-    match decl {
-        Decl::Array { id, size } => span_of(id, array_root(size, 0)),
-        Decl::Tree { id } => Span {
-            storage: id,
-            low: 0,
-            high: u64::MAX,
-        },
-    }
 }
 
 /// The storages with these roots.

@@ -4,8 +4,8 @@
 //! meant. Each schedule says, step by step, whether the step may happen, and what stands there after it. `commits`
 //! has those of commits (commit_core), `pages` those of pages in memory over snapshot pages and `trees` those of a
 //! tree's leaves among them (drop_core), `joint` those of both as one machine (engine_rule), with each kind of step
-//! on pages against each kind of step on records, in both orders, and `headers` how reads of a tree's leaves fare
-//! while these grow, are split and go. A schedule is a table of lines (a seat, its step, what it answers) that one
+//! on pages against each kind of step on records, in both orders, `headers` how reads of a tree's leaves fare while these
+//! grow, are split and go, and `openings` what both begin with over the pages of a snapshot. A schedule is a table of lines (a seat, its step, what it answers) that one
 //! loop follows; `machines` has the machines' calls, each in a function without clauses. Both keep the crate's proof
 //! short. The schedules stand in a crate above those that they test, because a crate with tests is proved a second
 //! time.
@@ -20,6 +20,8 @@ mod headers;
 mod joint;
 #[cfg(test)]
 mod machines;
+#[cfg(test)]
+mod openings;
 #[cfg(test)]
 mod pages;
 #[cfg(test)]

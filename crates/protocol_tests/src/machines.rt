@@ -1,12 +1,15 @@
 // The machines' calls without their clauses, since what those ensure is long, and no schedule needs it. What a machine
 // opens with comes as parameters: a call with literals would have the clauses computed at them.
+ghost use Rattle.std.specs.Prelude.{◌≤◌, length};
+
 use commit_core::{Act as CommitAct, Attempt, Core, Event as CommitEvent, Place, Story};
 use drop_core::{Act as PageAct, DropCore, Event as PageEvent, Pointer, SnapPage};
 use engine_rule::{Joint, JointAct, JointEvent, Refused};
 use homes::{At, Content, Home, Move, Span, Spot};
 use lists::Sequence;
-use serial_model::{Key, Memory, Number, OrMemory};
+use serial_model::{Decl, Key, Memory, Number, OrMemory};
 use std::alloc::Global;
+use wire_form::Page;
 
 /// A machine of commits over records of these values, with so many seats.
 pub fn open_commits(alloc: Global, pairs: &[(Key, u64)], seats: u32) -> Result<Core, Memory> {
@@ -111,6 +114,20 @@ pub fn open_both(
     Joint::over(alloc, snaps, published, roots, FIRST, slots, seats)
 }
 
+/// The same over the words of a snapshot's pages, with one storage and its root's page.
+pub fn open_over(
+    alloc: Global,
+    pages: &[Page],
+    decl: Decl,
+    root: u32,
+    slots: u32,
+    seats: u32,
+) -> Result<Joint, Memory>
+    requires { length pages.now ≤ 65536 }
+{
+    Joint::new(alloc, pages, &[decl], &[root], FIRST, slots, seats)
+}
+
 fn answer(joint: &mut Joint, seat: u32, act: JointAct) -> Result<(), OrMemory<Refused>> {
     joint.step(JointEvent { seat, act })
 }
@@ -145,4 +162,9 @@ pub fn content_at(joint: &Joint, key: Key) -> Content {
 /// Whether this is where the key is.
 pub fn is_at(joint: &Joint, key: Key, home: Home) -> bool {
     joint.story().home(key).is(home)
+}
+
+/// The snapshot page of the root with this number.
+pub fn root_page(joint: &Joint, root: usize) -> u32 {
+    joint.table().pointer(At::Root(root)).page
 }

@@ -5,6 +5,7 @@ use Rattle.drop_core.proofs.Aways.{taken_away}
 use Rattle.drop_core.proofs.ChainDrops.{chain_down}
 use Rattle.drop_core.proofs.Holds.{held_not_given}
 use Rattle.drop_core.proofs.Openings.{starts_sound}
+use Rattle.drop_core.proofs.Making.{leaves_made, made_alone}
 use Rattle.drop_core.proofs.Owners.{act_leaves_held}
 use Rattle.drop_core.proofs.Runs.{keeps_act, run_sound, enters}
 use Rattle.drop_core.proofs.Splits.{comes_of_twin, twins_move_all}
@@ -19,9 +20,12 @@ returns c = record {
   each_act_leaves = act_leaves;
   each_act_leaves_held = λ homes d grips p g act at can sound.
       act_leaves_held homes d grips sound.table p (length grips) g sound.held act can;
+  each_act_leaves_made = λ homes d grips p g act at can sound q s h other there made.
+      leaves_made homes d grips sound p q s g h at there other made act can;
   starts = starts_sound;
   stays = λ core homes events sound. run_sound events core homes sound;
   held = λ homes core q s g sound at holds. held_not_given core.table core.grips q s g sound.table.holds_counted at holds;
+  made = λ homes d grips q s h sound there made. made_alone homes d grips q s h sound there made;
   enters = enters;
   ways = λ homes core x k sound live inside. way_home homes core.table core.grips sound.table sound.ranked x k live inside;
   install = λ homes d grips p s g x can sound. installs_up homes d grips sound p s g x can;

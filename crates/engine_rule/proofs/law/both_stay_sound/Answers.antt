@@ -13,6 +13,7 @@ use Rattle.engine_rule.proofs.Events.{event_sound, run_sound}
 use Rattle.engine_rule.proofs.Growing.{only_grows}
 use Rattle.engine_rule.proofs.Laws.{Laws}
 use Rattle.engine_rule.proofs.Openings.{starts_sound}
+use Rattle.engine_rule.proofs.Staying.{event_stays}
 use Rattle.engine_rule.proofs.Vouching.{kept_vouches}
 use Rattle.engine_rule.proofs.law.both_stay_sound.Goals as goal
 
@@ -37,8 +38,11 @@ returns c =
       fills = c.commits_are_serial.ensures.fills;
       pages_keep = c.pages_stay_sound.ensures.each_act;
       pages_leave = c.pages_stay_sound.ensures.each_act_leaves;
+      pages_hold = c.pages_stay_sound.ensures.each_act_leaves_held;
+      pages_made = c.pages_stay_sound.ensures.each_act_leaves_made;
       pages_start = c.pages_stay_sound.ensures.starts;
       held = c.pages_stay_sound.ensures.held;
+      made = c.pages_stay_sound.ensures.made;
       down = c.pages_stay_sound.ensures.swing;
       chains = c.pages_stay_sound.ensures.chains;
       away = c.pages_stay_sound.ensures.away;
@@ -46,6 +50,7 @@ returns c =
     } in
     record {
       each_event = λ state e may sound. event_sound laws state e may sound;
+      each_event_leaves = λ state e may sound. event_stays laws state e may sound;
       starts = λ snaps published roots first room seats can. starts_sound snaps published roots first room seats can laws.commits_open laws.pages_start;
       stays = λ state events sound. run_sound laws state events sound;
       grows = only_grows laws;

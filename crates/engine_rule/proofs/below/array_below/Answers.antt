@@ -5,7 +5,7 @@ use Rattle.std.specs.List.{AllByRecursion}
 use Rattle.snapshot_store.specs.ArrayPages.{row}
 use Rattle.engine_rule.specs.Reading.{IsBounded}
 use Rattle.engine_rule.proofs.ReadRows.{below_narrow, below_wide, row_bounded}
-use Rattle.engine_rule.proofs.reading.places_below.Goals as goal
+use Rattle.engine_rule.proofs.below.array_below.Goals as goal
 
 pub returns-then-span-le32-clause-is : goal.returns-then-span-le32-clause-is
 returns-then-span-le32-clause-is c =

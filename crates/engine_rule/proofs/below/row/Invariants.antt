@@ -1,7 +1,7 @@
 -- The places of the indexes so far.
 use Rattle.std.proofs.Common.{◌≡◌, ◌+◌, ◌*◌, ◌≤◌}
 use Rattle.snapshot_store.specs.ArrayPages.{row}
-use Rattle.engine_rule.proofs.reading.row.Given as goal
+use Rattle.engine_rule.proofs.below.row.Given as goal
 
 abbrev pub invariant-loop-i : goal.invariant-loop-i
 invariant-loop-i l = record {

@@ -1,7 +1,7 @@
 -- One place more.
 use Rattle.std.proofs.Common.{◌≡◌, ◌+◌, ◌*◌, ap, refl, arith}
 use Rattle.engine_rule.proofs.ReadRows.{row_push}
-use Rattle.engine_rule.proofs.reading.row.Goals as goal
+use Rattle.engine_rule.proofs.below.row.Goals as goal
 
 pub loop-i-preserved : goal.loop-i-preserved
 loop-i-preserved c =

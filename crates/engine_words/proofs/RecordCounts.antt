@@ -1,21 +1,19 @@
--- How many records the storages of a database have.
-use Rattle.std.proofs.Common.{◌≡◌, ◌≢◌, eqb, eq-eqb, ne_eqb, cond, not, Bool, true, false, map, subst, Some, None, ℕ, zero, suc, ◌+◌, ◌*◌, ◌<◌, ◌≤◌, List, [], ◌∷◌, ◌++◌, length, take, get_or, refl}
-use Rattle.std.proofs.Common.{sym, ap, ◌∙◌, arith}
-use Rattle.std.specs.List.{AllByRecursion, slice_get, position_or_len, position}
-use Rattle.std.proofs.lemmas.Bool.Decides.{nat_tests}
+-- How many records the storages of a database have, and where their words stand.
+use Rattle.std.proofs.Common.{◌≡◌, ◌≢◌, inl, inr, eqb, eq-eqb, ne_eqb, cond, not, true, false, map, subst, Some, ℕ, zero, suc, ◌+◌, ◌*◌, ◌<◌, ◌≤◌, List, [], ◌∷◌, length, take, set, get_or, refl}
+use Rattle.std.proofs.Common.{sym, ap, ◌∙◌, arith, length-set, get_or-set_other, get_or-set_same}
+use Rattle.std.specs.List.{AllByRecursion, slice_get, position_or_len}
+use Rattle.std.proofs.lemmas.Bool.{cases_order}
 use Rattle.std.proofs.lemmas.List.{take_more}
+use Rattle.std.proofs.lemmas.Option.{slice_get-get_or}
 use Rattle.serial_model.specs.declared.decl.Decl.{Decl}
 use Rattle.serial_model.specs.declared.decl.Decl.TheVariants.{Array, Tree}
 use Rattle.serial_model.specs.Decls.{AreDecls, IsDecl}
 use Rattle.serial_model.specs.declared.key.Key.{Key}
 use Rattle.serial_model.specs.Keys.{id_of}
 use Rattle.lists.specs.Each.{AreDistinct}
-use Rattle.lists.specs.Elements.{at_below}
-use Rattle.std.specs.Prelude.{nat_lt}
-use Rattle.homes.specs.declared.places.Spot.{Spot}
 use Rattle.engine_words.proofs.FirstPlaces.{array_of, id_at}
 use Rattle.views.specs.Sums.{total, total-append}
-use Rattle.engine_words.specs.Layout.{records_at, records_of, has_record, spot_for, IsAtKey}
+use Rattle.engine_words.specs.Layout.{records_at, records_of, has_record, spot_for, AreFirstWords, IsAtKey}
 
 -- a storage of no records
 abbrev pub none : Decl
@@ -64,15 +62,6 @@ place_is (x ∷ decls) id (suc i) d distinct there is =
     ap (λ b. cond (not b) (1 + position_or_len (λ x. eqb (id_of x) id) decls) 0) miss
     ∙ (let later = place_is decls id i d distinct.1 there is in omega arith)
 
--- what the place of a key's storage is good for
-pub record HasWord (decls : List Decl) (k : Key) (slot : ℕ) : Type 0 where
-  pub place : slot ≡ position_or_len (λ d. eqb (id_of d) k.storage) decls
-  pub inside : slot < length decls
-  pub size : ℕ
-  pub storage : slice_get decls slot ≡ Some (Array k.storage size)
-  pub within : k.key < size
-  pub few : size ≤ 131072
-
 size_few : (decls : List Decl) (i id size : ℕ) → AllByRecursion IsDecl decls → slice_get decls i ≡ Some (Array id size)
     → size ≤ 131072
 size_few [] i id size each there = absurd (cc)
@@ -82,47 +71,71 @@ size_few (Array id' size' ∷ decls) zero id size each there =
 size_few (Tree id' ∷ decls) zero id size each there = absurd (cc)
 size_few (d ∷ decls) (suc i) id size each there = size_few decls i id size each.1 there
 
-position_known : (decls : List Decl) (k : Key) → AreDecls decls → (has : has_record decls k ≡ true)
-    → position (λ d. eqb (id_of d) k.storage) decls ≡ Some (array_of decls k has).0
-position_known decls k are has =
-    let a = array_of decls k has in
-    let is = place_is decls k.storage a.0 (Array k.storage a.1) are.distinct a.2 refl in
-    let below : a.0 < length decls = at_below decls a.0 (Array k.storage a.1) a.2 in
-    let test : nat_lt a.0 (length decls) ≡ true = grind (arith, nat_tests) in
-    ap (λ n. cond (nat_lt n (length decls)) (Some n) None) is ∙ ap (λ b. cond b (Some a.0) None) test
+-- what the first word of a key's storage is good for
+pub record HasFirst (decls : List Decl) (k : Key) (first : ℕ) : Type 0 where
+  pub word : IsAtKey decls k (spot_for decls k) (first + 2 * k.key)
+  pub low : first ≤ 4194336
+  pub few : k.key < 131072
 
-pub word_at_place : (decls : List Decl) (k : Key) (slot : ℕ) → AreDecls decls → has_record decls k ≡ true
-    → position (λ d. eqb (id_of d) k.storage) decls ≡ Some slot → HasWord decls k slot
-word_at_place decls k slot are has is =
+pub has_first : (decls : List Decl) (firsts : List ℕ) (k : Key) (id : ℕ) → AreDecls decls → AreFirstWords decls firsts
+    → has_record decls k ≡ true → id ≡ k.storage → HasFirst decls k (get_or firsts id 0)
+has_first decls firsts k id are firsts-are has same =
     let a = array_of decls k has in
-    let found = position_known decls k are has in
-    let both : Some slot ≡ Some a.0 = sym is ∙ found in
-    let same : slot ≡ a.0 = cc in record {
-      place = same ∙ sym (place_is decls k.storage a.0 (Array k.storage a.1) are.distinct a.2 refl);
-      inside = let below = at_below decls a.0 (Array k.storage a.1) a.2 in omega arith;
-      size = a.1;
-      storage = subst (λ i. slice_get decls i ≡ Some (Array k.storage a.1)) (sym same) a.2;
-      within = a.3;
-      few = size_few decls a.0 k.storage a.1 are.each a.2;
+    let place : position_or_len (λ d. eqb (id_of d) k.storage) decls ≡ a.0 =
+    place_is decls k.storage a.0 (Array k.storage a.1) are.distinct a.2 refl in
+    let first : get_or firsts id 0 ≡ records_at + 2 * total records_of (take a.0 decls) =
+    ap (λ i. get_or firsts i 0) same ∙ firsts-are a.0 (Array k.storage a.1) a.2 in
+    let word : get_or firsts id 0 + 2 * k.key ≡ records_at + 2 * (total records_of (take a.0 decls) + k.key) =
+    omega (arith, first) in record {
+      word = record {
+        size = a.1;
+        storage = subst (λ i. slice_get decls i ≡ Some (Array k.storage a.1)) (sym place) a.2;
+        index = refl;
+        within = a.3;
+        word = word ∙ ap (λ i. records_at + 2 * (total records_of (take i decls) + k.key)) (sym place);
+      };
+      low = let bound = records_bound decls a.0 are.few are.each in omega (arith, first, bound);
+      few = let few = size_few decls a.0 k.storage a.1 are.each a.2 in omega (arith, a.3, few);
     }
 
-pub never_none : (decls : List Decl) (k : Key) → AreDecls decls → has_record decls k ≡ true
-    → position (λ d. eqb (id_of d) k.storage) decls ≡ None → ⊥
-never_none decls k are has none =
-    let both : None ≡ Some (array_of decls k has).0 = sym none ∙ position_known decls k are has in absurd (cc)
+-- ---- the first words
 
-pub at_word : (decls : List Decl) (k : Key) (slot n : ℕ) → HasWord decls k slot
-    → n ≡ total records_of (take slot decls) → IsAtKey decls k (spot_for decls k) (32 + 2 * (n + k.key))
-at_word decls k slot n h is = record {
-  size = h.size;
-  storage = subst (λ i. slice_get decls i ≡ Some (Array k.storage h.size)) h.place h.storage;
-  index = refl;
-  within = h.within;
-  word = ap (λ m. records_at + 2 * (m + k.key)) (is ∙ ap (λ i. total records_of (take i decls)) h.place);
-}
+-- those of the storages up to this one are told, and the next one's stands here
+abbrev pub AreSoFar : List Decl → ℕ → List ℕ → ℕ → Type 0
+AreSoFar decls i firsts at =
+    (length firsts ≡ 256) × (at ≡ records_at + 2 * total records_of (take i decls))
+    × ((slot : ℕ) (d : Decl) → slot < i → slice_get decls slot ≡ Some d
+    → get_or firsts (id_of d) 0 ≡ records_at + 2 * total records_of (take slot decls))
 
-pub each_taken : (decls : List Decl) (i : ℕ) → AllByRecursion IsDecl decls → AllByRecursion IsDecl (take i decls)
-each_taken [] zero each = tt
-each_taken [] (suc i) each = tt
-each_taken (d ∷ decls) zero each = tt
-each_taken (d ∷ decls) (suc i) each = (each.0, each_taken decls i each.1)
+-- another storage has another id
+ids_apart : (decls : List Decl) (i j : ℕ) (d e : Decl) → AreDistinct (map id_of decls) → slice_get decls i ≡ Some d
+    → slice_get decls j ≡ Some e → i < j → id_of d ≡ id_of e → ⊥
+ids_apart decls i j d e distinct at-i at-j less same =
+    let first = place_is decls (id_of e) i d distinct at-i same in
+    let second = place_is decls (id_of e) j e distinct at-j refl in
+    absurd (omega (arith, first, second))
+
+pub first_more : (decls : List Decl) (i id at more : ℕ) (firsts : List ℕ) → AreDecls decls → i < length decls
+    → id < 256 → id ≡ id_of (get_or decls i none) → more ≡ records_of (get_or decls i none)
+    → AreSoFar decls i firsts at → AreSoFar decls (i + 1) (set firsts id at) (at + 2 * more)
+first_more decls i id at more firsts are here small id-is more-is so-far =
+    let next = records_more decls i here in
+    let at-i = slice_get-get_or decls i none here in (
+      length-set firsts id at ∙ so-far.0,
+      omega (arith, so-far.1, next, more-is),
+      λ slot d less there.
+          elim (cases_order slot i) [
+            | inl is ↦
+                let same : Some d ≡ Some (get_or decls i none) = sym there ∙ (ap (slice_get decls) is ∙ at-i) in
+                let of : d ≡ get_or decls i none = cc in
+                ap (λ j. get_or (set firsts id at) j 0) (ap id_of of ∙ sym id-is)
+                ∙ (get_or-set_same firsts id at 0 (omega (arith, so-far.0, small))
+                ∙ (so-far.1 ∙ ap (λ j. records_at + 2 * total records_of (take j decls)) (sym is)))
+            | inr order ↦ elim order [
+              | inl before ↦
+                  let other = ids_apart decls slot i d (get_or decls i none) are.distinct there at-i before in
+                  get_or-set_other firsts id (id_of d) at 0 (λ e. other (e ∙ id-is)) ∙ so-far.2 slot d before there
+              | inr behind ↦ absurd (omega (arith, less, behind))
+            ]
+          ],
+    )

@@ -1,6 +1,6 @@
 -- Which word is which, and where the records of keys stand.
 use Rattle.std.specs.Prelude.{◌≡◌, ℕ, ◌+◌, ◌*◌, ◌<◌, ◌==◌, ◌&&◌, Bool, true, false, List, take, Option, Some, nat_lt}
-use Rattle.std.specs.Prelude.{slice_get, if◌then◌else◌}
+use Rattle.std.specs.Prelude.{get_or, slice_get, if◌then◌else◌}
 use Rattle.std.specs.List.{list_any, position_or_len}
 use Rattle.serial_model.specs.declared.key.Key.{Key}
 use Rattle.serial_model.specs.declared.decl.Decl.{Decl}
@@ -75,6 +75,11 @@ pub record IsAtKey (decls : List Decl) (k : Key) (x : Spot) (at : ℕ) : Type 0 
   pub index : x.index ≡ k.key
   pub within : k.key < size
   pub word : at ≡ records_at + 2 * (total records_of (take x.slot decls) + k.key)
+
+-- By the id of each storage, the word of its first record. A tree has no record yet, so the next storage's stands there.
+abbrev pub AreFirstWords : List Decl → List ℕ → Type 0
+AreFirstWords decls firsts = (slot : ℕ) (d : Decl) → slice_get decls slot ≡ Some d
+    → get_or firsts (id_of d) 0 ≡ records_at + 2 * total records_of (take slot decls)
 
 -- the place of a key's record, by the place of its storage among those that are declared
 abbrev pub spot_for : List Decl → Key → Spot

@@ -14,3 +14,4 @@ pub mod Making
 pub mod Passes
 pub mod Touches
 pub mod Faces
+pub mod Resting

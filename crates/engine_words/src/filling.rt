@@ -1,15 +1,14 @@
 // How the words of an engine are filled.
 ghost use Rattle.std.specs.Prelude.{◌≡◌, ℕ, ◌≤◌, true, get_or, length};
-ghost use Rattle.serial_model.specs.Decls.{AreDecls};
 ghost use Rattle.wire_form.specs.Words.{number_word};
 ghost use Rattle.engine_words.specs.Layout.{has_record, records_at, words_of};
 ghost use Rattle.engine_words.specs.Making.{AreMarked, AreFilled, IsFilled, CanMake};
 ghost use Rattle.engine_words.specs.Rule.{IsSmall};
 
 use crate::Layout;
-use crate::places::record_word;
+use crate::storages::Storages;
 use homes::Content;
-use serial_model::{Decl, Key, Number};
+use serial_model::{Key, Number};
 
 const EPOCH: u64 = 1 << 40;
 
@@ -33,29 +32,28 @@ pub(crate) fn fill_marks(words: &mut Vec<u64>, mark: u64)
 
 /// Puts what stands at keys at first into the words of their records: of equal keys the first counts, so it is put
 /// last.
-pub(crate) fn fill_records(words: &mut Vec<u64>, layout: &Layout)
+pub(crate) fn fill_records(words: &mut Vec<u64>, storages: &Storages, layout: &Layout)
     requires can { CanMake layout.now }
+    requires of { storages.now ≡ layout.now.decls }
     requires long { length words.old.items ≡ words_of layout.now.decls }
     requires zeros { (at : ℕ) → records_at ≤ at → get_or words.old.items at 0 ≡ 0 }
     ensures { AreFilled layout.now.decls layout.now.opening words.old.items words.new.items }
 {
-    let decls = layout.decls.as_slice();
     let opening = layout.opening.as_slice();
     let count = opening.len();
     for i in 0..count {
         let (key, content) = opening[count - 1 - i];
-        fill_record(words, decls, key, content);
+        fill_record(words, storages, key, content);
     }
 }
 
-fn fill_record(words: &mut Vec<u64>, decls: &[Decl], key: Key, content: Content)
-    requires decls { AreDecls decls.now }
-    requires has { has_record decls.now key ≡ true }
+fn fill_record(words: &mut Vec<u64>, storages: &Storages, key: Key, content: Content)
+    requires has { has_record storages.now key ≡ true }
     requires small { IsSmall content.number }
-    requires long { length words.old.items ≡ words_of decls.now }
-    ensures { IsFilled decls.now key content words.old.items words.new.items }
+    requires long { length words.old.items ≡ words_of storages.now }
+    ensures { IsFilled storages.now key content words.old.items words.new.items }
 {
-    let at = record_word(decls, key) as usize;
+    let at = storages.word_of(key) as usize;
     words[at] = word_of_number(content.number);
     words[at + 1] = content.value.unwrap_or(0);
 }

@@ -10,7 +10,8 @@
 //! specs/Cuts.antt, how views are cut and joined; specs/Steps.antt, Reads, Locks, Attempts and Clock, what steps tell;
 //! specs/Touches.antt, who took locks of which keys, and specs/Faces.antt, laws of who was in the way;
 //! specs/ReadLaws.antt, laws of the words that were met; specs/Gathered.antt, laws of the own commits that a keeper's view
-//! gathers as seats end, and specs/Between.antt, what counts behind them; specs/Making.antt, what an engine is made from.
+//! gathers as seats end, and specs/Between.antt, what counts behind them; specs/Resting.antt, that nobody holds a record
+//! where nobody is seated; specs/Making.antt, what an engine is made from.
 //! Design: docs/COMMIT.md.
 #![tactic(auto)]
 

@@ -32,7 +32,7 @@ impl Engine {
         let mut words = Vec::from_elem(alloc, 0u64, 32 + 2 * records as usize)?;
         words[0] = word_of_number(layout.first);
         fill_marks(&mut words, u64::from(layout.first.epoch - 1) * EPOCH);
-        fill_records(&mut words, layout);
+        fill_records(&mut words, &storages, layout);
         let (table, pass) = Table::of_words(alloc, words.as_slice(), layout)?;
         Ok((Engine { table, storages }, pass))
     }
@@ -52,7 +52,7 @@ pub(crate) fn count_records(decls: &[Decl]) -> u32
     count
 }
 
-fn records(decl: Decl) -> u32
+pub(crate) fn records(decl: Decl) -> u32
     ensures { result ≡ records_of decl }
 {
     match decl {

@@ -1,12 +1,11 @@
 // Where the words of records stand.
-ghost use Rattle.std.specs.Prelude.{◌≡◌, ◌==◌, true};
-ghost use Rattle.std.specs.List.{position};
+ghost use Rattle.std.specs.Prelude.{◌≡◌, true};
 ghost use Rattle.serial_model.specs.Decls.{AreDecls};
 ghost use Rattle.serial_model.specs.Keys.{id_of};
-ghost use Rattle.engine_words.specs.Layout.{has_record, spot_for, IsAtKey};
+ghost use Rattle.engine_words.specs.Layout.{has_record, spot_for, AreFirstWords, IsAtKey};
 
 use crate::engine::Engine;
-use crate::making::count_records;
+use crate::making::records;
 use serial_model::{Decl, Key};
 
 impl Engine {
@@ -15,34 +14,28 @@ impl Engine {
         requires has { has_record self.now.table.shared.key.decls key ≡ true }
         ensures { IsAtKey self.now.table.shared.key.decls key (spot_for self.now.table.shared.key.decls key) result }
     {
-        record_word(self.storages.as_slice(), key)
+        self.storages.word_of(key)
     }
 }
 
-/// The same of these storages.
-pub(crate) fn record_word(decls: &[Decl], key: Key) -> u32
-    requires are { AreDecls decls.now }
-    requires has { has_record decls.now key ≡ true }
-    ensures { IsAtKey decls.now key (spot_for decls.now key) result }
+/// By the id of each of these storages: where the word of its first record stands.
+pub(crate) fn first_words(decls: &[Decl]) -> [u32; 256]
+    requires { AreDecls decls.now }
+    ensures { AreFirstWords decls.now result }
 {
-    let Some(slot) = storage_at(decls, key.storage) else {
-        return 0;
-    };
-    let before = count_records(&decls[..slot]);
-    32 + 2 * (before + key.key as u32)
+    let mut firsts = [0; 256];
+    let mut at = 32;
+    for decl in decls {
+        firsts[usize::from(id_of(*decl))] = at;
+        at += 2 * records(*decl);
+    }
+    firsts
 }
 
-/// The place of a storage among those that are declared.
-fn storage_at(decls: &[Decl], storage: u8) -> Option<usize>
-    ensures { result ≡ position (λ d. id_of d == storage) decls.now }
-{
-    decls.iter().position(|decl| has_id(*decl, storage))
-}
-
-fn has_id(decl: Decl, storage: u8) -> bool
-    ensures { result ≡ (id_of decl == storage) }
+fn id_of(decl: Decl) -> u8
+    ensures { result ≡ id_of decl }
 {
     match decl {
-        Decl::Array { id, .. } | Decl::Tree { id } => id == storage,
+        Decl::Array { id, .. } | Decl::Tree { id } => id,
     }
 }

@@ -90,7 +90,8 @@ read_push (f ∷ reads) e q x of = by_test (same_key f.key q) refl of (read_push
       | inr new ↦ inr new
     ]
 
-read_has : (reads : List ReadEntry) (q : Key) (x : ReadEntry) → read_of q reads ≡ Some x → has_read q reads ≡ true
+-- what was read of a key is read
+pub read_has : (reads : List ReadEntry) (q : Key) (x : ReadEntry) → read_of q reads ≡ Some x → has_read q reads ≡ true
 read_has [] q x of = absurd cc
 read_has (f ∷ reads) q x of = by_test (same_key f.key q) refl of (read_has reads q x)
   where

@@ -2,11 +2,13 @@
 use Rattle.std.proofs.Common.{◌≡◌, inl, inr, ℕ, ◌+◌, ◌*◌, ◌<◌, ◌≤◌, Bool, true, false, eqb, List, length, get_or}
 use Rattle.std.proofs.Common.{Option}
 use Rattle.std.proofs.Common.{refl, ap, ◌∙◌, arith}
-use Rattle.std.specs.Prelude.{MatchBool}
+use Rattle.std.specs.Prelude.{MatchBool, ◌||◌, if◌then◌else◌}
 use Rattle.serial_model.specs.declared.key.Key.{Key}
 use Rattle.serial_model.specs.declared.number.Change.{Change}
 use Rattle.homes.specs.declared.places.Spot.{Spot}
 use Rattle.tx_sets.specs.declared.reads.ReadEntry.{ReadEntry}
+use Rattle.tx_sets.specs.declared.sets.Sets.{Sets}
+use Rattle.tx_sets.specs.Entries.{has_read, has_write}
 use Rattle.engine_words.specs.declared.view.Refused.{Refused}
 use Rattle.engine_words.specs.declared.view.View.{View}
 use Rattle.engine_words.specs.Attempts.{Checked, HasDrawn, HasChosen, is_as_seen, checked_at, failed_at}
@@ -14,6 +16,7 @@ use Rattle.engine_words.specs.Layout.{spot_for}
 use Rattle.engine_words.specs.Locks.{locked, Locked, opened, put_at}
 use Rattle.engine_words.specs.Steps.{read_at, HasForgotten}
 use Rattle.array_storage.specs.Finding.{HasFound, HasClashed}
+use Rattle.tx_commit.specs.Turning.{read_steps}
 
 either : (b : Bool) (x p q : View) (n : ℕ) → p.steps ≡ n → q.steps ≡ n → MatchBool b (x ≡ p) (x ≡ q) → x.steps ≡ n
 either true x p q n there other is = ap (λ (y : View). y.steps) is ∙ there
@@ -124,9 +127,12 @@ stopped_most reads writes writes' found v w x same less locks opens = omega (ari
 
 -- ---- a read
 
-pub found_steps : (k : Key) (at word value : ℕ) (v w : View) → HasFound k at word value v w → w.steps ≤ v.steps + 4
+pub found_steps : (k : Key) (at word value : ℕ) (v w : View) → HasFound k at word value v w → w.steps ≡ v.steps + 3
 found_steps k at word value v w h =
     let all : w.steps ≡ v.steps + 1 + 1 + 1 = ap (λ (y : View). y.steps) h.is in omega (arith, all)
+
+pub found_most : (k : Key) (at word value : ℕ) (v w : View) → HasFound k at word value v w → w.steps ≤ v.steps + 4
+found_most k at word value v w h = let all = found_steps k at word value v w h in omega (arith, all)
 
 pub clash_steps : (k : Key) (at expected seen : ℕ) (why : Option Refused) (v w x : View)
     → HasClashed k at expected seen v w
@@ -138,8 +144,18 @@ clash_steps k at expected seen why v w x (inr h) is =
     let all : w.steps ≡ v.steps + 1 + 1 + 1 = ap (λ (y : View). y.steps) h.is in
     let now : x.steps ≡ w.steps + 1 = ap (λ (y : View). y.steps) is.is in omega (arith, all, now)
 
-pub forgot_most : (why : Option Refused) (v x : View) → HasForgotten why v x → x.steps ≤ v.steps + 4
-forgot_most why v x is = let now : x.steps ≡ v.steps + 1 = ap (λ (y : View). y.steps) is.is in omega (arith, now)
+-- ---- reads, by what the transaction has met before
 
-pub none_most : (v : View) → v.steps ≤ v.steps + 4
-none_most v = omega arith
+abbrev loads : Bool → Bool → ℕ
+loads written read = if written || read then 0 else 3
+
+pub steps_written : (sets : Sets) (k : Key) → has_write k sets.writes ≡ true → read_steps sets k ≡ 0
+steps_written sets k written = ap (λ b. loads b (has_read k sets.reads)) written
+
+pub steps_read : (sets : Sets) (k : Key) → has_write k sets.writes ≡ false → has_read k sets.reads ≡ true
+    → read_steps sets k ≡ 0
+steps_read sets k unwritten read = ap (λ b. loads b (has_read k sets.reads)) unwritten ∙ ap (loads false) read
+
+pub steps_unmet : (sets : Sets) (k : Key) → has_write k sets.writes ≡ false → has_read k sets.reads ≡ false
+    → read_steps sets k ≡ 3
+steps_unmet sets k unwritten unread = ap (λ b. loads b (has_read k sets.reads)) unwritten ∙ ap (loads false) unread

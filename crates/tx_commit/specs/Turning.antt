@@ -1,5 +1,5 @@
 -- What an operation of a transaction comes to: the turn of the serial step, over the parts and the own writes.
-use Rattle.std.specs.Prelude.{◌≡◌, ℕ, ◌⊎◌, ◌+◌, ◌-◌, ◌^◌, ◌≤◌, length, List, [], ◌∷◌, ◌++◌, Option, Some, None, true}
+use Rattle.std.specs.Prelude.{◌≡◌, ℕ, ◌⊎◌, ◌+◌, ◌-◌, ◌^◌, ◌≤◌, ◌||◌, length, List, [], ◌∷◌, ◌++◌, Option, Some, None, true}
 use Rattle.std.specs.Prelude.{if◌then◌else◌}
 use Rattle.std.specs.Prelude.{nat_lt, nat_le}
 use Rattle.serial_model.specs.declared.key.Key.{Key}
@@ -15,7 +15,7 @@ use Rattle.serial_bridge.specs.Transaction.{vouched, Turns, Continues, Stops}
 use Rattle.tx_sets.specs.declared.reads.ReadEntry.{ReadEntry}
 use Rattle.tx_sets.specs.declared.sets.Sets.{Sets}
 use Rattle.tx_sets.specs.declared.writes.Write.{Write}
-use Rattle.tx_sets.specs.Entries.{has_write, value_of}
+use Rattle.tx_sets.specs.Entries.{has_read, has_write, value_of}
 use Rattle.engine_words.specs.declared.view.Glance.{Glance}
 use Rattle.engine_words.specs.declared.view.Loaded.{Loaded}
 use Rattle.engine_words.specs.declared.view.Read.{Read}
@@ -57,6 +57,10 @@ MayWrite (ops.Scan storage low high) q = ⊥
 -- at most the key of the operation is written now
 abbrev pub WritesOnly : Op → List Write → List Write → Type 0
 WritesOnly op old new = (q : Key) → has_write q new ≡ true → (has_write q old ≡ true) ⊎ MayWrite op q
+
+-- how many loads the value at a key takes: none where the transaction has written or read the key, else three
+abbrev pub read_steps : Sets → Key → ℕ
+read_steps sets k = if has_write k sets.writes || has_read k sets.reads then 0 else 3
 
 -- some loads more, and maybe parts: all else that the pass knows is as it was
 pub record HasLoaded (v w : View) : Type 0 where

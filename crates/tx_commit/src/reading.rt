@@ -1,12 +1,12 @@
 // Reads.
-ghost use Rattle.std.specs.Prelude.{◌≡◌, ◌+◌, ◌≤◌, true, false, IfOk, IfErr, Some, None};
+ghost use Rattle.std.specs.Prelude.{◌≡◌, ◌+◌, ◌≤◌, true, false, IfOk, IfErr, OnOk, Some, None};
 ghost use Rattle.serial_model.specs.declared.op.Op.TheVariants as ops;
 ghost use Rattle.serial_model.specs.declared.reply.Reply.TheVariants as replies;
 ghost use Rattle.tx_sets.specs.Entries.{has_read, has_write};
 ghost use Rattle.engine_words.specs.Layout.{has_record};
 ghost use Rattle.engine_words.specs.Passes.{view, IsPassOf};
 ghost use Rattle.tx_commit.specs.Live.{IsLive};
-ghost use Rattle.tx_commit.specs.Turning.{HasDone};
+ghost use Rattle.tx_commit.specs.Turning.{read_steps, HasDone};
 ghost use Rattle.tx_commit.specs.Refusing.{HasRefused, RefusesRead, IsConflict};
 ghost use Rattle.tx_commit.specs.Steps.{HasEntry};
 
@@ -30,7 +30,8 @@ pub(crate) fn value_of(
         HasDone (ops.Read key) (Some (replies.Value value)) sets.old sets.new (view pass.old) (view pass.new)) }
     ensures cause { IfErr result (λ why. RefusesRead sets.old key why (view pass.old) (view pass.new)) }
     ensures refused { IfErr result (λ why. HasRefused why (view pass.old) (view pass.new)) }
-    ensures steps { (view pass.new).steps ≤ (view pass.old).steps + 4 }
+    ensures steps { OnOk result ((view pass.new).steps ≡ (view pass.old).steps + read_steps sets.old key) }
+    ensures most { (view pass.new).steps ≤ (view pass.old).steps + 4 }
 {
     let Some(own) = sets.writes.find(key) else {
         return read_value(engine, pass, sets, key);
@@ -49,7 +50,8 @@ fn read_value(engine: &Engine, pass: &mut Pass, sets: &mut Sets, key: Key) -> Re
         HasDone (ops.Read key) (Some (replies.Value value)) sets.old sets.new (view pass.old) (view pass.new)) }
     ensures cause { IfErr result (λ why. RefusesRead sets.old key why (view pass.old) (view pass.new)) }
     ensures refused { IfErr result (λ why. HasRefused why (view pass.old) (view pass.new)) }
-    ensures steps { (view pass.new).steps ≤ (view pass.old).steps + 4 }
+    ensures steps { OnOk result ((view pass.new).steps ≡ (view pass.old).steps + read_steps sets.old key) }
+    ensures most { (view pass.new).steps ≤ (view pass.old).steps + 4 }
 {
     let entry = entry_of(engine, pass, sets, key)?;
     Ok(entry.value)
@@ -71,7 +73,8 @@ pub(crate) fn entry_of(
     ensures entry { IfOk result (λ e. HasEntry key e sets.old sets.new (view pass.old) (view pass.new)) }
     ensures cause { IfErr result (λ why. RefusesRead sets.old key why (view pass.old) (view pass.new)) }
     ensures refused { IfErr result (λ why. HasRefused why (view pass.old) (view pass.new)) }
-    ensures steps { (view pass.new).steps ≤ (view pass.old).steps + 4 }
+    ensures steps { OnOk result ((view pass.new).steps ≡ (view pass.old).steps + read_steps sets.old key) }
+    ensures most { (view pass.new).steps ≤ (view pass.old).steps + 4 }
 {
     let Some(entry) = sets.reads.find(key) else {
         return read_anew(engine, pass, sets, key);
@@ -96,7 +99,8 @@ fn read_anew(
     ensures entry { IfOk result (λ e. HasEntry key e sets.old sets.new (view pass.old) (view pass.new)) }
     ensures cause { IfErr result (λ why. RefusesRead sets.old key why (view pass.old) (view pass.new)) }
     ensures refused { IfErr result (λ why. HasRefused why (view pass.old) (view pass.new)) }
-    ensures steps { (view pass.new).steps ≤ (view pass.old).steps + 4 }
+    ensures steps { OnOk result ((view pass.new).steps ≡ (view pass.old).steps + 3) }
+    ensures most { (view pass.new).steps ≤ (view pass.old).steps + 4 }
 {
     if sets.reads.is_full() {
         let why = Refused::Wide {

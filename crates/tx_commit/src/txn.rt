@@ -8,7 +8,7 @@ ghost use Rattle.tx_sets.specs.Gathered.{AreEmpty};
 ghost use Rattle.engine_words.specs.Layout.{has_record};
 ghost use Rattle.engine_words.specs.Passes.{view, IsPassOf};
 ghost use Rattle.tx_commit.specs.Live.{IsLive, IsOver};
-ghost use Rattle.tx_commit.specs.Turning.{HasDone, Alters};
+ghost use Rattle.tx_commit.specs.Turning.{read_steps, HasDone, Alters};
 ghost use Rattle.tx_commit.specs.Refusing.{HasRefused, RefusesBegin, RefusesRead, RefusesWrite, RefusesAlter};
 ghost use Rattle.tx_commit.specs.Committing.{changes_of, commit_steps, kept_writes, HasBegun, HasAborted, HasCommitted};
 ghost use Rattle.tx_commit.specs.Committing.{RefusesCommit};
@@ -67,7 +67,8 @@ impl Txn {
             (view pass.new)) }
         ensures cause { IfErr result (λ why. RefusesRead self.old.sets key why (view pass.old) (view pass.new)) }
         ensures refused { IfErr result (λ why. HasRefused why (view pass.old) (view pass.new)) }
-        ensures steps { (view pass.new).steps ≤ (view pass.old).steps + 4 }
+        ensures steps { OnOk result ((view pass.new).steps ≡ (view pass.old).steps + read_steps self.old.sets key) }
+        ensures most { (view pass.new).steps ≤ (view pass.old).steps + 4 }
     {
         value_of(engine, pass, &mut self.sets, key)
     }
@@ -88,7 +89,8 @@ impl Txn {
             HasDone (ops.Write key value) None self.old.sets self.new.sets (view pass.old) (view pass.new)) }
         ensures cause { IfErr result (λ why. RefusesWrite self.old.sets key why) }
         ensures refused { IfErr result (λ why. HasRefused why (view pass.old) (view pass.new)) }
-        ensures steps { (view pass.new).steps ≤ (view pass.old).steps + 4 }
+        ensures steps { OnOk result ((view pass.new).steps ≡ (view pass.old).steps) }
+        ensures most { (view pass.new).steps ≤ (view pass.old).steps + 1 }
     {
         write_value(engine, pass, &mut self.sets, key, value)
     }
@@ -111,7 +113,8 @@ impl Txn {
             Alters (ops.Add key amount) verdict self.old.sets self.new.sets (view pass.old) (view pass.new)) }
         ensures cause { IfErr result (λ why. RefusesAlter self.old.sets key why (view pass.old) (view pass.new)) }
         ensures refused { IfErr result (λ why. HasRefused why (view pass.old) (view pass.new)) }
-        ensures steps { (view pass.new).steps ≤ (view pass.old).steps + 4 }
+        ensures steps { OnOk result ((view pass.new).steps ≡ (view pass.old).steps + read_steps self.old.sets key) }
+        ensures most { (view pass.new).steps ≤ (view pass.old).steps + 4 }
     {
         alter(engine, pass, &mut self.sets, key, By::Add(amount))
     }
@@ -134,7 +137,8 @@ impl Txn {
             Alters (ops.Take key amount) verdict self.old.sets self.new.sets (view pass.old) (view pass.new)) }
         ensures cause { IfErr result (λ why. RefusesAlter self.old.sets key why (view pass.old) (view pass.new)) }
         ensures refused { IfErr result (λ why. HasRefused why (view pass.old) (view pass.new)) }
-        ensures steps { (view pass.new).steps ≤ (view pass.old).steps + 4 }
+        ensures steps { OnOk result ((view pass.new).steps ≡ (view pass.old).steps + read_steps self.old.sets key) }
+        ensures most { (view pass.new).steps ≤ (view pass.old).steps + 4 }
     {
         alter(engine, pass, &mut self.sets, key, By::Take(amount))
     }

@@ -6,7 +6,7 @@ ghost use Rattle.engine_words.specs.Layout.{has_record};
 ghost use Rattle.engine_words.specs.Passes.{view, IsPassOf};
 ghost use Rattle.engine_words.specs.Steps.{IsKeyAt};
 ghost use Rattle.tx_commit.specs.Live.{IsLive};
-ghost use Rattle.tx_commit.specs.Turning.{op_of, altered, ended_by, HasDone, Alters};
+ghost use Rattle.tx_commit.specs.Turning.{op_of, altered, ended_by, read_steps, HasDone, Alters};
 ghost use Rattle.tx_commit.specs.Refusing.{HasRefused, RefusesWrite, RefusesAlter};
 
 use crate::reading::entry_of;
@@ -37,7 +37,8 @@ pub(crate) fn write_value(
         HasDone (ops.Write key value) None sets.old sets.new (view pass.old) (view pass.new)) }
     ensures cause { IfErr result (λ why. RefusesWrite sets.old key why) }
     ensures refused { IfErr result (λ why. HasRefused why (view pass.old) (view pass.new)) }
-    ensures steps { (view pass.new).steps ≤ (view pass.old).steps + 4 }
+    ensures steps { OnOk result ((view pass.new).steps ≡ (view pass.old).steps) }
+    ensures most { (view pass.new).steps ≤ (view pass.old).steps + 1 }
 {
     if sets.writes.contains(key) {
         sets.writes.set(key, Some(value));
@@ -86,7 +87,8 @@ pub(crate) fn alter(
         Alters (op_of key by) verdict sets.old sets.new (view pass.old) (view pass.new)) }
     ensures cause { IfErr result (λ why. RefusesAlter sets.old key why (view pass.old) (view pass.new)) }
     ensures refused { IfErr result (λ why. HasRefused why (view pass.old) (view pass.new)) }
-    ensures steps { (view pass.new).steps ≤ (view pass.old).steps + 4 }
+    ensures steps { OnOk result ((view pass.new).steps ≡ (view pass.old).steps + read_steps sets.old key) }
+    ensures most { (view pass.new).steps ≤ (view pass.old).steps + 4 }
 {
     let Some(own) = sets.writes.find(key) else {
         return alter_record(engine, pass, sets, key, by);
@@ -115,7 +117,8 @@ fn alter_record(
         Alters (op_of key by) verdict sets.old sets.new (view pass.old) (view pass.new)) }
     ensures cause { IfErr result (λ why. RefusesAlter sets.old key why (view pass.old) (view pass.new)) }
     ensures refused { IfErr result (λ why. HasRefused why (view pass.old) (view pass.new)) }
-    ensures steps { (view pass.new).steps ≤ (view pass.old).steps + 4 }
+    ensures steps { OnOk result ((view pass.new).steps ≡ (view pass.old).steps + read_steps sets.old key) }
+    ensures most { (view pass.new).steps ≤ (view pass.old).steps + 4 }
 {
     if sets.writes.is_full() {
         let why = Refused::Wide {

@@ -2,7 +2,7 @@ use Rattle.std.proofs.Common.{Some, refl}
 use Rattle.engine_words.specs.declared.view.Refused.TheVariants as refusals
 use Rattle.engine_words.specs.Passes.{view}
 use Rattle.tx_commit.proofs.FindLaws.{clash_way, found_entry, clash_loaded, clash_conflict, clash_untouched, loaded_refused, has_room, pushed_is}
-use Rattle.tx_commit.proofs.StepLaws.{found_steps, clash_steps}
+use Rattle.tx_commit.proofs.StepLaws.{found_steps, found_most, clash_steps}
 use Rattle.tx_commit.proofs.reading.read_anew.Goals as goal
 
 pub returns-in-Ok-clause-entry : goal.returns-in-Ok-clause-entry
@@ -42,8 +42,14 @@ returns-in-Ok-clause-steps c =
     (view c.find.new.pass)
     c.in-Ok.ensures.found
 
-pub returns-in-Err-clause-steps : goal.returns-in-Err-clause-steps
-returns-in-Err-clause-steps c =
+pub returns-in-Ok-clause-most : goal.returns-in-Ok-clause-most
+returns-in-Ok-clause-most c =
+    found_most c.args.key c.in-Ok.found.at c.in-Ok.found.word c.in-Ok.found.value (view c.args.pass.now)
+    (view c.find.new.pass)
+    c.in-Ok.ensures.found
+
+pub returns-in-Err-clause-most : goal.returns-in-Err-clause-most
+returns-in-Err-clause-most c =
     clash_steps c.args.key c.in-Err.conflict.word c.in-Err.conflict.expected c.in-Err.conflict.seen
     (Some (refusals.Conflict c.in-Err.conflict.word c.in-Err.conflict.expected c.in-Err.conflict.seen))
     (view c.args.pass.now)

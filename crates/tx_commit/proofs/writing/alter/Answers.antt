@@ -1,7 +1,8 @@
-use Rattle.std.proofs.Common.{refl, sym, ◌∙◌, ap}
+use Rattle.std.proofs.Common.{◌≡◌, ◌+◌, refl, sym, ◌∙◌, ap, arith}
 use Rattle.engine_words.specs.Passes.{view}
-use Rattle.tx_commit.specs.Turning.{altered}
+use Rattle.tx_commit.specs.Turning.{altered, read_steps}
 use Rattle.tx_commit.proofs.Dones.{own_altered}
+use Rattle.tx_commit.proofs.StepLaws.{steps_written}
 use Rattle.tx_commit.proofs.Writes.{none_written, some_written, rewritten_writes, rewritten_all}
 use Rattle.tx_commit.proofs.writing.alter.Goals as goal
 
@@ -24,3 +25,17 @@ returns-clause-turns c =
     (rewritten_all (view c.args.pass.now).layout.decls c.args.key c.in-Some-after.value c.args.sets.now.writes _
     c.set.ensures
     c.requires.live.writes)
+
+pub returns-clause-steps : goal.returns-clause-steps
+returns-clause-steps c =
+    let none = steps_written c.args.sets.now c.args.key
+    (some_written c.args.key c.args.sets.now.writes c.in-Some.own (sym c.find.ensures ∙ c.in-Some.is)) in
+    let same : (view c.args.pass.now).steps ≡ (view c.args.pass.now).steps + read_steps c.args.sets.now c.args.key =
+    omega (arith, none) in same
+
+pub returns-in_default-after-clause-steps : goal.returns-in_default-after-clause-steps
+returns-in_default-after-clause-steps c =
+    let none = steps_written c.args.sets.now c.args.key
+    (some_written c.args.key c.args.sets.now.writes c.in-Some.own (sym c.find.ensures ∙ c.in-Some.is)) in
+    let same : (view c.args.pass.now).steps ≡ (view c.args.pass.now).steps + read_steps c.args.sets.now c.args.key =
+    omega (arith, none) in same

@@ -4,8 +4,8 @@ use Rattle.std.specs.Prelude.{[], ◌∷◌, flat_map, fold, min, MatchBool, Opt
 use Rattle.std.specs.Prelude.{is_some, nat_lt, option_to_list, if◌then◌else◌, ⊤}
 use Rattle.std.specs.List.{AllByRecursion, Contains, list_any}
 use Rattle.serial_model.specs.Numbers.{last_epoch}
-use Rattle.outside.specs.declared.vault.Device.{Device}
-use Rattle.outside.specs.declared.vault.Device.TheVariants as devices
+use Rattle.outside.specs.declared.device.Device.{Device}
+use Rattle.outside.specs.declared.device.Device.TheVariants as devices
 use Rattle.script_grammar.specs.declared.lines.KeeperLine.{KeeperLine}
 use Rattle.script_grammar.specs.declared.lines.KeeperLine.TheVariants as asks
 use Rattle.tx_script.specs.declared.answer.Answer.{Answer}

@@ -15,7 +15,7 @@ use Rattle.serial_model.specs.declared.number.Number.{Number}
 use Rattle.script_grammar.specs.Script.{Line, Worker, Keeper, Round, Script, keeper_lines, worker_lines}
 use Rattle.script_grammar.specs.Script.{IsAsked, IsLine, IsOp, IsRound, IsScript}
 use Rattle.script_grammar.specs.declared.lines.KeeperLine.{KeeperLine}
-use Rattle.outside.specs.declared.vault.Device.{Device}
+use Rattle.outside.specs.declared.device.Device.{Device}
 use Rattle.tx_script.specs.declared.answer.Answer.{Answer}
 use Rattle.tx_script.specs.declared.answer.Answer.TheVariants as answers
 use Rattle.tx_script.specs.declared.outcome.Outcome.{Outcome}

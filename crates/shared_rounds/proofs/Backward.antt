@@ -14,6 +14,7 @@ use Rattle.engine_words.specs.declared.view.View.{View}
 use Rattle.tx_runner.specs.Lines.{HasNoTree}
 use Rattle.tx_script.specs.Run.{CanRun}
 use Rattle.worker_cells.specs.Cells.{RunsCell}
+use Rattle.worker_cells.specs.Gates.{calls_for, calls_in, is_run}
 use Rattle.worker_cells.specs.declared.cell.Cell.{Cell}
 use Rattle.worker_logs.specs.Logs.{LogState}
 use Rattle.shared_rounds.specs.Rooms.{AreCounts}
@@ -128,6 +129,7 @@ module _ {D : Type 0} (tells : D → Option (List ℕ)) (clock : D → ℕ) (ima
         (subst (λ (n : ℕ). RunsCell tells clock image_at faults tries (lines_of_worker round n)
         new.outcomes.told new.end (view old.pass) (view new.pass) old.log new.log old.bank new.bank) s.number
         ran.runs));
+    calls = subst (λ n. calls_in new.end.calls ≡ calls_for is_run n 0 new.outcomes.told) s.number ran.calls;
   }
 
   ran_all : (tries : ℕ) (round : Round) (words : Engine) (was : View) (counts : List ℕ) (worker : ℕ)

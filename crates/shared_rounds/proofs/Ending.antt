@@ -25,6 +25,7 @@ use Rattle.engine_words.specs.declared.view.View.{View}
 use Rattle.tx_script.specs.declared.outcome.Outcome.{Outcome}
 use Rattle.tx_runner.specs.Tries.{blames_of}
 use Rattle.worker_cells.specs.InARow.{IsTakenBy, row_blamed, row_draws, row_touched}
+use Rattle.worker_cells.specs.Gates.{AreAllTold}
 use Rattle.worker_cells.specs.Rows.{draws_of, logged_of, refused_of}
 use Rattle.worker_cells.specs.declared.cell.LogEnd.{LogEnd}
 use Rattle.worker_logs.specs.Logs.{LogState}
@@ -169,11 +170,12 @@ module _ {D : Type 0} (tells : D → Option (List ℕ)) (clock : D → ℕ) (ima
       → LeavesPart tells clock image_at faults tries was now count p old new before bank
       → (told : List (List Outcome)) (left : List LogEnd)
       → AreTold round 0 (so.parts ++ p ∷ []) told left (logs_was ++ old ∷ []) (logs ++ new ∷ [])
+      → length told ≡ count + 1 → AreAllTold 0 told left
       → EndedSoFar tells clock image_at faults tries round was now (count + 1) (logs_was ++ old ∷ []) (logs ++ new ∷ [])
       (banks_was ++ before ∷ []) (banks ++ bank ∷ []) told left
   ends_one tries round was mid now u n count logs_was logs banks_was banks outcomes ends so less seat rests
       timed seen
-      p old new before bank is leaves told left then =
+      p old new before bank is leaves told left then many calls =
       let here : count ≡ 0 + length so.parts = omega (arith, so.many) in
       record {
         parts = so.parts ++ p ∷ [];
@@ -182,6 +184,7 @@ module _ {D : Type 0} (tells : D → Option (List ℕ)) (clock : D → ℕ) (ima
             leaves.part;
         seen = seen_then was mid now so.seen seen;
         role = ap (λ (v : View). v.role) timed.is ∙ so.role;
+        seat = ap (λ (v : View). v.seat) timed.is ∙ so.seat;
         layout = ap (λ (v : View). v.layout) timed.is ∙ so.layout;
         epoch = ap (λ (v : View). v.epoch) timed.is ∙ timed.keepers so.role ∙ so.epoch;
         made = ap (λ (v : View). v.made) timed.is ∙ ap (λ w. without w mid.made) who ∙ ap (without count) so.made
@@ -232,6 +235,8 @@ module _ {D : Type 0} (tells : D → Option (List ℕ)) (clock : D → ℕ) (ima
             so.left
             leaves.left_by;
         told = then;
+        many_outcomes = many;
+        calls = calls;
       }
     where
       who : worker_of u.role ≡ count

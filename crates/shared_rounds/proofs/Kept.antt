@@ -23,6 +23,7 @@ kept_next v w is k = subst IsKept (sym is) record {
   serial = k.serial;
   parked_are = k.parked_are;
   parked = k.parked;
+  rests = k.rests;
 }
 
 kept_loads : (v w : View) → OnlyLoads v w → IsKept v → IsKept w
@@ -39,6 +40,7 @@ kept_loads v w loads k = subst IsKept (sym loads.is) record {
   serial = k.serial;
   parked_are = k.parked_are;
   parked = k.parked;
+  rests = k.rests;
 }
 
 -- the engine is kept as words are loaded

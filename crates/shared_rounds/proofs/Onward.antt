@@ -1,7 +1,7 @@
 -- From one worker's cell to the next one as seats end.
 use Rattle.std.proofs.Common.{◌≡◌, ◌∙◌, sym, subst, refl, ℕ, ◌+◌, List, []}
 use Rattle.std.proofs.Common.{◌∷◌, ◌++◌}
-use Rattle.std.proofs.Common.{append-nil, append_assoc, length, arith, Option}
+use Rattle.std.proofs.Common.{ap, append-nil, append_assoc, length, length-append, arith, Option}
 use Rattle.lists.specs.Elements.{in_head, in_none, in_tail}
 use Rattle.lists.specs.Fronts.{front_refl}
 use Rattle.script_grammar.specs.Script.{Round, lines_of_worker}
@@ -12,6 +12,7 @@ use Rattle.engine_words.specs.declared.engine.Engine.{Engine}
 use Rattle.engine_words.specs.declared.view.Role.TheVariants.{Worker}
 use Rattle.engine_words.specs.declared.view.View.{View}
 use Rattle.tx_script.specs.declared.outcome.Outcome.{Outcome}
+use Rattle.worker_cells.specs.GateLaws.{all_told_push}
 use Rattle.worker_cells.specs.InARow.{row_role}
 use Rattle.worker_cells.specs.declared.cell.Cell.{Cell}
 use Rattle.worker_cells.specs.declared.cell.LogEnd.{LogEnd}
@@ -70,7 +71,10 @@ module _ {D : Type 0} (tells : D → Option (List ℕ)) (clock : D → ℕ) (ima
                 runs.lines_run.did.over.seat timed seen left.0 log cell.log bank cell.bank left.3 left.1
                 (outcomes ++ cell.outcomes.told ∷ []) (ends ++ cell.end ∷ [])
                 (told_push round 0 count so.so_far.parts outcomes ends so.logs_done logs left.0 cell.outcomes.told
-                cell.end log cell.log here so.so_far.told left.2);
+                cell.end log cell.log here so.so_far.told left.2)
+                (length-append outcomes (cell.outcomes.told ∷ []) ∙ ap (λ k. k + 1) so.so_far.many_outcomes)
+                (all_told_push 0 count outcomes ends cell.outcomes.told cell.end
+                (omega (arith, so.so_far.many_outcomes)) so.so_far.calls ran.0.calls);
             ran = ran.1;
           }
 
@@ -94,6 +98,7 @@ module _ {D : Type 0} (tells : D → Option (List ℕ)) (clock : D → ℕ) (ima
           are = tt;
           seen = record { history = front_refl was.history; decided = front_refl was.decided };
           role = stands.role;
+          seat = refl;
           layout = refl;
           epoch = refl;
           made = refl;
@@ -107,6 +112,8 @@ module _ {D : Type 0} (tells : D → Option (List ℕ)) (clock : D → ℕ) (ima
           taken = λ worker p there. absurd cc;
           left = tt;
           told = tt;
+          many_outcomes = refl;
+          calls = tt;
         });
     ran = ran;
   }

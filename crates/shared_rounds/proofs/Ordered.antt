@@ -40,6 +40,7 @@ abbrev pub standing_at : View → State → Number → List Attempt → ℕ → 
 standing_at v state clock mine conflicts done = record {
   decls = v.layout.decls;
   state = state;
+  opening = v.layout.opening;
   clock = clock;
   mine = mine;
   conflicts = conflicts;

@@ -69,9 +69,9 @@ module _ (tries : ℕ) (was now : View) (parts : List Part) (r : IsRound tries w
       ∙ ap (after_commits (opened was.layout.opening)) (split tries was now parts r).own
       ∙ commits_append (opened was.layout.opening) was.mine (split tries was now parts r).new
 
-  pub kept_now : IsKept was → length r.ended.parked ≡ 8
+  pub kept_now : IsKept was → r.ended.seat ≡ was.seat → length r.ended.parked ≡ 8
       → ((worker : ℕ) → worker < 8 → IsResting (get_or r.ended.parked worker bare_seat)) → IsKept now
-  kept_now kept parked_are parked =
+  kept_now kept own parked_are parked =
       let layout = now_layout tries was now parts r in record {
         role = ap (λ (v : View). v.role) r.audited.2.is ∙ ap (λ (v : View). v.role) r.audited.1.is ∙ r.role;
         made = ap (λ (v : View). v.made) r.audited.2.is ∙ ap (λ (v : View). v.made) r.audited.1.is ∙ r.made;
@@ -91,6 +91,8 @@ module _ (tries : ℕ) (was now : View) (parts : List Part) (r : IsRound tries w
             (sym (ap (λ (v : View). v.layout) r.audited.2.is)) r.audited.2.serial;
         parked_are = parked_now (λ l. length l ≡ 8) parked_are;
         parked = λ worker less. parked_now (λ l. IsResting (get_or l worker bare_seat)) (parked worker less);
+        rests = subst IsResting (sym (ap (λ (v : View). v.seat) r.audited.2.is ∙ ap (λ (v : View). v.seat) r.audited.1.is
+            ∙ own)) kept.rests;
       }
     where
       parked_now : (P : List Seat → Type 0) → P r.ended.parked → P now.parked

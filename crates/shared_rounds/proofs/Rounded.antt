@@ -67,7 +67,7 @@ module _ {D : Type 0} (tells : D → Option (List ℕ)) (clock : D → ℕ) (ima
       let r = round_is tells clock image_at faults tries round was ended (view now) logs_was logs banks_was banks
       outcomes ends so kept word count audited in record {
         of = of;
-        kept = kept_now tries was (view now) so.parts r kept so.parked_are so.parked;
+        kept = kept_now tries was (view now) so.parts r kept so.seat so.parked_are so.parked;
         decls_are = decls_are ∙ sym (ap (λ (l : Layout). l.decls) (now_layout tries was (view now) so.parts r));
         number = clock_now tries was (view now) so.parts r first kept number epoch;
         epoch = clock_stands tries was (view now) so.parts r;

@@ -74,6 +74,7 @@ module _ {D : Type 0} (tells : D → Option (List ℕ)) (clock : D → ℕ) (ima
             ∙ ap (λ (l : Layout). let t : Standing = record {
               decls = l.decls;
               state = state_of now;
+              opening = l.opening;
               clock = clock_number word;
               mine = now.mine;
               conflicts = conflicts_in now.refused;

@@ -8,6 +8,7 @@ use Rattle.engine_words.specs.Views.{IsResting, bare_seat}
 use Rattle.engine_words.specs.declared.view.Role.TheVariants.{Keeper}
 use Rattle.engine_words.specs.declared.view.View.{View}
 use Rattle.tx_script.specs.declared.outcome.Outcome.{Outcome}
+use Rattle.worker_cells.specs.Gates.{AreAllTold}
 use Rattle.worker_cells.specs.Rows.{logged_of}
 use Rattle.engine_words.specs.declared.engine.Engine.{Engine}
 use Rattle.worker_cells.specs.declared.cell.Cell.{Cell}
@@ -47,6 +48,7 @@ module _ {D : Type 0} (tells : D → Option (List ℕ)) (clock : D → ℕ) (ima
     pub are : AreParts tries was now 0 parts
     pub seen : HasSeen was now
     pub role : now.role ≡ Keeper
+    pub seat : now.seat ≡ was.seat
     pub layout : now.layout ≡ was.layout
     pub epoch : now.epoch ≡ was.epoch
     pub made : now.made ≡ seats_from (8 - count) count
@@ -62,6 +64,8 @@ module _ {D : Type 0} (tells : D → Option (List ℕ)) (clock : D → ℕ) (ima
         → get_or now.parked worker bare_seat ≡ p.to.seat
     pub left : AreLeft round was.epoch 0 parts logs_was logs banks_was banks
     pub told : AreTold round 0 parts outcomes ends logs_was logs
+    pub many_outcomes : length outcomes ≡ count
+    pub calls : AreAllTold 0 outcomes ends
 
   -- Some first workers' seats were taken in again, and the cells of the others, the last one first, are as they were.
   pub record EndsOn (tries : ℕ) (round : Round) (words : Engine) (was now : View) (count : ℕ) (cells : List (Cell D))

@@ -4,6 +4,7 @@ pub mod Shares
 pub mod Workers
 pub mod Contents
 pub mod SharedState
+pub mod OpenedLaws
 pub mod Parts
 pub mod Left
 pub mod Seated

@@ -13,6 +13,7 @@ abbrev pub standing : Bool → SharedState → Standing
 standing ended s = record {
   decls = s.decls;
   state = s.state;
+  opening = s.opening;
   clock = s.clock;
   mine = s.mine;
   conflicts = s.conflicts;

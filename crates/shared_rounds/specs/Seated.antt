@@ -11,6 +11,7 @@ use Rattle.tx_commit.specs.Live.{IsOver}
 use Rattle.tx_runner.specs.Lines.{HasNoTree}
 use Rattle.tx_script.specs.Run.{CanRun}
 use Rattle.worker_cells.specs.Cells.{IsCell, RunsCell}
+use Rattle.worker_cells.specs.Gates.{calls_for, calls_in, is_run}
 use Rattle.worker_cells.specs.Rows.{Goes}
 use Rattle.worker_cells.specs.declared.cell.Cell.{Cell}
 use Rattle.worker_logs.specs.Logs.{LogState}
@@ -86,6 +87,7 @@ module _ {D : Type 0} (tells : D → Option (List ℕ)) (clock : D → ℕ) (ima
     pub number : new.worker ≡ old.worker
     pub runs : RunsCell tells clock image_at faults tries (lines_of_worker round old.worker) new.outcomes.told new.end
         (view old.pass) (view new.pass) old.log new.log old.bank new.bank
+    pub calls : calls_in new.end.calls ≡ calls_for is_run old.worker 0 new.outcomes.told
 
   -- The worker's cell behind its lines, which began with this log and log file.
   pub record IsRan (tries : ℕ) (round : Round) (words : Engine) (was : View) (worker : ℕ) (cell : Cell D)
@@ -97,6 +99,7 @@ module _ {D : Type 0} (tells : D → Option (List ℕ)) (clock : D → ℕ) (ima
     pub begun : IsBegun (length (lines_of_worker round worker)) log.mark.length (worker_view worker was) from
     pub runs : RunsCell tells clock image_at faults tries (lines_of_worker round worker) cell.outcomes.told cell.end
         from (view cell.pass) log cell.log bank cell.bank
+    pub calls : calls_in cell.end.calls ≡ calls_for is_run worker 0 cell.outcomes.told
 
   -- the cells of the workers from this one on
   abbrev pub AreRan : ℕ → Round → Engine → View → ℕ → List (Cell D) → List LogState → List D → Type 0

@@ -1,6 +1,6 @@
 -- What an engine of words is between two rounds, as the pass of the maintenance thread knows it.
-use Rattle.std.specs.Prelude.{◌≡◌, ◌+◌, ◌-◌, ◌<◌, ◌&&◌, ℕ, Bool, true, false, List, [], ◌∷◌, filter, length, map}
-use Rattle.std.specs.Prelude.{Contains, None, Some, fold, get_or}
+use Rattle.std.specs.Prelude.{◌≡◌, ◌+◌, ◌<◌, ◌&&◌, ℕ, Bool, true, false, List, [], ◌∷◌, filter, length, map}
+use Rattle.std.specs.Prelude.{Contains, None, fold, get_or}
 use Rattle.std.specs.List.{list_all}
 use Rattle.std.specs.FinMap.{empty, entries, get}
 use Rattle.views.specs.Sums.{total}
@@ -14,7 +14,6 @@ use Rattle.serial_model.specs.State.{State}
 use Rattle.homes.specs.declared.places.Content.{Content}
 use Rattle.commit_core.specs.declared.attempt.Attempt.{Attempt}
 use Rattle.commit_core.specs.CoreState.{is_decided}
-use Rattle.commit_core.specs.Keys.{content_of}
 use Rattle.commit_core.specs.Sound.Numbers.{EachOnce}
 use Rattle.commit_core.specs.declared.seat.Mark.{Mark}
 use Rattle.commit_core.specs.declared.seat.Seat.{Seat}
@@ -40,14 +39,6 @@ is_array (Tree id) = false
 -- all storages are arrays, and each key of the state is one of theirs
 abbrev pub are_arrays : List Decl → State → Bool
 are_arrays decls s = list_all is_array decls && list_all (λ e. has_record decls e.0) (entries s)
-
--- what was saved before the first number has its last epoch, and this draw
-abbrev pub saved_number : Number → Number
-saved_number first = record { epoch = first.epoch - 1; draw = 1 }
-
--- a key's value, with this number
-abbrev pub stands_with : Number → Key × ℕ → Key × Content
-stands_with number e = (e.0, content_of number (Some e.1))
 
 -- ---- what it is between two rounds
 
@@ -82,11 +73,13 @@ was_conflict (NumberLimit clock) = false
 abbrev pub conflicts_in : List Refused → ℕ
 conflicts_in refused = length (filter was_conflict refused)
 
--- the storages, their contents, the number that the next commit gets, the attempts that count, in order of number, how
--- many tries were refused with a conflict so far, and the workers' marks on the words, worker 0's first
+-- the storages, their contents, what stood at keys at first, with its numbers, the number that the next commit gets, the
+-- attempts that count, in order of number, how many tries were refused with a conflict so far, and the workers' marks on
+-- the words, worker 0's first
 pub record SharedState : Type 0 where
   pub decls : List Decl
   pub state : State
+  pub opening : List (Key × Content)
   pub clock : Number
   pub mine : List Attempt
   pub conflicts : ℕ
@@ -97,6 +90,7 @@ abbrev pub shared_by : Pass → Number → SharedState
 shared_by keeper clock = record {
   decls = (view keeper).layout.decls;
   state = state_of (view keeper);
+  opening = (view keeper).layout.opening;
   clock = clock;
   mine = (view keeper).mine;
   conflicts = conflicts_in (view keeper).refused;
@@ -109,9 +103,9 @@ pub record IsCounted (v : View) : Type 0 where
   pub all : (h : Number → ℕ) → total (λ (a : Attempt). h a.number) v.mine ≡ total h v.decided
   pub drawn : (n : Number) → is_decided v.decided n ≡ true → (a : Attempt) × Contains v.history a × (a.number ≡ n)
 
--- What the keeper's pass knows between two rounds: nobody is seated, and no worker's seat has a transaction; each
--- storage is an array, and only their keys have values; the attempts that count are its own, and serial; and each
--- number was drawn by this pass, or by one that was ended into it.
+-- What the keeper's pass knows between two rounds: nobody is seated, and no seat, its own or a worker's, has a
+-- transaction or a lock; each storage is an array, and only their keys have values; the attempts that count are its
+-- own, and serial; and each number was drawn by this pass, or by one that was ended into it.
 pub record IsKept (v : View) : Type 0 where
   pub role : v.role ≡ Keeper
   pub made : v.made ≡ []
@@ -125,6 +119,7 @@ pub record IsKept (v : View) : Type 0 where
   pub serial : AreSerial v.layout.opening v.history v.decided
   pub parked_are : length v.parked ≡ 8
   pub parked : (worker : ℕ) → worker < 8 → IsResting (get_or v.parked worker bare_seat)
+  pub rests : IsResting v.seat
 
 -- The words with the keeper's pass, the storages, and the clock as it was last loaded: its draw is the one behind all
 -- that were drawn.

@@ -14,22 +14,22 @@ ghost use Rattle.shared_rounds.specs.Seating.{CanSeat, seats_from, with_made};
 ghost use Rattle.tx_commit.specs.Live.{IsOver};
 
 use engine_words::{Engine, Pass, seat};
-use outside::{Disk, Gate};
+use outside::Disk;
 use std::thread::{Threads, for_each_mut, join_mut};
-use tx_commit::Txn;
-use tx_runner::{LineRoom, idle};
+use tx_runner::idle;
 use tx_script::{OutcomeRoom, Round};
-use worker_cells::{Cell, LogEnd, run_cell};
+use worker_cells::{Cell, Desk, LineGate, LogEnd, run_cell};
 use worker_logs::WorkerLog;
 
 /// How many workers there are.
 pub(crate) const WORKERS: usize = 8;
 
-/// Seats the workers, the last one first, each with its log, its log file and its room. Those that have none of so many
-/// lines hold no epoch back from then on.
+/// Seats the workers, the last one first, each with its log, its log file, its room and a desk. Those that have none of
+/// so many lines hold no epoch back from then on.
 pub(crate) fn seat_all<D: Disk + Drop>(
     engine: &Engine,
     keeper: &mut Pass,
+    desks: &mut Vec<Box<Desk>>,
     logs: &mut Vec<WorkerLog>,
     growing: &mut Vec<D>,
     counts: &[u32; WORKERS],
@@ -38,6 +38,7 @@ pub(crate) fn seat_all<D: Disk + Drop>(
 )
     requires of { IsPassOf engine.now keeper.old }
     requires keeper { CanSeat (view keeper.old) }
+    requires desks { vec_len desks.old ≡ 8 }
     requires logs { (vec_len logs.old ≡ 8) × (vec_len growing.old ≡ 8) }
     requires up { AreLogsUp D.tells logs.old.items growing.old.items }
     requires flushed { AllByRecursion (λ (log : LogState). log.journal.lines ≡ []) logs.old.items }
@@ -49,6 +50,7 @@ pub(crate) fn seat_all<D: Disk + Drop>(
     ensures empty { (vec_len logs.new ≡ 0) × (vec_len growing.new ≡ 0)
         × (logs.new.items ≡ []) × (growing.new.items ≡ []) }
     ensures room { (8 ≤ vec_capacity logs.new) × (8 ≤ vec_capacity growing.new) }
+    ensures desks { (vec_len desks.new ≡ 0) × (8 ≤ vec_capacity desks.new) }
     ensures len { vec_len cells.new ≡ 8 }
     ensures seated { AreSeated D.tells engine.now (view keeper.old) counts.now 0 (backward cells.new.items)
         logs.old.items growing.old.items }
@@ -63,6 +65,9 @@ pub(crate) fn seat_all<D: Disk + Drop>(
         let Some(outcomes) = rooms.pop() else {
             return;
         };
+        let Some(desk) = desks.pop() else {
+            return;
+        };
         let index = WORKERS - 1 - count;
         let worker = index as u8;
         let pass = seat_one(engine, keeper, worker, counts[index], log.mark().length);
@@ -70,8 +75,7 @@ pub(crate) fn seat_all<D: Disk + Drop>(
             worker,
             lines: counts[index],
             pass,
-            txn: Txn::new(),
-            room: LineRoom::new(),
+            desk,
             log,
             shown: None,
             bank,
@@ -103,7 +107,7 @@ fn seat_one(engine: &Engine, keeper: &mut Pass, worker: u8, lines: u32, length: 
 /// Runs the lines of each cell's worker. There are as many threads as cells with lines, of which this thread is one; a
 /// cell without lines is gone over beside one that has some.
 #[cycle(parts)]
-pub(crate) fn run_all<R: Threads + Sync, D: Disk + Send + Drop, G: Gate + Sync>(
+pub(crate) fn run_all<R: Threads + Sync, D: Disk + Send + Drop, G: LineGate + Sync>(
     rt: &R,
     engine: &Engine,
     round: &Round<'_>,
@@ -127,7 +131,7 @@ pub(crate) fn run_all<R: Threads + Sync, D: Disk + Send + Drop, G: Gate + Sync>(
 
 // Runs the cells of the one part in a new thread, or last where none can be made, and those of the other here.
 #[cycle(parts)]
-fn run_both<R: Threads + Sync, D: Disk + Send + Drop, G: Gate + Sync>(
+fn run_both<R: Threads + Sync, D: Disk + Send + Drop, G: LineGate + Sync>(
     rt: &R,
     engine: &Engine,
     round: &Round<'_>,
@@ -177,7 +181,7 @@ fn end_of_part<D>(cells: &[Cell<D>]) -> usize
 }
 
 // Runs the lines of each cell's worker on this thread, one cell after another.
-fn run_in_turn<R: Threads + Sync, D: Disk + Send + Drop, G: Gate + Sync>(
+fn run_in_turn<R: Threads + Sync, D: Disk + Send + Drop, G: LineGate + Sync>(
     rt: &R,
     engine: &Engine,
     round: &Round<'_>,

@@ -14,7 +14,7 @@ use arrayvec::ArrayVec;
 use engine_words::{Engine, Pass, end};
 use outside::Disk;
 use tx_script::{Outcomes, RoundOutcomes};
-use worker_cells::{Cell, LogEnd};
+use worker_cells::{Cell, Desk, LogEnd};
 use worker_logs::WorkerLog;
 
 /// What came of the workers' lines of a round.
@@ -22,16 +22,17 @@ use worker_logs::WorkerLog;
 pub struct WorkersRan {
     /// Each worker's, in the order of its lines.
     pub outcomes: RoundOutcomes,
-    /// What refused each worker's log.
+    /// What refused each worker's log, and what the gate was told of its lines.
     pub ends: ArrayVec<LogEnd, 8>,
 }
 
-/// Takes the workers' seats in again, in the order of workers, and gives the logs and log files back.
+/// Takes the workers' seats in again, in the order of workers, and gives the desks, the logs and log files back.
 pub(crate) fn end_all<D: Disk + Drop>(
     engine: &Engine,
     keeper: &mut Pass,
     mut cells: Vec<Cell<D>>,
     mut told: Vec<Outcomes>,
+    desks: &mut Vec<Box<Desk>>,
     logs: &mut Vec<WorkerLog>,
     growing: &mut Vec<D>,
 ) -> WorkersRan
@@ -41,9 +42,11 @@ pub(crate) fn end_all<D: Disk + Drop>(
     requires told { (vec_len told ≡ 0) × (told.items ≡ []) × (8 ≤ vec_capacity told) }
     requires empty { (vec_len logs.old ≡ 0) × (vec_len growing.old ≡ 0)
         × (logs.old.items ≡ []) × (growing.old.items ≡ []) }
+    requires desks { (vec_len desks.old ≡ 0) × (8 ≤ vec_capacity desks.old) }
     requires room { (8 ≤ vec_capacity logs.old) × (8 ≤ vec_capacity growing.old) }
     ensures of { IsPassOf engine.now keeper.new }
     ensures keeper { (view keeper.new).role ≡ Keeper }
+    ensures desks { vec_len desks.new ≡ 8 }
     ensures ended { (tries : ℕ) (round : Round) (was : View) (logs_was : List LogState) (banks_was : List _)
         → StandsFor was (view keeper.old)
         → AreRan D.tells D.clock D.image_at D.faults tries round engine.now was 0
@@ -57,8 +60,7 @@ pub(crate) fn end_all<D: Disk + Drop>(
             worker: _,
             lines: _,
             pass,
-            txn: _,
-            room: _,
+            desk,
             log,
             shown: _,
             bank,
@@ -70,6 +72,7 @@ pub(crate) fn end_all<D: Disk + Drop>(
         growing.push_reserved(bank);
         told.push_reserved(outcomes.into_outcomes());
         ends.push(log_end);
+        desks.push_reserved(desk);
     }
     WorkersRan {
         outcomes: RoundOutcomes::from_vec(told),

@@ -1,15 +1,20 @@
 // The engine of words that a runtime keeps.
-ghost use Rattle.std.specs.Prelude.{◌≡◌, ◌+◌, ◌-◌, ◌<◌, [], true, IfOk, Some, replicate};
+ghost use Rattle.std.specs.Prelude.{◌≡◌, ◌+◌, ◌-◌, ◌<◌, [], true, IfOk, Some, replicate, vec_len};
+ghost use Rattle.std.specs.List.{AllByRecursion, list_all};
 ghost use Rattle.serial_model.specs.Decls.{AreDecls};
 ghost use Rattle.serial_model.specs.Numbers.{IsNumber, last_epoch};
-ghost use Rattle.shared_rounds.specs.SharedState.{are_arrays};
+ghost use Rattle.engine_words.specs.Making.{StandsFirst};
+ghost use Rattle.shared_rounds.specs.SharedState.{is_array, opened};
 
+use crate::cells::WORKERS;
 use crate::opening::first_layout;
 use engine_words::{Engine, Layout, Pass};
-use lists::Memory;
-use serial_model::{Decl, Decls, Number, State};
+use homes::Content;
+use lists::{Memory, Sequence};
+use serial_model::{Decl, Decls, Key, Number};
 use std::alloc::Global;
 use std::marker::Model;
+use worker_cells::Desk;
 
 /// An engine of words that threads share, with the pass of the maintenance thread. Between two rounds nobody else has a
 /// pass of it, so what is known of it is what it is.
@@ -21,9 +26,12 @@ pub struct SharedEngine {
     pub(crate) decls: Decls,
     /// The number that the next commit gets.
     pub(crate) clock: Number,
+    /// What the workers' lines are run in, a desk for each worker; they are lent to each round.
+    pub(crate) desks: Vec<Box<Desk>>,
 }
 
 impl Model for SharedEngine {
+    ghost use Rattle.std.specs.Prelude.{◌≡◌, vec_len};
     ghost use Rattle.std.specs.Coded.{codes, coded_ℕ};
     ghost use Rattle.std.specs.FinMap as finite;
     ghost use Rattle.serial_model.specs.Keys.{coded_key, key_cmp};
@@ -35,31 +43,34 @@ impl Model for SharedEngine {
 
     ghost view = { λ e. shared_by e.keeper e.clock };
 
-    ghost invariant = { λ e. AreKept e.words e.keeper e.decls e.clock };
+    ghost invariant = { λ e. AreKept e.words e.keeper e.decls e.clock × (vec_len e.desks ≡ 8) };
 }
 
 impl SharedEngine {
-    /// An engine of these arrays with these values, whose first commit gets this number. What stands at keys at first
-    /// has a number of the epoch before.
+    /// An engine of these arrays, whose first commit gets this number. Each record opens with what stands at its key at
+    /// first, with that number, and as never written where nothing does.
     pub fn new(
         alloc: Global,
         decls: &[Decl],
-        state: &State,
+        opening: Sequence<(Key, Content)>,
         first: Number,
     ) -> Result<SharedEngine, Memory>
         requires decls { AreDecls decls.now }
-        requires arrays { are_arrays decls.now state.now ≡ true }
+        requires arrays { list_all is_array decls.now ≡ true }
         requires first { IsNumber first }
+        requires opening { AllByRecursion (StandsFirst first decls.now) opening }
         ensures begins { IfOk result (λ engine. engine ≡ record {
           decls = decls.now;
-          state = state.now;
+          state = opened opening;
+          opening = opening;
           clock = first;
           mine = [];
           conflicts = 0;
           marks = replicate 8 (record { epoch = Some (first.epoch - 1); length = 0 });
         }) }
     {
-        let layout = first_layout(alloc, decls, state, first)?;
+        let desks = make_desks(alloc)?;
+        let layout = first_layout(alloc, decls, opening, first)?;
         let (words, keeper) = Engine::new(alloc, &layout)?;
         let Layout {
             first: clock,
@@ -71,6 +82,7 @@ impl SharedEngine {
             keeper,
             decls,
             clock,
+            desks,
         })
     }
 
@@ -96,4 +108,15 @@ impl SharedEngine {
         engine_words::advance(&self.words, &mut self.keeper);
         self.clock.epoch += 1;
     }
+}
+
+// A desk for each worker.
+fn make_desks(alloc: Global) -> Result<Vec<Box<Desk>>, Memory>
+    ensures { IfOk result (λ desks. vec_len desks ≡ 8) }
+{
+    let mut desks = Vec::with_capacity(alloc, WORKERS)?;
+    for _ in 0..WORKERS {
+        desks.push_reserved(Box::new(alloc, Desk::new())?);
+    }
+    Ok(desks)
 }

@@ -1,10 +1,9 @@
 // What an engine of words begins with.
-ghost use Rattle.std.specs.Prelude.{◌≡◌, IfOk, map};
+ghost use Rattle.std.specs.Prelude.{◌≡◌, IfOk};
 ghost use Rattle.std.specs.FinMap.{entries};
 ghost use Rattle.std.specs.List.{list_all};
 ghost use Rattle.engine_words.specs.Layout.{has_record, is_record_of};
-ghost use Rattle.serial_model.specs.Numbers.{IsNumber};
-ghost use Rattle.shared_rounds.specs.SharedState.{are_arrays, is_array, saved_number, stands_with};
+ghost use Rattle.shared_rounds.specs.SharedState.{are_arrays, is_array};
 
 use engine_words::Layout;
 use homes::Content;
@@ -63,46 +62,19 @@ fn is_record_of(key: Key, decl: Decl) -> bool
     }
 }
 
-/// The storages with their values, whose first commit gets this number.
+/// The storages with what stands at their keys at first, whose first commit gets this number.
 pub(crate) fn first_layout(
     alloc: Global,
     decls: &[Decl],
-    state: &State,
+    opening: Sequence<(Key, Content)>,
     first: Number,
 ) -> Result<Layout, Memory>
-    requires { IsNumber first }
-    ensures { IfOk result (λ layout. layout ≡ record {
-      first = first;
-      decls = decls.now;
-      opening = map (stands_with (saved_number first)) (entries state.now);
-    }) }
+    ensures { IfOk result (λ layout. layout
+        ≡ record { first = first; decls = decls.now; opening = opening }) }
 {
-    let number = Number {
-        epoch: first.epoch - 1,
-        draw: 1,
-    };
     Ok(Layout {
         first,
         decls: Sequence::from_slice(alloc, decls)?,
-        opening: values_with(alloc, state, number)?,
+        opening,
     })
-}
-
-// The keys with their values, each with this number.
-fn values_with(
-    alloc: Global,
-    state: &State,
-    number: Number,
-) -> Result<Sequence<(Key, Content)>, Memory>
-    ensures { IfOk result (λ values. values ≡ map (stands_with number) (entries state.now)) }
-{
-    let mut values = Sequence::new(alloc);
-    for (key, value) in state.iter() {
-        let content = Content {
-            number,
-            value: Some(*value),
-        };
-        values.push((*key, content))?;
-    }
-    Ok(values)
 }

@@ -5,6 +5,7 @@ ghost use Rattle.worker_logs.specs.Logs.{LogState};
 ghost use Rattle.worker_logs.specs.Rows.{AreLogsUp};
 ghost use Rattle.tx_script.specs.Run.{CanRun};
 ghost use Rattle.serial_bridge.specs.WriteSets.{HasNoTree};
+ghost use Rattle.worker_cells.specs.Gates.{AreAllTold};
 ghost use Rattle.shared_rounds.specs.Gathers.{HasGathered};
 ghost use Rattle.shared_rounds.specs.Lines.{LinesCome, standing};
 ghost use Rattle.shared_rounds.specs.Marks.{AreMarksBehind};
@@ -17,15 +18,17 @@ use crate::cells::{WORKERS, run_all, seat_all};
 use crate::ends::{WorkersRan, end_all};
 use crate::rooms::Rooms;
 use engine_words::audit;
-use outside::{Disk, Gate};
+use outside::Disk;
 use serial_model::Number;
 use std::thread::Threads;
 use tx_script::Round;
+use worker_cells::LineGate;
 use worker_logs::WorkerLog;
 
 /// Runs the workers' lines of a round, in as many threads as workers have lines, of which the caller's is one, and each
-/// line so often at most. All memory that they take is lent: none is wanted on the way.
-pub fn run_workers<R: Threads + Sync, D: Disk + Send + Drop, G: Gate + Sync>(
+/// line so often at most and between two calls of the gate. All memory that they take is lent: none is wanted on the
+/// way.
+pub fn run_workers<R: Threads + Sync, D: Disk + Send + Drop, G: LineGate + Sync>(
     rt: &R,
     engine: &mut SharedEngine,
     logs: &mut Vec<WorkerLog>,
@@ -49,6 +52,7 @@ pub fn run_workers<R: Threads + Sync, D: Disk + Send + Drop, G: Gate + Sync>(
         (standing ended engine.old) (standing ended engine.new)
         logs.old.items logs.new.items growing.old.items growing.new.items (Ok result) }
     ensures marks { AreMarksBehind round.now logs.new.items engine.new.marks }
+    ensures calls { AreAllTold 0 result.outcomes result.ends.items }
 {
     let Rooms {
         counts,
@@ -59,6 +63,7 @@ pub fn run_workers<R: Threads + Sync, D: Disk + Send + Drop, G: Gate + Sync>(
     seat_all(
         &engine.words,
         &mut engine.keeper,
+        &mut engine.desks,
         logs,
         growing,
         &counts,
@@ -71,6 +76,7 @@ pub fn run_workers<R: Threads + Sync, D: Disk + Send + Drop, G: Gate + Sync>(
         &mut engine.keeper,
         cells,
         told,
+        &mut engine.desks,
         logs,
         growing,
     );

@@ -12,6 +12,7 @@ use Rattle.tx_commit.specs.Live.{IsOver}
 use Rattle.tx_script.specs.declared.outcome.Outcome.{Outcome}
 use Rattle.worker_logs.specs.Logs.{LogState}
 use Rattle.worker_cells.specs.declared.cell.LogEnd.{LogEnd}
+use Rattle.worker_cells.specs.declared.gate_calls.GateCalls.{GateCalls}
 use Rattle.worker_cells.specs.Cells.{IsCell, IsShown, IsTied, ReadiesSome, RunsCell, RunsLines, StepsOne}
 use Rattle.worker_cells.specs.InARow.{row_layout, row_role}
 use Rattle.worker_cells.proofs.LinesOf.{HasOps, count_more, few_of, ops_of, take_mine}
@@ -109,6 +110,22 @@ module _ {D : Type 0} {tells : D → Option (List ℕ)} {clock : D → ℕ} {ima
         few = omega (arith, so.few);
         idle = λ none. absurd (some_lines (ops_of worker (take i lines)) ops (sym mine ∙ none));
       }
+
+  -- behind the last line it is noted what the gate was told
+  pub so_noted : {tries worker i count : ℕ} {lines : List Line} {outcomes : List Outcome} {end : LogEnd}
+      {shown : Option Mark} {v w : View} {old new : LogState} {before now : D} (calls : GateCalls)
+      → SoFar tells clock image_at faults tries worker i lines outcomes end shown count v w old new before now
+      → SoFar tells clock image_at faults tries worker i lines outcomes (record end { calls = calls }) shown count v w
+      old new before now
+  so_noted calls so = record {
+    high = so.high;
+    runs = so.runs;
+    shown_is = so.shown_is;
+    failed = so.failed;
+    count_is = so.count_is;
+    few = so.few;
+    idle = so.idle;
+  }
 
   -- behind the last line, with some of the worker: what waits was made durable, and marked
   pub so_marked : {tries worker i count : ℕ} {lines : List Line} {outcomes : List Outcome} {end : LogEnd}

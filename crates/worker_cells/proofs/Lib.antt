@@ -6,3 +6,4 @@ mod Ends
 mod LinesOf
 mod Loop
 mod CellLoop
+mod Gated

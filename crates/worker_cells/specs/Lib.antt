@@ -1,3 +1,5 @@
 pub mod Rows
 pub mod InARow
 pub mod Cells
+pub mod Gates
+pub mod GateLaws

@@ -1,4 +1,6 @@
 // What one worker's thread is lent for a round.
+
+use crate::gate_calls::GateCalls;
 use engine_words::Pass;
 use tx_commit::Txn;
 use tx_runner::LineRoom;
@@ -6,24 +8,42 @@ use tx_script::OutcomeRoom;
 use wire_form::Mark;
 use worker_logs::WorkerLog;
 
-/// What refused a worker's log in a round.
+/// What refused a worker's log in a round, and what the gate was told of its lines.
 #[derive(Clone, Copy, Debug, Default, PartialEq, Eq)]
 pub struct LogEnd {
     /// Its log file failed.
     pub failed: bool,
     /// It may get no longer than this.
     pub full: Option<u64>,
+    /// The calls of the gate: none as long as the lines are run.
+    pub calls: GateCalls,
 }
 
-/// A worker's cell: its pass, and all that its lines need. It is made once and not moved while its lines run.
+/// What a worker's lines are run in, made once a run: the sets of its transactions, and room for what comes of a line.
+#[derive(Drop)]
+pub struct Desk {
+    pub txn: Txn,
+    pub room: LineRoom,
+}
+
+impl Desk {
+    pub fn new() -> Self {
+        Desk {
+            txn: Txn::new(),
+            room: LineRoom::new(),
+        }
+    }
+}
+
+/// A worker's cell: its pass, and all that its lines need. It is not moved while its lines run.
 #[derive(Drop)]
 pub struct Cell<D> {
     pub worker: u8,
     /// How many of the round's lines are its own.
     pub lines: u32,
     pub pass: Pass,
-    pub txn: Txn,
-    pub room: LineRoom,
+    /// Lent for the round.
+    pub desk: Box<Desk>,
     pub log: WorkerLog,
     /// What the thread knows to stand on the words for its seat: nothing as its lines begin, and then the log's mark.
     pub shown: Option<Mark>,

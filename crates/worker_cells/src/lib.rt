@@ -11,16 +11,21 @@
 //! line may write (`row_touched`). No call wants memory: outcomes go into room for all lines that is lent with the
 //! cell. Nothing is said of other workers: what their commits have to do with these is told by the views
 //! (`HasCommittedLine.later`), when all passes are ended.
-//! Terms: *cell*, what one worker's thread is lent: its pass, its transaction's room, its log and its log file, and
-//! room for outcomes; *row*, lines that were run one after another.
+//! Each line that is run stands between two calls of the gate, which name its worker and its place among that worker's
+//! lines, and no other call is made for it (`calls_for`): calls are noted as they are made (`GateCalls`), in the order of
+//! the lines, and what runs a line asks for the note of its begin.
+//! Terms: *desk*, a worker's sets and room for what comes of a line, made once a run; *cell*, what one worker's thread is
+//! lent: its pass, a desk, its log and its log file, and room for outcomes; *row*, lines that were run one after another.
 //! Layout: specs/Rows.antt, what comes of lines in a row; specs/InARow.antt, its laws; specs/Cells.antt, what lines
-//! leave of a cell.
+//! leave of a cell; specs/Gates.antt, what a gate is told; specs/GateLaws.antt, its laws.
 //! Design: docs/COMMIT.md, docs/DURABILITY.md.
 #![tactic(auto)]
 
 mod cell;
+mod gate_calls;
 mod lines;
 mod readying;
 
-pub use cell::{Cell, LogEnd};
+pub use cell::{Cell, Desk, LogEnd};
+pub use gate_calls::{GateCalls, LineGate};
 pub use lines::run_cell;

@@ -1,5 +1,5 @@
 // One worker's lines of a round.
-ghost use Rattle.std.specs.Prelude.{◌≡◌, ◌⊎◌, ◌+◌, ◌-◌, ◌<◌, ◌≤◌, [], Some, None, is_some, length};
+ghost use Rattle.std.specs.Prelude.{◌≡◌, ◌⊎◌, ◌+◌, ◌-◌, ◌<◌, ◌≤◌, ◌++◌, ◌∷◌, [], Some, None, is_some, length};
 ghost use Rattle.std.specs.Prelude.{option_map, option_to_list, slice_get, true, false};
 ghost use Rattle.std.specs.List.{AllByRecursion};
 ghost use Rattle.std.specs.Option.{option_copied};
@@ -13,21 +13,24 @@ ghost use Rattle.tx_commit.specs.Live.{IsOver};
 ghost use Rattle.tx_runner.specs.Lines.{HasNoTree, IsOnArray};
 ghost use Rattle.tx_script.specs.Run.{CanRun};
 ghost use Rattle.worker_cells.specs.Cells.{IsCell, IsMarkedBelow, IsShown, RunsCell, RunsOne, StepsOne, fails};
+ghost use Rattle.worker_cells.specs.Gates.{Before, IsOpen, IsTold, calls_for, calls_in, calls_of, is_run};
 ghost use Rattle.worker_cells.specs.Rows.{logged_by};
 
 use crate::cell::{Cell, LogEnd};
+use crate::gate_calls::{GateCalls, LineGate};
 use crate::readying::{make_ready, mark_last};
 use engine_words::Engine;
 use log_writer::LogFault;
-use outside::{Disk, Gate};
+use outside::Disk;
 use serial_model::{Commit, Op};
 use tx_runner::{LineEnd, run_line};
 use tx_script::{Line, LineOps, Refused, Round};
 use worker_logs::WorkerLog;
 
 /// Runs the lines of the cell's worker, and then makes durable what waits and marks it. From the line on at which its
-/// log is refused it runs none. Without lines nothing of the cell changes but that its end is told.
-pub fn run_cell<D: Disk, G: Gate>(
+/// log is refused it runs none. Each line that is run stands between two calls of the gate, which is told of no other
+/// line. Without lines nothing of the cell changes but that its end is told.
+pub fn run_cell<D: Disk, G: LineGate>(
     engine: &Engine,
     cell: &mut Cell<D>,
     round: &Round<'_>,
@@ -48,20 +51,24 @@ pub fn run_cell<D: Disk, G: Gate>(
     ensures runs { RunsCell D.tells D.clock D.image_at D.faults tries
         (lines_of_worker round.now cell.old.worker) cell.new.outcomes.told cell.new.end
         (view cell.old.pass) (view cell.new.pass) cell.old.log cell.new.log cell.old.bank cell.new.bank }
+    ensures calls { calls_in cell.new.end.calls
+        ≡ calls_for is_run cell.old.worker 0 cell.new.outcomes.told }
 {
     let lines = cell.lines;
     let mut line_ops = LineOps::new();
+    let mut calls = GateCalls::none();
     let mut index = 0;
     let mut count = 0;
     cell.end = LogEnd::default();
     cell.shown = None;
     while count < lines {
         if let Some(ops) = ops_of(round, index, cell.worker, &mut line_ops) {
-            run_one(engine, cell, ops, tries, count, gate);
+            run_one(engine, cell, ops, tries, count, gate, &mut calls);
             count += 1;
         }
         index += 1;
     }
+    cell.end.calls = calls;
     if count > 0 {
         cell.end.failed = mark_last(
             engine,
@@ -74,14 +81,15 @@ pub fn run_cell<D: Disk, G: Gate>(
     }
 }
 
-// Runs a line, unless the log is refused, now or before.
-fn run_one<D: Disk, G: Gate>(
+// Runs a line between two calls of the gate, unless the log is refused, now or before.
+fn run_one<D: Disk, G: LineGate>(
     engine: &Engine,
     cell: &mut Cell<D>,
     ops: &[Op],
     tries: u32,
     count: u32,
     gate: &G,
+    calls: &mut GateCalls,
 )
     requires of { IsPassOf engine.now cell.old.pass }
     requires worker { ((view cell.old.pass).role ≡ Worker cell.old.worker) × (cell.old.worker < 8) }
@@ -94,9 +102,13 @@ fn run_one<D: Disk, G: Gate>(
     requires few { length ops.now ≤ 16 }
     requires tries { 1 ≤ tries }
     requires room { 1 ≤ cell.old.outcomes.left }
+    requires calls { IsTold is_run cell.old.worker count (IsOpen cell.old.end) cell.old.outcomes.told
+        (calls_in calls.old) }
     ensures of { IsPassOf engine.now cell.new.pass }
     ensures worker { cell.new.worker ≡ cell.old.worker }
     ensures left { cell.new.outcomes.left ≡ cell.old.outcomes.left - 1 }
+    ensures calls { IsTold is_run cell.new.worker (count + 1) (IsOpen cell.new.end) cell.new.outcomes.told
+        (calls_in calls.new) }
     ensures shown { IsShown cell.new.shown cell.new.log.mark (view cell.new.pass).seat.marks }
     ensures steps { StepsOne D.tells D.clock D.image_at D.faults tries ops.now
         cell.old.outcomes.told cell.new.outcomes.told cell.old.end cell.new.end
@@ -115,9 +127,9 @@ fn run_one<D: Disk, G: Gate>(
         &mut cell.bank,
     ) {
         Ok(()) => {
-            gate.before(cell.worker, count);
-            run_logged(engine, cell, ops, tries);
-            gate.after(cell.worker, count);
+            gate.enter(calls, cell.worker, count);
+            run_logged(engine, cell, ops, tries, calls);
+            gate.leave(calls, cell.worker, count);
         }
         Err(fault) => {
             cell.end = end_by(fault);
@@ -143,16 +155,25 @@ fn end_by(fault: LogFault) -> LogEnd
         LogFault::Limit { length } => LogEnd {
             failed: false,
             full: Some(length),
+            calls: GateCalls::none(),
         },
         LogFault::Device | LogFault::Down { .. } => LogEnd {
             failed: true,
             full: None,
+            calls: GateCalls::none(),
         },
     }
 }
 
-// Runs a line for which the log was made ready, logs what it changed, and keeps its outcome.
-fn run_logged<D: Disk>(engine: &Engine, cell: &mut Cell<D>, ops: &[Op], tries: u32)
+// Runs a line for which the log was made ready and which the gate was told to begin, logs what it changed, and keeps
+// its outcome.
+fn run_logged<D: Disk>(
+    engine: &Engine,
+    cell: &mut Cell<D>,
+    ops: &[Op],
+    tries: u32,
+    calls: &GateCalls,
+)
     requires of { IsPassOf engine.now cell.old.pass }
     requires over { IsOver (view cell.old.pass) }
     requires draws { 1 ≤ (view cell.old.pass).layout.first.draw }
@@ -163,6 +184,8 @@ fn run_logged<D: Disk>(engine: &Engine, cell: &mut Cell<D>, ops: &[Op], tries: u
     requires free { 400 ≤ free cell.old.log.journal }
     requires limit { end_of cell.old.log.journal + 400 ≤ cell.old.log.journal.limit }
     requires room { 1 ≤ cell.old.outcomes.left }
+    requires begun { calls_in calls.now ≡ calls_of cell.old.worker (length cell.old.outcomes.told)
+        ++ Before cell.old.worker (length cell.old.outcomes.told) ∷ [] }
     ensures of { IsPassOf engine.now cell.new.pass }
     ensures kept { (cell.new.worker ≡ cell.old.worker) × (cell.new.bank ≡ cell.old.bank)
         × (cell.new.end ≡ cell.old.end) × (cell.new.shown ≡ cell.old.shown) }
@@ -170,17 +193,19 @@ fn run_logged<D: Disk>(engine: &Engine, cell: &mut Cell<D>, ops: &[Op], tries: u
     ensures runs { RunsOne tries ops.now cell.old.outcomes.told cell.new.outcomes.told
         (view cell.old.pass) (view cell.new.pass) cell.old.log cell.new.log }
 {
+    let _ = calls;
+    let desk = &mut *cell.desk;
     match run_line(
         engine,
         &mut cell.pass,
-        &mut cell.txn,
+        &mut desk.txn,
         ops,
         tries,
-        &mut cell.room,
+        &mut desk.room,
     ) {
         LineEnd::Committed(verdict) => {
-            log_commit(&mut cell.log, &cell.room.commit);
-            cell.outcomes.push_words(verdict, cell.room.commit.number, cell.room.replies.words());
+            log_commit(&mut cell.log, &desk.room.commit);
+            cell.outcomes.push_words(verdict, desk.room.commit.number, desk.room.replies.words());
         }
         LineEnd::Conflict => cell.outcomes.push_refused(Refused::Conflict),
         LineEnd::Limit => cell.outcomes.push_refused(Refused::Limit),

@@ -13,6 +13,8 @@ invariant-loop-count g l = record {
   logs_len : vec_len l.logs + l.count ≡ 8;
   banks_len : vec_len l.growing + l.count ≡ 8;
   rooms_len : vec_len l.rooms + l.count ≡ 8;
+  desks_len : vec_len l.desks + l.count ≡ 8;
+  desks_room : 8 ≤ vec_capacity l.desks;
   rooms_are : AreRooms l.counts l.rooms.items;
   room : 8 ≤ vec_capacity l.cells;
   logs_room : 8 ≤ vec_capacity l.logs;

@@ -22,6 +22,8 @@ loop-cell-init g c =
       banks_len = omega (arith, many, banks_none);
       ends_len = ap (λ l. length l + vec_len c.args.cells) c.new-ends.ensures ∙ omega (arith, many);
       told_len = omega (arith, many, told_none);
+      desks_len = omega (arith, many, c.requires.desks.0);
+      desks_room = c.requires.desks.1;
       logs_room = c.requires.room.0;
       banks_room = c.requires.room.1;
       told_room = c.requires.told.2;
@@ -68,6 +70,7 @@ loop-cell-preserved g c =
     ++ c.in-Some.cell.outcomes.told ∷ [] = c.push_reserved-in-Some-2.ensures.items
     ∙ ap (λ o. c.loop-cell.told.items ++ o ∷ []) c.into_outcomes.ensures in
     let ends_more : length c.push.new.self.items ≡ length c.loop-cell.ends.items + 1 = search rules in
+    let desks_more : vec_len c.push_reserved-in-Some-3.new.self ≡ vec_len c.loop-cell.desks + 1 = search rules in
     let timed = c.end.ensures.keeper in
     record {
       of = c.end.ensures.of;
@@ -77,6 +80,8 @@ loop-cell-preserved g c =
       banks_len = omega (arith, less, banks_more, inv.banks_len);
       ends_len = omega (arith, less, ends_more, inv.ends_len);
       told_len = omega (arith, less, told_more, inv.told_len);
+      desks_len = omega (arith, less, desks_more, inv.desks_len);
+      desks_room = search rules;
       logs_room = search rules;
       banks_room = search rules;
       told_room = search rules;
@@ -105,3 +110,8 @@ returns-clause-ended g c = λ tries round was logs_was banks_was stands ran.
     (view c.loop-cell.keeper) (8 - vec_len c.loop-cell.cells) c.loop-cell.cells.items logs_was
     c.loop-cell.logs.items banks_was c.loop-cell.growing.items c.loop-cell.told.items c.loop-cell.ends.items
     (omega (arith, len)) none (inv.ended tries round was logs_was banks_was stands ran))
+
+pub returns-clause-desks : goal.returns-clause-desks
+returns-clause-desks g c =
+    let len : vec_len c.loop-cell.cells ≡ 0 = search rules in
+    omega (arith, c.loop-cell.invariant.desks_len, len)

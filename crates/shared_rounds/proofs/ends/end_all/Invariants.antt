@@ -19,6 +19,8 @@ invariant-loop-cell g l = record {
   banks_len : vec_len l.growing + vec_len l.cells ≡ 8;
   ends_len : length l.ends.items + vec_len l.cells ≡ 8;
   told_len : vec_len l.told + vec_len l.cells ≡ 8;
+  desks_len : vec_len l.desks + vec_len l.cells ≡ 8;
+  desks_room : 8 ≤ vec_capacity l.desks;
   logs_room : 8 ≤ vec_capacity l.logs;
   banks_room : 8 ≤ vec_capacity l.growing;
   told_room : 8 ≤ vec_capacity l.told;

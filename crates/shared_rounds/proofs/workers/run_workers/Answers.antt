@@ -22,11 +22,11 @@ run_all-requires-clause-ready g c κs within =
     (view c.engine.inside.keeper) c.args.rooms.counts c.args.round.now c.seat_all.new.cells.items
     c.args.logs.now.items c.args.growing.now.items
     (subst (λ s. CanRun s.decls c.args.round.now) (sym c.engine.view_is) c.requires.lines)
-    c.engine.invariant.kept.arrays c.requires.rooms.counts c.seat_all.ensures.seated)
+    c.engine.invariant.0.kept.arrays c.requires.rooms.counts c.seat_all.ensures.seated)
 
 pub end_all-ran-requires-clause-cells : goal.end_all-ran-requires-clause-cells
 end_all-ran-requires-clause-cells g c =
-    let inv = c.engine.invariant in
+    let inv = c.engine.invariant.0 in
     let same : length c.run_all.new.cells ≡ length c.seat_all.new.cells.items = search rules in
     let len : c.seat_all.new.cells.len ≡ length c.seat_all.new.cells.items = search rules in
     let ran = lent_ran g.D.Disk.tells g.D.Disk.clock g.D.Disk.image_at g.D.Disk.faults c.args.tries c.args.round.now
@@ -46,7 +46,7 @@ audit-word-requires-clause-pass g c = subst IsActive (sym c.end_all-ran.ensures.
 
 pub invariant_of-engine : goal.invariant_of-engine
 invariant_of-engine g c =
-    let inv = c.engine.invariant in
+    let inv = c.engine.invariant.0 in
     let same : length c.run_all.new.cells ≡ length c.seat_all.new.cells.items = search rules in
     let len : c.seat_all.new.cells.len ≡ length c.seat_all.new.cells.items = search rules in
     let ran = lent_ran g.D.Disk.tells g.D.Disk.clock g.D.Disk.image_at g.D.Disk.faults c.args.tries c.args.round.now
@@ -56,22 +56,24 @@ invariant_of-engine g c =
     c.run_all.ensures.ran in
     let ended = c.end_all-ran.ensures.ended c.args.tries c.args.round.now
     (view c.engine.inside.keeper) c.args.logs.now.items c.args.growing.now.items
-    (stand_for (view c.engine.inside.keeper) (view c.seat_all.new.keeper) c.seat_all.ensures.keeper inv.kept) ran in
-    subst (λ n. AreKept c.engine.inside.words c.audit-word.new.pass c.engine.inside.decls n)
-    (sym c.number_at-engine-inside.ensures)
-    (round_kept g.D.Disk.tells g.D.Disk.clock g.D.Disk.image_at g.D.Disk.faults c.args.tries c.args.round.now
-    c.engine.inside.words (view c.engine.inside.keeper) (view c.end_all-ran.new.keeper) c.audit-word.new.pass
-    c.engine.inside.decls c.args.logs.now.items c.end_all-ran.new.logs.items c.args.growing.now.items
-    c.end_all-ran.new.growing.items c.end_all-ran.result.outcomes c.end_all-ran.result.ends.items ended inv.kept
-    c.audit-word.result.0 c.audit-word.result.1 c.audit-word.ensures.counts c.audit-word.ensures.of inv.decls_are
-    c.engine.inside.clock inv.number inv.epoch)
+    (stand_for (view c.engine.inside.keeper) (view c.seat_all.new.keeper) c.seat_all.ensures.keeper inv.kept) ran in (
+      subst (λ n. AreKept c.engine.inside.words c.audit-word.new.pass c.engine.inside.decls n)
+          (sym c.number_at-engine-inside.ensures)
+          (round_kept g.D.Disk.tells g.D.Disk.clock g.D.Disk.image_at g.D.Disk.faults c.args.tries c.args.round.now
+          c.engine.inside.words (view c.engine.inside.keeper) (view c.end_all-ran.new.keeper) c.audit-word.new.pass
+          c.engine.inside.decls c.args.logs.now.items c.end_all-ran.new.logs.items c.args.growing.now.items
+          c.end_all-ran.new.growing.items c.end_all-ran.result.outcomes c.end_all-ran.result.ends.items ended inv.kept
+          c.audit-word.result.0 c.audit-word.result.1 c.audit-word.ensures.counts c.audit-word.ensures.of inv.decls_are
+          c.engine.inside.clock inv.number inv.epoch),
+      c.end_all-ran.ensures.desks,
+    )
 
 pub returns-clause-arrays : goal.returns-clause-arrays
-returns-clause-arrays g c = subst (λ s. HasNoTree s.decls) c.engine.view_is c.engine.invariant.kept.arrays
+returns-clause-arrays g c = subst (λ s. HasNoTree s.decls) c.engine.view_is c.engine.invariant.0.kept.arrays
 
 pub returns-clause-history : goal.returns-clause-history
 returns-clause-history g c =
-    let inv = c.engine.invariant in
+    let inv = c.engine.invariant.0 in
     let same : length c.run_all.new.cells ≡ length c.seat_all.new.cells.items = search rules in
     let len : c.seat_all.new.cells.len ≡ length c.seat_all.new.cells.items = search rules in
     let ran = lent_ran g.D.Disk.tells g.D.Disk.clock g.D.Disk.image_at g.D.Disk.faults c.args.tries c.args.round.now
@@ -92,7 +94,7 @@ returns-clause-history g c =
 
 pub returns-clause-stays : goal.returns-clause-stays
 returns-clause-stays g c =
-    let inv = c.engine.invariant in
+    let inv = c.engine.invariant.0 in
     let same : length c.run_all.new.cells ≡ length c.seat_all.new.cells.items = search rules in
     let len : c.seat_all.new.cells.len ≡ length c.seat_all.new.cells.items = search rules in
     let ran = lent_ran g.D.Disk.tells g.D.Disk.clock g.D.Disk.image_at g.D.Disk.faults c.args.tries c.args.round.now
@@ -113,7 +115,7 @@ returns-clause-stays g c =
 
 pub returns-clause-runs : goal.returns-clause-runs
 returns-clause-runs g c =
-    let inv = c.engine.invariant in
+    let inv = c.engine.invariant.0 in
     let same : length c.run_all.new.cells ≡ length c.seat_all.new.cells.items = search rules in
     let len : c.seat_all.new.cells.len ≡ length c.seat_all.new.cells.items = search rules in
     let ran = lent_ran g.D.Disk.tells g.D.Disk.clock g.D.Disk.image_at g.D.Disk.faults c.args.tries c.args.round.now
@@ -143,7 +145,7 @@ returns-clause-runs g c =
 
 pub returns-clause-marks : goal.returns-clause-marks
 returns-clause-marks g c =
-    let inv = c.engine.invariant in
+    let inv = c.engine.invariant.0 in
     let same : length c.run_all.new.cells ≡ length c.seat_all.new.cells.items = search rules in
     let len : c.seat_all.new.cells.len ≡ length c.seat_all.new.cells.items = search rules in
     let ran = lent_ran g.D.Disk.tells g.D.Disk.clock g.D.Disk.image_at g.D.Disk.faults c.args.tries c.args.round.now
@@ -158,3 +160,18 @@ returns-clause-marks g c =
     (view c.engine.inside.keeper) (view c.end_all-ran.new.keeper) (view c.audit-word.new.pass) c.args.logs.now.items
     c.end_all-ran.new.logs.items c.args.growing.now.items c.end_all-ran.new.growing.items
     c.end_all-ran.result ended inv.kept c.audit-word.result.0 c.audit-word.result.1 c.audit-word.ensures.counts
+
+pub returns-clause-calls : goal.returns-clause-calls
+returns-clause-calls g c =
+    let inv = c.engine.invariant.0 in
+    let same : length c.run_all.new.cells ≡ length c.seat_all.new.cells.items = search rules in
+    let len : c.seat_all.new.cells.len ≡ length c.seat_all.new.cells.items = search rules in
+    let ran = lent_ran g.D.Disk.tells g.D.Disk.clock g.D.Disk.image_at g.D.Disk.faults c.args.tries c.args.round.now
+    c.engine.inside.words (view c.engine.inside.keeper) c.args.rooms.counts c.seat_all.new.cells.items
+    c.run_all.new.cells c.as_mut_slice.result.now c.seat_all.new.cells.len c.args.logs.now.items
+    c.args.growing.now.items c.requires.rooms.counts same len c.as_mut_slice.ensures.value c.seat_all.ensures.seated
+    c.run_all.ensures.ran in
+    let ended = c.end_all-ran.ensures.ended c.args.tries c.args.round.now
+    (view c.engine.inside.keeper) c.args.logs.now.items c.args.growing.now.items
+    (stand_for (view c.engine.inside.keeper) (view c.seat_all.new.keeper) c.seat_all.ensures.keeper inv.kept) ran in
+    ended.calls

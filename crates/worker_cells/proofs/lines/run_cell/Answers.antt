@@ -1,12 +1,15 @@
 -- One line after another, and the mark behind the last one.
-use Rattle.std.proofs.Common.{◌∙◌, ◌<◌, ◌≤◌, Some, None, ap, sym, subst, refl, arith, length}
+use Rattle.std.proofs.Common.{◌∙◌, ◌≡◌, ◌<◌, ◌≤◌, Some, None, ap, sym, subst, refl, arith, length}
 use Rattle.std.specs.Prelude.{is_some}
 use Rattle.std.specs.List.{AllByRecursion}
 use Rattle.script_grammar.specs.Script.{lines_of_worker}
 use Rattle.engine_words.specs.declared.view.Role.TheVariants.{Worker}
 use Rattle.engine_words.specs.Passes.{view}
 use Rattle.tx_runner.specs.Lines.{IsOnArray}
-use Rattle.worker_cells.proofs.CellLoop.{so_begin, so_layout, so_marked, so_other, so_role, so_room, so_step, so_within}
+use Rattle.worker_cells.specs.GateLaws.{told_none}
+use Rattle.worker_cells.specs.Gates.{IsOpen, calls_for, calls_in, is_run}
+use Rattle.worker_cells.proofs.CellLoop.{so_begin, so_idle, so_layout, so_marked, so_noted, so_other, so_role, so_room}
+use Rattle.worker_cells.proofs.CellLoop.{so_step, so_within}
 use Rattle.worker_cells.proofs.LinesOf.{HasOps, on_arrays, runnable_at}
 use Rattle.worker_cells.proofs.lines.run_cell.Goals as goal
 use Rattle.worker_cells.proofs.lines.run_cell.Goals.{in-Some, in_default}
@@ -14,11 +17,13 @@ use Rattle.worker_cells.proofs.lines.run_cell.Goals.{in-Some, in_default}
 pub loop-count-init : goal.loop-count-init
 loop-count-init g c = (
   so_begin c.args.tries c.args.cell.now.worker c.args.round.now.lines c.args.cell.now.outcomes.told
-      c.default-cell.result None c.requires.cell c.requires.told c.default-cell.ensures.1
+      c.default-cell.result None c.requires.cell c.requires.told c.default-cell.ensures.1.0
       (c.default-cell.ensures.0 ∙ sym (ap is_some c.requires.cell.up.up)) tt,
   c.requires.of,
   refl,
   omega arith,
+  told_none is_run c.args.cell.now.worker (IsOpen c.default-cell.result) c.args.cell.now.outcomes.told
+      (calls_in c.none-calls.result) c.requires.told c.none-calls.ensures,
 )
 
 pub ops_of-requires : goal.ops_of-requires
@@ -66,7 +71,7 @@ loop-count-preserved g c =
           let has : HasOps c.args.cell.now.worker c.args.round.now.lines c.loop-count.index (Some w.in-Some.ops.now) =
           subst (λ n. HasOps n c.args.round.now.lines c.loop-count.index (Some w.in-Some.ops.now)) so.2
           w.in-Some.ensures in
-          rw (w.cell-is, w.count-is) (
+          rw (w.cell-is, w.count-is, w.calls-is) (
             so_step w.in-Some.ops.now has so.0 w.run_one.ensures.steps w.run_one.ensures.shown,
             w.run_one.ensures.of,
             w.run_one.ensures.worker ∙ so.2,
@@ -77,14 +82,16 @@ loop-count-preserved g c =
               so_room so.0 w.in-Some.ops.now c.args.cell.now.outcomes.left
                   c.loop-count.cell.outcomes.left has c.requires.room so.3,
             ),
+            w.run_one.ensures.calls,
           )
       | in_default w ↦
-          rw (w.cell-is, w.count-is) (
+          rw (w.cell-is, w.count-is, w.calls-is) (
             so_other (subst (λ n. HasOps n c.args.round.now.lines c.loop-count.index None) so.2 w.in_default.ensures)
                 so.0,
             so.1,
             so.2,
             so.3,
+            so.4,
           )
     ]
 
@@ -99,6 +106,13 @@ pub returns-then-count-gt0-clause-runs : goal.returns-then-count-gt0-clause-runs
 returns-then-count-gt0-clause-runs g c =
     let all : length (lines_of_worker c.args.round.now c.args.cell.now.worker) ≤ c.loop-count.count =
     omega (arith, c.loop-count-test.false, c.requires.count) in
-    so_marked c.mark_last-cell.result all (omega (arith, c.if-count-gt0.true)) c.loop-count.invariant.0
+    so_marked c.mark_last-cell.result all (omega (arith, c.if-count-gt0.true))
+    (so_noted c.loop-count.calls c.loop-count.invariant.0)
     c.mark_last-cell.ensures.readies c.mark_last-cell.ensures.failed c.mark_last-cell.ensures.flushed
     c.mark_last-cell.ensures.tied
+
+pub returns-then-count-gt0-clause-calls : goal.returns-then-count-gt0-clause-calls
+returns-then-count-gt0-clause-calls g c =
+    let so = c.loop-count.invariant in
+    subst (λ n. calls_in c.loop-count.calls ≡ calls_for is_run n 0 c.loop-count.cell.outcomes.told) so.2
+    so.4.calls_are

@@ -1,6 +1,7 @@
 -- The worker's lines among the first ones were run, or left out.
 use Rattle.std.proofs.Common.{◌≡◌, ◌+◌, ◌-◌, length}
 use Rattle.engine_words.specs.Passes.{IsPassOf, view}
+use Rattle.worker_cells.specs.Gates.{IsOpen, IsTold, calls_in, is_run}
 use Rattle.worker_cells.proofs.CellLoop.{SoFar}
 use Rattle.worker_cells.proofs.lines.run_cell.Given as goal
 
@@ -11,6 +12,7 @@ invariant-loop-count g l =
     l.cell.log l.fn.cell.bank l.cell.bank
     × IsPassOf l.engine l.cell.pass × (l.cell.worker ≡ l.fn.cell.worker)
     × (l.count + l.cell.outcomes.left ≡ l.fn.cell.outcomes.left)
+    × IsTold is_run l.cell.worker l.count (IsOpen l.cell.end) l.cell.outcomes.told (calls_in l.calls)
 
 abbrev pub decreases-loop-count : goal.decreases-loop-count
 decreases-loop-count g l = length l.round.lines - l.index

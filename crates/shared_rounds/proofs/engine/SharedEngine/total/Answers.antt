@@ -13,13 +13,15 @@ use Rattle.shared_rounds.proofs.Values.{own_value_is}
 use Rattle.shared_rounds.proofs.engine.SharedEngine.total.Goals as goal
 
 pub invariant_of-self : goal.invariant_of-self
-invariant_of-self c =
-    kept_as_loaded c.self.inside.words c.self.inside.keeper c.sum_storages.new.keeper c.self.inside.decls
-    c.self.inside.clock c.self.invariant c.sum_storages.ensures.of c.sum_storages.ensures.loads
+invariant_of-self c = (
+  kept_as_loaded c.self.inside.words c.self.inside.keeper c.sum_storages.new.keeper c.self.inside.decls
+      c.self.inside.clock c.self.invariant.0 c.sum_storages.ensures.of c.sum_storages.ensures.loads,
+  c.self.invariant.1,
+)
 
 pub returns-clause-value : goal.returns-clause-value
 returns-clause-value c =
-    let inv = c.self.invariant in
+    let inv = c.self.invariant.0 in
     let was = view c.self.inside.keeper in
     c.sum_storages.ensures.sum
     ∙ ap (λ (l : List Decl). records_sum (own_value was) l) (c.as_slice.ensures ∙ inv.decls_are)

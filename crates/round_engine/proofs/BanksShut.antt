@@ -5,7 +5,7 @@ use Rattle.lists.specs.Fronts.{IsFront, front_length, front_same, front_then, fr
 use Rattle.outside.specs.Fronts.{begins_less}
 use Rattle.outside.specs.Moments.{left_after}
 use Rattle.outside.specs.Reads.{OnlyReads}
-use Rattle.recovery_core.specs.Story.{BankOpen, BankReady, BankTold}
+use Rattle.joint_crashes.specs.Story.{BankOpen, BankReady, BankTold}
 use Rattle.round_engine.specs.Crashes.{BankShut}
 
 module _ {D : Type 0} {clock : D → ℕ} {image_at : D → ℕ → List ℕ → Type 0} {counted : ℕ → List ℕ} {from low : ℕ}

@@ -6,12 +6,14 @@ use Rattle.std.specs.Option.{option_map}
 use Rattle.std.proofs.lemmas.Option.{same_Some}
 use Rattle.lists.specs.Each.{all_replicate}
 use Rattle.outside.specs.Disk.{IfTold}
-use Rattle.outside.specs.Vault.{disk_in, IsWhole}
-use Rattle.outside.specs.declared.vault.Device.TheVariants.{Bank}
-use Rattle.outside.specs.declared.vault.Vault.{Vault}
+use Rattle.log_writer.specs.Vault.{disk_in, IsWhole}
+use Rattle.outside.specs.declared.device.Device.TheVariants.{Bank}
+use Rattle.log_writer.specs.declared.vault.Vault.{Vault}
 use Rattle.serial_model.specs.State.{State}
 use Rattle.serial_model.specs.declared.decl.Decl.{Decl}
+use Rattle.serial_model.specs.declared.key.Key.{Key}
 use Rattle.serial_model.specs.declared.number.Number.{Number}
+use Rattle.homes.specs.declared.places.Content.{Content}
 use Rattle.wire_form.specs.Pages.{Contents, decls_of}
 use Rattle.wire_form.specs.declared.savepoint.Savepoint.{Savepoint}
 use Rattle.snapshot_store.specs.Content.{SnapshotStands, words_of}
@@ -19,9 +21,9 @@ use Rattle.snapshot_store.specs.Store.{Holds, StoreState}
 use Rattle.log_writer.specs.Points.{SaveState, saved_of}
 use Rattle.log_writer.specs.Save.{IsStored}
 use Rattle.log_writer.specs.declared.saved.Saved.{Saved}
-use Rattle.recovery_core.specs.Images.{counted_of, epoch_of}
-use Rattle.recovery_core.specs.Marks.{Marks}
-use Rattle.recovery_core.specs.Crashes.Marking.{mark_set}
+use Rattle.joint_crashes.specs.Images.{counted_of, epoch_of}
+use Rattle.joint_crashes.specs.Marks.{Marks}
+use Rattle.joint_crashes.specs.Crashes.Marking.{mark_set}
 use Rattle.worker_logs.specs.Logs.{IsJoined, IsLog, LogState, fresh_log, log_limit}
 use Rattle.worker_logs.specs.Saves.{CountsOf}
 use Rattle.worker_logs.specs.declared.savepoints.Side.TheVariants.{Even}
@@ -77,13 +79,13 @@ pub record IsSettledOn {D : Type 0} (tells : D → Option (List ℕ)) (decls : L
   pub most : room ≤ 65536
 
 module _ {D : Type 0} {tells : D → Option (List ℕ)} {clock : D → ℕ} {image_at : D → ℕ → List ℕ → Type 0} where
-  pub begun_stands : (decls : List Decl) (state : State) (save : SaveState) (store : StoreState) (room : ℕ)
-      (saved : Saved) (first : Number) (vault : Vault D) → Some saved ≡ option_map saved_of save.newest
+  pub begun_stands : (decls : List Decl) (state : State) (opening : List (Key × Content)) (save : SaveState)
+      (store : StoreState) (room : ℕ) (saved : Saved) (first : Number) (vault : Vault D) → Some saved ≡ option_map saved_of save.newest
       → first.epoch ≡ saved.epoch + 1 → IsWhole vault → save.down ≡ None
       → IsStored tells clock image_at vault.save save.newest
       → IsSettledOn tells decls store room saved.epoch vault.snaps
-      → StandsOn tells clock image_at (begun decls state save store room first) vault
-  begun_stands decls state save store room saved first vault known next whole up stored settled =
+      → StandsOn tells clock image_at (begun decls state opening save store room first) vault
+  begun_stands decls state opening save store room saved first vault known next whole up stored settled =
       let before : first.epoch - 1 ≡ saved.epoch = omega (arith, next) in
       record {
         whole = whole;
@@ -122,11 +124,12 @@ module _ {D : Type 0} {tells : D → Option (List ℕ)} {clock : D → ℕ} {ima
             (replicate_at 8 worker (fresh_log (first.epoch - 1)) log at) (λ file told. omega arith);
       }
 
-  pub begun_logs : (decls : List Decl) (state : State) (save : SaveState) (store : StoreState) (room : ℕ) (first : Number)
-      (vault : Vault D) → ((number : ℕ) (bank : D) → disk_in vault (Bank number) ≡ Some bank → tells bank ≡ Some [])
-      → AreLogs tells clock image_at (λ worker. []) (λ worker. []) (begun decls state save store room first) vault
-      × AreClosedFiles tells clock image_at (λ worker. []) (λ worker. []) (begun decls state save store room first) vault
-  begun_logs decls state save store room first vault empty = (
+  pub begun_logs : (decls : List Decl) (state : State) (opening : List (Key × Content)) (save : SaveState)
+      (store : StoreState) (room : ℕ) (first : Number) (vault : Vault D) → ((number : ℕ) (bank : D) → disk_in vault (Bank number) ≡ Some bank → tells bank ≡ Some [])
+      → AreLogs tells clock image_at (λ worker. []) (λ worker. []) (begun decls state opening save store room first) vault
+      × AreClosedFiles tells clock image_at (λ worker. []) (λ worker. [])
+      (begun decls state opening save store room first) vault
+  begun_logs decls state opening save store room first vault empty = (
     λ worker log bank at there.
         subst (λ (l : LogState). IsLog tells clock image_at [] [] l bank)
         (replicate_at 8 worker (fresh_log (first.epoch - 1)) log at)

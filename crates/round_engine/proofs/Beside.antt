@@ -6,20 +6,21 @@ use Rattle.std.specs.List.{Contains}
 use Rattle.std.proofs.lemmas.List.{append-nil}
 use Rattle.outside.specs.Faults.{Rose}
 use Rattle.outside.specs.Fronts.{AllBegin}
-use Rattle.outside.specs.declared.vault.Tie.{Tie}
-use Rattle.outside.specs.declared.vault.Vault.{Vault}
+use Rattle.log_writer.specs.declared.records.Tie.{Tie}
+use Rattle.log_writer.specs.declared.vault.Vault.{Vault}
 use Rattle.lists.specs.Fronts.{IsFront}
 use Rattle.wire_form.specs.declared.savepoint.Savepoint.{Savepoint}
 use Rattle.log_writer.specs.Points.{SaveState, sequence_of}
+use Rattle.log_writer.specs.Records.{no_ties}
 use Rattle.log_writer.specs.Save.{IsStored}
 use Rattle.log_writer.specs.declared.saved.Saved.{Saved}
 use Rattle.snapshot_store.specs.Store.{bytes_of_pages, StoreState}
-use Rattle.recovery_core.specs.Crashes.Rounded.{keeper_none}
-use Rattle.recovery_core.specs.JointCrash.{Moments}
-use Rattle.recovery_core.specs.Rounds.{KeeperRan}
-use Rattle.recovery_core.specs.Story.{SaveTold, SnapsTold, Story}
+use Rattle.joint_crashes.specs.Crashes.Rounded.{keeper_none}
+use Rattle.joint_crashes.specs.JointCrash.{Moments}
+use Rattle.joint_crashes.specs.Rounds.{KeeperRan}
+use Rattle.joint_crashes.specs.Story.{SaveTold, SnapsTold, Story}
 use Rattle.round_engine.specs.Keeping.{Keeps}
-use Rattle.round_engine.specs.Saves.{ArePages, GoesOnWith, HaveEnded, newest_after}
+use Rattle.round_engine.specs.Saves.{ArePages, AreTied, GoesOnWith, HaveEnded, newest_after}
 use Rattle.round_engine.specs.Standing.{RuntimeState}
 
 -- the save, the snapshots and the ties are as they were
@@ -77,6 +78,8 @@ module _ {D : Type 0} {tells : D → Option (List ℕ)} {clock : D → ℕ} {ima
         later = subst (λ d. faults d ≤ faults now.save) same.save k.later;
         quiet = λ none. k.quiet none ∙ ap faults same.save;
         rose = λ is. subst (λ d. Rose (faults d) (faults now.save)) same.save (k.rose is);
+        ties_are = subst (λ t. AreTied a.save.newest stored failed t now.ties.items) same.ties
+            (subst (λ (s : SaveState). AreTied s.newest stored failed between.ties.items now.ties.items) save k.ties_are);
         ended = subst (λ (s : SaveState). HaveEnded s.newest stored now.ties.items) save k.ended;
         ties_stay = λ tie has. k.ties_stay tie (subst (λ t. Contains t tie) (sym same.ties) has);
         grows = (k.grows.0, subst (λ (s : StoreState). c.store.pages ≡ s.pages ++ k.grows.0) store k.grows.1);
@@ -98,6 +101,7 @@ module _ {D : Type 0} {tells : D → Option (List ℕ)} {clock : D → ℕ} {ima
     later = omega arith;
     quiet = λ none. refl;
     rose = λ is. absurd (let no = is in cc);
+    ties_are = no_ties (sequence_of r.save.newest) refl;
     ended = λ k saved at. absurd (let no = at in cc);
     ties_stay = λ tie has. has;
     grows = ([], sym (append-nil r.store.pages));

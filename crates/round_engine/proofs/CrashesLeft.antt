@@ -8,10 +8,10 @@ use Rattle.std.proofs.lemmas.Bool.{cases_lt}
 use Rattle.std.proofs.lemmas.List.{append-nil, length-append, length-map, nil_from_length}
 use Rattle.lists.specs.Elements.{any_in}
 use Rattle.lists.specs.Fronts.{IsFront, front_take, front_then}
-use Rattle.outside.specs.Vault.{disk_in}
-use Rattle.outside.specs.declared.vault.Device.TheVariants.{Bank, Save}
-use Rattle.outside.specs.declared.vault.Tie.{Tie}
-use Rattle.outside.specs.declared.vault.Vault.{Vault}
+use Rattle.log_writer.specs.Vault.{disk_in}
+use Rattle.outside.specs.declared.device.Device.TheVariants.{Bank, Save}
+use Rattle.log_writer.specs.declared.records.Tie.{Tie}
+use Rattle.log_writer.specs.declared.vault.Vault.{Vault}
 use Rattle.serial_model.specs.declared.number.Commit.{Commit}
 use Rattle.wire_form.specs.declared.savepoint.Savepoint.{Savepoint}
 use Rattle.log_writer.specs.Points.{point_of, sequence_of}
@@ -19,13 +19,13 @@ use Rattle.log_writer.specs.declared.saved.Saved.{Saved}
 use Rattle.snapshot_store.specs.Store.{bytes_of_pages}
 use Rattle.worker_logs.specs.Saves.{closed_number, growing_number}
 use Rattle.worker_logs.specs.declared.savepoints.Side.{Side}
-use Rattle.recovery_core.specs.Cutting.{AreCut, CutsLeave}
-use Rattle.recovery_core.specs.Images.{Images, counted_of, epoch_of}
-use Rattle.recovery_core.specs.JointCrash.{CrashesNow, HasCut, IsJointCrash, IsSince, KeepsCrashes, Moments}
-use Rattle.recovery_core.specs.JointCrash.{parts_of}
-use Rattle.recovery_core.specs.Story.{BankOpen, IsTold, StandsFor, Story}
-use Rattle.recovery_core.specs.Crashes.Instants.{keeps_then}
-use Rattle.recovery_core.specs.Crashes.Standing.{crash_covers}
+use Rattle.joint_crashes.specs.Cutting.{AreCut, CutsLeave}
+use Rattle.joint_crashes.specs.Images.{Images, counted_of, epoch_of}
+use Rattle.joint_crashes.specs.JointCrash.{CrashesNow, HasCut, IsJointCrash, IsSince, KeepsCrashes, Moments}
+use Rattle.joint_crashes.specs.JointCrash.{parts_of}
+use Rattle.joint_crashes.specs.Story.{BankOpen, IsTold, StandsFor, Story}
+use Rattle.joint_crashes.specs.Crashes.Instants.{keeps_then}
+use Rattle.joint_crashes.specs.Crashes.Standing.{crash_covers}
 use Rattle.tx_script.specs.Run.{Ran}
 use Rattle.round_engine.specs.Crashes.{BankShut, CarriesCrashes, front_of, KnowsBefore, LeavesCrashes, StaysReady}
 use Rattle.round_engine.specs.Ends.{comes_to_save, comes_to_swap, durable_of, has_sequence, other_failed}

@@ -11,10 +11,10 @@ use Rattle.lists.specs.Elements.{at_below, in_none}
 use Rattle.lists.specs.Fronts.{IsFront, front_from, front_take}
 use Rattle.outside.specs.Fronts.{AllBegin}
 use Rattle.outside.specs.Reads.{OnlyReads}
-use Rattle.outside.specs.Vault.{disk_in}
-use Rattle.outside.specs.declared.vault.Cut.{Cut}
-use Rattle.outside.specs.declared.vault.Device.TheVariants.{Bank}
-use Rattle.outside.specs.declared.vault.Vault.{Vault}
+use Rattle.log_writer.specs.Vault.{disk_in}
+use Rattle.log_writer.specs.declared.records.Cut.{Cut}
+use Rattle.outside.specs.declared.device.Device.TheVariants.{Bank}
+use Rattle.log_writer.specs.declared.vault.Vault.{Vault}
 use Rattle.serial_model.specs.declared.number.Commit.{Commit}
 use Rattle.wire_form.specs.LogFile.{lines_bytes}
 use Rattle.wire_form.specs.declared.savepoint.Savepoint.{Savepoint}
@@ -25,14 +25,14 @@ use Rattle.worker_logs.specs.Logs.{LogState}
 use Rattle.worker_logs.specs.Saves.{closed_number, CountsOf, growing_number}
 use Rattle.worker_logs.specs.SavesLaws.{counts_saved}
 use Rattle.worker_logs.specs.declared.savepoints.Beside.{Beside}
-use Rattle.recovery_core.specs.Cutting.{AreCut}
-use Rattle.recovery_core.specs.Images.{counted_of}
-use Rattle.recovery_core.specs.JointCrash.{CrashesNow, HasCut, KeepsCrashes, Moments}
-use Rattle.recovery_core.specs.JointCrash.{parts_of}
-use Rattle.recovery_core.specs.Rounds.{KeeperRan}
-use Rattle.recovery_core.specs.Story.{BankOpen, BankReady, BankTold, IsTold, Lasts, Story}
-use Rattle.recovery_core.specs.Crashes.BankSteps.{bank_grows, bank_stored}
-use Rattle.recovery_core.specs.Crashes.Instants.{keeps_by, keeps_none, lasts_goes, lasts_grows, open_ready}
+use Rattle.joint_crashes.specs.Cutting.{AreCut}
+use Rattle.joint_crashes.specs.Images.{counted_of}
+use Rattle.joint_crashes.specs.JointCrash.{CrashesNow, HasCut, KeepsCrashes, Moments}
+use Rattle.joint_crashes.specs.JointCrash.{parts_of}
+use Rattle.joint_crashes.specs.Rounds.{KeeperRan}
+use Rattle.joint_crashes.specs.Story.{BankOpen, BankReady, BankTold, IsTold, Lasts, Story}
+use Rattle.joint_crashes.specs.Crashes.BankSteps.{bank_grows, bank_stored}
+use Rattle.joint_crashes.specs.Crashes.Instants.{keeps_by, keeps_none, lasts_goes, lasts_grows, open_ready}
 use Rattle.tx_script.specs.Run.{Ran}
 use Rattle.round_engine.specs.Crashes.{BankShut, front_of, KnowsBefore, StaysReady}
 use Rattle.round_engine.specs.Ends.{epoch_joined}

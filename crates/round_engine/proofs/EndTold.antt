@@ -4,7 +4,7 @@ use Rattle.std.proofs.Common.{Bool, true, false, not, Option, Some, None}
 use Rattle.std.specs.Prelude.{◌||◌, ◌==◌, is_some, nat_lt, ⊤}
 use Rattle.std.specs.Option.{option_map}
 use Rattle.serial_model.specs.Numbers.{last_epoch}
-use Rattle.outside.specs.declared.vault.Device.{Device}
+use Rattle.outside.specs.declared.device.Device.{Device}
 use Rattle.tx_script.specs.Run.{Ran}
 use Rattle.tx_script.specs.Causes.{keeper_at_end, last_sequence, leaves_join_out}
 use Rattle.round_engine.specs.Ends.{bank_end, comes_to_advance, damaged_end, draw_end, end_of, epoch_end, first_device}

@@ -4,8 +4,8 @@ use Rattle.std.proofs.Common.{List, [], map, Bool, true, false, cond, Option, So
 use Rattle.std.specs.Prelude.{◌||◌, MatchBool, fold, is_some, nat_le}
 use Rattle.std.proofs.lemmas.Bool.Decides.{nat_tests}
 use Rattle.std.specs.List.{list_any}
-use Rattle.outside.specs.declared.vault.Device.{Device}
-use Rattle.outside.specs.declared.vault.Device.TheVariants as devices
+use Rattle.outside.specs.declared.device.Device.{Device}
+use Rattle.outside.specs.declared.device.Device.TheVariants as devices
 use Rattle.script_grammar.specs.declared.lines.KeeperLine.{KeeperLine}
 use Rattle.script_grammar.specs.declared.lines.KeeperLine.TheVariants as asks
 use Rattle.tx_script.specs.declared.answer.Answer.{Answer}

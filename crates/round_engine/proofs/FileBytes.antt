@@ -2,9 +2,9 @@
 use Rattle.std.proofs.Common.{◌≡◌, ◌∙◌, ◌<◌, ◌⊎◌, inl, inr, sym, ap, refl, ℕ}
 use Rattle.std.proofs.Common.{List, Some, arith}
 use Rattle.lists.specs.Elements.{at_below}
-use Rattle.outside.specs.Vault.{IsWhole, disk_in}
-use Rattle.outside.specs.declared.vault.Device.TheVariants.{Bank}
-use Rattle.outside.specs.declared.vault.Vault.{Vault}
+use Rattle.log_writer.specs.Vault.{IsWhole, disk_in}
+use Rattle.outside.specs.declared.device.Device.TheVariants.{Bank}
+use Rattle.log_writer.specs.declared.vault.Vault.{Vault}
 use Rattle.worker_logs.specs.Saves.{closed_number, growing_number}
 use Rattle.worker_logs.specs.declared.savepoints.Side.{Side}
 use Rattle.round_engine.specs.Sides.{closed_in, growing_in}

@@ -6,9 +6,10 @@ use Rattle.std.specs.List.{AllByRecursion}
 use Rattle.std.proofs.lemmas.Bool.{cases_Bool}
 use Rattle.lists.specs.declared.memory.OrMemory.{OrMemory}
 use Rattle.lists.specs.declared.memory.OrMemory.TheVariants as or
-use Rattle.outside.specs.Vault.{disk_in}
-use Rattle.outside.specs.declared.vault.Device.TheVariants as devices
-use Rattle.outside.specs.declared.vault.Vault.{Vault}
+use Rattle.log_writer.specs.Vault.{disk_in}
+use Rattle.outside.specs.declared.device.Device.TheVariants as devices
+use Rattle.log_writer.specs.declared.vault.Vault.{Vault}
+use Rattle.outside.specs.declared.device.Device.{Device}
 use Rattle.script_grammar.specs.declared.lines.KeeperLine.TheVariants as asks
 use Rattle.log_writer.specs.Points.{SaveState}
 use Rattle.log_writer.specs.Save.{IsStored}
@@ -16,13 +17,13 @@ use Rattle.gleaner.specs.declared.gleaning.GleanFault.{GleanFault}
 use Rattle.gleaner.specs.declared.gleaning.GleanFault.TheVariants as refusals
 use Rattle.gleaner.specs.declared.gleaning.Gleaned.{Gleaned}
 use Rattle.gleaner.specs.declared.gleaning.Gleaned.TheVariants.{Empty, Snap}
-use Rattle.recovery_core.specs.Images.{epoch_of}
+use Rattle.joint_crashes.specs.Images.{epoch_of}
 use Rattle.tx_script.specs.Causes.{some_counted}
 use Rattle.worker_logs.specs.Logs.{IsJoined, LogState, log_limit}
 use Rattle.worker_logs.specs.Saves.{growing_number}
 use Rattle.worker_logs.specs.declared.savepoints.Side.{Side}
 use Rattle.round_engine.specs.Gleans.{AnswersGlean, device_of_glean, ended_if, Gleans, GleansAsked}
-use Rattle.round_engine.specs.Keeping.{CanKeep, glean_answer, glean_refusal, RunsKeeper}
+use Rattle.round_engine.specs.Keeping.{CanKeep, glean_answer, glean_refusal, refusal_beside, RunsKeeper}
 use Rattle.round_engine.specs.Standing.{AreClosed, IsMarkBefore, RuntimeState, Standing, StandsOn}
 use Rattle.round_engine.proofs.GleanLine.{glean_line}
 use Rattle.round_engine.proofs.KeeperSteps.{closed_still, whole_of}
@@ -62,15 +63,16 @@ module _ {D : Type 0} (tells : D → Option (List ℕ)) (clock : D → ℕ) (ima
   still_sound (Err or.Memory) fine answers up = ap (λ s. s.sound) answers.store ∙ up
 
 module _ {D : Type 0} {tells : D → Option (List ℕ)} {clock : D → ℕ} {image_at : D → ℕ → List ℕ → Type 0} {faults : D → ℕ}
-    {old new : RuntimeState} {before now : Vault D} (result : Result Gleaned (OrMemory GleanFault)) (stands : StandsOn tells clock image_at old before)
-    (up : old.down ≡ false) (gleans : Gleans tells clock image_at faults old new before now result) where
+    {old new : RuntimeState} {before now : Vault D} (result : Result Gleaned (OrMemory GleanFault)) (beside : Option Device)
+    (stands : StandsOn tells clock image_at old before)
+    (up : old.down ≡ false) (gleans : Gleans tells clock image_at faults old new before now result beside) where
   ready : CanKeep tells clock image_at old before
   ready = asked_ready stands up
 
-  runs : RunsKeeper tells clock image_at faults (asks.Glean ∷ []) (glean_answer result ∷ []) (glean_refusal result) old new
-      before now
-  runs = glean_line faults old before ready (glean_answer result) (glean_refusal result)
-      (record { result = result; gleans = gleans; answer_is = refl; refusal_is = refl })
+  runs : RunsKeeper tells clock image_at faults (asks.Glean ∷ []) (glean_answer result ∷ [])
+      (refusal_beside beside (glean_refusal result)) old new before now
+  runs = glean_line faults old before ready (glean_answer result) (refusal_beside beside (glean_refusal result))
+      (record { result = result; beside = beside; gleans = gleans; answer_is = refl; refusal_is = refl })
 
   sound_now : is_some (device_of_glean result) ≡ false → new.store.sound ≡ true
   sound_now fine = elim (cases_Bool (some_counted old.counted)) [
@@ -94,7 +96,7 @@ module _ {D : Type 0} {tells : D → Option (List ℕ)} {clock : D → ℕ} {ima
       ∙ ap (λ (side : Side). disk_in now (devices.Bank (growing_number side worker))) (sym gleans.alone.side) ∙ at
 
   -- behind a glean the runtime stands, which a failed device ended
-  pub still_stands : (failed : Bool) → failed ≡ is_some (device_of_glean result)
+  pub still_stands : (failed : Bool) → failed ≡ (is_some (device_of_glean result) || is_some beside)
       → StandsOn tells clock image_at (ended_if failed new) now
   still_stands failed is = record {
     whole = whole_of old.side before now stands.whole (ap length gleans.over.growing) gleans.over.many;
@@ -112,7 +114,7 @@ module _ {D : Type 0} {tells : D → Option (List ℕ)} {clock : D → ℕ} {ima
         let was = stands.up (sym gleans.alone.down ∙ parts.0) in
         record {
           save = ap (λ (s : SaveState). s.down) gleans.alone.save ∙ was.save;
-          store = sound_now (sym is ∙ parts.1);
+          store = sound_now (or_parts (is_some (device_of_glean result)) (is_some beside) (sym is ∙ parts.1)).0;
           logs = subst (AllByRecursion (λ (log : LogState). log.journal.down ≡ None)) (sym gleans.alone.logs) was.logs;
         };
     goes_on = λ fine.
@@ -143,8 +145,9 @@ module _ {D : Type 0} {tells : D → Option (List ℕ)} {clock : D → ℕ} {ima
         (reach worker bank there);
   }
 
-  pub glean_asked : (failed : Bool) (r : RuntimeState) → failed ≡ is_some (device_of_glean result)
-      → r ≡ ended_if failed new → GleansAsked tells clock image_at faults old r before now result
+  pub glean_asked : (failed : Bool) (r : RuntimeState)
+      → failed ≡ (is_some (device_of_glean result) || is_some beside)
+      → r ≡ ended_if failed new → GleansAsked tells clock image_at faults old r before now result beside
   glean_asked failed r is at = record {
     gleaned = new;
     gleans = gleans;

@@ -7,14 +7,16 @@ use Rattle.std.proofs.lemmas.List.{append-nil, drop_all, take_all}
 use Rattle.std.proofs.lemmas.Bool.Decides.{nat_tests}
 use Rattle.lists.specs.declared.memory.OrMemory.{OrMemory}
 use Rattle.lists.specs.declared.memory.OrMemory.TheVariants as or
-use Rattle.outside.specs.Vault.{IsWhole}
-use Rattle.outside.specs.declared.vault.Device.TheVariants as devices
-use Rattle.outside.specs.declared.vault.Vault.{Vault}
+use Rattle.log_writer.specs.Vault.{IsWhole}
+use Rattle.outside.specs.declared.device.Device.TheVariants as devices
+use Rattle.log_writer.specs.declared.vault.Vault.{Vault}
+use Rattle.outside.specs.declared.device.Device.{Device}
 use Rattle.wire_form.specs.Pages.{Contents}
 use Rattle.serial_model.specs.Numbers.{last_epoch}
 use Rattle.snapshot_store.specs.Content.{CatalogueAt, SnapshotStands, words_of}
 use Rattle.snapshot_store.specs.Store.{StoreState}
-use Rattle.gleaner.specs.Glean.{bank_of, CanGlean, IsDamagedFile, IsGleaned, none_counted, WouldBeDeep, WouldBeMany}
+use Rattle.gleaner.specs.Glean.{bank_of, CanGlean, HasFailed, IsDamagedFile, IsGleaned, none_counted, WouldBeDeep}
+use Rattle.gleaner.specs.Glean.{WouldBeMany}
 use Rattle.gleaner.specs.GleanLaws.{gleaned_many}
 use Rattle.gleaner.specs.declared.closed.Closed.{Closed}
 use Rattle.gleaner.specs.declared.closed.Newest.{Newest}
@@ -26,11 +28,12 @@ use Rattle.tx_script.specs.Causes.{some_counted}
 use Rattle.worker_logs.specs.Saves.{closed_number}
 use Rattle.worker_logs.specs.declared.savepoints.Side.{Side}
 use Rattle.worker_logs.specs.declared.savepoints.Side.TheVariants.{Even, Odd}
-use Rattle.round_engine.specs.Gleans.{AddsNothing, ComesTo}
+use Rattle.round_engine.specs.Gleans.{AddsNothing, ComesTo, FailsIn}
 use Rattle.round_engine.specs.Gleans.{AnswersGlean, closed_of, counted_after, device_of_glean, Gleans, GleansFiles, newest_in}
 use Rattle.round_engine.specs.Keeping.{CanKeep}
 use Rattle.round_engine.specs.Sides.{closed_in, growing_in, is_odd}
 use Rattle.round_engine.specs.Standing.{RuntimeState}
+use Rattle.round_engine.proofs.GleanDevices.{beside_in, told_in}
 use Rattle.round_engine.proofs.Places.{within_of}
 
 -- files that were lent as a slice are put back
@@ -101,10 +104,10 @@ module _ {D : Type 0} {tells : D → Option (List ℕ)} {clock : D → ℕ} {ima
 module _ {D : Type 0} {tells : D → Option (List ℕ)} {clock : D → ℕ} {image_at : D → ℕ → List ℕ → Type 0} (faults : D → ℕ)
     (r : RuntimeState) (store : StoreState) (before now : Vault D) (newest : Newest)
     (ready : CanKeep tells clock image_at r before) (page : newest.page ≡ length r.store.pages)
-    (epoch : newest.epoch ≡ ready.snapshot.contents.epoch) where
+    (epoch : newest.epoch ≡ ready.snapshot.contents.epoch) (beside : Option Device) where
   abbrev Calls : Result Gleaned (OrMemory GleanFault) → Type 0
   Calls result = GleansFiles tells clock image_at faults r.stands.decls newest (closed_of r) r.room r.store store before.snaps
-      now.snaps (closed_in r.side before) (closed_in r.side now) result
+      now.snaps (closed_in r.side before) (closed_in r.side now) result beside
 
   abbrev after : Result Gleaned (OrMemory GleanFault) → RuntimeState
   after result = record r { store = store; counted = counted_after result r.counted }
@@ -197,10 +200,31 @@ module _ {D : Type 0} {tells : D → Option (List ℕ)} {clock : D → ℕ} {ima
       )
   by_result some (Err or.Memory) call = kept_both (Err or.Memory) (call.kept (λ is. cc)) refl
 
+  -- a closed log file that failed
+  failed_file : (device : Device) → HasFailed faults (closed_of r) (closed_in r.side before) (closed_in r.side now) device
+      → FailsIn tells clock image_at faults r device before now
+  failed_file devices.Snaps bad = absurd (let f = bad.1 in let no = f.4 in cc)
+  failed_file devices.Save bad = absurd (let f = bad.1 in let no = f.4 in cc)
+  failed_file (devices.Bank n) bad =
+      let f = bad.1 in (
+        bad.0,
+        f.0,
+        f.1,
+        omega (
+          arith,
+          within_of (closed_in r.side before) bad.0 f.0 f.2,
+          closed_eight r.side before ready.whole,
+        ),
+        f.4 ∙ ap devices.Bank (closed_bank r.side bad.0),
+        f.2,
+        f.3,
+        f.5,
+      )
+
   -- The closed side was gleaned.
   pub called : (result : Result Gleaned (OrMemory GleanFault)) → Calls result → now.save ≡ before.save
       → now.ties ≡ before.ties → now.cuts ≡ before.cuts → growing_in r.side now ≡ growing_in r.side before
-      → Gleans tells clock image_at faults r (after result) before now result
+      → Gleans tells clock image_at faults r (after result) before now result beside
   called result call save ties cuts growing = record {
     alone = record {
       stands = refl;
@@ -224,10 +248,16 @@ module _ {D : Type 0} {tells : D → Option (List ℕ)} {clock : D → ℕ} {ima
       many = call.many;
       reads = call.reads;
     };
+    also = λ device is.
+        let bad = call.also device is in
+        record { fails = failed_file device bad.0; later = bad.1 };
     quietly = record {
-      snaps = λ fine. call.quiet_snaps (λ is. fine (ap device_of_glean is));
-      files = λ worker was is at there fine. call.quiet_files worker was is at there (λ bad.
-          fine (ap device_of_glean bad ∙ ap (λ n. Some (devices.Bank n)) (closed_bank r.side worker)));
+      snaps = λ fine. call.quiet_snaps (λ is. fine (told_in result beside devices.Snaps (ap device_of_glean is)));
+      files = λ worker was is at there fine. call.quiet_files worker was is at there
+          (λ bad. fine (told_in result beside (devices.Bank (closed_number r.side worker))
+          (ap device_of_glean bad ∙ ap (λ n. Some (devices.Bank n)) (closed_bank r.side worker))))
+          (λ bad. fine (beside_in result beside (devices.Bank (closed_number r.side worker))
+          (bad ∙ ap (λ n. Some (devices.Bank n)) (closed_bank r.side worker))));
     };
     none = λ none.
         let nothing = call.none (none_of r.counted none) in (
@@ -246,7 +276,7 @@ module _ {D : Type 0} {tells : D → Option (List ℕ)} {clock : D → ℕ} {ima
 
 module _ {D : Type 0} {tells : D → Option (List ℕ)} {clock : D → ℕ} {image_at : D → ℕ → List ℕ → Type 0} (faults : D → ℕ)
     (r : RuntimeState) (store : StoreState) (before now : Vault D) (newest : Newest) (closed : Closed)
-    (ready : CanKeep tells clock image_at r before) (closed_is : closed ≡ closed_of r) where
+    (ready : CanKeep tells clock image_at r before) (closed_is : closed ≡ closed_of r) (beside : Option Device) where
   -- what is known of the newest snapshot of a runtime
   pub record NewestKnown (q : RuntimeState) : Type 0 where
     pub page : newest.page ≡ length q.store.pages
@@ -256,26 +286,26 @@ module _ {D : Type 0} {tells : D → Option (List ℕ)} {clock : D → ℕ} {ima
   -- and of the call
   pub record CallKnown (q : RuntimeState) (result : Result Gleaned (OrMemory GleanFault)) : Type 0 where
     pub call : GleansFiles tells clock image_at faults q.stands.decls newest closed q.room q.store store before.snaps now.snaps
-        (closed_in q.side before) (closed_in q.side now) result
+        (closed_in q.side before) (closed_in q.side now) result beside
     pub growing : growing_in q.side now ≡ growing_in q.side before
 
   over_same : (result : Result Gleaned (OrMemory GleanFault)) → NewestKnown r → CallKnown r result → now.save ≡ before.save
       → now.ties ≡ before.ties → now.cuts ≡ before.cuts
       → Gleans tells clock image_at faults r (record r { store = store; counted = counted_after result r.counted }) before now
-      result
+      result beside
   over_same result known calls save ties cuts =
       called faults r store before now newest ready known.page
-      (known.epoch ready.snapshot.contents ready.snapshot.stands.here) result
+      (known.epoch ready.snapshot.contents ready.snapshot.stands.here) beside result
       (subst (λ x. GleansFiles tells clock image_at faults r.stands.decls newest x r.room r.store store before.snaps now.snaps
-      (closed_in r.side before) (closed_in r.side now) result) closed_is calls.call) save ties cuts calls.growing
+      (closed_in r.side before) (closed_in r.side now) result beside) closed_is calls.call) save ties cuts calls.growing
 
   pub called_over : (q : RuntimeState) → q ≡ r → (result : Result Gleaned (OrMemory GleanFault)) → NewestKnown q
       → CallKnown q result → now.save ≡ before.save → now.ties ≡ before.ties → now.cuts ≡ before.cuts
       → Gleans tells clock image_at faults r (record q { store = store; counted = counted_after result r.counted }) before now
-      result
+      result beside
   called_over q same result known calls save ties cuts =
       subst (λ x. NewestKnown x → CallKnown x result → Gleans tells clock image_at faults r
-      (record x { store = store; counted = counted_after result r.counted }) before now result) (sym same)
+      (record x { store = store; counted = counted_after result r.counted }) before now result beside) (sym same)
       (λ k c. over_same result k c save ties cuts) known calls
 
   can_same : NewestKnown r → r.closed_at < last_epoch → none_counted closed.lengths ≢ true

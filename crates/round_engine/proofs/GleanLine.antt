@@ -1,7 +1,7 @@
 -- A line of the maintenance thread that asks for a snapshot.
-use Rattle.std.proofs.Common.{◌≡◌, ◌∙◌, ◌≤◌, ◌<◌, ◌*◌, ◌+◌, ◌∷◌, inl, inr, sym, ap, subst, refl, ℕ}
+use Rattle.std.proofs.Common.{◌≡◌, ◌∙◌, ◌≤◌, ◌<◌, ◌*◌, ◌+◌, ◌++◌, ◌∷◌, inl, inr, sym, ap, subst, refl, ℕ}
 use Rattle.std.proofs.Common.{List, [], length, map, length-append, Bool, true, false, Option, Some, None, arith}
-use Rattle.std.specs.Prelude.{is_some, not, vec_capacity, vec_len, Result, Ok, Err}
+use Rattle.std.specs.Prelude.{is_some, not, Result, Ok, Err, option_to_list}
 use Rattle.std.specs.List.{AllByRecursion, Contains, list_any}
 use Rattle.std.proofs.lemmas.Bool.{cases_Bool, cases_lt}
 use Rattle.std.proofs.lemmas.List.{length-map}
@@ -13,25 +13,27 @@ use Rattle.lists.specs.declared.memory.OrMemory.TheVariants as or
 use Rattle.outside.specs.Disk.{Runs}
 use Rattle.outside.specs.Faults.{Rose}
 use Rattle.outside.specs.Fronts.{AllBegin}
-use Rattle.outside.specs.declared.vault.Device.{Device}
-use Rattle.outside.specs.declared.vault.Device.TheVariants as devices
-use Rattle.outside.specs.declared.vault.Tie.{Tie}
-use Rattle.outside.specs.Vault.{IsWhole as IsWholeVault}
-use Rattle.outside.specs.declared.vault.Vault.{Vault}
+use Rattle.outside.specs.declared.device.Device.{Device}
+use Rattle.outside.specs.declared.device.Device.TheVariants as devices
+use Rattle.log_writer.specs.declared.records.Tie.{Tie}
+use Rattle.log_writer.specs.Vault.{IsWhole as IsWholeVault}
+use Rattle.log_writer.specs.declared.vault.Vault.{Vault}
 use Rattle.script_grammar.specs.declared.lines.KeeperLine.TheVariants as asks
 use Rattle.wire_form.specs.ContentLaws.{one_catalogue}
 use Rattle.wire_form.specs.Pages.{decls_of}
 use Rattle.wire_form.specs.declared.clock.Mark.{Mark}
 use Rattle.wire_form.specs.declared.page.Page.{Page}
 use Rattle.log_writer.specs.Points.{SaveState, sequence_of}
+use Rattle.log_writer.specs.Records.{no_ties}
 use Rattle.log_writer.specs.Save.{IsStored}
 use Rattle.snapshot_store.specs.Content.{SnapshotStands, words_of}
 use Rattle.snapshot_store.specs.Store.{bytes_of_page, bytes_of_pages, Holds, IsWhole, StoreState}
-use Rattle.recovery_core.specs.Images.{epoch_of}
-use Rattle.recovery_core.specs.Crashes.Instants.{lasts_runs}
-use Rattle.recovery_core.specs.Crashes.Rounded.{keeper_none}
-use Rattle.recovery_core.specs.Rounds.{KeeperRan}
-use Rattle.recovery_core.specs.Story.{SnapsTold}
+use Rattle.joint_crashes.specs.Images.{epoch_of}
+use Rattle.joint_crashes.specs.Crashes.Instants.{lasts_runs}
+use Rattle.joint_crashes.specs.Crashes.Rounded.{keeper_none}
+use Rattle.joint_crashes.specs.Rounds.{KeeperRan}
+use Rattle.joint_crashes.specs.Story.{SnapsTold}
+use Rattle.gleaner.specs.Glean.{IsToldBefore}
 use Rattle.gleaner.specs.GleanLaws.{gleaned_count, gleaned_stands}
 use Rattle.gleaner.specs.declared.gleaning.GleanFault.{GleanFault}
 use Rattle.gleaner.specs.declared.gleaning.GleanFault.TheVariants as glean_faults
@@ -47,15 +49,17 @@ use Rattle.worker_logs.specs.declared.savepoints.Beside.{Beside}
 use Rattle.worker_logs.specs.declared.savepoints.Side.{Side}
 use Rattle.worker_logs.specs.declared.savepoints.Side.TheVariants.{Even, Odd}
 use Rattle.round_engine.specs.Gleans.{AddsPages, AddsSnapshot, AddsNothing, AnswersGlean, FailsIn, FindsDamage, Gleans}
-use Rattle.round_engine.specs.Gleans.{device_of_glean, GleansQuietly, IsFound, LeaveGleans, RoundGleans}
+use Rattle.round_engine.specs.Ends.{first_device}
+use Rattle.round_engine.specs.Gleans.{device_of_glean, devices_of_glean, GleansQuietly, IsFound, LeaveGleans, RoundGleans}
 use Rattle.round_engine.specs.Keeping.{epoch_now, IsSavedBySeen, MarksOf}
 use Rattle.round_engine.specs.Keeping.{CanKeep, glean_answer, glean_refusal, is_refusal, keeper_on, Keeps, NeedCounted}
-use Rattle.round_engine.specs.Keeping.{refusal_told, RestsOn, RunsKeeper, StepsGlean}
+use Rattle.round_engine.specs.Keeping.{refusal_beside, refusal_told, RestsOn, RunsKeeper, StepsGlean}
 use Rattle.round_engine.specs.Saves.{AreSavedIn, beside_at_end, saves_told}
 use Rattle.round_engine.specs.Sides.{closed_in, is_odd}
 use Rattle.round_engine.specs.Standing.{beside_of, HasSnapshot, RuntimeState, Standing}
 use Rattle.round_engine.specs.declared.report.End.{End}
 use Rattle.round_engine.specs.declared.report.End.TheVariants as ends
+use Rattle.round_engine.proofs.GleanDevices.{damage_beside, device_told, in_option, memory_beside, none_beside, some_beside}
 use Rattle.round_engine.proofs.GleansThen.{no_snap, none_of_zeros}
 use Rattle.round_engine.proofs.KeepingSaves.{some_there}
 use Rattle.round_engine.proofs.PlainLine.{TellsNone}
@@ -69,13 +73,13 @@ bytes_sized (p ∷ pages) all =
     length-append (bytes_of_page p) (bytes_of_pages pages) ∙ omega (arith, all.0, bytes_sized pages all.1)
 
 -- where bytes count nothing else is asked
-needed : {r : RuntimeState} {said : List Answer} {found : List (Option ℕ)} {broken : Option Device}
+needed : {r : RuntimeState} {said : List Answer} {found : List (Option ℕ)} {broken : List Device}
     {damaged : Option (Device × ℕ)} → some_counted r.counted ≡ true → NeedCounted r said found broken damaged
 needed counted = record {
   found = λ what has. counted;
   made = λ epoch count has. counted;
   damage = λ some. counted;
-  device = λ some. counted;
+  device = λ d has. counted;
 }
 
 -- ---- what is kept
@@ -97,8 +101,8 @@ module _ {D : Type 0} {clock : D → ℕ} {image_at : D → ℕ → List ℕ →
 
 module _ {D : Type 0} {tells : D → Option (List ℕ)} {clock : D → ℕ} {image_at : D → ℕ → List ℕ → Type 0} (faults : D → ℕ)
     (r : RuntimeState) (vault : Vault D) (ready : CanKeep tells clock image_at r vault) {new : RuntimeState} {now : Vault D}
-    (result : Result Gleaned (OrMemory GleanFault))
-    (gleans : Gleans tells clock image_at faults r new vault now result) where
+    (result : Result Gleaned (OrMemory GleanFault)) (beside : Option Device)
+    (gleans : Gleans tells clock image_at faults r new vault now result beside) where
   -- the runtime's store of savepoints is as it was, and its device too
   keeps_gleans : (is_some (tells vault.snaps) ≡ true
       → AllBegin (image_at vault.snaps (clock vault.snaps)) (bytes_of_pages r.store.pages) → new.store.sound ≡ true
@@ -114,6 +118,7 @@ module _ {D : Type 0} {tells : D → Option (List ℕ)} {clock : D → ℕ} {ima
     later = omega (arith, ap faults gleans.save);
     quiet = λ none. ap faults gleans.save;
     rose = λ no. absurd (let bad = no in cc);
+    ties_are = no_ties (sequence_of r.save.newest) (ap (λ t. t.items) gleans.ties);
     ended = λ k saved no. absurd (let bad = no in cc);
     ties_stay = λ tie has. subst (λ t. Contains t.items tie) (sym gleans.ties) has;
     grows = gleans.grows;
@@ -175,7 +180,7 @@ module _ {D : Type 0} {tells : D → Option (List ℕ)} {clock : D → ℕ} {ima
         (answer ∷ []) []
     pub stays : AdvancesTo r.stands.clock.epoch (answer ∷ []) r.stands.clock.epoch
 
-  built : (answer : Answer) (refusal : Option End) (found : List (Option ℕ)) (broken : Option Device)
+  built : (answer : Answer) (refusal : Option End) (found : List (Option ℕ)) (broken : List Device)
       (damaged : Option (Device × ℕ)) → IsAnswered answer
       → (is_some (tells vault.snaps) ≡ true
       → AllBegin (image_at vault.snaps (clock vault.snaps)) (bytes_of_pages r.store.pages) → new.store.sound ≡ true
@@ -185,7 +190,8 @@ module _ {D : Type 0} {tells : D → Option (List ℕ)} {clock : D → ℕ} {ima
       → NeedCounted r (answer ∷ []) found broken damaged
       → keeper_after (keeper_on r false) answer
       ≡ At (beside_at_end (beside_of r) (answer ∷ [])).count (some_counted new.counted) (list_any is_refusal (answer ∷ []))
-      → is_some refusal ≡ list_any is_refusal (answer ∷ []) → refusal ≡ refusal_told None broken damaged (answer ∷ [])
+      → is_some refusal ≡ list_any is_refusal (answer ∷ [])
+      → refusal ≡ refusal_told None (first_device broken) damaged (answer ∷ [])
       → ((ran : Ran) → RestsOn r found None broken damaged ran → AnswerCause ran (keeper_on r false) asks.Glean answer)
       → RunsKeeper tells clock image_at faults (asks.Glean ∷ []) (answer ∷ []) refusal r new vault now
   built answer refusal found broken damaged is durable round leaves needs after refused told cause = record {
@@ -214,8 +220,7 @@ module _ {D : Type 0} {tells : D → Option (List ℕ)} {clock : D → ℕ} {ima
     told = sym is.unsaved;
     caused = λ ran rests. (cause ran rests, tt);
     above = λ low. omega (arith, low, same_epoch, ap (λ (s : SaveState). epoch_of s.newest) gleans.alone.save);
-    ties = omega (arith, ap vec_len gleans.ties);
-    capacity = ap vec_capacity gleans.ties;
+    tie_room = let same : now.ties.room ≡ vault.ties.room = ap (λ t. t.room) gleans.ties in omega (arith, same);
     cut_room = gleans.cuts;
   }
     where
@@ -251,9 +256,9 @@ module _ {D : Type 0} {tells : D → Option (List ℕ)} {clock : D → ℕ} {ima
   }
 
   -- nothing was added
-  module _ (answer : Answer) (found : List (Option ℕ)) (broken : Option Device) (damaged : Option (Device × ℕ))
-      (same : AddsNothing r new vault now) (quiet : device_of_glean result ≡ broken)
-      (fails : (device : Device) → broken ≡ Some device → FailsIn tells clock image_at faults r device vault now) where
+  module _ (answer : Answer) (found : List (Option ℕ)) (broken : List Device) (damaged : Option (Device × ℕ))
+      (same : AddsNothing r new vault now) (quiet : devices_of_glean result beside ≡ broken)
+      (fails : (device : Device) → Contains broken device → FailsIn tells clock image_at faults r device vault now) where
     added_none : TellsNone answer → ((what : Option ℕ) → Contains found what → IsFound tells r vault what)
         → ((device : Device) (at : ℕ) → damaged ≡ Some (device, at) → FindsDamage tells r vault device at)
         → ((Contains (answer ∷ []) answers.Damaged → ⊥) → damaged ≡ None)
@@ -299,7 +304,8 @@ module _ {D : Type 0} {tells : D → Option (List ℕ)} {clock : D → ℕ} {ima
         → NeedCounted r (answer ∷ []) found broken damaged
         → keeper_after (keeper_on r false) answer
         ≡ At (beside_at_end (beside_of r) (answer ∷ [])).count (some_counted r.counted) (list_any is_refusal (answer ∷ []))
-        → is_some refusal ≡ list_any is_refusal (answer ∷ []) → refusal ≡ refusal_told None broken damaged (answer ∷ [])
+        → is_some refusal ≡ list_any is_refusal (answer ∷ [])
+        → refusal ≡ refusal_told None (first_device broken) damaged (answer ∷ [])
         → ((ran : Ran) → RestsOn r found None broken damaged ran → AnswerCause ran (keeper_on r false) asks.Glean answer)
         → RunsKeeper tells clock image_at faults (asks.Glean ∷ []) (answer ∷ []) refusal r new vault now
     none_added refusal is told finds bad fine needs after refused refusal_is cause =
@@ -331,24 +337,58 @@ module _ {D : Type 0} {tells : D → Option (List ℕ)} {clock : D → ℕ} {ima
   plain_none : (answer : Answer) → TellsNone answer → TellsNone answer
   plain_none answer is = is
 
+  -- ---- what failed beside
+
+  -- what is told before the one that failed beside it
+  told_before : (answer : Result Gleaned (OrMemory GleanFault)) → result ≡ answer → (d : Device) → beside ≡ Some d
+      → IsToldBefore answer d
+  told_before answer is d there = subst (λ x. IsToldBefore x d) is (gleans.also d there).later
+
+  -- the devices that failed
+  devices_are : (told other : Option Device) → device_of_glean result ≡ told → beside ≡ other
+      → devices_of_glean result beside ≡ option_to_list told ++ option_to_list other
+  devices_are told other is at = ap (λ d. option_to_list d ++ option_to_list beside) is
+      ∙ ap (λ b. option_to_list told ++ option_to_list b) at
+
+  also_failed : (d : Device) → Contains (option_to_list beside) d → FailsIn tells clock image_at faults r d vault now
+  also_failed d has = (gleans.also d (in_option beside d has)).fails
+
+  -- where none did nothing is refused
+  plain_told : beside ≡ None → refusal_beside beside None ≡ None
+  plain_told none = ap (λ b. refusal_beside b None) none
+
   failed_line : (device : Device) → result ≡ Err (or.Fault (glean_faults.Device device))
       → FailsIn tells clock image_at faults r device vault now → AddsNothing r new vault now → some_counted r.counted ≡ true
-      → RunsKeeper tells clock image_at faults (asks.Glean ∷ []) (answers.Device ∷ []) (Some (ends.Device device)) r new vault now
+      → RunsKeeper tells clock image_at faults (asks.Glean ∷ []) (answers.Device ∷ [])
+      (refusal_beside beside (Some (ends.Device device))) r new vault now
   failed_line device is fails same counted =
-      none_added answers.Device [] (Some device) None same (ap device_of_glean is)
-      (λ d there. subst (λ x. FailsIn tells clock image_at faults r x vault now) (same_Some device d there) fails)
-      (Some (ends.Device device)) (record { none = refl; beside = λ b. refl })
+      none_added answers.Device [] (device ∷ option_to_list beside) None same
+      (devices_are (Some device) beside (ap device_of_glean is) refl)
+      (λ d has. elim (in_cases d device (option_to_list beside) has) [
+        | inl here ↦ subst (λ x. FailsIn tells clock image_at faults r x vault now) here fails
+        | inr later ↦ also_failed d later
+      ])
+      (refusal_beside beside (Some (ends.Device device))) (record { none = refl; beside = λ b. refl })
       (answered_plain answers.Device refl refl refl) (λ what has. absurd (in_none what has))
-      (λ d at no. absurd (let bad = no in cc)) (λ none. refl) (needed counted) refl refl refl
-      (λ ran rests. (counted, device, rests.device device refl, glean_device ran device rests.odd fails))
+      (λ d at no. absurd (let bad = no in cc)) (λ none. refl) (needed counted) refl
+      (some_beside beside (ends.Device device))
+      (device_told beside device (told_before (Err (or.Fault (glean_faults.Device device))) is))
+      (λ ran rests. (
+        counted,
+        device,
+        rests.device device (in_head device (option_to_list beside)),
+        glean_device ran device rests.odd fails,
+      ))
 
   unsound_line : result ≡ Err (or.Fault (glean_faults.Device devices.Snaps)) → Rose (faults vault.snaps) (faults now.snaps)
       → new.store.sound ≡ false → new.counted ≡ r.counted → some_counted r.counted ≡ true
-      → RunsKeeper tells clock image_at faults (asks.Glean ∷ []) (answers.Device ∷ []) (Some (ends.Device devices.Snaps)) r
-      new vault now
+      → RunsKeeper tells clock image_at faults (asks.Glean ∷ []) (answers.Device ∷ [])
+      (refusal_beside beside (Some (ends.Device devices.Snaps))) r new vault now
   unsound_line is rose down same counted =
       let never : new.store.sound ≡ true → ⊥ = λ up. let no = sym down ∙ up in absurd cc in
-      built answers.Device (Some (ends.Device devices.Snaps)) [] (Some devices.Snaps) None
+      let none : beside ≡ None =
+      none_beside beside (told_before (Err (or.Fault (glean_faults.Device devices.Snaps))) is) in
+      built answers.Device (refusal_beside beside (Some (ends.Device devices.Snaps))) [] (devices.Snaps ∷ []) None
       (answered_plain answers.Device refl refl refl) (λ tell begins up. absurd (never up))
       (record {
         told = gleans.over.told;
@@ -365,26 +405,34 @@ module _ {D : Type 0} {tells : D → Option (List ℕ)} {clock : D → ℕ} {ima
         closed_at = gleans.alone.closed_at;
         counted = same;
         grows = gleans.grows;
-        sound = λ fine up. absurd (fine refl);
+        sound = λ fine up. absurd (fine (in_head devices.Snaps []));
         snapshot = λ has up. absurd (never up);
         over = gleans.over;
-        quietly = subst (λ d. GleansQuietly tells clock image_at faults r d vault now) (ap device_of_glean is) gleans.quietly;
-        fails = λ d there. subst (λ x. FailsIn tells clock image_at faults r x vault now) (same_Some devices.Snaps d there) rose;
+        quietly = subst (λ d. GleansQuietly tells clock image_at faults r d vault now)
+            (devices_are (Some devices.Snaps) None (ap device_of_glean is) none) gleans.quietly;
+        fails = λ d has. elim (in_cases d devices.Snaps [] has) [
+          | inl here ↦ subst (λ x. FailsIn tells clock image_at faults r x vault now) here rose
+          | inr none_left ↦ absurd (in_none d none_left)
+        ];
       }) (needed counted)
-      (ap (λ l. At (length r.store.pages) (some_counted l) true) (sym same)) refl refl
-      (λ ran rests. (counted, devices.Snaps, rests.device devices.Snaps refl, tt))
+      (ap (λ l. At (length r.store.pages) (some_counted l) true) (sym same))
+      (some_beside beside (ends.Device devices.Snaps))
+      (ap (λ b. refusal_beside b (Some (ends.Device devices.Snaps))) none)
+      (λ ran rests. (counted, devices.Snaps, rests.device devices.Snaps (in_head devices.Snaps []), tt))
 
   snap_line : (epoch count : ℕ) → result ≡ Ok (Snap epoch count) → epoch ≡ r.closed_at
       → AddsPages tells clock image_at r new vault now count → some_counted r.counted ≡ true
-      → RunsKeeper tells clock image_at faults (asks.Glean ∷ []) (answers.Snap epoch count ∷ []) None r new vault now
+      → RunsKeeper tells clock image_at faults (asks.Glean ∷ []) (answers.Snap epoch count ∷ []) (refusal_beside beside None)
+      r new vault now
   snap_line epoch count is at adds counted =
+      let none : beside ≡ None = none_beside beside (told_before (Ok (Snap epoch count)) is) in
       let added = adds.adds in
       let size : length new.store.pages ≡ length r.store.pages + count =
       sym (length-map new.store.pages (λ p. Page.words p)) ∙ gleaned_count added.gleaned
       ∙ ap (λ n. n + count) (length-map r.store.pages (λ p. Page.words p)) in
       let within : length r.store.pages + count ≤ r.room =
       subst (λ n. n + count ≤ r.room) (length-map r.store.pages (λ p. Page.words p)) added.gleaned.within in
-      built (answers.Snap epoch count) None (Some count ∷ []) None None
+      built (answers.Snap epoch count) (refusal_beside beside None) (Some count ∷ []) [] None
       (answered_plain (answers.Snap epoch count) refl refl refl)
       (λ tell begins up. let file = some_there (tells vault.snaps) tell in adds.durable file.0 file.1)
       (record {
@@ -427,10 +475,12 @@ module _ {D : Type 0} {tells : D → Option (List ℕ)} {clock : D → ℕ} {ima
               let_in = omega (arith, size, within, gleans.alone.room);
             };
         over = gleans.over;
-        quietly = subst (λ d. GleansQuietly tells clock image_at faults r d vault now) (ap device_of_glean is) gleans.quietly;
-        fails = λ d no. absurd (let bad = no in cc);
+        quietly = subst (λ d. GleansQuietly tells clock image_at faults r d vault now)
+            (devices_are None None (ap device_of_glean is) none) gleans.quietly;
+        fails = λ d no. absurd (in_none d no);
       }) (needed counted)
-      (ap (λ l. At (length r.store.pages + count) (some_counted l) false) (sym adds.counted)) refl refl
+      (ap (λ l. At (length r.store.pages + count) (some_counted l) false) (sym adds.counted))
+      (ap is_some (plain_told none)) (plain_told none)
       (λ ran rests. (
         counted,
         at ∙ sym rests.closed_at,
@@ -440,8 +490,8 @@ module _ {D : Type 0} {tells : D → Option (List ℕ)} {clock : D → ℕ} {ima
 
   damaged_line : (device : Device) (at : ℕ) → result ≡ Err (or.Fault (glean_faults.Damaged device at))
       → FindsDamage tells r vault device at → AddsNothing r new vault now → some_counted r.counted ≡ true
-      → RunsKeeper tells clock image_at faults (asks.Glean ∷ []) (answers.Damaged ∷ []) (Some (ends.Damaged device at)) r new
-      vault now
+      → RunsKeeper tells clock image_at faults (asks.Glean ∷ []) (answers.Damaged ∷ [])
+      (refusal_beside beside (Some (ends.Damaged device at))) r new vault now
   damaged_line device at is bad same counted =
       let file = bad.damaged.damaged in
       let below : bad.damaged.worker < 8 = omega (
@@ -449,13 +499,15 @@ module _ {D : Type 0} {tells : D → Option (List ℕ)} {clock : D → ℕ} {ima
         within_of (closed_in r.side vault) bad.damaged.worker file.0 file.1,
         closed_eight r.side ready.whole,
       ) in
-      none_added answers.Damaged [] None (Some (device, at)) same (ap device_of_glean is)
-      (λ d no. absurd (let none = no in cc)) (Some (ends.Damaged device at)) (record { none = refl; beside = λ b. refl })
+      none_added answers.Damaged [] (option_to_list beside) (Some (device, at)) same
+      (devices_are None beside (ap device_of_glean is) refl) also_failed
+      (refusal_beside beside (Some (ends.Damaged device at))) (record { none = refl; beside = λ b. refl })
       (answered_plain answers.Damaged refl refl refl) (λ what has. absurd (in_none what has))
       (λ d n there.
       let pair = same_Some (device, at) (d, n) there in
       subst (λ (x : Device × ℕ). FindsDamage tells r vault x.0 x.1) pair bad)
-      (λ none. absurd (none (in_head answers.Damaged []))) (needed counted) refl refl refl
+      (λ none. absurd (none (in_head answers.Damaged []))) (needed counted) refl
+      (some_beside beside (ends.Damaged device at)) (damage_beside beside device at)
       (λ ran rests. (
         counted,
         bad.damaged.worker,
@@ -466,7 +518,8 @@ module _ {D : Type 0} {tells : D → Option (List ℕ)} {clock : D → ℕ} {ima
 
   by_answer : some_counted r.counted ≡ true → (answer : Result Gleaned (OrMemory GleanFault)) → result ≡ answer
       → AnswersGlean tells clock image_at faults r new vault now answer
-      → RunsKeeper tells clock image_at faults (asks.Glean ∷ []) (glean_answer answer ∷ []) (glean_refusal answer) r new vault now
+      → RunsKeeper tells clock image_at faults (asks.Glean ∷ []) (glean_answer answer ∷ [])
+      (refusal_beside beside (glean_refusal answer)) r new vault now
   by_answer counted (Ok Empty) is answers = absurd answers
   by_answer counted (Ok (Snap epoch count)) is answers = snap_line epoch count is answers.0 answers.1 counted
   by_answer counted (Err (or.Fault (glean_faults.Device devices.Snaps))) is answers =
@@ -478,24 +531,28 @@ module _ {D : Type 0} {tells : D → Option (List ℕ)} {clock : D → ℕ} {ima
   by_answer counted (Err (or.Fault (glean_faults.Damaged device at))) is answers =
       damaged_line device at is answers.0 answers.1 counted
   by_answer counted (Err (or.Fault glean_faults.Deep)) is told =
-      none_added answers.Deep (None ∷ []) None None told.1 (ap device_of_glean is)
-      (λ d no. absurd (let none = no in cc)) None (record { none = refl; beside = λ b. refl })
+      let none : beside ≡ None = none_beside beside (told_before (Err (or.Fault glean_faults.Deep)) is) in
+      none_added answers.Deep (None ∷ []) [] None told.1 (devices_are None None (ap device_of_glean is) none)
+      (λ d no. absurd (in_none d no)) (refusal_beside beside None) (record { none = refl; beside = λ b. refl })
       (answered_plain answers.Deep refl refl refl)
       (λ what has. elim (in_cases what None [] has) [
         | inl here ↦ subst (IsFound tells r vault) here told.0
         | inr none ↦ absurd (in_none what none)
       ])
-      (λ d n no. absurd (let none = no in cc)) (λ none. refl) (needed counted) refl refl refl
-      (λ ran rests. (counted, rests.gleans_are None (in_head None [])))
+      (λ d n no. absurd (let bad = no in cc)) (λ fine. refl) (needed counted) refl (ap is_some (plain_told none))
+      (plain_told none) (λ ran rests. (counted, rests.gleans_are None (in_head None [])))
   by_answer counted (Err (or.Fault (glean_faults.Limit have count room))) is told =
-      none_added answers.SnapFull (Some count ∷ []) None None told.4 (ap device_of_glean is)
-      (λ d no. absurd (let none = no in cc)) None (record { none = refl; beside = λ b. refl })
+      let none : beside ≡ None =
+      none_beside beside (told_before (Err (or.Fault (glean_faults.Limit have count room))) is) in
+      none_added answers.SnapFull (Some count ∷ []) [] None told.4 (devices_are None None (ap device_of_glean is) none)
+      (λ d no. absurd (in_none d no)) (refusal_beside beside None) (record { none = refl; beside = λ b. refl })
       (answered_plain answers.SnapFull refl refl refl)
       (λ what has. elim (in_cases what (Some count) [] has) [
         | inl here ↦ subst (IsFound tells r vault) here told.3
         | inr none ↦ absurd (in_none what none)
       ])
-      (λ d n no. absurd (let none = no in cc)) (λ none. refl) (needed counted) refl refl refl
+      (λ d n no. absurd (let bad = no in cc)) (λ fine. refl) (needed counted) refl (ap is_some (plain_told none))
+      (plain_told none)
       (λ ran rests. (
         counted,
         count,
@@ -503,24 +560,27 @@ module _ {D : Type 0} {tells : D → Option (List ℕ)} {clock : D → ℕ} {ima
         omega (arith, told.2, rests.room),
       ))
   by_answer counted (Err or.Memory) is told =
-      none_added answers.Memory [] None None told (ap device_of_glean is)
-      (λ d no. absurd (let none = no in cc)) (Some ends.Memory) (record { none = refl; beside = λ b. refl })
+      none_added answers.Memory [] (option_to_list beside) None told (devices_are None beside (ap device_of_glean is) refl)
+      also_failed (refusal_beside beside (Some ends.Memory)) (record { none = refl; beside = λ b. refl })
       (answered_plain answers.Memory refl refl refl) (λ what has. absurd (in_none what has))
-      (λ d n no. absurd (let none = no in cc)) (λ none. refl) (needed counted) refl refl refl
-      (λ ran rests. counted)
+      (λ d n no. absurd (let none = no in cc)) (λ none. refl) (needed counted) refl (some_beside beside ends.Memory)
+      (memory_beside beside) (λ ran rests. counted)
 
   empty_line : some_counted r.counted ≡ false → result ≡ Ok Empty → AddsNothing r new vault now
-      → RunsKeeper tells clock image_at faults (asks.Glean ∷ []) (answers.Empty ∷ []) None r new vault now
+      → RunsKeeper tells clock image_at faults (asks.Glean ∷ []) (answers.Empty ∷ []) (refusal_beside beside None) r new vault
+      now
   empty_line none is same =
-      none_added answers.Empty [] None None same (ap device_of_glean is) (λ d no. absurd (let bad = no in cc)) None
+      let alone : beside ≡ None = none_beside beside (told_before (Ok Empty) is) in
+      none_added answers.Empty [] [] None same (devices_are None None (ap device_of_glean is) alone)
+      (λ d no. absurd (in_none d no)) (refusal_beside beside None)
       (record { none = refl; beside = λ b. refl }) (answered_plain answers.Empty refl refl refl)
       (λ what has. absurd (in_none what has)) (λ d n no. absurd (let bad = no in cc)) (λ no. refl)
       (record {
         found = λ what has. absurd (in_none what has);
         made = λ epoch count has. absurd (no_snap (answers.Empty ∷ []) refl epoch count has);
         damage = λ no. absurd (let bad = no in cc);
-        device = λ no. absurd (let bad = no in cc);
-      }) refl refl refl (λ ran rests. none)
+        device = λ d has. absurd (in_none d has);
+      }) refl (ap is_some (plain_told alone)) (plain_told alone) (λ ran rests. none)
 
 module _ {D : Type 0} {tells : D → Option (List ℕ)} {clock : D → ℕ} {image_at : D → ℕ → List ℕ → Type 0} (faults : D → ℕ)
     (r : RuntimeState) (vault : Vault D) (ready : CanKeep tells clock image_at r vault) where
@@ -533,10 +593,11 @@ module _ {D : Type 0} {tells : D → Option (List ℕ)} {clock : D → ℕ} {ima
       (sym step.answer_is)
       (subst (λ e. RunsKeeper tells clock image_at faults (asks.Glean ∷ []) (glean_answer step.result ∷ []) e r new vault now)
       (sym step.refusal_is) (elim (cases_Bool (some_counted r.counted)) [
-        | inl counted ↦ by_answer faults r vault ready step.result step.gleans counted step.result refl
+        | inl counted ↦ by_answer faults r vault ready step.result step.beside step.gleans counted step.result refl
             (step.gleans.answers counted)
         | inr none ↦
             let empty = step.gleans.none none in
-            subst (λ x. RunsKeeper tells clock image_at faults (asks.Glean ∷ []) (glean_answer x ∷ []) (glean_refusal x) r new
-            vault now) (sym empty.0) (empty_line faults r vault ready step.result step.gleans none empty.0 empty.1)
+            subst (λ x. RunsKeeper tells clock image_at faults (asks.Glean ∷ []) (glean_answer x ∷ [])
+            (refusal_beside step.beside (glean_refusal x)) r new vault now) (sym empty.0)
+            (empty_line faults r vault ready step.result step.beside step.gleans none empty.0 empty.1)
       ]))

@@ -9,10 +9,11 @@ use Rattle.lists.specs.declared.memory.OrMemory.{OrMemory}
 use Rattle.lists.specs.declared.memory.OrMemory.TheVariants as or
 use Rattle.outside.specs.Fronts.{AllBegin}
 use Rattle.outside.specs.Reads.{OnlyReads}
-use Rattle.outside.specs.Vault.{disk_in}
-use Rattle.outside.specs.declared.vault.Cut.{Cut}
-use Rattle.outside.specs.declared.vault.Device.TheVariants.{Bank}
-use Rattle.outside.specs.declared.vault.Vault.{Vault}
+use Rattle.log_writer.specs.Vault.{disk_in}
+use Rattle.log_writer.specs.declared.records.Cut.{Cut}
+use Rattle.outside.specs.declared.device.Device.TheVariants.{Bank}
+use Rattle.log_writer.specs.declared.vault.Vault.{Vault}
+use Rattle.outside.specs.declared.device.Device.{Device}
 use Rattle.script_grammar.specs.declared.lines.KeeperLine.TheVariants as asks
 use Rattle.serial_model.specs.declared.number.Commit.{Commit}
 use Rattle.log_writer.specs.Points.{SaveState, sequence_of}
@@ -22,16 +23,16 @@ use Rattle.gleaner.specs.declared.gleaning.GleanFault.{GleanFault}
 use Rattle.gleaner.specs.declared.gleaning.GleanFault.TheVariants as refusals
 use Rattle.gleaner.specs.declared.gleaning.Gleaned.{Gleaned}
 use Rattle.gleaner.specs.declared.gleaning.Gleaned.TheVariants.{Empty, Snap}
-use Rattle.recovery_core.specs.JointCrash.{CrashesNow, HasCut, KeepsCrashes, Moments, Parts, parts_of}
-use Rattle.recovery_core.specs.Rounds.{KeeperRan}
-use Rattle.recovery_core.specs.Story.{BankOpen, BankReady, BankTold, IsTold, Lasts, Story}
-use Rattle.recovery_core.specs.Crashes.Instants.{keeps_by, lasts_goes, lasts_none, open_ready}
-use Rattle.recovery_core.specs.Crashes.ToldSteps.{parts}
+use Rattle.joint_crashes.specs.JointCrash.{CrashesNow, HasCut, KeepsCrashes, Moments, Parts, parts_of}
+use Rattle.joint_crashes.specs.Rounds.{KeeperRan}
+use Rattle.joint_crashes.specs.Story.{BankOpen, BankReady, BankTold, IsTold, Lasts, Story}
+use Rattle.joint_crashes.specs.Crashes.Instants.{keeps_by, lasts_goes, lasts_none, open_ready}
+use Rattle.joint_crashes.specs.Crashes.ToldSteps.{parts}
 use Rattle.worker_logs.specs.Saves.{closed_number, growing_number}
 use Rattle.round_engine.specs.Crashes.{BankShut, front_of, KnowsBefore}
 use Rattle.round_engine.specs.GleanStops.{CarriesKnown}
 use Rattle.round_engine.specs.Gleans.{ended_if, Gleans}
-use Rattle.round_engine.specs.Keeping.{glean_answer, glean_refusal, RunsKeeper}
+use Rattle.round_engine.specs.Keeping.{glean_answer, glean_refusal, refusal_beside, RunsKeeper}
 use Rattle.round_engine.specs.Logs.{AreClosedFiles}
 use Rattle.round_engine.specs.Saves.{beside_at_end, GoesOnWith, saves_told}
 use Rattle.round_engine.specs.Sides.{closed_in, growing_in}
@@ -123,12 +124,18 @@ module _ {D : Type 0} {tells : D → Option (List ℕ)} {clock : D → ℕ} {ima
 
 module _ {D : Type 0} {tells : D → Option (List ℕ)} {clock : D → ℕ} {image_at : D → ℕ → List ℕ → Type 0} {faults : D → ℕ}
     {old new : RuntimeState} {before now : Vault D} (result : Result Gleaned (OrMemory GleanFault))
-    (stands : StandsOn tells clock image_at old before) (up : old.down ≡ false)
-    (gleans : Gleans tells clock image_at faults old new before now result) where
-  runs : RunsKeeper tells clock image_at faults (asks.Glean ∷ []) (glean_answer result ∷ []) (glean_refusal result) old new
-      before now
-  runs = glean_line faults old before (asked_ready stands up) (glean_answer result) (glean_refusal result)
-      (record { result = result; gleans = gleans; answer_is = refl; refusal_is = refl })
+    (beside : Option Device) (stands : StandsOn tells clock image_at old before) (up : old.down ≡ false)
+    (gleans : Gleans tells clock image_at faults old new before now result beside) where
+  runs : RunsKeeper tells clock image_at faults (asks.Glean ∷ []) (glean_answer result ∷ [])
+      (refusal_beside beside (glean_refusal result)) old new before now
+  runs = glean_line faults old before (asked_ready stands up) (glean_answer result)
+      (refusal_beside beside (glean_refusal result)) (record {
+        result = result;
+        beside = beside;
+        gleans = gleans;
+        answer_is = refl;
+        refusal_is = refl;
+      })
 
   abbrev last : ℕ
   last = sequence_of old.save.newest

@@ -1,8 +1,8 @@
 -- What a glean finds over closed log files that were only read before it is what it would have found at first.
 use Rattle.std.proofs.Common.{◌≡◌, ◌∙◌, ap, subst, ℕ, List, length, Option, Some, None, arith}
 use Rattle.std.specs.Prelude.{not, slice_get}
-use Rattle.outside.specs.declared.vault.Device.{Device}
-use Rattle.outside.specs.declared.vault.Vault.{Vault}
+use Rattle.outside.specs.declared.device.Device.{Device}
+use Rattle.log_writer.specs.declared.vault.Vault.{Vault}
 use Rattle.serial_model.specs.declared.decl.Decl.{Decl}
 use Rattle.wire_form.specs.Pages.{Contents}
 use Rattle.wire_form.specs.declared.bucket.Bucket.{Bucket}

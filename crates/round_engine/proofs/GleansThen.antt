@@ -11,9 +11,9 @@ use Rattle.outside.specs.Faults.{Rose}
 use Rattle.outside.specs.Fronts.{AllBegin}
 use Rattle.outside.specs.Moments.{left_after_runs, runs_then}
 use Rattle.outside.specs.Reads.{OnlyReads, reads_then}
-use Rattle.outside.specs.declared.vault.Device.{Device}
-use Rattle.outside.specs.declared.vault.Device.TheVariants as devices
-use Rattle.outside.specs.declared.vault.Vault.{Vault}
+use Rattle.outside.specs.declared.device.Device.{Device}
+use Rattle.outside.specs.declared.device.Device.TheVariants as devices
+use Rattle.log_writer.specs.declared.vault.Vault.{Vault}
 use Rattle.snapshot_store.specs.Store.{KeepsFront}
 use Rattle.tx_script.specs.Causes.{some_counted}
 use Rattle.tx_script.specs.declared.answer.Answer.{Answer}
@@ -87,11 +87,11 @@ none_of_zeros counted is some = let no : some_counted (replicate 8 0) ≡ true =
 -- ---- some lines, and more
 
 module _ {D : Type 0} {tells : D → Option (List ℕ)} {clock : D → ℕ} {image_at : D → ℕ → List ℕ → Type 0} {faults : D → ℕ}
-    {said told : List Answer} {first next : List (Option ℕ)} {broken : Option Device} {damaged : Option (Device × ℕ)}
+    {said told : List Answer} {first next : List (Option ℕ)} {broken : List Device} {damaged : Option (Device × ℕ)}
     {old mid new : RuntimeState} {before between now : Vault D} (sound : mid.store.sound ≡ true)
     (decls : mid.stands.decls ≡ old.stands.decls)
     (one : RoundGleans tells said first None old mid before between)
-    (left : LeaveGleans tells clock image_at faults said None old mid before between)
+    (left : LeaveGleans tells clock image_at faults said [] old mid before between)
     (two : RoundGleans tells told next damaged mid new between now)
     (leaves : LeaveGleans tells clock image_at faults told broken mid new between now)
     (needs : NeedCounted mid told next broken damaged) where
@@ -129,7 +129,7 @@ module _ {D : Type 0} {tells : D → Option (List ℕ)} {clock : D → ℕ} {ima
       | inl early ↦
           let some = snap_there said epoch count early in
           let still = two.kept (λ e n there. spent some (needs.made e n there))
-          (leaves.sound (λ is. spent some (needs.device (ap is_some is))) sound) in
+          (leaves.sound (λ has. spent some (needs.device devices.Snaps has)) sound) in
           subst (λ s. AddsSnapshot tells old before s count) (sym still.0) (one.made epoch count early)
       | inr behind ↦ elim (cases_Bool (snap_in said)) [
         | inl some ↦ absurd (spent some (needs.made epoch count behind))
@@ -176,14 +176,15 @@ module _ {D : Type 0} {tells : D → Option (List ℕ)} {clock : D → ℕ} {ima
 
   quiet_after : (worker : ℕ) (was is : D) → slice_get (closed_in old.side between) worker ≡ Some was
       → slice_get (closed_in old.side now) worker ≡ Some is
-      → broken ≢ Some (devices.Bank (closed_number old.side worker)) → faults is ≡ faults was
+      → (Contains broken (devices.Bank (closed_number old.side worker)) → ⊥) → faults is ≡ faults was
   quiet_after = subst (λ s. (worker : ℕ) (was is : D) → slice_get (closed_in s between) worker ≡ Some was
       → slice_get (closed_in s now) worker ≡ Some is
-      → broken ≢ Some (devices.Bank (closed_number s worker)) → faults is ≡ faults was) left.side leaves.quietly.files
+      → (Contains broken (devices.Bank (closed_number s worker)) → ⊥) → faults is ≡ faults was) left.side leaves.quietly.files
 
   quiet_first : (worker : ℕ) (was is : D) → slice_get (closed_in old.side before) worker ≡ Some was
       → slice_get (closed_in old.side between) worker ≡ Some is → faults is ≡ faults was
-  quiet_first worker was is at there = left.quietly.files worker was is at there (λ no. cc)
+  quiet_first worker was is at there = left.quietly.files worker was is at there
+      (λ no. in_none (devices.Bank (closed_number old.side worker)) no)
 
   -- a file that failed then
   abbrev FileFails : Side → Device → Vault D → Vault D → Type 0
@@ -209,7 +210,7 @@ module _ {D : Type 0} {tells : D → Option (List ℕ)} {clock : D → ℕ} {ima
 
   fails_both : (device : Device) → FailsIn tells clock image_at faults mid device between now
       → FailsIn tells clock image_at faults old device before now
-  fails_both devices.Snaps fails = subst (λ n. Rose n (faults now.snaps)) (left.quietly.snaps (λ no. cc)) fails
+  fails_both devices.Snaps fails = subst (λ n. Rose n (faults now.snaps)) (left.quietly.snaps (λ no. in_none devices.Snaps no)) fails
   fails_both devices.Save fails = file_fails devices.Save fails
   fails_both (devices.Bank n) fails = file_fails (devices.Bank n) fails
 
@@ -238,7 +239,7 @@ module _ {D : Type 0} {tells : D → Option (List ℕ)} {clock : D → ℕ} {ima
           reads_then (left.over.reads worker was file.0 at file.1) (reads_after worker file.0 is file.1 there);
     };
     quietly = record {
-      snaps = λ fine. leaves.quietly.snaps fine ∙ left.quietly.snaps (λ no. cc);
+      snaps = λ fine. leaves.quietly.snaps fine ∙ left.quietly.snaps (λ no. in_none devices.Snaps no);
       files = λ worker was is at there fine.
           let file = file_between worker was at in
           quiet_after worker file.0 is file.1 there fine ∙ quiet_first worker was file.0 at file.1;

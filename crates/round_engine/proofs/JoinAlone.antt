@@ -13,17 +13,17 @@ use Rattle.lists.specs.Elements.{in_cases, in_head, in_none}
 use Rattle.lists.specs.Fronts.{IsFront, front_none}
 use Rattle.outside.specs.Faults.{Rose}
 use Rattle.outside.specs.Reads.{OnlyReads}
-use Rattle.outside.specs.Vault.{disk_in}
-use Rattle.outside.specs.declared.vault.Device.{Device}
-use Rattle.outside.specs.declared.vault.Device.TheVariants as devices
-use Rattle.outside.specs.declared.vault.Vault.{Vault}
+use Rattle.log_writer.specs.Vault.{disk_in}
+use Rattle.outside.specs.declared.device.Device.{Device}
+use Rattle.outside.specs.declared.device.Device.TheVariants as devices
+use Rattle.log_writer.specs.declared.vault.Vault.{Vault}
 use Rattle.serial_model.specs.Numbers.{last_epoch}
 use Rattle.serial_model.specs.declared.number.Commit.{Commit}
 use Rattle.wire_form.specs.declared.clock.Mark.{Mark}
 use Rattle.log_writer.specs.Points.{SaveState, sequence_of}
 use Rattle.snapshot_store.specs.Store.{StoreState}
-use Rattle.recovery_core.specs.Images.{counted_of, epoch_of}
-use Rattle.recovery_core.specs.VaultReads.{RoseIn, reads_none}
+use Rattle.joint_crashes.specs.Images.{counted_of, epoch_of}
+use Rattle.joint_crashes.specs.VaultReads.{RoseIn, reads_none}
 use Rattle.tx_script.specs.Causes.{some_counted}
 use Rattle.tx_script.specs.Run.{Ran}
 use Rattle.tx_script.specs.declared.answer.Answer.TheVariants as answers

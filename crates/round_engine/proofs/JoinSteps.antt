@@ -6,9 +6,9 @@ use Rattle.std.specs.List.{AllByRecursion, Contains}
 use Rattle.std.proofs.lemmas.Bool.{cases_eq, cases_lt}
 use Rattle.std.proofs.lemmas.Option.{same_Some}
 use Rattle.lists.specs.Elements.{in_cases, in_head, in_none}
-use Rattle.outside.specs.Vault.{IsWhole}
-use Rattle.outside.specs.declared.vault.Device.TheVariants as devices
-use Rattle.outside.specs.declared.vault.Vault.{Vault}
+use Rattle.log_writer.specs.Vault.{IsWhole}
+use Rattle.outside.specs.declared.device.Device.TheVariants as devices
+use Rattle.log_writer.specs.declared.vault.Vault.{Vault}
 use Rattle.serial_model.specs.Numbers.{last_epoch}
 use Rattle.wire_form.specs.declared.clock.Mark.{Mark}
 use Rattle.log_writer.specs.Points.{SaveState, sequence_of}
@@ -18,7 +18,7 @@ use Rattle.log_writer.specs.declared.journal.LogFault.TheVariants as faulty
 use Rattle.log_writer.specs.declared.save.SaveFault.{SaveFault}
 use Rattle.log_writer.specs.declared.save.SaveFault.TheVariants.{Device, Down, Limit}
 use Rattle.log_writer.specs.declared.saved.Saved.{Saved}
-use Rattle.recovery_core.specs.Images.{epoch_of}
+use Rattle.joint_crashes.specs.Images.{epoch_of}
 use Rattle.tx_script.specs.Causes.{last_sequence}
 use Rattle.worker_logs.specs.FlushAll.{FlushesAll, MarksLog}
 use Rattle.worker_logs.specs.Logs.{IsJoined, LogGoesOn, LogState}

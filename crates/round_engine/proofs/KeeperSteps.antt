@@ -13,9 +13,10 @@ use Rattle.lists.specs.Elements.{in_none}
 use Rattle.lists.specs.Fronts.{IsFront}
 use Rattle.outside.specs.Moments.{runs_none}
 use Rattle.outside.specs.Reads.{OnlyReads}
-use Rattle.outside.specs.Vault.{IsWhole}
-use Rattle.outside.specs.declared.vault.Device.{Device}
-use Rattle.outside.specs.declared.vault.Vault.{Vault}
+use Rattle.log_writer.specs.Vault.{IsWhole}
+use Rattle.outside.specs.declared.device.Device.{Device}
+use Rattle.outside.specs.declared.device.Device.TheVariants as devices
+use Rattle.log_writer.specs.declared.vault.Vault.{Vault}
 use Rattle.script_grammar.specs.declared.lines.KeeperLine.{KeeperLine}
 use Rattle.script_grammar.specs.declared.lines.KeeperLine.TheVariants as asks
 use Rattle.log_writer.specs.declared.saved.Saved.{Saved}
@@ -25,7 +26,7 @@ use Rattle.tx_script.specs.declared.answer.Answer.TheVariants as answers
 use Rattle.worker_logs.specs.declared.savepoints.Beside.{Beside}
 use Rattle.worker_logs.specs.declared.savepoints.Side.{Side}
 use Rattle.worker_logs.specs.declared.savepoints.Side.TheVariants.{Even, Odd}
-use Rattle.round_engine.specs.Ends.{wants_memory, save_limited}
+use Rattle.round_engine.specs.Ends.{first_device, wants_memory, save_limited}
 use Rattle.round_engine.specs.Keeping.{CanKeep, IsSavedBySeen, is_limited, is_refusal, keeper_on, MarksOf, refusal_told}
 use Rattle.round_engine.specs.Keeping.{RunsKeeper, StepsEpoch, StepsKeeper, StepsLine}
 use Rattle.round_engine.specs.Saves.{AreSavedIn, beside_after, beside_at_end}
@@ -84,7 +85,8 @@ module _ {D : Type 0} {tells : D → Option (List ℕ)} {clock : D → ℕ} {ima
   can_keep runs =
       let nothing = refused_nothing runs.failed runs.broken runs.damaged said runs.refusal_is in
       let up : mid.save.down ≡ None = nothing_there mid.save.down (runs.keeps.down ∙ ap is_some nothing.failed_is) in
-      let sound : mid.store.sound ≡ true = runs.leaves.sound (λ no. let bad = sym nothing.broken_is ∙ no in absurd cc) ready.sound in
+      let sound : mid.store.sound ≡ true = runs.leaves.sound
+      (λ has. in_none devices.Snaps (subst (λ l. Contains l devices.Snaps) nothing.broken_is has)) ready.sound in
       record {
         whole = whole_of old.side before between ready.whole (ap length runs.leaves.over.growing) runs.leaves.over.many;
         workers = ap length runs.logs ∙ ready.workers;
@@ -180,7 +182,7 @@ module _ {D : Type 0} {tells : D → Option (List ℕ)} {clock : D → ℕ} {ima
         ∙ ap (λ (b : Beside). record (keeper_on mid (list_any is_refusal (said ++ answers.Unrun ∷ []))) { pages = b.count })
         (sym beside_same);
     refused = runs.refused ∙ sym refused_same;
-    refusal_is = runs.refusal_is ∙ sym (told_same runs.failed runs.broken runs.damaged);
+    refusal_is = runs.refusal_is ∙ sym (told_same runs.failed (first_device runs.broken) runs.damaged);
     told = runs.told ∙ sym (saves_on said (answers.Unrun ∷ []) ∙ append-nil _);
     caused = λ ran rests. caused_then ran lines (line ∷ []) said (answers.Unrun ∷ []) (keeper_on old false)
         (runs.caused ran rests)
@@ -188,8 +190,7 @@ module _ {D : Type 0} {tells : D → Option (List ℕ)} {clock : D → ℕ} {ima
         (subst (λ b. AnswersCaused ran (record (keeper_on mid b) { pages = (beside_at_end (beside_of old) said).count })
         (line ∷ []) (answers.Unrun ∷ [])) runs.refused (refl, tt)));
     above = runs.above;
-    ties = omega (arith, runs.ties, length-append lines (line ∷ []));
-    capacity = runs.capacity;
+    tie_room = omega (arith, runs.tie_room, length-append lines (line ∷ []));
     cut_room = runs.cut_room;
   }
 
@@ -271,7 +272,7 @@ keeper_begin {tells = tells} {clock} {image_at} {faults} r vault ready = record 
   stored = [];
   failed = None;
   gleans = [];
-  broken = None;
+  broken = [];
   damaged = None;
   keeps = keeps_none r vault ready.up ready.stored;
   by_lines = refl;
@@ -306,13 +307,13 @@ keeper_begin {tells = tells} {clock} {image_at} {faults} r vault ready = record 
       snaps = λ fine. refl;
       files = λ worker was is at there fine. ap faults (same_Some is was (sym there ∙ at));
     };
-    fails = λ device no. absurd (let bad = no in cc);
+    fails = λ device no. absurd (in_none device no);
   };
   needs = record {
     found = λ what has. absurd (in_none what has);
     made = λ epoch count has. absurd (in_none (answers.Snap epoch count) has);
     damage = λ no. absurd (let bad = no in cc);
-    device = λ no. absurd (let bad = no in cc);
+    device = λ device has. absurd (in_none device has);
   };
   rise = λ low. (tt, low);
   later = omega arith;
@@ -327,8 +328,7 @@ keeper_begin {tells = tells} {clock} {image_at} {faults} r vault ready = record 
   told = refl;
   caused = λ ran rests. tt;
   above = λ low. low;
-  ties = omega arith;
-  capacity = refl;
+  tie_room = omega arith;
   cut_room = refl;
 }
 

@@ -2,20 +2,21 @@
 use Rattle.std.proofs.Common.{◌≡◌, ◌∙◌, ◌≤◌, ◌+◌, ◌++◌, ◌∷◌, inl, inr, sym, ap, subst, refl, ℕ, List, [], length}
 use Rattle.std.proofs.Common.{length-append, append_assoc, map, Bool, true, false, Option, Some, None, arith}
 use Rattle.std.specs.Prelude.{◌||◌, fold, is_some, option_to_list}
-use Rattle.std.specs.List.{AllByRecursion, list_any}
+use Rattle.std.specs.List.{AllByRecursion, Contains, list_any}
 use Rattle.std.proofs.lemmas.Bool.{cases_Bool}
 use Rattle.std.proofs.lemmas.List.{append-nil, map-append}
 use Rattle.std.proofs.lemmas.List.Elements.{Contains-append_cases, Contains-append_left, Contains-append_right}
 use Rattle.std.proofs.lemmas.List.Sums.{fold-append}
 use Rattle.lists.specs.Each.{all_weaker}
-use Rattle.outside.specs.declared.vault.Device.{Device}
-use Rattle.outside.specs.declared.vault.Vault.{Vault}
+use Rattle.outside.specs.declared.device.Device.{Device}
+use Rattle.log_writer.specs.declared.vault.Vault.{Vault}
+use Rattle.lists.specs.Elements.{in_none}
 use Rattle.script_grammar.specs.declared.lines.KeeperLine.{KeeperLine}
 use Rattle.wire_form.specs.declared.clock.Mark.{Mark}
 use Rattle.wire_form.specs.declared.savepoint.Savepoint.{Savepoint}
 use Rattle.log_writer.specs.Points.{point_of, sequence_of}
 use Rattle.log_writer.specs.declared.saved.Saved.{Saved}
-use Rattle.recovery_core.specs.Images.{epoch_of}
+use Rattle.joint_crashes.specs.Images.{epoch_of}
 use Rattle.tx_script.specs.Run.{AdvancesTo, Ran}
 use Rattle.tx_script.specs.Causes.{AnswersCaused, AreMarksOf, KeeperAt, keeper_after, some_counted}
 use Rattle.tx_script.specs.declared.answer.Answer.{Answer}
@@ -23,7 +24,7 @@ use Rattle.tx_script.specs.declared.answer.Answer.TheVariants as answers
 use Rattle.worker_logs.specs.Saves.{logs_marks}
 use Rattle.worker_logs.specs.declared.savepoints.Beside.{Beside}
 use Rattle.worker_logs.specs.Rows.{NeverFall}
-use Rattle.round_engine.specs.Ends.{wants_memory, where_true}
+use Rattle.round_engine.specs.Ends.{first_device, wants_memory, where_true}
 use Rattle.round_engine.specs.Gleans.{LeaveGleans, RoundGleans}
 use Rattle.round_engine.specs.Keeping.{answers_end, epoch_now, IsSavedBySeen, is_refusal, keeper_on, Keeps, last_epoch_of}
 use Rattle.round_engine.specs.Keeping.{MarksOf, refusal_told, RestsOn, RunsKeeper}
@@ -108,10 +109,10 @@ newest_last newest (s ∷ stored) = newest_last (Some (point_of (sequence_of new
 
 -- ---- refusals
 
-pub record NothingRefused (failed : Option Saved) (broken : Option Device) (damaged : Option (Device × ℕ))
+pub record NothingRefused (failed : Option Saved) (broken : List Device) (damaged : Option (Device × ℕ))
     (said : List Answer) : Type 0 where
   pub failed_is : failed ≡ None
-  pub broken_is : broken ≡ None
+  pub broken_is : broken ≡ []
   pub damaged_is : damaged ≡ None
   pub memory : list_any wants_memory said ≡ false
 
@@ -123,12 +124,12 @@ no_memory : (b : Bool) → ◌≡◌ {A = Option End} None (where_memory b) → 
 no_memory true is = absurd (let no = is in cc)
 no_memory false is = refl
 
-pub refused_nothing : (failed : Option Saved) (broken : Option Device) (damaged : Option (Device × ℕ)) (said : List Answer)
-    → None ≡ refusal_told failed broken damaged said → NothingRefused failed broken damaged said
+pub refused_nothing : (failed : Option Saved) (broken : List Device) (damaged : Option (Device × ℕ)) (said : List Answer)
+    → None ≡ refusal_told failed (first_device broken) damaged said → NothingRefused failed broken damaged said
 refused_nothing (Some s) broken damaged said is = absurd (let no = is in cc)
-refused_nothing None (Some d) damaged said is = absurd (let no = is in cc)
-refused_nothing None None (Some d) said is = absurd (let no = is in cc)
-refused_nothing None None None said is =
+refused_nothing None (d ∷ more) damaged said is = absurd (let no = is in cc)
+refused_nothing None [] (Some d) said is = absurd (let no = is in cc)
+refused_nothing None [] None said is =
     record { failed_is = refl; broken_is = refl; damaged_is = refl; memory = no_memory (list_any wants_memory said) is }
 
 refusal_more : (failed : Option Saved) (broken : Option Device) (damaged : Option (Device × ℕ)) (said told : List Answer)
@@ -155,7 +156,7 @@ module _ {D : Type 0} {tells : D → Option (List ℕ)} {clock : D → ℕ} {ima
   gleaned : RoundGleans tells said first.gleans None old mid before between
   gleaned = subst (λ d. RoundGleans tells said first.gleans d old mid before between) nothing.damaged_is first.gleaned
 
-  left : LeaveGleans tells clock image_at faults said None old mid before between
+  left : LeaveGleans tells clock image_at faults said [] old mid before between
   left = subst (λ d. LeaveGleans tells clock image_at faults said d old mid before between) nothing.broken_is first.leaves
 
   middle : beside_of mid ≡ beside_at_end (beside_of old) said
@@ -238,7 +239,8 @@ module _ {D : Type 0} {tells : D → Option (List ℕ)} {clock : D → ℕ} {ima
         gleans_are = λ what has. rests.gleans_are what (Contains-append_left first.gleans next.gleans what has);
         damage = λ damage is. absurd (let no = sym is ∙ nothing.damaged_is in cc);
         store = λ is. absurd (let no = sym (ap is_some nothing.failed_is) ∙ is in cc);
-        device = λ device is. absurd (let no = sym is ∙ nothing.broken_is in cc);
+        device = λ device has.
+            absurd (in_none device (subst (λ l. Contains l device) nothing.broken_is has));
       }))
       (subst (λ k. AnswersCaused ran k more told) (sym stands_between) (next.caused ran (record {
         marks = subst (λ l. AreMarksOf ran.marks (map (λ (m : Mark). m.epoch) (logs_marks l))) (sym first.logs) rests.marks;
@@ -283,7 +285,7 @@ module _ {D : Type 0} {tells : D → Option (List ℕ)} {clock : D → ℕ} {ima
         | inr behind ↦ counted_back (next.needs.made epoch count behind)
       ];
       damage = λ is. counted_back (next.needs.damage is);
-      device = λ is. counted_back (next.needs.device is);
+      device = λ device has. counted_back (next.needs.device device has);
     };
     rise = risen;
     later = omega (arith, first.later, next.later);
@@ -301,12 +303,11 @@ module _ {D : Type 0} {tells : D → Option (List ℕ)} {clock : D → ℕ} {ima
         ∙ ap (λ (b : Beside). record (keeper_on new (list_any is_refusal (said ++ told))) { pages = b.count }) (sym both);
     refused = next.refused ∙ sym refused_both;
     refusal_is = next.refusal_is
-        ∙ sym (refusal_more next.failed next.broken next.damaged said told nothing.memory);
+        ∙ sym (refusal_more next.failed (first_device next.broken) next.damaged said told nothing.memory);
     told = map-append (λ (s : Saved). s.epoch) first.stored next.stored ∙ ap (λ l. l ++ epochs next.stored) first.told
         ∙ ap (λ l. saves_told said ++ l) next.told ∙ sym (saves_on said told);
     caused = causes;
     above = λ low. next.above (first.above low);
-    ties = omega (arith, first.ties, next.ties, length-append lines more);
-    capacity = next.capacity ∙ first.capacity;
+    tie_room = omega (arith, first.tie_room, next.tie_room, length-append lines more);
     cut_room = next.cut_room ∙ first.cut_room;
   }

@@ -8,17 +8,18 @@ use Rattle.std.proofs.lemmas.Grind.{flat_map-append}
 use Rattle.std.proofs.lemmas.List.{append-nil, take-append-drop, take-append-le}
 use Rattle.lists.specs.Each.{all_append, all_at, all_weaker}
 use Rattle.lists.specs.Fronts.{front_append, front_then, IsFront}
-use Rattle.outside.specs.declared.vault.Tie.{Tie}
-use Rattle.outside.specs.declared.vault.Vault.{Vault}
+use Rattle.log_writer.specs.declared.records.Tie.{Tie}
+use Rattle.log_writer.specs.declared.vault.Vault.{Vault}
 use Rattle.wire_form.specs.declared.page.Page.{Page}
 use Rattle.wire_form.specs.declared.savepoint.Savepoint.{Savepoint}
 use Rattle.log_writer.specs.Points.{point_of, sequence_of}
+use Rattle.log_writer.specs.Records.{AddsTies, ties_then}
 use Rattle.log_writer.specs.declared.saved.Saved.{Saved}
 use Rattle.snapshot_store.specs.Store.{bytes_of_page, bytes_of_pages, StoreState}
-use Rattle.recovery_core.specs.JointCrash.{Moments}
-use Rattle.recovery_core.specs.Rounds.{KeeperRan}
-use Rattle.recovery_core.specs.Story.{SaveTold, SnapsTold, Story}
-use Rattle.recovery_core.specs.Crashes.Instants.{lasts_then}
+use Rattle.joint_crashes.specs.JointCrash.{Moments}
+use Rattle.joint_crashes.specs.Rounds.{KeeperRan}
+use Rattle.joint_crashes.specs.Story.{SaveTold, SnapsTold, Story}
+use Rattle.joint_crashes.specs.Crashes.Instants.{lasts_then}
 use Rattle.round_engine.specs.Keeping.{Keeps}
 use Rattle.round_engine.specs.RanRound.{KeeperStored}
 use Rattle.round_engine.specs.Saves.{ArePages, GoesOnWith, HaveEnded, newest_after}
@@ -210,6 +211,16 @@ module _ {D : Type 0} {tells : D → Option (List ℕ)} {clock : D → ℕ} {ima
       all_front (λ (s : Saved). s.count ≤ length b.store.pages) stored [] first.counts in
       let more_pages : length b.store.pages ≤ length c.store.pages =
       omega (arith, ap length then.grows.1, length-append b.store.pages then.grows.0) in
+      let one : AddsTies (sequence_of a.save.newest) (length stored) before.ties.items between.ties.items =
+      subst (λ l. AddsTies (sequence_of a.save.newest) (length l) before.ties.items between.ties.items)
+      (append-nil stored) first.ties_are in
+      let two : AddsTies (sequence_of a.save.newest + length stored) (length (more ++ option_to_list failed))
+      between.ties.items now.ties.items =
+      subst (λ k. AddsTies k (length (more ++ option_to_list failed)) between.ties.items now.ties.items)
+      (ap sequence_of first.newest ∙ sequence_after a.save.newest stored) then.ties_are in
+      let sum : length stored + length (more ++ option_to_list failed)
+      ≡ length ((stored ++ more) ++ option_to_list failed) =
+      sym (length-append stored (more ++ option_to_list failed)) ∙ ap length (sym assoc) in
       record {
         newest = then.newest ∙ ap (λ n. newest_after n more) first.newest ∙ sym (newest_then a.save.newest stored more);
         down = then.down;
@@ -219,6 +230,8 @@ module _ {D : Type 0} {tells : D → Option (List ℕ)} {clock : D → ℕ} {ima
         later = omega (arith, first.later, then.later);
         quiet = λ none. then.quiet none ∙ first.quiet refl;
         rose = λ is. omega (arith, then.rose is, first.later);
+        ties_are = subst (λ n. AddsTies (sequence_of a.save.newest) n before.ties.items now.ties.items) sum
+            (ties_then one two);
         ended = ended_then a.save.newest b.save.newest stored more now.ties.items
             (ap sequence_of first.newest ∙ sequence_after a.save.newest stored)
             (λ k saved at. let tie = first.ended k saved at in

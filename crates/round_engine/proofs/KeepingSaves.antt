@@ -7,18 +7,19 @@ use Rattle.std.proofs.lemmas.List.{append-nil, take_all}
 use Rattle.std.proofs.lemmas.List.Elements.{Contains-append_left, Contains-append_right}
 use Rattle.lists.specs.Elements.{in_head}
 use Rattle.outside.specs.Fronts.{AllBegin}
-use Rattle.outside.specs.declared.vault.Tie.{Tie}
-use Rattle.outside.specs.declared.vault.Vault.{Vault}
+use Rattle.log_writer.specs.declared.records.Tie.{Tie}
+use Rattle.log_writer.specs.declared.vault.Vault.{Vault}
 use Rattle.wire_form.specs.declared.clock.Mark.{Mark}
 use Rattle.wire_form.specs.declared.savepoint.Savepoint.{Savepoint}
 use Rattle.log_writer.specs.Points.{SaveState, point_of, sequence_of}
+use Rattle.log_writer.specs.Records.{one_tie}
 use Rattle.log_writer.specs.Save.{IsStored}
 use Rattle.log_writer.specs.declared.save.SaveFault.{SaveFault}
 use Rattle.log_writer.specs.declared.save.SaveFault.TheVariants.{Device, Down, Limit}
 use Rattle.log_writer.specs.declared.saved.Saved.{Saved}
 use Rattle.snapshot_store.specs.Store.{bytes_of_pages}
-use Rattle.recovery_core.specs.Rounds.{KeeperRan}
-use Rattle.recovery_core.specs.Crashes.Rounded.{keeper_none}
+use Rattle.joint_crashes.specs.Rounds.{KeeperRan}
+use Rattle.joint_crashes.specs.Crashes.Rounded.{keeper_none}
 use Rattle.worker_logs.specs.Saves.{SavesMarks, sequence_begun, tie_after}
 use Rattle.worker_logs.specs.SavesLaws.{keeper_saved}
 use Rattle.round_engine.specs.Keeping.{Keeps}
@@ -111,6 +112,7 @@ module _ {D : Type 0} {tells : D → Option (List ℕ)} {clock : D → ℕ} {ima
     later = saves.stores.later;
     quiet = λ none. saves.stores.quiet;
     rose = λ is. absurd (let no = is in cc);
+    ties_are = one_tie (tie_after r.save.newest (clock before.snaps) (Some (clock now.save))) saves.tied refl;
     ended = just_ended before.ties.items now.ties.items r.save.newest saves.saved (clock before.snaps) (clock now.save)
         saves.tied;
     ties_stay = λ tie has. behind_others before.ties.items now.ties.items
@@ -128,6 +130,7 @@ module _ {D : Type 0} {tells : D → Option (List ℕ)} {clock : D → ℕ} {ima
     later = saves.stores.later;
     quiet = λ none. absurd (let no = none in cc);
     rose = λ is. saves.stores.device refl;
+    ties_are = one_tie (tie_after r.save.newest (clock before.snaps) None) (saves.begun refl) refl;
     ended = λ k saved at. absurd (let no = at in cc);
     ties_stay = λ tie has. behind_others before.ties.items now.ties.items
         (tie_after r.save.newest (clock before.snaps) None) tie (saves.begun refl) has;

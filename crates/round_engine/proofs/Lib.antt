@@ -1,35 +1,25 @@
 pub mod Alone
 pub mod Beginning
 pub mod Beside
-pub mod Chains
 pub mod Devices
-pub mod Drawn
 pub mod EndKinds
 pub mod Ended
 pub mod EndTold
 pub mod Fronts
 pub mod Loops
 pub mod Places
-pub mod PlainRun
-pub mod PlainShares
 pub mod SharesRun
 pub mod RoundCases
 pub mod RoundDone
 pub mod RoundStops
 pub mod Saved
-pub mod SoFar
 pub mod Whole
-pub mod WorkersRun
-pub mod FewWords
-pub mod Logged
 pub mod JoinAlone
 pub mod JoinedAs
 pub mod Keeping
 pub mod KeepingSaves
-pub mod LineSteps
 pub mod LinesLeft
 pub mod LogsLeft
-pub mod WorkerLoop
 pub mod RoundWhole
 pub mod RunRound
 pub mod KeeperSteps
@@ -37,6 +27,7 @@ pub mod JoinSteps
 pub mod GleanAsked
 pub mod GleanStops
 pub mod GleanCall
+pub mod GleanDevices
 pub mod LastPage
 pub mod GleansSeen
 pub mod GleansThen
@@ -59,6 +50,8 @@ pub mod StopsNow
 pub mod Stories
 pub mod Swapping
 mod Powers
-mod Apart
 mod NothingRun
 mod WhoseLines
+mod NoneRun
+mod Called
+pub mod Opened

@@ -14,8 +14,8 @@ use Rattle.worker_logs.specs.Logs.{IsEpochPassed, IsJoined, IsLog, IsPassed, Log
 use Rattle.worker_logs.specs.LogLaws.{log_begins, log_idles}
 use Rattle.worker_logs.specs.Rows.{IsBeforeOne, LogTakes, NeverFall}
 use Rattle.worker_logs.specs.RowLaws.{epochs_of, falls_lower, rise_more, rise_one}
-use Rattle.recovery_core.specs.Marks.{IsAbove, Marks}
-use Rattle.recovery_core.specs.Crashes.Marking.{mark_put}
+use Rattle.joint_crashes.specs.Marks.{IsAbove, Marks}
+use Rattle.joint_crashes.specs.Crashes.Marking.{mark_put}
 use Rattle.round_engine.specs.Workers.{idle_if_not, idled, is_busy}
 
 -- ---- a choice for each of the first numbers

@@ -1,9 +1,9 @@
 -- Where room is made first: a vault with more room for records is the same vault, and a round over it one over that.
 use Rattle.std.proofs.Common.{◌≡◌, ◌∙◌, ap, refl, sym, subst, ℕ, List, length}
 use Rattle.std.specs.Prelude.{◌/◌, ◌%◌, ◌==◌, if◌then◌else◌, Option, slice_get}
-use Rattle.outside.specs.Vault.{IsWhole, disk_in}
-use Rattle.outside.specs.declared.vault.Device.TheVariants.{Bank}
-use Rattle.outside.specs.declared.vault.Vault.{Vault}
+use Rattle.log_writer.specs.Vault.{IsWhole, disk_in}
+use Rattle.outside.specs.declared.device.Device.TheVariants.{Bank}
+use Rattle.log_writer.specs.declared.vault.Vault.{Vault}
 use Rattle.script_grammar.specs.Script.{Round}
 use Rattle.log_writer.specs.Save.{IsStored}
 use Rattle.worker_logs.specs.Saves.{growing_number}

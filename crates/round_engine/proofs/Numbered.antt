@@ -2,10 +2,10 @@
 use Rattle.std.proofs.Common.{◌≡◌, ◌+◌, ◌*◌, ◌<◌, ◌∙◌, ◌⊎◌, inl, inr, ap, refl, ℕ, length, true, false, cond, arith}
 use Rattle.std.specs.Prelude.{◌%◌, ◌/◌, ◌==◌, slice_get}
 use Rattle.std.proofs.lemmas.Bool.{cases_eq}
-use Rattle.outside.specs.Cuts.{disk_in-even, disk_in-odd}
-use Rattle.outside.specs.Vault.{IsWhole, disk_in}
-use Rattle.outside.specs.declared.vault.Device.TheVariants as devices
-use Rattle.outside.specs.declared.vault.Vault.{Vault}
+use Rattle.log_writer.specs.Cuts.{disk_in-even, disk_in-odd}
+use Rattle.log_writer.specs.Vault.{IsWhole, disk_in}
+use Rattle.outside.specs.declared.device.Device.TheVariants as devices
+use Rattle.log_writer.specs.declared.vault.Vault.{Vault}
 use Rattle.tx_script.specs.Causes.{file_of, log_of}
 use Rattle.tx_script.specs.Run.{LogFiles}
 use Rattle.worker_logs.specs.Saves.{closed_number, growing_number}

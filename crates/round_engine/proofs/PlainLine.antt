@@ -9,7 +9,7 @@ use Rattle.lists.specs.Elements.{in_none}
 use Rattle.outside.specs.Disk.{Runs}
 use Rattle.outside.specs.Moments.{runs_none}
 use Rattle.outside.specs.Reads.{OnlyReads}
-use Rattle.outside.specs.declared.vault.Vault.{Vault}
+use Rattle.log_writer.specs.declared.vault.Vault.{Vault}
 use Rattle.lists.specs.Fronts.{IsFront}
 use Rattle.script_grammar.specs.declared.lines.KeeperLine.{KeeperLine}
 use Rattle.tx_script.specs.Run.{AdvancesTo, Ran}
@@ -91,7 +91,7 @@ module _ {D : Type 0} (tells : D → Option (List ℕ)) (clock : D → ℕ) (ima
         subst (λ d. OnlyReads tells clock image_at faults was d) (sym one) (reads_none was);
   }
 
-  pub leaves_none : LeaveGleans tells clock image_at faults (answer ∷ []) None old new before now
+  pub leaves_none : LeaveGleans tells clock image_at faults (answer ∷ []) [] old new before now
   leaves_none = record {
     room = same.room;
     side = same.side;
@@ -117,15 +117,15 @@ module _ {D : Type 0} (tells : D → Option (List ℕ)) (clock : D → ℕ) (ima
       files = λ worker was file at there fine.
           ap faults (same_Some file was (sym there ∙ ap (λ l. slice_get l worker) same.closed ∙ at));
     };
-    fails = λ device no. absurd cc;
+    fails = λ device no. absurd (in_none device no);
   }
 
-  pub needs_none : NeedCounted old (answer ∷ []) [] None None
+  pub needs_none : NeedCounted old (answer ∷ []) [] [] None
   needs_none = record {
     found = λ what has. absurd (in_none what has);
     made = λ epoch count has. absurd (no_snap (answer ∷ []) is.none epoch count has);
     damage = λ no. absurd (let bad = no in cc);
-    device = λ no. absurd (let bad = no in cc);
+    device = λ device has. absurd (in_none device has);
   }
 
 -- ---- epochs
@@ -173,7 +173,7 @@ module _ {D : Type 0} {tells : D → Option (List ℕ)} {clock : D → ℕ} {ima
         stored = [];
         failed = None;
         gleans = [];
-        broken = None;
+        broken = [];
         damaged = None;
         keeps = record {
           newest = k.newest;
@@ -184,6 +184,7 @@ module _ {D : Type 0} {tells : D → Option (List ℕ)} {clock : D → ℕ} {ima
           later = k.later;
           quiet = k.quiet;
           rose = k.rose;
+          ties_are = k.ties_are;
           ended = k.ended;
           ties_stay = k.ties_stay;
           grows = k.grows;
@@ -217,8 +218,7 @@ module _ {D : Type 0} {tells : D → Option (List ℕ)} {clock : D → ℕ} {ima
         told = sym is.unsaved;
         caused = λ ran rests. (cause ran, tt);
         above = λ low. omega (arith, low, le);
-        ties = omega arith;
-        capacity = refl;
+        tie_room = omega arith;
         cut_room = refl;
       }
     where

@@ -1,5 +1,5 @@
--- What an engine's standing tells of what runs its lines, and of lists that are lent to it.
-use Rattle.std.proofs.Common.{◌≡◌, ◌∙◌, ◌+◌, ap, arith, sym, subst, Bool, false, length, List, ℕ, Option}
+-- What an engine's standing tells of what runs its lines.
+use Rattle.std.proofs.Common.{◌≡◌, ◌∙◌, ◌+◌, ap, arith, sym, subst, Bool, false, List, ℕ}
 use Rattle.std.specs.Prelude.{◌==◌, true, Result, Ok, Err, IfErr, IfOk}
 use Rattle.std.proofs.lemmas.Bool.{false≢true}
 use Rattle.std.proofs.lemmas.Bool.Decides.{nat_tests}
@@ -10,13 +10,12 @@ use Rattle.serial_model.specs.declared.decl.Decl.{Decl}
 use Rattle.serial_model.specs.declared.decl.Decl.TheVariants.{Tree}
 use Rattle.script_grammar.specs.Script.{Round}
 use Rattle.tx_script.specs.Draws.{HasTree, commits_of}
-use Rattle.worker_logs.specs.Logs.{LogState}
-use Rattle.shared_rounds.specs.Lines.{LinesCome, standing}
+use Rattle.plain_rounds.specs.Plainly.{DrewOnce}
+use Rattle.shared_rounds.specs.Lines.{standing}
 use Rattle.shared_rounds.specs.SharedState.{SharedState}
 use Rattle.shared_rounds.specs.Standing.{Standing}
 use Rattle.shared_rounds.specs.declared.ends.WorkersRan.{WorkersRan}
 use Rattle.round_engine.specs.Histories.{KeepsHistory}
-use Rattle.round_engine.specs.Plainly.{DrewOnce}
 use Rattle.round_engine.specs.Powers.{SharesWords, standing_of}
 use Rattle.round_engine.specs.declared.engine.Power.{Power}
 use Rattle.round_engine.specs.declared.engine.Power.TheVariants.{Plain, Shared}
@@ -80,23 +79,6 @@ pub shared_once : (s t : Standing) (result : Result WorkersRan Memory) → IfOk 
     → IfOk result (λ ran. HasTree s.decls → DrewOnce s t ran.outcomes)
 shared_once s t (Ok ran) none = λ has. absurd (none has)
 shared_once s t (Err memory) none = tt
-
-module _ {D : Type 0} {tells : D → Option (List ℕ)} {clock : D → ℕ} {image_at : D → ℕ → List ℕ → Type 0}
-    {faults : D → ℕ} {tries : ℕ} {round : Round} {s t : Standing} {logs_was logs : List LogState}
-    {banks_was banks : List D} where
-  -- there are as many logs as before
-  pub logs_stay : (result : Result WorkersRan Memory)
-      → LinesCome tells clock image_at faults tries round s t logs_was logs banks_was banks result
-      → length logs ≡ length logs_was
-  logs_stay (Ok ran) is = is.come.over.logs_length
-  logs_stay (Err memory) is = is.come.over.logs_length
-
-  -- and as many log files
-  pub files_stay : (result : Result WorkersRan Memory)
-      → LinesCome tells clock image_at faults tries round s t logs_was logs banks_was banks result
-      → length banks ≡ length banks_was
-  files_stay (Ok ran) is = is.come.over.banks_length
-  files_stay (Err memory) is = is.come.over.banks_length
 
 -- the plain map is apart from words
 pub plain_apart : (s : Standing) (Unrun : Type 0) (result : Result WorkersRan Memory) → (SharesWords s → ⊥)

@@ -8,15 +8,15 @@ use Rattle.std.proofs.lemmas.List.{append-nil}
 use Rattle.std.proofs.lemmas.Option.{same_Some}
 use Rattle.lists.specs.Each.{all_weaker}
 use Rattle.lists.specs.Elements.{in_cases, in_head, in_none}
-use Rattle.outside.specs.Vault.{IsWhole, disk_in}
-use Rattle.outside.specs.declared.vault.Device.{Device}
-use Rattle.outside.specs.declared.vault.Device.TheVariants as devices
-use Rattle.outside.specs.declared.vault.Vault.{Vault}
+use Rattle.log_writer.specs.Vault.{IsWhole, disk_in}
+use Rattle.outside.specs.declared.device.Device.{Device}
+use Rattle.outside.specs.declared.device.Device.TheVariants as devices
+use Rattle.log_writer.specs.declared.vault.Vault.{Vault}
 use Rattle.script_grammar.specs.Script.{Round, lines_of_worker}
 use Rattle.wire_form.specs.declared.clock.Mark.{Mark}
 use Rattle.snapshot_store.specs.Store.{StoreState}
-use Rattle.recovery_core.specs.Images.{epoch_of}
-use Rattle.recovery_core.specs.VaultReads.{RoseIn}
+use Rattle.joint_crashes.specs.Images.{epoch_of}
+use Rattle.joint_crashes.specs.VaultReads.{RoseIn}
 use Rattle.tx_script.specs.Causes.{KeeperAt, keeper_at_end}
 use Rattle.tx_script.specs.Causes.{leaves_join_out}
 use Rattle.tx_script.specs.Run.{Ran}
@@ -41,6 +41,7 @@ use Rattle.round_engine.proofs.Devices.{are_down, bank_down, beside_not_growing,
 use Rattle.round_engine.proofs.Ended.{first_of_down, keeper_device}
 use Rattle.round_engine.proofs.EndTold.{end_left_out}
 use Rattle.round_engine.proofs.EndTold.{left_out_some}
+use Rattle.round_engine.proofs.GleanDevices.{nothing_in}
 use Rattle.round_engine.proofs.JoinEnds.{before_later}
 use Rattle.round_engine.proofs.JoinedAs.{none_down_at}
 use Rattle.round_engine.proofs.LinesLeft.{LastStep, last_none, lines_at}
@@ -61,18 +62,6 @@ use Rattle.round_engine.proofs.Places.{item_at, map_at}
 pub none_made : (leaves below rest : Bool) (epoch : ℕ) → leaves ≡ true → where_true ((not leaves && below) && rest) epoch ≡ None
 none_made leaves below rest epoch is = rw is refl
 
--- a thing of a list of one, if there is one
-pub in_option : {X : Type 0} (x : Option X) (y : X) → Contains (option_to_list x) y → x ≡ Some y
-in_option None y has = absurd (in_none y has)
-in_option (Some z) y has = elim (in_cases y z [] has) [
-  | inl same ↦ ap Some same
-  | inr none ↦ absurd (in_none y none)
-]
-
-pub option_in : {X : Type 0} (x : Option X) (y : X) → x ≡ Some y → Contains (option_to_list x) y
-option_in None y is = absurd cc
-option_in (Some z) y is = subst (Contains (z ∷ [])) (same_Some z y is) (in_head z [])
-
 module _ {D : Type 0} {tells : D → Option (List ℕ)} {clock : D → ℕ} {image_at : D → ℕ → List ℕ → Type 0}
     {faults : D → ℕ} {tries : ℕ} {round : Round} {old : RuntimeState} {start : List LogState} {new : RuntimeState}
     {before now : Vault D} {report : Report}
@@ -85,7 +74,7 @@ module _ {D : Type 0} {tells : D → Option (List ℕ)} {clock : D → ℕ} {ima
     (end_is : report.end ≡ lines_refused all.refused)
     (new_is : new ≡ ended_as all.kept (is_some report.end) (is_some all.refused.device)) where
   abbrev others : List Device
-  others = option_to_list all.keeper.broken
+  others = all.keeper.broken
 
   abbrev ran : Ran
   ran = ran_with tells clock image_at faults tries round old start new before now report all all.mid.logs all.keeper.failed others
@@ -166,7 +155,7 @@ module _ {D : Type 0} {tells : D → Option (List ℕ)} {clock : D → ℕ} {ima
       record {
         save = nothing_there new.save.down (keeps_out.down ∙ ap is_some told.0);
         store = ap (λ (s : StoreState). s.sound) store_is
-            ∙ kept_sound stands ready some start_many idle all (λ is. absurd (let bad = sym told.1 ∙ is in cc));
+            ∙ kept_sound stands ready some start_many idle all (nothing_in all.keeper.broken told.1 devices.Snaps);
         logs = all_from (λ (l : LogState). l.journal.down ≡ None) new.logs (λ w log at.
             nothing_there log.journal.down (none_down_at old.side 0 (are_down all.mid.logs) w (is_some log.journal.down)
             (sym (first_is stands ready some start_many idle all) ∙ no.1)
@@ -247,10 +236,6 @@ module _ {D : Type 0} {tells : D → Option (List ℕ)} {clock : D → ℕ} {ima
     logs_are = logs_are ∙ sym (ap (λ b. cond b (map reset_log all.mid.logs) all.mid.logs) not_swapped);
   }
 
-  -- the device of a closed log file that failed is told
-  not_broken : (device : Device) → (Contains others device → ⊥) → all.keeper.broken ≢ Some device
-  not_broken device not is = not (option_in all.keeper.broken device is)
-
   pub left_out : ((disk : D) (file : List ℕ) → tells disk ≡ Some file → image_at disk (clock disk) file)
       → Rounds tells clock image_at faults tries round old new before now (Ok report)
   unfolding files_out
@@ -265,14 +250,14 @@ module _ {D : Type 0} {tells : D → Option (List ℕ)} {clock : D → ℕ} {ima
         (subst (λ x. LastStep tells clock image_at faults old.stands.clock.epoch lines lines was x)
         (same_Some was is (sym bank ∙ ap (λ l. slice_get l w) (sym growing_is) ∙ bank_now)) (last_none old.stands.clock.epoch lines was));
     fails = λ is. is;
-    told_others = λ device is. option_in all.keeper.broken device is;
-    beside = λ device has. (rose_kept stands ready some start_many idle all device (in_option all.keeper.broken device has)).0;
+    told_others = λ device has. has;
+    beside = λ device has. (rose_kept stands ready some start_many idle all device has).0;
     rose_others = λ device has. subst (RoseIn faults device before) (sym now_is)
-        (rose_kept stands ready some start_many idle all device (in_option all.keeper.broken device has)).1;
-    quiet_snaps = λ not. ap faults snaps_is ∙ quiet_snaps_kept stands ready some start_many idle all (not_broken devices.Snaps not);
+        (rose_kept stands ready some start_many idle all device has).1;
+    quiet_snaps = λ not. ap faults snaps_is ∙ quiet_snaps_kept stands ready some start_many idle all not;
     quiet_closed = λ w was is at there not. quiet_kept stands ready some start_many idle all w was is at
         (ap (λ (v : Vault D). slice_get (closed_in old.side v) w) (sym now_is) ∙ there)
-        (not_broken (devices.Bank (closed_number old.side w)) not);
+        not;
     stays = λ w lines log at there down. subst (λ (x : LogState). is_some x.journal.down ≡ true) (down_same w lines log at there) down;
     files = files_out;
     between_whole = subst IsWhole (sym now_is) (after_whole stands ready some start_many idle all);
@@ -292,8 +277,7 @@ module _ {D : Type 0} {tells : D → Option (List ℕ)} {clock : D → ℕ} {ima
     stands = stands_out;
     gleans = gleans_told stands ready some start_many idle all store_is snaps_is;
     sound = λ not. ap (λ (s : StoreState). s.sound) store_is ∙ kept_sound stands ready some start_many idle all
-        (not_broken devices.Snaps (λ has. not
-        (others_in old.side (are_down all.mid.logs) (is_some all.keeper.failed) others devices.Snaps has)));
+        (λ has. not (others_in old.side (are_down all.mid.logs) (is_some all.keeper.failed) others devices.Snaps has));
     room = ap (λ (r : RuntimeState). r.room) new_is ∙ kept_room stands ready some start_many idle all;
     told = all.keeper.told ∙ sym (append-nil (saves_told report.keeper))
         ∙ ap (λ d. saves_told report.keeper ++ option_to_list d) (sym durable_is);
@@ -308,7 +292,7 @@ module _ {D : Type 0} {tells : D → Option (List ℕ)} {clock : D → ℕ} {ima
     log_failed = λ w below has.
         let here = bank_down old.side (are_down all.mid.logs) (is_some all.keeper.failed) others w
         (beside_not_growing old.side others w (λ device there.
-        (rose_kept stands ready some start_many idle all device (in_option all.keeper.broken device there)).0))
+        (rose_kept stands ready some start_many idle all device there).0))
         (subst (Contains ran.devices) (log_of_is old.side (files_of old) w refl) has) in
         let at = map_at (λ (l : LogState). is_some l.journal.down) all.mid.logs w true here in
         let p = item_at all.lines.shares w (omega (arith, below, all.lines.over.runs.workers)) in
@@ -320,5 +304,5 @@ module _ {D : Type 0} {tells : D → Option (List ℕ)} {clock : D → ℕ} {ima
     rise = rise_lines stands ready some start_many idle all;
     asked = λ is. inl (ap (λ (k : KeeperAt). k.refused) (at_end stands ready some start_many idle all all.mid.logs all.keeper.failed others)
         ∙ sym all.keeper.refused ∙ ap is_some all.keeper.refusal_is
-        ∙ store_told all.keeper.failed all.keeper.broken all.keeper.damaged report.keeper is);
+        ∙ store_told all.keeper.failed (first_device all.keeper.broken) all.keeper.damaged report.keeper is);
   }) reads

@@ -7,17 +7,17 @@ use Rattle.std.specs.List.{Contains}
 use Rattle.std.proofs.lemmas.List.{length-map}
 use Rattle.std.proofs.lemmas.Option.{same_Some}
 use Rattle.lists.specs.Each.{all_at}
-use Rattle.outside.specs.Vault.{IsWhole}
-use Rattle.outside.specs.declared.vault.Device.{Device}
-use Rattle.outside.specs.declared.vault.Device.TheVariants as devices
-use Rattle.outside.specs.declared.vault.Vault.{Vault}
+use Rattle.log_writer.specs.Vault.{IsWhole}
+use Rattle.outside.specs.declared.device.Device.{Device}
+use Rattle.outside.specs.declared.device.Device.TheVariants as devices
+use Rattle.log_writer.specs.declared.vault.Vault.{Vault}
 use Rattle.serial_model.specs.declared.op.Op.{Op}
 use Rattle.script_grammar.specs.Script.{Round, keeper_lines, lines_of_worker}
 use Rattle.wire_form.specs.declared.clock.Mark.{Mark}
 use Rattle.log_writer.specs.Points.{sequence_of}
 use Rattle.log_writer.specs.declared.saved.Saved.{Saved}
-use Rattle.recovery_core.specs.Images.{epoch_of}
-use Rattle.recovery_core.specs.VaultReads.{RoseIn}
+use Rattle.joint_crashes.specs.Images.{epoch_of}
+use Rattle.joint_crashes.specs.VaultReads.{RoseIn}
 use Rattle.tx_script.specs.Run.{AdvancesTo, LogFailed, LogFiles, LogFull, LogRefusal, Ran}
 use Rattle.tx_script.specs.Causes.{AllCaused, AnswersCaused, AreMarksOf, KeeperAt, LogsCaused, keeper_at_end, keeper_before}
 use Rattle.tx_script.specs.Causes.{last_sequence, log_limit as file_limit, log_of, longest_line, some_counted}
@@ -221,7 +221,7 @@ module _ {D : Type 0} (tells : D → Option (List ℕ)) (clock : D → ℕ) (ima
         → slice_get (growing_in old.side now) w ≡ Some is
         → LastStep tells clock image_at faults old.stands.clock.epoch lines log was is
     pub fails : is_some all.keeper.failed ≡ true → is_some failed ≡ true
-    pub told_others : (device : Device) → all.keeper.broken ≡ Some device → Contains others device
+    pub told_others : (device : Device) → Contains all.keeper.broken device → Contains others device
     pub beside : (device : Device) → Contains others device → IsBeside old.side device
     pub rose_others : (device : Device) → Contains others device → RoseIn faults device before now
     pub quiet_snaps : (Contains others devices.Snaps → ⊥) → faults now.snaps ≡ faults before.snaps
@@ -331,7 +331,7 @@ module _ {D : Type 0} {tells : D → Option (List ℕ)} {clock : D → ℕ} {ima
   -- the causes of answers, of the run that is told
   pub answers_caused : (logs : List LogState) (failed : Option Saved) (others : List Device)
       → (is_some all.keeper.failed ≡ true → is_some failed ≡ true)
-      → ((device : Device) → all.keeper.broken ≡ Some device → Contains others device)
+      → ((device : Device) → Contains all.keeper.broken device → Contains others device)
       → AnswersCaused (ran_with tells clock image_at faults tries round old start new before now report all logs failed others)
       (keeper_before (ran_with tells clock image_at faults tries round old start new before now report all logs failed others))
       (keeper_lines round) report.keeper

@@ -10,18 +10,18 @@ use Rattle.std.proofs.lemmas.Option.{same_Some}
 use Rattle.lists.specs.Each.{all_weaker}
 use Rattle.lists.specs.Elements.{in_cases, in_head, in_none}
 use Rattle.outside.specs.Faults.{Rose}
-use Rattle.outside.specs.Vault.{disk_in}
-use Rattle.outside.specs.declared.vault.Device.{Device}
-use Rattle.outside.specs.declared.vault.Device.TheVariants as devices
-use Rattle.outside.specs.declared.vault.Vault.{Vault}
+use Rattle.log_writer.specs.Vault.{disk_in}
+use Rattle.outside.specs.declared.device.Device.{Device}
+use Rattle.outside.specs.declared.device.Device.TheVariants as devices
+use Rattle.log_writer.specs.declared.vault.Vault.{Vault}
 use Rattle.serial_model.specs.Numbers.{last_epoch}
 use Rattle.script_grammar.specs.Script.{Round, keeper_lines, lines_of_worker}
 use Rattle.wire_form.specs.declared.clock.Mark.{Mark}
 use Rattle.log_writer.specs.Points.{SaveState, sequence_of}
 use Rattle.log_writer.specs.declared.saved.Saved.{Saved}
 use Rattle.snapshot_store.specs.Store.{StoreState}
-use Rattle.recovery_core.specs.Images.{counted_of, epoch_of}
-use Rattle.recovery_core.specs.VaultReads.{RoseIn}
+use Rattle.joint_crashes.specs.Images.{counted_of, epoch_of}
+use Rattle.joint_crashes.specs.VaultReads.{RoseIn}
 use Rattle.tx_script.specs.Causes.{KeeperAt, keeper_at_end, keeper_before, last_sequence}
 use Rattle.tx_script.specs.Causes.{leaves_join_out, some_counted}
 use Rattle.tx_script.specs.Run.{Ran}
@@ -63,6 +63,7 @@ use Rattle.round_engine.proofs.RoundDone.{ran_with}
 use Rattle.round_engine.proofs.RoundKept.{NothingTold, first_told_none, after_whole, at_end, by_lines, device_is, first_is}
 use Rattle.round_engine.proofs.RoundKept.{gleans_told, growing_kept, joined_up, keeps_lines, kept_above, kept_closed}
 use Rattle.round_engine.proofs.RoundKept.{kept_closed_at, kept_counted, kept_first, kept_room, kept_side, kept_snapshot, kept_sound, lines_limit, mid_save}
+use Rattle.round_engine.proofs.GleanDevices.{nothing_in}
 use Rattle.round_engine.proofs.RoundKept.{mark_at, mid_beside, none_told, over_kept, quiet_kept, quiet_snaps_kept, reads_kept, refused_as}
 use Rattle.round_engine.proofs.RoundKept.{rise_on, saves_up}
 use Rattle.round_engine.proofs.Turned.{TurnsBehind, keeps_onto, turned_files, turned_if, turned_parts, turns_behind}
@@ -134,8 +135,8 @@ module _ {D : Type 0} {tells : D → Option (List ℕ)} {clock : D → ℕ} {ima
   told : NothingTold all.keeper.failed all.keeper.broken all.keeper.damaged
   told = none_told all.keeper.failed all.keeper.broken all.keeper.damaged report.keeper (sym all.keeper.refusal_is ∙ none.keeper)
 
-  not_snaps : all.keeper.broken ≢ Some devices.Snaps
-  not_snaps is = absurd (let no = sym told.broken_none ∙ is in cc)
+  not_snaps : Contains all.keeper.broken devices.Snaps → ⊥
+  not_snaps has = nothing_in all.keeper.broken told.broken_none devices.Snaps has
 
   mid_up : (w : ℕ) (log : LogState) → slice_get all.mid.logs w ≡ Some log → log.journal.down ≡ None
   mid_up w log at =
@@ -252,7 +253,7 @@ module _ {D : Type 0} {tells : D → Option (List ℕ)} {clock : D → ℕ} {ima
   limited_so = limited_last ran (keeper_lines round) report.keeper (keeper_before ran)
       (answers_caused stands ready some start_many idle all logs js.joins.failed others
       (λ is. absurd (let no = sym is ∙ ap is_some keeper_up in cc))
-      (λ device is. absurd (let no = sym told.broken_none ∙ is in cc)))
+      (λ device has. absurd (nothing_in all.keeper.broken told.broken_none device has)))
 
   sequence_is : (keeper_at_end ran).sequence ≡ sequence_of all.kept.save.newest
   sequence_is = ap (λ (k : KeeperAt). k.sequence) at_end_is
@@ -434,7 +435,7 @@ module _ {D : Type 0} {tells : D → Option (List ℕ)} {clock : D → ℕ} {ima
       → slice_get (closed_in old.side js.between) w ≡ Some is → faults is ≡ faults was
   closed_quiet w was is at there = quiet_kept stands ready some start_many idle all w was is at
       (ap (λ l. slice_get l w) (sym (closed_same facts)) ∙ there)
-      (λ no. absurd (let bad = sym told.broken_none ∙ no in cc))
+      (λ has. nothing_in all.keeper.broken told.broken_none (devices.Bank (closed_number old.side w)) has)
 
   rose_made : (device : Device) → Contains others device → IsBeside old.side device × RoseIn faults device before now
   unfolding facts turns
@@ -507,7 +508,7 @@ module _ {D : Type 0} {tells : D → Option (List ℕ)} {clock : D → ℕ} {ima
     saves = saves_made;
     last = last_made;
     fails = λ is. absurd (let no = sym is ∙ ap is_some keeper_up in cc);
-    told_others = λ device is. absurd (let no = sym told.broken_none ∙ is in cc);
+    told_others = λ device has. absurd (nothing_in all.keeper.broken told.broken_none device has);
     beside = λ device has. (rose_made device has).0;
     rose_others = λ device has. (rose_made device has).1;
     quiet_snaps = λ not. ap faults now_snaps ∙ quiet_snaps_kept stands ready some start_many idle all not_snaps;

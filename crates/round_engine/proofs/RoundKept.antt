@@ -3,16 +3,16 @@ use Rattle.std.proofs.Common.{◌≡◌, ◌≢◌, ◌∙◌, ◌≤◌, ◌<�
 use Rattle.std.proofs.Common.{length, map, Bool, true, false, cond, not, Option, Some, None, arith}
 use Rattle.std.specs.Prelude.{◌||◌, ◌^◌, flat_map, fold, is_some, min, nat_lt, option_to_list, slice_get, ⊤}
 use Rattle.std.specs.Option.{option_map}
-use Rattle.std.specs.List.{AllByRecursion, list_any}
+use Rattle.std.specs.List.{AllByRecursion, Contains, list_any}
 use Rattle.std.proofs.lemmas.List.{length-map}
 use Rattle.std.proofs.lemmas.Option.{same_Some}
 use Rattle.lists.specs.Each.{all_at}
 use Rattle.outside.specs.Faults.{Rose}
 use Rattle.outside.specs.Reads.{OnlyReads}
-use Rattle.outside.specs.Vault.{IsWhole, disk_in}
-use Rattle.outside.specs.declared.vault.Device.{Device}
-use Rattle.outside.specs.declared.vault.Device.TheVariants as devices
-use Rattle.outside.specs.declared.vault.Vault.{Vault}
+use Rattle.log_writer.specs.Vault.{IsWhole, disk_in}
+use Rattle.outside.specs.declared.device.Device.{Device}
+use Rattle.outside.specs.declared.device.Device.TheVariants as devices
+use Rattle.log_writer.specs.declared.vault.Vault.{Vault}
 use Rattle.serial_model.specs.Numbers.{last_epoch}
 use Rattle.serial_model.specs.declared.op.Op.{Op}
 use Rattle.script_grammar.specs.Script.{Round, keeper_lines, lines_of_worker}
@@ -20,8 +20,8 @@ use Rattle.wire_form.specs.declared.clock.Mark.{Mark}
 use Rattle.log_writer.specs.Points.{SaveState}
 use Rattle.log_writer.specs.declared.saved.Saved.{Saved}
 use Rattle.snapshot_store.specs.Store.{StoreState}
-use Rattle.recovery_core.specs.Images.{epoch_of}
-use Rattle.recovery_core.specs.VaultReads.{RoseIn}
+use Rattle.joint_crashes.specs.Images.{epoch_of}
+use Rattle.joint_crashes.specs.VaultReads.{RoseIn}
 use Rattle.tx_script.specs.Causes.{KeeperAt, keeper_after, keeper_at_end}
 use Rattle.tx_script.specs.Run.{Ran, is_limit}
 use Rattle.tx_script.specs.declared.answer.Answer.{Answer}
@@ -30,7 +30,7 @@ use Rattle.worker_logs.specs.Saves.{closed_number, logs_marks}
 use Rattle.worker_logs.specs.declared.savepoints.Beside.{Beside}
 use Rattle.worker_logs.specs.declared.savepoints.Side.{Side}
 use Rattle.worker_logs.specs.Rows.{NeverFall}
-use Rattle.round_engine.specs.Ends.{epoch_after, full_length, limit_at}
+use Rattle.round_engine.specs.Ends.{epoch_after, first_device, full_length, limit_at}
 use Rattle.round_engine.specs.Ends.{save_limited, wants_memory, where_true}
 use Rattle.round_engine.specs.Gleans.{AddsSnapshot, FailsIn, RoundGleans}
 use Rattle.round_engine.specs.Keeping.{IsSavedBySeen, Keeps, epoch_now, is_refusal, keeper_on}
@@ -121,12 +121,12 @@ rise_on low epoch (s ∷ stored) more rise le all = (rise.0, rise_on s.epoch epo
 -- ---- what the maintenance thread's lines were refused
 
 -- the device that its refusal names is the first of those that are told
-pub keeper_told : (failed : Option Saved) (broken : Option Device) (damaged : Option (Device × ℕ)) (said : List Answer)
-    → keeper_device (is_some failed) (option_to_list broken) ≡ device_in (refusal_told failed broken damaged said)
+pub keeper_told : (failed : Option Saved) (broken : List Device) (damaged : Option (Device × ℕ)) (said : List Answer)
+    → keeper_device (is_some failed) broken ≡ device_in (refusal_told failed (first_device broken) damaged said)
 keeper_told (Some saved) broken damaged said = refl
-keeper_told None (Some device) damaged said = refl
-keeper_told None None (Some damage) said = refl
-keeper_told None None None said = by_test (list_any wants_memory said)
+keeper_told None (device ∷ more) damaged said = refl
+keeper_told None [] (Some damage) said = refl
+keeper_told None [] None said = by_test (list_any wants_memory said)
   where
     by_test : (b : Bool) → None ≡ device_in (where_true b ends.Memory)
     by_test true = refl
@@ -170,24 +170,24 @@ keeper_end None None None said other = by_test (list_any wants_memory said)
     by_test false = tt
 
 -- of what was not refused nothing was told
-pub record NothingTold (failed : Option Saved) (broken : Option Device) (damaged : Option (Device × ℕ)) : Type 0 where
+pub record NothingTold (failed : Option Saved) (broken : List Device) (damaged : Option (Device × ℕ)) : Type 0 where
   pub failed_none : failed ≡ None
-  pub broken_none : broken ≡ None
+  pub broken_none : broken ≡ []
   pub damaged_none : damaged ≡ None
 
-pub none_told : (failed : Option Saved) (broken : Option Device) (damaged : Option (Device × ℕ)) (said : List Answer)
-    → refusal_told failed broken damaged said ≡ None → NothingTold failed broken damaged
+pub none_told : (failed : Option Saved) (broken : List Device) (damaged : Option (Device × ℕ)) (said : List Answer)
+    → refusal_told failed (first_device broken) damaged said ≡ None → NothingTold failed broken damaged
 none_told (Some saved) broken damaged said none = absurd cc
-none_told None (Some device) damaged said none = absurd cc
-none_told None None (Some damage) said none = absurd cc
-none_told None None None said none = record { failed_none = refl; broken_none = refl; damaged_none = refl }
+none_told None (device ∷ more) damaged said none = absurd cc
+none_told None [] (Some damage) said none = absurd cc
+none_told None [] None said none = record { failed_none = refl; broken_none = refl; damaged_none = refl }
 
 -- where no device was told neither the store nor a glean failed
-pub nothing_kept : (failed : Option Saved) (broken : Option Device) (damaged : Option (Device × ℕ)) (said : List Answer)
-    → device_in (refusal_told failed broken damaged said) ≡ None → (failed ≡ None) × (broken ≡ None)
+pub nothing_kept : (failed : Option Saved) (broken : List Device) (damaged : Option (Device × ℕ)) (said : List Answer)
+    → device_in (refusal_told failed (first_device broken) damaged said) ≡ None → (failed ≡ None) × (broken ≡ [])
 nothing_kept (Some saved) broken damaged said none = absurd cc
-nothing_kept None (Some device) damaged said none = absurd cc
-nothing_kept None None damaged said none = (refl, refl)
+nothing_kept None (device ∷ more) damaged said none = absurd cc
+nothing_kept None [] damaged said none = (refl, refl)
 
 -- a store that failed is told
 pub store_told : (failed : Option Saved) (broken : Option Device) (damaged : Option (Device × ℕ)) (said : List Answer)
@@ -316,19 +316,19 @@ module _ {D : Type 0} {tells : D → Option (List ℕ)} {clock : D → ℕ} {ima
       (ap (λ s. slice_get (closed_in s all.after) w) mid_side ∙ there)
 
   pub quiet_kept : (w : ℕ) (was is : D) → slice_get (closed_in old.side before) w ≡ Some was
-      → slice_get (closed_in old.side all.after) w ≡ Some is → all.keeper.broken ≢ Some (devices.Bank (closed_number old.side w))
-      → faults is ≡ faults was
+      → slice_get (closed_in old.side all.after) w ≡ Some is
+      → (Contains all.keeper.broken (devices.Bank (closed_number old.side w)) → ⊥) → faults is ≡ faults was
   quiet_kept w was is at there not = all.keeper.leaves.quietly.files w was is
       (ap (λ s. slice_get (closed_in s all.between) w) mid_side
       ∙ ap (λ l. slice_get l w) (closed_mid stands ready some start_many idle all) ∙ at)
       (ap (λ s. slice_get (closed_in s all.after) w) mid_side ∙ there)
-      (λ told. not (told ∙ ap (λ s. Some (devices.Bank (closed_number s w))) mid_side))
+      (λ told. not (subst (λ s. Contains all.keeper.broken (devices.Bank (closed_number s w))) mid_side told))
 
-  pub quiet_snaps_kept : all.keeper.broken ≢ Some devices.Snaps → faults all.after.snaps ≡ faults before.snaps
+  pub quiet_snaps_kept : (Contains all.keeper.broken devices.Snaps → ⊥) → faults all.after.snaps ≡ faults before.snaps
   quiet_snaps_kept not = all.keeper.leaves.quietly.snaps not ∙ ap faults (same_saves stands ready some start_many idle all).snaps
 
   -- a device that a glean told as failed
-  pub rose_kept : (device : Device) → all.keeper.broken ≡ Some device
+  pub rose_kept : (device : Device) → Contains all.keeper.broken device
       → IsBeside old.side device × RoseIn faults device before all.after
   rose_kept device told =
       let fails = all.keeper.leaves.fails device told in
@@ -377,7 +377,7 @@ module _ {D : Type 0} {tells : D → Option (List ℕ)} {clock : D → ℕ} {ima
   pub kept_snapshot : all.kept.store.sound ≡ true → HasSnapshot tells all.kept all.after.snaps
   kept_snapshot sound = all.keeper.leaves.snapshot (λ was. mid_snapshot) sound
 
-  pub kept_sound : all.keeper.broken ≢ Some devices.Snaps → all.kept.store.sound ≡ true
+  pub kept_sound : (Contains all.keeper.broken devices.Snaps → ⊥) → all.kept.store.sound ≡ true
   kept_sound not = all.keeper.leaves.sound not (ap (λ (s : StoreState). s.sound) mid_store ∙ (stands.up ready.up).store)
 
   seen_mid : seen_of all.mid ≡ seen_of old
@@ -436,20 +436,20 @@ module _ {D : Type 0} {tells : D → Option (List ℕ)} {clock : D → ℕ} {ima
           ∙ sym start_many ∙ sym all.lines.over.logs_length
 
   -- the device that lines were refused by, and the end that is the maintenance thread's
-  pub device_is : all.refused.device ≡ first_told (device_in (refusal_told all.keeper.failed all.keeper.broken all.keeper.damaged
+  pub device_is : all.refused.device ≡ first_told (device_in (refusal_told all.keeper.failed (first_device all.keeper.broken) all.keeper.damaged
       report.keeper)) (first_failed old.side 0 all.ends)
   device_is = all.device_is ∙ ap (λ k. first_told (device_in k) (first_failed old.side 0 all.ends)) all.keeper.refusal_is
 
   no_device : all.refused.device ≡ None
-      → (device_in (refusal_told all.keeper.failed all.keeper.broken all.keeper.damaged report.keeper) ≡ None)
+      → (device_in (refusal_told all.keeper.failed (first_device all.keeper.broken) all.keeper.damaged report.keeper) ≡ None)
       × (first_failed old.side 0 all.ends ≡ None)
   no_device none = first_told_none _ _ (sym device_is ∙ none)
 
   pub ends_so : IsKeeperEnd all.refused.device all.refused.keeper
   ends_so = subst (λ d. IsKeeperEnd d all.refused.keeper) (sym device_is)
-      (subst (λ k. IsKeeperEnd (first_told (device_in (refusal_told all.keeper.failed all.keeper.broken all.keeper.damaged
+      (subst (λ k. IsKeeperEnd (first_told (device_in (refusal_told all.keeper.failed (first_device all.keeper.broken) all.keeper.damaged
       report.keeper)) (first_failed old.side 0 all.ends)) k) (sym all.keeper.refusal_is)
-      (keeper_end all.keeper.failed all.keeper.broken all.keeper.damaged report.keeper (first_failed old.side 0 all.ends)))
+      (keeper_end all.keeper.failed (first_device all.keeper.broken) all.keeper.damaged report.keeper (first_failed old.side 0 all.ends)))
 
   pub refused_as : (logs : List LogState) (failed : Option Saved) (others : List Device)
       → IsRefusedAs (Told logs failed others) all.refused
@@ -459,9 +459,9 @@ module _ {D : Type 0} {tells : D → Option (List ℕ)} {clock : D → ℕ} {ima
     full = λ none. ap full_length (sym logs_refused)
         ∙ full_is_first old.side 0 all.ends (no_device none).1
         ∙ sym all.full_is;
-    damage = λ none. damage_told all.keeper.failed all.keeper.broken all.keeper.damaged report.keeper (no_device none).0
+    damage = λ none. damage_told all.keeper.failed (first_device all.keeper.broken) all.keeper.damaged report.keeper (no_device none).0
         ∙ ap damage_in (sym all.keeper.refusal_is);
-    memory = λ none undamaged. memory_told all.keeper.failed all.keeper.broken all.keeper.damaged report.keeper (no_device none).0 undamaged
+    memory = λ none undamaged. memory_told all.keeper.failed (first_device all.keeper.broken) all.keeper.damaged report.keeper (no_device none).0 undamaged
         ∙ ap memory_in (sym all.keeper.refusal_is);
     sequence = all.sequence_is
         ∙ ap (where_true (save_limited (keeper_lines round) report.keeper)) (ap (λ (k : KeeperAt). k.sequence) (sym (at_end logs failed others)));

@@ -11,18 +11,18 @@ use Rattle.lists.specs.Elements.{in_none}
 use Rattle.lists.specs.Fronts.{IsFront, front_none}
 use Rattle.lists.specs.declared.memory.Memory.{Memory}
 use Rattle.outside.specs.Reads.{OnlyReads}
-use Rattle.outside.specs.Vault.{IsWhole, disk_in}
-use Rattle.outside.specs.declared.vault.Device.{Device}
-use Rattle.outside.specs.declared.vault.Device.TheVariants as devices
-use Rattle.outside.specs.declared.vault.Vault.{Vault}
+use Rattle.log_writer.specs.Vault.{IsWhole, disk_in}
+use Rattle.outside.specs.declared.device.Device.{Device}
+use Rattle.outside.specs.declared.device.Device.TheVariants as devices
+use Rattle.log_writer.specs.declared.vault.Vault.{Vault}
 use Rattle.serial_model.specs.declared.op.Op.{Op}
 use Rattle.script_grammar.specs.Script.{Line, Round, keeper_lines, lines_of_worker, ops_of_worker}
 use Rattle.script_grammar.specs.Script.{worker_lines}
 use Rattle.log_writer.specs.Points.{SaveState, sequence_of}
 use Rattle.log_writer.specs.Save.{IsStored}
 use Rattle.snapshot_store.specs.Store.{StoreState}
-use Rattle.recovery_core.specs.Images.{epoch_of}
-use Rattle.recovery_core.specs.VaultReads.{reads_none}
+use Rattle.joint_crashes.specs.Images.{epoch_of}
+use Rattle.joint_crashes.specs.VaultReads.{reads_none}
 use Rattle.tx_script.specs.Causes.{LogsCaused, log_of}
 use Rattle.tx_script.specs.Run.{LogFailed, LogFull, Ran}
 use Rattle.tx_script.specs.declared.answer.Answer.TheVariants as answers

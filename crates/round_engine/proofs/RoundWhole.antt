@@ -5,7 +5,7 @@ use Rattle.std.specs.Prelude.{slice_get, Ok}
 use Rattle.std.specs.List.{AllByRecursion}
 use Rattle.std.proofs.lemmas.Option.{same_Some}
 use Rattle.lists.specs.Each.{all_at}
-use Rattle.outside.specs.declared.vault.Vault.{Vault}
+use Rattle.log_writer.specs.declared.vault.Vault.{Vault}
 use Rattle.serial_model.specs.declared.op.Op.{Op}
 use Rattle.script_grammar.specs.Script.{Round, lines_of_worker}
 use Rattle.worker_logs.specs.Logs.{IsJoined, LogState}

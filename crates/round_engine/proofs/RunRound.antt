@@ -4,8 +4,9 @@ use Rattle.std.proofs.Common.{Option, None, arith}
 use Rattle.std.specs.Prelude.{◌^◌, is_some}
 use Rattle.std.specs.List.{AllByRecursion}
 use Rattle.std.proofs.lemmas.List.{length-map}
-use Rattle.outside.specs.Vault.{IsWhole}
-use Rattle.outside.specs.declared.vault.Vault.{Vault}
+use Rattle.log_writer.specs.Vault.{IsWhole}
+use Rattle.outside.specs.declared.device.Device.TheVariants as devices
+use Rattle.log_writer.specs.declared.vault.Vault.{Vault}
 use Rattle.script_grammar.specs.Script.{Round, keeper_lines}
 use Rattle.log_writer.specs.Save.{IsStored}
 use Rattle.tx_script.specs.declared.answer.Answer.{Answer}
@@ -34,6 +35,7 @@ use Rattle.round_engine.proofs.LinesLeft.{lines_at}
 use Rattle.round_engine.proofs.Numbered.{closed_many, growing_many, whole_of}
 use Rattle.round_engine.proofs.Places.{map_there, nothing_there}
 use Rattle.round_engine.proofs.RoundDone.{map_same, same_closed_in}
+use Rattle.round_engine.proofs.GleanDevices.{nothing_in}
 use Rattle.round_engine.proofs.RoundKept.{counted_few, first_told_none, none_told}
 use Rattle.round_engine.proofs.Saved.{IsOver, over_begin, over_end}
 use Rattle.round_engine.proofs.SharesRun.{same_decls}
@@ -180,7 +182,7 @@ module _ {D : Type 0} {tells : D → Option (List ℕ)} {clock : D → ℕ} {ima
         let no_device = first_told_none (device_in refusal) (first_failed r.side 0 ends) (sym device_is ∙ none.device) in
         let up : kept.save.down ≡ None = nothing_there kept.save.down (keeper.keeps.down ∙ ap is_some told.failed_none) in
         let sound_kept : kept.store.sound ≡ true =
-        keeper.leaves.sound (λ is. absurd (let no = sym told.broken_none ∙ is in cc))
+        keeper.leaves.sound (λ has. nothing_in keeper.broken told.broken_none devices.Snaps has)
         (ap (λ (x : RuntimeState). x.store.sound) alone ∙ ready.sound) in
         record {
           whole = after_whole;

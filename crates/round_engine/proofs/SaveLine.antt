@@ -1,16 +1,16 @@
 -- A line of the maintenance thread that asks for a save.
 use Rattle.std.proofs.Common.{◌≡◌, ◌∙◌, ◌<◌, ◌+◌, ◌-◌, ◌++◌, ◌∷◌, inl, inr, sym, ap, subst, refl, ℕ, List, [], length, map}
 use Rattle.std.proofs.Common.{length-append, true, false, Option, Some, None, arith}
-use Rattle.std.specs.Prelude.{◌^◌, vec_len, Result, Ok, Err}
+use Rattle.std.specs.Prelude.{◌^◌, Result, Ok, Err}
 use Rattle.std.proofs.lemmas.Bool.{cases_eq}
-use Rattle.outside.specs.declared.vault.Tie.{Tie}
-use Rattle.outside.specs.declared.vault.Vault.{Vault}
+use Rattle.log_writer.specs.declared.records.Tie.{Tie}
+use Rattle.log_writer.specs.declared.vault.Vault.{Vault}
 use Rattle.script_grammar.specs.declared.lines.KeeperLine.TheVariants as asks
 use Rattle.wire_form.specs.declared.clock.Mark.{Mark}
 use Rattle.log_writer.specs.Points.{SaveState, sequence_of}
 use Rattle.log_writer.specs.declared.save.SaveFault.{SaveFault}
 use Rattle.log_writer.specs.declared.save.SaveFault.TheVariants.{Device, Down, Limit}
-use Rattle.recovery_core.specs.Images.{epoch_of}
+use Rattle.joint_crashes.specs.Images.{epoch_of}
 use Rattle.tx_script.specs.Causes.{last_sequence}
 use Rattle.tx_script.specs.declared.answer.Answer.{Answer}
 use Rattle.tx_script.specs.declared.answer.Answer.TheVariants as answers
@@ -42,11 +42,6 @@ sequence_left n counted differs = elim (cases_eq n (2 ^ 63 - 1)) [
   | inl same ↦ absurd (differs same)
   | inr other ↦ omega (arith, counted, other)
 ]
-
-longer : {D : Type 0} (vault now : Vault D) (tie : Tie) → now.ties.items ≡ vault.ties.items ++ tie ∷ []
-    → vec_len now.ties ≡ vec_len vault.ties + 1
-longer vault now tie tied = now.ties.ok.0 ∙ ap length tied ∙ length-append vault.ties.items (tie ∷ [])
-    ∙ ap (λ n. n + 1) (sym vault.ties.ok.0)
 
 tells_save : (epoch : ℕ) → TellsNone (answers.Save epoch)
 tells_save epoch = record { none = refl; beside = λ b. refl }
@@ -99,12 +94,11 @@ module _ {D : Type 0} {tells : D → Option (List ℕ)} {clock : D → ℕ} {ima
     saved_line : (epoch : ℕ) (saves : Saves (Ok epoch))
         → RunsKeeper tells clock image_at faults (asks.Save ∷ []) (answers.Save epoch ∷ []) None r (with_save r save) vault now
     saved_line epoch saves =
-        let long = longer vault now (tie_after r.save.newest (clock vault.snaps) (Some (clock now.save))) saves.tied in
         record {
           stored = saves.saved ∷ [];
           failed = None;
           gleans = [];
-          broken = None;
+          broken = [];
           damaged = None;
           keeps = keeps_saves r (Ok epoch) saves ready.up ready.stored;
           by_lines = (saves.saved, [], refl, by_marks (Ok epoch) saves, refl);
@@ -139,8 +133,7 @@ module _ {D : Type 0} {tells : D → Option (List ℕ)} {clock : D → ℕ} {ima
             saves.by_marks.epoch,
             saved_epoch_less r.stands.clock.epoch (map (λ (m : Mark). m.epoch) (logs_marks r.logs)),
           );
-          ties = omega (arith, long);
-          capacity = saves.capacity;
+          tie_room = saves.room;
           cut_room = saves.cuts;
         }
 
@@ -148,12 +141,11 @@ module _ {D : Type 0} {tells : D → Option (List ℕ)} {clock : D → ℕ} {ima
         → RunsKeeper tells clock image_at faults (asks.Save ∷ []) (answers.Device ∷ []) (save_refusal answers.Device)
         r (with_save r save) vault now
     failed_line saves =
-        let long = longer vault now (tie_after r.save.newest (clock vault.snaps) None) (saves.begun refl) in
         record {
           stored = [];
           failed = Some saves.saved;
           gleans = [];
-          broken = None;
+          broken = [];
           damaged = None;
           keeps = keeps_saves r (Err Device) saves ready.up ready.stored;
           by_lines = refl;
@@ -177,8 +169,7 @@ module _ {D : Type 0} {tells : D → Option (List ℕ)} {clock : D → ℕ} {ima
             tt,
           );
           above = λ low. omega (arith, low, ap epoch_of saves.stores.kept);
-          ties = omega (arith, long);
-          capacity = saves.capacity;
+          tie_room = saves.room;
           cut_room = saves.cuts;
         }
 

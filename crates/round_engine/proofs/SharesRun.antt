@@ -10,7 +10,7 @@ use Rattle.std.proofs.lemmas.Option.{same_Some}
 use Rattle.lists.specs.Each.{all_weaker}
 use Rattle.lists.specs.Elements.{in_cases, in_head, in_none, in_tail}
 use Rattle.wire_form.specs.LogFile.{IsLineOf}
-use Rattle.recovery_core.specs.Marks.{IsAbove}
+use Rattle.joint_crashes.specs.Marks.{IsAbove}
 use Rattle.serial_model.specs.History.{Entry, Rises, state_after}
 use Rattle.serial_model.specs.State.{State}
 use Rattle.serial_model.specs.declared.decl.Decl.{Decl}

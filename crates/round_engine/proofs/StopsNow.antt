@@ -4,13 +4,13 @@ use Rattle.std.proofs.Common.{Some, arith}
 use Rattle.std.specs.Prelude.{map, slice_get}
 use Rattle.std.specs.List.{Contains}
 use Rattle.std.proofs.lemmas.Option.{same_Some}
-use Rattle.outside.specs.declared.vault.Device.TheVariants.{Bank}
-use Rattle.outside.specs.declared.vault.Tie.{Tie}
+use Rattle.outside.specs.declared.device.Device.TheVariants.{Bank}
+use Rattle.log_writer.specs.declared.records.Tie.{Tie}
 use Rattle.log_writer.specs.declared.saved.Saved.{Saved}
-use Rattle.recovery_core.specs.Cutting.{AreReady}
-use Rattle.recovery_core.specs.JointCrash.{CrashesNow, HasCut, Moments, Parts}
-use Rattle.recovery_core.specs.Story.{BankReady, IsTold, Story}
-use Rattle.recovery_core.specs.Crashes.Instants.{now_ready}
+use Rattle.joint_crashes.specs.Cutting.{AreReady}
+use Rattle.joint_crashes.specs.JointCrash.{CrashesNow, HasCut, Moments, Parts}
+use Rattle.joint_crashes.specs.Story.{BankReady, IsTold, Story}
+use Rattle.joint_crashes.specs.Crashes.Instants.{now_ready}
 use Rattle.worker_logs.specs.Rows.{NeverFall}
 
 -- ---- numbers that never fall

@@ -6,14 +6,14 @@ use Rattle.std.specs.Option.{option_map}
 use Rattle.std.proofs.lemmas.Bool.Decides.{nat_tests}
 use Rattle.lists.specs.Fronts.{IsFront}
 use Rattle.outside.specs.Fronts.{AllBegin}
-use Rattle.outside.specs.declared.vault.Tie.{Tie}
+use Rattle.log_writer.specs.declared.records.Tie.{Tie}
 use Rattle.wire_form.specs.declared.savepoint.Savepoint.{Savepoint}
 use Rattle.log_writer.specs.Points.{point_of, sequence_of}
 use Rattle.log_writer.specs.Save.{Names}
 use Rattle.log_writer.specs.declared.saved.Saved.{Saved}
-use Rattle.recovery_core.specs.Images.{count_of, counted_of}
-use Rattle.recovery_core.specs.JointCrash.{Moments, Parts}
-use Rattle.recovery_core.specs.Story.{BankOpen, BankTold, IsTold, SaveTold, SnapsTold, Story}
+use Rattle.joint_crashes.specs.Images.{count_of, counted_of}
+use Rattle.joint_crashes.specs.JointCrash.{Moments, Parts}
+use Rattle.joint_crashes.specs.Story.{BankOpen, BankTold, IsTold, SaveTold, SnapsTold, Story}
 use Rattle.round_engine.specs.Crashes.{BankShut, IsSameUpTo}
 use Rattle.round_engine.specs.Saves.{GoesOnWith}
 

@@ -8,18 +8,18 @@ use Rattle.std.proofs.lemmas.List.{append-nil}
 use Rattle.std.proofs.lemmas.List.Elements.{Contains-append_left, Contains-push, Contains-push_cases}
 use Rattle.std.proofs.lemmas.Option.{same_Some}
 use Rattle.lists.specs.Elements.{in_head, in_tail}
-use Rattle.outside.specs.Cuts.{bank_keeps_bank, bank_keeps_snaps}
-use Rattle.outside.specs.Vault.{IsWhole, disk_in}
+use Rattle.log_writer.specs.Cuts.{bank_keeps_bank, bank_keeps_snaps}
+use Rattle.log_writer.specs.Vault.{IsWhole, disk_in}
 use Rattle.outside.specs.declared.fault.Failed.{Failed}
-use Rattle.outside.specs.declared.vault.Cut.{Cut}
-use Rattle.outside.specs.declared.vault.Device.{Device}
-use Rattle.outside.specs.declared.vault.Device.TheVariants.{Bank}
-use Rattle.outside.specs.declared.vault.Vault.{Vault}
-use Rattle.recovery_core.specs.Cutting.{AreCut, AreReady, AreToldIn, CutsLeave, HadEnded}
-use Rattle.recovery_core.specs.JointCrash.{HasCut, Moments, parts_of}
-use Rattle.recovery_core.specs.VaultReads.{some_of}
-use Rattle.recovery_core.specs.Story.{BankReady, Story}
-use Rattle.recovery_core.specs.Crashes.VaultCuts.{still_there, still_told, vault_begun, vault_done}
+use Rattle.log_writer.specs.declared.records.Cut.{Cut}
+use Rattle.outside.specs.declared.device.Device.{Device}
+use Rattle.outside.specs.declared.device.Device.TheVariants.{Bank}
+use Rattle.log_writer.specs.declared.vault.Vault.{Vault}
+use Rattle.joint_crashes.specs.Cutting.{AreCut, AreReady, AreToldIn, CutsLeave, HadEnded}
+use Rattle.joint_crashes.specs.JointCrash.{HasCut, Moments, parts_of}
+use Rattle.joint_crashes.specs.VaultReads.{some_of}
+use Rattle.joint_crashes.specs.Story.{BankReady, Story}
+use Rattle.joint_crashes.specs.Crashes.VaultCuts.{still_there, still_told, vault_begun, vault_done}
 use Rattle.round_engine.specs.Crashes.{StaysReady}
 use Rattle.round_engine.specs.Swaps.{CutsBank, CutsBanks}
 

@@ -7,8 +7,8 @@ use Rattle.std.proofs.lemmas.Bool.{cases_Bool}
 use Rattle.std.proofs.lemmas.List.{length-map}
 use Rattle.std.proofs.lemmas.Option.{same_Some}
 use Rattle.outside.specs.Faults.{Rose}
-use Rattle.outside.specs.Vault.{IsWhole}
-use Rattle.outside.specs.declared.vault.Vault.{Vault}
+use Rattle.log_writer.specs.Vault.{IsWhole}
+use Rattle.log_writer.specs.declared.vault.Vault.{Vault}
 use Rattle.wire_form.specs.declared.clock.Mark.{Mark}
 use Rattle.log_writer.specs.Journal.{Reaches}
 use Rattle.log_writer.specs.Points.{SaveState, sequence_of}
@@ -21,7 +21,7 @@ use Rattle.worker_logs.specs.Saves.{logs_marks}
 use Rattle.worker_logs.specs.declared.savepoints.Side.{Side}
 use Rattle.round_engine.specs.Keeping.{Keeps}
 use Rattle.round_engine.specs.Phases.{SwapsBehind, ended_as, made}
-use Rattle.round_engine.specs.Saves.{HaveEnded}
+use Rattle.round_engine.specs.Saves.{AreTied, HaveEnded}
 use Rattle.round_engine.specs.Sides.{closed_numbers, growing_in, other_side}
 use Rattle.round_engine.specs.Standing.{HasSnapshot, IsMarkBefore, RuntimeState, StandsOn}
 use Rattle.round_engine.specs.Swaps.{CutsBanks, turned, turned_unless}
@@ -223,6 +223,7 @@ module _ {D : Type 0} {tells : D → Option (List ℕ)} {clock : D → ℕ} {ima
         later = subst (λ d. faults before.save ≤ faults d) (sym same.save) k.later;
         quiet = λ none. ap faults same.save ∙ k.quiet none;
         rose = λ is. subst (λ d. Rose (faults before.save) (faults d)) (sym same.save) (k.rose is);
+        ties_are = subst (λ t. AreTied old.save.newest stored failed before.ties.items t) (sym same.ties) k.ties_are;
         ended = subst (λ t. HaveEnded old.save.newest stored t) (sym same.ties) k.ended;
         ties_stay = λ tie has. subst (λ t. Contains t tie) (sym same.ties) (k.ties_stay tie has);
         grows = (k.grows.0, ap (λ (s : StoreState). s.pages) store ∙ k.grows.1);

@@ -3,17 +3,17 @@ use Rattle.std.proofs.Common.{◌≡◌, ◌∙◌, sym, ap, subst, refl, ℕ}
 use Rattle.std.proofs.Common.{List, length, Bool, true, false, cond, Option}
 use Rattle.std.specs.Prelude.{map, is_some, not}
 use Rattle.std.proofs.lemmas.List.{length-map}
-use Rattle.outside.specs.Vault.{IsWhole, disk_in}
-use Rattle.outside.specs.declared.vault.Cut.{Cut}
-use Rattle.outside.specs.declared.vault.Device.TheVariants.{Bank}
-use Rattle.outside.specs.declared.vault.Vault.{Vault}
+use Rattle.log_writer.specs.Vault.{IsWhole, disk_in}
+use Rattle.log_writer.specs.declared.records.Cut.{Cut}
+use Rattle.outside.specs.declared.device.Device.TheVariants.{Bank}
+use Rattle.log_writer.specs.declared.vault.Vault.{Vault}
 use Rattle.serial_model.specs.declared.number.Commit.{Commit}
 use Rattle.log_writer.specs.Points.{sequence_of}
 use Rattle.worker_logs.specs.Logs.{reset_log}
 use Rattle.worker_logs.specs.Saves.{growing_number}
-use Rattle.recovery_core.specs.JointCrash.{Parts}
-use Rattle.recovery_core.specs.JointCrash.{parts_of}
-use Rattle.recovery_core.specs.Crashes.ToldSteps.{parts}
+use Rattle.joint_crashes.specs.JointCrash.{Parts}
+use Rattle.joint_crashes.specs.JointCrash.{parts_of}
+use Rattle.joint_crashes.specs.Crashes.ToldSteps.{parts}
 use Rattle.tx_script.specs.Run.{Ran}
 use Rattle.round_engine.specs.Ends.{comes_to_swap}
 use Rattle.round_engine.specs.Ends.{swaps}

@@ -7,20 +7,20 @@ use Rattle.std.proofs.lemmas.List.{append-nil}
 use Rattle.std.proofs.lemmas.Option.{same_Some}
 use Rattle.lists.specs.Elements.{in_cases, in_none}
 use Rattle.lists.specs.Fronts.{IsFront, front_length, front_refl}
-use Rattle.outside.specs.Vault.{IsWhole, disk_in}
-use Rattle.outside.specs.declared.vault.Device.{Device}
-use Rattle.outside.specs.declared.vault.Device.TheVariants as devices
-use Rattle.outside.specs.declared.vault.Vault.{Vault}
+use Rattle.log_writer.specs.Vault.{IsWhole, disk_in}
+use Rattle.outside.specs.declared.device.Device.{Device}
+use Rattle.outside.specs.declared.device.Device.TheVariants as devices
+use Rattle.log_writer.specs.declared.vault.Vault.{Vault}
 use Rattle.serial_model.specs.declared.number.Commit.{Commit}
 use Rattle.wire_form.specs.LogFile.{lines_bytes}
 use Rattle.wire_form.specs.declared.clock.Mark.{Mark}
 use Rattle.log_writer.specs.Journal.{Reaches}
 use Rattle.log_writer.specs.Points.{sequence_of}
 use Rattle.log_writer.specs.declared.saved.Saved.{Saved}
-use Rattle.recovery_core.specs.Crashes.Marking.{mark_set}
-use Rattle.recovery_core.specs.Images.{counted_of, epoch_of}
-use Rattle.recovery_core.specs.Marks.{IsAbove}
-use Rattle.recovery_core.specs.VaultReads.{RoseIn}
+use Rattle.joint_crashes.specs.Crashes.Marking.{mark_set}
+use Rattle.joint_crashes.specs.Images.{counted_of, epoch_of}
+use Rattle.joint_crashes.specs.Marks.{IsAbove}
+use Rattle.joint_crashes.specs.VaultReads.{RoseIn}
 use Rattle.tx_script.specs.Causes.{keeper_at_end, last_sequence, log_of, some_counted}
 use Rattle.tx_script.specs.Run.{LogFailed, LogRefusal, Ran}
 use Rattle.worker_logs.specs.Logs.{IsLog, IsMarkOf, LogState, reset_log}
@@ -480,6 +480,7 @@ module _ {D : Type 0} {tells : D → Option (List ℕ)} {clock : D → ℕ} {ima
           );
           asked = asked;
         };
+        ties_are = keeps.ties_are;
         ended = keeps.ended;
         ties_stay = keeps.ties_stay;
         save_told = keeps.told;

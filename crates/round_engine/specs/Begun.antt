@@ -1,19 +1,51 @@
 -- How a runtime begins.
-use Rattle.std.specs.Prelude.{◌-◌, ℕ, List, [], replicate, false}
+use Rattle.std.specs.Prelude.{◌≡◌, ◌-◌, ℕ, List, [], replicate, false}
 use Rattle.serial_model.specs.State.{State}
 use Rattle.serial_model.specs.declared.decl.Decl.{Decl}
+use Rattle.serial_model.specs.declared.key.Key.{Key}
 use Rattle.serial_model.specs.declared.number.Number.{Number}
+use Rattle.homes.specs.declared.places.Content.{Content}
+use Rattle.wire_form.specs.Pages.{Contents}
 use Rattle.log_writer.specs.Points.{SaveState}
+use Rattle.snapshot_store.specs.Content.{SnapshotStands}
 use Rattle.snapshot_store.specs.Store.{StoreState}
+use Rattle.commit_core.specs.Keys.{content_at}
+use Rattle.array_opening.specs.Opening.{stands_in}
 use Rattle.worker_logs.specs.Logs.{fresh_log}
 use Rattle.worker_logs.specs.declared.savepoints.Side.TheVariants.{Even}
+use Rattle.shared_rounds.specs.Standing.{Standing}
+use Rattle.round_engine.specs.Powers.{SharesWords}
 use Rattle.round_engine.specs.Standing.{RuntimeState}
+
+-- the engine in a state, with what stood at keys as its words were made, at this number
+abbrev pub begins_at : List Decl → State → List (Key × Content) → Number → Standing
+begins_at decls state opening first = record {
+  decls = decls;
+  state = state;
+  opening = opening;
+  clock = first;
+  mine = [];
+  conflicts = 0;
+  ended = false;
+}
+
+-- Words that threads share open with the records of the snapshot whose catalogue has this number: at each key of an
+-- array with its value and with its number, and as never written where no page has a record.
+abbrev pub OpensOn : List (List ℕ) → ℕ → Standing → Type 0
+OpensOn pages number s = SharesWords s → (contents : Contents) → SnapshotStands pages number contents → (key : Key)
+    → content_at s.opening key ≡ stands_in pages contents.storages key
+
+-- An engine begins in this state, at this number, and opens with the records of that snapshot.
+pub record Begins (pages : List (List ℕ)) (number : ℕ) (decls : List Decl) (state : State) (first : Number)
+    (s : Standing) : Type 0 where
+  pub stands : s ≡ begins_at decls state s.opening first
+  pub opens : OpensOn pages number s
 
 -- In a settled state with its stores, at this number, with so many pages let in. All log files are empty: those of even
 -- number grow, with empty logs marked at the epoch before, which is also that at which the others were closed.
-abbrev pub begun : List Decl → State → SaveState → StoreState → ℕ → Number → RuntimeState
-begun decls state save store room first = record {
-  stands = record { decls = decls; state = state; clock = first; mine = []; conflicts = 0; ended = false };
+abbrev pub begun : List Decl → State → List (Key × Content) → SaveState → StoreState → ℕ → Number → RuntimeState
+begun decls state opening save store room first = record {
+  stands = begins_at decls state opening first;
   save = save;
   store = store;
   room = room;

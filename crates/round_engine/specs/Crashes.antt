@@ -5,9 +5,9 @@ use Rattle.std.specs.Prelude.{◌≡◌, ◌<◌, ◌≤◌, ◌+◌, ◌++◌, 
 use Rattle.std.specs.Prelude.{map, slice_get, take, true}
 use Rattle.lists.specs.Fronts.{IsFront}
 use Rattle.outside.specs.Fronts.{AllBegin}
-use Rattle.outside.specs.Vault.{disk_in}
-use Rattle.outside.specs.declared.vault.Device.TheVariants.{Bank}
-use Rattle.outside.specs.declared.vault.Vault.{Vault}
+use Rattle.log_writer.specs.Vault.{disk_in}
+use Rattle.outside.specs.declared.device.Device.TheVariants.{Bank}
+use Rattle.log_writer.specs.declared.vault.Vault.{Vault}
 use Rattle.serial_model.specs.declared.number.Commit.{Commit}
 use Rattle.wire_form.specs.LogFile.{lines_bytes}
 use Rattle.log_writer.specs.Points.{point_of, sequence_of}
@@ -15,10 +15,10 @@ use Rattle.log_writer.specs.declared.saved.Saved.{Saved}
 use Rattle.snapshot_store.specs.Store.{bytes_of_pages, StoreState}
 use Rattle.worker_logs.specs.Saves.{CountsOf, closed_number, growing_number}
 use Rattle.worker_logs.specs.Rows.{NeverFall}
-use Rattle.recovery_core.specs.Images.{Images, epoch_of}
-use Rattle.recovery_core.specs.JointCrash.{CrashesNow, HasCut, IsJointCrash, IsSince, KeepsCrashes, Moments, Parts}
-use Rattle.recovery_core.specs.JointCrash.{parts_of}
-use Rattle.recovery_core.specs.Story.{BankOpen, BankReady, IsTold, StandsFor, Story}
+use Rattle.joint_crashes.specs.Images.{Images, epoch_of}
+use Rattle.joint_crashes.specs.JointCrash.{CrashesNow, HasCut, IsJointCrash, IsSince, KeepsCrashes, Moments, Parts}
+use Rattle.joint_crashes.specs.JointCrash.{parts_of}
+use Rattle.joint_crashes.specs.Story.{BankOpen, BankReady, IsTold, StandsFor, Story}
 use Rattle.tx_script.specs.Run.{Ran}
 use Rattle.round_engine.specs.Ends.{comes_to_swap, swaps}
 use Rattle.round_engine.specs.Logs.{AreClosedFiles, AreLogs}

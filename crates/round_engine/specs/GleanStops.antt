@@ -1,10 +1,10 @@
 -- What a glean that is asked for by itself leaves of the crashes of all devices.
 use Rattle.std.specs.Prelude.{◌≡◌, ℕ, List, Option, true}
-use Rattle.outside.specs.declared.vault.Vault.{Vault}
+use Rattle.log_writer.specs.declared.vault.Vault.{Vault}
 use Rattle.serial_model.specs.declared.number.Commit.{Commit}
 use Rattle.log_writer.specs.Points.{sequence_of}
-use Rattle.recovery_core.specs.JointCrash.{CrashesNow, KeepsCrashes, Moments, parts_of}
-use Rattle.recovery_core.specs.Story.{IsTold, Story}
+use Rattle.joint_crashes.specs.JointCrash.{CrashesNow, KeepsCrashes, Moments, parts_of}
+use Rattle.joint_crashes.specs.Story.{IsTold, Story}
 use Rattle.round_engine.specs.Crashes.{KnowsBefore}
 use Rattle.round_engine.specs.Standing.{RuntimeState}
 

@@ -1,6 +1,6 @@
 -- What the gleans of a round find and leave.
 use Rattle.std.specs.Prelude.{◌≡◌, ◌≢◌, ◌*◌, ◌≤◌, ◌<◌, ◌+◌, ◌^◌, ◌++◌, ◌||◌, ℕ, Bool, List, length, not, replicate}
-use Rattle.std.specs.Prelude.{Option, Some, None, true}
+use Rattle.std.specs.Prelude.{Option, Some, None, option_to_list, true}
 use Rattle.std.specs.Prelude.{false, is_some, slice_get, OnErr, OnOk, Result, Ok, Err}
 use Rattle.std.specs.List.{AllByRecursion, Contains}
 use Rattle.lists.specs.declared.memory.OrMemory.{OrMemory}
@@ -9,15 +9,16 @@ use Rattle.outside.specs.Disk.{IfTold}
 use Rattle.outside.specs.Faults.{Rose}
 use Rattle.outside.specs.Fronts.{AllBegin}
 use Rattle.outside.specs.Reads.{OnlyReads}
-use Rattle.outside.specs.declared.vault.Device.{Device}
-use Rattle.outside.specs.declared.vault.Device.TheVariants.{Bank, Snaps}
-use Rattle.outside.specs.declared.vault.Vault.{Vault}
+use Rattle.outside.specs.declared.device.Device.{Device}
+use Rattle.outside.specs.declared.device.Device.TheVariants.{Bank, Snaps}
+use Rattle.log_writer.specs.declared.vault.Vault.{Vault}
 use Rattle.wire_form.specs.Pages.{Contents}
 use Rattle.wire_form.specs.declared.page.Page.{Page}
 use Rattle.snapshot_store.specs.Content.{CatalogueAt, words_of}
 use Rattle.snapshot_store.specs.Store.{bytes_of_pages, Holds, IsWhole, KeepsFront, StoreState}
 use Rattle.serial_model.specs.declared.decl.Decl.{Decl}
-use Rattle.gleaner.specs.Glean.{bank_of, IsDamagedFile, IsGleaned, none_counted, Refuses, WouldBeDeep, WouldBeMany}
+use Rattle.gleaner.specs.Glean.{bank_of, FailsBeside, IsDamagedFile, IsGleaned, IsToldBefore, none_counted, Refuses}
+use Rattle.gleaner.specs.Glean.{WouldBeDeep, WouldBeMany}
 use Rattle.gleaner.specs.declared.closed.Closed.{Closed}
 use Rattle.gleaner.specs.declared.closed.Newest.{Newest}
 use Rattle.gleaner.specs.declared.gleaning.GleanFault.{GleanFault}
@@ -108,12 +109,12 @@ module _ {D : Type 0} (tells : D → Option (List ℕ)) (clock : D → ℕ) (ima
     pub reads : (worker : ℕ) (was is : D) → slice_get (closed_in r.side before) worker ≡ Some was
         → slice_get (closed_in r.side now) worker ≡ Some is → OnlyReads tells clock image_at faults was is
 
-  -- No count of faults rose, but that of this device, if there is one.
-  pub record GleansQuietly (r : RuntimeState) (failed : Option Device) (before now : Vault D) : Type 0 where
-    pub snaps : failed ≢ Some Snaps → faults now.snaps ≡ faults before.snaps
+  -- No count of faults rose, but those of these devices.
+  pub record GleansQuietly (r : RuntimeState) (failed : List Device) (before now : Vault D) : Type 0 where
+    pub snaps : (Contains failed Snaps → ⊥) → faults now.snaps ≡ faults before.snaps
     pub files : (worker : ℕ) (was is : D) → slice_get (closed_in r.side before) worker ≡ Some was
-        → slice_get (closed_in r.side now) worker ≡ Some is → failed ≢ Some (Bank (closed_number r.side worker))
-        → faults is ≡ faults was
+        → slice_get (closed_in r.side now) worker ≡ Some is
+        → (Contains failed (Bank (closed_number r.side worker)) → ⊥) → faults is ≡ faults was
 
   -- this device failed: that of the snapshots, or a closed log file
   abbrev pub FailsIn : RuntimeState → Device → Vault D → Vault D → Type 0
@@ -145,6 +146,10 @@ abbrev pub device_of_glean : Result Gleaned (OrMemory GleanFault) → Option Dev
 device_of_glean (Err (or.Fault (refusals.Device device))) = Some device
 device_of_glean _ = None
 
+-- and all that failed: the closed log file beside it, too
+abbrev pub devices_of_glean : Result Gleaned (OrMemory GleanFault) → Option Device → List Device
+devices_of_glean result beside = option_to_list (device_of_glean result) ++ option_to_list beside
+
 module _ {D : Type 0} (tells : D → Option (List ℕ)) (clock : D → ℕ) (image_at : D → ℕ → List ℕ → Type 0)
     (faults : D → ℕ) where
   -- What a glean answers where bytes of the closed log files count: a snapshot of the epoch at which they were closed;
@@ -167,9 +172,15 @@ module _ {D : Type 0} (tells : D → Option (List ℕ)) (clock : D → ℕ) (ima
       × ComesTo tells old before count × AddsNothing old new before now
   AnswersGlean old new before now (Err or.Memory) = AddsNothing old new before now
 
+  -- A closed log file failed beside what is told: that of a lower one, or want of memory.
+  pub record AlsoFails (r : RuntimeState) (before now : Vault D) (result : Result Gleaned (OrMemory GleanFault))
+      (device : Device) : Type 0 where
+    pub fails : FailsIn tells clock image_at faults r device before now
+    pub later : IsToldBefore result device
+
   -- A glean: nothing is done exactly where no byte of the closed log files counts.
   pub record Gleans (old new : RuntimeState) (before now : Vault D) (result : Result Gleaned (OrMemory GleanFault))
-      : Type 0 where
+      (beside : Option Device) : Type 0 where
     pub alone : GleansAlone old new
     pub sized : length (bytes_of_pages old.store.pages) ≤ 512 * length old.store.pages
     pub grows : (more : List Page) × (new.store.pages ≡ old.store.pages ++ more)
@@ -177,7 +188,8 @@ module _ {D : Type 0} (tells : D → Option (List ℕ)) (clock : D → ℕ) (ima
     pub ties : now.ties ≡ before.ties
     pub cuts : now.cuts ≡ before.cuts
     pub over : GleansOver tells clock image_at faults old before now
-    pub quietly : GleansQuietly tells clock image_at faults old (device_of_glean result) before now
+    pub also : (device : Device) → beside ≡ Some device → AlsoFails old before now result device
+    pub quietly : GleansQuietly tells clock image_at faults old (devices_of_glean result beside) before now
     pub none : some_counted old.counted ≡ false → (result ≡ Ok Empty) × AddsNothing old new before now
         × (closed_in old.side now ≡ closed_in old.side before)
     pub answers : some_counted old.counted ≡ true → AnswersGlean old new before now result
@@ -194,16 +206,17 @@ ended_if failed r = record r { stands = record r.stands { ended = r.stands.ended
 -- A glean that is asked for by itself.
 pub record GleansAsked {D : Type 0} (tells : D → Option (List ℕ)) (clock : D → ℕ) (image_at : D → ℕ → List ℕ → Type 0)
     (faults : D → ℕ) (old new : RuntimeState) (before now : Vault D) (result : Result Gleaned (OrMemory GleanFault))
-    : Type 0 where
+    (beside : Option Device) : Type 0 where
   pub gleaned : RuntimeState
-  pub gleans : Gleans tells clock image_at faults old gleaned before now result
-  pub new_is : new ≡ ended_if (is_some (device_of_glean result)) gleaned
+  pub gleans : Gleans tells clock image_at faults old gleaned before now result beside
+  pub new_is : new ≡ ended_if (is_some (device_of_glean result) || is_some beside) gleaned
   pub stands : StandsOn tells clock image_at new now
 
 -- What a glean over these log files, pages and snapshots left, as gleaner says it.
 pub record GleansFiles {D : Type 0} (tells : D → Option (List ℕ)) (clock : D → ℕ) (image_at : D → ℕ → List ℕ → Type 0)
     (faults : D → ℕ) (decls : List Decl) (newest : Newest) (closed : Closed) (room : ℕ) (store_was store : StoreState)
-    (snaps_was snaps : D) (files_was files : List D) (result : Result Gleaned (OrMemory GleanFault)) : Type 0 where
+    (snaps_was snaps : D) (files_was files : List D) (result : Result Gleaned (OrMemory GleanFault))
+    (beside : Option Device) : Type 0 where
   pub none : none_counted closed.lengths ≡ true → (result ≡ Ok Empty) × (snaps ≡ snaps_was) × (files ≡ files_was)
       × (store ≡ store_was)
   pub some : none_counted closed.lengths ≡ false → result ≢ Ok Empty
@@ -227,9 +240,11 @@ pub record GleansFiles {D : Type 0} (tells : D → Option (List ℕ)) (clock : D
   pub grows : (more : List Page) × (store.pages ≡ store_was.pages ++ more)
   pub front : KeepsFront clock image_at (512 * length store_was.pages) snaps_was snaps
   pub told : is_some (tells snaps) ≡ is_some (tells snaps_was)
+  pub also : (device : Device) → beside ≡ Some device → FailsBeside faults closed files_was files result device
   pub quiet_snaps : result ≢ Err (or.Fault (refusals.Device Snaps)) → faults snaps ≡ faults snaps_was
   pub quiet_files : (worker : ℕ) (was is : D) → slice_get files_was worker ≡ Some was → slice_get files worker ≡ Some is
-      → result ≢ Err (or.Fault (refusals.Device (Bank (bank_of closed.odd worker)))) → faults is ≡ faults was
+      → result ≢ Err (or.Fault (refusals.Device (Bank (bank_of closed.odd worker))))
+      → beside ≢ Some (Bank (bank_of closed.odd worker)) → faults is ≡ faults was
   pub reads : (worker : ℕ) (was is : D) → slice_get files_was worker ≡ Some was → slice_get files worker ≡ Some is
       → OnlyReads tells clock image_at faults was is
   pub many : length files ≡ length files_was
@@ -254,19 +269,19 @@ pub record RoundGleans {D : Type 0} (tells : D → Option (List ℕ)) (said : Li
   pub undamaged : (Contains said answers.Damaged → ⊥) → damaged ≡ None
   pub many : new.store.sound ≡ true → length new.store.pages ≡ (beside_at_end (beside_of old) said).count
 
--- What gleans of a round leave besides, of which this device is told as failed: what counts of the closed log files, a
+-- What gleans of a round leave besides, in which these devices failed: what counts of the closed log files, a
 -- newest snapshot that stands, and the devices.
 pub record LeaveGleans {D : Type 0} (tells : D → Option (List ℕ)) (clock : D → ℕ) (image_at : D → ℕ → List ℕ → Type 0)
-    (faults : D → ℕ) (said : List Answer) (broken : Option Device) (old new : RuntimeState) (before now : Vault D)
+    (faults : D → ℕ) (said : List Answer) (broken : List Device) (old new : RuntimeState) (before now : Vault D)
     : Type 0 where
   pub room : new.room ≡ old.room
   pub side : new.side ≡ old.side
   pub closed_at : new.closed_at ≡ old.closed_at
   pub counted : new.counted ≡ (beside_at_end (beside_of old) said).closed
   pub grows : (more : List Page) × (new.store.pages ≡ old.store.pages ++ more)
-  pub sound : broken ≢ Some Snaps → old.store.sound ≡ true → new.store.sound ≡ true
+  pub sound : (Contains broken Snaps → ⊥) → old.store.sound ≡ true → new.store.sound ≡ true
   pub snapshot : (old.store.sound ≡ true → HasSnapshot tells old before.snaps) → new.store.sound ≡ true
       → HasSnapshot tells new now.snaps
   pub over : GleansOver tells clock image_at faults old before now
   pub quietly : GleansQuietly tells clock image_at faults old broken before now
-  pub fails : (device : Device) → broken ≡ Some device → FailsIn tells clock image_at faults old device before now
+  pub fails : (device : Device) → Contains broken device → FailsIn tells clock image_at faults old device before now

@@ -4,9 +4,9 @@ use Rattle.std.specs.Prelude.{◌≡◌, ◌<◌, ◌≤◌, ◌||◌, ◌++◌,
 use Rattle.std.specs.Prelude.{option_to_list, replicate}
 use Rattle.std.specs.List.{Contains}
 use Rattle.serial_model.specs.Numbers.{last_epoch}
-use Rattle.outside.specs.declared.vault.Device.{Device}
-use Rattle.outside.specs.declared.vault.Device.TheVariants.{Bank}
-use Rattle.outside.specs.declared.vault.Vault.{Vault}
+use Rattle.outside.specs.declared.device.Device.{Device}
+use Rattle.outside.specs.declared.device.Device.TheVariants.{Bank}
+use Rattle.log_writer.specs.declared.vault.Vault.{Vault}
 use Rattle.log_writer.specs.Points.{sequence_of}
 use Rattle.tx_script.specs.Run.{Ran}
 use Rattle.worker_logs.specs.Saves.{growing_number}

@@ -1,16 +1,16 @@
 -- What the maintenance thread's lines and the join do.
 use Rattle.std.specs.Prelude.{◌≡◌, ◌<◌, ◌≤◌, ◌+◌, ◌++◌, ℕ, Bool, true, false, List, [], ◌∷◌, fold, length, map}
-use Rattle.std.specs.Prelude.{Option, Some, None, is_some, option_to_list, slice_get, vec_capacity, vec_len, ⊤}
+use Rattle.std.specs.Prelude.{Option, Some, None, is_some, option_to_list, slice_get, ⊤}
 use Rattle.std.specs.Prelude.{Result, Ok, Err}
 use Rattle.std.specs.List.{AllByRecursion, Contains, list_any}
 use Rattle.lists.specs.declared.memory.OrMemory.{OrMemory}
 use Rattle.lists.specs.declared.memory.OrMemory.TheVariants as or
 use Rattle.outside.specs.Faults.{Rose}
-use Rattle.outside.specs.Vault.{IsWhole}
-use Rattle.outside.specs.declared.vault.Device.{Device as TheDevice}
-use Rattle.outside.specs.declared.vault.Device.TheVariants as devices
-use Rattle.outside.specs.declared.vault.Tie.{Tie}
-use Rattle.outside.specs.declared.vault.Vault.{Vault}
+use Rattle.log_writer.specs.Vault.{IsWhole}
+use Rattle.outside.specs.declared.device.Device.{Device as TheDevice}
+use Rattle.outside.specs.declared.device.Device.TheVariants as devices
+use Rattle.log_writer.specs.declared.records.Tie.{Tie}
+use Rattle.log_writer.specs.declared.vault.Vault.{Vault}
 use Rattle.serial_model.specs.Numbers.{last_epoch}
 use Rattle.script_grammar.specs.declared.lines.KeeperLine.{KeeperLine}
 use Rattle.script_grammar.specs.declared.lines.KeeperLine.TheVariants as asks
@@ -26,7 +26,7 @@ use Rattle.gleaner.specs.declared.gleaning.GleanFault.{GleanFault}
 use Rattle.gleaner.specs.declared.gleaning.GleanFault.TheVariants as glean_faults
 use Rattle.gleaner.specs.declared.gleaning.Gleaned.{Gleaned}
 use Rattle.gleaner.specs.declared.gleaning.Gleaned.TheVariants.{Empty, Snap}
-use Rattle.recovery_core.specs.Images.{epoch_of}
+use Rattle.joint_crashes.specs.Images.{epoch_of}
 use Rattle.tx_script.specs.Run.{AdvancesTo, Ran}
 use Rattle.tx_script.specs.Causes.{AnswersCaused, AreMarksOf, KeeperAt, keeper_after, last_sequence, some_counted}
 use Rattle.tx_script.specs.declared.answer.Answer.{Answer}
@@ -35,10 +35,10 @@ use Rattle.worker_logs.specs.Logs.{IsJoined, LogGoesOn, LogState}
 use Rattle.worker_logs.specs.Saves.{SavesBy, SavesMarks, growing_number, logs_marks, saved_epoch}
 use Rattle.worker_logs.specs.declared.savepoints.Beside.{Beside}
 use Rattle.worker_logs.specs.Rows.{Blames, KeepsMark, NeverFall}
-use Rattle.round_engine.specs.Ends.{epoch_after, wants_memory, where_true}
+use Rattle.round_engine.specs.Ends.{epoch_after, first_device, wants_memory, where_true}
 use Rattle.round_engine.specs.Gleans.{Gleans, LeaveGleans, RoundGleans}
 use Rattle.round_engine.specs.RanRound.{KeeperStored}
-use Rattle.round_engine.specs.Saves.{AreSavedIn, beside_at_end, HaveEnded, newest_after, saves_told}
+use Rattle.round_engine.specs.Saves.{AreSavedIn, AreTied, beside_at_end, HaveEnded, newest_after, saves_told}
 use Rattle.round_engine.specs.Sides.{closed_in, growing_in, is_odd}
 use Rattle.round_engine.specs.Standing.{AreClosed, beside_of, HasSnapshot, RuntimeState}
 use Rattle.round_engine.specs.declared.report.End.{End}
@@ -62,6 +62,7 @@ pub record Keeps {D : Type 0} (tells : D → Option (List ℕ)) (clock : D → �
   pub later : faults before.save ≤ faults now.save
   pub quiet : failed ≡ None → faults now.save ≡ faults before.save
   pub rose : is_some failed ≡ true → Rose (faults before.save) (faults now.save)
+  pub ties_are : AreTied old.save.newest stored failed before.ties.items now.ties.items
   pub ended : HaveEnded old.save.newest stored now.ties.items
   pub ties_stay : (tie : Tie) → Contains before.ties.items tie → Contains now.ties.items tie
   pub grows : (more : List Page) × (new.store.pages ≡ old.store.pages ++ more)
@@ -115,8 +116,14 @@ glean_refusal (Err (or.Fault (glean_faults.Damaged device at))) = Some (ends.Dam
 glean_refusal (Err or.Memory) = Some ends.Memory
 glean_refusal _ = None
 
--- The first refusal behind which none of its lines was run: a store that failed, a device that a glean told as failed,
--- damage, or want of memory.
+-- or a closed log file that failed beside what is told: a device is named before damage and want of memory
+abbrev pub refusal_beside : Option TheDevice → Option End → Option End
+refusal_beside None refusal = refusal
+refusal_beside (Some device) (Some (ends.Device told)) = Some (ends.Device told)
+refusal_beside (Some device) refusal = Some (ends.Device device)
+
+-- The first refusal behind which none of its lines was run: a store that failed, the first device that failed in a
+-- glean, damage, or want of memory.
 abbrev pub refusal_told : Option Saved → Option TheDevice → Option (TheDevice × ℕ) → List Answer → Option End
 refusal_told (Some saved) broken damaged said = Some (ends.Device devices.Save)
 refusal_told None (Some device) damaged said = Some (ends.Device device)
@@ -125,7 +132,7 @@ refusal_told None None None said = where_true (list_any wants_memory said) ends.
 
 -- What the causes of the answers rest on, of what was run: the marks, the log files and the pages that were let in at
 -- its begin, what was found by gleans, and the devices that failed.
-pub record RestsOn (r : RuntimeState) (gleans : List (Option ℕ)) (failed : Option Saved) (broken : Option TheDevice)
+pub record RestsOn (r : RuntimeState) (gleans : List (Option ℕ)) (failed : Option Saved) (broken : List TheDevice)
     (damaged : Option (TheDevice × ℕ)) (ran : Ran) : Type 0 where
   pub marks : AreMarksOf ran.marks (map (λ (m : Mark). m.epoch) (logs_marks r.logs))
   pub odd : ran.files.odd ≡ is_odd r.side
@@ -134,7 +141,7 @@ pub record RestsOn (r : RuntimeState) (gleans : List (Option ℕ)) (failed : Opt
   pub gleans_are : (what : Option ℕ) → Contains gleans what → Contains ran.gleans what
   pub damage : (damage : TheDevice × ℕ) → damaged ≡ Some damage → ran.damaged ≡ Some damage
   pub store : is_some failed ≡ true → Contains ran.devices devices.Save
-  pub device : (device : TheDevice) → broken ≡ Some device → Contains ran.devices device
+  pub device : (device : TheDevice) → Contains broken device → Contains ran.devices device
 
 -- What a line of the maintenance thread that is run finds: the stores are up, and a newest snapshot stands.
 pub record CanKeep {D : Type 0} (tells : D → Option (List ℕ)) (clock : D → ℕ) (image_at : D → ℕ → List ℕ → Type 0)
@@ -149,12 +156,12 @@ pub record CanKeep {D : Type 0} (tells : D → Option (List ℕ)) (clock : D →
   pub snapshot : HasSnapshot tells r vault.snaps
 
 -- Gleans find, make, and are refused something only where bytes of the closed log files count.
-pub record NeedCounted (r : RuntimeState) (said : List Answer) (gleans : List (Option ℕ)) (broken : Option TheDevice)
+pub record NeedCounted (r : RuntimeState) (said : List Answer) (gleans : List (Option ℕ)) (broken : List TheDevice)
     (damaged : Option (TheDevice × ℕ)) : Type 0 where
   pub found : (what : Option ℕ) → Contains gleans what → some_counted r.counted ≡ true
   pub made : (epoch count : ℕ) → Contains said (answers.Snap epoch count) → some_counted r.counted ≡ true
   pub damage : is_some damaged ≡ true → some_counted r.counted ≡ true
-  pub device : is_some broken ≡ true → some_counted r.counted ≡ true
+  pub device : (device : TheDevice) → Contains broken device → some_counted r.counted ≡ true
 
 -- The lines of the maintenance thread were run and answered, each with its cause. They touch neither the logs nor the
 -- engine but for its epoch.
@@ -164,7 +171,7 @@ pub record RunsKeeper {D : Type 0} (tells : D → Option (List ℕ)) (clock : D 
   pub stored : List Saved
   pub failed : Option Saved
   pub gleans : List (Option ℕ)
-  pub broken : Option TheDevice
+  pub broken : List TheDevice
   pub damaged : Option (TheDevice × ℕ)
   pub keeps : Keeps tells clock image_at faults stored failed old new before now
   pub by_lines : AreSavedIn (IsSavedBySeen (MarksOf old old.stands.clock.epoch new.stands.clock.epoch)) (beside_of old)
@@ -189,13 +196,12 @@ pub record RunsKeeper {D : Type 0} (tells : D → Option (List ℕ)) (clock : D 
   pub at_end : answers_end (keeper_on old false) said
       ≡ record (keeper_on new (list_any is_refusal said)) { pages = (beside_at_end (beside_of old) said).count }
   pub refused : is_some refusal ≡ list_any is_refusal said
-  pub refusal_is : refusal ≡ refusal_told failed broken damaged said
+  pub refusal_is : refusal ≡ refusal_told failed (first_device broken) damaged said
   pub told : map (λ (s : Saved). s.epoch) stored ≡ saves_told said
   pub caused : (ran : Ran) → RestsOn old gleans failed broken damaged ran
       → AnswersCaused ran (keeper_on old false) lines said
   pub above : epoch_of old.save.newest < old.stands.clock.epoch → epoch_of new.save.newest < new.stands.clock.epoch
-  pub ties : vec_len now.ties ≤ vec_len before.ties + length lines
-  pub capacity : vec_capacity now.ties ≡ vec_capacity before.ties
+  pub tie_room : before.ties.room ≤ now.ties.room + length lines
   pub cut_room : now.cuts ≡ before.cuts
 
 -- ---- one line
@@ -236,9 +242,10 @@ pub record StepsGlean {D : Type 0} (tells : D → Option (List ℕ)) (clock : D 
     (faults : D → ℕ) (answer : Answer) (refusal : Option End) (old new : RuntimeState) (before now : Vault D)
     : Type 0 where
   pub result : Result Gleaned (OrMemory GleanFault)
-  pub gleans : Gleans tells clock image_at faults old new before now result
+  pub beside : Option TheDevice
+  pub gleans : Gleans tells clock image_at faults old new before now result beside
   pub answer_is : answer ≡ glean_answer result
-  pub refusal_is : refusal ≡ glean_refusal result
+  pub refusal_is : refusal ≡ refusal_beside beside (glean_refusal result)
 
 -- the runtime at this epoch of the clock
 abbrev pub at_epoch : RuntimeState → ℕ → RuntimeState

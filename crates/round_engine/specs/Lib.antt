@@ -12,11 +12,7 @@ pub mod GleanStops
 pub mod RanRound
 pub mod Joins
 pub mod Shares
-pub mod Plainly
-pub mod Parts
-pub mod Steps
 pub mod Workers
-pub mod InTurn
 pub mod Lines
 pub mod Keeping
 pub mod Refusals
@@ -25,3 +21,4 @@ pub mod Powers
 pub mod Histories
 pub mod Unbegun
 pub mod Owners
+pub mod RoundCalls

@@ -3,8 +3,8 @@
 use Rattle.std.specs.Prelude.{◌≡◌, ◌<◌, ◌≤◌, ◌^◌, ◌⊎◌, ℕ, Bool, true, false, List, length, Option, Some, None}
 use Rattle.std.specs.Prelude.{is_some, Result, Ok, Err}
 use Rattle.lists.specs.declared.memory.Memory.{Memory}
-use Rattle.outside.specs.Vault.{IsWhole}
-use Rattle.outside.specs.declared.vault.Vault.{Vault}
+use Rattle.log_writer.specs.Vault.{IsWhole}
+use Rattle.log_writer.specs.declared.vault.Vault.{Vault}
 use Rattle.script_grammar.specs.Script.{Round, keeper_lines}
 use Rattle.log_writer.specs.Save.{IsStored}
 use Rattle.std.specs.List.{AllByRecursion, list_any}
@@ -15,7 +15,7 @@ use Rattle.worker_logs.specs.Rows.{AreLogsUp}
 use Rattle.round_engine.specs.Ends.{first_of, save_limited, where_true}
 use Rattle.round_engine.specs.Keeping.{RunsJoin, RunsKeeper}
 use Rattle.round_engine.specs.Histories.{KeepsHistory}
-use Rattle.round_engine.specs.Plainly.{DrewOnce}
+use Rattle.plain_rounds.specs.Plainly.{DrewOnce}
 use Rattle.round_engine.specs.Powers.{SharesWords}
 use Rattle.round_engine.specs.Refusals.{device_refused, end_told, first_full, leaves_out, lines_refused, names_device}
 use Rattle.round_engine.specs.Sides.{growing_in, SameButGrowing}

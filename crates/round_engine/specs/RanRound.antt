@@ -7,11 +7,11 @@ use Rattle.lists.specs.Fronts.{IsFront}
 use Rattle.lists.specs.declared.memory.Memory.{Memory}
 use Rattle.outside.specs.Fronts.{AllBegin}
 use Rattle.outside.specs.Reads.{OnlyReads}
-use Rattle.outside.specs.Vault.{disk_in}
-use Rattle.outside.specs.declared.vault.Device.{Device}
-use Rattle.outside.specs.declared.vault.Device.TheVariants.{Bank, Save, Snaps}
-use Rattle.outside.specs.declared.vault.Tie.{Tie}
-use Rattle.outside.specs.declared.vault.Vault.{Vault}
+use Rattle.log_writer.specs.Vault.{disk_in}
+use Rattle.outside.specs.declared.device.Device.{Device}
+use Rattle.outside.specs.declared.device.Device.TheVariants.{Bank, Save, Snaps}
+use Rattle.log_writer.specs.declared.records.Tie.{Tie}
+use Rattle.log_writer.specs.declared.vault.Vault.{Vault}
 use Rattle.serial_model.specs.declared.number.Commit.{Commit}
 use Rattle.serial_model.specs.declared.op.Op.{Op}
 use Rattle.script_grammar.specs.Script.{Round, keeper_lines, lines_of_worker}
@@ -25,12 +25,12 @@ use Rattle.snapshot_store.specs.Store.{bytes_of_pages, StoreState}
 use Rattle.worker_logs.specs.Logs.{LogState, reset_log}
 use Rattle.worker_logs.specs.Saves.{closed_number, CountsOf, growing_number, logs_marks}
 use Rattle.worker_logs.specs.Rows.{NeverFall}
-use Rattle.recovery_core.specs.JointCrash.{Moments}
-use Rattle.recovery_core.specs.Rounds.{KeeperRan}
-use Rattle.recovery_core.specs.Story.{Story, SaveTold, SnapsTold}
-use Rattle.recovery_core.specs.VaultReads.{RoseIn}
-use Rattle.recovery_core.specs.Images.{counted_of, epoch_of}
-use Rattle.recovery_core.specs.Marks.{IsAbove}
+use Rattle.joint_crashes.specs.JointCrash.{Moments}
+use Rattle.joint_crashes.specs.Rounds.{KeeperRan}
+use Rattle.joint_crashes.specs.Story.{Story, SaveTold, SnapsTold}
+use Rattle.joint_crashes.specs.VaultReads.{RoseIn}
+use Rattle.joint_crashes.specs.Images.{counted_of, epoch_of}
+use Rattle.joint_crashes.specs.Marks.{IsAbove}
 use Rattle.tx_script.specs.Run.{LogFailed, LogRefusal, Ran, IsRun}
 use Rattle.tx_script.specs.Causes.{AllCaused, keeper_at_end, last_sequence, log_of, some_counted}
 use Rattle.tx_script.specs.Conflicts.{AreMet}
@@ -44,7 +44,7 @@ use Rattle.round_engine.specs.Histories.{KeepsHistory}
 use Rattle.round_engine.specs.Logs.{AreClosedFiles, AreLogs, IsRefusedBy, LeavesLog}
 use Rattle.round_engine.specs.Powers.{SharesWords}
 use Rattle.round_engine.specs.Saves.{ArePages, AreSaved, beside_at_end, GoesOnWith, IsSavedBy, newest_after}
-use Rattle.round_engine.specs.Saves.{HaveEnded, saves_told}
+use Rattle.round_engine.specs.Saves.{AreTied, HaveEnded, saves_told}
 use Rattle.round_engine.specs.Sides.{closed_numbers, other_side}
 use Rattle.round_engine.specs.Shares.{all_conflicts}
 use Rattle.round_engine.specs.Standing.{beside_of, files_of, RuntimeState, StandsOn}
@@ -207,6 +207,7 @@ module _ {D : Type 0} (tells : D → Option (List ℕ)) (clock : D → ℕ) (ima
     pub stored : List Saved
     pub failed : Option Saved
     pub has_stored : HasStored ran old new stored failed
+    pub ties_are : AreTied old.save.newest stored failed before.ties.items now.ties.items
     pub ended : HaveEnded old.save.newest stored now.ties.items
     pub ties_stay : (tie : Tie) → Contains before.ties.items tie → Contains now.ties.items tie
     pub save_told : is_some (tells now.save) ≡ is_some (tells before.save)

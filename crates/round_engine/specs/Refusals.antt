@@ -2,8 +2,8 @@
 use Rattle.std.specs.Prelude.{◌+◌, ◌||◌, ℕ, Bool, true, false, List, [], ◌∷◌, Option, Some, None, is_some}
 use Rattle.std.specs.Prelude.{if◌then◌else◌}
 use Rattle.std.specs.Option.{option_map}
-use Rattle.outside.specs.declared.vault.Device.{Device}
-use Rattle.outside.specs.declared.vault.Device.TheVariants as devices
+use Rattle.outside.specs.declared.device.Device.{Device}
+use Rattle.outside.specs.declared.device.Device.TheVariants as devices
 use Rattle.worker_logs.specs.Saves.{growing_number}
 use Rattle.worker_logs.specs.declared.savepoints.Side.{Side}
 use Rattle.round_engine.specs.Ends.{earlier, first_of, limit_at}

@@ -1,8 +1,8 @@
 -- What the saves of a round store.
 use Rattle.std.specs.Prelude.{◌≡◌, ◌≤◌, ◌+◌, ◌++◌, ℕ, List, [], ◌∷◌, fold, length, replicate, take}
-use Rattle.std.specs.Prelude.{Option, Some, slice_get}
+use Rattle.std.specs.Prelude.{Option, Some, option_to_list, slice_get}
 use Rattle.std.specs.List.{AllByRecursion, Contains}
-use Rattle.outside.specs.declared.vault.Tie.{Tie}
+use Rattle.log_writer.specs.declared.records.Tie.{Tie}
 use Rattle.wire_form.specs.declared.clock.Mark.{Mark}
 use Rattle.wire_form.specs.declared.page.Page.{Page}
 use Rattle.wire_form.specs.declared.savepoint.Savepoint.{Savepoint}
@@ -10,8 +10,9 @@ use Rattle.snapshot_store.specs.Store.{bytes_of_pages}
 use Rattle.worker_logs.specs.Saves.{SavesBy}
 use Rattle.worker_logs.specs.declared.savepoints.Beside.{Beside}
 use Rattle.log_writer.specs.Points.{point_of, sequence_of}
+use Rattle.log_writer.specs.Records.{AddsTies}
 use Rattle.log_writer.specs.declared.saved.Saved.{Saved}
-use Rattle.recovery_core.specs.Story.{Story}
+use Rattle.joint_crashes.specs.Story.{Story}
 use Rattle.tx_script.specs.declared.answer.Answer.{Answer}
 use Rattle.tx_script.specs.declared.answer.Answer.TheVariants as answers
 
@@ -69,6 +70,12 @@ abbrev pub HaveEnded : Option Savepoint → List Saved → List Tie → Type 0
 HaveEnded newest stored ties = (k : ℕ) (saved : Saved) → slice_get stored k ≡ Some saved
     → (tie : Tie) × (end : ℕ) × Contains ties tie × (tie.sequence ≡ sequence_of newest + 1 + k)
     × (tie.ended ≡ Some end)
+
+-- Ties were added, one for each store that was begun, of those that were done and of one that failed, if one did: their
+-- sequences rise by one behind that of this savepoint.
+abbrev pub AreTied : Option Savepoint → List Saved → Option Saved → List Tie → List Tie → Type 0
+AreTied newest stored failed old new =
+    AddsTies (sequence_of newest) (length (stored ++ option_to_list failed)) old new
 
 -- the bytes of so many pages, for each number of them
 abbrev pub ArePages : (ℕ → List ℕ) → List Page → Type 0

@@ -2,16 +2,16 @@
 use Rattle.std.specs.Prelude.{◌≡◌, ◌<◌, ◌≤◌, ◌^◌, ℕ, Bool, false, true, List, Option, Some, None, length}
 use Rattle.std.specs.Prelude.{slice_get, ⊤}
 use Rattle.std.specs.List.{AllByRecursion}
-use Rattle.outside.specs.Vault.{disk_in, IsWhole}
-use Rattle.outside.specs.declared.vault.Device.TheVariants.{Bank}
-use Rattle.outside.specs.declared.vault.Vault.{Vault}
+use Rattle.log_writer.specs.Vault.{disk_in, IsWhole}
+use Rattle.outside.specs.declared.device.Device.TheVariants.{Bank}
+use Rattle.log_writer.specs.declared.vault.Vault.{Vault}
 use Rattle.wire_form.specs.Pages.{Contents, decls_of}
 use Rattle.log_writer.specs.Journal.{Reaches}
 use Rattle.log_writer.specs.Points.{SaveState}
 use Rattle.log_writer.specs.Save.{IsStored}
 use Rattle.snapshot_store.specs.Content.{SnapshotStands, words_of}
 use Rattle.snapshot_store.specs.Store.{Holds, StoreState}
-use Rattle.recovery_core.specs.Images.{epoch_of}
+use Rattle.joint_crashes.specs.Images.{epoch_of}
 use Rattle.worker_logs.specs.Logs.{IsJoined, LogState, log_limit}
 use Rattle.worker_logs.specs.Saves.{growing_number}
 use Rattle.worker_logs.specs.declared.savepoints.Beside.{Beside}

@@ -3,10 +3,10 @@ use Rattle.std.specs.Prelude.{◌≡◌, ◌⊎◌, ◌++◌, ℕ, Bool, List, [
 use Rattle.std.specs.Prelude.{if◌then◌else◌}
 use Rattle.std.specs.Prelude.{Result, Ok, Err, ⊤}
 use Rattle.std.specs.Option.{option_map}
-use Rattle.outside.specs.Vault.{CutsIn, disk_in}
+use Rattle.log_writer.specs.Vault.{CutsIn, disk_in}
 use Rattle.outside.specs.declared.fault.Failed.{Failed}
-use Rattle.outside.specs.declared.vault.Device.TheVariants.{Bank}
-use Rattle.outside.specs.declared.vault.Vault.{Vault}
+use Rattle.outside.specs.declared.device.Device.TheVariants.{Bank}
+use Rattle.log_writer.specs.declared.vault.Vault.{Vault}
 use Rattle.log_writer.specs.Points.{sequence_of}
 use Rattle.tx_script.specs.Causes.{some_counted}
 use Rattle.wire_form.specs.declared.clock.Mark.{Mark}

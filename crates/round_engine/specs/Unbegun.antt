@@ -1,6 +1,6 @@
 -- A round for which memory was wanted before anything was done.
 use Rattle.std.specs.Prelude.{◌≡◌}
-use Rattle.outside.specs.declared.vault.Vault.{Vault}
+use Rattle.log_writer.specs.declared.vault.Vault.{Vault}
 use Rattle.round_engine.specs.Standing.{RuntimeState}
 
 -- the devices are as they were, and so is what was recorded of them

@@ -1,126 +1,38 @@
 // What the workers' lines are run on: a map, one line after another, or words that threads share.
-ghost use Rattle.std.specs.Prelude.{◌≡◌, ◌+◌, ◌<◌, ◌≤◌, [], Bool, IfErr, IfOk, IfSome, IsSome, None, false, length};
+ghost use Rattle.std.specs.Prelude.{◌≡◌, ◌+◌, ◌-◌, ◌<◌, ◌≤◌, ℕ, [], Bool, IfErr, IfOk, IfSome, IsSome, List, None};
+ghost use Rattle.std.specs.Prelude.{false, true, length};
 ghost use Rattle.std.specs.List.{AllByRecursion};
 ghost use Rattle.serial_model.specs.Decls.{AreDecls};
 ghost use Rattle.serial_model.specs.Numbers.{IsNumber, last_epoch};
+ghost use Rattle.wire_form.specs.Pages.{Contents};
+ghost use Rattle.snapshot_store.specs.Content.{words_of};
+ghost use Rattle.recovery_core.specs.NewestSnapshot.{IsNewestSnapshot};
 ghost use Rattle.tx_script.specs.Draws.{HasTree};
 ghost use Rattle.tx_script.specs.Run.{CanRun};
 ghost use Rattle.worker_logs.specs.Rows.{AreLogsUp};
 ghost use Rattle.shared_rounds.specs.Lines.{LinesCome, standing};
 ghost use Rattle.shared_rounds.specs.Rooms.{IsRoomOf};
+ghost use Rattle.shared_rounds.specs.SharedState.{are_arrays};
+ghost use Rattle.round_engine.specs.Begun.{Begins};
 ghost use Rattle.round_engine.specs.Histories.{KeepsHistory};
-ghost use Rattle.round_engine.specs.Plainly.{DrewOnce};
+ghost use Rattle.plain_rounds.specs.InTurn.{RunsInTurn};
+ghost use Rattle.plain_rounds.specs.Plainly.{DrewOnce};
 ghost use Rattle.round_engine.specs.Powers.{SharesWords, standing_of};
 ghost use Rattle.brief_output.specs.Brief.{total_of};
+ghost use Rattle.worker_cells.specs.Gates.{AreAllTold};
 
-use crate::workers::run_workers;
-use brief_output::total_of;
-use outside::{Disk, Gate};
-use serial_model::{Decl, Decls, Memory, Number, Plain, State};
+use crate::opening::newest_records;
+use outside::Disk;
+use plain_rounds::PlainEngine;
+use serial_model::{Decl, Decls, Memory, Number, State};
 use shared_rounds::{Rooms, SharedEngine, WorkersRan, are_arrays, make_rooms};
+use snapshot_store::SnapStore;
 use std::alloc::Global;
 use std::marker::Model;
 use std::thread::Threads;
 use tx_script::Round;
+use worker_cells::LineGate;
 use worker_logs::WorkerLog;
-
-/// The plain map with its clock. It runs one transaction after another.
-#[derive(Drop)]
-pub(crate) struct PlainEngine {
-    /// The storages and their contents.
-    pub(crate) plain: Plain,
-    /// The number that the next commit gets.
-    pub(crate) clock: Number,
-}
-
-impl Model for PlainEngine {
-    ghost use Rattle.shared_rounds.specs.Standing.{Standing};
-    ghost use Rattle.std.specs.Prelude.{◌≡◌, [], false};
-    ghost use Rattle.std.specs.Coded.{codes, coded_ℕ};
-    ghost use Rattle.std.specs.FinMap as finite;
-    ghost use Rattle.serial_model.specs.Keys.{coded_key, key_cmp};
-    ghost use Rattle.serial_model.specs.Numbers.{IsNumber};
-    ghost use Rattle.shared_rounds.specs.SharedState.{are_arrays};
-
-    ghost Value = { Standing };
-
-    ghost coded = { Prim.hlevel (codes, finite.code {R = key_cmp} coded_key coded_ℕ) };
-
-    ghost view = { λ e. record {
-      decls = e.plain.decls;
-      state = e.plain.state;
-      clock = e.clock;
-      mine = [];
-      conflicts = 0;
-      ended = false;
-    } };
-
-    // Where words that threads share can have the contents, they do.
-    ghost invariant = { λ e. IsNumber e.clock × (are_arrays e.plain.decls e.plain.state ≡ false) };
-}
-
-impl PlainEngine {
-    fn clock(&self) -> Number
-        ensures value { result ≡ self.now.clock }
-        ensures number { IsNumber result }
-        ensures goes_on { self.now.ended ≡ false }
-        ensures apart { SharesWords self.now → ⊥ }
-    {
-        self.clock
-    }
-
-    fn advance(&mut self)
-        requires { self.old.clock.epoch < last_epoch }
-        ensures { self.new
-            ≡ record self.old { clock = record self.old.clock { epoch = self.old.clock.epoch + 1 } } }
-    {
-        self.clock.epoch += 1;
-    }
-
-    fn decls(&self) -> &[Decl]
-        ensures { result.now ≡ self.now.decls }
-    {
-        self.plain.decls.as_slice()
-    }
-
-    fn total(&self) -> u128
-        ensures { result ≡ total_of self.now.state }
-    {
-        total_of(&self.plain.state)
-    }
-
-    // Runs all workers' lines. None needs a second try, and none takes room that was made for lines on words.
-    fn run_all<D: Disk + Drop, G: Gate>(
-        &mut self,
-        alloc: Global,
-        logs: &mut Vec<WorkerLog>,
-        growing: &mut Vec<D>,
-        rooms: Option<Rooms<D>>,
-        round: &Round<'_>,
-        tries: u32,
-        gate: &G,
-    ) -> Result<WorkersRan, Memory>
-        requires lines { CanRun self.old.decls round.now }
-        requires some_try { 1 ≤ tries }
-        requires logs { length logs.old.items ≡ 8 }
-        requires growing { length growing.old.items ≡ 8 }
-        requires up { AreLogsUp D.tells logs.old.items growing.old.items }
-        requires flushed { AllByRecursion (λ log. log.journal.lines ≡ []) logs.old.items }
-        ensures runs { LinesCome D.tells D.clock D.image_at D.faults tries round.now self.old self.new
-            logs.old.items logs.new.items growing.old.items growing.new.items result }
-        ensures once { IfOk result (λ ran. DrewOnce self.old self.new ran.outcomes) }
-        ensures apart { SharesWords self.old → ⊥ }
-        ensures before { self.old.ended ≡ false }
-        ensures after { self.new.ended ≡ false }
-    {
-        drop(rooms);
-        let _ = tries;
-        let _ = self.clock();
-        let ran = run_workers(alloc, self, logs, growing, round, gate);
-        let _ = self.clock();
-        ran
-    }
-}
 
 /// What runs the lines.
 #[derive(Drop)]
@@ -153,20 +65,24 @@ impl Model for Engine {
 }
 
 impl Engine {
-    /// An engine in this state, which gives this number first.
+    /// An engine in this state, which gives this number first. Words that threads share open with the records of the
+    /// newest snapshot.
     pub(crate) fn new(
         alloc: Global,
+        store: &SnapStore,
         decls: Decls,
         state: State,
         first: Number,
     ) -> Result<Engine, Memory>
         requires decls { AreDecls decls }
         requires first { IsNumber first }
-        ensures { IfOk result (λ engine. engine
-            ≡ record { decls = decls; state = state; clock = first; mine = []; conflicts = 0; ended = false }) }
+        requires snapshot { (contents : Contents) × IsNewestSnapshot (words_of store.now.pages)
+            (length store.now.pages) decls state (first.epoch - 1) contents }
+        ensures { IfOk result
+            (Begins (words_of store.now.pages) (length store.now.pages) decls state first) }
     {
         Ok(Engine {
-            power: power_for(alloc, decls, state, first)?,
+            power: power_for(alloc, store, decls, state, first)?,
             ended: false,
         })
     }
@@ -247,7 +163,7 @@ impl Engine {
 
     /// Runs all workers' lines, each of them so often at most, over their logs and log files. In room that was made for
     /// them they want no memory.
-    pub(crate) fn run_workers<R: Threads + Sync, D: Disk + Send + Drop, G: Gate + Sync>(
+    pub(crate) fn run_workers<R: Threads + Sync, D: Disk + Send + Drop, G: LineGate + Sync>(
         &mut self,
         rt: &R,
         alloc: Global,
@@ -272,11 +188,10 @@ impl Engine {
         ensures history { IfOk result (λ ran. SharesWords self.old
             → KeepsHistory round.now ran.outcomes self.old self.new) }
         ensures enough { IfErr result (λ memory. SharesWords self.old → IsSome rooms → ⊥) }
+        ensures calls { IfOk result (λ ran. AreAllTold 0 ran.outcomes ran.ends.items) }
     {
         match &mut self.power {
-            Power::Plain(engine) => {
-                engine.run_all(alloc, logs, growing, rooms, round, tries, gate)
-            }
+            Power::Plain(engine) => run_plain(alloc, engine, logs, growing, rooms, round, gate),
             Power::Shared(engine) => {
                 run_shared(rt, alloc, engine, logs, growing, rooms, round, tries, gate)
             }
@@ -294,8 +209,30 @@ fn no_rooms<D: Disk + Drop>(engine: &PlainEngine) -> Option<Rooms<D>>
     None
 }
 
+// Runs all workers' lines on the plain map, which takes no room that was made for lines on words.
+fn run_plain<D: Disk + Drop, G: LineGate>(
+    alloc: Global,
+    engine: &mut PlainEngine,
+    logs: &mut Vec<WorkerLog>,
+    growing: &mut Vec<D>,
+    rooms: Option<Rooms<D>>,
+    round: &Round<'_>,
+    gate: &G,
+) -> Result<WorkersRan, Memory>
+    requires lines { CanRun engine.old.decls round.now }
+    requires logs { length logs.old.items ≡ 8 }
+    requires growing { length growing.old.items ≡ 8 }
+    requires up { AreLogsUp D.tells logs.old.items growing.old.items }
+    requires flushed { AllByRecursion (λ log. log.journal.lines ≡ []) logs.old.items }
+    ensures { RunsInTurn D.tells D.clock D.image_at D.faults round.now engine.old engine.new
+        logs.old.items logs.new.items growing.old.items growing.new.items result }
+{
+    drop(rooms);
+    plain_rounds::run_workers(alloc, engine, logs, growing, round, gate)
+}
+
 // Runs all workers' lines on words that threads share, in this room, or else in room that is made first.
-fn run_shared<R: Threads + Sync, D: Disk + Send + Drop, G: Gate + Sync>(
+fn run_shared<R: Threads + Sync, D: Disk + Send + Drop, G: LineGate + Sync>(
     rt: &R,
     alloc: Global,
     engine: &mut SharedEngine,
@@ -320,6 +257,7 @@ fn run_shared<R: Threads + Sync, D: Disk + Send + Drop, G: Gate + Sync>(
     ensures history { (ended : Bool) → IfOk result (λ ran. KeepsHistory round.now ran.outcomes
         (standing ended engine.old) (standing ended engine.new)) }
     ensures enough { IfErr result (λ memory. IsSome rooms → ⊥) }
+    ensures calls { IfOk result (λ ran. AreAllTold 0 ran.outcomes ran.ends.items) }
 {
     let rooms = match rooms {
         Some(rooms) => rooms,
@@ -330,18 +268,54 @@ fn run_shared<R: Threads + Sync, D: Disk + Send + Drop, G: Gate + Sync>(
 }
 
 // What runs lines on these storages.
-fn power_for(alloc: Global, decls: Decls, state: State, first: Number) -> Result<Power, Memory>
+fn power_for(
+    alloc: Global,
+    store: &SnapStore,
+    decls: Decls,
+    state: State,
+    first: Number,
+) -> Result<Power, Memory>
     requires decls { AreDecls decls }
     requires first { IsNumber first }
-    ensures { IfOk result (λ power. standing_of power false
-        ≡ record { decls = decls; state = state; clock = first; mine = []; conflicts = 0; ended = false }) }
+    requires snapshot { (contents : Contents) × IsNewestSnapshot (words_of store.now.pages)
+        (length store.now.pages) decls state (first.epoch - 1) contents }
+    ensures { IfOk result (λ power.
+        Begins (words_of store.now.pages) (length store.now.pages) decls state first (standing_of power false)) }
 {
     if are_arrays(decls.as_slice(), &state) {
-        let engine = SharedEngine::new(alloc, decls.as_slice(), &state, first)?;
-        return Ok(Power::Shared(engine));
+        return shared_power(alloc, store, decls, state, first);
     }
-    Ok(Power::Plain(PlainEngine {
-        plain: Plain { decls, state },
-        clock: first,
-    }))
+    Ok(plain_power(decls, state, first))
+}
+
+// The plain map opens with values alone.
+fn plain_power(decls: Decls, state: State, first: Number) -> Power
+    requires first { IsNumber first }
+    requires apart { are_arrays decls state ≡ false }
+    ensures { (pages : List (List ℕ)) (number : ℕ)
+        → Begins pages number decls state first (standing_of result false) }
+{
+    Power::Plain(PlainEngine::new(decls, state, first))
+}
+
+// Each record of the words opens as the newest snapshot has it, so the map isn't wanted any more.
+fn shared_power(
+    alloc: Global,
+    store: &SnapStore,
+    decls: Decls,
+    state: State,
+    first: Number,
+) -> Result<Power, Memory>
+    requires decls { AreDecls decls }
+    requires arrays { are_arrays decls state ≡ true }
+    requires first { IsNumber first }
+    requires snapshot { (contents : Contents) × IsNewestSnapshot (words_of store.now.pages)
+        (length store.now.pages) decls state (first.epoch - 1) contents }
+    ensures { IfOk result (λ power.
+        Begins (words_of store.now.pages) (length store.now.pages) decls state first (standing_of power false)) }
+{
+    drop(state);
+    let records = newest_records(alloc, store)?;
+    let engine = SharedEngine::new(alloc, decls.as_slice(), records, first)?;
+    Ok(Power::Shared(engine))
 }

@@ -1,6 +1,6 @@
 // A glean: what the closed log files have becomes the next snapshot.
-ghost use Rattle.std.specs.Prelude.{◌≡◌, ◌≢◌, ◌<◌, ◌≤◌, ◌^◌, false, is_some, length, true};
-ghost use Rattle.outside.specs.Vault.{IsWhole};
+ghost use Rattle.std.specs.Prelude.{◌≡◌, ◌≢◌, ◌<◌, ◌≤◌, ◌^◌, false, is_some, length, true, ◌||◌};
+ghost use Rattle.log_writer.specs.Vault.{IsWhole};
 ghost use Rattle.wire_form.specs.Pages.{Contents};
 ghost use Rattle.snapshot_store.specs.Content.{CatalogueAt, words_of};
 ghost use Rattle.snapshot_store.specs.Store.{Holds};
@@ -14,53 +14,68 @@ ghost use Rattle.round_engine.specs.Standing.{StandsOn};
 
 use crate::Runtime;
 use crate::sides::is_odd;
-use gleaner::{Closed, GleanFault, Gleaned, Newest};
+use gleaner::{Closed, GleanFault, Gleaned, Gleaning, Newest};
 use lists::OrMemory;
-use outside::{Disk, Vault};
+use log_writer::Vault;
+use outside::Disk;
 use recovery_core::pages_fit;
 use serial_model::Decl;
 use snapshot_store::SnapStore;
 use std::alloc::Global;
+use std::sync::Wait;
+use std::thread::Threads;
 use wire_form::epoch_and_previous;
 use worker_logs::Side;
 
 /// Makes a snapshot of what counts of the closed log files, as a line of the maintenance thread does. A device that
 /// fails ends the run.
-pub fn glean<D: Disk>(
+pub fn glean<R: Threads + Wait + Sync, D: Disk + Send>(
+    rt: &R,
     alloc: Global,
     runtime: &mut Runtime,
     vault: &mut Vault<D>,
-) -> Result<Gleaned, OrMemory<GleanFault>>
+) -> Gleaning
     requires up { runtime.old.down ≡ false }
     requires stands { StandsOn D.tells D.clock D.image_at runtime.old vault.old }
     ensures gleans { GleansAsked D.tells D.clock D.image_at D.faults runtime.old runtime.new
-        vault.old vault.new result }
+        vault.old vault.new result.answer result.beside }
     // Whatever it answers, and at each moment of it: what is known of the crashes of all devices.
     ensures crashes { CarriesKnown D.tells D.clock D.image_at runtime.old runtime.new vault.old vault.new }
 {
-    let gleaned = glean_closed(alloc, runtime, vault);
+    let gleaned = glean_closed(rt, alloc, runtime, vault);
     runtime.end_if(has_failed(&gleaned));
     gleaned
 }
 
 // Whether a device failed.
-fn has_failed(gleaned: &Result<Gleaned, OrMemory<GleanFault>>) -> bool
-    ensures { result ≡ is_some (device_of_glean gleaned.now) }
+fn has_failed(gleaned: &Gleaning) -> bool
+    ensures { result ≡ (is_some (device_of_glean gleaned.now.answer) || is_some gleaned.now.beside) }
 {
-    matches!(gleaned, Err(OrMemory::Fault(GleanFault::Device(_))))
+    let told = tells_device(&gleaned.answer);
+    let beside = gleaned.beside.is_some();
+    told || beside
+}
+
+// Whether a device is told as failed.
+fn tells_device(answer: &Result<Gleaned, OrMemory<GleanFault>>) -> bool
+    ensures { result ≡ is_some (device_of_glean answer.now) }
+{
+    matches!(answer, Err(OrMemory::Fault(GleanFault::Device(_))))
 }
 
 /// Makes a snapshot of what counts of the closed log files. Nothing of them counts any more behind it.
-pub(crate) fn glean_closed<D: Disk>(
+pub(crate) fn glean_closed<R: Threads + Wait + Sync, D: Disk + Send>(
+    rt: &R,
     alloc: Global,
     runtime: &mut Runtime,
     vault: &mut Vault<D>,
-) -> Result<Gleaned, OrMemory<GleanFault>>
+) -> Gleaning
     requires ready { CanKeep D.tells D.clock D.image_at runtime.old vault.old }
-    ensures gleans { Gleans D.tells D.clock D.image_at D.faults runtime.old runtime.new vault.old vault.new result }
+    ensures gleans { Gleans D.tells D.clock D.image_at D.faults runtime.old runtime.new vault.old vault.new
+        result.answer result.beside }
 {
-    let gleaned = glean_side(alloc, runtime, vault);
-    runtime.counted = counted_behind(&gleaned, runtime.counted);
+    let gleaned = glean_side(rt, alloc, runtime, vault);
+    runtime.counted = counted_behind(&gleaned.answer, runtime.counted);
     gleaned
 }
 
@@ -75,14 +90,16 @@ fn counted_behind(gleaned: &Result<Gleaned, OrMemory<GleanFault>>, counted: [u64
 }
 
 // Gleans the side that is closed.
-fn glean_side<D: Disk>(
+fn glean_side<R: Threads + Wait + Sync, D: Disk + Send>(
+    rt: &R,
     alloc: Global,
     runtime: &mut Runtime,
     vault: &mut Vault<D>,
-) -> Result<Gleaned, OrMemory<GleanFault>>
+) -> Gleaning
     requires ready { CanKeep D.tells D.clock D.image_at runtime.old vault.old }
     ensures gleans { Gleans D.tells D.clock D.image_at D.faults runtime.old
-        (record runtime.new { counted = counted_after result runtime.old.counted }) vault.old vault.new result }
+        (record runtime.new { counted = counted_after result.answer runtime.old.counted }) vault.old vault.new
+        result.answer result.beside }
     ensures counted { runtime.new.counted ≡ runtime.old.counted }
 {
     let newest = newest_in(&runtime.store);
@@ -92,6 +109,7 @@ fn glean_side<D: Disk>(
     let _ = runtime.engine.clock();
     let decls = runtime.engine.decls();
     glean_over(
+        rt,
         alloc,
         vault,
         side,
@@ -104,7 +122,8 @@ fn glean_side<D: Disk>(
 }
 
 // Gleans the log files of the other side than that which grows.
-fn glean_over<D: Disk>(
+fn glean_over<R: Threads + Wait + Sync, D: Disk + Send>(
+    rt: &R,
     alloc: Global,
     vault: &mut Vault<D>,
     side: Side,
@@ -113,7 +132,7 @@ fn glean_over<D: Disk>(
     newest: Newest,
     closed: &Closed,
     room: u32,
-) -> Result<Gleaned, OrMemory<GleanFault>>
+) -> Gleaning
     requires can { none_counted closed.now.lengths ≢ true
         → (contents : Contents) × CanGlean (words_of store.old.pages) decls.now newest closed.now contents }
     requires whole { IsWhole vault.old }
@@ -122,7 +141,7 @@ fn glean_over<D: Disk>(
     requires holds { Holds D.tells vault.old.snaps store.old.pages }
     ensures gleans { GleansFiles D.tells D.clock D.image_at D.faults decls.now newest closed.now room
         store.old store.new vault.old.snaps vault.new.snaps (closed_in side vault.old) (closed_in side vault.new)
-        result }
+        result.answer result.beside }
     ensures growing { growing_in side vault.new ≡ growing_in side vault.old }
     ensures save { vault.new.save ≡ vault.old.save }
     ensures ties { vault.new.ties ≡ vault.old.ties }
@@ -131,6 +150,7 @@ fn glean_over<D: Disk>(
     let snaps = &mut vault.snaps;
     match side {
         Side::Even => glean_files(
+            rt,
             alloc,
             snaps,
             &mut vault.odd,
@@ -141,6 +161,7 @@ fn glean_over<D: Disk>(
             room,
         ),
         Side::Odd => glean_files(
+            rt,
             alloc,
             snaps,
             &mut vault.even,
@@ -154,7 +175,8 @@ fn glean_over<D: Disk>(
 }
 
 // Gleans these log files.
-fn glean_files<D: Disk>(
+fn glean_files<R: Threads + Wait + Sync, D: Disk + Send>(
+    rt: &R,
     alloc: Global,
     snaps: &mut D,
     files: &mut Vec<D>,
@@ -163,7 +185,7 @@ fn glean_files<D: Disk>(
     newest: Newest,
     closed: &Closed,
     room: u32,
-) -> Result<Gleaned, OrMemory<GleanFault>>
+) -> Gleaning
     requires can { none_counted closed.now.lengths ≢ true
         → (contents : Contents) × CanGlean (words_of store.old.pages) decls.now newest closed.now contents }
     requires workers { length files.old.items ≡ 8 }
@@ -171,10 +193,10 @@ fn glean_files<D: Disk>(
     requires sound { store.old.sound ≡ true }
     requires holds { Holds D.tells snaps.old store.old.pages }
     ensures gleans { GleansFiles D.tells D.clock D.image_at D.faults decls.now newest closed.now room
-        store.old store.new snaps.old snaps.new files.old.items files.new.items result }
+        store.old store.new snaps.old snaps.new files.old.items files.new.items result.answer result.beside }
 {
     pages_fit(store);
-    let gleaned = gleaner::glean(alloc, snaps, files, store, decls, newest, closed, room);
+    let gleaned = gleaner::glean(rt, alloc, snaps, files, store, decls, newest, closed, room);
     pages_fit(store);
     gleaned
 }

@@ -1,7 +1,6 @@
 // The end of a round: an epoch more, all logs durable and marked, a savepoint that counts them, and the swap behind it.
 ghost use Rattle.std.specs.Prelude.{◌≡◌, ◌<◌, ◌+◌, ◌≤◌, ◌||◌, None, is_some, false, true, length};
-ghost use Rattle.std.specs.Prelude.{vec_len, vec_capacity};
-ghost use Rattle.outside.specs.Vault.{IsWhole};
+ghost use Rattle.log_writer.specs.Vault.{IsWhole};
 ghost use Rattle.log_writer.specs.Save.{IsStored};
 ghost use Rattle.round_engine.specs.Joins.{Joins};
 ghost use Rattle.worker_logs.specs.FlushAll.{AllReach, FlushesAll};
@@ -16,8 +15,8 @@ use crate::rounds::names_device;
 use crate::sides::growing_number;
 use crate::swaps::swap;
 use crate::{End, LimitName, Runtime};
-use log_writer::SaveFault;
-use outside::{Device, Disk, Vault};
+use log_writer::{SaveFault, Vault};
+use outside::{Device, Disk};
 use serial_model::LAST_EPOCH;
 use worker_logs::{Side, WorkerLog, flush_all};
 
@@ -31,8 +30,8 @@ pub fn join_round<D: Disk>(
 ) -> (Option<u32>, Option<End>)
     requires up { runtime.old.down ≡ false }
     requires stands { StandsOn D.tells D.clock D.image_at runtime.old vault.old }
-    requires tie_room { vec_len vault.old.ties < vec_capacity vault.old.ties }
-    requires cut_room { vec_len vault.old.cuts + 8 ≤ vec_capacity vault.old.cuts }
+    requires tie_room { 1 ≤ vault.old.ties.room }
+    requires cut_room { 8 ≤ vault.old.cuts.room }
     ensures joins { Joins D.tells D.clock D.image_at D.faults runtime.old runtime.new
         vault.old vault.new result.0 result.1 }
 {
@@ -54,8 +53,8 @@ pub(crate) fn join_logs<D: Disk>(
     requires sound { runtime.old.store.sound ≡ true }
     requires snapshot { HasSnapshot D.tells runtime.old vault.old.snaps }
     requires room { runtime.old.room ≤ 65536 }
-    requires tie_room { vec_len vault.old.ties < vec_capacity vault.old.ties }
-    requires cut_room { vec_len vault.old.cuts + 8 ≤ vec_capacity vault.old.cuts }
+    requires tie_room { 1 ≤ vault.old.ties.room }
+    requires cut_room { 8 ≤ vault.old.cuts.room }
     ensures runs { JoinsAndSwaps D.tells D.clock D.image_at D.faults runtime.old runtime.new
         vault.old vault.new result.0 result.1 }
 {
@@ -78,7 +77,7 @@ fn save_joined<D: Disk>(runtime: &mut Runtime, vault: &mut Vault<D>) -> Result<u
     requires sound { runtime.old.store.sound ≡ true }
     requires snapshot { HasSnapshot D.tells runtime.old vault.old.snaps }
     requires room { runtime.old.room ≤ 65536 }
-    requires tie_room { vec_len vault.old.ties < vec_capacity vault.old.ties }
+    requires tie_room { 1 ≤ vault.old.ties.room }
     ensures runs { RunsJoin D.tells D.clock D.image_at D.faults runtime.old runtime.new
         vault.old vault.new result }
     ensures cuts { vault.new.cuts ≡ vault.old.cuts }

@@ -1,37 +1,48 @@
 // The lines of the maintenance thread in a round.
-ghost use Rattle.std.specs.Prelude.{◌≡◌, ◌≤◌, ◌<◌, ◌+◌, ◌||◌, [], None, length, vec_capacity, vec_len};
+ghost use Rattle.std.specs.Prelude.{◌≡◌, ◌≤◌, ◌<◌, ◌+◌, ◌||◌, [], None, length, vec_capacity, ◌++◌, ◌∷◌, ℕ, List};
+ghost use Rattle.tx_script.specs.declared.answer.Answer.{Answer};
 ghost use Rattle.script_grammar.specs.Script.{IsAsked, keeper_lines};
 ghost use Rattle.tx_script.specs.Run.{CanRun};
+ghost use Rattle.worker_cells.specs.Gates.{Before, IsTold, calls_for, calls_in, calls_of};
 ghost use Rattle.worker_logs.specs.Saves.{SavesMarks, logs_marks};
 ghost use Rattle.round_engine.specs.Ends.{save_limited};
 ghost use Rattle.round_engine.specs.Keeping.{CanKeep, RunsKeeper, StepsEpoch, StepsGlean, StepsKeeper, StepsLine};
-ghost use Rattle.round_engine.specs.Keeping.{StepsSave, glean_answer, glean_refusal, is_limited, save_refusal};
+ghost use Rattle.round_engine.specs.Keeping.{StepsSave, glean_answer, glean_refusal, is_limited, refusal_beside};
+ghost use Rattle.round_engine.specs.Keeping.{save_refusal};
+ghost use Rattle.round_engine.specs.RoundCalls.{is_answered};
 ghost use Rattle.round_engine.specs.Standing.{beside_of};
 
 use crate::gleans::glean_closed;
 use crate::{End, Runtime};
-use gleaner::{GleanFault, Gleaned};
+use gleaner::{GleanFault, Gleaned, Gleaning};
 use lists::OrMemory;
-use log_writer::SaveFault;
-use outside::{Device, Disk, Gate, Vault};
+use log_writer::{SaveFault, Vault};
+use outside::{Device, Disk};
 use std::alloc::Global;
+use std::sync::Wait;
+use std::thread::Threads;
 use tx_script::{Answer, KeeperLine, Round};
+use worker_cells::{GateCalls, LineGate};
 use worker_logs::{Beside, save_marks};
 
 /// The maintenance thread, as a gate is told of it.
 const KEEPER: u8 = 255;
 
-/// What the maintenance thread's lines were refused.
+/// What the maintenance thread's lines were refused, and what the gate was told of them.
 #[derive(Clone, Copy)]
 pub(crate) struct KeeperEnd {
     /// The refusal behind which none of them was run.
     pub(crate) refusal: Option<End>,
     /// Whether one asked for a save behind the last sequence.
     pub(crate) limited: bool,
+    /// The calls of the gate.
+    pub(crate) calls: GateCalls,
 }
 
-/// Runs the lines of the maintenance thread, and adds their answers. Behind a refused one none is run.
-pub(crate) fn run_keeper<D: Disk, G: Gate>(
+/// Runs the lines of the maintenance thread, each between two calls of the gate, and adds their answers. Behind a
+/// refused one none is run.
+pub(crate) fn run_keeper<R: Threads + Wait + Sync, D: Disk + Send, G: LineGate>(
+    rt: &R,
     alloc: Global,
     runtime: &mut Runtime,
     vault: &mut Vault<D>,
@@ -43,14 +54,16 @@ pub(crate) fn run_keeper<D: Disk, G: Gate>(
     requires none { answers.old.items ≡ [] }
     requires answer_room { length (keeper_lines round.now) ≤ vec_capacity answers.old }
     requires ready { CanKeep D.tells D.clock D.image_at runtime.old vault.old }
-    requires tie_room { vec_len vault.old.ties + length (keeper_lines round.now) ≤ vec_capacity vault.old.ties }
+    requires tie_room { length (keeper_lines round.now) ≤ vault.old.ties.room }
     ensures runs { RunsKeeper D.tells D.clock D.image_at D.faults (keeper_lines round.now) answers.new.items
         result.refusal runtime.old runtime.new vault.old vault.new }
     ensures limited { result.limited ≡ save_limited (keeper_lines round.now) answers.new.items }
+    ensures calls { calls_in result.calls ≡ calls_for is_answered 255 0 answers.new.items }
 {
     let mut end = KeeperEnd {
         refusal: None,
         limited: false,
+        calls: GateCalls::none(),
     };
     // Where there is no room for an answer, no line is the maintenance thread's.
     if answers.capacity() == 0 {
@@ -59,7 +72,7 @@ pub(crate) fn run_keeper<D: Disk, G: Gate>(
     let mut count = 0;
     for index in 0..round.len() {
         if let Some(line) = round.keeper(index) {
-            let answer = answer_line(alloc, runtime, vault, gate, line, count, &mut end);
+            let answer = answer_line(rt, alloc, runtime, vault, gate, line, count, &mut end);
             answers.push_reserved(answer);
             count += 1;
         }
@@ -68,7 +81,8 @@ pub(crate) fn run_keeper<D: Disk, G: Gate>(
 }
 
 // Answers a line: it is not run behind a refusal.
-fn answer_line<D: Disk, G: Gate>(
+fn answer_line<R: Threads + Wait + Sync, D: Disk + Send, G: LineGate>(
+    rt: &R,
     alloc: Global,
     runtime: &mut Runtime,
     vault: &mut Vault<D>,
@@ -79,17 +93,22 @@ fn answer_line<D: Disk, G: Gate>(
 ) -> Answer
     requires can { IsAsked line }
     requires ready { end.old.refusal ≡ None → CanKeep D.tells D.clock D.image_at runtime.old vault.old }
-    requires tie_room { vec_len vault.old.ties < vec_capacity vault.old.ties }
+    requires tie_room { 1 ≤ vault.old.ties.room }
+    requires calls { end.old.refusal ≡ None → calls_in end.old.calls ≡ calls_of 255 count }
     ensures steps { StepsKeeper D.tells D.clock D.image_at D.faults end.old.refusal line result end.new.refusal
         runtime.old runtime.new vault.old vault.new }
     ensures limited { end.new.limited ≡ (end.old.limited || is_limited line result) }
+    ensures calls { (said : List Answer)
+        → IsTold is_answered 255 count (end.old.refusal ≡ None) said (calls_in end.old.calls)
+        → IsTold is_answered 255 (count + 1) (end.new.refusal ≡ None) (said ++ result ∷ [])
+        (calls_in end.new.calls) }
 {
     if end.refusal.is_some() {
         return Answer::Unrun;
     }
-    gate.before(KEEPER, count);
-    let (answer, refusal) = run_line(alloc, runtime, vault, line);
-    gate.after(KEEPER, count);
+    gate.enter(&mut end.calls, KEEPER, count);
+    let (answer, refusal) = run_line(rt, alloc, runtime, vault, line, &end.calls);
+    gate.leave(&mut end.calls, KEEPER, count);
     end.refusal = refusal;
     end.limited = end.limited || met_limit(line, answer);
     answer
@@ -105,23 +124,28 @@ fn met_limit(line: KeeperLine, answer: Answer) -> bool
     }
 }
 
-// Runs a line. Answers it, and tells the refusal behind which no line is run, if it is one.
-fn run_line<D: Disk>(
+// Runs a line which the gate was told to begin. Answers it, and tells the refusal behind which no line is run, if it is
+// one.
+fn run_line<R: Threads + Wait + Sync, D: Disk + Send>(
+    rt: &R,
     alloc: Global,
     runtime: &mut Runtime,
     vault: &mut Vault<D>,
     line: KeeperLine,
+    calls: &GateCalls,
 ) -> (Answer, Option<End>)
     requires can { IsAsked line }
+    requires begun { (count : ℕ) × (calls_in calls.now ≡ calls_of 255 count ++ Before 255 count ∷ []) }
     requires ready { CanKeep D.tells D.clock D.image_at runtime.old vault.old }
-    requires tie_room { vec_len vault.old.ties < vec_capacity vault.old.ties }
+    requires tie_room { 1 ≤ vault.old.ties.room }
     ensures steps { StepsLine D.tells D.clock D.image_at D.faults line result.0 result.1
         runtime.old runtime.new vault.old vault.new }
 {
+    let _ = calls;
     match line {
         KeeperLine::Epoch => (advance_line(runtime), None),
         KeeperLine::Save => save_line(runtime, vault),
-        KeeperLine::Glean => glean_line(alloc, runtime, vault),
+        KeeperLine::Glean => glean_line(rt, alloc, runtime, vault),
         KeeperLine::Drop => unreachable!(),
     }
 }
@@ -141,7 +165,7 @@ fn advance_line(runtime: &mut Runtime) -> Answer
 // Answers the epoch that was saved.
 fn save_line<D: Disk>(runtime: &mut Runtime, vault: &mut Vault<D>) -> (Answer, Option<End>)
     requires ready { CanKeep D.tells D.clock D.image_at runtime.old vault.old }
-    requires tie_room { vec_len vault.old.ties < vec_capacity vault.old.ties }
+    requires tie_room { 1 ≤ vault.old.ties.room }
     ensures steps { StepsSave D.tells D.clock D.image_at D.faults result.0
         runtime.old runtime.new vault.old vault.new }
     ensures refusal { result.1 ≡ save_refusal result.0 }
@@ -156,7 +180,8 @@ fn save_line<D: Disk>(runtime: &mut Runtime, vault: &mut Vault<D>) -> (Answer, O
 }
 
 // Answers the snapshot that was made, or why none was.
-fn glean_line<D: Disk>(
+fn glean_line<R: Threads + Wait + Sync, D: Disk + Send>(
+    rt: &R,
     alloc: Global,
     runtime: &mut Runtime,
     vault: &mut Vault<D>,
@@ -165,11 +190,35 @@ fn glean_line<D: Disk>(
     ensures steps { StepsGlean D.tells D.clock D.image_at D.faults result.0 result.1
         runtime.old runtime.new vault.old vault.new }
 {
-    told_of_glean(glean_closed(alloc, runtime, vault))
+    told_of_glean(glean_closed(rt, alloc, runtime, vault))
 }
 
 // What is told of a glean: the answer, and the refusal behind which no line is run.
-fn told_of_glean(gleaned: Result<Gleaned, OrMemory<GleanFault>>) -> (Answer, Option<End>)
+fn told_of_glean(gleaning: Gleaning) -> (Answer, Option<End>)
+    ensures answer { result.0 ≡ glean_answer gleaning.answer }
+    ensures refusal { result.1 ≡ refusal_beside gleaning.beside (glean_refusal gleaning.answer) }
+{
+    let (answer, refusal) = told_of_answer(gleaning.answer);
+    (answer, or_beside(gleaning.beside, refusal))
+}
+
+// A refusal, or a closed log file that failed beside it: a device is named before damage and want of memory.
+fn or_beside(beside: Option<Device>, refusal: Option<End>) -> Option<End>
+    ensures { result ≡ refusal_beside beside refusal }
+{
+    let Some(device) = beside else {
+        return refusal;
+    };
+    match refusal {
+        Some(End::Device(_)) => refusal,
+        Some(End::Damaged { .. } | End::Limit { .. } | End::Memory) | None => {
+            Some(End::Device(device))
+        }
+    }
+}
+
+// What is told of a glean's answer.
+fn told_of_answer(gleaned: Result<Gleaned, OrMemory<GleanFault>>) -> (Answer, Option<End>)
     ensures answer { result.0 ≡ glean_answer gleaned }
     ensures refusal { result.1 ≡ glean_refusal gleaned }
 {
@@ -194,7 +243,7 @@ pub(crate) fn save_marked<D: Disk>(
     vault: &mut Vault<D>,
 ) -> Result<u32, SaveFault>
     requires ready { CanKeep D.tells D.clock D.image_at runtime.old vault.old }
-    requires tie_room { vec_len vault.old.ties < vec_capacity vault.old.ties }
+    requires tie_room { 1 ≤ vault.old.ties.room }
     ensures saves { SavesMarks D.tells D.clock D.image_at D.faults runtime.old.stands.clock.epoch
         (logs_marks runtime.old.logs) (beside_of runtime.old) runtime.old.save runtime.new.save
         vault.old vault.new result }

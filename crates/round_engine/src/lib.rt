@@ -13,7 +13,8 @@
 //!   the run has ended (`rounds`, by `StopsIn`).
 //! - [`join_round`]: the same of a round without lines (`joins`, by `Joins`).
 //! - [`Runtime::total`]: the sum of all values behind the rounds that were run, without a device.
-//! - [`Runtime::new`] begins in the settled state, in the epoch after the saved one, with empty logs (`begins`).
+//! - [`Runtime::new`] begins in the settled state, in the epoch after the saved one, with empty logs (`begins`). Words
+//!   that threads share open with the newest snapshot's records, each with its number (`opens`).
 //!
 //! Invariants: a runtime has a log for each of eight workers, and knows what the newest savepoint says; while the run
 //! goes on, no line waits between two rounds, and each mark counts all that is durable (`IsReady`).
@@ -27,17 +28,18 @@
 
 mod engine;
 mod gleans;
+mod idling;
 mod joins;
 mod keeper;
+mod opening;
 mod owners;
 mod report;
 mod rounds;
 mod runtime;
 mod sides;
 mod swaps;
-mod workers;
 
-pub use gleaner::{GleanFault, Gleaned};
+pub use gleaner::{GleanFault, Gleaned, Gleaning};
 pub use gleans::glean;
 pub use joins::join_round;
 pub use report::{End, LimitName, Report};

@@ -1,7 +1,9 @@
 // What a round reports.
 
+use arrayvec::ArrayVec;
 use outside::Device;
 use tx_script::{Answers, RoundOutcomes};
+use worker_cells::GateCalls;
 
 /// A limit of the engine, in the order in which limits of one round are told.
 #[derive(Clone, Copy, Debug, PartialEq, Eq)]
@@ -45,4 +47,6 @@ pub struct Report {
     /// The round's first refusal that ends the run: devices first (the save, the snapshots, the log
     /// files by their numbers), then limits.
     pub end: Option<End>,
+    /// What the gate was told: by each worker, and last by the maintenance thread.
+    pub calls: ArrayVec<GateCalls, 9>,
 }

@@ -1,8 +1,8 @@
 // One round over a vault.
 ghost use Rattle.std.specs.Prelude.{◌≡◌, ◌≤◌, ◌<◌, ◌+◌, ℕ, List, [], false, IfErr, IfOk, IfSome, OnOk, is_some};
-ghost use Rattle.std.specs.Prelude.{Bool, IsSome, Some, length, option_map, slice_get, vec_capacity, vec_len};
+ghost use Rattle.std.specs.Prelude.{Bool, IsSome, Some, length, option_map, slice_get, vec_capacity, ◌++◌, ◌∷◌, map};
 ghost use Rattle.std.specs.List.{AllByRecursion, list_any};
-ghost use Rattle.outside.specs.Vault.{IsWhole};
+ghost use Rattle.log_writer.specs.Vault.{IsWhole};
 ghost use Rattle.script_grammar.specs.Script.{keeper_lines};
 ghost use Rattle.log_writer.specs.Points.{sequence_of};
 ghost use Rattle.tx_script.specs.Draws.{HasTree};
@@ -22,27 +22,32 @@ ghost use Rattle.round_engine.specs.Keeping.{CanKeep};
 ghost use Rattle.round_engine.specs.Standing.{StandsOn};
 ghost use Rattle.round_engine.specs.Lines.{LinesCome};
 ghost use Rattle.round_engine.specs.Histories.{KeepsHistory};
-ghost use Rattle.round_engine.specs.Plainly.{DrewOnce};
+ghost use Rattle.plain_rounds.specs.Plainly.{DrewOnce};
 ghost use Rattle.round_engine.specs.Powers.{SharesWords};
+ghost use Rattle.round_engine.specs.RoundCalls.{calls_at, round_calls};
 ghost use Rattle.round_engine.specs.Unbegun.{IsUnbegun, RoomAlone};
+ghost use Rattle.worker_cells.specs.Gates.{AreAllTold, calls_in};
 ghost use Rattle.shared_rounds.specs.Rooms.{IsRoomOf};
 ghost use Rattle.round_engine.specs.Workers.{idle_if_not};
 ghost use Rattle.round_engine.specs.declared.report.End.TheVariants as ends;
 
+use crate::idling::idle_without_lines;
 use crate::joins::{join_logs, limit};
 use crate::keeper::{KeeperEnd, run_keeper};
 use crate::owners::owners_of;
 use crate::runtime::WORKERS;
 use crate::sides::growing_number;
-use crate::workers::idle_without_lines;
 use crate::{End, LimitName, Report, Runtime};
-use outside::{Device, Disk, Gate, Vault};
+use arrayvec::ArrayVec;
+use log_writer::Vault;
+use outside::{Device, Disk, Gate};
 use serial_model::Memory;
 use shared_rounds::{LogEnd, Rooms, WorkersRan};
 use std::alloc::Global;
 use std::sync::Wait;
 use std::thread::Threads;
 use tx_script::{Answer, Answers, Outcomes, Round, RoundOutcomes};
+use worker_cells::{GateCalls, LineGate};
 use worker_logs::Side;
 
 /// Runs the workers' lines, each between the gate's two calls and tried so often at most, then those of the
@@ -77,6 +82,9 @@ pub fn round<R: Threads + Wait + Sync, D: Disk + Send + Drop, G: Gate + Sync>(
         vault.old vault.new result }
     ensures unbegun { IfErr result (λ memory. SharesWords runtime.old.stands
         → IsUnbegun runtime.old runtime.new vault.old vault.new) }
+    // The gate was told of each line that was run, and of no other.
+    ensures calls { IfOk result (λ report. map calls_in report.calls.items
+        ≡ round_calls 0 report.outcomes report.keeper) }
 {
     reads_are_images(vault);
     let owners = owners_of(round);
@@ -114,7 +122,7 @@ fn idle_logs(runtime: &mut Runtime, busy: &[bool])
 
 // Runs and joins a round, in this room for its lines and its answers, if there is some for the lines. All that is
 // recorded of stores and cuts has its room: behind the workers' lines nothing but a glean wants memory.
-fn run_round<R: Threads + Sync, D: Disk + Send + Drop, G: Gate + Sync>(
+fn run_round<R: Threads + Wait + Sync, D: Disk + Send + Drop, G: LineGate + Sync>(
     rt: &R,
     alloc: Global,
     runtime: &mut Runtime,
@@ -134,23 +142,40 @@ fn run_round<R: Threads + Sync, D: Disk + Send + Drop, G: Gate + Sync>(
     requires room { IfSome rooms (IsRoomOf round.now) }
     requires none { answers.items ≡ [] }
     requires answer_room { length (keeper_lines round.now) ≤ vec_capacity answers }
-    requires tie_room { vec_len vault.old.ties + length (keeper_lines round.now) + 1 ≤ vec_capacity vault.old.ties }
-    requires cut_room { vec_len vault.old.cuts + 8 ≤ vec_capacity vault.old.cuts }
+    requires tie_room { length (keeper_lines round.now) + 1 ≤ vault.old.ties.room }
+    requires cut_room { 8 ≤ vault.old.cuts.room }
     ensures phases { RunsPhases D.tells D.clock D.image_at D.faults tries round.now runtime.old runtime.new
         vault.old vault.new result }
     ensures enough { IfErr result (λ memory. SharesWords runtime.old.stands → IsSome rooms → ⊥) }
+    ensures calls { IfOk result (λ report. map calls_in report.calls.items
+        ≡ round_calls 0 report.outcomes report.keeper) }
 {
     let mut answers = answers;
     let ran = run_lent(rt, alloc, runtime, vault, round, rooms, tries, gate)?;
-    let keeper = run_keeper(alloc, runtime, vault, round, gate, &mut answers);
+    let keeper = run_keeper(rt, alloc, runtime, vault, round, gate, &mut answers);
     let refused = Refused::in_lines(runtime, &ran, keeper);
     let (durable, end) = join(runtime, vault, refused);
+    let calls = calls_in_round(ran.ends.as_slice(), keeper.calls);
     Ok(Report {
         outcomes: ran.outcomes,
         keeper: Answers::from_vec(answers),
         durable,
         end,
+        calls,
     })
+}
+
+// What the gate was told by each worker, and last by the maintenance thread.
+fn calls_in_round(ends: &[LogEnd], keeper: GateCalls) -> ArrayVec<GateCalls, 9>
+    requires { length ends.now ≤ 8 }
+    ensures { result.items ≡ map calls_at ends.now ++ keeper ∷ [] }
+{
+    let mut calls = ArrayVec::new();
+    for index in 0..ends.len() {
+        calls.push(ends[index].calls);
+    }
+    calls.push(keeper);
+    calls
 }
 
 // Makes room for so many answers, for the record of their stores and the join's, and for that of a cut of each closed
@@ -162,8 +187,8 @@ fn make_room<D: Disk>(
 ) -> Result<Vec<Answer>, Memory>
     requires few { asked ≤ 65536 }
     ensures answers { IfOk result (λ answers. (answers.items ≡ []) × (asked ≤ vec_capacity answers)) }
-    ensures tie_room { OnOk result (vec_len vault.new.ties + asked + 1 ≤ vec_capacity vault.new.ties) }
-    ensures cut_room { OnOk result (vec_len vault.new.cuts + 8 ≤ vec_capacity vault.new.cuts) }
+    ensures tie_room { OnOk result (asked + 1 ≤ vault.new.ties.room) }
+    ensures cut_room { OnOk result (8 ≤ vault.new.cuts.room) }
     ensures alone { RoomAlone vault.old vault.new }
 {
     let answers = Vec::with_capacity(alloc, asked)?;
@@ -173,7 +198,7 @@ fn make_room<D: Disk>(
 }
 
 // Runs the workers' lines over the growing log files, which are lent out of the vault meanwhile.
-fn run_lent<R: Threads + Sync, D: Disk + Send + Drop, G: Gate + Sync>(
+fn run_lent<R: Threads + Sync, D: Disk + Send + Drop, G: LineGate + Sync>(
     rt: &R,
     alloc: Global,
     runtime: &mut Runtime,
@@ -196,6 +221,7 @@ fn run_lent<R: Threads + Sync, D: Disk + Send + Drop, G: Gate + Sync>(
         (growing_in runtime.old.side vault.old) (growing_in runtime.old.side vault.new) result }
     ensures once { IfOk result (λ ran. HasTree runtime.old.stands.decls
         → DrewOnce runtime.old.stands runtime.new.stands ran.outcomes) }
+    ensures calls { IfOk result (λ ran. AreAllTold 0 ran.outcomes ran.ends.items) }
     ensures history { IfOk result (λ ran. SharesWords runtime.old.stands
         → KeepsHistory round.now ran.outcomes runtime.old.stands runtime.new.stands) }
     ensures enough { IfErr result (λ memory. SharesWords runtime.old.stands → IsSome rooms → ⊥) }
@@ -287,8 +313,8 @@ fn join<D: Disk>(
 ) -> (Option<u32>, Option<End>)
     requires ready { leaves_out refused ≡ false → IsReadyToJoin D.tells D.clock D.image_at D.faults
         runtime.old vault.old }
-    requires tie_room { vec_len vault.old.ties < vec_capacity vault.old.ties }
-    requires cut_room { vec_len vault.old.cuts + 8 ≤ vec_capacity vault.old.cuts }
+    requires tie_room { 1 ≤ vault.old.ties.room }
+    requires cut_room { 8 ≤ vault.old.cuts.room }
     ensures joins { JoinsAs D.tells D.clock D.image_at D.faults refused runtime.old runtime.new
         vault.old vault.new result.0 result.1 }
 {

@@ -1,28 +1,29 @@
 // The engine with its clock, the store of savepoints and the workers' logs.
 ghost use Rattle.std.specs.Prelude.{◌≡◌, ◌≤◌, ℕ, [], Some, None, true, IfOk, length, replicate};
 ghost use Rattle.std.specs.Option.{option_map};
-ghost use Rattle.outside.specs.Vault.{IsWhole, disk_in};
-ghost use Rattle.outside.specs.declared.vault.Device.TheVariants as devices;
+ghost use Rattle.log_writer.specs.Vault.{IsWhole, disk_in};
+ghost use Rattle.outside.specs.declared.device.Device.TheVariants as devices;
 ghost use Rattle.serial_model.specs.Decls.{AreDecls};
 ghost use Rattle.serial_model.specs.Numbers.{IsConfig};
-ghost use Rattle.wire_form.specs.Pages.{Contents, decls_of};
+ghost use Rattle.wire_form.specs.Pages.{Contents};
 ghost use Rattle.log_writer.specs.Points.{saved_of};
 ghost use Rattle.log_writer.specs.Save.{IsStored};
-ghost use Rattle.snapshot_store.specs.Content.{SnapshotStands, words_of};
+ghost use Rattle.snapshot_store.specs.Content.{words_of};
 ghost use Rattle.snapshot_store.specs.Store.{Holds};
 ghost use Rattle.tx_script.specs.Run.{clock_after};
 ghost use Rattle.brief_output.specs.Brief.{total_of};
 ghost use Rattle.worker_logs.specs.Logs.{fresh_log};
 ghost use Rattle.worker_logs.specs.Saves.{CountsOf};
 ghost use Rattle.worker_logs.specs.declared.savepoints.Side.TheVariants.{Even};
-ghost use Rattle.round_engine.specs.Begun.{begun};
+ghost use Rattle.recovery_core.specs.NewestSnapshot.{IsNewestSnapshot};
+ghost use Rattle.round_engine.specs.Begun.{OpensOn, begun};
 ghost use Rattle.round_engine.specs.Logs.{AreClosedFiles, AreLogs};
 ghost use Rattle.round_engine.specs.Standing.{StandsOn};
 
 use crate::engine::Engine;
-use log_writer::Save;
-use outside::{Disk, Vault};
-use recovery_core::Settled;
+use checkpoints::Settled;
+use log_writer::{Save, Vault};
+use outside::Disk;
 use serial_model::{Config, Memory};
 use snapshot_store::SnapStore;
 use std::alloc::Global;
@@ -79,8 +80,9 @@ impl Model for Runtime {
 }
 
 impl Runtime {
-    /// A runtime over a vault that was just settled, in its state, and in the epoch after the saved one. The logs
-    /// are empty, and the vault is left as it is.
+    /// A runtime over a vault that was just settled, in its state, and in the epoch after the saved one. Where words
+    /// that threads share run the lines, each record of an array opens as the newest snapshot has it, with its number.
+    /// The logs are empty, and the vault is left as it is.
     pub fn new<D: Disk>(
         alloc: Global,
         vault: &mut Vault<D>,
@@ -98,11 +100,12 @@ impl Runtime {
         requires sound { settled.store.sound ≡ true }
         requires count { length settled.store.pages ≡ settled.saved.count }
         requires holds { Holds D.tells vault.old.snaps settled.store.pages }
-        requires snapshot { (contents : Contents)
-            × SnapshotStands (words_of settled.store.pages) (length settled.store.pages) contents
-            × (settled.decls ≡ decls_of contents) × (contents.epoch ≤ settled.saved.epoch) }
-        ensures begins { IfOk result (λ runtime. runtime
-            ≡ begun settled.decls settled.state settled.save settled.store config.snap config.first) }
+        requires snapshot { (contents : Contents) × IsNewestSnapshot (words_of settled.store.pages)
+            (length settled.store.pages) settled.decls settled.state settled.saved.epoch contents }
+        ensures begins { IfOk result (λ runtime. runtime ≡ begun settled.decls settled.state
+            runtime.stands.opening settled.save settled.store config.snap config.first) }
+        ensures opens { IfOk result (λ runtime.
+            OpensOn (words_of settled.store.pages) (length settled.store.pages) runtime.stands) }
         ensures stands { IfOk result (λ runtime.
             StandsOn D.tells D.clock D.image_at runtime vault.new) }
         // Over log files that are empty as far as they tell, which a settling leaves.
@@ -149,8 +152,12 @@ fn begin(alloc: Global, settled: Settled, config: Config) -> Result<Runtime, Mem
     requires config { IsConfig config }
     requires first { config.first ≡ clock_after settled.saved.epoch }
     requires decls { AreDecls settled.decls }
-    ensures { IfOk result (λ runtime. runtime
-        ≡ begun settled.decls settled.state settled.save settled.store config.snap config.first) }
+    requires snapshot { (contents : Contents) × IsNewestSnapshot (words_of settled.store.pages)
+        (length settled.store.pages) settled.decls settled.state settled.saved.epoch contents }
+    ensures begins { IfOk result (λ runtime. runtime ≡ begun settled.decls settled.state
+        runtime.stands.opening settled.save settled.store config.snap config.first) }
+    ensures opens { IfOk result (λ runtime.
+        OpensOn (words_of settled.store.pages) (length settled.store.pages) runtime.stands) }
 {
     let Settled {
         save,
@@ -161,7 +168,7 @@ fn begin(alloc: Global, settled: Settled, config: Config) -> Result<Runtime, Mem
     } = settled;
     let closed_at = config.first.epoch - 1;
     let logs = new_logs(alloc, closed_at)?;
-    let engine = Engine::new(alloc, decls, state, config.first)?;
+    let engine = Engine::new(alloc, &store, decls, state, config.first)?;
     Ok(Runtime {
         engine,
         save,

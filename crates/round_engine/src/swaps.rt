@@ -1,8 +1,9 @@
 // The swap of a join: the closed log files are emptied and grow from then on, and those that grew are closed.
 ghost use Rattle.std.specs.Prelude.{◌≡◌, ◌≢◌, ◌<◌, ◌+◌, ◌≤◌, ◌^◌, ℕ, [], Some, length, map};
-ghost use Rattle.std.specs.Prelude.{slice_get, vec_capacity, vec_len};
+ghost use Rattle.std.specs.Prelude.{slice_get};
 ghost use Rattle.std.specs.List.{AllByRecursion};
-ghost use Rattle.outside.specs.Vault.{IsWhole};
+ghost use Rattle.log_writer.specs.Vault.{IsWhole};
+ghost use Rattle.log_writer.specs.Save.{IsNewest, IsStored};
 ghost use Rattle.tx_script.specs.Causes.{some_counted};
 ghost use Rattle.worker_logs.specs.Logs.{LogState, reset_log};
 ghost use Rattle.round_engine.specs.Sides.{closed_numbers};
@@ -11,7 +12,8 @@ ghost use Rattle.round_engine.specs.Swaps.{CutsBanks, SwapsAt, cut_failed, turne
 
 use crate::sides::{closed_number, other_side};
 use crate::{End, Runtime};
-use outside::{Device, Disk, Vault};
+use log_writer::Vault;
+use outside::{Device, Disk};
 use worker_logs::{Side, WorkerLog, marked_lengths};
 
 /// Swaps the sides behind the save of this epoch, where nothing of the closed log files counts. Answers what ends the
@@ -21,7 +23,8 @@ pub(crate) fn swap<D: Disk>(runtime: &mut Runtime, vault: &mut Vault<D>, epoch: 
     requires workers { length runtime.old.logs ≡ 8 }
     requires flushed { AllByRecursion (λ log. log.journal.lines ≡ []) runtime.old.logs }
     requires closed { AreClosed runtime.old }
-    requires cut_room { vec_len vault.old.cuts + 8 ≤ vec_capacity vault.old.cuts }
+    requires cut_room { 8 ≤ vault.old.cuts.room }
+    requires stored { IsStored D.tells D.clock D.image_at vault.old.save runtime.old.save.newest }
     ensures counted { AllByRecursion (λ n. n < 2 ^ 40) runtime.new.counted }
     ensures swaps { SwapsAt D.tells D.clock D.image_at D.faults epoch runtime.old runtime.new
         vault.old vault.new result }
@@ -41,7 +44,8 @@ pub(crate) fn swap<D: Disk>(runtime: &mut Runtime, vault: &mut Vault<D>, epoch: 
 // Empties the closed log files, one after another, or tells which one failed.
 fn cut_closed<D: Disk>(vault: &mut Vault<D>, side: Side, after: u64) -> Result<(), u8>
     requires whole { IsWhole vault.old }
-    requires cut_room { vec_len vault.old.cuts + 8 ≤ vec_capacity vault.old.cuts }
+    requires cut_room { 8 ≤ vault.old.cuts.room }
+    requires newest { IsNewest D.tells D.clock D.image_at vault.old.save after }
     ensures cuts { CutsBanks D.tells D.clock D.image_at D.faults after (closed_numbers side) (cut_failed result)
         vault.old vault.new }
 {

@@ -14,10 +14,10 @@ returns g c =
     record {
       gleans = subst (λ l. GleansFiles g.D.Disk.tells g.D.Disk.clock g.D.Disk.image_at g.D.Disk.faults c.args.decls.now
           c.args.newest c.args.closed.now c.args.room c.args.store.now c.glean-gleaned.new.store c.args.snaps.now
-          c.glean-gleaned.new.snaps c.args.files.now.items l c.glean-gleaned.result) (sym back)
+          c.glean-gleaned.new.snaps c.args.files.now.items l c.glean-gleaned.result.answer c.glean-gleaned.result.beside) (sym back)
           (subst (λ l. GleansFiles g.D.Disk.tells g.D.Disk.clock g.D.Disk.image_at g.D.Disk.faults c.args.decls.now
           c.args.newest c.args.closed.now c.args.room c.args.store.now c.glean-gleaned.new.store c.args.snaps.now
-          c.glean-gleaned.new.snaps l c.glean-gleaned.new.files c.glean-gleaned.result) was
+          c.glean-gleaned.new.snaps l c.glean-gleaned.new.files c.glean-gleaned.result.answer c.glean-gleaned.result.beside) was
           (record {
             none = λ none. let same = e.untouched none in (e.none.1 none, same.0, same.1, same.2);
             some = λ some is. let none = e.none.0 is in absurd (let no = sym some ∙ none in cc);
@@ -34,6 +34,7 @@ returns g c =
             grows = e.grows;
             front = e.front;
             told = e.told;
+            also = e.beside;
             quiet_snaps = e.quiet_snaps;
             quiet_files = e.quiet_files;
             reads = e.reads;

@@ -1,9 +1,16 @@
 -- A join, and the swap behind it.
-use Rattle.std.proofs.Common.{refl, subst, sym, None, Ok, Err}
+use Rattle.std.proofs.Common.{◌∙◌, ap, refl, subst, sym, None, Ok, Err}
 use Rattle.std.specs.List.{AllByRecursion}
-use Rattle.std.specs.Prelude.{◌<◌, ◌^◌}
+use Rattle.std.specs.Prelude.{◌<◌, ◌^◌, is_some}
 use Rattle.round_engine.specs.Standing.{RuntimeState}
+use Rattle.round_engine.proofs.Places.{nothing_there}
 use Rattle.round_engine.proofs.joins.join_logs.Goals as goal
+
+pub swap-requires-clause-stored : goal.swap-requires-clause-stored
+swap-requires-clause-stored g c =
+    let runs = c.in-Ok.ensures.runs in
+    runs.keeps.stands (nothing_there c.save_joined.new.runtime.save.down
+    (runs.keeps.down ∙ ap is_some runs.answer.4))
 
 pub returns-in-Err : goal.returns-in-Err
 returns-in-Err g c = record {

@@ -1,7 +1,7 @@
 -- The steps of a join up to its save, each only once those before it are done.
 use Rattle.std.proofs.Common.{◌≡◌, ◌∙◌, ap, subst, sym, Err}
 use Rattle.std.proofs.lemmas.Result.{err_from_is_err_and}
-use Rattle.outside.specs.declared.vault.Device.TheVariants.{Bank}
+use Rattle.outside.specs.declared.device.Device.TheVariants.{Bank}
 use Rattle.worker_logs.specs.FlushAll.{FlushesAll}
 use Rattle.worker_logs.specs.Saves.{growing_number, SavesMarks, logs_marks}
 use Rattle.round_engine.specs.Keeping.{CanKeep, RunsJoin, join_answer}

@@ -7,6 +7,9 @@ use Rattle.script_grammar.specs.Script.{keeper_line_of, keeper_lines}
 use Rattle.script_grammar.specs.declared.lines.KeeperLine.{KeeperLine}
 use Rattle.tx_script.specs.declared.answer.Answer.{Answer}
 use Rattle.round_engine.specs.Ends.{save_limited}
+use Rattle.round_engine.specs.RoundCalls.{is_answered}
+use Rattle.worker_cells.specs.GateLaws.{told_none}
+use Rattle.worker_cells.specs.Gates.{calls_for, calls_in}
 use Rattle.round_engine.specs.Keeping.{is_limited, RunsKeeper}
 use Rattle.round_engine.specs.declared.report.End.{End}
 use Rattle.round_engine.proofs.KeeperSteps.{can_keep, keeper_begin, keeper_step, limited_on}
@@ -25,6 +28,10 @@ returns-then-capacity-eq0-clause-limited g c =
     let none : keeper_lines c.args.round.now ≡ [] = nil_from_length _ (omega (arith, c.requires.answer_room, c.capacity.ensures, c.if-capacity-eq0.true)) in
     rw none refl
 
+pub returns-then-capacity-eq0-clause-calls : goal.returns-then-capacity-eq0-clause-calls
+returns-then-capacity-eq0-clause-calls g c =
+    c.none.ensures ∙ ap (calls_for is_answered 255 0) (sym c.requires.none)
+
 pub loop-index-init : goal.loop-index-init
 loop-index-init g c = record {
   runs = subst (λ (a : List Answer). RunsKeeper g.D.Disk.tells g.D.Disk.clock g.D.Disk.image_at g.D.Disk.faults [] a None
@@ -33,21 +40,21 @@ loop-index-init g c = record {
   limited = refl;
   capacity = refl;
   few = omega arith;
+  called = told_none is_answered 255 _ c.args.answers.now.items (calls_in c.none.result) c.requires.none c.none.ensures;
 }
 
 pub answer_line-answer-requires-clause-ready : goal.answer_line-answer-requires-clause-ready
-answer_line-answer-requires-clause-ready g c none =
+answer_line-answer-requires-clause-ready g c κs within none =
     can_keep c.requires.ready (subst (λ (e : Option End). RunsKeeper g.D.Disk.tells g.D.Disk.clock g.D.Disk.image_at
     g.D.Disk.faults (filter_map keeper_line_of (take c.loop-index.index c.args.round.now.lines)) c.loop-index.answers.items e
     c.args.runtime.now c.loop-index.runtime c.args.vault.now c.loop-index.vault) none c.loop-index.invariant.runs)
 
 pub answer_line-answer-requires-clause-tie_room : goal.answer_line-answer-requires-clause-tie_room
-answer_line-answer-requires-clause-tie_room g c =
+answer_line-answer-requires-clause-tie_room g c κs within =
     let inv = c.loop-index.invariant in
     omega (
       arith,
-      inv.runs.ties,
-      inv.runs.capacity,
+      inv.runs.tie_room,
       c.requires.tie_room,
       keepers_fewer c.args.round.now.lines c.loop-index.index c.in-Some.line c.in-Some.ensures,
     )
@@ -85,6 +92,7 @@ loop-index-preserved g c =
                 ∙ ap (λ (ls : List KeeperLine). save_limited ls (c.loop-index.answers.items ++ next.result ∷ [])) (sym at);
             capacity = w.push_reserved.ensures.capacity ∙ inv.capacity;
             few = omega (arith, inv.few);
+            called = next.ensures.calls c.loop-index.answers.items inv.called;
           })
       | in_default w ↦
           let not = keeper_not c.args.round.now.lines c.loop-index.index w.in_default.ensures in
@@ -96,6 +104,7 @@ loop-index-preserved g c =
                 ∙ ap (λ (ls : List KeeperLine). save_limited ls c.loop-index.answers.items) (sym not);
             capacity = inv.capacity;
             few = omega (arith, inv.few);
+            called = inv.called;
           })
     ]
 
@@ -109,9 +118,10 @@ returns g c =
           (filter_map keeper_line_of ls) c.loop-index.answers.items c.loop-index.end.refusal c.args.runtime.now
           c.loop-index.runtime c.args.vault.now c.loop-index.vault) all inv.runs;
       limited = inv.limited ∙ ap (λ ls. save_limited (filter_map keeper_line_of ls) c.loop-index.answers.items) all;
+      calls = inv.called.calls_are;
     }
 
 pub answer_line-answer-requires-clause-can : goal.answer_line-answer-requires-clause-can
-answer_line-answer-requires-clause-can g c =
+answer_line-answer-requires-clause-can g c κs within =
     asked_there c.args.runtime.now.stands.decls c.args.round.now.lines c.loop-index.index c.in-Some.line c.in-Some.ensures
     c.requires.lines.lines

@@ -1,5 +1,7 @@
 -- The first lines of the maintenance thread were run and answered.
-use Rattle.std.proofs.Common.{◌≡◌, ◌≤◌, take}
+use Rattle.std.proofs.Common.{◌≡◌, ◌≤◌, None, take}
+use Rattle.worker_cells.specs.Gates.{IsTold, calls_in}
+use Rattle.round_engine.specs.RoundCalls.{is_answered}
 use Rattle.std.specs.Prelude.{vec_capacity}
 use Rattle.std.specs.List.{filter_map}
 use Rattle.script_grammar.specs.Script.{keeper_line_of}
@@ -15,4 +17,5 @@ invariant-loop-index g l = record {
   limited : l.end.limited ≡ save_limited (filter_map keeper_line_of (take l.index l.round.lines)) l.answers.items;
   capacity : vec_capacity l.answers ≡ vec_capacity l.fn.answers;
   few : l.count ≤ l.index;
+  called : IsTold is_answered 255 l.count (l.end.refusal ≡ None) l.answers.items (calls_in l.end.calls);
 }

@@ -1,5 +1,5 @@
 -- The phases of a round.
-use Rattle.std.proofs.Common.{◌∙◌, ap, subst, sym, List}
+use Rattle.std.proofs.Common.{◌≡◌, ◌∙◌, ◌++◌, ◌∷◌, [], ap, map, subst, sym, List}
 use Rattle.std.proofs.lemmas.Result.{err_from_is_err_and}
 use Rattle.script_grammar.specs.Script.{keeper_lines}
 use Rattle.tx_script.specs.Run.{CanRun}
@@ -9,6 +9,9 @@ use Rattle.round_engine.specs.Ends.{save_limited, where_true}
 use Rattle.round_engine.specs.Keeping.{RunsKeeper}
 use Rattle.round_engine.specs.Refusals.{device_refused}
 use Rattle.round_engine.specs.Standing.{RuntimeState}
+use Rattle.round_engine.specs.RoundCalls.{calls_at, round_calls}
+use Rattle.worker_cells.specs.Gates.{calls_in}
+use Rattle.round_engine.proofs.Called.{all_called}
 use Rattle.round_engine.proofs.NothingRun.{room_none}
 use Rattle.round_engine.proofs.RunRound.{can_keep, ready_to_join, some_lines}
 use Rattle.round_engine.proofs.SharesRun.{same_decls}
@@ -28,12 +31,12 @@ returns-in_err-ran-clause-enough g c =
     rw p.1 c.in_err-ran.ensures.enough
 
 pub run_keeper-keeper-requires-clause-lines : goal.run_keeper-keeper-requires-clause-lines
-run_keeper-keeper-requires-clause-lines g c =
+run_keeper-keeper-requires-clause-lines g c κs within =
     subst (λ ds. CanRun ds c.args.round.now) (sym (same_decls c.in_ok-ran.ensures.runs.come.over.runs))
     c.requires.lines
 
 pub run_keeper-keeper-requires-clause-ready : goal.run_keeper-keeper-requires-clause-ready
-run_keeper-keeper-requires-clause-ready g c =
+run_keeper-keeper-requires-clause-ready g c κs within =
     let lent = c.in_ok-ran.ensures in
     can_keep c.requires.logs c.requires.ready lent.runs.come lent.runtime (room_none c.args.vault.now) lent.vault
 
@@ -80,3 +83,11 @@ returns-clause-phases g c =
       full_is = c.in_lines-refused.ensures.full;
       join = c.join-durable.ensures.joins;
     }
+
+pub returns-clause-calls : goal.returns-clause-calls
+returns-clause-calls g c =
+    ap (map calls_in) (c.calls_in_round-calls.ensures
+    ∙ ap (λ l. map calls_at l ++ c.run_keeper-keeper.result.calls ∷ []) c.as_slice.ensures.value)
+    ∙ all_called 0 c.in_ok-ran.ran.outcomes c.in_ok-ran.ran.ends.items c.run_keeper-keeper.new.answers.items
+    c.run_keeper-keeper.result.calls c.in_ok-ran.ensures.calls c.run_keeper-keeper.ensures.calls
+    ∙ ap (round_calls 0 c.in_ok-ran.ran.outcomes) (sym c.from_vec.ensures)

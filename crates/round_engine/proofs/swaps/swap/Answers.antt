@@ -6,6 +6,13 @@ use Rattle.round_engine.specs.Standing.{RuntimeState}
 use Rattle.round_engine.specs.Swaps.{CutsBanks}
 use Rattle.round_engine.proofs.swaps.swap.Goals as goal
 
+pub cut_closed-requires-clause-newest : goal.cut_closed-requires-clause-newest
+cut_closed-requires-clause-newest g c = (
+  c.args.runtime.now.save.newest,
+  c.requires.stored,
+  sym (c.sequence.ensures.newest ∙ ap (λ (r : RuntimeState). sequence_of r.save.newest) c.runtime.view_is),
+)
+
 pub returns-in-Ok-clause-swaps : goal.returns-in-Ok-clause-swaps
 returns-in-Ok-clause-swaps g c =
     let same = c.runtime.view_is in

@@ -21,24 +21,25 @@ pub returns : goal.returns
 returns g c = elim c.match-self.branch [
   | in-Plain w ↦
       let goes = plain_goes c.self.inside.ended w.in-Plain.is c.self.view_is c.requires.goes_on in
-      let ran = w.run_all.ensures in
+      let ran = w.run_plain.ensures in
       let old = plain_stands c.self.inside.ended w.in-Plain.is c.self.view_is (goes ∙ sym ran.before) in
       rw (w.logs-is, w.growing-is, w.result-is, w.self-inside-is)
       (record {
         runs = subst (λ s. LinesCome g.D.Disk.tells g.D.Disk.clock g.D.Disk.image_at g.D.Disk.faults c.args.tries
-            c.args.round.now s (record w.run_all.new.self { ended = c.self.inside.ended }) c.args.logs.now.items
-            w.run_all.new.logs.items c.args.growing.now.items w.run_all.new.growing.items w.run_all.result) old
+            c.args.round.now s (record w.run_plain.new.engine { ended = c.self.inside.ended }) c.args.logs.now.items
+            w.run_plain.new.logs.items c.args.growing.now.items w.run_plain.new.growing.items w.run_plain.result) old
             (subst (λ ended. LinesCome g.D.Disk.tells g.D.Disk.clock g.D.Disk.image_at g.D.Disk.faults c.args.tries
-            c.args.round.now w.in-Plain.engine (record w.run_all.new.self { ended = ended })
-            c.args.logs.now.items w.run_all.new.logs.items c.args.growing.now.items w.run_all.new.growing.items
-            w.run_all.result) (ran.after ∙ sym goes) ran.runs);
-        once = plain_once w.in-Plain.engine w.run_all.new.self c.args.self.now c.self.inside.ended w.run_all.result old
+            c.args.round.now w.in-Plain.engine (record w.run_plain.new.engine { ended = ended })
+            c.args.logs.now.items w.run_plain.new.logs.items c.args.growing.now.items w.run_plain.new.growing.items
+            w.run_plain.result) (ran.after ∙ sym goes) (ran.come c.args.tries c.requires.some_try));
+        once = plain_once w.in-Plain.engine w.run_plain.new.engine c.args.self.now c.self.inside.ended w.run_plain.result old
             ran.once;
-        history = plain_history c.args.round.now c.args.self.now (record w.run_all.new.self {
+        history = plain_history c.args.round.now c.args.self.now (record w.run_plain.new.engine {
           ended = c.self.inside.ended;
-        }) w.run_all.result (λ shares. ran.apart (subst SharesWords (sym old) shares));
-        enough = plain_apart c.args.self.now (IsSome c.args.rooms → ⊥) w.run_all.result
+        }) w.run_plain.result (λ shares. ran.apart (subst SharesWords (sym old) shares));
+        enough = plain_apart c.args.self.now (IsSome c.args.rooms → ⊥) w.run_plain.result
             (λ shares. ran.apart (subst SharesWords (sym old) shares));
+        calls = ran.calls;
       })
   | in-Shared w ↦
       let old = shared_stands c.self.inside.ended w.in-Shared.is c.self.view_is in
@@ -56,5 +57,6 @@ returns g c = elim c.match-self.branch [
             (standing c.self.inside.ended w.run_shared.new.engine) w.run_shared.result old
             (ran.history c.self.inside.ended);
         enough = shared_enough c.args.self.now (IsSome c.args.rooms → ⊥) w.run_shared.result ran.enough;
+        calls = ran.calls;
       })
 ]

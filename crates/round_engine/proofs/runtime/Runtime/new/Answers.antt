@@ -13,27 +13,28 @@ use Rattle.round_engine.proofs.runtime.Runtime.new.Goals as goal
 pub begin-requires-clause-decls : goal.begin-requires-clause-decls
 begin-requires-clause-decls g c =
     let snapshot = c.requires.snapshot in
-    subst AreDecls (sym snapshot.2)
-    (c.catalogue_declares.ensures (length c.args.settled.store.pages) snapshot.0 snapshot.1.here.catalogue)
+    subst AreDecls (sym snapshot.1.decls_are)
+    (c.catalogue_declares.ensures (length c.args.settled.store.pages) snapshot.0 snapshot.1.stands.here.catalogue)
 
 pub returns-clause-stands : goal.returns-clause-stands
 returns-clause-stands g c =
     let snapshot = c.requires.snapshot in
     IfOk-weaker c.begin.result _ _ (λ runtime is.
     subst (λ (r : RuntimeState). StandsOn g.D.Disk.tells g.D.Disk.clock g.D.Disk.image_at r c.args.vault.now) (sym is)
-    (begun_stands c.args.settled.decls c.args.settled.state c.args.settled.save c.args.settled.store c.args.config.snap
+    (begun_stands c.args.settled.decls c.args.settled.state runtime.stands.opening c.args.settled.save
+    c.args.settled.store c.args.config.snap
     c.args.settled.saved c.args.config.first c.args.vault.now c.requires.known
     (ap (λ (n : Number). n.epoch) c.requires.first) c.requires.whole c.requires.up c.requires.stored
     (record {
       sound = c.requires.sound;
       holds = c.requires.holds;
       contents = snapshot.0;
-      stands = snapshot.1;
-      decls_are = snapshot.2;
-      up_to = snapshot.3;
+      stands = snapshot.1.stands;
+      decls_are = snapshot.1.decls_are;
+      up_to = snapshot.1.up_to;
       let_in = omega (arith, c.requires.count, c.requires.pages);
       most = c.requires.config.most_snap;
-    }))) c.begin.ensures
+    }))) c.begin.ensures.begins
 
 pub returns-clause-logs : goal.returns-clause-logs
 returns-clause-logs g c empty =
@@ -41,12 +42,12 @@ returns-clause-logs g c empty =
     subst (λ (r : RuntimeState). AreLogs g.D.Disk.tells g.D.Disk.clock g.D.Disk.image_at (λ worker. []) (λ worker. []) r
     c.args.vault.now × AreClosedFiles g.D.Disk.tells g.D.Disk.clock g.D.Disk.image_at (λ worker. []) (λ worker. []) r
     c.args.vault.now) (sym is)
-    (begun_logs c.args.settled.decls c.args.settled.state c.args.settled.save c.args.settled.store c.args.config.snap
-    c.args.config.first c.args.vault.now empty)) c.begin.ensures
+    (begun_logs c.args.settled.decls c.args.settled.state runtime.stands.opening c.args.settled.save
+    c.args.settled.store c.args.config.snap c.args.config.first c.args.vault.now empty)) c.begin.ensures.begins
 
 pub returns-clause-counts : goal.returns-clause-counts
 returns-clause-counts g c =
     IfOk-weaker c.begin.result _ _ (λ runtime is.
     subst (λ (r : RuntimeState). CountsOf Even (λ worker. []) (λ worker. []) (λ worker. []) (λ worker. []) r.save.newest)
     (sym is) (begun_counts c.args.settled.save.newest c.args.settled.saved c.requires.known c.requires.nothing))
-    c.begin.ensures
+    c.begin.ensures.begins

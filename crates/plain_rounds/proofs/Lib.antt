@@ -1,0 +1,13 @@
+mod Chains
+mod Drawn
+mod Logged
+mod PlainRun
+mod PlainShares
+mod SoFar
+mod WorkerLoop
+mod WorkersRun
+mod LineSteps
+mod FewWords
+mod Apart
+mod Fronts
+mod Lent

@@ -1,0 +1,31 @@
+-- The lists that were lent have what the workers left.
+use Rattle.std.proofs.Common.{◌≡◌, ◌∙◌, arith, subst, length, drop}
+use Rattle.std.proofs.lemmas.List.{take_at}
+use Rattle.shared_rounds.specs.Lines.{LinesCome}
+use Rattle.plain_rounds.proofs.Lent.{files_stay, logs_stay}
+use Rattle.plain_rounds.proofs.workers.run_workers.Goals as goal
+
+pub returns : goal.returns
+returns g c =
+    let ran = c.run_in_turn-ran in
+    let once = ran.ensures.runs 1 (omega arith) in
+    let logs_long : length ran.new.logs ≡ c.args.logs.now.len = logs_stay ran.result once ∙ c.deref_mut.ensures.len in
+    let files_long : length ran.new.growing ≡ c.args.growing.now.len =
+    files_stay ran.result once ∙ c.deref_mut-2.ensures.len in
+    rw (
+      take_at ran.new.logs (drop (length ran.new.logs) c.args.logs.now.items) c.args.logs.now.len logs_long,
+      take_at ran.new.growing (drop (length ran.new.growing) c.args.growing.now.items) c.args.growing.now.len files_long,
+    )
+    (record {
+      come = λ tries some. subst (λ l. LinesCome g.D.Disk.tells g.D.Disk.clock g.D.Disk.image_at g.D.Disk.faults tries
+          c.args.round.now c.args.engine.now ran.new.engine l ran.new.logs c.args.growing.now.items ran.new.growing
+          ran.result) c.deref_mut.ensures.value
+          (subst (λ b. LinesCome g.D.Disk.tells g.D.Disk.clock g.D.Disk.image_at g.D.Disk.faults tries c.args.round.now
+          c.args.engine.now ran.new.engine c.deref_mut.result.now ran.new.logs b ran.new.growing ran.result)
+          c.deref_mut-2.ensures.value (ran.ensures.runs tries some));
+      once = ran.ensures.once;
+      calls = ran.ensures.calls;
+      apart = c.clock.ensures.apart;
+      before = c.clock.ensures.goes_on;
+      after = c.clock-2.ensures.goes_on;
+    })

@@ -1,0 +1,4 @@
+pub mod Plainly
+pub mod Parts
+pub mod Steps
+pub mod InTurn

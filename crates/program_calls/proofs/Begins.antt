@@ -17,13 +17,13 @@ use Rattle.log_writer.specs.declared.saved.Saved.{Saved}
 use Rattle.snapshot_store.specs.Content.{CatalogueAt, deepest, words_of}
 use Rattle.root_composer.specs.Composition.{IsComposed, IsTooDeep, WouldCompose, level_count, new_count}
 use Rattle.recovery_core.specs.Catalogues.{newest_epoch}
-use Rattle.recovery_core.specs.Images.{Images, count_of, epoch_of}
+use Rattle.joint_crashes.specs.Images.{Images, count_of, epoch_of}
 use Rattle.recovery_core.specs.LogEntries.{counts, last_of, logged}
 use Rattle.recovery_core.specs.Recoverable.{Reading, ReadsBy}
 use Rattle.recovery_core.specs.Recovered.{Recovers}
-use Rattle.recovery_core.specs.Settled.{settled_pages, stores_due}
+use Rattle.checkpoints.specs.Settled.{settled_pages, stores_due}
 use Rattle.recovery_core.specs.declared.recovered.Recovered.{Recovered}
-use Rattle.recovery_core.specs.declared.settlement.Settled.{Settled}
+use Rattle.checkpoints.specs.declared.without_entries.Settled.{Settled}
 use Rattle.checkpoints.specs.Due.{ComposesWithin, IsDue, IsOverLimit, IsStoreDue, IsWithin, NoneCount, OfSaved, SomeCount}
 use Rattle.checkpoints.specs.Due.{WouldBeDeep, WouldBeMany}
 use Rattle.checkpoints.specs.SettlesInto.{Follows, IsComposedInto, StaysAsRead}

@@ -2,13 +2,13 @@
 -- or read.
 use Rattle.std.specs.Prelude.{◌≡◌, ℕ, List, [], ◌∷◌, ◌++◌, length, Option, Some, None}
 use Rattle.std.proofs.Common.{inr, ◌∙◌, refl, sym, ap, subst, arith}
-use Rattle.outside.specs.declared.vault.Vault.{Vault}
+use Rattle.log_writer.specs.declared.vault.Vault.{Vault}
 use Rattle.serial_model.specs.State.{State}
 use Rattle.script_grammar.specs.Script.{Bytes, Line, Round, Script, IsTextOf, last_round}
-use Rattle.recovery_core.specs.Images.{Images}
-use Rattle.recovery_core.specs.JointCrash.{parts_of}
+use Rattle.joint_crashes.specs.Images.{Images}
+use Rattle.joint_crashes.specs.JointCrash.{parts_of}
 use Rattle.recovery_core.specs.Recoverable.{IsRecoverable}
-use Rattle.recovery_core.specs.Resting.{AreTold}
+use Rattle.joint_crashes.specs.Resting.{AreTold}
 use Rattle.tx_script.specs.Run.{Ran}
 use Rattle.brief_output.specs.Brief.{total_of}
 use Rattle.command_line.specs.declared.command.Command.TheVariants.{Run}

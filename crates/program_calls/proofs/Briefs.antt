@@ -4,18 +4,18 @@ use Rattle.std.specs.Prelude.{not, is_some, ⊤}
 use Rattle.lists.specs.declared.memory.OrMemory.{OrMemory}
 use Rattle.lists.specs.declared.memory.OrMemory.TheVariants as errors
 use Rattle.outside.specs.declared.fault.Failed.{Failed}
-use Rattle.outside.specs.declared.vault.Device.{Device}
-use Rattle.outside.specs.declared.vault.Vault.{Vault}
+use Rattle.outside.specs.declared.device.Device.{Device}
+use Rattle.log_writer.specs.declared.vault.Vault.{Vault}
 use Rattle.serial_model.specs.State.{State}
 use Rattle.text_output.specs.Output.{Adds, Breaks, Bytes, Output, Prints}
 use Rattle.text_output.specs.Printed.{adds_nothing, breaks_within}
 use Rattle.script_grammar.specs.Script.{Script}
 use Rattle.recovery_core.specs.Damage.{IsDamagedIn, IsReadBefore}
-use Rattle.recovery_core.specs.Images.{Images}
-use Rattle.recovery_core.specs.JointCrash.{parts_of}
+use Rattle.joint_crashes.specs.Images.{Images}
+use Rattle.joint_crashes.specs.JointCrash.{parts_of}
 use Rattle.recovery_core.specs.Recovered.{Recovers}
-use Rattle.recovery_core.specs.Resting.{AreTold}
-use Rattle.recovery_core.specs.VaultReads.{AreQuiet, RoseIn, VaultOnlyReads, vault_reads_then}
+use Rattle.joint_crashes.specs.Resting.{AreTold}
+use Rattle.joint_crashes.specs.VaultReads.{AreQuiet, RoseIn, VaultOnlyReads, vault_reads_then}
 use Rattle.recovery_core.specs.declared.fault.RecoverFault.{RecoverFault}
 use Rattle.recovery_core.specs.declared.fault.RecoverFault.TheVariants as causes
 use Rattle.recovery_core.specs.declared.recovered.Recovered.{Recovered}

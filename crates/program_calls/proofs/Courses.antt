@@ -5,8 +5,8 @@ use Rattle.std.specs.FinMap.{empty}
 use Rattle.std.specs.Io.KnownBytes.{Consumes, IsAtEnd}
 use Rattle.std.proofs.lemmas.Bool.{lt-ltb}
 use Rattle.std.proofs.lemmas.List.{append-nil}
-use Rattle.outside.specs.Vault.{IsWhole}
-use Rattle.outside.specs.declared.vault.Vault.{Vault}
+use Rattle.log_writer.specs.Vault.{IsWhole}
+use Rattle.log_writer.specs.declared.vault.Vault.{Vault}
 use Rattle.outside.specs.declared.fault.Failed.{Failed}
 use Rattle.serial_model.specs.History.{Entry}
 use Rattle.serial_model.specs.State.{State}
@@ -24,14 +24,14 @@ use Rattle.command_line.specs.declared.command.Command.{Command}
 use Rattle.command_line.specs.declared.command.Command.TheVariants.{Run, Dump, Snaps, Snap, Make, Refused}
 use Rattle.command_line.specs.declared.command.MakeArguments.{MakeArguments}
 use Rattle.command_line.specs.declared.command.RunOptions.{RunOptions}
-use Rattle.recovery_core.specs.VaultReads.{VaultOnlyReads, vault_reads_none}
+use Rattle.joint_crashes.specs.VaultReads.{VaultOnlyReads, vault_reads_none}
 use Rattle.program_calls.specs.Beginning.{Opening}
 use Rattle.program_calls.specs.Causes.{IsInFull}
 use Rattle.program_calls.specs.InBrief.{CameInBrief, SumsUp, up_to}
 use Rattle.program_calls.specs.declared.ending.Ending.{Ending}
 use Rattle.program_calls.specs.declared.ending.Ending.TheVariants.{Finished, NoScript, Shape, Usage, ReadFault, NoDevice, Damaged, AtLimit, NoMemory, NoSnapshot}
 use Rattle.program_calls.specs.Ending.{Comes, IsNoText, IsReadOut, ReadsFirst, body_text, most_read}
-use Rattle.program_calls.specs.Main.{AreBytes, Came, Keeps, StandsWhenStopped}
+use Rattle.program_calls.specs.Main.{AreBytes, Came, KeepsRun, StandsWhenStopped}
 use Rattle.program_calls.specs.OnTheWay.{AddsRun, IsUnreadOf, ReadsText, RunsInBrief, RunsScript}
 use Rattle.program_calls.specs.Vaults.{IsUntouched, Vaults, vaults_of}
 use Rattle.program_calls.proofs.StandsStill.{none_over, nothing_come, untouched_snapshots, untouched_stands}
@@ -63,9 +63,7 @@ module _ {D : Type 0} (v : Vaults D) where
     ending = came.ending;
     course = came.course;
     caused = came.caused;
-    full = came.full;
     history = came.history;
-    files = came.files;
     kept = came.kept;
     shown = has came.rans came.ending came.shown;
   }
@@ -88,10 +86,12 @@ module _ {D : Type 0} (v : Vaults D) where
       comes = runs.comes;
       reads = text.read.1;
     };
-    caused = runs.caused;
-    full = runs.full;
+    caused = record {
+      in_rounds = runs.caused;
+      full = runs.full;
+      files = runs.files;
+    };
     history = runs.history;
-    files = runs.files;
     kept = runs.kept;
     shown = runs.shown;
   }
@@ -100,7 +100,7 @@ module _ {D : Type 0} (v : Vaults D) where
   stops_behind : (mid : Vault D) (rans : List Ran) (ended : Ending) (total : Option ℕ) (decls : List Decl)
       (commits : List Entry) (opening : Opening) (t : State) → SumsUp v mid rans t ended total
       → VaultOnlyReads v.tells v.clock v.image_at v.faults mid v.is
-      → Keeps (up_to v mid) decls commits opening t rans ended → StandsWhenStopped v decls commits opening rans
+      → KeepsRun (up_to v mid) decls commits opening t rans ended → StandsWhenStopped v decls commits opening rans
   stops_behind mid [] ended total decls commits opening t sums reads kept = subst (λ (x : Vault D).
       StandsWhenStopped (vaults_of v.tells v.clock v.image_at v.faults v.was x) decls commits opening []) (sym sums.1)
       kept.stops
@@ -128,10 +128,12 @@ module _ {D : Type 0} (v : Vaults D) where
             comes = brief.runs.comes;
             reads = text.read.1;
           };
-          caused = brief.runs.caused;
-          full = brief.runs.full;
+          caused = record {
+            in_rounds = brief.runs.caused;
+            full = brief.runs.full;
+            files = brief.runs.files;
+          };
           history = brief.runs.history;
-          files = brief.runs.files;
           kept = brief.runs.kept;
           shown = shown.1;
         };
@@ -159,9 +161,7 @@ module _ {D : Type 0} (v : Vaults D) where
       ending = brief.came.ending;
       course = brief.came.course;
       caused = brief.came.caused;
-      full = brief.came.full;
       history = brief.came.history;
-      files = brief.came.files;
       kept = brief.came.kept;
       shown = has (run_in_brief brief.came.rans brief.total) brief.came.ending brief.came.shown;
     };
@@ -189,10 +189,12 @@ module _ {D : Type 0} (v : Vaults D) (whole : IsWhole v.was)
     rans = [];
     ending = ending;
     course = record { script = None; opening = nowhere; state = empty; run = (refl, refl); comes = comes; reads = reads };
-    caused = record { caused = tt; durable = tt; sequences = tt; marks = tt; tried = tt; counted = tt; met = tt; plain = λ tree. tt };
-    full = λ found told. tt;
+    caused = record {
+      in_rounds = record { caused = tt; durable = tt; sequences = tt; marks = tt; tried = tt; counted = tt; met = tt; plain = λ tree. tt };
+      full = λ found told. tt;
+      files = none_over;
+    };
     history = nothing_come [] empty;
-    files = none_over;
     kept = record {
       stands = λ sound. untouched_stands v [] whole same;
       snapshots = λ sound. untouched_snapshots v [] [] whole same;
@@ -218,10 +220,12 @@ module _ {D : Type 0} (v : Vaults D) (whole : IsWhole v.was)
       rans = [];
       ending = ending;
       course = record { script = None; opening = nowhere; state = empty; run = (refl, refl); comes = comes; reads = reads };
-      caused = record { caused = tt; durable = tt; sequences = tt; marks = tt; tried = tt; counted = tt; met = tt; plain = λ tree. tt };
-      full = λ found told. tt;
+      caused = record {
+        in_rounds = record { caused = tt; durable = tt; sequences = tt; marks = tt; tried = tt; counted = tt; met = tt; plain = λ tree. tt };
+        full = λ found told. tt;
+        files = none_over;
+      };
       history = nothing_come [] empty;
-      files = none_over;
       kept = record {
         stands = λ sound. untouched_stands (up_to v v.is) [] whole same;
         snapshots = λ sound. untouched_snapshots (up_to v v.is) [] [] whole same;

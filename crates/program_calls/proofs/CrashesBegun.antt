@@ -9,13 +9,14 @@ use Rattle.std.proofs.lemmas.Bool.{cases_eq, cases_lt}
 use Rattle.std.proofs.lemmas.List.{length-append, length-map}
 use Rattle.std.proofs.lemmas.Option.{same_Some}
 use Rattle.lists.specs.Fronts.{IsFront, front_refl, front_take, front_then, front_within}
-use Rattle.outside.specs.Cuts.{whole_ends}
+use Rattle.log_writer.specs.Cuts.{whole_ends}
 use Rattle.outside.specs.Disk.{Only}
 use Rattle.outside.specs.Fronts.{AllBegin, begins_less}
 use Rattle.outside.specs.Moments.{left_after}
-use Rattle.outside.specs.Vault.{IsWhole, disk_in}
-use Rattle.outside.specs.declared.vault.Device.TheVariants.{Bank, Save}
-use Rattle.outside.specs.declared.vault.Vault.{Vault}
+use Rattle.log_writer.specs.Vault.{IsWhole, disk_in}
+use Rattle.outside.specs.declared.device.Device.TheVariants.{Bank, Save}
+use Rattle.log_writer.specs.declared.vault.Vault.{Vault}
+use Rattle.outside.specs.declared.device.Device.{Device}
 use Rattle.serial_model.specs.State.{State}
 use Rattle.serial_model.specs.declared.decl.Decl.{Decl}
 use Rattle.serial_model.specs.declared.number.Number.{Number}
@@ -30,37 +31,39 @@ use Rattle.snapshot_store.specs.Content.{words_of}
 use Rattle.snapshot_store.specs.Places.{page}
 use Rattle.snapshot_store.specs.Store.{IsWhole as IsWholePage, bytes_of_page, bytes_of_pages}
 use Rattle.recovery_core.specs.Catalogues.{HasPages}
-use Rattle.recovery_core.specs.CrashesRecover.{LeavesSame, old_recovers}
-use Rattle.recovery_core.specs.Files.{has_files}
-use Rattle.recovery_core.specs.Images.{Images, count_of, counted_of, epoch_of}
-use Rattle.recovery_core.specs.JointCrash.{CrashesNow, IsJointCrash, IsNow, IsSince, KeepsCrashes, Moments}
-use Rattle.recovery_core.specs.JointCrash.{parts_of}
-use Rattle.recovery_core.specs.Recoverable.{IsRecoverable, ReadsBy, ReadsSaved}
-use Rattle.recovery_core.specs.RecoverableLaws.{one_pages, page_in_front, same_recoverable}
+use Rattle.checkpoints.specs.CrashesRecover.{LeavesSame, old_recovers}
+use Rattle.checkpoints.specs.Files.{has_files}
+use Rattle.joint_crashes.specs.Images.{Images, count_of, counted_of, epoch_of}
+use Rattle.joint_crashes.specs.JointCrash.{CrashesNow, IsJointCrash, IsNow, IsSince, KeepsCrashes, Moments}
+use Rattle.joint_crashes.specs.JointCrash.{parts_of}
+use Rattle.recovery_core.specs.Recoverable.{IsRecoverable, IsStateOf, ReadsBy, ReadsSaved}
+use Rattle.recovery_core.specs.RecoverableLaws.{one_pages, one_reading, page_in_front, same_reading}
 use Rattle.recovery_core.specs.StoredPages.{whole_size}
 use Rattle.recovery_core.specs.Recovered.{IsUp, Recovers, recovers_state, saved_count}
-use Rattle.recovery_core.specs.Settled.{SaysSettled, settled_pages, stores_due}
-use Rattle.recovery_core.specs.Crashes.Standing.{crash_stands}
-use Rattle.recovery_core.specs.Resting.{AreTold, HasNoRecords, IsResting}
-use Rattle.recovery_core.specs.SettleGoesOn.{GoesOn}
-use Rattle.recovery_core.specs.SettleLaws.{point_says, untouched_leaves}
-use Rattle.recovery_core.specs.SettleRests.{RestsSince, rests_now, rests_read}
-use Rattle.recovery_core.specs.Crashes.Instants.{open_ready}
-use Rattle.recovery_core.specs.Story.{IsTold, Story}
-use Rattle.recovery_core.specs.VaultReads.{VaultOnlyReads, told_read, vault_reads_none, whole_read}
+use Rattle.checkpoints.specs.Settled.{SaysSettled, settled_pages, stores_due}
+use Rattle.joint_crashes.specs.Crashes.Standing.{crash_stands}
+use Rattle.joint_crashes.specs.Resting.{AreTold, HasNoRecords, IsResting}
+use Rattle.checkpoints.specs.SettleGoesOn.{GoesOn}
+use Rattle.checkpoints.specs.SettleLaws.{point_says, untouched_leaves}
+use Rattle.joint_crashes.specs.SettleRests.{RestsSince, rests_now, rests_read, stops_after_reads}
+use Rattle.recovery_core.specs.SnapshotsKept.{StandsAsRead}
+use Rattle.joint_crashes.specs.Crashes.Instants.{open_ready}
+use Rattle.joint_crashes.specs.Story.{IsTold, Story}
+use Rattle.joint_crashes.specs.VaultReads.{RoseIn, VaultOnlyReads, vault_reads_none, whole_read}
 use Rattle.recovery_core.specs.declared.recovered.Recovered.{Recovered}
-use Rattle.recovery_core.specs.declared.settlement.Settled.{Settled}
+use Rattle.checkpoints.specs.declared.without_entries.Settled.{Settled}
 use Rattle.checkpoints.specs.SettlesInto.{Follows, SettlesInto}
 use Rattle.round_engine.specs.Begun.{begun}
 use Rattle.round_engine.specs.Logs.{AreClosedFiles, AreLogs}
 use Rattle.round_engine.specs.Standing.{RuntimeState}
 use Rattle.program_calls.specs.Beginning.{Opening}
-use Rattle.program_calls.specs.Main.{StandsWhenStopped}
+use Rattle.program_calls.specs.Main.{RecordsOf, StandsWhenStopped}
 use Rattle.program_calls.specs.Vaults.{IsUntouched, Vaults, vaults_of}
 use Rattle.worker_logs.specs.Saves.{closed_number, growing_number}
 use Rattle.program_calls.proofs.CrashPoints.{FoundAt}
 use Rattle.program_calls.proofs.CrashesKept.{KeptBefore}
 use Rattle.program_calls.proofs.KeptThrough.{one_kept}
+use Rattle.program_calls.proofs.SnapshotsKept.{chained, each_left}
 use Rattle.program_calls.proofs.VaultsLater.{there}
 
 -- ---- a vault that was only read rests on
@@ -119,27 +122,26 @@ module _ {D : Type 0} (v : Vaults D)
   stops_read decls opening whole reads found from epoch state told that rest now =
       let still = rests_after_reads rest whole reads now in
       let whole_is = whole_read reads whole in
+      let stands : (at : Moments) (left : Images) → IsSince from at
+      → IsJointCrash v.clock v.image_at (parts_of v.is) at left → StandsAsRead that.reading left epoch state =
+      λ at left since crash.
+      let images = crash.images in
+      old_recovers reads_told (parts_of v.is) (has_files v.was whole) (has_files v.is whole_is) rest told that
+      (still.since.save at.save left.save since.save images.save_come images.save)
+      (still.since.snaps at.snaps since.snaps images.snaps_come left.snaps images.snaps)
+      (λ n bank here. still.since.bank n bank here (at.bank n) (since.bank n) (images.bank_come n bank here)
+      (left.bank n) (images.bank n bank here)) in
       record {
-        leaves = λ at left since crash.
-            let images = crash.images in (
-              epoch,
-              omega arith,
-              old_recovers reads_told (parts_of v.is) (has_files v.was whole) (has_files v.is whole_is) rest told that
-                  (still.since.save at.save left.save since.save images.save_come images.save)
-                  (still.since.snaps at.snaps since.snaps images.snaps_come left.snaps images.snaps)
-                  (λ n bank here. still.since.bank n bank here (at.bank n) (since.bank n) (images.bank_come n bank here)
-                  (left.bank n) (images.bank n bank here)),
-            );
+        leaves = λ at left since crash. (epoch, omega arith, (stands at left since crash).is);
+        snapshots = λ at left now since crash is.
+            each_left decls [] found left epoch state that (stands at left since crash) now is;
+        recorded = λ some. absurd (some refl);
         covers = λ i saved at. absurd cc;
         instant = λ when. elim when [
           | inr some ↦ absurd (some refl)
-          | inl none ↦
-              let resting = resting_still rest whole whole_is still in
-              (untouched_leaves reads_told (has_files v.is whole_is) resting.0 (record {
-                ties = ap (λ t. t.items) reads.ties ∙ none.ties;
-                cuts = ap (λ t. t.items) reads.cuts ∙ none.cuts;
-              }) (told_read reads whole told) resting.1 that).now
+          | inl before ↦ stops_after_reads whole reads before
         ];
+        rests = λ none file image only. (resting_still rest whole whole_is still).0;
       }
 
   -- so does one that let the vault alone
@@ -150,29 +152,46 @@ module _ {D : Type 0} (v : Vaults D)
 
 -- ---- calls that settled, or were refused that
 
+-- Where nothing that counts was pending as a call began, and no device failed, nothing is behind it, where the save has
+-- one image.
+abbrev pub RestsBehind : {D : Type 0} → (D → Option (List ℕ)) → (D → ℕ) → (D → ℕ → List ℕ → Type 0) → (D → ℕ) → Vault D
+    → Vault D → Type 0
+RestsBehind tells clock image_at faults was is = ((device : Device) → RoseIn faults device was is → ⊥) → (found : Images)
+    (from : Moments) → AreTold tells (parts_of was) found → IsResting clock image_at (parts_of was)
+    → IsNow clock image_at (parts_of was) from → (file : List ℕ) → image_at is.save (clock is.save) file
+    → Only clock image_at is.save file → IsResting clock image_at (parts_of is)
+
 module _ {D : Type 0} {tells : D → Option (List ℕ)} {clock : D → ℕ} {image_at : D → ℕ → List ℕ → Type 0}
     {faults : D → ℕ} {was is : Vault D} where
   -- each crash since the call began leaves what the vault stood for, where settling left that
   pub stops_settled : (between : Vault D) (r : Recovered) (decls : List Decl) (opening : Opening)
-      → ((found : Images) → AreTold tells (parts_of was) found → Recovers found r)
-      → ((found : Images) (from : Moments) → AreTold tells (parts_of was) found
+      → (recovers : (found : Images) → AreTold tells (parts_of was) found → Recovers found r)
+      → ((found : Images) (from : Moments) (told : AreTold tells (parts_of was) found)
       → IsResting clock image_at (parts_of was)
       → IsNow clock image_at (parts_of was) from
-      → LeavesSame clock image_at from r.epoch r.state (parts_of between) (parts_of is))
+      → LeavesSame clock image_at from (recovers found told).reading r.epoch r.state (parts_of between) (parts_of is))
+      → RestsBehind tells clock image_at faults was is
       → StandsWhenStopped (vaults_of tells clock image_at faults was is) decls [] opening []
-  stops_settled between r decls opening recovers crashes found from epoch state told that rest now =
+  stops_settled between r decls opening recovers crashes rests found from epoch state told that rest now =
       let left = crashes found from told rest now in
       let recovered = recovers found told in
       let one = one_kept found r.epoch epoch r.state state (recovers_state found r recovered) that in
+      let stands : (at : Moments) (images : Images) → IsSince from at
+      → IsJointCrash clock image_at (parts_of is) at images → StandsAsRead that.reading images epoch state =
+      λ at images since crash.
+      subst (λ w. StandsAsRead w images epoch state)
+      (one_reading found recovered.reading that.reading recovered.is that.is)
+      (subst (λ e. StandsAsRead recovered.reading images e state) one.0
+      (subst (λ (t : State). StandsAsRead recovered.reading images r.epoch t) one.1
+      (left.recovers at images since crash))) in
       record {
-        leaves = λ at images since crash. (
-          epoch,
-          omega arith,
-          subst (λ e. IsRecoverable images e state) one.0
-              (subst (λ (t : State). IsRecoverable images r.epoch t) one.1 (left.recovers at images since crash)),
-        );
+        leaves = λ at images since crash. (epoch, omega arith, (stands at images since crash).is);
+        snapshots = λ at images now since crash is_now.
+            each_left decls [] found images epoch state that (stands at images since crash) now is_now;
+        recorded = λ some. absurd (some refl);
         covers = λ i saved at. absurd cc;
-        instant = λ when. left.now;
+        instant = λ when. record { crashes = left.now; ended = left.ended };
+        rests = λ none. rests none found from told rest now;
       }
 
 -- ---- a run begins
@@ -283,8 +302,8 @@ module _ {D : Type 0} {tells : D → Option (List ℕ)} {clock : D → ℕ} {ima
     (settled : Settled) (found : Images) (is_up : IsUp recovered)
     (settles : SettlesInto tells clock image_at recovered given between vault settled)
     (told_found : AreTold tells (parts_of between) found) (recovers : Recovers found recovered)
-    (goes : GoesOn clock image_at from epoch state (sequence_of recovered.save.newest) settled.save.newest
-    (parts_of vault))
+    (goes : GoesOn clock image_at from recovers.reading epoch state (sequence_of recovered.save.newest)
+    settled.save.newest (parts_of vault))
     (left : LeftSince clock image_at from found vault)
     (whole_pages : AllByRecursion IsWholePage settled.store.pages) where
   abbrev low : ℕ
@@ -394,12 +413,12 @@ module _ {D : Type 0} {tells : D → Option (List ℕ)} {clock : D → ℕ} {ima
   newest = point_says settled.save.newest settled.saved settles.says
 
   front_stands : IsRecoverable front_images epoch state
-  front_stands = goes.stands last front_images goes.told.save.ordered (omega arith) (record {
+  front_stands = (goes.stands last front_images goes.told.save.ordered (omega arith) (record {
     names = subst (Names rests.0.save) (sym goes.newest_is) (settles.stored rests.0.save rests.1.save).names;
     pages = front_refl (goes.story.pages last);
     counted = λ n bank here. (goes.opened n bank here).counts last goes.told.save.ordered (omega arith)
         (λ began since cut. goes.told.older n began since cut);
-  })
+  })).is
 
   front_has : HasPages (goes.story.pages last) newest.0.count front_stands.reading.pages
   front_has =
@@ -484,21 +503,30 @@ module _ {D : Type 0} {tells : D → Option (List ℕ)} {clock : D → ℕ} {ima
 
   -- images that have just those pages stand for the same
   stands_cut : (k : ℕ) (images : Images) → low ≤ k → k ≤ last → FoundAt story images k
-      → IsRecoverable images epoch state
+      → StandsAsRead recovers.reading images epoch state
   stands_cut k images at_least at_most at =
       let full : Images = record images { snaps = goes.story.pages k } in
-      let is : IsRecoverable full epoch state = goes.stands k full at_least at_most (record {
+      let so : StandsAsRead recovers.reading full epoch state = goes.stands k full at_least at_most (record {
         names = at.names;
         pages = front_refl (goes.story.pages k);
         counted = λ n bank here. at.counted n (bank_below n bank here);
       }) in
+      let is : IsRecoverable full epoch state = so.is in
       let point : is.reading.point ≡ goes.story.point k =
       names_one images.save is.reading.point (goes.story.point k) is.is.names at.names in
-      same_recoverable full images epoch state is (record {
-        names = is.is.names;
-        snaps = subst (λ o. IsFront (take (512 * count_of o) (goes.story.pages k)) images.snaps) (sym point) at.pages;
-        bank = λ n below. front_take (counted_of is.reading.point n) (images.bank n);
-      })
+      record {
+        is = record {
+          reading = is.reading;
+          is = same_reading full images is.reading (record {
+            names = is.is.names;
+            snaps = subst (λ o. IsFront (take (512 * count_of o) (goes.story.pages k)) images.snaps) (sym point) at.pages;
+            bank = λ n below. front_take (counted_of is.reading.point n) (images.bank n);
+          }) is.is;
+          epoch_is = is.epoch_is;
+          state_is = is.state_is;
+        };
+        keeps = so.keeps;
+      }
     where
       bank_below : (n : ℕ) (bank : D) → disk_in vault (Bank n) ≡ Some bank → n < 16
       bank_below n bank here = elim (cases_lt n 16) [
@@ -508,23 +536,32 @@ module _ {D : Type 0} {tells : D → Option (List ℕ)} {clock : D → ℕ} {ima
 
   -- ---- what is known as the first round begins
 
-  pub crashes_begin : (room : ℕ) (first : Number) (r : RuntimeState)
-      → r ≡ begun settled.decls settled.state settled.save settled.store room first
-      → settled.saved.epoch ≡ epoch → CrashesNow clock image_at (parts_of vault)
+  pub crashes_begin : (recorded : (records : RecordsOf last [] vault.ties.items) × (records.failed ≡ 0))
+      (room : ℕ) (first : Number) (r : RuntimeState)
+      → r ≡ begun settled.decls settled.state r.stands.opening settled.save settled.store room first
+      → settled.saved.epoch ≡ epoch → epoch ≡ recovered.epoch → state ≡ recovered.state
+      → CrashesNow clock image_at (parts_of vault)
       → AreLogs tells clock image_at (λ worker. []) (λ worker. []) r vault
       → AreClosedFiles tells clock image_at (λ worker. []) (λ worker. []) r vault
-      → KeptBefore tells clock image_at from settled.decls last epoch state [] [] (λ w. []) (λ w. []) r vault
-  crashes_begin room first r begins epoch_is instant =
-      let start : RuntimeState = begun settled.decls settled.state settled.save settled.store room first in
+      → KeptBefore tells clock image_at from recovers.reading settled.decls last epoch state [] [] (λ w. []) (λ w. []) r
+      vault
+  crashes_begin recorded room first r begins epoch_is saved_is state_is instant =
+      let start : RuntimeState = begun settled.decls settled.state r.stands.opening settled.save settled.store room first in
       subst (λ (x : RuntimeState). AreLogs tells clock image_at (λ worker. []) (λ worker. []) x vault
       → AreClosedFiles tells clock image_at (λ worker. []) (λ worker. []) x vault
-      → KeptBefore tells clock image_at from settled.decls last epoch state [] [] (λ w. []) (λ w. []) x vault) (sym begins)
+      → KeptBefore tells clock image_at from recovers.reading settled.decls last epoch state [] [] (λ w. []) (λ w. []) x
+      vault) (sym begins)
       (λ logs files. record {
         kept = record {
           story = story;
           low = low;
           high = last;
           points = record {
+            read = record {
+              chained = chained found recovers.reading recovers.is;
+              epoch = saved_is ∙ recovers.epoch;
+              state = subst (IsStateOf recovers.reading) (sym state_is) recovers.state;
+            };
             within = goes.told.save.ordered;
             reaches = omega arith;
             first_epoch = ap epoch_of (goes.newest_is ∙ newest.1) ∙ sym (ap (λ (x : Saved). x.epoch) newest.2) ∙ epoch_is;
@@ -543,6 +580,7 @@ module _ {D : Type 0} {tells : D → Option (List ℕ)} {clock : D → ℕ} {ima
           };
           instant = instant;
           stored = λ i saved at. absurd cc;
+          recorded = recorded.0;
         };
         durable = λ w. [];
         closed = λ w. [];
@@ -567,4 +605,5 @@ module _ {D : Type 0} {tells : D → Option (List ℕ)} {clock : D → ℕ} {ima
         };
         high_is = refl;
         many = omega arith;
+        unfailed = recorded.1;
       })

@@ -7,11 +7,12 @@ use Rattle.std.proofs.lemmas.Grind.{flat_map-append}
 use Rattle.std.proofs.lemmas.List.{append-nil}
 use Rattle.std.proofs.lemmas.Option.{same_Some}
 use Rattle.lists.specs.Fronts.{IsFront}
-use Rattle.outside.specs.Cuts.{whole_bank}
-use Rattle.outside.specs.Vault.{IsWhole, disk_in}
-use Rattle.outside.specs.declared.vault.Device.TheVariants.{Bank}
-use Rattle.outside.specs.declared.vault.Tie.{Tie}
-use Rattle.outside.specs.declared.vault.Vault.{Vault}
+use Rattle.log_writer.specs.Cuts.{whole_bank}
+use Rattle.log_writer.specs.Vault.{IsWhole, disk_in}
+use Rattle.outside.specs.declared.device.Device.TheVariants.{Bank}
+use Rattle.log_writer.specs.declared.records.Tie.{Tie}
+use Rattle.log_writer.specs.declared.vault.Vault.{Vault}
+use Rattle.outside.specs.Disk.{Only}
 use Rattle.serial_model.specs.History.{Entry, as_of}
 use Rattle.serial_model.specs.State.{State}
 use Rattle.serial_model.specs.declared.decl.Decl.{Decl}
@@ -20,20 +21,22 @@ use Rattle.wire_form.specs.declared.savepoint.Savepoint.{Savepoint}
 use Rattle.log_writer.specs.Points.{point_of, sequence_of}
 use Rattle.log_writer.specs.Save.{Names}
 use Rattle.log_writer.specs.declared.saved.Saved.{Saved}
-use Rattle.recovery_core.specs.Images.{Images, epoch_of}
-use Rattle.recovery_core.specs.JointCrash.{CrashesNow, IsJointCrash, IsSince, Moments, parts_of}
-use Rattle.recovery_core.specs.Recoverable.{IsRecoverable}
+use Rattle.joint_crashes.specs.Images.{Images, epoch_of}
+use Rattle.joint_crashes.specs.JointCrash.{CrashesNow, IsJointCrash, IsSince, Moments, parts_of}
+use Rattle.recovery_core.specs.Recoverable.{IsRecoverable, Reading}
 use Rattle.recovery_core.specs.RecoverableLaws.{one_recoverable}
-use Rattle.recovery_core.specs.Story.{IsTold, StandsFor, Story}
-use Rattle.recovery_core.specs.Crashes.Standing.{crash_covers, crash_stands}
-use Rattle.recovery_core.specs.VaultReads.{some_of}
+use Rattle.joint_crashes.specs.Story.{IsTold, StandsFor, Story}
+use Rattle.joint_crashes.specs.Resting.{IsResting}
+use Rattle.checkpoints.specs.RestsLaws.{rests_by}
+use Rattle.joint_crashes.specs.Crashes.Standing.{crash_covers, crash_stands}
+use Rattle.joint_crashes.specs.VaultReads.{some_of}
 use Rattle.tx_script.specs.Run.{Ran}
 use Rattle.round_engine.specs.Crashes.{IsSameUpTo, KnowsBefore, StaysReady}
 use Rattle.worker_logs.specs.Rows.{NeverFall}
 use Rattle.round_engine.specs.Saves.{newest_after}
 use Rattle.round_engine.specs.Standing.{RuntimeState}
-use Rattle.program_calls.specs.Main.{saved_in}
-use Rattle.program_calls.proofs.CrashPoints.{FoundAt, PointsKept, left_at}
+use Rattle.program_calls.specs.Main.{RecordsOf, saved_in}
+use Rattle.program_calls.proofs.CrashPoints.{FoundAt, PointsKept, left_at, StandsThen}
 
 -- ---- what is known
 
@@ -51,34 +54,36 @@ pub record StoredAt (story : Story) (ties : List Tie) (settled high i epoch : �
 -- What is known after these rounds, which began with these contents as of this epoch, behind a savepoint of this
 -- sequence: each joint crash since these moments finds a savepoint that is known, and a stop now is one.
 pub record CrashesKept {D : Type 0} (clock : D → ℕ) (image_at : D → ℕ → List ℕ → Type 0) (from : Moments)
-    (decls : List Decl) (settled saved : ℕ) (s : State) (rans : List Ran) (ordered : List Entry) (vault : Vault D)
-    : Type 0 where
+    (was : Reading) (decls : List Decl) (settled saved : ℕ) (s : State) (rans : List Ran) (ordered : List Entry)
+    (vault : Vault D) : Type 0 where
   pub story : Story
   pub low : ℕ
   pub high : ℕ
-  pub points : PointsKept story low settled high decls saved s ordered
+  pub points : PointsKept story low settled high was decls saved s ordered
   pub told : IsTold clock image_at story from low high (parts_of vault)
   pub stays : StaysReady clock image_at story low high (parts_of vault)
   pub instant : CrashesNow clock image_at (parts_of vault)
   pub stored : (i epoch : ℕ) → slice_get (flat_map saved_in rans) i ≡ Some epoch
       → StoredAt story vault.ties.items settled high i epoch
+  pub recorded : RecordsOf settled rans vault.ties.items
 
 -- The same as the next round begins on a runtime, whose growing and closed log files have these commits.
 pub record KeptBefore {D : Type 0} (tells : D → Option (List ℕ)) (clock : D → ℕ) (image_at : D → ℕ → List ℕ → Type 0)
-    (from : Moments) (decls : List Decl) (settled saved : ℕ) (s : State) (rans : List Ran) (ordered : List Entry)
-    (commits gone : ℕ → List Commit) (r : RuntimeState) (vault : Vault D) : Type 0 where
-  pub kept : CrashesKept clock image_at from decls settled saved s rans ordered vault
+    (from : Moments) (was : Reading) (decls : List Decl) (settled saved : ℕ) (s : State) (rans : List Ran)
+    (ordered : List Entry) (commits gone : ℕ → List Commit) (r : RuntimeState) (vault : Vault D) : Type 0 where
+  pub kept : CrashesKept clock image_at from was decls settled saved s rans ordered vault
   pub durable : ℕ → List ℕ
   pub closed : ℕ → List ℕ
   pub knows : KnowsBefore tells clock image_at kept.story from kept.low commits gone durable closed r vault
   pub high_is : kept.high ≡ sequence_of r.save.newest
   pub many : sequence_of r.save.newest ≡ settled + length (flat_map saved_in rans)
+  pub unfailed : kept.recorded.failed ≡ 0
 
 -- ---- what each crash leaves
 
-module _ {D : Type 0} {clock : D → ℕ} {image_at : D → ℕ → List ℕ → Type 0} {from : Moments} {decls : List Decl}
-    {settled saved : ℕ} {s : State} {rans : List Ran} {ordered : List Entry} {vault : Vault D}
-    (kept : CrashesKept clock image_at from decls settled saved s rans ordered vault) (whole : IsWhole vault) where
+module _ {D : Type 0} {clock : D → ℕ} {image_at : D → ℕ → List ℕ → Type 0} {from : Moments} {was : Reading}
+    {decls : List Decl} {settled saved : ℕ} {s : State} {rans : List Ran} {ordered : List Entry} {vault : Vault D}
+    (kept : CrashesKept clock image_at from was decls settled saved s rans ordered vault) (whole : IsWhole vault) where
   found_at : (left : Images) (k : ℕ) → StandsFor clock image_at kept.story (parts_of vault) left k
       → FoundAt kept.story left k
   found_at left k stands = record {
@@ -89,14 +94,14 @@ module _ {D : Type 0} {clock : D → ℕ} {image_at : D → ℕ → List ℕ →
         stands.counted n bank.0 bank.1;
   }
 
-  -- an epoch from the recovered one on, and the state as of it
+  -- an epoch from the recovered one on, the state as of it, and the snapshots
   pub crash_leaves : (at : Moments) (left : Images) → IsSince from at
       → IsJointCrash clock image_at (parts_of vault) at left → (later : ℕ) × (saved ≤ later)
-      × IsRecoverable left later (as_of decls s ordered later)
+      × StandsThen was decls saved s ordered left later
   crash_leaves at left since crash =
       let k = crash_stands kept.told since crash in
       let is = left_at kept.points left k.0 k.1 k.2 (found_at left k.0 k.3) in
-      (is.epoch, is.least, is.is)
+      (is.epoch, is.least, is.stands)
 
   -- and no earlier one than was saved by then
   pub crash_covered : (i epoch : ℕ) → (at_place : StoredAt kept.story vault.ties.items settled kept.high i epoch)
@@ -107,9 +112,18 @@ module _ {D : Type 0} {clock : D → ℕ} {image_at : D → ℕ → List ℕ →
       let k = crash_covers place.tie place.end kept.told since crash place.has place.ended past in
       let behind : settled < k.0 = omega (arith, k.3, place.of_store) in
       let is = left_at kept.points left k.0 k.1 k.2 (found_at left k.0 k.4) in
-      let same = one_recoverable left is.epoch later (as_of decls s ordered is.epoch) state is.is that in
+      let same = one_recoverable left is.epoch later (as_of decls s ordered is.epoch) state is.stands.is that in
       let rise = kept.points.rise (settled + 1 + i) k.0 (omega arith) (omega (arith, k.3, place.of_store)) k.2 in
       omega (arith, place.least, rise, is.of_point behind, same.0)
+
+  -- and where the save has one image, nothing that counts is pending
+  pub rests_kept : (file : List ℕ) → image_at vault.save (clock vault.save) file → Only clock image_at vault.save file
+      → IsResting clock image_at (parts_of vault)
+  rests_kept file image only = rests_by kept.told
+      (λ n bank is k at_least at_most older. (kept.stays.ready n bank is k at_least at_most older).now)
+      (λ k left at_least at_most stands.
+      let it = left_at kept.points left k at_least at_most (found_at left k stands) in
+      (it.epoch, as_of decls s ordered it.epoch, it.stands.is)) file image only
 
 -- ---- lists
 

@@ -2,12 +2,13 @@
 use Rattle.std.proofs.Common.{◌≡◌, ◌∙◌, ◌≤◌, ◌<◌, ◌+◌, ◌-◌, inl, inr, sym, ap, subst, refl, ℕ, true, arith}
 use Rattle.std.proofs.Common.{List, [], ◌∷◌, ◌++◌, Option, Some, None, length}
 use Rattle.std.specs.Prelude.{flat_map, is_some, map, option_to_list, slice_get}
+use Rattle.std.specs.FinMap.{get}
 use Rattle.std.specs.List.{AllByRecursion}
 use Rattle.std.proofs.lemmas.Bool.{cases_lt}
 use Rattle.std.proofs.lemmas.List.{append-nil, length-append, length-map}
 use Rattle.std.proofs.lemmas.Option.{slice_get_past}
 use Rattle.lists.specs.Each.{all_append, all_weaker}
-use Rattle.outside.specs.declared.vault.Vault.{Vault}
+use Rattle.log_writer.specs.declared.vault.Vault.{Vault}
 use Rattle.serial_model.specs.History.{Entry, EpochsNeverFall, Rises, as_of, state_after_all}
 use Rattle.serial_model.specs.State.{State}
 use Rattle.serial_model.specs.declared.decl.Decl.{Decl}
@@ -17,10 +18,10 @@ use Rattle.wire_form.specs.LogFile.{IsLineOf}
 use Rattle.wire_form.specs.declared.savepoint.Savepoint.{Savepoint}
 use Rattle.log_writer.specs.Points.{sequence_of}
 use Rattle.log_writer.specs.declared.saved.Saved.{Saved}
-use Rattle.recovery_core.specs.Images.{Images, epoch_of}
-use Rattle.recovery_core.specs.JointCrash.{Moments, parts_of}
-use Rattle.recovery_core.specs.Recoverable.{IsRecoverable, Reading}
-use Rattle.recovery_core.specs.Story.{IsTold, Story}
+use Rattle.joint_crashes.specs.Images.{Images, epoch_of}
+use Rattle.joint_crashes.specs.JointCrash.{Moments, parts_of}
+use Rattle.recovery_core.specs.Recoverable.{Reading}
+use Rattle.joint_crashes.specs.Story.{IsTold, Story}
 use Rattle.tx_script.specs.Causes.{AllCaused}
 use Rattle.tx_script.specs.Run.{Ran}
 use Rattle.tx_script.specs.declared.answer.Answer.{Answer}
@@ -31,13 +32,16 @@ use Rattle.round_engine.specs.RanRound.{LeavesVault, StopsIn}
 use Rattle.round_engine.specs.Saves.{saves_told}
 use Rattle.round_engine.specs.Standing.{RuntimeState, StandsOn, files_of}
 use Rattle.round_engine.specs.Swaps.{behind_swap, since_swap}
-use Rattle.program_calls.specs.Main.{saved_in}
-use Rattle.program_calls.proofs.CrashPoints.{FoundAt, PointsKept}
+use Rattle.program_calls.specs.Main.{RecordsOf, saved_in}
+use Rattle.program_calls.proofs.CrashPoints.{FoundAt, PointsKept, StandsThen}
 use Rattle.program_calls.proofs.CrashesKept.{CrashesKept, KeptBefore, StoredAt, at_front, either_at, epoch_at, found_before}
 use Rattle.program_calls.proofs.CrashesKept.{newest_length, rise_at, saved_push, saved_with}
 use Rattle.program_calls.proofs.KeptBegun.{Begun, begun_at, begun_stands, least_begun}
 use Rattle.program_calls.proofs.KeptEpochs.{as_of-more}
+use Rattle.program_calls.proofs.KeptPages.{each_snapshot}
 use Rattle.program_calls.proofs.KeptParts.{KeptParts}
+use Rattle.program_calls.proofs.RecordsKept.{records_more, records_still}
+use Rattle.program_calls.proofs.SnapshotsKept.{each_more}
 
 -- nothing failed where the store is up
 none_failed : (down : Option ℕ) (failed : Option Saved) → is_some down ≡ is_some failed → down ≡ None → failed ≡ None
@@ -59,13 +63,13 @@ module _ {D : Type 0} {tells : D → Option (List ℕ)} {clock : D → ℕ} {ima
     (caused : AllCaused ran) (files_are : ran.files ≡ files_of old)
     (leaves : LeavesVault tells clock image_at faults ran logged old new before now)
     (rises : Rises (ordered ++ run)) (falls : EpochsNeverFall (ordered ++ run))
-    (ready : KeptBefore tells clock image_at from decls settled saved s rans ordered commits gone old before)
+    (ready : KeptBefore tells clock image_at from reading decls settled saved s rans ordered commits gone old before)
     (carries : CarriesCrashes tells clock image_at logged (leaves.stored ++ option_to_list leaves.failed) ran old new
     before now) where
-  abbrev was : CrashesKept clock image_at from decls settled saved s rans ordered before
+  abbrev was : CrashesKept clock image_at from reading decls settled saved s rans ordered before
   was = ready.kept
 
-  abbrev points : PointsKept was.story was.low settled was.high decls saved s ordered
+  abbrev points : PointsKept was.story was.low settled was.high reading decls saved s ordered
   points = was.points
 
   abbrev last : ℕ
@@ -140,27 +144,66 @@ module _ {D : Type 0} {tells : D → Option (List ℕ)} {clock : D → ℕ} {ima
   newest_above : epoch_of old.save.newest < old.stands.clock.epoch
   newest_above = stands.above
 
+  above_now : AllByRecursion (λ e. saved < e.number.epoch) (ordered ++ run)
+  above_now = all_append (λ (e : Entry). saved < e.number.epoch) ordered run points.above
+      (all_weaker (λ (e : Entry). old.stands.clock.epoch ≤ e.number.epoch)
+      (λ (e : Entry). saved < e.number.epoch)
+      (λ e from_clock. (let up = up_to_newest settled (omega arith) settled_least in
+      omega (
+        arith,
+        from_clock,
+        up,
+        newest_above,
+        points.first_epoch,
+        ap epoch_of (carried.same.point settled settled_least),
+      ))) run later)
+
+  -- one that was begun in this round
+  begun_now : (k : ℕ) (left : Images) → last < k → k ≤ last + length begun → FoundAt after left k
+      → StandsThen reading decls saved s (ordered ++ run) left (epoch_of (after.point k))
+  begun_now k left behind within found =
+      let x = here k behind within in
+      let stands = begun_stands run parts stands decls_are own_logged own_lines workers later caused files_are leaves
+      rises falls was.story from was.low ready.knows carried k behind within x left found in
+      record {
+        is = stands.is;
+        each = each_snapshot x.over_it.store.at stands.is.reading stands.pages_are stands.catalogues_are above_now
+            points.read.chained points.read.epoch points.read.state;
+      }
+
+  -- and one that was known before
+  known_now : (k : ℕ) (left : Images) → settled < k → k ≤ last → FoundAt after left k
+      → StandsThen reading decls saved s (ordered ++ run) left (epoch_of (after.point k))
+  known_now k left past first found =
+      let point : after.point k ≡ was.story.point k = carried.same.point k first in
+      let up = up_to_newest k (omega (arith, past)) first in
+      let then = all_weaker (λ (e : Entry). old.stands.clock.epoch ≤ e.number.epoch)
+      (λ (e : Entry). epoch_of (after.point k) < e.number.epoch)
+      (λ e from_clock. omega (arith, from_clock, up, newest_above)) run later in
+      let so = subst (λ (o : Option Savepoint). StandsThen reading decls saved s ordered left (epoch_of o)) (sym point)
+      (points.later k left past (omega (arith, first, ready.high_is)) (found_before left k carried.same first found)) in
+      record {
+        is = record {
+          reading = so.is.reading;
+          is = so.is.is;
+          epoch_is = so.is.epoch_is;
+          state_is = λ key. ap (λ (t : State). get t key)
+              (as_of-more decls s ordered run (epoch_of (after.point k)) then) ∙ so.is.state_is key;
+        };
+        each = each_more reading so.is.reading saved s decls ordered run left (epoch_of (after.point k)) so.is.is
+            (omega (arith, so.is.epoch_is)) then so.each;
+      }
+
   later_now : (k : ℕ) (left : Images) → settled < k → k ≤ last + length begun → FoundAt after left k
-      → IsRecoverable left (epoch_of (after.point k)) (as_of decls s (ordered ++ run) (epoch_of (after.point k)))
+      → StandsThen reading decls saved s (ordered ++ run) left (epoch_of (after.point k))
   later_now k left past within found = elim (cases_lt last k) [
-    | inl behind ↦ begun_stands run parts stands decls_are own_logged own_lines workers later caused files_are leaves
-        rises falls was.story from was.low ready.knows carried k behind within left found
-    | inr first ↦
-        let point : after.point k ≡ was.story.point k = carried.same.point k first in
-        let up = up_to_newest k (omega (arith, past)) first in
-        let is = points.later k left past (omega (arith, first, ready.high_is))
-        (found_before left k carried.same first found) in
-        subst (λ (t : State). IsRecoverable left (epoch_of (after.point k)) t)
-        (sym (as_of-more decls s ordered run (epoch_of (after.point k))
-        (all_weaker (λ (e : Entry). old.stands.clock.epoch ≤ e.number.epoch)
-        (λ (e : Entry). epoch_of (after.point k) < e.number.epoch)
-        (λ e from_clock. omega (arith, from_clock, up, newest_above)) run later)))
-        (subst (λ (o : Option Savepoint). IsRecoverable left (epoch_of o) (as_of decls s ordered (epoch_of o)))
-        (sym point) is)
+    | inl behind ↦ begun_now k left behind within found
+    | inr first ↦ known_now k left past first found
   ]
 
-  points_now : PointsKept after was.low settled (last + length begun) decls saved s (ordered ++ run)
+  points_now : PointsKept after was.low settled (last + length begun) reading decls saved s (ordered ++ run)
   points_now = record {
+    read = points.read;
     within = points.within;
     reaches = omega (arith, settled_least);
     first_epoch = ap epoch_of (carried.same.point settled settled_least) ∙ points.first_epoch;
@@ -168,18 +211,7 @@ module _ {D : Type 0} {tells : D → Option (List ℕ)} {clock : D → ℕ} {ima
         (found_before left k carried.same (omega (arith, at_most, settled_least)) found);
     later = later_now;
     rise = rise_now;
-    above = all_append (λ (e : Entry). saved < e.number.epoch) ordered run points.above
-        (all_weaker (λ (e : Entry). old.stands.clock.epoch ≤ e.number.epoch)
-        (λ (e : Entry). saved < e.number.epoch)
-        (λ e from_clock. (let up = up_to_newest settled (omega arith) settled_least in
-        omega (
-          arith,
-          from_clock,
-          up,
-          newest_above,
-          points.first_epoch,
-          ap epoch_of (carried.same.point settled settled_least),
-        ))) run later);
+    above = above_now;
   }
 
   -- ---- what was saved
@@ -241,8 +273,15 @@ module _ {D : Type 0} {tells : D → Option (List ℕ)} {clock : D → ℕ} {ima
 
   -- ---- one round more
 
+  -- a tie for each store
+  recorded_now : (records : RecordsOf settled (rans ++ ran ∷ []) now.ties.items)
+      × (leaves.failed ≡ None → records.failed ≡ 0)
+  recorded_now = records_more old.save.newest ran leaves.stored leaves.failed was.recorded ready.unfailed ready.many leaves.ties_are
+      (sym (length-map leaves.stored (λ (t : Saved). t.epoch)) ∙ ap length leaves.has_stored.epochs)
+      leaves.has_stored.fails.0
+
   -- what is known after a round, whatever ended it
-  pub crashes_more : CrashesKept clock image_at from decls settled saved s (rans ++ ran ∷ []) (ordered ++ run) now
+  pub crashes_more : CrashesKept clock image_at from reading decls settled saved s (rans ++ ran ∷ []) (ordered ++ run) now
   crashes_more = record {
     story = after;
     low = was.low;
@@ -252,11 +291,12 @@ module _ {D : Type 0} {tells : D → Option (List ℕ)} {clock : D → ℕ} {ima
     stays = carried.stays;
     instant = carried.instant;
     stored = stored_now;
+    recorded = recorded_now.0;
   }
 
   -- and as the next one begins
   pub ready_more : new.save.down ≡ None → new.store.sound ≡ true → (comes_to_swap ran ≡ true → swaps ran ≡ true)
-      → KeptBefore tells clock image_at from decls settled saved s (rans ++ ran ∷ []) (ordered ++ run)
+      → KeptBefore tells clock image_at from reading decls settled saved s (rans ++ ran ∷ []) (ordered ++ run)
       (since_swap (swaps ran) (λ w. commits w ++ logged w)) (behind_swap (swaps ran) (λ w. commits w ++ logged w) gone)
       new now
   unfolding crashes_more
@@ -288,6 +328,7 @@ module _ {D : Type 0} {tells : D → Option (List ℕ)} {clock : D → ℕ} {ima
               ap length (saved_push rans ran),
               length-append (flat_map saved_in rans) (saved_in ran),
             );
+        unfailed = recorded_now.1 none;
       }
 
 -- ---- memory was wanted
@@ -299,16 +340,16 @@ nothing_begun [] (Some x) none not = absurd (not refl)
 nothing_begun (x ∷ stored) failed none not = absurd cc
 
 module _ {D : Type 0} {tells : D → Option (List ℕ)} {clock : D → ℕ} {image_at : D → ℕ → List ℕ → Type 0}
-    {faults : D → ℕ} {from : Moments} {decls : List Decl} {settled saved : ℕ} {s : State} {rans : List Ran}
-    {ordered : List Entry} {commits gone : ℕ → List Commit} {old new : RuntimeState} {before now : Vault D} where
+    {faults : D → ℕ} {from : Moments} {reading : Reading} {decls : List Decl} {settled saved : ℕ} {s : State}
+    {rans : List Ran} {ordered : List Entry} {commits gone : ℕ → List Commit} {old new : RuntimeState} {before now : Vault D} where
   -- A round that stopped for want of memory saved nothing: each crash stands for what it stood for before.
   pub crashes_stopped : {tries : ℕ} {round : Round}
-      → (ready : KeptBefore tells clock image_at from decls settled saved s rans ordered commits gone old before)
+      → (ready : KeptBefore tells clock image_at from reading decls settled saved s rans ordered commits gone old before)
       → (stop : StopsIn tries round old new)
       → (leaves : LeavesVault tells clock image_at faults stop.ran stop.logged old new before now)
       → CarriesCrashes tells clock image_at stop.logged (leaves.stored ++ option_to_list leaves.failed)
       stop.ran old new before now
-      → CrashesKept clock image_at from decls settled saved s rans ordered now
+      → CrashesKept clock image_at from reading decls settled saved s rans ordered now
   crashes_stopped ready stop leaves carries =
       let was = ready.kept in
       let points = was.points in
@@ -330,13 +371,14 @@ module _ {D : Type 0} {tells : D → Option (List ℕ)} {clock : D → ℕ} {ima
         low = was.low;
         high = last;
         points = record {
+          read = points.read;
           within = points.within;
           reaches = settled_first;
           first_epoch = ap epoch_of (carried.same.point settled settled_first) ∙ points.first_epoch;
           old = λ k left at_least at_most found. points.old k left at_least at_most
               (found_before left k carried.same (omega (arith, at_most, settled_first)) found);
           later = λ k left past less found.
-              subst (λ (o : Option Savepoint). IsRecoverable left (epoch_of o) (as_of decls s ordered (epoch_of o)))
+              subst (λ (o : Option Savepoint). StandsThen reading decls saved s ordered left (epoch_of o))
               (sym (carried.same.point k less)) (points.later k left past (omega (arith, less, high))
               (found_before left k carried.same less found));
           rise = λ j k at_least less within. omega (
@@ -365,4 +407,6 @@ module _ {D : Type 0} {tells : D → Option (List ℕ)} {clock : D → ℕ} {ima
                 ap epoch_of (carried.same.point (settled + 1 + i) (omega (arith, is.within, high))),
               );
             };
+        recorded = records_still old.save.newest leaves.stored leaves.failed was.recorded none ready.unfailed
+            ready.many leaves.ties_are;
       }

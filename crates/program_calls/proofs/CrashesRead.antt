@@ -5,22 +5,24 @@ use Rattle.std.proofs.lemmas.Option.{same_Some}
 use Rattle.lists.specs.Fronts.{IsFront, front_same}
 use Rattle.outside.specs.Moments.{left_after}
 use Rattle.outside.specs.Reads.{OnlyReads}
-use Rattle.outside.specs.Vault.{IsWhole, disk_in}
-use Rattle.outside.specs.declared.vault.Device.TheVariants.{Bank, Save, Snaps}
-use Rattle.outside.specs.declared.vault.Tie.{Tie}
-use Rattle.outside.specs.declared.vault.Vault.{Vault}
+use Rattle.log_writer.specs.Vault.{IsWhole, disk_in}
+use Rattle.outside.specs.declared.device.Device.TheVariants.{Bank, Save, Snaps}
+use Rattle.log_writer.specs.declared.records.Tie.{Tie}
+use Rattle.log_writer.specs.declared.vault.Vault.{Vault}
 use Rattle.serial_model.specs.History.{Entry}
 use Rattle.serial_model.specs.State.{State}
 use Rattle.serial_model.specs.declared.decl.Decl.{Decl}
 use Rattle.wire_form.specs.declared.savepoint.Savepoint.{Savepoint}
 use Rattle.log_writer.specs.Save.{Names}
-use Rattle.recovery_core.specs.JointCrash.{CrashesNow, Moments, Parts, parts_of}
-use Rattle.recovery_core.specs.Story.{BankReady, BankTold, IsTold, SaveTold, SnapsTold, Story}
-use Rattle.recovery_core.specs.Crashes.Instants.{now_ready}
-use Rattle.recovery_core.specs.Crashes.ToldSteps.{parts}
-use Rattle.recovery_core.specs.VaultReads.{VaultOnlyReads, whole_read}
+use Rattle.joint_crashes.specs.JointCrash.{CrashesNow, Moments, Parts, parts_of}
+use Rattle.recovery_core.specs.Recoverable.{Reading}
+use Rattle.joint_crashes.specs.Story.{BankReady, BankTold, IsTold, SaveTold, SnapsTold, Story}
+use Rattle.joint_crashes.specs.Crashes.Instants.{now_ready}
+use Rattle.joint_crashes.specs.Crashes.ToldSteps.{parts}
+use Rattle.joint_crashes.specs.VaultReads.{VaultOnlyReads, whole_read}
 use Rattle.tx_script.specs.Run.{Ran}
 use Rattle.round_engine.specs.Crashes.{StaysReady}
+use Rattle.program_calls.specs.Main.{RecordsOf}
 use Rattle.program_calls.proofs.CrashesKept.{CrashesKept, StoredAt}
 use Rattle.program_calls.proofs.VaultsLater.{there}
 
@@ -179,10 +181,11 @@ module _ {D : Type 0} {tells : D → Option (List ℕ)} {clock : D → ℕ} {ima
     }
 
   -- what was known before is known
-  pub crashes_read : {from : Moments} {decls : List Decl} {settled saved : ℕ} {s : State} {rans : List Ran}
-      {ordered : List Entry} → CrashesKept clock image_at from decls settled saved s rans ordered old
-      → CrashesKept clock image_at from decls settled saved s rans ordered new
-  crashes_read {from = from} {settled = settled} kept =
+  pub crashes_read : {from : Moments} {was : Reading} {decls : List Decl} {settled saved : ℕ} {s : State}
+      {rans : List Ran} {ordered : List Entry}
+      → CrashesKept clock image_at from was decls settled saved s rans ordered old
+      → CrashesKept clock image_at from was decls settled saved s rans ordered new
+  crashes_read {from = from} {settled = settled} {rans = rans} kept =
       let told = told_reads kept.told kept.stays in
       let stays = stays_reads kept.told kept.stays in
       record {
@@ -196,4 +199,5 @@ module _ {D : Type 0} {tells : D → Option (List ℕ)} {clock : D → ℕ} {ima
             (now_stays kept.story from kept.low kept.high read_parts told stays);
         stored = λ i epoch at. subst (λ (t : _). StoredAt kept.story t.items settled kept.high i epoch) (sym reads.ties)
             (kept.stored i epoch at);
+        recorded = subst (λ (t : _). RecordsOf settled rans t.items) (sym reads.ties) kept.recorded;
       }

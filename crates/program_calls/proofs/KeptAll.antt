@@ -11,7 +11,7 @@ use Rattle.std.proofs.lemmas.List.Sorted.{All-permutation}
 use Rattle.std.proofs.lemmas.List.Sums.{fold-append}
 use Rattle.lists.specs.Each.{all_append, all_weaker}
 use Rattle.lists.specs.Elements.{in_none}
-use Rattle.outside.specs.declared.vault.Device.{Device}
+use Rattle.outside.specs.declared.device.Device.{Device}
 use Rattle.serial_model.specs.History.{Entry, as_of, state_after_all}
 use Rattle.serial_model.specs.Numbers.{last_epoch}
 use Rattle.serial_model.specs.State.{State}

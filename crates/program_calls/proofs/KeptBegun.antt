@@ -8,10 +8,10 @@ use Rattle.std.proofs.lemmas.Option.{same_Some}
 use Rattle.lists.specs.Each.{all_at, all_weaker}
 use Rattle.lists.specs.Elements.{in_cases, in_none}
 use Rattle.lists.specs.Fronts.{IsFront, front_then}
-use Rattle.outside.specs.Cuts.{whole_bank}
-use Rattle.outside.specs.Vault.{disk_in}
-use Rattle.outside.specs.declared.vault.Device.TheVariants.{Bank}
-use Rattle.outside.specs.declared.vault.Vault.{Vault}
+use Rattle.log_writer.specs.Cuts.{whole_bank}
+use Rattle.log_writer.specs.Vault.{disk_in}
+use Rattle.outside.specs.declared.device.Device.TheVariants.{Bank}
+use Rattle.log_writer.specs.declared.vault.Vault.{Vault}
 use Rattle.serial_model.specs.History.{Entry, EpochsNeverFall, Rises, as_of, state_after_all}
 use Rattle.serial_model.specs.State.{State}
 use Rattle.serial_model.specs.declared.decl.Decl.{Decl}
@@ -24,13 +24,14 @@ use Rattle.wire_form.specs.declared.savepoint.Savepoint.{Savepoint}
 use Rattle.log_writer.specs.Points.{point_of, sequence_of}
 use Rattle.log_writer.specs.Save.{Names}
 use Rattle.log_writer.specs.declared.saved.Saved.{Saved}
+use Rattle.snapshot_store.specs.Content.{words_of}
 use Rattle.snapshot_store.specs.Store.{bytes_of_pages}
 use Rattle.recovery_core.specs.Catalogues.{newest_epoch}
-use Rattle.recovery_core.specs.Images.{Images, counted_of, epoch_of}
-use Rattle.recovery_core.specs.JointCrash.{Moments}
-use Rattle.recovery_core.specs.Recoverable.{IsRecoverable, Reading}
-use Rattle.recovery_core.specs.Story.{Story}
-use Rattle.recovery_core.specs.VaultReads.{some_of}
+use Rattle.joint_crashes.specs.Images.{Images, counted_of, epoch_of}
+use Rattle.joint_crashes.specs.JointCrash.{Moments}
+use Rattle.recovery_core.specs.Recoverable.{Reading}
+use Rattle.joint_crashes.specs.Story.{Story}
+use Rattle.joint_crashes.specs.VaultReads.{some_of}
 use Rattle.tx_script.specs.Causes.{AllCaused, AnswersCaused, KeeperAt, keeper_after, keeper_before, some_counted}
 use Rattle.tx_script.specs.Run.{LogFiles, Ran}
 use Rattle.tx_script.specs.declared.answer.Answer.{Answer}
@@ -47,6 +48,7 @@ use Rattle.round_engine.specs.Standing.{RuntimeState, StandsOn, beside_of, files
 use Rattle.program_calls.proofs.CrashPoints.{FoundAt}
 use Rattle.program_calls.proofs.KeptFiles.{closed_file, item_at}
 use Rattle.program_calls.proofs.KeptHere.{AllUpTo, Counts, PagesOf, glean_next, pages_more}
+use Rattle.program_calls.proofs.KeptIn.{StandsFor}
 use Rattle.program_calls.proofs.KeptLogged.{LoggedIn, logged_more}
 use Rattle.program_calls.proofs.KeptParts.{KeptParts, GoneCounts, commits_all, counts_same, gone_saved}
 use Rattle.program_calls.proofs.KeptPoints.{PointAt, point_stands}
@@ -305,12 +307,13 @@ module _ {D : Type 0} {tells : D → Option (List ℕ)} {clock : D → ℕ} {ima
           gone_counts = λ w below. x.over_it.gone_counts k w below;
         }
 
-    -- Images that are found at a savepoint of the round stand for its epoch and the state as of it.
-    pub begun_stands : (k : ℕ) → last < k → k ≤ last + length begun → (left : Images) → FoundAt after left k
-        → IsRecoverable left (epoch_of (after.point k)) (as_of decls s (ordered ++ run) (epoch_of (after.point k)))
-    unfolding point_here begun_at
-    begun_stands k behind_last within left found =
-        let x = begun_at k behind_last within in
+    -- Images that are found at a savepoint of the round stand for its epoch and the state as of it, with its pages and
+    -- their catalogues.
+    pub begun_stands : (k : ℕ) → last < k → k ≤ last + length begun → (x : Begun k) → (left : Images)
+        → FoundAt after left k → StandsFor left (words_of x.over_it.pages) x.over_it.store.at.catalogues
+        (epoch_of (after.point k)) (as_of decls s (ordered ++ run) (epoch_of (after.point k)))
+    unfolding point_here
+    begun_stands k behind_last within x left found =
         let at = point_here k behind_last x in
         let fronts = λ (w : ℕ) (below : w < 8). carried.fronts k w behind_last within below in
         let stands_so = point_stands (point_of k x.said) logged_then rises falls at (after.counted k)
@@ -324,8 +327,8 @@ module _ {D : Type 0} {tells : D → Option (List ℕ)} {clock : D → ℕ} {ima
         (fronts w below).1)
         left (subst (Names left.save) x.point found.names)
         (subst (λ l. IsFront l left.snaps) (pages_at k behind_last x) found.pages) found.counted in
-        subst (λ (o : Option Savepoint). IsRecoverable left (epoch_of o) (as_of decls s (ordered ++ run) (epoch_of o)))
-        (sym x.point) stands_so.is
+        subst (λ (o : Option Savepoint). StandsFor left (words_of x.over_it.pages) x.over_it.store.at.catalogues
+        (epoch_of o) (as_of decls s (ordered ++ run) (epoch_of o))) (sym x.point) stands_so
       where
         low_least : (k : ℕ) → last < k → low ≤ k
         low_least k past = omega (arith, known.told.save.ordered, past)

@@ -8,10 +8,10 @@ use Rattle.std.proofs.lemmas.List.{append-nil, length-map, length-take, map-appe
 use Rattle.std.proofs.lemmas.Option.{same_Some}
 use Rattle.lists.specs.Elements.{in_none}
 use Rattle.lists.specs.Fronts.{IsFront, front_append, front_from, front_length, front_take, front_then}
-use Rattle.outside.specs.Cuts.{whole_bank}
-use Rattle.outside.specs.Vault.{IsWhole, disk_in}
-use Rattle.outside.specs.declared.vault.Device.TheVariants.{Bank}
-use Rattle.outside.specs.declared.vault.Vault.{Vault}
+use Rattle.log_writer.specs.Cuts.{whole_bank}
+use Rattle.log_writer.specs.Vault.{IsWhole, disk_in}
+use Rattle.outside.specs.declared.device.Device.TheVariants.{Bank}
+use Rattle.log_writer.specs.declared.vault.Vault.{Vault}
 use Rattle.serial_model.specs.History.{Entry, EpochsNeverFall, Rises, as_of}
 use Rattle.serial_model.specs.State.{State}
 use Rattle.serial_model.specs.declared.decl.Decl.{Decl}
@@ -24,18 +24,18 @@ use Rattle.log_writer.specs.Save.{Names}
 use Rattle.log_writer.specs.declared.saved.Saved.{Saved}
 use Rattle.snapshot_store.specs.Content.{words_of}
 use Rattle.snapshot_store.specs.Store.{StoreState, bytes_of_page, bytes_of_pages}
-use Rattle.recovery_core.specs.Images.{Images, count_of, counted_of}
-use Rattle.recovery_core.specs.JointCrash.{parts_of}
+use Rattle.joint_crashes.specs.Images.{Images, count_of, counted_of}
+use Rattle.joint_crashes.specs.JointCrash.{parts_of}
 use Rattle.recovery_core.specs.Catalogues.{newest_decls}
 use Rattle.recovery_core.specs.Recoverable.{IsReading, IsRecoverable, Reading}
 use Rattle.recovery_core.specs.RecoverableLaws.{CountsSame, same_reading, same_recoverable}
 use Rattle.recovery_core.specs.Recovered.{Recovers}
-use Rattle.recovery_core.specs.Resting.{AreTold}
-use Rattle.recovery_core.specs.Settled.{settled_recoverable}
+use Rattle.joint_crashes.specs.Resting.{AreTold}
+use Rattle.checkpoints.specs.Settled.{settled_recoverable}
 use Rattle.checkpoints.specs.SettlesInto.{SettlesInto}
-use Rattle.recovery_core.specs.VaultReads.{some_of}
+use Rattle.joint_crashes.specs.VaultReads.{some_of}
 use Rattle.recovery_core.specs.declared.recovered.Recovered.{Recovered}
-use Rattle.recovery_core.specs.declared.settlement.Settled.{Settled}
+use Rattle.checkpoints.specs.declared.without_entries.Settled.{Settled}
 use Rattle.worker_logs.specs.Logs.{LogState, reset_log}
 use Rattle.worker_logs.specs.Saves.{closed_number, growing_number}
 use Rattle.worker_logs.specs.declared.savepoints.Side.{Side}

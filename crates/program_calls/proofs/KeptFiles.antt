@@ -7,10 +7,10 @@ use Rattle.std.proofs.lemmas.Bool.Decides.{nat_tests}
 use Rattle.std.proofs.lemmas.Option.{same_Some}
 use Rattle.lists.specs.Each.{all_weaker}
 use Rattle.lists.specs.Fronts.{IsFront}
-use Rattle.outside.specs.Cuts.{disk_in-even, disk_in-odd}
-use Rattle.outside.specs.Vault.{IsWhole, disk_in}
-use Rattle.outside.specs.declared.vault.Device.TheVariants.{Bank}
-use Rattle.outside.specs.declared.vault.Vault.{Vault}
+use Rattle.log_writer.specs.Cuts.{disk_in-even, disk_in-odd}
+use Rattle.log_writer.specs.Vault.{IsWhole, disk_in}
+use Rattle.outside.specs.declared.device.Device.TheVariants.{Bank}
+use Rattle.log_writer.specs.declared.vault.Vault.{Vault}
 use Rattle.serial_model.specs.History.{Entry, Rises}
 use Rattle.serial_model.specs.Numbers.{IsBelow}
 use Rattle.serial_model.specs.State.{State}

@@ -6,8 +6,8 @@ use Rattle.std.specs.FinMap.{get}
 use Rattle.std.specs.List.{AllByRecursion}
 use Rattle.std.proofs.lemmas.List.{append-nil, length-append, length-map}
 use Rattle.lists.specs.Each.{all_append, all_weaker}
-use Rattle.outside.specs.Vault.{IsWhole as VaultIsWhole}
-use Rattle.outside.specs.declared.vault.Vault.{Vault}
+use Rattle.log_writer.specs.Vault.{IsWhole as VaultIsWhole}
+use Rattle.log_writer.specs.declared.vault.Vault.{Vault}
 use Rattle.serial_model.specs.History.{Entry, EpochsNeverFall, Rises, as_of}
 use Rattle.serial_model.specs.State.{State}
 use Rattle.serial_model.specs.declared.decl.Decl.{Decl}
@@ -21,7 +21,7 @@ use Rattle.wire_form.specs.declared.savepoint.Savepoint.{Savepoint}
 use Rattle.snapshot_store.specs.Content.{IsContent, record_in, value_at, words_of}
 use Rattle.snapshot_store.specs.Store.{IsWhole, StoreState}
 use Rattle.recovery_core.specs.Catalogues.{newest_epoch, newest_storages}
-use Rattle.recovery_core.specs.Images.{counted_of}
+use Rattle.joint_crashes.specs.Images.{counted_of}
 use Rattle.recovery_core.specs.Recoverable.{Reading}
 use Rattle.checkpoints.specs.NextReading.{newest_is}
 use Rattle.worker_logs.specs.Saves.{IsCounted, closed_number, growing_number}

@@ -23,7 +23,7 @@ use Rattle.wire_form.specs.declared.bucket.Entry.{Entry as LogEntry}
 use Rattle.wire_form.specs.declared.savepoint.Savepoint.{Savepoint}
 use Rattle.log_writer.specs.Save.{Names}
 use Rattle.recovery_core.specs.Catalogues.{AreCatalogues, HasPages, newest_decls, newest_epoch, newest_storages}
-use Rattle.recovery_core.specs.Images.{Images, counted_of}
+use Rattle.joint_crashes.specs.Images.{Images, counted_of}
 use Rattle.recovery_core.specs.LogEntries.{AreCounted, IsCountedFile, counts, last_of, logged}
 use Rattle.recovery_core.specs.Recoverable.{IsReading, IsRecoverable, IsStateOf, Reading, counting, value_over}
 use Rattle.program_calls.proofs.KeptWrites.{Writes, by_writes, entry_at, is_by, writes_all, writes_by}

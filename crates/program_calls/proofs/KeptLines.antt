@@ -21,7 +21,7 @@ use Rattle.wire_form.specs.Items.{IsFollowed, RisesAfter}
 use Rattle.wire_form.specs.LogFile.{IsLineOf, commit_number, lines_bytes}
 use Rattle.wire_form.specs.declared.bucket.Entry.{Entry as LogEntry}
 use Rattle.recovery_core.specs.LogEntries.{IsCountedFile, logged}
-use Rattle.recovery_core.specs.Marks.{IsAbove}
+use Rattle.joint_crashes.specs.Marks.{IsAbove}
 use Rattle.worker_logs.specs.Changes.{IsLogged}
 use Rattle.round_engine.specs.Changes.{AreLogged}
 use Rattle.program_calls.proofs.KeptWrites.{precedes_all}

@@ -12,9 +12,9 @@ use Rattle.std.proofs.lemmas.Option.{same_Some}
 use Rattle.lists.specs.Each.{all_append, all_weaker}
 use Rattle.lists.specs.Elements.{in_head, in_tail}
 use Rattle.lists.specs.Fronts.{IsFront}
-use Rattle.outside.specs.Vault.{IsWhole}
-use Rattle.outside.specs.declared.vault.Device.{Device}
-use Rattle.outside.specs.declared.vault.Vault.{Vault}
+use Rattle.log_writer.specs.Vault.{IsWhole}
+use Rattle.outside.specs.declared.device.Device.{Device}
+use Rattle.log_writer.specs.declared.vault.Vault.{Vault}
 use Rattle.serial_model.specs.History.{Entry, EpochsNeverFall, Rises, state_after_all}
 use Rattle.serial_model.specs.Numbers.{IsBelow}
 use Rattle.serial_model.specs.State.{State}
@@ -37,9 +37,9 @@ use Rattle.snapshot_store.specs.Store.{StoreState}
 use Rattle.root_composer.specs.Composition.{IsComposed, IsTooDeep, WouldCompose}
 use Rattle.gleaner.specs.Glean.{AreMappedFiles, bank_of}
 use Rattle.recovery_core.specs.Catalogues.{newest_epoch}
-use Rattle.recovery_core.specs.Images.{Images}
-use Rattle.recovery_core.specs.JointCrash.{parts_of}
-use Rattle.recovery_core.specs.Resting.{AreTold}
+use Rattle.joint_crashes.specs.Images.{Images}
+use Rattle.joint_crashes.specs.JointCrash.{parts_of}
+use Rattle.joint_crashes.specs.Resting.{AreTold}
 use Rattle.checkpoints.specs.NextReading.{newest_is}
 use Rattle.tx_script.specs.Causes.{keeper_at_end, keeper_before, some_counted}
 use Rattle.tx_script.specs.Run.{LogFiles, Ran}
@@ -60,7 +60,7 @@ use Rattle.round_engine.specs.Standing.{RuntimeState, StandsOn, beside_of, files
 use Rattle.round_engine.specs.Swaps.{behind_swap, since_swap}
 use Rattle.round_engine.specs.declared.report.Report.{Report}
 use Rattle.program_calls.specs.Beginning.{SameDecls}
-use Rattle.program_calls.specs.RanOver.{AddsPages, AllLogged, AreLengthsOf, AreOf, BeginsOver, ComesTo, FilesAt, FilesFrom, GleansOf}
+use Rattle.program_calls.specs.RanOver.{AddsPages, AllLogged, AreLengthsOf, AreOf, BeginsOver, NextComesTo, FilesAt, FilesFrom, GleansOf}
 use Rattle.program_calls.specs.RanOver.{MakesPages, MayGlean, closed_entries, counted_behind, files_after}
 use Rattle.program_calls.specs.Vaults.{Vaults, HoldsOf}
 use Rattle.program_calls.proofs.KeptFiles.{closed_file, get_at, gone_rise, item_at, mapped_last}
@@ -261,7 +261,7 @@ module _ (logged later : ℕ → List Commit) (first : ℕ)
   }
 
   comes_then : (f : FilesAt) (before : f.files.closed_at < first) (of : MayGlean f logged) (what : Option ℕ)
-      → ComesTo f logged of what → ComesTo f then_logged (may_glean f before of) what
+      → NextComesTo f logged of what → NextComesTo f then_logged (may_glean f before of) what
   comes_then f before of (Some new) comes = comes
   comes_then f before of None comes = comes
 
@@ -505,7 +505,7 @@ module _ {D : Type 0} {tells : D → Option (List ℕ)} {clock : D → ℕ} {ima
 
     finds : (what : Option ℕ) → Contains one.ran.gleans what
         → (of : MayGlean f (log_of_parts kept.older kept.gone here_then))
-        × ComesTo f (log_of_parts kept.older kept.gone here_then) of what
+        × NextComesTo f (log_of_parts kept.older kept.gone here_then) of what
     finds (Some count) has =
         let it = leaves.gleans.found (Some count) has in
         let m = may it.many.many.contents it.contents it.many.buckets it.many.many.run it.newest.here it.many.many.here

@@ -18,12 +18,12 @@ use Rattle.snapshot_store.specs.Content.{CatalogueAt, IsContent, RootStands, dee
 use Rattle.snapshot_store.specs.ContentLaws.{record_in-append, root_stands-append}
 use Rattle.root_composer.specs.Composition.{CanCompose, IsComposed, next_contents}
 use Rattle.recovery_core.specs.Catalogues.{AreCatalogues, newest_decls, newest_epoch, newest_storages}
-use Rattle.recovery_core.specs.Images.{Images, epoch_of}
+use Rattle.joint_crashes.specs.Images.{Images, epoch_of}
 use Rattle.recovery_core.specs.Recoverable.{IsReading, IsStateOf, Reading}
 use Rattle.recovery_core.specs.Recovered.{catalogue_of}
 use Rattle.recovery_core.specs.SnapshotPages.{RootStandsUpTo}
 use Rattle.checkpoints.specs.NextReading.{chain-append, chain_below, newest_is, roots_early, same_storages}
-use Rattle.checkpoints.specs.SnapshotsKept.{KeepsSnapshots}
+use Rattle.recovery_core.specs.SnapshotsKept.{KeepsSnapshots}
 use Rattle.program_calls.specs.Snapshots.{EachSnapshot, HasContent}
 use Rattle.program_calls.proofs.KeptEpochs.{as_of-more, as_of-none}
 use Rattle.program_calls.proofs.SnapshotsFound.{epoch_below}

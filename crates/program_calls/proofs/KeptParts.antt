@@ -6,8 +6,8 @@ use Rattle.std.proofs.lemmas.Bool.{cases_Bool}
 use Rattle.std.specs.List.{AllByRecursion, Contains}
 use Rattle.std.proofs.lemmas.List.{append-nil, length-map}
 use Rattle.lists.specs.Each.{all_append, all_weaker}
-use Rattle.outside.specs.Vault.{IsWhole}
-use Rattle.outside.specs.declared.vault.Vault.{Vault}
+use Rattle.log_writer.specs.Vault.{IsWhole}
+use Rattle.log_writer.specs.declared.vault.Vault.{Vault}
 use Rattle.serial_model.specs.History.{Entry, EpochsNeverFall, Rises, state_after, state_after_all}
 use Rattle.serial_model.specs.State.{State}
 use Rattle.serial_model.specs.declared.decl.Decl.{Decl}
@@ -21,9 +21,9 @@ use Rattle.log_writer.specs.Points.{point_of, sequence_of}
 use Rattle.log_writer.specs.declared.saved.Saved.{Saved}
 use Rattle.snapshot_store.specs.Store.{StoreState}
 use Rattle.recovery_core.specs.Catalogues.{newest_epoch}
-use Rattle.recovery_core.specs.Crashes.Marking.{mark_set}
-use Rattle.recovery_core.specs.Images.{counted_of, epoch_of}
-use Rattle.recovery_core.specs.Marks.{Marks}
+use Rattle.joint_crashes.specs.Crashes.Marking.{mark_set}
+use Rattle.joint_crashes.specs.Images.{counted_of, epoch_of}
+use Rattle.joint_crashes.specs.Marks.{Marks}
 use Rattle.recovery_core.specs.Recoverable.{Reading}
 use Rattle.tx_script.specs.Causes.{AllCaused, keeper_before, some_counted}
 use Rattle.tx_script.specs.Run.{LogFiles, Ran}

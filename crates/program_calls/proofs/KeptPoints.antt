@@ -23,8 +23,8 @@ use Rattle.log_writer.specs.Save.{Names}
 use Rattle.snapshot_store.specs.Content.{words_of}
 use Rattle.snapshot_store.specs.Store.{bytes_of_pages}
 use Rattle.recovery_core.specs.Catalogues.{AreCatalogues, HasPages, newest_epoch}
-use Rattle.recovery_core.specs.Images.{Images, counted_of}
-use Rattle.recovery_core.specs.Marks.{Marks}
+use Rattle.joint_crashes.specs.Images.{Images, counted_of}
+use Rattle.joint_crashes.specs.Marks.{Marks}
 use Rattle.recovery_core.specs.Recoverable.{Reading}
 use Rattle.recovery_core.specs.StoredPages.{has_pages, whole_size}
 use Rattle.worker_logs.specs.Saves.{IsCounted, closed_number, growing_number}

@@ -8,8 +8,8 @@ use Rattle.std.proofs.lemmas.Grind.{flat_map-append}
 use Rattle.std.proofs.lemmas.List.{append-nil}
 use Rattle.std.proofs.lemmas.List.Sums.{fold-append}
 use Rattle.lists.specs.Each.{all_append, all_weaker}
-use Rattle.outside.specs.declared.vault.Device.TheVariants.{Save}
-use Rattle.outside.specs.declared.vault.Vault.{Vault}
+use Rattle.outside.specs.declared.device.Device.TheVariants.{Save}
+use Rattle.log_writer.specs.declared.vault.Vault.{Vault}
 use Rattle.serial_model.specs.History.{Entry, EpochsNeverFall, Rises, state_after_all}
 use Rattle.serial_model.specs.Numbers.{last_epoch}
 use Rattle.serial_model.specs.State.{State}
@@ -26,18 +26,18 @@ use Rattle.log_writer.specs.declared.saved.Saved.{Saved}
 use Rattle.snapshot_store.specs.Content.{words_of}
 use Rattle.snapshot_store.specs.Store.{IsWhole}
 use Rattle.recovery_core.specs.Catalogues.{AreCatalogues, newest_epoch}
-use Rattle.recovery_core.specs.Images.{Images, counted_of, epoch_of}
-use Rattle.recovery_core.specs.JointCrash.{parts_of}
-use Rattle.recovery_core.specs.Marks.{Marks}
+use Rattle.joint_crashes.specs.Images.{Images, counted_of, epoch_of}
+use Rattle.joint_crashes.specs.JointCrash.{parts_of}
+use Rattle.joint_crashes.specs.Marks.{Marks}
 use Rattle.recovery_core.specs.Recoverable.{IsReading, IsStateOf, Reading, ReadsBy, ReadsSaved}
 use Rattle.recovery_core.specs.Recovered.{Recovers}
-use Rattle.recovery_core.specs.Resting.{AreTold}
-use Rattle.recovery_core.specs.SettleLaws.{point_says}
+use Rattle.joint_crashes.specs.Resting.{AreTold}
+use Rattle.checkpoints.specs.SettleLaws.{point_says}
 use Rattle.checkpoints.specs.SettlesInto.{SettlesInto}
-use Rattle.checkpoints.specs.SnapshotsKept.{KeepsSnapshots}
-use Rattle.recovery_core.specs.VaultReads.{RoseIn}
+use Rattle.recovery_core.specs.SnapshotsKept.{KeepsSnapshots}
+use Rattle.joint_crashes.specs.VaultReads.{RoseIn}
 use Rattle.recovery_core.specs.declared.recovered.Recovered.{Recovered}
-use Rattle.recovery_core.specs.declared.settlement.Settled.{Settled}
+use Rattle.checkpoints.specs.declared.without_entries.Settled.{Settled}
 use Rattle.worker_logs.specs.Saves.{CountsOf, IsCounted, closed_number, growing_number, logs_marks}
 use Rattle.worker_logs.specs.declared.savepoints.Beside.{Beside}
 use Rattle.worker_logs.specs.declared.savepoints.Side.{Side}
@@ -109,7 +109,7 @@ pub kept_begins : {D : Type 0} {tells : D → Option (List ℕ)} {clock : D → 
     (r : RuntimeState) → SettlesInto tells clock image_at recovered given old new settled
     → AreTold tells (parts_of old) found → (recovers : Recovers found recovered)
     → KeptSnapshots recovered settled
-    → r ≡ begun settled.decls settled.state settled.save settled.store room
+    → r ≡ begun settled.decls settled.state r.stands.opening settled.save settled.store room
     (record { epoch = settled.saved.epoch + 1; draw = 1 })
     → AllByRecursion IsWhole settled.store.pages
     → AllByRecursion (AllByRecursion (λ w. w < 2 ^ 64)) (words_of settled.store.pages)
@@ -158,7 +158,7 @@ kept_begins {tells = tells} {clock = clock} {image_at = image_at} {recovered = r
       whole = whole;
       fit = fit;
     } in
-    let b : RuntimeState = begun settled.decls settled.state settled.save settled.store room
+    let b : RuntimeState = begun settled.decls settled.state r.stands.opening settled.save settled.store room
     (record { epoch = saved + 1; draw = 1 }) in
     subst (λ (x : RuntimeState). AreLogs tells clock image_at (λ worker. []) (λ worker. []) x new
     → AreClosedFiles tells clock image_at (λ worker. []) (λ worker. []) x new

@@ -16,7 +16,7 @@ use Rattle.wire_form.specs.LogLine.{line_bytes}
 use Rattle.wire_form.specs.declared.savepoint.Savepoint.{Savepoint}
 use Rattle.log_writer.specs.Points.{point_of, sequence_of}
 use Rattle.log_writer.specs.declared.saved.Saved.{Saved}
-use Rattle.recovery_core.specs.Marks.{IsAbove, Marks}
+use Rattle.joint_crashes.specs.Marks.{IsAbove, Marks}
 use Rattle.tx_script.specs.Causes.{AnswerCause, AnswersCaused, IsAnswerTo, KeeperAt, keeper_after, some_counted}
 use Rattle.tx_script.specs.Run.{Ran}
 use Rattle.tx_script.specs.declared.answer.Answer.{Answer}

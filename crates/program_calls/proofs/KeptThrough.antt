@@ -4,7 +4,7 @@ use Rattle.std.specs.Prelude.{IfSome}
 use Rattle.serial_model.specs.State.{State}
 use Rattle.serial_model.specs.declared.decl.Decl.{Decl}
 use Rattle.recovery_core.specs.Catalogues.{newest_decls}
-use Rattle.recovery_core.specs.Images.{Images}
+use Rattle.joint_crashes.specs.Images.{Images}
 use Rattle.recovery_core.specs.Recoverable.{IsRecoverable}
 use Rattle.recovery_core.specs.RecoverableLaws.{one_recoverable}
 use Rattle.program_calls.specs.Beginning.{HasStorages, SameDecls}

@@ -35,7 +35,8 @@ pub mod Makes
 pub mod KeptThrough
 pub mod CrashPoints
 pub mod CrashesKept
-pub mod CrashesMore
+pub mod RecordsKept
+mod CrashesMore
 pub mod CrashesRead
 pub mod CrashesBegun
 pub mod KeptFiles

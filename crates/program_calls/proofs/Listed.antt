@@ -10,9 +10,9 @@ use Rattle.lists.specs.declared.memory.OrMemory.{OrMemory}
 use Rattle.lists.specs.declared.memory.OrMemory.TheVariants as errors
 use Rattle.outside.specs.Stream.{TakesPrefix}
 use Rattle.outside.specs.declared.fault.Failed.{Failed}
-use Rattle.outside.specs.declared.vault.Device.{Device}
-use Rattle.outside.specs.declared.vault.Device.TheVariants.{Save, Snaps as SnapsDevice, Bank}
-use Rattle.outside.specs.declared.vault.Vault.{Vault}
+use Rattle.outside.specs.declared.device.Device.{Device}
+use Rattle.outside.specs.declared.device.Device.TheVariants.{Save, Snaps as SnapsDevice, Bank}
+use Rattle.log_writer.specs.declared.vault.Vault.{Vault}
 use Rattle.serial_model.specs.State.{State}
 use Rattle.serial_model.specs.declared.decl.Decl.{Decl}
 use Rattle.wire_form.specs.ContentLaws.{one_catalogue}
@@ -22,14 +22,14 @@ use Rattle.snapshot_store.specs.Content.{root_place, words_of}
 use Rattle.recovery_core.specs.Catalogues.{marks_of, newest_decls}
 use Rattle.recovery_core.specs.Damage.{FirstBad, IsDamagedIn}
 use Rattle.recovery_core.specs.DamageLaws.{none_bad, one_bad, one_damaged, one_page_breaks, reading_stands, stands_whole}
-use Rattle.recovery_core.specs.Images.{Images, epoch_of}
-use Rattle.recovery_core.specs.JointCrash.{parts_of}
+use Rattle.joint_crashes.specs.Images.{Images, epoch_of}
+use Rattle.joint_crashes.specs.JointCrash.{parts_of}
 use Rattle.recovery_core.specs.Recoverable.{IsReading, Reading}
 use Rattle.recovery_core.specs.RecoverableLaws.{one_reading}
 use Rattle.recovery_core.specs.Recovered.{Recovers, catalogue_of}
-use Rattle.recovery_core.specs.Resting.{AreTold}
+use Rattle.joint_crashes.specs.Resting.{AreTold}
 use Rattle.recovery_core.specs.Snapshots.{BreaksAt, HasMark, IsCatalogueOf, IsSnapshotAt, RootBreaksAt}
-use Rattle.recovery_core.specs.VaultReads.{AreQuiet, RoseIn}
+use Rattle.joint_crashes.specs.VaultReads.{AreQuiet, RoseIn}
 use Rattle.recovery_core.specs.declared.chain.SnapshotMark.{SnapshotMark}
 use Rattle.recovery_core.specs.declared.fault.RecoverFault.{RecoverFault}
 use Rattle.recovery_core.specs.declared.fault.RecoverFault.TheVariants as causes
@@ -45,7 +45,7 @@ use Rattle.program_calls.specs.Causes.{AnswersDevices, AnswersFaults, Counts, Is
 use Rattle.program_calls.specs.Ending.{damaged_text, last_line, no_snapshot_text, status_of}
 use Rattle.program_calls.specs.Listings.{BreaksAtEpoch, HasBroken, HasNone, IsDamagedFor, IsListing, IsOfEpoch, IsSnapshotOf, IsUndisturbed, Listed}
 use Rattle.program_calls.specs.Listings.{ListingComes, Lists, ShownText, TellsAll, TellsBefore, TellsDamage, TellsListing, TellsNone, snapshots_text}
-use Rattle.program_calls.specs.Main.{Holds}
+use Rattle.program_calls.specs.Main.{SinkHolds}
 use Rattle.program_calls.specs.OnTheWay.{AddsText, IsNoSnapshot, TakesText, TellsSnapshot, TellsText, ending_of_refusal}
 use Rattle.program_calls.specs.OnTheWay.{status_told}
 use Rattle.program_calls.specs.Snapshots.{HasContent}
@@ -265,7 +265,7 @@ shows : (held holds : Option Bytes) (r : Result Ending Failed) (text : Bytes) (e
     → ShownText held holds (status_told r) text ending
 shows held holds (Ok came) text ending takes = record {
   status_is = inl (ap status_of (sym takes.0));
-  printed = subst (λ (e : Ending). Holds (status_of e) held holds (text ++ last_line ending)) takes.0
+  printed = subst (λ (e : Ending). SinkHolds (status_of e) held holds (text ++ last_line ending)) takes.0
       (holds_all ending held holds (text ++ last_line ending) takes.1);
 }
 shows held holds (Err failed) text ending takes = record { status_is = inr refl; printed = takes }
@@ -450,10 +450,10 @@ module _ {D : Type 0} (command : Command) (tells : D → Option Bytes) (faults :
   listing_told : (found : Images) (reading : Reading) (listed : Bytes) (held holds : Option Bytes) (status : ℕ) (text : Bytes) (ending : Ending)
       → AreTold tells (parts_of was) found → IsUndisturbed status → IsReading found reading → Lists command reading listed
       → ListingComes command tells faults was is text ending → status ≡ status_of ending
-      → Holds status held holds (text ++ last_line ending) → (status ≡ 0) × Appends held holds listed
+      → SinkHolds status held holds (text ++ last_line ending) → (status ≡ 0) × Appends held holds listed
   listing_told found reading listed held holds status text Finished told calm reads lists comes own has =
       let here = comes.1 found told in
-      let whole : Appends held holds (text ++ []) = subst (λ s. Holds s held holds (text ++ [])) own has in
+      let whole : Appends held holds (text ++ []) = subst (λ s. SinkHolds s held holds (text ++ [])) own has in
       let same : here.0 ≡ reading = one_reading found here.0 reading here.1 reads in
       let one = one_listing command found reading text listed reads (subst (λ r. Lists command r text) same here.2) lists in
       (own, subst (Appends held holds) (append-nil text ∙ one) whole)
@@ -477,7 +477,7 @@ module _ {D : Type 0} (command : Command) (tells : D → Option Bytes) (faults :
   none_told : (found : Images) (epoch : ℕ) (reading : Reading) (held holds : Option Bytes) (status : ℕ) (text : Bytes) (ending : Ending)
       → AreTold tells (parts_of was) found → IsUndisturbed status → command ≡ Snap epoch → IsReading found reading → HasNone reading epoch
       → ListingComes command tells faults was is text ending → status ≡ status_of ending
-      → Holds status held holds (text ++ last_line ending) → (status ≡ 9) × Appends held holds (no_snapshot_text epoch)
+      → SinkHolds status held holds (text ++ last_line ending) → (status ≡ 9) × Appends held holds (no_snapshot_text epoch)
   none_told found epoch reading held holds status text Finished told calm asked reads none comes own has =
       let here = comes.1 found told in
       let same : here.0 ≡ reading = one_reading found here.0 reading here.1 reads in
@@ -495,7 +495,7 @@ module _ {D : Type 0} (command : Command) (tells : D → Option Bytes) (faults :
   none_told found epoch reading held holds status text NoMemory told calm asked reads none comes own has = absurd (calm.memory own)
   none_told found epoch reading held holds status text (NoSnapshot other) told calm asked reads none comes own has =
       let same : other ≡ epoch = same_snap other epoch (sym comes.1 ∙ asked) in
-      let whole : Appends held holds (text ++ no_snapshot_text other) = subst (λ s. Holds s held holds (text ++ no_snapshot_text other)) own has in
+      let whole : Appends held holds (text ++ no_snapshot_text other) = subst (λ s. SinkHolds s held holds (text ++ no_snapshot_text other)) own has in
       (own, subst (Appends held holds) (ap (λ t. t ++ no_snapshot_text other) comes.0 ∙ ap no_snapshot_text same) whole)
     where
       same_snap : (a b : ℕ) → (let c : Command = Snap a in c ≡ Snap b) → a ≡ b
@@ -503,7 +503,7 @@ module _ {D : Type 0} (command : Command) (tells : D → Option Bytes) (faults :
 
   damage_told : (found : Images) (device : Device) (at : ℕ) (held holds : Option Bytes) (status : ℕ) (text : Bytes) (ending : Ending)
       → AreTold tells (parts_of was) found → IsUndisturbed status → IsDamagedFor command found device at → ListingComes command tells faults was is text ending
-      → status ≡ status_of ending → Holds status held holds (text ++ last_line ending) → (status ≡ 6) × Appends held holds (damaged_text device at)
+      → status ≡ status_of ending → SinkHolds status held holds (text ++ last_line ending) → (status ≡ 6) × Appends held holds (damaged_text device at)
   damage_told found device at held holds status text Finished told calm damaged comes own has =
       let here = comes.1 found told in
       absurd (listing_stands command found here.0 text device at here.1 here.2 damaged)
@@ -514,7 +514,7 @@ module _ {D : Type 0} (command : Command) (tells : D → Option Bytes) (faults :
   damage_told found device at held holds status text (NoDevice other) told calm damaged comes own has = absurd (calm.device own)
   damage_told found device at held holds status text (Damaged other n) told calm damaged comes own has =
       let one = one_damage command found other device n at (comes.1 found told) damaged in
-      let whole : Appends held holds (text ++ damaged_text other n) = subst (λ s. Holds s held holds (text ++ damaged_text other n)) own has in (
+      let whole : Appends held holds (text ++ damaged_text other n) = subst (λ s. SinkHolds s held holds (text ++ damaged_text other n)) own has in (
         own,
         subst (Appends held holds)
             (ap (λ t. t ++ damaged_text other n) comes.0 ∙ ap (λ d. damaged_text d n) one.0 ∙ ap (damaged_text device) one.1) whole,

@@ -2,8 +2,8 @@
 use Rattle.std.proofs.Common.{◌≡◌, inl, inr, ap, subst, refl, arith, ℕ, [], Option, Result, Ok, Err}
 use Rattle.std.specs.Prelude.{IfOk, OnOk}
 use Rattle.outside.specs.declared.fault.Failed.{Failed}
-use Rattle.outside.specs.declared.vault.Vault.{Vault}
-use Rattle.recovery_core.specs.VaultReads.{AreQuiet}
+use Rattle.log_writer.specs.declared.vault.Vault.{Vault}
+use Rattle.joint_crashes.specs.VaultReads.{AreQuiet}
 use Rattle.text_output.specs.Output.{Bytes, Output, Prints}
 use Rattle.text_output.specs.Printed.{adds_nothing}
 use Rattle.script_maker.specs.Generator.{script_text}

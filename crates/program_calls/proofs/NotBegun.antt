@@ -1,5 +1,5 @@
 -- A run that doesn't begin: how it ends, and what the vault keeps then.
-use Rattle.std.proofs.Common.{◌≡◌, ◌⊎◌, inl, inr, ◌∙◌, sym, ap, subst, refl, ℕ, ◌+◌, ◌<◌, ◌≤◌, List, [], Option, Some, None, arith}
+use Rattle.std.proofs.Common.{◌≡◌, ◌⊎◌, inl, inr, ◌∙◌, sym, ap, subst, refl, true, ℕ, ◌+◌, ◌<◌, ◌≤◌, List, [], Option, Some, None, arith}
 use Rattle.std.specs.Prelude.{◌^◌, IfNone, IfSome, IsSome, is_some}
 use Rattle.std.specs.List.{AllByRecursion}
 use Rattle.std.specs.List.Sorted.{IsPermutation}
@@ -8,14 +8,14 @@ use Rattle.std.specs.Option.{option_map}
 use Rattle.std.proofs.lemmas.Option.{same_Some}
 use Rattle.lists.specs.declared.memory.OrMemory.{OrMemory}
 use Rattle.lists.specs.declared.memory.OrMemory.TheVariants as errors
-use Rattle.outside.specs.Cuts.{whole_ends}
+use Rattle.log_writer.specs.Cuts.{whole_ends}
 use Rattle.outside.specs.Disk.{IfTold, Only}
 use Rattle.outside.specs.Fronts.{AllBegin}
 use Rattle.outside.specs.Moments.{left_after}
-use Rattle.outside.specs.Vault.{IsWhole, disk_in}
-use Rattle.outside.specs.declared.vault.Device.{Device}
-use Rattle.outside.specs.declared.vault.Device.TheVariants.{Save, Snaps, Bank}
-use Rattle.outside.specs.declared.vault.Vault.{Vault}
+use Rattle.log_writer.specs.Vault.{IsWhole, disk_in}
+use Rattle.outside.specs.declared.device.Device.{Device}
+use Rattle.outside.specs.declared.device.Device.TheVariants.{Save, Snaps, Bank}
+use Rattle.log_writer.specs.declared.vault.Vault.{Vault}
 use Rattle.serial_model.specs.State.{State}
 use Rattle.serial_model.specs.declared.decl.Decl.{Decl}
 use Rattle.script_grammar.specs.Script.{Bytes, Script}
@@ -26,24 +26,26 @@ use Rattle.log_writer.specs.declared.saved.Saved.{Saved}
 use Rattle.snapshot_store.specs.Content.{words_of}
 use Rattle.snapshot_store.specs.Store.{IsWhole as IsWholePage}
 use Rattle.recovery_core.specs.Damage.{IsDamagedIn, IsReadBefore}
-use Rattle.recovery_core.specs.Images.{Images}
-use Rattle.recovery_core.specs.CrashesRecover.{LeavesSame}
-use Rattle.recovery_core.specs.JointCrash.{IsNow, Moments, parts_of}
+use Rattle.joint_crashes.specs.Images.{Images}
+use Rattle.checkpoints.specs.CrashesRecover.{LeavesSame}
+use Rattle.joint_crashes.specs.JointCrash.{IsNow, Moments, parts_of}
 use Rattle.recovery_core.specs.Recoverable.{IsRecoverable}
 use Rattle.recovery_core.specs.Recovered.{IsUp, Recovers, recovers_state}
-use Rattle.recovery_core.specs.Resting.{AreTold, HasNoRecords, IsResting}
-use Rattle.recovery_core.specs.SettleRests.{RestsSince}
-use Rattle.recovery_core.specs.SettleFiles.{has_all}
-use Rattle.recovery_core.specs.Settled.{SameDevices}
-use Rattle.recovery_core.specs.VaultReads.{AreQuiet, RoseIn, VaultOnlyReads, quiet_then, told_read, whole_read}
+use Rattle.joint_crashes.specs.Resting.{AreTold, HasNoRecords, IsResting}
+use Rattle.checkpoints.specs.SettleGoesOn.{rests_settled}
+use Rattle.joint_crashes.specs.SettleRests.{RestsSince}
+use Rattle.checkpoints.specs.SettleFiles.{has_all}
+use Rattle.checkpoints.specs.Settled.{SameDevices}
+use Rattle.joint_crashes.specs.VaultReads.{AreQuiet, RoseIn, VaultOnlyReads, quiet_then, told_read, whole_read}
 use Rattle.recovery_core.specs.declared.fault.RecoverFault.{RecoverFault}
 use Rattle.recovery_core.specs.declared.fault.RecoverFault.TheVariants as recovers
-use Rattle.recovery_core.specs.declared.fault.SettleFault.{SettleFault}
-use Rattle.recovery_core.specs.declared.fault.SettleFault.TheVariants as settles
+use Rattle.checkpoints.specs.declared.fault.SettleFault.{SettleFault}
+use Rattle.checkpoints.specs.declared.fault.SettleFault.TheVariants as settles
 use Rattle.recovery_core.specs.declared.recovered.Recovered.{Recovered}
-use Rattle.recovery_core.specs.declared.settlement.Settled.{Settled}
+use Rattle.checkpoints.specs.declared.without_entries.Settled.{Settled}
 use Rattle.worker_logs.specs.Saves.{CountsOf}
 use Rattle.worker_logs.specs.declared.savepoints.Side.TheVariants.{Even}
+use Rattle.checkpoints.specs.SettleRecords.{SettleRecords}
 use Rattle.checkpoints.specs.Due.{IsOverLimit, IsStoreDue, IsWithin, OfSaved, WouldBeDeep}
 use Rattle.checkpoints.specs.SettlesInto.{SettlesInto}
 use Rattle.tx_script.specs.Causes.{last_sequence}
@@ -65,7 +67,7 @@ use Rattle.program_calls.proofs.Courses.{nowhere}
 use Rattle.program_calls.proofs.KeptEnd.{kept_settled, told_reading}
 use Rattle.program_calls.specs.Main.{StandsWhenStopped}
 use Rattle.program_calls.specs.Vaults.{vaults_of}
-use Rattle.program_calls.proofs.CrashesBegun.{rests_after_reads, resting_still, stops_read, stops_settled}
+use Rattle.program_calls.proofs.CrashesBegun.{RestsBehind, rests_after_reads, resting_still, stops_read, stops_settled}
 use Rattle.program_calls.proofs.KeptThrough.{one_kept}
 use Rattle.program_calls.proofs.SameRun.{permuted_decls}
 use Rattle.program_calls.proofs.SnapshotsKept.{each_between}
@@ -290,17 +292,17 @@ abbrev pub SettlingLeaves : {D : Type 0} → (D → Option Bytes) → (D → ℕ
 SettlingLeaves tells clock image_at between r is = (found : Images) (from : Moments)
     → (rest : IsResting clock image_at (parts_of between)) → HasNoRecords (parts_of between)
     → AreTold tells (parts_of between) found
-    → RestsSince clock image_at from rest.point rest.pages rest.counted (parts_of between) → Recovers found r
-    → LeavesSame clock image_at from r.epoch r.state (parts_of between) (parts_of is)
+    → RestsSince clock image_at from rest.point rest.pages rest.counted (parts_of between) → (it : Recovers found r)
+    → LeavesSame clock image_at from it.reading r.epoch r.state (parts_of between) (parts_of is)
 
 -- so each crash since the call began leaves it
 pub settling_left : {D : Type 0} {tells : D → Option Bytes} {clock : D → ℕ} {image_at : D → ℕ → Bytes → Type 0}
     {faults : D → ℕ} {decls : List Decl} {was between : Vault D} {r : Recovered}
     (read : IsRead tells clock image_at faults decls was between r) (is : Vault D)
     → SettlingLeaves tells clock image_at between r is → (found : Images) (from : Moments)
-    → AreTold tells (parts_of was) found → IsResting clock image_at (parts_of was)
+    → (told : AreTold tells (parts_of was) found) → IsResting clock image_at (parts_of was)
     → IsNow clock image_at (parts_of was) from
-    → LeavesSame clock image_at from r.epoch r.state (parts_of between) (parts_of is)
+    → LeavesSame clock image_at from (read.recovers found told).reading r.epoch r.state (parts_of between) (parts_of is)
 settling_left read is leaves found from told rest now =
     let rests = read.rests from rest now in
     leaves found from rests.0 read.empty (read.told found told) rests.1 (read.recovers found told)
@@ -308,10 +310,10 @@ settling_left read is leaves found from told rest now =
 stops_so : {D : Type 0} {tells : D → Option Bytes} {clock : D → ℕ} {image_at : D → ℕ → Bytes → Type 0} {faults : D → ℕ}
     {was between : Vault D} {r : Recovered} (decls : List Decl)
     (read : IsRead tells clock image_at faults decls was between r) (is : Vault D) (opening : Opening)
-    → SettlingLeaves tells clock image_at between r is
+    → SettlingLeaves tells clock image_at between r is → RestsBehind tells clock image_at faults was is
     → StandsWhenStopped (vaults_of tells clock image_at faults was is) decls [] opening []
-stops_so {between = between} {r = r} decls read is opening leaves =
-    stops_settled between r decls opening read.recovers (settling_left read is leaves)
+stops_so {between = between} {r = r} decls read is opening leaves rests =
+    stops_settled between r decls opening read.recovers (settling_left read is leaves) rests
 
 module _ {D : Type 0} {tells : D → Option Bytes} {clock : D → ℕ} {image_at : D → ℕ → Bytes → Type 0} {faults : D → ℕ} {snap : ℕ} {script : Script} {was between : Vault D} {r : Recovered}
     (read : IsRead tells clock image_at faults script.decls was between r) where
@@ -329,7 +331,8 @@ module _ {D : Type 0} {tells : D → Option Bytes} {clock : D → ℕ} {image_at
           (λ found told. told_same same tells found (read.told found told));
       declared = λ some. absurd (some refl);
       whole = λ finished. refl;
-      stops = stops_so script.decls read is opening leaves;
+      stops = stops_so script.decls read is opening leaves
+          (λ none found from told rest now file image only. (rests_same same (read.rests from rest now)).0);
       through_reads = λ some. absurd (some refl);
     };
     rests = record { again = λ not_4 not_5 one. subst (λ d. IfTold (tells d) (Only clock image_at d)) (sym same.save) (read.one one) };
@@ -373,7 +376,8 @@ module _ {D : Type 0} {tells : D → Option Bytes} {clock : D → ℕ} {image_at
           ];
           declared = λ some. absurd (some refl);
           whole = λ finished. refl;
-          stops = stops_so script.decls read is (opening_of r stored.0) leaves;
+          stops = stops_so script.decls read is (opening_of r stored.0) leaves
+              (λ none. absurd (none device rose_all));
           through_reads = λ some. absurd (some refl);
         };
         rests = record { again = λ not_4 not_5. absurd (not_5 refl) };
@@ -404,7 +408,11 @@ module _ {D : Type 0} {tells : D → Option Bytes} {clock : D → ℕ} {image_at
           recovered.state epoch state reading before reads;
       declared = λ some. absurd (some refl);
       whole = λ finished. refl;
-      stops = stops_so script.decls read is nowhere leaves;
+      stops = stops_so script.decls read is nowhere leaves
+          (λ none found from told rest now.
+          let rests = read.rests from rest now in
+          rests_settled (settles.goes_on found from rests.0 read.empty (read.told found told) rests.1
+          (read.recovers found told)));
       through_reads = λ some. absurd (some refl);
     };
     rests = record { again = λ not_4 not_5 one bytes told. (settles.stored bytes told).only };
@@ -465,15 +473,15 @@ module _ {D : Type 0} {tells : D → Option Bytes} {clock : D → ℕ} {image_at
   -- what was settled is what a run begins on
   pub begins_run : (is : Vault D) (settled : Settled) (runtime : RuntimeState) → SettlingLeaves tells clock image_at between r is
       → SettlesInto tells clock image_at r decls between is settled → KeptSnapshots r settled → AreQuiet faults between is
-      → IfSome r.saved (IsWithin r snap) → (IsStoreDue r → sequence_of r.save.newest ≡ last_sequence → ⊥)
-      → runtime ≡ begun settled.decls settled.state settled.save settled.store snap (clock_after settled.saved.epoch)
+      → SettleRecords r true between is → IfSome r.saved (IsWithin r snap) → (IsStoreDue r → sequence_of r.save.newest ≡ last_sequence → ⊥)
+      → runtime ≡ begun settled.decls settled.state runtime.stands.opening settled.save settled.store snap (clock_after settled.saved.epoch)
       → AllByRecursion IsWholePage settled.store.pages → AllByRecursion (AllByRecursion (λ w. w < 2 ^ 64)) (words_of settled.store.pages)
       → StandsOn tells clock image_at runtime is
       → (((number : ℕ) (bank : D) → disk_in is (Bank number) ≡ Some bank → tells bank ≡ Some []) → AreLogs tells clock image_at (λ worker. []) (λ worker. []) runtime is
       × AreClosedFiles tells clock image_at (λ worker. []) (λ worker. []) runtime is)
       → CountsOf Even (λ worker. []) (λ worker. []) (λ worker. []) (λ worker. []) runtime.save.newest
       → BeginsRun tells clock image_at faults snap decls was is runtime
-  begins_run is settled runtime leaves settles keeps quiet fits left begins pages words stands logs counts = record {
+  begins_run is settled runtime leaves settles keeps quiet records fits left begins pages words stands logs counts = record {
     recovered = r;
     settled = settled;
     between = between;
@@ -507,6 +515,7 @@ module _ {D : Type 0} {tells : D → Option Bytes} {clock : D → ℕ} {image_at
           rests.1,
         );
     empty = read.empty;
+    records = records;
     whole_between = read.whole;
     quiet = quiet_two was between is read.whole_was read.whole read.quiet quiet;
     whole = read.whole_was;
@@ -514,16 +523,16 @@ module _ {D : Type 0} {tells : D → Option Bytes} {clock : D → ℕ} {image_at
 
   -- the same over a vault that a call left as it was
   pub begins_over : (is now : Vault D) (settled : Settled) (runtime : RuntimeState) → SettlingLeaves tells clock image_at between r is → now ≡ is → SettlesInto tells clock image_at r decls between is settled → KeptSnapshots r settled → AreQuiet faults between is
-      → IfSome r.saved (IsWithin r snap) → (IsStoreDue r → sequence_of r.save.newest ≡ last_sequence → ⊥)
-      → runtime ≡ begun settled.decls settled.state settled.save settled.store snap (clock_after settled.saved.epoch)
+      → SettleRecords r true between is → IfSome r.saved (IsWithin r snap) → (IsStoreDue r → sequence_of r.save.newest ≡ last_sequence → ⊥)
+      → runtime ≡ begun settled.decls settled.state runtime.stands.opening settled.save settled.store snap (clock_after settled.saved.epoch)
       → AllByRecursion IsWholePage settled.store.pages → AllByRecursion (AllByRecursion (λ w. w < 2 ^ 64)) (words_of settled.store.pages)
       → StandsOn tells clock image_at runtime now
       → (((number : ℕ) (bank : D) → disk_in is (Bank number) ≡ Some bank → tells bank ≡ Some []) → AreLogs tells clock image_at (λ worker. []) (λ worker. []) runtime now
       × AreClosedFiles tells clock image_at (λ worker. []) (λ worker. []) runtime now)
       → CountsOf Even (λ worker. []) (λ worker. []) (λ worker. []) (λ worker. []) runtime.save.newest
       → BeginsRun tells clock image_at faults snap decls was now runtime
-  begins_over is now settled runtime leaves same settles keeps quiet fits left begins pages words stands logs counts =
+  begins_over is now settled runtime leaves same settles keeps quiet records fits left begins pages words stands logs counts =
       subst (λ vault. BeginsRun tells clock image_at faults snap decls was vault runtime) (sym same)
-      (begins_run is settled runtime leaves settles keeps quiet fits left begins pages words (subst (λ vault. StandsOn tells clock image_at runtime vault) same stands)
+      (begins_run is settled runtime leaves settles keeps quiet records fits left begins pages words (subst (λ vault. StandsOn tells clock image_at runtime vault) same stands)
       (λ empty. subst (λ vault. AreLogs tells clock image_at (λ worker. []) (λ worker. []) runtime vault
       × AreClosedFiles tells clock image_at (λ worker. []) (λ worker. []) runtime vault) same (logs empty)) counts)

@@ -6,18 +6,18 @@ use Rattle.std.specs.List.{AllByRecursion}
 use Rattle.lists.specs.Each.{all_push}
 use Rattle.lists.specs.declared.memory.Memory.{Memory}
 use Rattle.outside.specs.Disk.{IfTold, Only}
-use Rattle.outside.specs.Vault.{IsWhole}
-use Rattle.outside.specs.declared.vault.Device.TheVariants.{Snaps}
-use Rattle.outside.specs.declared.vault.Vault.{Vault}
+use Rattle.log_writer.specs.Vault.{IsWhole}
+use Rattle.outside.specs.declared.device.Device.TheVariants.{Snaps}
+use Rattle.log_writer.specs.declared.vault.Vault.{Vault}
 use Rattle.serial_model.specs.History.{Entry, as_of}
 use Rattle.serial_model.specs.State.{State}
 use Rattle.serial_model.specs.declared.decl.Decl.{Decl}
 use Rattle.script_grammar.specs.Script.{Bytes, Round, Script}
-use Rattle.recovery_core.specs.Images.{Images, count_of}
-use Rattle.recovery_core.specs.JointCrash.{IsNow, Moments, Parts, parts_of}
+use Rattle.joint_crashes.specs.Images.{Images, count_of}
+use Rattle.joint_crashes.specs.JointCrash.{IsNow, Moments, Parts, parts_of}
 use Rattle.recovery_core.specs.Recoverable.{IsRecoverable, Reading}
-use Rattle.recovery_core.specs.Resting.{AreTold, IsResting}
-use Rattle.recovery_core.specs.VaultReads.{whole_read}
+use Rattle.joint_crashes.specs.Resting.{AreTold, IsResting}
+use Rattle.joint_crashes.specs.VaultReads.{whole_read}
 use Rattle.tx_script.specs.Run.{Ran}
 use Rattle.round_engine.specs.Crashes.{CarriesCrashes}
 use Rattle.round_engine.specs.Ends.{end_of}
@@ -30,17 +30,17 @@ use Rattle.round_engine.specs.declared.report.Report.{Report}
 use Rattle.program_calls.specs.Beginning.{Opening, SameDecls}
 use Rattle.program_calls.specs.declared.ending.Ending.{Ending}
 use Rattle.program_calls.specs.declared.ending.Ending.TheVariants.{Finished, NoMemory}
-use Rattle.program_calls.specs.Ending.{GoesOn, RanOn, RunComes, status_of}
-use Rattle.program_calls.specs.Main.{AreFull, IsDurable, HasDeclared, HasEachSnapshot, IsSound, StandsThrough, last_saved}
+use Rattle.program_calls.specs.Ending.{RunGoesOn, RanOn, RunComes, status_of}
+use Rattle.program_calls.specs.Main.{FilesFound, IsDurable, HasDeclared, HasEachSnapshot, IsSound, StandsThrough, last_saved}
 use Rattle.program_calls.specs.Main.{StandsThroughReads, StandsWhenStopped}
 use Rattle.program_calls.specs.Snapshots.{EachSnapshot, HasContent}
 use Rattle.program_calls.specs.Causes.{IsReadStatus, ReadsDamage, RestsAgain}
 use Rattle.program_calls.specs.OnTheWay.{EndsBefore, RunsRounds, ending_of}
-use Rattle.program_calls.specs.RanOver.{RunsOver, files_before, EndsDurable, IsUnbroken, KeepsPages}
+use Rattle.program_calls.specs.RanOver.{RunsOverFiles, files_before, EndsDurable, IsUnbroken, KeepsPages}
 use Rattle.program_calls.specs.EndLaws.{EndTells, end_tells, goes_on_quiet}
 use Rattle.program_calls.proofs.KeptOver.{files_from, log_of_parts}
 use Rattle.program_calls.proofs.StandsStill.{none_over, nothing_come}
-use Rattle.program_calls.proofs.CrashesKept.{CrashesKept, crash_covered, crash_leaves}
+use Rattle.program_calls.proofs.CrashesKept.{CrashesKept, crash_covered, crash_leaves, rests_kept}
 use Rattle.program_calls.proofs.CrashesMore.{crashes_stopped}
 use Rattle.program_calls.proofs.CrashesRead.{crashes_read}
 use Rattle.program_calls.proofs.KeptAll.{IsLasting, kept_all}
@@ -50,8 +50,8 @@ use Rattle.program_calls.proofs.SnapshotsKept.{each_told}
 use Rattle.program_calls.proofs.KeptThrough.{one_kept, storages_kept}
 use Rattle.program_calls.proofs.SameRun.{as_of_same}
 use Rattle.program_calls.proofs.VaultsLater.{devices_in-push, failed_none, none_failed_in}
-use Rattle.program_calls.proofs.OneRound.{all_none_full, down_none}
-use Rattle.program_calls.proofs.SoFar.{BeginsAt, at_now, RanSoFar, RanOneMore, one_more, no_run}
+use Rattle.program_calls.proofs.OneRound.{all_none_full, down_none, none_damaged}
+use Rattle.program_calls.proofs.SoFar.{BeginsAt, CrashesBehind, at_now, RanSoFar, RanOneMore, one_more, no_run}
 use Rattle.std.proofs.lemmas.List.{length-take, length-map}
 use Rattle.std.proofs.Math.Seq.{take-length}
 use Rattle.lists.specs.Fronts.{IsFront, front_take}
@@ -98,10 +98,10 @@ last_has P [] ran all = all.0
 last_has P (other ∷ rans) ran all = last_has P rans ran all.1
 
 -- where each round goes on, and made durable what it could, the last one was made durable
-goes_durable : (rans before : List Ran) (last : Ran) → rans ≡ before ++ last ∷ [] → AllByRecursion GoesOn rans
+goes_durable : (rans before : List Ran) (last : Ran) → rans ≡ before ++ last ∷ [] → AllByRecursion RunGoesOn rans
     → AllByRecursion IsDurable rans → last.durable ≡ None → ⊥
 goes_durable rans before last is on durable none =
-    let goes = last_has GoesOn before last (subst (AllByRecursion GoesOn) is on) in
+    let goes = last_has RunGoesOn before last (subst (AllByRecursion RunGoesOn) is on) in
     let made = (last_has IsDurable before last (subst (AllByRecursion IsDurable) is durable)).lasts goes in cc
 
 -- A disk that tells its bytes has them in an image of now.
@@ -185,16 +185,14 @@ module _ {D : Type 0} (tells : D → Option Bytes) (clock : D → ℕ) (image_at
   -- and what it stands for at each stop
   stopped_through : (opening : Opening) (rans : List Ran) (ordered : List Entry) (decls : List Decl) (now : Vault D)
       → BeginsAt tells clock image_at faults snap tries script was opening → SameDecls script.decls decls → IsWhole now
-      → ((found : Images) (from : Moments) → AreTold tells (parts_of was) found
-      → IsResting clock image_at (parts_of was) → IsNow clock image_at (parts_of was) from
-      → CrashesKept clock image_at from decls opening.sequence opening.saved opening.state rans ordered now)
+      → CrashesBehind tells clock image_at faults snap tries script was decls opening rans ordered now
       → StandsWhenStopped (at_now tells clock image_at faults snap tries script was now) script.decls ordered opening rans
   stopped_through opening rans ordered decls now begins same whole crashes found from epoch state told is rest
       here =
       let b = begins found told in
       let that : IsRecoverable found opening.saved opening.state = record { reading = b.has.reading; is = b.has.is; epoch_is = b.saved; state_is = b.state } in
       let one = one_kept found opening.saved epoch opening.state state that is in
-      let kept = crashes found from told rest here in
+      let kept = crashes found from b.has.reading b.has.is told rest here in
       record {
         leaves = λ at left since crash.
             let leaves = crash_leaves kept whole at left since crash in (
@@ -202,8 +200,14 @@ module _ {D : Type 0} (tells : D → Option Bytes) (clock : D → ℕ) (image_at
               omega (arith, leaves.1, one.0),
               subst (λ (t : State). IsRecoverable left leaves.0 (as_of script.decls t ordered leaves.0)) one.1
                   (subst (λ (t : State). IsRecoverable left leaves.0 t)
-                  (sym (as_of_same script.decls decls same opening.state ordered leaves.0)) leaves.2),
+                  (sym (as_of_same script.decls decls same opening.state ordered leaves.0)) leaves.2.is),
             );
+        snapshots = λ at left reading since crash reads.
+            let stands = (crash_leaves kept whole at left since crash).2 in
+            each_told script.decls ordered found left b.has.reading stands.is.reading opening.saved opening.state b.has.is
+            stands.is.is b.saved b.state (each_same script.decls decls same b.has.reading stands.is.reading opening.saved
+            opening.state ordered stands.each) epoch state reading is reads;
+        recorded = λ some. kept.recorded;
         covers = λ i saved at.
             let stored = kept.stored i saved at in
             record {
@@ -214,25 +218,47 @@ module _ {D : Type 0} (tells : D → Option Bytes) (clock : D → ℕ) (image_at
               ended = stored.ended;
               covers = crash_covered kept whole i saved stored;
             };
-        instant = λ when. kept.instant;
+        instant = λ when. record { crashes = kept.instant; ended = kept.told.save.ended_time };
+        rests = λ none. rests_kept kept whole;
       }
+
+  -- what is known of the crashes behind the rounds so far
+  crashes_so : (r : RuntimeState) (count : ℕ) (before : Vault D)
+      (so : RanSoFar tells clock image_at faults snap tries script was r count before)
+      → CrashesBehind tells clock image_at faults snap tries script was r.stands.decls so.opening so.rans so.run.ordered before
+  crashes_so r count before so found from reading is told rest here =
+      let k = so.kept found told in
+      subst (λ (x : Reading). CrashesKept clock image_at from x r.stands.decls so.opening.sequence so.opening.saved
+      so.opening.state so.rans so.run.ordered before) (one_reading found k.was.reading reading k.was.is is)
+      (so.crashes found from told rest here).kept
+
+  -- and behind a round that stopped for want of memory
+  crashes_behind : (r s : RuntimeState) (count : ℕ) (before now : Vault D) (round : Round)
+      (so : RanSoFar tells clock image_at faults snap tries script was r count before) (stop : StopsIn tries round r s)
+      → (leaves : LeavesVault tells clock image_at faults stop.ran stop.logged r s before now)
+      → CarriesCrashes tells clock image_at stop.logged (leaves.stored ++ option_to_list leaves.failed) stop.ran r s
+      before now
+      → CrashesBehind tells clock image_at faults snap tries script was r.stands.decls so.opening so.rans so.run.ordered now
+  crashes_behind r s count before now round so stop leaves carries found from reading is told rest here =
+      let k = so.kept found told in
+      subst (λ (x : Reading). CrashesKept clock image_at from x r.stands.decls so.opening.sequence so.opening.saved
+      so.opening.state so.rans so.run.ordered now) (one_reading found k.was.reading reading k.was.is is)
+      (crashes_stopped (so.crashes found from told rest here) stop leaves carries)
 
   -- and through reads from then on
   stopped_reading : (opening : Opening) (rans : List Ran) (ordered : List Entry) (decls : List Decl) (now : Vault D)
       → BeginsAt tells clock image_at faults snap tries script was opening → SameDecls script.decls decls → IsWhole now
-      → ((found : Images) (from : Moments) → AreTold tells (parts_of was) found
-      → IsResting clock image_at (parts_of was) → IsNow clock image_at (parts_of was) from
-      → CrashesKept clock image_at from decls opening.sequence opening.saved opening.state rans ordered now)
+      → CrashesBehind tells clock image_at faults snap tries script was decls opening rans ordered now
       → StandsThroughReads (at_now tells clock image_at faults snap tries script was now) script.decls ordered opening rans
   stopped_reading opening rans ordered decls now begins same whole crashes later reads =
       stopped_through opening rans ordered decls later begins same (whole_read reads whole)
-      (λ found from told rest here. crashes_read whole reads (crashes found from told rest here))
+      (λ found from reading is told rest here. crashes_read whole reads (crashes found from reading is told rest here))
 
   -- the log files and pages of the rounds so far
   runs_over : (r : RuntimeState) (count : ℕ) (before now : Vault D)
       (so : RanSoFar tells clock image_at faults snap tries script was r count before)
       → KeepsPages (at_now tells clock image_at faults snap tries script was now) (words_of r.store.pages) so.rans
-      → RunsOver (at_now tells clock image_at faults snap tries script was now) snap script.decls so.opening.state so.opening.saved
+      → RunsOverFiles (at_now tells clock image_at faults snap tries script was now) snap script.decls so.opening.state so.opening.saved
       so.run.ordered so.rans
   runs_over r count before now so pages = record {
     words = so.over.words;
@@ -265,7 +291,7 @@ module _ {D : Type 0} (tells : D → Option Bytes) (clock : D → ℕ) (image_at
       → (s.save.down ≡ None) × (s.store.sound ≡ true) = λ quiet. elim quiet [
         | inl none ↦ (m.up none, m.sound none)
         | inr on ↦
-            let calm = goes_on_quiet ran (last_has GoesOn so.rans ran on) in (m.up_quiet calm, m.sound_quiet calm)
+            let calm = goes_on_quiet ran (last_has RunGoesOn so.rans ran on) in (m.up_quiet calm, m.sound_quiet calm)
       ] in
       record {
         rans = so.rans ++ ran ∷ [];
@@ -276,8 +302,11 @@ module _ {D : Type 0} (tells : D → Option Bytes) (clock : D → ℕ) (image_at
         comes = comes;
         caused = m.caused;
         full = λ found told.
-            all_push (AreFull script.decls so.opening.state m.run.ordered) so.rans ran
-            (all_none_full script.decls so.opening.state m.run.ordered so.rans so.went_on) (m.full found told);
+            all_push (FilesFound script.decls so.opening.state m.run.ordered) so.rans ran
+            (all_none_full script.decls so.opening.state m.run.ordered so.rans so.went_on) (record {
+              full = m.full found told;
+              undamaged = none_damaged ran.damaged (λ damage is. m.untold damage is found told);
+            });
         history = m.history;
         files = m.files (λ quiet some.
             let up = unbroken_up quiet in
@@ -361,7 +390,7 @@ module _ {D : Type 0} (tells : D → Option Bytes) (clock : D → ℕ) (image_at
       (so : RanSoFar tells clock image_at faults snap tries script was r count before) (ran : Ran)
       → (m : RanOneMore tells clock image_at faults snap tries script was s now so.opening so.rans ran) → (end : Option End) → end_of ran ≡ end
       → RunComes (at_now tells clock image_at faults snap tries script was now) snap script so.opening (so.rans ++ ran ∷ []) (ending_after end)
-  comes_after r s count before now so ran m None is = inl (all_push GoesOn so.rans ran so.went_on is, inr so.begins)
+  comes_after r s count before now so ran m None is = inl (all_push RunGoesOn so.rans ran so.went_on is, inr so.begins)
   comes_after r s count before now so ran m (Some e) is = comes_at r s count before now so ran m e is (end_tells ran e m.own m.most is)
 
   after_not_finished : (end : Option End) → ending_after end ≡ Finished → ⊥
@@ -424,14 +453,14 @@ module _ {D : Type 0} (tells : D → Option Bytes) (clock : D → ℕ) (image_at
           declared = λ some sound. declares so.opening so.rans so.run.ordered r.stands.decls now (words_of r.store.pages) (count_of r.save.newest) so.same keeps;
           whole = λ finished. kept_all script so.opening.state so.opening.saved so.rans r.stands.state so.run (all_last so.rans so.caused.durable so.went_on);
           stops = stopped_through so.opening so.rans so.run.ordered r.stands.decls now so.begins so.same so.stands.whole
-              (λ found from told rest here. (so.crashes found from told rest here).kept);
+              (crashes_so r count now so);
           through_reads = λ some. stopped_reading so.opening so.rans so.run.ordered r.stands.decls now so.begins so.same so.stands.whole
-              (λ found from told rest here. (so.crashes found from told rest here).kept);
+              (crashes_so r count now so);
         };
         shown = shown;
       }
     where
-      all_last : (rans : List Ran) → AllByRecursion IsDurable rans → AllByRecursion GoesOn rans → AllByRecursion IsLasting rans
+      all_last : (rans : List Ran) → AllByRecursion IsDurable rans → AllByRecursion RunGoesOn rans → AllByRecursion IsLasting rans
       all_last [] durable on = tt
       all_last (ran ∷ rans) durable on = (durable.0.lasts on.0, all_last rans durable.1 on.1)
 
@@ -471,10 +500,12 @@ module _ {D : Type 0} (tells : D → Option Bytes) (clock : D → ℕ) (image_at
           whole = λ finished. absurd (memory_not_finished finished);
           stops = stopped_through so.opening so.rans so.run.ordered r.stands.decls now so.begins so.same
               (whole_room room so.stands.whole)
-              (λ found from told rest here. crashes_room room (so.crashes found from told rest here).kept);
+              (λ found from reading is told rest here. crashes_room room
+              (crashes_so r count before so found from reading is told rest here));
           through_reads = λ some. stopped_reading so.opening so.rans so.run.ordered r.stands.decls now so.begins so.same
               (whole_room room so.stands.whole)
-              (λ found from told rest here. crashes_room room (so.crashes found from told rest here).kept);
+              (λ found from reading is told rest here. crashes_room room
+              (crashes_so r count before so found from reading is told rest here));
         };
         shown = shown;
       }
@@ -517,9 +548,9 @@ module _ {D : Type 0} (tells : D → Option Bytes) (clock : D → ℕ) (image_at
           declared = λ some sound. declares so.opening so.rans so.run.ordered r.stands.decls now (words_of r.store.pages) (count_of r.save.newest) so.same keeps;
           whole = λ finished. absurd (memory_not_finished finished);
           stops = stopped_through so.opening so.rans so.run.ordered r.stands.decls now so.begins so.same leaves.stands.whole
-              (λ found from told rest here. crashes_stopped (so.crashes found from told rest here) stop leaves carries);
+              (crashes_behind r s count before now round so stop leaves carries);
           through_reads = λ some. stopped_reading so.opening so.rans so.run.ordered r.stands.decls now so.begins so.same leaves.stands.whole
-              (λ found from told rest here. crashes_stopped (so.crashes found from told rest here) stop leaves carries);
+              (crashes_behind r s count before now round so stop leaves carries);
         };
         shown = shown;
       }

@@ -2,19 +2,21 @@
 use Rattle.std.proofs.Common.{◌≡◌, ◌∙◌, ap, sym, subst, ℕ, List, length}
 use Rattle.std.specs.Prelude.{◌/◌, ◌%◌, ◌==◌, if◌then◌else◌, slice_get}
 use mathlib.Core.Path.{fun_ext}
-use Rattle.outside.specs.Vault.{IsWhole, disk_in}
-use Rattle.outside.specs.declared.vault.Device.TheVariants.{Bank}
-use Rattle.outside.specs.declared.vault.Tie.{Tie}
-use Rattle.outside.specs.declared.vault.Vault.{Vault}
-use Rattle.recovery_core.specs.JointCrash.{Moments, Parts, parts_of}
+use Rattle.log_writer.specs.Vault.{IsWhole, disk_in}
+use Rattle.outside.specs.declared.device.Device.TheVariants.{Bank}
+use Rattle.log_writer.specs.declared.records.Tie.{Tie}
+use Rattle.log_writer.specs.declared.vault.Vault.{Vault}
+use Rattle.joint_crashes.specs.JointCrash.{Moments, Parts, parts_of}
+use Rattle.recovery_core.specs.Recoverable.{Reading}
 use Rattle.serial_model.specs.History.{Entry}
 use Rattle.serial_model.specs.State.{State}
 use Rattle.serial_model.specs.declared.decl.Decl.{Decl}
 use Rattle.tx_script.specs.Run.{Ran}
-use Rattle.recovery_core.specs.JointCrash.{CrashesNow}
-use Rattle.recovery_core.specs.Story.{IsTold}
+use Rattle.joint_crashes.specs.JointCrash.{CrashesNow}
+use Rattle.joint_crashes.specs.Story.{IsTold}
 use Rattle.round_engine.specs.Crashes.{StaysReady}
 use Rattle.round_engine.specs.Unbegun.{RoomAlone}
+use Rattle.program_calls.specs.Main.{RecordsOf}
 use Rattle.program_calls.proofs.CrashesKept.{CrashesKept, StoredAt}
 
 module _ {D : Type 0} {before now : Vault D} (room : RoomAlone before now) where
@@ -46,11 +48,11 @@ module _ {D : Type 0} {before now : Vault D} (room : RoomAlone before now) where
       ∙ ap (λ x. record (parts_of before) { banks = x }) (fun_ext same_bank)
 
   -- what is known of crashes is known still
-  pub crashes_room : {clock : D → ℕ} {image_at : D → ℕ → List ℕ → Type 0} {from : Moments} {decls : List Decl}
-      {settled saved : ℕ} {s : State} {rans : List Ran} {ordered : List Entry}
-      → CrashesKept clock image_at from decls settled saved s rans ordered before
-      → CrashesKept clock image_at from decls settled saved s rans ordered now
-  crashes_room {clock = clock} {image_at = image_at} {from = from} {settled = settled} kept = record {
+  pub crashes_room : {clock : D → ℕ} {image_at : D → ℕ → List ℕ → Type 0} {from : Moments} {was : Reading}
+      {decls : List Decl} {settled saved : ℕ} {s : State} {rans : List Ran} {ordered : List Entry}
+      → CrashesKept clock image_at from was decls settled saved s rans ordered before
+      → CrashesKept clock image_at from was decls settled saved s rans ordered now
+  crashes_room {clock = clock} {image_at = image_at} {from = from} {settled = settled} {rans = rans} kept = record {
     story = kept.story;
     low = kept.low;
     high = kept.high;
@@ -60,4 +62,5 @@ module _ {D : Type 0} {before now : Vault D} (room : RoomAlone before now) where
     instant = subst (λ (p : Parts D). CrashesNow clock image_at p) (sym parts_room) kept.instant;
     stored = λ i epoch at. subst (λ (ties : List Tie). StoredAt kept.story ties settled kept.high i epoch) (sym room.ties)
         (kept.stored i epoch at);
+    recorded = subst (λ (ties : List Tie). RecordsOf settled rans ties) (sym room.ties) kept.recorded;
   }

@@ -5,16 +5,16 @@ use Rattle.std.specs.Prelude.{IsSome, is_some, map, option_to_list}
 use Rattle.std.specs.List.{AllByRecursion}
 use Rattle.std.proofs.lemmas.List.{append-nil, length-append, length-map}
 use Rattle.lists.specs.Each.{all_append, all_weaker}
-use Rattle.outside.specs.declared.vault.Vault.{Vault}
+use Rattle.log_writer.specs.declared.vault.Vault.{Vault}
 use Rattle.serial_model.specs.declared.decl.Decl.{Decl}
 use Rattle.serial_model.specs.declared.number.Commit.{Commit}
 use Rattle.wire_form.specs.declared.savepoint.Savepoint.{Savepoint}
 use Rattle.log_writer.specs.Points.{point_of, sequence_of}
 use Rattle.log_writer.specs.declared.saved.Saved.{Saved}
-use Rattle.recovery_core.specs.Images.{count_of}
-use Rattle.recovery_core.specs.SettleLaws.{point_says}
+use Rattle.joint_crashes.specs.Images.{count_of}
+use Rattle.checkpoints.specs.SettleLaws.{point_says}
 use Rattle.recovery_core.specs.declared.recovered.Recovered.{Recovered}
-use Rattle.recovery_core.specs.declared.settlement.Settled.{Settled}
+use Rattle.checkpoints.specs.declared.without_entries.Settled.{Settled}
 use Rattle.checkpoints.specs.SettlesInto.{SettlesInto}
 use Rattle.worker_logs.specs.declared.savepoints.Beside.{Beside}
 use Rattle.tx_script.specs.Run.{Ran}

@@ -8,14 +8,14 @@ use Rattle.std.proofs.lemmas.Bool.{cases_Bool}
 use Rattle.std.proofs.lemmas.List.{length-map}
 use Rattle.std.proofs.lemmas.List.Elements.{filter-append}
 use Rattle.lists.specs.Each.{all_weaker}
-use Rattle.outside.specs.declared.vault.Vault.{Vault}
+use Rattle.log_writer.specs.declared.vault.Vault.{Vault}
 use Rattle.serial_model.specs.History.{Entry, state_after_all}
 use Rattle.serial_model.specs.State.{State}
 use Rattle.serial_model.specs.declared.decl.Decl.{Decl}
 use Rattle.serial_model.specs.declared.number.Commit.{Commit}
 use Rattle.script_grammar.specs.Script.{Round}
 use Rattle.wire_form.specs.LogFile.{IsLineOf, lines_bytes}
-use Rattle.recovery_core.specs.Images.{Images}
+use Rattle.joint_crashes.specs.Images.{Images}
 use Rattle.tx_script.specs.Run.{LogFiles, LogFull, Ran}
 use Rattle.worker_logs.specs.Logs.{LogState, reset_log}
 use Rattle.round_engine.specs.Changes.{AreLogged}

@@ -1,6 +1,6 @@
 -- From the snapshots that a settling left to those that devices have later.
 use Rattle.std.proofs.Common.{◌≡◌, ◌⊎◌, ◌∙◌, inl, inr, refl, sym, ap, subst, ℕ, zero, suc, ◌+◌, ◌<◌, ◌≤◌, true, false}
-use Rattle.std.proofs.Common.{arith, List, [], ◌∷◌, Option, Some, None}
+use Rattle.std.proofs.Common.{arith, List, [], ◌∷◌, ◌++◌, Option, Some, None}
 use Rattle.std.specs.Prelude.{filter}
 use Rattle.std.specs.FinMap.{get}
 use Rattle.std.specs.List.{AllByRecursion, Contains}
@@ -20,14 +20,15 @@ use Rattle.snapshot_store.specs.Places.{StandsTo, places_below}
 use Rattle.snapshot_store.specs.Content.{IsContent, IsPageOf, RootStands, deepest, format_of, record_in, root_place}
 use Rattle.snapshot_store.specs.Content.{value_at}
 use Rattle.recovery_core.specs.Catalogues.{AreCatalogues, newest_epoch, newest_storages}
-use Rattle.recovery_core.specs.Images.{Images, epoch_of}
+use Rattle.joint_crashes.specs.Images.{Images, epoch_of}
 use Rattle.recovery_core.specs.LogEntries.{counts, last_of, logged}
 use Rattle.recovery_core.specs.Recoverable.{IsReading, IsRecoverable, IsStateOf, Reading, ReadsBy, value_over}
 use Rattle.recovery_core.specs.RecoverableLaws.{one_reading}
 use Rattle.recovery_core.specs.Recovered.{catalogue_of}
 use Rattle.recovery_core.specs.SnapshotPages.{IsPageUpTo, RootStandsUpTo}
-use Rattle.checkpoints.specs.SnapshotsKept.{KeepsSnapshots}
+use Rattle.recovery_core.specs.SnapshotsKept.{KeepsSnapshots, StandsAsRead}
 use Rattle.program_calls.specs.Snapshots.{EachSnapshot, HasContent}
+use Rattle.program_calls.proofs.KeptEpochs.{as_of-more}
 use Rattle.program_calls.proofs.KeptThrough.{one_kept}
 use Rattle.program_calls.proofs.SnapshotsFound.{epoch_below}
 
@@ -179,7 +180,7 @@ module _ (decls : List Decl) (commits : List Entry) (was now : Reading) (epoch :
         record { stands = newest_stands now c last newest; content = made.1 }
   ]
 
-  each_kept : EachSnapshot was now epoch state decls commits
+  pub each_kept : EachSnapshot was now epoch state decls commits
   each_kept = record {
     newer = λ c has later. absurd (omega (arith, later, now_most c has));
     kept = of_kept;
@@ -192,6 +193,36 @@ module _ (decls : List Decl) (commits : List Entry) (was now : Reading) (epoch :
         let still = keeps.content c s has content.stands content.content in
         record { stands = still.0; content = still.1 };
   }
+
+-- So it is with what a stop leaves that stands for what was read.
+pub each_left : (decls : List Decl) (commits : List Entry) (found left : Images) (epoch : ℕ) (state : State)
+    (before : IsRecoverable found epoch state) → StandsAsRead before.reading left epoch state → (now : Reading)
+    → IsReading left now → EachSnapshot before.reading now epoch state decls commits
+each_left decls commits found left epoch state before stands now is =
+    subst (λ r. EachSnapshot before.reading r epoch state decls commits)
+    (one_reading left stands.is.reading now stands.is.is is)
+    (each_kept decls commits before.reading stands.is.reading epoch state (chained found before.reading before.is)
+    (chained left stands.is.reading stands.is.is) before.epoch_is before.state_is stands.keeps)
+
+-- More was run, later than what was saved: each snapshot is as it was.
+pub each_more : (was now : Reading) (saved : ℕ) (s : State) (decls : List Decl) (ordered more : List Entry)
+    (left : Images) (epoch : ℕ) → IsReading left now → epoch_of now.point ≤ epoch
+    → AllByRecursion (λ e. epoch < e.number.epoch) more → EachSnapshot was now saved s decls ordered
+    → EachSnapshot was now saved s decls (ordered ++ more)
+each_more was now saved s decls ordered more left epoch is within later each = record {
+  newer = λ c has above. subst (HasContent now c)
+      (sym (as_of-more decls s ordered more c.epoch (all_weaker (λ (e : Entry). epoch < e.number.epoch)
+      (λ (e : Entry). c.epoch < e.number.epoch) (λ e past. omega (arith, past, within, most c has)) more later)))
+      (each.newer c has above);
+  kept = each.kept;
+  older = each.older;
+  stays = each.stays;
+  as_was = each.as_was;
+}
+  where
+    most : (c : Contents) → Contains now.catalogues c → c.epoch < epoch_of now.point + 1
+    most c has = epoch_below now.pages (epoch_of now.point + 1) None (catalogue_of now.point) now.catalogues c
+        (chained left now is).chain has
 
 -- What holds of one reading of the devices before and of one of them now holds of any.
 pub each_told : (decls : List Decl) (commits : List Entry) (found now : Images) (was is : Reading) (saved : ℕ)

@@ -7,10 +7,10 @@ use Rattle.std.proofs.lemmas.List.{length-map}
 use Rattle.std.proofs.lemmas.List.Sorted.{IsPermutation-refl}
 use Rattle.lists.specs.Each.{all_push, all_weaker}
 use Rattle.lists.specs.Elements.{in_none}
-use Rattle.outside.specs.Vault.{IsWhole}
-use Rattle.outside.specs.declared.vault.Device.{Device}
-use Rattle.outside.specs.declared.vault.Device.TheVariants.{Save, Snaps}
-use Rattle.outside.specs.declared.vault.Vault.{Vault}
+use Rattle.log_writer.specs.Vault.{IsWhole}
+use Rattle.outside.specs.declared.device.Device.{Device}
+use Rattle.outside.specs.declared.device.Device.TheVariants.{Save, Snaps}
+use Rattle.log_writer.specs.declared.vault.Vault.{Vault}
 use Rattle.serial_model.specs.History.{Entry, EpochsNeverFall, Rises, state_after_all}
 use Rattle.serial_model.specs.Numbers.{last_epoch}
 use Rattle.serial_model.specs.State.{State}
@@ -21,12 +21,14 @@ use Rattle.script_grammar.specs.Script.{Bytes, Round, Script}
 use Rattle.wire_form.specs.declared.page.Page.{Page}
 use Rattle.log_writer.specs.Points.{sequence_of}
 use Rattle.snapshot_store.specs.Content.{words_of}
-use Rattle.recovery_core.specs.Images.{Images, count_of}
-use Rattle.recovery_core.specs.JointCrash.{IsNow, Moments, parts_of}
-use Rattle.recovery_core.specs.Resting.{AreTold, IsResting}
+use Rattle.joint_crashes.specs.Images.{Images, count_of}
+use Rattle.joint_crashes.specs.JointCrash.{IsNow, Moments, parts_of}
+use Rattle.recovery_core.specs.Recoverable.{IsReading, Reading}
+use Rattle.recovery_core.specs.RecoverableLaws.{one_reading}
+use Rattle.joint_crashes.specs.Resting.{AreTold, IsResting}
 use Rattle.recovery_core.specs.Recovered.{recovers_state}
-use Rattle.recovery_core.specs.VaultReads.{AreQuiet}
-use Rattle.recovery_core.specs.declared.settlement.Settled.{Settled}
+use Rattle.joint_crashes.specs.VaultReads.{AreQuiet}
+use Rattle.checkpoints.specs.declared.without_entries.Settled.{Settled}
 use Rattle.worker_logs.specs.Saves.{CountsOf}
 use Rattle.worker_logs.specs.declared.savepoints.Side.TheVariants.{Even}
 use Rattle.serial_model.specs.declared.decl.Decl.TheVariants.{Tree}
@@ -45,12 +47,13 @@ use Rattle.round_engine.specs.Standing.{IsReady, RuntimeState, StandsOn, files_o
 use Rattle.round_engine.specs.Swaps.{since_swap}
 use Rattle.round_engine.specs.declared.report.Report.{Report}
 use Rattle.program_calls.specs.Beginning.{MayBegin, Opening, SameDecls}
-use Rattle.program_calls.specs.Ending.{GoesOn}
-use Rattle.program_calls.specs.Main.{AreCaused, AreFull, ComeFromWords, IsDurable}
+use Rattle.program_calls.specs.Ending.{RunGoesOn}
+use Rattle.program_calls.specs.Main.{AreRoundsCaused, AreFull, ComeFromWords, IsDurable}
 use Rattle.program_calls.specs.OnTheWay.{BeginsRun}
-use Rattle.program_calls.specs.RanOver.{BeginsOver, BeginsWith, FilesAt, IsUnbroken, KeepsPages, RunsOver, files_after}
+use Rattle.program_calls.specs.RanOver.{BeginsOver, BeginsWith, FilesAt, IsUnbroken, KeepsPages, RunsOverFiles, files_after}
 use Rattle.program_calls.specs.RanOver.{files_before}
 use Rattle.program_calls.specs.Vaults.{NoneFailed, Vaults, vaults_of}
+use Rattle.program_calls.proofs.RecordsKept.{begun_records}
 use Rattle.program_calls.proofs.Begins.{begins_with, may_begin, settled_stored}
 use Rattle.program_calls.specs.EndLaws.{goes_on_quiet}
 use Rattle.program_calls.proofs.KeptOver.{AllTell, OverFrom, behind_parts, files_from, files_then, log_of_parts, logged_later}
@@ -96,14 +99,15 @@ module _ {D : Type 0} (tells : D → Option Bytes) (clock : D → ℕ) (image_at
   CrashesAt decls opening rans ordered r now kept = (found : Images) (from : Moments)
       (told : AreTold tells (parts_of was) found) → IsResting clock image_at (parts_of was)
       → IsNow clock image_at (parts_of was) from
-      → KeptBefore tells clock image_at from decls opening.sequence opening.saved opening.state rans ordered
-      (kept found told).commits (kept found told).gone r now
+      → KeptBefore tells clock image_at from (kept found told).was.reading decls opening.sequence opening.saved
+      opening.state rans ordered (kept found told).commits (kept found told).gone r now
 
   -- the same behind a round that may have ended the run
   abbrev pub CrashesBehind : List Decl → Opening → List Ran → List Entry → Vault D → Type 0
-  CrashesBehind decls opening rans ordered now = (found : Images) (from : Moments) → AreTold tells (parts_of was) found
+  CrashesBehind decls opening rans ordered now = (found : Images) (from : Moments) (reading : Reading)
+      → IsReading found reading → AreTold tells (parts_of was) found
       → IsResting clock image_at (parts_of was) → IsNow clock image_at (parts_of was) from
-      → CrashesKept clock image_at from decls opening.sequence opening.saved opening.state rans ordered now
+      → CrashesKept clock image_at from reading decls opening.sequence opening.saved opening.state rans ordered now
 
   -- the vault of the call, as it is now
   abbrev pub at_now : Vault D → Vaults D
@@ -154,8 +158,8 @@ module _ {D : Type 0} (tells : D → Option Bytes) (clock : D → ℕ) (image_at
     pub same : SameDecls script.decls r.stands.decls
     pub run : IsScriptRun script opening.state opening.saved rans r.stands.state
     pub begins : BeginsAt opening
-    pub caused : AreCaused tries script.decls script.rounds opening.sequence rans
-    pub went_on : AllByRecursion GoesOn rans
+    pub caused : AreRoundsCaused tries script.decls script.rounds opening.sequence rans
+    pub went_on : AllByRecursion RunGoesOn rans
     pub clock_is : r.stands.clock ≡ clock_from (clock_after opening.saved) rans
     pub sequence : sequence_of r.save.newest ≡ sequence_after opening.sequence rans
     pub unended : r.stands.ended ≡ false
@@ -175,7 +179,7 @@ module _ {D : Type 0} (tells : D → Option Bytes) (clock : D → ℕ) (image_at
   pub record RanOneMore (r : RuntimeState) (now : Vault D) (opening : Opening) (before : List Ran) (ran : Ran) : Type 0 where
     pub same : SameDecls script.decls r.stands.decls
     pub run : IsScriptRun script opening.state opening.saved (before ++ ran ∷ []) r.stands.state
-    pub caused : AreCaused tries script.decls script.rounds opening.sequence (before ++ ran ∷ [])
+    pub caused : AreRoundsCaused tries script.decls script.rounds opening.sequence (before ++ ran ∷ [])
     pub own : AllCaused ran
     pub sequence : sequence_of r.save.newest ≡ sequence_after opening.sequence (before ++ ran ∷ [])
     pub most : ran.end.epoch ≤ last_epoch
@@ -195,7 +199,7 @@ module _ {D : Type 0} (tells : D → Option Bytes) (clock : D → ℕ) (image_at
     pub words_are : r.store.sound ≡ true → words ≡ words_of r.store.pages
     pub files : (IsUnbroken (at_now now) (before ++ ran ∷ []) → (before ++ ran ∷ [] ≡ [] → ⊥)
         → KeepsPages (at_now now) words (before ++ ran ∷ []))
-        → RunsOver (at_now now) snap script.decls opening.state opening.saved run.ordered (before ++ ran ∷ [])
+        → RunsOverFiles (at_now now) snap script.decls opening.state opening.saved run.ordered (before ++ ran ∷ [])
     pub paged : IsSome ran.durable → r.save.down ≡ None → r.store.sound ≡ true → (found : Images)
         → AreTold tells (parts_of was) found → count_of r.save.newest ≡ length r.store.pages
     pub least : (found : Images) → AreTold tells (parts_of was) found
@@ -292,15 +296,19 @@ module _ {D : Type 0} (tells : D → Option Bytes) (clock : D → ℕ) (image_at
             let n = next found told in
             let own = one.lines.run (length so.rans) in
             let of = of_round own in
-            subst (λ (f : ℕ → List Commit). KeptBefore tells clock image_at from r.stands.decls so.opening.sequence so.opening.saved
-            so.opening.state (so.rans ++ ran ∷ []) (so.run.ordered ++ own.ordered) f n.0.gone s now) (sym n.1)
-            (subst (λ (f : ℕ → List Commit). KeptBefore tells clock image_at from r.stands.decls so.opening.sequence
-            so.opening.saved so.opening.state (so.rans ++ ran ∷ []) (so.run.ordered ++ own.ordered)
+            subst (λ (x : Reading). KeptBefore tells clock image_at from x r.stands.decls so.opening.sequence so.opening.saved
+            so.opening.state (so.rans ++ ran ∷ []) (so.run.ordered ++ own.ordered) n.0.commits n.0.gone s now)
+            (one_reading found k.was.reading n.0.was.reading k.was.is n.0.was.is)
+            (subst (λ (f : ℕ → List Commit). KeptBefore tells clock image_at from k.was.reading r.stands.decls
+            so.opening.sequence so.opening.saved so.opening.state (so.rans ++ ran ∷ []) (so.run.ordered ++ own.ordered) f
+            n.0.gone s now) (sym n.1)
+            (subst (λ (f : ℕ → List Commit). KeptBefore tells clock image_at from k.was.reading r.stands.decls
+            so.opening.sequence so.opening.saved so.opening.state (so.rans ++ ran ∷ []) (so.run.ordered ++ own.ordered)
             (since_swap (swaps ran) (λ w. k.commits w ++ one.logged w)) f s now) (sym n.2)
             (ready_more own.ordered k.parts so.stands refl
             (own_logged k so.stands refl state_is so.unended one leaves (length so.rans) rises falls) one.lines.lines_are
             of.workers of.later one.lines.caused one.begins.files leaves rises falls (so.crashes found from told rest here) carries up
-            sound done)),
+            sound done))),
       )
 
   -- a round more was run
@@ -335,16 +343,19 @@ module _ {D : Type 0} (tells : D → Option Bytes) (clock : D → ℕ) (image_at
       (subst (λ ds. KeptSoFar tells clock image_at found ds so.opening.state so.opening.saved (so.rans ++ one.ran ∷ []) (so.run.ordered ++ own.ordered) s now) (sym one.lines.decls)
       (kept_more (so.kept found told) so.stands refl state_is so.unended one leaves sound (length so.rans) rises falls).0) in
       let more = over_one r s count before now round report so one leaves state_is rises falls in
-      let crashes : CrashesBehind s.stands.decls so.opening (so.rans ++ one.ran ∷ []) pushed.0.ordered now = λ found from told rest here.
-      subst (λ l. CrashesKept clock image_at from s.stands.decls so.opening.sequence so.opening.saved so.opening.state
+      let crashes : CrashesBehind s.stands.decls so.opening (so.rans ++ one.ran ∷ []) pushed.0.ordered now = λ found from reading is told rest here.
+      subst (λ l. CrashesKept clock image_at from reading s.stands.decls so.opening.sequence so.opening.saved so.opening.state
       (so.rans ++ one.ran ∷ []) l now) (sym all)
-      (subst (λ ds. CrashesKept clock image_at from ds so.opening.sequence so.opening.saved so.opening.state
+      (subst (λ ds. CrashesKept clock image_at from reading ds so.opening.sequence so.opening.saved so.opening.state
       (so.rans ++ one.ran ∷ []) (so.run.ordered ++ own.ordered) now) (sym one.lines.decls)
       (let k = so.kept found told in
       let of = of_round own in
-      crashes_more own.ordered k.parts so.stands refl
+      subst (λ (x : Reading). CrashesKept clock image_at from x r.stands.decls so.opening.sequence so.opening.saved
+      so.opening.state (so.rans ++ one.ran ∷ []) (so.run.ordered ++ own.ordered) now)
+      (one_reading found k.was.reading reading k.was.is is)
+      (crashes_more own.ordered k.parts so.stands refl
       (own_logged k so.stands refl state_is so.unended one leaves (length so.rans) rises falls) one.lines.lines_are of.workers of.later
-      one.lines.caused one.begins.files leaves rises falls (so.crashes found from told rest here) carries)) in
+      one.lines.caused one.begins.files leaves rises falls (so.crashes found from told rest here) carries))) in
       let commits = entries_of-push 0 so.rans one.ran script.rounds round at_index so.run.lines in
       let on_words : are_arrays s.stands.decls so.opening.state ≡ true → SharesWords s.stands
       × ComeFrom s.stands.decls (entries_of 0 (so.rans ++ one.ran ∷ []) script.rounds) s.stands.mine = λ arrays.
@@ -454,7 +465,7 @@ module _ {D : Type 0} (tells : D → Option Bytes) (clock : D → ℕ) (image_at
       let begins : BeginsAt opening = λ found told.
       may_begin snap script.decls found b.recovered opening stored.0 (b.recovers found told) b.up.saved b.has b.fits b.sequence
       b.settles.state b.settles.epoch stored.1 stored.2 in
-      let start : RuntimeState = begun settled.decls settled.state settled.save settled.store snap (clock_after settled.saved.epoch) in
+      let start : RuntimeState = begun settled.decls settled.state r.stands.opening settled.save settled.store snap (clock_after settled.saved.epoch) in
       let kept = λ (found : Images) (told : AreTold tells (parts_of was) found).
       let logs = b.logs_told found told in
       kept_begins found snap start b.settles (b.told found told) (b.recovers found told) b.snapshots refl b.pages_whole b.pages_fit
@@ -504,18 +515,22 @@ module _ {D : Type 0} (tells : D → Option Bytes) (clock : D → ℕ) (image_at
               let k = kept found told in
               let left = left_since reads_told now found b.whole_between goes.3 b.empty between goes.4
               (recovers_state found b.recovered recovered) goes.2 in
-              subst (λ (f : ℕ → List Commit). KeptBefore tells clock image_at from settled.decls opening.sequence opening.saved
-              opening.state [] [] f k.0.gone start now) (sym k.2)
-              (subst (λ (f : ℕ → List Commit). KeptBefore tells clock image_at from settled.decls opening.sequence opening.saved
-              opening.state [] [] (λ w. []) f start now) (sym k.3)
-              (subst (λ e. KeptBefore tells clock image_at from settled.decls opening.sequence e opening.state [] [] (λ w. [])
-              (λ w. []) start now) (sym b.settles.epoch)
-              (subst (λ (t : State). KeptBefore tells clock image_at from settled.decls opening.sequence b.recovered.epoch t [] []
-              (λ w. []) (λ w. []) start now) (sym b.settles.state)
-              (crashes_begin reads_told b.recovered settled found b.up b.settles between recovered goes.0 left b.pages_whole snap
-              (clock_after settled.saved.epoch) start refl b.settles.epoch goes.1
+              subst (λ (x : Reading). KeptBefore tells clock image_at from x settled.decls opening.sequence opening.saved
+              opening.state [] [] k.0.commits k.0.gone start now)
+              (one_reading found recovered.reading k.0.was.reading recovered.is k.0.was.is)
+              (subst (λ (f : ℕ → List Commit). KeptBefore tells clock image_at from recovered.reading settled.decls
+              opening.sequence opening.saved opening.state [] [] f k.0.gone start now) (sym k.2)
+              (subst (λ (f : ℕ → List Commit). KeptBefore tells clock image_at from recovered.reading settled.decls
+              opening.sequence opening.saved opening.state [] [] (λ w. []) f start now) (sym k.3)
+              (subst (λ e. KeptBefore tells clock image_at from recovered.reading settled.decls opening.sequence e opening.state
+              [] [] (λ w. []) (λ w. []) start now) (sym b.settles.epoch)
+              (subst (λ (t : State). KeptBefore tells clock image_at from recovered.reading settled.decls opening.sequence
+              b.recovered.epoch t [] [] (λ w. []) (λ w. []) start now) (sym b.settles.state)
+              (crashes_begin reads_told b.recovered settled found b.up b.settles between recovered goes.0 left b.pages_whole
+              (begun_records b.recovered settled b.settles.follows b.records b.empty.ties) snap
+              (clock_after settled.saved.epoch) start refl b.settles.epoch refl refl goes.1
               (subst (λ (x : RuntimeState). AreLogs tells clock image_at (λ worker. []) (λ worker. []) x now) b.begins logs.0)
-              (subst (λ (x : RuntimeState). AreClosedFiles tells clock image_at (λ worker. []) (λ worker. []) x now) b.begins logs.1)))));
+              (subst (λ (x : RuntimeState). AreClosedFiles tells clock image_at (λ worker. []) (λ worker. []) x now) b.begins logs.1))))));
         },
         refl,
       )
@@ -530,7 +545,7 @@ module _ {D : Type 0} (tells : D → Option Bytes) (clock : D → ℕ) (image_at
       → report.end ≡ None → (then : RanSoFar s (count + 1) now) × (then.rans ≡ so.rans ++ one.ran ∷ [])
   goes_on r s count before now round report so at one leaves carries none =
       let m = one_more r s count before now round report so at one leaves carries in
-      let goes : GoesOn one.ran = sym one.reports.end ∙ none in
+      let goes : RunGoesOn one.ran = sym one.reports.end ∙ none in
       let joined_on = joined_where_none one.ran one.lines.caused goes in
       let clock_joined : s.stands.clock ≡ joined one.ran.end =
       one.clock ∙ ap (λ epoch. record { epoch = epoch; draw = one.ran.end.draw }) joined_on.epoch in
@@ -553,7 +568,7 @@ module _ {D : Type 0} (tells : D → Option Bytes) (clock : D → ℕ) (image_at
           run = m.run;
           begins = so.begins;
           caused = m.caused;
-          went_on = all_push GoesOn so.rans one.ran so.went_on goes;
+          went_on = all_push RunGoesOn so.rans one.ran so.went_on goes;
           clock_is = clock_joined ∙ sym (clock_from-push (clock_after so.opening.saved) so.rans one.ran);
           sequence = m.sequence;
           unended = one.ended ∙ ap is_some none;

@@ -1,16 +1,16 @@
 -- A vault that tells what it told stands for what it stood for, and has the snapshots that it had.
 use Rattle.std.proofs.Common.{sym, subst, refl, ℕ, []}
-use Rattle.outside.specs.Vault.{IsWhole}
+use Rattle.log_writer.specs.Vault.{IsWhole}
 use Rattle.serial_model.specs.declared.decl.Decl.{Decl}
 use Rattle.std.specs.Prelude.{List}
-use Rattle.recovery_core.specs.JointCrash.{parts_of}
-use Rattle.recovery_core.specs.Resting.{AreTold}
+use Rattle.joint_crashes.specs.JointCrash.{parts_of}
+use Rattle.joint_crashes.specs.Resting.{AreTold}
 use Rattle.serial_model.specs.History.{Entry}
 use Rattle.serial_model.specs.State.{State}
 use Rattle.recovery_core.specs.Recoverable.{Reading}
 use Rattle.round_engine.specs.Histories.{none_come}
 use Rattle.program_calls.specs.Main.{ComeFromWords, HasEachSnapshot, StandsThrough}
-use Rattle.program_calls.specs.RanOver.{RunsOver, files_before}
+use Rattle.program_calls.specs.RanOver.{RunsOverFiles, files_before}
 use Rattle.program_calls.specs.Vaults.{IsUntouched, TellsTheSame, Vaults}
 use Rattle.program_calls.proofs.KeptEnd.{told_alike, told_reading}
 use Rattle.program_calls.proofs.SnapshotsKept.{each_between, keeps_all}
@@ -44,7 +44,7 @@ module _ {D : Type 0} (v : Vaults D) where
 
 -- no round was over any files
 pub none_over : {D : Type 0} {v : Vaults D} {room : ℕ} {decls : List Decl} {s : State} {saved : ℕ} {commits : List Entry}
-    → RunsOver v room decls s saved commits []
+    → RunsOverFiles v room decls s saved commits []
 none_over {saved = saved} = record {
   words = [];
   begins = λ some. absurd (some refl);

@@ -3,11 +3,11 @@ use Rattle.std.proofs.Common.{◌≡◌, inl, inr, ◌∙◌, sym, ap, subst, re
 use Rattle.std.specs.Prelude.{◌⊎◌, IfOk}
 use Rattle.outside.specs.Faults.{Rose}
 use Rattle.outside.specs.declared.fault.Failed.{Failed}
-use Rattle.outside.specs.declared.vault.Device.{Device}
-use Rattle.outside.specs.declared.vault.Vault.{Vault}
+use Rattle.outside.specs.declared.device.Device.{Device}
+use Rattle.log_writer.specs.declared.vault.Vault.{Vault}
 use Rattle.text_output.specs.Output.{Bytes, Output, Breaks, Prints}
 use Rattle.script_grammar.specs.Script.{Script}
-use Rattle.recovery_core.specs.VaultReads.{AreQuiet, RoseIn}
+use Rattle.joint_crashes.specs.VaultReads.{AreQuiet, RoseIn}
 use Rattle.tx_script.specs.Run.{Ran}
 use Rattle.command_line.specs.Options.{Refuses, command_of}
 use Rattle.command_line.specs.Plain.{AsksForHelp, IsPlain, IsPlainDump, IsPlainMake, IsPlainSnap, IsPlainSnaps}

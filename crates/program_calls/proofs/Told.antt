@@ -13,7 +13,7 @@ use Rattle.command_line.specs.declared.command.Command.{Command}
 use Rattle.program_calls.specs.declared.ending.Ending.{Ending}
 use Rattle.program_calls.specs.declared.ending.Ending.TheVariants.{Finished, NoScript, Shape, Usage, ReadFault, NoDevice, Damaged, AtLimit, NoMemory, NoSnapshot}
 use Rattle.program_calls.specs.Ending.{body_text, last_line, output_text, status_of}
-use Rattle.program_calls.specs.Main.{Answers, Came, Holds, Shown, Streams}
+use Rattle.program_calls.specs.Main.{Answers, Came, SinkHolds, Shown, Streams}
 use Rattle.program_calls.specs.OnTheWay.{AddsRun, Takes, status_told}
 use Rattle.program_calls.specs.Vaults.{Vaults}
 use Rattle.program_calls.proofs.Courses.{shown_as}
@@ -51,7 +51,7 @@ module _ {D : Type 0} (v : Vaults D) where
 -- ---- the answer
 
 -- a whole text, at the status of an ending, which is never 4
-pub holds_all : (ending : Ending) (before after : Option Bytes) (text : Bytes) → Appends before after text → Holds (status_of ending) before after text
+pub holds_all : (ending : Ending) (before after : Option Bytes) (text : Bytes) → Appends before after text → SinkHolds (status_of ending) before after text
 holds_all Finished before after text appends = appends
 holds_all (NoScript fault) before after text appends = appends
 holds_all (Shape declared others) before after text appends = appends
@@ -68,7 +68,7 @@ shows : (command : Command) (streams : Streams) (r : Result Ending Failed) (rans
     → Takes command streams.held streams.holds r rans ending → Shown command streams (status_told r) rans ending
 shows command streams (Ok came) rans ending takes = record {
   status_is = inl (ap status_of (sym takes.0));
-  text = subst (λ (e : Ending). Holds (status_of e) streams.held streams.holds (output_text command rans ending)) takes.0 (holds_all ending streams.held streams.holds (output_text command rans ending) takes.1);
+  text = subst (λ (e : Ending). SinkHolds (status_of e) streams.held streams.holds (output_text command rans ending)) takes.0 (holds_all ending streams.held streams.holds (output_text command rans ending) takes.1);
 }
 shows command streams (Err failed) rans ending takes = record { status_is = inr refl; text = takes }
 

@@ -3,7 +3,7 @@ use Rattle.std.proofs.Common.{◌≡◌, inl, inr, sym, subst, refl, ◌+◌, �
 use Rattle.std.proofs.Common.{Some, None, Ok, Err, arith}
 use Rattle.std.specs.Prelude.{slice_get}
 use Rattle.outside.specs.declared.fault.Failed.{Failed}
-use Rattle.outside.specs.declared.vault.Vault.{Vault}
+use Rattle.log_writer.specs.declared.vault.Vault.{Vault}
 use Rattle.text_output.specs.Output.{Output}
 use Rattle.script_grammar.specs.Script.{Bytes, IsScript, Round, Script}
 use Rattle.tx_script.specs.Draws.{lines_in}

@@ -6,8 +6,8 @@ use Rattle.lists.specs.declared.memory.OrMemory.TheVariants as errors
 use Rattle.serial_model.specs.declared.decl.Decl.{Decl}
 use Rattle.recovery_core.specs.declared.fault.RecoverFault.{RecoverFault}
 use Rattle.recovery_core.specs.declared.fault.RecoverFault.TheVariants as recovers
-use Rattle.recovery_core.specs.declared.fault.SettleFault.{SettleFault}
-use Rattle.recovery_core.specs.declared.fault.SettleFault.TheVariants as settles
+use Rattle.checkpoints.specs.declared.fault.SettleFault.{SettleFault}
+use Rattle.checkpoints.specs.declared.fault.SettleFault.TheVariants as settles
 use Rattle.program_calls.specs.OnTheWay.{AreOther, ending_of_refusal, ending_of_settling}
 use Rattle.program_calls.specs.declared.ending.Ending.{Ending}
 use Rattle.program_calls.specs.declared.ending.Ending.TheVariants.{Finished}

@@ -5,31 +5,31 @@ use Rattle.std.proofs.lemmas.Bool.{cases_lt}
 use Rattle.std.proofs.lemmas.List.{append-nil}
 use Rattle.std.proofs.Common.{ap}
 use Rattle.lists.specs.Elements.{in_none}
-use Rattle.outside.specs.Cuts.{whole_bank, whole_ends}
+use Rattle.log_writer.specs.Cuts.{whole_bank, whole_ends}
 use Rattle.outside.specs.Faults.{Rose}
-use Rattle.outside.specs.Vault.{IsWhole, disk_in}
-use Rattle.outside.specs.declared.vault.Device.{Device}
-use Rattle.outside.specs.declared.vault.Device.TheVariants.{Save, Snaps, Bank}
-use Rattle.outside.specs.declared.vault.Vault.{Vault}
+use Rattle.log_writer.specs.Vault.{IsWhole, disk_in}
+use Rattle.outside.specs.declared.device.Device.{Device}
+use Rattle.outside.specs.declared.device.Device.TheVariants.{Save, Snaps, Bank}
+use Rattle.log_writer.specs.declared.vault.Vault.{Vault}
 use Rattle.std.proofs.lemmas.Option.{same_Some}
-use Rattle.recovery_core.specs.Images.{Images}
-use Rattle.recovery_core.specs.JointCrash.{parts_of}
-use Rattle.recovery_core.specs.Resting.{AreTold}
-use Rattle.recovery_core.specs.VaultReads.{AreQuiet, RoseIn, VaultOnlyReads, some_of}
+use Rattle.joint_crashes.specs.Images.{Images}
+use Rattle.joint_crashes.specs.JointCrash.{parts_of}
+use Rattle.joint_crashes.specs.Resting.{AreTold}
+use Rattle.joint_crashes.specs.VaultReads.{AreQuiet, RoseIn, VaultOnlyReads, some_of}
 use Rattle.tx_script.specs.Run.{Ran}
 use Rattle.round_engine.specs.RanRound.{AreFailed}
-use Rattle.program_calls.specs.Ending.{GoesOn, devices_in}
+use Rattle.program_calls.specs.Ending.{RunGoesOn, devices_in}
 use Rattle.program_calls.specs.EndLaws.{goes_on_quiet}
 
 -- ---- the devices of which rounds tell that they failed
 
 -- none where all went on
-pub none_failed_in : (rans : List Ran) → AllByRecursion GoesOn rans → devices_in rans ≡ []
+pub none_failed_in : (rans : List Ran) → AllByRecursion RunGoesOn rans → devices_in rans ≡ []
 none_failed_in [] on = refl
 none_failed_in (ran ∷ rans) on = ap (λ (l : List Device). l ++ devices_in rans) (goes_on_quiet ran on.0) ∙ none_failed_in rans on.1
 
 -- those of the last one, where the others went on
-pub devices_in-push : (rans : List Ran) (ran : Ran) → AllByRecursion GoesOn rans → devices_in (rans ++ ran ∷ []) ≡ ran.devices
+pub devices_in-push : (rans : List Ran) (ran : Ran) → AllByRecursion RunGoesOn rans → devices_in (rans ++ ran ∷ []) ≡ ran.devices
 devices_in-push [] ran on = append-nil ran.devices
 devices_in-push (q ∷ rans) ran on =
     ap (λ (l : List Device). l ++ devices_in (rans ++ ran ∷ [])) (goes_on_quiet q on.0) ∙ devices_in-push rans ran on.1

@@ -15,10 +15,10 @@ use Rattle.log_writer.specs.Points.{saved_of, sequence_of}
 use Rattle.snapshot_store.specs.Content.{CatalogueAt, deepest}
 use Rattle.root_composer.specs.Composition.{IsTooDeep, WouldCompose, level_count, new_count}
 use Rattle.recovery_core.specs.Catalogues.{newest_decls}
-use Rattle.recovery_core.specs.Images.{Images, count_of, epoch_of}
+use Rattle.joint_crashes.specs.Images.{Images, count_of, epoch_of}
 use Rattle.recovery_core.specs.LogEntries.{last_of}
 use Rattle.recovery_core.specs.Recoverable.{IsReading, IsStateOf, Reading, counting}
-use Rattle.recovery_core.specs.Settled.{stores_due}
+use Rattle.checkpoints.specs.Settled.{stores_due}
 use Rattle.tx_script.specs.Causes.{last_sequence}
 use Rattle.round_engine.specs.declared.report.LimitName.{LimitName}
 use Rattle.round_engine.specs.declared.report.LimitName.TheVariants.{Snap, Height, Sequence}

@@ -1,8 +1,8 @@
 -- The names of the vault's devices: of their files, and in the last line of a call that can't have one.
 use Rattle.std.specs.Prelude.{[], ◌∷◌, ◌++◌, codes, decimal}
 use Rattle.text_output.specs.Output.{Bytes}
-use Rattle.outside.specs.declared.vault.Device.{Device}
-use Rattle.outside.specs.declared.vault.Device.TheVariants.{Save, Snaps, Bank}
+use Rattle.outside.specs.declared.device.Device.{Device}
+use Rattle.outside.specs.declared.device.Device.TheVariants.{Save, Snaps, Bank}
 
 -- The name of a device.
 abbrev pub device_name : Device → Bytes

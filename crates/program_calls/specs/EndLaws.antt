@@ -9,8 +9,8 @@ use Rattle.std.proofs.lemmas.Bool.Decides.{nat_tests}
 use Rattle.std.proofs.lemmas.Option.{same_Some}
 use Rattle.lists.specs.Elements.{in_head, in_none, in_tail}
 use Rattle.serial_model.specs.Numbers.{draw_limit, last_epoch}
-use Rattle.outside.specs.declared.vault.Device.{Device}
-use Rattle.outside.specs.declared.vault.Device.TheVariants as devices
+use Rattle.outside.specs.declared.device.Device.{Device}
+use Rattle.outside.specs.declared.device.Device.TheVariants as devices
 use Rattle.script_grammar.specs.declared.lines.KeeperLine.{KeeperLine}
 use Rattle.script_grammar.specs.declared.lines.KeeperLine.TheVariants as asks
 use Rattle.tx_script.specs.declared.answer.Answer.{Answer}
@@ -427,6 +427,11 @@ undamaged : (damaged : Option (Device × ℕ)) → option_map (λ (d : Device ×
     → damaged ≡ None
 undamaged None none = refl
 undamaged (Some d) none = absurd cc
+
+-- A round that goes on found no log file damaged.
+pub goes_on_undamaged : (ran : Ran) → end_of ran ≡ None → ran.damaged ≡ None
+goes_on_undamaged ran none =
+    let a = both_none (device_end ran.devices) _ none in undamaged ran.damaged (both_none (damaged_end ran) _ a.1).0
 
 unwanted : (test : Bool) → where_true test ends.Memory ≡ None → test ≡ false
 unwanted true none = absurd cc

@@ -23,9 +23,9 @@ use Rattle.round_engine.specs.declared.report.LimitName.TheVariants.{Epoch, Draw
 use Rattle.command_line.specs.declared.command.Command.{Command}
 use Rattle.script_maker.specs.Generator.{script_text}
 use Rattle.command_line.specs.declared.command.Command.TheVariants.{Run, Make, Refused}
-use Rattle.outside.specs.declared.vault.Device.{Device}
+use Rattle.outside.specs.declared.device.Device.{Device}
 use Rattle.recovery_core.specs.Damage.{IsDamagedIn, IsReadBefore}
-use Rattle.recovery_core.specs.VaultReads.{RoseIn}
+use Rattle.joint_crashes.specs.VaultReads.{RoseIn}
 use Rattle.program_calls.specs.Beginning.{HasOtherShape, IsBefore, MayBegin, Opening, StandsAtLimit}
 use Rattle.program_calls.specs.Devices.{device_name, device_text}
 use Rattle.program_calls.specs.Vaults.{HoldsOf, IsUntouched, TellsTheSame, Vaults}
@@ -123,8 +123,8 @@ output_text command rans ending = body_text command rans ending ++ last_line end
 -- ---- how a run goes on, and where a round ends it
 
 -- The round doesn't end the run: no device failed, no limit was met, and its join made its last epoch durable.
-abbrev pub GoesOn : Ran → Type 0
-GoesOn ran = end_of ran ≡ None
+abbrev pub RunGoesOn : Ran → Type 0
+RunGoesOn ran = end_of ran ≡ None
 
 -- The number at which a limit of a round stands: the last epoch; draws from which on the clock gives no number; a
 -- length that a log file might pass its limit from, with one line more; the last sequence. A snapshot whose pages aren't
@@ -142,13 +142,13 @@ pub record EndsBy (end : End) (rans : List Ran) : Type 0 where
   pub before : List Ran
   pub last : Ran
   pub rounds : rans ≡ before ++ last ∷ []
-  pub went_on : AllByRecursion GoesOn before
+  pub went_on : AllByRecursion RunGoesOn before
   pub refused : end_of last ≡ Some end
 
 -- All rounds of the script were run, and each goes on.
 pub record RanAll (script : Script) (rans : List Ran) : Type 0 where
   pub whole : length rans ≡ length script.rounds
-  pub went_on : AllByRecursion GoesOn rans
+  pub went_on : AllByRecursion RunGoesOn rans
 
 -- the devices that failed in some rounds
 abbrev pub devices_in : List Ran → List Device
@@ -208,7 +208,7 @@ RunComes v snap script opening rans (Shape declared kept) =
 RunComes v snap script opening rans (AtLimit name) = RunsToLimit v snap script opening rans name
     ⊎ ((rans ≡ []) × IsBefore name × TellsTheSame v × HoldsOf v (StandsAtLimit snap script.decls name))
 RunComes v snap script opening rans NoMemory =
-    (AllByRecursion GoesOn rans × ((rans ≡ []) ⊎ BeginsOn v snap script opening))
+    (AllByRecursion RunGoesOn rans × ((rans ≡ []) ⊎ BeginsOn v snap script opening))
     ⊎ RunsToMemory v snap script opening rans
 RunComes v snap script opening rans _ = ⊥
 

@@ -2,15 +2,15 @@
 use Rattle.std.specs.Prelude.{◌≡◌, ℕ, List, [], ◌∷◌, Option, Some, None, ⊤}
 use Rattle.lists.specs.declared.memory.OrMemory.{OrMemory}
 use Rattle.lists.specs.declared.memory.OrMemory.TheVariants as errors
-use Rattle.outside.specs.declared.vault.Vault.{Vault}
+use Rattle.log_writer.specs.declared.vault.Vault.{Vault}
 use Rattle.serial_model.specs.State.{State}
 use Rattle.script_grammar.specs.Script.{Bytes}
 use Rattle.recovery_core.specs.Damage.{IsDamagedIn, IsReadBefore}
-use Rattle.recovery_core.specs.Images.{Images}
-use Rattle.recovery_core.specs.JointCrash.{parts_of}
+use Rattle.joint_crashes.specs.Images.{Images}
+use Rattle.joint_crashes.specs.JointCrash.{parts_of}
 use Rattle.recovery_core.specs.Recoverable.{IsRecoverable}
-use Rattle.recovery_core.specs.Resting.{AreTold}
-use Rattle.recovery_core.specs.VaultReads.{AreQuiet, RoseIn, VaultOnlyReads}
+use Rattle.joint_crashes.specs.Resting.{AreTold}
+use Rattle.joint_crashes.specs.VaultReads.{AreQuiet, RoseIn, VaultOnlyReads}
 use Rattle.recovery_core.specs.declared.fault.RecoverFault.{RecoverFault}
 use Rattle.recovery_core.specs.declared.fault.RecoverFault.TheVariants as causes
 use Rattle.tx_script.specs.Run.{Ran}
@@ -19,7 +19,7 @@ use Rattle.command_line.specs.declared.command.Command.TheVariants.{Run}
 use Rattle.command_line.specs.declared.command.RunOptions.{RunOptions}
 use Rattle.program_calls.specs.declared.ending.Ending.{Ending}
 use Rattle.program_calls.specs.declared.ending.Ending.TheVariants.{Finished}
-use Rattle.program_calls.specs.Main.{Came, StandsWhenStopped, commits_of, decls_in}
+use Rattle.program_calls.specs.Main.{Came, StandsWhenStopped, ordered_in, decls_in}
 use Rattle.program_calls.specs.Vaults.{Vaults, vaults_of}
 
 -- The sum of all values of the state that the vault stands for as the call returns, where the devices tell their bytes.
@@ -75,5 +75,5 @@ pub record CameInBrief {D : Type 0} (v : Vaults D) (options : RunOptions) (had l
   pub sums : SumsUp v mid came.rans came.course.state came.ending total
   pub reads : VaultOnlyReads v.tells v.clock v.image_at v.faults mid v.is
   pub stops : StandsWhenStopped v (decls_in came.course.script)
-      (commits_of came.course.script came.course.opening came.bytes came.rans came.course.state came.course.run)
+      (ordered_in came.course.script came.course.opening came.bytes came.rans came.course.state came.course.run)
       came.course.opening came.rans

@@ -12,11 +12,11 @@ use Rattle.script_grammar.specs.Script.{Bytes, Round, Script, IsTextOf}
 use Rattle.wire_form.specs.declared.savepoint.Savepoint.{Savepoint}
 use Rattle.recovery_core.specs.Catalogues.{newest_decls}
 use Rattle.recovery_core.specs.DamageLaws.{reading_stands}
-use Rattle.recovery_core.specs.Images.{Images}
-use Rattle.recovery_core.specs.JointCrash.{parts_of}
+use Rattle.joint_crashes.specs.Images.{Images}
+use Rattle.joint_crashes.specs.JointCrash.{parts_of}
 use Rattle.recovery_core.specs.Recoverable.{Reading}
 use Rattle.recovery_core.specs.RecoverableLaws.{one_reading}
-use Rattle.recovery_core.specs.Resting.{AreTold}
+use Rattle.joint_crashes.specs.Resting.{AreTold}
 use Rattle.tx_script.specs.Causes.{AllCaused}
 use Rattle.tx_script.specs.Draws.{DrawsAreCounted, DrawsWithin, HasTree, IsBelowDraws, RunsOnce, RunsPlainly}
 use Rattle.tx_script.specs.Draws.{below_draws, counted_once, counted_within, once_within}
@@ -31,7 +31,7 @@ use Rattle.program_calls.specs.EndLaws.{goes_on_answered, goes_on_run}
 use Rattle.program_calls.specs.declared.ending.Ending.{Ending}
 use Rattle.program_calls.specs.declared.ending.Ending.TheVariants.{Finished, NoScript, Shape, Usage, ReadFault, NoDevice}
 use Rattle.program_calls.specs.declared.ending.Ending.TheVariants.{Damaged, AtLimit, NoMemory, NoSnapshot}
-use Rattle.program_calls.specs.Ending.{Comes, GoesOn, RunComes}
+use Rattle.program_calls.specs.Ending.{Comes, RunGoesOn, RunComes}
 use Rattle.program_calls.specs.Main.{AreBytes, Came, IsDurable, RunsOf, decls_in}
 use Rattle.program_calls.specs.Vaults.{NoneFailed, Vaults}
 
@@ -63,7 +63,7 @@ pub record IsDone (ran : Ran) : Type 0 where
 
 -- So it is in rounds that go on.
 done_of : (index : ℕ) (clock : Number) (rans : List Ran) (rounds : List Round) → RunsClocks index clock rans rounds
-    → AllByRecursion GoesOn rans → AllByRecursion AllCaused rans → AllByRecursion IsDurable rans
+    → AllByRecursion RunGoesOn rans → AllByRecursion AllCaused rans → AllByRecursion IsDurable rans
     → AllByRecursion IsDone rans
 done_of index clock [] rounds clocks on caused durable = tt
 done_of index clock (ran ∷ rans) [] clocks on caused durable = absurd clocks
@@ -96,12 +96,12 @@ module _ {D : Type 0} (v : Vaults D) (options : RunOptions) (had left : Option B
     (Shows : List Ran → Ending → Type 0) where
   -- No round draws more numbers than its lines have tries.
   pub draws_within : (came : Came v (Run options) had left Shows) → AllByRecursion (DrawsWithin options.tries) came.rans
-  draws_within came = all_within options.tries came.rans came.caused.caused came.caused.counted came.caused.tried
+  draws_within came = all_within options.tries came.rans came.caused.in_rounds.caused came.caused.in_rounds.counted came.caused.in_rounds.tried
 
   -- Where a tree is declared each number is a commit's, and nobody is in a line's way.
   pub runs_once : (came : Came v (Run options) had left Shows) → HasTree (decls_in came.course.script)
       → AllByRecursion RunsOnce came.rans
-  runs_once came tree = all_once came.rans came.caused.counted (came.caused.plain tree)
+  runs_once came tree = all_once came.rans came.caused.in_rounds.counted (came.caused.in_rounds.plain tree)
 
   -- Where the source tells its bytes they are these.
   pub bytes_told : (came : Came v (Run options) had left Shows) (told : Bytes) → had ≡ Some told → told ≡ came.bytes
@@ -142,7 +142,7 @@ module _ {D : Type 0} (v : Vaults D) (options : RunOptions) (had left : Option B
           → Comes v (Run options) came.bytes script came.course.opening came.rans (AtLimit Draw) → ⊥
       of None run once few comes = comes
       of (Some script) run once few comes = met_draws options.snap script came.course.opening came.rans
-          came.caused.caused (below script run.0 run.1 once few) comes
+          came.caused.in_rounds.caused (below script run.0 run.1 once few) comes
 
   -- With a script, a vault in its formats that has the script's storages, no device or stream that fails, no limit
   -- that is met, and memory, all is done.
@@ -200,4 +200,4 @@ module _ {D : Type 0} (v : Vaults D) (options : RunOptions) (had left : Option B
           → Comes v (Run options) came.bytes script came.course.opening came.rans Finished → AllByRecursion IsDone came.rans
       of None run comes = absurd comes
       of (Some script) run comes = done_of 0 (clock_after came.course.opening.saved) came.rans script.rounds run.1.clocks
-          comes.1.went_on came.caused.caused came.caused.durable
+          comes.1.went_on came.caused.in_rounds.caused came.caused.in_rounds.durable

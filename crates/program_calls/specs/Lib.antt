@@ -13,4 +13,5 @@ pub mod Telling
 pub mod OnTheWay
 pub mod EndLaws
 pub mod Laws
+pub mod StopLaws
 pub mod Rounds

@@ -3,21 +3,21 @@
 use Rattle.std.specs.Prelude.{◌≡◌, ◌≢◌, ◌⊎◌, ℕ, List, [], ◌∷◌, ◌++◌, Option, codes, decimal, flat_map, reverse, ⊤}
 use Rattle.std.specs.List.{AllByRecursion, Contains}
 use Rattle.std.specs.Io.KnownBytes.{Appends}
-use Rattle.outside.specs.declared.vault.Device.{Device}
-use Rattle.outside.specs.declared.vault.Device.TheVariants.{Snaps as SnapsDevice}
-use Rattle.outside.specs.declared.vault.Vault.{Vault}
+use Rattle.outside.specs.declared.device.Device.{Device}
+use Rattle.outside.specs.declared.device.Device.TheVariants.{Snaps as SnapsDevice}
+use Rattle.log_writer.specs.declared.vault.Vault.{Vault}
 use Rattle.serial_model.specs.State.{State}
 use Rattle.wire_form.specs.Pages.{Contents, decls_of}
 use Rattle.snapshot_store.specs.Content.{RootStands}
 use Rattle.recovery_core.specs.Catalogues.{marks_of, newest_decls}
 use Rattle.recovery_core.specs.Damage.{FirstBad, IsDamagedIn, IsReadBefore}
-use Rattle.recovery_core.specs.Images.{Images, epoch_of}
-use Rattle.recovery_core.specs.JointCrash.{parts_of}
+use Rattle.joint_crashes.specs.Images.{Images, epoch_of}
+use Rattle.joint_crashes.specs.JointCrash.{parts_of}
 use Rattle.recovery_core.specs.Recoverable.{Reading, IsReading, IsStateOf}
 use Rattle.recovery_core.specs.Recovered.{catalogue_of}
-use Rattle.recovery_core.specs.Resting.{AreTold}
+use Rattle.joint_crashes.specs.Resting.{AreTold}
 use Rattle.recovery_core.specs.Snapshots.{RootBreaksAt}
-use Rattle.recovery_core.specs.VaultReads.{AreQuiet, RoseIn}
+use Rattle.joint_crashes.specs.VaultReads.{AreQuiet, RoseIn}
 use Rattle.recovery_core.specs.declared.chain.SnapshotMark.{SnapshotMark}
 use Rattle.script_grammar.specs.Script.{Bytes}
 use Rattle.tx_script.specs.StateText.{state_text}
@@ -26,7 +26,7 @@ use Rattle.command_line.specs.declared.command.Command.TheVariants.{Dump, Snaps,
 use Rattle.program_calls.specs.declared.ending.Ending.{Ending}
 use Rattle.program_calls.specs.declared.ending.Ending.TheVariants.{Finished, NoDevice, Damaged, NoMemory, NoSnapshot}
 use Rattle.program_calls.specs.Ending.{damaged_text, last_line, no_snapshot_text, status_of}
-use Rattle.program_calls.specs.Main.{Holds}
+use Rattle.program_calls.specs.Main.{SinkHolds}
 use Rattle.program_calls.specs.Snapshots.{HasContent}
 
 -- These commands tell something of the vault.
@@ -142,7 +142,7 @@ pub record Listed {D : Type 0} (command : Command) (tells : D → Option Bytes) 
 -- The status is the ending's, or 4 where the sink failed, and the sink holds the text with the last line.
 pub record ShownText (held holds : Option Bytes) (status : ℕ) (text : Bytes) (ending : Ending) : Type 0 where
   pub status_is : (status ≡ status_of ending) ⊎ (status ≡ 4)
-  pub printed : Holds status held holds (text ++ last_line ending)
+  pub printed : SinkHolds status held holds (text ++ last_line ending)
 
 -- ---- where nothing fails
 

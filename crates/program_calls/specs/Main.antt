@@ -1,22 +1,28 @@
--- The main theorem: what a call of the program comes to. `top` ensures `Answers`, the last definition of this file: of
+-- The main theorem: what a call of the program comes to. `top` ensures `Answers`, the last definition of this file,
+-- for each command that tells line by line what was run, or runs nothing (`IsInFull`): `run`, `make`, and words that
+-- ask for nothing. For `run --brief` it ensures the same of its counts (`CameInBrief`); for `dump`, `snaps` and `snap`
+-- what is told of what the vault keeps (`Listed`, `TellsAll`); and for `make` which script (`Makes`). All is said of
 -- bytes that are the source's, where it tells them. How a call may end is a table of its own, `Comes` in Ending.antt;
 -- where a run begins stands in Beginning.antt.
 use Rattle.std.specs.Prelude.{◌≡◌, true, ◌⊎◌, ◌+◌, ◌-◌, ◌<◌, ◌++◌, ℕ, List, [], ◌∷◌, length, fold, flat_map, option_to_list, slice_get, Bool, filter, nat_lt, Option, Some, None, IfSome, MatchBool, ◌==◌, ⊤, ◌≤◌}
 use Rattle.std.specs.List.{AllByRecursion, Contains}
 use Rattle.std.specs.Io.KnownBytes.{Appends}
+use Rattle.outside.specs.Disk.{Only}
 use Rattle.outside.specs.Stream.{TakesPrefix}
-use Rattle.outside.specs.declared.vault.Tie.{Tie}
-use Rattle.outside.specs.declared.vault.Vault.{Vault}
+use Rattle.log_writer.specs.declared.records.Tie.{Tie}
+use Rattle.log_writer.specs.declared.vault.Vault.{Vault}
+use Rattle.outside.specs.declared.device.Device.TheVariants.{Save}
+use Rattle.log_writer.specs.Records.{AddsTies}
 use Rattle.serial_model.specs.History.{Entry, as_of}
 use Rattle.serial_model.specs.State.{State}
 use Rattle.serial_model.specs.declared.decl.Decl.{Decl}
 use Rattle.serial_model.specs.declared.number.Commit.{Commit}
 use Rattle.script_grammar.specs.Script.{Bytes, Round, Script, IsTextOf, lines_of_worker}
-use Rattle.recovery_core.specs.Images.{Images}
-use Rattle.recovery_core.specs.JointCrash.{parts_of, CrashesNow, IsJointCrash, IsNow, IsSince, Moments}
+use Rattle.joint_crashes.specs.Images.{Images}
+use Rattle.joint_crashes.specs.JointCrash.{parts_of, IsJointCrash, IsNow, IsSince, Moments}
 use Rattle.recovery_core.specs.Recoverable.{IsReading, IsRecoverable, Reading}
-use Rattle.recovery_core.specs.Resting.{AreTold, HasNoRecords, IsResting}
-use Rattle.recovery_core.specs.VaultReads.{VaultOnlyReads}
+use Rattle.joint_crashes.specs.Resting.{AreTold, IsResting, StopsNow}
+use Rattle.joint_crashes.specs.VaultReads.{VaultOnlyReads}
 use Rattle.tx_script.specs.Run.{LogFull, Ran, IsScriptRun, entries_of}
 use Rattle.tx_script.specs.Causes.{AllCaused}
 use Rattle.tx_script.specs.Conflicts.{AreMet}
@@ -34,7 +40,7 @@ use Rattle.program_calls.specs.declared.ending.Ending.{Ending}
 use Rattle.program_calls.specs.declared.ending.Ending.TheVariants.{Finished}
 use Rattle.program_calls.specs.Beginning.{HasStorages, Opening, SameDecls}
 use Rattle.program_calls.specs.Ending.{Comes, ReadsFirst, output_text, status_of}
-use Rattle.program_calls.specs.RanOver.{RunsOver, room_of}
+use Rattle.program_calls.specs.RanOver.{RunsOverFiles, room_of}
 use Rattle.program_calls.specs.Snapshots.{EachSnapshot}
 use Rattle.program_calls.specs.Vaults.{HoldsOf, NoneFailed, Vaults, vaults_of}
 
@@ -114,7 +120,7 @@ AllMet (ran ∷ rans) [] = ⊥
 -- number of a round was drawn for one of its commits, or for a try that was refused behind its draw. A try in
 -- conflict met a line of another worker of its round, at a key that it touches and that one may change; where a tree is
 -- declared nobody is in a line's way.
-pub record AreCaused (tries : ℕ) (decls : List Decl) (rounds : List Round) (sequence : ℕ) (rans : List Ran)
+pub record AreRoundsCaused (tries : ℕ) (decls : List Decl) (rounds : List Round) (sequence : ℕ) (rans : List Ran)
     : Type 0 where
   pub caused : AllByRecursion AllCaused rans
   pub durable : AllByRecursion IsDurable rans
@@ -143,10 +149,10 @@ abbrev pub last_saved : ℕ → List Ran → ℕ
 last_saved saved rans = fold (λ _ epoch. epoch) saved (flat_map saved_in rans)
 
 -- the commits of what was run, in the order in which they are serial
-abbrev pub commits_of : (script : Option Script) (opening : Opening) (bytes : Bytes) (rans : List Ran) (t : State)
+abbrev pub ordered_in : (script : Option Script) (opening : Opening) (bytes : Bytes) (rans : List Ran) (t : State)
     → RunsOf script opening bytes rans t → List Entry
-commits_of (Some script) opening bytes rans t run = run.1.ordered
-commits_of None opening bytes rans t run = []
+ordered_in (Some script) opening bytes rans t run = run.1.ordered
+ordered_in None opening bytes rans t run = []
 
 -- the storages that were declared
 abbrev pub decls_in : Option Script → List Decl
@@ -188,26 +194,49 @@ pub record IsCovered {D : Type 0} (v : Vaults D) (from : Moments) (sequence epoc
       → IsJointCrash v.clock v.image_at (parts_of v.is) at left → end ≤ at.save → IsRecoverable left later state
       → epoch ≤ later
 
+-- The ties that are recorded behind these rounds are those of the call, one for each store that was begun: by the
+-- settling, which made one at most and led to this sequence; by each save that the rounds tell; and one that failed, if
+-- the save device failed in a round. Their sequences rise by one, so none is told twice.
+pub record RecordsOf (sequence : ℕ) (rans : List Ran) (recorded : List Tie) : Type 0 where
+  pub first : ℕ
+  pub settling : ℕ
+  pub failed : ℕ
+  pub at_most : settling ≤ 1
+  pub meets : first + settling ≡ sequence
+  pub one : failed ≤ 1
+  pub fails : failed ≡ 1 → (ran : Ran) × Contains rans ran × Contains ran.devices Save
+  pub ties : AddsTies first (settling + length (flat_map saved_in rans) + failed) [] recorded
+
 -- What a stop of all devices leaves, whichever moments since these it meets, as their ties and cuts allow them
--- together: an epoch from this one on, and the state as of it, after the commits up to it. Once the store of an epoch
--- that was saved has ended, no stop leaves an earlier one; the first of these stores has the sequence behind this one. A
--- stop as the call returns is such a stop, where rounds were run, and else where nothing was recorded before.
+-- together: an epoch from this one on, and the state as of it, after the commits up to it; and each snapshot, beside
+-- those that were read before, is as these commits up to its epoch leave the state. Once the store of an epoch that was
+-- saved has ended, no stop leaves an earlier one; the first of these stores has the sequence behind this one. A stop as
+-- the call returns is such a stop, where rounds were run, and else where a stop was one as the call began. And where no
+-- device failed, and the save has one image as the call returns, nothing that counts is pending: the next run may begin.
+-- Behind rounds just the stores of the call are recorded.
 pub record StandsAtStops {D : Type 0} (v : Vaults D) (decls : List Decl) (commits : List Entry) (sequence : ℕ)
-    (rans : List Ran) (from : Moments) (epoch : ℕ) (state : State) : Type 0 where
+    (rans : List Ran) (from : Moments) (was : Reading) (epoch : ℕ) (state : State) : Type 0 where
   pub leaves : (at : Moments) (left : Images) → IsSince from at
       → IsJointCrash v.clock v.image_at (parts_of v.is) at left → (later : ℕ) × (epoch ≤ later)
       × IsRecoverable left later (as_of decls state commits later)
+  pub snapshots : (at : Moments) (left : Images) (now : Reading) → IsSince from at
+      → IsJointCrash v.clock v.image_at (parts_of v.is) at left → IsReading left now
+      → EachSnapshot was now epoch state decls commits
+  pub recorded : (rans ≡ [] → ⊥) → RecordsOf sequence rans v.is.ties.items
   pub covers : (i saved : ℕ) → slice_get (flat_map saved_in rans) i ≡ Some saved
       → IsCovered v from (sequence + 1 + i) saved
-  pub instant : HasNoRecords (parts_of v.was) ⊎ (rans ≡ [] → ⊥) → CrashesNow v.clock v.image_at (parts_of v.is)
+  pub instant : StopsNow v.clock v.image_at (parts_of v.was) ⊎ (rans ≡ [] → ⊥)
+      → StopsNow v.clock v.image_at (parts_of v.is)
+  pub rests : NoneFailed v → (file : Bytes) → v.image_at v.is.save (v.clock v.is.save) file
+      → Only v.clock v.image_at v.is.save file → IsResting v.clock v.image_at (parts_of v.is)
 
 -- So it is at each stop since the call began, where nothing that counts was pending then: whatever ended the call, also
 -- where devices failed, memory was wanted, or the sink failed.
 abbrev pub StandsWhenStopped : {D : Type 0} → Vaults D → List Decl → List Entry → Opening → List Ran → Type 0
 StandsWhenStopped v decls commits opening rans = (found : Images) (from : Moments) (epoch : ℕ) (state : State)
-    → AreTold v.tells (parts_of v.was) found → IsRecoverable found epoch state
+    → AreTold v.tells (parts_of v.was) found → (before : IsRecoverable found epoch state)
     → IsResting v.clock v.image_at (parts_of v.was) → IsNow v.clock v.image_at (parts_of v.was) from
-    → StandsAtStops v decls commits opening.sequence rans from epoch state
+    → StandsAtStops v decls commits opening.sequence rans from before.reading epoch state
 
 -- So it is too while the devices are only read from then on, up to any moment.
 abbrev pub StandsThroughReads : {D : Type 0} → Vaults D → List Decl → List Entry → Opening → List Ran → Type 0
@@ -217,7 +246,7 @@ StandsThroughReads {D} v decls commits opening rans =
 
 -- What the vault keeps, where no device failed, and where all was done: then of all commits; and what it keeps where
 -- the devices stop, at any moments of the call, and behind its rounds also of later reads.
-pub record Keeps {D : Type 0} (v : Vaults D) (decls : List Decl) (commits : List Entry) (opening : Opening) (t : State)
+pub record KeepsRun {D : Type 0} (v : Vaults D) (decls : List Decl) (commits : List Entry) (opening : Opening) (t : State)
     (rans : List Ran) (ending : Ending) : Type 0 where
   pub stands : IsSound v ending → StandsThrough v decls commits rans
   pub snapshots : IsSound v ending → HasEachSnapshot v decls commits
@@ -230,15 +259,20 @@ pub record Keeps {D : Type 0} (v : Vaults D) (decls : List Decl) (commits : List
 -- the same of a course
 abbrev pub KeepsCourse : {D : Type 0} (v : Vaults D) (command : Command) (bytes : Bytes) (had left : Option Bytes)
     (rans : List Ran) (ending : Ending) → Course v command bytes had left rans ending → Type 0
-KeepsCourse v command bytes had left rans ending course = Keeps v (decls_in course.script)
-    (commits_of course.script course.opening bytes rans course.state course.run)
+KeepsCourse v command bytes had left rans ending course = KeepsRun v (decls_in course.script)
+    (ordered_in course.script course.opening bytes rans course.state course.run)
     course.opening course.state rans ending
 
--- so it is in the rounds of a course
+-- What a round tells of its log files: one that it told full is, and none was found damaged.
+pub record FilesFound (decls : List Decl) (s : State) (commits : List Entry) (ran : Ran) : Type 0 where
+  pub full : AreFull decls s commits ran
+  pub undamaged : ran.damaged ≡ None
+
+-- So it is in the rounds of a course, where the devices told what they had.
 abbrev pub FilesAreFull : {D : Type 0} (v : Vaults D) (decls : List Decl) (commits : List Entry) (opening : Opening)
     (rans : List Ran) → Type 0
 FilesAreFull v decls commits opening rans =
-    HoldsOf v (λ found. AllByRecursion (AreFull decls opening.state commits) rans)
+    HoldsOf v (λ found. AllByRecursion (FilesFound decls opening.state commits) rans)
 
 -- Where all storages are arrays, and each key that the call began with is one of theirs, the commits are those of one
 -- history that the workers' threads shared: each is the attempt of its line's transaction, on its worker's seat.
@@ -246,9 +280,19 @@ abbrev pub ComeFromWords : List Decl → State → List Entry → Type 0
 ComeFromWords decls s commits = (storages : List Decl) × SameDecls decls storages
     × (are_arrays storages s ≡ true → ComeFromOne storages commits)
 
--- What a command comes to over a source: there are its bytes, a run and an ending; what came of the run has its cause,
--- and its commits are of one history; the vault keeps what it saved; and this is shown of run and ending. Of a source that doesn't tell its bytes there are
--- some of which all of it holds.
+-- What came of the rounds has its cause, a log file that was told full is so long and none was found damaged, and the log
+-- files and pages that the rounds were over are those that their swaps and gleans left.
+pub record AreCaused {D : Type 0} (v : Vaults D) (room tries : ℕ) (decls : List Decl) (rounds : List Round)
+    (commits : List Entry) (opening : Opening) (rans : List Ran) : Type 0 where
+  pub in_rounds : AreRoundsCaused tries decls rounds opening.sequence rans
+  pub full : FilesAreFull v decls commits opening rans
+  pub files : RunsOverFiles v room decls opening.state opening.saved commits rans
+
+-- What a command comes to over a source. There are its bytes, a run and an ending. Ordered by their numbers the commits
+-- are one serial run of the script's transactions, each worker's lines once and in order (`course`), and they are of one
+-- history. The vault keeps what the run saved: its snapshots, and what a stop leaves (`kept`). What came of the run has
+-- its cause. This is shown of run and ending. Of a source that doesn't tell its bytes there are some of which all of it
+-- holds.
 pub record Came {D : Type 0} (v : Vaults D) (command : Command) (had left : Option Bytes)
     (Shows : List Ran → Ending → Type 0) : Type 0 where
   pub bytes : Bytes
@@ -256,15 +300,11 @@ pub record Came {D : Type 0} (v : Vaults D) (command : Command) (had left : Opti
   pub rans : List Ran
   pub ending : Ending
   pub course : Course v command bytes had left rans ending
-  pub caused : AreCaused (tries_asked command) (decls_in course.script) (rounds_of course.script) course.opening.sequence
-      rans
-  pub full : FilesAreFull v (decls_in course.script)
-      (commits_of course.script course.opening bytes rans course.state course.run) course.opening rans
   pub history : ComeFromWords (decls_in course.script) course.opening.state
       (entries_of 0 rans (rounds_of course.script))
-  pub files : RunsOver v (room_of command) (decls_in course.script) course.opening.state course.opening.saved
-      (commits_of course.script course.opening bytes rans course.state course.run) rans
   pub kept : KeepsCourse v command bytes had left rans ending course
+  pub caused : AreCaused v (room_of command) (tries_asked command) (decls_in course.script) (rounds_of course.script)
+      (ordered_in course.script course.opening bytes rans course.state course.run) course.opening rans
   pub shown : Shows rans ending
 
 -- ---- what is printed of it
@@ -278,13 +318,13 @@ pub record Streams : Type 0 where
   pub holds : Option Bytes
 
 -- The sink holds what it held and then the text, or a prefix of the text, exactly where the status is 4.
-abbrev pub Holds : ℕ → Option Bytes → Option Bytes → Bytes → Type 0
-Holds status held holds text = MatchBool (status == 4) (TakesPrefix held holds text) (Appends held holds text)
+abbrev pub SinkHolds : ℕ → Option Bytes → Option Bytes → Bytes → Type 0
+SinkHolds status held holds text = MatchBool (status == 4) (TakesPrefix held holds text) (Appends held holds text)
 
 -- The status is the ending's, or 4 where the sink failed, and the sink holds the text of the run and its ending.
 pub record Shown (command : Command) (streams : Streams) (status : ℕ) (rans : List Ran) (ending : Ending) : Type 0 where
   pub status_is : (status ≡ status_of ending) ⊎ (status ≡ 4)
-  pub text : Holds status streams.held streams.holds (output_text command rans ending)
+  pub text : SinkHolds status streams.held streams.holds (output_text command rans ending)
 
 -- ---- the main theorem
 

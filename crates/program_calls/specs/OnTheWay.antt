@@ -1,6 +1,6 @@
 -- On the way to the main theorem: what the functions below `top`, and the program round it, tell of an ending, of text,
 -- and of the begin of a run.
-use Rattle.std.specs.Prelude.{◌≡◌, ◌⊎◌, ◌<◌, ◌≤◌, ◌++◌, ◌^◌, ℕ, List, [], Option, Result, Ok, Err, ⊤}
+use Rattle.std.specs.Prelude.{◌≡◌, ◌⊎◌, ◌<◌, ◌≤◌, ◌++◌, ◌^◌, ℕ, true, List, [], Option, Result, Ok, Err, ⊤}
 use Rattle.std.specs.Prelude.{IfSome, IsSome, MatchResult}
 use Rattle.std.specs.Io.KnownBytes.{Appends, IsAtEnd}
 use Rattle.std.specs.List.{AllByRecursion}
@@ -9,11 +9,11 @@ use Rattle.lists.specs.declared.memory.OrMemory.{OrMemory}
 use Rattle.lists.specs.declared.memory.OrMemory.TheVariants as errors
 use Rattle.outside.specs.Faults.{Rose}
 use Rattle.outside.specs.Stream.{TakesPrefix}
-use Rattle.outside.specs.Vault.{IsWhole}
+use Rattle.log_writer.specs.Vault.{IsWhole}
 use Rattle.outside.specs.declared.fault.Failed.{Failed}
-use Rattle.outside.specs.declared.vault.Device.{Device}
-use Rattle.outside.specs.declared.vault.Device.TheVariants.{Snaps as SnapsDevice}
-use Rattle.outside.specs.declared.vault.Vault.{Vault}
+use Rattle.outside.specs.declared.device.Device.{Device}
+use Rattle.outside.specs.declared.device.Device.TheVariants.{Snaps as SnapsDevice}
+use Rattle.log_writer.specs.declared.vault.Vault.{Vault}
 use Rattle.text_output.specs.Output.{Bytes, Output, Adds, Breaks}
 use Rattle.serial_model.specs.Keys.{id_of}
 use Rattle.serial_model.specs.State.{State}
@@ -23,24 +23,25 @@ use Rattle.script_grammar.specs.Script.{IsTextOf, Script}
 use Rattle.log_writer.specs.Points.{sequence_of}
 use Rattle.snapshot_store.specs.Content.{words_of}
 use Rattle.snapshot_store.specs.Store.{IsWhole as IsWholePage}
-use Rattle.recovery_core.specs.Images.{Images}
-use Rattle.recovery_core.specs.JointCrash.{CrashesNow, IsNow, KeepsCrashes, Moments, parts_of}
+use Rattle.joint_crashes.specs.Images.{Images}
+use Rattle.joint_crashes.specs.JointCrash.{CrashesNow, IsNow, KeepsCrashes, Moments, parts_of}
 use Rattle.recovery_core.specs.Recovered.{IsUp, Recovers}
-use Rattle.recovery_core.specs.Resting.{AreTold, HasNoRecords, IsResting}
-use Rattle.recovery_core.specs.Settled.{SaysSettled}
-use Rattle.recovery_core.specs.SettleGoesOn.{GoesOn}
-use Rattle.recovery_core.specs.SettleRests.{RestsSince}
+use Rattle.joint_crashes.specs.Resting.{AreTold, HasNoRecords, IsResting}
+use Rattle.checkpoints.specs.Settled.{SaysSettled}
+use Rattle.checkpoints.specs.SettleGoesOn.{GoesOn}
+use Rattle.joint_crashes.specs.SettleRests.{RestsSince}
 use Rattle.recovery_core.specs.Snapshots.{BreaksAt, HasMark, IsSnapshotAt}
+use Rattle.checkpoints.specs.SettleRecords.{SettleRecords}
 use Rattle.checkpoints.specs.Due.{IsStoreDue, IsWithin}
 use Rattle.checkpoints.specs.SettlesInto.{SettlesInto}
-use Rattle.checkpoints.specs.SnapshotsKept.{KeepsSnapshots}
-use Rattle.recovery_core.specs.VaultReads.{AreQuiet, VaultOnlyReads}
+use Rattle.recovery_core.specs.SnapshotsKept.{KeepsSnapshots}
+use Rattle.joint_crashes.specs.VaultReads.{AreQuiet, VaultOnlyReads}
 use Rattle.recovery_core.specs.declared.fault.RecoverFault.{RecoverFault}
 use Rattle.recovery_core.specs.declared.fault.RecoverFault.TheVariants as recovers
-use Rattle.recovery_core.specs.declared.fault.SettleFault.{SettleFault}
-use Rattle.recovery_core.specs.declared.fault.SettleFault.TheVariants as settles
+use Rattle.checkpoints.specs.declared.fault.SettleFault.{SettleFault}
+use Rattle.checkpoints.specs.declared.fault.SettleFault.TheVariants as settles
 use Rattle.recovery_core.specs.declared.recovered.Recovered.{Recovered}
-use Rattle.recovery_core.specs.declared.settlement.Settled.{Settled}
+use Rattle.checkpoints.specs.declared.without_entries.Settled.{Settled}
 use Rattle.worker_logs.specs.Saves.{CountsOf}
 use Rattle.worker_logs.specs.declared.savepoints.Side.TheVariants.{Even}
 use Rattle.tx_script.specs.Causes.{last_sequence}
@@ -61,8 +62,8 @@ use Rattle.program_calls.specs.Causes.{Counts, ReadsAlone, RestsAgain}
 use Rattle.program_calls.specs.Ending.{IsNoText, IsReadOut, RunComes, body_text, last_line, output_text, status_of}
 use Rattle.brief_output.specs.Brief.{run_in_brief}
 use Rattle.program_calls.specs.InBrief.{SumsUp, up_to}
-use Rattle.program_calls.specs.Main.{AreBytes, AreCaused, ComeFromWords, FilesAreFull, Holds, Keeps}
-use Rattle.program_calls.specs.RanOver.{RunsOver}
+use Rattle.program_calls.specs.Main.{AreBytes, AreRoundsCaused, ComeFromWords, FilesAreFull, SinkHolds, KeepsRun}
+use Rattle.program_calls.specs.RanOver.{RunsOverFiles}
 use Rattle.program_calls.specs.Vaults.{Vaults, vaults_of}
 
 -- ---- endings and statuses
@@ -96,7 +97,7 @@ pub record ReadsText (had left : Option Bytes) (result : Result Script Ending) :
 -- What is told where `top` isn't called: the ending's line with its status; or the sink failed within it.
 pub record TellsEnding (ending : Ending) (sink : Counts) (held holds : Option Bytes) (status : ℕ) : Type 0 where
   pub status_is : (status ≡ status_of ending) ⊎ (status ≡ 4)
-  pub text : Holds status held holds (last_line ending)
+  pub text : SinkHolds status held holds (last_line ending)
   pub write : status ≡ 4 → Rose sink.before sink.after
   pub sink_failed : sink.before < sink.after → status ≡ 4
   pub sink_later : sink.before ≤ sink.after
@@ -236,7 +237,7 @@ pub record EndsBefore {D : Type 0} (tells : D → Option Bytes) (clock : D → �
     (faults : D → ℕ) (snap : ℕ) (script : Script) (was is : Vault D) (ending : Ending) : Type 0 where
   pub opening : Opening
   pub comes : RunComes (vaults_of tells clock image_at faults was is) snap script opening [] ending
-  pub kept : Keeps (vaults_of tells clock image_at faults was is) script.decls [] opening opening.state [] ending
+  pub kept : KeepsRun (vaults_of tells clock image_at faults was is) script.decls [] opening opening.state [] ending
   pub rests : RestsAgain tells clock image_at (status_of ending) was is
   pub reads : ReadsAlone (status_of ending) → VaultOnlyReads tells clock image_at faults was is
 
@@ -260,7 +261,7 @@ pub record BeginsRun {D : Type 0} (tells : D → Option Bytes) (clock : D → �
   pub sequence : IsStoreDue recovered → sequence_of recovered.save.newest ≡ last_sequence → ⊥
   pub settles : SettlesInto tells clock image_at recovered decls between is settled
   pub snapshots : KeptSnapshots recovered settled
-  pub begins : r ≡ begun settled.decls settled.state settled.save settled.store snap (clock_after settled.saved.epoch)
+  pub begins : r ≡ begun settled.decls settled.state r.stands.opening settled.save settled.store snap (clock_after settled.saved.epoch)
   pub pages_whole : AllByRecursion IsWholePage settled.store.pages
   pub pages_fit : AllByRecursion (AllByRecursion (λ w. w < 2 ^ 64)) (words_of settled.store.pages)
   pub stands : StandsOn tells clock image_at r is
@@ -268,15 +269,16 @@ pub record BeginsRun {D : Type 0} (tells : D → Option Bytes) (clock : D → �
       → AreLogs tells clock image_at (λ worker. []) (λ worker. []) r is
       × AreClosedFiles tells clock image_at (λ worker. []) (λ worker. []) r is
   pub counts : CountsOf Even (λ worker. []) (λ worker. []) (λ worker. []) (λ worker. []) r.save.newest
-  pub goes_on : (found : Images) (from : Moments) → AreTold tells (parts_of was) found
+  pub goes_on : (found : Images) (from : Moments) → (reads : AreTold tells (parts_of was) found)
       → IsResting clock image_at (parts_of was) → IsNow clock image_at (parts_of was) from
-      → GoesOn clock image_at from recovered.epoch recovered.state (sequence_of recovered.save.newest)
-      settled.save.newest (parts_of is)
+      → GoesOn clock image_at from (recovers found reads).reading recovered.epoch recovered.state
+      (sequence_of recovered.save.newest) settled.save.newest (parts_of is)
       × CrashesNow clock image_at (parts_of is)
       × KeepsCrashes clock image_at from (parts_of between) (parts_of is)
       × (rest : IsResting clock image_at (parts_of between))
       × RestsSince clock image_at from rest.point rest.pages rest.counted (parts_of between)
   pub empty : HasNoRecords (parts_of between)
+  pub records : SettleRecords recovered true between is
   pub whole_between : IsWhole between
   pub quiet : AreQuiet faults was is
   pub whole : IsWhole was
@@ -292,11 +294,11 @@ pub record RunsRounds {D : Type 0} (v : Vaults D) (snap tries : ℕ) (script : S
   pub state : State
   pub run : IsScriptRun script opening.state opening.saved rans state
   pub comes : RunComes v snap script opening rans ending
-  pub caused : AreCaused tries script.decls script.rounds opening.sequence rans
+  pub caused : AreRoundsCaused tries script.decls script.rounds opening.sequence rans
   pub full : FilesAreFull v script.decls run.ordered opening rans
   pub history : ComeFromWords script.decls opening.state (entries_of 0 rans script.rounds)
-  pub files : RunsOver v snap script.decls opening.state opening.saved run.ordered rans
-  pub kept : Keeps v script.decls run.ordered opening state rans ending
+  pub files : RunsOverFiles v snap script.decls opening.state opening.saved run.ordered rans
+  pub kept : KeepsRun v script.decls run.ordered opening state rans ending
   pub shown : Shows rans state ending
 
 -- the same, where the state isn't shown

@@ -20,11 +20,11 @@ use Rattle.log_writer.specs.Points.{saved_of}
 use Rattle.snapshot_store.specs.Content.{CatalogueAt}
 use Rattle.root_composer.specs.Composition.{IsComposed, IsTooDeep, WouldCompose}
 use Rattle.gleaner.specs.Glean.{bank_of}
-use Rattle.recovery_core.specs.Images.{Images}
-use Rattle.recovery_core.specs.JointCrash.{parts_of}
+use Rattle.joint_crashes.specs.Images.{Images}
+use Rattle.joint_crashes.specs.JointCrash.{parts_of}
 use Rattle.recovery_core.specs.Recoverable.{IsReading, Reading}
-use Rattle.recovery_core.specs.Resting.{AreTold}
-use Rattle.recovery_core.specs.Settled.{settled_pages}
+use Rattle.joint_crashes.specs.Resting.{AreTold}
+use Rattle.checkpoints.specs.Settled.{settled_pages}
 use Rattle.tx_script.specs.Causes.{keeper_at_end}
 use Rattle.tx_script.specs.Run.{LogFiles, Ran}
 use Rattle.tx_script.specs.declared.answer.Answer.TheVariants as answers
@@ -101,10 +101,10 @@ pub record MayGlean (f : FilesAt) (logged : ℕ → List Commit) : Type 0 where
   pub here : CatalogueAt f.words (length f.words) contents
 
 -- The snapshot that is made of these comes to so many pages, or one of them would stand too deep.
-abbrev pub ComesTo : (f : FilesAt) (logged : ℕ → List Commit) → MayGlean f logged → Option ℕ → Type 0
-ComesTo f logged of (Some new) =
+abbrev pub NextComesTo : (f : FilesAt) (logged : ℕ → List Commit) → MayGlean f logged → Option ℕ → Type 0
+NextComesTo f logged of (Some new) =
     WouldCompose of.run f.files.closed_at (length f.words) of.contents f.words new
-ComesTo f logged of None = (made : List (List ℕ)) × IsTooDeep of.run of.contents f.words made
+NextComesTo f logged of None = (made : List (List ℕ)) × IsTooDeep of.run of.contents f.words made
 
 -- These are the pages of that snapshot.
 abbrev pub AreOf : (f : FilesAt) (logged : ℕ → List Commit) → MayGlean f logged → List (List ℕ) → Type 0
@@ -118,7 +118,7 @@ MakesPages ran new = (epoch : ℕ) × Contains ran.answers (answers.Snap epoch n
 -- What gleans found is what the closed log files come to, and the pages that were added are those of the snapshot.
 pub record GleansOf (f : FilesAt) (ran : Ran) (made : List (List ℕ)) (logged : ℕ → List Commit) : Type 0 where
   pub found : (what : Option ℕ) → Contains ran.gleans what
-      → (of : MayGlean f logged) × ComesTo f logged of what
+      → (of : MayGlean f logged) × NextComesTo f logged of what
   pub added : (new : ℕ) → MakesPages ran new → (of : MayGlean f logged) × AreOf f logged of made
 
 -- Pages are added by a snapshot that is told, as many as it tells.
@@ -190,7 +190,7 @@ IsUnbroken v rans = NoneFailed v ⊎ AllByRecursion (λ ran. end_of ran ≡ None
 -- The rounds of a run were over these log files and pages: the first over what settling left, with no log file filled,
 -- and each other one over what the one before it left. The pages are those that the devices have afterwards: so what a
 -- round tells as a new snapshot was put there.
-pub record RunsOver {D : Type 0} (v : Vaults D) (room : ℕ) (decls : List Decl) (s : State) (saved : ℕ)
+pub record RunsOverFiles {D : Type 0} (v : Vaults D) (room : ℕ) (decls : List Decl) (s : State) (saved : ℕ)
     (commits : List Entry) (rans : List Ran) : Type 0 where
   pub words : List (List ℕ)
   pub begins : (rans ≡ [] → ⊥) → HoldsOf v (BeginsWith decls words)

@@ -2,11 +2,11 @@
 use Rattle.std.specs.Prelude.{◌≡◌, ◌⊎◌, ◌+◌, ◌<◌, ◌^◌, ℕ, Bool, true, List, Option, Some, Result, Ok, Err, IfOk}
 use Rattle.std.specs.Prelude.{length, sum_by}
 use Rattle.lists.specs.declared.memory.Memory.{Memory}
-use Rattle.outside.specs.Vault.{IsWhole}
+use Rattle.log_writer.specs.Vault.{IsWhole}
 use Rattle.outside.specs.declared.fault.Failed.{Failed}
-use Rattle.outside.specs.declared.vault.Vault.{Vault}
+use Rattle.log_writer.specs.declared.vault.Vault.{Vault}
 use Rattle.serial_model.specs.State.{State}
-use Rattle.recovery_core.specs.VaultReads.{VaultOnlyReads}
+use Rattle.joint_crashes.specs.VaultReads.{VaultOnlyReads}
 use Rattle.text_output.specs.Output.{Output}
 use Rattle.script_grammar.specs.Script.{Bytes, Round, Script}
 use Rattle.tx_script.specs.Run.{Ran}

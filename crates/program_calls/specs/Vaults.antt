@@ -1,11 +1,11 @@
 -- The vault of a call, before it and after it.
 use Rattle.std.specs.Prelude.{◌≡◌, ℕ, Option}
-use Rattle.outside.specs.declared.vault.Device.{Device}
-use Rattle.outside.specs.declared.vault.Vault.{Vault}
-use Rattle.recovery_core.specs.Images.{Images}
-use Rattle.recovery_core.specs.JointCrash.{parts_of}
-use Rattle.recovery_core.specs.Resting.{AreTold}
-use Rattle.recovery_core.specs.VaultReads.{RoseIn}
+use Rattle.outside.specs.declared.device.Device.{Device}
+use Rattle.log_writer.specs.declared.vault.Vault.{Vault}
+use Rattle.joint_crashes.specs.Images.{Images}
+use Rattle.joint_crashes.specs.JointCrash.{parts_of}
+use Rattle.joint_crashes.specs.Resting.{AreTold}
+use Rattle.joint_crashes.specs.VaultReads.{RoseIn}
 use Rattle.script_grammar.specs.Script.{Bytes}
 
 -- What a device tells of its bytes, of its clock and its crash images at each moment, and its count of faults; the vault

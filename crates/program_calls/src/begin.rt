@@ -1,7 +1,7 @@
 // From what a vault keeps to the first round of a run.
 ghost use Rattle.std.specs.Prelude.{◌≡◌, ◌≢◌, ◌+◌, ◌≤◌, IfErr, IfOk};
 ghost use Rattle.outside.specs.Disk.{IfTold, Only};
-ghost use Rattle.outside.specs.Vault.{IsWhole};
+ghost use Rattle.log_writer.specs.Vault.{IsWhole};
 ghost use Rattle.command_line.specs.Options.{AreInRange};
 ghost use Rattle.script_grammar.specs.Script.{IsScript};
 ghost use Rattle.program_calls.specs.OnTheWay.{BeginsRun, EndsBefore, IsForgotten};
@@ -12,11 +12,12 @@ ghost use Rattle.tx_script.specs.Run.{clock_after};
 use crate::ending::Ending;
 use crate::kept::ending_of_refusal;
 use crate::shape::check_shape;
-use checkpoints::settle;
+use checkpoints::{SettleFault, settle};
 use command_line::RunOptions;
 use lists::OrMemory;
-use outside::{Disk, Vault};
-use recovery_core::{SettleFault, pages_fit, recover};
+use log_writer::Vault;
+use outside::Disk;
+use recovery_core::{pages_fit, recover};
 use round_engine::{LimitName, Runtime};
 use serial_model::{Config, Number};
 use std::alloc::Global;

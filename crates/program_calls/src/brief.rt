@@ -1,9 +1,9 @@
 // What is told behind the rounds of a run in brief.
 ghost use Rattle.std.specs.Prelude.{◌≡◌, List, true};
-ghost use Rattle.outside.specs.Vault.{IsWhole};
-ghost use Rattle.outside.specs.declared.vault.Vault.{Vault};
+ghost use Rattle.log_writer.specs.Vault.{IsWhole};
+ghost use Rattle.log_writer.specs.declared.vault.Vault.{Vault};
 ghost use Rattle.serial_model.specs.State.{State};
-ghost use Rattle.recovery_core.specs.VaultReads.{VaultOnlyReads};
+ghost use Rattle.joint_crashes.specs.VaultReads.{VaultOnlyReads};
 ghost use Rattle.tx_script.specs.Run.{Ran};
 ghost use Rattle.brief_output.specs.Brief.{tally_of};
 ghost use Rattle.program_calls.specs.InBrief.{SumsBehind, SumsRead};
@@ -14,7 +14,8 @@ ghost use Rattle.program_calls.specs.Vaults.{vaults_of};
 use crate::ending::Ending;
 use crate::teller::Teller;
 use brief_output::{put_brief, total_of};
-use outside::{Disk, Failed, Sink, Vault};
+use log_writer::Vault;
+use outside::{Disk, Failed, Sink};
 use recovery_core::recover;
 use std::alloc::Global;
 use text_output::Printer;

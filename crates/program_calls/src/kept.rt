@@ -1,7 +1,7 @@
 // What the devices of a database keep, and which snapshots they have, told as text.
 ghost use Rattle.std.specs.Prelude.{◌≡◌};
-ghost use Rattle.outside.specs.Vault.{IsWhole};
-ghost use Rattle.recovery_core.specs.VaultReads.{VaultOnlyReads};
+ghost use Rattle.log_writer.specs.Vault.{IsWhole};
+ghost use Rattle.joint_crashes.specs.VaultReads.{VaultOnlyReads};
 ghost use Rattle.text_output.specs.Output.{Prints};
 ghost use Rattle.program_calls.specs.Listings.{Listed, snapshot_line, snapshots_text};
 ghost use Rattle.program_calls.specs.OnTheWay.{AddsText, TellsSnapshot, TellsText, ending_of_fault, ending_of_refusal};
@@ -10,7 +10,8 @@ ghost use Rattle.tx_script.specs.StateText.{state_text};
 
 use crate::ending::Ending;
 use command_line::Command;
-use outside::{Disk, Failed, Sink, Vault};
+use log_writer::Vault;
+use outside::{Disk, Failed, Sink};
 use recovery_core::{RecoverFault, Recovered, SnapshotMark, recover, snapshot};
 use serial_model::{OrMemory, State};
 use std::alloc::Global;

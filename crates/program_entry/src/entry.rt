@@ -1,7 +1,7 @@
 // What the program does over its streams, once they are made.
 ghost use Rattle.std.specs.Prelude.{◌≡◌, IfErr, map};
 ghost use Rattle.std.specs.Process.{exit_status};
-ghost use Rattle.outside.specs.Vault.{IsWhole};
+ghost use Rattle.log_writer.specs.Vault.{IsWhole};
 ghost use Rattle.command_line.specs.Options.{command_of};
 ghost use Rattle.program_calls.specs.Causes.{AnswersFaults, LeavesVault};
 ghost use Rattle.program_calls.specs.OnTheWay.{Explains, IsEarly, IsExit, TellsEnding};
@@ -16,7 +16,8 @@ use crate::script_source::Remembers;
 use crate::streams::fill_places;
 use command_line::{Command, read_words};
 use lists::Memory;
-use outside::{FileDisk, Sink, Source, Vault};
+use log_writer::Vault;
+use outside::{FileDisk, Sink, Source};
 use program_calls::{Ending, Watcher, finish, status_told, top};
 use std::alloc::{AllocError, Global};
 use std::env::{self, Env};

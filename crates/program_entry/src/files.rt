@@ -1,13 +1,14 @@
 // The database directory: a folder with a file for each device.
 ghost use Rattle.std.specs.Prelude.{◌≡◌, IfErr, IfOk};
-ghost use Rattle.outside.specs.Vault.{IsWhole};
+ghost use Rattle.log_writer.specs.Vault.{IsWhole};
 ghost use Rattle.program_calls.specs.OnTheWay.{IsEarly, IsWithout};
 
 use crate::not_opened::{NotOpened, Why};
 use crate::opening::{Access, making, open_apart};
 use crate::paths::device_path;
 use crate::save_file::{SaveFile, give_name, open_save};
-use outside::{Device, FileDisk, MemDisk, Vault};
+use log_writer::{Records, Vault};
+use outside::{Device, FileDisk, MemDisk};
 use std::alloc::{AllocError, Global};
 use std::fs::{File, Files};
 
@@ -62,8 +63,8 @@ pub fn open_vault<R: Files<File = File>>(
             snaps,
             even,
             odd,
-            ties: Vec::new(alloc),
-            cuts: Vec::new(alloc),
+            ties: Records::new(alloc),
+            cuts: Records::new(alloc),
         },
     })
 }
@@ -134,8 +135,8 @@ pub(crate) fn no_vault(alloc: Global) -> Result<Vault<MemDisk>, AllocError>
         snaps: no_bytes(alloc)?,
         even,
         odd,
-        ties: Vec::new(alloc),
-        cuts: Vec::new(alloc),
+        ties: Records::new(alloc),
+        cuts: Records::new(alloc),
     })
 }
 

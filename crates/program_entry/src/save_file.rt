@@ -1,7 +1,7 @@
 // The savepoint's file: it is locked while a call lasts, and names a database once all other files are there.
 ghost use Rattle.std.specs.Prelude.{◌≡◌, ◌≤ℤ◌, IfErr, IfOk, pos};
 ghost use Rattle.std.specs.Fd.{file_raw_fd};
-ghost use Rattle.outside.specs.declared.vault.Device.TheVariants.{Save};
+ghost use Rattle.outside.specs.declared.device.Device.TheVariants.{Save};
 ghost use Rattle.program_calls.specs.OnTheWay.{IsWithout};
 
 use crate::not_opened::{NotOpened, Why};

@@ -3,7 +3,8 @@ ghost use Rattle.std.specs.Prelude.{IfOk};
 ghost use Rattle.outside.specs.Disk.{IfTold, Only};
 
 use crate::in_turn::InTurn;
-use outside::{Disk, MemDisk, MemSink, MemSource, OpenGate, Sink, Source, SureSource, Vault};
+use log_writer::{Records, Vault};
+use outside::{Disk, MemDisk, MemSink, MemSource, OpenGate, Sink, Source, SureSource};
 use program_calls::{Watcher, top};
 use std::alloc::{AllocError, Global};
 use std::process::Abort;
@@ -50,8 +51,8 @@ pub(crate) fn vault_of(
         snaps,
         even,
         odd,
-        ties: Vec::new(alloc),
-        cuts: Vec::new(alloc),
+        ties: Records::new(alloc),
+        cuts: Records::new(alloc),
     })
 }
 
@@ -89,8 +90,8 @@ pub(crate) fn anew(
         snaps,
         even,
         odd,
-        ties: Vec::new(alloc),
-        cuts: Vec::new(alloc),
+        ties: Records::new(alloc),
+        cuts: Records::new(alloc),
     })
 }
 

@@ -1,4 +1,7 @@
 // Runs that make snapshots, and what is told of them afterwards.
+ghost use Rattle.std.specs.Prelude.{IfOk};
+ghost use Rattle.outside.specs.Disk.{IfTold, Only};
+
 use super::failing_devices::{BANKS, check_run, failing_vault, part};
 use super::*;
 
@@ -399,4 +402,135 @@ fn a_tree_has_no_more_than_32_levels(rt: HostRuntime) -> Result<(), Fail> {
     let (mut script, mut text) = (String::new(alloc), String::new(alloc));
     deep_script(alloc, &mut script, &mut text)?;
     check_deep(&rt, script.as_str(), text.as_str())
+}
+
+// Two closed log files, each with the call of a glean that fails: of workers of one mapper, and of both.
+const TWO_FAIL: [((usize, u64), (usize, u64)); 6] = [
+    ((0, 3), (4, 1)),
+    ((0, 4), (7, 1)),
+    ((1, 1), (5, 1)),
+    ((3, 1), (4, 1)),
+    ((1, 1), (2, 1)),
+    ((5, 1), (7, 1)),
+];
+
+// A vault of which a call of two log files of even number fails.
+fn failing_twice(
+    alloc: Global,
+    fresh: &Vault<MemDisk>,
+    low: (usize, u64),
+    high: (usize, u64),
+) -> Result<Vault<MemDisk>, AllocError>
+    ensures { IfOk result (λ vault. IfTold (⟦<MemDisk as Disk>⟧.tells vault.save)
+        (Only ⟦<MemDisk as Disk>⟧.clock ⟦<MemDisk as Disk>⟧.image_at vault.save)) }
+{
+    let mut vault = failing_vault(alloc, fresh, BANKS[2 * (low.0 % 8)], low.1)?;
+    let other = failing_vault(alloc, fresh, BANKS[2 * (high.0 % 8)], high.1)?;
+    let mut failing = Vec::new(alloc);
+    for (at, (one, two)) in vault.even.into_iter().zip(other.even).enumerate() {
+        failing.push(if at == high.0 { two } else { one })?;
+    }
+    vault.even = failing;
+    Ok(vault)
+}
+
+// The lower one is told, and no snapshot is made.
+fn check_twice<R: Threads + Wait + Sync + AllocGlobal + Abort>(
+    rt: &R,
+    fresh: &Vault<MemDisk>,
+    low: (usize, u64),
+    high: (usize, u64),
+) -> Result<(), Fail> {
+    let name = BANKS[2 * (low.0 % 8)];
+    let told = format!(in rt.alloc(); "0.0 ok 1:1\ndurable 1\nk.0 device\ndevice {name}\n")?;
+    let mut vault = failing_twice(rt.alloc(), fresh, low, high)?;
+    check_run(rt, &mut vault, SCRIPT, (name, low.1), (5, told.as_bytes()))?;
+    check_answer(rt, &mut vault, "dump", b"", (0, b"epoch 1\n1 2 7\n"))?;
+    check_answer(rt, &mut vault, "snaps", b"", (0, b"snap 0 at 1\n"))
+}
+
+#[test]
+fn the_lower_of_two_failing_log_files_is_told(rt: HostRuntime) -> Result<(), Fail> {
+    let fresh = fresh_vault(rt.alloc())?;
+    for (low, high) in &TWO_FAIL {
+        check_twice(&rt, &fresh, *low, *high)?;
+    }
+    Ok(())
+}
+
+// A line of this worker that puts its number at this key of each of 16 storages.
+fn add_sixteen(alloc: Global, script: &mut String, worker: u8, key: u8) -> Result<(), AllocError> {
+    let start = format!(in alloc; "{worker} w 1 {key} 1")?;
+    script.push_str(start.as_str())?;
+    for id in 2..=16 {
+        let op = format!(in alloc; "; w {id} {key} {id}")?;
+        script.push_str(op.as_str())?;
+    }
+    script.push_str("\n")
+}
+
+// 16 arrays, each written by two workers of both mappers: more buckets than the queues have room for.
+fn many_storages(alloc: Global) -> Result<String, AllocError> {
+    let mut script = String::new(alloc);
+    for id in 1..=16 {
+        let line = format!(in alloc; "array {id} 4\n")?;
+        script.push_str(line.as_str())?;
+    }
+    add_sixteen(alloc, &mut script, 0, 0)?;
+    add_sixteen(alloc, &mut script, 3, 1)?;
+    add_sixteen(alloc, &mut script, 4, 2)?;
+    add_sixteen(alloc, &mut script, 7, 3)?;
+    script.push_str("join\nk glean\n")?;
+    Ok(script)
+}
+
+fn kept_storages(alloc: Global) -> Result<String, AllocError> {
+    let mut text = String::from_str(alloc, "epoch 1\n")?;
+    for id in 1..=16 {
+        let lines = format!(in alloc; "{id} 0 {id}\n{id} 1 {id}\n{id} 2 {id}\n{id} 3 {id}\n")?;
+        text.push_str(lines.as_str())?;
+    }
+    Ok(text)
+}
+
+fn check_many<R: Threads + Wait + Sync + AllocGlobal + Abort>(
+    rt: &R,
+    vault: &mut Vault<MemDisk>,
+    script: &str,
+    kept: &str,
+) -> Result<(), Fail> {
+    let (status, _text) = answer_anew(rt, vault, "run", script.as_bytes())?;
+    assert_eq!(rt; status, 0);
+    check_answer(rt, vault, "snap 1", b"", (0, kept.as_bytes()))
+}
+
+#[test]
+fn a_snapshot_of_many_storages(rt: HostRuntime) -> Result<(), Fail> {
+    let alloc = rt.alloc();
+    let mut vault = fresh_vault(alloc)?;
+    let (script, kept) = (many_storages(alloc)?, kept_storages(alloc)?);
+    check_many(&rt, &mut vault, script.as_str(), kept.as_str())
+}
+
+// Two workers who add to one value a hundred times each, and a snapshot of that.
+fn additions(alloc: Global) -> Result<String, AllocError> {
+    let mut script = String::from_str(alloc, "array 1 1\n")?;
+    for _ in 0..100 {
+        script.push_str("0 a 1 0 1\n1 a 1 0 1\n")?;
+    }
+    script.push_str("join\nk glean\n")?;
+    Ok(script)
+}
+
+#[test]
+fn a_snapshot_of_two_workers(rt: HostRuntime) -> Result<(), Fail> {
+    let script = additions(rt.alloc())?;
+    let mut vault = fresh_vault(rt.alloc())?;
+    let (status, text) = answer_anew(&rt, &mut vault, "run --tries 1000000", script.as_bytes())?;
+    assert_eq!(rt; status, 0);
+    assert!(rt;
+        text.as_slice()
+            .ends_with(b"durable 1\nk.0 snap 1 new 2\ndurable 2\n")
+    );
+    Ok(())
 }

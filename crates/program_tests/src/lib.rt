@@ -43,7 +43,8 @@ use calling::*;
 #[cfg(test)]
 use in_turn::InTurn;
 #[cfg(test)]
-use outside::{Disk, MemDisk, MemSink, MemSource, OpenGate, SureSource, Vault};
+use log_writer::{Records, Vault};
+use outside::{Disk, MemDisk, MemSink, MemSource, OpenGate, SureSource};
 #[cfg(test)]
 use program_calls::{Watcher, top};
 #[cfg(test)]

@@ -106,8 +106,8 @@ pub(super) fn fused_vault(
         snaps,
         even,
         odd,
-        ties: Vec::new(alloc),
-        cuts: Vec::new(alloc),
+        ties: Records::new(alloc),
+        cuts: Records::new(alloc),
     })
 }
 
@@ -186,8 +186,8 @@ fn stopped(
         snaps,
         even,
         odd,
-        ties: Vec::new(alloc),
-        cuts: Vec::new(alloc),
+        ties: Records::new(alloc),
+        cuts: Records::new(alloc),
     })
 }
 

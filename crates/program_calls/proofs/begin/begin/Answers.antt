@@ -4,7 +4,7 @@ use Rattle.std.proofs.lemmas.Result.{err_from_is_err_and}
 use Rattle.lists.specs.declared.memory.OrMemory.{OrMemory}
 use Rattle.log_writer.specs.Save.{IsStored}
 use Rattle.recovery_core.specs.declared.fault.RecoverFault.{RecoverFault}
-use Rattle.recovery_core.specs.declared.fault.SettleFault.{SettleFault}
+use Rattle.checkpoints.specs.declared.fault.SettleFault.{SettleFault}
 use Rattle.program_calls.proofs.NotBegun.{begins_over, is_read, recovery_refused, settled_memory, settling_refused, shape_refused}
 use Rattle.program_calls.proofs.Unfinished.{other_apart, refused_apart, settling_apart}
 use Rattle.program_calls.proofs.begin.begin.Goals as goal
@@ -57,7 +57,7 @@ returns-in-Ok-new-clause-begins g c =
     let fits = c.in-Ok-settle.ensures.fits (λ is. cc) (λ is. cc) (λ have new room is. cc) in
     begins_over (is_read c.requires.whole c.in-Ok.ensures.reads c.in-Ok.ensures.quiet c.forget_records.ensures c.in-Ok.ensures.recovers c.in-Ok.ensures.up
     (rw c.decls.ensures at c.in_ok-check_shape.ensures.same))
-    _ _ c.in-Ok-settle.settled c.in-Ok-new.runtime c.in-Ok-settle.ensures.crashes c.new.ensures.vault (rw c.decls-2.ensures at c.in-Ok-settle.ensures.settles) c.in-Ok-settle.ensures.snapshots c.in-Ok-settle.ensures.quiet fits
+    _ _ c.in-Ok-settle.settled c.in-Ok-new.runtime c.in-Ok-settle.ensures.crashes c.new.ensures.vault (rw c.decls-2.ensures at c.in-Ok-settle.ensures.settles) c.in-Ok-settle.ensures.snapshots c.in-Ok-settle.ensures.quiet c.in-Ok-settle.ensures.records fits
     (λ due last. elim (c.in-Ok-settle.ensures.last last due fits) [
       | inl memory ↦ absurd cc
       | inr limit ↦ absurd cc

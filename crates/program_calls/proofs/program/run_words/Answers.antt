@@ -6,7 +6,7 @@ use Rattle.program_calls.specs.Vaults.{vaults_of}
 use Rattle.program_calls.proofs.Courses.{command_as, memory_ran, memory_in_brief}
 use Rattle.text_output.specs.Printed.{adds_nothing}
 use Rattle.program_calls.specs.Causes.{IsInFull}
-use Rattle.recovery_core.specs.VaultReads.{vault_reads_none}
+use Rattle.joint_crashes.specs.VaultReads.{vault_reads_none}
 use Rattle.program_calls.proofs.Listed.{listed_asked, memory_listed}
 use Rattle.program_calls.proofs.Statuses.{no_device_told, status_8, words_at_8, words_done}
 use Rattle.program_calls.proofs.program.run_words.Goals as goal

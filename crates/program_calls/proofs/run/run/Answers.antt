@@ -6,7 +6,7 @@ use Rattle.program_calls.proofs.Here.{here}
 use Rattle.program_calls.proofs.Courses.{made_came, script_came, unread_came, usage_came, brief_of, script_in_brief, unread_in_brief}
 use Rattle.program_calls.proofs.NotBegun.{rests_read}
 use Rattle.program_calls.proofs.Statuses.{devices_unread, faults_unread, no_device_told, source_as, unread_most}
-use Rattle.recovery_core.specs.VaultReads.{vault_reads_none}
+use Rattle.joint_crashes.specs.VaultReads.{vault_reads_none}
 use Rattle.program_calls.proofs.Listed.{devices_listed, dump_status, faults_listed, same_listed, snap_status, snaps_status, usage_not_listed}
 use Rattle.program_calls.proofs.Makes.{devices_made, faults_made, same_made, script_made, status_made, usage_not_made}
 use Rattle.command_line.specs.declared.command.RunOptions.{RunOptions}

@@ -12,8 +12,7 @@
 logs=$top/crates/foedus/out
 cores=$(nproc 2>/dev/null) || cores=1
 
-# How many copies: one fewer than processors, since the library that all others wait for has jobs for each, at most six,
-# and none for which there aren't four gigabytes of memory.
+# How many copies: as many as processors, at most six, and none for which there aren't four gigabytes of memory.
 copies_wanted() (
     case $FOEDUS_COPIES in
     '') ;;
@@ -21,7 +20,7 @@ copies_wanted() (
     *) echo "$FOEDUS_COPIES" && exit ;;
     esac
     memory=$(awk '/^MemAvailable:/ { print int($2 / 4000000) }' /proc/meminfo 2>/dev/null)
-    wanted=$((cores - 1))
+    wanted=$cores
     [ "$wanted" -le "${memory:-1}" ] || wanted=$memory
     [ "$wanted" -le 6 ] || wanted=6
     [ "$wanted" -ge 1 ] || wanted=1
@@ -56,20 +55,24 @@ guard() {
     rm -rf "$room" 2>/dev/null || { sleep 1 && rm -rf "$room"; }
 }
 
-# Calls the toolchain in the folder of a crate. A file has its number as long as it runs, for the guard.
+# Calls the toolchain in the folder of a crate, below others where `gentle` says how. A file has its number as long as it
+# runs, for the guard.
 call_rt() (
     folder=$1 job=$room/job.$2 && shift 2 || exit
-    # shellcheck disable=SC2016
-    sh -c 'cd -- "$1" && echo $$ >"$2" && shift 2 && exec rt "$@"' sh "$folder" "$job" "$@" </dev/null 3>&- 9>&-
+    # shellcheck disable=SC2016,SC2086
+    sh -c 'cd -- "$1" && echo $$ >"$2" && shift 2 && exec "$@"' sh "$folder" "$job" $gentle rt "$@" </dev/null 3>&- 9>&-
     status=$?
     rm -f "$job"
     exit "$status"
 )
 
 # In the background, where it lets go of the guard's pipe: proves a library with so many jobs in a copy, by its number,
-# or in the tree, which has the number 0; tells how that ended; and then has the tree take over what a copy made.
+# or in the tree, which has the number 0; tells how that ended; and then has the tree take over what a copy made. One
+# with a single job gives way to the one that all others wait for.
 prove() {
     exec 8>&-
+    gentle=''
+    [ "$2" != 1 ] || gentle='nice -n 10'
     place=$room/$3
     [ "$3" != 0 ] || place=$top
     call_rt "$place/crates/$1" "$1" lib --jobs "$2" >"$logs/$1.log" 2>&1
@@ -172,6 +175,7 @@ prove_libraries() {
 # In the background, too: the toolchain builds a program by running it, here with words at which it touches no file.
 link() {
     exec 8>&-
+    gentle=''
     call_rt "$top/crates/foedus" foedus run --jobs "$cores" -- make 1 1 1 >"$logs/foedus.log" 2>&1
 }
 

@@ -3,7 +3,7 @@
 # `ended` and `begun` are lists of names, `cores` the number of processors.
 #
 # Of the libraries that can be begun it is the one with the most work above it. Where no other one that isn't proved has
-# more, all wait for it, and it gets as many jobs as there are processors; else two.
+# more, all wait for it, and it gets as many jobs as there are processors; else one, since each further job costs work.
 BEGIN {
     count = split(ended, names, " ")
     for (place = 1; place <= count; place++) is_ended[names[place]] = 1
@@ -21,4 +21,4 @@ BEGIN {
     }
 }
 
-END { if (name != "") print name, (left >= most || cores < 2 ? cores : 2) }
+END { if (name != "") print name, (left >= most ? cores : 1) }

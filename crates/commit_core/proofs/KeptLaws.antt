@@ -1,7 +1,6 @@
 -- Records that are kept, when places or homes change: each is at its key's home, or dead.
-use Rattle.std.proofs.Common.{◌≡◌, ℕ, true, ◌&&◌, eqb, eqb-true, leb, inl, inr, List, sym, ap, ◌∙◌, subst, arith, Some}
+use Rattle.std.proofs.Common.{◌≡◌, ℕ, ◌≤◌, true, inl, inr, List, sym, ap, ◌∙◌, subst, arith, Some}
 use Rattle.std.proofs.lemmas.Bool.{and_parts, cond-true}
-use Rattle.std.proofs.lemmas.Bool.Decides.{nat_tests}
 use Rattle.serial_model.specs.declared.key.Key.{Key}
 use Rattle.homes.specs.declared.places.Content.{Content}
 use Rattle.homes.specs.declared.places.Holder.TheVariants.{Dead}
@@ -12,6 +11,7 @@ use Rattle.commit_core.specs.declared.part.Word.{Word}
 use Rattle.commit_core.specs.declared.part.Word.TheVariants.{Record, Pointer, Header}
 use Rattle.commit_core.specs.declared.part.Part.{Part}
 use Rattle.homes.specs.Homes.{in_span}
+use Rattle.homes.specs.Laws.{in_span-parts}
 use Rattle.commit_core.specs.Keys.{same_key, nothing}
 use Rattle.commit_core.specs.Places.{place_of, spot_at, placed}
 use Rattle.commit_core.specs.Parts.{covers, found, only, record_part, version_of}
@@ -25,12 +25,10 @@ key_of : (a b : Key) → a.storage ≡ b.storage → a.key ≡ b.key → a ≡ b
 key_of a b e f = ap (λ (s : ℕ). let k : Key = record { storage = s; key = a.key } in k) e ∙ ap (λ (n : ℕ). let k : Key = record { storage = b.storage; key = n } in k) f
 
 in_only : (k q : Key) → in_span (only k) q ≡ true → q ≡ k
-in_only k q e =
-    let parts = and_parts (eqb q.storage k.storage) (leb k.key q.key && leb q.key k.key) e in
-    key_of q k (eqb-true q.storage k.storage parts.0) (squeezed k.key q.key parts.1)
+in_only k q e = let at = in_span-parts (only k) q e in key_of q k at.0 (squeezed k.key q.key at.1 at.2)
   where
-    squeezed : (a b : ℕ) → (leb a b && leb b a) ≡ true → b ≡ a
-    squeezed a b e = grind (arith, nat_tests)
+    squeezed : (a b : ℕ) → a ≤ b → b ≤ a → b ≡ a
+    squeezed a b low high = omega arith
 
 -- it covers its key alone
 pub record_covers : (k : Key) (x : Spot) (c : Content) (q : Key) → covers (record_part k x c) q ≡ true → q ≡ k

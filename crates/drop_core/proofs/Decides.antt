@@ -1,13 +1,13 @@
 -- What the tests of the conditions decide of children: what they lead to, and that they tile a span.
-use Rattle.std.proofs.Common.{◌≡◌, ℕ, zero, suc, ◌+◌, ◌-◌, ◌<◌, ◌≤◌, Bool, true, false, true≢false, eqb, eqb-true, eq-eqb, leb, ltb, ◌&&◌, ◌||◌, ◌⊎◌, inl, inr, List, [], ◌∷◌, refl, sym, ap, ◌∙◌, subst, arith, Option, Some, None}
-use Rattle.std.proofs.lemmas.Bool.{and_parts, and_from, or_cases, cases_Bool}
+use Rattle.std.proofs.Common.{◌≡◌, ℕ, zero, suc, ◌+◌, ◌-◌, ◌<◌, ◌≤◌, Bool, true, false, true≢false, eqb, eqb-true, leb, ltb, ◌&&◌, ◌||◌, ◌⊎◌, inl, inr, List, [], ◌∷◌, refl, sym, ap, ◌∙◌, subst, arith, Option, Some, None}
+use Rattle.std.proofs.lemmas.Bool.{and_parts, or_cases, cases_Bool}
 use Rattle.std.proofs.lemmas.Bool.Decides.{nat_tests}
 use Rattle.std.specs.List.{list_all}
 use Rattle.std.specs.Prelude.{is_none}
 use Rattle.serial_model.specs.declared.key.Key.{Key}
 use Rattle.homes.specs.declared.places.Span.{Span}
 use Rattle.homes.specs.Homes.{same_key, has_key, in_span}
-use Rattle.homes.specs.Laws.{same_key-true, number_or_other}
+use Rattle.homes.specs.Laws.{same_key-true, number_or_other, in_span-parts, in_span-from}
 use Rattle.drop_core.specs.declared.table.Page.TheVariants.{Inner}
 use Rattle.drop_core.specs.declared.table.Table.{Table}
 use Rattle.drop_core.specs.Table.{has_pointer}
@@ -175,27 +175,14 @@ module _ (d : Table) (s : ℕ) (span : Span) (count : ℕ) (tiles : all_below co
       reached : (a n b : ℕ) → leb n a ≡ false → b ≡ suc a → b ≤ n
       reached a n b e is = grind (arith, nat_tests)
 
-  in_parts : (w : Span) (k : Key) → in_span w k ≡ true → (k.storage ≡ w.storage) × (w.low ≤ k.key) × (k.key ≤ w.high)
-  in_parts w k inside =
-      let parts = and_parts (eqb k.storage w.storage) (leb w.low k.key && leb k.key w.high) inside in
-      let ends = and_parts (leb w.low k.key) (leb k.key w.high) parts.1 in
-      (eqb-true k.storage w.storage parts.0, at_most w.low k.key ends.0, at_most k.key w.high ends.1)
-
-  in_from : (w : Span) (k : Key) → k.storage ≡ w.storage → w.low ≤ k.key → k.key ≤ w.high → in_span w k ≡ true
-  in_from w k is from to = and_from (eqb k.storage w.storage) (leb w.low k.key && leb k.key w.high) (eq-eqb k.storage w.storage is)
-      (and_from (leb w.low k.key) (leb k.key w.high) (test w.low k.key from) (test k.key w.high to))
-    where
-      test : (a b : ℕ) → a ≤ b → leb a b ≡ true
-      test a b le = grind (arith, nat_tests)
-
   pub tiles-cover : ltb 0 count ≡ true → (k : Key) → in_span span k ≡ true → (j : ℕ) × (has_pointer (Inner count) j ≡ true) × (in_span (child d s j).span k ≡ true)
   tiles-cover some k inside =
-      let at = in_parts span k inside in
+      let at = in_span-parts span k inside in
       let last = before count some in
       let there = under last.0 count last.1 in
       let ends : high last.0 ≡ span.high = end_of last.0 last.1 (part last.0 there).end in
       let r = found_at last.0 k.key there at.1 (up k.key span.high (high last.0) at.2 ends) in
-      (r.0, r.1, in_from (child d s r.0).span k (at.0 ∙ sym (part r.0 r.1).storage) r.2 r.3)
+      (r.0, r.1, in_span-from (child d s r.0).span k (at.0 ∙ sym (part r.0 r.1).storage) r.2 r.3)
     where
       before : (n : ℕ) → ltb 0 n ≡ true → (l : ℕ) × (n ≡ suc l)
       before zero e = absurd (none e)
@@ -216,11 +203,11 @@ module _ (d : Table) (s : ℕ) (span : Span) (count : ℕ) (tiles : all_below co
 
   pub tiles-within : ltb 0 count ≡ true → (j : ℕ) (k : Key) → has_pointer (Inner count) j ≡ true → in_span (child d s j).span k ≡ true → in_span span k ≡ true
   tiles-within some j k there inside =
-      let at = in_parts (child d s j).span k inside in
+      let at = in_span-parts (child d s j).span k inside in
       let last = before count some in
       let from = above_low j there in
       let to = below_high last.0 j last.1 there in
-      in_from span k (at.0 ∙ (part j there).storage) (through span.low (low j) k.key from at.1) (through k.key (high j) span.high at.2 to)
+      in_span-from span k (at.0 ∙ (part j there).storage) (through span.low (low j) k.key from at.1) (through k.key (high j) span.high at.2 to)
     where
       before : (n : ℕ) → ltb 0 n ≡ true → (l : ℕ) × (n ≡ suc l)
       before zero e = absurd (none e)
@@ -235,8 +222,8 @@ module _ (d : Table) (s : ℕ) (span : Span) (count : ℕ) (tiles : all_below co
   pub tiles-apart : (i j : ℕ) (k : Key) → has_pointer (Inner count) i ≡ true → has_pointer (Inner count) j ≡ true
       → in_span (child d s i).span k ≡ true → in_span (child d s j).span k ≡ true → i ≡ j
   tiles-apart i j k ti tj ini inj =
-      let ai = in_parts (child d s i).span k ini in
-      let aj = in_parts (child d s j).span k inj in
+      let ai = in_span-parts (child d s i).span k ini in
+      let aj = in_span-parts (child d s j).span k inj in
       elim (cases_Bool (ltb i j)) [
         | inl e ↦ let o = in_order i j (less i j e) tj in absurd (clash (high i) (low j) k.key o ai.2 aj.1)
         | inr e ↦ elim (cases_Bool (ltb j i)) [

@@ -1,6 +1,6 @@
 -- What the conditions of growing and splitting say, as facts of all keys.
-use Rattle.std.proofs.Common.{◌≡◌, ℕ, ◌-◌, ◌<◌, ◌≤◌, Bool, true, false, not, true≢false, eqb, eqb-true, eq-eqb, leb, ltb, ◌&&◌, ◌||◌, ◌⊎◌, inl, inr, List, [], ◌∷◌, length, refl, sym, ◌∙◌, subst, arith, Some}
-use Rattle.std.proofs.lemmas.Bool.{cases_Bool, and_parts, and_from, or_cases}
+use Rattle.std.proofs.Common.{◌≡◌, ℕ, ◌-◌, ◌<◌, ◌≤◌, Bool, true, false, not, true≢false, eqb, eq-eqb, leb, ltb, ◌&&◌, ◌||◌, ◌⊎◌, inl, inr, List, [], ◌∷◌, length, refl, sym, ◌∙◌, subst, arith, Some}
+use Rattle.std.proofs.lemmas.Bool.{cases_Bool, and_parts, or_cases}
 use Rattle.std.proofs.lemmas.Bool.Decides.{nat_tests}
 use Rattle.std.specs.List.{list_all}
 use Rattle.serial_model.specs.declared.key.Key.{Key}
@@ -8,7 +8,7 @@ use Rattle.homes.specs.declared.places.At.{At}
 use Rattle.homes.specs.declared.places.Span.{Span}
 use Rattle.homes.specs.declared.places.Home.{Home}
 use Rattle.homes.specs.Homes.{same_key, has_key, in_span, is_free, holder_is}
-use Rattle.homes.specs.Laws.{same_key-true}
+use Rattle.homes.specs.Laws.{same_key-true, in_span-parts, in_span-from}
 use Rattle.drop_core.specs.declared.table.Led.{Led}
 use Rattle.drop_core.specs.declared.table.Led.TheVariants.{Never, From, Away}
 use Rattle.drop_core.specs.declared.table.SlotState.TheVariants.{Published}
@@ -47,21 +47,8 @@ at_most a b e = grind (arith, nat_tests)
 below : (a b : ℕ) → ltb a b ≡ true → a < b
 below a b e = grind (arith, nat_tests)
 
-test : (a b : ℕ) → a ≤ b → leb a b ≡ true
-test a b le = grind (arith, nat_tests)
-
-in_parts : (w : Span) (k : Key) → in_span w k ≡ true → (k.storage ≡ w.storage) × (w.low ≤ k.key) × (k.key ≤ w.high)
-in_parts w k inside =
-    let parts = and_parts (eqb k.storage w.storage) (leb w.low k.key && leb k.key w.high) inside in
-    let ends = and_parts (leb w.low k.key) (leb k.key w.high) parts.1 in
-    (eqb-true k.storage w.storage parts.0, at_most w.low k.key ends.0, at_most k.key w.high ends.1)
-
-in_from : (w : Span) (k : Key) → k.storage ≡ w.storage → w.low ≤ k.key → k.key ≤ w.high → in_span w k ≡ true
-in_from w k is from to = and_from (eqb k.storage w.storage) (leb w.low k.key && leb k.key w.high) (eq-eqb k.storage w.storage is)
-    (and_from (leb w.low k.key) (leb k.key w.high) (test w.low k.key from) (test k.key w.high to))
-
 pub no_key : (k : Key) → in_span no_span k ≡ true → ⊥
-no_key k inside = let at = in_parts no_span k inside in none k.key at.1 at.2
+no_key k inside = let at = in_span-parts no_span k inside in none k.key at.1 at.2
   where
     none : (n : ℕ) → 1 ≤ n → n ≤ 0 → ⊥
     none n a b = absurd (omega arith)
@@ -154,29 +141,29 @@ module _ (span : Span) (n : ℕ) (sep : is_separator span n ≡ true) where
 
   cover : (k : Key) → in_span span k ≡ true → (in_span (lower_span span n) k ≡ true) ⊎ (in_span (upper_span span n) k ≡ true)
   cover k inside =
-      let at = in_parts span k inside in
+      let at = in_span-parts span k inside in
       elim (cases_Bool (leb n k.key)) [
-        | inl e ↦ inr (in_from (upper_span span n) k at.0 (at_most n k.key e) at.2)
-        | inr e ↦ inl (in_from (lower_span span n) k at.0 at.1 (before n k.key e))
+        | inl e ↦ inr (in_span-from (upper_span span n) k at.0 (at_most n k.key e) at.2)
+        | inr e ↦ inl (in_span-from (lower_span span n) k at.0 at.1 (before n k.key e))
       ]
     where
       before : (n k : ℕ) → leb n k ≡ false → k ≤ n - 1
       before n k e = grind (arith, nat_tests)
 
   lower_in : (k : Key) → in_span (lower_span span n) k ≡ true → in_span span k ≡ true
-  lower_in k inside = let at = in_parts (lower_span span n) k inside in in_from span k at.0 at.1 (up k.key n span.high at.2 sides.1)
+  lower_in k inside = let at = in_span-parts (lower_span span n) k inside in in_span-from span k at.0 at.1 (up k.key n span.high at.2 sides.1)
     where
       up : (k n h : ℕ) → k ≤ n - 1 → n ≤ h → k ≤ h
       up k n h a b = omega arith
 
   upper_in : (k : Key) → in_span (upper_span span n) k ≡ true → in_span span k ≡ true
-  upper_in k inside = let at = in_parts (upper_span span n) k inside in in_from span k at.0 (up span.low n k.key sides.0 at.1) at.2
+  upper_in k inside = let at = in_span-parts (upper_span span n) k inside in in_span-from span k at.0 (up span.low n k.key sides.0 at.1) at.2
     where
       up : (l n k : ℕ) → l < n → n ≤ k → l ≤ k
       up l n k a b = omega arith
 
   halves_apart : (k : Key) → in_span (lower_span span n) k ≡ true → in_span (upper_span span n) k ≡ true → ⊥
-  halves_apart k low up = let a = in_parts (lower_span span n) k low in let b = in_parts (upper_span span n) k up in clash span.low n k.key sides.0 a.2 b.1
+  halves_apart k low up = let a = in_span-parts (lower_span span n) k low in let b = in_span-parts (upper_span span n) k up in clash span.low n k.key sides.0 a.2 b.1
     where
       clash : (l n k : ℕ) → l < n → k ≤ n - 1 → n ≤ k → ⊥
       clash l n k x a b = absurd (omega arith)

@@ -1,7 +1,6 @@
 -- A machine begins sound.
-use Rattle.std.proofs.Common.{◌≡◌, ℕ, zero, suc, ◌<◌, ◌≤◌, true, false, true≢false, eqb, eqb-true, leb, ◌&&◌, ◌⊎◌, inl, inr, List, [], ◌∷◌, refl, sym, ap, ◌∙◌, subst, arith, Option, Some, None}
-use Rattle.std.proofs.lemmas.Bool.{cases_Bool, or_left, or_right, cond-true, cond-false, false_from_ne_true, and_parts}
-use Rattle.std.proofs.lemmas.Bool.Decides.{nat_tests}
+use Rattle.std.proofs.Common.{◌≡◌, ℕ, zero, suc, ◌<◌, ◌≤◌, true, false, true≢false, eqb, eqb-true, ◌⊎◌, inl, inr, List, [], ◌∷◌, refl, sym, ap, ◌∙◌, subst, arith, Option, Some, None}
+use Rattle.std.proofs.lemmas.Bool.{cases_Bool, or_left, or_right, cond-true, cond-false, false_from_ne_true}
 use Rattle.std.proofs.lemmas.List.Sums.{sum_by-cons}
 use Rattle.std.specs.List.{list_any}
 use Rattle.std.specs.Prelude.{replicate}
@@ -14,7 +13,7 @@ use Rattle.homes.specs.declared.places.Span.{Span}
 use Rattle.homes.specs.declared.places.Home.{Home}
 use Rattle.homes.specs.declared.places.Home.TheVariants.{InSlot, Nowhere}
 use Rattle.homes.specs.Homes.{same_at, in_span, look}
-use Rattle.homes.specs.Laws.{same_at-true, same_at-self}
+use Rattle.homes.specs.Laws.{same_at-true, same_at-self, in_span-parts}
 use Rattle.drop_core.specs.declared.table.Led.TheVariants.{Never, From, Away}
 use Rattle.drop_core.specs.declared.table.Pointer.{Pointer}
 use Rattle.drop_core.specs.declared.table.SnapPage.{SnapPage}
@@ -25,10 +24,10 @@ use Rattle.drop_core.specs.Opening.{root_pointers, opening_table, fresh_grip, op
 use Rattle.drop_core.specs.HomeLaws.{snap-fixed}
 
 no_key : (k : Key) → in_span (no_pointer.span) k ≡ true → ⊥
-no_key k e = none k.key (and_parts (eqb k.storage 0) (leb 1 k.key && leb k.key 0) e).1
+no_key k e = let at = in_span-parts (no_pointer.span) k e in none k.key at.1 at.2
   where
-    none : (n : ℕ) → (leb 1 n && leb n 0) ≡ true → ⊥
-    none n e = grind (arith, nat_tests)
+    none : (n : ℕ) → 1 ≤ n → n ≤ 0 → ⊥
+    none n low high = absurd (omega arith)
 
 abbrev pointer_in : ℕ → List (Span × ℕ) → At → Pointer
 pointer_in i roots y = look same_at no_pointer (root_pointers i roots) y

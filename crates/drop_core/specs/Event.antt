@@ -5,6 +5,7 @@ use Rattle.std.specs.Option.{option_map_or}
 use Rattle.lists.specs.declared.memory.OrMemory.{OrMemory}
 use Rattle.lists.specs.declared.memory.OrMemory.TheVariants.{Fault, Memory}
 use Rattle.serial_model.specs.declared.key.Key.{Key}
+use Rattle.wire_form.specs.Leaves.{tree_leaf, minor, major}
 use Rattle.homes.specs.declared.places.Content.{Content}
 use Rattle.homes.specs.declared.places.Holder.{Holder}
 use Rattle.homes.specs.declared.places.Holder.TheVariants.{Free, Held, Dead}
@@ -262,14 +263,15 @@ leaf_keys Split = []
 
 -- a leaf to which keys are added has so many at most
 abbrev pub most_records : ℕ
-most_records = 16
+most_records = tree_leaf.room
 
--- a full leaf is split with one more key, into leaves of so many keys
+-- a full leaf is split with one more key, into one of so many keys
 abbrev pub minor_records : ℕ
-minor_records = 8
+minor_records = minor tree_leaf
 
+-- and one of so many
 abbrev pub major_records : ℕ
-major_records = 9
+major_records = major tree_leaf
 
 -- the keys that are below what leads to a slot
 abbrev pub led_span : Table → Led → Span

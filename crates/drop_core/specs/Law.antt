@@ -195,3 +195,24 @@ pub record TestsDecide : Type 0 where
       ↔ ((k : Key) → in_span span k ≡ true → has_key keys k ≡ false → snap_home d n k ≡ Nowhere)
   pub same_homes : (d : Table) (span : Span) (m n : ℕ)
       → (same_below d span m n ≡ true) ↔ ((k : Key) → in_span span k ≡ true → snap_home d m k ≡ snap_home d n k)
+
+-- ---- all of them
+
+-- What holds under every list of events.
+pub record PagesStaySound : Type 0 where
+  pub each_act : EachActKeeps
+  pub each_act_leaves : EachActLeaves
+  pub each_act_leaves_held : EachActLeavesHeld
+  pub each_act_leaves_made : EachActLeavesMade
+  pub starts : StartsSound
+  pub stays : StaysSound
+  pub held : HeldIsNotGiven
+  pub made : MadeIsOwn
+  pub enters : Enters
+  pub ways : WaysLeadHome
+  pub install : InstallsMoveUp
+  pub swing : SwingsMoveDown
+  pub chains : ChainsMoveDown
+  pub away : SwingsTakeAway
+  pub splits : SplitsComeOfTwins
+  pub tests : TestsDecide

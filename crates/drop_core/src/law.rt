@@ -1,5 +1,5 @@
 // What holds under every list of events.
-ghost use Rattle.drop_core.specs.Law.{EachActKeeps, EachActLeaves, EachActLeavesHeld, EachActLeavesMade, StartsSound, StaysSound, HeldIsNotGiven, MadeIsOwn, Enters, WaysLeadHome, InstallsMoveUp, SwingsMoveDown, ChainsMoveDown, SplitsComeOfTwins, SwingsTakeAway, TestsDecide};
+ghost use Rattle.drop_core.specs.Law.{PagesStaySound};
 
 /// The theorem, about the very condition and effect that `DropCore::step` follows. Each act keeps the pages sound,
 /// with the homes after its moves, and leaves alone the pages that any seat holds, what another seat has locked or shut,
@@ -9,20 +9,5 @@ ghost use Rattle.drop_core.specs.Law.{EachActKeeps, EachActLeaves, EachActLeaves
 /// the snapshot page to the slot, and a swing from the slot, or from all slots of a chain, to one; a swing alone takes
 /// away what leads to a slot. The tests over lists that an install and a swing ask are exact of all keys.
 pub fn pages_stay_sound()
-    ensures each_act { EachActKeeps }
-    ensures each_act_leaves { EachActLeaves }
-    ensures each_act_leaves_held { EachActLeavesHeld }
-    ensures each_act_leaves_made { EachActLeavesMade }
-    ensures starts { StartsSound }
-    ensures stays { StaysSound }
-    ensures held { HeldIsNotGiven }
-    ensures made { MadeIsOwn }
-    ensures enters { Enters }
-    ensures ways { WaysLeadHome }
-    ensures install { InstallsMoveUp }
-    ensures swing { SwingsMoveDown }
-    ensures chains { ChainsMoveDown }
-    ensures away { SwingsTakeAway }
-    ensures splits { SplitsComeOfTwins }
-    ensures tests { TestsDecide }
+    ensures { PagesStaySound }
 {}

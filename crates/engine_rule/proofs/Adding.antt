@@ -1,8 +1,8 @@
 -- A record that is set behind those of a leaf, by the seat that holds its header: the place is no key's home, and nobody keeps
 -- what stood there.
 use mathlib.Core.Path.{fun_ext}
-use Rattle.std.proofs.Common.{◌≡◌, ℕ, suc, ◌+◌, ◌<◌, Bool, true, false, not, true≢false, eqb, leb, ltb, ◌&&◌, inl, inr, List, [], ◌∷◌, length, refl, sym, ap, ◌∙◌, subst, arith, Some}
-use Rattle.std.proofs.lemmas.Bool.{and_parts, and_from, cases_Bool, cond-true, cond-false, false_from_ne_true, leb-true}
+use Rattle.std.proofs.Common.{◌≡◌, ℕ, suc, ◌+◌, ◌<◌, ◌≤◌, Bool, true, false, not, true≢false, eqb, ltb, ◌&&◌, inl, inr, List, [], ◌∷◌, length, refl, sym, ap, ◌∙◌, subst, arith, Some}
+use Rattle.std.proofs.lemmas.Bool.{and_parts, and_from, cases_Bool, cond-true, cond-false, false_from_ne_true}
 use Rattle.std.specs.List.{list_all}
 use Rattle.serial_model.specs.declared.key.Key.{Key}
 use Rattle.homes.specs.declared.places.Content.{Content}
@@ -12,7 +12,7 @@ use Rattle.homes.specs.declared.places.At.{At}
 use Rattle.homes.specs.declared.places.Home.{Home}
 use Rattle.homes.specs.declared.places.Home.TheVariants.{InSlot, InPage, Nowhere}
 use Rattle.homes.specs.Homes.{same_key, same_spot, has_key, in_span, holder_is}
-use Rattle.homes.specs.Laws.{same_spot-true}
+use Rattle.homes.specs.Laws.{same_spot-true, in_span-parts}
 use Rattle.commit_core.specs.declared.place.Place.{Place}
 use Rattle.commit_core.specs.declared.part.Word.{Word}
 use Rattle.commit_core.specs.declared.part.Word.TheVariants.{Record}
@@ -72,10 +72,9 @@ index_below s i (x ∷ more) k y e =
 
 no_key : (k : Key) → in_span no_span k ≡ true → ⊥
 no_key k inside =
-    let a = and_parts (eqb k.storage 0) (leb 1 k.key && leb k.key 0) inside in
-    let b = and_parts (leb 1 k.key) (leb k.key 0) a.1 in
-    let low = leb-true 1 k.key b.0 in
-    let high = leb-true k.key 0 b.1 in
+    let at = in_span-parts no_span k inside in
+    let low : 1 ≤ k.key = at.1 in
+    let high : k.key ≤ 0 = at.2 in
     absurd (omega (arith, low, high))
 
 -- a leaf that takes the key: something leads to it, which is over the key, and the key isn't there yet

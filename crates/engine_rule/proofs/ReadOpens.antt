@@ -1,8 +1,8 @@
 -- A database may begin with the pages of a snapshot as they are read.
-use Rattle.std.proofs.Common.{◌≡◌, ◌≢◌, ℕ, zero, suc, ◌+◌, ◌<◌, ◌≤◌, true, eqb, eqb-true, eq-eqb, ◌&&◌, inl, inr, List, [], ◌∷◌, length, map, refl, sym, ap, ◌∙◌, subst, arith}
-use Rattle.std.proofs.lemmas.Bool.{and_parts, and_from, or_left, or_right, cases_Bool, cases_eq, cond-true, cond-false, cond_both, lt-ltb}
+use Rattle.std.proofs.Common.{◌≡◌, ◌≢◌, ℕ, zero, suc, ◌+◌, ◌<◌, ◌≤◌, true, eqb, eq-eqb, ◌&&◌, inl, inr, List, [], ◌∷◌, length, map, refl, sym, ap, ◌∙◌, subst, arith}
+use Rattle.std.proofs.lemmas.Bool.{and_from, or_left, or_right, cases_Bool, cases_eq, cond-true, cond-false, cond_both, lt-ltb}
 use Rattle.std.specs.List.{list_all, AllByRecursion, Contains}
-use Rattle.std.specs.Prelude.{nat_le, nat_lt}
+use Rattle.std.specs.Prelude.{nat_lt}
 use Rattle.lists.specs.Each.{AreDistinct}
 use Rattle.lists.specs.Elements.{in_none, in_head, in_tail, in_cases, any_is}
 use Rattle.serial_model.specs.declared.key.Key.{Key}
@@ -16,6 +16,7 @@ use Rattle.homes.specs.declared.places.Span.{Span}
 use Rattle.homes.specs.declared.places.Home.{Home}
 use Rattle.homes.specs.declared.places.Home.TheVariants.{InPage}
 use Rattle.homes.specs.Homes.{same_key, same_span, in_span}
+use Rattle.homes.specs.Laws.{in_span-parts}
 use Rattle.commit_core.specs.Keys.{nothing}
 use Rattle.drop_core.specs.declared.table.SnapPage.{SnapPage}
 use Rattle.drop_core.specs.declared.table.SnapPage.TheVariants.{Missing, Entries, Children}
@@ -58,7 +59,7 @@ roots_apart places (d ∷ decls) [] once = tt
 roots_apart places (d ∷ decls) (r ∷ roots) once = (apart, roots_apart places decls roots once.1)
   where
     in_storage : (id : ℕ) (p : Place) (k : Key) → in_span (span_of id p) k ≡ true → k.storage ≡ id
-    in_storage id p k inside = eqb-true k.storage id (and_parts (eqb k.storage id) (nat_le p.low k.key && nat_le k.key p.high) inside).0
+    in_storage id p k inside = (in_span-parts (span_of id p) k inside).0
 
     apart : (k : Key) → in_span (span_of (id_of d) (root_place d r)) k ≡ true → has_root (roots_of places (storages decls roots)) k → ⊥
     apart k inside other =

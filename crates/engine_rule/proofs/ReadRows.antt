@@ -7,10 +7,6 @@ use Rattle.snapshot_store.specs.declared.place.Place.{Place}
 use Rattle.engine_rule.specs.Reading.{IsBounded}
 use Rattle.snapshot_store.specs.ArrayPages.{fan, leaf_room, row, array_below}
 
-pub fan_is : fan ≡ 64
-unfolding fan
-fan_is = refl
-
 pub below_wide : (words : List ℕ) (low high part : ℕ) → 32 ≤ high - low → (high + 1 - low) / 64 ≡ part → array_below words low high ≡ row words part low 64
 unfolding leaf_room fan
 below_wide words low high part wide is =

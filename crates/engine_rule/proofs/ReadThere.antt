@@ -1,9 +1,9 @@
 -- Each place that a root leads to has a page that is there; and the roots one by one.
-use Rattle.std.proofs.Common.{◌≡◌, ℕ, zero, suc, ◌+◌, ◌-◌, ◌/◌, ◌^◌, ◌<◌, ◌≤◌, eqb, inl, inr, List, [], ◌∷◌, ◌++◌, append-nil, append_assoc, length, get_or, take, refl, sym, ap, ◌∙◌, subst, arith}
+use Rattle.std.proofs.Common.{◌≡◌, ℕ, zero, suc, ◌+◌, ◌-◌, ◌/◌, ◌<◌, ◌≤◌, eqb, inl, inr, List, [], ◌∷◌, ◌++◌, append-nil, append_assoc, length, get_or, take, refl, sym, ap, ◌∙◌, subst, arith}
 use Rattle.std.proofs.lemmas.Bool.{cases_lt, cond_both, eqb-false}
 use Rattle.std.proofs.lemmas.List.{length-map, take_more}
 use Rattle.std.specs.List.{flat_map, AllByRecursion}
-use Rattle.std.specs.Prelude.{nat_le, ⊤, if◌then◌else◌}
+use Rattle.std.specs.Prelude.{⊤}
 use Rattle.lists.specs.Each.{all_append}
 use Rattle.serial_model.specs.declared.decl.Decl.{Decl}
 use Rattle.serial_model.specs.declared.decl.Decl.TheVariants.{Array, Tree}
@@ -13,6 +13,7 @@ use Rattle.snapshot_store.specs.declared.place.Place.{Place}
 use Rattle.snapshot_store.specs.Places.{places_below, words_at}
 use Rattle.snapshot_store.specs.ArrayPages.{array_below}
 use Rattle.snapshot_store.specs.Content.{words_of, deepest, root_place, format_of}
+use Rattle.snapshot_store.specs.ReadLaws.{deepest_is, last_small}
 use Rattle.engine_rule.specs.Reading.{IsBounded, IsBoundedIn, IsThere, below_in, page_in, led_places, named_places}
 use Rattle.engine_rule.proofs.ReadPages.{page_there}
 use Rattle.engine_rule.proofs.ReadRows.{below_narrow, below_wide, row_bounded}
@@ -55,12 +56,9 @@ led_there pages decl (suc d) p small =
     (below_bounded decl (words_at pages p) p small) (λ q q_small. led_there pages decl d q q_small))
     ((positive p.number (page_in (length pages) p.number) there.1 (eqb-false (page_in (length pages) p.number) 0 some), there.0, small), tt))
 
-root_bounded : (decl : Decl) (root : ℕ) → IsBoundedIn decl (root_place decl root)
-root_bounded (Array id size) root = (
-  omega arith,
-  cond_both (nat_le size 32) 31 (if nat_le size 2048 then 2047 else 131071) (λ (high : ℕ). high < 2 ^ 32) (λ narrow. omega arith)
-      (λ wide. cond_both (nat_le size 2048) 2047 131071 (λ (high : ℕ). high < 2 ^ 32) (λ middle. omega arith) (λ most. omega arith)),
-)
+-- a root's range has small ends in an array
+pub root_bounded : (decl : Decl) (root : ℕ) → IsBoundedIn decl (root_place decl root)
+root_bounded (Array id size) root = (omega arith, last_small size)
 root_bounded (Tree id) root = tt
 
 -- each place of all roots
@@ -70,10 +68,6 @@ named_there pages ss =
     (λ s _. led_there pages s.decl deepest (root_place s.decl s.root) (root_bounded s.decl s.root))
 
 -- ---- one root more
-
-deepest_is : deepest ≡ 32
-unfolding deepest
-deepest_is = refl
 
 flat_push : {X Y : Type 0} (f : X → List Y) (xs : List X) (x : X) → flat_map f (xs ++ x ∷ []) ≡ flat_map f xs ++ f x
 flat_push f [] x = append-nil (f x)

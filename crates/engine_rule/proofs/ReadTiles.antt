@@ -1,6 +1,6 @@
 -- Pages as they are read: the children in a row tile a page's span, and a leaf has each key once.
 use Rattle.std.proofs.Common.{◌≡◌, ℕ, zero, suc, ◌+◌, ◌-◌, ◌*◌, ◌<◌, ◌≤◌, true, false, not, eqb, eq-eqb, ◌&&◌, List, [], ◌∷◌, ◌++◌, map, refl, ap, ◌∙◌, arith, Option, Some, None, inl, inr}
-use Rattle.std.proofs.lemmas.Bool.{and_parts, and_from, or_parts, both_ways, cases_lt, le-leb, false_from_ne_true}
+use Rattle.std.proofs.lemmas.Bool.{and_parts, and_from, or_parts, both_ways, cases_lt, false_from_ne_true}
 use Rattle.std.proofs.lemmas.Bool.Decides.{nat_tests}
 use Rattle.std.specs.List.{list_any, slice_index}
 use Rattle.std.specs.Prelude.{is_some, nat_le, nat_lt}
@@ -8,13 +8,14 @@ use Rattle.serial_model.specs.declared.key.Key.{Key}
 use Rattle.homes.specs.declared.places.Content.{Content}
 use Rattle.homes.specs.declared.places.Span.{Span}
 use Rattle.homes.specs.Homes.{same_key, in_span}
-use Rattle.homes.specs.Laws.{same_key-true, same_key-self}
+use Rattle.homes.specs.Laws.{same_key-true, same_key-self, in_span-from}
 use Rattle.lists.specs.Elements.{any_push-false}
 use Rattle.drop_core.specs.Event.{are_entries_of, is_next_part, is_first_part, tile_after, tile}
 use Rattle.snapshot_store.specs.declared.place.Place.{Place}
 use Rattle.snapshot_store.specs.Places.{Found, Cover}
 use Rattle.snapshot_store.specs.ArrayPages.{array_found}
-use Rattle.engine_rule.specs.Reading.{span_of, number_in, entry_of, key_at, array_entries}
+use Rattle.wire_form.specs.Words.{number_in}
+use Rattle.engine_rule.specs.Reading.{span_of, entry_of, key_at, array_entries}
 
 -- ---- children
 
@@ -99,9 +100,7 @@ entry_right span entries k None all inside none = ap (λ (l : List (Key × Conte
 entry_right span entries k (Some f) all inside none = entries_push span entries k (record { number = number_in f.number; value = Some f.value }) all inside refl none
 
 key_inside : (id : ℕ) (p : Place) (i : ℕ) → p.low + i ≤ p.high → in_span (span_of id p) (key_at id p.low i) ≡ true
-key_inside id p i less =
-    and_from (eqb id id) (nat_le p.low (p.low + i) && nat_le (p.low + i) p.high) (eq-eqb id id refl)
-    (and_from (nat_le p.low (p.low + i)) (nat_le (p.low + i) p.high) (le-leb p.low (p.low + i) (omega arith)) (le-leb (p.low + i) p.high less))
+key_inside id p i less = in_span-from (span_of id p) (key_at id p.low i) refl (omega arith) less
 
 -- a leaf has entries of its keys alone, each once
 pub entries_right : (id : ℕ) (p : Place) (words : List ℕ) (i : ℕ) → p.low + i ≤ p.high + 1 → are_entries_of (span_of id p) (array_entries id p.low words i) ≡ true

@@ -1,6 +1,6 @@
 -- Tree pages as they are read: a leaf has each key once, in its range; and its children stand one behind another.
-use Rattle.std.proofs.Common.{◌≡◌, ℕ, zero, suc, ◌+◌, ◌-◌, ◌*◌, ◌/◌, ◌%◌, ◌<◌, ◌≤◌, Bool, true, false, not, eqb, eq-eqb, cond, ◌&&◌, ◌||◌, ◌⊎◌, inl, inr, List, [], ◌∷◌, ◌++◌, append_assoc, length, get_or, take, drop, replicate, map, refl, sym, ap, ◌∙◌, arith, Option, Some, None}
-use Rattle.std.proofs.lemmas.Bool.{and_from, cases_Bool, cond-true, cond-false, false_from_ne_true, le-leb, leb-true}
+use Rattle.std.proofs.Common.{◌≡◌, ℕ, zero, suc, ◌+◌, ◌-◌, ◌*◌, ◌/◌, ◌%◌, ◌<◌, ◌≤◌, Bool, true, false, not, eqb, cond, ◌&&◌, ◌||◌, ◌⊎◌, inl, inr, List, [], ◌∷◌, ◌++◌, append_assoc, length, get_or, take, drop, replicate, map, refl, sym, ap, ◌∙◌, arith, Option, Some, None}
+use Rattle.std.proofs.lemmas.Bool.{and_from, cases_Bool, cond-true, cond-false, false_from_ne_true, leb-true}
 use Rattle.std.proofs.lemmas.Bool.Decides.{nat_tests}
 use Rattle.std.proofs.lemmas.List.{drop_all, drop_more, get_or-drop, get_or-take}
 use Rattle.std.specs.List.{flat_map, list_any, AllByRecursion}
@@ -10,7 +10,7 @@ use Rattle.serial_model.specs.declared.number.Number.{Number}
 use Rattle.homes.specs.declared.places.Content.{Content}
 use Rattle.homes.specs.declared.places.Span.{Span}
 use Rattle.homes.specs.Homes.{same_key, in_span}
-use Rattle.homes.specs.Laws.{same_key-true}
+use Rattle.homes.specs.Laws.{same_key-true, in_span-from}
 use Rattle.drop_core.specs.Event.{are_entries_of}
 use Rattle.wire_form.specs.declared.records.TreeRecord.{TreeRecord}
 use Rattle.wire_form.specs.Items.{RisesAfter}
@@ -18,7 +18,8 @@ use Rattle.wire_form.specs.Words.{number_word}
 use Rattle.wire_form.specs.Pages.{IsTreeRecord, Children, tree_record_words, record_key, device_header, tree_leaf_words, tree_inner_words}
 use Rattle.snapshot_store.specs.declared.place.Place.{Place}
 use Rattle.snapshot_store.specs.TreePages.{Record, Node, Leaf, Inner, records_at, count_of, node_of, children, records_of, IsTreePage}
-use Rattle.engine_rule.specs.Reading.{span_of, number_in, entry_for, tree_entries, child_count}
+use Rattle.wire_form.specs.Words.{number_in}
+use Rattle.engine_rule.specs.Reading.{span_of, entry_for, tree_entries, child_count}
 
 -- ---- a leaf's records
 
@@ -74,8 +75,7 @@ module _ (id : ℕ) where
       let others : List (Key × Content) = tree_entries id (map as_read rs) in
       let new : Bool = not (list_any (λ f. same_key f.0 (key_of r.key)) others) in
       and_from (in_span span (key_of r.key)) (true && (new && are_entries_of span others))
-      (and_from (eqb id id) (nat_le p.low r.key && nat_le r.key p.high) (eq-eqb id id refl)
-      (and_from (nat_le p.low r.key) (nat_le r.key p.high) (le-leb p.low r.key all.0.from_low) (le-leb r.key p.high all.0.to_high)))
+      (in_span-from span (key_of r.key) refl all.0.from_low all.0.to_high)
       (and_from new (are_entries_of span others) (ap not (none_later r.key rs rise.1)) (records_right p (Some r.key) rs all.1 rise.1))
 
   -- a tree's page has entries of its keys alone, each once

@@ -1,7 +1,7 @@
 -- What the machines read in the pages of a snapshot as they begin. A page is named by its number and the place for which
 -- it stands, so that one page may stand for more than one: it then has a name for each. Names are counted from 1, those
 -- of the pages below a page before its own.
-use Rattle.std.specs.Prelude.{◌≡◌, ℕ, zero, suc, ◌+◌, ◌-◌, ◌*◌, ◌/◌, ◌%◌, ◌^◌, ◌<◌, ◌≤◌, ◌==◌, ◌&&◌, Bool, List, [], ◌∷◌, ◌++◌, Option, Some, None, map, length, slice_index, nat_le, if◌then◌else◌, ⊤}
+use Rattle.std.specs.Prelude.{◌≡◌, ℕ, zero, suc, ◌+◌, ◌-◌, ◌/◌, ◌^◌, ◌<◌, ◌≤◌, ◌==◌, ◌&&◌, Bool, List, [], ◌∷◌, ◌++◌, Option, Some, None, map, length, slice_index, nat_le, if◌then◌else◌, ⊤}
 use Rattle.std.specs.List.{flat_map, AllByRecursion}
 use Rattle.serial_model.specs.declared.key.Key.{Key}
 use Rattle.serial_model.specs.declared.number.Number.{Number}
@@ -14,6 +14,8 @@ use Rattle.homes.specs.declared.places.Content.{Content}
 use Rattle.homes.specs.declared.places.Span.{Span}
 use Rattle.drop_core.specs.declared.table.SnapPage.{SnapPage}
 use Rattle.drop_core.specs.declared.table.SnapPage.TheVariants.{Missing, Entries, Children}
+use Rattle.wire_form.specs.Leaves.{array_leaf, tree_fan, word_in, value_in}
+use Rattle.wire_form.specs.Words.{number_in}
 use Rattle.wire_form.specs.declared.page.Page.{Page}
 use Rattle.wire_form.specs.declared.records.Stored.{Stored}
 use Rattle.snapshot_store.specs.declared.place.Place.{Place}
@@ -44,10 +46,12 @@ abbrev pub below_in : Decl → List ℕ → Place → List Place
 below_in decl words p = (format_of decl).below words p.low p.high
 
 -- How many children a tree's page names, none where it is a leaf: each but the last has a separator, of which a page has
--- at most 30.
+-- no more than room for.
 abbrev pub child_count : List ℕ → ℕ
 child_count words =
-    if slice_index words 0 / 256 == 2 then (if nat_le (count_of words) 31 then count_of words else 31) else 0
+    if slice_index words 0 / 256 == 2 then
+    (if nat_le (count_of words) (tree_fan + 1) then count_of words else tree_fan + 1)
+    else 0
 
 -- how many records a tree's page has, none where it isn't a leaf
 abbrev pub record_count : List ℕ → ℕ
@@ -103,10 +107,6 @@ name_of places decl p = if p.number == 0 then 0 else name_from 1 places decl p
 
 -- ---- what they are
 
--- the number in a record's word
-abbrev pub number_in : ℕ → Number
-number_in word = record { epoch = word / 2 ^ 40; draw = word % 2 ^ 40 }
-
 -- the entry of a key with this record
 abbrev pub entry_for : Key → Found → Key × Content
 entry_for k f = (k, record { number = number_in f.number; value = Some f.value })
@@ -125,7 +125,8 @@ abbrev pub array_entries : ℕ → ℕ → List ℕ → ℕ → List (Key × Con
 array_entries id low words zero = []
 array_entries id low words (suc i) =
     array_entries id low words i
-    ++ entry_of (key_at id low i) (array_found (slice_index words (2 * i)) (slice_index words (2 * i + 1)))
+    ++ entry_of (key_at id low i)
+    (array_found (slice_index words (word_in array_leaf i)) (slice_index words (value_in array_leaf i 0)))
 
 -- the entries of a tree's leaf with these records
 abbrev pub tree_entries : ℕ → List Record → List (Key × Content)

@@ -2,23 +2,14 @@
 ghost use Rattle.std.specs.Prelude.{◌≡◌, ◌^◌, ◌<◌, ◌≤◌, ◌++◌, IfOk, OnOk, slice_index};
 ghost use Rattle.snapshot_store.specs.ArrayPages.{array_found};
 ghost use Rattle.snapshot_store.specs.TreePages.{node_of, records_of};
-ghost use Rattle.engine_rule.specs.Reading.{IsBoundedIn, number_in, entry_of, array_entries, tree_entries, record_count, leaf_entries};
+ghost use Rattle.engine_rule.specs.Reading.{IsBoundedIn, entry_of, array_entries, tree_entries, record_count, leaf_entries};
 
 use homes::Content;
 use lists::Sequence;
-use serial_model::{Decl, Key, Memory, Number};
+use serial_model::{Decl, Key, Memory};
 use snapshot_store::Place;
 use std::alloc::Global;
-
-/// The number in a record's word.
-fn number_in(word: u64) -> Number
-    ensures { result ≡ number_in word }
-{
-    Number {
-        epoch: (word >> 40) as u32,
-        draw: word % (1 << 40),
-    }
-}
+use wire_form::number_in;
 
 /// Adds the entry of the key with this record. One that was never written has the number 0, and is none.
 fn push_entry(

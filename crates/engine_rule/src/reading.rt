@@ -1,19 +1,17 @@
 // The pages of a snapshot, as the machines have them: each named by its number and the place for which it stands.
 ghost use Rattle.std.specs.Prelude.{◌≡◌, ℕ, ◌^◌, ◌<◌, ◌≤◌, ◌++◌, IfOk, OnOk, length};
 ghost use Rattle.std.specs.List.{flat_map, AllByRecursion};
-ghost use Rattle.serial_model.specs.declared.decl.Decl.TheVariants.{Array};
-ghost use Rattle.serial_model.specs.Keys.{id_of};
 ghost use Rattle.snapshot_store.specs.Places.{page};
 ghost use Rattle.snapshot_store.specs.Content.{words_of, root_place};
-ghost use Rattle.engine_rule.specs.Reading.{IsBounded, IsBoundedIn, IsThere, below_in, span_of, page_in, led_places, storages, named_places, is_same, is_place, name_from, name_of, children_at, page_from, page_at, snaps_from, snaps_of, roots_of};
+ghost use Rattle.engine_rule.specs.Reading.{IsBoundedIn, IsThere, below_in, span_of, page_in, led_places, storages, named_places, is_same, is_place, name_from, name_of, children_at, page_from, page_at, snaps_from, snaps_of, roots_of};
 
 use crate::below::below_in;
 use crate::entries::leaf_entries;
 use drop_core::SnapPage;
 use homes::Span;
 use lists::Sequence;
-use serial_model::{Decl, Memory};
-use snapshot_store::Place;
+use serial_model::{Decl, Memory, id_of};
+use snapshot_store::{DEEPEST, Place, root_place};
 use std::alloc::Global;
 use wire_form::{Page, Stored};
 
@@ -25,16 +23,6 @@ fn span_of(id: u8, place: Place) -> Span
         storage: id,
         low: place.low,
         high: place.high,
-    }
-}
-
-/// The id of a storage.
-fn id_of(decl: Decl) -> u8
-    ensures { result ≡ id_of decl }
-{
-    match decl {
-        Decl::Array { id, .. } => id,
-        Decl::Tree { id } => id,
     }
 }
 
@@ -105,35 +93,11 @@ fn push_each(
 }
 
 /// The root of a storage stands for all its keys, or for all indexes that a page of its height can have.
-fn root_of(decl: Decl, root: u32) -> Place
-    ensures is { result ≡ root_place decl root }
-    ensures bounded { IsBoundedIn decl result }
+fn root_of(stored: &Stored) -> Place
+    ensures is { result ≡ root_place stored.now.decl stored.now.root }
+    ensures bounded { IsBoundedIn stored.now.decl result }
 {
-    match decl {
-        Decl::Array { size, .. } => array_root(size, root),
-        Decl::Tree { .. } => Place {
-            number: u64::from(root),
-            low: 0,
-            high: u64::MAX,
-        },
-    }
-}
-
-/// The root of an array.
-fn array_root(size: u32, root: u32) -> Place
-    ensures is { (id : ℕ) → result ≡ root_place (Array id size) root }
-    ensures bounded { IsBounded result }
-{
-    let high = match size {
-        0..=32 => 31,
-        33..=2048 => 2047,
-        _ => 131_071,
-    };
-    Place {
-        number: u64::from(root),
-        low: 0,
-        high,
-    }
+    root_place(stored)
 }
 
 /// The places of all pages that the roots lead to, in the order of their names.
@@ -148,8 +112,8 @@ pub fn named_places(
 {
     let mut all = Sequence::new(alloc);
     for storage in storages {
-        let root = root_of(storage.decl, storage.root);
-        push_place(alloc, pages, storage.decl, 32, root, &mut all)?;
+        let root = root_of(storage);
+        push_place(alloc, pages, storage.decl, DEEPEST, root, &mut all)?;
     }
     Ok(all)
 }
@@ -158,7 +122,7 @@ pub fn named_places(
 fn is_place(decl: Decl, place: Place, other: (Decl, Place)) -> bool
     ensures { result ≡ is_place decl place other }
 {
-    id_of(other.0) == id_of(decl) && is_same(place, other.1)
+    id_of(&other.0) == id_of(&decl) && is_same(place, other.1)
 }
 
 /// Whether it is the same place, with the same page.
@@ -198,7 +162,7 @@ fn children_at(
 {
     let mut children = Sequence::new(alloc);
     for place in below {
-        children.push((span_of(id_of(decl), *place), name_of(places, decl, *place)))?;
+        children.push((span_of(id_of(&decl), *place), name_of(places, decl, *place)))?;
     }
     Ok(children)
 }
@@ -215,7 +179,7 @@ fn page_from(
     requires bounded { IsBoundedIn decl place }
     ensures { IfOk result (λ page. page ≡ page_from places.now decl words.now place (below_in decl words.now place)) }
 {
-    let span = span_of(id_of(decl), place);
+    let span = span_of(id_of(&decl), place);
     let below = below_in(alloc, decl, words, place)?;
     if below.is_empty() {
         return Ok(SnapPage::Entries(span, leaf_entries(alloc, decl, words, place)?));
@@ -270,9 +234,9 @@ pub fn roots_of(
 {
     let mut roots = Sequence::new(alloc);
     for storage in storages {
-        let root = root_of(storage.decl, storage.root);
+        let root = root_of(storage);
         roots.push((
-            span_of(id_of(storage.decl), root),
+            span_of(id_of(&storage.decl), root),
             name_of(places, storage.decl, root),
         ))?;
     }

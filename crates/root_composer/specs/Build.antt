@@ -3,6 +3,7 @@ use Rattle.std.specs.Prelude.{ℕ, ◌+◌, ◌-◌, ◌/◌, ◌%◌, List, [],
 use Rattle.std.specs.Int.{div_ceil}
 use Rattle.std.specs.List.{flat_map}
 use Rattle.wire_form.specs.Bytes.{padded}
+use Rattle.wire_form.specs.Leaves.{tree_leaf as tree_records, tree_fan}
 use Rattle.wire_form.specs.Pages.{device_header, tree_inner_words}
 use Rattle.snapshot_store.specs.TreePages.{Node, Leaf, Inner, node_of}
 use Rattle.snapshot_store.specs.declared.place.Place.{Place}
@@ -12,11 +13,11 @@ use Rattle.root_composer.specs.Rows.{entries_in, merged, rows_of}
 
 -- how many records a leaf has at most; this and the next are not computed in goals
 unfoldable pub leaf_most : ℕ
-leaf_most = 16
+leaf_most = tree_records.room
 
 -- how many children an interior page has at most
 unfoldable pub fan_most : ℕ
-fan_most = 30
+fan_most = tree_fan
 
 -- ---- pages
 

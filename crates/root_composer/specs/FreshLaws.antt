@@ -20,9 +20,11 @@ use Rattle.root_composer.specs.Newest.{IsNewest}
 
 -- ---- tests of numbers
 
+-- a greater number is not at most a smaller one
 pub too_wide : (a b : ℕ) → b < a → leb a b ≡ false
 too_wide a b h = grind (arith, nat_tests)
 
+-- a number is at most each that is none below it
 pub fits : (a b : ℕ) → a ≤ b → leb a b ≡ true
 fits a b h = grind (arith, nat_tests)
 

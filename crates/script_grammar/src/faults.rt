@@ -8,12 +8,12 @@ ghost use Rattle.script_grammar.specs.Faults.{begins_with, is_decl_shape, has_no
 
 use crate::fault::FaultKind;
 use crate::op_faults::{declares, op_count, some_op_is};
-use crate::read_line::{LARGEST_ARRAY, WORKERS, is_join};
+use crate::read_line::{LARGEST_ARRAY, is_join};
 use crate::read_op::{IDS, MOST_OPS};
 use crate::reader::{LONGEST_LINE, MOST_LINES, MOST_STORAGES};
 use crate::words::{cut_worker, is_no_number, number_in, word, word_count};
 use decimals::number_of;
-use serial_model::Decl;
+use serial_model::{Decl, WORKERS};
 use std::marker::Model;
 
 /// Where a line stands.
@@ -137,7 +137,7 @@ fn is_no_worker(word: &[u8]) -> bool
     ensures { result ≡ passes (nat_le 8) (number_of word.now) }
 {
     match number_of(word) {
-        Some(worker) => worker >= WORKERS,
+        Some(worker) => worker >= WORKERS as u64,
         None => false,
     }
 }

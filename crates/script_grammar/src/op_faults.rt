@@ -8,7 +8,7 @@ ghost use Rattle.script_grammar.specs.Faults.{has_letter, is_op_shape, lacks_op_
 use crate::fault::FaultKind;
 use crate::read_op::IDS;
 use crate::words::{cut_op, cut_worker, is_no_number, number_in, word, word_count};
-use serial_model::Decl;
+use serial_model::{Decl, id_of};
 
 fn is_letter(letters: &[u8], word: &[u8]) -> bool
     ensures { result ≡ is_letter letters.now word.now }
@@ -41,18 +41,10 @@ fn lacks_op_number(op: &[u8]) -> bool
     is_no_number(op, 1) || is_no_number(op, 2) || is_no_number(op, 3)
 }
 
-fn id_of(decl: &Decl) -> u64
-    ensures { result ≡ id_of decl.now }
-{
-    match *decl {
-        Decl::Array { id, .. } | Decl::Tree { id } => u64::from(id),
-    }
-}
-
 pub(crate) fn declares(decls: &[Decl], id: u64) -> bool
     ensures { result ≡ list_any (λ d. id_of d == id) decls.now }
 {
-    decls.iter().any(|decl| id_of(decl) == id)
+    decls.iter().any(|decl| u64::from(id_of(decl)) == id)
 }
 
 fn is_undeclared(decls: &[Decl], storage: u64) -> bool

@@ -10,9 +10,7 @@ use crate::lines::KeeperLine;
 use crate::read_op::{IDS, read_ops};
 use crate::words::cut_worker;
 use decimals::number_of;
-use serial_model::Decl;
-
-pub(crate) const WORKERS: u64 = 8;
+use serial_model::{Decl, WORKERS};
 
 pub(crate) const LARGEST_ARRAY: u64 = 131_072;
 
@@ -21,7 +19,7 @@ fn worker_in(word: &[u8]) -> Option<u8>
     ensures { result ≡ worker_in word.now }
 {
     let worker = number_of(word)?;
-    if worker < WORKERS {
+    if worker < WORKERS as u64 {
         Some(worker as u8)
     } else {
         None

@@ -10,9 +10,9 @@ use crate::flat_ops::LineOps;
 use crate::read_line::{decl_at, is_join, keeper_in, read_worker};
 use crate::rounds::Rounds;
 use crate::script::Script;
-use crate::storages::{Storages, id_of};
+use crate::storages::Storages;
 use lists::{Memory, OrMemory};
-use serial_model::{Decl, Op, fits};
+use serial_model::{Decl, Op, fits, id_of};
 use std::alloc::Global;
 use std::marker::Model;
 

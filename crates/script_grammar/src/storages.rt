@@ -1,10 +1,10 @@
 // The declared storages while a script is read, and for each id the keys that it plainly has.
 ghost use Rattle.std.specs.Prelude.{◌≡◌, [], ◌∷◌, ◌++◌, IsTrue, length, true, OnOk, OnErr};
-ghost use Rattle.serial_model.specs.Keys.{has_key, id_of, is_tree};
+ghost use Rattle.serial_model.specs.Keys.{has_key, is_tree};
 ghost use Rattle.script_grammar.specs.Front.{IsLimitOf};
 
 use lists::Memory;
-use serial_model::{Decl, Decls, Key};
+use serial_model::{Decl, Decls, Key, id_of};
 use std::alloc::Global;
 use std::marker::Model;
 
@@ -26,14 +26,6 @@ impl Model for Storages {
     ghost view = { λ s. s.decls };
 
     ghost invariant = { λ s. AreLimits s.decls s.limits };
-}
-
-pub(crate) fn id_of(decl: &Decl) -> u8
-    ensures { result ≡ id_of decl.now }
-{
-    match *decl {
-        Decl::Array { id, .. } | Decl::Tree { id } => id,
-    }
 }
 
 /// Below which a storage has each key. A tree has one more.

@@ -8,6 +8,7 @@ use Rattle.std.proofs.lemmas.Map.Lookups.{exact_pairs, exact_unsigned}
 use Rattle.serial_model.specs.Keys.{key_cmp}
 use Rattle.serial_model.specs.declared.key.Key.{Key}
 
+-- the order of keys is total
 pub keys_total : IsTotalOrder key_cmp
 keys_total = then_total (on_total (λ (k : Key). k.storage) nat_cmp_total) (on_total (λ (k : Key). k.key) nat_cmp_total)
 

@@ -9,6 +9,10 @@ use Rattle.serial_model.specs.declared.number.Number.{Number}
 abbrev pub last_epoch : ℕ
 last_epoch = 2 ^ 20 - 2
 
+-- how many workers there are
+abbrev pub workers : ℕ
+workers = 8
+
 -- from this draw on the clock gives no numbers: seats of 64 workers may each have one on the way
 abbrev pub draw_limit : ℕ
 draw_limit = 2 ^ 40 - 64

@@ -1,4 +1,6 @@
 // The storages of a database.
+ghost use Rattle.std.specs.Prelude.{◌≡◌};
+ghost use Rattle.serial_model.specs.Keys.{id_of};
 
 use lists::Sequence;
 
@@ -13,3 +15,12 @@ pub enum Decl {
 
 /// Declared storages, in the order in which they were declared.
 pub type Decls = Sequence<Decl>;
+
+/// The id of a storage.
+pub fn id_of(decl: &Decl) -> u8
+    ensures { result ≡ id_of decl.now }
+{
+    match *decl {
+        Decl::Array { id, .. } | Decl::Tree { id } => id,
+    }
+}

@@ -18,12 +18,12 @@ mod reply;
 mod rows;
 mod state;
 
-pub use decl::{Decl, Decls};
+pub use decl::{Decl, Decls, id_of};
 pub use draft::Draft;
 pub use key::Key;
 pub use lent::{LentReplies, LentReply, LentRows};
 pub use lists::{Memory, OrMemory};
-pub use number::{Change, Changes, Commit, Config, DRAW_LIMIT, LAST_EPOCH, Number};
+pub use number::{Change, Changes, Commit, Config, DRAW_LIMIT, LAST_EPOCH, Number, WORKERS};
 pub use op::{Op, fits};
 pub use plain::{Plain, run_in, run_one};
 pub use reply::{Replies, Reply, Verdict};

@@ -19,6 +19,9 @@ pub struct Number {
 /// The last epoch: its clock word is the greatest that names an epoch.
 pub const LAST_EPOCH: u32 = (1 << 20) - 2;
 
+/// How many workers there are.
+pub const WORKERS: usize = 8;
+
 /// From this draw on the clock gives no numbers: seats of 64 workers may each have one on the way.
 pub const DRAW_LIMIT: u64 = (1 << 40) - 64;
 

@@ -4,16 +4,18 @@ use Rattle.std.specs.Prelude.{◌≡◌, ◌⊎◌, ◌≤◌, ℕ, ◌+◌, ◌
 use Rattle.std.specs.Int.{div_ceil}
 use Rattle.wire_form.specs.declared.page.PageKind.{PageKind}
 use Rattle.wire_form.specs.declared.page.PageKind.TheVariants.{ArrayLeaf, ArrayInner}
+use Rattle.wire_form.specs.Leaves.{array_leaf, array_fan, word_in, value_in}
 use Rattle.wire_form.specs.Pages.{HasKind}
 use Rattle.snapshot_store.specs.declared.place.Place.{Place}
 use Rattle.snapshot_store.specs.Places.{Found, Format}
 
--- the words of a page, and the records of a leaf; not computed in goals
+-- how many pointers a page has room for; not computed in goals
 unfoldable pub fan : ℕ
-fan = 64
+fan = array_fan
 
+-- how many records a leaf has room for; not computed in goals
 unfoldable pub leaf_room : ℕ
-leaf_room = 32
+leaf_room = array_leaf.room
 
 -- how many indexes a range has
 abbrev pub span_of : ℕ → ℕ → ℕ
@@ -35,8 +37,10 @@ array_found number value = if number == 0 then None else Some (record { number =
 
 -- the record of an index is told by two words
 abbrev pub array_look : List ℕ → ℕ → ℕ → Option Found
-array_look words low key = array_found (slice_index words (2 * (key - low))) (slice_index words (2 * (key - low) + 1))
+array_look words low key =
+    array_found (slice_index words (word_in array_leaf (key - low))) (slice_index words (value_in array_leaf (key - low) 0))
 
+-- how the pages of arrays are read
 abbrev pub array_format : Format
 array_format = record { below = array_below; look = array_look }
 
@@ -49,10 +53,19 @@ abbrev pub array_kind : ℕ → ℕ → ℕ → PageKind
 array_kind size low high =
     if nat_le (span_of low high) leaf_room then ArrayLeaf (min leaf_room (size - low)) else ArrayInner (min fan (parts_of (size - low) (span_of low high / fan)))
 
+-- how many indexes a page has so many levels above the leaves
+abbrev pub indexes_at : ℕ → ℕ
+indexes_at zero = array_leaf.room
+indexes_at (suc height) = array_fan * indexes_at height
+
+-- the last of the indexes of such a page, counted from its first
+abbrev pub last_at : ℕ → ℕ
+last_at height = indexes_at height - 1
+
 -- the range of an array's leaf, or of an interior page of either height, with so many pages down to go
 abbrev pub IsLevel : ℕ → ℕ → ℕ → Type 0
 IsLevel d low high =
-    ((1 ≤ d) × (high ≡ low + 31)) ⊎ (((2 ≤ d) × (high ≡ low + 2047)) ⊎ ((3 ≤ d) × (high ≡ low + 131071)))
+    ((1 ≤ d) × (high ≡ low + last_at 0)) ⊎ (((2 ≤ d) × (high ≡ low + last_at 1)) ⊎ ((3 ≤ d) × (high ≡ low + last_at 2)))
 
 -- no page where there is no number, else the array's page for the range
 pub record IsArrayPage (size : ℕ) (p : Place) (words : List ℕ) : Type 0 where

@@ -12,7 +12,7 @@ use Rattle.wire_form.specs.declared.records.Stored.{Stored}
 use Rattle.wire_form.specs.Pages.{Contents, IsCatalogue, catalogue_words}
 use Rattle.snapshot_store.specs.declared.place.Place.{Place}
 use Rattle.snapshot_store.specs.Places.{Found, Format, find, page, StandsTo}
-use Rattle.snapshot_store.specs.ArrayPages.{array_format, IsArrayPage}
+use Rattle.snapshot_store.specs.ArrayPages.{array_format, indexes_at, last_at, IsArrayPage}
 use Rattle.snapshot_store.specs.TreePages.{tree_format, IsTreePage}
 
 -- the words of pages
@@ -25,7 +25,8 @@ deepest = 32
 
 -- the last index for which an array's root stands: a leaf, or an interior page over leaves, or one over those
 abbrev pub last_index : ℕ → ℕ
-last_index size = if nat_le size 32 then 31 else if nat_le size 2048 then 2047 else 131071
+last_index size =
+    if nat_le size (indexes_at 0) then last_at 0 else if nat_le size (indexes_at 1) then last_at 1 else last_at 2
 
 -- a root stands for all indexes, or all keys
 abbrev pub root_place : Decl → ℕ → Place
@@ -47,6 +48,7 @@ abbrev pub record_in : List (List ℕ) → Stored → ℕ → Option Found
 record_in pages s key =
     if nat_le key (root_place s.decl s.root).high then find (format_of s.decl) pages deepest key (root_place s.decl s.root) else None
 
+-- the value of a record, if there is one
 abbrev pub value_of : Option Found → Option ℕ
 value_of None = None
 value_of (Some f) = Some f.value

@@ -38,12 +38,14 @@ catalogue-append pages more number contents here = record {
   words = page-append pages more number here.there ∙ here.words;
 }
 
+-- a snapshot stands
 pub snapshot_stands-append : (pages more : List (List ℕ)) (number : ℕ) (contents : Contents) → SnapshotStands pages number contents → SnapshotStands (pages ++ more) number contents
 snapshot_stands-append pages more number contents stands = record {
   here = catalogue-append pages more number contents stands.here;
   roots = all_weaker (RootStands pages) (RootStands (pages ++ more)) (root_stands-append pages more) contents.storages stands.roots;
 }
 
+-- and has the same content
 pub content-append : (pages more : List (List ℕ)) (number : ℕ) (contents : Contents) (state : State) → SnapshotStands pages number contents
     → IsSnapshotContent pages number contents state → IsSnapshotContent (pages ++ more) number contents state
 content-append pages more number contents state stands content = record {

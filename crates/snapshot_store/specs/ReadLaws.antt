@@ -11,14 +11,17 @@ use Rattle.snapshot_store.specs.Content.{deepest, last_index, words_of}
 
 -- ---- constants that goals don't compute
 
+-- an array's interior page has 64 pointers
 pub fan_is : fan ≡ 64
 unfolding fan
 fan_is = refl
 
+-- a leaf of an array has 32 records
 pub room_is : leaf_room ≡ 32
 unfolding leaf_room
 room_is = refl
 
+-- no way down is longer than 32 pages
 pub deepest_is : deepest ≡ 32
 unfolding deepest
 deepest_is = refl
@@ -36,6 +39,7 @@ root_level d size deep =
       ]
     ]
 
+-- no array's root stands for more indexes than 32 bits count
 pub last_small : (size : ℕ) → last_index size < 4294967296
 last_small size =
     elim (nat_le size 32) as (λ b. cond {A = ℕ} b 31 (cond {A = ℕ} (nat_le size 2048) 2047 131071) < 4294967296) [

@@ -7,6 +7,7 @@ use Rattle.lists.specs.Each.{all_weaker}
 use Rattle.snapshot_store.specs.Places.{Found, Format, leaf_at, look_in, page, words_at, places_below, at_key, on_way, find, here_or_below, Stands, StandsTo}
 use Rattle.snapshot_store.specs.declared.place.Place.{Place}
 
+-- a page that is there stays where it is
 pub page-append : (pages more : List (List ℕ)) (n : ℕ) → n ≤ length pages → page (pages ++ more) n ≡ page pages n
 page-append pages more zero h = refl
 page-append pages more (suc n) h = get_or_append_left pages more [] n h
@@ -16,6 +17,7 @@ pub at_key-same : {X : Type 0} (key : ℕ) (f g : Place → Option X) (qs : List
 at_key-same key f g [] all = refl
 at_key-same key f g (q ∷ qs) all = rw (all.0, at_key-same key f g qs all.1) refl
 
+-- and leads to the same places
 pub below-append : (F : Format) (Is : Place → List ℕ → Type 0) (pages more : List (List ℕ)) (B : Place → Type 0) (p : Place) → Stands F Is pages B p → places_below F (pages ++ more) p ≡ places_below F pages p
 below-append F Is pages more B p s = ap (λ w. F.below w p.low p.high) (page-append pages more p.number s.there)
 

@@ -1,6 +1,7 @@
 -- How the pages of a tree are read.
-use Rattle.std.specs.Prelude.{◌≡◌, ◌⊎◌, ℕ, ◌-◌, ◌/◌, ◌%◌, ◌<◌, ◌==◌, List, [], ◌∷◌, Option, Some, None, take, drop, slice_index, zero, suc, if◌then◌else◌}
+use Rattle.std.specs.Prelude.{◌≡◌, ◌⊎◌, ℕ, ◌+◌, ◌-◌, ◌/◌, ◌%◌, ◌<◌, ◌==◌, List, [], ◌∷◌, Option, Some, None, take, drop, slice_index, zero, suc, if◌then◌else◌}
 use Rattle.wire_form.specs.declared.page.PageKind.TheVariants.{TreeLeaf, TreeInner}
+use Rattle.wire_form.specs.Leaves.{tree_leaf, tree_fan, stride}
 use Rattle.wire_form.specs.Pages.{HasKind}
 use Rattle.snapshot_store.specs.declared.place.Place.{Place}
 use Rattle.snapshot_store.specs.Places.{Found, Format}
@@ -15,19 +16,28 @@ pub data Node : Type 0 where
   Leaf : List Record → Node
   Inner : List ℕ → List ℕ → Node
 
--- so many records, of three words each
+-- the record with which words begin
+abbrev pub first_record : List ℕ → Record
+first_record words = record {
+  key = slice_index words 0;
+  found = record { number = slice_index words tree_leaf.keys; value = slice_index words (tree_leaf.keys + 1) };
+}
+
+-- so many records, one after another
 abbrev pub records_at : ℕ → List ℕ → List Record
 records_at zero words = []
-records_at (suc n) words =
-    record { key = slice_index words 0; found = record { number = slice_index words 1; value = slice_index words 2 } } ∷ records_at n (drop 3 words)
+records_at (suc n) words = first_record words ∷ records_at n (drop (stride tree_leaf) words)
 
 -- the first word has the count, and 256 for a leaf or 512 for an interior page
 abbrev pub count_of : List ℕ → ℕ
 count_of words = slice_index words 0 % 256
 
+-- the separators stand behind room for all children, and the children behind the header and the fences
 abbrev pub node_of : List ℕ → Node
 node_of words =
-    if slice_index words 0 / 256 == 2 then Inner (take (count_of words - 1) (drop 34 words)) (take (count_of words) (drop 4 words)) else Leaf (records_at (count_of words) (drop 16 words))
+    if slice_index words 0 / 256 == 2 then
+    Inner (take (count_of words - 1) (drop (4 + tree_fan) words)) (take (count_of words) (drop 4 words))
+    else Leaf (records_at (count_of words) (drop tree_leaf.first words))
 
 -- the children's places: from the low fence on, cut just before each separator
 abbrev pub children : ℕ → ℕ → List ℕ → List ℕ → List Place
@@ -50,6 +60,7 @@ abbrev pub records_of : Node → List Record
 records_of (Leaf records) = records
 records_of (Inner separators numbers) = []
 
+-- how the pages of trees are read
 abbrev pub tree_format : Format
 tree_format = record {
   below = λ words low high. node_below low high (node_of words);

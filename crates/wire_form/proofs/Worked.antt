@@ -7,6 +7,7 @@ use Rattle.serial_model.specs.declared.number.Commit.{Commit}
 use Rattle.serial_model.specs.declared.decl.Decl.{Decl}
 use Rattle.serial_model.specs.declared.decl.Decl.TheVariants.{Array}
 use Rattle.wire_form.specs.declared.page_words.SlotState.TheVariants.{Owned, Published, Retired}
+use Rattle.wire_form.specs.Leaves.{array_leaf, tree_leaf, tree_form, record_in, word_in, value_in, minor, major}
 use Rattle.wire_form.specs.Words.{clock_word, record_word, pair_word, slot_word}
 use Rattle.wire_form.specs.Bytes.{bytes_of_word}
 use Rattle.wire_form.specs.LogLine.{line_bytes}
@@ -34,6 +35,17 @@ retired_slot = refl
 
 owned_slot : slot_word (record { passes = 0; state = Owned; times = 2 }) ≡ 0x90000
 owned_slot = refl
+
+-- the tenth word of an array's leaf is the sixth record's, and a tree's third record has its value in word 24
+sixth_record : (word_in array_leaf 5 ≡ 10) × (value_in array_leaf 5 0 ≡ 11)
+sixth_record = (refl, refl)
+
+third_record : (record_in tree_leaf 2 ≡ 22) × (word_in tree_leaf 2 ≡ 23) × (value_in tree_leaf 2 0 ≡ 24)
+third_record = (refl, refl, refl)
+
+-- with one record more, a full leaf of 16 is split into leaves of 8 and 9, one of 9, with values of three words, in halves
+halves : (minor tree_leaf ≡ 8) × (major tree_leaf ≡ 9) × (minor (tree_form 3) ≡ 5) × (major (tree_form 3) ≡ 5)
+halves = (refl, refl, refl, refl)
 
 -- 1:1 puts 7 at key 2 of storage 1
 abbrev first_change : Change

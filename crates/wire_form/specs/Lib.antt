@@ -1,3 +1,4 @@
+pub mod Leaves
 pub mod Words
 pub mod Bytes
 pub mod ByteLaws

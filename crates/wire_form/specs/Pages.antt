@@ -12,7 +12,8 @@ use Rattle.wire_form.specs.declared.records.Stored.{Stored}
 use Rattle.wire_form.specs.declared.page.PageKind.{PageKind}
 use Rattle.wire_form.specs.declared.page.PageKind.TheVariants.{ArrayLeaf, ArrayInner, TreeLeaf, TreeInner, Catalogue}
 use Rattle.wire_form.specs.declared.page.Page.{Page}
-use Rattle.wire_form.specs.Words.{number_word, number_field, header_word, array_room, tree_room}
+use Rattle.wire_form.specs.Leaves.{array_leaf, tree_leaf, array_fan, tree_fan}
+use Rattle.wire_form.specs.Words.{number_word, number_field, header_word}
 use Rattle.wire_form.specs.Bytes.{bytes_of, padded}
 use Rattle.wire_form.specs.Items.{Rises}
 
@@ -42,7 +43,7 @@ array_record_words r = number_field r.number ∷ r.value ∷ []
 -- 1 to 32 records, as many as are used
 pub record IsArrayLeaf (used : ℕ) (records : List ArrayRecord) : Type 0 where
   pub some : 1 ≤ used
-  pub most : used ≤ array_room
+  pub most : used ≤ array_leaf.room
   pub count : length records ≡ used
   pub each : AllByRecursion IsArrayRecord records
 
@@ -55,7 +56,7 @@ array_leaf_words records = padded 64 (flat_map array_record_words records)
 -- 1 to 64 pointers, as many as are used
 pub record IsArrayInner (used number : ℕ) (pointers : List ℕ) : Type 0 where
   pub some : 1 ≤ used
-  pub most : used ≤ 64
+  pub most : used ≤ array_fan
   pub count : length pointers ≡ used
   pub each : AllByRecursion (IsChild 0 number) pointers
 
@@ -81,7 +82,7 @@ record_key r = r.key
 
 -- at most 16 records between the fences, with keys that rise
 pub record IsTreeLeaf (low high : ℕ) (records : List TreeRecord) : Type 0 where
-  pub most : length records ≤ tree_room
+  pub most : length records ≤ tree_leaf.room
   pub each : AllByRecursion (IsTreeRecord low high) records
   pub rising : Rises ◌<◌ (map record_key records)
 
@@ -104,7 +105,7 @@ pub record Children : Type 0 where
 -- 2 to 30 children, and separators between the fences that rise
 pub record IsTreeInner (low high number : ℕ) (c : Children) : Type 0 where
   pub some : 2 ≤ length c.pointers
-  pub most : length c.pointers ≤ 30
+  pub most : length c.pointers ≤ tree_fan
   pub between : length c.separators + 1 ≡ length c.pointers
   pub each : AllByRecursion (IsChild 1 number) c.pointers
   pub within : AllByRecursion (IsSeparator low high) c.separators

@@ -1,8 +1,9 @@
 -- The words. Each is the sum of its fields, every field times two to the power of the bit at which it begins; a bit
 -- that no field has is zero, since nothing is added there.
-use Rattle.std.specs.Prelude.{◌≡◌, ◌⊎◌, ℕ, ◌+◌, ◌*◌, ◌^◌, ◌<◌, ◌≤◌, Bool, true, false, Option, Some, None, IfSome}
+use Rattle.std.specs.Prelude.{◌≡◌, ◌⊎◌, ℕ, ◌+◌, ◌*◌, ◌/◌, ◌%◌, ◌^◌, ◌<◌, ◌≤◌, Bool, true, false, Option, Some, None, IfSome}
 use Rattle.serial_model.specs.declared.number.Number.{Number}
 use Rattle.serial_model.specs.Numbers.{IsNumber, last_epoch}
+use Rattle.wire_form.specs.Leaves.{LeafForm, tree_leaf, tree_fan}
 use Rattle.wire_form.specs.declared.clock.Clock.{Clock}
 use Rattle.wire_form.specs.declared.clock.Mark.{Mark}
 use Rattle.wire_form.specs.declared.record_word.RecordWord.{RecordWord}
@@ -52,6 +53,10 @@ mark_word m = at_bit 0 m.length + at_bit 40 (mark_epoch m.epoch)
 abbrev pub number_word : Number → ℕ
 number_word n = at_bit 0 n.draw + at_bit 40 n.epoch
 
+-- what a word has in the fields of a number
+abbrev pub number_in : ℕ → Number
+number_in word = record { epoch = word / 2 ^ 40; draw = word % 2 ^ 40 }
+
 -- no number is 0
 abbrev pub number_field : Option Number → ℕ
 number_field None = 0
@@ -65,23 +70,20 @@ pub record IsRecord (r : RecordWord) : Type 0 where
 abbrev pub record_word : RecordWord → ℕ
 record_word r = number_field r.number + at_bit 60 (flag r.lock) + at_bit 61 (flag r.absent)
 
+-- the absent bit of a record with this value: where no keys stand, a record is never absent
+abbrev pub absent_field : LeafForm → Option ℕ → ℕ
+absent_field f None = f.keys * at_bit 61 1
+absent_field f (Some v) = 0
+
 -- ---- the words of tree pages, pointers and slots
-
--- how many records a leaf of an array has room for
-abbrev pub array_room : ℕ
-array_room = 32
-
--- how many records a leaf of a tree has room for
-abbrev pub tree_room : ℕ
-tree_room = 16
 
 -- a leaf with records that it has room for
 abbrev pub IsLeafHeader : Header → Type 0
-IsLeafHeader h = (h.kind ≡ 1) × (h.count ≤ tree_room)
+IsLeafHeader h = (h.kind ≡ 1) × (h.count ≤ tree_leaf.room)
 
 -- an interior page of 2 to 30 children, which is never moved
 abbrev pub IsInnerHeader : Header → Type 0
-IsInnerHeader h = (h.kind ≡ 2) × (2 ≤ h.count) × (h.count ≤ 30) × (h.moved ≡ false)
+IsInnerHeader h = (h.kind ≡ 2) × (2 ≤ h.count) × (h.count ≤ tree_fan) × (h.moved ≡ false)
 
 -- the header of a leaf, or of an interior page
 pub record IsHeader (h : Header) : Type 0 where

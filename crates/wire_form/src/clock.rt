@@ -6,6 +6,9 @@ ghost use Rattle.wire_form.specs.Words.{IsClock, clock_word, IsMark, mark_word};
 use crate::bits::field;
 use serial_model::LAST_EPOCH;
 
+/// The word of an epoch: the clock's draws stand below it.
+pub const EPOCH: u64 = 1 << 40;
+
 /// The clock word: how many numbers were drawn, and the epoch.
 #[derive(Clone, Copy, Debug, PartialEq, Eq)]
 pub struct Clock {

@@ -6,10 +6,12 @@
 //! Promises, each in both directions. A value is read where its spelling stands, and nothing is read
 //! elsewhere; a written value is the one spelling that it has.
 //! - Words (`Clock`, `Mark`, `RecordWord`, `Header`, `Pair`, `SlotWord`): the clauses of `pack` and
-//!   `parts`. Each is the other's inverse (`Reads`), and `is_valid` tells the ranges.
+//!   `parts`. Each is the other's inverse (`Reads`), and `is_valid` tells the ranges. `number_in` is what any word has
+//!   in the fields of a number.
 //! - Pages: `ok` and `err` of `read_page`, the clause of `write_page`, and `is_page` for words in memory.
 //!   What a page is stands in `HasKind`: the content, its rules, and its words as a function of it.
 //!   `words_of_page` gives the words of any page as they stand, `catalogue_words` those of a catalogue.
+//!   How many records and pointers a page has room for, and where they lie, stands in specs/Leaves.
 //! - Log lines: `ok` and `err` of `read_log_line`, `written` of `write_log_line`, and `is_loggable`.
 //!   What the counted bytes of a log file are stands in `AreLinesOf` and `IsDamagedAt`.
 //! - Savepoints: `closed`, `found` and `err` of `read_savepoint`, and the clause of `write_savepoint`.
@@ -45,7 +47,7 @@ mod savepoint;
 
 pub use bucket::{Bucket, Entry, Run};
 pub use catalogue::catalogue_words;
-pub use clock::{Clock, Mark};
+pub use clock::{Clock, EPOCH, Mark};
 pub use fields::{
     array_child, array_record, child, child_range, count, epoch_and_previous, fences, separator,
     storage, tree_record,
@@ -57,6 +59,6 @@ pub use laws::{
 pub use log_line::{NoLine, is_loggable, read_log_line, write_log_line};
 pub use page::{NoPage, Page, PageKind, is_page, read_page, words_of_page, write_page};
 pub use page_words::{Header, Pair, SlotState, SlotWord};
-pub use record_word::{RecordWord, is_number, number_word, read_number};
+pub use record_word::{RecordWord, is_number, number_in, number_word, read_number};
 pub use records::{ArrayRecord, Stored, TreeRecord};
 pub use savepoint::{NoSavepoint, Savepoint, read_savepoint, write_savepoint};

@@ -2,7 +2,7 @@
 ghost use Rattle.std.specs.Prelude.{◌≡◌, ◌↔◌, IsTrue};
 ghost use Rattle.wire_form.specs.Items.{Reads};
 ghost use Rattle.serial_model.specs.Numbers.{IsNumber};
-ghost use Rattle.wire_form.specs.Words.{number_word, number_field, IsRecord, record_word};
+ghost use Rattle.wire_form.specs.Words.{number_word, number_in, number_field, IsRecord, record_word};
 
 use crate::bits::{field, flag, flag_at};
 use serial_model::{LAST_EPOCH, Number};
@@ -21,6 +21,16 @@ pub fn number_word(number: Number) -> u64
     ensures { result ≡ number_word number }
 {
     number.draw + (u64::from(number.epoch) << 40)
+}
+
+/// What a word has in the fields of a number, also where it is none.
+pub fn number_in(word: u64) -> Number
+    ensures { result ≡ number_in word }
+{
+    Number {
+        epoch: (word >> 40) as u32,
+        draw: word % (1 << 40),
+    }
 }
 
 /// The number that has the word, or `None` where none has.

@@ -20,11 +20,12 @@ entries_below pages s id zero = []
 entries_below pages s id (suc n) =
     entries_below pages s id n ++ entry (record { storage = id; key = n }) (record_in pages s n)
 
--- those of a storage
+-- those of an array, and none of a tree
 abbrev pub entries_by : List (List ℕ) → Stored → Decl → List (Key × Content)
 entries_by pages s (Array id size) = entries_below pages s id size
 entries_by pages s (Tree id) = []
 
+-- those of a storage
 abbrev pub entries_of : List (List ℕ) → Stored → List (Key × Content)
 entries_of pages s = entries_by pages s s.decl
 

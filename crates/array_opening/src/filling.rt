@@ -17,10 +17,10 @@ ghost use Rattle.array_opening.specs.Entries.{entry, entries_below, entries_of, 
 use crate::finding::record_at;
 use homes::Content;
 use lists::{Memory, Sequence};
-use serial_model::{Decl, Key, Number};
+use serial_model::{Decl, Key};
 use snapshot_store::SnapStore;
 use std::alloc::Global;
-use wire_form::Stored;
+use wire_form::{Stored, number_in};
 
 /// What stands at the keys of arrays at first: what the pages have that the storages' roots lead to.
 pub fn opening(
@@ -105,14 +105,10 @@ fn add_record(
     if number == 0 {
         return Ok(());
     }
-    let number = Number {
-        epoch: (number >> 40) as u32,
-        draw: number % (1 << 40),
-    };
     opening.push((
         key,
         Content {
-            number,
+            number: number_in(number),
             value: Some(value),
         },
     ))

@@ -1,8 +1,8 @@
 //! The records of arrays, by their keys.
 //!
-//! Promises: `find` gives the word and the value of a key's record as they stood together at one moment of the call, and
-//! keeps the record as a part (`found`); it is refused only where a load found the record's word locked, or
-//! another one than the load before (`clashed`).
+//! Promises: `find` gives the word and the value of a key's record as they stood together at one moment of the call, the
+//! last decided write of the key then, and keeps the record as a part (`found`); it is refused only where a load found
+//! the record's word locked, or another one than the load before (`clashed`).
 //! Design: docs/COMMIT.md, why a value is read between two loads of its record's word.
 #![tactic(auto)]
 

@@ -18,7 +18,7 @@ use Rattle.engine_words.specs.declared.view.Role.TheVariants.{Keeper, Worker, No
 use Rattle.engine_words.specs.declared.view.View.{View}
 use Rattle.engine_words.specs.Views.{IsActive, HasPart, sits, sits_by, waits, seat_number}
 use Rattle.engine_words.specs.Rule.{Shared, Own, Fits, Sound, Shows}
-use Rattle.engine_words.specs.declared.view.Refused.TheVariants.{NumberLimit}
+use Rattle.engine_words.specs.declared.view.RefusalCause.TheVariants.{NumberLimit}
 use Rattle.engine_words.specs.Steps.{glanced, readied, refused_for, timed, Begins}
 use Rattle.lists.specs.Elements.{in_none}
 use Rattle.engine_words.proofs.Cutting.{tried_longer}

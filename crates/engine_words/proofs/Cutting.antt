@@ -32,7 +32,7 @@ use Rattle.engine_words.specs.Steps.{HasTimed}
 use Rattle.engine_words.specs.declared.view.Heard.{Heard}
 use Rattle.commit_core.specs.declared.story.Story.{Story}
 use Rattle.engine_words.specs.Rule.{Faces, Shared, Tried, Touching, Own, IsKeepers, Fits, Sound, Shows}
-use Rattle.engine_words.specs.Faces.{Grows}
+use Rattle.engine_words.specs.Faces.{StaysTaken}
 use Rattle.engine_words.specs.Touches.{AreBlamed, Touched, takes}
 use Rattle.serial_model.specs.declared.key.Key.{Key}
 use Rattle.engine_words.proofs.Seats.{by_equal, at_front, own_longer}
@@ -91,9 +91,9 @@ cuts l words views views' before after s h change cut touching = record {
 pub record Joined (l : Layout) (words : List ℕ) (views : List View) (s : Shared) (before after : List View) : Type 0 where
   pub more : (q : ℕ) (k : Key) → total (takes q k) before ≤ total (takes q k) after
   pub faces : (views' : List View) → AllByRecursion (Faces l words views s.story) before
-      → Grows (Touched views) (Touched views') → AllByRecursion (Faces l words views' s.story) after
+      → StaysTaken (Touched views) (Touched views') → AllByRecursion (Faces l words views' s.story) after
   pub blamed : (views' : List View) → AllByRecursion (λ v. AreBlamed (Touched views) v.blamed) before
-      → Grows (Touched views) (Touched views') → AllByRecursion (λ v. AreBlamed (Touched views') v.blamed) after
+      → StaysTaken (Touched views) (Touched views') → AllByRecursion (λ v. AreBlamed (Touched views') v.blamed) after
 
 pub splits : (l : Layout) (id : ℕ) (v left right : View)
     → ((words : List ℕ) (views : List View) (s : Shared) → Sound l words views s → Fits l s.story s.seats v

@@ -34,7 +34,8 @@ use Rattle.engine_words.specs.Locks.{lock_bit}
 use Rattle.engine_words.specs.Rule.{Shared, ShowsRecord, Sound, StandsIn, Faces, Touching, lock_field}
 use Rattle.engine_words.specs.Steps.{with_read}
 use Rattle.engine_words.specs.Touches.{AreApart, AreBlamed, AreHeld, IsFacing, Other, Touched, is_touch, takes, touch}
-use Rattle.engine_words.specs.Faces.{Grows, other_grows, facing_aside, facing_load, facing_lock, facing_none, facing_open}
+use Rattle.engine_words.specs.Faces.{StaysTaken, other_grows, facing_aside, facing_load}
+use Rattle.engine_words.specs.Faces.{facing_lock, facing_none, facing_open}
 use Rattle.engine_words.specs.Faces.{facing_other, facing_stays}
 use Rattle.engine_words.specs.Views.{IsActive, seat_number, sits, sits_by}
 use Rattle.engine_words.proofs.Contents.{small_word, stands_there}
@@ -142,7 +143,7 @@ is_own_touch q k =
 
 -- where a view that a step changes loses no touch, nobody loses one
 pub touched_set : (views : List View) (id : ℕ) (v w : View) → get_elem? views id ≡ some v
-    → ((q : ℕ) (k : Key) → takes q k v ≤ takes q k w) → Grows (Touched views) (Touched (set views id w))
+    → ((q : ℕ) (k : Key) → takes q k v ≤ takes q k w) → StaysTaken (Touched views) (Touched (set views id w))
 touched_set views id v w at more q k has = omega (arith, total-set (takes q k) views id v w at, more q k, has)
 
 -- a touch of the view itself
@@ -151,7 +152,7 @@ touched_here : (views : List View) (id : ℕ) (v w : View) (q : ℕ) (k : Key) �
 touched_here views id v w q k at one =
     omega (arith, total-set (takes q k) views id v w at, term_at_most (takes q k) views id v at, one)
 
-pub blamed_grows : (took more : ℕ → Key → Type 0) (blamed : List Touch) → Grows took more → AreBlamed took blamed
+pub blamed_grows : (took more : ℕ → Key → Type 0) (blamed : List Touch) → StaysTaken took more → AreBlamed took blamed
     → AreBlamed more blamed
 blamed_grows took more blamed grows are b has = other_grows took more b.seat b.key grows (are b has)
 
@@ -175,8 +176,8 @@ pub record LeavesWord (l : Layout) (m : Story) (v w : View) : Type 0 where
   pub reads : w.reads ≡ with_read v.reads at word
 
 -- what was met is what had been met, or nothing, or one of these more
-abbrev pub Meets : Layout → List ℕ → Story → View → View → Type 0
-Meets l words m v w =
+abbrev pub MetMore : Layout → List ℕ → Story → View → View → Type 0
+MetMore l words m v w =
     (w.reads ≡ v.reads) ⊎ ((w.reads ≡ []) ⊎ (MeetsWord words v w ⊎ LeavesWord l m v w))
 
 -- a worker takes the lock of this key, whose record's word stands there
@@ -208,7 +209,7 @@ pub record OpensLock (l : Layout) (words words' : List ℕ) (m : Story) (v w : V
 
 abbrev pub Deals : Layout → List ℕ → List ℕ → Story → ℕ → View → View → Type 0
 Deals l words words' m p v w =
-    (Rests l words words' m v w × Meets l words m v w)
+    (Rests l words words' m v w × MetMore l words m v w)
     ⊎ (TakesLock l words words' m p v w ⊎ OpensLock l words words' m v w)
 
 -- a refusal is noted where another seat took a lock of the key
@@ -261,13 +262,13 @@ own_faces l words words' views m seats id p v w apart held own at f (inl d) =
     subst (λ (x : List Key). IsFacing (StandsIn l m) words' (Touched (set views id w)) p x w.reads) (sym d.0.locks)
     (by_met d.1)
   where
-    grows : Grows (Touched views) (Touched (set views id w))
+    grows : StaysTaken (Touched views) (Touched (set views id w))
     grows = touched_set views id v w at (deal_more l words words' m p v w (inl d))
 
     of_seat : IsFacing (StandsIn l m) words (Touched views) p (seats p).locks v.reads
     of_seat = subst (λ (x : Seat). IsFacing (StandsIn l m) words (Touched views) p x.locks v.reads) own f
 
-    by_met : Meets l words m v w → IsFacing (StandsIn l m) words' (Touched (set views id w)) p v.seat.locks w.reads
+    by_met : MetMore l words m v w → IsFacing (StandsIn l m) words' (Touched (set views id w)) p v.seat.locks w.reads
     by_met (inl same) =
         subst (IsFacing (StandsIn l m) words' (Touched (set views id w)) p v.seat.locks) (sym same)
         (facing_stays (StandsIn l m) words words' (Touched views) (Touched (set views id w)) p v.seat.locks v.reads grows
@@ -349,7 +350,7 @@ sits_own worker u p is none same =
     absurd (omega (arith, none, here, sits_here p (Worker worker) (sym same)))
 
 -- what the pass was refused for
-own_blamed : (views : List View) (id p : ℕ) (v w : View) → Grows (Touched views) (Touched (set views id w))
+own_blamed : (views : List View) (id p : ℕ) (v w : View) → StaysTaken (Touched views) (Touched (set views id w))
     → AreBlamed (Touched views) v.blamed → Blames views p v w → AreBlamed (Touched (set views id w)) w.blamed
 own_blamed views id p v w grows are (inl same) b has =
     other_grows (Touched views) (Touched (set views id w)) b.seat b.key grows
@@ -412,7 +413,7 @@ touches_after l words words' views m n seats id v w h apart held homes own role 
     p : ℕ
     p = seat_number v.role
 
-    grows : Grows (Touched views) (Touched (set views id w))
+    grows : StaysTaken (Touched views) (Touched (set views id w))
     grows = touched_set views id v w at (deal_more l words words' m p v w d)
 
     moved : (worker : ℕ) (locks : List Key) (reads : List Rattle.engine_words.specs.declared.view.Read.Read)

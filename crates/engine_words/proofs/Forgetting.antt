@@ -13,8 +13,8 @@ use Rattle.commit_core.specs.Law.{EachActKeeps, EachActLeaves}
 use Rattle.commit_core.specs.Places.{home_of}
 use Rattle.views.specs.Changes.{each_at}
 use Rattle.engine_words.specs.declared.layout.Layout.{Layout}
-use Rattle.engine_words.specs.declared.view.Refused.{Refused}
-use Rattle.engine_words.specs.declared.view.Refused.TheVariants.{Conflict, NumberLimit, Wide}
+use Rattle.engine_words.specs.declared.view.RefusalCause.{RefusalCause}
+use Rattle.engine_words.specs.declared.view.RefusalCause.TheVariants.{Conflict, NumberLimit, Wide}
 use Rattle.engine_words.specs.declared.view.Role.TheVariants.{Worker}
 use Rattle.engine_words.specs.declared.view.Touch.{Touch}
 use Rattle.engine_words.specs.declared.view.View.{View}
@@ -58,7 +58,7 @@ due_blames l words views s id v k at expected seen h there own worker due =
     due.was f stands due.stands due.free due.known due.cause)
 
 -- whom it met
-met_by : (l : Layout) (words : List ℕ) (views : List View) (s : Shared) (id : ℕ) (v : View) (why : Option Refused)
+met_by : (l : Layout) (words : List ℕ) (views : List View) (s : Shared) (id : ℕ) (v : View) (why : Option RefusalCause)
     → Sound l words views s → get_elem? views id ≡ some v → Own l s.story s.seats v (seat_number v.role)
     → v.role ≡ Worker (worker_of v.role) → IsDue why v
     → (met : List Touch) × IsMetFor why met v.layout.decls (seat_number v.role)
@@ -74,7 +74,8 @@ met_by l words views s id v (Some (Conflict at expected seen)) h there own worke
 met_by l words views s id v (Some (Wide set)) h there own worker due = ([], refl, inl (append-nil v.blamed))
 met_by l words views s id v (Some (NumberLimit clock)) h there own worker due = absurd due
 
-pub forgets : EachActKeeps → EachActLeaves → (l : Layout) (slots id : ℕ) (me : Me (Unit {0}) View) (why : Option Refused)
+pub forgets : EachActKeeps → EachActLeaves → (l : Layout) (slots id : ℕ) (me : Me (Unit {0}) View)
+    (why : Option RefusalCause)
     → me.0.role ≡ Worker (worker_of me.0.role) → can_begin me.0.seat.stage ≡ true → IsDue why me.0
     → Allows (λ s. Shows l s.words s.views) slots id me 0 (λ n. n)
     (λ n now. (now.1 ≡ me.1) × HasForgotten why me.0 now.0)

@@ -23,7 +23,7 @@ use Rattle.engine_words.specs.declared.view.Role.TheVariants.{Keeper, Worker, No
 use Rattle.engine_words.specs.declared.view.Touch.{Touch}
 use Rattle.engine_words.specs.declared.view.View.{View}
 use Rattle.engine_words.specs.Cuts.{seated, since_seated, worker_view}
-use Rattle.engine_words.specs.Faces.{Grows, other_grows, facing_none, facing_stays}
+use Rattle.engine_words.specs.Faces.{StaysTaken, other_grows, facing_none, facing_stays}
 use Rattle.engine_words.specs.Rule.{Shared, Sound, Faces, Fits, StandsIn, Touching}
 use Rattle.engine_words.specs.Touches.{AreBlamed, IsFacing, Other, Touched, is_touch, takes, touch}
 use Rattle.engine_words.specs.Views.{IsActive, makes, sits, sits_by}
@@ -66,7 +66,7 @@ blamed_both took (x ∷ xs) ys first next b has = elim (in_cases b x (xs ++ ys) 
 -- ---- views that keep their touches
 
 pub faces_grow : (l : Layout) (words : List ℕ) (views views' : List View) (m : Story) (u : View)
-    → Grows (Touched views) (Touched views') → Faces l words views m u → Faces l words views' m u
+    → StaysTaken (Touched views) (Touched views') → Faces l words views m u → Faces l words views' m u
 faces_grow l words views views' m u grows f worker is =
     facing_stays (StandsIn l m) words words (Touched views) (Touched views') (suc worker) u.seat.locks u.reads grows
     (λ k at there. refl) (f worker is)
@@ -74,11 +74,12 @@ faces_grow l words views views' m u grows f worker is =
 pub touching_kept : (l : Layout) (words : List ℕ) (views views' before after : List View) (m : Story) (seats : ℕ → Seat)
     → Touching l words views m seats → Change before after views views'
     → ((q : ℕ) (k : Key) → total (takes q k) before ≤ total (takes q k) after)
-    → (Grows (Touched views) (Touched views') → AllByRecursion (Faces l words views' m) after)
-    → (Grows (Touched views) (Touched views') → AllByRecursion (λ v. AreBlamed (Touched views') v.blamed) after)
+    → (StaysTaken (Touched views) (Touched views') → AllByRecursion (Faces l words views' m) after)
+    → (StaysTaken (Touched views) (Touched views') → AllByRecursion (λ v. AreBlamed (Touched views') v.blamed) after)
     → Touching l words views' m seats
 touching_kept l words views views' before after m seats h change less faces blamed =
-    let grows : Grows (Touched views) (Touched views') = λ q k has. omega (arith, change.sums (takes q k), less q k, has) in
+    let grows : StaysTaken (Touched views) (Touched views') =
+    λ q k has. omega (arith, change.sums (takes q k), less q k, has) in
     record {
       taken = λ q k has. grows q k (h.taken q k has);
       keeper = h.keeper;

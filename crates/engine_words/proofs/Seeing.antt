@@ -25,12 +25,13 @@ use Rattle.commit_core.specs.declared.part.Part.{Part}
 use Rattle.commit_core.specs.declared.part.Word.{Word}
 use Rattle.commit_core.specs.declared.part.Word.TheVariants.{Record}
 use Rattle.commit_core.specs.declared.event.Act.TheVariants.{See}
-use Rattle.commit_core.specs.Keys.{IsUpTo, opening_number, nothing}
+use Rattle.commit_core.specs.Keys.{IsUpTo}
 use Rattle.commit_core.specs.Places.{place_of, home_of, spot_at, spot_of, is_free_at, is_free}
 use Rattle.commit_core.specs.Parts.{same_word, record_part, with_part}
 use Rattle.commit_core.specs.Event.{seen_at}
 use Rattle.commit_core.specs.CoreState.{is_trying}
 use Rattle.commit_core.specs.declared.attempt.Attempt.{Attempt}
+use Rattle.commit_core.specs.Serial.{last_write}
 use Rattle.commit_core.specs.Sound.Reads.{IsVersion}
 use Rattle.commit_core.specs.Law.{EachActKeeps, EachActLeaves}
 use Rattle.views.specs.Sums.{total}
@@ -41,11 +42,13 @@ use Rattle.engine_words.specs.Views.{IsActive, seat_number}
 use Rattle.engine_words.specs.Rule.{Shared, IsSmall, lock_field, ShowsRecord, KeptAreRecords, KeptIsLow, Own, Fits}
 use Rattle.engine_words.specs.Rule.{Sound, Shows}
 use Rattle.engine_words.specs.Steps.{read_at}
-use Rattle.engine_words.specs.Reads.{saw, Saw}
-use Rattle.engine_words.proofs.Turns.{Stride, allows_at, looked}
+use Rattle.engine_words.specs.Reads.{saw, Saw, SawFree}
+use Rattle.engine_words.proofs.Cutting.{tried_longer}
 use Rattle.engine_words.proofs.Looking.{seen_fits}
 use Rattle.engine_words.proofs.OwnView.{own_fits}
-use Rattle.engine_words.proofs.Contents.{free_below, free_version, parts_same}
+use Rattle.engine_words.proofs.Seats.{own_longer}
+use Rattle.engine_words.proofs.Turns.{Stride, allows_at, looked}
+use Rattle.engine_words.proofs.Contents.{free_below, free_last, free_version, parts_same}
 use Rattle.engine_words.proofs.LayoutLaws.{stands_at_key}
 
 -- ---- what is kept
@@ -94,7 +97,20 @@ sees keeps leaves l slots id me k x at active resting is =
         free_below (number_word q.content.number) q.holder (subst (λ i. i < 2 ^ 60) shows.word (grind (arith, nat_tests))) in
         let found : number_word q.content.number ≡ n =
         let word = shows.word in let none : lock_field q.holder ≡ 0 = ap lock_field free in omega arith in
-        let w = saw k x q.content at n v in record {
+        let w : View = saw m.history m.decided k x q.content at n v in
+        let told : SawFree k x at v n w = record {
+          content = q.content;
+          history = m.history;
+          decided = m.decided;
+          drawn = f.history;
+          seen = f.decided;
+          small = shows.small;
+          number = found;
+          never = shows.never;
+          last = subst (λ (y : Layout). q.content ≡ last_write y.opening m.history m.decided k) (sym own.layout)
+              (free_last l words views s k x at h stands free);
+          is = refl;
+        } in record {
           act = Some (See k);
           story = m;
           view = w;
@@ -107,15 +123,17 @@ sees keeps leaves l slots id me k x at active resting is =
           seat-is = ap (λ o. record v.seat { kept = seen_at k m.places v.seat.kept o }) spot;
           turn = looked l words views s v w at h own
               (own_fits l m m s.seats v w active f f.part refl refl refl refl refl (λ mark has. has) record {
-                history = f.history;
-                decided = f.decided;
+                history = front_refl m.history;
+                decided = front_refl m.decided;
                 heard = f.heard;
                 mine = f.mine;
-                mine_own = f.mine_own;
+                mine_own = λ a has.
+                    own_longer v.role v.history m.history v.decided m.decided a f.history f.decided (f.mine_own a has);
                 records = records_seen l.opening m.history v.seat.kept k x q.content (free_version l words views s k x at h stands free) f.records;
                 kept = low_seen m.places v.seat.kept k x f.kept;
                 loaded = tt;
-                tried = own.tried;
+                tried = tried_longer (seat_number v.role) v.history m.history m.checks v.checked v.mine v.seat.stage f.history
+                    own.tried;
                 took = own.took;
                 low = f.low;
                 epoch = λ keeper. (f.keepers keeper).epoch;
@@ -123,11 +141,7 @@ sees keeps leaves l slots id me k x at active resting is =
               })
               refl refl refl refl refl refl refl refl refl refl
               (inr (inr (inl (record { at = at; reads = refl }))));
-          tells-so = subst
-              (λ b. MatchBool b
-              ((c : Content) × IsSmall c.number × (number_word c.number ≡ n) × (c.value ≡ None → c.number ≡ opening_number)
-              × (w ≡ saw k x c at n v)) (w ≡ read_at at n v))
-              (sym below) (q.content, shows.small, found, shows.never, refl);
+          tells-so = subst (λ b. MatchBool b (SawFree k x at v n w) (w ≡ read_at at n v)) (sym below) told;
         }
     by_found words views s h f own false above =
         let v = me.0 in
@@ -144,9 +158,5 @@ sees keeps leaves l slots id me k x at active resting is =
               (front_refl v.history) (front_refl v.decided) f.history f.decided)
               refl refl refl refl refl refl refl refl refl refl
               (inr (inr (inl (record { at = at; reads = refl }))));
-          tells-so = subst
-              (λ b. MatchBool b
-              ((c : Content) × IsSmall c.number × (number_word c.number ≡ n) × (c.value ≡ None → c.number ≡ opening_number)
-              × (w ≡ saw k x c at n v)) (w ≡ read_at at n v))
-              (sym above) refl;
+          tells-so = subst (λ b. MatchBool b (SawFree k x at v n w) (w ≡ read_at at n v)) (sym above) refl;
         }

@@ -40,7 +40,7 @@ use Rattle.engine_words.specs.Layout.{records_at, StandsAt, IsLaidOut}
 use Rattle.engine_words.specs.Views.{IsActive, HasPart, drawn_by, sits, sits_by, makes, waits, tries, owns, seat_number}
 use Rattle.engine_words.specs.Rule.{Shared, AllSmall, WriteValues, ShowsRecord, ShowsWords, ShowsMark, EachIsTried}
 use Rattle.engine_words.specs.Rule.{Own, Fits, Sound, Shows}
-use Rattle.engine_words.proofs.Facing.{Blames, Deals, Meets, are_apart, are_held, touches_after}
+use Rattle.engine_words.proofs.Facing.{Blames, Deals, MetMore, are_apart, are_held, touches_after}
 use Rattle.engine_words.proofs.LayoutLaws.{word_in}
 use Rattle.engine_words.proofs.Trying.{few_seats}
 use Rattle.engine_words.proofs.Marks.{marked_after}
@@ -284,7 +284,7 @@ pub looked : (l : Layout) (words : List ℕ) (views : List View) (s : Shared) (v
     → Own l s.story s.seats v (seat_number v.role)
     → Fits l s.story (put_seat s.seats (seat_number v.role) w.seat) w → w.role ≡ v.role → w.made ≡ v.made → w.mine ≡ v.mine
     → w.draws ≡ v.draws → w.due ≡ v.due → w.seat.stage ≡ v.seat.stage → w.seat.marks ≡ v.seat.marks
-    → w.seat.locks ≡ v.seat.locks → w.touched ≡ v.touched → w.blamed ≡ v.blamed → Meets l words s.story v w
+    → w.seat.locks ≡ v.seat.locks → w.touched ≡ v.touched → w.blamed ≡ v.blamed → MetMore l words s.story v w
     → Turn l words (set words i (get_or words i 0)) views l.opening s.story s.story s.seats (seat_number v.role) v w
 looked l words views s v w i h own fits role made mine same-draws due stage marks locks touched blamed meets = record {
   homes = refl;

@@ -66,6 +66,7 @@ pub record Splits (was history : List Attempt) (old decided : List Number) (befo
 abbrev pub number_is : Number → Number → ℕ
 number_is n m = cond (same_number m n) 1 0
 
+-- a number that was decided counts in the sum
 pub in_total : (n : Number) (decided : List Number) → is_decided decided n ≡ true → 1 ≤ total (number_is n) decided
 in_total n [] is = absurd (true≢false (sym is))
 in_total n (m ∷ more) is = by_test (same_number m n) is (in_total n more)
@@ -93,6 +94,7 @@ none_total n (m ∷ more) miss = by_test (same_number m n) miss (none_total n mo
     by_test true miss rest = absurd (true≢false miss)
     by_test false miss rest = let none = rest miss in omega arith
 
+-- and at most once, where each was decided once
 pub once_total : (n : Number) (decided : List Number) → EachOnce decided → total (number_is n) decided ≤ 1
 once_total n [] once = omega arith
 once_total n (m ∷ more) once = by_test (same_number m n) refl (once_total n more once.1)
@@ -118,6 +120,7 @@ own_in_total n a (x ∷ xs) has is = elim (in_cases a x xs has) [
   | inr later ↦ let rest = own_in_total n a xs later is in omega arith
 ]
 
+-- where the sum over attempts counts a number, one of them has it
 pub total_own : (n : Number) (xs : List Attempt) → 1 ≤ numbered n xs → (a : Attempt) × Contains xs a × (a.number ≡ n)
 total_own n [] most = absurd (omega arith)
 total_own n (x ∷ xs) most = by_test (same_number x.number n) refl most (total_own n xs)

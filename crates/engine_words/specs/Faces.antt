@@ -60,10 +60,11 @@ due_faces At words took p own reads k at expected seen was f place stands apart 
 -- ---- what steps leave of it
 
 -- what was taken stays taken
-abbrev pub Grows : (ℕ → Key → Type 0) → (ℕ → Key → Type 0) → Type 0
-Grows took now = (q : ℕ) (k : Key) → took q k → now q k
+abbrev pub StaysTaken : (ℕ → Key → Type 0) → (ℕ → Key → Type 0) → Type 0
+StaysTaken took now = (q : ℕ) (k : Key) → took q k → now q k
 
-pub other_grows : (took now : ℕ → Key → Type 0) (p : ℕ) (k : Key) → Grows took now → Other took p k → Other now p k
+-- so another one who took a lock has still taken it
+pub other_grows : (took now : ℕ → Key → Type 0) (p : ℕ) (k : Key) → StaysTaken took now → Other took p k → Other now p k
 other_grows took now p k grows o = record { by = o.by; apart = o.apart; taken = grows o.by k o.taken }
 
 -- what a word was seen or left as was met
@@ -81,7 +82,7 @@ seen_is (x ∷ reads) at m is = by_test (eqb x.word at) refl is (λ now. seen_is
 
 -- a step of another seat: a record's word changes only where that one took a lock of the key
 pub facing_other : (At : Key → ℕ → Type 0) (words now : List ℕ) (took more : ℕ → Key → Type 0) (p q : ℕ) (own : List Key)
-    (reads : List Read) → q ≢ p → Grows took more
+    (reads : List Read) → q ≢ p → StaysTaken took more
     → ((k : Key) (at : ℕ) → At k at → (get_or now at 0 ≡ get_or words at 0) ⊎ more q k)
     → IsFacing At words took p own reads → IsFacing At now more p own reads
 facing_other At words now took more p q own reads apart grows changes f = record {
@@ -102,7 +103,8 @@ facing_other At words now took more p q own reads apart grows changes f = record
     by_change k r (inl same) (inr other) = inr (other_grows took more p k grows other)
 
 -- what an own step at this word tells, which leaves it so
-pub record Meets (At : Key → ℕ → Type 0) (now : List ℕ) (more : ℕ → Key → Type 0) (p : ℕ) (own : List Key) (reads : List Read)
+pub record TellsOfWord (At : Key → ℕ → Type 0) (now : List ℕ) (more : ℕ → Key → Type 0) (p : ℕ) (own : List Key)
+    (reads : List Read)
     (at n : ℕ) : Type 0 where
   pub locked : (k : Key) → At k at → 2 ^ 60 ≤ n → (has_key own k ≡ true) ⊎ Other more p k
   pub unlike : (k : Key) (m : ℕ) → At k at → seen_at reads at ≡ Some m → m < 2 ^ 60 → n < 2 ^ 60 → m ≢ n → Other more p k
@@ -110,10 +112,10 @@ pub record Meets (At : Key → ℕ → Type 0) (now : List ℕ) (more : ℕ → 
 
 -- an own step that meets this word and leaves it so
 pub facing_own : (At : Key → ℕ → Type 0) (words now : List ℕ) (took more : ℕ → Key → Type 0) (p : ℕ) (own then : List Key)
-    (reads : List Read) (at n : ℕ) → Grows took more
+    (reads : List Read) (at n : ℕ) → StaysTaken took more
     → ((k : Key) (j : ℕ) → At k j → j ≢ at → get_or now j 0 ≡ get_or words j 0)
     → ((k : Key) (j : ℕ) → At k j → j ≢ at → has_key own k ≡ true → has_key then k ≡ true)
-    → Meets At now more p then reads at n → IsFacing At words took p own reads
+    → TellsOfWord At now more p then reads at n → IsFacing At words took p own reads
     → IsFacing At now more p then (with_read reads at n)
 facing_own At words now took more p own then reads at n grows others keeps met f = record {
   locked = λ k r has there high. locked_in k r there high (cases r has);
@@ -204,7 +206,7 @@ facing_load At words took p locks reads at held f =
     unlike_by k m other (inl same) = absurd (other (sym same))
     unlike_by k m other (inr o) = o
 
-    met : Meets At words took p (locks p) reads at (get_or words at 0)
+    met : TellsOfWord At words took p (locks p) reads at (get_or words at 0)
     met = record {
       locked = λ k there high.
           let q = held.holder k at there high in by_holder k q.0 q.1 (cases_on (eqb q.0 p));
@@ -215,7 +217,7 @@ facing_load At words took p locks reads at held f =
 
 -- an own lock, which left the word with the lock bit
 pub facing_lock : (At : Key → ℕ → Type 0) (words now : List ℕ) (took more : ℕ → Key → Type 0) (p : ℕ) (own : List Key)
-    (reads : List Read) (k : Key) (at n : ℕ) → Grows took more → AreApart At → At k at
+    (reads : List Read) (k : Key) (at n : ℕ) → StaysTaken took more → AreApart At → At k at
     → ((q : Key) (j : ℕ) → At q j → j ≢ at → get_or now j 0 ≡ get_or words j 0) → get_or now at 0 ≡ n + lock_bit
     → IsFacing At words took p own reads
     → IsFacing At now more p (own ++ k ∷ []) (with_read reads at (n + lock_bit))
@@ -271,7 +273,7 @@ facing_open At words now took p locks reads k at n apart held there mine small o
 
 -- nothing was met since, and no record's word changed
 pub facing_stays : (At : Key → ℕ → Type 0) (words now : List ℕ) (took more : ℕ → Key → Type 0) (p : ℕ) (own : List Key)
-    (reads : List Read) → Grows took more → ((k : Key) (at : ℕ) → At k at → get_or now at 0 ≡ get_or words at 0)
+    (reads : List Read) → StaysTaken took more → ((k : Key) (at : ℕ) → At k at → get_or now at 0 ≡ get_or words at 0)
     → IsFacing At words took p own reads → IsFacing At now more p own reads
 facing_stays At words now took more p own reads grows same f = record {
   locked = λ k r has there high. by_lock k (f.locked k r has there high);

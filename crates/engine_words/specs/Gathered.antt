@@ -75,6 +75,7 @@ order_lower : (low high : Number) (xs : List Attempt) → IsUpTo low high → Is
 order_lower low high [] up order = tt
 order_lower low high (x ∷ xs) up order = (up_then_up low high x.number up order.0, order.1)
 
+-- two lists in order of number are so together
 pub order_gathered : (low : Number) (xs ys : List Attempt) → IsInOrder low xs → IsInOrder low ys → IsInOrder low (gathered xs ys)
 order_gathered low xs [] first next = first
 order_gathered low xs (y ∷ ys) first next =
@@ -111,6 +112,7 @@ total_put : (f : Attempt → ℕ) (a : Attempt) (xs : List Attempt) → total f 
 total_put f a [] = refl
 total_put f a (x ∷ xs) = total_by (is_below a.number x.number) f a x xs (put_in a xs) (total_put f a xs)
 
+-- a sum over both is the sum over each
 pub total_gathered : (f : Attempt → ℕ) (xs ys : List Attempt) → total f (gathered xs ys) ≡ total f xs + total f ys
 total_gathered f xs [] = omega arith
 total_gathered f xs (y ∷ ys) = omega (arith, total_gathered f (put_in y xs) ys, total_put f y xs)
@@ -130,6 +132,7 @@ in_put x a (b ∷ more) has = by_test (is_below a.number b.number) (in_put x a m
       ]
     ]
 
+-- what is in both together is in one of them
 pub in_gathered : (x : Attempt) (xs ys : List Attempt) → Contains (gathered xs ys) x → Contains xs x ⊎ Contains ys x
 in_gathered x xs [] has = inl has
 in_gathered x xs (y ∷ ys) has = elim (in_gathered x (put_in y xs) ys has) [
@@ -151,6 +154,7 @@ put_behind (x ∷ front) more y below =
     not_both_below x.number y.number (below x (in_head x front)) (below_from_test y.number x.number test)))
     ∙ ap (λ (l : List Attempt). x ∷ l) (put_behind front more y (λ z has. below z (in_tail z x front has)))
 
+-- what has greater numbers than a front is gathered behind it
 pub gathered_behind : (front more ys : List Attempt) → AreBelow front ys
     → gathered (front ++ more) ys ≡ front ++ gathered more ys
 gathered_behind front more [] below = refl
@@ -181,6 +185,7 @@ put_permutes y (x ∷ xs) = by_test (is_below y.number x.number) (put_permutes y
         IsPermutation-trans (y ∷ x ∷ xs) (x ∷ y ∷ xs) (x ∷ put_in y xs) (IsPermutation-middle (y ∷ []) x xs)
         (IsPermutation-cons x (y ∷ xs) (put_in y xs) rest)
 
+-- both together are the two, in another order
 pub gathered_permutes : (xs ys : List Attempt) → IsPermutation (ys ++ xs) (gathered xs ys)
 gathered_permutes xs [] = IsPermutation-refl xs
 gathered_permutes xs (y ∷ ys) =
@@ -190,6 +195,7 @@ gathered_permutes xs (y ∷ ys) =
     (IsPermutation-append ys ys (y ∷ xs) (put_in y xs) (IsPermutation-refl ys) (put_permutes y xs))
     (gathered_permutes (put_in y xs) ys))
 
+-- and so are several
 pub all_permutes : (xs : List Attempt) (mines : List (List Attempt))
     → IsPermutation (joined mines ++ xs) (gathered_all xs mines)
 all_permutes xs [] = IsPermutation-refl xs

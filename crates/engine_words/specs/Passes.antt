@@ -4,6 +4,7 @@ use Rattle.atomic_table.specs.declared.shared.Seat.{Seat as TableSeat}
 use Rattle.engine_words.specs.declared.engine.Engine.{Engine}
 use Rattle.engine_words.specs.declared.view.View.{View}
 
+-- a pass, as contracts see one
 abbrev pub Pass : Type 0
 Pass = TableSeat (Unit {0}) View
 

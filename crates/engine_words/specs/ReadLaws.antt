@@ -1,11 +1,24 @@
--- What a transaction knows of a word behind a step, as laws for those who read it.
+-- What a transaction knows of a word, and of what it read, behind a step: laws for those who read.
 use Rattle.std.proofs.Common.{◌≡◌, ◌≢◌, ℕ, Bool, true, false, cond, eqb, eqb-true, eq-eqb, ne_eqb, List, [], ◌∷◌, ◌++◌, Option, Some, None, refl}
-use Rattle.std.proofs.Common.{sym, ap, ◌∙◌}
+use Rattle.std.proofs.Common.{sym, ap, ◌∙◌, subst}
 use Rattle.std.specs.Prelude.{not, filter}
 use Rattle.std.specs.List.{find}
 use Rattle.std.specs.Option.{option_map}
+use Rattle.lists.specs.Fronts.{front_then}
+use Rattle.serial_model.specs.declared.key.Key.{Key}
+use Rattle.serial_model.specs.declared.number.Number.{Number}
+use Rattle.homes.specs.declared.places.Spot.{Spot}
+use Rattle.commit_core.specs.declared.attempt.Attempt.{Attempt}
+use Rattle.commit_core.specs.declared.part.Part.{Part}
+use Rattle.commit_core.specs.Serial.{last_write}
+use Rattle.engine_words.specs.declared.layout.Layout.{Layout}
 use Rattle.engine_words.specs.declared.view.Read.{Read}
+use Rattle.engine_words.specs.declared.view.View.{View}
+use Rattle.engine_words.specs.Cuts.{HasSeen}
+use Rattle.engine_words.specs.Reads.{SawFree, IsLastBetween}
 use Rattle.engine_words.specs.Steps.{seen_at, with_read}
+
+-- ---- words
 
 found_last : (reads : List Read) (e : Read) (word : ℕ) → eqb e.word word ≡ true
     → seen_at (filter (λ r. not (eqb r.word word)) reads ++ e ∷ []) word ≡ Some e.seen
@@ -59,3 +72,45 @@ pub seen_at-other : (reads : List Read) (word n other : ℕ) → word ≢ other
 seen_at-other reads word n other apart =
     found_other reads (record { word = word; seen = n; was = seen_at reads word }) word other (ne_eqb word other apart)
     (ne_eqb word other apart)
+
+-- ---- what was read
+
+-- what a load saw is told by the views alone, so no other content can be made up for it
+pub saw_last : (k : Key) (x : Spot) (at n : ℕ) (v w : View) → (s : SawFree k x at v n w)
+    → s.content ≡ last_write v.layout.opening w.history w.decided k
+saw_last k x at n v w s =
+    s.last ∙ (ap (λ (l : List Attempt). last_write v.layout.opening l s.decided k) (sym (ap (λ (z : View). z.history) s.is))
+    ∙ ap (λ (l : List Number). last_write v.layout.opening w.history l k) (sym (ap (λ (z : View). z.decided) s.is)))
+
+-- what a step saw since a view, it saw since an earlier one
+pub last_since : (u v w : View) (part : Part) → v.layout ≡ u.layout → HasSeen u v → IsLastBetween v w part
+    → IsLastBetween u w part
+last_since u v w part layout seen l = record {
+  key = l.key;
+  spot = l.spot;
+  content = l.content;
+  is = l.is;
+  history = l.history;
+  decided = l.decided;
+  drawn_since = front_then u.history v.history l.history seen.history l.drawn_since;
+  seen_since = front_then u.decided v.decided l.decided seen.decided l.seen_since;
+  drawn_by = l.drawn_by;
+  seen_by = l.seen_by;
+  last = subst (λ (y : Layout). l.content ≡ last_write y.opening l.history l.decided l.key) layout l.last;
+}
+
+-- and what it saw by a view, it saw by a later one
+pub last_by : (v w x : View) (part : Part) → HasSeen w x → IsLastBetween v w part → IsLastBetween v x part
+last_by v w x part seen l = record {
+  key = l.key;
+  spot = l.spot;
+  content = l.content;
+  is = l.is;
+  history = l.history;
+  decided = l.decided;
+  drawn_since = l.drawn_since;
+  seen_since = l.seen_since;
+  drawn_by = front_then l.history w.history x.history l.drawn_by seen.history;
+  seen_by = front_then l.decided w.decided x.decided l.seen_by seen.decided;
+  last = l.last;
+}

@@ -46,8 +46,9 @@ use Rattle.engine_words.specs.Views.{IsActive, IsAt, HasPart, IsResting, bare_se
 use Rattle.engine_words.specs.Views.{owns}
 use Rattle.engine_words.specs.Touches.{AreBlamed, IsFacing, Touched}
 
--- ---- what all passes share: the machine's state, with each seat by its number, also of those that no pass has now
+-- ---- what all passes share
 
+-- the machine's state, with each seat by its number, also of those that no pass has now
 pub record Shared : Type 0 where
   pub story : Story
   pub seats : ℕ → Seat
@@ -268,6 +269,8 @@ pub record Touching (l : Layout) (words : List ℕ) (views : List View) (m : Sto
 
 -- ---- the rule
 
+-- The words, the views and the machine's state fit each other: the state is sound, each record's word and value show what
+-- stands at its place, each view is that of its seat, and what views have adds up to what the state has.
 pub record Sound (l : Layout) (words : List ℕ) (views : List View) (s : Shared) : Type 0 where
   pub laid_out : IsLaidOut l.decls (home_of s.story.homes)
   pub first : s.story.first_draw ≡ l.first.draw

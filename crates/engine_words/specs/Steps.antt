@@ -23,8 +23,8 @@ use Rattle.views.specs.Sums.{total}
 use Rattle.engine_words.specs.declared.view.Glance.{Glance}
 use Rattle.engine_words.specs.declared.view.Heard.{Heard}
 use Rattle.engine_words.specs.declared.view.Read.{Read}
-use Rattle.engine_words.specs.declared.view.Refused.{Refused}
-use Rattle.engine_words.specs.declared.view.Refused.TheVariants.{Conflict, NumberLimit, Wide}
+use Rattle.engine_words.specs.declared.view.RefusalCause.{RefusalCause}
+use Rattle.engine_words.specs.declared.view.RefusalCause.TheVariants.{Conflict, NumberLimit, Wide}
 use Rattle.engine_words.specs.declared.view.Role.{Role}
 use Rattle.engine_words.specs.declared.view.Role.TheVariants.{Keeper, Worker, Note, Spent}
 use Rattle.engine_words.specs.declared.view.View.{View}
@@ -149,7 +149,7 @@ abbrev pub readied : View → View
 readied v = record v { due = true; reads = [] }
 
 -- one refusal more
-abbrev pub refused_for : Refused → View → View
+abbrev pub refused_for : RefusalCause → View → View
 refused_for r v = record v { refused = v.refused ++ r ∷ [] }
 
 -- the clock was seen, and so it is then, unless the clock is at the last draws
@@ -166,16 +166,16 @@ abbrev pub forgot : View → View
 forgot v = record v { due = false; seat = record v.seat { kept = [] }; steps = v.steps + 1; loaded = None }
 
 -- what was refused, and this, where there is one more
-abbrev pub with_why : List Refused → Option Refused → List Refused
+abbrev pub with_why : List RefusalCause → Option RefusalCause → List RefusalCause
 with_why refused None = refused
 with_why refused (Some r) = refused ++ r ∷ []
 
 -- the same, and why, where it was refused, and at which keys it met somebody
-abbrev pub forgot_for : Option Refused → List Touch → View → View
+abbrev pub forgot_for : Option RefusalCause → List Touch → View → View
 forgot_for why met v = record (forgot v) { refused = with_why v.refused why; blamed = v.blamed ++ met }
 
 -- a refusal of this seat with Conflict is one at the key whose record's word stands there
-abbrev pub IsMetFor : Option Refused → List Touch → List Decl → ℕ → Type 0
+abbrev pub IsMetFor : Option RefusalCause → List Touch → List Decl → ℕ → Type 0
 IsMetFor None met decls q = met ≡ []
 IsMetFor (Some (Conflict at expected seen)) met decls q =
     (k : Key) → IsAtKey decls k (spot_for decls k) at → met ≡ touch q k ∷ []
@@ -183,13 +183,13 @@ IsMetFor (Some (Wide set)) met decls q = met ≡ []
 IsMetFor (Some (NumberLimit clock)) met decls q = met ≡ []
 
 -- the transaction has ended, for this cause or for none
-pub record HasForgotten (why : Option Refused) (v w : View) : Type 0 where
+pub record HasForgotten (why : Option RefusalCause) (v w : View) : Type 0 where
   pub met : List Touch
   pub of : IsMetFor why met v.layout.decls (seat_number v.role)
   pub is : w ≡ forgot_for why met v
 
 -- the same of the step
-abbrev pub Forgets : Option Refused → Step (Unit {0}) → View → ℕ → View → Type 0
+abbrev pub Forgets : Option RefusalCause → Step (Unit {0}) → View → ℕ → View → Type 0
 Forgets why s v n w = HasForgotten why v w
 
 -- ---- what a refusal needs
@@ -208,7 +208,7 @@ pub record IsInTheWay (k : Key) (at expected seen : ℕ) (v : View) : Type 0 whe
   pub cause : (2 ^ 60 ≤ seen) ⊎ ((expected < 2 ^ 60) × (seen ≢ expected))
 
 -- A transaction that ends is refused for what its pass met. A begin alone is refused a number.
-abbrev pub IsDue : Option Refused → View → Type 0
+abbrev pub IsDue : Option RefusalCause → View → Type 0
 IsDue None v = ⊤
 IsDue (Some (Conflict at expected seen)) v = (k : Key) × IsInTheWay k at expected seen v
 IsDue (Some (Wide set)) v = ⊤

@@ -11,6 +11,7 @@ use Rattle.engine_words.specs.declared.view.View.{View}
 
 -- ---- what passes have
 
+-- a lock that this seat took, or met, of this key
 abbrev pub touch : ℕ → Key → Touch
 touch q k = record { seat = q; key = k }
 

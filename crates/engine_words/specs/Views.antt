@@ -13,8 +13,9 @@ use Rattle.engine_words.specs.declared.view.Role.{Role}
 use Rattle.engine_words.specs.declared.view.Role.TheVariants.{Keeper, Worker, Note, Spent}
 use Rattle.engine_words.specs.declared.view.View.{View}
 
--- ---- the seat of a pass in the machine: the keeper's is 0, a worker's one more than its number
+-- ---- the seat of a pass in the machine
 
+-- the keeper's is 0, a worker's one more than its number, and a note has none
 abbrev pub IsAt : ℕ → Role → Type 0
 IsAt p Keeper = p ≡ 0
 IsAt p (Worker w) = p ≡ suc w
@@ -37,13 +38,14 @@ IsActive Spent = ⊥
 
 -- ---- what a view weighs
 
+-- 1 where a pass of this role has this seat
 abbrev pub sits_by : ℕ → Role → ℕ
 sits_by p Keeper = one_at p 0
 sits_by p (Worker w) = one_at p (suc w)
 sits_by p Note = 0
 sits_by p Spent = 0
 
--- 1 for the pass that has this seat
+-- the same of a view
 abbrev pub sits : ℕ → View → ℕ
 sits p v = sits_by p v.role
 

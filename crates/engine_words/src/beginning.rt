@@ -6,7 +6,7 @@ ghost use Rattle.engine_words.specs.Passes.{view, IsPassOf};
 ghost use Rattle.engine_words.specs.Cuts.{worker_of};
 ghost use Rattle.engine_words.specs.Steps.{Begun, IsDue, HasForgotten};
 
-use crate::Refused;
+use crate::RefusalCause;
 use crate::engine::{Engine, Pass};
 use crate::law::{Beginning, Excused, Forgetting};
 use commit_core::commits_are_serial;
@@ -26,7 +26,7 @@ pub fn begin(engine: &Engine, pass: &mut Pass) -> u64
 }
 
 /// Drops what was kept: the transaction is over before its draw, maybe since it was refused for this, which is due.
-pub fn forget(engine: &Engine, pass: &mut Pass, why: Option<Refused>)
+pub fn forget(engine: &Engine, pass: &mut Pass, why: Option<RefusalCause>)
     requires of { IsPassOf engine.now pass.old }
     requires worker { (view pass.old).role ≡ Worker (worker_of (view pass.old).role) }
     requires idle { can_begin (view pass.old).seat.stage ≡ true }
@@ -37,7 +37,7 @@ pub fn forget(engine: &Engine, pass: &mut Pass, why: Option<Refused>)
     forget_as::<Brand>(engine, pass, why);
 }
 
-fn forget_as<J: Excused>(engine: &Engine, pass: &mut Pass, why: Option<Refused>)
+fn forget_as<J: Excused>(engine: &Engine, pass: &mut Pass, why: Option<RefusalCause>)
     requires of { IsPassOf engine.now pass.old }
     requires worker { (view pass.old).role ≡ Worker (worker_of (view pass.old).role) }
     requires idle { can_begin (view pass.old).seat.stage ≡ true }

@@ -12,8 +12,7 @@ use crate::engine::{Engine, Pass};
 use crate::law::{Advancing, Marked, Marking, Meeting, Named};
 use commit_core::{Mark, commits_are_serial};
 use std::marker::Brand;
-
-const EPOCH: u64 = 1 << 40;
+use wire_form::EPOCH;
 
 const IDLE: u32 = (1 << 20) - 1;
 

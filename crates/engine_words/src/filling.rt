@@ -9,8 +9,7 @@ use crate::Layout;
 use crate::storages::Storages;
 use homes::Content;
 use serial_model::{Key, Number};
-
-const EPOCH: u64 = 1 << 40;
+use wire_form::EPOCH;
 
 /// The word of a number.
 pub(crate) fn word_of_number(number: Number) -> u64

@@ -307,9 +307,9 @@ impl<J: Named> Play<(), View> for Meeting<J> {
 /// Why a transaction ends, where it was refused. Each call picks it.
 pub trait Excused {
     ghost use Rattle.std.specs.Prelude.{Option};
-    ghost use Rattle.engine_words.specs.declared.view.Refused.{Refused};
+    ghost use Rattle.engine_words.specs.declared.view.RefusalCause.{RefusalCause};
 
-    ghost why: { Option Refused };
+    ghost why: { Option RefusalCause };
 }
 
 // No call goes by this one.

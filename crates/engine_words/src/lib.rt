@@ -41,4 +41,4 @@ pub use layout::Layout;
 pub use locking::{LOCK, lock, open_again, open_anew, put};
 pub use reading::{confirm, load_content, load_value, see};
 pub use seating::{end, learn, note, seat};
-pub use view::{Glance, Heard, Loaded, Met, Read, Refused, Role, SetName, Took, Touch, View};
+pub use view::{Glance, Heard, Loaded, Met, Read, RefusalCause, Role, SetName, Took, Touch, View};

@@ -17,8 +17,7 @@ use commit_core::commits_are_serial;
 use lists::Memory;
 use serial_model::Decl;
 use std::alloc::Global;
-
-const EPOCH: u64 = 1 << 40;
+use wire_form::EPOCH;
 
 impl Engine {
     /// An engine whose records have what stands at their keys at first, and the keeper's pass.

@@ -1,12 +1,11 @@
 // Where the words of records stand.
 ghost use Rattle.std.specs.Prelude.{◌≡◌, true};
 ghost use Rattle.serial_model.specs.Decls.{AreDecls};
-ghost use Rattle.serial_model.specs.Keys.{id_of};
 ghost use Rattle.engine_words.specs.Layout.{has_record, spot_for, AreFirstWords, IsAtKey};
 
 use crate::engine::Engine;
 use crate::making::records;
-use serial_model::{Decl, Key};
+use serial_model::{Decl, Key, id_of};
 
 impl Engine {
     /// Where the record's word of a key stands, which a declared array has.
@@ -26,16 +25,8 @@ pub(crate) fn first_words(decls: &[Decl]) -> [u32; 256]
     let mut firsts = [0; 256];
     let mut at = 32;
     for decl in decls {
-        firsts[usize::from(id_of(*decl))] = at;
+        firsts[usize::from(id_of(decl))] = at;
         at += 2 * records(*decl);
     }
     firsts
-}
-
-fn id_of(decl: Decl) -> u8
-    ensures { result ≡ id_of decl }
-{
-    match decl {
-        Decl::Array { id, .. } | Decl::Tree { id } => id,
-    }
 }

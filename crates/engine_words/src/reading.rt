@@ -13,7 +13,8 @@ use commit_core::commits_are_serial;
 use serial_model::Key;
 use std::marker::Brand;
 
-/// Loads the record word of a key, which stands here, and keeps it as read where it is unlocked.
+/// Loads the record word of a key, which stands here, and keeps it as read where it is unlocked: what stands at the key
+/// is then the last decided write, of all that was drawn and decided up to this step.
 pub fn see(engine: &Engine, pass: &mut Pass, key: Key, at: u32) -> u64
     requires of { IsPassOf engine.now pass.old }
     requires pass { IsActive (view pass.old).role × (is_trying (view pass.old).seat.stage ≡ false) }

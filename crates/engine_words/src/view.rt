@@ -78,7 +78,7 @@ pub struct Heard {
 
 /// Why a transaction was refused.
 #[derive(Clone, Copy, Debug, PartialEq, Eq)]
-pub enum Refused {
+pub enum RefusalCause {
     /// The word at this place was locked, or was not as it was seen before.
     Conflict { word: u32, expected: u64, seen: u64 },
     /// The set of reads or of writes was full.
@@ -130,7 +130,7 @@ pub struct View {
     /// Each word of a record that its transaction met, until the next one begins.
     pub reads: Sequence<Read>,
     /// What its transactions were refused for, and those of the passes that were ended into it.
-    pub refused: Sequence<Refused>,
+    pub refused: Sequence<RefusalCause>,
     /// The locks that its seat took, and those of the passes that were ended into it. As the keeper seats the first
     /// worker, it forgets all that it had.
     pub touched: Sequence<Touch>,

@@ -11,8 +11,9 @@ use Rattle.serial_model.specs.declared.reply.Verdict.TheVariants.{Done, Short}
 use Rattle.commit_core.specs.declared.part.Part.{Part}
 use Rattle.commit_core.specs.declared.attempt.Attempt.{Attempt}
 use Rattle.commit_core.specs.Keys.{same_key, content_of, written}
-use Rattle.commit_core.specs.Parts.{record_part}
-use Rattle.serial_bridge.specs.Transaction.{Continues, Stops, Finished, finished, Runs, LeavesOut, IsAttemptOf}
+use Rattle.lists.specs.Elements.{in_none, in_head}
+use Rattle.commit_core.specs.Parts.{covers, found, record_part}
+use Rattle.serial_bridge.specs.Transaction.{Vouched, Sees, Continues, Stops, Finished, finished, Runs, LeavesOut, IsAttemptOf}
 use Rattle.commit_core.specs.Lemmas.Keys.{same_key-true}
 use Rattle.serial_bridge.specs.Laws.{written-wrote}
 
@@ -34,36 +35,47 @@ part k value = record_part k (record { slot = 0; index = 0 }) (content_of (at 1 
 abbrev change : Key → Option ℕ → Change
 change k value = record { key = k; value = value }
 
+-- what the only part has for a key that it covers
+by_part : (p : Part) (k : Key) (value : Option ℕ) → covers p k ≡ true → (found p k).value ≡ value → Vouched (p ∷ []) k value
+by_part p k value over has = record { part = p; among = in_head p []; over = over; has = has }
+
 -- a read of an own write needs no part
 own_write : Runs storages [] (Write (item 0) 7 ∷ Read (item 0) ∷ []) [] (finished Done (Value 7 ∷ []) (change (item 0) (Some 7) ∷ []))
 own_write =
     let own : List Change = change (item 0) (Some 7) ∷ [] in
-    let read : Runs storages [] (Read (item 0) ∷ []) own (finished Done (Value 7 ∷ []) own) = (refl, (Continues (Some (Value 7)) own, (Some 7, refl, refl), (finished Done [] own, refl, refl))) in
+    let read : Runs storages [] (Read (item 0) ∷ []) own (finished Done (Value 7 ∷ []) own) = (refl, (Continues (Some (Value 7)) own, (Some 7, inl refl, refl), (finished Done [] own, refl, refl))) in
     (refl, (Continues None own, refl, (finished Done (Value 7 ∷ []) own, read, refl)))
 
 -- 5 were read and 3 added: a read then gives 8
 sum_over_a_read : Runs storages (part (item 1) (Some 5) ∷ []) (Add (item 1) 3 ∷ Read (item 1) ∷ []) [] (finished Done (Value 8 ∷ []) (change (item 1) (Some 8) ∷ []))
 sum_over_a_read =
     let own : List Change = change (item 1) (Some 8) ∷ [] in
-    let read : Runs storages (part (item 1) (Some 5) ∷ []) (Read (item 1) ∷ []) own (finished Done (Value 8 ∷ []) own) = (refl, (Continues (Some (Value 8)) own, (Some 8, refl, refl), (finished Done [] own, refl, refl))) in
-    (refl, (Continues None own, (Some 5, refl, refl), (finished Done (Value 8 ∷ []) own, read, refl)))
+    let read : Runs storages (part (item 1) (Some 5) ∷ []) (Read (item 1) ∷ []) own (finished Done (Value 8 ∷ []) own) = (refl, (Continues (Some (Value 8)) own, (Some 8, inl refl, refl), (finished Done [] own, refl, refl))) in
+    (refl, (Continues None own, (Some 5, inr (refl, by_part (part (item 1) (Some 5)) (item 1) (Some 5) refl refl), refl), (finished Done (Value 8 ∷ []) own, read, refl)))
 
 -- 2 were read and 3 are taken: the write before it is dropped, the reply before it stays, and the operation after it does
 -- not run
 short : Runs storages (part (item 1) (Some 2) ∷ []) (Write (item 0) 7 ∷ Read (item 1) ∷ Take (item 1) 3 ∷ Read (item 0) ∷ []) [] (finished Short (Value 2 ∷ []) [])
 short =
     let own : List Change = change (item 0) (Some 7) ∷ [] in
-    let take : Runs storages (part (item 1) (Some 2) ∷ []) (Take (item 1) 3 ∷ Read (item 0) ∷ []) own (finished Short [] []) = (refl, (Stops Short, (Some 2, refl, refl), refl)) in
-    let read : Runs storages (part (item 1) (Some 2) ∷ []) (Read (item 1) ∷ Take (item 1) 3 ∷ Read (item 0) ∷ []) own (finished Short (Value 2 ∷ []) []) = (refl, (Continues (Some (Value 2)) own, (Some 2, refl, refl), (finished Short [] [], take, refl))) in
+    let there : Vouched (part (item 1) (Some 2) ∷ []) (item 1) (Some 2) = by_part (part (item 1) (Some 2)) (item 1) (Some 2) refl refl in
+    let take : Runs storages (part (item 1) (Some 2) ∷ []) (Take (item 1) 3 ∷ Read (item 0) ∷ []) own (finished Short [] []) = (refl, (Stops Short, (Some 2, inr (refl, there), refl), refl)) in
+    let read : Runs storages (part (item 1) (Some 2) ∷ []) (Read (item 1) ∷ Take (item 1) 3 ∷ Read (item 0) ∷ []) own (finished Short (Value 2 ∷ []) []) = (refl, (Continues (Some (Value 2)) own, (Some 2, inr (refl, there), refl), (finished Short [] [], take, refl))) in
     (refl, (Continues None own, refl, (finished Short (Value 2 ∷ []) [], read, refl)))
 
 -- an array key without a value has 0
 array_without : Runs storages (part (item 3) None ∷ []) (Read (item 3) ∷ []) [] (finished Done (Value 0 ∷ []) [])
-array_without = (refl, (Continues (Some (Value 0)) [], (None, refl, refl), (finished Done [] [], refl, refl)))
+array_without =
+    let there : Vouched (part (item 3) None ∷ []) (item 3) None = by_part (part (item 3) None) (item 3) None refl refl in
+    (refl, (Continues (Some (Value 0)) [], (None, inr (refl, there), refl), (finished Done [] [], refl, refl)))
 
 -- a read of a key that nothing vouches for is no transaction's
 unread : (f : Finished) → Runs storages [] (Read (item 0) ∷ []) [] f → ⊥
-unread f is = let none : None ≡ Some is.1.1.0 = is.1.1.1 in cc
+unread f is = unseen is.1.1.0 is.1.1.1
+  where
+    unseen : (value : Option ℕ) → Sees [] [] (item 0) value → ⊥
+    unseen value (inl is) = let none : None ≡ Some value = is in cc
+    unseen value (inr read) = in_none read.1.part read.1.among
 
 abbrev nothing_read : Attempt
 nothing_read = record { seat = 0; number = at 1 2; parts = part (leaf 9) None ∷ []; writes = [] }
@@ -77,12 +89,15 @@ removal_of_nothing =
     let remove : Runs storages (part (leaf 9) None ∷ []) (Remove (leaf 9) ∷ []) [] (finished Done [] own) = (refl, (Continues None own, refl, (finished Done [] own, refl, refl))) in record {
       number = refl;
       own = own;
-      runs = (refl, (Continues (Some Absent) [], (None, refl, refl), (finished Done [] own, remove, refl)));
+      runs = (refl, (Continues (Some Absent) [], (None, inr (refl, there), refl), (finished Done [] own, remove, refl)));
       writes = λ k. by_test k (same_key (leaf 9) k) refl;
     }
   where
+    there : Vouched (part (leaf 9) None ∷ []) (leaf 9) None
+    there = by_part (part (leaf 9) None) (leaf 9) None refl refl
+
     by_test : (k : Key) (b : Bool) → same_key (leaf 9) k ≡ b → (written k [] ≡ written k (change (leaf 9) None ∷ [])) ⊎ LeavesOut storages nothing_read (change (leaf 9) None ∷ []) k
     by_test k true hit =
         subst (λ (x : Key). (written x [] ≡ written x (change (leaf 9) None ∷ [])) ⊎ LeavesOut storages nothing_read (change (leaf 9) None ∷ []) x) (same_key-true (leaf 9) k hit)
-        (inr (record { tree = refl; removed = refl; absent = refl; unwritten = refl }))
+        (inr (record { tree = refl; removed = refl; absent = there; unwritten = refl }))
     by_test k false miss = inl (sym (written-wrote (leaf 9) k None [] ∙ ap (λ b. cond b (Some None) None) miss))

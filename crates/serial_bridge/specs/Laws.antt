@@ -1,5 +1,5 @@
 -- The bridge itself, as laws that proofs above can cite.
-use Rattle.std.proofs.Common.{◌≡◌, ℕ, ◌+◌, ◌-◌, ◌^◌, ◌≤◌, Bool, true, false, true≢false, cond, ◌⊎◌, inl, inr, List, [], ◌∷◌, ◌++◌, refl, sym, ap, ◌∙◌, subst, arith, Option, Some, None, IsSome}
+use Rattle.std.proofs.Common.{◌≡◌, ℕ, ◌+◌, ◌-◌, ◌^◌, ◌≤◌, Bool, true, false, true≢false, cond, ◌⊎◌, inl, inr, List, [], ◌∷◌, ◌++◌, refl, sym, ap, ◌∙◌, subst, arith, Option, Some, None}
 use Rattle.std.specs.Prelude.{◌&&◌, nat_lt, nat_le, option_to_list, unwrap_or, Contains, find, filter, option_map}
 use Rattle.std.specs.Option.{option_or, option_map_or}
 use Rattle.std.specs.Cmp.{eq_by_cmp_equiv}
@@ -27,13 +27,12 @@ use Rattle.commit_core.specs.declared.attempt.Attempt.{Attempt}
 use Rattle.serial_model.specs.Numbers.{IsBelow, below_then}
 use Rattle.serial_model.specs.KeyOrder.{keys_total, same_by_test}
 use Rattle.commit_core.specs.Keys.{same_key, IsUpTo, content_at, written}
-use Rattle.commit_core.specs.Parts.{covers, found, IsSameOrAbsent, Vouches}
+use Rattle.commit_core.specs.Parts.{found, IsSameOrAbsent, Vouches}
 use Rattle.commit_core.specs.Lemmas.Keys.{same_key-self, same_key-true}
-use Rattle.lists.specs.Elements.{in_head, in_tail}
 use Rattle.commit_core.specs.CoreState.{is_decided}
 use Rattle.commit_core.specs.Serial.{after_writes, after_all, committed, ReadsAlong, RisesFrom}
 use Rattle.commit_core.specs.Law.{SoundIsSerial}
-use Rattle.serial_bridge.specs.Transaction.{vouched, seen, wrote, Turn, Continues, Stops, added, taken, Turns, Finished, finished, FinishesBy, Runs, LeavesOut, AreAttemptsOf}
+use Rattle.serial_bridge.specs.Transaction.{Vouched, Sees, IsScanned, wrote, Turn, Continues, Stops, added, taken, Turns, Finished, finished, FinishesBy, Runs, LeavesOut, AreAttemptsOf}
 use Rattle.serial_bridge.specs.Bridge.{Agrees, AttemptsStep, after_attempts, last_written, SerialReadsRun, up_to_epoch, EpochsRun, SoundStoryRuns}
 
 -- ---- keys
@@ -74,19 +73,17 @@ IsOver first own w = (k : Key) → get w k ≡ unwrap_or (written k own) (get fi
 
 -- a read of a key that a part has replies the same from the state
 abbrev pub AreVouched : List Decl → List Part → State → Type 0
-AreVouched decls parts s = (k : Key) (value : Option ℕ) → vouched parts k ≡ Some value
+AreVouched decls parts s = (k : Key) (value : Option ℕ) → Vouched parts k value
     → reply_of (is_tree decls k.storage) (get s k) ≡ reply_of (is_tree decls k.storage) value
 
 -- a read of a key that is seen replies the same from the state with the writes
 pub seen_same : (decls : List Decl) (parts : List Part) (first : State) (own : List Change) (w : State) (k : Key) (value : Option ℕ)
-    → AreVouched decls parts first → IsOver first own w → seen parts own k ≡ Some value
+    → AreVouched decls parts first → IsOver first own w → Sees parts own k value
     → reply_of (is_tree decls k.storage) (get w k) ≡ reply_of (is_tree decls k.storage) value
-seen_same decls parts first own w k value vouch over is = by_written (written k own) (over k) is
-  where
-    by_written : (o : Option (Option ℕ)) → get w k ≡ unwrap_or o (get first k) → option_or o (vouched parts k) ≡ Some value
-        → reply_of (is_tree decls k.storage) (get w k) ≡ reply_of (is_tree decls k.storage) value
-    by_written None here is = ap (reply_of (is_tree decls k.storage)) here ∙ vouch k value is
-    by_written (Some x) here is = let same : x ≡ value = cc in ap (reply_of (is_tree decls k.storage)) (here ∙ same)
+seen_same decls parts first own w k value vouch over (inl wrote-last) =
+    ap (reply_of (is_tree decls k.storage)) (over k ∙ ap (λ o. unwrap_or o (get first k)) wrote-last)
+seen_same decls parts first own w k value vouch over (inr read) =
+    ap (reply_of (is_tree decls k.storage)) (over k ∙ ap (λ o. unwrap_or o (get first k)) read.0) ∙ vouch k value read.1
 
 -- ---- one write more
 
@@ -98,6 +95,7 @@ written-wrote k q value own =
       | false ↦ refl
     ]
 
+-- one value more is put, or taken out
 pub over_put : (first : State) (own : List Change) (w : State) (k : Key) (v : ℕ) → IsOver first own w → IsOver first (wrote k (Some v) own) (insert w k v)
 over_put first own w k v over = λ q.
     get-insert keys_total w k v q ∙ ap (λ b. cond b (Some v) (get w q)) (key_test q k) ∙ by_test q (same_key k q)
@@ -173,19 +171,19 @@ operation_ends decls parts first (Take k v) ops own w turn f vouch rest fit is b
     let turn-is = is.2 ∙ ap (λ n. taken k v n own) (sym same) in
     sum_ends decls parts first ops own w k (nat_le v (amount_at w k)) (amount_at w k - v) Short f rest (subst (λ t. FinishesBy t (Runs decls parts ops) f) turn-is by) over
 operation_ends decls parts first (Scan storage low high) ops own w turn f vouch rest fit is by over =
-    let rows-is = is.1.given w (λ k inside. scanned k inside) in
+    let rows-is = is.1.given w (λ k looked. scanned k looked) in
     let turn-is = is.2 ∙ ap (λ r. Continues (Some (Rows r)) own) rows-is in
     goes_on decls parts first ops own w (Some (Rows (rows_of w storage low high))) f rest (subst (λ t. FinishesBy t (Runs decls parts ops) f) turn-is by) over
   where
-    here : (k : Key) (o : Option (Option ℕ)) → seen parts own k ≡ o → IsSome o → is_tree decls k.storage ≡ true → o ≡ Some (get w k)
-    here k None e some tree = absurd (true≢false (sym some))
-    here k (Some value) e some tree =
-        ap Some (sym (same_in_tree (get w k) value (subst (λ t. reply_of t (get w k) ≡ reply_of t value) tree (seen_same decls parts first own w k value vouch over e))))
+    in_storage : (k : Key) → is_within storage low high k ≡ true → k.storage ≡ storage
+    in_storage k inside = grind (arith, nat_tests)
 
-    scanned : (k : Key) → is_within storage low high k ≡ true → seen parts own k ≡ Some (get w k)
-    scanned k inside =
-        let at : k.storage ≡ storage = grind (arith, nat_tests) in
-        here k (seen parts own k) refl (is.1.covered k inside) (ap (is_tree decls) at ∙ fit)
+    scanned : (k : Key) → IsScanned storage low high is.0 k → get w k ≡ is.1.value_at k
+    scanned k looked =
+        let tree : is_tree decls k.storage ≡ true = ap (is_tree decls) (in_storage k looked.within) ∙ fit in
+        same_in_tree (get w k) (is.1.value_at k)
+        (subst (λ t. reply_of t (get w k) ≡ reply_of t (is.1.value_at k)) tree
+        (seen_same decls parts first own w k (is.1.value_at k) vouch over (is.1.covered k looked)))
 
 -- the operations over what is seen end as the serial step does over the state
 pub runs_end : (decls : List Decl) (parts : List Part) (first : State) (ops : List Op) → AreVouched decls parts first → RestEnds decls parts first ops
@@ -204,19 +202,10 @@ same_value : (c d : Content) → IsSameOrAbsent c d → d.value ≡ c.value
 same_value c d (inl same) = ap (λ (x : Content). x.value) (sym same)
 same_value c d (inr absent) = absent.1 ∙ sym absent.0
 
--- the first part that covers a key has the contents' value there
+-- a part that covers a key has the contents' value there
 pub vouched_is : (contents : Key → Content) (parts : List Part) (k : Key) (value : Option ℕ) → ((part : Part) → Contains parts part → Vouches contents part)
-    → vouched parts k ≡ Some value → (contents k).value ≡ value
-vouched_is contents [] k value reads is = cc
-vouched_is contents (part ∷ parts) k value reads is =
-    elim (cases_Bool (covers part k)) [
-      | inl hit ↦
-          let first : Some (found part k).value ≡ Some value = sym (ap (option_map (λ (p : Part). (found p k).value)) (cond-true (covers part k) (Some part) (find (λ (p : Part). covers p k) parts) hit)) ∙ is in
-          let same : (found part k).value ≡ value = cc in
-          same_value (found part k) (contents k) (reads part (in_head part parts) k hit) ∙ same
-      | inr miss ↦ vouched_is contents parts k value (λ p m. reads p (in_tail p part parts m))
-          (sym (ap (option_map (λ (p : Part). (found p k).value)) (cond-false (covers part k) (Some part) (find (λ (p : Part). covers p k) parts) miss)) ∙ is)
-    ]
+    → Vouched parts k value → (contents k).value ≡ value
+vouched_is contents parts k value reads v = same_value (found v.part k) (contents k) (reads v.part v.among k v.over) ∙ v.has
 
 -- the value after an attempt's writes
 after_writes-value : (k : Key) (a : Attempt) (c : Content) → (after_writes k a c).value ≡ unwrap_or (written k a.writes) c.value
@@ -273,6 +262,7 @@ precedes R imply decls e low (f ∷ entries) (a ∷ attempts) up rises are =
     after x y z (inl same) b = subst (λ (n : Number). IsBelow n z) (sym same) b
     after x y z (inr a) b = below_then x y z a b
 
+-- what holds of numbers in order holds of the entries in their order
 pub in_order : (R : Number → Number → Type 0) → ((x y : Number) → IsBelow x y → R x y) → (decls : List Decl) (low : Number) (entries : List Entry) (attempts : List Attempt)
     → RisesFrom low attempts → AreAttemptsOf decls entries attempts → InOrder (λ x y. R x.number y.number) entries
 in_order R imply decls low [] [] rises are = tt

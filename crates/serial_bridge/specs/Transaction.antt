@@ -1,7 +1,6 @@
 -- What it means that an attempt is a transaction's: the operations, in order, see what they wrote themselves, else what
 -- the attempt's parts have.
-use Rattle.std.specs.Prelude.{◌≡◌, ◌⊎◌, ℕ, ◌+◌, ◌-◌, ◌^◌, ◌++◌, true, List, [], ◌∷◌, Option, Some, None, IsSome, IsTrue, if◌then◌else◌, nat_lt, nat_le, find, option_map, option_to_list, unwrap_or, ⊤}
-use Rattle.std.specs.Option.{option_or}
+use Rattle.std.specs.Prelude.{◌≡◌, ◌⊎◌, ℕ, ◌+◌, ◌-◌, ◌^◌, ◌<◌, ◌≤◌, ◌++◌, true, List, [], ◌∷◌, length, Contains, Option, Some, None, IsTrue, if◌then◌else◌, nat_lt, nat_le, option_to_list, unwrap_or, ⊤}
 use Rattle.std.specs.FinMap.{get}
 use Rattle.serial_model.specs.declared.key.Key.{Key}
 use Rattle.serial_model.specs.declared.number.Change.{Change}
@@ -23,18 +22,28 @@ use Rattle.commit_core.specs.Parts.{covers, found}
 
 -- ---- what a transaction sees
 
--- the value that a part has for the key, where one covers it
-abbrev pub vouched : List Part → Key → Option (Option ℕ)
-vouched parts k = option_map (λ part. (found part k).value) (find (λ part. covers part k) parts)
+-- Some part covers the key, and has this value for it. Two parts may cover a key and have two values for it, where the
+-- attempt is bound to fail: what it replies until then is seen in one of them.
+pub record Vouched (parts : List Part) (k : Key) (value : Option ℕ) : Type 0 where
+  pub part : Part
+  pub among : Contains parts part
+  pub over : covers part k ≡ true
+  pub has : (found part k).value ≡ value
 
--- the value at a key that the transaction wrote last, else the one that a part has; none where there is neither
-abbrev pub seen : List Part → List Change → Key → Option (Option ℕ)
-seen parts own k = option_or (written k own) (vouched parts k)
+-- The transaction wrote this value at the key last, or wrote none there and a part has it.
+abbrev pub Sees : List Part → List Change → Key → Option ℕ → Type 0
+Sees parts own k value = (written k own ≡ Some value) ⊎ ((written k own ≡ None) × Vouched parts k value)
 
--- The rows of a scan: each key of the range is seen, and every state that has there what is seen gives these rows.
+-- A scan with these rows looks at the key: it is in the range, and not behind the last row where there are 16.
+pub record IsScanned (storage low high : ℕ) (rows : List (ℕ × ℕ)) (k : Key) : Type 0 where
+  pub within : is_within storage low high k ≡ true
+  pub reached : (length rows < 16) ⊎ ((row : ℕ × ℕ) × Contains rows row × (k.key ≤ row.0))
+
+-- The rows of a scan: a value is seen at each key that it looks at, and every state that has these there gives the rows.
 pub record SeesRows (parts : List Part) (own : List Change) (storage low high : ℕ) (rows : List (ℕ × ℕ)) : Type 0 where
-  pub covered : (k : Key) → is_within storage low high k ≡ true → IsSome (seen parts own k)
-  pub given : (s : State) → ((k : Key) → is_within storage low high k ≡ true → seen parts own k ≡ Some (get s k))
+  pub value_at : Key → Option ℕ
+  pub covered : (k : Key) → IsScanned storage low high rows k → Sees parts own k (value_at k)
+  pub given : (s : State) → ((k : Key) → IsScanned storage low high rows k → get s k ≡ value_at k)
       → rows ≡ rows_of s storage low high
 
 -- ---- one operation
@@ -62,14 +71,14 @@ taken k v before own =
 -- need that what they ask for is seen; writes and removals see nothing.
 abbrev pub Turns : List Decl → List Part → List Change → Op → Turn → Type 0
 Turns decls parts own (Read k) turn =
-    (value : Option ℕ) × (seen parts own k ≡ Some value)
+    (value : Option ℕ) × Sees parts own k value
     × (turn ≡ Continues (Some (reply_of (is_tree decls k.storage) value)) own)
 Turns decls parts own (Write k v) turn = turn ≡ Continues None (wrote k (Some v) own)
 Turns decls parts own (Remove k) turn = turn ≡ Continues None (wrote k None own)
 Turns decls parts own (Add k v) turn =
-    (value : Option ℕ) × (seen parts own k ≡ Some value) × (turn ≡ added k v (unwrap_or value 0) own)
+    (value : Option ℕ) × Sees parts own k value × (turn ≡ added k v (unwrap_or value 0) own)
 Turns decls parts own (Take k v) turn =
-    (value : Option ℕ) × (seen parts own k ≡ Some value) × (turn ≡ taken k v (unwrap_or value 0) own)
+    (value : Option ℕ) × Sees parts own k value × (turn ≡ taken k v (unwrap_or value 0) own)
 Turns decls parts own (Scan storage low high) turn =
     (rows : List (ℕ × ℕ)) × SeesRows parts own storage low high rows × (turn ≡ Continues (Some (Rows rows)) own)
 
@@ -103,7 +112,7 @@ Runs decls parts (op ∷ ops) own f =
 pub record LeavesOut (decls : List Decl) (a : Attempt) (own : List Change) (k : Key) : Type 0 where
   pub tree : is_tree decls k.storage ≡ true
   pub removed : written k own ≡ Some None
-  pub absent : vouched a.parts k ≡ Some None
+  pub absent : Vouched a.parts k None
   pub unwritten : written k a.writes ≡ None
 
 -- The attempt is that of the entry's transaction: it has its number, the operations run over the attempt's parts to the

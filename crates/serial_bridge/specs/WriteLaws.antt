@@ -40,6 +40,7 @@ use Rattle.serial_bridge.specs.WriteSets.{HasNoTree, keys_of, AttemptWrites, Wri
 
 -- ---- keys of writes
 
+-- what is written at a key once there is one change more in front
 pub written-cons : (c : Change) (ws : List Change) (q : Key) → written q (c ∷ ws)
     ≡ cond (same_key c.key q) (Some c.value) (written q ws)
 written-cons c ws q =
@@ -73,6 +74,7 @@ written_key (c ∷ ws) q has = ap is_some (written-cons c ws q) ∙ by_test (sam
       | inr later ↦ rest later
     ]
 
+-- what holds of each item that a list has holds of all of them
 pub each_in : {A : Type 0} (P : A → Type 0) (xs : List A) → ((x : A) → Contains xs x → P x) → AllByRecursion P xs
 each_in P [] all = tt
 each_in P (x ∷ xs) all = (all x (in_head x xs), each_in P xs (λ y has. all y (in_tail y x xs has)))
@@ -116,6 +118,7 @@ wrote_one own k value keys now w = record {
     back q true same is = inl (subst (λ (x : Key). Contains (k ∷ keys) x) (same_key-true k q same) (in_head k keys))
     back q false other is = inr is
 
+-- the rest, over these writes and the state with them, writes the keys that its operations write
 abbrev RestWrote : List Decl → List Part → State → List Op → Type 0
 RestWrote decls parts first ops = (own : List Change) (w : State) (f : Finished)
     → Runs decls parts ops own f → IsOver first own w → f.verdict ≡ Done

@@ -5,9 +5,8 @@
 //! (`step`). So attempts whose reads are serial are a serial run of their transactions (`run`), those up to an epoch
 //! give the state as of it (`epochs`), and the decided attempts of every sound story, in order of number, are a run
 //! that leaves each key's last decided write (`story`).
-//! `seen` tells what a transaction sees at a key.
 //! Terms: *part*, what an attempt read and must stay valid; an attempt *is* a transaction's (`IsAttemptOf`) where each
-//! operation sees what the transaction wrote before it, else what a part has.
+//! operation sees what the transaction wrote before it, else what some part has.
 //! Layout: `Transaction` says what a transaction sees and does, `Bridge` what follows, `Laws` has the proofs in the
 //! form that crates above cite; `WriteSets` says that attempts on arrays write their write sets, and which run attempts
 //! behind others are, with proofs in `WriteLaws`; proofs/Examples works some transactions by hand.
@@ -16,10 +15,7 @@
 
 ghost use Rattle.serial_bridge.specs.Bridge.{AttemptsStep, SerialReadsRun, EpochsRun, SoundStoryRuns};
 
-mod sight;
-
 use commit_core::commits_are_serial;
-pub use sight::seen;
 
 /// Parts that vouch, with the transaction's own writes, give the serial step's verdict, replies and changes.
 pub fn commits_are_transactions()

@@ -3,8 +3,8 @@ use Rattle.std.proofs.Common.{[], ◌≡◌, ◌⊎◌, inl, inr, ℕ, ◌+◌, 
 use Rattle.std.proofs.Common.{Option, Some, None, length, arith}
 use Rattle.std.proofs.Common.{refl, sym, ap, ◌∙◌, subst}
 use Rattle.std.specs.Prelude.{is_some, unwrap_or, nat_lt, nat_le}
-use Rattle.std.specs.Option.{option_or}
 use Rattle.std.specs.List.{AllByRecursion}
+use Rattle.lists.specs.Fronts.{front_refl}
 use Rattle.serial_model.specs.declared.key.Key.{Key}
 use Rattle.serial_model.specs.declared.decl.Decl.{Decl}
 use Rattle.serial_model.specs.declared.number.Change.{Change}
@@ -15,7 +15,7 @@ use Rattle.serial_model.specs.declared.reply.Verdict.TheVariants.{Done, Short, O
 use Rattle.serial_model.specs.Keys.{is_tree}
 use Rattle.serial_model.specs.Step.{reply_of}
 use Rattle.commit_core.specs.declared.part.Part.{Part}
-use Rattle.serial_bridge.specs.Transaction.{seen, vouched, wrote, added, taken, Turn, Turns, Continues, Stops}
+use Rattle.serial_bridge.specs.Transaction.{Sees, Vouched, wrote, added, taken, Turn, Turns, Continues, Stops}
 use Rattle.tx_sets.specs.declared.reads.ReadEntry.{ReadEntry}
 use Rattle.tx_sets.specs.declared.sets.Sets.{Sets}
 use Rattle.tx_sets.specs.declared.writes.Write as written_of
@@ -26,8 +26,8 @@ use Rattle.tx_commit.specs.declared.writing.By.{By}
 use Rattle.tx_commit.specs.declared.writing.By.TheVariants as ways
 use Rattle.tx_commit.specs.Live.{AreFresh, AreMet, IsLive, IsWriteOf}
 use Rattle.tx_commit.specs.Steps.{HasEntry}
-use Rattle.tx_commit.specs.Turning.{AreWritesOf, IsOfKey, ReadsOnly, HasLoaded, HasDone, HasStopped, op_of, altered}
-use Rattle.tx_commit.specs.Turning.{ended_by, Alters, MayWrite}
+use Rattle.tx_commit.specs.Turning.{AreWritesOf, IsOfKey, IsValueRead, ReadsOnly, OnlyLoaded, HasDone, HasStopped, op_of}
+use Rattle.tx_commit.specs.Turning.{altered, ended_by, Alters, MayWrite}
 use Rattle.tx_commit.proofs.Layouts.{is_array}
 use Rattle.tx_commit.proofs.Parts.{keeps_all}
 use Rattle.tx_commit.proofs.Writes.{value_none, value_there, writes_more, inserted_writes, inserted_all, word_apart}
@@ -36,12 +36,12 @@ use Rattle.tx_commit.proofs.Writes.{HasWritten, writes_only}
 -- ---- what is seen
 
 own_seen : (parts : List Part) (own : List Change) (ws : List written_of.Write) (k : Key) (value : Option ℕ)
-    → AreWritesOf ws own → value_of k ws ≡ Some value → seen parts own k ≡ Some value
-own_seen parts own ws k value same is = ap (λ o. option_or o (vouched parts k)) (same k ∙ is)
+    → AreWritesOf ws own → value_of k ws ≡ Some value → Sees parts own k value
+own_seen parts own ws k value same is = inl (same k ∙ is)
 
 part_seen : (parts : List Part) (own : List Change) (ws : List written_of.Write) (k : Key) (value : Option ℕ)
-    → AreWritesOf ws own → value_of k ws ≡ None → vouched parts k ≡ Some value → seen parts own k ≡ Some value
-part_seen parts own ws k value same none is = ap (λ o. option_or o (vouched parts k)) (same k ∙ none) ∙ is
+    → AreWritesOf ws own → value_of k ws ≡ None → Vouched parts k value → Sees parts own k value
+part_seen parts own ws k value same none is = inr (same k ∙ none, is)
 
 some_reply : (tree : Bool) (value : Option ℕ) → is_some value ≡ true → Value (unwrap_or value 0) ≡ reply_of tree value
 some_reply tree (Some n) there = refl
@@ -53,17 +53,49 @@ array_reply None = refl
 
 -- ---- nothing was loaded
 
-pub nothing_loaded : (v : View) → HasLoaded v v
+pub nothing_loaded : (v : View) → OnlyLoaded v v
 nothing_loaded v = record {
+  history = v.history;
+  decided = v.decided;
+  drawn = front_refl v.history;
+  seen = front_refl v.decided;
   kept = v.seat.kept;
   steps = v.steps;
   last = v.last;
   loaded = v.loaded;
   reads = v.reads;
+  parts = λ part has. inl has;
   is = refl;
 }
 
 -- ---- reads
+
+-- what a read answers of a key that the transaction wrote
+pub own_value : (k : Key) (own : Option ℕ) (sets : Sets) (v : View) → value_of k sets.writes ≡ Some own
+    → IsValueRead k (unwrap_or own 0) sets v v
+own_value k own sets v wrote = record {
+  own = λ x is. ap (λ (o : Option ℕ). unwrap_or o 0) (same x is);
+  again = λ e none read. absurd (apart none);
+  anew = λ none unread. absurd (apart none);
+}
+  where
+    same : (x : Option ℕ) → value_of k sets.writes ≡ Some x → own ≡ x
+    same x is = let both : Some own ≡ Some x = sym wrote ∙ is in cc
+
+    apart : value_of k sets.writes ≡ None → ⊥
+    apart none = let both : Some own ≡ None = sym wrote ∙ none in cc
+
+-- and of one that it didn't write
+pub entry_value : (k : Key) (e : ReadEntry) (sets new : Sets) (v w : View) → has_write k sets.writes ≡ false
+    → HasEntry k e sets new v w → IsValueRead k e.value sets v w
+entry_value k e sets new v w unwritten h = record {
+  own = λ own wrote. absurd (apart own wrote);
+  again = λ x none read. ap (λ (y : ReadEntry). y.value) (h.again x read);
+  anew = λ none unread. h.anew unread;
+}
+  where
+    apart : (own : Option ℕ) → value_of k sets.writes ≡ Some own → ⊥
+    apart own wrote = let both : None ≡ Some own = sym (value_none k sets.writes unwritten) ∙ wrote in cc
 
 -- at most this key was read
 reads_key : (op : Op) (k : Key) (e : ReadEntry) (sets new : Sets) (v w : View) → IsOfKey op k
@@ -160,7 +192,7 @@ turned (ways.Add amount) k before own = added k amount before own
 turned (ways.Take amount) k before own = taken k amount before own
 
 alter_turns : (by : By) (decls : List Decl) (parts : List Part) (own : List Change) (k : Key) (value : Option ℕ)
-    → seen parts own k ≡ Some value → Turns decls parts own (op_of k by) (turned by k (unwrap_or value 0) own)
+    → Sees parts own k value → Turns decls parts own (op_of k by) (turned by k (unwrap_or value 0) own)
 alter_turns (ways.Add amount) decls parts own k value is = (value, is, refl)
 alter_turns (ways.Take amount) decls parts own k value is = (value, is, refl)
 

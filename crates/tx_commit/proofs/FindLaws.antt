@@ -10,38 +10,41 @@ use Rattle.std.specs.List.{list_any}
 use Rattle.std.proofs.lemmas.Bool.{or_parts, or_from, ltb-true, ltb-false, false_from_ne_true}
 use Rattle.homes.specs.Laws.{same_key-true}
 use Rattle.views.specs.Sums.{total}
-use Rattle.lists.specs.Elements.{in_push_new}
-use Rattle.lists.specs.Fronts.{front_refl}
+use Rattle.lists.specs.Elements.{in_filter, in_push_cases, in_push_new}
+use Rattle.lists.specs.Fronts.{IsFront, front_refl}
 use Rattle.serial_model.specs.declared.key.Key.{Key}
 use Rattle.serial_model.specs.declared.decl.Decl.{Decl}
+use Rattle.serial_model.specs.declared.number.Number.{Number}
 use Rattle.serial_model.specs.Numbers.{draw_limit}
 use Rattle.homes.specs.Homes.{same_key, has_key}
 use Rattle.homes.specs.declared.places.Content.{Content}
 use Rattle.homes.specs.declared.places.Spot.{Spot}
 use Rattle.commit_core.specs.declared.attempt.Attempt.{Attempt}
 use Rattle.commit_core.specs.declared.part.Part.{Part}
-use Rattle.commit_core.specs.Parts.{record_part, with_part}
+use Rattle.commit_core.specs.declared.part.Word.TheVariants.{Record}
+use Rattle.commit_core.specs.Parts.{same_word, record_part, with_part}
+use Rattle.commit_core.specs.Serial.{last_write}
 use Rattle.tx_sets.specs.declared.reads.ReadEntry.{ReadEntry}
 use Rattle.tx_sets.specs.declared.sets.Sets.{Sets}
 use Rattle.tx_sets.specs.Entries.{has_read, read_of, IsPushed}
 use Rattle.tx_sets.specs.Gathered.{AreEmpty}
 use Rattle.engine_words.specs.declared.view.Read.{Read}
-use Rattle.engine_words.specs.declared.view.Refused.{Refused}
-use Rattle.engine_words.specs.declared.view.Refused.TheVariants.{NumberLimit}
+use Rattle.engine_words.specs.declared.view.RefusalCause.{RefusalCause}
+use Rattle.engine_words.specs.declared.view.RefusalCause.TheVariants.{NumberLimit}
 use Rattle.engine_words.specs.declared.view.View.{View}
 use Rattle.engine_words.specs.Layout.{records_at, records_of, IsAtKey}
 use Rattle.engine_words.specs.ReadLaws.{seen_at-same, seen_at-other}
-use Rattle.engine_words.specs.Reads.{saw, valued}
+use Rattle.engine_words.specs.Reads.{saw, valued, IsLastBetween}
 use Rattle.engine_words.specs.Steps.{read_at, seen_at, with_read, spot_in, timed, readied, refused_for}
 use Rattle.engine_words.specs.Views.{seat_number}
 use Rattle.engine_words.specs.Steps.{forgot_for, HasForgotten}
 use Rattle.engine_words.specs.Steps.{Begun, IsInTheWay, IsKeyAt, IsMetFor}
-use Rattle.array_storage.specs.Finding.{HasFound, HasClashed, IsWordFor}
+use Rattle.array_storage.specs.Finding.{HasFound, HasClashed, IsWordFor, WasLast}
 use Rattle.tx_commit.specs.Committing.{HasBegun, HasAborted}
 use Rattle.tx_commit.specs.Live.{AreMet, IsPartOf, AreParts, IsWriteOf, IsLive, IsOver}
 use Rattle.tx_commit.specs.Refusing.{IsConflict, HasRefused, RefusesBegin}
 use Rattle.tx_commit.specs.Steps.{HasEntry}
-use Rattle.tx_commit.specs.Turning.{HasLoaded, Keeps}
+use Rattle.tx_commit.specs.Turning.{OnlyLoaded, PartsStay}
 use Rattle.tx_commit.proofs.Dones.{nothing_loaded}
 use Rattle.tx_commit.proofs.Layouts.{one_word_key, not_same}
 use Rattle.tx_commit.proofs.Parts.{kept_push, parts_push, keeps_push, keeps_all, vouched_new, read_is, unread}
@@ -66,9 +69,33 @@ apart_from decls k q x y at at' is is' other = (
 -- ---- a read
 
 -- the view after a read
-abbrev found_view : Key → Content → ℕ → ℕ → ℕ → View → View
-found_view k c at word value v = read_at at word (valued k (spot_in v k) (at + 1) value
-    (saw k (spot_in v k) c at word v))
+abbrev found_view : List Attempt → List Number → Key → Content → ℕ → ℕ → ℕ → View → View
+found_view history decided k c at word value v = read_at at word (valued k (spot_in v k) (at + 1) value
+    (saw history decided k (spot_in v k) c at word v))
+
+-- what is kept behind the load of a record was kept, or was the last decided write at that load
+part_last : (k : Key) (c : Content) (word : ℕ) (history : List Attempt) (decided : List Number) (v w : View)
+    → WasLast k c word history decided v → w.history ≡ history → w.decided ≡ decided → (part : Part)
+    → Contains (with_part v.seat.kept (record_part k (spot_in v k) c)) part
+    → Contains v.seat.kept part ⊎ IsLastBetween v w part
+part_last k c word history decided v w was all chosen part has =
+    let x = spot_in v k in
+    elim (in_push_cases part (record_part k x c) (filter (λ p. not (same_word p.word (Record x))) v.seat.kept) has) [
+      | inl old ↦ inl (in_filter (λ (p : Part). not (same_word p.word (Record x))) part v.seat.kept old)
+      | inr new ↦ inr record {
+        key = k;
+        spot = x;
+        content = c;
+        is = sym new;
+        history = history;
+        decided = decided;
+        drawn_since = was.drawn;
+        seen_since = was.seen;
+        drawn_by = subst (IsFront history) (sym all) (front_refl history);
+        seen_by = subst (IsFront decided) (sym chosen) (front_refl decided);
+        last = was.last;
+      }
+    ]
 
 -- what is read of one record more
 read_push : (reads : List ReadEntry) (e : ReadEntry) (q : Key) (x : ReadEntry) → read_of q (reads ++ e ∷ []) ≡ Some x
@@ -131,9 +158,9 @@ pub found_entry : (sets new : Sets) (k : Key) (at word value : ℕ) (v w : View)
 found_entry sets new k at word value v w live none place h reads writes =
     let e : ReadEntry = record { key = k; at = at; word = word; value = value } in
     let part : Part = record_part k (spot_in v k) h.content in
-    let y : View = found_view k h.content at word value v in
+    let y : View = found_view h.history h.decided k h.content at word value v in
     let of : IsPartOf v.layout.decls e part =
-    record { place = place; content = h.content; shown = h.shown; value = h.has; is = refl } in
+    record { place = place; content = h.content; shown = h.was.shown; value = h.has; is = refl } in
     let kept : with_part v.seat.kept part ≡ v.seat.kept ++ part ∷ [] =
     kept_push v.layout.decls sets.reads v.seat.kept e part live.parts of none in
     let kept-is : w.seat.kept ≡ v.seat.kept ++ part ∷ [] = ap (λ (z : View). z.seat.kept) h.is ∙ kept in
@@ -163,23 +190,37 @@ found_entry sets new k at word value v w live none place h reads writes =
             (read_push sets.reads e q x (subst (λ (l : List ReadEntry). read_of q l ≡ Some x) reads of));
       };
       only = record {
+        history = h.history;
+        decided = h.decided;
+        drawn = h.was.drawn;
+        seen = h.was.seen;
         kept = y.seat.kept;
         steps = y.steps;
         last = y.last;
         loaded = y.loaded;
         reads = y.reads;
+        parts = part_last k h.content word h.history h.decided v w h.was (ap (λ (z : View). z.history) h.is)
+            (ap (λ (z : View). z.decided) h.is);
         is = h.is;
       };
-      keeps = subst (Keeps v.seat.kept) (sym kept-is) (keeps_push v.seat.kept part);
+      again = λ x of. absurd (none_some x (sym (unread k sets.reads none) ∙ of));
+      anew = λ fresh.
+          h.has ∙ ap (λ (c : Content). unwrap_or c.value 0) (h.was.last
+          ∙ (ap (λ (l : List Attempt). last_write v.layout.opening l h.decided k) (sym (ap (λ (z : View). z.history) h.is))
+          ∙ ap (λ (l : List Number). last_write v.layout.opening w.history l k) (sym (ap (λ (z : View). z.decided) h.is))));
+      keeps = subst (PartsStay v.seat.kept) (sym kept-is) (keeps_push v.seat.kept part);
       reads = inr reads;
       writes = writes;
       key = refl;
       place = place;
       content = h.content.value;
       value = h.has;
-      vouched = subst (λ l. Rattle.serial_bridge.specs.Transaction.vouched l k ≡ Some h.content.value) (sym kept-is)
-          (vouched_new v.layout.decls sets.reads v.seat.kept k (spot_in v k) h.content live.parts none);
+      vouched = subst (λ l. Rattle.serial_bridge.specs.Transaction.Vouched l k h.content.value) (sym kept-is)
+          (vouched_new v.seat.kept k (spot_in v k) h.content);
     }
+  where
+    none_some : (x : ReadEntry) → None ≡ Some x → ⊥
+    none_some x same = absurd cc
 
 -- of a key that was read before
 pub old_entry : (sets : Sets) (k : Key) (e : ReadEntry) (v : View) → IsLive sets v → read_of k sets.reads ≡ Some e
@@ -188,6 +229,8 @@ old_entry sets k e v live is =
     let r = read_is v.layout.decls sets.reads v.seat.kept k e live.parts is in record {
       live = live;
       only = nothing_loaded v;
+      again = λ x of. same x (sym is ∙ of);
+      anew = λ fresh. absurd (none_some (sym fresh ∙ is));
       keeps = keeps_all v.seat.kept;
       reads = inl refl;
       writes = refl;
@@ -197,6 +240,12 @@ old_entry sets k e v live is =
       value = r.value;
       vouched = r.vouched;
     }
+  where
+    same : (x : ReadEntry) → Some e ≡ Some x → e ≡ x
+    same x both = cc
+
+    none_some : None ≡ Some e → ⊥
+    none_some both = cc
 
 -- ---- a read that clashed
 
@@ -212,16 +261,39 @@ stands_now reads at n =
     in_push_new (record { word = at; seen = n; was = seen_at reads at }) (filter (λ (r : Read). not (r.word == at))
     reads)
 
-pub clash_loaded : (k : Key) (at expected seen : ℕ) (v w : View) → HasClashed k at expected seen v w → HasLoaded v w
+pub clash_loaded : (k : Key) (at expected seen : ℕ) (v w : View) → HasClashed k at expected seen v w → OnlyLoaded v w
 clash_loaded k at expected seen v w (inl h) =
-    let y : View = read_at at seen v in
-    record { kept = v.seat.kept; steps = y.steps; last = y.last; loaded = y.loaded; reads = y.reads; is = h.is }
+    let y : View = read_at at seen v in record {
+      history = v.history;
+      decided = v.decided;
+      drawn = front_refl v.history;
+      seen = front_refl v.decided;
+      kept = v.seat.kept;
+      steps = y.steps;
+      last = y.last;
+      loaded = y.loaded;
+      reads = y.reads;
+      parts = λ part has. inl has;
+      is = h.is;
+    }
 clash_loaded k at expected seen v w (inr h) =
-    let y : View = read_at at seen (valued k (spot_in v k) (at + 1) h.value (saw k (spot_in v k) h.content at expected
-    v)) in
-    record { kept = y.seat.kept; steps = y.steps; last = y.last; loaded = y.loaded; reads = y.reads; is = h.is }
+    let y : View = read_at at seen (valued k (spot_in v k) (at + 1) h.value
+    (saw h.history h.decided k (spot_in v k) h.content at expected v)) in record {
+      history = h.history;
+      decided = h.decided;
+      drawn = h.was.drawn;
+      seen = h.was.seen;
+      kept = y.seat.kept;
+      steps = y.steps;
+      last = y.last;
+      loaded = y.loaded;
+      reads = y.reads;
+      parts = part_last k h.content expected h.history h.decided v w h.was (ap (λ (z : View). z.history) h.is)
+          (ap (λ (z : View). z.decided) h.is);
+      is = h.is;
+    }
 
-pub clash_conflict : (sets : Sets) (k : Key) (at expected seen : ℕ) (why : Refused) (v w x : View) → IsLive sets v
+pub clash_conflict : (sets : Sets) (k : Key) (at expected seen : ℕ) (why : RefusalCause) (v w x : View) → IsLive sets v
     → has_read k sets.reads ≡ false → IsKeyAt v k at → HasClashed k at expected seen v w → HasForgotten (Some why) w x
     → IsConflict sets.reads k at expected seen v x
 clash_conflict sets k at expected seen why v w x live none place (inl h) is =
@@ -264,7 +336,7 @@ clash_conflict sets k at expected seen why v w x live none place (inr h) is =
           (stands_now second at seen));
       read = λ e of. absurd (none_some e (sym (unread k sets.reads none) ∙ of));
       known = sym (ap (λ o. unwrap_or o seen) was);
-      cause = inr (small_word h.content expected h.shown, h.other);
+      cause = inr (small_word h.content expected h.was.shown, h.other);
     }
   where
     none_some : (e : ReadEntry) → None ≡ Some e → ⊥
@@ -297,15 +369,18 @@ clash_way sets k at expected seen v w live none place (inr h) =
       was = seen_at second at;
       stands = stands_now second at seen;
       known = sym (ap (λ o. unwrap_or o seen) was);
-      cause = inr (small_word h.content expected h.shown, h.other);
+      cause = inr (small_word h.content expected h.was.shown, h.other);
     }
 
 -- ---- what a refusal before the locks leaves
 
-pub loaded_refused : (sets : Sets) (why : Refused) (v w x : View) → IsLive sets v → HasLoaded v w → HasForgotten (Some why) w x
+pub loaded_refused : (sets : Sets) (why : RefusalCause) (v w x : View) → IsLive sets v → OnlyLoaded v w → HasForgotten
+    (Some why) w x
     → HasRefused why v x
 loaded_refused sets why v w x live h is =
     let u : View = record v {
+      history = h.history;
+      decided = h.decided;
       seat = record v.seat { kept = h.kept };
       steps = h.steps;
       last = h.last;
@@ -323,7 +398,7 @@ loaded_refused sets why v w x live h is =
       };
       layout = refl;
       role = refl;
-      seen = record { history = front_refl v.history; decided = front_refl v.decided };
+      seen = record { history = h.drawn; decided = h.seen };
       mine = refl;
       drew = false;
       draws = omega arith;
@@ -335,7 +410,8 @@ loaded_refused sets why v w x live h is =
     }
 
 -- and nothing was locked
-pub clash_untouched : (k : Key) (at expected seen : ℕ) (why : Refused) (v w x : View) → HasClashed k at expected seen v w
+pub clash_untouched : (k : Key) (at expected seen : ℕ) (why : RefusalCause) (v w x : View)
+    → HasClashed k at expected seen v w
     → HasForgotten (Some why) w x → x.touched ≡ v.touched
 clash_untouched k at expected seen why v w x h is =
     ap (λ (z : View). z.touched) is.is ∙ ap (λ (z : View). z.touched) (clash_loaded k at expected seen v w h).is

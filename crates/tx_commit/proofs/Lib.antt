@@ -9,6 +9,9 @@ pub mod Settling
 pub mod OpenLaws
 pub mod PutLaws
 pub mod CheckLaws
+pub mod DrawLaws
+pub mod GiveUpLaws
+pub mod DecisionLaws
 pub mod CommitLaws
 pub mod CommitResults
 pub mod FindLaws

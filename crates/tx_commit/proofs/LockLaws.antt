@@ -34,7 +34,7 @@ use Rattle.tx_commit.specs.Committing.{changes_of, touches_of}
 use Rattle.tx_commit.specs.Live.{AreMet, IsWriteOf}
 use Rattle.tx_commit.specs.Refusing.{IsConflict}
 use Rattle.tx_commit.specs.Steps.{keys_of, tooks_of, known_word, AreSmall, AreAsRead, KeepOthers, HasGlanced, HasTaken}
-use Rattle.tx_commit.specs.Steps.{HasLocked, IsFree}
+use Rattle.tx_commit.specs.Steps.{HasLocked, HasLockedAll, IsFree}
 use Rattle.tx_commit.proofs.Layouts.{one_word_key}
 use Rattle.tx_commit.proofs.Lists.{map_push, all_get, all_some, apart, not_before}
 use Rattle.tx_commit.proofs.Writes.{word_apart}
@@ -476,3 +476,14 @@ lock_refused reads ws found done d at expected seen v w x lt h c =
 pub held_within : (ws : List Write) (found held : List ℕ) → held ≡ found → length found ≤ length ws
     → length held ≤ length ws
 held_within ws found held same le = subst (λ (l : List ℕ). length l ≤ length ws) (sym same) le
+
+-- ---- all of them
+
+pub all_locked : (reads : List ReadEntry) (ws : List Write) (found : List ℕ) (done : ℕ) (v w : View) → take done ws ≡ ws
+    → HasLocked (take done ws) found v w → AreAsRead reads (take done ws) found
+    → AreMet v.layout.decls reads (take done ws) w → HasLockedAll reads ws found v w
+all_locked reads ws found done v w all locked known met = record {
+  locked = subst (λ (l : List Write). HasLocked l found v w) all locked;
+  known = subst (λ (l : List Write). AreAsRead reads l found) all known;
+  met = subst (λ (l : List Write). AreMet v.layout.decls reads l w) all met;
+}

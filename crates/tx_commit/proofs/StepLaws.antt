@@ -9,7 +9,7 @@ use Rattle.homes.specs.declared.places.Spot.{Spot}
 use Rattle.tx_sets.specs.declared.reads.ReadEntry.{ReadEntry}
 use Rattle.tx_sets.specs.declared.sets.Sets.{Sets}
 use Rattle.tx_sets.specs.Entries.{has_read, has_write}
-use Rattle.engine_words.specs.declared.view.Refused.{Refused}
+use Rattle.engine_words.specs.declared.view.RefusalCause.{RefusalCause}
 use Rattle.engine_words.specs.declared.view.View.{View}
 use Rattle.engine_words.specs.Attempts.{Checked, HasDrawn, HasChosen, is_as_seen, checked_at, failed_at}
 use Rattle.engine_words.specs.Layout.{spot_for}
@@ -93,7 +93,7 @@ stops_checked reads v w z done n d own b was less test c =
 
 -- ---- a commit
 
-pub forgot_steps : (why : Option Refused) (v w x : View) (n : ℕ) → w.steps ≡ v.steps + n → HasForgotten why w x
+pub forgot_steps : (why : Option RefusalCause) (v w x : View) (n : ℕ) → w.steps ≡ v.steps + n → HasForgotten why w x
     → x.steps ≡ v.steps + n + 1
 forgot_steps why v w x n was is =
     let now : x.steps ≡ w.steps + 1 = ap (λ (y : View). y.steps) is.is in omega (arith, was, now)
@@ -134,7 +134,7 @@ found_steps k at word value v w h =
 pub found_most : (k : Key) (at word value : ℕ) (v w : View) → HasFound k at word value v w → w.steps ≤ v.steps + 4
 found_most k at word value v w h = let all = found_steps k at word value v w h in omega (arith, all)
 
-pub clash_steps : (k : Key) (at expected seen : ℕ) (why : Option Refused) (v w x : View)
+pub clash_steps : (k : Key) (at expected seen : ℕ) (why : Option RefusalCause) (v w x : View)
     → HasClashed k at expected seen v w
     → HasForgotten why w x → x.steps ≤ v.steps + 4
 clash_steps k at expected seen why v w x (inl h) is =

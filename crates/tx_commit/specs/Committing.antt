@@ -3,7 +3,9 @@ use Rattle.std.specs.Prelude.{◌≡◌, ◌⊎◌, ℕ, ◌+◌, ◌*◌, ◌%�
 use Rattle.std.specs.Prelude.{length, Contains, Some}
 use Rattle.serial_model.specs.declared.number.Change.{Change}
 use Rattle.serial_model.specs.declared.number.Number.{Number}
+use Rattle.serial_model.specs.Keys.{IsKeyBelow}
 use Rattle.serial_model.specs.Numbers.{IsBelow, draw_limit}
+use Rattle.wire_form.specs.Items.{Rises}
 use Rattle.lists.specs.Fronts.{IsFront}
 use Rattle.commit_core.specs.declared.attempt.Attempt.{Attempt}
 use Rattle.commit_core.specs.CoreState.{mark_of}
@@ -14,8 +16,8 @@ use Rattle.tx_sets.specs.declared.writes.Write.{Write}
 use Rattle.tx_sets.specs.Entries.{has_read, has_write}
 use Rattle.tx_sets.specs.Gathered.{AreEmpty}
 use Rattle.serial_model.specs.declared.key.Key.{Key}
-use Rattle.engine_words.specs.declared.view.Refused.{Refused}
-use Rattle.engine_words.specs.declared.view.Refused.TheVariants as refusals
+use Rattle.engine_words.specs.declared.view.RefusalCause.{RefusalCause}
+use Rattle.engine_words.specs.declared.view.RefusalCause.TheVariants as refusals
 use Rattle.engine_words.specs.declared.view.Touch.{Touch}
 use Rattle.engine_words.specs.declared.view.View.{View}
 use Rattle.engine_words.specs.Cuts.{HasSeen}
@@ -57,6 +59,12 @@ pub record HasAborted (v w : View) : Type 0 where
 -- the writes as a log has them
 abbrev pub changes_of : List Write → List Change
 changes_of writes = map (λ w. record { key = w.key; value = w.value }) writes
+
+-- The changes are those of the writes, in the form of a log line: their keys rise, and there are 16 at most.
+pub record AreChangesOf (writes : List Write) (changes : List Change) : Type 0 where
+  pub are : changes ≡ changes_of writes
+  pub rising : Rises IsKeyBelow (map (λ (c : Change). c.key) changes)
+  pub few : length changes ≤ 16
 
 -- the locks of the seat at the keys of changes
 abbrev pub touches_of : ℕ → List Change → List Touch
@@ -109,7 +117,7 @@ TookOnly writes v w = (t : Touch) → Contains w.touched t
     → Contains v.touched t ⊎ ((t.seat ≡ seat_number v.role) × (has_write t.key writes ≡ true))
 
 -- a commit is refused only for a conflict at a key of its sets, and has locked keys of its writes alone
-abbrev pub RefusesCommit : Sets → List Write → Refused → View → View → Type 0
+abbrev pub RefusesCommit : Sets → List Write → RefusalCause → View → View → Type 0
 RefusesCommit sets writes (refusals.Conflict at expected seen) v w =
     (k : Key) × ((has_read k sets.reads ≡ true) ⊎ (has_write k writes ≡ true))
     × IsConflict sets.reads k at expected seen v w × TookOnly writes v w

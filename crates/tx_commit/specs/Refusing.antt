@@ -6,8 +6,8 @@ use Rattle.serial_model.specs.Numbers.{draw_limit}
 use Rattle.tx_sets.specs.declared.reads.ReadEntry.{ReadEntry}
 use Rattle.tx_sets.specs.declared.sets.Sets.{Sets}
 use Rattle.tx_sets.specs.Entries.{read_of, has_read, has_write}
-use Rattle.engine_words.specs.declared.view.Refused.{Refused}
-use Rattle.engine_words.specs.declared.view.Refused.TheVariants as refusals
+use Rattle.engine_words.specs.declared.view.RefusalCause.{RefusalCause}
+use Rattle.engine_words.specs.declared.view.RefusalCause.TheVariants as refusals
 use Rattle.engine_words.specs.declared.view.SetName.TheVariants.{Reads, Writes}
 use Rattle.engine_words.specs.declared.view.Touch.{Touch}
 use Rattle.engine_words.specs.declared.view.View.{View}
@@ -19,7 +19,7 @@ use Rattle.tx_commit.specs.Live.{IsOver}
 
 -- The transaction is over: what the pass had seen and its own commits stay, and this is the last of its refusals. It
 -- had drawn its number by then (`drew`), or drew none, and where it was a conflict, the record's key is told (`blamed`).
-pub record HasRefused (why : Refused) (v w : View) : Type 0 where
+pub record HasRefused (why : RefusalCause) (v w : View) : Type 0 where
   pub over : IsOver w
   pub layout : w.layout ≡ v.layout
   pub role : w.role ≡ v.role
@@ -35,7 +35,7 @@ pub record HasRefused (why : Refused) (v w : View) : Type 0 where
 
 -- the transaction was not begun, and drew no number, since the clock, which the call loaded and with which all draws
 -- are seen, is at the last draws
-pub record RefusesBegin (why : Refused) (v w : View) : Type 0 where
+pub record RefusesBegin (why : RefusalCause) (v w : View) : Type 0 where
   pub clock : ℕ
   pub is : why ≡ refusals.NumberLimit clock
   pub steps : w.steps ≡ v.steps + 1
@@ -63,7 +63,7 @@ pub record IsConflict (reads : List ReadEntry) (k : Key) (at expected seen : ℕ
 
 -- A read of the key was refused: its record was in conflict, and nothing was locked, or it needed one more entry of a
 -- full read set.
-abbrev pub RefusesRead : Sets → Key → Refused → View → View → Type 0
+abbrev pub RefusesRead : Sets → Key → RefusalCause → View → View → Type 0
 RefusesRead sets k (refusals.Conflict at expected seen) v w =
     (length sets.reads < 256) × (has_read k sets.reads ≡ false) × (has_write k sets.writes ≡ false)
     × IsConflict sets.reads k at expected seen v w × (w.touched ≡ v.touched)
@@ -72,10 +72,10 @@ RefusesRead sets k (refusals.Wide set) v w =
 RefusesRead sets k (refusals.NumberLimit clock) v w = ⊥
 
 -- a write of the key was refused: it needed one more entry of a full write set
-abbrev pub RefusesWrite : Sets → Key → Refused → Type 0
+abbrev pub RefusesWrite : Sets → Key → RefusalCause → Type 0
 RefusesWrite sets k why = (why ≡ refusals.Wide Writes) × (length sets.writes ≡ 16) × (has_write k sets.writes ≡ false)
 
 -- An addition or subtraction was refused: as a write, or as a read where the write set has room.
-abbrev pub RefusesAlter : Sets → Key → Refused → View → View → Type 0
+abbrev pub RefusesAlter : Sets → Key → RefusalCause → View → View → Type 0
 RefusesAlter sets k why v w =
     RefusesWrite sets k why ⊎ ((length sets.writes < 16) × RefusesRead sets k why v w)

@@ -1,10 +1,9 @@
 -- That calls are the operations of a transaction, and its commit an attempt of it, as laws that proofs above can cite.
-use Rattle.std.proofs.Common.{◌≡◌, inl, ℕ, Bool, true, false, cond, List, [], ◌∷◌, ◌++◌, Option, Some, None}
+use Rattle.std.proofs.Common.{◌≡◌, inl, inr, ℕ, Bool, true, false, cond, List, [], ◌∷◌, ◌++◌, Option, Some}
 use Rattle.std.proofs.Common.{refl, sym, ap, ◌∙◌, subst, append_assoc}
-use Rattle.std.specs.Prelude.{option_to_list, IsTrue, IsSome}
-use Rattle.std.specs.FinMap.{get}
+use Rattle.std.specs.Prelude.{option_to_list, IsTrue}
 use Rattle.std.specs.List.{find}
-use Rattle.std.specs.Option.{option_or, option_map}
+use Rattle.std.specs.Option.{option_map}
 use Rattle.std.proofs.lemmas.List.{append-nil}
 use Rattle.serial_model.specs.declared.key.Key.{Key}
 use Rattle.serial_model.specs.declared.decl.Decl.{Decl}
@@ -14,10 +13,9 @@ use Rattle.serial_model.specs.declared.op.Op.TheVariants.{Read, Write, Remove, A
 use Rattle.serial_model.specs.declared.reply.Reply.{Reply}
 use Rattle.serial_model.specs.declared.reply.Verdict.TheVariants.{Done}
 use Rattle.serial_model.specs.Keys.{fits}
-use Rattle.serial_model.specs.State.{State}
 use Rattle.commit_core.specs.declared.part.Part.{Part}
 use Rattle.commit_core.specs.Keys.{same_key, written}
-use Rattle.serial_bridge.specs.Transaction.{vouched, seen, SeesRows, Turn, Turns, Continues, Stops, Finished, finished}
+use Rattle.serial_bridge.specs.Transaction.{Sees, SeesRows, Turn, Turns, Continues, Stops, Finished, finished}
 use Rattle.serial_bridge.specs.Transaction.{Runs}
 use Rattle.tx_sets.specs.declared.writes.Write as writes_of
 use Rattle.tx_sets.specs.Entries.{value_of}
@@ -25,53 +23,37 @@ use Rattle.engine_words.specs.declared.layout.Layout.{Layout}
 use Rattle.engine_words.specs.declared.view.View.{View}
 use Rattle.tx_commit.specs.Committing.{changes_of}
 use Rattle.tx_commit.specs.Running.{GoesOn, BeginsRun, GoesOnRun, EndsRun, CommitsRun, CommitsEnd}
-use Rattle.tx_commit.specs.Turning.{Keeps}
+use Rattle.tx_commit.specs.Turning.{PartsStay}
 
 -- ---- a turn over parts is one over more
 
-seen_later : (parts later : List Part) (own : List Change) (k : Key) (value : Option ℕ) → Keeps parts later
-    → seen parts own k ≡ Some value → seen later own k ≡ Some value
-seen_later parts later own k value keeps is = by_own (written k own) is
-  where
-    by_own : (o : Option (Option ℕ)) → option_or o (vouched parts k) ≡ Some value → option_or o (vouched later k)
-        ≡ Some value
-    by_own (Some x) is = is
-    by_own None is = keeps k value is
+sees_later : (parts later : List Part) (own : List Change) (k : Key) (value : Option ℕ) → PartsStay parts later
+    → Sees parts own k value → Sees later own k value
+sees_later parts later own k value keeps (inl written-last) = inl written-last
+sees_later parts later own k value keeps (inr read) = inr (read.0, keeps k value read.1)
 
 rows_later : (parts later : List Part) (own : List Change) (storage low high : ℕ) (rows : List (ℕ × ℕ))
-    → Keeps parts later
+    → PartsStay parts later
     → SeesRows parts own storage low high rows → SeesRows later own storage low high rows
 rows_later parts later own storage low high rows keeps r = record {
-  covered = λ k in'. there k (seen parts own k) refl (r.covered k in');
-  given = λ s all. r.given s (λ k in'. same s k (seen parts own k) refl (r.covered k in') (all k in'));
+  value_at = r.value_at;
+  covered = λ k looked. sees_later parts later own k (r.value_at k) keeps (r.covered k looked);
+  given = r.given;
 }
-  where
-    there : (k : Key) (o : Option (Option ℕ)) → seen parts own k ≡ o → IsSome o → IsSome (seen later own k)
-    there k (Some x) is some = subst IsSome (sym (seen_later parts later own k x keeps is)) refl
-    there k None is some = absurd cc
-
-    some_same : (a b : Option ℕ) → Some a ≡ Some b → a ≡ b
-    some_same a b is = cc
-
-    same : (s : State) (k : Key) (o : Option (Option ℕ)) → seen parts own k ≡ o → IsSome o
-        → seen later own k ≡ Some (get s k) → seen parts own k ≡ Some (get s k)
-    same s k (Some x) is some now =
-        is ∙ ap (λ y. Some y) (some_same x (get s k) (sym (seen_later parts later own k x keeps is) ∙ now))
-    same s k None is some now = absurd cc
 
 turns_later : (decls : List Decl) (parts later : List Part) (own : List Change) (op : Op) (turn : Turn)
-    → Keeps parts later
+    → PartsStay parts later
     → Turns decls parts own op turn → Turns decls later own op turn
-turns_later decls parts later own (Read k) turn keeps t = (t.0, seen_later parts later own k t.0 keeps t.1, t.2)
+turns_later decls parts later own (Read k) turn keeps t = (t.0, sees_later parts later own k t.0 keeps t.1, t.2)
 turns_later decls parts later own (Write k v) turn keeps t = t
 turns_later decls parts later own (Remove k) turn keeps t = t
-turns_later decls parts later own (Add k v) turn keeps t = (t.0, seen_later parts later own k t.0 keeps t.1, t.2)
-turns_later decls parts later own (Take k v) turn keeps t = (t.0, seen_later parts later own k t.0 keeps t.1, t.2)
+turns_later decls parts later own (Add k v) turn keeps t = (t.0, sees_later parts later own k t.0 keeps t.1, t.2)
+turns_later decls parts later own (Take k v) turn keeps t = (t.0, sees_later parts later own k t.0 keeps t.1, t.2)
 turns_later decls parts later own (Scan storage low high) turn keeps t =
     (t.0, rows_later parts later own storage low high t.0 keeps t.1, t.2)
 
 goes_later : (decls : List Decl) (parts later : List Part) (ops : List Op) (own : List Change) (replies : List Reply)
-    (end : List Change) → Keeps parts later → GoesOn decls parts ops own replies end
+    (end : List Change) → PartsStay parts later → GoesOn decls parts ops own replies end
     → GoesOn decls later ops own replies end
 goes_later decls parts later [] own replies end keeps g = g
 goes_later decls parts later (op ∷ ops) own replies end keeps g = (
@@ -133,6 +115,7 @@ runs_on decls parts (op ∷ ops) more own replies end f g r =
 
 -- ---- the calls
 
+-- a begin
 pub begins_run : BeginsRun
 begins_run sets v w b = record {
   own = [];
@@ -140,6 +123,7 @@ begins_run sets v w b = record {
   runs = (refl, refl);
 }
 
+-- an operation more
 pub goes_on_run : GoesOnRun
 goes_on_run ops replies op reply sets new v w r fit d =
     let t = d.turns r.own r.writes in
@@ -152,6 +136,7 @@ goes_on_run ops replies op reply sets new v w r fit d =
           (goes_later v.layout.decls v.seat.kept w.seat.kept ops [] replies r.own d.keeps r.runs) fit t.2);
     }
 
+-- one that ends the transaction
 pub ends_run : EndsRun
 ends_run ops replies op verdict sets new v w r fit d =
     let layout : w.layout ≡ v.layout = ap (λ (y : View). y.layout) d.only.is in
@@ -178,6 +163,7 @@ changes_written (w ∷ ws) k = by_test (same_key w.key k) (changes_written ws k)
     by_test true rest = refl
     by_test false rest = rest
 
+-- the commit of what was written
 pub commits_run : CommitsRun
 commits_run e sets v w r done c =
     let parts = sym c.parts in
@@ -192,6 +178,7 @@ commits_run e sets v w r done c =
       writes = λ k. inl (ap (written k) c.writes ∙ (changes_written sets.writes k ∙ sym (r.writes k)));
     }
 
+-- the commit of a transaction that an operation ended
 pub commits_end : CommitsEnd
 commits_end e v w r c = record {
   number = sym c.numbered;

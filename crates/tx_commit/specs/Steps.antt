@@ -9,7 +9,8 @@ use Rattle.commit_core.specs.declared.part.Word.{Word}
 use Rattle.commit_core.specs.declared.seat.Seat.{Seat}
 use Rattle.commit_core.specs.declared.seat.Stage.TheVariants.{Idle, Trying, Ended, Decided}
 use Rattle.commit_core.specs.CoreState.{can_begin, settled}
-use Rattle.serial_bridge.specs.Transaction.{vouched}
+use Rattle.commit_core.specs.Serial.{last_write}
+use Rattle.serial_bridge.specs.Transaction.{Vouched}
 use Rattle.wire_form.specs.Words.{number_word}
 use Rattle.tx_sets.specs.declared.reads.ReadEntry.{ReadEntry}
 use Rattle.tx_sets.specs.declared.sets.Sets.{Sets}
@@ -18,7 +19,7 @@ use Rattle.tx_sets.specs.Entries.{has_write, read_keys, read_of, writes_at}
 use Rattle.engine_words.specs.declared.view.Glance.{Glance}
 use Rattle.engine_words.specs.declared.view.Loaded.{Loaded}
 use Rattle.engine_words.specs.declared.view.Read.{Read}
-use Rattle.engine_words.specs.declared.view.Refused.{Refused}
+use Rattle.engine_words.specs.declared.view.RefusalCause.{RefusalCause}
 use Rattle.engine_words.specs.declared.view.Took.{Took}
 use Rattle.engine_words.specs.declared.view.View.{View}
 use Rattle.engine_words.specs.Attempts.{CanDecide}
@@ -30,26 +31,31 @@ use Rattle.engine_words.specs.Views.{IsResting, seat_number}
 use Rattle.engine_words.specs.declared.view.Role.TheVariants.{Worker}
 use Rattle.engine_words.specs.declared.view.Touch.{Touch}
 use Rattle.tx_commit.specs.Live.{AreMet, AreParts, IsWriteOf, IsLive}
-use Rattle.tx_commit.specs.Turning.{HasLoaded, Keeps}
+use Rattle.tx_commit.specs.Turning.{OnlyLoaded, PartsStay}
 use Rattle.tx_commit.specs.Committing.{changes_of, touches_of}
 
 -- ---- reads
 
--- this is what the transaction first read at the key: its part has the value
+-- This is what the transaction first read at the key: its part has the value, which is the last decided write of the key
+-- as this call saw it, where the key was not read before.
 pub record HasEntry (k : Key) (e : ReadEntry) (sets new : Sets) (v w : View) : Type 0 where
   pub live : IsLive new w
-  pub only : HasLoaded v w
-  pub keeps : Keeps v.seat.kept w.seat.kept
+  pub only : OnlyLoaded v w
+  pub again : (x : ReadEntry) → read_of k sets.reads ≡ Some x → e ≡ x
+  pub anew : read_of k sets.reads ≡ None
+      → e.value ≡ unwrap_or (last_write v.layout.opening w.history w.decided k).value 0
+  pub keeps : PartsStay v.seat.kept w.seat.kept
   pub reads : (new.reads ≡ sets.reads) ⊎ (new.reads ≡ sets.reads ++ e ∷ [])
   pub writes : new.writes ≡ sets.writes
   pub key : e.key ≡ k
   pub place : IsKeyAt v k e.at
   pub content : Option ℕ
   pub value : e.value ≡ unwrap_or content 0
-  pub vouched : vouched w.seat.kept k ≡ Some content
+  pub vouched : Vouched w.seat.kept k content
 
 -- ---- locks
 
+-- the keys of writes
 abbrev pub keys_of : List Write → List Key
 keys_of writes = map (λ w. w.key) writes
 
@@ -126,6 +132,13 @@ pub record HasLocked (writes : List Write) (found : List ℕ) (v w : View) : Typ
     reads = reads;
   }
 
+-- These are locked, each at a record that was read with the word which was read; and what is known of the words of other
+-- records that were read is as it was.
+pub record HasLockedAll (reads : List ReadEntry) (writes : List Write) (found : List ℕ) (v w : View) : Type 0 where
+  pub locked : HasLocked writes found v w
+  pub known : AreAsRead reads writes found
+  pub met : AreMet v.layout.decls reads writes w
+
 -- these are locked, with these words, and no attempt is in progress or decided
 pub record HasLocks (writes : List Write) (found : List ℕ) (v : View) : Type 0 where
   pub count : length found ≡ length writes
@@ -165,7 +178,7 @@ pub record CanCommit (sets : Sets) (found : List ℕ) (v w : View) : Type 0 wher
   pub met : AreMet v.layout.decls sets.reads sets.writes w
 
 -- nothing is locked or kept, and this is one refusal more
-pub record HasGivenUp (writes : List Write) (why : Refused) (v w : View) : Type 0 where
+pub record HasGivenUp (writes : List Write) (why : RefusalCause) (v w : View) : Type 0 where
   pub seat : Seat
   pub steps : ℕ
   pub loaded : Option Loaded
@@ -188,7 +201,7 @@ pub record HasGivenUp (writes : List Write) (why : Refused) (v w : View) : Type 
 
 -- The pass met this word last, at the record of this key: it is locked, or not the one that the transaction had seen there
 -- before, which is the expected one.
-pub record HasMet (k : Key) (at expected seen : ℕ) (v : View) : Type 0 where
+pub record MetConflict (k : Key) (at expected seen : ℕ) (v : View) : Type 0 where
   pub place : IsKeyAt v k at
   pub step : ℕ
   pub last : v.last ≡ Some (glance step at seen)

@@ -6,7 +6,7 @@ ghost use Rattle.serial_model.specs.declared.number.Number.{Number as TheNumber}
 ghost use Rattle.wire_form.specs.Words.{number_word};
 ghost use Rattle.tx_sets.specs.Entries.{read_keys, writes_at, IsAscending};
 ghost use Rattle.serial_model.specs.declared.key.Key.{Key as TheKey};
-ghost use Rattle.engine_words.specs.declared.view.Refused.TheVariants as refusals;
+ghost use Rattle.engine_words.specs.declared.view.RefusalCause.TheVariants as refusals;
 ghost use Rattle.engine_words.specs.declared.view.View.{View as TheView};
 ghost use Rattle.engine_words.specs.declared.view.Role.TheVariants.{Worker};
 ghost use Rattle.engine_words.specs.Cuts.{worker_of};
@@ -15,13 +15,13 @@ ghost use Rattle.engine_words.specs.Rule.{IsSmall};
 ghost use Rattle.tx_commit.specs.Live.{IsLive, IsWriteOf};
 ghost use Rattle.tx_commit.specs.Refusing.{HasRefused};
 ghost use Rattle.tx_commit.specs.Committing.{changes_of, commit_steps, HasCommitted, RefusesCommit};
-ghost use Rattle.tx_commit.specs.Steps.{CanCommit, HasLocks, HasGivenUp, HasMet};
+ghost use Rattle.tx_commit.specs.Steps.{CanCommit, HasLocks, HasGivenUp, MetConflict};
 
 use crate::checking::check_all;
-use crate::locking::{Found, lock_all, unlock_all};
+use crate::locking::{LockWords, lock_all, unlock_all};
 use crate::publishing::publish_all;
 use array_storage::Conflict;
-use engine_words::{Engine, Pass, Refused, decide, draw_as, forget};
+use engine_words::{Engine, Pass, RefusalCause, decide, draw_as, forget};
 use serial_model::{Change, Changes, Number};
 use std::marker::Brand;
 use tx_sets::{ReadEntry, Sets, Write};
@@ -31,8 +31,8 @@ pub(crate) fn commit_all(
     engine: &Engine,
     pass: &mut Pass,
     sets: &Sets,
-    found: &mut Found,
-) -> Result<Number, Refused>
+    found: &mut LockWords,
+) -> Result<Number, RefusalCause>
     requires of { IsPassOf engine.now pass.old }
     requires live { IsLive sets.now (view pass.old) }
     ensures of { IsPassOf engine.now pass.new }
@@ -60,8 +60,8 @@ fn commit_in(
     sets: &Sets,
     reads: &[ReadEntry],
     writes: &[Write],
-    found: &mut Found,
-) -> Result<Number, Refused>
+    found: &mut LockWords,
+) -> Result<Number, RefusalCause>
     requires of { IsPassOf engine.now pass.old }
     requires live { IsLive sets.now (view pass.old) }
     requires reads { reads.now ≡ sets.now.reads }
@@ -93,8 +93,8 @@ fn commit_locked(
     sets: &Sets,
     reads: &[ReadEntry],
     writes: &[Write],
-    found: &Found,
-) -> Result<Number, Refused>
+    found: &LockWords,
+) -> Result<Number, RefusalCause>
     requires of { IsPassOf engine.now pass.old }
     requires can { (v : TheView) × CanCommit sets.now found.now v (view pass.old) }
     requires reads { reads.now ≡ sets.now.reads }
@@ -129,16 +129,16 @@ fn back_out(
     engine: &Engine,
     pass: &mut Pass,
     writes: &[Write],
-    found: &Found,
+    found: &LockWords,
     conflict: Conflict,
-) -> Refused
+) -> RefusalCause
     requires of { IsPassOf engine.now pass.old }
     requires worker { (view pass.old).role ≡ Worker (worker_of (view pass.old).role) }
     requires places { AllByRecursion (IsWriteOf (view pass.old).layout.decls) writes.now }
     requires ascending { IsAscending writes.now }
     requires within { length found.now ≤ length writes.now }
     requires locked { HasLocks (take (length found.now) writes.now) found.now (view pass.old) }
-    requires met { (k : TheKey) × HasMet k conflict.word conflict.expected conflict.seen (view pass.old) }
+    requires met { (k : TheKey) × MetConflict k conflict.word conflict.expected conflict.seen (view pass.old) }
     requires apart { writes_at conflict.word (take (length found.now) writes.now) ≡ false }
     ensures of { IsPassOf engine.now pass.new }
     ensures why { result ≡ refusals.Conflict conflict.word conflict.expected conflict.seen }
@@ -156,13 +156,13 @@ fn give_up(
     writes: &[Write],
     found: &[u64],
     conflict: Conflict,
-) -> Refused
+) -> RefusalCause
     requires of { IsPassOf engine.now pass.old }
     requires worker { (view pass.old).role ≡ Worker (worker_of (view pass.old).role) }
     requires places { AllByRecursion (IsWriteOf (view pass.old).layout.decls) writes.now }
     requires ascending { IsAscending writes.now }
     requires locked { HasLocks writes.now found.now (view pass.old) }
-    requires met { (k : TheKey) × HasMet k conflict.word conflict.expected conflict.seen (view pass.old) }
+    requires met { (k : TheKey) × MetConflict k conflict.word conflict.expected conflict.seen (view pass.old) }
     requires apart { writes_at conflict.word writes.now ≡ false }
     ensures of { IsPassOf engine.now pass.new }
     ensures why { result ≡ refusals.Conflict conflict.word conflict.expected conflict.seen }
@@ -170,7 +170,7 @@ fn give_up(
     ensures steps { (view pass.new).steps ≡ (view pass.old).steps + length writes.now + 1 }
 {
     unlock_all(engine, pass, writes, found);
-    let why = Refused::Conflict {
+    let why = RefusalCause::Conflict {
         word: conflict.word,
         expected: conflict.expected,
         seen: conflict.seen,

@@ -1,7 +1,8 @@
 //! Transactions over the words that threads share.
 //!
 //! Promises: each operation replies what the serial step replies over the parts that the transaction read and over its
-//! own writes (`HasDone`, `HasStopped`); a commit is one attempt more in the history, with just these parts and writes,
+//! own writes (`HasDone`, `HasStopped`), and each part had the last decided write of its key at the step that loaded it
+//! (`OnlyLoaded.parts`, `IsValueRead`); a commit is one attempt more in the history, with just these parts and writes,
 //! which counts and read exactly what the state below its number has (`HasCommitted`); a refusal has its whole cause,
 //! and after it, a commit or an abort the pass has no lock (`HasRefused`, `IsOver`). So a transaction's calls and its
 //! commit are an attempt of it in the sense of `serial_bridge` (`calls_are_transactions`), whose replies are the serial

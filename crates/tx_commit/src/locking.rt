@@ -12,7 +12,7 @@ ghost use Rattle.engine_words.specs.Steps.{seen_at, IsKeyAt};
 ghost use Rattle.engine_words.specs.Views.{IsActive};
 ghost use Rattle.tx_commit.specs.Live.{AreFresh, AreMet, IsWriteOf};
 ghost use Rattle.tx_commit.specs.Refusing.{IsConflict};
-ghost use Rattle.tx_commit.specs.Steps.{known_word, AreAsRead, AreSmall, IsFree, HasGlanced, HasTaken, HasLocked};
+ghost use Rattle.tx_commit.specs.Steps.{known_word, AreSmall, IsFree, HasGlanced, HasTaken, HasLocked, HasLockedAll};
 ghost use Rattle.tx_commit.specs.Steps.{HasLocks, HasUnlocked};
 
 use array_storage::Conflict;
@@ -26,13 +26,13 @@ const CAPACITY: usize = 16;
 
 /// The words that the locks of a commit found, in the order of its writes: with them they are opened again.
 #[derive(Drop)]
-pub struct Found {
+pub struct LockWords {
     /// The first `count` of them are in the list.
     words: [u64; CAPACITY],
     count: usize,
 }
 
-impl Model for Found {
+impl Model for LockWords {
     ghost use Rattle.std.specs.Prelude.{ℕ, List, ◌≡◌, ◌≤◌, length, take};
 
     ghost Value = { List ℕ };
@@ -42,11 +42,11 @@ impl Model for Found {
     ghost invariant = { λ f. (f.count ≤ 16) × (length f.words ≡ 16) };
 }
 
-impl Found {
+impl LockWords {
     pub fn new() -> Self
         ensures { result ≡ [] }
     {
-        Found {
+        LockWords {
             words: [0; CAPACITY],
             count: 0,
         }
@@ -80,7 +80,7 @@ pub(crate) fn lock_all(
     pass: &mut Pass,
     reads: &ReadSet,
     writes: &[Write],
-    found: &mut Found,
+    found: &mut LockWords,
 ) -> Result<(), Conflict>
     requires of { IsPassOf engine.now pass.old }
     requires free { IsFree (view pass.old) }
@@ -92,9 +92,7 @@ pub(crate) fn lock_all(
     requires unmet { AreFresh reads.now (view pass.old) }
     requires met { AreMet (view pass.old).layout.decls reads.now [] (view pass.old) }
     ensures of { IsPassOf engine.now pass.new }
-    ensures ok { OnOk result (HasLocked writes.now found.new (view pass.old) (view pass.new)) }
-    ensures known { OnOk result (AreAsRead reads.now writes.now found.new) }
-    ensures met { OnOk result (AreMet (view pass.old).layout.decls reads.now writes.now (view pass.new)) }
+    ensures ok { OnOk result (HasLockedAll reads.now writes.now found.new (view pass.old) (view pass.new)) }
     ensures steps { OnOk result ((view pass.new).steps ≡ (view pass.old).steps + 2 * length writes.now) }
     ensures within { OnErr result (length found.new < length writes.now) }
     ensures most { OnErr result ((view pass.new).steps ≤ (view pass.old).steps + 2 * length found.new + 2) }

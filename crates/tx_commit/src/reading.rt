@@ -6,12 +6,12 @@ ghost use Rattle.tx_sets.specs.Entries.{has_read, has_write};
 ghost use Rattle.engine_words.specs.Layout.{has_record};
 ghost use Rattle.engine_words.specs.Passes.{view, IsPassOf};
 ghost use Rattle.tx_commit.specs.Live.{IsLive};
-ghost use Rattle.tx_commit.specs.Turning.{read_steps, HasDone};
+ghost use Rattle.tx_commit.specs.Turning.{read_steps, HasDone, IsValueRead};
 ghost use Rattle.tx_commit.specs.Refusing.{HasRefused, RefusesRead, IsConflict};
 ghost use Rattle.tx_commit.specs.Steps.{HasEntry};
 
 use array_storage::find;
-use engine_words::{Engine, Pass, Refused, SetName, forget};
+use engine_words::{Engine, Pass, RefusalCause, SetName, forget};
 use serial_model::Key;
 use tx_sets::{ReadEntry, Sets};
 
@@ -21,13 +21,14 @@ pub(crate) fn value_of(
     pass: &mut Pass,
     sets: &mut Sets,
     key: Key,
-) -> Result<u64, Refused>
+) -> Result<u64, RefusalCause>
     requires of { IsPassOf engine.now pass.old }
     requires live { IsLive sets.old (view pass.old) }
     requires fits { has_record (view pass.old).layout.decls key ≡ true }
     ensures of { IsPassOf engine.now pass.new }
     ensures replies { IfOk result (λ value.
         HasDone (ops.Read key) (Some (replies.Value value)) sets.old sets.new (view pass.old) (view pass.new)) }
+    ensures value { IfOk result (λ value. IsValueRead key value sets.old (view pass.old) (view pass.new)) }
     ensures cause { IfErr result (λ why. RefusesRead sets.old key why (view pass.old) (view pass.new)) }
     ensures refused { IfErr result (λ why. HasRefused why (view pass.old) (view pass.new)) }
     ensures steps { OnOk result ((view pass.new).steps ≡ (view pass.old).steps + read_steps sets.old key) }
@@ -40,7 +41,12 @@ pub(crate) fn value_of(
 }
 
 // The value at a key that the transaction does not write.
-fn read_value(engine: &Engine, pass: &mut Pass, sets: &mut Sets, key: Key) -> Result<u64, Refused>
+fn read_value(
+    engine: &Engine,
+    pass: &mut Pass,
+    sets: &mut Sets,
+    key: Key,
+) -> Result<u64, RefusalCause>
     requires of { IsPassOf engine.now pass.old }
     requires live { IsLive sets.old (view pass.old) }
     requires fits { has_record (view pass.old).layout.decls key ≡ true }
@@ -48,6 +54,7 @@ fn read_value(engine: &Engine, pass: &mut Pass, sets: &mut Sets, key: Key) -> Re
     ensures of { IsPassOf engine.now pass.new }
     ensures replies { IfOk result (λ value.
         HasDone (ops.Read key) (Some (replies.Value value)) sets.old sets.new (view pass.old) (view pass.new)) }
+    ensures value { IfOk result (λ value. IsValueRead key value sets.old (view pass.old) (view pass.new)) }
     ensures cause { IfErr result (λ why. RefusesRead sets.old key why (view pass.old) (view pass.new)) }
     ensures refused { IfErr result (λ why. HasRefused why (view pass.old) (view pass.new)) }
     ensures steps { OnOk result ((view pass.new).steps ≡ (view pass.old).steps + read_steps sets.old key) }
@@ -64,7 +71,7 @@ pub(crate) fn entry_of(
     pass: &mut Pass,
     sets: &mut Sets,
     key: Key,
-) -> Result<ReadEntry, Refused>
+) -> Result<ReadEntry, RefusalCause>
     requires of { IsPassOf engine.now pass.old }
     requires live { IsLive sets.old (view pass.old) }
     requires fits { has_record (view pass.old).layout.decls key ≡ true }
@@ -89,7 +96,7 @@ fn read_anew(
     pass: &mut Pass,
     sets: &mut Sets,
     key: Key,
-) -> Result<ReadEntry, Refused>
+) -> Result<ReadEntry, RefusalCause>
     requires of { IsPassOf engine.now pass.old }
     requires live { IsLive sets.old (view pass.old) }
     requires fits { has_record (view pass.old).layout.decls key ≡ true }
@@ -103,7 +110,7 @@ fn read_anew(
     ensures most { (view pass.new).steps ≤ (view pass.old).steps + 4 }
 {
     if sets.reads.is_full() {
-        let why = Refused::Wide {
+        let why = RefusalCause::Wide {
             set: SetName::Reads,
         };
         forget(engine, pass, Some(why));
@@ -121,7 +128,7 @@ fn read_anew(
             Ok(entry)
         }
         Err(conflict) => {
-            let why = Refused::Conflict {
+            let why = RefusalCause::Conflict {
                 word: conflict.word,
                 expected: conflict.expected,
                 seen: conflict.seen,

@@ -1,23 +1,21 @@
 // Transactions of one worker.
-ghost use Rattle.std.specs.Prelude.{◌≡◌, ◌+◌, ◌≤◌, true, Some, None, IfOk, IfErr, OnOk, OnErr, length, map};
+ghost use Rattle.std.specs.Prelude.{◌≡◌, ◌+◌, ◌≤◌, true, Some, None, IfOk, IfErr, OnOk, OnErr};
 ghost use Rattle.serial_model.specs.declared.op.Op.TheVariants as ops;
 ghost use Rattle.serial_model.specs.declared.reply.Reply.TheVariants as replies;
-ghost use Rattle.serial_model.specs.Keys.{IsKeyBelow};
-ghost use Rattle.wire_form.specs.Items.{Rises};
 ghost use Rattle.tx_sets.specs.Gathered.{AreEmpty};
 ghost use Rattle.engine_words.specs.Layout.{has_record};
 ghost use Rattle.engine_words.specs.Passes.{view, IsPassOf};
 ghost use Rattle.tx_commit.specs.Live.{IsLive, IsOver};
-ghost use Rattle.tx_commit.specs.Turning.{read_steps, HasDone, Alters};
+ghost use Rattle.tx_commit.specs.Turning.{read_steps, HasDone, Alters, IsValueRead};
 ghost use Rattle.tx_commit.specs.Refusing.{HasRefused, RefusesBegin, RefusesRead, RefusesWrite, RefusesAlter};
-ghost use Rattle.tx_commit.specs.Committing.{changes_of, commit_steps, kept_writes, HasBegun, HasAborted, HasCommitted};
-ghost use Rattle.tx_commit.specs.Committing.{RefusesCommit};
+ghost use Rattle.tx_commit.specs.Committing.{changes_of, commit_steps, kept_writes, AreChangesOf, HasBegun, HasAborted};
+ghost use Rattle.tx_commit.specs.Committing.{HasCommitted, RefusesCommit};
 
 use crate::committing::{commit_all, put_changes};
-use crate::locking::Found;
+use crate::locking::LockWords;
 use crate::reading::{entry_of, value_of};
 use crate::writing::{By, alter, write_value};
-use engine_words::{Engine, Pass, Refused, begin, forget};
+use engine_words::{Engine, Pass, RefusalCause, begin, forget};
 use serial_model::{Changes, DRAW_LIMIT, Key, Number, Verdict};
 use tx_sets::Sets;
 
@@ -26,7 +24,7 @@ use tx_sets::Sets;
 #[derive(Drop)]
 pub struct Txn {
     pub(crate) sets: Sets,
-    pub(crate) found: Found,
+    pub(crate) found: LockWords,
 }
 
 impl Txn {
@@ -35,12 +33,12 @@ impl Txn {
     {
         Txn {
             sets: Sets::new(),
-            found: Found::new(),
+            found: LockWords::new(),
         }
     }
 
     /// Begins a transaction. It is refused exactly where the clock is at the last draws.
-    pub fn begin(&mut self, engine: &Engine, pass: &mut Pass) -> Result<(), Refused>
+    pub fn begin(&mut self, engine: &Engine, pass: &mut Pass) -> Result<(), RefusalCause>
         requires of { IsPassOf engine.now pass.old }
         requires over { IsOver (view pass.old) }
         ensures of { IsPassOf engine.now pass.new }
@@ -50,14 +48,14 @@ impl Txn {
         self.sets.clear();
         let clock = begin(engine, pass);
         if clock % (1 << 40) >= DRAW_LIMIT {
-            return Err(Refused::NumberLimit { clock });
+            return Err(RefusalCause::NumberLimit { clock });
         }
         Ok(())
     }
 
     /// The value at the key of an array: what the transaction wrote last, else what it first read. A key that it has
     /// not met before is read, and kept.
-    pub fn read(&mut self, engine: &Engine, pass: &mut Pass, key: Key) -> Result<u64, Refused>
+    pub fn read(&mut self, engine: &Engine, pass: &mut Pass, key: Key) -> Result<u64, RefusalCause>
         requires of { IsPassOf engine.now pass.old }
         requires live { IsLive self.old.sets (view pass.old) }
         requires fits { has_record (view pass.old).layout.decls key ≡ true }
@@ -65,6 +63,8 @@ impl Txn {
         ensures replies { IfOk result (λ value.
             HasDone (ops.Read key) (Some (replies.Value value)) self.old.sets self.new.sets (view pass.old)
             (view pass.new)) }
+        ensures value { IfOk result (λ value.
+            IsValueRead key value self.old.sets (view pass.old) (view pass.new)) }
         ensures cause { IfErr result (λ why. RefusesRead self.old.sets key why (view pass.old) (view pass.new)) }
         ensures refused { IfErr result (λ why. HasRefused why (view pass.old) (view pass.new)) }
         ensures steps { OnOk result ((view pass.new).steps ≡ (view pass.old).steps + read_steps self.old.sets key) }
@@ -80,7 +80,7 @@ impl Txn {
         pass: &mut Pass,
         key: Key,
         value: u64,
-    ) -> Result<(), Refused>
+    ) -> Result<(), RefusalCause>
         requires of { IsPassOf engine.now pass.old }
         requires live { IsLive self.old.sets (view pass.old) }
         requires fits { has_record (view pass.old).layout.decls key ≡ true }
@@ -104,7 +104,7 @@ impl Txn {
         pass: &mut Pass,
         key: Key,
         amount: u64,
-    ) -> Result<Verdict, Refused>
+    ) -> Result<Verdict, RefusalCause>
         requires of { IsPassOf engine.now pass.old }
         requires live { IsLive self.old.sets (view pass.old) }
         requires fits { has_record (view pass.old).layout.decls key ≡ true }
@@ -128,7 +128,7 @@ impl Txn {
         pass: &mut Pass,
         key: Key,
         amount: u64,
-    ) -> Result<Verdict, Refused>
+    ) -> Result<Verdict, RefusalCause>
         requires of { IsPassOf engine.now pass.old }
         requires live { IsLive self.old.sets (view pass.old) }
         requires fits { has_record (view pass.old).layout.decls key ≡ true }
@@ -151,14 +151,12 @@ impl Txn {
         pass: &mut Pass,
         keep: bool,
         changes: &mut Changes,
-    ) -> Result<Number, Refused>
+    ) -> Result<Number, RefusalCause>
         requires of { IsPassOf engine.now pass.old }
         requires live { IsLive self.old.sets (view pass.old) }
         ensures of { IsPassOf engine.now pass.new }
         ensures commits { IfOk result (λ n. HasCommitted changes.new n (view pass.old) (view pass.new)) }
-        ensures changes { OnOk result (changes.new ≡ changes_of (kept_writes keep self.old.sets.writes)) }
-        ensures rising { OnOk result (Rises IsKeyBelow (map (λ x. x.key) changes.new)) }
-        ensures few { OnOk result (length changes.new ≤ 16) }
+        ensures changes { OnOk result (AreChangesOf (kept_writes keep self.old.sets.writes) changes.new) }
         ensures cause { IfErr result (λ why.
             RefusesCommit self.old.sets (kept_writes keep self.old.sets.writes) why (view pass.old) (view pass.new)) }
         ensures refused { IfErr result (λ why. HasRefused why (view pass.old) (view pass.new)) }
@@ -183,7 +181,7 @@ impl Txn {
         engine: &Engine,
         pass: &mut Pass,
         keep: bool,
-    ) -> Result<Number, Refused>
+    ) -> Result<Number, RefusalCause>
         requires of { IsPassOf engine.now pass.old }
         requires live { IsLive self.old.sets (view pass.old) }
         ensures of { IsPassOf engine.now pass.new }

@@ -10,7 +10,7 @@ ghost use Rattle.tx_commit.specs.Turning.{op_of, altered, ended_by, read_steps, 
 ghost use Rattle.tx_commit.specs.Refusing.{HasRefused, RefusesWrite, RefusesAlter};
 
 use crate::reading::entry_of;
-use engine_words::{Engine, Pass, Refused, SetName, forget};
+use engine_words::{Engine, Pass, RefusalCause, SetName, forget};
 use serial_model::{Key, Verdict};
 use tx_sets::{Sets, Write};
 
@@ -28,7 +28,7 @@ pub(crate) fn write_value(
     sets: &mut Sets,
     key: Key,
     value: u64,
-) -> Result<(), Refused>
+) -> Result<(), RefusalCause>
     requires of { IsPassOf engine.now pass.old }
     requires live { IsLive sets.old (view pass.old) }
     requires fits { has_record (view pass.old).layout.decls key ≡ true }
@@ -45,7 +45,7 @@ pub(crate) fn write_value(
         return Ok(());
     }
     if sets.writes.is_full() {
-        let why = Refused::Wide {
+        let why = RefusalCause::Wide {
             set: SetName::Writes,
         };
         forget(engine, pass, Some(why));
@@ -78,7 +78,7 @@ pub(crate) fn alter(
     sets: &mut Sets,
     key: Key,
     by: By,
-) -> Result<Verdict, Refused>
+) -> Result<Verdict, RefusalCause>
     requires of { IsPassOf engine.now pass.old }
     requires live { IsLive sets.old (view pass.old) }
     requires fits { has_record (view pass.old).layout.decls key ≡ true }
@@ -107,7 +107,7 @@ fn alter_record(
     sets: &mut Sets,
     key: Key,
     by: By,
-) -> Result<Verdict, Refused>
+) -> Result<Verdict, RefusalCause>
     requires of { IsPassOf engine.now pass.old }
     requires live { IsLive sets.old (view pass.old) }
     requires fits { has_record (view pass.old).layout.decls key ≡ true }
@@ -121,7 +121,7 @@ fn alter_record(
     ensures most { (view pass.new).steps ≤ (view pass.old).steps + 4 }
 {
     if sets.writes.is_full() {
-        let why = Refused::Wide {
+        let why = RefusalCause::Wide {
             set: SetName::Writes,
         };
         forget(engine, pass, Some(why));

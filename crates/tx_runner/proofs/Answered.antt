@@ -8,16 +8,19 @@ use Rattle.std.specs.List.{AllByRecursion, Contains}
 use Rattle.std.proofs.lemmas.List.{append-nil, take_more, take-append-drop}
 use Rattle.std.proofs.lemmas.List.Elements.{Contains-append_left}
 use Rattle.lists.specs.Elements.{any_in, any_is, in_push_cases, in_push_new, in_push_old}
+use Rattle.lists.specs.Fronts.{IsFront, front_refl, front_then}
 use Rattle.homes.specs.Homes.{same_key}
 use Rattle.homes.specs.Laws.{same_key-true}
 use Rattle.serial_model.specs.declared.decl.Decl.{Decl}
 use Rattle.serial_model.specs.declared.key.Key.{Key}
 use Rattle.serial_model.specs.declared.number.Change.{Change}
+use Rattle.serial_model.specs.declared.number.Number.{Number}
 use Rattle.serial_model.specs.declared.op.Op.{Op}
 use Rattle.serial_model.specs.declared.reply.Reply.{Reply}
 use Rattle.serial_model.specs.declared.reply.Reply.TheVariants.{Value}
 use Rattle.serial_model.specs.declared.reply.Verdict.{Verdict}
 use Rattle.serial_model.specs.declared.reply.Verdict.TheVariants.{Done, Short, Over}
+use Rattle.commit_core.specs.declared.attempt.Attempt.{Attempt}
 use Rattle.commit_core.specs.declared.part.Part.{Part}
 use Rattle.serial_bridge.specs.Transaction.{Turn, Continues, Stops, Finished, finished, FinishesBy, Runs}
 use Rattle.tx_sets.specs.declared.reads.ReadEntry.{ReadEntry}
@@ -27,11 +30,13 @@ use Rattle.tx_sets.specs.Entries.{has_read, has_write}
 use Rattle.tx_sets.specs.Gathered.{AreEmpty}
 use Rattle.engine_words.specs.Layout.{IsAtKey, spot_for}
 use Rattle.engine_words.specs.declared.layout.Layout.{Layout}
-use Rattle.engine_words.specs.declared.view.Refused.{Refused}
-use Rattle.engine_words.specs.declared.view.Refused.TheVariants as refusals
+use Rattle.engine_words.specs.declared.view.RefusalCause.{RefusalCause}
+use Rattle.engine_words.specs.declared.view.RefusalCause.TheVariants as refusals
 use Rattle.engine_words.specs.declared.view.View.{View}
+use Rattle.engine_words.specs.Cuts.{HasSeen}
+use Rattle.engine_words.specs.ReadLaws.{last_by, last_since}
 use Rattle.tx_commit.specs.Live.{IsLive}
-use Rattle.tx_commit.specs.Turning.{Alters, HasDone, HasLoaded, HasStopped, IsOfKey, ReadsOnly, WritesOnly}
+use Rattle.tx_commit.specs.Turning.{Alters, HasDone, OnlyLoaded, HasStopped, IsOfKey, ReadsOnly, WritesOnly}
 use Rattle.tx_commit.specs.Refusing.{RefusesRead, RefusesWrite, RefusesAlter}
 use Rattle.tx_commit.specs.Running.{HasRun, HasEnded}
 use Rattle.tx_commit.specs.RunLaws.{goes_on_run, ends_run}
@@ -64,7 +69,7 @@ alters_so op Done replies sets new v w a = without_reply op replies sets new v w
 alters_so op Short replies sets new v w a = record { replies = refl; stopped = a }
 alters_so op Over replies sets new v w a = record { replies = refl; stopped = a }
 
-pub alters_answered : (r : Result Verdict Refused) (op : Op) (replies : List Reply) (sets new : Sets) (v w : View)
+pub alters_answered : (r : Result Verdict RefusalCause) (op : Op) (replies : List Reply) (sets new : Sets) (v w : View)
     → IfOk r (λ verdict. Alters op verdict sets new v w)
     → IfOk r (λ verdict. HasAnswered op verdict replies replies sets new v w)
 alters_answered (Ok verdict) op replies sets new v w a = alters_so op verdict replies sets new v w a
@@ -72,22 +77,22 @@ alters_answered (Err why) op replies sets new v w a = tt
 
 -- ---- why it was refused
 
-pub read_cause : (op : Op) (sets : Sets) (k : Key) (why : Refused) (v w : View) → IsOfKey op k → AreWithin 15 sets
+pub read_cause : (op : Op) (sets : Sets) (k : Key) (why : RefusalCause) (v w : View) → IsOfKey op k → AreWithin 15 sets
     → RefusesRead sets k why v w → IsOpCause op why v w
 read_cause op sets k (refusals.Conflict at expected seen) v w of few r = (r.3.cause, k, of, r.3.place, r.4)
 read_cause op sets k (refusals.Wide set) v w of few r = absurd (omega (arith, r.1, few.reads))
 read_cause op sets k (refusals.NumberLimit clock) v w of few r = absurd r
 
-pub write_cause : (op : Op) (sets : Sets) (k : Key) (why : Refused) (v w : View) → AreWithin 15 sets
+pub write_cause : (op : Op) (sets : Sets) (k : Key) (why : RefusalCause) (v w : View) → AreWithin 15 sets
     → RefusesWrite sets k why → IsOpCause op why v w
 write_cause op sets k why v w few r = absurd (omega (arith, r.1, few.writes))
 
-alter_cause : (op : Op) (sets : Sets) (k : Key) (why : Refused) (v w : View) → IsOfKey op k → AreWithin 15 sets
+alter_cause : (op : Op) (sets : Sets) (k : Key) (why : RefusalCause) (v w : View) → IsOfKey op k → AreWithin 15 sets
     → RefusesAlter sets k why v w → IsOpCause op why v w
 alter_cause op sets k why v w of few (inl r) = write_cause op sets k why v w few r
 alter_cause op sets k why v w of few (inr r) = read_cause op sets k why v w of few r.1
 
-pub alters_caused : (r : Result Verdict Refused) (op : Op) (sets : Sets) (k : Key) (v w : View) → IsOfKey op k
+pub alters_caused : (r : Result Verdict RefusalCause) (op : Op) (sets : Sets) (k : Key) (v w : View) → IsOfKey op k
     → AreWithin 15 sets → IfErr r (λ why. RefusesAlter sets k why v w) → IfErr r (λ why. IsOpCause op why v w)
 alters_caused (Ok verdict) op sets k v w of few a = tt
 alters_caused (Err why) op sets k v w of few a = alter_cause op sets k why v w of few a
@@ -199,24 +204,52 @@ keys_of_all ops done sets are = record {
 
 -- ---- loads
 
-pub nothing_loaded : (v : View) → HasLoaded v v
+pub nothing_loaded : (v : View) → OnlyLoaded v v
 nothing_loaded v = record {
+  history = v.history;
+  decided = v.decided;
+  drawn = front_refl v.history;
+  seen = front_refl v.decided;
   kept = v.seat.kept;
   steps = v.steps;
   last = v.last;
   loaded = v.loaded;
   reads = v.reads;
+  parts = λ part has. inl has;
   is = refl;
 }
 
-pub loaded_then : (u v w : View) → HasLoaded u v → HasLoaded v w → HasLoaded u w
+loaded_layout : (v w : View) → OnlyLoaded v w → w.layout ≡ v.layout
+loaded_layout v w l = ap (λ (x : View). x.layout) l.is
+
+-- what was seen behind loads
+pub loaded_seen : (v w : View) → OnlyLoaded v w → HasSeen v w
+loaded_seen v w l = record {
+  history = subst (λ (xs : List Attempt). IsFront v.history xs) (sym (ap (λ (x : View). x.history) l.is)) l.drawn;
+  decided = subst (λ (xs : List Number). IsFront v.decided xs) (sym (ap (λ (x : View). x.decided) l.is)) l.seen;
+}
+
+pub loaded_then : (u v w : View) → OnlyLoaded u v → OnlyLoaded v w → OnlyLoaded u w
 loaded_then u v w a b = record {
+  history = b.history;
+  decided = b.decided;
+  drawn = front_then u.history v.history b.history seen.history b.drawn;
+  seen = front_then u.decided v.decided b.decided seen.decided b.seen;
   kept = b.kept;
   steps = b.steps;
   last = b.last;
   loaded = b.loaded;
   reads = b.reads;
+  parts = λ part has. elim (b.parts part has) [
+    | inl old ↦ elim (a.parts part (subst (λ (l : List Part). Contains l part) (ap (λ (x : View). x.seat.kept) a.is) old)) [
+      | inl first ↦ inl first
+      | inr before ↦ inr (last_by u v w part (loaded_seen v w b) before)
+    ]
+    | inr now ↦ inr (last_since u v w part (loaded_layout u v a) seen now)
+  ];
   is = b.is ∙ ap (λ (x : View). record x {
+    history = b.history;
+    decided = b.decided;
     seat = record x.seat { kept = b.kept };
     steps = b.steps;
     last = b.last;
@@ -224,9 +257,9 @@ loaded_then u v w a b = record {
     reads = b.reads;
   }) a.is;
 }
-
-loaded_layout : (v w : View) → HasLoaded v w → w.layout ≡ v.layout
-loaded_layout v w l = ap (λ (x : View). x.layout) l.is
+  where
+    seen : HasSeen u v
+    seen = loaded_seen u v a
 
 -- ---- one operation after others
 
@@ -235,7 +268,7 @@ pub record HasRunSome (ops : List Op) (done : ℕ) (replies : List Reply) (sets 
   pub within : done ≤ length ops
   pub few : length replies ≤ done
   pub live : IsLive sets w
-  pub only : HasLoaded v w
+  pub only : OnlyLoaded v w
   pub sized : AreWithin done sets
   pub steps : w.steps ≤ v.steps + 4 * done
   pub run : HasRun (take done ops) replies sets w
@@ -325,7 +358,7 @@ ended_line ops done verdict replies w stops e = record {
 stops_at : (ops : List Op) (d : Op) (done : ℕ) (verdict : Verdict) (old now : List Reply) (sets new : Sets)
     (u v w : View) → keeps verdict ≡ false → done < length ops → IsOnArray v.layout.decls (get_or ops done d)
     → HasRunSome ops done old sets u v → OpEndsIt (get_or ops done d) verdict old now sets new v w
-    → HasEnded ops verdict now w × IsLive new w × HasLoaded u w × AreWithin (length ops) new × AreKeysOf ops new
+    → HasEnded ops verdict now w × IsLive new w × OnlyLoaded u w × AreWithin (length ops) new × AreKeysOf ops new
 stops_at ops d done verdict old now sets new u v w stops less on h e = (
   ended_line ops (done + 1) verdict now w stops
       (subst (λ l. HasEnded l verdict now w) (sym (take_more ops done d less))
@@ -367,7 +400,7 @@ run_all ops done replies sets v w all h = record {
 -- ---- a refusal among the operations
 
 -- an operation was refused, behind loads
-pub cause_among : (ops : List Op) (d : Op) (i : ℕ) (why : Refused) (u v w : View) → i < length ops → HasLoaded u v
+pub cause_among : (ops : List Op) (d : Op) (i : ℕ) (why : RefusalCause) (u v w : View) → i < length ops → OnlyLoaded u v
     → IsOpCause (get_or ops i d) why v w → IsCauseAmong ops why u w
 cause_among ops d i (refusals.Conflict at expected seen) u v w less l c = record {
   op = get_or ops i d;
@@ -393,7 +426,7 @@ array_at decls (op ∷ ops) d (suc i) all less = array_at decls ops d i all.1 (o
 
 -- behind loads the declarations are the same
 pub loaded_array : (ops : List Op) (d : Op) (i : ℕ) (v w : View) → AllByRecursion (IsOnArray v.layout.decls) ops
-    → i < length ops → HasLoaded v w → IsOnArray w.layout.decls (get_or ops i d)
+    → i < length ops → OnlyLoaded v w → IsOnArray w.layout.decls (get_or ops i d)
 loaded_array ops d i v w all less l =
     subst (λ (y : Layout). IsOnArray y.decls (get_or ops i d)) (sym (loaded_layout v w l))
     (array_at v.layout.decls ops d i all less)

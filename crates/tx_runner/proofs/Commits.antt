@@ -22,6 +22,7 @@ use Rattle.serial_model.specs.History.{Entry}
 use Rattle.wire_form.specs.Items.{Rises}
 use Rattle.serial_model.specs.Keys.{IsKeyBelow}
 use Rattle.commit_core.specs.declared.attempt.Attempt.{Attempt}
+use Rattle.commit_core.specs.declared.part.Part.{Part}
 use Rattle.commit_core.specs.CoreState.{is_decided, mark_of}
 use Rattle.commit_core.specs.Lemmas.Numbers.{decided_new}
 use Rattle.commit_core.specs.Serial.{ReadsFrom, state_below}
@@ -33,6 +34,8 @@ use Rattle.tx_sets.specs.Entries.{has_write}
 use Rattle.engine_words.specs.declared.layout.Layout.{Layout}
 use Rattle.engine_words.specs.declared.view.Touch.{Touch}
 use Rattle.engine_words.specs.declared.view.View.{View}
+use Rattle.engine_words.specs.ReadLaws.{last_by, last_since}
+use Rattle.engine_words.specs.Reads.{IsLastBetween}
 use Rattle.engine_words.specs.Steps.{AreSerial}
 use Rattle.engine_words.specs.Touches.{touch}
 use Rattle.engine_words.specs.Views.{seat_number}
@@ -143,8 +146,10 @@ pub try_committed : (ops : List Op) (verdict : Verdict) (replies : List Reply) (
     (u v w : View) → StandsAs u v → AreKeysOf ops sets → HasRunTo ops verdict replies sets v
     → commit.changes ≡ changes_of (kept_writes (keeps verdict) sets.writes)
     → Rises IsKeyBelow (map (λ (x : Change). x.key) commit.changes) → length commit.changes ≤ 16
-    → HasCommitted commit.changes commit.number v w → HasDrawsLeft u → HasCommittedLine ops 1 verdict replies commit u w
-try_committed ops verdict replies commit sets u v w s keys run written rises few c left = record {
+    → HasCommitted commit.changes commit.number v w → HasDrawsLeft u
+    → ((part : Part) → Contains v.seat.kept part → IsLastBetween u v part)
+    → HasCommittedLine ops 1 verdict replies commit u w
+try_committed ops verdict replies commit sets u v w s keys run written rises few c left last = record {
   began = left;
   losts = [];
   fewer = omega arith;
@@ -187,6 +192,8 @@ try_committed ops verdict replies commit sets u v w s keys run written rises few
   most = few;
   reads = subst (λ (l : Layout). ReadsFrom (state_below l.opening w.history w.decided commit.number) c.attempt) s.layout
       c.reads;
+  parts = λ part has. last_by u v w part c.seen
+      (last part (subst (λ (l : List Part). Contains l part) c.parts has));
   of = of;
   now = λ e is t agrees. attempt_steps u.layout.decls t
       (state_below u.layout.opening w.history w.decided c.attempt.number) e c.attempt agrees
@@ -248,6 +255,7 @@ line_committed ops done tries verdict replies commit u v w less h k = record {
   most = k.most;
   reads = subst (λ (l : Layout). ReadsFrom (state_below l.opening w.history w.decided commit.number) k.attempt)
       h.tried.layout k.reads;
+  parts = λ part has. last_since u v w part h.tried.layout h.tried.seen (k.parts part has);
   of = subst (λ (l : Layout). (e : Entry) → IsAnswered ops verdict commit.number replies e
       → IsAttemptOf l.decls e k.attempt) h.tried.layout k.of;
   now = subst (λ (l : Layout). (e : Entry) → IsAnswered ops verdict commit.number replies e

@@ -14,8 +14,8 @@ use Rattle.serial_model.specs.declared.op.Op.TheVariants.{Read, Write, Remove, A
 use Rattle.tx_sets.specs.declared.sets.Sets.{Sets}
 use Rattle.tx_sets.specs.Entries.{has_read, has_write}
 use Rattle.engine_words.specs.declared.layout.Layout.{Layout}
-use Rattle.engine_words.specs.declared.view.Refused.{Refused}
-use Rattle.engine_words.specs.declared.view.Refused.TheVariants as refusals
+use Rattle.engine_words.specs.declared.view.RefusalCause.{RefusalCause}
+use Rattle.engine_words.specs.declared.view.RefusalCause.TheVariants as refusals
 use Rattle.engine_words.specs.declared.view.Touch.{Touch}
 use Rattle.engine_words.specs.declared.view.View.{View}
 use Rattle.engine_words.specs.Steps.{IsKeyAt, IsMetFor}
@@ -44,7 +44,7 @@ written_at (Take q value) k may = may
 written_at (Scan storage low high) k may = absurd may
 
 -- a refusal since the try began, for which so many numbers were drawn, and at which this one was met
-tried_once : (ops : List Op) (why : Refused) (lost : Lost) (u v w : View) → StandsAs u v → (r : HasRefused why v w)
+tried_once : (ops : List Op) (why : RefusalCause) (lost : Lost) (u v w : View) → StandsAs u v → (r : HasRefused why v w)
     → why_of lost ≡ why → w.draws ≡ v.draws + drawn_for lost → r.met ≡ blame_of (seat_number u.role) lost
     → TouchesOnly ops u w → HasTriedFor ops (lost ∷ []) u w
 tried_once ops why lost u v w s r is drawn met touched = record {
@@ -55,7 +55,7 @@ tried_once ops why lost u v w s r is drawn met touched = record {
   mine = r.mine ∙ s.mine;
   draws = let same = s.draws in omega (arith, drawn, same, sum_by-cons drawn_for lost []);
   marks = r.marks ∙ s.marks;
-  refused = r.refused ∙ ap (λ l. l ++ why ∷ []) s.refused ∙ ap (λ (x : Refused). u.refused ++ x ∷ []) (sym is);
+  refused = r.refused ∙ ap (λ l. l ++ why ∷ []) s.refused ∙ ap (λ (x : RefusalCause). u.refused ++ x ∷ []) (sym is);
   blamed = r.blamed ∙ ap (λ l. l ++ r.met) s.blamed
       ∙ ap (λ l. u.blamed ++ l) (met ∙ sym (append-nil (blame_of (seat_number u.role) lost)));
   touched = touched;
@@ -66,13 +66,14 @@ untouched : (ops : List Op) (v w : View) → w.touched ≡ v.touched → Touches
 untouched ops v w same t has = inl (subst (λ (l : List Touch). Contains l t) same has)
 
 -- the begin was refused
-pub begin_refused : (ops : List Op) (why : Refused) (v w : View) → RefusesBegin why v w → RefusesTry ops why v w
+pub begin_refused : (ops : List Op) (why : RefusalCause) (v w : View) → RefusesBegin why v w → RefusesTry ops why v w
 begin_refused ops why v w r =
     let lost : Lost = ToClock r.clock in record {
       lost = lost;
       is = sym r.is;
       tried = tried_once ops why lost v v w (still v) r.refused (sym r.is) (let none = r.undrawn in omega (arith, none))
-          (subst (λ (x : Refused). IsMetFor (Some x) r.refused.met v.layout.decls (seat_number v.role)) r.is r.refused.of)
+          (subst (λ (x : RefusalCause). IsMetFor (Some x) r.refused.met v.layout.decls
+          (seat_number v.role)) r.is r.refused.of)
           (untouched ops v w r.touched);
       cause = (r.high, r.draws, v.steps, r.last);
     }
@@ -88,7 +89,7 @@ clash_try : (ops : List Op) (at expected seen : ℕ) (k : Key) (u v w : View) �
     → HasRefused (refusals.Conflict at expected seen) v w → IsConflicting (refusals.Conflict at expected seen)
     → IsKeyOf ops k → IsKeyAt v k at → TouchesOnly ops u w → RefusesTry ops (refusals.Conflict at expected seen) u w
 clash_try ops at expected seen k u v w left s r cause key place touched =
-    let why : Refused = refusals.Conflict at expected seen in
+    let why : RefusalCause = refusals.Conflict at expected seen in
     let lost : Lost = ToOther (record { why = why; key = k; drew = r.drew }) in record {
       lost = lost;
       is = refl;
@@ -97,11 +98,12 @@ clash_try ops at expected seen k u v w left s r cause key place touched =
     }
 
 -- an operation was refused
-pub op_refused : (ops : List Op) (why : Refused) (u v w : View) → HasDrawsLeft u → StandsAs u v
+pub op_refused : (ops : List Op) (why : RefusalCause) (u v w : View) → HasDrawsLeft u → StandsAs u v
     → HasRefused why v w → IsCauseAmong ops why v w → RefusesTry ops why u w
 op_refused ops why u v w left s r c = by_why why r c.op c.among c.cause
   where
-    by_why : (y : Refused) → HasRefused y v w → (op : Op) → Contains ops op → IsOpCause op y v w → RefusesTry ops y u w
+    by_why : (y : RefusalCause) → HasRefused y v w → (op : Op) → Contains ops op → IsOpCause op y v w
+        → RefusesTry ops y u w
     by_why (refusals.Conflict at expected seen) r op among c =
         clash_try ops at expected seen c.1 u v w left s r c.0 (record { op = op; among = among; at = c.2 }) c.3
         (untouched ops u w (c.4 ∙ s.touched))
@@ -109,7 +111,7 @@ op_refused ops why u v w left s r c = by_why why r c.op c.among c.cause
     by_why (refusals.NumberLimit clock) r op among c = absurd c
 
 -- the commit was refused
-pub commit_refused : (ops : List Op) (why : Refused) (sets : Sets) (keep : Bool) (u v w : View) → HasDrawsLeft u
+pub commit_refused : (ops : List Op) (why : RefusalCause) (sets : Sets) (keep : Bool) (u v w : View) → HasDrawsLeft u
     → StandsAs u v → AreKeysOf ops sets → HasRefused why v w
     → RefusesCommit sets (kept_writes keep sets.writes) why v w → RefusesTry ops why u w
 commit_refused ops why sets keep u v w left s keys r c = by_why why r c
@@ -130,7 +132,7 @@ commit_refused ops why sets keep u v w left s keys r c = by_why why r c
       | inr own ↦ inr (own.0 ∙ ap seat_number s.role, kept t.key keep own.1)
     ]
 
-    by_why : (y : Refused) → HasRefused y v w → RefusesCommit sets (kept_writes keep sets.writes) y v w
+    by_why : (y : RefusalCause) → HasRefused y v w → RefusesCommit sets (kept_writes keep sets.writes) y v w
         → RefusesTry ops y u w
     by_why (refusals.Conflict at expected seen) r c =
         clash_try ops at expected seen c.0 u v w left s r c.2.cause (read_or_written c.0 c.1) c.2.place (touches c.3)
@@ -195,7 +197,7 @@ tried_then ops xs ys u v w a b = record {
 }
 
 -- one try more was refused with Conflict
-pub conflicted_more : (ops : List Op) (done : ℕ) (why : Refused) (u v w : View) → HasConflicted ops done u v
+pub conflicted_more : (ops : List Op) (done : ℕ) (why : RefusalCause) (u v w : View) → HasConflicted ops done u v
     → RefusesTry ops why v w → is_limit why ≡ false → HasConflicted ops (done + 1) u w
 conflicted_more ops done why u v w h r goes = by_lost r.lost r.is r.tried r.cause
   where
@@ -211,13 +213,13 @@ conflicted_more ops done why u v w h r goes = by_lost r.lost r.is r.tried r.caus
         }
     by_lost (ToClock clock) is tried cause = absurd (let limit = ap is_limit is in cc)
 
-conflicting_no_limit : (why : Refused) → IsConflicting why → is_limit why ≡ true → ⊥
+conflicting_no_limit : (why : RefusalCause) → IsConflicting why → is_limit why ≡ true → ⊥
 conflicting_no_limit (refusals.Conflict at expected seen) cause is = cc
 conflicting_no_limit (refusals.Wide set) cause is = cause
 conflicting_no_limit (refusals.NumberLimit clock) cause is = cause
 
 -- one try was refused by the clock
-pub line_limited : (ops : List Op) (done tries : ℕ) (why : Refused) (u v w : View) → done < tries
+pub line_limited : (ops : List Op) (done tries : ℕ) (why : RefusalCause) (u v w : View) → done < tries
     → HasConflicted ops done u v → RefusesTry ops why v w → is_limit why ≡ true → IsAtLimit ops tries u w
 line_limited ops done tries why u v w less h r limit = by_lost r.lost r.is r.tried r.cause
   where

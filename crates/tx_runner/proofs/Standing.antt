@@ -1,25 +1,31 @@
 -- What stays of a pass while its transaction runs.
 use Rattle.std.proofs.Common.{◌≡◌, ℕ, ◌+◌, ◌*◌, ◌≤◌, Bool, true, false, length, arith, List, [], ◌∷◌, ◌++◌, refl, sym}
-use Rattle.std.proofs.Common.{ap, ◌∙◌, subst, Some}
-use Rattle.std.specs.List.{AllByRecursion}
+use Rattle.std.proofs.Common.{ap, ◌∙◌, subst, Some, inl, inr}
+use Rattle.std.specs.List.{AllByRecursion, Contains}
+use Rattle.lists.specs.Elements.{in_none}
 use Rattle.lists.specs.Fronts.{IsFront, front_refl, front_then, front_length}
 use Rattle.serial_model.specs.declared.number.Number.{Number}
 use Rattle.serial_model.specs.declared.op.Op.{Op}
 use Rattle.commit_core.specs.declared.attempt.Attempt.{Attempt}
+use Rattle.commit_core.specs.declared.part.Part.{Part}
 use Rattle.tx_sets.specs.declared.sets.Sets.{Sets}
 use Rattle.tx_sets.specs.declared.writes.Write.{Write}
 use Rattle.engine_words.specs.declared.layout.Layout.{Layout}
-use Rattle.engine_words.specs.declared.view.Refused.{Refused}
+use Rattle.engine_words.specs.declared.view.RefusalCause.{RefusalCause}
 use Rattle.engine_words.specs.declared.view.View.{View}
 use Rattle.engine_words.specs.Cuts.{HasSeen}
+use Rattle.engine_words.specs.ReadLaws.{last_since}
+use Rattle.engine_words.specs.Reads.{IsLastBetween}
 use Rattle.engine_words.specs.Steps.{IsMetFor, readied, timed}
 use Rattle.engine_words.specs.Views.{seat_number}
-use Rattle.tx_commit.specs.Turning.{HasLoaded}
+use Rattle.tx_commit.specs.Live.{IsOver}
+use Rattle.tx_commit.specs.Turning.{OnlyLoaded}
 use Rattle.tx_commit.specs.Committing.{commit_steps, kept_writes, HasBegun}
 use Rattle.tx_commit.specs.Refusing.{HasRefused}
 use Rattle.tx_runner.specs.Lines.{try_steps, IsOnArray}
 use Rattle.tx_runner.specs.Steps.{AreWithin}
 use Rattle.tx_runner.specs.Tries.{HasDrawsLeft}
+use Rattle.tx_runner.proofs.Answered.{loaded_seen}
 
 -- what the pass had seen, its own commits, its draws, its marks, its refusals and its locks so far stay
 pub record StandsAs (v w : View) : Type 0 where
@@ -52,16 +58,11 @@ begun_stands sets v w b =
       blamed = ap (λ (x : View). x.blamed) is;
     }
 
-loaded_stands : (v w : View) → HasLoaded v w → StandsAs v w
+loaded_stands : (v w : View) → OnlyLoaded v w → StandsAs v w
 loaded_stands v w l = record {
   layout = ap (λ (x : View). x.layout) l.is;
   role = ap (λ (x : View). x.role) l.is;
-  seen = record {
-    history = subst (λ (xs : List Attempt). IsFront v.history xs) (sym (ap (λ (x : View). x.history) l.is))
-        (front_refl v.history);
-    decided = subst (λ (xs : List Number). IsFront v.decided xs) (sym (ap (λ (x : View). x.decided) l.is))
-        (front_refl v.decided);
-  };
+  seen = loaded_seen v w l;
   mine = ap (λ (x : View). x.mine) l.is;
   draws = ap (λ (x : View). x.draws) l.is;
   marks = ap (λ (x : View). x.seat.marks) l.is;
@@ -78,7 +79,7 @@ seen_then u v w a b = record {
 }
 
 -- since the begin there were but loads
-pub run_stands : (sets : Sets) (u v w : View) → HasBegun sets u v → HasLoaded v w → StandsAs u w
+pub run_stands : (sets : Sets) (u v w : View) → HasBegun sets u v → OnlyLoaded v w → StandsAs u w
 run_stands sets u v w b l =
     let first = begun_stands sets u v b in let second = loaded_stands v w l in record {
       layout = second.layout ∙ first.layout;
@@ -91,6 +92,18 @@ run_stands sets u v w b l =
       touched = second.touched ∙ first.touched;
       blamed = second.blamed ∙ first.blamed;
     }
+
+-- and what is kept then was read since, each record with the last decided write of its key at a step of the try
+pub run_last : (sets : Sets) (u v w : View) → IsOver u → HasBegun sets u v → OnlyLoaded v w → (part : Part)
+    → Contains w.seat.kept part → IsLastBetween u w part
+run_last sets u v w over b l part has =
+    let s = begun_stands sets u v b in
+    let none : v.seat.kept ≡ [] = ap (λ (x : View). x.seat.kept) (b.is ∙ ap readied b.timed.is) ∙ over.seat.kept in
+    let kept : w.seat.kept ≡ l.kept = ap (λ (x : View). x.seat.kept) l.is in
+    elim (l.parts part (subst (λ (x : List Part). Contains x part) kept has)) [
+      | inl before ↦ absurd (in_none part (subst (λ (x : List Part). Contains x part) none before))
+      | inr now ↦ last_since u v w part s.layout s.seen now
+    ]
 
 pub begins_stands : (sets : Sets) (v w : View) → HasBegun sets v w → StandsAs v w
 begins_stands sets v w b = begun_stands sets v w b
@@ -123,7 +136,7 @@ still v = record {
 -- ---- refusals behind loads
 
 -- the transaction was refused behind some loads
-pub refused_since : (why : Refused) (u v w : View) → HasLoaded u v → HasRefused why v w → HasRefused why u w
+pub refused_since : (why : RefusalCause) (u v w : View) → OnlyLoaded u v → HasRefused why v w → HasRefused why u w
 refused_since why u v w l r = let s = loaded_stands u v l in record {
   over = r.over;
   layout = r.layout ∙ s.layout;

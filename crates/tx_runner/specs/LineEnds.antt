@@ -17,12 +17,14 @@ use Rattle.serial_model.specs.History.{Entry}
 use Rattle.wire_form.specs.Items.{Rises}
 use Rattle.homes.specs.declared.places.Content.{Content}
 use Rattle.commit_core.specs.declared.attempt.Attempt.{Attempt}
+use Rattle.commit_core.specs.declared.part.Part.{Part}
 use Rattle.commit_core.specs.CoreState.{is_decided, mark_of}
 use Rattle.commit_core.specs.Serial.{ReadsFrom, state_below}
 use Rattle.serial_bridge.specs.Bridge.{Agrees, StepsAs}
 use Rattle.serial_bridge.specs.Transaction.{IsAttemptOf}
 use Rattle.engine_words.specs.declared.view.View.{View}
 use Rattle.engine_words.specs.Cuts.{HasSeen}
+use Rattle.engine_words.specs.Reads.{IsLastBetween}
 use Rattle.engine_words.specs.Rule.{IsSmall}
 use Rattle.engine_words.specs.Steps.{AreSerial}
 use Rattle.engine_words.specs.Views.{seat_number}
@@ -46,7 +48,8 @@ IsAsAlone decls opening history decided a e =
 -- the line's transaction, whose answers are the serial step's on the state below its number, now (`now`) and as any
 -- later audit has it (`later`). The tries before, which were fewer than the line has, were refused with Conflict, and
 -- besides the commit's number just theirs were drawn, and the line took locks of keys at most that it may write; as the
--- first of all began, the clock was not at the last draws (`began`).
+-- first of all began, the clock was not at the last draws (`began`). Each record that it read had the last decided write
+-- of its key at a step of this call (`parts`).
 pub record HasCommittedLine (ops : List Op) (tries : ℕ) (verdict : Verdict) (replies : List Reply) (commit : Commit)
     (v w : View) : Type 0 where
   pub began : HasDrawsLeft v
@@ -79,6 +82,7 @@ pub record HasCommittedLine (ops : List Op) (tries : ℕ) (verdict : Verdict) (r
   pub rising : Rises IsKeyBelow (map (λ (c : Change). c.key) commit.changes)
   pub most : length commit.changes ≤ 16
   pub reads : ReadsFrom (state_below v.layout.opening w.history w.decided commit.number) attempt
+  pub parts : (part : Part) → Contains attempt.parts part → IsLastBetween v w part
   pub of : (e : Entry) → IsAnswered ops verdict commit.number replies e → IsAttemptOf v.layout.decls e attempt
   pub now : (e : Entry) → IsAnswered ops verdict commit.number replies e
       → IsAsAlone v.layout.decls v.layout.opening w.history w.decided attempt e

@@ -10,13 +10,13 @@ use Rattle.serial_model.specs.declared.reply.Verdict.TheVariants.{Done, Short, O
 use Rattle.serial_model.specs.Numbers.{draw_limit}
 use Rattle.tx_sets.specs.declared.sets.Sets.{Sets}
 use Rattle.tx_sets.specs.Entries.{has_read, has_write}
-use Rattle.engine_words.specs.declared.view.Refused.{Refused}
-use Rattle.engine_words.specs.declared.view.Refused.TheVariants as refusals
+use Rattle.engine_words.specs.declared.view.RefusalCause.{RefusalCause}
+use Rattle.engine_words.specs.declared.view.RefusalCause.TheVariants as refusals
 use Rattle.engine_words.specs.declared.view.View.{View}
 use Rattle.engine_words.specs.Layout.{clock_at}
 use Rattle.engine_words.specs.Steps.{glance, IsKeyAt}
 use Rattle.tx_commit.specs.Live.{IsLive}
-use Rattle.tx_commit.specs.Turning.{HasDone, HasStopped, HasLoaded, IsOfKey}
+use Rattle.tx_commit.specs.Turning.{HasDone, HasStopped, OnlyLoaded, IsOfKey}
 use Rattle.tx_commit.specs.Running.{HasRun, HasEnded}
 use Rattle.tx_runner.specs.Tries.{HasDrawsLeft, HasTriedFor, IsConflicting, IsKeyOf, IsWrittenBy, Lost}
 use Rattle.tx_runner.specs.Tries.{ToClock, ToOther, why_of}
@@ -60,21 +60,21 @@ pub record AreKeysOf (ops : List Op) (sets : Sets) : Type 0 where
 pub record HasAnsweredAll (ops : List Op) (verdict : Verdict) (replies : List Reply) (sets : Sets) (v w : View)
     : Type 0 where
   pub live : IsLive sets w
-  pub only : HasLoaded v w
+  pub only : OnlyLoaded v w
   pub sized : AreWithin (length ops) sets
   pub steps : w.steps ≤ v.steps + 4 * length ops
   pub run : HasRunTo ops verdict replies sets w
   pub keys : AreKeysOf ops sets
 
 -- An operation is refused for a conflict alone, at the record of its key: 16 operations fill no set. Nothing was locked.
-abbrev pub IsOpCause : Op → Refused → View → View → Type 0
+abbrev pub IsOpCause : Op → RefusalCause → View → View → Type 0
 IsOpCause op (refusals.Conflict at expected seen) v w = ((2 ^ 60 ≤ seen) ⊎ ((expected < 2 ^ 60) × (seen ≢ expected)))
     × (k : Key) × IsOfKey op k × IsKeyAt v k at × (w.touched ≡ v.touched)
 IsOpCause op (refusals.Wide set) v w = ⊥
 IsOpCause op (refusals.NumberLimit clock) v w = ⊥
 
 -- the same of one of these operations
-pub record IsCauseAmong (ops : List Op) (why : Refused) (v w : View) : Type 0 where
+pub record IsCauseAmong (ops : List Op) (why : RefusalCause) (v w : View) : Type 0 where
   pub op : Op
   pub among : Contains ops op
   pub cause : IsOpCause op why v w
@@ -89,14 +89,14 @@ IsTryCause ops (ToClock clock) v w =
     × (step : ℕ) × (w.last ≡ Some (glance step clock_at clock))
 
 -- the try was refused for this
-pub record RefusesTry (ops : List Op) (why : Refused) (v w : View) : Type 0 where
+pub record RefusesTry (ops : List Op) (why : RefusalCause) (v w : View) : Type 0 where
   pub lost : Lost
   pub is : why_of lost ≡ why
   pub tried : HasTriedFor ops (lost ∷ []) v w
   pub cause : IsTryCause ops lost v w
 
 -- the try was refused by the clock
-abbrev pub is_limit : Refused → Bool
+abbrev pub is_limit : RefusalCause → Bool
 is_limit (refusals.Conflict at expected seen) = false
 is_limit (refusals.Wide set) = false
 is_limit (refusals.NumberLimit clock) = true

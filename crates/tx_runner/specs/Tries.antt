@@ -5,8 +5,8 @@ use Rattle.std.specs.List.{AllByRecursion}
 use Rattle.serial_model.specs.Numbers.{draw_limit}
 use Rattle.serial_model.specs.declared.key.Key.{Key}
 use Rattle.serial_model.specs.declared.op.Op.{Op}
-use Rattle.engine_words.specs.declared.view.Refused.{Refused}
-use Rattle.engine_words.specs.declared.view.Refused.TheVariants as refusals
+use Rattle.engine_words.specs.declared.view.RefusalCause.{RefusalCause}
+use Rattle.engine_words.specs.declared.view.RefusalCause.TheVariants as refusals
 use Rattle.engine_words.specs.declared.view.Touch.{Touch}
 use Rattle.engine_words.specs.declared.view.View.{View}
 use Rattle.engine_words.specs.Cuts.{HasSeen}
@@ -18,7 +18,7 @@ use Rattle.tx_commit.specs.Live.{IsOver}
 use Rattle.tx_commit.specs.Turning.{IsOfKey, MayWrite}
 
 -- a refusal with Conflict: the word was locked, or not the expected one
-abbrev pub IsConflicting : Refused → Type 0
+abbrev pub IsConflicting : RefusalCause → Type 0
 IsConflicting (refusals.Conflict at expected seen) = (2 ^ 60 ≤ seen) ⊎ ((expected < 2 ^ 60) × (seen ≢ expected))
 IsConflicting (refusals.Wide set) = ⊥
 IsConflicting (refusals.NumberLimit clock) = ⊥
@@ -41,7 +41,7 @@ pub record IsWrittenBy (ops : List Op) (k : Key) : Type 0 where
 
 -- A try that was refused with Conflict: why, at the record of which key, and whether it had drawn its number by then.
 pub record Clash : Type 0 where
-  pub why : Refused
+  pub why : RefusalCause
   pub key : Key
   pub drew : Bool
 
@@ -51,11 +51,12 @@ pub data Lost : Type 0 where
   ToClock : ℕ → Lost
 
 -- why it was refused
-abbrev pub why_of : Lost → Refused
+abbrev pub why_of : Lost → RefusalCause
 why_of (ToOther clash) = clash.why
 why_of (ToClock clock) = refusals.NumberLimit clock
 
-abbrev pub whys_of : List Lost → List Refused
+-- the same of these tries, in order
+abbrev pub whys_of : List Lost → List RefusalCause
 whys_of losts = map why_of losts
 
 -- how many numbers were drawn for it
@@ -77,6 +78,7 @@ abbrev pub blame_of : ℕ → Lost → List Touch
 blame_of q (ToOther clash) = touch q clash.key ∷ []
 blame_of q (ToClock clock) = []
 
+-- and of these tries, in order
 abbrev pub blames_of : ℕ → List Lost → List Touch
 blames_of q losts = flat_map (blame_of q) losts
 

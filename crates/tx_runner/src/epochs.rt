@@ -7,9 +7,7 @@ ghost use Rattle.tx_runner.specs.Epochs.{HasAdvanced, HasSeenEpoch, IsLastEpoch}
 
 use engine_words::{Engine, Pass, load_clock};
 use serial_model::LAST_EPOCH;
-
-/// An epoch of the clock, which has the draws below it.
-const EPOCH: u64 = 1 << 40;
+use wire_form::EPOCH;
 
 /// The clock, which had this word, is in the last epoch.
 #[derive(Clone, Copy, Debug, PartialEq, Eq)]

@@ -2,7 +2,8 @@
 //!
 //! Promises: a line is one transaction, which is begun anew after each conflict, so many times at most. Where it
 //! commits, one attempt more is the worker's own, whose replies and verdict are those of the serial step on the state
-//! below its number, then and for good (`HasCommittedLine`); it is answered as a conflict exactly where each try was
+//! below its number, then and for good, and each record that it read had the last decided write of its key at a step of
+//! the call (`HasCommittedLine`); it is answered as a conflict exactly where each try was
 //! refused with one, at a key of its (`HasConflicted`). Each number that is drawn is the commit's, or that of a try
 //! which was refused behind its draw. Behind each answer nothing is locked, and where nothing was committed nothing of
 //! the line stays (`HasTriedFor`). The keeper alone moves the clock on (`HasAdvanced`), and a worker's mark names an

@@ -9,7 +9,7 @@ ghost use Rattle.tx_runner.specs.Steps.{is_limit};
 
 use crate::LineRoom;
 use crate::tries::try_line;
-use engine_words::{Engine, Pass, Refused};
+use engine_words::{Engine, Pass, RefusalCause};
 use serial_model::{Op, Verdict};
 use std::thread::yield_now;
 use tx_commit::Txn;
@@ -63,11 +63,11 @@ pub fn run_line(
 }
 
 // Whether a try was refused by the clock.
-fn is_limit(why: Refused) -> bool
+fn is_limit(why: RefusalCause) -> bool
     ensures { result ≡ is_limit why }
 {
     match why {
-        Refused::Conflict { .. } | Refused::Wide { .. } => false,
-        Refused::NumberLimit { .. } => true,
+        RefusalCause::Conflict { .. } | RefusalCause::Wide { .. } => false,
+        RefusalCause::NumberLimit { .. } => true,
     }
 }

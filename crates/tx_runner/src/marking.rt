@@ -13,10 +13,8 @@ ghost use Rattle.tx_commit.specs.Live.{IsOver};
 ghost use Rattle.tx_runner.specs.Epochs.{HasMetAll, IsMarkedUpTo};
 
 use engine_words::{Engine, Pass, load_mark};
+use serial_model::WORKERS;
 use wire_form::Mark;
-
-/// How many workers there are.
-const WORKERS: usize = 8;
 
 /// Marks that all commits of this worker up to the epoch before this one of the clock, which the pass has seen, lie in
 /// so many bytes of its log file.

@@ -11,7 +11,7 @@ ghost use Rattle.tx_runner.specs.LineEnds.{HasCommittedLine};
 ghost use Rattle.tx_runner.specs.Steps.{AreWithin, HasAnswered, HasAnsweredAll, IsCauseAmong, IsOpCause, RefusesTry};
 
 use crate::{LineReplies, LineRoom};
-use engine_words::{Engine, Pass, Refused};
+use engine_words::{Engine, Pass, RefusalCause};
 use serial_model::{Op, Verdict};
 use tx_commit::Txn;
 
@@ -22,7 +22,7 @@ pub(crate) fn try_line(
     txn: &mut Txn,
     ops: &[Op],
     room: &mut LineRoom,
-) -> Result<Verdict, Refused>
+) -> Result<Verdict, RefusalCause>
     requires of { IsPassOf engine.now pass.old }
     requires over { IsOver (view pass.old) }
     requires arrays { AllByRecursion (IsOnArray (view pass.old).layout.decls) ops.now }
@@ -57,7 +57,7 @@ fn run_ops(
     txn: &mut Txn,
     ops: &[Op],
     replies: &mut LineReplies,
-) -> Result<Verdict, Refused>
+) -> Result<Verdict, RefusalCause>
     requires of { IsPassOf engine.now pass.old }
     requires live { IsLive txn.old.sets (view pass.old) }
     requires run { HasRun [] [] txn.old.sets (view pass.old) }
@@ -90,7 +90,7 @@ fn run_op(
     txn: &mut Txn,
     op: Op,
     replies: &mut LineReplies,
-) -> Result<Verdict, Refused>
+) -> Result<Verdict, RefusalCause>
     requires of { IsPassOf engine.now pass.old }
     requires live { IsLive txn.old.sets (view pass.old) }
     requires array { IsOnArray (view pass.old).layout.decls op }

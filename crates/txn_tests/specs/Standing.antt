@@ -23,6 +23,7 @@ use Rattle.txn_tests.specs.declared.worker.Worker.{Worker}
 abbrev pub declared : List Decl
 declared = Array 1 300 ∷ []
 
+-- its first key
 abbrev pub first_key : Key
 first_key = record { storage = 1; key = 0 }
 
@@ -33,6 +34,7 @@ pub record HasLock (v : View) : Type 0 where
   pub word : ℕ
   pub took : v.took ≡ took_at first_key word ∷ []
 
+-- so it is within a transaction that has yet to draw
 pub record IsHolding (v : View) : Type 0 where
   pub has : HasLock v
   pub due : v.due ≡ true
@@ -45,6 +47,7 @@ pub record HasPut (number : ℕ) (v : View) : Type 0 where
   pub due : v.due ≡ false
   pub can : CanOpenAnew v first_key number
 
+-- what the view has in each phase of a worker
 abbrev pub IsIn : Phase → Sets → ℕ → View → Type 0
 IsIn phases.Over sets number v = IsOver v
 IsIn phases.Live sets number v = IsLive sets v
@@ -57,6 +60,7 @@ pub record Stands (e : Engine) (w : Worker) : Type 0 where
   pub decls : (view w.pass).layout.decls ≡ declared
   pub is : IsIn w.phase w.txn.sets w.number (view w.pass)
 
+-- the keeper's pass of this engine
 pub record IsKeeper (e : Engine) (keeper : Pass) : Type 0 where
   pub of : IsPassOf e keeper
   pub role : (view keeper).role ≡ roles.Keeper

@@ -6,7 +6,7 @@ ghost use Rattle.txn_tests.specs.Standing.{declared, Stands};
 
 use crate::one_key::{lock_first, open_first, put_first};
 use crate::{Phase, Worker};
-use engine_words::{Engine, Refused};
+use engine_words::{Engine, RefusalCause};
 use serial_model::{Change, Key, Verdict};
 use std::thread::yield_now;
 
@@ -37,7 +37,7 @@ pub enum Answer {
     Over,
     /// The draw of a commit.
     Draw(u64),
-    No(Refused),
+    No(RefusalCause),
     /// Key 0 is locked, or was written. The transaction is over.
     Locked,
     /// The call may not be made where the transaction stands.

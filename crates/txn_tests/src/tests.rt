@@ -1,7 +1,7 @@
 // Schedules of two and three workers, sets that are full, transactions made from numbers, and threads. What is expected
 // was worked by hand, or is what the plain engine gives.
 use super::*;
-use engine_words::{LOCK, Refused, SetName};
+use engine_words::{LOCK, RefusalCause, SetName};
 use serial_model::{Change, Decl, Key, Memory, Op, Plain, Replies, Reply, Verdict, fits, run_one};
 use std::alloc::Global;
 use std::test::Fail;
@@ -16,7 +16,7 @@ const fn word(draw: u64) -> u64 {
 }
 
 const fn clash(at: u32, expected: u64, seen: u64) -> Answer {
-    Answer::No(Refused::Conflict {
+    Answer::No(RefusalCause::Conflict {
         word: at,
         expected,
         seen,
@@ -191,7 +191,7 @@ fn a_reader_between_put_and_open(rt: HostRuntime) -> Result<(), Fail> {
 const LAST: u64 = 1_099_511_627_712;
 
 const fn limit(draw: u64) -> Answer {
-    Answer::No(Refused::NumberLimit { clock: word(draw) })
+    Answer::No(RefusalCause::NumberLimit { clock: word(draw) })
 }
 
 #[test]
@@ -252,7 +252,7 @@ fn many(workers: &mut Workers, count: u64, reads: bool) -> Answer {
 }
 
 const fn wide(set: SetName) -> Answer {
-    Answer::No(Refused::Wide { set })
+    Answer::No(RefusalCause::Wide { set })
 }
 
 #[test]

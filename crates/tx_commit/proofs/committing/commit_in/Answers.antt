@@ -1,8 +1,10 @@
 use Rattle.std.proofs.Common.{List, length, ap, arith}
 use Rattle.tx_sets.specs.declared.writes.Write.{Write}
 use Rattle.engine_words.specs.Passes.{view}
-use Rattle.tx_commit.proofs.CommitLaws.{is_free, are_small, sets_places, sets_ascending, sets_few, can_commit}
-use Rattle.tx_commit.proofs.CommitLaws.{stopped_met, stopped_worker, stopped_places, stopped_locks, locked_refused, stopped_cause}
+use Rattle.tx_commit.proofs.DrawLaws.{is_free, are_small}
+use Rattle.tx_commit.proofs.GiveUpLaws.{locked_refused}
+use Rattle.tx_commit.proofs.CommitLaws.{sets_places, sets_ascending, sets_few, can_commit, stopped_met, stopped_worker}
+use Rattle.tx_commit.proofs.CommitLaws.{stopped_places, stopped_locks, stopped_cause}
 use Rattle.tx_commit.proofs.CommitResults.{commits_for, caused_for, refused_for_all, steps_for, most_for}
 use Rattle.tx_commit.proofs.StepLaws.{stopped_most}
 use Rattle.tx_commit.proofs.committing.commit_in.Goals as goal
@@ -31,14 +33,14 @@ pub commit_locked-requires-clause-can : goal.commit_locked-requires-clause-can
 commit_locked-requires-clause-can c = (
   view c.args.pass.now,
   can_commit c.args.sets.now c.args.writes.now c.lock_all.new.found (view c.args.pass.now) (view c.lock_all.new.pass)
-      c.requires.live c.requires.once c.requires.writes c.in-Ok.ensures.ok c.in-Ok.ensures.known c.in-Ok.ensures.met,
+      c.requires.live c.requires.once c.requires.writes c.in-Ok.ensures.ok,
 )
 
 pub returns-in-Ok-clause-commits : goal.returns-in-Ok-clause-commits
 returns-in-Ok-clause-commits c =
     let can = can_commit c.args.sets.now c.args.writes.now c.lock_all.new.found (view c.args.pass.now)
     (view c.lock_all.new.pass)
-    c.requires.live c.requires.once c.requires.writes c.in-Ok.ensures.ok c.in-Ok.ensures.known c.in-Ok.ensures.met in
+    c.requires.live c.requires.once c.requires.writes c.in-Ok.ensures.ok in
     commits_for c.commit_locked.result c.args.sets.now c.lock_all.new.found (view c.args.pass.now)
     (view c.lock_all.new.pass)
     (view c.commit_locked.new.pass) can c.commit_locked.ensures.commits
@@ -47,7 +49,7 @@ pub returns-in-Ok-clause-cause : goal.returns-in-Ok-clause-cause
 returns-in-Ok-clause-cause c =
     let can = can_commit c.args.sets.now c.args.writes.now c.lock_all.new.found (view c.args.pass.now)
     (view c.lock_all.new.pass)
-    c.requires.live c.requires.once c.requires.writes c.in-Ok.ensures.ok c.in-Ok.ensures.known c.in-Ok.ensures.met in
+    c.requires.live c.requires.once c.requires.writes c.in-Ok.ensures.ok in
     caused_for c.commit_locked.result c.args.sets.now c.lock_all.new.found (view c.args.pass.now)
     (view c.lock_all.new.pass)
     (view c.commit_locked.new.pass) can c.commit_locked.ensures.cause
@@ -56,7 +58,7 @@ pub returns-in-Ok-clause-refused : goal.returns-in-Ok-clause-refused
 returns-in-Ok-clause-refused c =
     let can = can_commit c.args.sets.now c.args.writes.now c.lock_all.new.found (view c.args.pass.now)
     (view c.lock_all.new.pass)
-    c.requires.live c.requires.once c.requires.writes c.in-Ok.ensures.ok c.in-Ok.ensures.known c.in-Ok.ensures.met in
+    c.requires.live c.requires.once c.requires.writes c.in-Ok.ensures.ok in
     refused_for_all c.commit_locked.result c.args.sets.now c.lock_all.new.found (view c.args.pass.now)
     (view c.lock_all.new.pass)
     (view c.commit_locked.new.pass) can c.commit_locked.ensures.refused

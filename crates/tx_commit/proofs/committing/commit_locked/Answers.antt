@@ -2,10 +2,10 @@ use Rattle.std.proofs.Common.{List, length, sym, ap, subst, refl}
 use Rattle.engine_words.specs.Passes.{view}
 use Rattle.serial_model.specs.declared.number.Change.{Change}
 use Rattle.tx_commit.specs.Committing.{changes_of, HasCommitted}
-use Rattle.tx_commit.proofs.CommitLaws.{sets_ascending, sets_draw, sets_active, sets_tried}
-use Rattle.tx_commit.proofs.CommitLaws.{drawn_active, checked_active, failed_worker, chosen_active, chosen_places}
-use Rattle.tx_commit.proofs.CommitLaws.{chosen_decided, all_committed, check_locks, check_places, found_within}
-use Rattle.tx_commit.proofs.CommitLaws.{found_apart, found_locks, check_refused, check_cause, checked_met}
+use Rattle.tx_commit.proofs.CommitLaws.{sets_ascending, sets_draw, sets_active, sets_tried, drawn_active}
+use Rattle.tx_commit.proofs.CommitLaws.{checked_active, failed_worker, chosen_active, chosen_places, chosen_decided}
+use Rattle.tx_commit.proofs.CommitLaws.{all_committed, check_locks, check_places, found_within, found_apart}
+use Rattle.tx_commit.proofs.CommitLaws.{found_locks, check_refused, check_cause, checked_met}
 use Rattle.tx_commit.proofs.StepLaws.{commits_steps, fails_steps}
 use Rattle.tx_commit.proofs.committing.commit_locked.Goals as goal
 

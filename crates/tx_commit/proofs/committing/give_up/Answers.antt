@@ -1,7 +1,8 @@
 use Rattle.std.proofs.Common.{Some, length}
-use Rattle.engine_words.specs.declared.view.Refused.TheVariants as refusals
+use Rattle.engine_words.specs.declared.view.RefusalCause.TheVariants as refusals
 use Rattle.engine_words.specs.Passes.{view}
-use Rattle.tx_commit.proofs.CommitLaws.{active_worker, given_up, can_forget, idle_again, in_the_way}
+use Rattle.tx_commit.proofs.DrawLaws.{active_worker}
+use Rattle.tx_commit.proofs.GiveUpLaws.{given_up, can_forget, idle_again, in_the_way}
 use Rattle.tx_commit.proofs.StepLaws.{forgot_steps}
 use Rattle.tx_commit.proofs.committing.give_up.Goals as goal
 

@@ -1,11 +1,10 @@
 use Rattle.std.specs.Prelude.{Err}
 use Rattle.std.proofs.Common.{◌≡◌, [], sym, subst, length, arith}
 use Rattle.engine_words.specs.Passes.{view}
-use Rattle.tx_commit.specs.Live.{AreMet}
-use Rattle.tx_commit.specs.Steps.{AreAsRead, HasLocked}
+use Rattle.tx_commit.specs.Steps.{HasLocked}
 use Rattle.tx_commit.proofs.LockLaws.{can_lock, idle_still, place_at, unmet_at, locked_none}
 use Rattle.tx_commit.proofs.LockLaws.{met_at, met_so_far, locked_so_far, read_so_far, unmet_so_far, lock_stopped, lock_apart, lock_refused}
-use Rattle.tx_commit.proofs.LockLaws.{found_count}
+use Rattle.tx_commit.proofs.LockLaws.{all_locked, found_count}
 use Rattle.std.proofs.lemmas.Result.{err_from_is_err_and}
 use Rattle.tx_commit.proofs.Lists.{take_all}
 use Rattle.tx_commit.proofs.StepLaws.{more_locked, stops_locked, ends_at}
@@ -118,17 +117,6 @@ returns-clause-steps c =
 
 pub returns-clause-ok : goal.returns-clause-ok
 returns-clause-ok c =
-    let all = take_all c.args.writes.now c.loop-done.done c.loop-done-test.false in
-    subst (λ l. HasLocked l c.loop-done.found (view c.args.pass.now) (view c.loop-done.pass)) all
-    c.loop-done.invariant.locked
-
-pub returns-clause-known : goal.returns-clause-known
-returns-clause-known c =
-    let all = take_all c.args.writes.now c.loop-done.done c.loop-done-test.false in
-    subst (λ l. AreAsRead c.args.reads.now l c.loop-done.found) all c.loop-done.invariant.read
-
-pub returns-clause-met : goal.returns-clause-met
-returns-clause-met c =
-    let all = take_all c.args.writes.now c.loop-done.done c.loop-done-test.false in
-    subst (λ l. AreMet (view c.args.pass.now).layout.decls c.args.reads.now l (view c.loop-done.pass)) all
-    c.loop-done.invariant.met
+    all_locked c.args.reads.now c.args.writes.now c.loop-done.found c.loop-done.done (view c.args.pass.now)
+    (view c.loop-done.pass) (take_all c.args.writes.now c.loop-done.done c.loop-done-test.false)
+    c.loop-done.invariant.locked c.loop-done.invariant.read c.loop-done.invariant.met

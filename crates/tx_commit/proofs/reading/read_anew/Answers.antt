@@ -1,5 +1,5 @@
 use Rattle.std.proofs.Common.{Some, refl}
-use Rattle.engine_words.specs.declared.view.Refused.TheVariants as refusals
+use Rattle.engine_words.specs.declared.view.RefusalCause.TheVariants as refusals
 use Rattle.engine_words.specs.Passes.{view}
 use Rattle.tx_commit.proofs.FindLaws.{clash_way, found_entry, clash_loaded, clash_conflict, clash_untouched, loaded_refused, has_room, pushed_is}
 use Rattle.tx_commit.proofs.StepLaws.{found_steps, found_most, clash_steps}

@@ -5,7 +5,7 @@ use Rattle.engine_words.specs.Passes.{view}
 use Rattle.tx_commit.specs.Committing.{changes_of, kept_writes}
 use Rattle.tx_runner.proofs.Commits.{try_committed}
 use Rattle.tx_runner.proofs.Refusals.{begin_refused, commit_refused, op_refused}
-use Rattle.tx_runner.proofs.Standing.{begins_stands, run_stands, begun_below, begun_steps, begun_arrays, try_took}
+use Rattle.tx_runner.proofs.Standing.{begins_stands, run_stands, run_last, begun_below, begun_steps, begun_arrays, try_took}
 use Rattle.tx_runner.proofs.tries.try_line.Goals as goal
 
 pub returns-clause-commits : goal.returns-clause-commits
@@ -17,10 +17,12 @@ returns-clause-commits c =
     (view c.args.pass.now) (view c.run_ops.new.pass) (view c.commit.new.pass)
     (run_stands c.begin.new.self.sets (view c.args.pass.now) (view c.begin.new.pass) (view c.run_ops.new.pass)
     c.in_ok-begin.ensures.begins a.only) a.keys a.run
-    (c.in_ok-room.ensures.changes
+    (c.in_ok-room.ensures.changes.are
     ∙ ap (λ b. changes_of (kept_writes b c.run_ops.new.txn.sets.writes)) c.keeps.ensures)
-    c.in_ok-room.ensures.rising c.in_ok-room.ensures.few c.in_ok-room.ensures.commits
+    c.in_ok-room.ensures.changes.rising c.in_ok-room.ensures.changes.few c.in_ok-room.ensures.commits
     (begun_below c.begin.new.self.sets (view c.args.pass.now) (view c.begin.new.pass) c.in_ok-begin.ensures.begins)
+    (run_last c.begin.new.self.sets (view c.args.pass.now) (view c.begin.new.pass) (view c.run_ops.new.pass)
+    c.requires.over c.in_ok-begin.ensures.begins a.only)
 
 pub returns-clause-steps : goal.returns-clause-steps
 returns-clause-steps c =

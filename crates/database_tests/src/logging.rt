@@ -1,5 +1,5 @@
 // What transactions log, and what is saved by marks, worked by hand.
-ghost use Rattle.std.specs.Prelude.{◌≤◌, ◌<◌, IfOk, IfSome};
+ghost use Rattle.std.specs.Prelude.{◌≡◌, ◌≤◌, ◌<◌, [], IfOk, IfSome};
 ghost use Rattle.outside.specs.Disk.{IfTold, Only};
 ghost use Rattle.log_writer.specs.Journal.{Reaches};
 ghost use Rattle.log_writer.specs.Save.{IsStored};
@@ -169,18 +169,17 @@ fn stored(
 ) -> Result<Option<(u32, Savepoint)>, Memory>
     requires { IsBeside beside.now }
 {
-    let (mut logs, mut even) = (Vec::new(alloc), Vec::new(alloc));
+    let mut logs = Vec::new(alloc);
     for (lines, clock) in workers {
         let mut bank = disk(alloc, &[], &[])?;
         logs.push(log(alloc, &mut bank, *lines, *clock)?)?;
-        even.push(bank)?;
     }
     let mut ties = Records::new(alloc);
     ties.reserve(1)?;
     let mut vault = Vault {
         save: save_device(alloc)?,
         snaps: disk(alloc, &[], &[])?,
-        even,
+        even: Vec::new(alloc),
         odd: Vec::new(alloc),
         ties,
         cuts: Records::new(alloc),
@@ -199,7 +198,8 @@ fn open<D: Disk>(device: &mut D) -> Option<Save>
     Some(save)
 }
 
-// Stores the next savepoint: the saved epoch, and what the second place then has.
+// Stores the next savepoint: the saved epoch, and what the second place then has. The vault has no log files, so that
+// what is counted of them needn't be durable there.
 fn store<D: Disk>(
     logs: &[WorkerLog],
     beside: &Beside,
@@ -207,6 +207,8 @@ fn store<D: Disk>(
 ) -> Option<(u32, Savepoint)>
     requires beside { IsBeside beside.now }
     requires settled { IfTold (D.tells vault.old.save) (Only D.clock D.image_at vault.old.save) }
+    requires even { vault.old.even.items ≡ [] }
+    requires odd { vault.old.odd.items ≡ [] }
     requires room { 1 ≤ vault.old.ties.room }
 {
     if logs.len() != 8 {

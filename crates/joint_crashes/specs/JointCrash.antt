@@ -52,11 +52,11 @@ module _ {D : Type 0} (clock : D → ℕ) (image_at : D → ℕ → List ℕ →
     pub bank : (n : ℕ) (bank : D) → parts.banks n ≡ Some bank → image_at bank (at.bank n) (found.bank n)
 
   -- A crash of all devices at once: a moment of each, and an image of each such moment. The moments of different
-  -- devices
-  -- are tied by what was recorded, with the savepoint that the save image names.
+  -- devices are tied by what was recorded, with the savepoint that the save image names.
   pub record IsJointCrash (parts : Parts D) (at : Moments) (found : Images) : Type 0 where
     pub images : AreImages parts at found
-    -- what the savepoint counts of a log file is in all images of its moment, and the same in each
+    -- What the savepoint counts of a log file is in all images of its moment, and the same in each. So it is of each
+    -- moment from the store of the savepoint on, until a cut: the store asked for it (`AreCounted` of log_writer).
     pub alike : (point : Option Savepoint) → Names found.save point
         → (n : ℕ) (bank : D) → parts.banks n ≡ Some bank → Alike (image_at bank (at.bank n)) (counted_of point n)
     -- and that moment lies past each cut that an older savepoint allowed

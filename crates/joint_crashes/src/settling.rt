@@ -3,6 +3,7 @@
 ghost use Rattle.std.specs.Prelude.{◌≡◌, ◌+◌, ◌-◌, ◌^◌, ◌<◌, ◌≤◌, ℕ, [], Some};
 ghost use Rattle.std.specs.Prelude.{None, Err, length, IsSome, is_ok, is_some, OnOk, MatchResult};
 ghost use Rattle.std.specs.List.{Contains};
+ghost use Rattle.log_writer.specs.Counted.{AreCounted};
 ghost use Rattle.log_writer.specs.Vault.{disk_in, IsWhole};
 ghost use Rattle.log_writer.specs.Points.{IsSaved, point_of, sequence_of};
 ghost use Rattle.log_writer.specs.Save.{IsStored};
@@ -39,6 +40,7 @@ pub fn store_and_cut<D: Disk>(
     requires saved { IsSaved saved }
     requires up { save.old.down ≡ None }
     requires stored { IsStored D.tells D.clock D.image_at vault.old.save save.old.newest }
+    requires counted { AreCounted D.tells D.clock D.image_at saved.lengths vault.old }
     requires banks { (n : ℕ) → Contains numbers.now n → IsSome (disk_in vault.old (Device.Bank n)) }
     requires tie_room { 1 ≤ vault.old.ties.room }
     requires cut_room { length numbers.now ≤ vault.old.cuts.room }

@@ -1,5 +1,5 @@
 -- What a cut of a device of a vault did, as laws for those who use one.
-use Rattle.std.specs.Prelude.{◌≡◌, ◌≢◌, ◌<◌, ◌≤◌, ℕ, ◌+◌, ◌*◌, ◌/◌, ◌%◌, ◌==◌, Bool, true, false, if◌then◌else◌, List, length, Option, Some, None, IsSome, is_some, slice_get, Result, refl}
+use Rattle.std.specs.Prelude.{◌≡◌, ◌≢◌, ◌<◌, ◌≤◌, ℕ, ◌+◌, ◌*◌, ◌/◌, ◌%◌, ◌==◌, Bool, true, false, if◌then◌else◌, List, [], length, Option, Some, None, IsSome, is_some, slice_get, Result, refl}
 use Rattle.std.proofs.Common.{inl, inr, sym, ◌∙◌, ap, subst, arith}
 use Rattle.std.proofs.lemmas.Option.{same_Some, slice_get_cases, slice_get_past}
 use Rattle.outside.specs.declared.device.Device.{Device}
@@ -30,6 +30,14 @@ whole_bank {vault = vault} whole n below =
 pub whole_ends : {D : Type 0} {vault : Vault D} → IsWhole vault → (n : ℕ) → 16 ≤ n → disk_in vault (Bank n) ≡ None
 whole_ends {vault = vault} whole n above =
     none_of_two (n % 2 == 0) vault.even.items vault.odd.items (n / 2) (omega (arith, whole.even)) (omega (arith, whole.odd))
+
+-- a vault without log files has no bank
+pub no_bank : {D : Type 0} (vault : Vault D) → vault.even.items ≡ [] → vault.odd.items ≡ [] → (n : ℕ) (bank : D)
+    → disk_in vault (Bank n) ≡ Some bank → ⊥
+no_bank vault even odd n bank there =
+    let none : disk_in vault (Bank n) ≡ None = none_of_two (n % 2 == 0) vault.even.items vault.odd.items (n / 2)
+    (omega (arith, ap length even)) (omega (arith, ap length odd)) in
+    cc (there, none)
 
 -- a worker's first bank
 pub disk_in-even : {D : Type 0} (vault : Vault D) (w : ℕ) → disk_in vault (Bank (2 * w)) ≡ slice_get vault.even.items w

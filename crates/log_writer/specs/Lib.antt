@@ -1,3 +1,4 @@
+pub mod Counted
 pub mod Cuts
 pub mod Flushes
 pub mod Growing

@@ -1,5 +1,6 @@
 -- The devices of a vault, and what a cut of one of them does.
 use Rattle.std.specs.Prelude.{◌≡◌, ◌≢◌, ℕ, ◌/◌, ◌%◌, ◌==◌, List, length, take, Option, Some, is_some, slice_get, if◌then◌else◌, Result, OnOk, OnErr}
+use Rattle.serial_model.specs.Numbers.{workers}
 use Rattle.outside.specs.declared.device.Device.{Device}
 use Rattle.outside.specs.declared.device.Device.TheVariants.{Save, Snaps, Bank}
 use Rattle.log_writer.specs.declared.vault.Vault.{Vault}
@@ -13,8 +14,8 @@ disk_in vault (Bank number) = slice_get (if number % 2 == 0 then vault.even.item
 
 -- the vault has two log files for each of eight workers
 pub record IsWhole {D : Type 0} (vault : Vault D) : Type 0 where
-  pub even : length vault.even.items ≡ 8
-  pub odd : length vault.odd.items ≡ 8
+  pub even : length vault.even.items ≡ workers
+  pub odd : length vault.odd.items ≡ workers
 
 -- a cut of a disk to a length: all that the call's clauses say
 pub record Cuts {D T E : Type 0} (tells : D → Option (List ℕ)) (clock : D → ℕ) (image_at : D → ℕ → List ℕ → Type 0) (faults : D → ℕ) (len : ℕ) (old new : D) (result : Result T E) : Type 0 where

@@ -5,7 +5,8 @@
 //! - [`Save::store`]: whatever a stop leaves since it began names the savepoint that was newest or the one that
 //!   is stored (`any_moment` of the record `Stores`, in `specs/Stores.antt`), and after `Ok` the latter
 //!   (`stored`). [`Save::store_in`] does the same (`stores`), and records exactly one tie where the store was
-//!   begun (`tied`, `begun`, `untied`).
+//!   begun (`tied`, `begun`, `untied`). It asks that what the savepoint counts of each log file is durable as
+//!   the store begins (`counted`, by `KeepsCounted` in `specs/Counted.antt`).
 //! - [`Save::load`] gives the savepoint that the device names (`found`, by `Finds`), or the byte from which on
 //!   it names none (`damaged`). A device names at most one ([`one_newest`]).
 //! - [`Vault::cut_in`] cuts one device of a vault, of which the trait's clauses hold, and leaves the others (`cut`,

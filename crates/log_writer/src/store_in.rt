@@ -1,5 +1,6 @@
 // A store into the save device of a database's devices, recorded beside them.
 ghost use Rattle.std.specs.Prelude.{◌≡◌, ◌≢◌, ◌+◌, ◌≤◌, [], ◌∷◌, ◌++◌, Some, None, Err, OnOk, OnErr};
+ghost use Rattle.log_writer.specs.Counted.{AreCounted};
 ghost use Rattle.log_writer.specs.Points.{IsSaved, sequence_of};
 ghost use Rattle.log_writer.specs.Save.{IsStored};
 ghost use Rattle.log_writer.specs.Stores.{Stores};
@@ -10,11 +11,13 @@ use outside::Disk;
 impl Save {
     /// `store` on the save device of the vault, which records a tie for each store that was begun:
     /// its sequence, the moment of `snaps` as it began, and, where it answered `Ok`, the moment of
-    /// `save` at which it had ended.
+    /// `save` at which it had ended. What it counts of the log files is durable then, so that a stop at
+    /// any instant since finds it; it stays so until a log file is cut.
     pub fn store_in<D: Disk>(&mut self, vault: &mut Vault<D>, saved: Saved) -> Result<(), SaveFault>
         requires saved { IsSaved saved }
         requires stored { self.old.down ≡ None
             → IsStored D.tells D.clock D.image_at vault.old.save self.old.newest }
+        requires counted { AreCounted D.tells D.clock D.image_at saved.lengths vault.old }
         requires room { 1 ≤ vault.old.ties.room }
         ensures stores { Stores D.tells D.clock D.image_at D.faults saved
             self.old self.new vault.old.save vault.new.save result }

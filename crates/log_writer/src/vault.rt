@@ -5,9 +5,7 @@ ghost use Rattle.log_writer.specs.Vault.{disk_in, Cuts, CutsIn, IsWhole};
 
 use crate::{Cut, Records, Tie};
 use outside::{Device, Disk, Failed};
-
-// A vault has a pair of log files for each worker.
-const WORKERS: usize = 8;
+use serial_model::WORKERS;
 
 /// The devices of one database directory. Worker w writes the log files `even[w]` and `odd[w]` in
 /// turn, so that one is closed while the other grows.

@@ -11,12 +11,13 @@ use Rattle.serial_model.specs.declared.number.Commit.{Commit}
 use Rattle.wire_form.specs.LogFile.{lines_bytes}
 use Rattle.wire_form.specs.LogLine.{line_bytes}
 use Rattle.wire_form.specs.declared.clock.Mark.{Mark}
+use Rattle.log_writer.specs.Counted.{KeepsCounted, keeps_durable}
 use Rattle.joint_crashes.specs.Marks.{Marks}
 use Rattle.joint_crashes.specs.Rounds.{WorkerRan}
 use Rattle.joint_crashes.specs.Crashes.Marking.{lines_more, mark_put, mark_set}
 use Rattle.worker_logs.specs.Logs.{LogState, idle_log, reset_log, MarkSays, IsMarkOf, epoch_with, set_mark}
 use Rattle.worker_logs.specs.Logs.{IsEpochPassed, IsPassed}
-use Rattle.worker_logs.specs.Logs.{IsLog, LogRan}
+use Rattle.worker_logs.specs.Logs.{IsLog, IsSomeLog, LogGoesOn, LogRan}
 
 -- ---- marks
 
@@ -173,3 +174,19 @@ module _ {D : Type 0} {tells : D → Option (List ℕ)} {clock : D → ℕ} {ima
           within = is.mark.within;
         };
       }
+
+  -- ---- the log of some commits
+
+  -- What its mark counts is durable.
+  pub mark_kept : {log : LogState} {bank : D} → IsSomeLog tells clock image_at log bank
+      → KeepsCounted clock image_at log.mark.length bank
+  mark_kept {log = log} some =
+      keeps_durable log.mark.length some.is.journal_of.durable
+      (omega (arith, some.is.mark.within, some.is.journal_of.durable.size))
+
+  -- So it is behind a call that adds no commit.
+  pub some_goes : (epoch : ℕ) {old new : LogState} {before now : D} → LogGoesOn tells clock image_at epoch old new before now
+      → IsSomeLog tells clock image_at old before → IsSomeLog tells clock image_at new now
+  some_goes epoch {old = old} {before = before} goes some =
+      let went = goes some.commits some.durable some.durable (old.mark ∷ []) before (log_begins some.is) in
+      record { commits = some.commits; durable = went.durable; is = log_of went.ran }

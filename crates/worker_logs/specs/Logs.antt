@@ -101,6 +101,12 @@ module _ {D : Type 0} (tells : D → Option (List ℕ)) (clock : D → ℕ) (ima
     pub lines : lines_bytes commits ≡ durable ++ log.journal.lines
     pub mark : IsMarkOf commits durable log.mark
 
+  -- It is the log of some commits, of whose lines some bytes are durable.
+  pub record IsSomeLog (log : LogState) (bank : D) : Type 0 where
+    pub commits : List Commit
+    pub durable : List ℕ
+    pub is : IsLog commits durable log bank
+
   -- What a worker's log did since a moment: its log file grew, and each mark that it had since then, the last of which
   -- is the one that it has, says what it counts.
   pub record LogRan (commits : List Commit) (was durable : List ℕ) (marks : List Mark) (first bank : D)

@@ -12,8 +12,8 @@ use Rattle.wire_form.specs.declared.clock.Mark.{Mark}
 use Rattle.log_writer.specs.Journal.{JournalState, Reaches}
 use Rattle.log_writer.specs.declared.journal.LogFault.{LogFault}
 use Rattle.log_writer.specs.declared.journal.LogFault.TheVariants.{Device, Down, Limit}
-use Rattle.worker_logs.specs.Logs.{IsEpochPassed, IsPassed, LogGoesOn, LogRan, LogState}
-use Rattle.worker_logs.specs.LogLaws.{log_put}
+use Rattle.worker_logs.specs.Logs.{IsEpochPassed, IsPassed, IsSomeLog, LogGoesOn, LogRan, LogState}
+use Rattle.worker_logs.specs.LogLaws.{log_begins, log_of, log_put}
 use Rattle.worker_logs.specs.Moves.{MovesLog}
 use Rattle.worker_logs.specs.Rows.{Blames, IsBeforeOne, IsFull, KeepsMark, KeepsMarkIn, LogTakes, NeverFall}
 use Rattle.worker_logs.specs.Rows.{TakesCommit, full_after}
@@ -36,6 +36,7 @@ pub before_wider : (low high higher : ℕ) (marked : Option ℕ) → high ≤ hi
 before_wider low high higher None wider is = is
 before_wider low high higher (Some epoch) wider is = (is.0, omega (arith, is.1, wider))
 
+-- so are all of some marks
 pub set_wider : (low high higher : ℕ) (set : List Mark) → high ≤ higher
     → AllByRecursion (λ (m : Mark). IsBeforeOne low high m.epoch) set
     → AllByRecursion (λ (m : Mark). IsBeforeOne low higher m.epoch) set
@@ -49,6 +50,7 @@ pub passed_before : (low high epoch : ℕ) (marked : Option ℕ) → 1 ≤ high 
 passed_before low high epoch None some least is = is
 passed_before low high epoch (Some marked) some least is = omega (arith, some, least, is.1)
 
+-- and all of some marks
 pub passed_set : (low high epoch : ℕ) (set : List Mark) → 1 ≤ high → high ≤ epoch
     → AllByRecursion (λ (m : Mark). IsBeforeOne low high m.epoch) set → AllByRecursion (IsPassed epoch) set
 passed_set low high epoch set some least of =
@@ -143,6 +145,16 @@ module _ {D : Type 0} {tells : D → Option (List ℕ)} {clock : D → ℕ} {ima
         ran = took.ran;
       }
 
+  -- What was the log of some commits is that of these and the new ones.
+  pub some_takes : (low high : ℕ) (logged : List Commit) {old new : LogState} {before now : D}
+      → LogTakes tells clock image_at low high logged old new before now
+      → ((logged ≡ [] → ⊥) → IsPassed low old.mark) → IsSomeLog tells clock image_at old before
+      → IsSomeLog tells clock image_at new now
+  some_takes low high logged {old = old} {before = before} takes passed some =
+      let took = takes some.commits some.durable some.durable (old.mark ∷ []) before (log_begins some.is)
+      (λ any. (passed any, tt)) in
+      record { commits = some.commits ++ logged; durable = took.durable; is = log_of took.ran }
+
   -- a commit of the last epoch or a later one, or none
   pub takes_commit : {low high : ℕ} {logged : List Commit} {old mid new : LogState} {before now : D}
       (commit : Option Commit) → 1 ≤ high → low ≤ high
@@ -192,6 +204,7 @@ pub keeps_later : (low high later : ℕ) (old new : LogState) → high ≤ later
 keeps_later low high later old new most (inl same) = inl same
 keeps_later low high later old new most (inr set) = inr (before_wider low high later new.mark.epoch most set)
 
+-- nor does a commit that is put change the mark
 pub keeps_commit : (low high : ℕ) (old mid new : LogState) (commit : Option Commit) → KeepsMarkIn low high old mid
     → TakesCommit commit mid new → KeepsMarkIn low high old new
 keeps_commit low high old mid new None keeps is = subst (KeepsMarkIn low high old) (sym is) keeps
@@ -201,6 +214,7 @@ keeps_commit low high old mid new (Some c) (inr first) puts =
 
 -- ---- faults
 
+-- without a call nothing is to blame
 pub blames_none : {D : Type 0} {faults : D → ℕ} (bank : D) (journal : JournalState) → journal.down ≡ None
     → Blames faults bank bank journal
 blames_none bank journal up = record {
@@ -211,6 +225,7 @@ blames_none bank journal up = record {
 
 module _ {D : Type 0} {tells : D → Option (List ℕ)} {clock : D → ℕ} {image_at : D → ℕ → List ℕ → Type 0}
     {faults : D → ℕ} where
+  -- and a call blames what it answers
   pub blames_move : {epoch : ℕ} {mid new : LogState} {first between now : D} (fault : Option LogFault)
       → Blames faults first between mid.journal
       → MovesLog tells clock image_at faults epoch mid new between now fault
@@ -283,12 +298,14 @@ blames_took ready left (Some c) blames puts = record {
   rose = λ count down. blames.rose count (sym puts.down ∙ down);
 }
 
+-- a log file reaches as far where a commit is put
 pub reaches_took : {D : Type 0} (tells : D → Option (List ℕ)) (now : D) (ready left : LogState) (commit : Option Commit)
     → Reaches tells now ready.journal → TakesCommit commit ready left → Reaches tells now left.journal
 reaches_took tells now ready left None reaches is =
     subst (λ (l : LogState). Reaches tells now l.journal) (sym is) reaches
 reaches_took tells now ready left (Some c) reaches puts = λ file told. omega (arith, reaches file told, puts.durable)
 
+-- and may get as long
 pub limit_took : (ready left : LogState) (commit : Option Commit) → TakesCommit commit ready left
     → left.journal.limit ≡ ready.journal.limit
 limit_took ready left None is = ap (λ (l : LogState). l.journal.limit) is

@@ -1,7 +1,11 @@
 -- What a save by the workers' marks stores, and what it counts.
 use Rattle.std.specs.Prelude.{◌≡◌, ◌≢◌, ◌⊎◌, ◌<◌, ◌≤◌, ◌+◌, ◌-◌, ◌*◌, ◌^◌, ◌++◌, ℕ, List, [], ◌∷◌, length, map}
 use Rattle.std.specs.Prelude.{flat_map, fold, min, Option, Some, None, option_to_list, Result, Ok, Err, IfOk, OnOk, OnErr}
+use Rattle.std.specs.Prelude.{slice_get}
 use Rattle.std.specs.List.{AllByRecursion}
+use Rattle.outside.specs.declared.device.Device.TheVariants.{Bank}
+use Rattle.log_writer.specs.Counted.{KeepsCounted}
+use Rattle.log_writer.specs.Vault.{disk_in}
 use Rattle.log_writer.specs.declared.records.Tie.{Tie}
 use Rattle.log_writer.specs.declared.vault.Vault.{Vault}
 use Rattle.serial_model.specs.declared.number.Commit.{Commit}
@@ -37,11 +41,12 @@ abbrev pub lengths_by : Side → List ℕ → List ℕ → List ℕ
 lengths_by Even growing closed = in_turn growing closed
 lengths_by Odd growing closed = in_turn closed growing
 
--- the number of a worker's growing log file, and of its closed one
+-- the number of a worker's growing log file
 abbrev pub growing_number : Side → ℕ → ℕ
 growing_number Even worker = 2 * worker
 growing_number Odd worker = 2 * worker + 1
 
+-- and of its closed one
 abbrev pub closed_number : Side → ℕ → ℕ
 closed_number Even worker = 2 * worker + 1
 closed_number Odd worker = 2 * worker
@@ -61,6 +66,16 @@ pub record SavesBy (clock : ℕ) (seen : List Mark) (beside : Beside) (saved : S
   pub lengths : saved.lengths ≡ lengths_by beside.growing (map (λ m. m.length) seen) beside.closed
   pub catalogue : saved.catalogue ≡ beside.count
   pub count : saved.count ≡ beside.count
+
+-- What is saved by these marks is durable: of each growing log file what its worker's mark counts, and of each closed
+-- one what counts beside.
+pub record AreDurable {D : Type 0} (clock : D → ℕ) (image_at : D → ℕ → List ℕ → Type 0) (seen : List Mark)
+    (beside : Beside) (vault : Vault D) : Type 0 where
+  pub growing : (worker : ℕ) (m : Mark) (bank : D) → slice_get seen worker ≡ Some m
+      → disk_in vault (Bank (growing_number beside.growing worker)) ≡ Some bank
+      → KeepsCounted clock image_at m.length bank
+  pub closed : (worker n : ℕ) (bank : D) → slice_get beside.closed worker ≡ Some n
+      → disk_in vault (Bank (closed_number beside.growing worker)) ≡ Some bank → KeepsCounted clock image_at n bank
 
 -- the tie of a store behind this savepoint
 abbrev pub tie_after : Option Savepoint → ℕ → Option ℕ → Tie

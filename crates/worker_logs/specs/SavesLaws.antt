@@ -2,11 +2,16 @@
 use Rattle.std.proofs.Common.{◌≡◌, ◌≤◌, ◌<◌, ◌+◌, ◌-◌, ◌*◌, ◌∷◌, ◌⊎◌, inl, inr, ℕ, zero, suc, List, [], Option}
 use Rattle.std.proofs.Common.{Some, None, length, get_or, drop, refl, sym, ◌∙◌, ap, subst, arith}
 use Rattle.std.specs.Prelude.{fold, min, map, flat_map, option_to_list, slice_get, is_some, Result, Ok, Err, true}
+use Rattle.std.specs.Prelude.{◌/◌, ◌%◌}
 use Rattle.std.specs.List.{AllByRecursion}
+use Rattle.std.proofs.lemmas.Bool.{cases_eq, cases_lt}
 use Rattle.std.proofs.lemmas.List.{length-map}
 use Rattle.std.proofs.lemmas.Option.{same_Some}
 use Rattle.outside.specs.Fronts.{AllBegin}
 use Rattle.outside.specs.Moments.{runs_weaker}
+use Rattle.outside.specs.declared.device.Device.TheVariants.{Bank}
+use Rattle.log_writer.specs.Counted.{KeepsCounted, keeps_nothing}
+use Rattle.log_writer.specs.Vault.{disk_in}
 use Rattle.log_writer.specs.declared.records.Tie.{Tie}
 use Rattle.log_writer.specs.declared.vault.Vault.{Vault}
 use Rattle.serial_model.specs.declared.number.Commit.{Commit}
@@ -25,7 +30,7 @@ use Rattle.joint_crashes.specs.Crashes.Rounded.{keeper_stores}
 use Rattle.joint_crashes.specs.Crashes.SaveSteps.{save_stored, save_failed}
 use Rattle.worker_logs.specs.Logs.{LogState, MarkSays, IsLog, IsMarkOf}
 use Rattle.worker_logs.specs.LogLaws.{log_idles}
-use Rattle.worker_logs.specs.Saves.{saved_epoch, sequence_begun, IsCounted, SavesBy, SavesMarks, CountsOf}
+use Rattle.worker_logs.specs.Saves.{AreDurable, saved_epoch, sequence_begun, IsCounted, SavesBy, SavesMarks, CountsOf}
 use Rattle.worker_logs.specs.Saves.{closed_number, growing_number, in_turn, lengths_by}
 use Rattle.worker_logs.specs.declared.savepoints.Beside.{Beside}
 use Rattle.worker_logs.specs.declared.savepoints.Side.{Side}
@@ -159,6 +164,74 @@ counts_saved {clock = clock} {seen = seen} {beside = beside} {saved = saved} com
             | inr some ↦ inr (subst (IsCounted (gone worker) (closed worker) saved.epoch) (sym size) (some saved.epoch))
           ];
     }
+
+-- ---- what is counted is durable
+
+-- a log file is a growing one or a closed one
+each_side : (side : Side) (n : ℕ) → ((w : ℕ) × (n ≡ growing_number side w)) ⊎ ((w : ℕ) × (n ≡ closed_number side w))
+each_side Even n = elim (cases_eq (n % 2) 0) [
+  | inl even ↦ inl (n / 2, omega (arith, even))
+  | inr odd ↦ inr (n / 2, omega (arith, odd))
+]
+each_side Odd n = elim (cases_eq (n % 2) 0) [
+  | inl even ↦ inr (n / 2, omega (arith, even))
+  | inr odd ↦ inl (n / 2, omega (arith, odd))
+]
+
+-- past two lists that stand in turn nothing counts
+turn_ends : (even odd : List ℕ) (i : ℕ) → length even ≡ length odd → 2 * length even ≤ i
+    → get_or (in_turn even odd) i 0 ≡ 0
+turn_ends [] odd i same past = refl
+turn_ends (x ∷ xs) [] i same past = absurd (omega (arith, same))
+turn_ends (x ∷ xs) (y ∷ ys) zero same past = absurd (omega (arith, past))
+turn_ends (x ∷ xs) (y ∷ ys) (suc zero) same past = absurd (omega (arith, past))
+turn_ends (x ∷ xs) (y ∷ ys) (suc (suc i)) same past = turn_ends xs ys i (omega (arith, same)) (omega (arith, past))
+
+past_lengths : (side : Side) (growing closed : List ℕ) (i : ℕ) → length growing ≡ length closed
+    → 2 * length growing ≤ i → get_or (lengths_by side growing closed) i 0 ≡ 0
+past_lengths Even growing closed i same past = turn_ends growing closed i same past
+past_lengths Odd growing closed i same past = turn_ends closed growing i (sym same) (omega (arith, same, past))
+
+number_least : (side : Side) (w : ℕ) → (2 * w ≤ growing_number side w) × (2 * w ≤ closed_number side w)
+number_least Even w = (omega arith, omega arith)
+number_least Odd w = (omega arith, omega arith)
+
+-- What is saved by eight marks counts of each log file as much as is durable, where what these marks count is, and what
+-- counts beside.
+pub counted_marks : {D : Type 0} {clock : D → ℕ} {image_at : D → ℕ → List ℕ → Type 0} {epoch : ℕ} {seen : List Mark}
+    {beside : Beside} {saved : Saved} {vault : Vault D} → length seen ≡ 8 → length beside.closed ≡ 8
+    → SavesBy epoch seen beside saved → AreDurable clock image_at seen beside vault
+    → (n : ℕ) (bank : D) → disk_in vault (Bank n) ≡ Some bank
+    → KeepsCounted clock image_at (get_or saved.lengths n 0) bank
+counted_marks {clock = clock} {image_at = image_at} {seen = seen} {beside = beside} {saved = saved} {vault = vault} eight
+    closed_eight saves durable n bank there =
+    let marked : List ℕ = map (λ (m : Mark). m.length) seen in
+    let many : length marked ≡ 8 = length-map seen (λ (m : Mark). m.length) ∙ eight in
+    let same : length marked ≡ length beside.closed = many ∙ sym closed_eight in
+    let counts : (k : ℕ) → get_or (lengths_by beside.growing marked beside.closed) n 0 ≡ k
+    → KeepsCounted clock image_at k bank → KeepsCounted clock image_at (get_or saved.lengths n 0) bank = λ k is keeps.
+    subst (λ j. KeepsCounted clock image_at j bank) (sym (ap (λ l. get_or l n 0) saves.lengths ∙ is)) keeps in
+    let nothing : 16 ≤ n → KeepsCounted clock image_at (get_or saved.lengths n 0) bank = λ past.
+    counts 0 (past_lengths beside.growing marked beside.closed n same (omega (arith, past, many))) (keeps_nothing bank) in
+    elim (each_side beside.growing n) [
+      | inl grows ↦ elim (cases_lt grows.0 8) [
+        | inl below ↦
+            let item = item_at seen grows.0 (omega (arith, eight, below)) in
+            counts item.0.length (ap (λ k. get_or (lengths_by beside.growing marked beside.closed) k 0) grows.1
+            ∙ growing_length beside.growing marked beside.closed grows.0 item.0.length
+            (map_at (λ (m : Mark). m.length) seen grows.0 item.0 item.1) same)
+            (durable.growing grows.0 item.0 bank item.1 (ap (λ k. disk_in vault (Bank k)) (sym grows.1) ∙ there))
+        | inr past ↦ nothing (omega (arith, past, grows.1, (number_least beside.growing grows.0).0))
+      ]
+      | inr shut ↦ elim (cases_lt shut.0 8) [
+        | inl below ↦
+            let item = item_at beside.closed shut.0 (omega (arith, closed_eight, below)) in
+            counts item.0 (ap (λ k. get_or (lengths_by beside.growing marked beside.closed) k 0) shut.1
+            ∙ closed_length beside.growing marked beside.closed shut.0 item.0 item.1 same)
+            (durable.closed shut.0 item.0 bank item.1 (ap (λ k. disk_in vault (Bank k)) (sym shut.1) ∙ there))
+        | inr past ↦ nothing (omega (arith, past, shut.1, (number_least beside.growing shut.0).1))
+      ]
+    ]
 
 -- A log file that is closed behind its log's last flush and mark is covered by that mark, up to any epoch.
 pub closed_covers : {D : Type 0} {tells : D → Option (List ℕ)} {clock : D → ℕ} {image_at : D → ℕ → List ℕ → Type 0}

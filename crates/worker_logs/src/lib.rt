@@ -17,8 +17,10 @@
 //! - [`flush_all`] flushes and marks all logs, up to the first that refuses (`flushes`, by `FlushesAll`).
 //! - [`save_marks`] stores the savepoint that the marks allow: the least of their epochs and of the clock's less 1, of
 //!   each growing log file the length that its mark counts, and of the closed ones and the pages what it is given
-//!   (`saves`, by `SavesMarks` in `specs/Saves.antt`). What it stores covers each worker's commits up to its epoch (the
-//!   law `counts_saved`), and to one that knows the save device it is one savepoint more (`keeper_saved`).
+//!   (`saves`, by `SavesMarks` in `specs/Saves.antt`). It asks that all that is counted is durable already (`durable`,
+//!   by `AreDurable`): so it is of each log, by the laws `mark_kept`, `some_goes` and `some_takes`. What it stores
+//!   covers each worker's commits up to its epoch (the law `counts_saved`), and to one that knows the save device it is
+//!   one savepoint more (`keeper_saved`).
 //! - [`WorkerLog::reset`] begins the log of the other, empty log file once it grows (`resets`); by the law `log_resets`
 //!   it has no commit.
 //!

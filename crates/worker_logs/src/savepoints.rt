@@ -3,9 +3,10 @@ ghost use Rattle.std.specs.Prelude.{◌≡◌, ◌<◌, ◌≤◌, ◌^◌, None
 ghost use Rattle.std.specs.Prelude.{option_to_list};
 ghost use Rattle.std.specs.List.{AllByRecursion};
 ghost use Rattle.serial_model.specs.Numbers.{last_epoch};
+ghost use Rattle.log_writer.specs.Counted.{AlwaysTells};
 ghost use Rattle.log_writer.specs.Points.{IsSaved};
 ghost use Rattle.log_writer.specs.Save.{IsStored};
-ghost use Rattle.worker_logs.specs.Saves.{IsBeside, SavesBy, SavesMarks, in_turn, lengths_by, logs_marks};
+ghost use Rattle.worker_logs.specs.Saves.{AreDurable, IsBeside, SavesBy, SavesMarks, in_turn, lengths_by, logs_marks};
 
 use crate::WorkerLog;
 use log_writer::{Save, SaveFault, Saved, Vault};
@@ -29,7 +30,8 @@ pub struct Beside {
     pub count: u32,
 }
 
-/// Stores the next savepoint by the marks of the workers' logs and what counts beside, and answers the saved epoch.
+/// Stores the next savepoint by the marks of the workers' logs and what counts beside, and answers the saved epoch. All
+/// that these count is durable already: a mark is set behind its flush, and what counts beside was marked once.
 pub fn save_marks<D: Disk>(
     save: &mut Save,
     clock: u32,
@@ -43,6 +45,8 @@ pub fn save_marks<D: Disk>(
     requires beside { IsBeside beside.now }
     requires stored { save.old.down ≡ None
         → IsStored D.tells D.clock D.image_at vault.old.save save.old.newest }
+    requires durable { AlwaysTells D.tells
+        → AreDurable D.clock D.image_at (logs_marks logs.now) beside.now vault.old }
     requires room { 1 ≤ vault.old.ties.room }
     ensures saves { SavesMarks D.tells D.clock D.image_at D.faults clock (logs_marks logs.now) beside.now
         save.old save.new vault.old vault.new result }

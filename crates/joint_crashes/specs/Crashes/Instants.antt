@@ -154,10 +154,12 @@ module _ {D : Type 0} {clock : D → ℕ} {image_at : D → ℕ → List ℕ →
               ];
         }
 
+-- where nothing is done no joint crash is lost
 pub keeps_none : {D : Type 0} {clock : D → ℕ} {image_at : D → ℕ → List ℕ → Type 0} {from : Moments}
     {parts : Parts D} → KeepsCrashes clock image_at from parts parts
 keeps_none at found since crash = crash
 
+-- nor is one in two calls that each lose none
 pub keeps_then : {D : Type 0} {clock : D → ℕ} {image_at : D → ℕ → List ℕ → Type 0} {from : Moments}
     {a b c : Parts D} → KeepsCrashes clock image_at from a b → KeepsCrashes clock image_at from b c
     → KeepsCrashes clock image_at from a c

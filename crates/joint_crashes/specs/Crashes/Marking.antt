@@ -49,6 +49,7 @@ mark_covers commits epoch least length mark within = record {
   same = up_to_front least mark.front commits (above_less least epoch (drop mark.front commits) within mark.rest);
 }
 
+-- the lines of two lists of commits stand behind one another
 pub lines_more : (a b : List Commit) → lines_bytes (a ++ b) ≡ lines_bytes a ++ lines_bytes b
 lines_more [] b = refl
 lines_more (c ∷ cs) b = ap (λ l. line_bytes c ++ l) (lines_more cs b)

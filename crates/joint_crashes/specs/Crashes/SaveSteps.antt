@@ -25,6 +25,8 @@ pub one_number : (point : ℕ → Option Savepoint) (j k : ℕ) (c : List ℕ) �
 one_number point j k c at_j at_k first second = sym at_j
     ∙ ap sequence_of (names_one c (point j) (point k) first second) ∙ at_k
 
+-- A store that was begun is one savepoint more, whether it ended or not: each tie is an older one, or says of the new
+-- savepoint when it had ended.
 pub save_step : {D : Type 0} {clock : D → ℕ} {image_at : D → ℕ → List ℕ → Type 0} {point : ℕ → Option Savepoint}
     {from low s : ℕ} {old new : D} {was now : List Tie} (p : Savepoint)
     → SaveTold clock image_at point from low s old was

@@ -9,6 +9,7 @@ use Rattle.joint_crashes.specs.Images.{Images}
 use Rattle.joint_crashes.specs.JointCrash.{Parts, Moments, IsJointCrash, IsSince}
 use Rattle.joint_crashes.specs.Story.{Story, IsTold, StandsFor}
 
+-- A joint crash since some moments stands for one of the savepoints that are told.
 pub crash_stands : {D : Type 0} {clock : D → ℕ} {image_at : D → ℕ → List ℕ → Type 0} {story : Story}
     {from : Moments} {low high : ℕ} {parts : Parts D} {at : Moments} {found : Images}
     → IsTold clock image_at story from low high parts → IsSince from at → IsJointCrash clock image_at parts at found

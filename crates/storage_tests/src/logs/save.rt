@@ -1,4 +1,4 @@
-ghost use Rattle.std.specs.Prelude.{◌≤◌, ◌≡◌, ◌+◌, ◌<◌, None, IfOk};
+ghost use Rattle.std.specs.Prelude.{◌≤◌, ◌≡◌, ◌+◌, ◌<◌, [], None, IfOk};
 ghost use Rattle.outside.specs.Disk.{IfTold, Only};
 ghost use Rattle.log_writer.specs.Points.{IsSaved};
 ghost use Rattle.log_writer.specs.Save.{IsStored};
@@ -144,9 +144,11 @@ pub(super) fn open<D: Disk>(disk: &mut D) -> Result<Save, SaveOpen>
     Ok(save)
 }
 
-// Loads and stores, and stores once more where the store is down.
+// Loads and stores, and stores once more where the store is down. The vault has no log file of which something counts.
 fn store_once<D: Disk>(vault: &mut Vault<D>, saved: Saved) -> Came
     requires settled { IfTold (D.tells vault.old.save) (Only D.clock D.image_at vault.old.save) }
+    requires even { vault.old.even.items ≡ [] }
+    requires odd { vault.old.odd.items ≡ [] }
     requires room { 2 ≤ vault.old.ties.room }
 {
     let mut save = match open(&mut vault.save) {
@@ -166,6 +168,8 @@ fn store_once<D: Disk>(vault: &mut Vault<D>, saved: Saved) -> Came
 fn vault(alloc: Global, bytes: &[u8], fails: &[u64]) -> Result<Vault<MemDisk>, AllocError>
     ensures settled { IfOk result (λ vault. IfTold (⟦<MemDisk as Disk>⟧.tells vault.save)
         (Only ⟦<MemDisk as Disk>⟧.clock ⟦<MemDisk as Disk>⟧.image_at vault.save)) }
+    ensures even { IfOk result (λ vault. vault.even.items ≡ []) }
+    ensures odd { IfOk result (λ vault. vault.odd.items ≡ []) }
     ensures room { IfOk result (λ vault. 2 ≤ vault.ties.room) }
 {
     let mut ties = Records::new(alloc);
@@ -214,6 +218,8 @@ fn newest(alloc: Global, bytes: &[u8]) -> Result<u64, Fail> {
 fn is_stored(rt: &impl Abort, vault: &mut Vault<MemDisk>, number: u64, came: Came)
     requires settled { IfTold (⟦<MemDisk as Disk>⟧.tells vault.old.save)
         (Only ⟦<MemDisk as Disk>⟧.clock ⟦<MemDisk as Disk>⟧.image_at vault.old.save) }
+    requires even { vault.old.even.items ≡ [] }
+    requires odd { vault.old.odd.items ≡ [] }
     requires room { 2 ≤ vault.old.ties.room }
 {
     let answer = store_once(vault, saved(7, 80));
@@ -259,6 +265,8 @@ fn a_store_at_each_fault(rt: HostRuntime) -> Result<(), Fail> {
 fn is_last(rt: &impl Abort, vault: &mut Vault<MemDisk>, was: &[u8])
     requires settled { IfTold (⟦<MemDisk as Disk>⟧.tells vault.old.save)
         (Only ⟦<MemDisk as Disk>⟧.clock ⟦<MemDisk as Disk>⟧.image_at vault.old.save) }
+    requires even { vault.old.even.items ≡ [] }
+    requires odd { vault.old.odd.items ≡ [] }
     requires room { 2 ≤ vault.old.ties.room }
 {
     let came = store_once(vault, saved(7, 80));

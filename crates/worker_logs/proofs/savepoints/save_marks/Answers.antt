@@ -1,5 +1,8 @@
-use Rattle.std.proofs.Common.{◌≡◌, Err, ap, arith}
+use Rattle.std.proofs.Common.{◌≡◌, ◌∙◌, Err, ap, arith}
+use Rattle.std.proofs.lemmas.List.{length-map}
 use Rattle.log_writer.specs.declared.save.SaveFault.TheVariants.{Device}
+use Rattle.worker_logs.specs.Logs.{LogState}
+use Rattle.worker_logs.specs.SavesLaws.{counted_marks}
 use Rattle.worker_logs.proofs.Saving.{saves_given, saves_refused}
 use Rattle.worker_logs.proofs.savepoints.save_marks.Goals as goal
 
@@ -22,3 +25,9 @@ returns-in-Err g c =
           (omega (arith, c.sequence-sequence.ensures.newest, c.sequence-sequence.ensures.counted))
           done.room done.others;
     }
+
+-- what is stored counts what is durable
+pub store_in-requires-clause-counted : goal.store_in-requires-clause-counted
+store_in-requires-clause-counted g c always n bank there =
+    counted_marks (length-map c.args.logs.now (λ (log : LogState). log.mark) ∙ c.requires.logs) c.requires.beside.workers
+    c.saved_by-saved.ensures.by_marks (c.requires.durable always) n bank there

@@ -7,6 +7,7 @@ use lib.ListN.{get_elem?}
 use Rattle.wire_form.specs.declared.bucket.Bucket.{Bucket}
 use Rattle.bucket_queues.specs.declared.rule.Hand.{Hand}
 
+-- a pass with so many parts, that has put and taken these buckets
 abbrev pub hand : ℕ → List Bucket → List Bucket → Hand
 hand parts put taken = record { parts = parts; put = put; taken = taken }
 
@@ -19,9 +20,11 @@ abbrev pub total_parts : List Hand → ℕ
 total_parts [] = 0
 total_parts (v ∷ vs) = v.parts + total_parts vs
 
+-- what a pass has put
 abbrev pub put_of : Hand → List Bucket
 put_of v = v.put
 
+-- and what it has taken
 abbrev pub taken_of : Hand → List Bucket
 taken_of v = v.taken
 

@@ -121,6 +121,7 @@ one_has f (u ∷ us) (suc i) v idle at all =
 
 -- ---- the moves
 
+-- a new queue, with one pass that has all parts
 pub begins : IsBalanced [] (hand all_parts [] [] ∷ [])
 begins = record { parts = refl; each_once = IsPermutation-refl []; idle = λ j v at. only j v at }
   where
@@ -128,6 +129,7 @@ begins = record { parts = refl; each_once = IsPermutation-refl []; idle = λ j v
     only zero v at none = let here : hand all_parts [] [] ≡ v = cc in absurd (let p : all_parts ≡ 0 = ap (λ (x : Hand). x.parts) here ∙ none in omega (arith, p))
     only (suc j) v at none = absurd (some-ne-none v (sym at))
 
+-- a pass with a part puts a bucket
 pub puts : (n i : ℕ) (v : Hand) (x : Bucket) → 0 < v.parts → Pushes IsBalanced n i v x (λ w. w ≡ hand v.parts (v.put ++ x ∷ []) v.taken)
 puts n i v x part items views room b at =
     let w : Hand = hand v.parts (v.put ++ x ∷ []) v.taken in
@@ -144,6 +146,7 @@ puts n i v x part items views room b at =
       refl,
     )
 
+-- or takes the first one
 pub takes : (i : ℕ) (v : Hand) → 0 < v.parts → Pops IsBalanced i v (λ x w. w ≡ hand v.parts v.put (v.taken ++ x ∷ []))
 takes i v part x items views b at =
     let w : Hand = hand v.parts v.put (v.taken ++ x ∷ []) in
@@ -160,6 +163,7 @@ takes i v part x items views b at =
       refl,
     )
 
+-- a pass gives one of its parts to a new one, which has put and taken nothing
 pub forks : (i : ℕ) (v : Hand) → 1 < v.parts → Forks IsBalanced i v (hand (v.parts - 1) v.put v.taken) (hand 1 [] [])
 forks i v part items views b at =
     let l : Hand = hand (v.parts - 1) v.put v.taken in
@@ -175,6 +179,7 @@ forks i v part items views b at =
       idle = idle_push (set views i l) r (λ none. omega (arith, none)) (idle_set views i l (λ none. absurd (omega (arith, part, none))) b.idle);
     }
 
+-- a pass takes in another with all that it has
 pub merges : (i : ℕ) (v : Hand) (j : ℕ) (u : Hand) → 0 < v.parts → Merges IsBalanced i v j u (hand (v.parts + u.parts) (v.put ++ u.put) (v.taken ++ u.taken)) (hand 0 [] [])
 merges i v j u part items views b at apart there' =
     let both : Hand = hand (v.parts + u.parts) (v.put ++ u.put) (v.taken ++ u.taken) in
@@ -190,6 +195,7 @@ merges i v j u part items views b at apart there' =
       idle = idle_set (set views i both) j spent (λ none. (refl, refl)) (idle_set views i both (λ none. absurd (omega (arith, part, none))) b.idle);
     }
 
+-- the pass that has all parts knows what the queue holds
 pub totals : (i : ℕ) (v : Hand) → Learns IsBalanced i v (λ items. v.parts ≡ all_parts → IsPermutation v.put (v.taken ++ items))
 totals i v items views b at whole =
     let all : total_parts views ≡ v.parts = b.parts ∙ sym whole in

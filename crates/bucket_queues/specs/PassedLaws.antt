@@ -92,10 +92,12 @@ passed_back e o was is b there = record {
 abbrev pub PutOrBack : Hand → Hand → List Bucket → List Bucket → Bucket → Type 0
 PutOrBack v w was is b = ((w ≡ hand v.parts (v.put ++ b ∷ []) v.taken) × (is ≡ was)) ⊎ ((w ≡ v) × (is ≡ was ++ b ∷ []))
 
+-- a bucket was put into the first queue, or kept back
 pub one_even : (e e1 o : Hand) (was is : List Bucket) (b : Bucket) → PutOrBack e e1 was is b → HavePassed e e1 o o was is (b ∷ [])
 one_even e e1 o was is b (inl put) = subst (λ l. HavePassed e e1 o o was l (b ∷ [])) (sym put.1) (passed_even e e1 o was b put.0)
 one_even e e1 o was is b (inr kept) = subst (λ x. HavePassed e x o o was is (b ∷ [])) (sym kept.0) (passed_back e o was is b kept.1)
 
+-- or so with the second
 pub one_odd : (e o o1 : Hand) (was is : List Bucket) (b : Bucket) → PutOrBack o o1 was is b → HavePassed e e o o1 was is (b ∷ [])
 one_odd e o o1 was is b (inl put) = subst (λ l. HavePassed e e o o1 was l (b ∷ [])) (sym put.1) (passed_odd e o o1 was b put.0)
 one_odd e o o1 was is b (inr kept) = subst (λ x. HavePassed e e o x was is (b ∷ [])) (sym kept.0) (passed_back e o was is b kept.1)

@@ -12,12 +12,14 @@ use Rattle.log_reducer.specs.Gathered.{KeepsLatest}
 use Rattle.log_reducer.specs.Reduced.{all_logged, logged_in}
 use Rattle.bucket_queues.specs.Taken.{HasTaken}
 
+-- nothing was taken so far
 pub taken_none : (v : Hand) (kept : Key → Option Logged) → HasTaken v v kept kept []
 taken_none v kept = record {
   view_is = ap (λ l. hand v.parts v.put l) (sym (append-nil v.taken));
   kept = λ all keeps. subst (λ l. KeepsLatest l kept) (sym (append-nil all)) keeps;
 }
 
+-- one bucket more is taken
 pub taken_more : (v w u : Hand) (was is now : Key → Option Logged) (taken : List Bucket) (b : Bucket) → HasTaken v w was is taken
     → u ≡ hand w.parts w.put (w.taken ++ b ∷ []) → ((all : List Logged) → KeepsLatest all is → KeepsLatest (all ++ logged_in b) now)
     → HasTaken v u was now (taken ++ b ∷ [])

@@ -42,6 +42,7 @@ logged_five a b c d e f =
     ∙ ap (λ l. l ++ all_logged f) (logged_both ((a ++ b) ++ (c ++ d)) e)
     ∙ logged_both (((a ++ b) ++ (c ++ d)) ++ e) f
 
+-- what both mappers put and both reducers took, and what was left and kept back, are all that was made
 pub gathered_all : (low_e high_e takes_e low_o high_o takes_o all_e all_o : Hand) (low_back high_back low_made high_made taken_e taken_o : List Bucket)
     (none_e kept_e none_o kept_o : Key → Option Logged) (run : List Entry)
     → HavePassed fresh low_e fresh low_o [] low_back low_made → HavePassed fresh high_e fresh high_o [] high_back high_made
@@ -91,6 +92,7 @@ from_fresh e e1 o o1 was is made same_e same_o same has =
     subst (λ l. HavePassed fresh e1 fresh o1 l is made) same
     (subst (λ x. HavePassed fresh e1 x o1 was is made) same_o (subst (λ x. HavePassed x e1 o o1 was is made) same_e has))
 
+-- what was taken since a pass was new
 pub taken_fresh : (v w : Hand) (none kept : Key → Option Logged) (taken : List Bucket) → v ≡ fresh → HasTaken v w none kept taken
     → HasTaken fresh w none kept taken
 taken_fresh v w none kept taken same has = subst (λ x. HasTaken x w none kept taken) same has

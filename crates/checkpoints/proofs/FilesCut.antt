@@ -15,7 +15,7 @@ use Rattle.joint_crashes.specs.Story.{Story}
 use Rattle.joint_crashes.specs.Cutting.{MayCut, AreCut, CutsLeave}
 use Rattle.joint_crashes.specs.Settling.{RestsOn, IsSafe, story_of}
 use Rattle.checkpoints.specs.SettledLaws.{SaysSame}
-use Rattle.checkpoints.specs.SettleFiles.{all_banks}
+use Rattle.checkpoints.specs.SettleFiles.{all_banks, all_below}
 use Rattle.checkpoints.specs.SettleGoesOn.{GoesOn, on_cut, cut_goes_on}
 use Rattle.checkpoints.specs.SettleLaws.{cuts_left}
 use Rattle.joint_crashes.specs.SettleRests.{RestsSince}
@@ -23,7 +23,6 @@ use Rattle.checkpoints.specs.CrashesRecover.{LeavesSame, HasFiles, point_read, s
 use Rattle.joint_crashes.specs.Crashes.Rested.{told_begun, ready_begun, rests_on, no_cut, point_old, counted_old}
 use Rattle.joint_crashes.specs.Crashes.Safe.{safe_of}
 use Rattle.joint_crashes.specs.Crashes.StoreSteps.{now_one}
-use Rattle.checkpoints.specs.Files.{all_below}
 
 module _ {D : Type 0} {tells : D → Option (List ℕ)} {clock : D → ℕ} {image_at : D → ℕ → List ℕ → Type 0}
     (reads : (disk : D) (file : List ℕ) → tells disk ≡ Some file → image_at disk (clock disk) file) where

@@ -1,6 +1,6 @@
 pub mod SettleOrder
 pub mod SettledReadings
-pub mod FreshStored
+pub mod FreshWritten
 pub mod LengthsStored
 pub mod FilesCut
 pub mod NextState
@@ -11,3 +11,5 @@ pub mod OneRun
 pub mod NewestSettled
 pub mod PlainSettled
 pub mod SnapshotsSettled
+pub mod Refusals
+pub mod Emptied

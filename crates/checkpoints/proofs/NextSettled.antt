@@ -3,12 +3,10 @@ use Rattle.std.proofs.Common.{◌≡◌, ◌+◌, ◌<◌, ◌≤◌, ◌∷◌,
 use Rattle.std.proofs.Common.{ap, subst, ◌∙◌, lit≤, lit<, arith}
 use Rattle.std.specs.Prelude.{is_some, ◌^◌}
 use Rattle.std.specs.FinMap.{get}
-use Rattle.std.specs.List.{AllByRecursion, Contains}
+use Rattle.std.specs.List.{AllByRecursion}
 use Rattle.std.proofs.lemmas.List.{map-append}
 use Rattle.lists.specs.Each.{all_append, all_replicate, all_weaker}
 use Rattle.lists.specs.Fronts.{IsFront}
-use Rattle.log_writer.specs.Vault.{disk_in, IsWhole}
-use Rattle.outside.specs.declared.device.Device.TheVariants.{Save, Snaps, Bank}
 use Rattle.log_writer.specs.declared.vault.Vault.{Vault}
 use Rattle.serial_model.specs.Numbers.{last_epoch}
 use Rattle.serial_model.specs.State.{State}
@@ -22,20 +20,19 @@ use Rattle.snapshot_store.specs.Store.{IsWhole as IsWholePage, bytes_of_pages, H
 use Rattle.checkpoints.specs.CrashesRecover.{LeavesSame, HasFiles, old_recovers, point_read}
 use Rattle.joint_crashes.specs.Crashes.Rested.{point_new}
 use Rattle.joint_crashes.specs.Crashes.Safe.{old_or_new}
-use Rattle.checkpoints.specs.Files.{listed_bank}
+use Rattle.checkpoints.specs.Files.{AreEmpty}
 use Rattle.checkpoints.specs.FreshLaws.{zero_at}
 use Rattle.joint_crashes.specs.Images.{Images, count_of}
 use Rattle.joint_crashes.specs.JointCrash.{Parts, Moments, parts_of}
 use Rattle.recovery_core.specs.Recovered.{Recovers, IsUp, recovers_state, saved_epoch}
 use Rattle.joint_crashes.specs.Resting.{IsResting, HasNoRecords, AreTold}
-use Rattle.checkpoints.specs.Settled.{SaysSettled, SameDevices}
-use Rattle.checkpoints.specs.SettleFiles.{all_banks}
+use Rattle.checkpoints.specs.Settled.{SaysSettled}
 use Rattle.checkpoints.specs.SettleGoesOn.{GoesOn}
 use Rattle.checkpoints.specs.SettleLaws.{point_says}
 use Rattle.joint_crashes.specs.SettleRests.{RestsSince}
 use Rattle.recovery_core.specs.SnapshotsKept.{StandsAsRead}
 use Rattle.joint_crashes.specs.Settling.{FoundOldOrNew, story_of}
-use Rattle.joint_crashes.specs.VaultReads.{AreQuiet, some_of, quiet_of}
+use Rattle.joint_crashes.specs.VaultReads.{some_of}
 use Rattle.recovery_core.specs.declared.recovered.Recovered.{Recovered}
 use Rattle.checkpoints.specs.declared.without_entries.Settled.{Settled}
 use Rattle.checkpoints.specs.SettlesInto.{composed_saved}
@@ -151,15 +148,14 @@ module _ {D : Type 0} {tells : D → Option (List ℕ)} {clock : D → ℕ} {ima
       }
 
   -- the devices say what is handed on
-  pub next_rests : {new : Vault D} {found : Images} (old : Vault D) (s : Settled) → IsWhole new
-      → AreTold tells (parts_of old) found → s.save.newest ≡ Some (point r (length all))
+  pub next_rests : {found : Images} (old new : Vault D) (s : Settled) → AreTold tells (parts_of old) found → s.save.newest ≡ Some (point r (length all))
       → s.store.pages ≡ all → s.decls ≡ r.decls → s.state ≡ r.state
       → is_some (tells new.save) ≡ is_some (tells old.save) → is_some (tells new.snaps) ≡ is_some (tells old.snaps)
       → IsStored tells clock image_at new.save s.save.newest → Holds tells new.snaps s.store.pages
-      → ((n : ℕ) (bank : D) → Contains all_banks n → disk_in new (Bank n) ≡ Some bank → tells bank ≡ Some [])
+      → AreEmpty tells new
       → (now : Images) × AreTold tells (parts_of new) now × SaysSettled now s
-  next_rests {new = new} {found = found}
-      old s whole told newest_is pages decls state told_save told_snaps stored holds emptied =
+  next_rests {found = found}
+      old new s told newest_is pages decls state told_save told_snaps stored holds emptied =
       let q = point r (length all) in
       let file = some_of (tells new.save) (told_save ∙ ap is_some told.save) in
       let snaps = some_of (tells new.snaps) (told_snaps ∙ ap is_some told.snaps) in
@@ -170,7 +166,7 @@ module _ {D : Type 0} {tells : D → Option (List ℕ)} {clock : D → ℕ} {ima
         record {
           save = file.1;
           snaps = snaps.1;
-          bank = λ n bank there. emptied n bank (listed_bank whole n bank there) there;
+          bank = emptied;
         },
         record {
           reading = next_reading q (words_of all) (newest r p made all next) next.stand.catalogues;
@@ -214,11 +210,3 @@ is_next r p pages up says next whole fit new =
           (all_append (AllByRecursion (λ w. w < 2 ^ 64)) (words_of r.store.pages) (words_of pages) fit
           (all_fit pages new));
     }
-
--- counts that stood still since room was made stood still in all
-pub quiet_room : {D : Type 0} {faults : D → ℕ} {old mid : Vault D} (new : Vault D) → SameDevices old mid
-    → AreQuiet faults mid new → AreQuiet faults old new
-quiet_room {faults = faults} {old = old} {mid = mid} new same quiet = quiet_of old new
-    (quiet Save mid.save new.save refl refl ∙ ap faults same.save)
-    (quiet Snaps mid.snaps new.snaps refl refl ∙ ap faults same.snaps)
-    (λ n was now before after. quiet (Bank n) was now (rw (same.even, same.odd) before) after)

@@ -3,10 +3,9 @@ use Rattle.std.proofs.Common.{◌≡◌, ◌*◌, ◌^◌, ◌<◌, ℕ, List, [
 use Rattle.std.proofs.Common.{refl, sym, ap, ◌∙◌, subst}
 use Rattle.std.specs.Prelude.{is_some}
 use Rattle.std.specs.FinMap.{get}
-use Rattle.std.specs.List.{AllByRecursion, Contains}
+use Rattle.std.specs.List.{AllByRecursion}
 use Rattle.std.specs.Option.{option_map}
 use Rattle.lists.specs.Fronts.{IsFront, front_take}
-use Rattle.log_writer.specs.Vault.{disk_in, IsWhole}
 use Rattle.outside.specs.declared.device.Device.TheVariants.{Save, Snaps, Bank}
 use Rattle.log_writer.specs.declared.vault.Vault.{Vault}
 use Rattle.serial_model.specs.State.{State}
@@ -32,12 +31,11 @@ use Rattle.joint_crashes.specs.Resting.{AreTold}
 use Rattle.checkpoints.specs.Settled.{SaysSettled, SameDevices}
 use Rattle.checkpoints.specs.SettledLaws.{SaysSame, settled_reading, settled_reads}
 use Rattle.checkpoints.specs.SettledLaws.{first_reading, first_reads, no_first_value}
-use Rattle.checkpoints.specs.SettleFiles.{all_banks}
 use Rattle.checkpoints.specs.SettleFresh.{recovers_fresh}
 use Rattle.checkpoints.specs.SettleLaws.{without_files, point_says, no_last}
 use Rattle.checkpoints.specs.SettlePages.{first_contents, same_decls}
 use Rattle.joint_crashes.specs.VaultReads.{AreQuiet, some_of, quiet_of}
-use Rattle.checkpoints.specs.Files.{listed_bank}
+use Rattle.checkpoints.specs.Files.{AreEmpty}
 
 -- the savepoint that is handed on says the same as the one before, whether it is that one or the next
 says_same : (saved after : Saved) (p q : Savepoint) → saved ≡ saved_of p → after ≡ saved_of q
@@ -55,18 +53,16 @@ says_same saved after p q is_p is_q without = record {
 
 module _ {D : Type 0} {tells : D → Option (List ℕ)} {clock : D → ℕ} {image_at : D → ℕ → List ℕ → Type 0} where
   -- those of one that had a savepoint
-  pub rests_saved : {new : Vault D} {found : Images} (old : Vault D) (r : Recovered) (s : Settled) (saved : Saved)
-      → IsWhole new
+  pub rests_saved : {found : Images} (old new : Vault D) (r : Recovered) (s : Settled) (saved : Saved)
       → AreTold tells (parts_of old) found → Recovers found r → Some saved ≡ option_map saved_of r.save.newest
       → s.saved ≡ without_files saved → Some s.saved ≡ option_map saved_of s.save.newest
       → s.store ≡ r.store → s.decls ≡ r.decls → s.state ≡ r.state → ((key : Key) → get r.entries key ≡ None)
       → is_some (tells new.save) ≡ is_some (tells old.save) → new.snaps ≡ old.snaps
       → IsStored tells clock image_at new.save s.save.newest
-      → ((n : ℕ) (bank : D) → Contains all_banks n → disk_in new (Bank n) ≡ Some bank → tells bank ≡ Some [])
+      → AreEmpty tells new
       → (now : Images) × AreTold tells (parts_of new) now × SaysSettled now s
-  rests_saved {new = new}
-      {found = found}
-      old r s saved whole told is says without after store decls state none told_save snaps stored emptied =
+  rests_saved {found = found}
+      old new r s saved told is says without after store decls state none told_save snaps stored emptied =
       let was = point_says r.save.newest saved says in
       let new_point = point_says s.save.newest s.saved after in
       let p = was.0 in
@@ -80,7 +76,7 @@ module _ {D : Type 0} {tells : D → Option (List ℕ)} {clock : D → ℕ} {ima
         record {
           save = file.1;
           snaps = ap tells snaps ∙ told.snaps;
-          bank = λ n bank there. emptied n bank (listed_bank whole n bank there) there;
+          bank = emptied;
         },
         record {
           reading = settled_reading q is.reading;
@@ -96,18 +92,16 @@ module _ {D : Type 0} {tells : D → Option (List ℕ)} {clock : D → ℕ} {ima
       )
 
   -- and those of one that had none
-  pub rests_fresh : {new : Vault D} {found : Images} (old : Vault D) (r : Recovered) (s : Settled) (page : Page)
-      → IsWhole new
+  pub rests_fresh : {found : Images} (old new : Vault D) (r : Recovered) (s : Settled) (page : Page)
       → AreTold tells (parts_of old) found → Recovers found r → r.save.newest ≡ None
       → s.save.newest ≡ Some (point_of 1 first_saved)
       → s.store.pages ≡ page ∷ [] → IsFirstPage page.words (first_contents s.decls) → s.state ≡ r.state
       → is_some (tells new.save) ≡ is_some (tells old.save) → is_some (tells new.snaps) ≡ is_some (tells old.snaps)
       → IsStored tells clock image_at new.save s.save.newest → Holds tells new.snaps s.store.pages
-      → ((n : ℕ) (bank : D) → Contains all_banks n → disk_in new (Bank n) ≡ Some bank → tells bank ≡ Some [])
+      → AreEmpty tells new
       → (now : Images) × AreTold tells (parts_of new) now × SaysSettled now s
-  rests_fresh {new = new}
-      {found = found}
-      old r s page whole told is none newest pages first state told_save told_snaps stored holds emptied =
+  rests_fresh {found = found}
+      old new r s page told is none newest pages first state told_save told_snaps stored holds emptied =
       let q = point_of 1 first_saved in
       let c = first_contents s.decls in
       let fresh = recovers_fresh found r is none in
@@ -123,7 +117,7 @@ module _ {D : Type 0} {tells : D → Option (List ℕ)} {clock : D → ℕ} {ima
         record {
           save = file.1;
           snaps = snaps.1;
-          bank = λ n bank there. emptied n bank (listed_bank whole n bank there) there;
+          bank = emptied;
         },
         record {
           reading = first_reading q c;
@@ -136,6 +130,10 @@ module _ {D : Type 0} {tells : D → Option (List ℕ)} {clock : D → ℕ} {ima
               ∙ sym (no_first_value q c key first.first);
         },
       )
+
+-- where nothing is done, all is as it was
+pub same_none : {D : Type 0} (vault : Vault D) → SameDevices vault vault
+same_none vault = record { save = refl; snaps = refl; even = refl; odd = refl; ties = refl; cuts = refl }
 
 -- what two calls left as it was both together left
 pub same_then : {D : Type 0} {old mid new : Vault D} → SameDevices old mid → SameDevices mid new → SameDevices old new

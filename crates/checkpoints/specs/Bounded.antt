@@ -13,9 +13,11 @@ use Rattle.snapshot_store.specs.Places.{Cover, Tiles, Stands, StandsTo}
 use Rattle.snapshot_store.specs.Content.{format_of, IsPageOf}
 use Rattle.recovery_core.specs.SnapshotPages.{epoch_in, IsPageUpTo}
 
+-- a number within another
 pub le_yes : (a b : ℕ) → a ≤ b → nat_le a b ≡ true
 le_yes a b h = grind (arith, nat_tests)
 
+-- and one above it
 pub le_no : (a b : ℕ) → b < a → nat_le a b ≡ false
 le_no a b h = grind (arith, nat_tests)
 

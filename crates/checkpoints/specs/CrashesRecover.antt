@@ -148,12 +148,12 @@ first_page device words count fit front = record {
 }
 
 -- A fresh vault is settled: the first savepoint counts the first catalogue.
-pub fresh_recovers : {D : Type 0} (parts : Parts D) (other : Images) (q : Savepoint) (c : Contents)
+pub fresh_recovers : {D : Type 0} (parts : Parts D) (other : Images) (q : Savepoint) (c : Contents) (pages : List ℕ)
     (counted : ℕ → List ℕ) (was : Reading) (state : State) → was.catalogues ≡ [] → IsFirstPoint q
     → IsCatalogue 1 c → c.previous ≡ 0 → IsFirst c → length (catalogue_words c) ≡ 64
     → AllByRecursion (λ w. w < 2 ^ 64) (catalogue_words c) → ((key : Key) → get state key ≡ None)
-    → FoundOldOrNew None q [] (bytes_of (catalogue_words c)) counted parts other → StandsAsRead was other 0 state
-fresh_recovers parts other q c counted was state none first is previous begins size fit empty (inl old) = record {
+    → FoundOldOrNew None q pages (bytes_of (catalogue_words c)) counted parts other → StandsAsRead was other 0 state
+fresh_recovers parts other q c pages counted was state none first is previous begins size fit empty (inl old) = record {
   is = record {
     reading = record { point = None; pages = []; catalogues = []; lines = [] };
     is = record { names = old.0; counts = record { pages = refl; catalogues = refl; lines = refl } };
@@ -166,22 +166,6 @@ fresh_recovers parts other q c counted was state none first is previous begins s
     content = λ d s has stands content. absurd (in_none d (subst (λ cs. Contains cs d) none has));
   };
 }
-fresh_recovers parts other q c counted was state none first is previous begins size fit empty (inr new) =
+fresh_recovers parts other q c pages counted was state none first is previous begins size fit empty (inr new) =
     first_recoverable other q c was state none first new.0 is previous begins
     (first_page other.snaps (catalogue_words c) size fit new.1) empty
-
-pub fresh_leaves : {D : Type 0} {clock : D → ℕ} {image_at : D → ℕ → List ℕ → Type 0} {parts after : Parts D}
-    {from : Moments} (q : Savepoint) (c : Contents) (counted : ℕ → List ℕ) (was : Reading) (state : State)
-    → was.catalogues ≡ [] → IsFirstPoint q
-    → IsCatalogue 1 c → c.previous ≡ 0 → IsFirst c → length (catalogue_words c) ≡ 64
-    → AllByRecursion (λ w. w < 2 ^ 64) (catalogue_words c) → ((key : Key) → get state key ≡ None)
-    → IsSafe clock image_at from None q [] (bytes_of (catalogue_words c)) counted parts after
-    → LeavesSame clock image_at from was 0 state parts after
-fresh_leaves {after = after} q c counted was state none first is previous begins size fit empty safe = record {
-  keeps = safe.stays;
-  now = safe.instant;
-  ended = safe.ended;
-  recovers = λ at other since crash.
-      fresh_recovers after other q c counted was state none first is previous begins size fit empty
-      (safe.stops at other since crash);
-}

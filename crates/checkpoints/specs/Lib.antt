@@ -17,3 +17,6 @@ pub mod Bounded
 pub mod NextReading
 pub mod Overlays
 pub mod SettleRecords
+pub mod StoreAnswers
+pub mod SettleAnswers
+pub mod SettleLeaves

@@ -1,6 +1,6 @@
 -- What a run of the last entries makes of a state.
 use Rattle.std.proofs.Common.{◌≡◌, ℕ, Bool, true, false, List, [], ◌∷◌, Option, Some, None, inl, inr, refl, sym, ap}
-use Rattle.std.proofs.Common.{subst, ◌∙◌, arith}
+use Rattle.std.proofs.Common.{subst, ◌∙◌}
 use Rattle.std.specs.Prelude.{cond}
 use Rattle.std.specs.Cmp.{eq_by_cmp_equiv}
 use Rattle.std.specs.Ordering.{eq_by_cmp}
@@ -26,6 +26,7 @@ get-put_or_remove : (key q : Key) (o : Option ℕ) (s : State)
 get-put_or_remove key q (Some v) s = get-insert keys_total s key v q
 get-put_or_remove key q None s = get-remove keys_total s key q
 
+-- what the run says of a key, over what the state had there
 pub get-overlay : (s : State) (run : List Entry) (key : Key)
     → get (overlay s run) key ≡ value_over (change_for run key) (get s key)
 get-overlay s [] key = refl

@@ -3,7 +3,7 @@ use Rattle.std.proofs.Common.{◌≡◌, ◌*◌, ◌≤◌, ◌<◌, inl, inr, 
 use Rattle.std.proofs.lemmas.Bool.{cases_lt}
 use Rattle.std.proofs.lemmas.List.{length-take-le}
 use Rattle.outside.specs.declared.device.Device.TheVariants.{Bank}
-use Rattle.outside.specs.Disk.{Only, Runs}
+use Rattle.outside.specs.Disk.{Only}
 use Rattle.log_writer.specs.Newest.{names_one}
 use Rattle.log_writer.specs.Save.{Names}
 use Rattle.wire_form.specs.declared.savepoint.Savepoint.{Savepoint}

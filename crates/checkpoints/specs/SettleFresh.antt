@@ -34,6 +34,7 @@ pub record IsFresh (found : Images) (r : Recovered) : Type 0 where
   pub recoverable : IsRecoverable found 0 r.state
   pub empty : (key : Key) → get r.state key ≡ None
 
+-- so it is recovered where there is no savepoint
 pub recovers_fresh : (found : Images) (r : Recovered) → Recovers found r → r.save.newest ≡ None → IsFresh found r
 recovers_fresh found r is none =
     let point : is.reading.point ≡ None = sym is.point ∙ none in

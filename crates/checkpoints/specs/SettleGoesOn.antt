@@ -1,16 +1,12 @@
 -- What is known of each device behind a settling, so that the calls of a run go on from it.
-use Rattle.std.specs.Prelude.{◌≡◌, ◌≤◌, ◌<◌, ◌+◌, ◌^◌, ℕ, List, [], Option, Some, None, length}
+use Rattle.std.specs.Prelude.{◌≡◌, ◌≤◌, ◌+◌, ℕ, List, [], Option, Some}
 use Rattle.std.specs.Prelude.{Result, Ok, Err, MatchResult, OnOk}
 use Rattle.std.proofs.Common.{sym, ap, ◌∙◌, subst, arith}
-use Rattle.std.specs.FinMap.{get}
-use Rattle.std.specs.List.{AllByRecursion, Contains}
+use Rattle.std.specs.List.{Contains}
 use Rattle.outside.specs.Disk.{Only}
 use Rattle.serial_model.specs.State.{State}
-use Rattle.serial_model.specs.declared.key.Key.{Key}
-use Rattle.wire_form.specs.Bytes.{bytes_of}
-use Rattle.wire_form.specs.Pages.{Contents, catalogue_words}
 use Rattle.wire_form.specs.declared.savepoint.Savepoint.{Savepoint}
-use Rattle.log_writer.specs.Points.{sequence_of, point_of}
+use Rattle.log_writer.specs.Points.{sequence_of}
 use Rattle.joint_crashes.specs.Images.{Images}
 use Rattle.joint_crashes.specs.JointCrash.{Parts, Moments}
 use Rattle.recovery_core.specs.Recoverable.{counting, IsRecoverable, Reading}
@@ -21,8 +17,7 @@ use Rattle.joint_crashes.specs.Cutting.{AreCut, CutsLeave}
 use Rattle.joint_crashes.specs.Settling.{IsLeft, IsSettled, FoundOldOrNew, story_of}
 use Rattle.checkpoints.specs.SettledLaws.{SaysSame}
 use Rattle.checkpoints.specs.SettleFiles.{all_banks}
-use Rattle.checkpoints.specs.FreshLaws.{first_saved, is_first, IsFirstPage}
-use Rattle.checkpoints.specs.CrashesRecover.{HasFiles, settled_recovers, fresh_recovers}
+use Rattle.checkpoints.specs.CrashesRecover.{HasFiles, settled_recovers}
 use Rattle.joint_crashes.specs.Crashes.Instants.{open_ready}
 use Rattle.joint_crashes.specs.Crashes.Rested.{point_old, point_new}
 use Rattle.checkpoints.specs.RestsLaws.{rests_by}
@@ -106,28 +101,6 @@ module _ {D : Type 0} {tells : D → Option (List ℕ)} {clock : D → ℕ} {ima
         (subst (λ x. FoundOldOrNew x next rest.pages rest.pages rest.counted after other) named
         (old_or_new newest next rest.pages rest.pages rest.counted k at_least (omega (arith, at_most)) stands));
   }
-
--- the first savepoint was stored, and the log files were cut behind it
-pub fresh_goes_on : {D : Type 0} {clock : D → ℕ} {image_at : D → ℕ → List ℕ → Type 0} {old after : Parts D}
-    {from : Moments} (words : List ℕ) (c : Contents) (counted : ℕ → List ℕ) (was : Reading) (state : State)
-    → was.catalogues ≡ [] → ((n : ℕ) (bank : D) → after.banks n ≡ Some bank → Contains all_banks n)
-    → IsFirstPage words c → ((key : Key) → get state key ≡ None)
-    → IsSettled clock image_at (story_of None (point_of 1 first_saved) [] (bytes_of (catalogue_words c)) counted) from 0
-    1 all_banks old after
-    → GoesOn clock image_at from was 0 state 0 (Some (point_of 1 first_saved)) after
-fresh_goes_on {after = after} words c counted was state none listed page empty settled =
-    let next = point_of 1 first_saved in
-    let bytes = bytes_of (catalogue_words c) in
-    record {
-      story = story_of None next [] bytes counted;
-      told = settled.told;
-      opened = λ n bank there. settled.empty n bank (listed n bank there) there;
-      newest_is = point_new None next [] bytes counted;
-      stands = λ k other at_least at_most stands. fresh_recovers after other next c counted was state none is_first
-          page.catalogue page.previous page.first (ap length (sym page.words_are) ∙ page.count)
-          (subst (AllByRecursion (λ w. w < 2 ^ 64)) page.words_are page.fit) empty
-          (old_or_new None next [] bytes counted k at_least at_most stands);
-    }
 
 -- Behind a settling nothing that counts is pending, where the save has one image.
 pub rests_settled : {D : Type 0} {clock : D → ℕ} {image_at : D → ℕ → List ℕ → Type 0} {from : Moments} {was : Reading}

@@ -43,6 +43,7 @@ no_last (e ∷ es) none =
 abbrev pub without_files : Saved → Saved
 without_files s = record s { lengths = replicate 16 0 }
 
+-- they are in their ranges
 pub is_without_files : (s : Saved) → IsSaved s → IsSaved (without_files s)
 is_without_files s is = record {
   first = is.first;
@@ -120,6 +121,7 @@ zeros [] all n = refl
 zeros (x ∷ xs) all zero = all.0
 zeros (x ∷ xs) all (suc n) = zeros xs all.1 n
 
+-- a savepoint with these lengths counts nothing of any log file
 pub all_zero : (p : Savepoint) (s : Saved) → s ≡ saved_of p → AllByRecursion (λ n. n ≡ 0) s.lengths → (n : ℕ)
     → counted_of (Some p) n ≡ 0
 all_zero p s is all n = ap (λ (x : Saved). get_or x.lengths n 0) (sym is) ∙ zeros s.lengths all n

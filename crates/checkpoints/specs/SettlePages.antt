@@ -39,6 +39,7 @@ same_length : (decls : List Decl) → length (map without_root decls) ≡ length
 same_length [] = refl
 same_length (d ∷ ds) = let rest = same_length ds in omega arith
 
+-- it is a catalogue on page 1, where they are declarations whose ids rise
 pub is_first_catalogue : (decls : List Decl) → length decls ≤ 16 → AllByRecursion IsDecl decls
     → Rises ◌<◌ (map id_of decls)
     → IsCatalogue 1 (first_contents decls)
@@ -50,5 +51,6 @@ is_first_catalogue decls few all rising = record {
   rising = subst (Rises ◌<◌) (sym (same_ids decls)) rising;
 }
 
+-- and the first one of all
 pub begins_empty : (decls : List Decl) → IsFirst (first_contents decls)
 begins_empty decls = record { epoch = refl; empty = no_roots decls }

@@ -1,44 +1,27 @@
 -- What a settling gives of a database: a savepoint that counts nothing of the log files, which are empty, over the
 -- pages and the state that were recovered.
-use Rattle.std.specs.Prelude.{◌≡◌, ◌==◌, ◌<◌, ◌≤◌, ◌+◌, ℕ, List, [], ◌∷◌, Option, Some, None, true}
-use Rattle.std.specs.Prelude.{if◌then◌else◌, IfSome, IfNone, map, filter, length, replicate}
+use Rattle.std.specs.Prelude.{◌≡◌, ◌==◌, ℕ, List, [], ◌∷◌, Option, Some, None}
+use Rattle.std.specs.Prelude.{if◌then◌else◌, filter, replicate}
 use Rattle.std.proofs.Common.{sym, ap, ◌∙◌}
 use Rattle.std.specs.FinMap.{get}
-use Rattle.std.specs.List.{Contains, list_all}
-use Rattle.std.specs.List.Sorted.{IsPermutation}
+use Rattle.std.specs.List.{list_all}
 use Rattle.std.specs.Option.{option_map}
-use Rattle.outside.specs.Disk.{IfTold}
-use Rattle.outside.specs.Fronts.{AllBegin}
-use Rattle.log_writer.specs.Vault.{disk_in, IsWhole}
-use Rattle.outside.specs.declared.device.Device.TheVariants.{Bank}
 use Rattle.log_writer.specs.declared.vault.Vault.{Vault}
-use Rattle.serial_model.specs.Keys.{id_of}
 use Rattle.serial_model.specs.declared.decl.Decl.{Decl}
 use Rattle.serial_model.specs.declared.key.Key.{Key}
 use Rattle.serial_model.specs.declared.number.Commit.{Commit}
-use Rattle.wire_form.specs.Items.{Rises}
 use Rattle.wire_form.specs.Pages.{catalogue_words}
-use Rattle.log_writer.specs.Points.{IsSaved, saved_of, sequence_of}
-use Rattle.log_writer.specs.Save.{IsStored}
+use Rattle.log_writer.specs.Points.{saved_of}
 use Rattle.log_writer.specs.declared.saved.Saved.{Saved}
 use Rattle.snapshot_store.specs.Content.{words_of}
-use Rattle.snapshot_store.specs.Store.{bytes_of_pages, Holds}
-use Rattle.recovery_core.specs.declared.recovered.Recovered.{Recovered}
 use Rattle.checkpoints.specs.declared.without_entries.Settled.{Settled}
 use Rattle.recovery_core.specs.Catalogues.{newest_decls, newest_epoch}
-use Rattle.joint_crashes.specs.Cutting.{AreToldIn}
 use Rattle.checkpoints.specs.FreshLaws.{first_saved}
 use Rattle.joint_crashes.specs.Images.{Images, epoch_of}
-use Rattle.joint_crashes.specs.JointCrash.{Moments, parts_of}
 use Rattle.recovery_core.specs.LogEntries.{logged, counts, last_of}
 use Rattle.recovery_core.specs.Recoverable.{Reading, IsReading, IsRecoverable, snapshot_value, value_over}
-use Rattle.recovery_core.specs.Recovered.{Recovers}
-use Rattle.joint_crashes.specs.Resting.{IsResting, HasNoRecords, AreTold}
-use Rattle.checkpoints.specs.SettleFiles.{all_banks}
 use Rattle.checkpoints.specs.SettleLaws.{without_files, point_says}
-use Rattle.checkpoints.specs.SettleGoesOn.{GoesOn}
 use Rattle.checkpoints.specs.SettlePages.{first_contents}
-use Rattle.joint_crashes.specs.SettleRests.{RestsSince}
 
 -- what its savepoint says: the same as before, with nothing counted of the log files, or, where there was none, what
 -- the first one says
@@ -81,44 +64,6 @@ settled_recoverable found s is says =
           (filter (counts (newest_epoch reading.catalogues) (epoch_of reading.point)) (logged lines)))
           (snapshot_value reading key)) (sym is.lines);
     }
-
--- What is handed on of a database that was recovered so, for these storages, and what its devices are then.
-pub record Settles {D : Type 0} (tells : D → Option (List ℕ)) (clock : D → ℕ) (image_at : D → ℕ → List ℕ → Type 0)
-    (r : Recovered) (given : List Decl) (old new : Vault D) (s : Settled) : Type 0 where
-  pub whole : IsWhole new
-  -- the savepoint
-  pub saved : s.saved ≡ settled_saved r.saved
-  pub lengths : s.saved.lengths ≡ replicate 16 0
-  pub epoch : s.saved.epoch ≡ r.epoch
-  pub ranges : IsSaved s.saved
-  pub says : Some s.saved ≡ option_map saved_of s.save.newest
-  pub sequence : sequence_of s.save.newest ≡ sequence_of r.save.newest + stores_due r.saved
-  pub up : s.save.down ≡ None
-  pub stored : IsStored tells clock image_at new.save s.save.newest
-  -- the pages, which are as durable as they were; the first page of all is durable
-  pub sound : s.store.sound ≡ true
-  pub pages : words_of s.store.pages ≡ settled_pages r.saved (words_of r.store.pages) s.decls
-  pub count : length s.store.pages ≡ s.saved.count
-  pub holds : Holds tells new.snaps s.store.pages
-  pub durable : IfTold (tells old.snaps) (λ _.
-      AllBegin (image_at old.snaps (clock old.snaps)) (bytes_of_pages r.store.pages)
-      → AllBegin (image_at new.snaps (clock new.snaps)) (bytes_of_pages s.store.pages))
-  -- the state and the storages
-  pub state : s.state ≡ r.state
-  pub declared : IfNone r.saved (IsPermutation given s.decls)
-  pub kept : IfSome r.saved (λ _. s.decls ≡ r.decls)
-  pub rising : Rises ◌<◌ (map id_of s.decls)
-  -- the log files
-  pub emptied : AreToldIn tells all_banks (parts_of old) → (n : ℕ) (bank : D) → Contains all_banks n
-      → disk_in new (Bank n) ≡ Some bank → tells bank ≡ Some []
-  -- where devices told what was recovered, they tell what is handed on
-  pub rests : (found : Images) → AreTold tells (parts_of old) found → Recovers found r
-      → (now : Images) × AreTold tells (parts_of new) now × SaysSettled now s
-  -- and for the stops of a run: what is known of each device since the moments from which they rested
-  pub goes_on : (found : Images) (from : Moments) → (rest : IsResting clock image_at (parts_of old))
-      → HasNoRecords (parts_of old) → AreTold tells (parts_of old) found
-      → RestsSince clock image_at from rest.point rest.pages rest.counted (parts_of old) → (is : Recovers found r)
-      → GoesOn clock image_at from is.reading r.epoch r.state (sequence_of r.save.newest) s.save.newest (parts_of new)
 
 -- the devices are as they were, and nothing was recorded of them
 pub record SameDevices {D : Type 0} (old new : Vault D) : Type 0 where

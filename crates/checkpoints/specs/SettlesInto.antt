@@ -1,15 +1,13 @@
 -- What settling gives of a database: a savepoint that counts nothing of the log files, which are empty, over pages
 -- whose newest snapshot has the state that was recovered.
-use Rattle.std.specs.Prelude.{◌≡◌, ◌⊎◌, ℕ, ◌+◌, ◌<◌, ◌++◌, List, [], Option, Some, None, true}
+use Rattle.std.specs.Prelude.{◌≡◌, ◌⊎◌, ℕ, ◌+◌, ◌<◌, ◌++◌, List, Option, Some, None, true}
 use Rattle.std.specs.Prelude.{IfSome, IfNone, map, length, replicate}
 use Rattle.std.proofs.Common.{subst}
-use Rattle.std.specs.List.{Contains}
 use Rattle.std.specs.List.Sorted.{IsPermutation}
 use Rattle.std.specs.Option.{option_map}
 use Rattle.outside.specs.Disk.{IfTold}
 use Rattle.outside.specs.Fronts.{AllBegin}
-use Rattle.log_writer.specs.Vault.{disk_in, IsWhole}
-use Rattle.outside.specs.declared.device.Device.TheVariants.{Bank}
+use Rattle.log_writer.specs.Vault.{IsWhole}
 use Rattle.log_writer.specs.declared.vault.Vault.{Vault}
 use Rattle.serial_model.specs.Keys.{id_of}
 use Rattle.serial_model.specs.State.{State}
@@ -23,7 +21,6 @@ use Rattle.log_writer.specs.declared.saved.Saved.{Saved}
 use Rattle.snapshot_store.specs.Content.{words_of}
 use Rattle.snapshot_store.specs.Store.{bytes_of_pages, Holds}
 use Rattle.root_composer.specs.Composition.{IsComposed}
-use Rattle.joint_crashes.specs.Cutting.{AreToldIn}
 use Rattle.joint_crashes.specs.Images.{Images}
 use Rattle.joint_crashes.specs.JointCrash.{Moments, parts_of}
 use Rattle.recovery_core.specs.NewestSnapshot.{IsNewestSnapshot}
@@ -31,7 +28,7 @@ use Rattle.recovery_core.specs.Recovered.{Recovers}
 use Rattle.joint_crashes.specs.Resting.{IsResting, HasNoRecords, AreTold}
 use Rattle.checkpoints.specs.Settled.{settled_saved, settled_pages, stores_due, SaysSettled, settled_recoverable}
 use Rattle.recovery_core.specs.Recoverable.{IsRecoverable}
-use Rattle.checkpoints.specs.SettleFiles.{all_banks}
+use Rattle.checkpoints.specs.Files.{AllTell, AreEmpty}
 use Rattle.checkpoints.specs.SettleGoesOn.{GoesOn}
 use Rattle.joint_crashes.specs.SettleRests.{RestsSince}
 use Rattle.recovery_core.specs.declared.recovered.Recovered.{Recovered}
@@ -102,8 +99,7 @@ pub record SettlesInto {D : Type 0} (tells : D → Option (List ℕ)) (clock : D
   pub kept : IfSome r.saved (λ _. s.decls ≡ r.decls)
   pub rising : Rises ◌<◌ (map id_of s.decls)
   -- the log files
-  pub emptied : AreToldIn tells all_banks (parts_of old) → (n : ℕ) (bank : D) → Contains all_banks n
-      → disk_in new (Bank n) ≡ Some bank → tells bank ≡ Some []
+  pub emptied : AllTell tells (parts_of old) → AreEmpty tells new
   -- where devices told what was recovered, they tell what is handed on
   pub rests : (found : Images) → AreTold tells (parts_of old) found → Recovers found r
       → (now : Images) × AreTold tells (parts_of new) now × SaysSettled now s
@@ -122,6 +118,7 @@ pub record StandsSettled {D : Type 0} (tells : D → Option (List ℕ)) (r : Rec
   pub says : SaysSettled now s
   pub recoverable : IsRecoverable now r.epoch r.state
 
+-- they do behind each settling
 pub settled_stands : {D : Type 0} {tells : D → Option (List ℕ)} {clock : D → ℕ} {image_at : D → ℕ → List ℕ → Type 0}
     {given : List Decl} {old new : Vault D} (r : Recovered) (s : Settled) (found : Images)
     → SettlesInto tells clock image_at r given old new s → AreTold tells (parts_of old) found → Recovers found r

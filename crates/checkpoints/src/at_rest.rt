@@ -1,8 +1,7 @@
 // A vault with a savepoint of which no entry counts is settled: its log files are emptied.
-ghost use Rattle.std.specs.Prelude.{◌≡◌, ◌+◌, ◌-◌, ◌^◌, ◌<◌, ◌≤◌, ℕ, [], Some, None};
-ghost use Rattle.std.specs.Prelude.{Err, OnOk, is_ok, is_some};
-ghost use Rattle.std.specs.List.{Contains};
-ghost use Rattle.log_writer.specs.Vault.{disk_in, IsWhole};
+ghost use Rattle.std.specs.Prelude.{◌≡◌, ◌+◌, ◌≤◌, ℕ, [], Some};
+ghost use Rattle.std.specs.Prelude.{Err, OnOk, is_ok};
+ghost use Rattle.log_writer.specs.Vault.{IsWhole};
 ghost use Rattle.serial_model.specs.State.{State};
 ghost use Rattle.wire_form.specs.declared.savepoint.Savepoint.{Savepoint};
 ghost use Rattle.log_writer.specs.Points.{IsSaved, point_of, sequence_of};
@@ -14,14 +13,16 @@ ghost use Rattle.joint_crashes.specs.JointCrash.{Moments, parts_of};
 ghost use Rattle.joint_crashes.specs.SettleRests.{RestsSince};
 ghost use Rattle.joint_crashes.specs.Resting.{IsResting, HasNoRecords, AreTold};
 ghost use Rattle.checkpoints.specs.CrashesRecover.{LeavesSame};
-ghost use Rattle.joint_crashes.specs.Cutting.{AreToldIn};
+ghost use Rattle.checkpoints.specs.Files.{AllTell, AreEmpty};
 ghost use Rattle.checkpoints.specs.SettleFiles.{all_banks};
+ghost use Rattle.checkpoints.specs.SettleLeaves.{CanStore, LeavesWhole, StandsEmptied};
+ghost use Rattle.checkpoints.specs.StoreAnswers.{StoreAnswers};
 ghost use Rattle.joint_crashes.specs.RecordsAdded.{RecordsAdded};
 ghost use Rattle.checkpoints.specs.SettleGoesOn.{GoesOn};
 ghost use Rattle.joint_crashes.specs.VaultReads.{RoseIn, AreQuiet};
 
 use joint_crashes::{BANKS, StoreAndCutFault, cut_banks, store_and_cut};
-use log_writer::{Save, SaveFault, Saved, Vault};
+use log_writer::{Save, Saved, Vault};
 use outside::{Device, Disk};
 
 /// Stores a savepoint that says the same as the newest one and counts nothing of the log files, and then
@@ -32,13 +33,9 @@ pub(crate) fn settle_lengths<D: Disk>(
     vault: &mut Vault<D>,
     saved: Saved,
 ) -> Result<(), StoreAndCutFault>
-    requires whole { IsWhole vault.old }
+    requires can { CanStore D.tells D.clock D.image_at save.old vault.old }
     requires saved { IsSaved saved }
     requires nothing { (sequence n : ℕ) → counted_of (Some (point_of sequence saved)) n ≡ 0 }
-    requires up { save.old.down ≡ None }
-    requires stored { IsStored D.tells D.clock D.image_at vault.old.save save.old.newest }
-    requires tie_room { 1 ≤ vault.old.ties.room }
-    requires cut_room { 16 ≤ vault.old.cuts.room }
     ensures crashes { (found : Images) (from : Moments) (epoch : ℕ) (state : State) (p : Savepoint)
         → (rest : IsResting D.clock D.image_at (parts_of vault.old)) → HasNoRecords (parts_of vault.old)
         → AreTold D.tells (parts_of vault.old) found
@@ -56,25 +53,11 @@ pub(crate) fn settle_lengths<D: Disk>(
         → OnOk result (GoesOn D.clock D.image_at from is.reading epoch state
         (sequence_of save.old.newest) (Some (point_of (sequence_of save.old.newest + 1) saved))
         (parts_of vault.new)) }
-    ensures save_failed { result ≡ Err (StoreAndCutFault.Store SaveFault.Device)
-        → RoseIn D.faults Device.Save vault.old vault.new }
-    ensures bank_failed { (n : ℕ) → result ≡ Err (StoreAndCutFault.Cut n)
-        → RoseIn D.faults (Device.Bank n) vault.old vault.new }
-    ensures limit { (sequence : ℕ) → result ≡ Err (StoreAndCutFault.Store (SaveFault.Limit sequence))
-        → (sequence ≡ sequence_of save.old.newest) × (sequence ≡ 2 ^ 63 - 1) × (vault.new ≡ vault.old) }
-    ensures last { sequence_of save.old.newest ≡ 2 ^ 63 - 1
-        → result ≡ Err (StoreAndCutFault.Store (SaveFault.Limit (sequence_of save.old.newest))) }
-    ensures never_down { (count : ℕ) → result ≡ Err (StoreAndCutFault.Store (SaveFault.Down count)) → ⊥ }
-    ensures stores { OnOk result ((save.new.newest ≡ Some (point_of (sequence_of save.old.newest + 1) saved))
-        × (save.new.down ≡ None)
-        × IsStored D.tells D.clock D.image_at vault.new.save save.new.newest) }
-    ensures emptied { AreToldIn D.tells all_banks (parts_of vault.old) → OnOk result ((n : ℕ) (bank : D)
-        → Contains all_banks n → disk_in vault.new (Device.Bank n) ≡ Some bank → D.tells bank ≡ Some []) }
-    ensures quiet { OnOk result (AreQuiet D.faults vault.old vault.new) }
-    ensures whole { IsWhole vault.new }
-    ensures told { is_some (D.tells vault.new.save) ≡ is_some (D.tells vault.old.save) }
+    ensures answers { StoreAnswers D.faults (sequence_of save.old.newest) vault.old vault.new result }
+    ensures newest { OnOk result (save.new.newest ≡ Some (point_of (sequence_of save.old.newest + 1) saved)) }
+    ensures stands { OnOk result (StandsEmptied D.tells D.clock D.image_at save.new vault.old vault.new) }
     ensures snaps { vault.new.snaps ≡ vault.old.snaps }
-    ensures records { RecordsAdded (sequence_of save.old.newest) 1 all_banks (is_ok result) vault.old vault.new }
+    ensures leaves { LeavesWhole (sequence_of save.old.newest) 1 (is_ok result) vault.old vault.new }
 {
     store_and_cut(save, vault, saved, &BANKS)
 }
@@ -101,8 +84,7 @@ pub(crate) fn cut_uncounted<D: Disk>(save: &Save, vault: &mut Vault<D>) -> Resul
         → save.now.newest ≡ Some p → ((n : ℕ) → counted_of (Some p) n ≡ 0)
         → OnOk result (GoesOn D.clock D.image_at from is.reading epoch state
         (sequence_of save.now.newest) save.now.newest (parts_of vault.new)) }
-    ensures emptied { AreToldIn D.tells all_banks (parts_of vault.old) → OnOk result ((n : ℕ) (bank : D)
-        → Contains all_banks n → disk_in vault.new (Device.Bank n) ≡ Some bank → D.tells bank ≡ Some []) }
+    ensures emptied { AllTell D.tells (parts_of vault.old) → OnOk result (AreEmpty D.tells vault.new) }
     ensures device { (n : ℕ) → result ≡ Err n → RoseIn D.faults (Device.Bank n) vault.old vault.new }
     ensures others { (vault.new.save ≡ vault.old.save) × (vault.new.snaps ≡ vault.old.snaps)
         × (vault.new.ties ≡ vault.old.ties) }

@@ -11,7 +11,7 @@ ghost use Rattle.checkpoints.specs.SettlePages.{first_contents};
 
 use crate::settlement::words_fit;
 use lists::Memory;
-use serial_model::Decl;
+use serial_model::{Decl, id_of};
 use std::alloc::Global;
 use wire_form::{Page, PageKind, Stored, catalogue_words};
 
@@ -37,14 +37,6 @@ pub(crate) fn first_page(alloc: Global, decls: &[Decl]) -> Result<Page, Memory>
         kind: PageKind::Catalogue,
         words,
     })
-}
-
-fn id_of(decl: &Decl) -> u8
-    ensures { result ≡ id_of decl.now }
-{
-    match *decl {
-        Decl::Array { id, .. } | Decl::Tree { id } => id,
-    }
 }
 
 /// The declarations in order of their ids, as a catalogue has them.

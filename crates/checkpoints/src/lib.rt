@@ -4,11 +4,11 @@
 //! - [`settle`] brings a database that was recovered to where a run begins. Where log entries count above its newest
 //!   snapshot, it composes a new one of the saved epoch. Behind `Ok` the devices say what is handed on, and the log
 //!   files are empty (`settles`, record `SettlesInto`). Whatever it answers, each crash of all devices since they rest
-//!   leaves the epoch and the state that were recovered (`crashes`, record `LeavesSame`); after each other answer but
-//!   a device's fault the devices are as they were (`untouched`).
-//!   Each snapshot that the devices had they have still, and one more at most, of what was kept (`snapshots`).
-//! - Its refusals have their numbers (`deep`, `limit`, `sequence`), come in this order, before any write, and come
-//!   exactly where they are due (`fits`, `last`).
+//!   leaves the epoch and the state that were recovered (`leaves`, record `SettleLeaves`). Each snapshot that the devices
+//!   had they have still, and one more at most, of what was kept (`snapshots`).
+//! - It refuses, in this order and before any write, a page that would stand too deep, more pages than are let in, and a
+//!   store behind the last sequence, each exactly where it is due and with its number; then the devices are as they were
+//!   (`answers`, by cases of the answer in `specs/SettleAnswers.antt`).
 //!
 //! Order of writes: the new pages, their sync, the savepoint that names them and counts nothing of the log files, the
 //! cuts of the log files. A stop between two of them finds the old savepoint with all that it counts, or the new one.
@@ -23,7 +23,6 @@ mod at_rest;
 mod due;
 mod fault;
 mod first_page;
-mod fresh;
 mod settlement;
 mod without_entries;
 mod writing;

@@ -1,34 +1,24 @@
 // A vault that was recovered is settled, also where log entries count above its newest snapshot.
-ghost use Rattle.std.specs.Prelude.{◌≡◌, ◌⊎◌, ◌≢◌, ℕ, ◌+◌, ◌*◌, ◌-◌, ◌^◌, ◌<◌, ◌≤◌, Some, None, Ok, Err, IfSome};
-ghost use Rattle.std.specs.Prelude.{IfOk, OnOk, OnErr};
-ghost use Rattle.std.specs.Prelude.{is_ok, length};
+ghost use Rattle.std.specs.Prelude.{◌≡◌, ◌-◌, ◌^◌, ◌<◌, ◌≤◌, Some, Err, IfOk, OnOk, OnErr, is_ok, length};
 ghost use Rattle.std.specs.List.{AllByRecursion};
-ghost use Rattle.log_writer.specs.Vault.{IsWhole};
-ghost use Rattle.outside.specs.declared.device.Device.{Device as TheDevice};
 ghost use Rattle.serial_model.specs.Decls.{AreDecls};
 ghost use Rattle.log_writer.specs.Points.{sequence_of};
 ghost use Rattle.log_writer.specs.Save.{IsStored};
+ghost use Rattle.log_writer.specs.Vault.{IsWhole};
 ghost use Rattle.snapshot_store.specs.Store.{Holds};
-ghost use Rattle.joint_crashes.specs.RecordsAdded.{RecordsAdded};
-ghost use Rattle.checkpoints.specs.SettleFiles.{all_banks};
-ghost use Rattle.checkpoints.specs.SettleRecords.{SettleRecords};
-ghost use Rattle.checkpoints.specs.CrashesRecover.{LeavesSame};
 ghost use Rattle.joint_crashes.specs.Images.{Images};
-ghost use Rattle.joint_crashes.specs.JointCrash.{Moments, parts_of};
 ghost use Rattle.recovery_core.specs.Recovered.{Recovers, IsUp};
-ghost use Rattle.joint_crashes.specs.Resting.{IsResting, HasNoRecords, AreTold};
-ghost use Rattle.checkpoints.specs.Settled.{SameDevices, SaysSettled};
-ghost use Rattle.joint_crashes.specs.SettleRests.{RestsSince};
-ghost use Rattle.joint_crashes.specs.VaultReads.{RoseIn, AreQuiet};
-ghost use Rattle.checkpoints.specs.Due.{SomeCount, WouldBeDeep, WouldBeMany, ComposesWithin};
-ghost use Rattle.checkpoints.specs.Due.{OfSaved, IsOverLimit, IsWithin, IsStoreDue};
-ghost use Rattle.checkpoints.specs.SettlesInto.{SettlesInto};
 ghost use Rattle.recovery_core.specs.SnapshotsKept.{KeepsSnapshots};
+ghost use Rattle.checkpoints.specs.Due.{SomeCount};
+ghost use Rattle.checkpoints.specs.SettleAnswers.{SettleAnswers};
+ghost use Rattle.checkpoints.specs.SettleLeaves.{SettleLeaves};
+ghost use Rattle.checkpoints.specs.Settled.{SaysSettled};
+ghost use Rattle.checkpoints.specs.SettlesInto.{SettlesInto};
 ghost use Rattle.checkpoints.specs.Written.{FitsDevice};
 
 use crate::SettleFault;
 use crate::due::{due_pages, saved_due};
-use crate::without_entries::{Settled, make_room, settle_without_entries};
+use crate::without_entries::{Settled, reserve_records, settle_without_entries};
 use crate::writing::write_snapshot;
 use lists::OrMemory;
 use log_writer::{Save, Saved, Vault};
@@ -95,37 +85,13 @@ fn settle_entries<D: Disk>(
     requires stored { IsStored D.tells D.clock D.image_at vault.old.save recovered.save.newest }
     requires holds { Holds D.tells vault.old.snaps recovered.store.pages }
     requires snap { snap ≤ 65536 }
-    ensures crashes { (found : Images) (from : Moments)
-        → (rest : IsResting D.clock D.image_at (parts_of vault.old)) → HasNoRecords (parts_of vault.old)
-        → AreTold D.tells (parts_of vault.old) found
-        → RestsSince D.clock D.image_at from rest.point rest.pages rest.counted (parts_of vault.old)
-        → (is : Recovers found recovered)
-        → LeavesSame D.clock D.image_at from is.reading recovered.epoch recovered.state
-        (parts_of vault.old) (parts_of vault.new) }
+    ensures leaves { SettleLeaves D.tells D.clock D.image_at recovered (is_ok result) vault.old vault.new }
     ensures settles { IfOk result (λ s.
         SettlesInto D.tells D.clock D.image_at recovered decls.now vault.old vault.new s) }
-    ensures room { IfOk result (λ s. s.saved.count ≤ snap) }
-    ensures deep { result ≡ Err (OrMemory.Fault SettleFault.Deep) → WouldBeDeep recovered saved }
-    ensures limit { (have new room : ℕ) → result ≡ Err (OrMemory.Fault (SettleFault.Limit have new room))
-        → (have ≡ saved.count) × (room ≡ snap) × WouldBeMany recovered saved snap new }
-    ensures fits { (result ≡ Err OrMemory.Memory → ⊥) → (result ≡ Err (OrMemory.Fault SettleFault.Deep) → ⊥)
-        → ((have new room : ℕ) → result ≡ Err (OrMemory.Fault (SettleFault.Limit have new room)) → ⊥)
-        → ComposesWithin recovered saved snap }
-    ensures sequence { (sequence : ℕ) → result ≡ Err (OrMemory.Fault (SettleFault.Sequence sequence))
-        → (sequence ≡ sequence_of recovered.save.newest) × (sequence ≡ 2 ^ 63 - 1) }
-    ensures last { sequence_of recovered.save.newest ≡ 2 ^ 63 - 1 → (result ≡ Err OrMemory.Memory)
-        ⊎ (result ≡ Err (OrMemory.Fault SettleFault.Deep))
-        ⊎ ((have : ℕ) × (new : ℕ) × (room : ℕ) × (result ≡ Err (OrMemory.Fault (SettleFault.Limit have new room))))
-        ⊎ (result ≡ Err (OrMemory.Fault (SettleFault.Sequence (sequence_of recovered.save.newest)))) }
-    ensures device { (device : TheDevice) → result ≡ Err (OrMemory.Fault (SettleFault.Device device))
-        → RoseIn D.faults device vault.old vault.new }
-    ensures quiet { OnOk result (AreQuiet D.faults vault.old vault.new) }
-    ensures untouched { ((device : TheDevice) → result ≡ Err (OrMemory.Fault (SettleFault.Device device)) → ⊥)
-        → OnErr result (SameDevices vault.old vault.new) }
-    ensures records { RecordsAdded (sequence_of recovered.save.newest) 1 all_banks (is_ok result)
-        vault.old vault.new }
+    ensures within { 1 ≤ snap → IfOk result (λ s. s.saved.count ≤ snap) }
+    ensures answers { SettleAnswers D.faults recovered snap vault.old vault.new result }
 {
-    make_room(vault)?;
+    reserve_records(vault)?;
     let pages = due_pages(alloc, &recovered, &saved, snap)?;
     let pages = pages.as_slice();
     pages_fit(&recovered.store);
@@ -176,36 +142,13 @@ pub fn settle<D: Disk>(
     requires holds { Holds D.tells vault.old.snaps recovered.store.pages }
     requires decls { AreDecls decls.now }
     requires snap { snap ≤ 65536 }
-    ensures crashes { (found : Images) (from : Moments)
-        → (rest : IsResting D.clock D.image_at (parts_of vault.old)) → HasNoRecords (parts_of vault.old)
-        → AreTold D.tells (parts_of vault.old) found
-        → RestsSince D.clock D.image_at from rest.point rest.pages rest.counted (parts_of vault.old)
-        → (is : Recovers found recovered)
-        → LeavesSame D.clock D.image_at from is.reading recovered.epoch recovered.state
-        (parts_of vault.old) (parts_of vault.new) }
+    ensures leaves { SettleLeaves D.tells D.clock D.image_at recovered (is_ok result) vault.old vault.new }
     ensures settles { IfOk result (λ s.
         SettlesInto D.tells D.clock D.image_at recovered decls.now vault.old vault.new s) }
-    ensures room { 1 ≤ snap → IfOk result (λ s. s.saved.count ≤ snap) }
     ensures snapshots { IfOk result (λ s. (found now : Images) (is : Recovers found recovered)
         (says : SaysSettled now s) → KeepsSnapshots is.reading says.reading recovered.epoch recovered.state) }
-    ensures deep { result ≡ Err (OrMemory.Fault SettleFault.Deep) → OfSaved recovered (WouldBeDeep recovered) }
-    ensures limit { (have new room : ℕ) → result ≡ Err (OrMemory.Fault (SettleFault.Limit have new room))
-        → OfSaved recovered (λ p. (have ≡ p.count) × (room ≡ snap) × IsOverLimit recovered p snap new) }
-    ensures fits { (result ≡ Err OrMemory.Memory → ⊥) → (result ≡ Err (OrMemory.Fault SettleFault.Deep) → ⊥)
-        → ((have new room : ℕ) → result ≡ Err (OrMemory.Fault (SettleFault.Limit have new room)) → ⊥)
-        → IfSome recovered.saved (IsWithin recovered snap) }
-    ensures sequence { (sequence : ℕ) → result ≡ Err (OrMemory.Fault (SettleFault.Sequence sequence))
-        → (sequence ≡ sequence_of recovered.save.newest) × (sequence ≡ 2 ^ 63 - 1) × IsStoreDue recovered }
-    ensures last { sequence_of recovered.save.newest ≡ 2 ^ 63 - 1 → IsStoreDue recovered
-        → IfSome recovered.saved (IsWithin recovered snap)
-        → (result ≡ Err OrMemory.Memory)
-        ⊎ (result ≡ Err (OrMemory.Fault (SettleFault.Sequence (sequence_of recovered.save.newest)))) }
-    ensures device { (device : TheDevice) → result ≡ Err (OrMemory.Fault (SettleFault.Device device))
-        → RoseIn D.faults device vault.old vault.new }
-    ensures quiet { OnOk result (AreQuiet D.faults vault.old vault.new) }
-    ensures untouched { ((device : TheDevice) → result ≡ Err (OrMemory.Fault (SettleFault.Device device)) → ⊥)
-        → OnErr result (SameDevices vault.old vault.new) }
-    ensures records { SettleRecords recovered (is_ok result) vault.old vault.new }
+    ensures within { 1 ≤ snap → IfOk result (λ s. s.saved.count ≤ snap) }
+    ensures answers { SettleAnswers D.faults recovered snap vault.old vault.new result }
 {
     match saved_due(&recovered) {
         None => settle_without_entries(alloc, vault, recovered, decls, snap),

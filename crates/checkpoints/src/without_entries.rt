@@ -1,50 +1,40 @@
 // A vault that was recovered is settled, so that a run can begin: nothing of the log files counts, and they are
 // empty.
-ghost use Rattle.std.specs.Prelude.{◌≡◌, ◌⊎◌, ◌+◌, ◌-◌, ◌^◌, ◌<◌, ◌≤◌, ◌↔◌, ◌==◌, if◌then◌else◌};
-ghost use Rattle.std.specs.Prelude.{ℕ, [], ◌∷◌, Some, None, Err, IfOk, OnOk, OnErr, IsTrue};
-ghost use Rattle.std.specs.Prelude.{map, true, false, is_ok, is_some, IfSome, IsSome};
-ghost use Rattle.std.specs.List.Sorted.{IsPermutation};
-ghost use Rattle.outside.specs.Disk.{IfTold};
-ghost use Rattle.outside.specs.Fronts.{AllBegin};
-ghost use Rattle.serial_model.specs.Decls.{AreDecls};
-ghost use Rattle.serial_model.specs.Keys.{id_of};
-ghost use Rattle.wire_form.specs.Items.{Rises};
-ghost use Rattle.snapshot_store.specs.Store.{bytes_of_pages, Holds};
-ghost use Rattle.checkpoints.specs.declared.fault.SettleFault.{SettleFault as TheFault};
-ghost use Rattle.wire_form.specs.declared.page.Page.{Page};
-ghost use Rattle.checkpoints.specs.Due.{NoneCount};
-ghost use Rattle.checkpoints.specs.FreshLaws.{first_saved, IsFirstPage};
-ghost use Rattle.checkpoints.specs.SettlePages.{first_contents};
-ghost use Rattle.joint_crashes.specs.RecordsAdded.{RecordsAdded};
-ghost use Rattle.checkpoints.specs.Settled.{Settles, SameDevices, stores_due};
-ghost use Rattle.checkpoints.specs.SettleGoesOn.{GoesOn};
-ghost use Rattle.std.specs.List.{AllByRecursion, Contains, list_all};
-ghost use Rattle.std.specs.Option.{option_map};
+ghost use Rattle.std.specs.Prelude.{◌≡◌, ◌+◌, ◌≤◌, ◌↔◌, ◌==◌, if◌then◌else◌};
+ghost use Rattle.std.specs.Prelude.{ℕ, [], Some, None, IfOk, OnOk, IsTrue, true, is_ok};
 ghost use Rattle.std.specs.FinMap.{get};
-ghost use Rattle.log_writer.specs.Vault.{disk_in, IsWhole};
-ghost use Rattle.outside.specs.declared.device.Device.{Device as TheDevice};
+ghost use Rattle.std.specs.List.{AllByRecursion, list_all};
+ghost use Rattle.std.specs.Option.{option_map};
+ghost use Rattle.serial_model.specs.Decls.{AreDecls};
 ghost use Rattle.serial_model.specs.State.{State as TheState};
 ghost use Rattle.serial_model.specs.declared.key.Key.{Key};
-ghost use Rattle.wire_form.specs.declared.savepoint.Savepoint.{Savepoint};
 ghost use Rattle.log_writer.specs.Points.{IsSaved, point_of, saved_of, sequence_of};
 ghost use Rattle.log_writer.specs.Save.{IsStored};
+ghost use Rattle.log_writer.specs.Vault.{IsWhole};
+ghost use Rattle.snapshot_store.specs.Store.{Holds};
 ghost use Rattle.joint_crashes.specs.Images.{Images};
-ghost use Rattle.recovery_core.specs.LogEntries.{last_of};
-ghost use Rattle.recovery_core.specs.Recoverable.{counting, IsRecoverable};
 ghost use Rattle.joint_crashes.specs.JointCrash.{Moments, parts_of};
 ghost use Rattle.joint_crashes.specs.Resting.{IsResting, HasNoRecords, AreTold};
-ghost use Rattle.checkpoints.specs.CrashesRecover.{LeavesSame};
-ghost use Rattle.joint_crashes.specs.Cutting.{AreToldIn};
-ghost use Rattle.checkpoints.specs.SettleFiles.{all_banks};
-ghost use Rattle.checkpoints.specs.SettleLaws.{without_files};
-ghost use Rattle.recovery_core.specs.Recovered.{Recovers, IsUp};
 ghost use Rattle.joint_crashes.specs.SettleRests.{RestsSince};
-ghost use Rattle.joint_crashes.specs.VaultReads.{RoseIn, AreQuiet};
+ghost use Rattle.recovery_core.specs.LogEntries.{last_of};
+ghost use Rattle.recovery_core.specs.Recoverable.{counting, IsRecoverable};
+ghost use Rattle.recovery_core.specs.Recovered.{IsUp};
+ghost use Rattle.checkpoints.specs.CrashesRecover.{LeavesSame};
+ghost use Rattle.checkpoints.specs.Due.{NoneCount};
+ghost use Rattle.checkpoints.specs.FreshLaws.{first_saved};
+ghost use Rattle.checkpoints.specs.SettleAnswers.{SaveAnswers, SettleAnswers};
+ghost use Rattle.checkpoints.specs.SettleGoesOn.{GoesOn};
+ghost use Rattle.checkpoints.specs.SettleLaws.{without_files};
+ghost use Rattle.checkpoints.specs.SettleLeaves.{CanStore, HasFirst, LeavesWhole, SettleLeaves, StandsDurably};
+ghost use Rattle.checkpoints.specs.SettleLeaves.{StandsEmptied};
+ghost use Rattle.checkpoints.specs.Settled.{SameDevices};
+ghost use Rattle.checkpoints.specs.SettlesInto.{SettlesInto};
+ghost use Rattle.checkpoints.specs.StoreAnswers.{WriteAnswers, settle_fault_of};
 
 use crate::SettleFault;
 use crate::at_rest::{cut_uncounted, settle_lengths};
 use crate::first_page::{first_page, in_order};
-use crate::fresh::settle_fresh;
+use crate::writing::write_snapshot;
 use joint_crashes::StoreAndCutFault;
 use lists::{Memory, OrMemory, Sequence};
 use log_writer::{Save, SaveFault, Saved, Vault};
@@ -62,20 +52,9 @@ fn count_nothing(lengths: &[u64; 16]) -> bool
     lengths.iter().all(|length| *length == 0)
 }
 
-/// Which fault of a settling this is. The store is up, so it never answers that it is down.
+/// Which fault of a settling this is.
 pub(crate) fn fault_of(fault: StoreAndCutFault) -> SettleFault
-    requires { (count : ℕ) → fault ≡ StoreAndCutFault.Store (SaveFault.Down count) → ⊥ }
-    ensures device { (device : TheDevice) → result ≡ SettleFault.Device device
-        → ((device ≡ Device.Save) × (fault ≡ StoreAndCutFault.Store SaveFault.Device))
-        ⊎ ((n : ℕ) × (device ≡ Device.Bank n) × (fault ≡ StoreAndCutFault.Cut n)) }
-    ensures sequence { (sequence : ℕ) → result ≡ SettleFault.Sequence sequence
-        → fault ≡ StoreAndCutFault.Store (SaveFault.Limit sequence) }
-    ensures at_limit { (sequence : ℕ) → fault ≡ StoreAndCutFault.Store (SaveFault.Limit sequence)
-        → result ≡ SettleFault.Sequence sequence }
-    ensures other { ((device : TheDevice) → result ≡ SettleFault.Device device → ⊥)
-        → (sequence : ℕ) × (fault ≡ StoreAndCutFault.Store (SaveFault.Limit sequence)) }
-    ensures never_limit { (have room new : ℕ) → result ≡ SettleFault.Limit have new room → ⊥ }
-    ensures never_deep { result ≡ SettleFault.Deep → ⊥ }
+    ensures { result ≡ settle_fault_of fault }
 {
     match fault {
         StoreAndCutFault::Store(SaveFault::Device) => SettleFault::Device(Device::Save),
@@ -96,13 +75,9 @@ pub(crate) fn settle_saved<D: Disk>(
     saved: Saved,
     snap: u32,
 ) -> Result<Saved, SettleFault>
-    requires whole { IsWhole vault.old }
+    requires can { CanStore D.tells D.clock D.image_at save.old vault.old }
     requires says { Some saved ≡ option_map saved_of save.old.newest }
     requires ranges { IsSaved saved }
-    requires up { save.old.down ≡ None }
-    requires stored { IsStored D.tells D.clock D.image_at vault.old.save save.old.newest }
-    requires tie_room { 1 ≤ vault.old.ties.room }
-    requires cut_room { 16 ≤ vault.old.cuts.room }
     ensures crashes { (found : Images) (from : Moments) (epoch : ℕ) (state : TheState)
         → (rest : IsResting D.clock D.image_at (parts_of vault.old)) → HasNoRecords (parts_of vault.old)
         → AreTold D.tells (parts_of vault.old) found
@@ -119,34 +94,14 @@ pub(crate) fn settle_saved<D: Disk>(
         → ((key : Key) → last_of key (counting is.reading) ≡ None)
         → OnOk result (GoesOn D.clock D.image_at from is.reading epoch state
         (sequence_of save.old.newest) save.new.newest (parts_of vault.new)) }
-    ensures limit { (have new room : ℕ) → result ≡ Err (SettleFault.Limit have new room)
-        → (have ≡ saved.count) × (new ≡ 0) × (room ≡ snap) × (snap < saved.count) }
-    ensures fits { ((have new room : ℕ) → result ≡ Err (SettleFault.Limit have new room) → ⊥)
-        → saved.count ≤ snap }
-    ensures sequence { (sequence : ℕ) → result ≡ Err (SettleFault.Sequence sequence)
-        → (sequence ≡ sequence_of save.old.newest) × (sequence ≡ 2 ^ 63 - 1)
-        × (list_all (λ n. n == 0) saved.lengths ≡ false) }
-    ensures last { sequence_of save.old.newest ≡ 2 ^ 63 - 1 → list_all (λ n. n == 0) saved.lengths ≡ false
-        → saved.count ≤ snap
-        → result ≡ Err (SettleFault.Sequence (sequence_of save.old.newest)) }
-    ensures device { (device : TheDevice) → result ≡ Err (SettleFault.Device device)
-        → RoseIn D.faults device vault.old vault.new }
-    ensures never_deep { result ≡ Err SettleFault.Deep → ⊥ }
-    ensures untouched { ((device : TheDevice) → result ≡ Err (SettleFault.Device device) → ⊥)
-        → OnErr result (vault.new ≡ vault.old) }
+    ensures answers { SaveAnswers D.faults saved snap (sequence_of save.old.newest) vault.old vault.new result }
     ensures says { IfOk result (λ s. (s ≡ without_files saved) × (Some s ≡ option_map saved_of save.new.newest)) }
-    ensures up { OnOk result (save.new.down ≡ None) }
-    ensures stored { OnOk result (IsStored D.tells D.clock D.image_at vault.new.save save.new.newest) }
-    ensures sequence_is { OnOk result (sequence_of save.new.newest
+    ensures sequence { OnOk result (sequence_of save.new.newest
         ≡ sequence_of save.old.newest + (if list_all (λ n. n == 0) saved.lengths then 0 else 1)) }
-    ensures emptied { AreToldIn D.tells all_banks (parts_of vault.old) → OnOk result ((n : ℕ) (bank : D)
-        → Contains all_banks n → disk_in vault.new (Device.Bank n) ≡ Some bank → D.tells bank ≡ Some []) }
-    ensures quiet { OnOk result (AreQuiet D.faults vault.old vault.new) }
-    ensures whole { IsWhole vault.new }
-    ensures told { is_some (D.tells vault.new.save) ≡ is_some (D.tells vault.old.save) }
+    ensures stands { OnOk result (StandsEmptied D.tells D.clock D.image_at save.new vault.old vault.new) }
     ensures snaps { vault.new.snaps ≡ vault.old.snaps }
-    ensures records { RecordsAdded (sequence_of save.old.newest)
-        (if list_all (λ n. n == 0) saved.lengths then 0 else 1) all_banks (is_ok result) vault.old vault.new }
+    ensures leaves { LeavesWhole (sequence_of save.old.newest)
+        (if list_all (λ n. n == 0) saved.lengths then 0 else 1) (is_ok result) vault.old vault.new }
 {
     let have = saved.count;
     if have > snap {
@@ -189,18 +144,18 @@ pub struct Settled {
 
 /// Makes room for the record of a store, and of a cut of each log file: neither may begin and then go
 /// unrecorded for want of memory.
-pub(crate) fn make_room<D: Disk>(vault: &mut Vault<D>) -> Result<(), Memory>
+pub(crate) fn reserve_records<D: Disk>(vault: &mut Vault<D>) -> Result<(), Memory>
     ensures parts { parts_of vault.new ≡ parts_of vault.old }
     ensures same { SameDevices vault.old vault.new }
-    ensures tie_room { OnOk result (1 ≤ vault.new.ties.room) }
-    ensures cut_room { OnOk result (16 ≤ vault.new.cuts.room) }
+    ensures ties { OnOk result (1 ≤ vault.new.ties.room) }
+    ensures cuts { OnOk result (16 ≤ vault.new.cuts.room) }
 {
     vault.ties.reserve(1)?;
     vault.cuts.reserve(16)?;
     Ok(())
 }
 
-// Settles a vault without a savepoint.
+// Settles a vault without a savepoint: its first snapshot is the first catalogue alone, of epoch 0.
 fn settle_new<D: Disk>(
     alloc: Global,
     save: &mut Save,
@@ -208,16 +163,12 @@ fn settle_new<D: Disk>(
     vault: &mut Vault<D>,
     decls: &[Decl],
 ) -> Result<(Saved, Sequence<Decl>), OrMemory<SettleFault>>
-    requires whole { IsWhole vault.old }
+    requires can { CanStore D.tells D.clock D.image_at save.old vault.old }
     requires fresh { save.old.newest ≡ None }
-    requires up { save.old.down ≡ None }
-    requires stored { IsStored D.tells D.clock D.image_at vault.old.save save.old.newest }
     requires sound { store.old.sound ≡ true }
     requires empty { store.old.pages ≡ [] }
     requires holds { Holds D.tells vault.old.snaps store.old.pages }
     requires decls { AreDecls decls.now }
-    requires tie_room { 1 ≤ vault.old.ties.room }
-    requires cut_room { 16 ≤ vault.old.cuts.room }
     ensures crashes { (found : Images) (from : Moments) (state : TheState)
         → (rest : IsResting D.clock D.image_at (parts_of vault.old)) → HasNoRecords (parts_of vault.old)
         → AreTold D.tells (parts_of vault.old) found
@@ -232,38 +183,21 @@ fn settle_new<D: Disk>(
         → (is : IsRecoverable found 0 state) → ((key : Key) → get state key ≡ None)
         → OnOk result (GoesOn D.clock D.image_at from is.reading 0 state 0
         (Some (point_of 1 first_saved)) (parts_of vault.new)) }
-    ensures device { (device : TheDevice) → result ≡ Err (OrMemory.Fault (SettleFault.Device device))
-        → RoseIn D.faults device vault.old vault.new }
-    ensures only_device { (fault : TheFault) → result ≡ Err (OrMemory.Fault fault)
-        → (device : TheDevice) × (fault ≡ SettleFault.Device device) }
-    ensures untouched { result ≡ Err OrMemory.Memory → SameDevices vault.old vault.new }
-    ensures records { RecordsAdded 0 1 all_banks (is_ok result) vault.old vault.new }
-    ensures says { IfOk result (λ s. (s.0 ≡ first_saved) × (save.new.newest ≡ Some (point_of 1 s.0))) }
-    ensures page { IfOk result (λ s. (page : Page)
-        × (store.new.pages ≡ page ∷ []) × IsFirstPage page.words (first_contents s.1)) }
-    ensures quiet { OnOk result (AreQuiet D.faults vault.old vault.new) }
-    ensures whole { IsWhole vault.new }
-    ensures told { OnOk result (is_some (D.tells vault.new.save) ≡ is_some (D.tells vault.old.save)) }
-    ensures told_snaps { OnOk result (is_some (D.tells vault.new.snaps) ≡ is_some (D.tells vault.old.snaps)) }
-    ensures decls { IfOk result (λ s. IsPermutation decls.now s.1 × Rises ◌<◌ (map id_of s.1)) }
-    ensures up { OnOk result (save.new.down ≡ None) }
-    ensures stored { OnOk result (IsStored D.tells D.clock D.image_at vault.new.save save.new.newest) }
-    ensures emptied { AreToldIn D.tells all_banks (parts_of vault.old) → OnOk result ((n : ℕ) (bank : D)
-        → Contains all_banks n → disk_in vault.new (Device.Bank n) ≡ Some bank → D.tells bank ≡ Some []) }
-    ensures sound { OnOk result (store.new.sound ≡ true) }
-    ensures holds { Holds D.tells vault.new.snaps store.new.pages }
-    ensures durable { OnOk result (IfTold (D.tells vault.old.snaps) (λ _. AllBegin
-        (D.image_at vault.new.snaps (D.clock vault.new.snaps)) (bytes_of_pages store.new.pages))) }
+    ensures answers { WriteAnswers D.faults vault.old vault.new result }
+    ensures first { IfOk result (λ s. HasFirst decls.now save.new store.new s.0 s.1) }
+    ensures durable { OnOk result (StandsDurably D.tells D.clock D.image_at store.new vault.old vault.new) }
+    ensures stands { OnOk result (StandsEmptied D.tells D.clock D.image_at save.new vault.old vault.new) }
+    ensures leaves { LeavesWhole (sequence_of save.old.newest) 1 (is_ok result) vault.old vault.new }
 {
     let sorted = in_order(alloc, decls)?;
     let page = first_page(alloc, &sorted)?;
-    let saved = settle_fresh(save, store, vault, page)?;
+    let saved = write_snapshot(save, store, vault, &[page], 0)?;
     Ok((saved, Sequence::from_vec(sorted)))
 }
 
 /// Settles a vault as it was recovered, of which no entry counts, for these storages, in any order. The log files are
-/// emptied behind a savepoint that counts nothing of them. A fresh vault gets its first catalogue and its first savepoint. Whatever it answers, each crash since the
-/// devices rest leaves the epoch and the state that were recovered.
+/// emptied behind a savepoint that counts nothing of them. A fresh vault gets its first catalogue and its first
+/// savepoint.
 pub(crate) fn settle_without_entries<D: Disk>(
     alloc: Global,
     vault: &mut Vault<D>,
@@ -277,40 +211,13 @@ pub(crate) fn settle_without_entries<D: Disk>(
     requires holds { Holds D.tells vault.old.snaps recovered.store.pages }
     requires decls { AreDecls decls.now }
     requires none { NoneCount recovered }
-    ensures crashes { (found : Images) (from : Moments)
-        → (rest : IsResting D.clock D.image_at (parts_of vault.old)) → HasNoRecords (parts_of vault.old)
-        → AreTold D.tells (parts_of vault.old) found
-        → RestsSince D.clock D.image_at from rest.point rest.pages rest.counted (parts_of vault.old)
-        → (is : Recovers found recovered)
-        → LeavesSame D.clock D.image_at from is.reading recovered.epoch recovered.state
-        (parts_of vault.old) (parts_of vault.new) }
+    ensures leaves { SettleLeaves D.tells D.clock D.image_at recovered (is_ok result) vault.old vault.new }
     ensures settles { IfOk result (λ s.
-        Settles D.tells D.clock D.image_at recovered decls.now vault.old vault.new s) }
-    ensures limit { (have new room : ℕ) → result ≡ Err (OrMemory.Fault (SettleFault.Limit have new room))
-        → IfSome recovered.saved (λ s. (have ≡ s.count) × (new ≡ 0) × (room ≡ snap) × (snap < s.count)) }
-    ensures limit_saved { (have new room : ℕ) → result ≡ Err (OrMemory.Fault (SettleFault.Limit have new room))
-        → IsSome recovered.saved }
-    ensures fits { (result ≡ Err OrMemory.Memory → ⊥)
-        → ((have new room : ℕ) → result ≡ Err (OrMemory.Fault (SettleFault.Limit have new room)) → ⊥)
-        → IfSome recovered.saved (λ s. s.count ≤ snap) }
-    ensures sequence { (sequence : ℕ) → result ≡ Err (OrMemory.Fault (SettleFault.Sequence sequence))
-        → (sequence ≡ sequence_of recovered.save.newest) × (sequence ≡ 2 ^ 63 - 1)
-        × (stores_due recovered.saved ≡ 1) }
-    ensures last { sequence_of recovered.save.newest ≡ 2 ^ 63 - 1 → stores_due recovered.saved ≡ 1
-        → IfSome recovered.saved (λ s. s.count ≤ snap)
-        → (result ≡ Err OrMemory.Memory)
-        ⊎ (result ≡ Err (OrMemory.Fault (SettleFault.Sequence (sequence_of recovered.save.newest)))) }
-    ensures device { (device : TheDevice) → result ≡ Err (OrMemory.Fault (SettleFault.Device device))
-        → RoseIn D.faults device vault.old vault.new }
-    ensures quiet { OnOk result (AreQuiet D.faults vault.old vault.new) }
-    ensures never_deep { result ≡ Err (OrMemory.Fault SettleFault.Deep) → ⊥ }
-    ensures untouched { ((device : TheDevice) → result ≡ Err (OrMemory.Fault (SettleFault.Device device)) → ⊥)
-        → OnErr result (SameDevices vault.old vault.new) }
-    // A tie for the store that is due, and behind it a cut of each log file, or of those up to one that failed.
-    ensures records { RecordsAdded (sequence_of recovered.save.newest) (stores_due recovered.saved) all_banks
-        (is_ok result) vault.old vault.new }
+        SettlesInto D.tells D.clock D.image_at recovered decls.now vault.old vault.new s) }
+    ensures within { 1 ≤ snap → IfOk result (λ s. s.saved.count ≤ snap) }
+    ensures answers { SettleAnswers D.faults recovered snap vault.old vault.new result }
 {
-    make_room(vault)?;
+    reserve_records(vault)?;
     let Recovered {
         mut save,
         saved,

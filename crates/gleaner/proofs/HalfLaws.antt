@@ -1,6 +1,6 @@
 -- Both halves of the closed log files together.
-use Rattle.std.proofs.Common.{◌≡◌, ◌≢◌, ◌∙◌, ◌<◌, ◌≤◌, ◌+◌, ◌-◌, ◌*◌, ◌++◌, ◌∷◌, ◌⊎◌, inl, inr, ℕ, zero, suc, List, [], Bool, true, false, Option, Some, None, refl, sym, ap, subst, arith, length}
-use Rattle.std.specs.Prelude.{slice_get, Result, Ok, Err, OnOk, if◌then◌else◌}
+use Rattle.std.proofs.Common.{◌≡◌, ◌∙◌, ◌<◌, ◌≤◌, ◌+◌, ◌++◌, ◌∷◌, ℕ, zero, suc, List, [], Bool, true, false, Option, Some, None, refl, sym, ap, subst, arith, length}
+use Rattle.std.specs.Prelude.{slice_get, Result, Ok, Err, OnOk}
 use Rattle.std.specs.List.{flat_map}
 use Rattle.std.specs.Prelude.{get_or}
 use Rattle.std.proofs.lemmas.Grind.{flat_map-append}
@@ -12,12 +12,12 @@ use Rattle.lists.specs.declared.memory.OrMemory.TheVariants as or
 use Rattle.outside.specs.Disk.{IfTold}
 use Rattle.outside.specs.Reads.{OnlyReads}
 use Rattle.outside.specs.declared.device.Device.{Device}
-use Rattle.outside.specs.declared.device.Device.TheVariants.{Bank, Save, Snaps}
+use Rattle.outside.specs.declared.device.Device.TheVariants.{Bank}
 use Rattle.serial_model.specs.declared.decl.Decl.{Decl}
 use Rattle.wire_form.specs.declared.bucket.Bucket.{Bucket}
 use Rattle.log_mapper.specs.Mapped.{IsDamaged}
 use Rattle.bucket_queues.specs.Threads.{fault_in}
-use Rattle.gleaner.specs.Glean.{AreMappedFiles, bank_of, FailsBeside, HasFailed, IsDamagedFile, IsLower, IsMappedFile, IsToldBefore}
+use Rattle.gleaner.specs.Glean.{AreMappedFiles, bank_of, HasFailed, IsDamagedFile, IsLower, IsMappedFile, IsToldBefore}
 use Rattle.gleaner.specs.Halves.{AreMappedFrom, HasFailedFrom, IsDamagedFrom, LeavesHalf, RefusesFiles, RefusesHalves}
 use Rattle.gleaner.specs.Halves.{beside_of, failed_in, fault_or_memory, told_of}
 use Rattle.gleaner.specs.declared.closed.Closed.{Closed}

@@ -1,6 +1,6 @@
 -- What the counted bytes of the closed log files make of the newest snapshot.
 use Rattle.std.specs.Prelude.{◌≡◌, ◌≤◌, ◌<◌, ◌+◌, ◌*◌, ◌^◌, ◌++◌, ◌==◌, ℕ, Bool, List, get_or, length, slice_get}
-use Rattle.std.specs.Prelude.{flat_map, if◌then◌else◌, Option, Some, Result, Ok, Err, ⊤}
+use Rattle.std.specs.Prelude.{flat_map, if◌then◌else◌, Option, Some, Result, Err, ⊤}
 use Rattle.std.specs.List.{AllByRecursion, list_all}
 use Rattle.outside.specs.Disk.{IfTold}
 use Rattle.outside.specs.Faults.{Rose}
@@ -72,14 +72,15 @@ abbrev pub FailedOf : {D : Type 0} → (D → ℕ) → Closed → List D → Lis
 FailedOf {D} faults closed old new worker device = (was : D) × (is : D) × (slice_get old worker ≡ Some was)
     × (slice_get new worker ≡ Some is) × (device ≡ Bank (bank_of closed.odd worker)) × Rose (faults was) (faults is)
 
+-- some one of them did
 abbrev pub HasFailed : {D : Type 0} → (D → ℕ) → Closed → List D → List D → Device → Type 0
 HasFailed faults closed old new device = (worker : ℕ) × FailedOf faults closed old new worker device
 
 -- or the snapshots did
-abbrev pub Refuses : {D : Type 0} → (D → ℕ) → Closed → D → D → List D → List D → Device → Type 0
-Refuses faults closed snaps_old snaps_new old new Save = ⊥
-Refuses faults closed snaps_old snaps_new old new Snaps = Rose (faults snaps_old) (faults snaps_new)
-Refuses faults closed snaps_old snaps_new old new (Bank number) = HasFailed faults closed old new (Bank number)
+abbrev pub DeviceFailed : {D : Type 0} → (D → ℕ) → Closed → D → D → List D → List D → Device → Type 0
+DeviceFailed faults closed snaps_old snaps_new old new Save = ⊥
+DeviceFailed faults closed snaps_old snaps_new old new Snaps = Rose (faults snaps_old) (faults snaps_new)
+DeviceFailed faults closed snaps_old snaps_new old new (Bank number) = HasFailed faults closed old new (Bank number)
 
 -- the told device is a log file with a lower number than the one that failed beside it
 abbrev pub IsLower : Device → Device → Type 0

@@ -1,5 +1,5 @@
 -- What each of two mappers makes and leaves of its half of the closed log files.
-use Rattle.std.specs.Prelude.{◌≡◌, ◌≢◌, ◌≤◌, ◌<◌, ◌+◌, ◌^◌, ◌⊎◌, ℕ, List, length, slice_get}
+use Rattle.std.specs.Prelude.{◌≡◌, ◌≢◌, ◌≤◌, ◌<◌, ◌+◌, ◌^◌, ℕ, List, length, slice_get}
 use Rattle.std.specs.Prelude.{flat_map, get_or, Option, Some, None, Result, Ok, Err, OnOk}
 use Rattle.std.specs.List.{AllByRecursion}
 use Rattle.lists.specs.declared.memory.OrMemory.{OrMemory}

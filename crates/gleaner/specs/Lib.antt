@@ -1,3 +1,4 @@
 pub mod Glean
 pub mod GleanLaws
 pub mod Halves
+pub mod GleanLeaves

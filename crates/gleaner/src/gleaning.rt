@@ -1,23 +1,19 @@
 // A glean.
-ghost use Rattle.std.specs.Prelude.{◌≡◌, ◌≢◌, ◌<◌, ◌≤◌, ◌+◌, ◌*◌, ◌++◌, ◌↔◌, ℕ, List, None, Some, Ok, Err, IfOk, OnOk, OnErr};
-ghost use Rattle.std.specs.Prelude.{length};
-ghost use Rattle.std.specs.Prelude.{is_some, slice_get, false, true};
+ghost use Rattle.std.specs.Prelude.{◌≡◌, ◌≢◌, ◌<◌, ◌≤◌, ◌+◌, ◌++◌, ◌↔◌, ℕ, List, None, Ok, Err, IfOk, OnOk, length, true};
 ghost use Rattle.outside.specs.Disk.{IfTold};
-ghost use Rattle.outside.specs.Reads.{OnlyReads};
 ghost use Rattle.outside.specs.Faults.{Rose};
 ghost use Rattle.outside.specs.Fronts.{AllBegin};
 ghost use Rattle.outside.specs.declared.device.Device.TheVariants as devices;
 ghost use Rattle.wire_form.specs.Pages.{Contents};
-ghost use Rattle.wire_form.specs.declared.page.Page.{Page};
+ghost use Rattle.wire_form.specs.declared.bucket.Bucket.{Bucket as TheBucket};
 ghost use Rattle.snapshot_store.specs.Content.{words_of};
-ghost use Rattle.snapshot_store.specs.Store.{bytes_of_pages, Holds, KeepsFront, NumberedFrom};
+ghost use Rattle.snapshot_store.specs.Store.{bytes_of_pages, Holds, NumberedFrom};
 ghost use Rattle.snapshot_store.specs.declared.store.StoreFault.{StoreFault as TheStoreFault};
 ghost use Rattle.root_composer.specs.Composition.{CanCompose};
-ghost use Rattle.gleaner.specs.Glean.{CanGlean, FailsBeside, IsDamagedFile, IsGleaned, Refuses};
-ghost use Rattle.gleaner.specs.Glean.{Composes, ComposesDeep, ComposesMany, WouldBeDeep, WouldBeMany};
 ghost use Rattle.log_reducer.specs.Reduced.{AreLast, all_logged};
-ghost use Rattle.wire_form.specs.declared.bucket.Bucket.{Bucket as TheBucket};
-ghost use Rattle.gleaner.specs.Glean.{bank_of as number_of, none_counted};
+ghost use Rattle.gleaner.specs.Glean.{CanGlean, IsGleaned, none_counted};
+ghost use Rattle.gleaner.specs.Glean.{Composes, ComposesDeep, ComposesMany};
+ghost use Rattle.gleaner.specs.GleanLeaves.{LeavesFiles, LeavesPages, RefusesGlean};
 
 use crate::closed::{Closed, Newest, count_nothing};
 use crate::halves::{Refusal, run_of_closed};
@@ -91,37 +87,13 @@ pub fn glean<R: Threads + Wait + Sync, D: Disk + Send>(
     ensures durable { OnOk result.answer (IfTold (D.tells snaps.old) (λ _.
         none_counted closed.now.lengths ≢ true
         → AllBegin (D.image_at snaps.new (D.clock snaps.new)) (bytes_of_pages store.new.pages))) }
-    ensures sound { OnOk result.answer (store.new.sound ≡ true) }
-    ensures holds { OnOk result.answer (Holds D.tells snaps.new store.new.pages) }
-    ensures damaged { (device : Device) (at : ℕ) → result.answer ≡ Err (OrMemory.Fault (GleanFault.Damaged device at))
-        → IsDamagedFile D.tells closed.now decls.now newest.epoch files.old device at }
-    ensures device { (device : Device) → result.answer ≡ Err (OrMemory.Fault (GleanFault.Device device))
-        → Refuses D.faults closed.now snaps.old snaps.new files.old files.new device }
-    ensures deep { result.answer ≡ Err (OrMemory.Fault GleanFault.Deep)
-        → WouldBeDeep D.tells (words_of store.old.pages) decls.now newest closed.now files.old }
-    ensures limit { (have new most : ℕ) → result.answer ≡ Err (OrMemory.Fault (GleanFault.Limit have new most))
-        → (have ≡ length store.old.pages) × (most ≡ room) × (room < have + new)
-        × WouldBeMany D.tells (words_of store.old.pages) decls.now newest closed.now files.old new }
-    ensures kept { OnErr result.answer (result.answer ≢ Err (OrMemory.Fault (GleanFault.Device devices.Snaps))
-        → (snaps.new ≡ snaps.old) × (store.new ≡ store.old)) }
-    ensures unsound { result.answer ≡ Err (OrMemory.Fault (GleanFault.Device devices.Snaps)) → store.new.sound ≡ false }
-    ensures grows { (more : List Page) × (store.new.pages ≡ store.old.pages ++ more) }
-    // A closed log file failed beside what is told: that of a lower one, or want of memory.
-    ensures beside { (device : Device) → result.beside ≡ Some device
-        → FailsBeside D.faults closed.now files.old files.new result.answer device }
-    // Whatever it answers: images begin with what was durable of the pages, and no other count of faults rose.
-    ensures front { KeepsFront D.clock D.image_at (512 * length store.old.pages) snaps.old snaps.new }
-    ensures told { is_some (D.tells snaps.new) ≡ is_some (D.tells snaps.old) }
-    ensures quiet_snaps { result.answer ≢ Err (OrMemory.Fault (GleanFault.Device devices.Snaps))
-        → D.faults snaps.new ≡ D.faults snaps.old }
-    ensures quiet_files { (worker : ℕ) (was is : D) → slice_get files.old worker ≡ Some was
-        → slice_get files.new worker ≡ Some is
-        → result.answer ≢ Err (OrMemory.Fault (GleanFault.Device (devices.Bank (number_of closed.now.odd worker))))
-        → result.beside ≢ Some (devices.Bank (number_of closed.now.odd worker))
-        → D.faults is ≡ D.faults was }
-    ensures reads { (worker : ℕ) (was is : D) → slice_get files.old worker ≡ Some was
-        → slice_get files.new worker ≡ Some is → OnlyReads D.tells D.clock D.image_at D.faults was is }
-    ensures length { length files.new ≡ length files.old }
+    ensures refused { RefusesGlean D.tells D.faults store.old decls.now newest closed.now room snaps.old snaps.new
+        files.old files.new result.answer result.beside }
+    // Whatever it answers.
+    ensures pages { LeavesPages D.tells D.clock D.image_at D.faults result.answer store.old store.new
+        snaps.old snaps.new }
+    ensures files { LeavesFiles D.tells D.clock D.image_at D.faults closed.now result.answer result.beside
+        files.old files.new }
 {
     if count_nothing(&closed.lengths) {
         return alone(Ok(Gleaned::Empty));
@@ -168,8 +140,6 @@ fn add<D: Disk>(
         → Composes (words_of store.old.pages) newest buckets epoch made new) }
     ensures durable { OnOk result (IfTold (D.tells snaps.old) (λ _.
         AllBegin (D.image_at snaps.new (D.clock snaps.new)) (bytes_of_pages store.new.pages))) }
-    ensures sound { OnOk result (store.new.sound ≡ true) }
-    ensures holds { OnOk result (Holds D.tells snaps.new store.new.pages) }
     ensures device { (device : Device) → result ≡ Err (OrMemory.Fault (GleanFault.Device device))
         → (device ≡ devices.Snaps) × Rose (D.faults snaps.old) (D.faults snaps.new) }
     ensures undamaged { (device : Device) (at : ℕ) → result ≢ Err (OrMemory.Fault (GleanFault.Damaged device at)) }
@@ -180,14 +150,7 @@ fn add<D: Disk>(
         → (have ≡ length store.old.pages) × (most ≡ room) × (room < have + new)
         × ((buckets : List TheBucket) → AreLast (all_logged buckets) run.now
         → ComposesMany (words_of store.old.pages) newest buckets epoch new) }
-    ensures kept { OnErr result (result ≢ Err (OrMemory.Fault (GleanFault.Device devices.Snaps))
-        → (snaps.new ≡ snaps.old) × (store.new ≡ store.old)) }
-    ensures unsound { result ≡ Err (OrMemory.Fault (GleanFault.Device devices.Snaps)) → store.new.sound ≡ false }
-    ensures grows { (more : List Page) × (store.new.pages ≡ store.old.pages ++ more) }
-    ensures front { KeepsFront D.clock D.image_at (512 * length store.old.pages) snaps.old snaps.new }
-    ensures told { is_some (D.tells snaps.new) ≡ is_some (D.tells snaps.old) }
-    ensures quiet_snaps { result ≢ Err (OrMemory.Fault (GleanFault.Device devices.Snaps))
-        → D.faults snaps.new ≡ D.faults snaps.old }
+    ensures pages { LeavesPages D.tells D.clock D.image_at D.faults result store.old store.new snaps.old snaps.new }
 {
     let pages = match pages_of(alloc, store, newest, run, epoch, room) {
         Ok(pages) => pages,

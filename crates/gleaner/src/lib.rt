@@ -5,10 +5,12 @@
 //!   bytes, keeps the last entry of each key, and adds the pages of a snapshot of the epoch at which they were closed:
 //!   its content is the newest one's under these entries (`gleaned`, by `IsGleaned` in `specs/Glean.antt`). The pages
 //!   are durable once it has answered (`durable`).
-//! - Before any write it refuses, in this order: damage, at a byte of a closed log file (`damaged`); a page that would
-//!   stand below 32 others (`deep`); more pages than are let in, at exactly their number (`limit`); want of memory.
-//! - It only reads the closed log files (`reads`), and a device failed only where its count of faults rose (`device`).
-//!   The fault of the lowest log file that has one is told; a higher one may have failed beside it (`beside`).
+//! - Before any write it refuses, in this order: damage, at a byte of a closed log file; a page that would stand below 32
+//!   others; more pages than are let in, at exactly their number; want of memory. A device failed only where its count of
+//!   faults rose. The fault of the lowest log file that has one is told; a higher one may have failed beside it
+//!   (`refused`, record `RefusesGlean` in `specs/GleanLeaves.antt`).
+//! - Whatever it answers, it only reads the closed log files (`files`, record `LeavesFiles`), and the pages only grow,
+//!   behind what was durable of them (`pages`, record `LeavesPages`).
 //!
 //! Two mappers have four log files each, and pass the buckets to two reducers through queues, all in threads of their own:
 //! which bucket comes when makes no difference to the pages.

@@ -12,6 +12,7 @@ ghost use Rattle.log_mapper.specs.Mapped.{IsDamaged};
 ghost use Rattle.bucket_queues.specs.Threads.{fault_in, HasPut, IsSameMapper};
 ghost use Rattle.gleaner.specs.Glean.{IsMappedFile, IsReadFault};
 ghost use Rattle.gleaner.specs.Glean.{bank_of as number_of};
+ghost use Rattle.gleaner.specs.GleanLeaves.{ChangesAt};
 ghost use Rattle.gleaner.specs.Halves.{AreMappedFrom, IsHalf, LeavesHalf};
 
 use crate::GleanFault;
@@ -119,8 +120,7 @@ fn map_at<R: Wait, D: Disk>(
         → result ≢ Err (OrMemory.Fault (GleanFault.Device
         (devices.Bank (number_of half.now.closed.odd (half.now.first + at)))))
         → D.faults is ≡ D.faults was }
-    ensures others { (other : ℕ) → other ≢ at → slice_get files.new other ≡ slice_get files.old other }
-    ensures length { length files.new ≡ length files.old }
+    ensures others { ChangesAt at files.old files.new }
 {
     map_file(rt, half, &mut files[at], half.first + at, even, odd, mapper)
 }

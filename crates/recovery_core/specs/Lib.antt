@@ -5,6 +5,7 @@ pub mod Recoverable
 pub mod Damage
 pub mod Recovered
 pub mod RecoverableLaws
+pub mod ReadsDevices
 pub mod SnapshotsKept
 pub mod DamageLaws
 pub mod EmptyLaws

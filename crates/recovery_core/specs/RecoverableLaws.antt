@@ -116,6 +116,7 @@ page_in_front front device number words is has =
     subst (λ d. HasWords d number words) (front_rest front device is)
     (words_stay front (drop (length front) device) number words has)
 
+-- and a page of the device that lies in its front is one of the front
 pub page_of_front : (front device : List ℕ) (number : ℕ) (words : List ℕ) → IsFront front device
     → 512 * number ≤ length front → HasWords device number words → HasWords front number words
 page_of_front front device number words is within has = record {

@@ -1,5 +1,5 @@
 // The log files, read one after another: the entries that count, and the first byte that is no line.
-ghost use Rattle.std.specs.Prelude.{◌≡◌, ◌≢◌, ◌<◌, ◌^◌, ◌/◌, ℕ, List, Some, Err, IfOk, OnOk, length, map};
+ghost use Rattle.std.specs.Prelude.{◌≡◌, ◌≢◌, ◌<◌, ◌^◌, ◌/◌, ℕ, List, Some, Err, IfOk, length, map};
 ghost use Rattle.std.specs.Prelude.{filter, slice_get};
 ghost use Rattle.std.specs.List.{AllByRecursion};
 ghost use Rattle.std.specs.FinMap.{get};
@@ -18,7 +18,7 @@ ghost use Rattle.joint_crashes.specs.Images.{Images};
 ghost use Rattle.joint_crashes.specs.JointCrash.{parts_of};
 ghost use Rattle.recovery_core.specs.LogEntries.{logged, counts, last_of, AreCounted};
 ghost use Rattle.joint_crashes.specs.Resting.{AreTold};
-ghost use Rattle.joint_crashes.specs.VaultReads.{VaultOnlyReads, RoseIn, AreQuiet};
+ghost use Rattle.recovery_core.specs.ReadsDevices.{ReadsDevices};
 
 use crate::fault::RecoverFault;
 use crate::last_entries::LastEntries;
@@ -118,16 +118,11 @@ pub(crate) fn read_entries<D: Disk>(
         → (found : Images) → AreTold D.tells (parts_of vault.old) found
         → (p : Savepoint) → p.lengths ≡ lengths.now
         → (n : ℕ) × (device ≡ Device.Bank n) × FilesBreak decls.now p found.bank n at }
-    ensures device { (device : TheDevice) → result ≡ Err (OrMemory.Fault (RecoverFault.Device device))
-        → RoseIn D.faults device vault.old vault.new }
     ensures before { (device : TheDevice) → result ≡ Err (OrMemory.Fault (RecoverFault.Device device))
         → (found : Images) → AreTold D.tells (parts_of vault.old) found
         → (p : Savepoint) → p.lengths ≡ lengths.now
         → (n : ℕ) × (device ≡ Device.Bank n) × FilesReadBefore decls.now p found.bank n }
-    ensures quiet { OnOk result (AreQuiet D.faults vault.old vault.new) }
-    ensures spared { ((device : TheDevice) → result ≢ Err (OrMemory.Fault (RecoverFault.Device device)))
-        → AreQuiet D.faults vault.old vault.new }
-    ensures reads { VaultOnlyReads D.tells D.clock D.image_at D.faults vault.old vault.new }
+    ensures devices { ReadsDevices D.tells D.clock D.image_at D.faults vault.old vault.new result }
 {
     let mut last = LastEntries::new(alloc);
     for bank in 0..16u8 {

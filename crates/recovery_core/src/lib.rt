@@ -16,9 +16,8 @@
 //!   is of that epoch (`found`, `none`), and `Damaged` at the first byte of the first of its pages that isn't right
 //!   (`damaged`).
 //!
-//! And over each disk: it answers a fault only where that device's count of faults rose (`device`), and where
-//! the answer is `Ok` none did (`quiet`); [`recover`] only reads each device, and records no store and no cut
-//! (`reads`).
+//! And over each disk, [`recover`] answers a fault only where that device's count of faults rose, and else no count did;
+//! it only reads each device, and records no store and no cut (`devices`, record `ReadsDevices`).
 //!
 //! Terms: a *reading* is what the bytes say part by part: savepoint, pages, catalogues, log lines; an entry
 //! *counts* where its epoch is above the newest snapshot's and at most the saved one.

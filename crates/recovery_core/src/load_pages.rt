@@ -1,11 +1,11 @@
 // The pages that a savepoint counts are read.
-ghost use Rattle.std.specs.Prelude.{◌≡◌, ◌≢◌, ◌<◌, ◌≤◌, ◌*◌, ◌^◌, ℕ, Err, true, length, IfOk, OnOk};
+ghost use Rattle.std.specs.Prelude.{◌≡◌, ◌<◌, ◌≤◌, ◌*◌, ◌^◌, ℕ, Err, true, length, IfOk};
 ghost use Rattle.std.specs.List.{AllByRecursion};
 ghost use Rattle.outside.specs.Disk.{IfTold};
 ghost use Rattle.snapshot_store.specs.Content.{words_of};
 ghost use Rattle.snapshot_store.specs.Store.{IsWhole, Holds};
 ghost use Rattle.recovery_core.specs.Catalogues.{HasPages};
-ghost use Rattle.joint_crashes.specs.VaultReads.{VaultOnlyReads, RoseIn, AreQuiet};
+ghost use Rattle.recovery_core.specs.ReadsDevices.{ReadsDevices};
 
 use crate::RecoverFault;
 use crate::catalogue::words_fit;
@@ -40,14 +40,9 @@ pub(crate) fn load_pages<D: Disk>(
     ensures damaged { (device : Device) (at : ℕ) → result ≡ Err (OrMemory.Fault (RecoverFault.Damaged device at))
         → (device ≡ Device.Snaps) × IfTold (D.tells vault.old.snaps) (λ file.
         (length file < 512 * count) × (at ≡ length file)) }
-    ensures device { (device : Device) → result ≡ Err (OrMemory.Fault (RecoverFault.Device device))
-        → RoseIn D.faults device vault.old vault.new }
     ensures only { (device : Device) → result ≡ Err (OrMemory.Fault (RecoverFault.Device device))
         → device ≡ Device.Snaps }
-    ensures quiet { OnOk result (AreQuiet D.faults vault.old vault.new) }
-    ensures spared { ((device : Device) → result ≢ Err (OrMemory.Fault (RecoverFault.Device device)))
-        → AreQuiet D.faults vault.old vault.new }
-    ensures reads { VaultOnlyReads D.tells D.clock D.image_at D.faults vault.old vault.new }
+    ensures devices { ReadsDevices D.tells D.clock D.image_at D.faults vault.old vault.new result }
     ensures save { vault.new.save ≡ vault.old.save }
 {
     let device = Device::Snaps;

@@ -1,5 +1,5 @@
 // What a database stands for is read from its devices.
-ghost use Rattle.std.specs.Prelude.{◌≡◌, ◌≢◌, ◌*◌, ◌<◌, ℕ, Err, List, Some, None, true, length, IfOk, OnOk};
+ghost use Rattle.std.specs.Prelude.{◌≡◌, ℕ, Err, List, Some, None, true, length, IfOk};
 ghost use Rattle.std.specs.Option.{option_map};
 ghost use Rattle.outside.specs.Disk.{IfTold, Only};
 ghost use Rattle.log_writer.specs.Vault.{IsWhole};
@@ -16,7 +16,7 @@ ghost use Rattle.joint_crashes.specs.JointCrash.{parts_of};
 ghost use Rattle.recovery_core.specs.Recovered.{Recovers, IsUp};
 ghost use Rattle.joint_crashes.specs.Resting.{AreTold};
 ghost use Rattle.recovery_core.specs.SnapshotRead.{IsSnapshotOf};
-ghost use Rattle.joint_crashes.specs.VaultReads.{VaultOnlyReads, RoseIn, AreQuiet};
+ghost use Rattle.recovery_core.specs.ReadsDevices.{ReadsDevices};
 
 use crate::entries::read_entries;
 use crate::last_entries::LastEntries;
@@ -47,14 +47,9 @@ fn load_snapshot<D: Disk>(
     ensures damaged { (device : Device) (at : ℕ) → result ≡ Err (OrMemory.Fault (RecoverFault.Damaged device at))
         → (device ≡ Device.Snaps) × IfTold (D.tells vault.old.snaps) (λ file. (p : Savepoint)
         → saved.now ≡ saved_of p → SnapsBreak file p at) }
-    ensures device { (device : Device) → result ≡ Err (OrMemory.Fault (RecoverFault.Device device))
-        → RoseIn D.faults device vault.old vault.new }
     ensures only { (device : Device) → result ≡ Err (OrMemory.Fault (RecoverFault.Device device))
         → device ≡ Device.Snaps }
-    ensures quiet { OnOk result (AreQuiet D.faults vault.old vault.new) }
-    ensures spared { ((device : Device) → result ≢ Err (OrMemory.Fault (RecoverFault.Device device)))
-        → AreQuiet D.faults vault.old vault.new }
-    ensures reads { VaultOnlyReads D.tells D.clock D.image_at D.faults vault.old vault.new }
+    ensures devices { ReadsDevices D.tells D.clock D.image_at D.faults vault.old vault.new result }
 {
     let store = load_pages(alloc, vault, saved.count)?;
     match read_snapshot(alloc, store, saved.epoch, saved.catalogue) {
@@ -81,14 +76,9 @@ fn recover_fresh<D: Disk>(
     ensures holds { IfOk result (λ r. Holds D.tells vault.new.snaps r.store.pages) }
     ensures damaged { (device : Device) (at : ℕ) → result ≡ Err (OrMemory.Fault (RecoverFault.Damaged device at))
         → IfTold (D.tells vault.old.snaps) (λ file. ⊥) }
-    ensures device { (device : Device) → result ≡ Err (OrMemory.Fault (RecoverFault.Device device))
-        → RoseIn D.faults device vault.old vault.new }
     ensures only { (device : Device) → result ≡ Err (OrMemory.Fault (RecoverFault.Device device))
         → device ≡ Device.Snaps }
-    ensures quiet { OnOk result (AreQuiet D.faults vault.old vault.new) }
-    ensures spared { ((device : Device) → result ≢ Err (OrMemory.Fault (RecoverFault.Device device)))
-        → AreQuiet D.faults vault.old vault.new }
-    ensures reads { VaultOnlyReads D.tells D.clock D.image_at D.faults vault.old vault.new }
+    ensures devices { ReadsDevices D.tells D.clock D.image_at D.faults vault.old vault.new result }
 {
     let store = load_pages(alloc, vault, 0)?;
     Ok(Recovered {
@@ -122,15 +112,10 @@ fn recover_saved<D: Disk>(
     ensures damaged { (device : Device) (at : ℕ) → result ≡ Err (OrMemory.Fault (RecoverFault.Damaged device at))
         → (found : Images) → AreTold D.tells (parts_of vault.old) found → Names found.save save.newest
         → IsDamagedIn found device at }
-    ensures device { (device : Device) → result ≡ Err (OrMemory.Fault (RecoverFault.Device device))
-        → RoseIn D.faults device vault.old vault.new }
     ensures before { (device : Device) → result ≡ Err (OrMemory.Fault (RecoverFault.Device device))
         → (found : Images) → AreTold D.tells (parts_of vault.old) found → Names found.save save.newest
         → IsReadBefore found device }
-    ensures quiet { OnOk result (AreQuiet D.faults vault.old vault.new) }
-    ensures spared { ((device : Device) → result ≢ Err (OrMemory.Fault (RecoverFault.Device device)))
-        → AreQuiet D.faults vault.old vault.new }
-    ensures reads { VaultOnlyReads D.tells D.clock D.image_at D.faults vault.old vault.new }
+    ensures devices { ReadsDevices D.tells D.clock D.image_at D.faults vault.old vault.new result }
 {
     let mut snapshot = load_snapshot(alloc, vault, &saved)?;
     let decls = snapshot.decls.as_slice();
@@ -171,14 +156,9 @@ pub fn recover<D: Disk>(
     ensures holds { IfOk result (λ r. Holds D.tells vault.new.snaps r.store.pages) }
     ensures damaged { (device : Device) (at : ℕ) → result ≡ Err (OrMemory.Fault (RecoverFault.Damaged device at))
         → (found : Images) → AreTold D.tells (parts_of vault.old) found → IsDamagedIn found device at }
-    ensures device { (device : Device) → result ≡ Err (OrMemory.Fault (RecoverFault.Device device))
-        → RoseIn D.faults device vault.old vault.new }
     ensures before { (device : Device) → result ≡ Err (OrMemory.Fault (RecoverFault.Device device))
         → (found : Images) → AreTold D.tells (parts_of vault.old) found → IsReadBefore found device }
-    ensures quiet { OnOk result (AreQuiet D.faults vault.old vault.new) }
-    ensures spared { ((device : Device) → result ≢ Err (OrMemory.Fault (RecoverFault.Device device)))
-        → AreQuiet D.faults vault.old vault.new }
-    ensures reads { VaultOnlyReads D.tells D.clock D.image_at D.faults vault.old vault.new }
+    ensures devices { ReadsDevices D.tells D.clock D.image_at D.faults vault.old vault.new result }
 {
     let (save, saved) = load_save(vault)?;
     match saved {

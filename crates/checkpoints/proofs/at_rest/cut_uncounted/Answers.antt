@@ -6,7 +6,9 @@ use Rattle.outside.specs.declared.device.Device.TheVariants.{Bank}
 use Rattle.joint_crashes.specs.JointCrash.{parts_of}
 use Rattle.joint_crashes.specs.Cutting.{FaultsStand}
 use Rattle.joint_crashes.specs.VaultReads.{AreQuiet, some_of, quiet_of}
-use Rattle.checkpoints.specs.Files.{all_below, has_files, still_files, listed_bank}
+use Rattle.checkpoints.specs.Files.{has_files, still_files, listed_bank}
+use Rattle.checkpoints.specs.SettleFiles.{all_below}
+use Rattle.checkpoints.proofs.Emptied.{emptied_all}
 use Rattle.checkpoints.proofs.FilesCut.{files_cut}
 use Rattle.checkpoints.proofs.at_rest.cut_uncounted.Goals as goal
 
@@ -53,3 +55,7 @@ cut_banks-requires-clause-newest g c =
 
 pub returns-clause-records : goal.returns-clause-records
 returns-clause-records g c = rw c.sequence-sequence.ensures.newest at c.cut_banks.ensures.records
+
+pub returns-clause-emptied : goal.returns-clause-emptied
+returns-clause-emptied g c tell = emptied_all g.D.Disk.tells c.args.vault.now c.cut_banks.new.vault c.cut_banks.result
+    (c.cut_banks.ensures.whole c.requires.whole) c.cut_banks.ensures.emptied tell

@@ -1,6 +1,5 @@
-use Rattle.std.proofs.Common.{◌≡◌, ◌∙◌, ◌++◌, ◌+◌, ◌≤◌, ap, arith, length, refl, subst, sym, rules}
+use Rattle.std.proofs.Common.{◌≡◌, ◌∙◌, ◌++◌, ap, arith, subst, sym}
 use Rattle.std.proofs.lemmas.List.{length-map, map-append}
-use Rattle.wire_form.specs.declared.bucket.Bucket.{Bucket}
 use Rattle.wire_form.specs.declared.page.Page.{Page}
 use Rattle.snapshot_store.specs.Content.{words_of}
 use Rattle.gleaner.specs.Glean.{Composes}
@@ -18,3 +17,16 @@ returns-clause-gleaned g c at new is =
       λ buckets last. subst (λ n. Composes (words_of c.args.store.now.pages) c.args.newest buckets c.args.epoch (words_of c.in-Ok.pages) n)
           (sym (many ∙ c.len.ensures.value)) (c.in-Ok.ensures.composed buckets last),
     )
+
+pub returns-clause-pages : goal.returns-clause-pages
+returns-clause-pages g c =
+    let e = c.in-Ok-append_durably.ensures in record {
+      grows = (c.as_slice.result.now, e.pages);
+      front = c.append_durably.ensures.runs;
+      told = c.append_durably.ensures.told;
+      sound = e.sound;
+      holds = e.holds;
+      kept = tt;
+      unsound = λ is. absurd (let no = is in cc);
+      quiet = λ fine. e.quiet;
+    }

@@ -1,9 +1,7 @@
 -- What two mappers leave of their halves is said of all closed log files.
-use Rattle.std.proofs.Common.{◌≡◌, ◌++◌, List, Some, arith, refl, subst, sym}
-use Rattle.std.specs.Prelude.{slice_get, OnOk}
+use Rattle.std.proofs.Common.{◌≡◌, ◌++◌, Some, subst, sym}
+use Rattle.std.specs.Prelude.{slice_get}
 use Rattle.std.proofs.lemmas.Result.{IfErr-weaker, IfOk-weaker, on_ok_weaker}
-use Rattle.outside.specs.Reads.{OnlyReads}
-use Rattle.wire_form.specs.declared.bucket.Bucket.{Bucket}
 use Rattle.gleaner.specs.Glean.{AreMappedFiles}
 use Rattle.gleaner.specs.Halves.{RefusesFiles}
 use Rattle.gleaner.proofs.HalfLaws.{both_mapped, both_quiet, both_read, both_refuse}

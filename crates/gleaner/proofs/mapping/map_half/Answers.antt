@@ -1,13 +1,9 @@
 -- One closed log file after another is mapped.
-use Rattle.std.proofs.Common.{◌≡◌, ◌∙◌, ◌++◌, ◌+◌, [], Some, Err, ap, arith, refl, subst, sym}
-use Rattle.std.proofs.lemmas.List.{append-nil}
+use Rattle.std.proofs.Common.{◌∙◌, ◌++◌, ◌+◌, [], Some, Err, ap, arith, refl, subst, sym}
 use Rattle.std.proofs.lemmas.Option.{same_Some}
-use Rattle.lists.specs.declared.memory.OrMemory.{OrMemory}
-use Rattle.lists.specs.declared.memory.OrMemory.TheVariants as or
 use Rattle.outside.specs.Reads.{OnlyReads}
 use Rattle.bucket_queues.specs.PassedLaws.{passed_none, passed_then}
 use Rattle.bucket_queues.specs.Threads.{fault_in}
-use Rattle.gleaner.specs.declared.gleaning.GleanFault.{GleanFault}
 use Rattle.gleaner.specs.declared.gleaning.GleanFault.TheVariants as faults
 use Rattle.gleaner.specs.Glean.{bank_of}
 use Rattle.outside.specs.declared.device.Device.TheVariants as devices
@@ -34,13 +30,13 @@ returns-in-Err-clause-leaves g c =
     let at = c.loop-at.at in
     let e = c.in-Err.ensures in
     record {
-      many = e.length ∙ so.many;
-      reads = reads_one c.args.files.now c.loop-at.files c.map_at.new.files at so.reads e.reads e.others so.many;
+      many = e.others.many ∙ so.many;
+      reads = reads_one c.args.files.now c.loop-at.files c.map_at.new.files at so.reads e.reads e.others.others so.many;
       quiet = λ place was is here there fine.
           quiet_at c.args.files.now c.loop-at.files c.map_at.new.files at place so.quiet
           (λ same was' is' h t. e.quiet was' is' h t (λ told.
           fine (ap fault_in told ∙ ap (λ n. Some (faults.Device (devices.Bank (bank_of c.args.half.now.closed.odd (c.args.half.now.first + n))))) (sym same))))
-          e.others so.many was is here there;
+          e.others.others so.many was is here there;
       damaged = λ device place told.
           let d = e.damaged device place (ap Err (fault_is c.in-Err.fault (faults.Damaged device place) told)) in
           record {
@@ -81,9 +77,9 @@ loop-at-preserved g c =
       buckets = so.buckets ++ one.0;
       mapped = mapped_more c.args.files.now file.0 so.buckets one.0 at so.mapped (sym (so.left at (omega arith)) ∙ file.1) one.2;
       put = passed_then _ _ _ _ _ _ _ _ _ _ _ so.put one.1;
-      left = λ place above. e.others place (λ same. omega (arith, same, above)) ∙ so.left place (omega (arith, above));
-      reads = reads_one c.args.files.now c.loop-at.files c.map_at.new.files at so.reads e.reads e.others so.many;
+      left = λ place above. e.others.others place (λ same. omega (arith, same, above)) ∙ so.left place (omega (arith, above));
+      reads = reads_one c.args.files.now c.loop-at.files c.map_at.new.files at so.reads e.reads e.others.others so.many;
       quiet = quiet_one c.args.files.now c.loop-at.files c.map_at.new.files at so.quiet
-          (λ was is here there. e.quiet was is here there (λ no. absurd (let bad = no in cc))) e.others so.many;
-      many = e.length ∙ so.many;
+          (λ was is here there. e.quiet was is here there (λ no. absurd (let bad = no in cc))) e.others.others so.many;
+      many = e.others.many ∙ so.many;
     }

@@ -1,5 +1,6 @@
 use Rattle.std.proofs.Common.{◌≡◌, ◌<◌, Err, get_or, sym, ap, subst, ◌∙◌, arith}
 use Rattle.std.proofs.lemmas.Option.{same_Some}
+use Rattle.std.proofs.lemmas.Result.{err_from_is_err_and}
 use Rattle.outside.specs.declared.device.Device.TheVariants.{Bank}
 use Rattle.recovery_core.specs.EntriesLast.{TakesIn, all_entries}
 use Rattle.joint_crashes.specs.VaultReads.{RoseIn, vault_reads_none, vault_reads_then, quiet_then}
@@ -38,30 +39,6 @@ returns-in-Err-clause-before g c device is found told p same =
     let cause = c.fault_of.ensures.device device (cc) in
     (n, cause.0, reads_next n c.loop-bank.last (c.loop-bank.invariant.so_far found told p same) below)
 
-pub returns-in-Err-clause-device : goal.returns-in-Err-clause-device
-returns-in-Err-clause-device g c device is =
-    let n = c.loop-bank.bank in
-    let below : n < 16 = omega arith in
-    let cause = c.fault_of.ensures.device device (cc) in
-    subst (λ d. RoseIn g.D.Disk.faults d c.args.vault.now c.map_in.new.vault) (sym cause.0)
-    (maps_rose c.args.vault.now c.map_in.ensures.maps c.requires.whole c.loop-bank.invariant.reads below
-    (c.in-Err.is ∙ ap Err cause.1))
-
-pub returns-in-Err-clause-reads : goal.returns-in-Err-clause-reads
-returns-in-Err-clause-reads g c = vault_reads_then c.loop-bank.invariant.reads (maps_reads c.map_in.ensures.maps)
-
-pub returns-in-Err-clause-spared : goal.returns-in-Err-clause-spared
-returns-in-Err-clause-spared g c not =
-    let n = c.loop-bank.bank in
-    let inv = c.loop-bank.invariant in
-    quiet_then c.map_in.new.vault inv.reads inv.quiet (maps_spared c.map_in.ensures.maps (λ is.
-    not (Bank n) (ap Err (c.fault_of.ensures.failed (cc (is, c.in-Err.is))))))
-
-pub returns-in_err-take_in_buckets-clause-spared : goal.returns-in_err-take_in_buckets-clause-spared
-returns-in_err-take_in_buckets-clause-spared g c not =
-    let inv = c.loop-bank.invariant in
-    quiet_then c.map_in.new.vault inv.reads inv.quiet (maps_quiet c.in-Ok.ensures.maps)
-
 pub loop-bank-preserved : goal.loop-bank-preserved
 loop-bank-preserved g c =
     let n = c.loop-bank.bank in
@@ -96,3 +73,38 @@ returns-clause-lasts g c found told p same =
 pub returns-clause-may_count : goal.returns-clause-may_count
 returns-clause-may_count g c = all_may_count c.args.decls.now c.args.from c.args.to c.loop-bank.last
     c.loop-bank.invariant.some
+
+-- ---- the devices
+
+pub returns-in-Err-clause-devices : goal.returns-in-Err-clause-devices
+returns-in-Err-clause-devices g c =
+    let n = c.loop-bank.bank in
+    let below : n < 16 = omega arith in
+    let inv = c.loop-bank.invariant in
+    record {
+      reads = vault_reads_then inv.reads (maps_reads c.map_in.ensures.maps);
+      device = λ device is.
+          let cause = c.fault_of.ensures.device device (cc) in
+          subst (λ d. RoseIn g.D.Disk.faults d c.args.vault.now c.map_in.new.vault) (sym cause.0)
+          (maps_rose c.args.vault.now c.map_in.ensures.maps c.requires.whole inv.reads below
+          (c.in-Err.is ∙ ap Err cause.1));
+      spared = λ not. quiet_then c.map_in.new.vault inv.reads inv.quiet (maps_spared c.map_in.ensures.maps (λ is.
+          not (Bank n) (ap Err (c.fault_of.ensures.failed (cc (is, c.in-Err.is))))));
+    }
+
+pub returns-in_err-take_in_buckets-clause-devices : goal.returns-in_err-take_in_buckets-clause-devices
+returns-in_err-take_in_buckets-clause-devices g c =
+    let p = err_from_is_err_and c.from_residual.result c.from_residual.ensures.1 in
+    let inv = c.loop-bank.invariant in
+    record {
+      reads = vault_reads_then inv.reads (maps_reads c.map_in.ensures.maps);
+      device = λ device is. absurd (let no = is in cc (no, p.1, p.2));
+      spared = λ not. quiet_then c.map_in.new.vault inv.reads inv.quiet (maps_quiet c.in-Ok.ensures.maps);
+    }
+
+pub returns-clause-devices : goal.returns-clause-devices
+returns-clause-devices g c = record {
+  reads = c.loop-bank.invariant.reads;
+  device = λ device is. absurd (let no = is in cc);
+  spared = λ not. c.loop-bank.invariant.quiet;
+}

@@ -1,6 +1,6 @@
 use Rattle.std.proofs.Common.{◌≡◌, ℕ, List, Option, None, sym, subst, ◌∙◌}
 use Rattle.std.specs.Prelude.{Result, IfOk}
-use Rattle.std.proofs.lemmas.Result.{IfOk-weaker, on_ok_weaker, err_from_is_err_and}
+use Rattle.std.proofs.lemmas.Result.{IfOk-weaker, err_from_is_err_and}
 use Rattle.outside.specs.Disk.{IfTold, Only}
 use Rattle.log_writer.specs.declared.vault.Vault.{Vault}
 use Rattle.log_writer.specs.Points.{SaveState}
@@ -10,7 +10,8 @@ use Rattle.joint_crashes.specs.JointCrash.{parts_of}
 use Rattle.recovery_core.specs.Recovered.{Recovers}
 use Rattle.joint_crashes.specs.Resting.{AreTold}
 use Rattle.recovery_core.specs.declared.recovered.Recovered.{Recovered}
-use Rattle.joint_crashes.specs.VaultReads.{VaultOnlyReads, AreQuiet, told_read, rose_then, stored_read, quiet_then}
+use Rattle.joint_crashes.specs.VaultReads.{VaultOnlyReads, told_read, stored_read}
+use Rattle.recovery_core.specs.ReadsDevices.{reads_as, devices_then}
 use Rattle.recovery_core.proofs.Recovering.{says_none, before_save, before_snaps}
 use Rattle.recovery_core.proofs.recovery.recover.Goals as goal
 
@@ -39,30 +40,18 @@ returns-in-None-clause-recovers g c =
 
 pub returns-in-None-clause-stored : goal.returns-in-None-clause-stored
 returns-in-None-clause-stored g c = stored_ok c.args.vault.now.save c.recover_fresh.result
-    c.in_ok-save.save c.recover_fresh.ensures.reads
+    c.in_ok-save.save c.recover_fresh.ensures.devices.reads
     c.in_ok-save.ensures.found.stored c.recover_fresh.ensures.save
 
 pub returns-in-None-clause-damaged : goal.returns-in-None-clause-damaged
 returns-in-None-clause-damaged g c device at same found told =
     absurd (c.recover_fresh.ensures.damaged device at same found.snaps
-    (told_read c.load_save.ensures.reads c.requires.whole told).snaps)
-
-pub returns-in-None-clause-device : goal.returns-in-None-clause-device
-returns-in-None-clause-device g c device same =
-    rose_then c.recover_fresh.new.vault device c.load_save.ensures.reads c.requires.whole
-    (c.recover_fresh.ensures.device device same)
+    (told_read c.load_save.ensures.devices.reads c.requires.whole told).snaps)
 
 pub returns-in-None-clause-before : goal.returns-in-None-clause-before
 returns-in-None-clause-before g c device same found told =
     before_snaps found c.in_ok-save.save.newest device (c.recover_fresh.ensures.only device same)
     (c.in_ok-save.ensures.found.names found.save told.save)
-
-pub returns-in-None-clause-quiet : goal.returns-in-None-clause-quiet
-returns-in-None-clause-quiet g c =
-    on_ok_weaker {P = AreQuiet g.D.Disk.faults c.load_save.new.vault c.recover_fresh.new.vault}
-    {Q = AreQuiet g.D.Disk.faults c.args.vault.now c.recover_fresh.new.vault} c.recover_fresh.result
-    (quiet_then c.recover_fresh.new.vault c.load_save.ensures.reads c.in_ok-save.ensures.quiet)
-    c.recover_fresh.ensures.quiet
 
 pub returns-in-Some-clause-recovers : goal.returns-in-Some-clause-recovers
 returns-in-Some-clause-recovers g c =
@@ -70,53 +59,40 @@ returns-in-Some-clause-recovers g c =
     (λ r. (found : Images) → AreTold g.D.Disk.tells (parts_of c.load_save.new.vault) found
     → Names found.save c.in_ok-save.save.newest → Recovers found r)
     (λ r. (found : Images) → AreTold g.D.Disk.tells (parts_of c.args.vault.now) found → Recovers found r)
-    (λ r is found told. is found (told_read c.load_save.ensures.reads c.requires.whole told)
+    (λ r is found told. is found (told_read c.load_save.ensures.devices.reads c.requires.whole told)
     (c.in_ok-save.ensures.found.names found.save told.save))
     c.recover_saved.ensures.recovers
 
 pub returns-in-Some-clause-stored : goal.returns-in-Some-clause-stored
 returns-in-Some-clause-stored g c = stored_ok c.args.vault.now.save c.recover_saved.result
-    c.in_ok-save.save c.recover_saved.ensures.reads
+    c.in_ok-save.save c.recover_saved.ensures.devices.reads
     c.in_ok-save.ensures.found.stored c.recover_saved.ensures.save
 
 pub returns-in-Some-clause-damaged : goal.returns-in-Some-clause-damaged
 returns-in-Some-clause-damaged g c device at same found told =
-    c.recover_saved.ensures.damaged device at same found (told_read c.load_save.ensures.reads c.requires.whole told)
+    c.recover_saved.ensures.damaged device at same found (told_read c.load_save.ensures.devices.reads c.requires.whole told)
     (c.in_ok-save.ensures.found.names found.save told.save)
-
-pub returns-in-Some-clause-device : goal.returns-in-Some-clause-device
-returns-in-Some-clause-device g c device same =
-    rose_then c.recover_saved.new.vault device c.load_save.ensures.reads c.requires.whole
-    (c.recover_saved.ensures.device device same)
 
 pub returns-in-Some-clause-before : goal.returns-in-Some-clause-before
 returns-in-Some-clause-before g c device same found told =
-    c.recover_saved.ensures.before device same found (told_read c.load_save.ensures.reads c.requires.whole told)
+    c.recover_saved.ensures.before device same found (told_read c.load_save.ensures.devices.reads c.requires.whole told)
     (c.in_ok-save.ensures.found.names found.save told.save)
-
-pub returns-in-Some-clause-quiet : goal.returns-in-Some-clause-quiet
-returns-in-Some-clause-quiet g c =
-    on_ok_weaker {P = AreQuiet g.D.Disk.faults c.load_save.new.vault c.recover_saved.new.vault}
-    {Q = AreQuiet g.D.Disk.faults c.args.vault.now c.recover_saved.new.vault} c.recover_saved.result
-    (quiet_then c.recover_saved.new.vault c.load_save.ensures.reads c.in_ok-save.ensures.quiet)
-    c.recover_saved.ensures.quiet
 
 pub returns-in_err-save-clause-before : goal.returns-in_err-save-clause-before
 returns-in_err-save-clause-before g c device same found told =
     let p = err_from_is_err_and c.from_residual.result c.from_residual.ensures.1 in
     before_save found device (c.in_err-save.ensures.only device (cc (same, p.1, p.2)))
 
-pub returns-in_err-save-clause-spared : goal.returns-in_err-save-clause-spared
-returns-in_err-save-clause-spared g c not =
+pub returns-in_err-save-clause-devices : goal.returns-in_err-save-clause-devices
+returns-in_err-save-clause-devices g c =
     let p = err_from_is_err_and c.from_residual.result c.from_residual.ensures.1 in
-    c.in_err-save.ensures.spared (λ device is. not device (cc (is, p.1, p.2)))
+    reads_as c.from_residual.result (λ device is. cc (is, p.1, p.2)) (λ device is. cc (is, p.1, p.2))
+    c.in_err-save.ensures.devices
 
-pub returns-in-None-clause-spared : goal.returns-in-None-clause-spared
-returns-in-None-clause-spared g c not =
-    quiet_then c.recover_fresh.new.vault c.load_save.ensures.reads c.in_ok-save.ensures.quiet
-    (c.recover_fresh.ensures.spared not)
+pub returns-in-None-clause-devices : goal.returns-in-None-clause-devices
+returns-in-None-clause-devices g c = devices_then c.requires.whole (λ device is. let no = is in cc)
+    c.in_ok-save.ensures.devices c.recover_fresh.ensures.devices
 
-pub returns-in-Some-clause-spared : goal.returns-in-Some-clause-spared
-returns-in-Some-clause-spared g c not =
-    quiet_then c.recover_saved.new.vault c.load_save.ensures.reads c.in_ok-save.ensures.quiet
-    (c.recover_saved.ensures.spared not)
+pub returns-in-Some-clause-devices : goal.returns-in-Some-clause-devices
+returns-in-Some-clause-devices g c = devices_then c.requires.whole (λ device is. let no = is in cc)
+    c.in_ok-save.ensures.devices c.recover_saved.ensures.devices

@@ -8,6 +8,7 @@ use Rattle.serial_model.specs.declared.decl.Decl.{Decl}
 use Rattle.wire_form.specs.Items.{Rises}
 use Rattle.log_writer.specs.Points.{saved_of}
 use Rattle.recovery_core.specs.EntriesLast.{EntryMap}
+use Rattle.recovery_core.specs.ReadsDevices.{reads_as}
 use Rattle.recovery_core.proofs.Recovering.{fresh_recovers}
 use Rattle.recovery_core.proofs.recovery.recover_fresh.Goals as goal
 
@@ -39,7 +40,12 @@ returns-clause-up g c = record {
   );
 }
 
-pub returns-in_err-store-clause-spared : goal.returns-in_err-store-clause-spared
-returns-in_err-store-clause-spared g c not =
+pub returns-in_err-store-clause-devices : goal.returns-in_err-store-clause-devices
+returns-in_err-store-clause-devices g c =
     let p = err_from_is_err_and c.from_residual.result c.from_residual.ensures.1 in
-    c.in_err-store.ensures.spared (λ device is. not device (cc (is, p.1, p.2)))
+    reads_as c.from_residual.result (λ device is. cc (is, p.1, p.2)) (λ device is. cc (is, p.1, p.2))
+    c.in_err-store.ensures.devices
+
+pub returns-clause-devices : goal.returns-clause-devices
+returns-clause-devices g c = reads_as _ (λ device is. absurd (let no = is in cc))
+    (λ device is. absurd (let no = is in cc)) c.in_ok-store.ensures.devices

@@ -10,7 +10,8 @@ use Rattle.recovery_core.specs.Catalogues.{newest_epoch}
 use Rattle.recovery_core.specs.EntriesRun.{AllMayCount}
 use Rattle.recovery_core.specs.LogEntries.{AreCounted}
 use Rattle.recovery_core.specs.Recoverable.{value_over}
-use Rattle.joint_crashes.specs.VaultReads.{vault_reads_then, told_read, rose_then, holds_read, quiet_then}
+use Rattle.joint_crashes.specs.VaultReads.{told_read, holds_read}
+use Rattle.recovery_core.specs.ReadsDevices.{reads_as, devices_then}
 use Rattle.recovery_core.proofs.Recovering.{says_some, reads_pages, ids_rise, damaged_snaps, damaged_file}
 use Rattle.recovery_core.proofs.Recovering.{saved_recovers, before_snaps, before_file}
 use Rattle.recovery_core.proofs.recovery.recover_saved.Goals as goal
@@ -43,7 +44,7 @@ returns-in_err-entries-clause-damaged g c device at same found told names =
     let pages = reads_pages found.snaps c.args.saved point.0 snapshot.0 c.in_ok-snapshot.snapshot point.2 snapshot.1
     (c.in_ok-snapshot.ensures.pages found.snaps told.snaps) in
     let broken = c.in_err-entries.ensures.damaged device at (cc (same, p.1, p.2)) found
-    (told_read c.load_snapshot.ensures.reads c.requires.whole told) point.0
+    (told_read c.load_snapshot.ensures.devices.reads c.requires.whole told) point.0
     (sym (ap (λ (x : Saved). x.lengths) point.2)) in
     damaged_file found c.args.save.newest point.0 device broken.0 at
     (words_of c.in_ok-snapshot.snapshot.store.pages) snapshot.0
@@ -57,27 +58,18 @@ returns-in_err-entries-clause-before g c device same found told names =
     let pages = reads_pages found.snaps c.args.saved point.0 snapshot.0 c.in_ok-snapshot.snapshot point.2 snapshot.1
     (c.in_ok-snapshot.ensures.pages found.snaps told.snaps) in
     let before = c.in_err-entries.ensures.before device (cc (same, p.1, p.2)) found
-    (told_read c.load_snapshot.ensures.reads c.requires.whole told) point.0
+    (told_read c.load_snapshot.ensures.devices.reads c.requires.whole told) point.0
     (sym (ap (λ (x : Saved). x.lengths) point.2)) in
     before_file found c.args.save.newest point.0 device before.0
     (words_of c.in_ok-snapshot.snapshot.store.pages) snapshot.0
     c.as_slice-decls.result.now point.1 before.1 names pages (c.as_slice-decls.ensures ∙ snapshot.1.decls_are) before.2
-
-pub returns-in_err-entries-clause-device : goal.returns-in_err-entries-clause-device
-returns-in_err-entries-clause-device g c device same =
-    let p = err_from_is_err_and c.from_residual-in_err-entries.result c.from_residual-in_err-entries.ensures.1 in
-    rose_then c.read_entries.new.vault device c.load_snapshot.ensures.reads c.requires.whole
-    (c.in_err-entries.ensures.device device (cc (same, p.1, p.2)))
-
-pub returns-in_err-entries-clause-reads : goal.returns-in_err-entries-clause-reads
-returns-in_err-entries-clause-reads g c = vault_reads_then c.load_snapshot.ensures.reads c.read_entries.ensures.reads
 
 pub returns-clause-recovers : goal.returns-clause-recovers
 returns-clause-recovers g c found told names =
     let point = says_some c.args.save.newest c.args.saved c.requires.says in
     let snapshot = c.in_ok-snapshot.ensures.snapshot in
     let lasts = c.in_ok-entries.ensures.lasts found
-    (told_read c.load_snapshot.ensures.reads c.requires.whole told) point.0
+    (told_read c.load_snapshot.ensures.devices.reads c.requires.whole told) point.0
     (sym (ap (λ (x : Saved). x.lengths) point.2)) in
     let counted = subst (λ (l : List Decl). AreCounted l point.0 found.bank lasts.0) c.as_slice-decls.ensures lasts.1
     in
@@ -89,12 +81,7 @@ returns-clause-recovers g c found told names =
 
 pub returns-clause-holds : goal.returns-clause-holds
 returns-clause-holds g c =
-    holds_read c.in_ok-snapshot.snapshot.store.pages c.read_entries.ensures.reads c.in_ok-snapshot.ensures.holds
-
-pub returns-clause-quiet : goal.returns-clause-quiet
-returns-clause-quiet g c =
-    quiet_then c.read_entries.new.vault c.load_snapshot.ensures.reads c.in_ok-snapshot.ensures.quiet
-    c.in_ok-entries.ensures.quiet
+    holds_read c.in_ok-snapshot.snapshot.store.pages c.read_entries.ensures.devices.reads c.in_ok-snapshot.ensures.holds
 
 pub returns-clause-up : goal.returns-clause-up
 returns-clause-up g c =
@@ -125,23 +112,29 @@ returns-clause-up g c =
       };
     }
 
-pub returns-in_err-snapshot-clause-spared : goal.returns-in_err-snapshot-clause-spared
-returns-in_err-snapshot-clause-spared g c not =
+-- ---- the devices
+
+pub returns-in_err-snapshot-clause-devices : goal.returns-in_err-snapshot-clause-devices
+returns-in_err-snapshot-clause-devices g c =
     let p = err_from_is_err_and c.from_residual.result c.from_residual.ensures.1 in
-    c.in_err-snapshot.ensures.spared (λ device is. not device (cc (is, p.1, p.2)))
+    reads_as c.from_residual.result (λ device is. cc (is, p.1, p.2)) (λ device is. cc (is, p.1, p.2))
+    c.in_err-snapshot.ensures.devices
 
-pub returns-in_err-entries-clause-spared : goal.returns-in_err-entries-clause-spared
-returns-in_err-entries-clause-spared g c not =
+pub returns-in_err-entries-clause-devices : goal.returns-in_err-entries-clause-devices
+returns-in_err-entries-clause-devices g c =
     let p = err_from_is_err_and c.from_residual-in_err-entries.result c.from_residual-in_err-entries.ensures.1 in
-    quiet_then c.read_entries.new.vault c.load_snapshot.ensures.reads c.in_ok-snapshot.ensures.quiet
-    (c.in_err-entries.ensures.spared (λ device is. not device (cc (is, p.1, p.2))))
+    devices_then c.requires.whole (λ device is. let no = is in cc) c.in_ok-snapshot.ensures.devices
+    (reads_as c.from_residual-in_err-entries.result (λ device is. cc (is, p.1, p.2)) (λ device is. cc (is, p.1, p.2))
+    c.in_err-entries.ensures.devices)
 
-pub returns-in_err-put_over-clause-spared : goal.returns-in_err-put_over-clause-spared
-returns-in_err-put_over-clause-spared g c not =
-    quiet_then c.read_entries.new.vault c.load_snapshot.ensures.reads c.in_ok-snapshot.ensures.quiet
-    c.in_ok-entries.ensures.quiet
+pub returns-in_err-put_over-clause-devices : goal.returns-in_err-put_over-clause-devices
+returns-in_err-put_over-clause-devices g c =
+    let p = err_from_is_err_and c.from_residual-in_err-put_over.result c.from_residual-in_err-put_over.ensures.1 in
+    devices_then c.requires.whole (λ device is. let no = is in cc) c.in_ok-snapshot.ensures.devices
+    (reads_as c.from_residual-in_err-put_over.result (λ device is. absurd (let no = is in cc (no, p.1, p.2)))
+    (λ device is. absurd (let no = is in cc)) c.in_ok-entries.ensures.devices)
 
-pub returns-clause-spared : goal.returns-clause-spared
-returns-clause-spared g c not =
-    quiet_then c.read_entries.new.vault c.load_snapshot.ensures.reads c.in_ok-snapshot.ensures.quiet
-    c.in_ok-entries.ensures.quiet
+pub returns-clause-devices : goal.returns-clause-devices
+returns-clause-devices g c = devices_then c.requires.whole (λ device is. let no = is in cc)
+    c.in_ok-snapshot.ensures.devices (reads_as _ (λ device is. absurd (let no = is in cc))
+    (λ device is. absurd (let no = is in cc)) c.in_ok-entries.ensures.devices)

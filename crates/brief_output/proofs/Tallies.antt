@@ -4,7 +4,7 @@ use Rattle.std.specs.Prelude.{filter, fold, sum_by}
 use Rattle.std.specs.Option.{option_or}
 use Rattle.std.proofs.lemmas.List.{map-append}
 use Rattle.std.proofs.lemmas.List.Sums.{fold-append, sum_by-append, sum_by-cons}
-use Rattle.tx_script.specs.Draws.{commits_of}
+use Rattle.tx_script.specs.Draws.{commit_count}
 use Rattle.tx_script.specs.Run.{Ran, is_commit}
 use Rattle.tx_script.specs.declared.outcome.Outcome.{Outcome}
 use Rattle.brief_output.specs.declared.tally.Tally.{Tally}
@@ -45,7 +45,7 @@ left_from xs i x within is = rw add-one (drop-cons xs i x within) ∙ ap (λ y. 
 
 -- the commits of the workers so far, and of those that are left
 pub record RoundSoFar (commits index : ℕ) (outcomes : List (List Outcome)) : Type 0 where
-  pub whole : commits + commits_of (drop index outcomes) ≡ commits_of outcomes
+  pub whole : commits + commit_count (drop index outcomes) ≡ commit_count outcomes
   pub few : commits + sum_by length (drop index outcomes) ≤ sum_by length outcomes
 
 pub one_worker : (commits index more : ℕ) (outcomes : List (List Outcome)) (worker : List Outcome) → RoundSoFar commits index outcomes
@@ -53,7 +53,7 @@ pub one_worker : (commits index more : ℕ) (outcomes : List (List Outcome)) (wo
     → RoundSoFar (commits + more) (index + 1) outcomes
 one_worker commits index more outcomes worker so within is count few =
     let left = left_from outcomes index worker within is in
-    let sums : commits_of (drop index outcomes) ≡ commits_of (worker ∷ drop (index + 1) outcomes) = ap commits_of left in
+    let sums : commit_count (drop index outcomes) ≡ commit_count (worker ∷ drop (index + 1) outcomes) = ap commit_count left in
     let first = sum_by-cons (λ (xs : List Outcome). length (filter is_commit xs)) worker (drop (index + 1) outcomes) in
     let lines : sum_by length (drop index outcomes) ≡ sum_by length (worker ∷ drop (index + 1) outcomes) = ap (λ (xs : List (List Outcome)). sum_by length xs) left in
     let line = sum_by-cons (λ (xs : List Outcome). length xs) worker (drop (index + 1) outcomes) in
@@ -73,35 +73,35 @@ fits_so_far commits index more outcomes worker so within is few =
 
 -- ---- one more round
 
-commits_in-more : (rans : List Ran) (ran : Ran) → commits_in (rans ++ ran ∷ []) ≡ commits_in rans + commits_of ran.outcomes
+commits_in-more : (rans : List Ran) (ran : Ran) → commits_in (rans ++ ran ∷ []) ≡ commits_in rans + commit_count ran.printed.outcomes
 commits_in-more rans ran =
-    let f : Ran → ℕ = λ r. commits_of r.outcomes in
+    let f : Ran → ℕ = λ r. commit_count r.printed.outcomes in
     let e = sum_by-append f rans (ran ∷ []) in
     let one = sum_by-cons f ran [] in
     omega (arith, e, one)
 
-last_durable-more : (rans : List Ran) (ran : Ran) → last_durable (rans ++ ran ∷ []) ≡ option_or ran.durable (last_durable rans)
+last_durable-more : (rans : List Ran) (ran : Ran) → last_durable (rans ++ ran ∷ []) ≡ option_or ran.printed.durable (last_durable rans)
 last_durable-more rans ran =
     let later : Option ℕ → Option ℕ → Option ℕ = λ before durable. option_or durable before in
-    let of : Ran → Option ℕ = λ r. r.durable in
-    ap (fold later None) (map-append of rans (ran ∷ [])) ∙ fold-append later None (map of rans) (ran.durable ∷ [])
+    let of : Ran → Option ℕ = λ r. r.printed.durable in
+    ap (fold later None) (map-append of rans (ran ∷ [])) ∙ fold-append later None (map of rans) (ran.printed.durable ∷ [])
 
 has_run-more : (rans : List Ran) (ran : Ran) → has_run (rans ++ ran ∷ []) ≡ true
 has_run-more [] ran = refl
 has_run-more (first ∷ rans) ran = refl
 
 tally_of-more : (rans : List Ran) (ran : Ran)
-    → tally_of (rans ++ ran ∷ []) ≡ record { ran = true; commits = commits_in rans + commits_of ran.outcomes; durable = option_or ran.durable (last_durable rans) }
+    → tally_of (rans ++ ran ∷ []) ≡ record { ran = true; commits = commits_in rans + commit_count ran.printed.outcomes; durable = option_or ran.printed.durable (last_durable rans) }
 tally_of-more rans ran =
     ap (λ (b : Bool). record { ran = b; commits = commits_in (rans ++ ran ∷ []); durable = last_durable (rans ++ ran ∷ []) }) (has_run-more rans ran)
     ∙ ap₂ (λ (c : ℕ) (d : Option ℕ). record { ran = true; commits = c; durable = d }) (commits_in-more rans ran) (last_durable-more rans ran)
 
 -- the tally of one round more
-pub tally_added : (old new : Tally) (rans : List Ran) (ran : Ran) → old ≡ tally_of rans → new.ran ≡ true → new.commits ≡ old.commits + commits_of ran.outcomes
-    → new.durable ≡ option_or ran.durable old.durable → new ≡ tally_of (rans ++ ran ∷ [])
+pub tally_added : (old new : Tally) (rans : List Ran) (ran : Ran) → old ≡ tally_of rans → new.ran ≡ true → new.commits ≡ old.commits + commit_count ran.printed.outcomes
+    → new.durable ≡ option_or ran.printed.durable old.durable → new ≡ tally_of (rans ++ ran ∷ [])
 tally_added old new rans ran is some commits durable =
     let tally : ℕ → Option ℕ → Tally = λ c d. record { ran = true; commits = c; durable = d } in
     let with_ran : Bool → Tally = λ b. record { ran = b; commits = new.commits; durable = new.durable } in
     let before : old.commits ≡ commits_in rans = ap (λ (t : Tally). t.commits) is in
     let last : old.durable ≡ last_durable rans = ap (λ (t : Tally). t.durable) is in
-    ap with_ran some ∙ ap₂ tally (commits ∙ ap (λ n. n + commits_of ran.outcomes) before) (durable ∙ ap (option_or ran.durable) last) ∙ sym (tally_of-more rans ran)
+    ap with_ran some ∙ ap₂ tally (commits ∙ ap (λ n. n + commit_count ran.printed.outcomes) before) (durable ∙ ap (option_or ran.printed.durable) last) ∙ sym (tally_of-more rans ran)

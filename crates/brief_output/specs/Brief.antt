@@ -5,7 +5,7 @@ use Rattle.std.specs.FinMap.{entries}
 use Rattle.std.specs.Option.{option_or}
 use Rattle.serial_model.specs.State.{State}
 use Rattle.text_output.specs.Output.{Bytes}
-use Rattle.tx_script.specs.Draws.{commits_of}
+use Rattle.tx_script.specs.Draws.{commit_count}
 use Rattle.tx_script.specs.Run.{Ran}
 use Rattle.tx_script.specs.Text.{durable_text}
 use Rattle.brief_output.specs.declared.tally.Tally.{Tally}
@@ -14,11 +14,11 @@ use Rattle.brief_output.specs.declared.tally.Tally.{Tally}
 
 -- how many transactions of these rounds committed
 abbrev pub commits_in : List Ran → ℕ
-commits_in rans = sum_by (λ ran. commits_of ran.outcomes) rans
+commits_in rans = sum_by (λ ran. commit_count ran.printed.outcomes) rans
 
 -- the last epoch that one of the rounds made durable, if any did
 abbrev pub last_durable : List Ran → Option ℕ
-last_durable rans = fold (λ before durable. option_or durable before) None (map (λ ran. ran.durable) rans)
+last_durable rans = fold (λ before durable. option_or durable before) None (map (λ ran. ran.printed.durable) rans)
 
 -- there are rounds that were run
 abbrev pub has_run : List Ran → Bool

@@ -1,6 +1,6 @@
 // The commits of a run, and the last epoch that was made durable.
 ghost use Rattle.std.specs.Prelude.{◌≡◌, ◌+◌, ◌<◌, ◌≤◌, ◌^◌, ◌++◌, [], ◌∷◌, List, filter, length, sum_by};
-ghost use Rattle.tx_script.specs.Draws.{commits_of};
+ghost use Rattle.tx_script.specs.Draws.{commit_count};
 ghost use Rattle.tx_script.specs.Flat.{outcome_lent};
 ghost use Rattle.tx_script.specs.Run.{Ran, is_commit};
 ghost use Rattle.brief_output.specs.Brief.{tally_of};
@@ -33,19 +33,19 @@ impl Tally {
     /// One more round was run.
     pub fn add(&mut self, outcomes: &RoundOutcomes, durable: Option<u32>)
         requires few { self.old.commits + sum_by length outcomes.now < 2 ^ 64 }
-        ensures adds { (rans : List Ran) (ran : Ran) → self.old ≡ tally_of rans → ran.outcomes ≡ outcomes.now
-            → ran.durable ≡ durable → self.new ≡ tally_of (rans ++ ran ∷ []) }
+        ensures adds { (rans : List Ran) (ran : Ran) → self.old ≡ tally_of rans → ran.printed.outcomes ≡ outcomes.now
+            → ran.printed.durable ≡ durable → self.new ≡ tally_of (rans ++ ran ∷ []) }
     {
         self.ran = true;
-        self.commits += commits_of(outcomes.as_slice());
+        self.commits += commit_count(outcomes.as_slice());
         self.durable = durable.or(self.durable);
     }
 }
 
 /// How many transactions of a round committed.
-fn commits_of(outcomes: &[Outcomes]) -> u64
+fn commit_count(outcomes: &[Outcomes]) -> u64
     requires few { sum_by length outcomes.now < 2 ^ 64 }
-    ensures count { result ≡ commits_of outcomes.now }
+    ensures count { result ≡ commit_count outcomes.now }
     ensures few { result ≤ sum_by length outcomes.now }
 {
     let mut commits = 0;

@@ -29,10 +29,11 @@ longest_line = 400
 abbrev pub file_of : Bool → ℕ → Device
 file_of odd worker = devices.Bank (if odd then 2 * worker + 1 else 2 * worker)
 
--- the log file that this worker's lines go to, and its closed one
+-- the log file that this worker's lines go to
 abbrev pub log_of : LogFiles → ℕ → Device
 log_of files worker = file_of files.odd worker
 
+-- its closed one
 abbrev pub closed_of : LogFiles → ℕ → Device
 closed_of files worker = file_of (not files.odd) worker
 
@@ -60,10 +61,12 @@ UnrunLast (outcome ∷ outcomes) = MatchBool (is_unrun outcome) (AllByRecursion 
     (UnrunLast outcomes)
 
 -- Each worker's outcomes have their causes, by the refusals of its lines' tries and by what refused its log: `ComesTo`.
-abbrev pub WorkersCaused : Ran → List (Option LogRefusal) → List (List Outcome) → List (List (List TryRefusal)) → Type 0
+abbrev pub WorkersCaused : Ran → List (Option LogRefusal) → List (List Outcome) → List (List (List TryRefusal))
+    → Type 0
 WorkersCaused ran [] [] [] = ⊤
 WorkersCaused ran (log ∷ logs) (outcomes ∷ more) (refused ∷ others) =
-    AllCome ran.begin.draw ran.end.draw ran.tries log outcomes refused × UnrunLast outcomes × WorkersCaused ran logs more others
+    AllCome ran.printed.begin.draw ran.printed.end.draw ran.beside.tries log outcomes refused × UnrunLast outcomes
+    × WorkersCaused ran logs more others
 WorkersCaused ran _ _ _ = ⊥
 
 -- ---- the maintenance thread
@@ -99,16 +102,16 @@ some_counted counted = list_any (λ n. nat_lt 0 n) counted
 -- where it stands as a round begins
 abbrev pub keeper_before : Ran → KeeperAt
 keeper_before ran = record {
-  epoch = ran.begin.epoch;
-  sequence = ran.sequence;
-  pages = ran.pages;
-  counted = some_counted ran.files.counted;
+  epoch = ran.printed.begin.epoch;
+  sequence = ran.beside.sequence;
+  pages = ran.beside.pages;
+  counted = some_counted ran.beside.files.counted;
   refused = false;
 }
 
 -- where it stands after the round's lines
 abbrev pub keeper_at_end : Ran → KeeperAt
-keeper_at_end ran = fold keeper_after (keeper_before ran) ran.answers
+keeper_at_end ran = fold keeper_after (keeper_before ran) ran.printed.answers
 
 -- The saved epoch: the least of the clock's epoch less 1 and of the epochs of the marks that aren't idle.
 abbrev pub saved_epoch : ℕ → List (Option ℕ) → ℕ
@@ -126,7 +129,7 @@ abbrev pub IsGleanDevice : Ran → Device → Type 0
 IsGleanDevice ran devices.Save = ⊥
 IsGleanDevice ran devices.Snaps = ⊤
 IsGleanDevice ran (devices.Bank number) =
-    (worker : ℕ) × (worker < 8) × (devices.Bank number ≡ closed_of ran.files worker)
+    (worker : ℕ) × (worker < 8) × (devices.Bank number ≡ closed_of ran.beside.files worker)
 
 -- The cause of an answer to a line that is run, as the maintenance thread stands before it. A save names the saved
 -- epoch by the marks that it saw. A snapshot is one of the epoch at which the closed log files were closed, and is made
@@ -135,19 +138,19 @@ abbrev pub IsAnswerTo : Ran → KeeperAt → KeeperLine → Answer → Type 0
 IsAnswerTo ran k asks.Epoch (answers.Epoch epoch) = (k.epoch < last_epoch) × (epoch ≡ k.epoch + 1)
 IsAnswerTo ran k asks.Epoch answers.Limit = k.epoch ≡ last_epoch
 IsAnswerTo ran k asks.Save (answers.Save epoch) = (k.sequence < last_sequence) × (seen : List (Option ℕ))
-    × AreMarksOf ran.marks seen × (epoch ≡ saved_epoch k.epoch seen)
+    × AreMarksOf ran.beside.marks seen × (epoch ≡ saved_epoch k.epoch seen)
 IsAnswerTo ran k asks.Save answers.Limit = k.sequence ≡ last_sequence
-IsAnswerTo ran k asks.Save answers.Device = (k.sequence < last_sequence) × Contains ran.devices devices.Save
+IsAnswerTo ran k asks.Save answers.Device = (k.sequence < last_sequence) × Contains ran.beside.devices devices.Save
 IsAnswerTo ran k asks.Glean answers.Empty = k.counted ≡ false
-IsAnswerTo ran k asks.Glean (answers.Snap epoch new) = (k.counted ≡ true) × (epoch ≡ ran.files.closed_at)
-    × Contains ran.gleans (Some new) × (k.pages + new ≤ ran.room)
-IsAnswerTo ran k asks.Glean answers.SnapFull = (k.counted ≡ true) × (new : ℕ) × Contains ran.gleans (Some new)
-    × (ran.room < k.pages + new)
-IsAnswerTo ran k asks.Glean answers.Deep = (k.counted ≡ true) × Contains ran.gleans None
-IsAnswerTo ran k asks.Glean answers.Device = (k.counted ≡ true) × (device : Device) × Contains ran.devices device
+IsAnswerTo ran k asks.Glean (answers.Snap epoch new) = (k.counted ≡ true) × (epoch ≡ ran.beside.files.closed_at)
+    × Contains ran.beside.gleans (Some new) × (k.pages + new ≤ ran.beside.room)
+IsAnswerTo ran k asks.Glean answers.SnapFull = (k.counted ≡ true) × (new : ℕ) × Contains ran.beside.gleans (Some new)
+    × (ran.beside.room < k.pages + new)
+IsAnswerTo ran k asks.Glean answers.Deep = (k.counted ≡ true) × Contains ran.beside.gleans None
+IsAnswerTo ran k asks.Glean answers.Device = (k.counted ≡ true) × (device : Device) × Contains ran.beside.devices device
     × IsGleanDevice ran device
 IsAnswerTo ran k asks.Glean answers.Damaged = (k.counted ≡ true) × (worker : ℕ) × (worker < 8) × (at : ℕ)
-    × (ran.damaged ≡ Some (closed_of ran.files worker, at))
+    × (ran.beside.damaged ≡ Some (closed_of ran.beside.files worker, at))
 IsAnswerTo ran k asks.Glean answers.Memory = k.counted ≡ true
 IsAnswerTo ran k line answer = ⊥
 
@@ -167,11 +170,11 @@ AnswersCaused ran k (line ∷ lines) [] = ⊥
 
 -- each outcome, each answer and each refusal of a log has its cause
 pub record AllCaused (ran : Ran) : Type 0 where
-  pub logs : LogsCaused ran.files ran.devices 0 ran.logs
-  pub outcomes : WorkersCaused ran ran.logs ran.outcomes ran.refused
-  pub answers : AnswersCaused ran (keeper_before ran) ran.asked ran.answers
+  pub logs : LogsCaused ran.beside.files ran.beside.devices 0 ran.beside.logs
+  pub outcomes : WorkersCaused ran ran.beside.logs ran.printed.outcomes ran.beside.refused
+  pub answers : AnswersCaused ran (keeper_before ran) ran.printed.asked ran.printed.answers
 
 -- The steps of the join are left out: a log was refused in the round, or a keeper line in a way after which none is
 -- run.
 abbrev pub leaves_join_out : Ran → Bool
-leaves_join_out ran = list_any is_some ran.logs || (keeper_at_end ran).refused
+leaves_join_out ran = list_any is_some ran.beside.logs || (keeper_at_end ran).refused

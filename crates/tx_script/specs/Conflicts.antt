@@ -15,6 +15,7 @@ use Rattle.tx_script.specs.declared.outcome.Outcome.TheVariants.{Conflict}
 
 -- ---- the keys of a line
 
+-- two keys are one
 abbrev pub same_key : Key → Key → Bool
 same_key a b = (a.storage == b.storage) && (a.key == b.key)
 
@@ -36,10 +37,11 @@ changes_key k (Add q value) = same_key q k
 changes_key k (Take q value) = same_key q k
 changes_key k (Scan storage low high) = false
 
--- a line touches it, and may change it
+-- an operation of the line touches the key
 abbrev pub touches : List Op → Key → Bool
 touches ops k = list_any (touches_key k) ops
 
+-- an operation of the line may change the key
 abbrev pub changes : List Op → Key → Bool
 changes ops k = list_any (changes_key k) ops
 
@@ -60,6 +62,7 @@ pub record IsMetBy (lines : List (List (List Op))) (worker : ℕ) (ops : List Op
   pub other : by ≢ worker
   pub changer : ChangesIn lines by met.key
 
+-- a try that was refused in conflict met another worker's line so
 abbrev pub IsMet : List (List (List Op)) → ℕ → List Op → TryRefusal → Type 0
 IsMet lines worker ops (InConflict met) = IsMetBy lines worker ops met
 IsMet lines worker ops NoNumber = ⊤
@@ -82,15 +85,16 @@ WorkersMet lines worker (mine ∷ more) [] = ⊥
 
 -- Each conflict of the round is with a line of another worker in it.
 pub record AreMet (ran : Ran) (round : Round) : Type 0 where
-  pub workers : WorkersMet (worker_lines round) 0 (worker_lines round) ran.refused
+  pub workers : WorkersMet (worker_lines round) 0 (worker_lines round) ran.beside.refused
 
 -- ---- what is told
 
 -- A line that is told in conflict met a line of another worker.
-pub conflict_met : (lines : List (List (List Op))) (worker first last tries : ℕ) (log : Option LogRefusal) (ops : List Op)
-    (refusals : List TryRefusal) → 1 ≤ tries → ComesTo first last tries log Conflict refusals
+pub conflict_met : (lines : List (List (List Op))) (worker first last tries : ℕ) (log : Option LogRefusal)
+    (ops : List Op) (refusals : List TryRefusal) → 1 ≤ tries → ComesTo first last tries log Conflict refusals
     → AllByRecursion (IsMet lines worker ops) refusals → (met : Met) × IsMetBy lines worker ops met
-conflict_met lines worker first last tries log ops [] some come all = absurd (let none = come.2 in omega (arith, some, none))
+conflict_met lines worker first last tries log ops [] some come all =
+    absurd (let none = come.2 in omega (arith, some, none))
 conflict_met lines worker first last tries log ops (InConflict met ∷ more) some come all = (met, all.0)
 conflict_met lines worker first last tries log ops (NoNumber ∷ more) some come all = absurd (let no = come.1.0 in cc)
 

@@ -1,6 +1,6 @@
 -- How many numbers a round draws: one for each commit, and one for each try that was refused behind its draw. And how
--- many lines a script's text has; and the laws that a round draws no more numbers than its lines have tries, that a line
--- is refused a number only where the draws are used up, and that with few tries a line no script comes to that.
+-- many lines a script's text has. The laws: a round draws no more numbers than its lines have tries; a line is refused
+-- a number only where the draws are used up; and with few tries a line no script comes to that.
 use Rattle.std.specs.Prelude.{◌≡◌, ◌⊎◌, ◌≤◌, ◌<◌, ◌+◌, ◌-◌, ◌*◌, ◌==◌, ◌||◌, ℕ, Bool, true, false, Option}
 use Rattle.std.specs.Prelude.{List, [], ◌∷◌, ◌++◌, length, map, filter, sum_by, codes, cond, nat_lt, Contains, ⊤}
 use Rattle.std.specs.List.{AllByRecursion, list_any, slice_split}
@@ -25,35 +25,38 @@ use Rattle.tx_script.specs.Run.{RunsClocks, TryRefusal, clock_after, is_commit, 
 use Rattle.tx_script.specs.Tries.{AllCome, ComesTo}
 
 -- how many of the outcomes are commits
-abbrev pub commits_of : List (List Outcome) → ℕ
-commits_of = sum_by (λ outcomes. length (filter is_commit outcomes))
+abbrev pub commit_count : List (List Outcome) → ℕ
+commit_count = sum_by (λ outcomes. length (filter is_commit outcomes))
 
 -- 1 for a try that was refused behind its draw
 abbrev pub drew_by : TryRefusal → ℕ
 drew_by (InConflict met) = cond met.drew 1 0
 drew_by NoNumber = 0
 
--- how many numbers were drawn for tries of a line that were refused, of a worker's lines, and of all lines
+-- how many numbers were drawn for tries of a line that were refused
 abbrev pub lost_of_line : List TryRefusal → ℕ
 lost_of_line refusals = sum_by drew_by refusals
 
+-- the same of a worker's lines
 abbrev pub lost_of_lines : List (List TryRefusal) → ℕ
 lost_of_lines refused = sum_by lost_of_line refused
 
+-- the same of all lines
 abbrev pub lost_of : List (List (List TryRefusal)) → ℕ
 lost_of refused = sum_by lost_of_lines refused
 
 -- Each number of the round was drawn for one of its commits, or for a try that was refused behind its draw.
 abbrev pub DrawsAreCounted : Ran → Type 0
-DrawsAreCounted ran = ran.end.draw ≡ ran.begin.draw + commits_of ran.outcomes + lost_of ran.refused
+DrawsAreCounted ran =
+    ran.printed.end.draw ≡ ran.printed.begin.draw + commit_count ran.printed.outcomes + lost_of ran.beside.refused
 
 -- A number was drawn for each commit of the round, and none besides.
 abbrev pub DrawsOnce : Ran → Type 0
-DrawsOnce ran = ran.end.draw ≡ ran.begin.draw + commits_of ran.outcomes
+DrawsOnce ran = ran.printed.end.draw ≡ ran.printed.begin.draw + commit_count ran.printed.outcomes
 
 -- The round drew no more numbers than its lines have tries, each so many.
 abbrev pub DrawsWithin : ℕ → Ran → Type 0
-DrawsWithin tries ran = ran.end.draw ≤ ran.begin.draw + tries * sum_by length ran.outcomes
+DrawsWithin tries ran = ran.printed.end.draw ≤ ran.printed.begin.draw + tries * sum_by length ran.printed.outcomes
 
 -- ---- rounds of storages among which is a tree: their lines are run one after another
 
@@ -62,11 +65,11 @@ abbrev pub HasTree : List Decl → Type 0
 HasTree decls = (id : ℕ) × Contains decls (Tree id)
 
 -- A line commits with a number below the last draws, meets these, or is left out: nobody is in its way.
-abbrev pub IsPlain : Outcome → Type 0
-IsPlain (Committed verdict number replies) = number.draw < draw_limit
-IsPlain Limit = ⊤
-IsPlain Unrun = ⊤
-IsPlain _ = ⊥
+abbrev pub IsUnhindered : Outcome → Type 0
+IsUnhindered (Committed verdict number replies) = number.draw < draw_limit
+IsUnhindered Limit = ⊤
+IsUnhindered Unrun = ⊤
+IsUnhindered _ = ⊥
 
 -- no try met another transaction
 abbrev pub IsAlone : TryRefusal → Type 0
@@ -75,13 +78,13 @@ IsAlone NoNumber = ⊤
 
 -- so it is of each line of the round, and of each of its tries
 pub record RunsPlainly (ran : Ran) : Type 0 where
-  pub plain : AllByRecursion (AllByRecursion IsPlain) ran.outcomes
-  pub alone : AllByRecursion (AllByRecursion (AllByRecursion IsAlone)) ran.refused
+  pub plain : AllByRecursion (AllByRecursion IsUnhindered) ran.printed.outcomes
+  pub alone : AllByRecursion (AllByRecursion (AllByRecursion IsAlone)) ran.beside.refused
 
 -- so it is of each line of the round, and each number that was drawn is a commit's
 pub record RunsOnce (ran : Ran) : Type 0 where
   pub once : DrawsOnce ran
-  pub plain : AllByRecursion (AllByRecursion IsPlain) ran.outcomes
+  pub plain : AllByRecursion (AllByRecursion IsUnhindered) ran.printed.outcomes
 
 -- ---- what a round draws
 
@@ -106,7 +109,7 @@ lost_nothing (mine ∷ more) all =
 -- A round in which no try met another transaction drew a number for each commit, and none besides.
 pub counted_once : (ran : Ran) → DrawsAreCounted ran → RunsPlainly ran → RunsOnce ran
 counted_once ran counted plainly = record {
-  once = omega (arith, counted, lost_nothing ran.refused plainly.alone);
+  once = omega (arith, counted, lost_nothing ran.beside.refused plainly.alone);
   plain = plainly.plain;
 }
 
@@ -133,7 +136,8 @@ line_within first last tries log Full refusals come = absurd come
 line_within first last tries log Wide refusals come = absurd come
 line_within first last tries log Limit refusals come =
     let ends = come.0 in
-    let long : length refusals ≡ length ends.before + 1 = ap length ends.all ∙ length-append ends.before (NoNumber ∷ []) in
+    let long : length refusals ≡ length ends.before + 1 =
+    ap length ends.all ∙ length-append ends.before (NoNumber ∷ []) in
     let fewer = ends.fewer in
     omega (arith, long, fewer, lost_few refusals)
 line_within first last tries log Unrun refusals come =
@@ -169,7 +173,7 @@ tries_add tries m n = omega arith
 
 workers_within : (ran : Ran) (logs : List (Option LogRefusal)) (outcomes : List (List Outcome))
     (refused : List (List (List TryRefusal))) → WorkersCaused ran logs outcomes refused
-    → commits_of outcomes + lost_of refused ≤ ran.tries * sum_by length outcomes
+    → commit_count outcomes + lost_of refused ≤ ran.beside.tries * sum_by length outcomes
 workers_within ran [] [] [] caused = omega arith
 workers_within ran [] [] (tried ∷ others) caused = absurd caused
 workers_within ran [] (mine ∷ more) refused caused = absurd caused
@@ -177,10 +181,10 @@ workers_within ran (log ∷ logs) [] refused caused = absurd caused
 workers_within ran (log ∷ logs) (mine ∷ more) [] caused = absurd caused
 workers_within ran (log ∷ logs) (mine ∷ more) (tried ∷ others) caused =
     let rest = workers_within ran logs more others caused.2 in
-    let here = lines_within ran.begin.draw ran.end.draw ran.tries log mine tried caused.0 in
-    let times = tries_add ran.tries (length mine) (sum_by length more) in
-    let whole : ran.tries * sum_by length (mine ∷ more) ≡ ran.tries * (length mine + sum_by length more) =
-    ap (λ (n : ℕ). ran.tries * n) (sum_by-cons length mine more) in
+    let here = lines_within ran.printed.begin.draw ran.printed.end.draw ran.beside.tries log mine tried caused.0 in
+    let times = tries_add ran.beside.tries (length mine) (sum_by length more) in
+    let whole : ran.beside.tries * sum_by length (mine ∷ more) ≡ ran.beside.tries * (length mine + sum_by length more) =
+    ap (λ (n : ℕ). ran.beside.tries * n) (sum_by-cons length mine more) in
     omega (
       arith,
       rest,
@@ -192,9 +196,9 @@ workers_within ran (log ∷ logs) (mine ∷ more) (tried ∷ others) caused =
     )
 
 -- So a round whose lines have their causes drew no more numbers than these have tries.
-pub counted_within : (ran : Ran) → AllCaused ran → DrawsAreCounted ran → DrawsWithin ran.tries ran
+pub counted_within : (ran : Ran) → AllCaused ran → DrawsAreCounted ran → DrawsWithin ran.beside.tries ran
 counted_within ran caused counted =
-    omega (arith, counted, workers_within ran ran.logs ran.outcomes ran.refused caused.outcomes)
+    omega (arith, counted, workers_within ran ran.beside.logs ran.printed.outcomes ran.beside.refused caused.outcomes)
 
 -- ---- a round
 
@@ -217,19 +221,19 @@ of_worker_limited first last tries log (Wide ∷ outcomes) (refusals ∷ refused
 of_worker_limited first last tries log (Unrun ∷ outcomes) (refusals ∷ refused) come is =
     of_worker_limited first last tries log outcomes refused come.1 is
 
-commits_of-cons : (mine : List Outcome) (more : List (List Outcome))
-    → commits_of (mine ∷ more) ≡ length (filter is_commit mine) + commits_of more
-commits_of-cons mine more = sum_by-cons (λ outcomes. length (filter is_commit outcomes)) mine more
+commit_count-cons : (mine : List Outcome) (more : List (List Outcome))
+    → commit_count (mine ∷ more) ≡ length (filter is_commit mine) + commit_count more
+commit_count-cons mine more = sum_by-cons (λ outcomes. length (filter is_commit outcomes)) mine more
 
 -- a round has no more commits than outcomes
-pub commits_of-le : (outcomes : List (List Outcome)) → commits_of outcomes ≤ sum_by length outcomes
-commits_of-le [] = omega arith
-commits_of-le (mine ∷ more) =
-    omega (arith, commits_of-cons mine more, sum_by-cons length mine more, commits-le mine, commits_of-le more)
+pub commit_count-le : (outcomes : List (List Outcome)) → commit_count outcomes ≤ sum_by length outcomes
+commit_count-le [] = omega arith
+commit_count-le (mine ∷ more) =
+    omega (arith, commit_count-cons mine more, sum_by-cons length mine more, commits-le mine, commit_count-le more)
 
 of_workers_limited : (ran : Ran) (logs : List (Option LogRefusal)) (outcomes : List (List Outcome))
     (refused : List (List (List TryRefusal))) → WorkersCaused ran logs outcomes refused
-    → list_any (list_any is_limit) outcomes ≡ true → draw_limit ≤ ran.end.draw
+    → list_any (list_any is_limit) outcomes ≡ true → draw_limit ≤ ran.printed.end.draw
 of_workers_limited ran [] [] [] caused is = absurd cc
 of_workers_limited ran [] [] (mine ∷ refused) caused is = absurd caused
 of_workers_limited ran [] (mine ∷ more) refused caused is = absurd caused
@@ -237,7 +241,8 @@ of_workers_limited ran (log ∷ logs) [] refused caused is = absurd caused
 of_workers_limited ran (log ∷ logs) (mine ∷ more) [] caused is = absurd caused
 of_workers_limited ran (log ∷ logs) (mine ∷ more) (tried ∷ refused) caused is =
     elim (one_of (list_any is_limit mine) (list_any (list_any is_limit) more) is) [
-      | inl here ↦ of_worker_limited ran.begin.draw ran.end.draw ran.tries log mine tried caused.0 here
+      | inl here ↦
+          of_worker_limited ran.printed.begin.draw ran.printed.end.draw ran.beside.tries log mine tried caused.0 here
       | inr there ↦ of_workers_limited ran logs more refused caused.2 there
     ]
   where
@@ -246,9 +251,10 @@ of_workers_limited ran (log ∷ logs) (mine ∷ more) (tried ∷ refused) caused
     one_of false b is = inr is
 
 -- A line of a round is refused a number only where the clock came to the last one.
-pub limited_at_draws : (ran : Ran) → AllCaused ran → list_any (list_any is_limit) ran.outcomes ≡ true
-    → draw_limit ≤ ran.end.draw
-limited_at_draws ran caused is = of_workers_limited ran ran.logs ran.outcomes ran.refused caused.outcomes is
+pub limited_at_draws : (ran : Ran) → AllCaused ran → list_any (list_any is_limit) ran.printed.outcomes ≡ true
+    → draw_limit ≤ ran.printed.end.draw
+limited_at_draws ran caused is =
+    of_workers_limited ran ran.beside.logs ran.printed.outcomes ran.beside.refused caused.outcomes is
 
 total-one_for_each : (lines : List (List (List Op))) (outcomes : List (List Outcome))
     → OneForEach lines outcomes → sum_by length outcomes ≡ total lines
@@ -259,9 +265,10 @@ total-one_for_each (ls ∷ lines) (os ∷ more) each =
     omega (arith, each.0, sum_by-cons length os more, total-one_for_each lines more each.1)
 
 -- a round has no more outcomes than lines
-pub few_outcomes : (ran : Ran) (round : Round) → IsOfRound ran round → sum_by length ran.outcomes ≤ length round.lines
+pub few_outcomes : (ran : Ran) (round : Round) → IsOfRound ran round
+    → sum_by length ran.printed.outcomes ≤ length round.lines
 few_outcomes ran round of =
-    omega (arith, total-one_for_each (worker_lines round) ran.outcomes of.outcomes, total-worker_lines round)
+    omega (arith, total-one_for_each (worker_lines round) ran.printed.outcomes of.outcomes, total-worker_lines round)
 
 -- ---- the rounds of a script
 
@@ -277,21 +284,21 @@ more_tries tries m n le =
 
 -- where numbers are drawn for commits alone each line has one try
 pub once_within : (ran : Ran) → DrawsOnce ran → DrawsWithin 1 ran
-once_within ran once = omega (arith, once, commits_of-le ran.outcomes)
+once_within ran once = omega (arith, once, commit_count-le ran.printed.outcomes)
 
 -- what a round draws at most
 within_lines : (tries : ℕ) (ran : Ran) (round : Round) → IsOfRound ran round → DrawsWithin tries ran
-    → ran.end.draw ≤ ran.begin.draw + tries * length round.lines
+    → ran.printed.end.draw ≤ ran.printed.begin.draw + tries * length round.lines
 within_lines tries ran round of within =
     omega (
       arith,
       within,
-      more_tries tries (sum_by length ran.outcomes) (length round.lines) (few_outcomes ran round of),
+      more_tries tries (sum_by length ran.printed.outcomes) (length round.lines) (few_outcomes ran round of),
     )
 
 -- the round doesn't come to the last draws
 abbrev pub IsBelowDraws : Ran → Type 0
-IsBelowDraws ran = ran.end.draw < draw_limit
+IsBelowDraws ran = ran.printed.end.draw < draw_limit
 
 -- while there are numbers left for all tries of their lines, rounds don't come to the last draws
 rounds_below : (tries index : ℕ) (clock : Number) (rans : List Ran) (rounds : List Round) → AreOfFirst rans rounds
@@ -300,11 +307,11 @@ rounds_below : (tries index : ℕ) (clock : Number) (rans : List Ran) (rounds : 
 rounds_below tries index clock [] rounds of clocks within room = tt
 rounds_below tries index clock (ran ∷ rans) [] of clocks within room = absurd of
 rounds_below tries index clock (ran ∷ rans) (round ∷ rounds) of clocks within room =
-    let begin : ran.begin.draw ≡ clock.draw = ap (λ (n : Number). n.draw) clocks.0 in
+    let begin : ran.printed.begin.draw ≡ clock.draw = ap (λ (n : Number). n.draw) clocks.0 in
     let drawn = within_lines tries ran round of.0 within.0 in
     let split = tries_add tries (length round.lines) (lines_in rounds) in (
       omega (arith, begin, drawn, split, room),
-      rounds_below tries (index + 1) (joined ran.end) rans rounds of.1 clocks.2 within.1
+      rounds_below tries (index + 1) (joined ran.printed.end) rans rounds of.1 clocks.2 within.1
           (omega (arith, begin, drawn, split, room)),
     )
 
@@ -340,6 +347,7 @@ length-lines_of bytes =
       count_by-le-length newline bytes,
     )
 
+-- A script's text has no more lines than the longest one has bytes, and one.
 pub few_lines : (bytes : Bytes) (script : Script) → IsTextOf bytes script → lines_in script.rounds ≤ 67108865
 few_lines bytes script text =
     let whole = ap length text.lines in

@@ -43,8 +43,8 @@ pub record LogFiles : Type 0 where
   pub counted : List ℕ
   pub closed_at : ℕ
 
--- What came of a round.
-pub record Ran : Type 0 where
+-- What is printed of a round, and the clock that its numbers lie between.
+pub record RanPrinted : Type 0 where
   -- the number that the clock would give at its begin and at its end
   pub begin : Number
   pub end : Number
@@ -55,8 +55,11 @@ pub record Ran : Type 0 where
   pub answers : List Answer
   -- the epoch that was made durable
   pub durable : Option ℕ
-  -- Beside what is printed. At its begin: the sequence of the newest savepoint, how many pages of snapshots there are
-  -- and how many are let in, and the log files.
+
+-- What stands beside it and isn't printed: what it began with, what it met on the way, and which devices failed.
+pub record RanBeside : Type 0 where
+  -- At its begin: the sequence of the newest savepoint, how many pages of snapshots there are and how many are let in,
+  -- and the log files.
   pub sequence : ℕ
   pub pages : ℕ
   pub room : ℕ
@@ -74,6 +77,11 @@ pub record Ran : Type 0 where
   pub devices : List Device
   pub damaged : Option (Device × ℕ)
 
+-- What came of a round: what is printed of it, and what stands beside.
+pub record Ran : Type 0 where
+  pub printed : RanPrinted
+  pub beside : RanBeside
+
 -- for each list of lines one of outcomes, of the same length
 abbrev pub OneForEach : List (List (List Op)) → List (List Outcome) → Type 0
 OneForEach [] [] = ⊤
@@ -83,9 +91,9 @@ OneForEach (lines ∷ more) [] = ⊥
 
 -- each worker's line of the round has an outcome, and each keeper line an answer
 pub record IsOfRound (ran : Ran) (round : Round) : Type 0 where
-  pub outcomes : OneForEach (worker_lines round) ran.outcomes
-  pub asked : ran.asked ≡ keeper_lines round
-  pub answers : length ran.answers ≡ length (keeper_lines round)
+  pub outcomes : OneForEach (worker_lines round) ran.printed.outcomes
+  pub asked : ran.printed.asked ≡ keeper_lines round
+  pub answers : length ran.printed.answers ≡ length (keeper_lines round)
 
 -- the rounds that were run are the first ones
 abbrev pub AreOfFirst : List Ran → List Round → Type 0
@@ -136,14 +144,14 @@ entries_of_workers round worker (outcomes ∷ others) (lines ∷ more) =
 
 -- the commits of a round as they are printed
 abbrev pub entries_of_round : ℕ → Ran → Round → List Entry
-entries_of_round index ran round = entries_of_workers index 0 ran.outcomes (worker_lines round)
+entries_of_round index ran round = entries_of_workers index 0 ran.printed.outcomes (worker_lines round)
 
 -- all commits as they are printed, of rounds that are counted from index on
-abbrev pub entries_of : ℕ → List Ran → List Round → List Entry
-entries_of index [] rounds = []
-entries_of index (ran ∷ rans) [] = []
-entries_of index (ran ∷ rans) (round ∷ rounds) = entries_of_round index ran round ++ entries_of (index + 1) rans
-    rounds
+abbrev pub printed_commits : ℕ → List Ran → List Round → List Entry
+printed_commits index [] rounds = []
+printed_commits index (ran ∷ rans) [] = []
+printed_commits index (ran ∷ rans) (round ∷ rounds) =
+    entries_of_round index ran round ++ printed_commits (index + 1) rans rounds
 
 -- the commits of a worker
 abbrev pub of_worker : ℕ → List Entry → List Entry
@@ -166,9 +174,10 @@ AdvancesTo first (_ ∷ more) last = AdvancesTo first more last
 
 -- the epoch rises with the round's answers alone, and the numbers of its commits lie between its begin and its end
 pub record RunsClock (index : ℕ) (ran : Ran) (round : Round) : Type 0 where
-  pub epoch : AdvancesTo ran.begin.epoch ran.answers ran.end.epoch
-  pub draw : ran.begin.draw ≤ ran.end.draw
-  pub numbers : AllByRecursion (λ e. IsBetween ran.begin ran.end e.number) (entries_of_round index ran round)
+  pub epoch : AdvancesTo ran.printed.begin.epoch ran.printed.answers ran.printed.end.epoch
+  pub draw : ran.printed.begin.draw ≤ ran.printed.end.draw
+  pub numbers : AllByRecursion (λ e. IsBetween ran.printed.begin ran.printed.end e.number)
+      (entries_of_round index ran round)
 
 -- a join advances the epoch by one, and the draws go on
 abbrev pub joined : Number → Number
@@ -179,7 +188,8 @@ abbrev pub RunsClocks : ℕ → Number → List Ran → List Round → Type 0
 RunsClocks index clock [] rounds = ⊤
 RunsClocks index clock (ran ∷ rans) [] = ⊥
 RunsClocks index clock (ran ∷ rans) (round ∷ rounds) =
-    (ran.begin ≡ clock) × RunsClock index ran round × RunsClocks (index + 1) (joined ran.end) rans rounds
+    (ran.printed.begin ≡ clock) × RunsClock index ran round
+    × RunsClocks (index + 1) (joined ran.printed.end) rans rounds
 
 -- ---- runs
 
@@ -189,10 +199,10 @@ RunsClocks index clock (ran ∷ rans) (round ∷ rounds) =
 pub record IsRun (decls : List Decl) (index : ℕ) (rounds : List Round) (s : State) (clock : Number)
     (rans : List Ran) (t : State) : Type 0 where
   pub lines : AreOfFirst rans rounds
-  pub workers : (worker : ℕ) → Rises (of_worker worker (entries_of index rans rounds))
+  pub workers : (worker : ℕ) → Rises (of_worker worker (printed_commits index rans rounds))
   pub clocks : RunsClocks index clock rans rounds
   pub ordered : List Entry
-  pub same : IsPermutation (entries_of index rans rounds) ordered
+  pub same : IsPermutation (printed_commits index rans rounds) ordered
   pub serial : IsSerialRun decls s ordered
   pub draws : InOrder (λ e f. e.number.draw < f.number.draw) ordered
   pub after : t ≡ state_after_all decls s ordered

@@ -113,7 +113,7 @@ lines_text outcomes answers durable = workers_text outcomes ++ answers_text answ
 
 -- the lines of a round that was run
 abbrev pub round_text : Ran → Bytes
-round_text ran = lines_text ran.outcomes ran.answers ran.durable
+round_text ran = lines_text ran.printed.outcomes ran.printed.answers ran.printed.durable
 
 -- the lines of the rounds, in their order
 abbrev pub run_text : List Ran → Bytes

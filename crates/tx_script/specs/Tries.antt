@@ -23,11 +23,11 @@ pub record EndsWith (tries : ℕ) (last : TryRefusal) (refusals : List TryRefusa
   pub conflicts : AreConflicts before
   pub fewer : length before < tries
 
--- What comes of a line that has so many tries, with these refusals of them, where the clock stands at the first of these
--- draws in front of the round's lines and at the last one behind them, and its worker's log was refused so, if it was. A
--- line that begins finds draws left. It commits before its tries are used up; one in conflict was refused at each of
--- them; one that is refused a number finds the draws used up; one that was left out has no try. No line wants a slot, or
--- more room than a set has.
+-- What comes of a line that has so many tries, with these refusals of them. The clock stands at the first of these
+-- draws in front of the round's lines, and at the last one behind them; and so its worker's log was refused, if it was.
+-- A line that begins finds draws left. It commits before its tries are used up; one in conflict was refused at each of
+-- them; one that is refused a number finds the draws used up; one that was left out has no try. No line wants a slot,
+-- or more room than a set has.
 abbrev pub ComesTo : ℕ → ℕ → ℕ → Option LogRefusal → Outcome → List TryRefusal → Type 0
 ComesTo first last tries log (Committed verdict number replies) refusals =
     (first < draw_limit) × (number.draw < 2 ^ 40) × AreConflicts refusals × (length refusals < tries)

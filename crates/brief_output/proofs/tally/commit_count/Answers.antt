@@ -4,7 +4,7 @@ use Rattle.std.specs.Prelude.{filter, sum_by}
 use Rattle.tx_script.specs.Run.{is_commit}
 use Rattle.tx_script.specs.declared.outcome.Outcome.{Outcome}
 use Rattle.brief_output.proofs.Tallies.{fits_so_far, one_worker}
-use Rattle.brief_output.proofs.tally.commits_of.Goals as goal
+use Rattle.brief_output.proofs.tally.commit_count.Goals as goal
 
 pub loop-worker-preserved : goal.loop-worker-preserved
 loop-worker-preserved c =

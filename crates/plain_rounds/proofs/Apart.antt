@@ -4,7 +4,6 @@ use Rattle.std.specs.Prelude.{◌&&◌, ◌+◌, ◌-◌, ◌<◌, ◌^◌, IsTr
 use Rattle.std.specs.List.{AllByRecursion, list_all}
 use Rattle.std.specs.FinMap.{entries, entries-insert, insert, put}
 use Rattle.std.specs.FinMap.Entries.{by_order}
-use Rattle.std.specs.declared.cmp.Ordering.{Ordering}
 use Rattle.std.specs.declared.cmp.Ordering.TheVariants.{Less, Equal, Greater}
 use Rattle.serial_model.specs.KeyOrder.{keys_total}
 use Rattle.serial_model.specs.Keys.{fits, is_tree, key_cmp}

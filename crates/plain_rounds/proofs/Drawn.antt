@@ -14,7 +14,7 @@ use Rattle.tx_script.specs.Run.{LogRefusal, NoNumber, TryRefusal, is_commit}
 use Rattle.tx_script.specs.Tries.{AllCome, ComesTo}
 use Rattle.tx_script.specs.Causes.{UnrunLast, is_unrun}
 use Rattle.tx_script.specs.Conflicts.{IsMet, LinesMet}
-use Rattle.tx_script.specs.Draws.{IsPlain, commits_of, lost_of_line, lost_of_lines}
+use Rattle.tx_script.specs.Draws.{IsUnhindered, commit_count, lost_of_line, lost_of_lines}
 use Rattle.shared_rounds.specs.Shares.{conflicts_among}
 use Rattle.shared_rounds.specs.Standing.{Standing}
 use Rattle.plain_rounds.specs.Plainly.{after_line, after_lines, committed, has_number, next_number, outcomes_at}
@@ -57,12 +57,12 @@ lines_counted (ops ∷ ran) left s =
     )
 
 pub parts_counted : (parts : List Part) (s : Standing)
-    → (after_parts s parts).clock.draw ≡ s.clock.draw + commits_of (outcomes_of s parts)
+    → (after_parts s parts).clock.draw ≡ s.clock.draw + commit_count (outcomes_of s parts)
 parts_counted [] s = omega arith
 parts_counted (p ∷ parts) s =
     let t : Standing = after_lines s p.ran in
-    let split : commits_of (outcomes_of s (p ∷ parts)) ≡ length (filter is_commit (outcomes_in s p))
-    + commits_of (outcomes_of t parts) =
+    let split : commit_count (outcomes_of s (p ∷ parts)) ≡ length (filter is_commit (outcomes_in s p))
+    + commit_count (outcomes_of t parts) =
     sum_by-cons (λ outcomes. length (filter is_commit outcomes)) (outcomes_in s p) (outcomes_of t parts) in
     omega (arith, lines_counted p.ran p.left s, parts_counted parts t, split)
 
@@ -77,7 +77,7 @@ refusals_at _ = []
 pub ran_comes : (first last tries : ℕ) (log : Option LogRefusal) (ops : List Op) (s : Standing) (b : Bool) → 1 ≤ tries
     → has_number s ≡ b → first ≤ s.clock.draw → s.clock.draw ≤ last
     → (let outcome : Outcome = cond b (committed s.clock (step s.decls s.state ops)) Limit in
-    ComesTo first last tries log outcome (refusals_at outcome) × IsPlain outcome × (is_unrun outcome ≡ false))
+    ComesTo first last tries log outcome (refusals_at outcome) × IsUnhindered outcome × (is_unrun outcome ≡ false))
 ran_comes first last tries log ops s true some is from le =
     let below = ltb-true s.clock.draw draw_limit is in
     ((omega (arith, below, from), omega (arith, below), tt, omega (arith, some)), below, refl)
@@ -102,7 +102,7 @@ left_comes first last tries log [] all = tt
 left_comes first last tries None (ops ∷ left) all = absurd (let none = all refl in cc)
 left_comes first last tries (Some log) (ops ∷ left) all = ((refl, refl), left_more first last tries log left)
 
-left_plain : (left : List (List Op)) → AllByRecursion IsPlain (unrun left)
+left_plain : (left : List (List Op)) → AllByRecursion IsUnhindered (unrun left)
 left_plain [] = tt
 left_plain (ops ∷ left) = (tt, left_plain left)
 
@@ -128,7 +128,7 @@ part_comes first last tries log (ops ∷ lines) left s some all from le =
 
 -- nobody is in the way of a line
 pub part_plain : (lines left : List (List Op)) (s : Standing)
-    → AllByRecursion IsPlain (outcomes_at s lines ++ unrun left)
+    → AllByRecursion IsUnhindered (outcomes_at s lines ++ unrun left)
 part_plain [] left s = left_plain left
 part_plain (ops ∷ lines) left s = (
   (ran_comes 0 s.clock.draw 1 None ops s (has_number s) (omega arith) refl (omega arith) (omega arith)).1,

@@ -1,9 +1,9 @@
 -- The plain map's workers, one after another, as workers of any engine, whose lines may be tried so often or more: each
 -- commits at its first try, or is refused a number.
 use Rattle.std.proofs.Common.{◌≡◌, ◌∙◌, ◌≤◌, ◌⊎◌, ◌++◌, ◌∷◌, inl, inr, sym, ap, subst, refl, ℕ, zero, suc}
-use Rattle.std.proofs.Common.{List, [], length, map, Option, Some, None, arith}
-use Rattle.std.specs.Prelude.{◌==◌, ◌+◌, ◌*◌, is_some, slice_get, sum_by}
-use Rattle.std.specs.List.{AllByRecursion}
+use Rattle.std.proofs.Common.{List, [], length, map, Bool, true, false, cond, Option, Some, None, arith}
+use Rattle.std.specs.Prelude.{◌==◌, ◌+◌, is_some, slice_get, sum_by}
+use Rattle.std.specs.List.{AllByRecursion, Contains}
 use Rattle.std.specs.List.Sorted.{IsPermutation}
 use Rattle.std.proofs.lemmas.List.{append-nil}
 use Rattle.std.proofs.lemmas.List.Sums.{sum_by-cons}
@@ -12,12 +12,15 @@ use Rattle.std.proofs.lemmas.Option.{same_Some}
 use Rattle.lists.specs.Fronts.{IsFront, front_none}
 use Rattle.serial_model.specs.History.{Entry, Rises}
 use Rattle.serial_model.specs.Numbers.{IsBelow}
+use Rattle.serial_model.specs.Step.{step}
 use Rattle.serial_model.specs.declared.number.Commit.{Commit}
 use Rattle.serial_model.specs.declared.op.Op.{Op}
 use Rattle.script_grammar.specs.Script.{Round, lines_of_worker}
+use Rattle.tx_script.specs.Causes.{is_unrun}
 use Rattle.tx_script.specs.declared.outcome.Outcome.{Outcome}
+use Rattle.tx_script.specs.declared.outcome.Outcome.TheVariants.{Limit, Unrun}
 use Rattle.tx_script.specs.Conflicts.{WorkersMet}
-use Rattle.tx_script.specs.Draws.{IsPlain, commits_of, lost_of, lost_of_lines}
+use Rattle.tx_script.specs.Draws.{IsUnhindered, commit_count, lost_of, lost_of_lines}
 use Rattle.tx_script.specs.Run.{LogRefusal, TryRefusal, entries_of_workers, of_worker}
 use Rattle.worker_logs.specs.Logs.{LogState}
 use Rattle.worker_logs.specs.Rows.{AreLogsUp}
@@ -26,11 +29,14 @@ use Rattle.shared_rounds.specs.Changes.{AreLogged}
 use Rattle.plain_rounds.specs.InTurn.{AreFirstLines, RunsFirst, WorkersSoFar}
 use Rattle.plain_rounds.specs.Parts.{AreLoggedAt, AreParts, Part, after_parts, lines_in, logged_at, outcomes_in}
 use Rattle.plain_rounds.specs.Parts.{outcomes_of}
-use Rattle.plain_rounds.specs.Plainly.{AreConsecutive, DrewOnce, after_line, after_lines}
+use Rattle.plain_rounds.specs.Plainly.{AreConsecutive, DrewOnce, after_line, after_lines, committed, has_number}
+use Rattle.plain_rounds.specs.Plainly.{outcome_at, outcomes_at}
 use Rattle.shared_rounds.specs.Shares.{AreOrdered, IsShare, RunsShares, Share, all_conflicts, conflicts_among}
 use Rattle.shared_rounds.specs.Shares.{entries_in, logged_in}
 use Rattle.shared_rounds.specs.Standing.{Standing}
 use Rattle.shared_rounds.specs.Workers.{LeftBy, RunsOver, RunsWorkers, StopsWorkers}
+use Rattle.shared_rounds.specs.UnrunLaws.{AreRun, some_left, some_unrun}
+use Rattle.worker_cells.specs.Cells.{RefusesLine}
 use Rattle.worker_cells.specs.declared.cell.LogEnd.{LogEnd}
 use Rattle.plain_rounds.proofs.Chains.{Chained, after_lines-decls, chained_answers, chained_clock, chained_state}
 use Rattle.plain_rounds.proofs.Chains.{consecutive_between, consecutive_rise, in_order-kept, length-outcomes_in}
@@ -85,10 +91,10 @@ pub shares_many : (parts : List Part) (s : Standing) → length (shares_of s par
 shares_many [] s = refl
 shares_many (p ∷ parts) s = ap suc (shares_many parts (after_lines s p.ran))
 
--- which part a share is
+-- which part a share is, and from which standing its lines were run
 pub share_at : (parts : List Part) (s : Standing) (i : ℕ) (q : Share) → slice_get (shares_of s parts) i ≡ Some q
     → (p : Part) × (slice_get parts i ≡ Some p) × (q.lines ≡ lines_in p) × (q.refusal ≡ p.refusal)
-    × (q.logged ≡ p.logged)
+    × (q.logged ≡ p.logged) × (from : Standing) × (q.outcomes ≡ outcomes_in from p)
 share_at [] s i q at = absurd cc
 share_at (p ∷ parts) s zero q at =
     let same : share_of s p ≡ q = same_Some (share_of s p) q at in (
@@ -97,10 +103,12 @@ share_at (p ∷ parts) s zero q at =
       ap (λ (x : Share). x.lines) (sym same),
       ap (λ (x : Share). x.refusal) (sym same),
       ap (λ (x : Share). x.logged) (sym same),
+      s,
+      ap (λ (x : Share). x.outcomes) (sym same),
     )
 share_at (p ∷ parts) s (suc i) q at = share_at parts (after_lines s p.ran) i q at
 
-pub shares_plain : (parts : List Part) (s : Standing) → AllByRecursion (AllByRecursion IsPlain) (outcomes_of s parts)
+pub shares_plain : (parts : List Part) (s : Standing) → AllByRecursion (AllByRecursion IsUnhindered) (outcomes_of s parts)
 shares_plain [] s = tt
 shares_plain (p ∷ parts) s = (part_plain p.ran p.left s, shares_plain parts (after_lines s p.ran))
 
@@ -230,8 +238,8 @@ plain_shares parts s tries some eight are =
       }) (sym (parts_only parts s));
       epoch = kept.1;
       draw =
-          let same : commits_of (map (λ (share : Share). share.outcomes) (shares_of s parts))
-          ≡ commits_of (outcomes_of s parts) = ap commits_of (shares_told parts s) in
+          let same : commit_count (map (λ (share : Share). share.outcomes) (shares_of s parts))
+          ≡ commit_count (outcomes_of s parts) = ap commit_count (shares_told parts s) in
           omega (arith, parts_counted parts s, same, shares_lost parts s);
       met = shares_meet (lines_of (shares_of s parts)) 0 parts s;
       conflicts = omega (arith, parts_free parts s, shares_free parts s);
@@ -283,6 +291,19 @@ pad_at (suc n) (q ∷ parts) (suc w) p at = elim (pad_at n parts w p at) [
   | inr none ↦ inr (none.0, omega (arith, none.1))
 ]
 
+-- a line that gets no number is told so, and isn't unrun
+pub line_run : (s : Standing) (ops : List Op) → is_unrun (outcome_at s ops) ≡ false
+line_run s ops = by (has_number s)
+  where
+    by : (b : Bool) → is_unrun (cond b (committed s.clock (step s.decls s.state ops)) Limit) ≡ false
+    by true = refl
+    by false = refl
+
+-- and so it is with lines one after another
+pub all_run : (ran : List (List Op)) (s : Standing) → AreRun (outcomes_at s ran)
+all_run [] s = tt
+all_run (ops ∷ ran) s = (line_run s ops, all_run ran (after_line s ops))
+
 -- ---- over the logs
 
 module _ {D : Type 0} {tells : D → Option (List ℕ)} {clock : D → ℕ} {image_at : D → ℕ → List ℕ → Type 0}
@@ -294,9 +315,9 @@ module _ {D : Type 0} {tells : D → Option (List ℕ)} {clock : D → ℕ} {ima
       → DrewOnce s t outcomes
   once_all {s = s} so = record {
     once = ap (λ (x : Standing). x.clock.draw) so.first.standing ∙ parts_counted so.parts s
-        ∙ ap (λ o. s.clock.draw + commits_of o) (sym so.told);
+        ∙ ap (λ o. s.clock.draw + commit_count o) (sym so.told);
     alone = ap (λ (x : Standing). x.conflicts) so.first.standing ∙ parts_free so.parts s;
-    plain = subst (AllByRecursion (AllByRecursion IsPlain)) (sym so.told) (shares_plain so.parts s);
+    plain = subst (AllByRecursion (AllByRecursion IsUnhindered)) (sym so.told) (shares_plain so.parts s);
   }
 
 module _ {D : Type 0} {tells : D → Option (List ℕ)} {clock : D → ℕ} {image_at : D → ℕ → List ℕ → Type 0}
@@ -342,6 +363,16 @@ module _ {D : Type 0} {tells : D → Option (List ℕ)} {clock : D → ℕ} {ima
     ends_failed = so.ends_failed;
     flushed = so.flushed;
     ends_are = so.ends_are ∙ sym (shares_refusals so.parts s);
+    left_out = λ i q old before at was bank_was.
+        let p = share_at so.parts s i q at in
+        let out = so.left_out i p.0 old before p.1 was bank_was in
+        record {
+          refuses = λ has. subst (λ l. RefusesLine tells clock image_at faults s.clock.epoch l old before) (sym p.4)
+              (out.refuses (some_left (outcomes_at p.5 p.0.ran) p.0.left (all_run p.0.ran p.5)
+              (subst (λ o. Contains o Unrun) p.6 has)));
+          filled = λ size is. subst (λ o. Contains o Unrun) (sym p.6)
+              (some_unrun (outcomes_at p.5 p.0.ran) p.0.left (out.filled size (sym p.3 ∙ is)));
+        };
   }
 
   pub plain_all : {round : Round} {worker : ℕ} {s t : Standing} {outcomes : List (List Outcome)} {ends : List LogEnd}

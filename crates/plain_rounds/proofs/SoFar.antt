@@ -20,7 +20,7 @@ use Rattle.tx_script.specs.declared.outcome.Outcome.TheVariants.{Unrun}
 use Rattle.worker_logs.specs.Changes.{IsLogged}
 use Rattle.worker_logs.specs.Logs.{LogState}
 use Rattle.worker_logs.specs.Moves.{MovesLog}
-use Rattle.worker_logs.specs.Rows.{IsFull, IsLogUp, KeepsMark, full_after}
+use Rattle.worker_logs.specs.Rows.{IsFull, IsLogUp, KeepsMark, TakesCommit, full_after}
 use Rattle.worker_logs.specs.RowLaws.{never_up}
 use Rattle.worker_logs.specs.RowLaws.{blames_move, blames_none, blames_took, full_at, keeps_commit, keeps_then}
 use Rattle.worker_logs.specs.RowLaws.{limit_took, reaches_took, room_left, still_down, still_full, takes_commit}
@@ -68,58 +68,82 @@ logged_number decls s ops number true (Some d) is c has =
     let same : d ≡ c = cc in ap (λ (x : Commit). x.number.epoch) (sym same) ∙ ap (λ (n : Number). n.epoch) is.1
 logged_number decls s ops number false first is c has = absurd (let none = sym is ∙ has in cc)
 
+-- a commit leaves a log as up as it was
+down_took : (mid new : LogState) (commit : Option Commit) → TakesCommit commit mid new
+    → new.journal.down ≡ mid.journal.down
+down_took mid new None takes = ap (λ (l : LogState). l.journal.down) takes
+down_took mid new (Some c) takes = takes.down
+
 -- lines with one more are some
 pub some_lines : (lines : List (List Op)) (ops : List Op) → lines ++ ops ∷ [] ≡ [] → ⊥
 some_lines [] ops is = absurd cc
 some_lines (first ∷ lines) ops is = absurd cc
 
+-- what holds of some lines, or of none
+by_left : {R : Type 0} (left : List (List Op)) → ((left ≡ [] → ⊥) → R) → (left ≡ [] → R) → R
+by_left [] some none = none refl
+by_left (ops ∷ left) some none = some (λ is. absurd cc)
+
+-- Lines were run, and what waits isn't flushed yet: a log that refused none is up.
+pub record RunsOn {D : Type 0} (tells : D → Option (List ℕ)) (clock : D → ℕ) (image_at : D → ℕ → List ℕ → Type 0)
+    (faults : D → ℕ) (lines : List (List Op)) (s t : Standing) (outcomes : List Outcome) (full : Option ℕ)
+    (old new : LogState) (before now : D) : Type 0 where
+  pub runs : RunsLines tells clock image_at faults lines s t outcomes full old new before now
+  pub up : runs.left ≡ [] → new.journal.down ≡ None
+
 module _ {D : Type 0} {tells : D → Option (List ℕ)} {clock : D → ℕ} {image_at : D → ℕ → List ℕ → Type 0}
     {faults : D → ℕ} where
   -- no line
   pub lines_begin : (s : Standing) (log : LogState) (bank : D) → IsLogUp tells log bank
-      → RunsLines tells clock image_at faults [] s s [] None log log bank bank
+      → RunsOn tells clock image_at faults [] s s [] None log log bank bank
   lines_begin s log bank up = record {
-    ran = [];
-    left = [];
-    logged = [];
-    whole = refl;
-    told = refl;
-    standing = refl;
-    logged_are = refl;
-    lines_are = tt;
-    takes = takes_none s.clock.epoch s.clock.epoch log bank;
-    mark = inl refl;
-    blames = blames_none bank log.journal up.up;
-    reaches = up.reaches;
-    limit = refl;
-    full_is = λ size is. absurd (let none = is in cc);
-    all = λ none is. refl;
-    none = λ is. refl;
+    runs = record {
+      ran = [];
+      left = [];
+      logged = [];
+      whole = refl;
+      told = refl;
+      standing = refl;
+      logged_are = refl;
+      lines_are = tt;
+      takes = takes_none s.clock.epoch s.clock.epoch log bank;
+      mark = inl refl;
+      blames = blames_none bank log.journal up.up;
+      reaches = up.reaches;
+      limit = refl;
+      full_is = λ size is. absurd (let none = is in cc);
+      all = λ none is. refl;
+      refuses = λ some. absurd (some refl);
+      unfilled = λ is. refl;
+      none = λ is. refl;
+    };
+    up = λ none. up.up;
   }
 
   -- a line of another worker was passed over
   pub lines_other : (lines : List Line) (worker index : ℕ) {s t : Standing} {outcomes : List Outcome} {full : Option ℕ}
       {old log : LogState} {before bank : D} → HasOps worker lines index None
-      → RunsLines tells clock image_at faults (ops_of worker (take index lines)) s t outcomes full old log before bank
-      → RunsLines tells clock image_at faults (ops_of worker (take (index + 1) lines)) s t outcomes full old log before
+      → RunsOn tells clock image_at faults (ops_of worker (take index lines)) s t outcomes full old log before bank
+      → RunsOn tells clock image_at faults (ops_of worker (take (index + 1) lines)) s t outcomes full old log before
       bank
   lines_other lines worker index {s = s} {t = t} {outcomes = outcomes} {full = full} {old = old} {log = log}
       {before = before} {bank = bank} has so =
-      subst (λ l. RunsLines tells clock image_at faults l s t outcomes full old log before bank)
+      subst (λ l. RunsOn tells clock image_at faults l s t outcomes full old log before bank)
       (sym (take_other worker lines index has)) so
 
   -- a line of the worker was run
   pub lines_ran : {lines : List (List Op)} {s mid t : Standing} {outcomes after : List Outcome} {full : Option ℕ}
       {old log ready left : LogState} {before bank now : D} (ops : List Op) → 1 ≤ s.clock.epoch
-      → RunsLines tells clock image_at faults lines s mid outcomes full old log before bank
+      → RunsOn tells clock image_at faults lines s mid outcomes full old log before bank
       → MovesLog tells clock image_at faults (s.clock.epoch - 1) log ready bank now None
       → KeepsMark s.clock.epoch log ready
       → end_of ready.journal + 400 ≤ ready.journal.limit
       → TakesLine mid ops ready left
       → after ≡ outcomes ++ outcome_at mid ops ∷ [] → t ≡ after_line mid ops
-      → RunsLines tells clock image_at faults (lines ++ ops ∷ []) s t after full old left before now
-  lines_ran {lines = lines} {s = s} {mid = mid} {full = full} {old = old} {log = log} {ready = ready} {left = left} {now = now} ops some so
+      → RunsOn tells clock image_at faults (lines ++ ops ∷ []) s t after full old left before now
+  lines_ran {lines = lines} {s = s} {mid = mid} {full = full} {old = old} {log = log} {ready = ready} {left = left} {now = now} ops some on
       moves mark below took told then =
+      let so = on.runs in
       let open_log : full ≡ None = room_left full (λ size is.
       let now_full = still_full moves (so.full_is size is) in omega (arith, now_full.end, now_full.above, below)) in
       let none : so.left ≡ [] = so.all open_log (was_up moves) in
@@ -128,74 +152,100 @@ module _ {D : Type 0} {tells : D → Option (List ℕ)} {clock : D → ℕ} {ima
       let same_epoch : mid.clock.epoch ≡ s.clock.epoch =
       ap (λ (x : Standing). x.clock.epoch) so.standing ∙ lines_epoch so.ran s in
       record {
-        ran = so.ran ++ ops ∷ [];
-        left = [];
-        logged = so.logged ++ option_to_list took.first;
-        whole = ap (λ l. l ++ ops ∷ []) ran ∙ sym (append-nil (so.ran ++ ops ∷ []));
-        told = told ∙ ap (λ o. o ++ outcome_at mid ops ∷ [])
-            (so.told ∙ ap (λ l. outcomes_at s so.ran ++ unrun l) none ∙ append-nil (outcomes_at s so.ran))
-            ∙ ap (λ m. outcomes_at s so.ran ++ outcome_at m ops ∷ []) so.standing ∙ sym (outcomes_push so.ran ops s)
-            ∙ sym (append-nil (outcomes_at s (so.ran ++ ops ∷ [])));
-        standing = then ∙ ap (λ m. after_line m ops) so.standing ∙ sym (after_push so.ran ops s);
-        logged_are = logged_push so.ran ops s so.logged took.first so.logged_are
-            (subst (λ m. IsLoggedAt m ops took.first) so.standing took.logged);
-        lines_are = all_append (IsLineOf s.decls) so.logged (option_to_list took.first) so.lines_are
-            (subst (λ ds. AllByRecursion (IsLineOf ds) (option_to_list took.first)) same_decls took.line);
-        takes = takes_commit took.first some (omega arith)
-            (λ c has. omega (
-              arith,
-              logged_number mid.decls mid.state ops mid.clock (has_number mid) took.first
-                  took.logged c has ∙ same_epoch,
-            ))
-            (takes_move (omega arith) (omega arith) so.takes moves.runs) took.takes;
-        mark = keeps_commit s.clock.epoch s.clock.epoch old ready left took.first
-            (keeps_then s.clock.epoch s.clock.epoch s.clock.epoch old log ready (omega arith) (omega arith) so.mark mark)
-            took.takes;
-        blames = blames_took ready left took.first (blames_move None so.blames moves) took.takes;
-        reaches = reaches_took tells now ready left took.first moves.reaches took.takes;
-        limit = limit_took ready left took.first took.takes ∙ moves.limit ∙ so.limit;
-        full_is = λ size is. absurd (let no = sym open_log ∙ is in cc);
-        all = λ no up. refl;
-        none = λ is. absurd (some_lines lines ops is);
+        runs = record {
+          ran = so.ran ++ ops ∷ [];
+          left = [];
+          logged = so.logged ++ option_to_list took.first;
+          whole = ap (λ l. l ++ ops ∷ []) ran ∙ sym (append-nil (so.ran ++ ops ∷ []));
+          told = told ∙ ap (λ o. o ++ outcome_at mid ops ∷ [])
+              (so.told ∙ ap (λ l. outcomes_at s so.ran ++ unrun l) none ∙ append-nil (outcomes_at s so.ran))
+              ∙ ap (λ m. outcomes_at s so.ran ++ outcome_at m ops ∷ []) so.standing ∙ sym (outcomes_push so.ran ops s)
+              ∙ sym (append-nil (outcomes_at s (so.ran ++ ops ∷ [])));
+          standing = then ∙ ap (λ m. after_line m ops) so.standing ∙ sym (after_push so.ran ops s);
+          logged_are = logged_push so.ran ops s so.logged took.first so.logged_are
+              (subst (λ m. IsLoggedAt m ops took.first) so.standing took.logged);
+          lines_are = all_append (IsLineOf s.decls) so.logged (option_to_list took.first) so.lines_are
+              (subst (λ ds. AllByRecursion (IsLineOf ds) (option_to_list took.first)) same_decls took.line);
+          takes = takes_commit took.first some (omega arith)
+              (λ c has. omega (
+                arith,
+                logged_number mid.decls mid.state ops mid.clock (has_number mid) took.first
+                    took.logged c has ∙ same_epoch,
+              ))
+              (takes_move (omega arith) (omega arith) so.takes moves.runs) took.takes;
+          mark = keeps_commit s.clock.epoch s.clock.epoch old ready left took.first
+              (keeps_then s.clock.epoch s.clock.epoch s.clock.epoch old log ready (omega arith) (omega arith) so.mark mark)
+              took.takes;
+          blames = blames_took ready left took.first (blames_move None so.blames moves) took.takes;
+          reaches = reaches_took tells now ready left took.first moves.reaches took.takes;
+          limit = limit_took ready left took.first took.takes ∙ moves.limit ∙ so.limit;
+          full_is = λ size is. absurd (let no = sym open_log ∙ is in cc);
+          all = λ no up. refl;
+          refuses = λ some. absurd (some refl);
+          unfilled = λ is. open_log;
+          none = λ is. absurd (some_lines lines ops is);
+        };
+        up = λ is. down_took ready left took.first took.takes ∙ moves.stays_up (λ no. cc) ∙ was_up moves;
       }
 
   -- a line of the worker was left out
   pub lines_left : {lines : List (List Op)} {s mid : Standing} {outcomes after : List Outcome} {full : Option ℕ}
       {old log left : LogState} {before bank now : D} (ops : List Op) (fault : LogFault)
-      → RunsLines tells clock image_at faults lines s mid outcomes full old log before bank
+      → RunsOn tells clock image_at faults lines s mid outcomes full old log before bank
       → MovesLog tells clock image_at faults (s.clock.epoch - 1) log left bank now (Some fault)
       → KeepsMark s.clock.epoch log left
       → ((size : ℕ) → fault ≡ Limit size → IsFull size log.journal)
       → after ≡ outcomes ++ Unrun ∷ []
-      → RunsLines tells clock image_at faults (lines ++ ops ∷ []) s mid after (full_after fault full) old left before now
-  lines_left {lines = lines} {s = s} {full = full} {old = old} {log = log} {left = left} ops fault so moves mark limit told = record {
-    ran = so.ran;
-    left = so.left ++ ops ∷ [];
-    logged = so.logged;
-    whole = ap (λ l. l ++ ops ∷ []) so.whole ∙ append_assoc so.ran so.left (ops ∷ []);
-    told = told ∙ ap (λ o. o ++ Unrun ∷ []) so.told ∙ append_assoc (outcomes_at s so.ran) (unrun so.left) (Unrun ∷ [])
-        ∙ ap (λ o. outcomes_at s so.ran ++ o) (sym (unrun_push so.left ops));
-    standing = so.standing;
-    logged_are = so.logged_are;
-    lines_are = so.lines_are;
-    takes = takes_move (omega arith) (omega arith) so.takes moves.runs;
-    mark = keeps_then s.clock.epoch s.clock.epoch s.clock.epoch old log left (omega arith) (omega arith) so.mark mark;
-    blames = blames_move (Some fault) so.blames moves;
-    reaches = moves.reaches;
-    limit = moves.limit ∙ so.limit;
-    full_is = λ size is. still_full moves (full_at fault full limit so.full_is size is);
-    all = λ none up. absurd (never_up fault full moves none up);
-    none = λ is. absurd (some_lines lines ops is);
-  }
+      → RunsOn tells clock image_at faults (lines ++ ops ∷ []) s mid after (full_after fault full) old left before now
+  lines_left {lines = lines} {s = s} {full = full} {old = old} {log = log} {left = left} {bank = bank} {now = now} ops
+      fault on moves mark limit told =
+      let so = on.runs in
+      record {
+        runs = record {
+          ran = so.ran;
+          left = so.left ++ ops ∷ [];
+          logged = so.logged;
+          whole = ap (λ l. l ++ ops ∷ []) so.whole ∙ append_assoc so.ran so.left (ops ∷ []);
+          told = told ∙ ap (λ o. o ++ Unrun ∷ []) so.told ∙ append_assoc (outcomes_at s so.ran) (unrun so.left) (Unrun ∷ [])
+              ∙ ap (λ o. outcomes_at s so.ran ++ o) (sym (unrun_push so.left ops));
+          standing = so.standing;
+          logged_are = so.logged_are;
+          lines_are = so.lines_are;
+          takes = takes_move (omega arith) (omega arith) so.takes moves.runs;
+          mark = keeps_then s.clock.epoch s.clock.epoch s.clock.epoch old log left (omega arith) (omega arith) so.mark mark;
+          blames = blames_move (Some fault) so.blames moves;
+          reaches = moves.reaches;
+          limit = moves.limit ∙ so.limit;
+          full_is = λ size is. still_full moves (full_at fault full limit so.full_is size is);
+          all = λ none up. absurd (never_up fault full moves none up);
+          refuses = λ some. by_left so.left so.refuses (λ none. record {
+            high = s.clock.epoch;
+            found = log;
+            at = bank;
+            takes = so.takes;
+            limit = so.limit;
+            up = on.up none;
+            fault = fault;
+            epoch = s.clock.epoch - 1;
+            left = left;
+            behind = now;
+            call = moves;
+            full = limit;
+          });
+          unfilled = λ none. absurd (some_lines so.left ops none);
+          none = λ is. absurd (some_lines lines ops is);
+        };
+        up = λ none. absurd (some_lines so.left ops none);
+      }
 
   -- What waits was made durable at the end, and marked, unless there was no line.
   pub lines_marked : {lines : List (List Op)} {s t : Standing} {outcomes : List Outcome} {full : Option ℕ}
       {old log left : LogState} {before bank now : D}
-      → RunsLines tells clock image_at faults lines s t outcomes full old log before bank
+      → RunsOn tells clock image_at faults lines s t outcomes full old log before bank
       → Moves tells clock image_at faults s.clock.epoch log left bank now
       → (lines ≡ [] → left ≡ log)
       → RunsLines tells clock image_at faults lines s t outcomes full old left before now
-  lines_marked {s = s} {old = old} {log = log} {left = left} so marks none = record {
+  lines_marked {s = s} {old = old} {log = log} {left = left} on marks none = let so = on.runs in record {
     ran = so.ran;
     left = so.left;
     logged = so.logged;
@@ -212,5 +262,7 @@ module _ {D : Type 0} {tells : D → Option (List ℕ)} {clock : D → ℕ} {ima
     limit = marks.moves.limit ∙ so.limit;
     full_is = λ size is. still_full marks.moves (so.full_is size is);
     all = λ no up. so.all no (still_down marks.fault marks.moves up);
+    refuses = so.refuses;
+    unfilled = so.unfilled;
     none = λ is. none is ∙ so.none is;
   }

@@ -21,9 +21,9 @@ use Rattle.worker_cells.specs.Gates.{is_run}
 use Rattle.plain_rounds.specs.Plainly.{after_line, committed, has_number, outcome_at}
 use Rattle.shared_rounds.specs.Standing.{Standing}
 use Rattle.plain_rounds.specs.Steps.{TakesLine}
-use Rattle.plain_rounds.specs.InTurn.{RunsLines, StopsLines}
+use Rattle.plain_rounds.specs.InTurn.{StopsLines}
 use Rattle.plain_rounds.proofs.Fronts.{HasOps, ops_of, ops_of-append, take_mine}
-use Rattle.plain_rounds.proofs.SoFar.{lines_left, lines_ran}
+use Rattle.plain_rounds.proofs.SoFar.{RunsOn, lines_left, lines_ran}
 
 -- ---- fronts
 
@@ -57,12 +57,12 @@ at_run s ops = by (has_number s)
 pub open_at : {D : Type 0} {tells : D → Option (List ℕ)} {clock : D → ℕ} {image_at : D → ℕ → List ℕ → Type 0}
     {faults : D → ℕ} {lines : List (List Op)} {s t : Standing} {outcomes : List Outcome} {full : Option ℕ} {e : ℕ}
     {old log ready : LogState} {before bank now : D}
-    → RunsLines tells clock image_at faults lines s t outcomes full old log before bank
+    → RunsOn tells clock image_at faults lines s t outcomes full old log before bank
     → MovesLog tells clock image_at faults e log ready bank now None
     → end_of ready.journal + 400 ≤ ready.journal.limit → (full ≡ None) × (log.journal.down ≡ None)
 open_at {full = full} so moves below = (
   room_left full (λ size is.
-      let now_full = still_full moves (so.full_is size is) in omega (arith, now_full.end, now_full.above, below)),
+      let now_full = still_full moves (so.runs.full_is size is) in omega (arith, now_full.end, now_full.above, below)),
   was_up moves,
 )
 
@@ -71,7 +71,7 @@ module _ (D : Type 0) (tells : D → Option (List ℕ)) (clock : D → ℕ) (ima
   -- what stands before the line of this number
   abbrev pub LoopAt : ℕ → Standing → Standing → List Outcome → Option ℕ → LogState → LogState → D → D → Type 0
   LoopAt count s t outcomes full old log before bank =
-      RunsLines tells clock image_at faults (ops_of worker (take i lines)) s t outcomes full old log before bank
+      RunsOn tells clock image_at faults (ops_of worker (take i lines)) s t outcomes full old log before bank
       × (count ≡ length (ops_of worker (take i lines))) × (count ≤ i)
 
   -- a line of the worker was run
@@ -83,11 +83,11 @@ module _ (D : Type 0) (tells : D → Option (List ℕ)) (clock : D → ℕ) (ima
       → end_of ready.journal + 400 ≤ ready.journal.limit
       → TakesLine mid ops ready left
       → after ≡ outcomes ++ outcome_at mid ops ∷ [] → t ≡ after_line mid ops
-      → RunsLines tells clock image_at faults (ops_of worker (take (i + 1) lines)) s t after full old left before now
+      → RunsOn tells clock image_at faults (ops_of worker (take (i + 1) lines)) s t after full old left before now
       × (count + 1 ≡ length (ops_of worker (take (i + 1) lines))) × (count + 1 ≤ i + 1)
   loop_ran {s = s} {t = t} {after = after} {full = full} {old = old} {left = left} {before = before} {now = now}
       count ops has some so moves below took told then = (
-        subst (λ l. RunsLines tells clock image_at faults l s t after full old left before now)
+        subst (λ l. RunsOn tells clock image_at faults l s t after full old left before now)
             (sym (take_mine worker lines i ops has)) (lines_ran ops some so.0 moves moves.mark below took told then),
         count_more worker i count lines ops has so.1,
         omega (arith, so.2),
@@ -101,12 +101,12 @@ module _ (D : Type 0) (tells : D → Option (List ℕ)) (clock : D → ℕ) (ima
       → MovesLog tells clock image_at faults (s.clock.epoch - 1) log left bank now (Some fault)
       → ((size : ℕ) → fault ≡ Limit size → (size ≡ end_of log.journal) × (log.journal.limit ≤ size + 399))
       → after ≡ outcomes ++ Unrun ∷ []
-      → RunsLines tells clock image_at faults (ops_of worker (take (i + 1) lines)) s mid after (full_after fault full) old left
+      → RunsOn tells clock image_at faults (ops_of worker (take (i + 1) lines)) s mid after (full_after fault full) old left
       before now
       × (count + 1 ≡ length (ops_of worker (take (i + 1) lines))) × (count + 1 ≤ i + 1)
   loop_left {s = s} {mid = mid} {after = after} {full = full} {old = old} {left = left} {before = before} {now = now}
       count ops fault has so moves limit told = (
-        subst (λ l. RunsLines tells clock image_at faults l s mid after (full_after fault full) old left before now)
+        subst (λ l. RunsOn tells clock image_at faults l s mid after (full_after fault full) old left before now)
             (sym (take_mine worker lines i ops has))
             (lines_left ops fault so.0 moves moves.mark
             (λ size is. let at = limit size is in record { end = at.0; above = omega (arith, at.1) }) told),
@@ -121,46 +121,46 @@ module _ (D : Type 0) (tells : D → Option (List ℕ)) (clock : D → ℕ) (ima
       → MovesLog tells clock image_at faults (s.clock.epoch - 1) log left bank now fault
       → StopsLines tells clock image_at faults (ops_of worker lines) s t old left before now
   loop_stops {s = s} {old = old} {log = log} {left = left} count fault so moves = record {
-    ran = so.0.ran;
-    logged = so.0.logged;
-    front = front_then so.0.ran (ops_of worker (take i lines)) (ops_of worker lines)
-        (subst (IsFront so.0.ran) (sym so.0.whole) (front_append so.0.ran so.0.left)) (front_of worker i lines);
-    standing = so.0.standing;
-    logged_are = so.0.logged_are;
-    lines_are = so.0.lines_are;
-    takes = takes_move (omega arith) (omega arith) so.0.takes moves.runs;
-    mark = keeps_then s.clock.epoch s.clock.epoch s.clock.epoch old log left (omega arith) (omega arith) so.0.mark
+    ran = so.0.runs.ran;
+    logged = so.0.runs.logged;
+    front = front_then so.0.runs.ran (ops_of worker (take i lines)) (ops_of worker lines)
+        (subst (IsFront so.0.runs.ran) (sym so.0.runs.whole) (front_append so.0.runs.ran so.0.runs.left)) (front_of worker i lines);
+    standing = so.0.runs.standing;
+    logged_are = so.0.runs.logged_are;
+    lines_are = so.0.runs.lines_are;
+    takes = takes_move (omega arith) (omega arith) so.0.runs.takes moves.runs;
+    mark = keeps_then s.clock.epoch s.clock.epoch s.clock.epoch old log left (omega arith) (omega arith) so.0.runs.mark
         moves.mark;
-    blames = blames_move fault so.0.blames moves;
+    blames = blames_move fault so.0.runs.blames moves;
     reaches = moves.reaches;
-    limit = moves.limit ∙ so.0.limit;
+    limit = moves.limit ∙ so.0.runs.limit;
   }
 
   -- or behind a line
   pub loop_stopped : {s t : Standing} {outcomes : List Outcome} {full : Option ℕ} {old log : LogState}
       {before bank : D}
-      → RunsLines tells clock image_at faults (ops_of worker (take i lines)) s t outcomes full old log before bank
+      → RunsOn tells clock image_at faults (ops_of worker (take i lines)) s t outcomes full old log before bank
       → StopsLines tells clock image_at faults (ops_of worker lines) s t old log before bank
   loop_stopped so = record {
-    ran = so.ran;
-    logged = so.logged;
-    front = front_then so.ran (ops_of worker (take i lines)) (ops_of worker lines)
-        (subst (IsFront so.ran) (sym so.whole) (front_append so.ran so.left)) (front_of worker i lines);
-    standing = so.standing;
-    logged_are = so.logged_are;
-    lines_are = so.lines_are;
-    takes = so.takes;
-    mark = so.mark;
-    blames = so.blames;
-    reaches = so.reaches;
-    limit = so.limit;
+    ran = so.runs.ran;
+    logged = so.runs.logged;
+    front = front_then so.runs.ran (ops_of worker (take i lines)) (ops_of worker lines)
+        (subst (IsFront so.runs.ran) (sym so.runs.whole) (front_append so.runs.ran so.runs.left)) (front_of worker i lines);
+    standing = so.runs.standing;
+    logged_are = so.runs.logged_are;
+    lines_are = so.runs.lines_are;
+    takes = so.runs.takes;
+    mark = so.runs.mark;
+    blames = so.runs.blames;
+    reaches = so.runs.reaches;
+    limit = so.runs.limit;
   }
 
   -- behind the last line
   pub loop_done : {s t : Standing} {outcomes : List Outcome} {full : Option ℕ} {old log : LogState} {before bank : D}
       → length lines ≤ i
-      → RunsLines tells clock image_at faults (ops_of worker (take i lines)) s t outcomes full old log before bank
-      → RunsLines tells clock image_at faults (ops_of worker lines) s t outcomes full old log before bank
+      → RunsOn tells clock image_at faults (ops_of worker (take i lines)) s t outcomes full old log before bank
+      → RunsOn tells clock image_at faults (ops_of worker lines) s t outcomes full old log before bank
   loop_done {s = s} {t = t} {outcomes = outcomes} {full = full} {old = old} {log = log} {before = before} {bank = bank} all so =
-      subst (λ l. RunsLines tells clock image_at faults (ops_of worker l) s t outcomes full old log before bank)
+      subst (λ l. RunsOn tells clock image_at faults (ops_of worker l) s t outcomes full old log before bank)
       (take_all i lines all) so

@@ -2,6 +2,7 @@
 use Rattle.std.proofs.Common.{◌≡◌, ◌≢◌, ◌∙◌, ◌≤◌, ◌<◌, ◌+◌, ◌⊎◌, ◌++◌, ◌∷◌, inl, inr, sym, ap, subst, refl, ℕ, zero, suc}
 use Rattle.std.proofs.Common.{List, [], length, length-append, map, take, Bool, true, false, Option, Some, None, arith}
 use Rattle.std.specs.Prelude.{is_some, slice_get, Result, Ok, Err}
+use Rattle.std.specs.Option.{option_map}
 use Rattle.std.proofs.lemmas.Bool.{cases_eq}
 use Rattle.std.proofs.lemmas.List.{length-map, take_more}
 use Rattle.std.proofs.lemmas.Option.{get_or_from_slice_get, same_Some, slice_get_within}
@@ -9,7 +10,7 @@ use Rattle.lists.specs.Fronts.{IsFront, front_append}
 use Rattle.lists.specs.declared.memory.Memory.{Memory}
 use Rattle.serial_model.specs.declared.op.Op.{Op}
 use Rattle.script_grammar.specs.Script.{Round, lines_of_worker, worker_lines}
-use Rattle.tx_script.specs.Run.{LogFailed}
+use Rattle.tx_script.specs.Run.{LogFailed, LogFull}
 use Rattle.tx_script.specs.declared.outcome.Outcome.{Outcome}
 use Rattle.worker_logs.specs.Logs.{LogState}
 use Rattle.worker_logs.specs.Rows.{IsFull}
@@ -20,7 +21,7 @@ use Rattle.plain_rounds.specs.Plainly.{after_lines}
 use Rattle.shared_rounds.specs.Standing.{Standing}
 use Rattle.plain_rounds.specs.InTurn.{AreFirstLines, RunsFirst, StopsInTurn, RunsLines, RunsWorker, StopsLines}
 use Rattle.plain_rounds.specs.InTurn.{WorkersSoFar}
-use Rattle.shared_rounds.specs.Workers.{LeftBy, refusal_of, refused_as}
+use Rattle.shared_rounds.specs.Workers.{LeavesOut, LeftBy, refusal_of, refused_as}
 use Rattle.worker_cells.specs.GateLaws.{all_told_push}
 use Rattle.worker_cells.specs.declared.cell.LogEnd.{LogEnd}
 use Rattle.plain_rounds.proofs.Logged.{parts_push}
@@ -111,6 +112,12 @@ pub failed_by : (failed : Bool) (full : Option ℕ) (down : Option ℕ) → fail
     → refused_as failed full ≡ Some LogFailed
 failed_by failed full down is there = rw (is ∙ there) refl
 
+-- a log that is told full refused a line
+pub filled_by : (failed : Bool) (full : Option ℕ) (size : ℕ) → refused_as failed full ≡ Some (LogFull size)
+    → full ≡ None → ⊥
+filled_by true full size is none = absurd cc
+filled_by false full size is none = absurd (let no = sym (ap (option_map LogFull) none) ∙ is in cc)
+
 -- what the other logs and log files are
 pub record Others {D : Type 0} (w : ℕ) (logs logs_now : List LogState) (banks banks_now : List D) : Type 0 where
   pub logs_stay : (other : ℕ) → other ≢ w → slice_get logs_now other ≡ slice_get logs other
@@ -182,6 +189,7 @@ module _ {D : Type 0} {tells : D → Option (List ℕ)} {clock : D → ℕ} {ima
     ends_failed = λ i end log is. absurd cc;
     flushed = λ i log below. absurd (omega (arith, below));
     ends_are = refl;
+    left_out = λ i p old before is. absurd cc;
     many_outcomes = refl;
     calls = tt;
   }
@@ -307,6 +315,30 @@ module _ {D : Type 0} {tells : D → Option (List ℕ)} {clock : D → ℕ} {ima
           ];
           ends_are = map_push refusal_of ends end ∙ ap (λ l. l ++ refusal_of end ∷ []) so.ends_are
               ∙ sym (map_push (λ (q : Part). q.refusal) so.parts p);
+          left_out = λ i q old before has was bank_was. elim (at_push_cases so.parts p q i has) [
+            | inl older ↦ so.left_out i q old before older was bank_was
+            | inr newest ↦
+                let here : i ≡ w = newest.0 ∙ so.first.count in
+                let old_is : log.0 ≡ old = same_Some log.0 old
+                (sym log.1 ∙ so.first.rest_logs w (omega arith) ∙ ap (slice_get logs_was) (sym here) ∙ was) in
+                let before_is : bank.0 ≡ before = same_Some bank.0 before
+                (sym bank.1 ∙ so.first.rest_banks w (omega arith) ∙ ap (slice_get banks_was) (sym here) ∙ bank_was) in
+                let epoch : mid.clock.epoch ≡ s.clock.epoch =
+                ap (λ (x : Standing). x.clock.epoch) so.first.standing ∙ (plain_kept so.parts s).1 in
+                let out : LeavesOut tells clock image_at faults mid.clock.epoch (p.left ≡ [] → ⊥) p.logged p.refusal
+                log.0 bank.0 = record {
+                  refuses = runs.refuses;
+                  filled = λ size is none. filled_by end.failed end.full size is (runs.unfilled none);
+                } in
+                subst (λ (q : Part). LeavesOut tells clock image_at faults s.clock.epoch (q.left ≡ [] → ⊥) q.logged
+                q.refusal old before) newest.1
+                (subst (λ e. LeavesOut tells clock image_at faults e (p.left ≡ [] → ⊥) p.logged p.refusal old before)
+                epoch
+                (subst (λ x. LeavesOut tells clock image_at faults mid.clock.epoch (p.left ≡ [] → ⊥) p.logged p.refusal
+                x before) old_is
+                (subst (λ x. LeavesOut tells clock image_at faults mid.clock.epoch (p.left ≡ [] → ⊥) p.logged p.refusal
+                log.0 x) before_is out)))
+          ];
           many_outcomes = length-append told (outcomes ∷ []) ∙ ap (λ n. n + 1) so.many_outcomes;
           calls = all_told_push 0 w told ends outcomes end (omega (arith, so.many_outcomes)) so.calls one.4.3;
         }

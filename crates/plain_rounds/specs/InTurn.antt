@@ -17,8 +17,9 @@ use Rattle.plain_rounds.specs.Parts.{AreLoggedAt, AreParts, Part, after_parts, l
 use Rattle.plain_rounds.specs.Plainly.{DrewOnce, IsApart, after_lines, outcomes_at}
 use Rattle.shared_rounds.specs.Lines.{LinesCome}
 use Rattle.shared_rounds.specs.Standing.{Standing}
-use Rattle.shared_rounds.specs.Workers.{LeftBy, refusal_of}
+use Rattle.shared_rounds.specs.Workers.{LeavesOut, LeftBy, refusal_of}
 use Rattle.shared_rounds.specs.declared.ends.WorkersRan.{WorkersRan}
+use Rattle.worker_cells.specs.Cells.{RefusesLine}
 use Rattle.worker_cells.specs.Gates.{AreAllTold, calls_for, calls_in, is_run}
 use Rattle.worker_cells.specs.declared.cell.LogEnd.{LogEnd}
 
@@ -31,7 +32,8 @@ module _ {D : Type 0} (tells : D → Option (List ℕ)) (clock : D → ℕ) (ima
     (faults : D → ℕ) where
   -- ---- one worker
 
-  -- Lines of a worker were run, one after another, and behind the last one that its log took none.
+  -- Lines of a worker were run, one after another. Those behind them were left out: their log refused the first of
+  -- them, and it is told full only where it did.
   pub record RunsLines (lines : List (List Op)) (s t : Standing) (outcomes : List Outcome) (full : Option ℕ)
       (old new : LogState) (before now : D) : Type 0 where
     pub ran : List (List Op)
@@ -49,6 +51,8 @@ module _ {D : Type 0} (tells : D → Option (List ℕ)) (clock : D → ℕ) (ima
     pub limit : new.journal.limit ≡ old.journal.limit
     pub full_is : (size : ℕ) → full ≡ Some size → IsFull size new.journal
     pub all : full ≡ None → new.journal.down ≡ None → left ≡ []
+    pub refuses : (left ≡ [] → ⊥) → RefusesLine tells clock image_at faults s.clock.epoch logged old before
+    pub unfilled : left ≡ [] → full ≡ None
     pub none : lines ≡ [] → new ≡ old
 
   -- Memory was wanted, behind some first lines of a worker.
@@ -107,6 +111,9 @@ module _ {D : Type 0} (tells : D → Option (List ℕ)) (clock : D → ℕ) (ima
     pub flushed : (i : ℕ) (log : LogState) → i < worker → slice_get logs i ≡ Some log → log.journal.down ≡ None
         → log.journal.lines ≡ []
     pub ends_are : map refusal_of ends ≡ map (λ (p : Part). p.refusal) parts
+    pub left_out : (i : ℕ) (p : Part) (old : LogState) (before : D) → slice_get parts i ≡ Some p
+        → slice_get logs_was i ≡ Some old → slice_get banks_was i ≡ Some before
+        → LeavesOut tells clock image_at faults s.clock.epoch (p.left ≡ [] → ⊥) p.logged p.refusal old before
     pub many_outcomes : length outcomes ≡ worker
     pub calls : AreAllTold 0 outcomes ends
 
@@ -119,8 +126,8 @@ module _ {D : Type 0} (tells : D → Option (List ℕ)) (clock : D → ℕ) (ima
   -- ---- a round
 
   -- What comes of a round's lines: however often each may be tried, they were run, or some first ones of each worker
-  -- where memory was wanted. Each number was drawn for a commit. The gate was told of each line that was run. Words that threads share couldn't have the contents
-  -- from which they were run, and the run had not ended.
+  -- where memory was wanted. Each number was drawn for a commit. The gate was told of each line that was run. Words
+  -- that threads share couldn't have the contents from which they were run, and the run had not ended.
   pub record RunsInTurn (round : Round) (s t : Standing) (logs_was logs : List LogState) (banks_was banks : List D)
       (result : Result WorkersRan Memory) : Type 0 where
     pub come : (tries : ℕ) → 1 ≤ tries

@@ -1,5 +1,5 @@
 -- What workers run of their lines on the plain map, one worker after another, and what they leave out.
-use Rattle.std.specs.Prelude.{◌≡◌, ℕ, zero, suc, List, [], ◌∷◌, ◌++◌, map, MatchBool, Option, None}
+use Rattle.std.specs.Prelude.{◌≡◌, ℕ, zero, suc, List, [], ◌∷◌, ◌++◌, MatchBool, Option, None}
 use Rattle.std.specs.Prelude.{option_to_list, ⊤}
 use Rattle.std.specs.List.{AllByRecursion}
 use Rattle.serial_model.specs.declared.number.Commit.{Commit}
@@ -7,8 +7,8 @@ use Rattle.serial_model.specs.declared.op.Op.{Op}
 use Rattle.wire_form.specs.LogFile.{IsLineOf}
 use Rattle.tx_script.specs.Run.{LogRefusal}
 use Rattle.tx_script.specs.declared.outcome.Outcome.{Outcome}
-use Rattle.tx_script.specs.declared.outcome.Outcome.TheVariants.{Unrun}
 use Rattle.worker_logs.specs.Changes.{IsLogged}
+pub use Rattle.worker_cells.specs.Rows.{unrun}
 use Rattle.plain_rounds.specs.Plainly.{after_line, after_lines, has_number, outcomes_at}
 use Rattle.shared_rounds.specs.Standing.{Standing}
 
@@ -23,10 +23,6 @@ pub record Part : Type 0 where
 -- its lines
 abbrev pub lines_in : Part → List (List Op)
 lines_in p = p.ran ++ p.left
-
--- lines that were left out
-abbrev pub unrun : List (List Op) → List Outcome
-unrun lines = map (λ ops. Unrun) lines
 
 -- what comes of its lines
 abbrev pub outcomes_in : Standing → Part → List Outcome

@@ -10,7 +10,7 @@ use Rattle.serial_model.specs.declared.op.Op.{Op}
 use Rattle.serial_model.specs.declared.number.Number.{Number}
 use Rattle.tx_script.specs.declared.outcome.Outcome.{Outcome}
 use Rattle.tx_script.specs.declared.outcome.Outcome.TheVariants.{Committed, Limit}
-use Rattle.tx_script.specs.Draws.{IsPlain, commits_of}
+use Rattle.tx_script.specs.Draws.{IsUnhindered, commit_count}
 use Rattle.shared_rounds.specs.SharedState.{are_arrays}
 use Rattle.shared_rounds.specs.Standing.{Standing}
 
@@ -80,6 +80,6 @@ AreConsecutive n (e ∷ es) = (e.number ≡ n) × AreConsecutive (next_number n)
 
 -- Nobody is in a line's way, and each number that was drawn is a commit's. No conflict was counted.
 pub record DrewOnce (s t : Standing) (outcomes : List (List Outcome)) : Type 0 where
-  pub once : t.clock.draw ≡ s.clock.draw + commits_of outcomes
+  pub once : t.clock.draw ≡ s.clock.draw + commit_count outcomes
   pub alone : t.conflicts ≡ s.conflicts
-  pub plain : AllByRecursion (AllByRecursion IsPlain) outcomes
+  pub plain : AllByRecursion (AllByRecursion IsUnhindered) outcomes

@@ -3,8 +3,8 @@
 //! It runs scripts with trees, which words that threads share can't have. Who runs rounds stands on it beside
 //! `shared_rounds`, and it goes once trees stand on such words.
 //!
-//! Promises: a [`PlainEngine`] is its storages, their contents and the clock (`Standing`). It begins in the state that it
-//! is given (`new`), goes on to the next epoch with all else as it is (`advance`), and tells the sum of its values
+//! Promises: a [`PlainEngine`] is its storages, their contents and the clock (`Standing`). It begins in the state that
+//! it is given (`new`), goes on to the next epoch with all else as it is (`advance`), and tells the sum of its values
 //! (`total`). Words that threads share couldn't have its contents (`IsApart`).
 //! - [`run_workers`]: the lines come to what a round's lines come to on any engine, however often each may be tried
 //!   (`LinesCome` of `shared_rounds`), though none is tried twice: each number was drawn for a commit, and no line met

@@ -21,18 +21,15 @@ use crate::engine::PlainEngine;
 use arrayvec::ArrayVec;
 use log_writer::LogFault;
 use outside::Disk;
-use serial_model::{Commit, DRAW_LIMIT, Draft, Memory, Op, Replies, run_in};
+use serial_model::{Commit, DRAW_LIMIT, Draft, Memory, Op, Replies, WORKERS, run_in};
 use shared_rounds::{LogEnd, WorkersRan};
 use std::alloc::Global;
 use tx_script::{Line, LineOps, Outcomes, Refused, Round, RoundOutcomes};
 use worker_cells::{GateCalls, LineGate};
 use worker_logs::{WorkerLog, WriteSet};
 
-/// How many workers there are.
-const WORKERS: usize = 8;
-
-/// Runs worker 0's lines, then worker 1's and on, over their logs and log files: each line between the gate's two calls,
-/// from the one on at which its log is refused none.
+/// Runs worker 0's lines, then worker 1's and on, over their logs and log files: each line between the gate's two
+/// calls, from the one on at which its log is refused none.
 ///
 /// However often a line may be tried, it commits at its first try, or is refused a number. After want of memory some
 /// first lines of each worker were run.
@@ -149,7 +146,7 @@ fn run_worker<D: Disk, G: LineGate>(
         log.old log.new bank.old bank.new result }
 {
     let mut outcomes = Outcomes::new(alloc);
-    let mut room = Room::new(alloc);
+    let mut desk = Desk::new(alloc);
     let mut line_ops = LineOps::new();
     let mut full = None;
     let mut count = 0;
@@ -159,7 +156,7 @@ fn run_worker<D: Disk, G: LineGate>(
             match log.prepare(bank, engine.clock.epoch) {
                 Ok(()) => {
                     gate.enter(&mut calls, worker, count);
-                    run_line(engine, log, &mut room, ops, &mut outcomes, &calls)?;
+                    run_line(engine, log, &mut desk, ops, &mut outcomes, &calls)?;
                     gate.leave(&mut calls, worker, count);
                 }
                 Err(fault) => {
@@ -170,7 +167,7 @@ fn run_worker<D: Disk, G: LineGate>(
             count += 1;
         }
     }
-    let failed = mark_last(log, bank, engine.clock.epoch, count);
+    let failed = flush_last(log, bank, engine.clock.epoch, count);
     let end = LogEnd {
         failed,
         full,
@@ -190,7 +187,7 @@ fn full_length(fault: LogFault, before: Option<u64>) -> Option<u64>
 }
 
 // Makes durable what waits of a worker that had lines, and marks it. Tells whether its log file failed.
-fn mark_last<D: Disk>(log: &mut WorkerLog, bank: &mut D, clock: u32, count: u32) -> bool
+fn flush_last<D: Disk>(log: &mut WorkerLog, bank: &mut D, clock: u32, count: u32) -> bool
     requires reaches { Reaches D.tells bank.old log.old.journal }
     requires clock { 1 ≤ clock }
     requires up { count ≡ 0 → log.old.journal.down ≡ None }
@@ -227,28 +224,28 @@ fn ops_of<'b>(
     }
 }
 
-// Room for a transaction, used again for the next.
+// What a worker's lines are run in, one after another.
 #[derive(Drop)]
-struct Room {
+struct Desk {
     draft: Draft,
     replies: Replies,
 }
 
-impl Room {
+impl Desk {
     fn new(alloc: Global) -> Self {
-        Room {
+        Desk {
             draft: Draft::new(alloc),
             replies: Replies::new(alloc),
         }
     }
 }
 
-// Runs a line which the gate was told to begin, logs what it changed, and keeps its outcome. After want of memory it was
-// run or not.
+// Runs a line which the gate was told to begin, logs what it changed, and keeps its outcome. After want of memory it
+// was run or not.
 fn run_line(
     engine: &mut PlainEngine,
     log: &mut WorkerLog,
-    room: &mut Room,
+    desk: &mut Desk,
     ops: &[Op],
     outcomes: &mut Outcomes,
     calls: &GateCalls,
@@ -272,14 +269,14 @@ fn run_line(
     if engine.clock.draw >= DRAW_LIMIT {
         return outcomes.push_refused(Refused::Limit);
     }
-    run_numbered(engine, log, room, ops, outcomes)
+    run_numbered(engine, log, desk, ops, outcomes)
 }
 
 // Runs a line that gets a number.
 fn run_numbered(
     engine: &mut PlainEngine,
     log: &mut WorkerLog,
-    room: &mut Room,
+    desk: &mut Desk,
     ops: &[Op],
     outcomes: &mut Outcomes,
 ) -> Result<(), Memory>
@@ -298,12 +295,12 @@ fn run_numbered(
         × TakesLine engine.old ops.now log.old log.new)) }
 {
     let written = WriteSet::of(&engine.plain.state, ops);
-    let verdict = run_in(&mut engine.plain, &mut room.draft, &mut room.replies, ops)?;
+    let verdict = run_in(&mut engine.plain, &mut desk.draft, &mut desk.replies, ops)?;
     let number = engine.clock;
     engine.clock.draw += 1;
     let commit = written.commit(number, verdict, &engine.plain.state);
     log_commit(log, &commit);
-    outcomes.push_commit(verdict, number, &room.replies)
+    outcomes.push_commit(verdict, number, &desk.replies)
 }
 
 // Puts a commit's line into the log, if there is a commit.

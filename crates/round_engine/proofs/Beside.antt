@@ -19,7 +19,7 @@ use Rattle.joint_crashes.specs.Crashes.Rounded.{keeper_none}
 use Rattle.joint_crashes.specs.JointCrash.{Moments}
 use Rattle.joint_crashes.specs.Rounds.{KeeperRan}
 use Rattle.joint_crashes.specs.Story.{SaveTold, SnapsTold, Story}
-use Rattle.round_engine.specs.Keeping.{Keeps}
+use Rattle.round_engine.specs.Keeping.{KeepsSaves}
 use Rattle.round_engine.specs.Saves.{ArePages, AreTied, GoesOnWith, HaveEnded, newest_after}
 use Rattle.round_engine.specs.Standing.{RuntimeState}
 
@@ -49,8 +49,8 @@ module _ {D : Type 0} {tells : D → Option (List ℕ)} {clock : D → ℕ} {ima
   -- nothing of it was touched before
   pub keeps_from : {stored : List Saved} {failed : Option Saved} {a b c : RuntimeState} {before between now : Vault D}
       → SameSaves before between → b.save ≡ a.save → b.store ≡ a.store
-      → Keeps tells clock image_at faults stored failed b c between now
-      → Keeps tells clock image_at faults stored failed a c before now
+      → KeepsSaves tells clock image_at faults stored failed b c between now
+      → KeepsSaves tells clock image_at faults stored failed a c before now
   keeps_from {stored} {failed} {a = a} {b = b} {c = c} {before = before} {between = between} {now = now} same save store k =
       let begun = stored ++ option_to_list failed in
       let one : StoredOver tells clock image_at begun a.save.newest b.store c.store between.save now.save between.snaps
@@ -91,7 +91,7 @@ module _ {D : Type 0} {tells : D → Option (List ℕ)} {clock : D → ℕ} {ima
   -- nothing was stored
   pub keeps_none : (r : RuntimeState) (vault : Vault D) → r.save.down ≡ None
       → IsStored tells clock image_at vault.save r.save.newest
-      → Keeps tells clock image_at faults [] None r r vault vault
+      → KeepsSaves tells clock image_at faults [] None r r vault vault
   keeps_none r vault up stored = record {
     newest = refl;
     down = ap is_some up;

@@ -1,5 +1,5 @@
 -- What the gate is told of a round: of a line of the maintenance thread, and by all threads.
-use Rattle.std.proofs.Common.{◌≡◌, ◌∙◌, ◌++◌, ◌∷◌, ◌+◌, refl, sym, ap, ℕ, Bool, true, List, [], map, Option, Result, Ok, Err}
+use Rattle.std.proofs.Common.{◌≡◌, ◌∙◌, ◌++◌, ◌∷◌, ◌+◌, refl, ap, ℕ, true, List, [], map, Option, Result, Ok, Err}
 use Rattle.lists.specs.declared.memory.OrMemory.{OrMemory}
 use Rattle.lists.specs.declared.memory.OrMemory.TheVariants as or
 use Rattle.log_writer.specs.declared.vault.Vault.{Vault}

@@ -60,13 +60,13 @@ some_none : (epoch : ℕ) → Some epoch ≡ None → ⊥
 some_none epoch is = cc
 
 -- a store that failed makes nothing durable
-none_durable : (ran : Ran) → Contains ran.devices Save → durable_of ran ≡ None
+none_durable : (ran : Ran) → Contains ran.beside.devices Save → durable_of ran ≡ None
 none_durable ran has = none_by (comes_to_save ran) (has_sequence ran) (other_failed ran) failed
   where
     failed : other_failed ran ≡ true
-    failed = any_in (λ device. not (is_closed ran.files device)) ran.devices Save has refl
+    failed = any_in (λ device. not (is_closed ran.beside.files device)) ran.beside.devices Save has refl
 
-    none_by : (a b c : Bool) → c ≡ true → where_true (a && (b && not c)) ran.end.epoch ≡ None
+    none_by : (a b c : Bool) → c ≡ true → where_true (a && (b && not c)) ran.printed.end.epoch ≡ None
     none_by true true true is = refl
     none_by true false c is = refl
     none_by false b c is = refl
@@ -77,8 +77,8 @@ none_durable ran has = none_by (comes_to_save ran) (has_sequence ran) (other_fai
 module _ {D : Type 0} {tells : D → Option (List ℕ)} {clock : D → ℕ} {image_at : D → ℕ → List ℕ → Type 0}
     {faults : D → ℕ} {ran : Ran} {logged : ℕ → List Commit} {old new : RuntimeState} {before now : Vault D}
     (reads : (disk : D) (file : List ℕ) → tells disk ≡ Some file → image_at disk (clock disk) file)
-    (stood : StandsOn tells clock image_at old before) (marks_many : length ran.marks ≡ 8)
-    (durable_made : (epoch : ℕ) → ran.durable ≡ Some epoch → durable_of ran ≡ Some epoch)
+    (stood : StandsOn tells clock image_at old before) (marks_many : length ran.beside.marks ≡ 8)
+    (durable_made : (epoch : ℕ) → ran.printed.durable ≡ Some epoch → durable_of ran ≡ Some epoch)
     (leaves : LeavesVault tells clock image_at faults ran logged old new before now) where
   abbrev last : ℕ
   last = sequence_of old.save.newest
@@ -118,30 +118,30 @@ module _ {D : Type 0} {tells : D → Option (List ℕ)} {clock : D → ℕ} {ima
     -- a savepoint with that epoch was stored last, and its store had ended
     record StoredLast (epoch : ℕ) : Type 0 where
       saved : Saved
-      at : slice_get leaves.stored (length (saves_told ran.answers)) ≡ Some saved
+      at : slice_get leaves.stored (length (saves_told ran.printed.answers)) ≡ Some saved
       epoch_is : saved.epoch ≡ epoch
-      many : length leaves.stored ≡ length (saves_told ran.answers) + 1
+      many : length leaves.stored ≡ length (saves_told ran.printed.answers) + 1
       tie : Tie
       end : ℕ
       has : Contains now.ties.items tie
-      sequence : tie.sequence ≡ last + 1 + length (saves_told ran.answers)
+      sequence : tie.sequence ≡ last + 1 + length (saves_told ran.printed.answers)
       ended : tie.ended ≡ Some end
 
-    stored_last : (epoch : ℕ) → ran.durable ≡ Some epoch → StoredLast epoch
+    stored_last : (epoch : ℕ) → ran.printed.durable ≡ Some epoch → StoredLast epoch
     stored_last epoch durable_is =
-        let epochs : map (λ (s : Saved). s.epoch) leaves.stored ≡ saves_told ran.answers ++ epoch ∷ [] =
-        leaves.has_stored.epochs ∙ ap (λ o. saves_told ran.answers ++ option_to_list o) durable_is in
-        let here : slice_get (map (λ (s : Saved). s.epoch) leaves.stored) (length (saves_told ran.answers))
+        let epochs : map (λ (s : Saved). s.epoch) leaves.stored ≡ saves_told ran.printed.answers ++ epoch ∷ [] =
+        leaves.has_stored.epochs ∙ ap (λ o. saves_told ran.printed.answers ++ option_to_list o) durable_is in
+        let here : slice_get (map (λ (s : Saved). s.epoch) leaves.stored) (length (saves_told ran.printed.answers))
         ≡ Some epoch =
-        ap (λ l. slice_get l (length (saves_told ran.answers))) epochs ∙ last_at (saves_told ran.answers) epoch in
-        let stored = map_at (λ (s : Saved). s.epoch) leaves.stored (length (saves_told ran.answers)) epoch here in
-        let tied = leaves.ended (length (saves_told ran.answers)) stored.0 stored.1 in
+        ap (λ l. slice_get l (length (saves_told ran.printed.answers))) epochs ∙ last_at (saves_told ran.printed.answers) epoch in
+        let stored = map_at (λ (s : Saved). s.epoch) leaves.stored (length (saves_told ran.printed.answers)) epoch here in
+        let tied = leaves.ended (length (saves_told ran.printed.answers)) stored.0 stored.1 in
         record {
           saved = stored.0;
           at = stored.1;
           epoch_is = stored.2;
           many = sym (length-map leaves.stored (λ (s : Saved). s.epoch)) ∙ ap length epochs
-              ∙ length-append (saves_told ran.answers) (epoch ∷ []);
+              ∙ length-append (saves_told ran.printed.answers) (epoch ∷ []);
           tie = tied.0;
           end = tied.1;
           has = tied.2;
@@ -150,16 +150,16 @@ module _ {D : Type 0} {tells : D → Option (List ℕ)} {clock : D → ℕ} {ima
         }
 
     -- a savepoint from the last one that was stored on is of that epoch, or of a later one
-    later_epoch : (epoch : ℕ) → ran.durable ≡ Some epoch → (k : ℕ)
-        → last + 1 + length (saves_told ran.answers) ≤ k → k ≤ high → epoch ≤ epoch_of (after.point k)
+    later_epoch : (epoch : ℕ) → ran.printed.durable ≡ Some epoch → (k : ℕ)
+        → last + 1 + length (saves_told ran.printed.answers) ≤ k → k ≤ high → epoch ≤ epoch_of (after.point k)
     later_epoch epoch durable_is k at_least at_most =
         let stored = stored_last epoch durable_is in
         let saved = item_at begun (k - (last + 1)) (omega (arith, at_least, at_most)) in
-        let first = at_append leaves.stored (option_to_list leaves.failed) (length (saves_told ran.answers)) stored.saved
+        let first = at_append leaves.stored (option_to_list leaves.failed) (length (saves_told ran.printed.answers)) stored.saved
         stored.at in
         let rises = rise_at (epoch_of old.save.newest) (map (λ (s : Saved). s.epoch) begun) leaves.has_stored.rise
-        (length (saves_told ran.answers)) (k - (last + 1)) stored.saved.epoch saved.0.epoch (omega (arith, at_least))
-        (epoch_at begun (length (saves_told ran.answers)) stored.saved first)
+        (length (saves_told ran.printed.answers)) (k - (last + 1)) stored.saved.epoch saved.0.epoch (omega (arith, at_least))
+        (epoch_at begun (length (saves_told ran.printed.answers)) stored.saved first)
         (epoch_at begun (k - (last + 1)) saved.0 saved.1) in
         let point : after.point k ≡ Some (point_of k saved.0) =
         point_behind story last begun (front_of new.store) made k (omega (arith, at_least))
@@ -183,7 +183,7 @@ module _ {D : Type 0} {tells : D → Option (List ℕ)} {clock : D → ℕ} {ima
     -- what the swap left
     record Swapped : Type 0 where
       epoch : ℕ
-      is_durable : ran.durable ≡ Some epoch
+      is_durable : ran.printed.durable ≡ Some epoch
       newest_is : sequence_of new.save.newest ≡ high
       left : CutsLeave clock image_at after from low high (parts_of between) (parts_of now)
       stays : StaysReady clock image_at after low high (parts_of now)
@@ -191,13 +191,13 @@ module _ {D : Type 0} {tells : D → Option (List ℕ)} {clock : D → ℕ} {ima
           (parts_of now)
 
     -- where an epoch was made durable no store failed
-    none_failed : (epoch : ℕ) → ran.durable ≡ Some epoch → leaves.failed ≡ None
+    none_failed : (epoch : ℕ) → ran.printed.durable ≡ Some epoch → leaves.failed ≡ None
     none_failed epoch durable_now = by leaves.failed refl
       where
         by : (failed : Option Saved) → leaves.failed ≡ failed → leaves.failed ≡ None
         by None is = is
         by (Some saved) is =
-            let has : Contains ran.devices Save = leaves.has_stored.fails.0 (ap is_some is) in
+            let has : Contains ran.beside.devices Save = leaves.has_stored.fails.0 (ap is_some is) in
             absurd (some_none epoch (sym (durable_made epoch durable_now) ∙ none_durable ran has))
 
     swapped : (b : Bool) → swaps ran ≡ b → comes_to_swap ran ≡ true → Swapped
@@ -247,13 +247,13 @@ module _ {D : Type 0} {tells : D → Option (List ℕ)} {clock : D → ℕ} {ima
           done = λ is. result.0 (none_some cuts.0 (cuts.1 ∙ ap not is));
         }
       where
-        some_by : (o : Option ℕ) → ran.durable ≡ o → (is_some o && not (keeper_at_end ran).counted) ≡ true
-            → (epoch : ℕ) × (ran.durable ≡ Some epoch)
+        some_by : (o : Option ℕ) → ran.printed.durable ≡ o → (is_some o && not (keeper_at_end ran).counted) ≡ true
+            → (epoch : ℕ) × (ran.printed.durable ≡ Some epoch)
         some_by (Some epoch) is comes = (epoch, is)
         some_by None is comes = absurd cc
 
-        some_durable : comes_to_swap ran ≡ true → (epoch : ℕ) × (ran.durable ≡ Some epoch)
-        some_durable comes = some_by ran.durable refl comes
+        some_durable : comes_to_swap ran ≡ true → (epoch : ℕ) × (ran.printed.durable ≡ Some epoch)
+        some_durable comes = some_by ran.printed.durable refl comes
 
     -- ---- the end
 
@@ -287,7 +287,7 @@ module _ {D : Type 0} {tells : D → Option (List ℕ)} {clock : D → ℕ} {ima
     at_end : AtEnd
     at_end = end_by (comes_to_swap ran) refl
 
-    covers_now : (epoch : ℕ) → ran.durable ≡ Some epoch → (at : Moments) (left : Images) → IsSince from at
+    covers_now : (epoch : ℕ) → ran.printed.durable ≡ Some epoch → (at : Moments) (left : Images) → IsSince from at
         → IsJointCrash clock image_at (parts_of now) at left → clock now.save ≤ at.save
         → (k : ℕ) × StandsFor clock image_at after (parts_of now) left k × (epoch ≤ epoch_of (after.point k))
     covers_now epoch durable_now at left since crash later =

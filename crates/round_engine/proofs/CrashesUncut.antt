@@ -56,7 +56,7 @@ use Rattle.round_engine.proofs.UncutVault.{before_cuts, logs_many, mid, mid_is}
 module _ {D : Type 0} {tells : D → Option (List ℕ)} {clock : D → ℕ} {image_at : D → ℕ → List ℕ → Type 0}
     {faults : D → ℕ} {ran : Ran} {logged : ℕ → List Commit} {old new : RuntimeState} {before now : Vault D}
     (reads : (disk : D) (file : List ℕ) → tells disk ≡ Some file → image_at disk (clock disk) file)
-    (stood : StandsOn tells clock image_at old before) (marks_many : length ran.marks ≡ 8)
+    (stood : StandsOn tells clock image_at old before) (marks_many : length ran.beside.marks ≡ 8)
     (leaves : LeavesVault tells clock image_at faults ran logged old new before now) where
   abbrev last : ℕ
   last = sequence_of old.save.newest
@@ -105,7 +105,7 @@ module _ {D : Type 0} {tells : D → Option (List ℕ)} {clock : D → ℕ} {ima
         let log = item_at leaves.logs w (omega (arith, below, logs_many leaves)) in
         let bank_was = item_at (growing_in old.side before) w
         (omega (arith, below, growing_many old.side before stood.whole)) in
-        let epochs = item_at ran.marks w (omega (arith, below, marks_many)) in
+        let epochs = item_at ran.beside.marks w (omega (arith, below, marks_many)) in
         let was_there : disk_in before (Bank (growing_number old.side w)) ≡ Some bank_was.0 =
         growing_at old.side before w ∙ bank_was.1 in
         record {
@@ -151,7 +151,7 @@ module _ {D : Type 0} {tells : D → Option (List ℕ)} {clock : D → ℕ} {ima
         → CountsOf old.side (λ w. commits w ++ logged w) gone durable closed (Some (point_of sequence saved))
     counts_at k saved sequence at =
         let is : OverSaved saved = all_at OverSaved begun k saved
-        (over_all (IsSavedBy ran.begin.epoch (epoch_joined ran) ran_logs.marks) ran.answers (beside_of old) begun
+        (over_all (IsSavedBy ran.printed.begin.epoch (epoch_joined ran) ran_logs.marks) ran.printed.answers (beside_of old) begun
         (over_begin old.side old.counted (length old.store.pages) stood.closed.workers) ran_logs.saved) at in
         let over = is.1 in
         let saves = is.2 in
@@ -175,7 +175,7 @@ module _ {D : Type 0} {tells : D → Option (List ℕ)} {clock : D → ℕ} {ima
       where
         OverSaved : Saved → Type 0
         OverSaved s = (c : Beside) × IsOver old.side old.counted c
-            × IsSavedBy ran.begin.epoch (epoch_joined ran) ran_logs.marks c s
+            × IsSavedBy ran.printed.begin.epoch (epoch_joined ran) ran_logs.marks c s
 
     -- what a savepoint counts of a log file is durable of it
     within_at : (n : ℕ) (bank : D) (point : Option Savepoint) → disk_in between (Bank n) ≡ Some bank

@@ -13,15 +13,15 @@ use Rattle.round_engine.specs.Refusals.{damage_in, end_told, leaves_out, lines_r
 use Rattle.round_engine.specs.declared.report.End.{End}
 use Rattle.round_engine.specs.declared.report.End.TheVariants as ends
 use Rattle.round_engine.specs.declared.report.LimitName.TheVariants.{Bank, Draw, Epoch, Height, Sequence, Snap}
-use Rattle.round_engine.specs.declared.rounds.Refused.{Refused}
+use Rattle.round_engine.specs.declared.rounds.LineRefusals.{LineRefusals}
 
 -- what the lines were refused, as the run tells it
-pub record IsRefusedAs (ran : Ran) (refused : Refused) : Type 0 where
+pub record IsRefusedAs (ran : Ran) (refused : LineRefusals) : Type 0 where
   pub draw : draw_end ran ≡ option_map (limit_at Draw) refused.draw
-  pub full : refused.device ≡ None → full_length ran.logs ≡ refused.full
+  pub full : refused.device ≡ None → full_length ran.beside.logs ≡ refused.full
   pub damage : refused.device ≡ None → damaged_end ran ≡ damage_in refused.keeper
   pub memory : refused.device ≡ None → damaged_end ran ≡ None → memory_end ran ≡ memory_in refused.keeper
-  pub sequence : refused.sequence ≡ where_true (save_limited ran.asked ran.answers) (keeper_at_end ran).sequence
+  pub sequence : refused.sequence ≡ where_true (save_limited ran.printed.asked ran.printed.answers) (keeper_at_end ran).sequence
   pub leaves : leaves_join_out ran ≡ leaves_out refused
 
 -- ---- the first of some
@@ -58,13 +58,13 @@ pub map_where : {X Y : Type 0} (f : X → Y) (b : Bool) (x : X) → option_map f
 map_where f true x = refl
 map_where f false x = refl
 
-pub lines_sequence : (ran : Ran) (refused : Refused) → IsRefusedAs ran refused → leaves_join_out ran ≡ true
+pub lines_sequence : (ran : Ran) (refused : LineRefusals) → IsRefusedAs ran refused → leaves_join_out ran ≡ true
     → sequence_end ran ≡ option_map (limit_at Sequence) refused.sequence
 lines_sequence ran refused is out =
     rw out
-    (ap (λ b. where_true b (limit_at Sequence (keeper_at_end ran).sequence)) (or_none (save_limited ran.asked ran.answers))
+    (ap (λ b. where_true b (limit_at Sequence (keeper_at_end ran).sequence)) (or_none (save_limited ran.printed.asked ran.printed.answers))
     ∙ sym (ap (option_map (limit_at Sequence)) is.sequence
-    ∙ map_where (limit_at Sequence) (save_limited ran.asked ran.answers) (keeper_at_end ran).sequence))
+    ∙ map_where (limit_at Sequence) (save_limited ran.printed.asked ran.printed.answers) (keeper_at_end ran).sequence))
 
 pub left_out_end : (device : Option Device) (damage told_damage epoch draw full told_full sequence memory told_memory : Option End)
     → epoch ≡ None → (device ≡ None → told_damage ≡ damage) → (device ≡ None → told_full ≡ full)
@@ -84,7 +84,7 @@ left_out_end None damage told_damage epoch draw full told_full sequence memory t
     by_damage (Some damage) None is same = absurd cc
     by_damage (Some damage) (Some told) is same = sym is
 
-pub end_left_out : (ran : Ran) (refused : Refused) → IsRefusedAs ran refused → first_device ran.devices ≡ refused.device
+pub end_left_out : (ran : Ran) (refused : LineRefusals) → IsRefusedAs ran refused → first_device ran.beside.devices ≡ refused.device
     → leaves_out refused ≡ true → lines_refused refused ≡ end_of ran
 end_left_out ran refused is device out =
     left_out_end refused.device (damage_in refused.keeper) (damaged_end ran) (epoch_end ran)
@@ -93,9 +93,9 @@ end_left_out ran refused is device out =
     (no_epoch ran (is.leaves ∙ out)) is.damage (λ none. ap (option_map (limit_at Bank)) (is.full none)) is.memory
     ∙ ap (λ d. first_end d (damaged_end ran) (epoch_end ran) (option_map (limit_at Draw) refused.draw) (bank_end ran)
     (option_map (limit_at Sequence) refused.sequence) (memory_end ran)) (ap (option_map ends.Device) (sym device))
-    ∙ ap (λ d. first_end (option_map ends.Device (first_device ran.devices)) (damaged_end ran) (epoch_end ran) d (bank_end ran)
+    ∙ ap (λ d. first_end (option_map ends.Device (first_device ran.beside.devices)) (damaged_end ran) (epoch_end ran) d (bank_end ran)
     (option_map (limit_at Sequence) refused.sequence) (memory_end ran)) (sym is.draw)
-    ∙ ap (λ s. first_end (option_map ends.Device (first_device ran.devices)) (damaged_end ran) (epoch_end ran) (draw_end ran)
+    ∙ ap (λ s. first_end (option_map ends.Device (first_device ran.beside.devices)) (damaged_end ran) (epoch_end ran) (draw_end ran)
     (bank_end ran) s (memory_end ran)) (sym (lines_sequence ran refused is (is.leaves ∙ out)))
 
 -- What the maintenance thread's lines may be refused by: no limit; and a device is told as one.
@@ -107,7 +107,7 @@ IsKeeperEnd device (Some (ends.Limit name number)) = ⊥
 IsKeeperEnd device (Some ends.Memory) = ⊤
 
 -- something ended the run
-pub left_out_some : (refused : Refused) → IsKeeperEnd refused.device refused.keeper → leaves_out refused ≡ true
+pub left_out_some : (refused : LineRefusals) → IsKeeperEnd refused.device refused.keeper → leaves_out refused ≡ true
     → is_some (lines_refused refused) ≡ true
 left_out_some refused keeper out =
     some_of refused.device refused.full refused.keeper (option_map (limit_at Draw) refused.draw)
@@ -139,12 +139,12 @@ left_out_some refused keeper out =
 -- ---- a join that was made
 
 -- nothing that leaves the join out was refused
-pub record NoneRefused (refused : Refused) : Type 0 where
+pub record NoneRefused (refused : LineRefusals) : Type 0 where
   pub device : refused.device ≡ None
   pub full : refused.full ≡ None
   pub keeper : refused.keeper ≡ None
 
-pub nothing : (refused : Refused) → leaves_out refused ≡ false → NoneRefused refused
+pub nothing : (refused : LineRefusals) → leaves_out refused ≡ false → NoneRefused refused
 nothing refused out =
     let none = none_of refused.device refused.full refused.keeper out in
     record { device = none.0; full = none.1; keeper = none.2 }
@@ -159,17 +159,17 @@ nothing refused out =
 
 -- what its join was refused, or the swap behind it, and the devices that failed
 pub record IsJoinedAs (ran : Ran) (refusal : Option End) : Type 0 where
-  pub device : (first_device ran.devices ≡ None)
-      ⊎ ((device : Device) × (refusal ≡ Some (ends.Device device)) × (first_device ran.devices ≡ Some device))
-  pub limit : first_device ran.devices ≡ None → (end : End) → refusal ≡ Some end
-      → ((end ≡ limit_at Epoch ran.end.epoch) × (nat_lt ran.end.epoch last_epoch ≡ false))
-      ⊎ ((end ≡ limit_at Sequence (keeper_at_end ran).sequence) × (nat_lt ran.end.epoch last_epoch ≡ true)
+  pub device : (first_device ran.beside.devices ≡ None)
+      ⊎ ((device : Device) × (refusal ≡ Some (ends.Device device)) × (first_device ran.beside.devices ≡ Some device))
+  pub limit : first_device ran.beside.devices ≡ None → (end : End) → refusal ≡ Some end
+      → ((end ≡ limit_at Epoch ran.printed.end.epoch) × (nat_lt ran.printed.end.epoch last_epoch ≡ false))
+      ⊎ ((end ≡ limit_at Sequence (keeper_at_end ran).sequence) × (nat_lt ran.printed.end.epoch last_epoch ≡ true)
       × (((keeper_at_end ran).sequence == last_sequence) ≡ true))
-  pub done : refusal ≡ None → (nat_lt ran.end.epoch last_epoch ≡ true)
-      × (((keeper_at_end ran).sequence == last_sequence) ≡ false) × (save_limited ran.asked ran.answers ≡ false)
-      × (first_device ran.devices ≡ None)
+  pub done : refusal ≡ None → (nat_lt ran.printed.end.epoch last_epoch ≡ true)
+      × (((keeper_at_end ran).sequence == last_sequence) ≡ false) × (save_limited ran.printed.asked ran.printed.answers ≡ false)
+      × (first_device ran.beside.devices ≡ None)
 
-module _ (ran : Ran) (refused : Refused) (is : IsRefusedAs ran refused) (out : leaves_out refused ≡ false) where
+module _ (ran : Ran) (refused : LineRefusals) (is : IsRefusedAs ran refused) (out : leaves_out refused ≡ false) where
   made_advance : comes_to_advance ran ≡ true
   made_advance = ap not (is.leaves ∙ out)
 
@@ -206,7 +206,7 @@ module _ (ran : Ran) (refused : Refused) (is : IsRefusedAs ran refused) (out : l
       is.memory none.device no_damage ∙ ap memory_in none.keeper
 
   -- the end of a round whose devices are all up
-  up_end : first_device ran.devices ≡ None → end_of ran ≡ first_of (epoch_end ran) (first_of draws (sequence_end ran))
+  up_end : first_device ran.beside.devices ≡ None → end_of ran ≡ first_of (epoch_end ran) (first_of draws (sequence_end ran))
   up_end up =
       ap (λ d. first_end (option_map ends.Device d) (damaged_end ran) (epoch_end ran) (draw_end ran) (bank_end ran)
       (sequence_end ran) (memory_end ran)) up
@@ -216,12 +216,12 @@ module _ (ran : Ran) (refused : Refused) (is : IsRefusedAs ran refused) (out : l
       ∙ ap (λ m. first_end None None (epoch_end ran) draws None (sequence_end ran) m) no_memory
       ∙ ap (λ s. first_of (epoch_end ran) (first_of draws s)) (first_none (sequence_end ran))
 
-  epoch_reached : (b : Bool) → nat_lt ran.end.epoch last_epoch ≡ b
-      → epoch_end ran ≡ where_true (not b) (limit_at Epoch ran.end.epoch)
+  epoch_reached : (b : Bool) → nat_lt ran.printed.end.epoch last_epoch ≡ b
+      → epoch_end ran ≡ where_true (not b) (limit_at Epoch ran.printed.end.epoch)
   epoch_reached b test = rw (made_advance, test) refl
 
-  no_sequence : nat_lt ran.end.epoch last_epoch ≡ true → ((keeper_at_end ran).sequence == last_sequence) ≡ false
-      → save_limited ran.asked ran.answers ≡ false → sequence_end ran ≡ None
+  no_sequence : nat_lt ran.printed.end.epoch last_epoch ≡ true → ((keeper_at_end ran).sequence == last_sequence) ≡ false
+      → save_limited ran.printed.asked ran.printed.answers ≡ false → sequence_end ran ≡ None
   no_sequence below other limited = rw (limited, made_advance, below, other) refl
 
   pub end_done : IsJoinedAs ran None → end_told refused None ≡ end_of ran
@@ -254,15 +254,15 @@ module _ (ran : Ran) (refused : Refused) (is : IsRefusedAs ran refused) (out : l
   told_sequence end this = ap (λ e. end_told refused (Some e)) this
       ∙ ap (λ r. first_of r (Some (limit_at Sequence (keeper_at_end ran).sequence))) lines_alone
       ∙ ap (λ s. first_of (first_of draws (option_map (limit_at Sequence) s)) (Some (limit_at Sequence (keeper_at_end ran).sequence))) is.sequence
-      ∙ first_same draws (save_limited ran.asked ran.answers) (keeper_at_end ran).sequence
+      ∙ first_same draws (save_limited ran.printed.asked ran.printed.answers) (keeper_at_end ran).sequence
 
   or_true : (b : Bool) → (b || true) ≡ true
   or_true true = refl
   or_true false = refl
 
-  met_sequence : nat_lt ran.end.epoch last_epoch ≡ true → ((keeper_at_end ran).sequence == last_sequence) ≡ true
+  met_sequence : nat_lt ran.printed.end.epoch last_epoch ≡ true → ((keeper_at_end ran).sequence == last_sequence) ≡ true
       → sequence_end ran ≡ Some (limit_at Sequence (keeper_at_end ran).sequence)
-  met_sequence below at = rw (made_advance, below, at, or_true (save_limited ran.asked ran.answers)) refl
+  met_sequence below at = rw (made_advance, below, at, or_true (save_limited ran.printed.asked ran.printed.answers)) refl
 
   pub end_refused : (end : End) → IsJoinedAs ran (Some end) → end_told refused (Some end) ≡ end_of ran
   end_refused end joined = elim joined.device [
@@ -272,7 +272,7 @@ module _ (ran : Ran) (refused : Refused) (is : IsRefusedAs ran refused) (out : l
         (sequence_end ran) (memory_end ran)) failed.2)
     | inl up ↦ elim (joined.limit up end refl) [
       | inl epoch ↦
-          told_limit end ran.end.epoch epoch.0
+          told_limit end ran.printed.end.epoch epoch.0
           ∙ sym (up_end up ∙ ap (λ e. first_of e (first_of draws (sequence_end ran))) (epoch_reached false epoch.1))
       | inr last ↦
           told_sequence end last.0
@@ -285,7 +285,7 @@ module _ (ran : Ran) (refused : Refused) (is : IsRefusedAs ran refused) (out : l
       some_is a b is = cc
 
 -- a refusal of the join is told, or one of the lines
-pub told_some : (refused : Refused) (end : End) → is_some (end_told refused (Some end)) ≡ true
+pub told_some : (refused : LineRefusals) (end : End) → is_some (end_told refused (Some end)) ≡ true
 told_some refused (ends.Device device) = refl
 told_some refused (ends.Damaged device at) = refl
 told_some refused (ends.Limit Epoch number) = refl

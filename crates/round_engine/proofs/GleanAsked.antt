@@ -27,6 +27,7 @@ use Rattle.round_engine.specs.Keeping.{CanKeep, glean_answer, glean_refusal, ref
 use Rattle.round_engine.specs.Standing.{AreClosed, IsMarkBefore, RuntimeState, Standing, StandsOn}
 use Rattle.round_engine.proofs.GleanLine.{glean_line}
 use Rattle.round_engine.proofs.KeeperSteps.{closed_still, whole_of}
+use Rattle.round_engine.proofs.LogsStanding.{stand_keeper}
 use Rattle.round_engine.proofs.Numbered.{growing_at}
 use Rattle.round_engine.proofs.Places.{or_parts}
 
@@ -45,6 +46,7 @@ asked_ready s is =
       most_pages = s.most_pages;
       sound = up.store;
       snapshot = s.snapshot up.store;
+      durable = s.durable;
     }
 
 module _ {D : Type 0} (tells : D → Option (List ℕ)) (clock : D → ℕ) (image_at : D → ℕ → List ℕ → Type 0) (faults : D → ℕ)
@@ -143,6 +145,7 @@ module _ {D : Type 0} {tells : D → Option (List ℕ)} {clock : D → ℕ} {ima
     reaches = λ worker log bank at there.
         stands.reaches worker log bank (ap (λ logs. slice_get logs worker) (sym gleans.alone.logs) ∙ at)
         (reach worker bank there);
+    durable = λ always. stand_keeper runs stands.closed.workers (stands.durable always);
   }
 
   pub glean_asked : (failed : Bool) (r : RuntimeState)

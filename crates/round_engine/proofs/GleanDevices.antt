@@ -1,7 +1,7 @@
 -- Which devices failed in a glean, and which of them is told first.
-use Rattle.std.proofs.Common.{◌≡◌, ◌∙◌, ◌+◌, ◌++◌, ◌∷◌, inl, inr, sym, ap, subst, refl, ℕ, List, [], true, cond}
+use Rattle.std.proofs.Common.{◌≡◌, ◌+◌, ◌∷◌, inl, inr, sym, ap, subst, refl, ℕ, List, [], true, cond}
 use Rattle.std.proofs.Common.{Option, Some, None, arith}
-use Rattle.std.specs.Prelude.{is_some, option_to_list, Result, Ok, Err}
+use Rattle.std.specs.Prelude.{is_some, option_to_list, Result}
 use Rattle.std.specs.List.{Contains}
 use Rattle.std.proofs.lemmas.List.Elements.{Contains-append_left, Contains-append_right}
 use Rattle.std.proofs.lemmas.Option.{same_Some}

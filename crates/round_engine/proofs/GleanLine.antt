@@ -52,7 +52,7 @@ use Rattle.round_engine.specs.Gleans.{AddsPages, AddsSnapshot, AddsNothing, Answ
 use Rattle.round_engine.specs.Ends.{first_device}
 use Rattle.round_engine.specs.Gleans.{device_of_glean, devices_of_glean, GleansQuietly, IsFound, LeaveGleans, RoundGleans}
 use Rattle.round_engine.specs.Keeping.{epoch_now, IsSavedBySeen, MarksOf}
-use Rattle.round_engine.specs.Keeping.{CanKeep, glean_answer, glean_refusal, is_refusal, keeper_on, Keeps, NeedCounted}
+use Rattle.round_engine.specs.Keeping.{CanKeep, glean_answer, glean_refusal, is_refusal, keeper_on, KeepsSaves, NeedCounted}
 use Rattle.round_engine.specs.Keeping.{refusal_beside, refusal_told, RestsOn, RunsKeeper, StepsGlean}
 use Rattle.round_engine.specs.Saves.{AreSavedIn, beside_at_end, saves_told}
 use Rattle.round_engine.specs.Sides.{closed_in, is_odd}
@@ -107,7 +107,7 @@ module _ {D : Type 0} {tells : D → Option (List ℕ)} {clock : D → ℕ} {ima
   keeps_gleans : (is_some (tells vault.snaps) ≡ true
       → AllBegin (image_at vault.snaps (clock vault.snaps)) (bytes_of_pages r.store.pages) → new.store.sound ≡ true
       → AllBegin (image_at now.snaps (clock now.snaps)) (bytes_of_pages new.store.pages))
-      → Keeps tells clock image_at faults [] None r new vault now
+      → KeepsSaves tells clock image_at faults [] None r new vault now
   keeps_gleans durable = record {
     newest = ap (λ (s : SaveState). s.newest) gleans.alone.save;
     down = ap (λ (s : SaveState). is_some s.down) gleans.alone.save ∙ ap is_some ready.up;
@@ -319,15 +319,15 @@ module _ {D : Type 0} {tells : D → Option (List ℕ)} {clock : D → ℕ} {ima
   closed_file Even worker = refl
   closed_file Odd worker = refl
 
-  same_file : (ran : Ran) (worker : ℕ) → ran.files.odd ≡ is_odd r.side
-      → file_of (not (is_odd r.side)) worker ≡ closed_file_of ran.files worker
+  same_file : (ran : Ran) (worker : ℕ) → ran.beside.files.odd ≡ is_odd r.side
+      → file_of (not (is_odd r.side)) worker ≡ closed_file_of ran.beside.files worker
   same_file ran worker odd = ap (λ b. file_of (not b) worker) (sym odd)
 
   closed_eight : (side : Side) → IsWholeVault vault → length (closed_in side vault) ≡ 8
   closed_eight Even whole = whole.odd
   closed_eight Odd whole = whole.even
 
-  glean_device : (ran : Ran) (device : Device) → ran.files.odd ≡ is_odd r.side → FailsIn tells clock image_at faults r device vault now
+  glean_device : (ran : Ran) (device : Device) → ran.beside.files.odd ≡ is_odd r.side → FailsIn tells clock image_at faults r device vault now
       → IsGleanDevice ran device
   glean_device ran devices.Snaps odd fails = tt
   glean_device ran devices.Save odd fails = absurd (let no = fails.4 in cc)

@@ -1,5 +1,5 @@
 -- Gleans of some lines, and then of more.
-use Rattle.std.proofs.Common.{◌≡◌, ◌≢◌, ◌∙◌, ◌≤◌, ◌<◌, ◌*◌, ◌+◌, ◌++◌, ◌∷◌, inl, inr, sym, ap, subst, refl, ℕ, List, []}
+use Rattle.std.proofs.Common.{◌≡◌, ◌∙◌, ◌≤◌, ◌<◌, ◌*◌, ◌+◌, ◌++◌, ◌∷◌, inl, inr, sym, ap, subst, refl, ℕ, List, []}
 use Rattle.std.proofs.Common.{append_assoc, length, length-append, Bool, true, false, Option, Some, None, arith}
 use Rattle.std.specs.Prelude.{is_some, replicate, slice_get}
 use Rattle.std.specs.List.{Contains}

@@ -37,7 +37,7 @@ use Rattle.round_engine.specs.Ends.{epoch_joined, first_device, first_of}
 use Rattle.round_engine.specs.Ends.{swaps}
 use Rattle.round_engine.specs.Gleans.{RoundGleans}
 use Rattle.round_engine.specs.Joins.{Joins, without_lines}
-use Rattle.round_engine.specs.Keeping.{IsSavedBySeen, JoinAnswers, Keeps, MarksOf, device_told}
+use Rattle.round_engine.specs.Keeping.{IsSavedBySeen, JoinAnswers, KeepsSaves, MarksOf, device_told}
 use Rattle.round_engine.specs.Phases.{JoinsAndSwaps, ended_as, fails_device, made, refused_by}
 use Rattle.round_engine.specs.RanRound.{LeavesVault, SwapsFiles}
 use Rattle.round_engine.specs.Refusals.{end_told}
@@ -48,7 +48,7 @@ use Rattle.round_engine.specs.Swaps.{CutsBanks}
 use Rattle.round_engine.specs.declared.report.End.{End}
 use Rattle.round_engine.specs.declared.report.End.TheVariants as ends
 use Rattle.round_engine.specs.declared.report.LimitName.TheVariants.{Bank, Draw, Epoch, Height, Sequence, Snap}
-use Rattle.round_engine.specs.declared.rounds.Refused.{Refused}
+use Rattle.round_engine.specs.declared.rounds.LineRefusals.{LineRefusals}
 use Rattle.round_engine.proofs.CrashesLeft.{with_crashes}
 use Rattle.round_engine.proofs.Devices.{IsBeside, are_down, bank_down, beside_not_growing}
 use Rattle.round_engine.proofs.Ended.{devices_down, first_down}
@@ -68,7 +68,7 @@ use Rattle.round_engine.proofs.Whole.{LogsTotal, SeenIn, leaves_vault}
 use Rattle.round_engine.proofs.Places.{item_at, map_at, within_of}
 
 -- nothing was refused in lines
-abbrev pub none_refused : Refused
+abbrev pub none_refused : LineRefusals
 none_refused = record { device = None; keeper = None; draw = None; full = None; sequence = None }
 
 -- what the join was refused by is told
@@ -176,6 +176,7 @@ module _ {D : Type 0} {tells : D → Option (List ℕ)} {clock : D → ℕ} {ima
     runs = js.joins;
     turns = turns;
     few = js.counted;
+    durable = stands.durable;
   }
 
   abbrev logs : List LogState
@@ -290,7 +291,7 @@ module _ {D : Type 0} {tells : D → Option (List ℕ)} {clock : D → ℕ} {ima
 
   -- ---- what was kept
 
-  keeps_made : Keeps tells clock image_at faults js.joins.stored js.joins.failed old new before now
+  keeps_made : KeepsSaves tells clock image_at faults js.joins.stored js.joins.failed old new before now
   keeps_made = keeps_onto (leaves facts).saves new_save (ap (λ (r : RuntimeState). r.store) new_is ∙ parts_are.2) js.joins.keeps
 
   joined_epoch : js.joined.stands.clock.epoch ≡ epoch_joined ran

@@ -8,6 +8,7 @@ use Rattle.std.proofs.lemmas.List.{length-map}
 use Rattle.std.proofs.lemmas.Option.{same_Some}
 use Rattle.lists.specs.Each.{all_at}
 use Rattle.lists.specs.Elements.{in_cases, in_head, in_none}
+use Rattle.log_writer.specs.Counted.{AlwaysTells}
 use Rattle.log_writer.specs.Vault.{IsWhole, disk_in}
 use Rattle.outside.specs.declared.device.Device.{Device}
 use Rattle.outside.specs.declared.device.Device.TheVariants as devices
@@ -31,7 +32,8 @@ use Rattle.round_engine.specs.Phases.{ended_as, fails_device, made, refused_by}
 use Rattle.round_engine.specs.RanRound.{IsQuietIn}
 use Rattle.round_engine.specs.Saves.{newest_after}
 use Rattle.round_engine.specs.Sides.{closed_in, closed_numbers, growing_in}
-use Rattle.round_engine.specs.Standing.{AreClosed, beside_of, HasSnapshot, IsMarkBefore, RuntimeState, Standing, StandsOn}
+use Rattle.round_engine.specs.Standing.{AreClosed, beside_of, HasSnapshot, IsMarkBefore, LogsStand, RuntimeState, Standing}
+use Rattle.round_engine.specs.Standing.{StandsOn}
 use Rattle.round_engine.specs.Swaps.{turned}
 use Rattle.round_engine.specs.declared.report.End.{End}
 use Rattle.round_engine.specs.declared.report.End.TheVariants as ends
@@ -40,6 +42,7 @@ use Rattle.round_engine.proofs.BanksCut.{banks_quiet, banks_rose, closed_below, 
 use Rattle.round_engine.proofs.Devices.{are_down, down_at}
 use Rattle.round_engine.proofs.Ended.{first_down}
 use Rattle.round_engine.proofs.JoinedAs.{bank_told, below_test, none_is_down, one_is_down}
+use Rattle.round_engine.proofs.LogsStanding.{stand_cut, stand_join, stand_turned}
 use Rattle.round_engine.proofs.Numbered.{closed_many, growing_at, growing_many, same_growing, whole_of}
 use Rattle.round_engine.proofs.Places.{all_from, not_save, nothing_there, other_bank}
 use Rattle.round_engine.proofs.Saved.{nothing_saved}
@@ -119,6 +122,7 @@ pub record JoinFacts {D : Type 0} (tells : D → Option (List ℕ)) (clock : D �
   pub runs : RunsJoin tells clock image_at faults r joined after pre result
   pub turns : TurnsBehind tells clock image_at faults r.stands.clock.epoch result joined turned_r pre now cut_told
   pub few : AllByRecursion (λ n. n < 2 ^ 40) turned_r.counted
+  pub durable : AlwaysTells tells → LogsStand tells clock image_at r.side r.logs r.counted after
 
 module _ {D : Type 0} {tells : D → Option (List ℕ)} {clock : D → ℕ} {image_at : D → ℕ → List ℕ → Type 0}
     {faults : D → ℕ} {side : Side} {r joined turned_r : RuntimeState} {after pre now : Vault D} {result : Result ℕ End}
@@ -453,6 +457,7 @@ module _ {D : Type 0} {tells : D → Option (List ℕ)} {clock : D → ℕ} {ima
         ap (λ l. slice_get l w) growing_now ∙ sym (growing_at side pre w)
         ∙ ap (λ s. disk_in pre (devices.Bank (growing_number s w))) (sym joined_side) ∙ there in
         (step w was.0 log bank_was.0 bank was.1 at bank_was.1 bank_there).reaches;
+    durable = λ always. stand_join facts.runs facts.many (growing_many r.side after facts.whole) (facts.durable always);
   }
 
   -- and behind it
@@ -466,14 +471,20 @@ module _ {D : Type 0} {tells : D → Option (List ℕ)} {clock : D → ℕ} {ima
       ∙ turned_ended (facts.turns.tried && not (is_some facts.turns.cut)) r.stands.clock.epoch joined ended down))
       (by_turn (facts.turns.tried && not (is_some facts.turns.cut)) refl)
     where
+      still : AlwaysTells tells → LogsStand tells clock image_at joined.side joined.logs joined.counted now
+      still always = stand_cut facts.turns pre_whole
+          (λ tried. ap some_counted (ap (λ (x : RuntimeState). x.counted) facts.runs.alone) ∙ (tried_done tried).2)
+          (stand_join facts.runs facts.many (growing_many r.side after facts.whole) (facts.durable always))
+
       here : StandsOn tells clock image_at (ended_as joined ended down) now
-      here = stands_cut leaves.whole leaves.saves.save leaves.saves.snaps leaves.growing (stands_pre ended down up_so on_so)
+      here = stands_cut leaves.whole leaves.saves.save leaves.saves.snaps leaves.growing still (stands_pre ended down up_so on_so)
 
       by_turn : (b : Bool) → (facts.turns.tried && not (is_some facts.turns.cut)) ≡ b
           → StandsOn tells clock image_at (turned_if b r.stands.clock.epoch (ended_as joined ended down)) now
       by_turn false is = here
       by_turn true is =
-          let done = tried_done (and_parts facts.turns.tried (not (is_some facts.turns.cut)) is).0 in
+          let parts = and_parts facts.turns.tried (not (is_some facts.turns.cut)) is in
+          let done = tried_done parts.0 in
           let at = done_at done.0 done.1 in
           let turned_is : turned_r ≡ turned r.stands.clock.epoch joined =
           facts.turns.new_is ∙ ap (λ b. turned_if b r.stands.clock.epoch joined) is in
@@ -481,4 +492,6 @@ module _ {D : Type 0} {tells : D → Option (List ℕ)} {clock : D → ℕ} {ima
           (omega (arith, ap (λ (x : RuntimeState). x.closed_at) facts.runs.alone, facts.closed.before))
           (omega (arith, at.clock_now, at.epoch_is))
           (subst (λ (x : RuntimeState). AllByRecursion (λ n. n < 2 ^ 40) x.counted) turned_is facts.few)
+          (λ always. stand_turned facts.turns pre_whole always joined_many parts.0
+          (nothing_there facts.turns.cut (not_true (is_some facts.turns.cut) parts.1)) (still always))
           here

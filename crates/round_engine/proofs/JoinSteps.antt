@@ -6,6 +6,7 @@ use Rattle.std.specs.List.{AllByRecursion, Contains}
 use Rattle.std.proofs.lemmas.Bool.{cases_eq, cases_lt}
 use Rattle.std.proofs.lemmas.Option.{same_Some}
 use Rattle.lists.specs.Elements.{in_cases, in_head, in_none}
+use Rattle.log_writer.specs.Counted.{AlwaysTells}
 use Rattle.log_writer.specs.Vault.{IsWhole}
 use Rattle.outside.specs.declared.device.Device.TheVariants as devices
 use Rattle.log_writer.specs.declared.vault.Vault.{Vault}
@@ -32,7 +33,7 @@ use Rattle.worker_logs.specs.RowLaws.{blames_move, blames_none}
 use Rattle.round_engine.specs.Ends.{epoch_after}
 use Rattle.round_engine.specs.Keeping.{CanKeep, IsSavedBySeen, JoinAnswers, JoinsLog, MarksOf, RunsJoin, at_epoch, device_told, join_answer}
 use Rattle.round_engine.specs.Sides.{SameButGrowing, closed_in, growing_in}
-use Rattle.round_engine.specs.Standing.{AreClosed, beside_of, HasSnapshot, RuntimeState}
+use Rattle.round_engine.specs.Standing.{AreClosed, beside_of, HasSnapshot, LogsStand, RuntimeState}
 use Rattle.round_engine.specs.declared.report.End.{End}
 use Rattle.round_engine.specs.declared.report.End.TheVariants as ends
 use Rattle.round_engine.specs.declared.report.LimitName.TheVariants.{Epoch}
@@ -214,8 +215,9 @@ module _ {D : Type 0} (tells : D → Option (List ℕ)) (clock : D → ℕ) (ima
     pub can_save : AreClosed old → old.room ≤ 65536 → old.store.sound ≡ true → HasSnapshot tells old before.snaps
         → (now : Vault D) → SameButGrowing old.side before now → length logs ≡ length old.logs
         → length (growing_in old.side now) ≡ length (growing_in old.side before)
+        → (AlwaysTells tells → LogsStand tells clock image_at old.side logs old.counted now)
         → CanKeep tells clock image_at (flushed_with old logs) now
-    can_save closed room sound snapshot now same many banks = record {
+    can_save closed room sound snapshot now same many banks durable = record {
       whole = whole_of old.side now (banks ∙ growing_many old.side before whole)
           (ap length same.closed ∙ closed_many old.side before whole);
       workers = many ∙ workers;
@@ -233,6 +235,7 @@ module _ {D : Type 0} (tells : D → Option (List ℕ)) (clock : D → ℕ) (ima
         earlier = snapshot.earlier;
         let_in = snapshot.let_in;
       });
+      durable = durable;
     }
 
     -- A log refused to be flushed: what comes behind it is left out.

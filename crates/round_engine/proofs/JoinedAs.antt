@@ -144,31 +144,31 @@ or_false false = refl
 
 module _ (ran : Ran) (kept joined : RuntimeState) (stored : List Saved) (failed : Option Saved) (side : Side)
     (logs : List Bool) (cut : Option ℕ)
-    (odd_is : ran.files.odd ≡ is_odd side)
-    (devices_are : ran.devices ≡ devices_down side logs (is_some failed) (cut_device cut))
+    (odd_is : ran.beside.files.odd ≡ is_odd side)
+    (devices_are : ran.beside.devices ≡ devices_down side logs (is_some failed) (cut_device cut))
     (cut_closed : (n : ℕ) → cut ≡ Some n → (w : ℕ) × (n ≡ closed_number side w))
-    (epoch_is : ran.end.epoch ≡ kept.stands.clock.epoch)
+    (epoch_is : ran.printed.end.epoch ≡ kept.stands.clock.epoch)
     (sequence_is : (keeper_at_end ran).sequence ≡ sequence_of kept.save.newest)
-    (limited : save_limited ran.asked ran.answers ≡ true → (keeper_at_end ran).sequence ≡ last_sequence) where
-  first_is : first_device ran.devices ≡ first_told (keeper_device (is_some failed) (cut_device cut)) (first_down side 0 logs)
+    (limited : save_limited ran.printed.asked ran.printed.answers ≡ true → (keeper_at_end ran).sequence ≡ last_sequence) where
+  first_is : first_device ran.beside.devices ≡ first_told (keeper_device (is_some failed) (cut_device cut)) (first_down side 0 logs)
   first_is = ap first_device devices_are ∙ first_of_down side logs (is_some failed) (cut_device cut)
 
   -- where no store failed and nothing was cut the first device is a log file
-  no_save : failed ≡ None → cut ≡ None → first_device ran.devices ≡ first_down side 0 logs
+  no_save : failed ≡ None → cut ≡ None → first_device ran.beside.devices ≡ first_down side 0 logs
   no_save none uncut = first_is
       ∙ ap (λ b. first_told (keeper_device b (cut_device cut)) (first_down side 0 logs)) (no_failure failed none)
       ∙ ap (λ c. first_told (keeper_device false (cut_device c)) (first_down side 0 logs)) uncut
 
   -- and where a cut failed it is that one
   only_cut : (n : ℕ) → failed ≡ None → first_down side 0 logs ≡ None → cut ≡ Some n
-      → first_device ran.devices ≡ Some (devices.Bank n)
+      → first_device ran.beside.devices ≡ Some (devices.Bank n)
   only_cut n none up is = first_is
       ∙ ap (λ b. first_told (keeper_device b (cut_device cut)) (first_down side 0 logs)) (no_failure failed none)
       ∙ ap (λ c. first_told (keeper_device false (cut_device c)) (first_down side 0 logs)) is
       ∙ ap (λ d. first_told (keeper_device false (cut_device (Some n))) d) up
 
-  not_limited : (keeper_at_end ran).sequence < last_sequence → save_limited ran.asked ran.answers ≡ false
-  not_limited below = by_test (save_limited ran.asked ran.answers) limited
+  not_limited : (keeper_at_end ran).sequence < last_sequence → save_limited ran.printed.asked ran.printed.answers ≡ false
+  not_limited below = by_test (save_limited ran.printed.asked ran.printed.answers) limited
     where
       by_test : (b : Bool) → (b ≡ true → (keeper_at_end ran).sequence ≡ last_sequence) → b ≡ false
       by_test true met = absurd (let at = met refl in omega (arith, at, below))
@@ -181,7 +181,7 @@ module _ (ran : Ran) (kept joined : RuntimeState) (stored : List Saved) (failed 
     device = inl (no_save is.4 uncut ∙ up);
     limit = λ none end at. absurd cc;
     done = λ none. (
-      below_test ran.end.epoch last_epoch (omega (arith, epoch_is, is.0)),
+      below_test ran.printed.end.epoch last_epoch (omega (arith, epoch_is, is.0)),
       other_test (keeper_at_end ran).sequence last_sequence (omega (arith, sequence_is, is.1)),
       not_limited (omega (arith, sequence_is, is.1)),
       no_save is.4 uncut ∙ up,
@@ -200,7 +200,7 @@ module _ (ran : Ran) (kept joined : RuntimeState) (stored : List Saved) (failed 
     device = inl (no_save is.3 (uncut refl) ∙ banks);
     limit = λ none end at. inl (
       end_is end (ends.Limit Epoch number) at ∙ ap (limit_at Epoch) (is.1 ∙ sym epoch_is),
-      not_below_test ran.end.epoch last_epoch (omega (arith, epoch_is, is.0)),
+      not_below_test ran.printed.end.epoch last_epoch (omega (arith, epoch_is, is.0)),
     );
     done = λ none. absurd cc;
   }
@@ -208,7 +208,7 @@ module _ (ran : Ran) (kept joined : RuntimeState) (stored : List Saved) (failed 
     device = inl (no_save is.4 (uncut refl) ∙ banks);
     limit = λ none end at. inr (
       end_is end (ends.Limit Sequence number) at ∙ ap (limit_at Sequence) (is.1 ∙ sym sequence_is),
-      below_test ran.end.epoch last_epoch (omega (arith, epoch_is, is.0)),
+      below_test ran.printed.end.epoch last_epoch (omega (arith, epoch_is, is.0)),
       same_test (keeper_at_end ran).sequence last_sequence (sequence_is ∙ sym is.1 ∙ is.2),
     );
     done = λ none. absurd cc;
@@ -219,7 +219,7 @@ module _ (ran : Ran) (kept joined : RuntimeState) (stored : List Saved) (failed 
     done = λ none. absurd cc;
   }
     where
-      save_told : is_some failed ≡ true → first_device ran.devices ≡ Some devices.Save
+      save_told : is_some failed ≡ true → first_device ran.beside.devices ≡ Some devices.Save
       save_told some = first_is
           ∙ ap (λ b. first_told (keeper_device b (cut_device cut)) (first_down side 0 logs)) some
           ∙ ap (first_told (Some devices.Save)) banks
@@ -238,76 +238,76 @@ module _ (ran : Ran) (kept joined : RuntimeState) (stored : List Saved) (failed 
 
   -- ---- which kinds of devices failed
 
-  cut_alone : failed ≡ None → first_down side 0 logs ≡ None → ran.devices ≡ cut_device cut ++ []
+  cut_alone : failed ≡ None → first_down side 0 logs ≡ None → ran.beside.devices ≡ cut_device cut ++ []
   cut_alone none up = devices_are
       ∙ ap (λ b. devices_down side logs b (cut_device cut)) (no_failure failed none)
       ∙ ap (λ l. cut_device cut ++ l) (no_banks side 0 logs up)
 
   -- of a join that was done, just the cut that failed
   pub closed_is_cut : failed ≡ None → first_down side 0 logs ≡ None → closed_failed ran ≡ is_some cut
-  closed_is_cut none up = ap (list_any (is_closed ran.files)) (cut_alone none up) ∙ by_cut cut cut_closed
+  closed_is_cut none up = ap (list_any (is_closed ran.beside.files)) (cut_alone none up) ∙ by_cut cut cut_closed
     where
       by_cut : (c : Option ℕ) → ((n : ℕ) → c ≡ Some n → (w : ℕ) × (n ≡ closed_number side w))
-          → list_any (is_closed ran.files) (cut_device c ++ []) ≡ is_some c
+          → list_any (is_closed ran.beside.files) (cut_device c ++ []) ≡ is_some c
       by_cut None closed = refl
       by_cut (Some n) closed =
           let at = closed n refl in
-          or_false (is_closed ran.files (devices.Bank n))
-          ∙ ap (λ m. is_closed ran.files (devices.Bank m)) at.1 ∙ closed_is side ran.files at.0 odd_is
+          or_false (is_closed ran.beside.files (devices.Bank n))
+          ∙ ap (λ m. is_closed ran.beside.files (devices.Bank m)) at.1 ∙ closed_is side ran.beside.files at.0 odd_is
 
   no_other : failed ≡ None → first_down side 0 logs ≡ None → other_failed ran ≡ false
-  no_other none up = ap (list_any (λ d. not (is_closed ran.files d))) (cut_alone none up) ∙ by_cut cut cut_closed
+  no_other none up = ap (list_any (λ d. not (is_closed ran.beside.files d))) (cut_alone none up) ∙ by_cut cut cut_closed
     where
       by_cut : (c : Option ℕ) → ((n : ℕ) → c ≡ Some n → (w : ℕ) × (n ≡ closed_number side w))
-          → list_any (λ d. not (is_closed ran.files d)) (cut_device c ++ []) ≡ false
+          → list_any (λ d. not (is_closed ran.beside.files d)) (cut_device c ++ []) ≡ false
       by_cut None closed = refl
       by_cut (Some n) closed =
           let at = closed n refl in
-          or_false (not (is_closed ran.files (devices.Bank n)))
-          ∙ ap (λ m. not (is_closed ran.files (devices.Bank m))) at.1 ∙ ap not (closed_is side ran.files at.0 odd_is)
+          or_false (not (is_closed ran.beside.files (devices.Bank n)))
+          ∙ ap (λ m. not (is_closed ran.beside.files (devices.Bank m))) at.1 ∙ ap not (closed_is side ran.beside.files at.0 odd_is)
 
   -- what was made durable is what the run tells
   pub durable_by : (result : Result ℕ End) → (made result ≡ None → cut ≡ None) → first_down side 0 logs ≡ bank_told result
       → JoinAnswers kept joined stored failed result → leaves_join_out ran ≡ false → made result ≡ durable_of ran
   durable_by (Ok epoch) uncut banks is out =
       ap Some (is.2 ∙ sym epoch_is)
-      ∙ sym (made_so (leaves_join_out ran) (nat_lt ran.end.epoch last_epoch) (has_sequence ran) (other_failed ran) out
-      (below_test ran.end.epoch last_epoch (omega (arith, epoch_is, is.0)))
+      ∙ sym (made_so (leaves_join_out ran) (nat_lt ran.printed.end.epoch last_epoch) (has_sequence ran) (other_failed ran) out
+      (below_test ran.printed.end.epoch last_epoch (omega (arith, epoch_is, is.0)))
       (below_test (keeper_at_end ran).sequence last_sequence (omega (arith, sequence_is, is.1))) (no_other is.4 banks))
     where
       made_so : (leaves below sequence other : Bool) → leaves ≡ false → below ≡ true → sequence ≡ true
-          → other ≡ false → where_true ((not leaves && below) && (sequence && not other)) ran.end.epoch ≡ Some ran.end.epoch
+          → other ≡ false → where_true ((not leaves && below) && (sequence && not other)) ran.printed.end.epoch ≡ Some ran.printed.end.epoch
       made_so leaves below sequence other out low room none = rw (out, low, room, none) refl
   durable_by (Err (ends.Limit Epoch number)) uncut banks is out =
-      sym (epoch_so (leaves_join_out ran) (nat_lt ran.end.epoch last_epoch) (has_sequence ran && not (other_failed ran))
-      (not_below_test ran.end.epoch last_epoch (omega (arith, epoch_is, is.0))))
+      sym (epoch_so (leaves_join_out ran) (nat_lt ran.printed.end.epoch last_epoch) (has_sequence ran && not (other_failed ran))
+      (not_below_test ran.printed.end.epoch last_epoch (omega (arith, epoch_is, is.0))))
     where
-      epoch_so : (leaves below rest : Bool) → below ≡ false → where_true ((not leaves && below) && rest) ran.end.epoch ≡ None
+      epoch_so : (leaves below rest : Bool) → below ≡ false → where_true ((not leaves && below) && rest) ran.printed.end.epoch ≡ None
       epoch_so true below rest is = refl
       epoch_so false below rest is = rw is refl
   durable_by (Err (ends.Limit Sequence number)) uncut banks is out =
       sym (sequence_so (comes_to_save ran) (has_sequence ran) (not (other_failed ran))
       (not_below_test (keeper_at_end ran).sequence last_sequence (omega (arith, sequence_is, is.1, is.2))))
     where
-      sequence_so : (comes room none : Bool) → room ≡ false → where_true (comes && (room && none)) ran.end.epoch ≡ None
+      sequence_so : (comes room none : Bool) → room ≡ false → where_true (comes && (room && none)) ran.printed.end.epoch ≡ None
       sequence_so true room none is = rw is refl
       sequence_so false room none is = refl
   durable_by (Err (ends.Device devices.Save)) uncut banks is out =
       sym (other_so (comes_to_save ran) (has_sequence ran) (other_failed ran)
-      (ap (list_any (λ d. not (is_closed ran.files d))) (devices_are ∙ ap (λ b. devices_down side logs b (cut_device cut)) is.3)))
+      (ap (list_any (λ d. not (is_closed ran.beside.files d))) (devices_are ∙ ap (λ b. devices_down side logs b (cut_device cut)) is.3)))
     where
-      other_so : (comes room other : Bool) → other ≡ true → where_true (comes && (room && not other)) ran.end.epoch ≡ None
+      other_so : (comes room other : Bool) → other ≡ true → where_true (comes && (room && not other)) ran.printed.end.epoch ≡ None
       other_so true true other is = rw is refl
       other_so true false other is = refl
       other_so false room other is = refl
   durable_by (Err (ends.Device (devices.Bank number))) uncut banks is out =
       sym (other_so (comes_to_save ran) (has_sequence ran) (other_failed ran)
-      (ap (list_any (λ d. not (is_closed ran.files d))) (devices_are
+      (ap (list_any (λ d. not (is_closed ran.beside.files d))) (devices_are
       ∙ ap (λ b. devices_down side logs b (cut_device cut)) (no_failure failed is.5)
       ∙ ap (λ c. devices_down side logs false (cut_device c)) (uncut refl))
-      ∙ bank_other side ran.files 0 logs (devices.Bank number) odd_is banks))
+      ∙ bank_other side ran.beside.files 0 logs (devices.Bank number) odd_is banks))
     where
-      other_so : (comes room other : Bool) → other ≡ true → where_true (comes && (room && not other)) ran.end.epoch ≡ None
+      other_so : (comes room other : Bool) → other ≡ true → where_true (comes && (room && not other)) ran.printed.end.epoch ≡ None
       other_so true true other is = rw is refl
       other_so true false other is = refl
       other_so false room other is = refl

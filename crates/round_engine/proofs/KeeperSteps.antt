@@ -38,6 +38,7 @@ use Rattle.round_engine.proofs.GleansThen.{beside_kept, beside_zeros, no_snap, s
 use Rattle.round_engine.proofs.GleanLine.{glean_line}
 use Rattle.round_engine.proofs.KeeperThen.{advances_on, any_append, caused_then, keeper_then, refused_nothing, saved_in_then, saves_on}
 use Rattle.round_engine.proofs.KeeperThen.{where_memory}
+use Rattle.round_engine.proofs.LogsStanding.{stand_keeper}
 use Rattle.round_engine.proofs.Places.{nothing_there}
 use Rattle.round_engine.proofs.PlainLine.{IsPlain, plain_line, reads_none}
 use Rattle.round_engine.proofs.SaveLine.{save_line}
@@ -96,6 +97,7 @@ module _ {D : Type 0} {tells : D → Option (List ℕ)} {clock : D → ℕ} {ima
         most_pages = omega (arith, ready.most_pages, runs.leaves.room);
         sound = sound;
         snapshot = runs.leaves.snapshot (λ is. ready.snapshot) sound;
+        durable = λ always. stand_keeper runs ready.closed.workers (ready.durable always);
       }
 
 -- ---- behind a refusal

@@ -26,7 +26,7 @@ use Rattle.worker_logs.specs.declared.savepoints.Beside.{Beside}
 use Rattle.worker_logs.specs.Rows.{NeverFall}
 use Rattle.round_engine.specs.Ends.{first_device, wants_memory, where_true}
 use Rattle.round_engine.specs.Gleans.{LeaveGleans, RoundGleans}
-use Rattle.round_engine.specs.Keeping.{answers_end, epoch_now, IsSavedBySeen, is_refusal, keeper_on, Keeps, last_epoch_of}
+use Rattle.round_engine.specs.Keeping.{answers_end, epoch_now, IsSavedBySeen, is_refusal, keeper_on, KeepsSaves, last_epoch_of}
 use Rattle.round_engine.specs.Keeping.{MarksOf, refusal_told, RestsOn, RunsKeeper}
 use Rattle.round_engine.specs.Saves.{AreSavedIn, beside_after, beside_at_end, newest_after, saves_told}
 use Rattle.round_engine.specs.Sides.{is_odd}
@@ -243,7 +243,7 @@ module _ {D : Type 0} {tells : D → Option (List ℕ)} {clock : D → ℕ} {ima
             absurd (in_none device (subst (λ l. Contains l device) nothing.broken_is has));
       }))
       (subst (λ k. AnswersCaused ran k more told) (sym stands_between) (next.caused ran (record {
-        marks = subst (λ l. AreMarksOf ran.marks (map (λ (m : Mark). m.epoch) (logs_marks l))) (sym first.logs) rests.marks;
+        marks = subst (λ l. AreMarksOf ran.beside.marks (map (λ (m : Mark). m.epoch) (logs_marks l))) (sym first.logs) rests.marks;
         odd = rests.odd ∙ ap is_odd (sym left.side);
         closed_at = rests.closed_at ∙ sym left.closed_at;
         room = rests.room ∙ sym left.room;
@@ -261,7 +261,7 @@ module _ {D : Type 0} {tells : D → Option (List ℕ)} {clock : D → ℕ} {ima
     gleans = first.gleans ++ next.gleans;
     broken = next.broken;
     damaged = next.damaged;
-    keeps = keeps_then sound (subst (λ f. Keeps tells clock image_at faults first.stored f old mid before between)
+    keeps = keeps_then sound (subst (λ f. KeepsSaves tells clock image_at faults first.stored f old mid before between)
         nothing.failed_is first.keeps) next.keeps;
     by_lines = saved_in_then Between (beside_of old) said told first.stored next.stored
         (saved_in_weaker (IsSavedBySeen (MarksOf old old.stands.clock.epoch mid.stands.clock.epoch)) Between

@@ -20,7 +20,7 @@ use Rattle.joint_crashes.specs.JointCrash.{Moments}
 use Rattle.joint_crashes.specs.Rounds.{KeeperRan}
 use Rattle.joint_crashes.specs.Story.{SaveTold, SnapsTold, Story}
 use Rattle.joint_crashes.specs.Crashes.Instants.{lasts_then}
-use Rattle.round_engine.specs.Keeping.{Keeps}
+use Rattle.round_engine.specs.Keeping.{KeepsSaves}
 use Rattle.round_engine.specs.RanRound.{KeeperStored}
 use Rattle.round_engine.specs.Saves.{ArePages, GoesOnWith, HaveEnded, newest_after}
 use Rattle.round_engine.specs.Standing.{RuntimeState}
@@ -199,9 +199,9 @@ module _ {D : Type 0} {tells : D → Option (List ℕ)} {clock : D → ℕ} {ima
     {faults : D → ℕ} where
   pub keeps_then : {stored more : List Saved} {failed : Option Saved} {a b c : RuntimeState}
       {before between now : Vault D} → b.store.sound ≡ true
-      → Keeps tells clock image_at faults stored None a b before between
-      → Keeps tells clock image_at faults more failed b c between now
-      → Keeps tells clock image_at faults (stored ++ more) failed a c before now
+      → KeepsSaves tells clock image_at faults stored None a b before between
+      → KeepsSaves tells clock image_at faults more failed b c between now
+      → KeepsSaves tells clock image_at faults (stored ++ more) failed a c before now
   keeps_then {stored} {more} {failed} {a = a} {b = b} {c = c} {before = before} {between = between} {now = now}
       sound first then =
       let assoc : (stored ++ more) ++ option_to_list failed ≡ stored ++ (more ++ option_to_list failed) =

@@ -22,7 +22,7 @@ use Rattle.joint_crashes.specs.Rounds.{KeeperRan}
 use Rattle.joint_crashes.specs.Crashes.Rounded.{keeper_none}
 use Rattle.worker_logs.specs.Saves.{SavesMarks, sequence_begun, tie_after}
 use Rattle.worker_logs.specs.SavesLaws.{keeper_saved}
-use Rattle.round_engine.specs.Keeping.{Keeps}
+use Rattle.round_engine.specs.Keeping.{KeepsSaves}
 use Rattle.round_engine.specs.RanRound.{KeeperStored}
 use Rattle.round_engine.specs.Saves.{HaveEnded}
 use Rattle.round_engine.specs.Standing.{beside_of, RuntimeState}
@@ -101,7 +101,7 @@ module _ {D : Type 0} {tells : D → Option (List ℕ)} {clock : D → ℕ} {ima
   pub keeps_saves : (result : Result ℕ SaveFault)
       (saves : SavesMarks tells clock image_at faults epoch seen (beside_of r) r.save new before now result)
       → r.save.down ≡ None → IsStored tells clock image_at before.save r.save.newest
-      → Keeps tells clock image_at faults (stored_of saves.saved result) (failed_of saves.saved result)
+      → KeepsSaves tells clock image_at faults (stored_of saves.saved result) (failed_of saves.saved result)
       r (with_save r new) before now
   keeps_saves (Ok answer) saves up stored = record {
     newest = saves.stores.newest;
@@ -140,7 +140,7 @@ module _ {D : Type 0} {tells : D → Option (List ℕ)} {clock : D → ℕ} {ima
   }
   keeps_saves (Err (Down count)) saves up stored = absurd (let no = sym up ∙ (saves.stores.down count).0 refl in cc)
   keeps_saves (Err (Limit sequence)) saves up stored =
-      subst (λ s. Keeps tells clock image_at faults [] None r (with_save r s) before now)
+      subst (λ s. KeepsSaves tells clock image_at faults [] None r (with_save r s) before now)
       (sym (saves.stores.untouched (λ is. cc)).0)
-      (subst (λ v. Keeps tells clock image_at faults [] None r r before v)
+      (subst (λ v. KeepsSaves tells clock image_at faults [] None r r before v)
       (sym (saves.untied (λ is. cc))) (keeps_none r before up stored))

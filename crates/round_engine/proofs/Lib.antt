@@ -20,6 +20,7 @@ pub mod Keeping
 pub mod KeepingSaves
 pub mod LinesLeft
 pub mod LogsLeft
+pub mod LogsStanding
 pub mod RoundWhole
 pub mod RunRound
 pub mod KeeperSteps
@@ -49,7 +50,7 @@ pub mod CrashesLeft
 pub mod StopsNow
 pub mod Stories
 pub mod Swapping
-mod Powers
+mod LineEngines
 mod NothingRun
 mod WhoseLines
 mod NoneRun

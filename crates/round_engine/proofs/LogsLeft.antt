@@ -109,7 +109,7 @@ module _ {D : Type 0} {tells : D → Option (List ℕ)} {clock : D → ℕ} {ima
   }
 
   -- the log of a worker as a round begins
-  idled_log : {commits : List Commit} {durable : List ℕ} {log : LogState} {bank : D} (busy : Bool) (epoch : ℕ)
+  pub idled_log : {commits : List Commit} {durable : List ℕ} {log : LogState} {bank : D} (busy : Bool) (epoch : ℕ)
       → IsLog tells clock image_at commits durable log bank → IsJoined epoch log
       → IsLog tells clock image_at commits durable (idle_if_not busy log) bank
   idled_log true epoch is joined = is

@@ -1,6 +1,6 @@
 -- Loops over lines and over the ends of logs.
 use Rattle.std.proofs.Common.{◌≡◌, ◌≢◌, ◌∙◌, ◌≤◌, ◌+◌, ◌++◌, ◌∷◌, sym, ap, refl, ℕ, zero, suc, List, [], length}
-use Rattle.std.proofs.Common.{subst, take, drop, Bool, Option, Some, None, arith, length-append}
+use Rattle.std.proofs.Common.{subst, take, drop, Option, Some, None, arith, length-append}
 use Rattle.std.specs.Prelude.{slice_get}
 use Rattle.std.specs.List.{AllByRecursion, filter_map}
 use Rattle.std.specs.Option.{option_map}

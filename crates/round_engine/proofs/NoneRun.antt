@@ -1,5 +1,5 @@
 -- No line was run, whichever the engine is: eight shares of nothing.
-use Rattle.std.proofs.Common.{◌≡◌, ◌∙◌, ◌≤◌, ◌+◌, inl, sym, ap, subst, refl, ℕ, zero, suc, List, [], ◌∷◌}
+use Rattle.std.proofs.Common.{◌≡◌, ◌∙◌, ◌+◌, inl, sym, ap, subst, refl, ℕ, zero, suc, List, [], ◌∷◌}
 use Rattle.std.proofs.Common.{filter, length, map, Option, Some, None, arith}
 use Rattle.std.specs.Prelude.{is_some, slice_get, sum_by}
 use Rattle.std.specs.List.{AllByRecursion}
@@ -8,13 +8,12 @@ use Rattle.std.proofs.lemmas.List.Sums.{sum_by-cons}
 use Rattle.std.proofs.lemmas.List.Sorted.{IsPermutation-refl}
 use Rattle.std.proofs.lemmas.Option.{same_Some}
 use Rattle.lists.specs.Fronts.{IsFront, front_none}
-use Rattle.serial_model.specs.History.{Entry, Rises}
+use Rattle.serial_model.specs.History.{Rises}
 use Rattle.serial_model.specs.declared.decl.Decl.{Decl}
 use Rattle.serial_model.specs.declared.op.Op.{Op}
 use Rattle.script_grammar.specs.Script.{Round, lines_of_worker}
-use Rattle.tx_script.specs.declared.outcome.Outcome.{Outcome}
 use Rattle.tx_script.specs.Conflicts.{WorkersMet}
-use Rattle.tx_script.specs.Draws.{commits_of, lost_of, lost_of_lines}
+use Rattle.tx_script.specs.Draws.{commit_count, lost_of, lost_of_lines}
 use Rattle.tx_script.specs.Run.{entries_of_workers, is_commit, of_worker}
 use Rattle.worker_logs.specs.Logs.{LogState}
 use Rattle.worker_logs.specs.Rows.{AreLogsUp, IsLogUp}
@@ -47,11 +46,11 @@ nothing_logged (suc n) zero = refl
 nothing_logged (suc n) (suc w) = nothing_logged n w
 
 -- they drew no number, and met nobody
-no_commits : (n : ℕ) → commits_of (map (λ (p : Share). p.outcomes) (nothings n)) ≡ 0
+no_commits : (n : ℕ) → commit_count (map (λ (p : Share). p.outcomes) (nothings n)) ≡ 0
 no_commits zero = refl
 no_commits (suc n) =
-    let split : commits_of (map (λ (p : Share). p.outcomes) (nothings (suc n)))
-    ≡ 0 + commits_of (map (λ (p : Share). p.outcomes) (nothings n)) =
+    let split : commit_count (map (λ (p : Share). p.outcomes) (nothings (suc n)))
+    ≡ 0 + commit_count (map (λ (p : Share). p.outcomes) (nothings n)) =
     sum_by-cons (λ outcomes. length (filter is_commit outcomes)) [] (map (λ (p : Share). p.outcomes) (nothings n)) in
     omega (arith, split, no_commits n)
 

@@ -6,7 +6,7 @@ use Rattle.outside.specs.declared.device.Device.TheVariants.{Bank}
 use Rattle.log_writer.specs.declared.vault.Vault.{Vault}
 use Rattle.script_grammar.specs.Script.{Round}
 use Rattle.log_writer.specs.Save.{IsStored}
-use Rattle.worker_logs.specs.Saves.{growing_number}
+use Rattle.worker_logs.specs.Saves.{closed_number, growing_number}
 use Rattle.round_engine.specs.Phases.{RunsAll, RunsSome}
 use Rattle.round_engine.specs.Sides.{growing_in}
 use Rattle.round_engine.specs.Standing.{HasSnapshot, RuntimeState, StandsOn}
@@ -59,6 +59,14 @@ module _ {D : Type 0} {before lent : Vault D} (room : RoomAlone before lent) whe
       snapshot = λ sound. subst (HasSnapshot tells r) (sym room.snaps) (stands.snapshot sound);
       reaches = λ worker log bank at bank_at.
           stands.reaches worker log bank at (sym (disk_room (growing_number r.side worker)) ∙ bank_at);
+      durable = λ always.
+          let stand = stands.durable always in
+          record {
+            growing = λ worker log bank at there.
+                stand.growing worker log bank at (sym (disk_room (growing_number r.side worker)) ∙ there);
+            closed = λ worker count bank at there.
+                stand.closed worker count bank at (sym (disk_room (closed_number r.side worker)) ∙ there);
+          };
     }
 
   module _ {tells : D → Option (List ℕ)} {clock : D → ℕ} {image_at : D → ℕ → List ℕ → Type 0} {faults : D → ℕ} where

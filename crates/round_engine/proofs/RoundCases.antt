@@ -1,5 +1,5 @@
 -- A round whose join was left out.
-use Rattle.std.proofs.Common.{◌≡◌, ◌≢◌, ◌∙◌, ◌≤◌, ◌<◌, ◌++◌, ◌∷◌, inl, inr, sym, ap, subst, refl, ℕ, List, []}
+use Rattle.std.proofs.Common.{◌≡◌, ◌∙◌, ◌≤◌, ◌<◌, ◌++◌, inl, sym, ap, subst, refl, ℕ, List, []}
 use Rattle.std.proofs.Common.{length, map, Bool, true, false, cond, not, Option, Some, None, arith}
 use Rattle.std.specs.Prelude.{◌&&◌, ◌^◌, is_some, option_to_list, slice_get}
 use Rattle.std.specs.Prelude.{Ok}
@@ -7,7 +7,6 @@ use Rattle.std.specs.List.{AllByRecursion, Contains}
 use Rattle.std.proofs.lemmas.List.{append-nil}
 use Rattle.std.proofs.lemmas.Option.{same_Some}
 use Rattle.lists.specs.Each.{all_weaker}
-use Rattle.lists.specs.Elements.{in_cases, in_head, in_none}
 use Rattle.log_writer.specs.Vault.{IsWhole, disk_in}
 use Rattle.outside.specs.declared.device.Device.{Device}
 use Rattle.outside.specs.declared.device.Device.TheVariants as devices
@@ -21,11 +20,11 @@ use Rattle.tx_script.specs.Causes.{KeeperAt, keeper_at_end}
 use Rattle.tx_script.specs.Causes.{leaves_join_out}
 use Rattle.tx_script.specs.Run.{Ran}
 use Rattle.worker_logs.specs.Logs.{LogState, log_limit, reset_log}
-use Rattle.worker_logs.specs.Saves.{closed_number, growing_number, logs_marks}
+use Rattle.worker_logs.specs.Saves.{growing_number, logs_marks}
 use Rattle.round_engine.specs.Ends.{closed_failed, comes_to_advance, comes_to_swap, end_of}
 use Rattle.round_engine.specs.Ends.{epoch_after, epoch_joined, first_device}
 use Rattle.round_engine.specs.Ends.{swaps, where_true}
-use Rattle.round_engine.specs.Keeping.{IsSavedBySeen, Keeps, MarksOf}
+use Rattle.round_engine.specs.Keeping.{IsSavedBySeen, KeepsSaves, MarksOf}
 use Rattle.round_engine.specs.Logs.{IsRefusedBy}
 use Rattle.round_engine.specs.Phases.{RunsAll, ended_as}
 use Rattle.round_engine.specs.RanRound.{Rounds, SwapsFiles}
@@ -34,7 +33,8 @@ use Rattle.round_engine.specs.Refusals.{lines_refused}
 use Rattle.round_engine.specs.Saves.{AreSaved, beside_at_end, saves_told}
 use Rattle.round_engine.specs.Shares.{Share}
 use Rattle.round_engine.specs.Sides.{closed_in, growing_in, other_side}
-use Rattle.round_engine.specs.Standing.{files_of, AreUp, beside_of, HasSnapshot, IsMarkBefore, IsReady, RuntimeState, StandsOn}
+use Rattle.round_engine.specs.Standing.{files_of, AreUp, beside_of, HasSnapshot, IsMarkBefore, IsReady, LogsStand, RuntimeState}
+use Rattle.round_engine.specs.Standing.{StandsOn}
 use Rattle.round_engine.specs.Workers.{idled}
 use Rattle.round_engine.specs.declared.report.Report.{Report}
 use Rattle.round_engine.proofs.Devices.{are_down, bank_down, beside_not_growing, others_in}
@@ -51,7 +51,7 @@ use Rattle.round_engine.proofs.RoundDone.{before_many, between_many, cuts_mid, d
 use Rattle.round_engine.proofs.RoundDone.{ran_with}
 use Rattle.round_engine.proofs.RoundKept.{first_told_none, nothing_kept, store_told, after_whole, at_end, by_lines, device_is, ends_so, first_is}
 use Rattle.round_engine.proofs.RoundKept.{gleans_told, growing_kept, joined_up, keeper_told, keeps_lines, kept_above, kept_closed}
-use Rattle.round_engine.proofs.RoundKept.{kept_closed_at, kept_counted, kept_first, kept_room, kept_side, kept_snapshot, kept_sound, lines_limit, mid_first}
+use Rattle.round_engine.proofs.RoundKept.{kept_closed_at, kept_counted, kept_durable, kept_first, kept_room, kept_side, kept_snapshot, kept_sound, lines_limit, mid_first}
 use Rattle.round_engine.proofs.RoundKept.{mark_at, mid_beside, quiet_kept, quiet_snaps_kept, reads_kept, refused_as, rise_lines}
 use Rattle.round_engine.proofs.RoundKept.{rose_kept}
 use Rattle.round_engine.proofs.Turned.{keeps_onto}
@@ -100,7 +100,7 @@ module _ {D : Type 0} {tells : D → Option (List ℕ)} {clock : D → ℕ} {ima
   snaps_is : now.snaps ≡ all.after.snaps
   snaps_is = ap (λ (v : Vault D). v.snaps) now_is
 
-  keeps_out : Keeps tells clock image_at faults all.keeper.stored all.keeper.failed old new before now
+  keeps_out : KeepsSaves tells clock image_at faults all.keeper.stored all.keeper.failed old new before now
   keeps_out = keeps_onto (record {
     save = ap (λ (v : Vault D). v.save) now_is;
     snaps = snaps_is;
@@ -130,7 +130,7 @@ module _ {D : Type 0} {tells : D → Option (List ℕ)} {clock : D → ℕ} {ima
             (option_to_list all.keeper.failed) all.keeper.by_failed);
       }
 
-  device_first : first_device ran.devices ≡ all.refused.device
+  device_first : first_device ran.beside.devices ≡ all.refused.device
   device_first = first_of_down old.side (are_down all.mid.logs) (is_some all.keeper.failed) others
       ∙ ap (first_told (keeper_device (is_some all.keeper.failed) others)) (sym (first_is stands ready some start_many idle all))
       ∙ ap (λ d. first_told d (first_failed old.side 0 all.ends))
@@ -211,6 +211,10 @@ module _ {D : Type 0} {tells : D → Option (List ℕ)} {clock : D → ℕ} {ima
         (lines_at w all.lines.over start_many begins.1 log_at was.1
         (ap (λ l. slice_get l w) (sym growing_is) ∙ sym (growing_at old.side now w)
         ∙ ap (λ s. disk_in now (devices.Bank (growing_number s w))) (sym new_side) ∙ there)).reaches;
+    durable = λ always.
+        subst (λ (r : RuntimeState). LogsStand tells clock image_at r.side r.logs r.counted now) (sym new_is)
+        (subst (LogsStand tells clock image_at all.kept.side all.kept.logs all.kept.counted) (sym now_is)
+        (kept_durable stands ready some start_many idle all always));
   }
 
   down_same : (w : ℕ) (lines log : LogState) → slice_get all.mid.logs w ≡ Some lines → slice_get all.mid.logs w ≡ Some log
@@ -293,7 +297,7 @@ module _ {D : Type 0} {tells : D → Option (List ℕ)} {clock : D → ℕ} {ima
         let here = bank_down old.side (are_down all.mid.logs) (is_some all.keeper.failed) others w
         (beside_not_growing old.side others w (λ device there.
         (rose_kept stands ready some start_many idle all device there).0))
-        (subst (Contains ran.devices) (log_of_is old.side (files_of old) w refl) has) in
+        (subst (Contains ran.beside.devices) (log_of_is old.side (files_of old) w refl) has) in
         let at = map_at (λ (l : LogState). is_some l.journal.down) all.mid.logs w true here in
         let p = item_at all.lines.shares w (omega (arith, below, all.lines.over.runs.workers)) in
         let begins = item_at start w (omega (arith, below, start_many)) in

@@ -1,16 +1,18 @@
 -- A round put together from its phases, whichever engine ran its lines.
-use Rattle.std.proofs.Common.{◌≡◌, ◌∙◌, ◌≤◌, ◌<◌, ◌+◌, ◌*◌, ◌-◌, ◌⊎◌, ◌++◌, ◌∷◌, inl, inr, sym, ap, subst, refl, ℕ}
+use Rattle.std.proofs.Common.{◌≡◌, ◌∙◌, ◌≤◌, ◌<◌, ◌+◌, ◌-◌, ◌⊎◌, ◌++◌, ◌∷◌, inl, inr, sym, ap, subst, refl, ℕ}
 use Rattle.std.proofs.Common.{suc, List, [], length, map, Bool, true, false, Option, Some, None, arith}
-use Rattle.std.specs.Prelude.{is_some, option_to_list, slice_get, sum_by, Ok}
+use Rattle.std.specs.Prelude.{is_some, option_to_list, slice_get, Ok}
 use Rattle.std.specs.Option.{option_map}
 use Rattle.std.specs.List.{Contains}
 use Rattle.std.proofs.lemmas.List.{length-map}
 use Rattle.std.proofs.lemmas.Option.{same_Some}
 use Rattle.lists.specs.Each.{all_at}
-use Rattle.log_writer.specs.Vault.{IsWhole}
+use Rattle.lists.specs.Elements.{in_none}
+use Rattle.log_writer.specs.Vault.{IsWhole, disk_in}
 use Rattle.outside.specs.declared.device.Device.{Device}
 use Rattle.outside.specs.declared.device.Device.TheVariants as devices
 use Rattle.log_writer.specs.declared.vault.Vault.{Vault}
+use Rattle.serial_model.specs.declared.number.Commit.{Commit}
 use Rattle.serial_model.specs.declared.op.Op.{Op}
 use Rattle.script_grammar.specs.Script.{Round, keeper_lines, lines_of_worker}
 use Rattle.wire_form.specs.declared.clock.Mark.{Mark}
@@ -22,7 +24,9 @@ use Rattle.tx_script.specs.Run.{AdvancesTo, LogFailed, LogFiles, LogFull, LogRef
 use Rattle.tx_script.specs.Causes.{AllCaused, AnswersCaused, AreMarksOf, KeeperAt, LogsCaused, keeper_at_end, keeper_before}
 use Rattle.tx_script.specs.Causes.{last_sequence, log_limit as file_limit, log_of, longest_line, some_counted}
 use Rattle.tx_script.specs.Conflicts.{WorkersMet}
-use Rattle.tx_script.specs.Draws.{commits_of}
+use Rattle.tx_script.specs.Draws.{commit_count}
+use Rattle.tx_script.specs.declared.outcome.Outcome.{Outcome}
+use Rattle.tx_script.specs.declared.outcome.Outcome.TheVariants.{Unrun}
 use Rattle.worker_logs.specs.Logs.{IsJoined, LogState, log_limit}
 use Rattle.worker_logs.specs.Saves.{closed_number, growing_number, logs_marks}
 use Rattle.worker_logs.specs.declared.savepoints.Side.{Side}
@@ -34,16 +38,16 @@ use Rattle.round_engine.specs.Crashes.{CarriesCrashes}
 use Rattle.round_engine.specs.Ends.{comes_to_advance, comes_to_save, durable_of, end_of, epoch_joined, swaps, where_true}
 use Rattle.round_engine.specs.Gleans.{RoundGleans}
 use Rattle.round_engine.specs.Histories.{HasGathered}
-use Rattle.round_engine.specs.Keeping.{IsSavedBySeen, Keeps, keeper_on}
+use Rattle.round_engine.specs.Keeping.{IsSavedBySeen, KeepsSaves, keeper_on}
 use Rattle.round_engine.specs.Phases.{RunsAll}
 use Rattle.round_engine.specs.Unbegun.{RoomAlone}
 use Rattle.round_engine.specs.RanRound.{AreRoundMarks, LeavesVault, Rounds, SwapsFiles}
 use Rattle.round_engine.specs.Saves.{AreSaved, saves_told}
-use Rattle.round_engine.specs.Shares.{Share, logged_in}
+use Rattle.round_engine.specs.Shares.{IsShare, Share, logged_in}
 use Rattle.round_engine.specs.Sides.{closed_in, growing_in, is_odd}
 use Rattle.round_engine.specs.Standing.{beside_of, files_of, IsReady, RuntimeState, Standing, StandsOn}
 use Rattle.round_engine.specs.Logs.{IsRefusedBy}
-use Rattle.round_engine.specs.Workers.{idled}
+use Rattle.round_engine.specs.Workers.{LeavesOut, idled}
 use Rattle.round_engine.specs.declared.report.End.{End}
 use Rattle.round_engine.specs.declared.report.Report.{Report}
 use Rattle.round_engine.proofs.Alone.{all_alone}
@@ -52,9 +56,9 @@ use Rattle.round_engine.proofs.CrashesLeft.{with_crashes}
 use Rattle.round_engine.proofs.Devices.{are_down, at_first, bank_in, banks_in, down_at, IsBeside, others_in, save_in}
 use Rattle.round_engine.proofs.Ended.{devices_down}
 use Rattle.round_engine.proofs.LinesLeft.{LastStep, lines_at, logs_total, logs_up}
-use Rattle.round_engine.proofs.Numbered.{closed_many, growing_many, log_of_is, whole_of}
-use Rattle.round_engine.proofs.SharesRun.{IsRanOf, logged_above, logged_nothing, run_caused, same_decls, share_lines}
-use Rattle.round_engine.proofs.SharesRun.{shares_lines, shares_run}
+use Rattle.round_engine.proofs.Numbered.{closed_many, growing_at, growing_many, log_of_is, whole_of}
+use Rattle.round_engine.proofs.SharesRun.{IsRanOf, logged_above, logged_nothing, logged_some, run_caused, same_decls}
+use Rattle.round_engine.proofs.SharesRun.{share_lines, shares_lines, shares_run}
 use Rattle.round_engine.proofs.Whole.{IsAtRest, LogsTotal, SeenIn, below_8, epochs_at, first_epochs, leaves_vault, round_front}
 use Rattle.round_engine.proofs.Places.{item_at, map_at, within_of}
 
@@ -120,6 +124,16 @@ round_marks (ops ∷ lines) log first last = record {
   clocks = tt;
 }
 
+-- what was left out of the lines of a worker, by the log that it had before the round
+idled_out : {D : Type 0} {tells : D → Option (List ℕ)} {clock : D → ℕ} {image_at : D → ℕ → List ℕ → Type 0}
+    {faults : D → ℕ} {epoch : ℕ} {logged : List Commit} {refusal : Option LogRefusal} {log : LogState} {bank : D}
+    (lines : List (List Op)) (outcomes : List Outcome) → length outcomes ≡ length lines
+    → LeavesOut tells clock image_at faults epoch (Contains outcomes Unrun) logged refusal (idled lines log) bank
+    → LeavesOut tells clock image_at faults epoch (Contains outcomes Unrun) logged refusal log bank
+idled_out [] [] many out = record { refuses = λ has. absurd (in_none Unrun has); filled = out.filled }
+idled_out [] (o ∷ outcomes) many out = absurd (omega (arith, many))
+idled_out (ops ∷ lines) outcomes many out = out
+
 -- ---- what the lines were refused
 
 pub map_true : {X : Type 0} (f : X → End) (b : Bool) (x : X) → where_true b (f x) ≡ option_map f (where_true b x)
@@ -131,23 +145,27 @@ map_true f false x = refl
 abbrev pub ran_of : ℕ → Round → RuntimeState → List LogState → RuntimeState → List LogState → List Share → Option Saved
     → List Device → List (Option ℕ) → Option (Device × ℕ) → Report → Ran
 ran_of tries round old start kept logs shares failed others gleans damaged report = record {
-  begin = old.stands.clock;
-  end = kept.stands.clock;
-  outcomes = report.outcomes;
-  asked = keeper_lines round;
-  answers = report.keeper;
-  durable = report.durable;
-  sequence = sequence_of old.save.newest;
-  pages = length old.store.pages;
-  room = old.room;
-  files = files_of old;
-  marks = first_epochs start;
-  logs = map (λ (p : Share). p.refusal) shares;
-  tries = tries;
-  refused = map (λ (p : Share). p.tries_refused) shares;
-  gleans = gleans;
-  devices = devices_down old.side (are_down logs) (is_some failed) others;
-  damaged = damaged;
+  printed = record {
+    begin = old.stands.clock;
+    end = kept.stands.clock;
+    outcomes = report.outcomes;
+    asked = keeper_lines round;
+    answers = report.keeper;
+    durable = report.durable;
+  };
+  beside = record {
+    sequence = sequence_of old.save.newest;
+    pages = length old.store.pages;
+    room = old.room;
+    files = files_of old;
+    marks = first_epochs start;
+    logs = map (λ (p : Share). p.refusal) shares;
+    tries = tries;
+    refused = map (λ (p : Share). p.tries_refused) shares;
+    gleans = gleans;
+    devices = devices_down old.side (are_down logs) (is_some failed) others;
+    damaged = damaged;
+  };
 }
 
 -- the causes of refusals of logs
@@ -213,7 +231,7 @@ module _ {D : Type 0} (tells : D → Option (List ℕ)) (clock : D → ℕ) (ima
   pub record RoundEnds (logs : List LogState) (stored : List Saved) (failed : Option Saved) (others : List Device) : Type 0 where
     pub logs_many : length logs ≡ 8
     pub now_many : length (growing_in old.side now) ≡ 8
-    pub keeps : Keeps tells clock image_at faults stored failed old new before now
+    pub keeps : KeepsSaves tells clock image_at faults stored failed old new before now
     pub saves : AreSaved (IsSavedBySeen (SeenIn old.stands.clock.epoch (epoch_joined (ran_with logs failed others)) all.mid.logs logs))
         (beside_of old) report.keeper (stored ++ option_to_list failed)
     pub last : (w : ℕ) (lines log : LogState) (was is : D) → slice_get all.mid.logs w ≡ Some lines
@@ -243,15 +261,15 @@ module _ {D : Type 0} (tells : D → Option (List ℕ)) (clock : D → ℕ) (ima
     pub clock_is : new.stands.clock
         ≡ record { epoch = epoch_joined (ran_with logs failed others); draw = all.kept.stands.clock.draw }
     pub ended : new.stands.ended ≡ is_some report.end
-    pub down : (ran_with logs failed others).devices ≡ [] → new.down ≡ false
+    pub down : (ran_with logs failed others).beside.devices ≡ [] → new.down ≡ false
     pub stands : StandsOn tells clock image_at new now
     pub gleans : RoundGleans tells report.keeper all.keeper.gleans all.keeper.damaged old new before now
-    pub sound : (Contains (ran_with logs failed others).devices devices.Snaps → ⊥) → new.store.sound ≡ true
+    pub sound : (Contains (ran_with logs failed others).beside.devices devices.Snaps → ⊥) → new.store.sound ≡ true
     pub room : new.room ≡ old.room
     pub told : map (λ (s : Saved). s.epoch) stored ≡ saves_told report.keeper ++ option_to_list report.durable
     pub refused : (w : ℕ) (log : LogState) (refusal : Option LogRefusal) → slice_get logs w ≡ Some log
         → slice_get (map (λ (p : Share). p.refusal) all.lines.shares) w ≡ Some refusal → IsRefusedBy refusal log.journal
-    pub log_failed : (w : ℕ) → w < 8 → Contains (ran_with logs failed others).devices (log_of (files_of old) w)
+    pub log_failed : (w : ℕ) → w < 8 → Contains (ran_with logs failed others).beside.devices (log_of (files_of old) w)
         → (slice_get (map (λ (p : Share). p.refusal) all.lines.shares) w ≡ Some (Some LogFailed))
         ⊎ (comes_to_advance (ran_with logs failed others) ≡ true)
     pub rise : NeverFall (epoch_of old.save.newest) (map (λ (s : Saved). s.epoch) (stored ++ option_to_list failed))
@@ -365,6 +383,32 @@ module _ {D : Type 0} {tells : D → Option (List ℕ)} {clock : D → ℕ} {ima
       let left = all.lines.over.each i p begins.0 log.0 bank.0 mid_bank.0 at begins.1 log.1 bank.1 mid_bank.1 in
       (begins.0, log.0, record { refused = left.refused; limit = left.limit }, log.1, (start_up i begins.0 bank.0 begins.1 bank.1).limit)
 
+  -- what was left out of a worker's lines
+  lines_out : (w : ℕ) (outcomes : List Outcome) (refusal : Option LogRefusal) (log : LogState) (bank : D)
+      → slice_get report.outcomes w ≡ Some outcomes
+      → slice_get (map (λ (p : Share). p.refusal) shares) w ≡ Some refusal
+      → slice_get old.logs w ≡ Some log → disk_in before (devices.Bank (growing_number old.side w)) ≡ Some bank
+      → LeavesOut tells clock image_at faults old.stands.clock.epoch (Contains outcomes Unrun) (logged_in shares w)
+      refusal log bank
+  lines_out w outcomes refusal log bank told refused at there =
+      let p = map_at (λ (p : Share). p.refusal) shares w refusal refused in
+      let same = map_at (λ (p : Share). p.outcomes) shares w outcomes
+      (ap (λ l. slice_get l w) (sym all.lines.told) ∙ told) in
+      let outcomes_are : p.0.outcomes ≡ outcomes =
+      ap (λ (q : Share). q.outcomes) (same_Some p.0 same.0 (sym p.1 ∙ same.1)) ∙ same.2 in
+      let share = all_at (IsShare old.stands.decls old.stands.clock.draw all.mid.stands.clock.draw tries) shares w p.0
+      all.lines.over.runs.each p.1 in
+      let lines_are = share_lines round shares w p.0 all.lines.lines p.1 in
+      let out = all.lines.left_out w p.0 (idled (lines_of_worker round w) log) bank p.1 (idle w log at)
+      (sym (growing_at old.side before w) ∙ there) in
+      subst (λ o. LeavesOut tells clock image_at faults old.stands.clock.epoch (Contains o Unrun) (logged_in shares w)
+      refusal log bank) outcomes_are
+      (subst (λ r. LeavesOut tells clock image_at faults old.stands.clock.epoch (Contains p.0.outcomes Unrun)
+      (logged_in shares w) r log bank) p.2
+      (subst (λ l. LeavesOut tells clock image_at faults old.stands.clock.epoch (Contains p.0.outcomes Unrun) l
+      p.0.refusal log bank) (sym (logged_some shares w p.0 p.1))
+      (idled_out (lines_of_worker round w) p.0.outcomes (share.one_each ∙ ap length lines_are) out)))
+
   module _ (logs : List LogState) (stored : List Saved) (failed : Option Saved) (others : List Device)
       (ends : RoundEnds tells clock image_at faults tries round old start new before now report all logs stored failed others) where
     abbrev ran : Ran
@@ -394,14 +438,14 @@ module _ {D : Type 0} {tells : D → Option (List ℕ)} {clock : D → ℕ} {ima
     -- all causes
     caused : AllCaused ran
     caused = record {
-      logs = logs_caused ran.files ran.devices 0 ran.logs
+      logs = logs_caused ran.beside.files ran.beside.devices 0 ran.beside.logs
           (λ i at.
           let p = map_at (λ (p : Share). p.refusal) shares i (Some LogFailed) at in
           let left = left_of i p.0 p.1 in
           let down = subst (λ r. IsRefusedBy r left.1.journal) p.2 left.2.refused in
           let log = item_at logs i (omega (arith, left_below i p.0 p.1, ends.logs_many)) in
-          subst (λ n. Contains ran.devices (log_of ran.files n)) (at_first i)
-          (subst (Contains ran.devices) (sym (log_of_is old.side ran.files i refl))
+          subst (λ n. Contains ran.beside.devices (log_of ran.beside.files n)) (at_first i)
+          (subst (Contains ran.beside.devices) (sym (log_of_is old.side ran.beside.files i refl))
           (banks_in old.side (are_down logs) (is_some failed) others (devices.Bank (growing_number old.side i))
           (bank_in old.side 0 i i (are_down logs) (omega arith) (down_at logs i log.0 log.1
           (ends.stays i left.1 log.0 left.3 log.1 down))))))
@@ -464,7 +508,7 @@ module _ {D : Type 0} {tells : D → Option (List ℕ)} {clock : D → ℕ} {ima
             };
             counted =
                 let after = ap (λ (x : Standing). x.clock.draw) all.keeper.stands in
-                let told = ap commits_of all.lines.told in
+                let told = ap commit_count all.lines.told in
                 omega (arith, after, told, all.lines.over.runs.draw);
             met = record {
               workers = subst (λ l. WorkersMet l 0 l (map (λ (share : Share). share.tries_refused) shares)) all.lines.lines
@@ -495,4 +539,5 @@ module _ {D : Type 0} {tells : D → Option (List ℕ)} {clock : D → ℕ} {ima
           },
           made.0,
           made.1,
+          record { each = lines_out },
         )

@@ -1,5 +1,5 @@
 -- A round that was joined, with the swap behind the join.
-use Rattle.std.proofs.Common.{◌≡◌, ◌≢◌, ◌∙◌, ◌≤◌, ◌<◌, ◌++◌, ◌∷◌, inl, inr, sym, ap, subst, refl, ℕ, List, []}
+use Rattle.std.proofs.Common.{◌≡◌, ◌∙◌, ◌≤◌, ◌<◌, ◌++◌, ◌∷◌, inl, inr, sym, ap, subst, refl, ℕ, List, []}
 use Rattle.std.proofs.Common.{append_assoc, length, map, Bool, true, false, cond, not, Option, Some, None, arith}
 use Rattle.std.specs.Prelude.{◌&&◌, is_some, nat_lt, option_to_list, slice_get}
 use Rattle.std.specs.Prelude.{Result, Ok, Err}
@@ -32,7 +32,7 @@ use Rattle.worker_logs.specs.Rows.{NeverFall}
 use Rattle.round_engine.specs.Ends.{closed_failed, comes_to_advance, comes_to_swap, durable_of, end_of}
 use Rattle.round_engine.specs.Ends.{epoch_after, epoch_joined, first_device, first_of}
 use Rattle.round_engine.specs.Ends.{save_limited, swaps}
-use Rattle.round_engine.specs.Keeping.{IsSavedBySeen, JoinAnswers, Keeps, MarksOf, device_told, epoch_now, is_refusal, keeper_on}
+use Rattle.round_engine.specs.Keeping.{IsSavedBySeen, JoinAnswers, KeepsSaves, MarksOf, device_told, epoch_now, is_refusal, keeper_on}
 use Rattle.round_engine.specs.Keeping.{last_epoch_of}
 use Rattle.round_engine.specs.Logs.{IsRefusedBy}
 use Rattle.round_engine.specs.Phases.{JoinsAndSwaps, RunsAll, ended_as, fails_device, made, refused_by}
@@ -62,7 +62,7 @@ use Rattle.round_engine.proofs.RoundDone.{answers_caused, cuts_mid, done}
 use Rattle.round_engine.proofs.RoundDone.{ran_with}
 use Rattle.round_engine.proofs.RoundKept.{NothingTold, first_told_none, after_whole, at_end, by_lines, device_is, first_is}
 use Rattle.round_engine.proofs.RoundKept.{gleans_told, growing_kept, joined_up, keeps_lines, kept_above, kept_closed}
-use Rattle.round_engine.proofs.RoundKept.{kept_closed_at, kept_counted, kept_first, kept_room, kept_side, kept_snapshot, kept_sound, lines_limit, mid_save}
+use Rattle.round_engine.proofs.RoundKept.{kept_closed_at, kept_counted, kept_durable, kept_first, kept_room, kept_side, kept_snapshot, kept_sound, lines_limit, mid_save}
 use Rattle.round_engine.proofs.GleanDevices.{nothing_in}
 use Rattle.round_engine.proofs.RoundKept.{mark_at, mid_beside, none_told, over_kept, quiet_kept, quiet_snaps_kept, reads_kept, refused_as}
 use Rattle.round_engine.proofs.RoundKept.{rise_on, saves_up}
@@ -81,7 +81,7 @@ done_first (Ok epoch) y none = (epoch, refl)
 done_first (Err end) y none = absurd cc
 
 -- nothing was told as failed, or the device that ended it
-pub device_up : (ran : Ran) (refusal : Option End) → IsJoinedAs ran refusal → first_device ran.devices ≡ None
+pub device_up : (ran : Ran) (refusal : Option End) → IsJoinedAs ran refusal → first_device ran.beside.devices ≡ None
     → fails_device refusal ≡ false
 device_up ran None is none = refl
 device_up ran (Some (ends.Device device)) is none = elim is.device [
@@ -166,6 +166,7 @@ module _ {D : Type 0} {tells : D → Option (List ℕ)} {clock : D → ℕ} {ima
     runs = js.joins;
     turns = turns;
     few = js.counted;
+    durable = kept_durable stands ready some start_many idle all;
   }
 
   abbrev logs : List LogState
@@ -303,11 +304,11 @@ module _ {D : Type 0} {tells : D → Option (List ℕ)} {clock : D → ℕ} {ima
 
   -- ---- what was kept
 
-  keeps_made : Keeps tells clock image_at faults (all.keeper.stored ++ js.joins.stored) js.joins.failed old new before now
+  keeps_made : KeepsSaves tells clock image_at faults (all.keeper.stored ++ js.joins.stored) js.joins.failed old new before now
   keeps_made = keeps_onto (leaves facts).saves new_save
       (ap (λ (r : RuntimeState). r.store) new_is ∙ parts_are.2)
       (keeps_then (kept_sound stands ready some start_many idle all not_snaps)
-      (subst (λ f. Keeps tells clock image_at faults all.keeper.stored f old all.kept before all.after) keeper_up
+      (subst (λ f. KeepsSaves tells clock image_at faults all.keeper.stored f old all.kept before all.after) keeper_up
       (keeps_lines stands ready some start_many idle all)) js.joins.keeps)
 
   joined_epoch : js.joined.stands.clock.epoch ≡ epoch_joined ran
@@ -539,7 +540,7 @@ module _ {D : Type 0} {tells : D → Option (List ℕ)} {clock : D → ℕ} {ima
     refused = λ w log refusal at has.
         let below = below_8 logs w log at (joined_many facts) in
         subst (λ r. IsRefusedBy r log.journal)
-        (sym (none_refused ran.logs (or_parts (list_any is_some ran.logs) (keeper_at_end ran).refused out_is).0 w refusal has))
+        (sym (none_refused ran.beside.logs (or_parts (list_any is_some ran.beside.logs) (keeper_at_end ran).refused out_is).0 w refusal has))
         (js.joins.up w log at (λ told. no_bank w below js.result refl told));
     log_failed = λ w below has. inr (ap not out_is);
     rise = rise_made;

@@ -1,5 +1,5 @@
 -- Where a round stands behind its lines and those of the maintenance thread, and what these were refused.
-use Rattle.std.proofs.Common.{◌≡◌, ◌≢◌, ◌∙◌, ◌≤◌, ◌<◌, ◌+◌, ◌-◌, ◌++◌, ◌∷◌, inl, inr, sym, ap, subst, refl, ℕ, suc, List, []}
+use Rattle.std.proofs.Common.{◌≡◌, ◌∙◌, ◌≤◌, ◌<◌, ◌+◌, ◌-◌, ◌++◌, ◌∷◌, inl, inr, sym, ap, subst, refl, ℕ, suc, List, []}
 use Rattle.std.proofs.Common.{length, map, Bool, true, false, cond, not, Option, Some, None, arith}
 use Rattle.std.specs.Prelude.{◌||◌, ◌^◌, flat_map, fold, is_some, min, nat_lt, option_to_list, slice_get, ⊤}
 use Rattle.std.specs.Option.{option_map}
@@ -9,6 +9,7 @@ use Rattle.std.proofs.lemmas.Option.{same_Some}
 use Rattle.lists.specs.Each.{all_at}
 use Rattle.outside.specs.Faults.{Rose}
 use Rattle.outside.specs.Reads.{OnlyReads}
+use Rattle.log_writer.specs.Counted.{AlwaysTells}
 use Rattle.log_writer.specs.Vault.{IsWhole, disk_in}
 use Rattle.outside.specs.declared.device.Device.{Device}
 use Rattle.outside.specs.declared.device.Device.TheVariants as devices
@@ -33,7 +34,7 @@ use Rattle.worker_logs.specs.Rows.{NeverFall}
 use Rattle.round_engine.specs.Ends.{epoch_after, first_device, full_length, limit_at}
 use Rattle.round_engine.specs.Ends.{save_limited, wants_memory, where_true}
 use Rattle.round_engine.specs.Gleans.{AddsSnapshot, FailsIn, RoundGleans}
-use Rattle.round_engine.specs.Keeping.{IsSavedBySeen, Keeps, epoch_now, is_refusal, keeper_on}
+use Rattle.round_engine.specs.Keeping.{IsSavedBySeen, KeepsSaves, epoch_now, is_refusal, keeper_on}
 use Rattle.round_engine.specs.Keeping.{last_epoch_of, refusal_told}
 use Rattle.round_engine.specs.Phases.{RunsAll}
 use Rattle.round_engine.specs.Refusals.{damage_in, device_in, first_failed, first_full, first_told}
@@ -41,7 +42,8 @@ use Rattle.round_engine.specs.Refusals.{memory_in}
 use Rattle.round_engine.specs.Saves.{AreSavedIn, beside_at_end}
 use Rattle.round_engine.specs.Shares.{Share}
 use Rattle.round_engine.specs.Sides.{closed_in, growing_in}
-use Rattle.round_engine.specs.Standing.{AreClosed, beside_of, HasSnapshot, IsMarkBefore, IsReady, RuntimeState, StandsOn}
+use Rattle.round_engine.specs.Standing.{AreClosed, beside_of, HasSnapshot, IsMarkBefore, IsReady, LogsStand, RuntimeState}
+use Rattle.round_engine.specs.Standing.{StandsOn}
 use Rattle.round_engine.specs.Workers.{idled, refusal_of}
 use Rattle.round_engine.specs.declared.report.End.{End}
 use Rattle.round_engine.specs.declared.report.End.TheVariants as ends
@@ -55,6 +57,7 @@ use Rattle.round_engine.proofs.Ended.{refused_any}
 use Rattle.round_engine.proofs.EndTold.{IsKeeperEnd, IsRefusedAs}
 use Rattle.round_engine.proofs.GleansSeen.{TellAlike, adds_first, damage_first, found_first, seen_of, seen_same}
 use Rattle.round_engine.proofs.LinesLeft.{lines_at}
+use Rattle.round_engine.proofs.LogsStanding.{stand_keeper, stand_ran, stand_start, start_passed}
 use Rattle.round_engine.proofs.Numbered.{closed_at, closed_many, whole_of}
 use Rattle.round_engine.proofs.Places.{all_from}
 use Rattle.round_engine.proofs.RoundDone.{before_many, between_many, closed_mid}
@@ -293,6 +296,16 @@ module _ {D : Type 0} {tells : D → Option (List ℕ)} {clock : D → ℕ} {ima
     before = omega (arith, kept_closed_at, stands.closed.before, kept_first);
   }
 
+  -- where the disks tell their bytes, what counts of the log files is durable
+  pub kept_durable : AlwaysTells tells → LogsStand tells clock image_at all.kept.side all.kept.logs all.kept.counted all.after
+  kept_durable always =
+      stand_keeper all.keeper (ap (λ (r : RuntimeState). length r.counted) all.alone ∙ stands.closed.workers)
+      (stand_ran round (record old { logs = start }) all.mid before all.between all.lines all.alone start_many
+      (before_many stands ready some start_many idle all)
+      (start_passed round old.stands.clock.epoch old.logs start some ready.logs stands.workers start_many idle)
+      (closed_mid stands ready some start_many idle all)
+      (stand_start round old.stands.clock.epoch ready.logs stands.workers start_many idle (stands.durable always)))
+
   -- ---- the vault
 
   pub growing_kept : growing_in old.side all.after ≡ growing_in old.side all.between
@@ -520,7 +533,7 @@ module _ {D : Type 0} {tells : D → Option (List ℕ)} {clock : D → ℕ} {ima
       (map (λ (s : Saved). s.epoch) (all.keeper.stored ++ option_to_list all.keeper.failed))) mid_save (all.keeper.rise saves_up).0
 
   -- what was kept by the lines, since the begin
-  pub keeps_lines : Keeps tells clock image_at faults all.keeper.stored all.keeper.failed old all.kept before all.after
+  pub keeps_lines : KeepsSaves tells clock image_at faults all.keeper.stored all.keeper.failed old all.kept before all.after
   keeps_lines = keeps_from (same_saves stands ready some start_many idle all) mid_save mid_store all.keeper.keeps
 
   -- how the maintenance thread's lines saved

@@ -33,13 +33,13 @@ use Rattle.worker_logs.specs.Rows.{AreLogsUp, IsBeforeOne, IsLogUp, KeepsMarkIn}
 use Rattle.round_engine.specs.Crashes.{CarriesCrashes}
 use Rattle.round_engine.specs.Changes.{AreLogged}
 use Rattle.round_engine.specs.Gleans.{RoundGleans}
-use Rattle.round_engine.specs.Keeping.{Keeps}
+use Rattle.round_engine.specs.Keeping.{KeepsSaves}
 use Rattle.round_engine.specs.Logs.{IsRefusedBy}
 use Rattle.round_engine.specs.Phases.{RunsSome}
 use Rattle.round_engine.specs.RanRound.{AreRoundMarks, LeavesVault, Rounds, SwapsFiles}
 use Rattle.round_engine.specs.Shares.{RunsShares, Share, logged_in}
 use Rattle.round_engine.specs.Sides.{closed_in, growing_in}
-use Rattle.round_engine.specs.Standing.{files_of, HasSnapshot, IsMarkBefore, IsReady, RuntimeState, StandsOn}
+use Rattle.round_engine.specs.Standing.{files_of, HasSnapshot, IsMarkBefore, IsReady, LogsStand, RuntimeState, StandsOn}
 use Rattle.round_engine.specs.Workers.{idled}
 use Rattle.round_engine.proofs.CrashesLeft.{with_crashes}
 use Rattle.round_engine.proofs.Beside.{SameSaves, keeps_from, keeps_none}
@@ -48,6 +48,7 @@ use Rattle.round_engine.proofs.Ended.{devices_down}
 use Rattle.round_engine.proofs.Fronts.{lines_from, no_keepers, ran_at, ran_of as run_of}
 use Rattle.round_engine.proofs.LinesLeft.{LastStep, front_nothing, last_none, lines_at}
 use Rattle.round_engine.proofs.LinesLeft.{logs_total, logs_up}
+use Rattle.round_engine.proofs.LogsStanding.{stand_lines, stand_start, start_passed}
 use Rattle.round_engine.proofs.Numbered.{closed_at, closed_many, growing_at, growing_many, log_of_is, whole_of}
 use Rattle.round_engine.proofs.SharesRun.{IsRanOf, lines_of, logged_above, logged_nothing, outcomes_of, run_caused}
 use Rattle.round_engine.proofs.SharesRun.{same_decls}
@@ -133,23 +134,27 @@ module _ {D : Type 0} {tells : D → Option (List ℕ)} {clock : D → ℕ} {ima
 
   abbrev ran : Ran
   ran = record {
-    begin = old.stands.clock;
-    end = mid.stands.clock;
-    outcomes = outcomes_of part.stops.shares;
-    asked = [];
-    answers = [];
-    durable = None;
-    sequence = sequence_of old.save.newest;
-    pages = length old.store.pages;
-    room = old.room;
-    files = files_of old;
-    marks = first_epochs start;
-    logs = map (λ (p : Share). p.refusal) part.stops.shares;
-    tries = tries;
-    refused = map (λ (p : Share). p.tries_refused) part.stops.shares;
-    gleans = [];
-    devices = devices_down old.side (are_down mid.logs) false [];
-    damaged = None;
+    printed = record {
+      begin = old.stands.clock;
+      end = mid.stands.clock;
+      outcomes = outcomes_of part.stops.shares;
+      asked = [];
+      answers = [];
+      durable = None;
+    };
+    beside = record {
+      sequence = sequence_of old.save.newest;
+      pages = length old.store.pages;
+      room = old.room;
+      files = files_of old;
+      marks = first_epochs start;
+      logs = map (λ (p : Share). p.refusal) part.stops.shares;
+      tries = tries;
+      refused = map (λ (p : Share). p.tries_refused) part.stops.shares;
+      gleans = [];
+      devices = devices_down old.side (are_down mid.logs) false [];
+      damaged = None;
+    };
   }
 
   runs : RunsShares tries old.stands mid.stands part.stops.shares
@@ -232,7 +237,7 @@ module _ {D : Type 0} {tells : D → Option (List ℕ)} {clock : D → ℕ} {ima
       (subst (λ x. LastStep tells clock image_at faults old.stands.clock.epoch lines lines was x)
       (same_Some was is (sym bank ∙ bank_now)) (last_none old.stands.clock.epoch lines was)))
 
-  keeps : Keeps tells clock image_at faults [] None old new before now
+  keeps : KeepsSaves tells clock image_at faults [] None old new before now
   keeps = keeps_from same_saves mid_save mid_store
       (keeps_none new now (ap (λ (s : SaveState). s.down) mid_save ∙ (stands.up ready.up).save)
       (subst (λ d. IsStored tells clock image_at d new.save.newest) (sym same_saves.save)
@@ -250,7 +255,7 @@ module _ {D : Type 0} {tells : D → Option (List ℕ)} {clock : D → ℕ} {ima
       let left = part.stops.over.each w p begins.0 log bank.0 mid_bank.0 at begins.1 there bank.1 mid_bank.1 in
       (left.refused, left.limit ∙ (start_up w begins.0 bank.0 begins.1 bank.1).limit)
 
-  failed_at : (w : ℕ) → w < 8 → Contains ran.devices (devices.Bank (growing_number old.side w)) → slice_get ran.logs w ≡ Some (Some LogFailed)
+  failed_at : (w : ℕ) → w < 8 → Contains ran.beside.devices (devices.Bank (growing_number old.side w)) → slice_get ran.beside.logs w ≡ Some (Some LogFailed)
   failed_at w below has =
       let at = map_at (λ (l : LogState). is_some l.journal.down) mid.logs w true (bank_down old.side (are_down mid.logs) false [] w
       (λ none. in_none (devices.Bank (growing_number old.side w)) none) has) in
@@ -261,14 +266,14 @@ module _ {D : Type 0} {tells : D → Option (List ℕ)} {clock : D → ℕ} {ima
       let left = part.stops.over.each w p.0 begins.0 at.0 bank.0 mid_bank.0 p.1 begins.1 at.1 bank.1 mid_bank.1 in
       map_there (λ (q : Share). q.refusal) shares w p.0 p.1 ∙ ap Some (left.failed at.2)
 
-  logs_caused_so : LogsCaused ran.files ran.devices 0 ran.logs
-  logs_caused_so = logs_caused ran.files ran.devices 0 ran.logs
+  logs_caused_so : LogsCaused ran.beside.files ran.beside.devices 0 ran.beside.logs
+  logs_caused_so = logs_caused ran.beside.files ran.beside.devices 0 ran.beside.logs
       (λ i at.
       let p = map_at (λ (p : Share). p.refusal) shares i (Some LogFailed) at in
       let log = item_at mid.logs i (omega (arith, within_of shares i p.0 p.1, runs.workers, part.stops.over.logs_length, start_many)) in
       let down = subst (λ r. IsRefusedBy r log.0.journal) p.2 (refused_at i p.0 log.0 p.1 log.1).0 in
-      subst (λ n. Contains ran.devices (log_of ran.files n)) (at_first i)
-      (subst (Contains ran.devices) (sym (log_of_is old.side ran.files i refl))
+      subst (λ n. Contains ran.beside.devices (log_of ran.beside.files n)) (at_first i)
+      (subst (Contains ran.beside.devices) (sym (log_of_is old.side ran.beside.files i refl))
       (bank_in old.side 0 i i (are_down mid.logs) (omega arith) (down_at mid.logs i log.0 log.1 down))))
       (λ i size at.
       let p = map_at (λ (p : Share). p.refusal) shares i (Some (LogFull size)) at in
@@ -336,6 +341,14 @@ module _ {D : Type 0} {tells : D → Option (List ℕ)} {clock : D → ℕ} {ima
         let was = item_at (growing_in old.side before) w (omega (arith, below, before_many)) in
         (lines_at w part.stops.over start_many begins.1 at was.1 (sym (growing_at old.side now w)
         ∙ ap (λ s. disk_in now (devices.Bank (growing_number s w))) (sym mid_side) ∙ there)).reaches;
+    durable = λ always.
+        subst (λ (x : RuntimeState). LogsStand tells clock image_at x.side mid.logs x.counted now) (sym part.alone)
+        (stand_lines old.side before now part.stops.over start_many before_many
+        (λ w log at any. start_passed round old.stands.clock.epoch old.logs start some ready.logs stands.workers start_many idle
+        w log at (λ none. any (logged_nothing old.stands.decls old.stands.clock.draw mid.stands.clock.draw tries shares w
+        runs.each (λ p p_at. front_nothing p.lines (lines_of_worker round w) (part.stops.fronts w p p_at) none))))
+        closed_same
+        (stand_start round old.stands.clock.epoch ready.logs stands.workers start_many idle (stands.durable always)));
   }
 
   -- nothing of the vault but the growing log files
@@ -368,7 +381,7 @@ module _ {D : Type 0} {tells : D → Option (List ℕ)} {clock : D → ℕ} {ima
   }
 
   -- just growing log files failed
-  only_log : (device : Device) → Contains ran.devices device → (w : ℕ) × (w < 8) × (device ≡ log_of ran.files w)
+  only_log : (device : Device) → Contains ran.beside.devices device → (w : ℕ) × (w < 8) × (device ≡ log_of ran.beside.files w)
   only_log device has =
       let at = in_banks old.side 0 (are_down mid.logs) device has in
       let here : at.0 ≡ at.1 = omega (arith, at.2) in
@@ -376,7 +389,7 @@ module _ {D : Type 0} {tells : D → Option (List ℕ)} {clock : D → ℕ} {ima
       (subst (λ k. slice_get (are_down mid.logs) k ≡ Some true) here at.3) in (
         at.1,
         below_8 mid.logs at.1 log.0 log.1 (part.stops.over.logs_length ∙ start_many),
-        sym at.4 ∙ sym (log_of_is old.side ran.files at.1 refl),
+        sym at.4 ∙ sym (log_of_is old.side ran.beside.files at.1 refl),
       )
 
   -- what it leaves of the vault, and of the crashes
@@ -398,7 +411,7 @@ module _ {D : Type 0} {tells : D → Option (List ℕ)} {clock : D → ℕ} {ima
       (λ w log refusal at has.
       let p = map_at (λ (p : Share). p.refusal) shares w refusal has in
       subst (λ r. IsRefusedBy r log.journal) p.2 (refused_at w p.0 log p.1 at).0)
-      (λ w below has. inl (failed_at w below (subst (Contains ran.devices) (log_of_is old.side ran.files w refl) has))) tt (λ is. absurd (let no = is in cc)))
+      (λ w below has. inl (failed_at w below (subst (Contains ran.beside.devices) (log_of_is old.side ran.beside.files w refl) has))) tt (λ is. absurd (let no = is in cc)))
 
   pub stopped : ((disk : D) (file : List ℕ) → tells disk ≡ Some file → image_at disk (clock disk) file)
       → (memory : Memory) → Rounds tells clock image_at faults tries round old new before now (Err memory)
@@ -443,7 +456,7 @@ module _ {D : Type 0} {tells : D → Option (List ℕ)} {clock : D → ℕ} {ima
           unstored = λ has. let no = save_down old.side (are_down mid.logs) false []
               (λ none. in_none devices.Save none) has in cc;
           only_logs = λ device has. only_log device has;
-          log_failed = λ w below has. failed_at w below (subst (Contains ran.devices) (log_of_is old.side ran.files w refl) has);
+          log_failed = λ w below has. failed_at w below (subst (Contains ran.beside.devices) (log_of_is old.side ran.beside.files w refl) has);
           durable = refl;
           clock = refl;
           ended = refl;

@@ -13,11 +13,12 @@ use Rattle.worker_logs.specs.Rows.{AreLogsUp, IsLogUp}
 use Rattle.round_engine.specs.Keeping.{CanKeep}
 use Rattle.round_engine.specs.Phases.{RunsAll}
 use Rattle.round_engine.specs.RanRound.{Rounds}
-use Rattle.round_engine.specs.Standing.{IsReady, RuntimeState, StandsOn}
+use Rattle.round_engine.specs.Standing.{ArePassed, IsReady, RuntimeState, StandsOn}
 use Rattle.round_engine.specs.Sides.{growing_in}
 use Rattle.round_engine.specs.Workers.{idled}
 use Rattle.round_engine.specs.declared.report.Report.{Report}
 use Rattle.round_engine.proofs.LinesLeft.{logs_up}
+use Rattle.round_engine.proofs.LogsStanding.{stand_start, start_passed}
 use Rattle.round_engine.proofs.RoundCases.{left_out}
 use Rattle.round_engine.proofs.RoundDone.{idled_up}
 use Rattle.round_engine.proofs.RoundJoined.{joined_round}
@@ -71,7 +72,14 @@ module _ {D : Type 0} {tells : D → Option (List ℕ)} {clock : D → ℕ} {ima
           earlier = has.earlier;
           let_in = has.let_in;
         };
+        durable = λ always. stand_start round old.stands.clock.epoch ready.logs stands.workers start_many idle
+            (stands.durable always);
       }
+
+  -- commits may follow the marks of workers with lines
+  pub start_passes : ArePassed round (record old { logs = start })
+  start_passes = start_passed round old.stands.clock.epoch old.logs start (omega (arith, stands.above)) ready.logs
+      stands.workers start_many idle
 
 -- ---- a round
 

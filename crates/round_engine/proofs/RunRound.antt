@@ -22,16 +22,17 @@ use Rattle.round_engine.specs.Refusals.{device_in, device_refused, first_failed,
 use Rattle.round_engine.specs.Saves.{beside_at_end}
 use Rattle.round_engine.specs.Shares.{Share}
 use Rattle.round_engine.specs.Sides.{SameButGrowing, closed_in, growing_in}
-use Rattle.round_engine.specs.Standing.{AreClosed, beside_of, HasSnapshot, RuntimeState}
+use Rattle.round_engine.specs.Standing.{AreClosed, ArePassed, beside_of, HasSnapshot, RuntimeState}
 use Rattle.round_engine.specs.Workers.{RunsWorkers, StopsWorkers, refusal_of}
 use Rattle.round_engine.specs.declared.report.End.{End}
-use Rattle.round_engine.specs.declared.rounds.Refused.{Refused}
+use Rattle.round_engine.specs.declared.rounds.LineRefusals.{LineRefusals}
 use Rattle.worker_cells.specs.declared.cell.LogEnd.{LogEnd}
 use Rattle.round_engine.proofs.Devices.{are_down}
 use Rattle.round_engine.proofs.Ended.{failed_down, first_down}
 use Rattle.round_engine.proofs.EndTold.{nothing}
 use Rattle.round_engine.proofs.JoinedAs.{none_down_at}
 use Rattle.round_engine.proofs.LinesLeft.{lines_at}
+use Rattle.round_engine.proofs.LogsStanding.{stand_keeper, stand_ran}
 use Rattle.round_engine.proofs.Numbered.{closed_many, growing_many, whole_of}
 use Rattle.round_engine.proofs.Places.{map_there, nothing_there}
 use Rattle.round_engine.proofs.RoundDone.{map_same, same_closed_in}
@@ -67,6 +68,7 @@ module _ {D : Type 0} {tells : D → Option (List ℕ)} {clock : D → ℕ} {ima
     {faults : D → ℕ} {tries : ℕ} {round : Round} {r mid : RuntimeState} {before lent between : Vault D}
     {outcomes : List (List Outcome)} {ends : List LogEnd}
     (logs_up : AreLogsUp tells r.logs (growing_in r.side before)) (ready : CanKeep tells clock image_at r before)
+    (passed : ArePassed round r)
     (lines : RunsWorkers tells clock image_at faults tries round r.stands mid.stands outcomes ends r.logs mid.logs
     (growing_in r.side before) (growing_in r.side between))
     (alone : mid ≡ record r { stands = mid.stands; logs = mid.logs }) (room : RoomAlone before lent)
@@ -137,6 +139,8 @@ module _ {D : Type 0} {tells : D → Option (List ℕ)} {clock : D → ℕ} {ima
     most_pages = omega (arith, ap (λ (x : RuntimeState). x.room) alone, ready.most_pages);
     sound = ap (λ (x : RuntimeState). x.store.sound) alone ∙ ready.sound;
     snapshot = mid_snapshot;
+    durable = λ always. stand_ran round r mid before between lines alone ready.workers before_many passed
+        (beside.closed ∙ same_closed_in r.side before lent room) (ready.durable always);
   }
 
   module _ {kept : RuntimeState} {after : Vault D} {said : List Answer} {refusal : Option End}
@@ -174,7 +178,7 @@ module _ {D : Type 0} {tells : D → Option (List ℕ)} {clock : D → ℕ} {ima
         }
 
     -- Nothing that leaves the join out was refused: the logs and the stores are up.
-    pub ready_to_join : (refused : Refused) → refused.device ≡ device_refused r.side refusal ends → refused.keeper ≡ refusal
+    pub ready_to_join : (refused : LineRefusals) → refused.device ≡ device_refused r.side refusal ends → refused.keeper ≡ refusal
         → leaves_out refused ≡ false → IsReadyToJoin tells clock image_at faults kept after
     ready_to_join refused device_is keeper_is out =
         let none = nothing refused out in
@@ -196,4 +200,5 @@ module _ {D : Type 0} {tells : D → Option (List ℕ)} {clock : D → ℕ} {ima
           snapshot = keeper.leaves.snapshot (λ was. mid_snapshot) sound_kept;
           up = up;
           stored = keeper.keeps.stands up;
+          durable = λ always. stand_keeper keeper can_keep.closed.workers (can_keep.durable always);
         }

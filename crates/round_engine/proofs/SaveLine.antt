@@ -1,9 +1,8 @@
 -- A line of the maintenance thread that asks for a save.
-use Rattle.std.proofs.Common.{◌≡◌, ◌∙◌, ◌<◌, ◌+◌, ◌-◌, ◌++◌, ◌∷◌, inl, inr, sym, ap, subst, refl, ℕ, List, [], length, map}
-use Rattle.std.proofs.Common.{length-append, true, false, Option, Some, None, arith}
+use Rattle.std.proofs.Common.{◌≡◌, ◌∙◌, ◌<◌, ◌-◌, ◌∷◌, inl, inr, sym, ap, subst, refl, ℕ, List, [], map}
+use Rattle.std.proofs.Common.{true, false, Option, Some, None, arith}
 use Rattle.std.specs.Prelude.{◌^◌, Result, Ok, Err}
 use Rattle.std.proofs.lemmas.Bool.{cases_eq}
-use Rattle.log_writer.specs.declared.records.Tie.{Tie}
 use Rattle.log_writer.specs.declared.vault.Vault.{Vault}
 use Rattle.script_grammar.specs.declared.lines.KeeperLine.TheVariants as asks
 use Rattle.wire_form.specs.declared.clock.Mark.{Mark}
@@ -14,7 +13,7 @@ use Rattle.joint_crashes.specs.Images.{epoch_of}
 use Rattle.tx_script.specs.Causes.{last_sequence}
 use Rattle.tx_script.specs.declared.answer.Answer.{Answer}
 use Rattle.tx_script.specs.declared.answer.Answer.TheVariants as answers
-use Rattle.worker_logs.specs.Saves.{SavesMarks, logs_marks, tie_after}
+use Rattle.worker_logs.specs.Saves.{SavesMarks, logs_marks}
 use Rattle.worker_logs.specs.SavesLaws.{saved_epoch_less}
 use Rattle.worker_logs.specs.declared.savepoints.Side.{Side}
 use Rattle.worker_logs.specs.declared.savepoints.Side.TheVariants.{Even, Odd}

@@ -77,7 +77,7 @@ shares_one_each decls first last tries (p ∷ shares) each = (each.0.one_each, s
 
 -- each line has its cause
 shares_caused : (decls : List Decl) (ran : Ran) (shares : List Share)
-    → AllByRecursion (IsShare decls ran.begin.draw ran.end.draw ran.tries) shares
+    → AllByRecursion (IsShare decls ran.printed.begin.draw ran.printed.end.draw ran.beside.tries) shares
     → WorkersCaused ran (refusals_of shares) (outcomes_of shares) (tries_of shares)
 shares_caused decls ran [] each = tt
 shares_caused decls ran (p ∷ shares) each =
@@ -163,20 +163,20 @@ advances_up (_ ∷ more) first last is = advances_up more first last is
 -- the run is of these shares of the round's lines, each tried so often at most, and of its keeper lines
 pub record IsRanOf (tries : ℕ) (round : Round) (s t : Standing) (shares : List Share) (ran : Ran) : Type 0 where
   pub lines : lines_of shares ≡ worker_lines round
-  pub begin : ran.begin ≡ s.clock
-  pub draw : ran.end.draw ≡ t.clock.draw
-  pub outcomes : ran.outcomes ≡ outcomes_of shares
-  pub tried : ran.tries ≡ tries
-  pub refused : ran.refused ≡ tries_of shares
-  pub asked : ran.asked ≡ keeper_lines round
-  pub answers : length ran.answers ≡ length (keeper_lines round)
-  pub epoch : AdvancesTo s.clock.epoch ran.answers ran.end.epoch
+  pub begin : ran.printed.begin ≡ s.clock
+  pub draw : ran.printed.end.draw ≡ t.clock.draw
+  pub outcomes : ran.printed.outcomes ≡ outcomes_of shares
+  pub tried : ran.beside.tries ≡ tries
+  pub refused : ran.beside.refused ≡ tries_of shares
+  pub asked : ran.printed.asked ≡ keeper_lines round
+  pub answers : length ran.printed.answers ≡ length (keeper_lines round)
+  pub epoch : AdvancesTo s.clock.epoch ran.printed.answers ran.printed.end.epoch
 
 module _ {tries : ℕ} {s t : Standing} {shares : List Share} (round : Round) (ran : Ran)
     (runs : RunsShares tries s t shares) (of : IsRanOf tries round s t shares ran) where
   is_of_round : IsOfRound ran round
   is_of_round = record {
-    outcomes = subst (λ l. OneForEach l ran.outcomes) of.lines
+    outcomes = subst (λ l. OneForEach l ran.printed.outcomes) of.lines
         (subst (OneForEach (lines_of shares)) (sym of.outcomes)
         (shares_one_each s.decls s.clock.draw t.clock.draw tries shares runs.each));
     asked = of.asked;
@@ -184,11 +184,11 @@ module _ {tries : ℕ} {s t : Standing} {shares : List Share} (round : Round) (r
   }
 
   -- the numbers are between the clocks of the round
-  later : (n : Number) → IsBetween s.clock t.clock n → IsBetween ran.begin ran.end n
+  later : (n : Number) → IsBetween s.clock t.clock n → IsBetween ran.printed.begin ran.printed.end n
   later n is =
       let begin_epoch = ap (λ (n : Number). n.epoch) of.begin in
       let begin_draw = ap (λ (n : Number). n.draw) of.begin in
-      let up = advances_up ran.answers s.clock.epoch ran.end.epoch of.epoch in
+      let up = advances_up ran.printed.answers s.clock.epoch ran.printed.end.epoch of.epoch in
       record {
         epoch_from = omega (arith, is.epoch_from, begin_epoch);
         epoch_to = omega (arith, is.epoch_to, runs.epoch, up);
@@ -201,15 +201,15 @@ module _ {tries : ℕ} {s t : Standing} {shares : List Share} (round : Round) (r
       × (r.ordered ≡ (runs.ordered index).ordered)
   shares_run index after state =
       let o = runs.ordered index in
-      let same : entries_of_workers index 0 ran.outcomes (worker_lines round) ≡ entries_in index shares =
+      let same : entries_of_workers index 0 ran.printed.outcomes (worker_lines round) ≡ entries_in index shares =
       ap (λ o. entries_of_workers index 0 o (worker_lines round)) of.outcomes
       ∙ ap (entries_of_workers index 0 (outcomes_of shares)) (sym of.lines) in
-      let all : entries_of_workers index 0 ran.outcomes (worker_lines round) ++ [] ≡ entries_in index shares =
+      let all : entries_of_workers index 0 ran.printed.outcomes (worker_lines round) ++ [] ≡ entries_in index shares =
       append-nil _ ∙ same in
-      let between : AllByRecursion (λ (e : Entry). IsBetween ran.begin ran.end e.number) (entries_in index shares) =
-      all_permuted (λ (e : Entry). IsBetween ran.begin ran.end e.number) (entries_in index shares) o.ordered o.same
+      let between : AllByRecursion (λ (e : Entry). IsBetween ran.printed.begin ran.printed.end e.number) (entries_in index shares) =
+      all_permuted (λ (e : Entry). IsBetween ran.printed.begin ran.printed.end e.number) (entries_in index shares) o.ordered o.same
       (all_weaker (λ (e : Entry). IsBetween s.clock t.clock e.number)
-      (λ (e : Entry). IsBetween ran.begin ran.end e.number)
+      (λ (e : Entry). IsBetween ran.printed.begin ran.printed.end e.number)
       (λ e is. later e.number is) o.ordered o.numbers) in (
         record {
           lines = (is_of_round, tt);
@@ -217,10 +217,10 @@ module _ {tries : ℕ} {s t : Standing} {shares : List Share} (round : Round) (r
           clocks = (
             of.begin,
             record {
-              epoch = subst (λ e. AdvancesTo e ran.answers ran.end.epoch)
+              epoch = subst (λ e. AdvancesTo e ran.printed.answers ran.printed.end.epoch)
                   (sym (ap (λ (n : Number). n.epoch) of.begin)) of.epoch;
               draw = omega (arith, runs.draw, of.draw, ap (λ (n : Number). n.draw) of.begin);
-              numbers = subst (AllByRecursion (λ (e : Entry). IsBetween ran.begin ran.end e.number)) (sym same) between;
+              numbers = subst (AllByRecursion (λ (e : Entry). IsBetween ran.printed.begin ran.printed.end e.number)) (sym same) between;
             },
             tt,
           );
@@ -234,13 +234,13 @@ module _ {tries : ℕ} {s t : Standing} {shares : List Share} (round : Round) (r
       )
 
   -- the causes of the outcomes
-  pub run_caused : WorkersCaused ran (refusals_of shares) ran.outcomes ran.refused
+  pub run_caused : WorkersCaused ran (refusals_of shares) ran.printed.outcomes ran.beside.refused
   run_caused =
-      let first : ran.begin.draw ≡ s.clock.draw = ap (λ (n : Number). n.draw) of.begin in
-      let each : AllByRecursion (IsShare s.decls ran.begin.draw ran.end.draw ran.tries) shares =
-      subst (λ n. AllByRecursion (IsShare s.decls ran.begin.draw ran.end.draw n) shares) (sym of.tried)
-      (subst (λ n. AllByRecursion (IsShare s.decls n ran.end.draw tries) shares) (sym first)
+      let first : ran.printed.begin.draw ≡ s.clock.draw = ap (λ (n : Number). n.draw) of.begin in
+      let each : AllByRecursion (IsShare s.decls ran.printed.begin.draw ran.printed.end.draw ran.beside.tries) shares =
+      subst (λ n. AllByRecursion (IsShare s.decls ran.printed.begin.draw ran.printed.end.draw n) shares) (sym of.tried)
+      (subst (λ n. AllByRecursion (IsShare s.decls n ran.printed.end.draw tries) shares) (sym first)
       (subst (λ n. AllByRecursion (IsShare s.decls s.clock.draw n tries) shares) (sym of.draw) runs.each)) in
-      subst (λ r. WorkersCaused ran (refusals_of shares) ran.outcomes r) (sym of.refused)
+      subst (λ r. WorkersCaused ran (refusals_of shares) ran.printed.outcomes r) (sym of.refused)
       (subst (λ o. WorkersCaused ran (refusals_of shares) o (tries_of shares)) (sym of.outcomes)
       (shares_caused s.decls ran shares each))

@@ -10,6 +10,7 @@ use Rattle.outside.specs.Faults.{Rose}
 use Rattle.log_writer.specs.Vault.{IsWhole}
 use Rattle.log_writer.specs.declared.vault.Vault.{Vault}
 use Rattle.wire_form.specs.declared.clock.Mark.{Mark}
+use Rattle.log_writer.specs.Counted.{AlwaysTells}
 use Rattle.log_writer.specs.Journal.{Reaches}
 use Rattle.log_writer.specs.Points.{SaveState, sequence_of}
 use Rattle.log_writer.specs.Save.{IsStored}
@@ -19,11 +20,11 @@ use Rattle.tx_script.specs.Causes.{some_counted}
 use Rattle.worker_logs.specs.Logs.{IsJoined, LogState, log_limit, reset_log}
 use Rattle.worker_logs.specs.Saves.{logs_marks}
 use Rattle.worker_logs.specs.declared.savepoints.Side.{Side}
-use Rattle.round_engine.specs.Keeping.{Keeps}
+use Rattle.round_engine.specs.Keeping.{KeepsSaves}
 use Rattle.round_engine.specs.Phases.{SwapsBehind, ended_as, made}
 use Rattle.round_engine.specs.Saves.{AreTied, HaveEnded}
 use Rattle.round_engine.specs.Sides.{closed_numbers, growing_in, other_side}
-use Rattle.round_engine.specs.Standing.{HasSnapshot, IsMarkBefore, RuntimeState, StandsOn}
+use Rattle.round_engine.specs.Standing.{HasSnapshot, IsMarkBefore, LogsStand, RuntimeState, StandsOn}
 use Rattle.round_engine.specs.Swaps.{CutsBanks, turned, turned_unless}
 use Rattle.round_engine.specs.declared.report.End.{End}
 use Rattle.round_engine.proofs.BanksCut.{banks_growing, banks_save, banks_snaps, banks_whole}
@@ -131,8 +132,9 @@ module _ {D : Type 0} {tells : D → Option (List ℕ)} {clock : D → ℕ} {ima
   -- where only the closed log files were cut a runtime stands as it did
   pub stands_cut : {r : RuntimeState} {between now : Vault D} → IsWhole now → now.save ≡ between.save → now.snaps ≡ between.snaps
       → growing_in r.side now ≡ growing_in r.side between
+      → (AlwaysTells tells → LogsStand tells clock image_at r.side r.logs r.counted now)
       → StandsOn tells clock image_at r between → StandsOn tells clock image_at r now
-  stands_cut {r = r} {between = between} {now = now} whole save snaps growing stands = record {
+  stands_cut {r = r} {between = between} {now = now} whole save snaps growing durable stands = record {
     whole = whole;
     workers = stands.workers;
     limits = stands.limits;
@@ -146,14 +148,17 @@ module _ {D : Type 0} {tells : D → Option (List ℕ)} {clock : D → ℕ} {ima
     snapshot = λ sound. subst (HasSnapshot tells r) (sym snaps) (stands.snapshot sound);
     reaches = λ w log bank at there. stands.reaches w log bank at
         (growing_at r.side between w ∙ ap (λ l. slice_get l w) (sym growing) ∙ sym (growing_at r.side now w) ∙ there);
+    durable = durable;
   }
 
   -- And where the sides turned it stands on the other ones: nothing is in its growing log files, and of the closed ones
   -- what their logs' marks count.
   pub stands_turned : {r : RuntimeState} {vault : Vault D} (epoch : ℕ) → r.closed_at < epoch → epoch < r.stands.clock.epoch
       → AllByRecursion (λ n. n < 2 ^ 40) (turned epoch r).counted
+      → (AlwaysTells tells → LogsStand tells clock image_at (other_side r.side) (map reset_log r.logs)
+      (map (λ (m : Mark). m.length) (logs_marks r.logs)) vault)
       → StandsOn tells clock image_at r vault → StandsOn tells clock image_at (turned epoch r) vault
-  stands_turned {r = r} {vault = vault} epoch since below few stands = record {
+  stands_turned {r = r} {vault = vault} epoch since below few durable stands = record {
     whole = stands.whole;
     workers = length-map r.logs reset_log ∙ stands.workers;
     limits = reset_all (λ (l : LogState). l.journal.limit ≡ log_limit) (λ (l : LogState). l.journal.limit ≡ log_limit)
@@ -191,13 +196,14 @@ module _ {D : Type 0} {tells : D → Option (List ℕ)} {clock : D → ℕ} {ima
     reaches = λ w log bank at there.
         let l = map_at reset_log r.logs w log at in
         subst (λ (x : LogState). Reaches tells bank x.journal) l.2 (λ file told. omega arith);
+    durable = durable;
   }
 
   -- what is kept is kept over the same savepoints and pages
   pub keeps_onto : {faults : D → ℕ} {stored : List Saved} {failed : Option Saved} {old joined new : RuntimeState}
       {before between now : Vault D} → SameSaves between now → new.save ≡ joined.save → new.store ≡ joined.store
-      → Keeps tells clock image_at faults stored failed old joined before between
-      → Keeps tells clock image_at faults stored failed old new before now
+      → KeepsSaves tells clock image_at faults stored failed old joined before between
+      → KeepsSaves tells clock image_at faults stored failed old new before now
   keeps_onto {faults = faults} {stored} {failed} {old = old} {joined = joined} {new = new} {before = before} {between = between} {now = now} same save store k =
       let begun = stored ++ option_to_list failed in
       let one : StoredOver tells clock image_at begun old.save.newest old.store new.store before.save between.save before.snaps

@@ -30,7 +30,7 @@ use Rattle.worker_logs.specs.declared.savepoints.Beside.{Beside}
 use Rattle.worker_logs.specs.Rows.{Blames, NeverFall}
 use Rattle.round_engine.specs.Ends.{comes_to_advance, comes_to_save, comes_to_swap, epoch_joined, swaps}
 use Rattle.round_engine.specs.Gleans.{RoundGleans}
-use Rattle.round_engine.specs.Keeping.{IsSavedBySeen, Keeps}
+use Rattle.round_engine.specs.Keeping.{IsSavedBySeen, KeepsSaves}
 use Rattle.round_engine.specs.Logs.{AreClosedFiles, AreLogs, IsClosedFile, IsRefusedBy, LeavesLog}
 use Rattle.round_engine.specs.RanRound.{AreFailed, LeavesVault, LogsRan, SwapsFiles}
 use Rattle.round_engine.specs.Saves.{AreSaved, AreSeen, beside_at_end, IsSavedBy, newest_after, saves_told}
@@ -131,11 +131,11 @@ module _ {D : Type 0} {tells : D → Option (List ℕ)} {clock : D → ℕ} {ima
     (before now : Vault D) (stored : List Saved) (failed : Option Saved)
     (total : LogsTotal tells clock image_at faults logged start old.logs mid logs (growing_in old.side before)
     (growing_in old.side now))
-    (saves : AreSaved (IsSavedBySeen (SeenIn ran.begin.epoch (epoch_joined ran) mid logs)) (beside_of old) ran.answers
+    (saves : AreSaved (IsSavedBySeen (SeenIn ran.printed.begin.epoch (epoch_joined ran) mid logs)) (beside_of old) ran.printed.answers
     (stored ++ option_to_list failed))
     (newest : new.save.newest ≡ newest_after old.save.newest stored)
     (front_so : (w : ℕ) (begins : LogState) (epochs : List (Option ℕ)) → slice_get start w ≡ Some begins
-    → slice_get ran.marks w ≡ Some epochs → (told : List (Option ℕ)) → IsFront (begins.mark.epoch ∷ []) told → IsFront epochs told)
+    → slice_get ran.beside.marks w ≡ Some epochs → (told : List (Option ℕ)) → IsFront (begins.mark.epoch ∷ []) told → IsFront epochs told)
     (above : (w : ℕ) → w < 8 → AllByRecursion (IsAbove (epoch_of old.save.newest)) (logged w))
     (whole : IsWhole before) (counted_many : length old.counted ≡ 8)
     (files : SwapsFiles tells clock image_at faults ran logs old new before now) (between_whole : IsWhole files.between)
@@ -227,8 +227,8 @@ module _ {D : Type 0} {tells : D → Option (List ℕ)} {clock : D → ℕ} {ima
         let bank = some_bank w (below_8 logs w log at total.new_many) in
         (leaves_at w log bank.0 at bank.1).7)
 
-    had : (at_clock : ℕ) (seen : List Mark) → SeenIn ran.begin.epoch (epoch_joined ran) mid logs at_clock seen
-        → (ran.begin.epoch ≤ at_clock) × (at_clock ≤ epoch_joined ran) × AreSeen marks seen
+    had : (at_clock : ℕ) (seen : List Mark) → SeenIn ran.printed.begin.epoch (epoch_joined ran) mid logs at_clock seen
+        → (ran.printed.begin.epoch ≤ at_clock) × (at_clock ≤ epoch_joined ran) × AreSeen marks seen
     had at_clock seen is = (
       is.0,
       is.1,
@@ -238,9 +238,9 @@ module _ {D : Type 0} {tells : D → Option (List ℕ)} {clock : D → ℕ} {ima
       ],
     )
 
-    by : AreSaved (IsSavedBy ran.begin.epoch (epoch_joined ran) marks) (beside_of old) ran.answers (stored ++ option_to_list failed)
-    by = saved_by_had ran.begin.epoch (epoch_joined ran) marks (SeenIn ran.begin.epoch (epoch_joined ran) mid logs) (beside_of old)
-        had ran.answers (stored ++ option_to_list failed) saves
+    by : AreSaved (IsSavedBy ran.printed.begin.epoch (epoch_joined ran) marks) (beside_of old) ran.printed.answers (stored ++ option_to_list failed)
+    by = saved_by_had ran.printed.begin.epoch (epoch_joined ran) marks (SeenIn ran.printed.begin.epoch (epoch_joined ran) mid logs) (beside_of old)
+        had ran.printed.answers (stored ++ option_to_list failed) saves
 
     -- its marks say what they count
     says : (w : ℕ) (m : Mark) → w < 8 → Contains (marks w) m → IsMarkOf (commits w ++ logged w) (durable w) m
@@ -266,11 +266,11 @@ module _ {D : Type 0} {tells : D → Option (List ℕ)} {clock : D → ℕ} {ima
     counts_here : CountsOf old.side commits gone was closed old.save.newest
         → CountsOf old.side (λ w. commits w ++ logged w) gone durable closed new.save.newest
     counts_here counts = subst (CountsOf old.side (λ w. commits w ++ logged w) gone durable closed) (sym newest)
-        (counts_after old.side old.counted ran.begin.epoch (epoch_joined ran) commits logged gone was durable closed marks
+        (counts_after old.side old.counted ran.printed.begin.epoch (epoch_joined ran) commits logged gone was durable closed marks
         old.save.newest stored
-        (all_front (λ s. (c : Beside) × IsOver old.side old.counted c × IsSavedBy ran.begin.epoch (epoch_joined ran) marks c s)
+        (all_front (λ s. (c : Beside) × IsOver old.side old.counted c × IsSavedBy ran.printed.begin.epoch (epoch_joined ran) marks c s)
         stored (option_to_list failed)
-        (over_all (IsSavedBy ran.begin.epoch (epoch_joined ran) marks) ran.answers (beside_of old) (stored ++ option_to_list failed)
+        (over_all (IsSavedBy ran.printed.begin.epoch (epoch_joined ran) marks) ran.printed.answers (beside_of old) (stored ++ option_to_list failed)
         (over_begin old.side old.counted (length old.store.pages) counted_many) by))
         above grown says
         (λ w n at.
@@ -341,18 +341,18 @@ module _ {D : Type 0} {tells : D → Option (List ℕ)} {clock : D → ℕ} {ima
     -- ---- the closed log files
 
     counted_is : (b : Bool) → swaps ran ≡ b
-        → new.counted ≡ cond b (map (λ (m : Mark). m.length) (logs_marks logs)) (beside_at_end (beside_of old) ran.answers).closed
+        → new.counted ≡ cond b (map (λ (m : Mark). m.length) (logs_marks logs)) (beside_at_end (beside_of old) ran.printed.answers).closed
     counted_is b is = files.counted
-        ∙ ap (λ c. cond c (map (λ (m : Mark). m.length) (logs_marks logs)) (beside_at_end (beside_of old) ran.answers).closed) is
+        ∙ ap (λ c. cond c (map (λ (m : Mark). m.length) (logs_marks logs)) (beside_at_end (beside_of old) ran.printed.answers).closed) is
 
     closed_by : (comes_to_swap ran ≡ true → swaps ran ≡ true) → (b : Bool) → swaps ran ≡ b
         → AreClosedFiles tells clock image_at (behind_swap b (λ w. commits w ++ logged w) gone) (behind_swap b durable closed) new now
     closed_by done false is w n bank at there =
         let same : now ≡ files.between = files.left (not_begun (comes_to_swap ran) (λ begun. cc (is, done begun))) in
-        let over = over_end ran.answers (beside_of old) (over_begin old.side old.counted (length old.store.pages) counted_many) in
-        let counted_at : slice_get (beside_at_end (beside_of old) ran.answers).closed w ≡ Some n =
+        let over = over_end ran.printed.answers (beside_of old) (over_begin old.side old.counted (length old.store.pages) counted_many) in
+        let counted_at : slice_get (beside_at_end (beside_of old) ran.printed.answers).closed w ≡ Some n =
         ap (λ l. slice_get l w) (sym (counted_is false is)) ∙ at in
-        let below : w < 8 = omega (arith, within_of (beside_at_end (beside_of old) ran.answers).closed w n counted_at, over.workers) in
+        let below : w < 8 = omega (arith, within_of (beside_at_end (beside_of old) ran.printed.answers).closed w n counted_at, over.workers) in
         let was_so = closed_was w below in
         let mid_there : disk_in files.between (devices.Bank (closed_number old.side w)) ≡ Some bank =
         ap (λ v. disk_in v (devices.Bank (closed_number old.side w))) (sym same)
@@ -421,24 +421,24 @@ module _ {D : Type 0} {tells : D → Option (List ℕ)} {clock : D → ℕ} {ima
     }
 
   -- What the round leaves of the vault.
-  pub leaves_vault : (others : List Device) → Keeps tells clock image_at faults stored failed old new before now
+  pub leaves_vault : (others : List Device) → KeepsSaves tells clock image_at faults stored failed old new before now
       → StandsOn tells clock image_at new now
-      → ran.devices ≡ devices_down old.side (are_down logs) (is_some failed) others
+      → ran.beside.devices ≡ devices_down old.side (are_down logs) (is_some failed) others
       → ((device : Device) → Contains others device → IsBeside old.side device)
       → ((device : Device) → Contains others device → RoseIn faults device before now)
       → ((Contains others devices.Snaps → ⊥) → faults now.snaps ≡ faults before.snaps)
       → ((w : ℕ) (was is : D) → slice_get (closed_in old.side before) w ≡ Some was
       → slice_get (closed_in old.side now) w ≡ Some is → (Contains others (devices.Bank (closed_number old.side w)) → ⊥)
       → faults is ≡ faults was)
-      → RoundGleans tells ran.answers ran.gleans ran.damaged old new before now
-      → ((what : Option ℕ) → Contains ran.gleans what → some_counted old.counted ≡ true)
-      → ((Contains ran.devices devices.Snaps → ⊥) → new.store.sound ≡ true)
+      → RoundGleans tells ran.printed.answers ran.beside.gleans ran.beside.damaged old new before now
+      → ((what : Option ℕ) → Contains ran.beside.gleans what → some_counted old.counted ≡ true)
+      → ((Contains ran.beside.devices devices.Snaps → ⊥) → new.store.sound ≡ true)
       → new.room ≡ old.room
-      → map (λ (s : Saved). s.epoch) stored ≡ saves_told ran.answers ++ option_to_list ran.durable
+      → map (λ (s : Saved). s.epoch) stored ≡ saves_told ran.printed.answers ++ option_to_list ran.printed.durable
       → ((w : ℕ) (log : LogState) (refusal : Option LogRefusal) → slice_get logs w ≡ Some log
-      → slice_get ran.logs w ≡ Some refusal → IsRefusedBy refusal log.journal)
-      → ((w : ℕ) → w < 8 → Contains ran.devices (log_of ran.files w)
-      → (slice_get ran.logs w ≡ Some (Some LogFailed)) ⊎ (comes_to_advance ran ≡ true))
+      → slice_get ran.beside.logs w ≡ Some refusal → IsRefusedBy refusal log.journal)
+      → ((w : ℕ) → w < 8 → Contains ran.beside.devices (log_of ran.beside.files w)
+      → (slice_get ran.beside.logs w ≡ Some (Some LogFailed)) ⊎ (comes_to_advance ran ≡ true))
       → NeverFall (epoch_of old.save.newest) (map (λ (s : Saved). s.epoch) (stored ++ option_to_list failed))
       → (is_some failed ≡ true → ((keeper_at_end ran).refused ≡ true)
       ⊎ ((comes_to_save ran ≡ true) × ((keeper_at_end ran).sequence < last_sequence)))

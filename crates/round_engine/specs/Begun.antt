@@ -14,7 +14,7 @@ use Rattle.array_opening.specs.Opening.{stands_in}
 use Rattle.worker_logs.specs.Logs.{fresh_log}
 use Rattle.worker_logs.specs.declared.savepoints.Side.TheVariants.{Even}
 use Rattle.shared_rounds.specs.Standing.{Standing}
-use Rattle.round_engine.specs.Powers.{SharesWords}
+use Rattle.round_engine.specs.LineEngines.{SharesWords}
 use Rattle.round_engine.specs.Standing.{RuntimeState}
 
 -- the engine in a state, with what stood at keys as its words were made, at this number

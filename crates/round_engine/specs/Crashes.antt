@@ -106,7 +106,7 @@ module _ {D : Type 0} (tells : D → Option (List ℕ)) (clock : D → ℕ) (ima
         → IsFront (after.counted k (growing_number old.side w)) (durable w)
         × IsFront (after.counted k (closed_number old.side w)) (closed w)
     -- From its return on each of them stands for the epoch that was made durable, or for a later one.
-    pub covers : (epoch : ℕ) → ran.durable ≡ Some epoch → (at : Moments) (left : Images) → IsSince from at
+    pub covers : (epoch : ℕ) → ran.printed.durable ≡ Some epoch → (at : Moments) (left : Images) → IsSince from at
         → IsJointCrash clock image_at (parts_of now) at left → clock now.save ≤ at.save
         → (k : ℕ) × StandsFor clock image_at after (parts_of now) left k × (epoch ≤ epoch_of (after.point k))
     -- So it is known as the next round begins, unless a store, a sync of pages or a cut of the swap failed.

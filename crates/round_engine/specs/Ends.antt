@@ -52,7 +52,7 @@ device_end failed = option_map ends.Device (first_device failed)
 
 -- a closed log file isn't in its format from a byte on
 abbrev pub damaged_end : Ran → Option End
-damaged_end ran = option_map (λ (d : Device × ℕ). ends.Damaged d.0 d.1) ran.damaged
+damaged_end ran = option_map (λ (d : Device × ℕ). ends.Damaged d.0 d.1) ran.beside.damaged
 
 -- the length of the first log that is full
 abbrev pub full_length : List (Option LogRefusal) → Option ℕ
@@ -65,12 +65,13 @@ full_length (None ∷ logs) = full_length logs
 abbrev pub limit_at : LimitName → ℕ → End
 limit_at name number = ends.Limit name number
 
--- the join comes to its advance, and to its save
+-- the join comes to its advance
 abbrev pub comes_to_advance : Ran → Bool
 comes_to_advance ran = not (leaves_join_out ran)
 
+-- and to its save
 abbrev pub comes_to_save : Ran → Bool
-comes_to_save ran = comes_to_advance ran && nat_lt ran.end.epoch last_epoch
+comes_to_save ran = comes_to_advance ran && nat_lt ran.printed.end.epoch last_epoch
 
 -- a line that asked for a save met the last sequence
 abbrev pub save_limited : List KeeperLine → List Answer → Bool
@@ -80,21 +81,22 @@ save_limited _ _ = false
 
 -- the epoch can't be advanced by the join: it is the last one
 abbrev pub epoch_end : Ran → Option End
-epoch_end ran = where_true (comes_to_advance ran && not (nat_lt ran.end.epoch last_epoch))
-    (limit_at Epoch ran.end.epoch)
+epoch_end ran = where_true (comes_to_advance ran && not (nat_lt ran.printed.end.epoch last_epoch))
+    (limit_at Epoch ran.printed.end.epoch)
 
 -- a line was refused a number
 abbrev pub draw_end : Ran → Option End
-draw_end ran = where_true (list_any (list_any is_limit) ran.outcomes) (limit_at Draw ran.end.draw)
+draw_end ran = where_true (list_any (list_any is_limit) ran.printed.outcomes) (limit_at Draw ran.printed.end.draw)
 
 -- a log is full
 abbrev pub bank_end : Ran → Option End
-bank_end ran = option_map (limit_at Bank) (full_length ran.logs)
+bank_end ran = option_map (limit_at Bank) (full_length ran.beside.logs)
 
 -- a save met the last sequence, a line's or the join's
 abbrev pub sequence_end : Ran → Option End
 sequence_end ran = where_true
-    (save_limited ran.asked ran.answers || (comes_to_save ran && ((keeper_at_end ran).sequence == last_sequence)))
+    (save_limited ran.printed.asked ran.printed.answers
+    || (comes_to_save ran && ((keeper_at_end ran).sequence == last_sequence)))
     (limit_at Sequence (keeper_at_end ran).sequence)
 
 -- a line that asked for a snapshot wanted memory
@@ -102,12 +104,13 @@ abbrev pub wants_memory : Answer → Bool
 wants_memory answers.Memory = true
 wants_memory _ = false
 
+-- memory was wanted
 abbrev pub memory_end : Ran → Option End
-memory_end ran = where_true (list_any wants_memory ran.answers) ends.Memory
+memory_end ran = where_true (list_any wants_memory ran.printed.answers) ends.Memory
 
 -- The refusal that ends the run after a round, if one does.
 abbrev pub end_of : Ran → Option End
-end_of ran = first_of (device_end ran.devices) (first_of (damaged_end ran) (first_of (epoch_end ran)
+end_of ran = first_of (device_end ran.beside.devices) (first_of (damaged_end ran) (first_of (epoch_end ran)
     (first_of (draw_end ran) (first_of (bank_end ran) (first_of (sequence_end ran) (memory_end ran))))))
 
 -- ---- the join
@@ -118,7 +121,7 @@ epoch_after epoch = if nat_lt epoch last_epoch then epoch + 1 else epoch
 
 -- the epoch after the join
 abbrev pub epoch_joined : Ran → ℕ
-epoch_joined ran = if comes_to_advance ran then epoch_after ran.end.epoch else ran.end.epoch
+epoch_joined ran = if comes_to_advance ran then epoch_after ran.printed.end.epoch else ran.printed.end.epoch
 
 -- a savepoint has a next one, as the round's lines leave it
 abbrev pub has_sequence : Ran → Bool
@@ -130,23 +133,24 @@ is_closed files devices.Save = false
 is_closed files devices.Snaps = false
 is_closed files (devices.Bank number) = number % 2 == (if files.odd then 0 else 1)
 
--- one that failed, and another device that did
+-- one that failed
 abbrev pub closed_failed : Ran → Bool
-closed_failed ran = list_any (is_closed ran.files) ran.devices
+closed_failed ran = list_any (is_closed ran.beside.files) ran.beside.devices
 
+-- and another device that did
 abbrev pub other_failed : Ran → Bool
-other_failed ran = list_any (λ device. not (is_closed ran.files device)) ran.devices
+other_failed ran = list_any (λ device. not (is_closed ran.beside.files device)) ran.beside.devices
 
 -- What the join makes durable: the round's last epoch, exactly where it comes to its save, no device failed, and the
 -- savepoint is not the last. A closed log file that fails behind the save takes nothing back.
 abbrev pub durable_of : Ran → Option ℕ
-durable_of ran = where_true (comes_to_save ran && (has_sequence ran && not (other_failed ran))) ran.end.epoch
+durable_of ran = where_true (comes_to_save ran && (has_sequence ran && not (other_failed ran))) ran.printed.end.epoch
 
 -- ---- the swap
 
 -- The join comes to its swap: it has saved, and nothing of the closed log files counts.
 abbrev pub comes_to_swap : Ran → Bool
-comes_to_swap ran = is_some ran.durable && not (keeper_at_end ran).counted
+comes_to_swap ran = is_some ran.printed.durable && not (keeper_at_end ran).counted
 
 -- And it is done: the log files that were closed grow, and those that grew are closed.
 abbrev pub swaps : Ran → Bool

@@ -17,7 +17,8 @@ use Rattle.wire_form.specs.declared.page.Page.{Page}
 use Rattle.snapshot_store.specs.Content.{CatalogueAt, words_of}
 use Rattle.snapshot_store.specs.Store.{bytes_of_pages, Holds, IsWhole, KeepsFront, StoreState}
 use Rattle.serial_model.specs.declared.decl.Decl.{Decl}
-use Rattle.gleaner.specs.Glean.{bank_of, FailsBeside, IsDamagedFile, IsGleaned, IsToldBefore, none_counted, Refuses}
+use Rattle.gleaner.specs.Glean.{bank_of, DeviceFailed, FailsBeside, IsDamagedFile, IsGleaned, IsToldBefore}
+use Rattle.gleaner.specs.Glean.{none_counted}
 use Rattle.gleaner.specs.Glean.{WouldBeDeep, WouldBeMany}
 use Rattle.gleaner.specs.declared.closed.Closed.{Closed}
 use Rattle.gleaner.specs.declared.closed.Newest.{Newest}
@@ -229,7 +230,7 @@ pub record GleansFiles {D : Type 0} (tells : D → Option (List ℕ)) (clock : D
   pub damaged : (device : Device) (at : ℕ) → result ≡ Err (or.Fault (refusals.Damaged device at))
       → IsDamagedFile tells closed decls newest.epoch files_was device at
   pub device : (device : Device) → result ≡ Err (or.Fault (refusals.Device device))
-      → Refuses faults closed snaps_was snaps files_was files device
+      → DeviceFailed faults closed snaps_was snaps files_was files device
   pub deep : result ≡ Err (or.Fault refusals.Deep)
       → WouldBeDeep tells (words_of store_was.pages) decls newest closed files_was
   pub limit : (have new most : ℕ) → result ≡ Err (or.Fault (refusals.Limit have new most))

@@ -19,23 +19,27 @@ use Rattle.round_engine.specs.declared.report.End.{End}
 -- A join is told as a round without lines, in which these devices failed and this epoch was made durable.
 abbrev pub without_lines : RuntimeState → List Device → Option ℕ → Ran
 without_lines r failed durable = record {
-  begin = r.stands.clock;
-  end = r.stands.clock;
-  outcomes = [];
-  asked = [];
-  answers = [];
-  durable = durable;
-  sequence = sequence_of r.save.newest;
-  pages = length r.store.pages;
-  room = r.room;
-  files = files_of r;
-  marks = replicate 8 [];
-  logs = [];
-  tries = 1;
-  refused = [];
-  gleans = [];
-  devices = failed;
-  damaged = None;
+  printed = record {
+    begin = r.stands.clock;
+    end = r.stands.clock;
+    outcomes = [];
+    asked = [];
+    answers = [];
+    durable = durable;
+  };
+  beside = record {
+    sequence = sequence_of r.save.newest;
+    pages = length r.store.pages;
+    room = r.room;
+    files = files_of r;
+    marks = replicate 8 [];
+    logs = [];
+    tries = 1;
+    refused = [];
+    gleans = [];
+    devices = failed;
+    damaged = None;
+  };
 }
 
 -- where the engine stands after it

@@ -16,6 +16,7 @@ use Rattle.script_grammar.specs.declared.lines.KeeperLine.{KeeperLine}
 use Rattle.script_grammar.specs.declared.lines.KeeperLine.TheVariants as asks
 use Rattle.wire_form.specs.declared.clock.Mark.{Mark}
 use Rattle.wire_form.specs.declared.page.Page.{Page}
+use Rattle.log_writer.specs.Counted.{AlwaysTells}
 use Rattle.log_writer.specs.Journal.{Reaches}
 use Rattle.log_writer.specs.Points.{sequence_of}
 use Rattle.log_writer.specs.Save.{IsStored}
@@ -40,7 +41,7 @@ use Rattle.round_engine.specs.Gleans.{Gleans, LeaveGleans, RoundGleans}
 use Rattle.round_engine.specs.RanRound.{KeeperStored}
 use Rattle.round_engine.specs.Saves.{AreSavedIn, AreTied, beside_at_end, HaveEnded, newest_after, saves_told}
 use Rattle.round_engine.specs.Sides.{closed_in, growing_in, is_odd}
-use Rattle.round_engine.specs.Standing.{AreClosed, beside_of, HasSnapshot, RuntimeState}
+use Rattle.round_engine.specs.Standing.{AreClosed, beside_of, HasSnapshot, LogsStand, RuntimeState}
 use Rattle.round_engine.specs.declared.report.End.{End}
 use Rattle.round_engine.specs.declared.report.End.TheVariants as ends
 use Rattle.round_engine.specs.declared.report.LimitName.TheVariants.{Epoch, Sequence}
@@ -51,7 +52,7 @@ IsSavedBySeen Seen beside saved = (clock : ℕ) × (seen : List Mark) × Seen cl
 
 -- The save, the snapshots and the ties since a moment: these savepoints were stored, one after another, and the store
 -- of one more failed, if it did.
-pub record Keeps {D : Type 0} (tells : D → Option (List ℕ)) (clock : D → ℕ) (image_at : D → ℕ → List ℕ → Type 0)
+pub record KeepsSaves {D : Type 0} (tells : D → Option (List ℕ)) (clock : D → ℕ) (image_at : D → ℕ → List ℕ → Type 0)
     (faults : D → ℕ) (stored : List Saved) (failed : Option Saved) (old new : RuntimeState) (before now : Vault D)
     : Type 0 where
   pub newest : new.save.newest ≡ newest_after old.save.newest stored
@@ -134,16 +135,17 @@ refusal_told None None None said = where_true (list_any wants_memory said) ends.
 -- its begin, what was found by gleans, and the devices that failed.
 pub record RestsOn (r : RuntimeState) (gleans : List (Option ℕ)) (failed : Option Saved) (broken : List TheDevice)
     (damaged : Option (TheDevice × ℕ)) (ran : Ran) : Type 0 where
-  pub marks : AreMarksOf ran.marks (map (λ (m : Mark). m.epoch) (logs_marks r.logs))
-  pub odd : ran.files.odd ≡ is_odd r.side
-  pub closed_at : ran.files.closed_at ≡ r.closed_at
-  pub room : ran.room ≡ r.room
-  pub gleans_are : (what : Option ℕ) → Contains gleans what → Contains ran.gleans what
-  pub damage : (damage : TheDevice × ℕ) → damaged ≡ Some damage → ran.damaged ≡ Some damage
-  pub store : is_some failed ≡ true → Contains ran.devices devices.Save
-  pub device : (device : TheDevice) → Contains broken device → Contains ran.devices device
+  pub marks : AreMarksOf ran.beside.marks (map (λ (m : Mark). m.epoch) (logs_marks r.logs))
+  pub odd : ran.beside.files.odd ≡ is_odd r.side
+  pub closed_at : ran.beside.files.closed_at ≡ r.closed_at
+  pub room : ran.beside.room ≡ r.room
+  pub gleans_are : (what : Option ℕ) → Contains gleans what → Contains ran.beside.gleans what
+  pub damage : (damage : TheDevice × ℕ) → damaged ≡ Some damage → ran.beside.damaged ≡ Some damage
+  pub store : is_some failed ≡ true → Contains ran.beside.devices devices.Save
+  pub device : (device : TheDevice) → Contains broken device → Contains ran.beside.devices device
 
--- What a line of the maintenance thread that is run finds: the stores are up, and a newest snapshot stands.
+-- What a line of the maintenance thread that is run finds: the stores are up, a newest snapshot stands, and, where the
+-- disks tell their bytes, what counts of the log files is durable.
 pub record CanKeep {D : Type 0} (tells : D → Option (List ℕ)) (clock : D → ℕ) (image_at : D → ℕ → List ℕ → Type 0)
     (r : RuntimeState) (vault : Vault D) : Type 0 where
   pub whole : IsWhole vault
@@ -154,6 +156,7 @@ pub record CanKeep {D : Type 0} (tells : D → Option (List ℕ)) (clock : D →
   pub most_pages : r.room ≤ 65536
   pub sound : r.store.sound ≡ true
   pub snapshot : HasSnapshot tells r vault.snaps
+  pub durable : AlwaysTells tells → LogsStand tells clock image_at r.side r.logs r.counted vault
 
 -- Gleans find, make, and are refused something only where bytes of the closed log files count.
 pub record NeedCounted (r : RuntimeState) (said : List Answer) (gleans : List (Option ℕ)) (broken : List TheDevice)
@@ -173,7 +176,7 @@ pub record RunsKeeper {D : Type 0} (tells : D → Option (List ℕ)) (clock : D 
   pub gleans : List (Option ℕ)
   pub broken : List TheDevice
   pub damaged : Option (TheDevice × ℕ)
-  pub keeps : Keeps tells clock image_at faults stored failed old new before now
+  pub keeps : KeepsSaves tells clock image_at faults stored failed old new before now
   pub by_lines : AreSavedIn (IsSavedBySeen (MarksOf old old.stands.clock.epoch new.stands.clock.epoch)) (beside_of old)
       said stored
   pub by_failed : AllByRecursion (IsSavedBySeen (MarksOf old old.stands.clock.epoch new.stands.clock.epoch)
@@ -328,7 +331,7 @@ pub record RunsJoin {D : Type 0} (tells : D → Option (List ℕ)) (clock : D �
     (faults : D → ℕ) (old new : RuntimeState) (before now : Vault D) (result : Result ℕ End) : Type 0 where
   pub stored : List Saved
   pub failed : Option Saved
-  pub keeps : Keeps tells clock image_at faults stored failed old new before now
+  pub keeps : KeepsSaves tells clock image_at faults stored failed old new before now
   pub by_marks : AllByRecursion (IsSavedBySeen (MarksOf new new.stands.clock.epoch new.stands.clock.epoch)
       (beside_of old)) (stored ++ option_to_list failed)
   pub at_clock : AllByRecursion (λ (s : Saved). s.epoch ≡ old.stands.clock.epoch) (stored ++ option_to_list failed)

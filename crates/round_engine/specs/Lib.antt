@@ -17,7 +17,7 @@ pub mod Lines
 pub mod Keeping
 pub mod Refusals
 pub mod Phases
-pub mod Powers
+pub mod LineEngines
 pub mod Histories
 pub mod Unbegun
 pub mod Owners

@@ -1,8 +1,9 @@
--- The phases of a round: the workers' lines, those of the maintenance thread, and the join. Of storages among which is a
--- tree the lines are run on the plain map.
+-- The phases of a round: the workers' lines, those of the maintenance thread, and the join. Of storages among which is
+-- a tree the lines are run on the plain map.
 use Rattle.std.specs.Prelude.{◌≡◌, ◌<◌, ◌≤◌, ◌^◌, ◌⊎◌, ℕ, Bool, true, false, List, length, Option, Some, None}
 use Rattle.std.specs.Prelude.{is_some, Result, Ok, Err}
 use Rattle.lists.specs.declared.memory.Memory.{Memory}
+use Rattle.log_writer.specs.Counted.{AlwaysTells}
 use Rattle.log_writer.specs.Vault.{IsWhole}
 use Rattle.log_writer.specs.declared.vault.Vault.{Vault}
 use Rattle.script_grammar.specs.Script.{Round, keeper_lines}
@@ -16,31 +17,33 @@ use Rattle.round_engine.specs.Ends.{first_of, save_limited, where_true}
 use Rattle.round_engine.specs.Keeping.{RunsJoin, RunsKeeper}
 use Rattle.round_engine.specs.Histories.{KeepsHistory}
 use Rattle.plain_rounds.specs.Plainly.{DrewOnce}
-use Rattle.round_engine.specs.Powers.{SharesWords}
+use Rattle.round_engine.specs.LineEngines.{SharesWords}
 use Rattle.round_engine.specs.Refusals.{device_refused, end_told, first_full, leaves_out, lines_refused, names_device}
 use Rattle.round_engine.specs.Sides.{growing_in, SameButGrowing}
-use Rattle.round_engine.specs.Standing.{AreClosed, HasSnapshot, RuntimeState}
+use Rattle.round_engine.specs.Standing.{AreClosed, HasSnapshot, LogsStand, RuntimeState}
 use Rattle.round_engine.specs.Swaps.{SwapsAt}
 use Rattle.round_engine.specs.Unbegun.{RoomAlone}
 use Rattle.round_engine.specs.Workers.{RunsWorkers, StopsWorkers}
 use Rattle.round_engine.specs.declared.report.End.{End}
 use Rattle.round_engine.specs.declared.report.Report.{Report}
-use Rattle.round_engine.specs.declared.rounds.Refused.{Refused}
+use Rattle.round_engine.specs.declared.rounds.LineRefusals.{LineRefusals}
 use Rattle.worker_cells.specs.declared.cell.LogEnd.{LogEnd}
 
 -- the runtime as the end of the round leaves it
 abbrev pub ended_as : RuntimeState → Bool → Bool → RuntimeState
 ended_as r ended down = record r { stands = record r.stands { ended = ended }; down = down }
 
--- what was made durable, and what was refused
+-- what was made durable
 abbrev pub made : Result ℕ End → Option ℕ
 made (Ok epoch) = Some epoch
 made (Err end) = None
 
+-- what was refused
 abbrev pub refused_by : Result ℕ End → Option End
 refused_by (Ok epoch) = None
 refused_by (Err end) = Some end
 
+-- a device that failed was what refused it
 abbrev pub fails_device : Option End → Bool
 fails_device None = false
 fails_device (Some end) = names_device end
@@ -55,7 +58,7 @@ SwapsBehind tells clock image_at faults (Err refusal) old new before now end =
 
 module _ {D : Type 0} (tells : D → Option (List ℕ)) (clock : D → ℕ) (image_at : D → ℕ → List ℕ → Type 0)
     (faults : D → ℕ) where
-  -- nothing was refused that leaves the join out: the logs and the store are up
+  -- nothing was refused that leaves the join out: the logs and the store are up, and what counts is durable
   pub record IsReadyToJoin (r : RuntimeState) (vault : Vault D) : Type 0 where
     pub whole : IsWhole vault
     pub workers : length r.logs ≡ 8
@@ -66,6 +69,7 @@ module _ {D : Type 0} (tells : D → Option (List ℕ)) (clock : D → ℕ) (ima
     pub snapshot : HasSnapshot tells r vault.snaps
     pub up : r.save.down ≡ None
     pub stored : IsStored tells clock image_at vault.save r.save.newest
+    pub durable : AlwaysTells tells → LogsStand tells clock image_at r.side r.logs r.counted vault
 
   -- The join was made, with the swap behind its save: what it made durable, and what was refused.
   pub record JoinsAndSwaps (old new : RuntimeState) (before now : Vault D) (durable : Option ℕ) (end : Option End)
@@ -81,7 +85,7 @@ module _ {D : Type 0} (tells : D → Option (List ℕ)) (clock : D → ℕ) (ima
     pub end_is : end ≡ first_of (refused_by result) cut_end
 
   -- The join was left out, or made.
-  abbrev pub JoinsAs : Refused → RuntimeState → RuntimeState → Vault D → Vault D → Option ℕ → Option End → Type 0
+  abbrev pub JoinsAs : LineRefusals → RuntimeState → RuntimeState → Vault D → Vault D → Option ℕ → Option End → Type 0
   JoinsAs refused old new before now durable end =
       ((leaves_out refused ≡ true) × (now ≡ before) × (durable ≡ None) × (end ≡ lines_refused refused)
       × (new ≡ ended_as old (is_some end) (is_some refused.device)))
@@ -90,14 +94,15 @@ module _ {D : Type 0} (tells : D → Option (List ℕ)) (clock : D → ℕ) (ima
       × (new ≡ ended_as joined (is_some end) (fails_device refusal)))
 
   -- The phases of a round that was run to its end.
-  pub record RunsAll (tries : ℕ) (round : Round) (old new : RuntimeState) (before now : Vault D) (report : Report) : Type 0 where
+  pub record RunsAll (tries : ℕ) (round : Round) (old new : RuntimeState) (before now : Vault D) (report : Report)
+      : Type 0 where
     pub mid : RuntimeState
     pub lent : Vault D
     pub between : Vault D
     pub kept : RuntimeState
     pub after : Vault D
     pub ends : List LogEnd
-    pub refused : Refused
+    pub refused : LineRefusals
     pub lines : RunsWorkers tells clock image_at faults tries round old.stands mid.stands report.outcomes ends
         old.logs mid.logs (growing_in old.side before) (growing_in old.side between)
     pub once : HasTree old.stands.decls → DrewOnce old.stands mid.stands report.outcomes

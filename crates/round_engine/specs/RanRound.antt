@@ -35,6 +35,8 @@ use Rattle.tx_script.specs.Run.{LogFailed, LogRefusal, Ran, IsRun}
 use Rattle.tx_script.specs.Causes.{AllCaused, keeper_at_end, last_sequence, log_of, some_counted}
 use Rattle.tx_script.specs.Conflicts.{AreMet}
 use Rattle.tx_script.specs.Draws.{DrawsAreCounted, HasTree, RunsPlainly}
+use Rattle.tx_script.specs.declared.outcome.Outcome.{Outcome}
+use Rattle.tx_script.specs.declared.outcome.Outcome.TheVariants.{Unrun}
 use Rattle.round_engine.specs.Changes.{AreLogged}
 use Rattle.round_engine.specs.Crashes.{CarriesCrashes}
 use Rattle.round_engine.specs.Ends.{comes_to_advance, comes_to_save, comes_to_swap, durable_of, end_of, epoch_joined}
@@ -42,7 +44,7 @@ use Rattle.round_engine.specs.Ends.{swaps}
 use Rattle.round_engine.specs.Gleans.{RoundGleans}
 use Rattle.round_engine.specs.Histories.{KeepsHistory}
 use Rattle.round_engine.specs.Logs.{AreClosedFiles, AreLogs, IsRefusedBy, LeavesLog}
-use Rattle.round_engine.specs.Powers.{SharesWords}
+use Rattle.round_engine.specs.LineEngines.{SharesWords}
 use Rattle.round_engine.specs.Saves.{ArePages, AreSaved, beside_at_end, GoesOnWith, IsSavedBy, newest_after}
 use Rattle.round_engine.specs.Saves.{AreTied, HaveEnded, saves_told}
 use Rattle.round_engine.specs.Sides.{closed_numbers, other_side}
@@ -50,15 +52,16 @@ use Rattle.round_engine.specs.Shares.{all_conflicts}
 use Rattle.round_engine.specs.Standing.{beside_of, files_of, RuntimeState, StandsOn}
 use Rattle.round_engine.specs.Swaps.{CutsBanks, behind_swap, since_swap}
 use Rattle.round_engine.specs.Unbegun.{IsUnbegun}
+use Rattle.round_engine.specs.Workers.{LeavesOut}
 use Rattle.round_engine.specs.declared.report.Report.{Report}
 
 -- ---- what was run
 
 -- the report tells what came of the round
 pub record Reports (ran : Ran) (report : Report) : Type 0 where
-  pub outcomes : report.outcomes ≡ ran.outcomes
-  pub answers : report.keeper ≡ ran.answers
-  pub durable : report.durable ≡ ran.durable
+  pub outcomes : report.outcomes ≡ ran.printed.outcomes
+  pub answers : report.keeper ≡ ran.printed.answers
+  pub durable : report.durable ≡ ran.printed.durable
   pub end : report.end ≡ end_of ran
 
 -- The marks that a worker with these lines had while the lines of a round ran: without a line it is idle; else it
@@ -72,15 +75,15 @@ pub record AreRoundMarks (lines : List (List Op)) (had : Option ℕ) (first last
 
 -- how the record of what was run begins, each line being tried so often at most
 pub record Begins (tries : ℕ) (round : Round) (old : RuntimeState) (ran : Ran) : Type 0 where
-  pub tried : ran.tries ≡ tries
-  pub sequence : ran.sequence ≡ sequence_of old.save.newest
-  pub pages : ran.pages ≡ length old.store.pages
-  pub room : ran.room ≡ old.room
-  pub files : ran.files ≡ files_of old
-  pub workers : length ran.marks ≡ 8
+  pub tried : ran.beside.tries ≡ tries
+  pub sequence : ran.beside.sequence ≡ sequence_of old.save.newest
+  pub pages : ran.beside.pages ≡ length old.store.pages
+  pub room : ran.beside.room ≡ old.room
+  pub files : ran.beside.files ≡ files_of old
+  pub workers : length ran.beside.marks ≡ 8
   pub marks : (worker : ℕ) (log : LogState) (epochs : List (Option ℕ)) → slice_get old.logs worker ≡ Some log
-      → slice_get ran.marks worker ≡ Some epochs
-      → AreRoundMarks (lines_of_worker round worker) log.mark.epoch ran.begin.epoch ran.end.epoch epochs
+      → slice_get ran.beside.marks worker ≡ Some epochs
+      → AreRoundMarks (lines_of_worker round worker) log.mark.epoch ran.printed.begin.epoch ran.printed.end.epoch epochs
 
 -- What was run of a round on the engine: its commits are a serial run from the old contents to the new, and the logs
 -- have what they changed, as log lines; each outcome, answer and refusal has its cause. The conflicts that are told of
@@ -90,7 +93,7 @@ pub record RunsLines (round : Round) (old new : RuntimeState) (ran : Ran) (logge
   pub run : (index : ℕ)
       → IsRun old.stands.decls index (round ∷ []) old.stands.state old.stands.clock (ran ∷ []) new.stands.state
   pub caused : AllCaused ran
-  pub conflicts : new.stands.conflicts ≡ old.stands.conflicts + all_conflicts ran.refused
+  pub conflicts : new.stands.conflicts ≡ old.stands.conflicts + all_conflicts ran.beside.refused
   pub lines_are : (worker : ℕ) → worker < 8 → AllByRecursion (IsLineOf old.stands.decls) (logged worker)
   pub logged_are : (index worker : ℕ) → worker < 8
       → AreLogged old.stands.decls worker old.stands.state (run index).ordered (logged worker)
@@ -110,11 +113,12 @@ pub record AreFailed {D : Type 0} (faults : D → ℕ) (failed : List Device) (o
 -- What was stored, one savepoint after another, and the one that was begun then and failed, if one was: the epochs that
 -- are told, which never fall. One that failed was asked for by a line, or by the join.
 pub record HasStored (ran : Ran) (old new : RuntimeState) (stored : List Saved) (failed : Option Saved) : Type 0 where
-  pub epochs : map (λ (s : Saved). s.epoch) stored ≡ saves_told ran.answers ++ option_to_list ran.durable
+  pub epochs : map (λ (s : Saved). s.epoch) stored
+      ≡ saves_told ran.printed.answers ++ option_to_list ran.printed.durable
   pub newest : new.save.newest ≡ newest_after old.save.newest stored
   pub down : is_some new.save.down ≡ is_some failed
   pub rise : NeverFall (epoch_of old.save.newest) (map (λ (s : Saved). s.epoch) (stored ++ option_to_list failed))
-  pub fails : (is_some failed ≡ true) ↔ Contains ran.devices Save
+  pub fails : (is_some failed ≡ true) ↔ Contains ran.beside.devices Save
   pub asked : is_some failed ≡ true → ((keeper_at_end ran).refused ≡ true)
       ⊎ ((comes_to_save ran ≡ true) × ((keeper_at_end ran).sequence < last_sequence))
 
@@ -132,11 +136,11 @@ module _ {D : Type 0} (tells : D → Option (List ℕ)) (clock : D → ℕ) (ima
         → slice_get old.logs worker ≡ Some log_was → slice_get logs worker ≡ Some log
         → disk_in before (Bank (growing_number old.side worker)) ≡ Some bank_was
         → disk_in now (Bank (growing_number old.side worker)) ≡ Some bank
-        → slice_get ran.marks worker ≡ Some epochs
+        → slice_get ran.beside.marks worker ≡ Some epochs
         → LeavesLog tells clock image_at (commits worker) (logged worker) (was worker) (durable worker) (marks worker)
         epochs bank_was bank log
-    pub saved : AreSaved (IsSavedBy ran.begin.epoch (epoch_joined ran) marks) (beside_of old) ran.answers
-        (stored ++ option_to_list failed)
+    pub saved : AreSaved (IsSavedBy ran.printed.begin.epoch (epoch_joined ran) marks) (beside_of old)
+        ran.printed.answers (stored ++ option_to_list failed)
     pub counts_here : CountsOf old.side commits gone was closed old.save.newest
         → CountsOf old.side (λ w. commits w ++ logged w) gone durable closed new.save.newest
     pub counts : CountsOf old.side commits gone was closed old.save.newest
@@ -183,8 +187,8 @@ module _ {D : Type 0} (tells : D → Option (List ℕ)) (clock : D → ℕ) (ima
         → counted_of new.save.newest (closed_number old.side worker) ≡ 0
     pub side : new.side ≡ (if swaps ran then other_side old.side else old.side)
     pub counted : new.counted ≡ (if swaps ran then map (λ (m : Mark). m.length) (logs_marks logs)
-        else (beside_at_end (beside_of old) ran.answers).closed)
-    pub closed_at : new.closed_at ≡ (if swaps ran then ran.end.epoch else old.closed_at)
+        else (beside_at_end (beside_of old) ran.printed.answers).closed)
+    pub closed_at : new.closed_at ≡ (if swaps ran then ran.printed.end.epoch else old.closed_at)
     pub logs_are : new.logs ≡ (if swaps ran then map reset_log logs else logs)
 
   -- What a round left of the vault: the growing log files by their workers' parts, the save and the snapshots by the
@@ -193,17 +197,17 @@ module _ {D : Type 0} (tells : D → Option (List ℕ)) (clock : D → ℕ) (ima
   pub record LeavesVault (faults : D → ℕ) (ran : Ran) (logged : ℕ → List Commit)
       (old new : RuntimeState) (before now : Vault D) : Type 0 where
     pub stands : StandsOn tells clock image_at new now
-    pub failed_are : AreFailed faults ran.devices before now
+    pub failed_are : AreFailed faults ran.beside.devices before now
     pub logs : List LogState
     pub files : SwapsFiles faults ran logs old new before now
-    pub gleans : RoundGleans tells ran.answers ran.gleans ran.damaged old new before now
-    pub needed : (what : Option ℕ) → Contains ran.gleans what → some_counted old.counted ≡ true
-    pub sound : (Contains ran.devices Snaps → ⊥) → new.store.sound ≡ true
+    pub gleans : RoundGleans tells ran.printed.answers ran.beside.gleans ran.beside.damaged old new before now
+    pub needed : (what : Option ℕ) → Contains ran.beside.gleans what → some_counted old.counted ≡ true
+    pub sound : (Contains ran.beside.devices Snaps → ⊥) → new.store.sound ≡ true
     pub room : new.room ≡ old.room
     pub refused : (worker : ℕ) (log : LogState) (refusal : Option LogRefusal) → slice_get logs worker ≡ Some log
-        → slice_get ran.logs worker ≡ Some refusal → IsRefusedBy refusal log.journal
-    pub log_failed : (worker : ℕ) → worker < 8 → Contains ran.devices (log_of ran.files worker)
-        → (slice_get ran.logs worker ≡ Some (Some LogFailed)) ⊎ (comes_to_advance ran ≡ true)
+        → slice_get ran.beside.logs worker ≡ Some refusal → IsRefusedBy refusal log.journal
+    pub log_failed : (worker : ℕ) → worker < 8 → Contains ran.beside.devices (log_of ran.beside.files worker)
+        → (slice_get ran.beside.logs worker ≡ Some (Some LogFailed)) ⊎ (comes_to_advance ran ≡ true)
     pub stored : List Saved
     pub failed : Option Saved
     pub has_stored : HasStored ran old new stored failed
@@ -223,8 +227,8 @@ module _ {D : Type 0} (tells : D → Option (List ℕ)) (clock : D → ℕ) (ima
 -- ---- a round
 
 -- A round was run, each line being tried so often at most, and joined. Each number was drawn for a commit, or for a try
--- that was refused behind its draw. A try in conflict met a line of another worker of the round, at a key that it touches
--- and that one may change. Where nothing ends the run, its last epoch is durable. Where a tree is declared no
+-- that was refused behind its draw. A try in conflict met a line of another worker of the round, at a key that it
+-- touches and that one may change. Where nothing ends the run, its last epoch is durable. Where a tree is declared no
 -- line is in another's way; on words that threads share the commits are those which came to their history.
 pub record RanRound (tries : ℕ) (round : Round) (old new : RuntimeState) (report : Report) : Type 0 where
   pub ran : Ran
@@ -235,12 +239,12 @@ pub record RanRound (tries : ℕ) (round : Round) (old new : RuntimeState) (repo
   pub counted : DrawsAreCounted ran
   pub met : AreMet ran round
   pub plain : HasTree old.stands.decls → RunsPlainly ran
-  pub history : SharesWords old.stands → KeepsHistory round ran.outcomes old.stands new.stands
-  pub durable : ran.durable ≡ durable_of ran
-  pub lasts : report.end ≡ None → ran.durable ≡ Some ran.end.epoch
-  pub clock : new.stands.clock ≡ record { epoch = epoch_joined ran; draw = ran.end.draw }
+  pub history : SharesWords old.stands → KeepsHistory round ran.printed.outcomes old.stands new.stands
+  pub durable : ran.printed.durable ≡ durable_of ran
+  pub lasts : report.end ≡ None → ran.printed.durable ≡ Some ran.printed.end.epoch
+  pub clock : new.stands.clock ≡ record { epoch = epoch_joined ran; draw = ran.printed.end.draw }
   pub ended : new.stands.ended ≡ is_some report.end
-  pub down : ran.devices ≡ [] → new.down ≡ false
+  pub down : ran.beside.devices ≡ [] → new.down ≡ false
 
 -- the first lines of each worker and of the keeper
 pub record IsFrontOf (front round : Round) : Type 0 where
@@ -257,24 +261,35 @@ pub record StopsIn (tries : ℕ) (round : Round) (old new : RuntimeState) : Type
   pub logged : ℕ → List Commit
   pub begins : Begins tries round old ran
   pub lines : RunsLines front old new ran logged
-  pub unanswered : ran.answers ≡ []
-  pub unstored : Contains ran.devices Save → ⊥
-  pub only_logs : (device : Device) → Contains ran.devices device
-      → (worker : ℕ) × (worker < 8) × (device ≡ log_of ran.files worker)
-  pub log_failed : (worker : ℕ) → worker < 8 → Contains ran.devices (log_of ran.files worker)
-      → slice_get ran.logs worker ≡ Some (Some LogFailed)
-  pub durable : ran.durable ≡ None
-  pub clock : new.stands.clock ≡ ran.end
+  pub unanswered : ran.printed.answers ≡ []
+  pub unstored : Contains ran.beside.devices Save → ⊥
+  pub only_logs : (device : Device) → Contains ran.beside.devices device
+      → (worker : ℕ) × (worker < 8) × (device ≡ log_of ran.beside.files worker)
+  pub log_failed : (worker : ℕ) → worker < 8 → Contains ran.beside.devices (log_of ran.beside.files worker)
+      → slice_get ran.beside.logs worker ≡ Some (Some LogFailed)
+  pub durable : ran.printed.durable ≡ None
+  pub clock : new.stands.clock ≡ ran.printed.end
   pub ended : new.stands.ended ≡ true
 
 module _ {D : Type 0} (tells : D → Option (List ℕ)) (clock : D → ℕ) (image_at : D → ℕ → List ℕ → Type 0)
     (faults : D → ℕ) where
+  -- What was left out of the workers' lines. Where one of a worker's is told unrun its log refused a line earlier in
+  -- the round, behind what its lines before that logged; and a log is told full only where one is told unrun.
+  pub record LeavesLinesOut (ran : Ran) (logged : ℕ → List Commit) (old : RuntimeState) (before : Vault D)
+      : Type 0 where
+    pub each : (worker : ℕ) (outcomes : List Outcome) (refusal : Option LogRefusal) (log : LogState) (bank : D)
+        → slice_get ran.printed.outcomes worker ≡ Some outcomes → slice_get ran.beside.logs worker ≡ Some refusal
+        → slice_get old.logs worker ≡ Some log → disk_in before (Bank (growing_number old.side worker)) ≡ Some bank
+        → LeavesOut tells clock image_at faults ran.printed.begin.epoch (Contains outcomes Unrun) (logged worker)
+        refusal log bank
+
   -- A round was run, or stopped for want of memory, over the vault; and what was known of crashes is known still. Or
   -- memory was wanted before anything was done.
   abbrev pub Rounds : ℕ → Round → RuntimeState → RuntimeState → Vault D → Vault D → Result Report Memory → Type 0
   Rounds tries round old new before now (Ok report) = (r : RanRound tries round old new report)
       × (v : LeavesVault tells clock image_at faults r.ran r.logged old new before now)
       × CarriesCrashes tells clock image_at r.logged (v.stored ++ option_to_list v.failed) r.ran old new before now
+      × LeavesLinesOut r.ran r.logged old before
   Rounds tries round old new before now (Err memory) = IsUnbegun old new before now
       ⊎ ((r : StopsIn tries round old new)
       × (v : LeavesVault tells clock image_at faults r.ran r.logged old new before now)

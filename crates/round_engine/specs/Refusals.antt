@@ -10,7 +10,7 @@ use Rattle.round_engine.specs.Ends.{earlier, first_of, limit_at}
 use Rattle.round_engine.specs.declared.report.End.{End}
 use Rattle.round_engine.specs.declared.report.End.TheVariants as ends
 use Rattle.round_engine.specs.declared.report.LimitName.TheVariants.{Bank, Draw, Sequence}
-use Rattle.round_engine.specs.declared.rounds.Refused.{Refused}
+use Rattle.round_engine.specs.declared.rounds.LineRefusals.{LineRefusals}
 use Rattle.worker_cells.specs.declared.cell.LogEnd.{LogEnd}
 
 -- the first growing log file that failed, of the workers from this one on
@@ -29,15 +29,17 @@ abbrev pub first_told : Option Device → Option Device → Option Device
 first_told None other = other
 first_told (Some device) other = Some (earlier device other)
 
--- what the maintenance thread's lines were refused by: a device that failed, damage, or want of memory
+-- what the maintenance thread's lines were refused by: a device that failed
 abbrev pub device_in : Option End → Option Device
 device_in (Some (ends.Device device)) = Some device
 device_in _ = None
 
+-- damage
 abbrev pub damage_in : Option End → Option End
 damage_in (Some (ends.Damaged device at)) = Some (ends.Damaged device at)
 damage_in _ = None
 
+-- want of memory
 abbrev pub memory_in : Option End → Option End
 memory_in (Some ends.Memory) = Some ends.Memory
 memory_in _ = None
@@ -47,7 +49,7 @@ abbrev pub device_refused : Side → Option End → List LogEnd → Option Devic
 device_refused side refusal logs = first_told (device_in refusal) (first_failed side 0 logs)
 
 -- what the lines were refused: devices first, then damage, limits and memory
-abbrev pub lines_refused : Refused → Option End
+abbrev pub lines_refused : LineRefusals → Option End
 lines_refused r = first_of (option_map ends.Device r.device) (first_of (damage_in r.keeper)
     (first_of (option_map (limit_at Draw) r.draw) (first_of (option_map (limit_at Bank) r.full)
     (first_of (option_map (limit_at Sequence) r.sequence) (memory_in r.keeper)))))
@@ -58,12 +60,12 @@ is_sequence (ends.Limit Sequence number) = true
 is_sequence _ = false
 
 -- the refusal that is told, of the lines' and the join's
-abbrev pub end_told : Refused → Option End → Option End
+abbrev pub end_told : LineRefusals → Option End → Option End
 end_told r None = lines_refused r
 end_told r (Some joined) = if is_sequence joined then first_of (lines_refused r) (Some joined) else Some joined
 
 -- the join is left out behind these
-abbrev pub leaves_out : Refused → Bool
+abbrev pub leaves_out : LineRefusals → Bool
 leaves_out r = is_some r.device || is_some r.full || is_some r.keeper
 
 -- a device failed

@@ -33,6 +33,7 @@ abbrev pub beside_after : Beside → Answer → Beside
 beside_after b (answers.Snap epoch new) = record b { closed = replicate 8 0; count = b.count + new }
 beside_after b _ = b
 
+-- and behind all answers
 abbrev pub beside_at_end : Beside → List Answer → Beside
 beside_at_end b said = fold beside_after b said
 

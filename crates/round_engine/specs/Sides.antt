@@ -15,11 +15,12 @@ abbrev pub is_odd : Side → Bool
 is_odd Even = false
 is_odd Odd = true
 
--- the workers' growing log files, and their closed ones
+-- the workers' growing log files
 abbrev pub growing_in : {D : Type 0} → Side → Vault D → List D
 growing_in Even vault = vault.even.items
 growing_in Odd vault = vault.odd.items
 
+-- and their closed ones
 abbrev pub closed_in : {D : Type 0} → Side → Vault D → List D
 closed_in Even vault = vault.odd.items
 closed_in Odd vault = vault.even.items

@@ -1,26 +1,29 @@
 -- Where a runtime stands between two calls.
 use Rattle.std.specs.Prelude.{◌≡◌, ◌<◌, ◌≤◌, ◌^◌, ℕ, Bool, false, true, List, Option, Some, None, length}
-use Rattle.std.specs.Prelude.{slice_get, ⊤}
+use Rattle.std.specs.Prelude.{[], slice_get, ⊤}
 use Rattle.std.specs.List.{AllByRecursion}
 use Rattle.log_writer.specs.Vault.{disk_in, IsWhole}
 use Rattle.outside.specs.declared.device.Device.TheVariants.{Bank}
 use Rattle.log_writer.specs.declared.vault.Vault.{Vault}
 use Rattle.wire_form.specs.Pages.{Contents, decls_of}
+use Rattle.log_writer.specs.Counted.{AlwaysTells, KeepsCounted}
 use Rattle.log_writer.specs.Journal.{Reaches}
 use Rattle.log_writer.specs.Points.{SaveState}
 use Rattle.log_writer.specs.Save.{IsStored}
 use Rattle.snapshot_store.specs.Content.{SnapshotStands, words_of}
 use Rattle.snapshot_store.specs.Store.{Holds, StoreState}
 use Rattle.joint_crashes.specs.Images.{epoch_of}
-use Rattle.worker_logs.specs.Logs.{IsJoined, LogState, log_limit}
-use Rattle.worker_logs.specs.Saves.{growing_number}
+use Rattle.worker_logs.specs.Logs.{IsJoined, IsPassed, IsSomeLog, LogState, log_limit}
+use Rattle.worker_logs.specs.Saves.{closed_number, growing_number}
 use Rattle.worker_logs.specs.declared.savepoints.Beside.{Beside}
 use Rattle.worker_logs.specs.declared.savepoints.Side.{Side}
+use Rattle.script_grammar.specs.Script.{Round, lines_of_worker}
 use Rattle.tx_script.specs.Causes.{some_counted}
 use Rattle.tx_script.specs.Run.{LogFiles}
 use Rattle.round_engine.specs.Sides.{is_odd}
 pub use Rattle.shared_rounds.specs.Standing.{Standing}
 
+-- what a runtime has between two rounds
 pub record RuntimeState : Type 0 where
   -- where the engine stands
   pub stands : Standing
@@ -67,6 +70,19 @@ abbrev pub LogsReach : {D : Type 0} → (D → Option (List ℕ)) → RuntimeSta
 LogsReach {D} tells r vault = (worker : ℕ) (log : LogState) (bank : D) → slice_get r.logs worker ≡ Some log
     → disk_in vault (Bank (growing_number r.side worker)) ≡ Some bank → Reaches tells bank log.journal
 
+-- Each log is that of some commits, as its growing log file has them, and what counts of each closed one is durable.
+pub record LogsStand {D : Type 0} (tells : D → Option (List ℕ)) (clock : D → ℕ) (image_at : D → ℕ → List ℕ → Type 0)
+    (side : Side) (logs : List LogState) (counted : List ℕ) (vault : Vault D) : Type 0 where
+  pub growing : (worker : ℕ) (log : LogState) (bank : D) → slice_get logs worker ≡ Some log
+      → disk_in vault (Bank (growing_number side worker)) ≡ Some bank → IsSomeLog tells clock image_at log bank
+  pub closed : (worker count : ℕ) (bank : D) → slice_get counted worker ≡ Some count
+      → disk_in vault (Bank (closed_number side worker)) ≡ Some bank → KeepsCounted clock image_at count bank
+
+-- A commit of the clock's epoch may follow the mark of each worker that has a line.
+abbrev pub ArePassed : Round → RuntimeState → Type 0
+ArePassed round r = (worker : ℕ) (log : LogState) → slice_get r.logs worker ≡ Some log
+    → (lines_of_worker round worker ≡ [] → ⊥) → IsPassed r.stands.clock.epoch log.mark
+
 -- Of each worker's closed log file a length counts that a savepoint has room for. They were closed at an epoch before
 -- the clock's.
 pub record AreClosed (r : RuntimeState) : Type 0 where
@@ -89,7 +105,7 @@ pub record HasSnapshot {D : Type 0} (tells : D → Option (List ℕ)) (r : Runti
 -- A runtime has eight logs of their limit, and its clock is above the saved epoch and the marks. The devices are as
 -- its calls left them, as far as they tell their bytes: the save device has the newest savepoint, unless a store
 -- failed, the snapshots have all pages, unless they failed, and each growing log file reaches to what its journal made
--- durable.
+-- durable. Where the disks tell their bytes, what counts of the log files is durable.
 pub record StandsOn {D : Type 0} (tells : D → Option (List ℕ)) (clock : D → ℕ) (image_at : D → ℕ → List ℕ → Type 0)
     (r : RuntimeState) (vault : Vault D) : Type 0 where
   pub whole : IsWhole vault
@@ -104,3 +120,4 @@ pub record StandsOn {D : Type 0} (tells : D → Option (List ℕ)) (clock : D �
   pub stored : r.save.down ≡ None → IsStored tells clock image_at vault.save r.save.newest
   pub snapshot : r.store.sound ≡ true → HasSnapshot tells r vault.snaps
   pub reaches : LogsReach tells r vault
+  pub durable : AlwaysTells tells → LogsStand tells clock image_at r.side r.logs r.counted vault

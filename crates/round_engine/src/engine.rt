@@ -17,7 +17,7 @@ ghost use Rattle.round_engine.specs.Begun.{Begins};
 ghost use Rattle.round_engine.specs.Histories.{KeepsHistory};
 ghost use Rattle.plain_rounds.specs.InTurn.{RunsInTurn};
 ghost use Rattle.plain_rounds.specs.Plainly.{DrewOnce};
-ghost use Rattle.round_engine.specs.Powers.{SharesWords, standing_of};
+ghost use Rattle.round_engine.specs.LineEngines.{SharesWords, standing_of};
 ghost use Rattle.brief_output.specs.Brief.{total_of};
 ghost use Rattle.worker_cells.specs.Gates.{AreAllTold};
 
@@ -36,7 +36,7 @@ use worker_logs::WorkerLog;
 
 /// What runs the lines.
 #[derive(Drop)]
-pub(crate) enum Power {
+pub(crate) enum LineEngine {
     /// Where a tree is declared: one worker's lines after another's, on the plain map.
     Plain(PlainEngine),
     /// Where there are arrays alone: each worker's lines in a thread of its own.
@@ -46,13 +46,13 @@ pub(crate) enum Power {
 /// The engine: what runs the lines, and whether a round ended the run.
 #[derive(Drop)]
 pub(crate) struct Engine {
-    power: Power,
+    line_engine: LineEngine,
     ended: bool,
 }
 
 impl Model for Engine {
     ghost use Rattle.shared_rounds.specs.Standing.{Standing};
-    ghost use Rattle.round_engine.specs.Powers.{standing_of};
+    ghost use Rattle.round_engine.specs.LineEngines.{standing_of};
     ghost use Rattle.std.specs.Coded.{codes, coded_ℕ};
     ghost use Rattle.std.specs.FinMap as finite;
     ghost use Rattle.serial_model.specs.Keys.{coded_key, key_cmp};
@@ -61,7 +61,7 @@ impl Model for Engine {
 
     ghost coded = { Prim.hlevel (codes, finite.code {R = key_cmp} coded_key coded_ℕ) };
 
-    ghost view = { λ e. standing_of e.power e.ended };
+    ghost view = { λ e. standing_of e.line_engine e.ended };
 }
 
 impl Engine {
@@ -82,7 +82,7 @@ impl Engine {
             (Begins (words_of store.now.pages) (length store.now.pages) decls state first) }
     {
         Ok(Engine {
-            power: power_for(alloc, store, decls, state, first)?,
+            line_engine: line_engine_for(alloc, store, decls, state, first)?,
             ended: false,
         })
     }
@@ -92,9 +92,9 @@ impl Engine {
         ensures value { result ≡ self.now.clock }
         ensures number { IsNumber result }
     {
-        match &self.power {
-            Power::Plain(engine) => engine.clock(),
-            Power::Shared(engine) => engine.clock(),
+        match &self.line_engine {
+            LineEngine::Plain(engine) => engine.clock(),
+            LineEngine::Shared(engine) => engine.clock(),
         }
     }
 
@@ -104,9 +104,9 @@ impl Engine {
         ensures { self.new
             ≡ record self.old { clock = record self.old.clock { epoch = self.old.clock.epoch + 1 } } }
     {
-        match &mut self.power {
-            Power::Plain(engine) => engine.advance(),
-            Power::Shared(engine) => engine.advance(),
+        match &mut self.line_engine {
+            LineEngine::Plain(engine) => engine.advance(),
+            LineEngine::Shared(engine) => engine.advance(),
         }
     }
 
@@ -114,9 +114,9 @@ impl Engine {
     pub(crate) fn decls(&self) -> &[Decl]
         ensures { result.now ≡ self.now.decls }
     {
-        match &self.power {
-            Power::Plain(engine) => engine.decls(),
-            Power::Shared(engine) => engine.decls(),
+        match &self.line_engine {
+            LineEngine::Plain(engine) => engine.decls(),
+            LineEngine::Shared(engine) => engine.decls(),
         }
     }
 
@@ -125,9 +125,9 @@ impl Engine {
         ensures value { result ≡ total_of self.old.state }
         ensures alone { self.new ≡ self.old }
     {
-        match &mut self.power {
-            Power::Plain(engine) => engine.total(),
-            Power::Shared(engine) => engine.total(),
+        match &mut self.line_engine {
+            LineEngine::Plain(engine) => engine.total(),
+            LineEngine::Shared(engine) => engine.total(),
         }
     }
 
@@ -155,9 +155,9 @@ impl Engine {
         ensures room { IfOk result (λ rooms. IfSome rooms (IsRoomOf round.now)) }
         ensures made { IfOk result (λ rooms. SharesWords self.now → IsSome rooms) }
     {
-        match &self.power {
-            Power::Plain(engine) => Ok(no_rooms(engine)),
-            Power::Shared(_) => Ok(Some(make_rooms(alloc, round)?)),
+        match &self.line_engine {
+            LineEngine::Plain(engine) => Ok(no_rooms(engine)),
+            LineEngine::Shared(_) => Ok(Some(make_rooms(alloc, round)?)),
         }
     }
 
@@ -190,9 +190,11 @@ impl Engine {
         ensures enough { IfErr result (λ memory. SharesWords self.old → IsSome rooms → ⊥) }
         ensures calls { IfOk result (λ ran. AreAllTold 0 ran.outcomes ran.ends.items) }
     {
-        match &mut self.power {
-            Power::Plain(engine) => run_plain(alloc, engine, logs, growing, rooms, round, gate),
-            Power::Shared(engine) => {
+        match &mut self.line_engine {
+            LineEngine::Plain(engine) => run_plain(
+                alloc, engine, logs, growing, rooms, round, gate,
+            ),
+            LineEngine::Shared(engine) => {
                 run_shared(rt, alloc, engine, logs, growing, rooms, round, tries, gate)
             }
         }
@@ -268,54 +270,54 @@ fn run_shared<R: Threads + Sync, D: Disk + Send + Drop, G: LineGate + Sync>(
 }
 
 // What runs lines on these storages.
-fn power_for(
+fn line_engine_for(
     alloc: Global,
     store: &SnapStore,
     decls: Decls,
     state: State,
     first: Number,
-) -> Result<Power, Memory>
+) -> Result<LineEngine, Memory>
     requires decls { AreDecls decls }
     requires first { IsNumber first }
     requires snapshot { (contents : Contents) × IsNewestSnapshot (words_of store.now.pages)
         (length store.now.pages) decls state (first.epoch - 1) contents }
-    ensures { IfOk result (λ power.
-        Begins (words_of store.now.pages) (length store.now.pages) decls state first (standing_of power false)) }
+    ensures { IfOk result (λ line_engine.
+        Begins (words_of store.now.pages) (length store.now.pages) decls state first (standing_of line_engine false)) }
 {
     if are_arrays(decls.as_slice(), &state) {
-        return shared_power(alloc, store, decls, state, first);
+        return shared_lines(alloc, store, decls, state, first);
     }
-    Ok(plain_power(decls, state, first))
+    Ok(plain_lines(decls, state, first))
 }
 
 // The plain map opens with values alone.
-fn plain_power(decls: Decls, state: State, first: Number) -> Power
+fn plain_lines(decls: Decls, state: State, first: Number) -> LineEngine
     requires first { IsNumber first }
     requires apart { are_arrays decls state ≡ false }
     ensures { (pages : List (List ℕ)) (number : ℕ)
         → Begins pages number decls state first (standing_of result false) }
 {
-    Power::Plain(PlainEngine::new(decls, state, first))
+    LineEngine::Plain(PlainEngine::new(decls, state, first))
 }
 
 // Each record of the words opens as the newest snapshot has it, so the map isn't wanted any more.
-fn shared_power(
+fn shared_lines(
     alloc: Global,
     store: &SnapStore,
     decls: Decls,
     state: State,
     first: Number,
-) -> Result<Power, Memory>
+) -> Result<LineEngine, Memory>
     requires decls { AreDecls decls }
     requires arrays { are_arrays decls state ≡ true }
     requires first { IsNumber first }
     requires snapshot { (contents : Contents) × IsNewestSnapshot (words_of store.now.pages)
         (length store.now.pages) decls state (first.epoch - 1) contents }
-    ensures { IfOk result (λ power.
-        Begins (words_of store.now.pages) (length store.now.pages) decls state first (standing_of power false)) }
+    ensures { IfOk result (λ line_engine.
+        Begins (words_of store.now.pages) (length store.now.pages) decls state first (standing_of line_engine false)) }
 {
     drop(state);
     let records = newest_records(alloc, store)?;
     let engine = SharedEngine::new(alloc, decls.as_slice(), records, first)?;
-    Ok(Power::Shared(engine))
+    Ok(LineEngine::Shared(engine))
 }

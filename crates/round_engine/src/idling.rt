@@ -3,7 +3,7 @@ ghost use Rattle.std.specs.Prelude.{◌≡◌, ◌≢◌, ◌<◌, ℕ, Bool, So
 ghost use Rattle.worker_logs.specs.Logs.{LogState};
 ghost use Rattle.round_engine.specs.Workers.{idle_if_not};
 
-use crate::runtime::WORKERS;
+use serial_model::WORKERS;
 use worker_logs::WorkerLog;
 
 /// The marks of workers without a line in the round, who aren't busy, hold no epoch back.

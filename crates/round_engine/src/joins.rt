@@ -1,5 +1,6 @@
 // The end of a round: an epoch more, all logs durable and marked, a savepoint that counts them, and the swap behind it.
 ghost use Rattle.std.specs.Prelude.{◌≡◌, ◌<◌, ◌+◌, ◌≤◌, ◌||◌, None, is_some, false, true, length};
+ghost use Rattle.log_writer.specs.Counted.{AlwaysTells};
 ghost use Rattle.log_writer.specs.Vault.{IsWhole};
 ghost use Rattle.log_writer.specs.Save.{IsStored};
 ghost use Rattle.round_engine.specs.Joins.{Joins};
@@ -8,7 +9,7 @@ ghost use Rattle.worker_logs.specs.Rows.{AreLogsUp};
 ghost use Rattle.round_engine.specs.Keeping.{Advances, RunsJoin, join_answer};
 ghost use Rattle.round_engine.specs.Phases.{JoinsAndSwaps, ended_as, fails_device};
 ghost use Rattle.round_engine.specs.Sides.{SameButGrowing, growing_in};
-ghost use Rattle.round_engine.specs.Standing.{AreClosed, HasSnapshot, StandsOn};
+ghost use Rattle.round_engine.specs.Standing.{AreClosed, HasSnapshot, LogsStand, StandsOn};
 
 use crate::keeper::save_marked;
 use crate::rounds::names_device;
@@ -52,6 +53,8 @@ pub(crate) fn join_logs<D: Disk>(
     requires closed { AreClosed runtime.old }
     requires sound { runtime.old.store.sound ≡ true }
     requires snapshot { HasSnapshot D.tells runtime.old vault.old.snaps }
+    requires durable { AlwaysTells D.tells → LogsStand D.tells D.clock D.image_at runtime.old.side
+        runtime.old.logs runtime.old.counted vault.old }
     requires room { runtime.old.room ≤ 65536 }
     requires tie_room { 1 ≤ vault.old.ties.room }
     requires cut_room { 8 ≤ vault.old.cuts.room }
@@ -76,6 +79,8 @@ fn save_joined<D: Disk>(runtime: &mut Runtime, vault: &mut Vault<D>) -> Result<u
     requires closed { AreClosed runtime.old }
     requires sound { runtime.old.store.sound ≡ true }
     requires snapshot { HasSnapshot D.tells runtime.old vault.old.snaps }
+    requires durable { AlwaysTells D.tells → LogsStand D.tells D.clock D.image_at runtime.old.side
+        runtime.old.logs runtime.old.counted vault.old }
     requires room { runtime.old.room ≤ 65536 }
     requires tie_room { 1 ≤ vault.old.ties.room }
     ensures runs { RunsJoin D.tells D.clock D.image_at D.faults runtime.old runtime.new

@@ -2,7 +2,7 @@
 ghost use Rattle.std.specs.Prelude.{◌≡◌, ◌≢◌, ◌<◌, ◌≤◌, ◌+◌, ◌^◌, ℕ, Some, length, slice_get, true};
 ghost use Rattle.round_engine.specs.Owners.{AddsOwner, AreOwners};
 
-use crate::runtime::WORKERS;
+use serial_model::WORKERS;
 use tx_script::Round;
 
 /// Which workers have a line in a round, and how many of its lines are the maintenance thread's.

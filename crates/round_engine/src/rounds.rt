@@ -19,11 +19,11 @@ ghost use Rattle.round_engine.specs.Refusals.{is_sequence as met_sequence, lines
 ghost use Rattle.round_engine.specs.Refusals.{memory_in as memory_of_end};
 ghost use Rattle.round_engine.specs.Sides.{SameButGrowing, growing_in};
 ghost use Rattle.round_engine.specs.Keeping.{CanKeep};
-ghost use Rattle.round_engine.specs.Standing.{StandsOn};
+ghost use Rattle.round_engine.specs.Standing.{ArePassed, StandsOn};
 ghost use Rattle.round_engine.specs.Lines.{LinesCome};
 ghost use Rattle.round_engine.specs.Histories.{KeepsHistory};
 ghost use Rattle.plain_rounds.specs.Plainly.{DrewOnce};
-ghost use Rattle.round_engine.specs.Powers.{SharesWords};
+ghost use Rattle.round_engine.specs.LineEngines.{SharesWords};
 ghost use Rattle.round_engine.specs.RoundCalls.{calls_at, round_calls};
 ghost use Rattle.round_engine.specs.Unbegun.{IsUnbegun, RoomAlone};
 ghost use Rattle.worker_cells.specs.Gates.{AreAllTold, calls_in};
@@ -35,13 +35,12 @@ use crate::idling::idle_without_lines;
 use crate::joins::{join_logs, limit};
 use crate::keeper::{KeeperEnd, run_keeper};
 use crate::owners::owners_of;
-use crate::runtime::WORKERS;
 use crate::sides::growing_number;
 use crate::{End, LimitName, Report, Runtime};
 use arrayvec::ArrayVec;
 use log_writer::Vault;
 use outside::{Device, Disk, Gate};
-use serial_model::Memory;
+use serial_model::{Memory, WORKERS};
 use shared_rounds::{LogEnd, Rooms, WorkersRan};
 use std::alloc::Global;
 use std::sync::Wait;
@@ -76,8 +75,8 @@ pub fn round<R: Threads + Wait + Sync, D: Disk + Send + Drop, G: Gate + Sync>(
     requires most_tries { tries ≤ 1000000 }
     requires goes_on { runtime.old.stands.ended ≡ false }
     requires stands { StandsOn D.tells D.clock D.image_at runtime.old vault.old }
-    // The commits are a serial run, the logs have them, each outcome has its cause, what ends the run is told, and
-    // the vault is as the saves left it.
+    // The commits are a serial run, the logs have them, each outcome has its cause, what ends the run is told, the
+    // vault is as the saves left it, and a line that was left out was refused by its log earlier in the round.
     ensures rounds { Rounds D.tells D.clock D.image_at D.faults tries round.now runtime.old runtime.new
         vault.old vault.new result }
     ensures unbegun { IfErr result (λ memory. SharesWords runtime.old.stands
@@ -139,6 +138,7 @@ fn run_round<R: Threads + Wait + Sync, D: Disk + Send + Drop, G: LineGate + Sync
     requires ready { CanKeep D.tells D.clock D.image_at runtime.old vault.old }
     requires logs { AreLogsUp D.tells runtime.old.logs (growing_in runtime.old.side vault.old) }
     requires flushed { AllByRecursion (λ log. log.journal.lines ≡ []) runtime.old.logs }
+    requires passed { ArePassed round.now runtime.old }
     requires room { IfSome rooms (IsRoomOf round.now) }
     requires none { answers.items ≡ [] }
     requires answer_room { length (keeper_lines round.now) ≤ vec_capacity answers }
@@ -153,7 +153,7 @@ fn run_round<R: Threads + Wait + Sync, D: Disk + Send + Drop, G: LineGate + Sync
     let mut answers = answers;
     let ran = run_lent(rt, alloc, runtime, vault, round, rooms, tries, gate)?;
     let keeper = run_keeper(rt, alloc, runtime, vault, round, gate, &mut answers);
-    let refused = Refused::in_lines(runtime, &ran, keeper);
+    let refused = LineRefusals::in_lines(runtime, &ran, keeper);
     let (durable, end) = join(runtime, vault, refused);
     let calls = calls_in_round(ran.ends.as_slice(), keeper.calls);
     Ok(Report {
@@ -267,7 +267,7 @@ fn give_back<D: Disk + Drop>(side: Side, vault: &mut Vault<D>, growing: Vec<D>)
 
 // What the lines of a round were refused, each kind by itself.
 #[derive(Clone, Copy)]
-struct Refused {
+struct LineRefusals {
     device: Option<Device>,
     keeper: Option<End>,
     draw: Option<u64>,
@@ -275,7 +275,7 @@ struct Refused {
     sequence: Option<u64>,
 }
 
-impl Refused {
+impl LineRefusals {
     fn in_lines(runtime: &Runtime, ran: &WorkersRan, keeper: KeeperEnd) -> Self
         requires { length ran.now.ends.items ≤ 8 }
         ensures device { result.device ≡ device_of runtime.now.side keeper.refusal ran.now.ends.items }
@@ -286,7 +286,7 @@ impl Refused {
         ensures sequence { result.sequence ≡ where_true keeper.limited (sequence_of runtime.now.save.newest) }
     {
         let log = first_failed(runtime.side, ran.ends.as_slice());
-        Refused {
+        LineRefusals {
             device: first_told(device_in(keeper.refusal), log),
             keeper: keeper.refusal,
             draw: draw_refused(runtime, ran.outcomes.as_slice()),
@@ -309,7 +309,7 @@ impl Refused {
 fn join<D: Disk>(
     runtime: &mut Runtime,
     vault: &mut Vault<D>,
-    refused: Refused,
+    refused: LineRefusals,
 ) -> (Option<u32>, Option<End>)
     requires ready { leaves_out refused ≡ false → IsReadyToJoin D.tells D.clock D.image_at D.faults
         runtime.old vault.old }
@@ -348,7 +348,7 @@ impl Runtime {
 
 // The first of the lines' refusals and the join's. What the join was refused comes before what the lines were behind
 // which it was made, but for the last sequence, behind a line that was refused a number.
-fn first_refusal(refused: Refused, joined: Option<End>) -> Option<End>
+fn first_refusal(refused: LineRefusals, joined: Option<End>) -> Option<End>
     ensures { result ≡ end_told refused joined }
 {
     let lines = lines_refused(refused);
@@ -362,7 +362,7 @@ fn first_refusal(refused: Refused, joined: Option<End>) -> Option<End>
 }
 
 // The first of the lines' refusals.
-fn lines_refused(refused: Refused) -> Option<End>
+fn lines_refused(refused: LineRefusals) -> Option<End>
     ensures { result ≡ lines_end refused }
 {
     let draw = by_limit(LimitName::Draw, refused.draw);

@@ -1,6 +1,7 @@
 // The engine with its clock, the store of savepoints and the workers' logs.
 ghost use Rattle.std.specs.Prelude.{◌≡◌, ◌≤◌, ℕ, [], Some, None, true, IfOk, length, replicate};
 ghost use Rattle.std.specs.Option.{option_map};
+ghost use Rattle.log_writer.specs.Counted.{AlwaysTells};
 ghost use Rattle.log_writer.specs.Vault.{IsWhole, disk_in};
 ghost use Rattle.outside.specs.declared.device.Device.TheVariants as devices;
 ghost use Rattle.serial_model.specs.Decls.{AreDecls};
@@ -24,15 +25,12 @@ use crate::engine::Engine;
 use checkpoints::Settled;
 use log_writer::{Save, Vault};
 use outside::Disk;
-use serial_model::{Config, Memory};
+use serial_model::{Config, Memory, WORKERS};
 use snapshot_store::SnapStore;
 use std::alloc::Global;
 use std::marker::Model;
 use wire_form::catalogue_declares;
 use worker_logs::{Side, WorkerLog};
-
-/// How many workers there are.
-pub(crate) const WORKERS: usize = 8;
 
 /// What rounds are run on.
 #[derive(Drop)]
@@ -102,6 +100,9 @@ impl Runtime {
         requires holds { Holds D.tells vault.old.snaps settled.store.pages }
         requires snapshot { (contents : Contents) × IsNewestSnapshot (words_of settled.store.pages)
             (length settled.store.pages) settled.decls settled.state settled.saved.epoch contents }
+        // The log files are empty where disks tell their bytes: nothing of them counts, and logs begin there.
+        requires empty { AlwaysTells D.tells → (number : ℕ) (bank : D)
+            → disk_in vault.old (devices.Bank number) ≡ Some bank → D.tells bank ≡ Some [] }
         ensures begins { IfOk result (λ runtime. runtime ≡ begun settled.decls settled.state
             runtime.stands.opening settled.save settled.store config.snap config.first) }
         ensures opens { IfOk result (λ runtime.

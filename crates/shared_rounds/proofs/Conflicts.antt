@@ -10,8 +10,8 @@ use Rattle.std.proofs.lemmas.List.Sums.{sum_by-cons}
 use Rattle.lists.specs.Each.{all_push}
 use Rattle.serial_model.specs.declared.number.Commit.{Commit}
 use Rattle.serial_model.specs.declared.op.Op.{Op}
-use Rattle.engine_words.specs.declared.view.Refused.{Refused}
-use Rattle.engine_words.specs.declared.view.Refused.TheVariants as refusals
+use Rattle.engine_words.specs.declared.view.RefusalCause.{RefusalCause}
+use Rattle.engine_words.specs.declared.view.RefusalCause.TheVariants as refusals
 use Rattle.engine_words.specs.declared.view.View.{View}
 use Rattle.tx_runner.specs.Tries.{IsClash, IsConflicting, IsKeyOf, Lost, ToClock, ToOther, why_of, whys_of}
 use Rattle.tx_script.specs.Run.{TryRefusal}
@@ -23,9 +23,9 @@ use Rattle.shared_rounds.specs.Parts.{IsPart, Part, no_tries, share_of, tries_of
 use Rattle.shared_rounds.specs.SharedState.{conflicts_in, was_conflict}
 use Rattle.shared_rounds.specs.Shares.{Share, all_conflicts, conflicts_among}
 
-pub conflicts_append : (xs ys : List Refused) → conflicts_in (xs ++ ys) ≡ conflicts_in xs + conflicts_in ys
+pub conflicts_append : (xs ys : List RefusalCause) → conflicts_in (xs ++ ys) ≡ conflicts_in xs + conflicts_in ys
 conflicts_append xs ys =
-    ap (λ (l : List Refused). length l) (filter-append was_conflict xs ys)
+    ap (λ (l : List RefusalCause). length l) (filter-append was_conflict xs ys)
     ∙ length-append (filter was_conflict xs) (filter was_conflict ys)
 
 -- each try of a line that was lost to another transaction was refused with a conflict at a key of its
@@ -33,7 +33,7 @@ abbrev pub IsLostOf : List Op → Lost → Type 0
 IsLostOf ops (ToOther clash) = IsConflicting clash.why × IsKeyOf ops clash.key
 IsLostOf ops (ToClock clock) = ⊤
 
-conflicting : (why : Refused) → IsConflicting why → was_conflict why ≡ true
+conflicting : (why : RefusalCause) → IsConflicting why → was_conflict why ≡ true
 conflicting (refusals.Conflict at expected seen) is = refl
 conflicting (refusals.Wide set) is = absurd is
 conflicting (refusals.NumberLimit clock) is = absurd is

@@ -1,12 +1,12 @@
 -- How many numbers a round draws, as the passes count them and as shares tell them.
-use Rattle.std.proofs.Common.{◌≡◌, ◌∙◌, sym, ap, refl, ℕ, ◌+◌, Bool, true, false, cond, List, [], ◌∷◌, ◌++◌}
+use Rattle.std.proofs.Common.{◌≡◌, sym, refl, ◌+◌, Bool, true, false, cond, List, [], ◌∷◌, ◌++◌}
 use Rattle.std.proofs.Common.{filter, length, map, arith}
 use Rattle.std.specs.Prelude.{sum_by}
 use Rattle.std.proofs.lemmas.List.Sums.{sum_by-cons}
 use Rattle.serial_model.specs.declared.op.Op.{Op}
 use Rattle.tx_runner.specs.Tries.{Lost, ToClock, ToOther, drawn_for, lost_to}
-use Rattle.tx_script.specs.Draws.{commits_of, drew_by, lost_of, lost_of_line, lost_of_lines}
-use Rattle.tx_script.specs.Run.{TryRefusal, is_commit}
+use Rattle.tx_script.specs.Draws.{commit_count, drew_by, lost_of, lost_of_line, lost_of_lines}
+use Rattle.tx_script.specs.Run.{is_commit}
 use Rattle.tx_script.specs.declared.outcome.Outcome.{Outcome}
 use Rattle.worker_cells.specs.Rows.{LineRan, drawn_in, draws_of, outcomes_of, unrun}
 use Rattle.shared_rounds.specs.Parts.{Part, drawn_in_all, no_tries, share_of, tries_of, try_refusal}
@@ -67,7 +67,7 @@ row_drawn (line ∷ more) left =
 -- each number was drawn for a commit that is told, or for a try that was refused behind its draw
 pub parts_drawn : (parts : List Part)
     → drawn_in_all parts
-    ≡ commits_of (map (λ (share : Share). share.outcomes) (shares_of parts))
+    ≡ commit_count (map (λ (share : Share). share.outcomes) (shares_of parts))
     + lost_of (map (λ (share : Share). share.tries_refused) (shares_of parts))
 parts_drawn [] = refl
 parts_drawn (p ∷ parts) =

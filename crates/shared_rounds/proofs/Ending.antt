@@ -26,17 +26,16 @@ use Rattle.tx_script.specs.declared.outcome.Outcome.{Outcome}
 use Rattle.tx_runner.specs.Tries.{blames_of}
 use Rattle.worker_cells.specs.InARow.{IsTakenBy, row_blamed, row_draws, row_touched}
 use Rattle.worker_cells.specs.Gates.{AreAllTold}
-use Rattle.worker_cells.specs.Rows.{draws_of, logged_of, refused_of}
+use Rattle.worker_cells.specs.Rows.{draws_of, refused_of}
 use Rattle.worker_cells.specs.declared.cell.LogEnd.{LogEnd}
 use Rattle.worker_logs.specs.Logs.{LogState}
 use Rattle.shared_rounds.specs.Ended.{AreLeft, AreTold, EndedSoFar}
-use Rattle.shared_rounds.specs.Left.{LeavesPart, TellsPart}
+use Rattle.shared_rounds.specs.Left.{LeavesLog, LeavesPart, TellsPart}
 use Rattle.shared_rounds.specs.Parts.{Part, drawn_in_all, share_of}
 use Rattle.shared_rounds.specs.SharedState.{conflicts_in}
 use Rattle.shared_rounds.specs.Shares.{Share, all_conflicts}
 use Rattle.shared_rounds.proofs.Conflicts.{conflicts_append, more_conflicts}
 use Rattle.shared_rounds.specs.Seating.{seats_from}
-use Rattle.shared_rounds.specs.Workers.{LeftBy}
 use Rattle.shared_rounds.proofs.Made.{seen_then}
 use Rattle.shared_rounds.proofs.Meets.{in_either}
 use Rattle.shared_rounds.proofs.Shared.{parts_later, parts_push}
@@ -137,7 +136,7 @@ module _ {D : Type 0} (tells : D → Option (List ℕ)) (clock : D → ℕ) (ima
   left_push : (round : Round) (epoch worker next : ℕ) (parts : List Part) (logs_was logs : List LogState)
       (banks_was banks : List D) (p : Part) (old new : LogState) (before now : D) → next ≡ worker + length parts
       → AreLeft tells clock image_at faults round epoch worker parts logs_was logs banks_was banks
-      → LeftBy tells clock image_at faults epoch epoch (logged_of p.ran) p.refusal old new before now
+      → LeavesLog tells clock image_at faults epoch p old new before now
       → AreLeft tells clock image_at faults round epoch worker (parts ++ p ∷ []) (logs_was ++ old ∷ [])
       (logs ++ new ∷ [])
       (banks_was ++ before ∷ []) (banks ++ now ∷ [])
@@ -233,7 +232,7 @@ module _ {D : Type 0} (tells : D → Option (List ℕ)) (clock : D → ℕ) (ima
             ∙ by_place worker q (cases_order worker count) there;
         left = left_push round was.epoch 0 count so.parts logs_was logs banks_was banks p old new before bank here
             so.left
-            leaves.left_by;
+            leaves.log;
         told = then;
         many_outcomes = many;
         calls = calls;

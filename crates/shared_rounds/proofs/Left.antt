@@ -3,26 +3,32 @@ use Rattle.std.proofs.Common.{◌≡◌, ◌∙◌, sym, ap, subst, refl, ℕ, �
 use Rattle.std.proofs.Common.{◌++◌, arith}
 use Rattle.std.proofs.Common.{length, Option, Some, None}
 use Rattle.std.specs.Prelude.{fold, is_some}
+use Rattle.std.specs.Option.{option_map}
+use Rattle.serial_model.specs.declared.number.Commit.{Commit}
 use Rattle.serial_model.specs.declared.op.Op.{Op}
 use Rattle.log_writer.specs.Journal.{JournalState}
 use Rattle.engine_words.specs.Cuts.{HasSeen, worker_view}
 use Rattle.commit_core.specs.declared.seat.Mark.{Mark}
 use Rattle.engine_words.specs.declared.layout.Layout.{Layout}
 use Rattle.engine_words.specs.declared.view.View.{View}
-use Rattle.tx_script.specs.Run.{LogRefusal, LogFailed}
+use Rattle.tx_runner.specs.Tries.{Lost}
+use Rattle.tx_script.specs.Causes.{is_unrun}
+use Rattle.tx_script.specs.Run.{LogRefusal, LogFailed, LogFull}
 use Rattle.tx_script.specs.declared.outcome.Outcome.{Outcome}
+use Rattle.tx_script.specs.declared.outcome.Outcome.TheVariants.{Committed, Conflict, Full, Wide, Limit, Unrun}
 use Rattle.worker_logs.specs.Logs.{LogState}
 use Rattle.wire_form.specs.LogFile.{IsLineOf}
 use Rattle.std.specs.List.{AllByRecursion}
 use Rattle.worker_logs.specs.Rows.{IsFull, KeepsMarkIn, LogTakes}
-use Rattle.worker_cells.specs.Cells.{RanOver, RunsCell, core_mark}
+use Rattle.worker_cells.specs.Cells.{RanOver, RefusesLine, RunsCell, core_mark}
 use Rattle.worker_cells.specs.InARow.{goes_then}
-use Rattle.worker_cells.specs.Rows.{AreInARow, Goes, IsSince, LineRan, logged_of}
+use Rattle.worker_cells.specs.Rows.{AreInARow, ComesOf, Goes, IsSince, LineRan, logged_of, outcomes_of}
 use Rattle.worker_cells.specs.declared.cell.LogEnd.{LogEnd}
 use Rattle.shared_rounds.specs.Left.{LeavesPart, TellsPart}
 use Rattle.shared_rounds.specs.Parts.{IsPart, Part}
 use Rattle.shared_rounds.specs.Seated.{IsBegun}
 use Rattle.shared_rounds.specs.SharedState.{last_mark, no_mark}
+use Rattle.shared_rounds.specs.UnrunLaws.{AreRun, some_left, some_unrun}
 use Rattle.shared_rounds.specs.Workers.{IsRefusedBy, LeftBy, refusal_of, refused_as}
 
 -- what refused the log, by what its file and its journal tell
@@ -61,6 +67,30 @@ last_so first (m ∷ before) mark = last_so m before mark
 -- the last of them
 pub last_push : (before : List Mark) (mark : Mark) → last_mark (before ++ mark ∷ []) ≡ mark
 last_push before mark = last_so no_mark before mark
+
+-- a log that is told full refused a line
+filled_so : (failed : Bool) (full : Option ℕ) (size : ℕ) → refused_as failed full ≡ Some (LogFull size)
+    → full ≡ None → ⊥
+filled_so true full size is none = absurd cc
+filled_so false full size is none = absurd (let no = sym (ap (option_map LogFull) none) ∙ is in cc)
+
+-- a line that was run isn't told unrun
+line_run : (tries : ℕ) (ops : List Op) (outcome : Outcome) (refused : List Lost) (logged : Option Commit) (v w : View)
+    → ComesOf tries ops outcome refused logged v w → is_unrun outcome ≡ false
+line_run tries ops (Committed verdict number replies) refused logged v w comes = refl
+line_run tries ops Conflict refused logged v w comes = refl
+line_run tries ops Limit refused logged v w comes = refl
+line_run tries ops Full refused logged v w comes = refl
+line_run tries ops Wide refused logged v w comes = refl
+line_run tries ops Unrun refused logged v w comes = absurd comes
+
+-- and so it is with lines in a row
+row_run : (tries : ℕ) (v : View) (ran : List LineRan) (w : View) → AreInARow tries v ran w → AreRun (outcomes_of ran)
+row_run tries v [] w row = tt
+row_run tries v (r ∷ more) w row = (
+  line_run tries r.ops r.outcome r.refused r.logged r.before r.after row.1,
+  row_run tries r.after more w row.2,
+)
 
 module _ {D : Type 0} (tells : D → Option (List ℕ)) (clock : D → ℕ) (image_at : D → ℕ → List ℕ → Type 0)
     (faults : D → ℕ) where
@@ -117,9 +147,18 @@ module _ {D : Type 0} (tells : D → Option (List ℕ)) (clock : D → ℕ) (ima
               before now begun run.did seen
               (λ none. let up = none_refused end.failed end.full new.journal.down runs.failed none in run.all up.0
               up.1);
-          left_by = left_over tries w.epoch (length lines) size worker was refusal run.ran v w old new before now begun
-              low run.did (refused_so end.failed end.full new.journal runs.failed run.full_is)
-              (failed_so end.failed end.full new.journal.down runs.failed);
+          log = record {
+            left_by = left_over tries w.epoch (length lines) size worker was refusal run.ran v w old new before now
+                begun low run.did (refused_so end.failed end.full new.journal runs.failed run.full_is)
+                (failed_so end.failed end.full new.journal.down runs.failed);
+            left_out = record {
+              refuses = λ has. subst (λ e. RefusesLine tells clock image_at faults e (logged_of run.ran) old before)
+                  begun.epoch
+                  (run.refuses (some_left (outcomes_of run.ran) run.left (row_run tries v run.ran w run.did.row) has));
+              filled = λ size is. some_unrun (outcomes_of run.ran) run.left
+                  (λ none. filled_so end.failed end.full size is (run.unfilled none));
+            };
+          };
         },
         record {
           lines_are = sym run.whole;

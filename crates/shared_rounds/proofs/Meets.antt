@@ -1,6 +1,6 @@
 -- Whom tries in conflict met: where one met another's lock, a line of another worker may change that key.
-use Rattle.std.proofs.Common.{◌≡◌, ◌≢◌, ◌⊎◌, ◌∙◌, inl, inr, sym, ap, subst, refl, ℕ, zero, suc, ◌+◌, true, List, []}
-use Rattle.std.proofs.Common.{◌∷◌, ◌++◌, map, arith, Option, Some}
+use Rattle.std.proofs.Common.{◌≡◌, ◌⊎◌, ◌∙◌, inl, inr, sym, ap, subst, refl, ℕ, zero, suc, ◌+◌, true, List, []}
+use Rattle.std.proofs.Common.{◌∷◌, ◌++◌, map, arith, Some}
 use Rattle.std.specs.Prelude.{slice_get}
 use Rattle.std.specs.List.{AllByRecursion, Contains}
 use Rattle.std.proofs.lemmas.Bool.Decides.{nat_tests}
@@ -9,16 +9,15 @@ use Rattle.lists.specs.Elements.{any_in, in_cases, in_head, in_none, in_tail}
 use Rattle.serial_model.specs.declared.key.Key.{Key}
 use Rattle.serial_model.specs.declared.op.Op.{Op}
 use Rattle.serial_model.specs.declared.op.Op.TheVariants.{Read, Write, Remove, Add, Take, Scan}
-use Rattle.engine_words.specs.Touches.{AreBlamed, Other, touch}
+use Rattle.engine_words.specs.Touches.{AreBlamed, touch}
 use Rattle.engine_words.specs.declared.view.Touch.{Touch}
 use Rattle.engine_words.specs.declared.view.View.{View}
 use Rattle.tx_commit.specs.Turning.{IsOfKey, MayWrite}
 use Rattle.tx_runner.specs.Tries.{IsKeyOf, IsWrittenBy, Lost, ToClock, ToOther, blame_of, blames_of}
-use Rattle.tx_script.specs.Conflicts.{ChangesIn, IsMet, IsMetBy, LinesMet, WorkersMet, changes, changes_key, same_key, touches}
+use Rattle.tx_script.specs.Conflicts.{IsMet, LinesMet, WorkersMet, changes, changes_key, same_key, touches}
 use Rattle.tx_script.specs.Conflicts.{touches_key}
-use Rattle.tx_script.specs.Run.{TryRefusal}
-use Rattle.worker_cells.specs.Rows.{AreInARow, ComesOf, LineRan, lines_of, refused_of}
-use Rattle.shared_rounds.specs.Parts.{AreParts, IsPart, IsRound, Part, no_tries, share_of, tries_of, try_refusal}
+use Rattle.worker_cells.specs.Rows.{AreInARow, LineRan, lines_of, refused_of}
+use Rattle.shared_rounds.specs.Parts.{AreParts, IsPart, IsRound, Part, no_tries, tries_of, try_refusal}
 use Rattle.shared_rounds.specs.Shares.{Share}
 use Rattle.shared_rounds.proofs.Conflicts.{IsLostOf, line_lost}
 use Rattle.shared_rounds.proofs.Joined.{shares_of}

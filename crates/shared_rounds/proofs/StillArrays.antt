@@ -1,6 +1,6 @@
 -- Behind a round the contents are such as words that threads share have them.
-use Rattle.std.proofs.Common.{◌≡◌, ◌∙◌, inl, inr, sym, ap, subst, Bool, true, false, cond, true≢false, List, [], ◌∷◌, ℕ}
-use Rattle.std.proofs.Common.{Option, Some, None, arith, refl}
+use Rattle.std.proofs.Common.{◌≡◌, ◌∙◌, inl, inr, sym, subst, Bool, true, false, cond, true≢false, List, [], ◌∷◌, ℕ}
+use Rattle.std.proofs.Common.{Some, None, arith, refl}
 use Rattle.std.specs.List.{Contains, list_all}
 use Rattle.std.specs.FinMap.{entries, find, get, get-entries}
 use Rattle.std.specs.Ordering.{eq_by_cmp}

@@ -1,7 +1,8 @@
 -- What is told worker by worker, as lists and by index.
-use Rattle.std.proofs.Common.{◌≡◌, ◌∙◌, sym, ap, subst, refl, ℕ, suc, zero, ◌+◌, ◌≤◌, List, [], ◌∷◌, ◌++◌, length, map}
+use Rattle.std.proofs.Common.{◌≡◌, ◌∙◌, sym, ap, subst, refl, ℕ, suc, zero, ◌+◌, List, [], ◌∷◌, length, map}
 use Rattle.std.proofs.Common.{arith, Option, Some, None}
 use Rattle.std.specs.Prelude.{get_or, is_some, slice_get}
+use Rattle.std.specs.List.{Contains}
 use Rattle.std.proofs.lemmas.Option.{same_Some}
 use Rattle.serial_model.specs.declared.op.Op.{Op}
 use Rattle.commit_core.specs.declared.seat.Mark.{Mark}
@@ -9,6 +10,7 @@ use Rattle.commit_core.specs.declared.seat.Seat.{Seat}
 use Rattle.engine_words.specs.Views.{bare_seat}
 use Rattle.script_grammar.specs.Script.{Round, lines_of_worker}
 use Rattle.tx_script.specs.declared.outcome.Outcome.{Outcome}
+use Rattle.tx_script.specs.declared.outcome.Outcome.TheVariants.{Unrun}
 use Rattle.worker_cells.specs.Cells.{core_mark}
 use Rattle.worker_cells.specs.Rows.{logged_of}
 use Rattle.worker_cells.specs.declared.cell.LogEnd.{LogEnd}
@@ -17,7 +19,7 @@ use Rattle.shared_rounds.specs.Ended.{AreLeft, AreTold}
 use Rattle.shared_rounds.specs.Parts.{Part, share_of}
 use Rattle.shared_rounds.specs.SharedState.{last_mark, marks_of}
 use Rattle.shared_rounds.specs.Shares.{Share}
-use Rattle.shared_rounds.specs.Workers.{LeftBy, refusal_of}
+use Rattle.shared_rounds.specs.Workers.{LeavesOut, LeftBy, refusal_of}
 use Rattle.shared_rounds.proofs.Joined.{shares_of}
 
 -- what of a list is at an index, of one that begins with x
@@ -163,7 +165,25 @@ module _ {D : Type 0} (tells : D → Option (List ℕ)) (clock : D → ℕ) (ima
       (at_first (λ x. LeftBy tells clock image_at faults epoch epoch
       (logged_of p.ran) p.refusal a b x now) c before bank_was
       (at_first (λ x. LeftBy tells clock image_at faults epoch epoch (logged_of p.ran) p.refusal a b c x) d now bank_is
-      are.0))))
+      are.0.left_by))))
   left_at worker (p ∷ parts) (a ∷ lw) (b ∷ ls) (c ∷ bw) (d ∷ bs) are (suc i) share old new before now at was is bank_was
       bank_is = left_at (worker + 1) parts lw ls bw bs are.1 i share old new before now at was is bank_was bank_is
   left_at worker _ _ _ _ _ are i share old new before now at was is bank_was bank_is = absurd are
+
+  -- what was left out of the lines of a worker
+  pub out_at : (worker : ℕ) (parts : List Part) (logs_was logs : List LogState) (banks_was banks : List D)
+      → AreLeft tells clock image_at faults round epoch worker parts logs_was logs banks_was banks
+      → (i : ℕ) (share : Share) (old : LogState) (before : D) → slice_get (shares_of parts) i ≡ Some share
+      → slice_get logs_was i ≡ Some old → slice_get banks_was i ≡ Some before
+      → LeavesOut tells clock image_at faults epoch (Contains share.outcomes Unrun) share.logged share.refusal old before
+  out_at worker [] [] [] [] [] are i share old before at was bank_was = absurd cc
+  out_at worker (p ∷ parts) (a ∷ lw) (b ∷ ls) (c ∷ bw) (d ∷ bs) are zero share old before at was bank_was =
+      at_first (λ (q : Share). LeavesOut tells clock image_at faults epoch (Contains q.outcomes Unrun) q.logged q.refusal
+      old before) (share_of p) share at
+      (at_first (λ x. LeavesOut tells clock image_at faults epoch (Contains (share_of p).outcomes Unrun)
+      (logged_of p.ran) p.refusal x before) a old was
+      (at_first (λ x. LeavesOut tells clock image_at faults epoch (Contains (share_of p).outcomes Unrun)
+      (logged_of p.ran) p.refusal a x) c before bank_was are.0.left_out))
+  out_at worker (p ∷ parts) (a ∷ lw) (b ∷ ls) (c ∷ bw) (d ∷ bs) are (suc i) share old before at was bank_was =
+      out_at (worker + 1) parts lw ls bw bs are.1 i share old before at was bank_was
+  out_at worker _ _ _ _ _ are i share old before at was bank_was = absurd are

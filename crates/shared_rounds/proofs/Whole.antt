@@ -1,6 +1,7 @@
 -- A round's lines on seats, from the ends of all seats and the count behind them.
 use Rattle.std.proofs.Common.{◌≡◌, ◌∙◌, sym, ap, subst, ℕ, ◌/◌, ◌^◌, ◌≤◌, Bool, List}
 use Rattle.std.proofs.Common.{length, arith, Option}
+use Rattle.std.specs.List.{Contains}
 use Rattle.std.proofs.lemmas.List.{length-map}
 use Rattle.commit_core.specs.declared.seat.Seat.{Seat}
 use Rattle.serial_model.specs.declared.number.Number.{Number}
@@ -9,6 +10,7 @@ use Rattle.engine_words.specs.Steps.{HasAudited}
 use Rattle.engine_words.specs.declared.layout.Layout.{Layout}
 use Rattle.engine_words.specs.declared.view.View.{View}
 use Rattle.tx_script.specs.declared.outcome.Outcome.{Outcome}
+use Rattle.tx_script.specs.declared.outcome.Outcome.TheVariants.{Unrun}
 use Rattle.worker_cells.specs.declared.cell.LogEnd.{LogEnd}
 use Rattle.worker_logs.specs.Logs.{LogState}
 use Rattle.shared_rounds.specs.Contents.{after_commits}
@@ -18,14 +20,14 @@ use Rattle.shared_rounds.specs.Parts.{IsClockOf, IsRound, clock_number}
 use Rattle.shared_rounds.specs.SharedState.{IsKept, conflicts_in, last_mark, marks_of, state_of}
 use Rattle.shared_rounds.specs.Shares.{RunsShares}
 use Rattle.shared_rounds.specs.Standing.{Standing}
-use Rattle.shared_rounds.specs.Workers.{LeftBy, RunsOver, RunsWorkers}
+use Rattle.shared_rounds.specs.Workers.{LeavesOut, LeftBy, RunsOver, RunsWorkers}
 use Rattle.shared_rounds.proofs.Counted.{now_layout, split}
 use Rattle.shared_rounds.proofs.Joined.{shares_of}
 use Rattle.shared_rounds.proofs.Numbers.{same_epoch}
 use Rattle.shared_rounds.proofs.Ordered.{standing_at}
 use Rattle.shared_rounds.proofs.Renewed.{state_agrees, state_now}
 use Rattle.shared_rounds.proofs.Shared.{round_runs}
-use Rattle.shared_rounds.proofs.Told.{left_at, left_many, seat_mark, told_failed, told_flushed, told_idle}
+use Rattle.shared_rounds.proofs.Told.{left_at, left_many, out_at, seat_mark, told_failed, told_flushed, told_idle}
 use Rattle.shared_rounds.proofs.Told.{lines_from, told_lines, told_outcomes, told_refusals, told_rests, told_tied}
 
 -- where the engine stands, as the keeper's view and the clock have it
@@ -116,6 +118,11 @@ module _ {D : Type 0} (tells : D → Option (List ℕ)) (clock : D → ℕ) (ima
       ends_failed = told_failed round 0 so.parts outcomes ends logs_was logs so.told;
       flushed = λ i log less is. told_flushed round 0 so.parts outcomes ends logs_was logs so.told i log is;
       ends_are = told_refusals round 0 so.parts outcomes ends logs_was logs so.told;
+      left_out = λ i share old before place was_at bank_was.
+          subst (λ e. LeavesOut tells clock image_at faults e (Contains share.outcomes Unrun) share.logged share.refusal
+          old before) (sym at.epoch)
+          (out_at tells clock image_at faults round was.epoch 0 so.parts logs_was logs banks_was banks so.left i share
+          old before place was_at bank_was);
     }
 
   -- the marks of the seats are those of the round

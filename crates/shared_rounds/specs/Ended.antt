@@ -1,5 +1,5 @@
 -- Workers' seats that were taken in again, one worker after another.
-use Rattle.std.specs.Prelude.{◌≡◌, ◌<◌, ◌≤◌, ◌+◌, ◌-◌, ◌*◌, ◌++◌, ℕ, List, [], ◌∷◌, Option, Some}
+use Rattle.std.specs.Prelude.{◌≡◌, ◌<◌, ◌+◌, ◌-◌, ◌++◌, ℕ, List, [], ◌∷◌, Option, Some}
 use Rattle.std.specs.Prelude.{map, length, get_or, slice_get, ⊤}
 use Rattle.script_grammar.specs.Script.{Round, lines_of_worker}
 use Rattle.engine_words.specs.Cuts.{HasSeen}
@@ -9,18 +9,16 @@ use Rattle.engine_words.specs.declared.view.Role.TheVariants.{Keeper}
 use Rattle.engine_words.specs.declared.view.View.{View}
 use Rattle.tx_script.specs.declared.outcome.Outcome.{Outcome}
 use Rattle.worker_cells.specs.Gates.{AreAllTold}
-use Rattle.worker_cells.specs.Rows.{logged_of}
 use Rattle.engine_words.specs.declared.engine.Engine.{Engine}
 use Rattle.worker_cells.specs.declared.cell.Cell.{Cell}
 use Rattle.worker_cells.specs.declared.cell.LogEnd.{LogEnd}
 use Rattle.worker_logs.specs.Logs.{LogState}
-use Rattle.shared_rounds.specs.Left.{TellsPart}
+use Rattle.shared_rounds.specs.Left.{LeavesLog, TellsPart}
 use Rattle.shared_rounds.specs.Parts.{AreParts, HasBlames, Part, TouchesAre, drawn_in_all, share_of}
 use Rattle.shared_rounds.specs.Seated.{AreRan, backward}
 use Rattle.shared_rounds.specs.Seating.{seats_from}
 use Rattle.shared_rounds.specs.SharedState.{conflicts_in}
 use Rattle.shared_rounds.specs.Shares.{Share, all_conflicts}
-use Rattle.shared_rounds.specs.Workers.{LeftBy}
 
 -- what is told of all lines of the workers from this one on
 abbrev pub AreTold : Round → ℕ → List Part → List (List Outcome) → List LogEnd → List LogState → List LogState → Type 0
@@ -32,11 +30,12 @@ AreTold round worker _ _ _ _ _ = ⊥
 
 module _ {D : Type 0} (tells : D → Option (List ℕ)) (clock : D → ℕ) (image_at : D → ℕ → List ℕ → Type 0)
     (faults : D → ℕ) where
-  -- what the workers from this one on, whose lines were run in this epoch, left of their logs and log files
+  -- what the workers from this one on, whose lines were run in this epoch, left of their logs and log files, and of
+  -- their lines
   abbrev pub AreLeft : Round → ℕ → ℕ → List Part → List LogState → List LogState → List D → List D → Type 0
   AreLeft round epoch worker [] [] [] [] [] = ⊤
   AreLeft round epoch worker (p ∷ parts) (old ∷ logs_was) (new ∷ logs) (before ∷ banks_was) (now ∷ banks) =
-      LeftBy tells clock image_at faults epoch epoch (logged_of p.ran) p.refusal old new before now
+      LeavesLog tells clock image_at faults epoch p old new before now
       × AreLeft round epoch (worker + 1) parts logs_was logs banks_was banks
   AreLeft round epoch worker _ _ _ _ _ = ⊥
 

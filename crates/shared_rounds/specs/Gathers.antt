@@ -60,7 +60,8 @@ comes_more decls index round outcomes commits was now c g = record {
   are = attempts_append decls commits (entries_of_workers index 0 outcomes (worker_lines round)) c.told g.told c.are
       (g.are index);
   seats = map-append (λ (e : Entry). suc e.worker) commits (entries_of_workers index 0 outcomes (worker_lines round))
-      ∙ ap (λ (l : List ℕ). l ++ map (λ (e : Entry). suc e.worker) (entries_of_workers index 0 outcomes (worker_lines round)))
+      ∙ ap (λ (l : List ℕ). l ++ map (λ (e : Entry). suc e.worker)
+      (entries_of_workers index 0 outcomes (worker_lines round)))
       c.seats
       ∙ ap (λ (l : List ℕ). map (λ (a : Attempt). a.seat) c.told ++ l) (g.seats index)
       ∙ sym (map-append (λ (a : Attempt). a.seat) c.told g.told);

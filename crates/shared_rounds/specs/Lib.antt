@@ -2,6 +2,7 @@ pub mod Standing
 pub mod Changes
 pub mod Shares
 pub mod Workers
+pub mod UnrunLaws
 pub mod Contents
 pub mod SharedState
 pub mod OpenedLaws

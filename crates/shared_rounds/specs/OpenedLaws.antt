@@ -28,6 +28,7 @@ key_test q k =
           ∙ sym miss
     ]
 
+-- a value that was put stands at its key
 pub value_put : (w : State) (k : Key) (value : Option ℕ) (q : Key)
     → get (with_value w k value) q ≡ cond (same_key k q) value (get w q)
 value_put w k (Some v) q = get-insert keys_total w k v q ∙ ap (λ b. cond b (Some v) (get w q)) (key_test q k)

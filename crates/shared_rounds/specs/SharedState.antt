@@ -19,8 +19,8 @@ use Rattle.commit_core.specs.declared.seat.Mark.{Mark}
 use Rattle.commit_core.specs.declared.seat.Seat.{Seat}
 use Rattle.serial_bridge.specs.WriteSets.{HasNoTree}
 use Rattle.engine_words.specs.declared.engine.Engine.{Engine}
-use Rattle.engine_words.specs.declared.view.Refused.{Refused}
-use Rattle.engine_words.specs.declared.view.Refused.TheVariants.{Conflict, Wide, NumberLimit}
+use Rattle.engine_words.specs.declared.view.RefusalCause.{RefusalCause}
+use Rattle.engine_words.specs.declared.view.RefusalCause.TheVariants.{Conflict, Wide, NumberLimit}
 use Rattle.engine_words.specs.declared.view.Role.TheVariants.{Keeper}
 use Rattle.engine_words.specs.declared.view.View.{View}
 use Rattle.engine_words.specs.Between.{counts}
@@ -32,6 +32,7 @@ use Rattle.shared_rounds.specs.Contents.{after_commits, with_value}
 
 -- ---- what an engine begins with
 
+-- the storage is an array
 abbrev pub is_array : Decl → Bool
 is_array (Array id size) = true
 is_array (Tree id) = false
@@ -64,18 +65,18 @@ abbrev pub marks_of : List Seat → List Mark
 marks_of seats = map (λ (seat : Seat). last_mark seat.marks) seats
 
 -- the refusal is a conflict
-abbrev pub was_conflict : Refused → Bool
+abbrev pub was_conflict : RefusalCause → Bool
 was_conflict (Conflict word expected seen) = true
 was_conflict (Wide set) = false
 was_conflict (NumberLimit clock) = false
 
 -- how many of the refusals are conflicts
-abbrev pub conflicts_in : List Refused → ℕ
+abbrev pub conflicts_in : List RefusalCause → ℕ
 conflicts_in refused = length (filter was_conflict refused)
 
--- the storages, their contents, what stood at keys at first, with its numbers, the number that the next commit gets, the
--- attempts that count, in order of number, how many tries were refused with a conflict so far, and the workers' marks on
--- the words, worker 0's first
+-- the storages, their contents, what stood at keys at first, with its numbers, the number that the next commit gets,
+-- the attempts that count, in order of number, how many tries were refused with a conflict so far, and the workers'
+-- marks on the words, worker 0's first
 pub record SharedState : Type 0 where
   pub decls : List Decl
   pub state : State

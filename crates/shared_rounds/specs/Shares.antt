@@ -1,7 +1,7 @@
 -- What the workers' lines of a round come to, whichever engine ran them: what came of each line, and an order in which
 -- the commits are serial. Nothing is said of the order in which the workers ran: their commits may lie among each
 -- other, in any order of their numbers.
-use Rattle.std.specs.Prelude.{◌≡◌, ◌<◌, ◌≤◌, ◌+◌, ℕ, zero, suc, List, [], ◌∷◌, filter, length, map, sum_by, Option}
+use Rattle.std.specs.Prelude.{◌≡◌, ◌<◌, ◌+◌, ℕ, zero, suc, List, [], ◌∷◌, filter, length, map, sum_by, Option}
 use Rattle.std.specs.List.{AllByRecursion}
 use Rattle.std.specs.List.Sorted.{IsPermutation}
 use Rattle.serial_model.specs.History.{Entry, InOrder, IsSerialRun, Rises, state_after_all}
@@ -11,7 +11,7 @@ use Rattle.serial_model.specs.declared.op.Op.{Op}
 use Rattle.wire_form.specs.LogFile.{IsLineOf}
 use Rattle.tx_script.specs.Causes.{UnrunLast}
 use Rattle.tx_script.specs.Conflicts.{WorkersMet}
-use Rattle.tx_script.specs.Draws.{commits_of, lost_of}
+use Rattle.tx_script.specs.Draws.{commit_count, lost_of}
 use Rattle.tx_script.specs.Run.{IsBetween, LogRefusal, TryRefusal, entries_of_workers, of_worker}
 use Rattle.tx_script.specs.Tries.{AllCome, is_conflict}
 use Rattle.tx_script.specs.declared.outcome.Outcome.{Outcome}
@@ -63,22 +63,23 @@ pub record AreOrdered (index : ℕ) (s t : Standing) (shares : List Share) : Typ
   pub workers : (worker : ℕ) → Rises (of_worker worker (entries_in index shares))
   pub logged : (worker : ℕ) → worker < 8 → AreLogged s.decls worker s.state ordered (logged_in shares worker)
 
--- how many of the refusals are conflicts, and how many of those of all workers' lines are
+-- how many of the refusals are conflicts
 abbrev pub conflicts_among : List TryRefusal → ℕ
 conflicts_among refusals = length (filter is_conflict refusals)
 
+-- and of those of all workers' lines
 abbrev pub all_conflicts : List (List (List TryRefusal)) → ℕ
 all_conflicts refused = sum_by (λ of_worker. sum_by conflicts_among of_worker) refused
 
--- The lines of eight workers were run from s to t, each with so many tries. Contents, clock, the attempts that count and
--- the count of conflicts change alone; the epoch stays, as long as the maintenance thread's lines don't run beside them. Each number was drawn
--- for a commit of theirs, or for a try of theirs that was refused behind its draw. Each conflict that is told of a line is
--- with a line of another worker, and the engine counted it, and no others.
+-- The lines of eight workers were run from s to t, each with so many tries. Contents, clock, the attempts that count
+-- and the count of conflicts change alone; the epoch stays, as long as the maintenance thread's lines don't run beside
+-- them. Each number was drawn for a commit of theirs, or for a try of theirs that was refused behind its draw. Each
+-- conflict that is told of a line is with a line of another worker, and the engine counted it, and no others.
 pub record RunsShares (tries : ℕ) (s t : Standing) (shares : List Share) : Type 0 where
   pub workers : length shares ≡ 8
   pub only : t ≡ record s { state = t.state; clock = t.clock; mine = t.mine; conflicts = t.conflicts }
   pub epoch : t.clock.epoch ≡ s.clock.epoch
-  pub draw : t.clock.draw ≡ s.clock.draw + commits_of (map (λ (share : Share). share.outcomes) shares)
+  pub draw : t.clock.draw ≡ s.clock.draw + commit_count (map (λ (share : Share). share.outcomes) shares)
       + lost_of (map (λ (share : Share). share.tries_refused) shares)
   pub met : WorkersMet (map (λ (share : Share). share.lines) shares) 0 (map (λ (share : Share). share.lines) shares)
       (map (λ (share : Share). share.tries_refused) shares)

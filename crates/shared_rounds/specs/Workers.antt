@@ -1,6 +1,7 @@
 -- What the workers' lines of a round leave of their logs and log files, whichever engine ran them.
-use Rattle.std.specs.Prelude.{◌≡◌, ◌<◌, ◌≤◌, ◌+◌, ℕ, Bool, true, false, List, [], ◌∷◌, length, map}
+use Rattle.std.specs.Prelude.{◌≡◌, ◌<◌, ◌+◌, ℕ, Bool, true, false, List, [], ◌∷◌, length, map}
 use Rattle.std.specs.Prelude.{Option, Some, None, is_some, slice_get}
+use Rattle.std.specs.List.{Contains}
 use Rattle.std.specs.Option.{option_map}
 use Rattle.lists.specs.Fronts.{IsFront}
 use Rattle.serial_model.specs.declared.number.Commit.{Commit}
@@ -10,8 +11,10 @@ use Rattle.log_writer.specs.Journal.{JournalState, Reaches, end_of}
 use Rattle.tx_script.specs.Causes.{longest_line}
 use Rattle.tx_script.specs.Run.{LogRefusal, LogFailed, LogFull}
 use Rattle.tx_script.specs.declared.outcome.Outcome.{Outcome}
+use Rattle.tx_script.specs.declared.outcome.Outcome.TheVariants.{Unrun}
 use Rattle.worker_logs.specs.Logs.{LogState, idle_log}
 use Rattle.worker_logs.specs.Rows.{Blames, KeepsMarkIn, LogTakes}
+use Rattle.worker_cells.specs.Cells.{RefusesLine}
 use Rattle.worker_cells.specs.declared.cell.LogEnd.{LogEnd}
 use Rattle.shared_rounds.specs.Shares.{RunsShares, Share}
 use Rattle.shared_rounds.specs.Standing.{Standing}
@@ -39,6 +42,7 @@ abbrev pub refused_as : Bool → Option ℕ → Option LogRefusal
 refused_as true full = Some LogFailed
 refused_as false full = option_map LogFull full
 
+-- what refused a log, as its end tells
 abbrev pub refusal_of : LogEnd → Option LogRefusal
 refusal_of end = refused_as end.failed end.full
 
@@ -63,6 +67,13 @@ module _ {D : Type 0} (tells : D → Option (List ℕ)) (clock : D → ℕ) (ima
     pub refused : IsRefusedBy refusal new.journal
     pub failed : is_some new.journal.down ≡ true → refusal ≡ Some LogFailed
 
+  -- What was left out of a worker's lines: its log refused the first of them, behind what the others logged, at epochs
+  -- of the clock from this one on. It is told full only where there are some.
+  pub record LeavesOut (low : ℕ) (SomeLeft : Type 0) (logged : List Commit) (refusal : Option LogRefusal)
+      (old : LogState) (before : D) : Type 0 where
+    pub refuses : SomeLeft → RefusesLine tells clock image_at faults low logged old before
+    pub filled : (size : ℕ) → refusal ≡ Some (LogFull size) → SomeLeft
+
   -- The shares of eight workers ran over their logs and log files, from s to t: each log took what its own worker's
   -- commits changed, and nothing else.
   pub record RunsOver (tries : ℕ) (s t : Standing) (shares : List Share) (logs_was logs : List LogState)
@@ -76,7 +87,8 @@ module _ {D : Type 0} (tells : D → Option (List ℕ)) (clock : D → ℕ) (ima
         → LeftBy s.clock.epoch t.clock.epoch share.logged share.refusal old new before now
 
   -- All lines of a round were run, or left out: what is told of them, and what was found of each log. The log of a
-  -- worker without a line is as it was; where a log is up none of its lines waits.
+  -- worker without a line is as it was; where a log is up none of its lines waits. A line that is told unrun was left
+  -- out behind one that its log refused.
   pub record RunsWorkers (tries : ℕ) (round : Round) (s t : Standing) (outcomes : List (List Outcome))
       (ends : List LogEnd) (logs_was logs : List LogState) (banks_was banks : List D) : Type 0 where
     pub shares : List Share
@@ -90,6 +102,9 @@ module _ {D : Type 0} (tells : D → Option (List ℕ)) (clock : D → ℕ) (ima
     pub flushed : (i : ℕ) (log : LogState) → i < 8 → slice_get logs i ≡ Some log → log.journal.down ≡ None
         → log.journal.lines ≡ []
     pub ends_are : map refusal_of ends ≡ map (λ (share : Share). share.refusal) shares
+    pub left_out : (i : ℕ) (share : Share) (old : LogState) (before : D) → slice_get shares i ≡ Some share
+        → slice_get logs_was i ≡ Some old → slice_get banks_was i ≡ Some before
+        → LeavesOut s.clock.epoch (Contains share.outcomes Unrun) share.logged share.refusal old before
 
   -- Memory was wanted: some first lines of each worker were run.
   pub record StopsWorkers (tries : ℕ) (round : Round) (s t : Standing) (logs_was logs : List LogState)

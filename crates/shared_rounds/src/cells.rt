@@ -15,14 +15,12 @@ ghost use Rattle.tx_commit.specs.Live.{IsOver};
 
 use engine_words::{Engine, Pass, seat};
 use outside::Disk;
+use serial_model::WORKERS;
 use std::thread::{Threads, for_each_mut, join_mut};
 use tx_runner::idle;
 use tx_script::{OutcomeRoom, Round};
 use worker_cells::{Cell, Desk, LineGate, LogEnd, run_cell};
 use worker_logs::WorkerLog;
-
-/// How many workers there are.
-pub(crate) const WORKERS: usize = 8;
 
 /// Seats the workers, the last one first, each with its log, its log file, its room and a desk. Those that have none of
 /// so many lines hold no epoch back from then on.

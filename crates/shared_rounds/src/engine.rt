@@ -6,12 +6,11 @@ ghost use Rattle.serial_model.specs.Numbers.{IsNumber, last_epoch};
 ghost use Rattle.engine_words.specs.Making.{StandsFirst};
 ghost use Rattle.shared_rounds.specs.SharedState.{is_array, opened};
 
-use crate::cells::WORKERS;
 use crate::opening::first_layout;
 use engine_words::{Engine, Layout, Pass};
 use homes::Content;
 use lists::{Memory, Sequence};
-use serial_model::{Decl, Decls, Key, Number};
+use serial_model::{Decl, Decls, Key, Number, WORKERS};
 use std::alloc::Global;
 use std::marker::Model;
 use worker_cells::Desk;

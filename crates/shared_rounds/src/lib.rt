@@ -7,7 +7,8 @@
 //!
 //! `RunsWorkers` says what a round's lines come to, whichever engine ran them: each line's outcome with its cause, an
 //! order of all commits in which they are serial from the standing before to the one after, and of each log that it
-//! took what its own worker's commits changed. Each number was drawn for a commit, or for a try that was refused behind
+//! took what its own worker's commits changed. A line is left out only where its log refused one earlier in the round
+//! (`LeavesOut`). Each number was drawn for a commit, or for a try that was refused behind
 //! its draw, and a try in conflict met a line of another worker (`RunsShares`). `StopsWorkers` says it of some first
 //! lines, on an engine whose lines may want memory. Here [`make_rooms`] takes all memory that the lines of a round want
 //! (`IsRoomOf`), and [`run_workers`], which is lent it, wants none: it runs the lines in as many threads as workers

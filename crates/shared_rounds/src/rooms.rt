@@ -2,9 +2,8 @@
 ghost use Rattle.std.specs.Prelude.{◌≡◌, ◌+◌, ◌<◌, ◌≤◌, ℕ, IfOk, get_or, length, vec_len};
 ghost use Rattle.shared_rounds.specs.Rooms.{AreCounts, AreRooms, IsRoomOf, counts_for};
 
-use crate::cells::WORKERS;
 use outside::Disk;
-use serial_model::Memory;
+use serial_model::{Memory, WORKERS};
 use std::alloc::Global;
 use tx_script::{OutcomeRoom, Outcomes, Round};
 use worker_cells::Cell;
@@ -29,7 +28,7 @@ pub fn make_rooms<D: Disk + Drop>(alloc: Global, round: &Round<'_>) -> Result<Ro
     ensures { IfOk result (λ rooms. IsRoomOf round.now rooms) }
 {
     let counts = count_lines(round);
-    let outcomes = make_outcomes(alloc, &counts)?;
+    let outcomes = make_outcome_rooms(alloc, &counts)?;
     let cells = Vec::with_capacity(alloc, WORKERS)?;
     let told = Vec::with_capacity(alloc, WORKERS)?;
     Ok(Rooms {
@@ -71,7 +70,7 @@ fn count_one(counts: &mut [u32; WORKERS], worker: Option<u8>)
 }
 
 // Room for so many lines of each worker.
-fn make_outcomes(alloc: Global, counts: &[u32; WORKERS]) -> Result<Vec<OutcomeRoom>, Memory>
+fn make_outcome_rooms(alloc: Global, counts: &[u32; WORKERS]) -> Result<Vec<OutcomeRoom>, Memory>
     requires workers { length counts.now ≡ 8 }
     requires few { (worker : ℕ) → worker < 8 → get_or counts.now worker 0 ≤ 65536 }
     ensures { IfOk result (λ rooms. (vec_len rooms ≡ 8) × AreRooms counts.now rooms.items) }

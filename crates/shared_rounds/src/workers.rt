@@ -14,14 +14,15 @@ ghost use Rattle.shared_rounds.specs.Rooms.{IsRoomOf};
 ghost use Rattle.shared_rounds.specs.SharedState.{are_arrays};
 
 use crate::SharedEngine;
-use crate::cells::{WORKERS, run_all, seat_all};
+use crate::cells::{run_all, seat_all};
 use crate::ends::{WorkersRan, end_all};
 use crate::rooms::Rooms;
 use engine_words::audit;
 use outside::Disk;
-use serial_model::Number;
+use serial_model::{Number, WORKERS};
 use std::thread::Threads;
 use tx_script::Round;
+use wire_form::number_in;
 use worker_cells::LineGate;
 use worker_logs::WorkerLog;
 
@@ -89,8 +90,5 @@ pub fn run_workers<R: Threads + Sync, D: Disk + Send + Drop, G: LineGate + Sync>
 fn number_at(word: u64) -> Number
     ensures { result ≡ clock_number word }
 {
-    Number {
-        epoch: (word / (1 << 40)) as u32,
-        draw: word % (1 << 40),
-    }
+    number_in(word)
 }

@@ -17,7 +17,7 @@ use Rattle.worker_cells.specs.Cells.{IsCell, IsShown, IsTied, ReadiesSome, RunsC
 use Rattle.worker_cells.specs.InARow.{row_layout, row_role}
 use Rattle.worker_cells.proofs.LinesOf.{HasOps, count_more, few_of, ops_of, take_mine}
 use Rattle.worker_cells.proofs.LinesOf.{take_other, whole_of, within_of}
-use Rattle.worker_cells.proofs.Loop.{lines_begin, lines_marked, lines_step, some_lines}
+use Rattle.worker_cells.proofs.Loop.{RunsOn, lines_begin, lines_marked, lines_step, some_lines}
 
 -- a list with nothing in it
 empty_of : {X : Type 0} (xs : List X) → length xs ≡ 0 → xs ≡ []
@@ -30,7 +30,7 @@ pub record SoFar {D : Type 0} (tells : D → Option (List ℕ)) (clock : D → �
     (faults : D → ℕ) (tries worker i : ℕ) (lines : List Line) (outcomes : List Outcome) (end : LogEnd)
     (shown : Option Mark) (count : ℕ) (v w : View) (old new : LogState) (before now : D) : Type 0 where
   pub high : ℕ
-  pub runs : RunsLines tells clock image_at faults tries high (ops_of worker (take i lines)) outcomes end.full v w
+  pub runs : RunsOn tells clock image_at faults tries high (ops_of worker (take i lines)) outcomes end.full v w
       old new before now
   pub shown_is : IsShown shown new.mark w.seat.marks
   pub failed : end.failed ≡ is_some new.journal.down
@@ -47,9 +47,9 @@ module _ {D : Type 0} {tells : D → Option (List ℕ)} {clock : D → ℕ} {ima
       → SoFar tells clock image_at faults tries worker 0 lines outcomes end shown 0 v v log log bank bank
   so_begin tries worker lines outcomes end shown {v = v} {log = log} {bank = bank} is none full failed shows = record {
     high = v.epoch;
-    runs = subst (λ o. RunsLines tells clock image_at faults tries v.epoch [] o end.full v v log log bank bank)
+    runs = subst (λ o. RunsOn tells clock image_at faults tries v.epoch [] o end.full v v log log bank bank)
         (sym none)
-        (subst (λ f. RunsLines tells clock image_at faults tries v.epoch [] [] f v v log log bank bank) (sym full)
+        (subst (λ f. RunsOn tells clock image_at faults tries v.epoch [] [] f v v log log bank bank) (sym full)
         (lines_begin tries is));
     shown_is = shows;
     failed = failed;
@@ -76,7 +76,7 @@ module _ {D : Type 0} {tells : D → Option (List ℕ)} {clock : D → ℕ} {ima
       let same : ops_of worker (take (i + 1) lines) ≡ ops_of worker (take i lines) = take_other worker lines i has in
       record {
         high = so.high;
-        runs = subst (λ l. RunsLines tells clock image_at faults tries so.high l outcomes end.full v w old new
+        runs = subst (λ l. RunsOn tells clock image_at faults tries so.high l outcomes end.full v w old new
             before now)
             (sym same) so.runs;
         shown_is = so.shown_is;
@@ -102,7 +102,7 @@ module _ {D : Type 0} {tells : D → Option (List ℕ)} {clock : D → ℕ} {ima
       take_mine worker lines i ops has in
       record {
         high = one.0;
-        runs = subst (λ l. RunsLines tells clock image_at faults tries one.0 l after end.full v x old left before now)
+        runs = subst (λ l. RunsOn tells clock image_at faults tries one.0 l after end.full v x old left before now)
             (sym mine) one.1;
         shown_is = is;
         failed = one.2;
@@ -166,9 +166,9 @@ module _ {D : Type 0} {tells : D → Option (List ℕ)} {clock : D → ℕ} {ima
             old new before now) whole
             (subst (λ h. RunsLines tells clock image_at faults tries h (ops_of worker (take i lines)) outcomes
             end.full v w
-            old new before now) (so.idle none) so.runs);
+            old new before now) (so.idle none) so.runs.runs);
         failed = so.failed;
-        flushed = λ up. ap (λ (l : LogState). l.journal.lines) (so.runs.none none).0 ∙ flushed;
+        flushed = λ up. ap (λ (l : LogState). l.journal.lines) (so.runs.runs.none none).0 ∙ flushed;
         tied = λ some up. absurd (some (sym whole ∙ none));
       }
 
@@ -179,19 +179,19 @@ module _ {D : Type 0} {tells : D → Option (List ℕ)} {clock : D → ℕ} {ima
       (so : SoFar tells clock image_at faults tries worker i lines outcomes end shown count v w old new before now)
     where
       pub so_over : IsOver w
-      so_over = so.runs.did.over
+      so_over = so.runs.runs.did.over
 
       pub so_role : w.role ≡ v.role
-      so_role = row_role tries v so.runs.ran w so.runs.did.row
+      so_role = row_role tries v so.runs.runs.ran w so.runs.runs.did.row
 
       pub so_layout : w.layout ≡ v.layout
-      so_layout = row_layout tries v so.runs.ran w so.runs.did.row
+      so_layout = row_layout tries v so.runs.runs.ran w so.runs.runs.did.row
 
       pub so_draws : 1 ≤ v.layout.first.draw → 1 ≤ w.layout.first.draw
-      so_draws some = subst (λ l. 1 ≤ l.first.draw) (sym (row_layout tries v so.runs.ran w so.runs.did.row)) some
+      so_draws some = subst (λ l. 1 ≤ l.first.draw) (sym (row_layout tries v so.runs.runs.ran w so.runs.runs.did.row)) some
 
       pub so_reaches : Reaches tells now new.journal
-      so_reaches = so.runs.did.reaches
+      so_reaches = so.runs.runs.did.reaches
 
       -- room for all lines isn't full yet
       pub so_room : (ops : List Op) (size left : ℕ) → HasOps worker lines i (Some ops)

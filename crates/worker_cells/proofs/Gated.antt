@@ -1,5 +1,5 @@
 -- What the gate is told of a line of a cell, by what comes of it.
-use Rattle.std.proofs.Common.{◌≡◌, ◌⊎◌, inl, inr, refl, sym, ◌∙◌, ap, ℕ, List, Bool, true, false, true≢false, Option, Some, None}
+use Rattle.std.proofs.Common.{◌≡◌, ◌⊎◌, inl, inr, refl, sym, ◌∙◌, ap, ℕ, List, true, false, true≢false, Option, None}
 use Rattle.std.specs.Prelude.{is_some}
 use Rattle.serial_model.specs.declared.number.Commit.{Commit}
 use Rattle.serial_model.specs.declared.op.Op.{Op}

@@ -1,6 +1,6 @@
 -- The loop over the lines of a cell: a line more that was run, or left out, and the mark behind the last one.
-use Rattle.std.proofs.Common.{◌≡◌, ◌∙◌, ◌++◌, ◌∷◌, ◌⊎◌, inl, inr, refl, sym, ap, subst, ℕ, List, []}
-use Rattle.std.proofs.Common.{Bool, true, true≢false, Option, Some, None, append_assoc}
+use Rattle.std.proofs.Common.{◌≡◌, ◌∙◌, ◌++◌, ◌-◌, ◌∷◌, ◌⊎◌, inl, inr, refl, sym, ap, subst, ℕ, List, []}
+use Rattle.std.proofs.Common.{Bool, false, true, true≢false, Option, Some, None, append_assoc}
 use Rattle.std.specs.Prelude.{is_some}
 use Rattle.std.proofs.lemmas.List.{append-nil}
 use Rattle.serial_model.specs.declared.number.Commit.{Commit}
@@ -49,32 +49,50 @@ shut : (failed : Bool) (full : Option ℕ) (down : Option ℕ) → failed ≡ is
 shut failed full down is (inl refused) none up = true≢false (sym refused ∙ is ∙ ap is_some up)
 shut failed full down is (inr refused) none up = true≢false (sym refused ∙ ap is_some none)
 
+-- a journal that isn't down is up
+is_up : (down : Option ℕ) → is_some down ≡ false → down ≡ None
+is_up None is = refl
+is_up (Some count) is = absurd cc
+
+-- Lines were run, and what waits isn't flushed yet: a log that refused none is up.
+pub record RunsOn {D : Type 0} (tells : D → Option (List ℕ)) (clock : D → ℕ) (image_at : D → ℕ → List ℕ → Type 0)
+    (faults : D → ℕ) (tries high : ℕ) (lines : List (List Op)) (outcomes : List Outcome) (full : Option ℕ) (v w : View)
+    (old new : LogState) (before now : D) : Type 0 where
+  pub runs : RunsLines tells clock image_at faults tries high lines outcomes full v w old new before now
+  pub up : runs.left ≡ [] → new.journal.down ≡ None
+
 module _ {D : Type 0} {tells : D → Option (List ℕ)} {clock : D → ℕ} {image_at : D → ℕ → List ℕ → Type 0}
     {faults : D → ℕ} where
   -- no line
   pub lines_begin : (tries : ℕ) {v : View} {log : LogState} {bank : D} → IsCell tells v log bank
-      → RunsLines tells clock image_at faults tries v.epoch [] [] None v v log log bank bank
+      → RunsOn tells clock image_at faults tries v.epoch [] [] None v v log log bank bank
   lines_begin tries is = record {
-    ran = [];
-    left = [];
-    whole = refl;
-    told = refl;
-    did = ran_begin tries is;
-    full_is = λ size is. absurd (let no = is in cc);
-    all = λ none up. refl;
-    none = λ none. (refl, refl, refl);
+    runs = record {
+      ran = [];
+      left = [];
+      whole = refl;
+      told = refl;
+      did = ran_begin tries is;
+      full_is = λ size is. absurd (let no = is in cc);
+      all = λ none up. refl;
+      refuses = λ some. absurd (some refl);
+      unfilled = λ none. refl;
+      none = λ none. (refl, refl, refl);
+    };
+    up = λ none. is.up.up;
   }
 
   -- a line was run, as the log was not refused before
   pub lines_ran : {tries high : ℕ} {lines : List (List Op)} {outcomes after : List Outcome} {full : Option ℕ}
       {v w x y : View} {old mid ready left : LogState} {before between now : D} (ops : List Op) → full ≡ None
-      → RunsLines tells clock image_at faults tries high lines outcomes full v w old mid before between
+      → RunsOn tells clock image_at faults tries high lines outcomes full v w old mid before between
       → Readies tells clock image_at faults None w x mid ready between now
       → IsMarkedBelow ready.mark x
       → (one : RunsOne tries ops outcomes after x y ready left)
-      → RunsLines tells clock image_at faults tries x.epoch (lines ++ ops ∷ []) after full v y old left before now
-  lines_ran {tries = tries} {lines = lines} {outcomes = outcomes} {full = full} {x = x} {y = y} {ready = ready} ops
-      unfilled so readied marked one =
+      → RunsOn tells clock image_at faults tries x.epoch (lines ++ ops ∷ []) after full v y old left before now
+  lines_ran {tries = tries} {lines = lines} {outcomes = outcomes} {full = full} {x = x} {y = y} {ready = ready}
+      {left = left} ops unfilled on readied marked one =
+      let so = on.runs in
       let none : so.left ≡ [] = so.all unfilled (was_up readied.moves) in
       let line : LineRan = record {
         ops = ops;
@@ -85,67 +103,105 @@ module _ {D : Type 0} {tells : D → Option (List ℕ)} {clock : D → ℕ} {ima
         after = y;
       } in
       record {
-        ran = so.ran ++ line ∷ [];
-        left = [];
-        whole = ap (λ l. l ++ ops ∷ []) (so.whole ∙ ap (λ l. lines_of so.ran ++ l) none ∙ append-nil (lines_of so.ran))
-            ∙ sym (lines_push so.ran line) ∙ sym (append-nil (lines_of (so.ran ++ line ∷ [])));
-        told = one.told_is ∙ ap (λ o. o ++ one.logs.outcome ∷ [])
-            (so.told ∙ ap (λ l. outcomes_of so.ran ++ unrun l) none ∙ append-nil (outcomes_of so.ran))
-            ∙ sym (outcomes_push so.ran line) ∙ sym (append-nil (outcomes_of (so.ran ++ line ∷ [])));
-        did = ran_line ops refl (ran_ready None so.did readied) marked one.logs;
-        full_is = λ size is. absurd (let no = sym unfilled ∙ is in cc);
-        all = λ no up. refl;
-        none = λ is. absurd (some_lines lines ops is);
+        runs = record {
+          ran = so.ran ++ line ∷ [];
+          left = [];
+          whole = ap (λ l. l ++ ops ∷ [])
+              (so.whole ∙ ap (λ l. lines_of so.ran ++ l) none ∙ append-nil (lines_of so.ran))
+              ∙ sym (lines_push so.ran line) ∙ sym (append-nil (lines_of (so.ran ++ line ∷ [])));
+          told = one.told_is ∙ ap (λ o. o ++ one.logs.outcome ∷ [])
+              (so.told ∙ ap (λ l. outcomes_of so.ran ++ unrun l) none ∙ append-nil (outcomes_of so.ran))
+              ∙ sym (outcomes_push so.ran line) ∙ sym (append-nil (outcomes_of (so.ran ++ line ∷ [])));
+          did = ran_line ops refl (ran_ready None so.did readied) marked one.logs;
+          full_is = λ size is. absurd (let no = sym unfilled ∙ is in cc);
+          all = λ no up. refl;
+          refuses = λ some. absurd (some refl);
+          unfilled = λ is. unfilled;
+          none = λ is. absurd (some_lines lines ops is);
+        };
+        up = λ is. down_took ready left one.logs.logged one.logs.takes
+            ∙ readied.moves.stays_up (λ no. cc) ∙ was_up readied.moves;
       }
 
   -- behind a log that was refused before a line is left out
   pub lines_passed : {tries high : ℕ} {lines : List (List Op)} {outcomes after : List Outcome} {full : Option ℕ}
       {v w : View} {old log : LogState} {before now : D} (ops : List Op)
       → (full ≡ None → log.journal.down ≡ None → ⊥)
-      → RunsLines tells clock image_at faults tries high lines outcomes full v w old log before now
+      → RunsOn tells clock image_at faults tries high lines outcomes full v w old log before now
       → after ≡ outcomes ++ Unrun ∷ []
-      → RunsLines tells clock image_at faults tries high (lines ++ ops ∷ []) after full v w old log before now
-  lines_passed {lines = lines} ops shut so told = record {
-    ran = so.ran;
-    left = so.left ++ ops ∷ [];
-    whole = ap (λ l. l ++ ops ∷ []) so.whole ∙ append_assoc (lines_of so.ran) so.left (ops ∷ []);
-    told = told ∙ ap (λ o. o ++ Unrun ∷ []) so.told ∙ append_assoc (outcomes_of so.ran) (unrun so.left) (Unrun ∷ [])
-        ∙ ap (λ o. outcomes_of so.ran ++ o) (sym (unrun_push so.left ops));
-    did = so.did;
-    full_is = so.full_is;
-    all = λ none up. absurd (shut none up);
-    none = λ is. absurd (some_lines lines ops is);
-  }
+      → RunsOn tells clock image_at faults tries high (lines ++ ops ∷ []) after full v w old log before now
+  lines_passed {lines = lines} ops shut on told =
+      let so = on.runs in
+      record {
+        runs = record {
+          ran = so.ran;
+          left = so.left ++ ops ∷ [];
+          whole = ap (λ l. l ++ ops ∷ []) so.whole ∙ append_assoc (lines_of so.ran) so.left (ops ∷ []);
+          told = told ∙ ap (λ o. o ++ Unrun ∷ []) so.told
+              ∙ append_assoc (outcomes_of so.ran) (unrun so.left) (Unrun ∷ [])
+              ∙ ap (λ o. outcomes_of so.ran ++ o) (sym (unrun_push so.left ops));
+          did = so.did;
+          full_is = so.full_is;
+          all = λ none up. absurd (shut none up);
+          refuses = λ some. so.refuses (λ none. shut (so.unfilled none) (on.up none));
+          unfilled = λ none. absurd (some_lines so.left ops none);
+          none = λ is. absurd (some_lines lines ops is);
+        };
+        up = λ none. absurd (some_lines so.left ops none);
+      }
 
-  -- the log refused a line
+  -- the log refused a line, the first one
   pub lines_left : {tries high : ℕ} {lines : List (List Op)} {outcomes after : List Outcome} {full : Option ℕ}
       {v w x : View} {old mid left : LogState} {before between now : D} (ops : List Op) (fault : LogFault)
-      → RunsLines tells clock image_at faults tries high lines outcomes full v w old mid before between
+      → mid.journal.down ≡ None
+      → RunsOn tells clock image_at faults tries high lines outcomes full v w old mid before between
       → Readies tells clock image_at faults (Some fault) w x mid left between now
       → ((size : ℕ) → fault ≡ AtLimit size → IsFull size mid.journal)
       → after ≡ outcomes ++ Unrun ∷ []
-      → RunsLines tells clock image_at faults tries x.epoch (lines ++ ops ∷ []) after (full_after fault full) v x
+      → RunsOn tells clock image_at faults tries x.epoch (lines ++ ops ∷ []) after (full_after fault full) v x
       old left before now
-  lines_left {lines = lines} {full = full} ops fault so readied limit told = record {
-    ran = so.ran;
-    left = so.left ++ ops ∷ [];
-    whole = ap (λ l. l ++ ops ∷ []) so.whole ∙ append_assoc (lines_of so.ran) so.left (ops ∷ []);
-    told = told ∙ ap (λ o. o ++ Unrun ∷ []) so.told ∙ append_assoc (outcomes_of so.ran) (unrun so.left) (Unrun ∷ [])
-        ∙ ap (λ o. outcomes_of so.ran ++ o) (sym (unrun_push so.left ops));
-    did = ran_ready (Some fault) so.did readied;
-    full_is = λ size is. still_full readied.moves (full_at fault full limit so.full_is size is);
-    all = λ none up. absurd (never_up fault full readied.moves none up);
-    none = λ is. absurd (some_lines lines ops is);
-  }
+  lines_left {high = high} {lines = lines} {full = full} {x = x} {mid = mid} {left = left} {between = between}
+      {now = now} ops fault up on readied limit told =
+      let so = on.runs in
+      record {
+        runs = record {
+          ran = so.ran;
+          left = so.left ++ ops ∷ [];
+          whole = ap (λ l. l ++ ops ∷ []) so.whole ∙ append_assoc (lines_of so.ran) so.left (ops ∷ []);
+          told = told ∙ ap (λ o. o ++ Unrun ∷ []) so.told
+              ∙ append_assoc (outcomes_of so.ran) (unrun so.left) (Unrun ∷ [])
+              ∙ ap (λ o. outcomes_of so.ran ++ o) (sym (unrun_push so.left ops));
+          did = ran_ready (Some fault) so.did readied;
+          full_is = λ size is. still_full readied.moves (full_at fault full limit so.full_is size is);
+          all = λ none up. absurd (never_up fault full readied.moves none up);
+          refuses = λ some. record {
+            high = high;
+            found = mid;
+            at = between;
+            takes = so.did.takes;
+            limit = so.did.limit;
+            up = up;
+            fault = fault;
+            epoch = x.epoch - 1;
+            left = left;
+            behind = now;
+            call = readied.moves;
+            full = limit;
+          };
+          unfilled = λ none. absurd (some_lines so.left ops none);
+          none = λ is. absurd (some_lines lines ops is);
+        };
+        up = λ none. absurd (some_lines so.left ops none);
+      }
 
   -- What waits was made durable at the end, and marked.
   pub lines_marked : {tries high : ℕ} {lines : List (List Op)} {outcomes : List Outcome} {full : Option ℕ}
       {v w x : View} {old mid left : LogState} {before between now : D} (fault : Option LogFault)
       → (lines ≡ [] → ⊥)
-      → RunsLines tells clock image_at faults tries high lines outcomes full v w old mid before between
+      → RunsOn tells clock image_at faults tries high lines outcomes full v w old mid before between
       → Readies tells clock image_at faults fault w x mid left between now
       → RunsLines tells clock image_at faults tries x.epoch lines outcomes full v x old left before now
-  lines_marked fault some so readied = record {
+  lines_marked fault some on readied = let so = on.runs in record {
     ran = so.ran;
     left = so.left;
     whole = so.whole;
@@ -153,6 +209,8 @@ module _ {D : Type 0} {tells : D → Option (List ℕ)} {clock : D → ℕ} {ima
     did = ran_ready fault so.did readied;
     full_is = λ size is. still_full readied.moves (so.full_is size is);
     all = λ no up. so.all no (still_down fault readied.moves up);
+    refuses = so.refuses;
+    unfilled = so.unfilled;
     none = λ is. absurd (some is);
   }
 
@@ -161,30 +219,31 @@ module _ {D : Type 0} {tells : D → Option (List ℕ)} {clock : D → ℕ} {ima
   -- a line more, whatever was done with it
   pub lines_step : {tries high : ℕ} {lines : List (List Op)} {outcomes after : List Outcome} {first end : LogEnd}
       {v w x : View} {old mid left : LogState} {before between now : D} (ops : List Op)
-      → RunsLines tells clock image_at faults tries high lines outcomes first.full v w old mid before between
+      → RunsOn tells clock image_at faults tries high lines outcomes first.full v w old mid before between
       → first.failed ≡ is_some mid.journal.down
       → StepsOne tells clock image_at faults tries ops outcomes after first end w x mid left between now
       → (later : ℕ)
-      × RunsLines tells clock image_at faults tries later (lines ++ ops ∷ []) after end.full v x old left before now
+      × RunsOn tells clock image_at faults tries later (lines ++ ops ∷ []) after end.full v x old left before now
       × (end.failed ≡ is_some left.journal.down)
   lines_step {tries = tries} {high = high} {lines = lines} {outcomes = outcomes} {after = after} {first = first}
       {end = end} {v = v} {w = w} {x = x} {old = old} {mid = mid} {left = left} {before = before} {between = between}
       {now = now} ops so failed (inl (same, up, unfilled, ran)) = (
         ran.mid.epoch,
-        subst (λ (e : LogEnd). RunsLines tells clock image_at faults tries ran.mid.epoch (lines ++ ops ∷ []) after
+        subst (λ (e : LogEnd). RunsOn tells clock image_at faults tries ran.mid.epoch (lines ++ ops ∷ []) after
             e.full v x
             old left before now) (sym same) (lines_ran ops unfilled so ran.readies ran.marked ran.one),
         ap (λ (e : LogEnd). e.failed) same ∙ failed
             ∙ ap is_some (sym (down_took ran.ready left ran.one.logs.logged ran.one.logs.takes
             ∙ ran.readies.moves.stays_up (λ is. cc))),
       )
-  lines_step {tries = tries} {lines = lines} {after = after} {end = end} {v = v} {x = x} {old = old} {left = left}
-      {before = before} {now = now} ops so failed (inr (inl (unfilled, refused))) = (
+  lines_step {tries = tries} {lines = lines} {after = after} {end = end} {v = v} {x = x} {old = old} {mid = mid}
+      {left = left} {before = before} {now = now} ops so failed (inr (inl (unfilled, unfailed, refused))) = (
         x.epoch,
-        subst (λ f. RunsLines tells clock image_at faults tries x.epoch (lines ++ ops ∷ []) after f v x old left
+        subst (λ f. RunsOn tells clock image_at faults tries x.epoch (lines ++ ops ∷ []) after f v x old left
             before now)
             (ap (full_after refused.fault) unfilled ∙ sym refused.full)
-            (lines_left ops refused.fault so refused.readies refused.limit refused.told_is),
+            (lines_left ops refused.fault (is_up mid.journal.down (sym failed ∙ unfailed)) so refused.readies
+            refused.limit refused.told_is),
         refused.failed,
       )
   lines_step {tries = tries} {high = high} {lines = lines} {after = after} {first = first} {v = v} {w = w} {x = x}

@@ -129,6 +129,24 @@ module _ {D : Type 0} (tells : D → Option (List ℕ)) (clock : D → ℕ) (ima
     pub reaches : Reaches tells now new.journal
     pub limit : new.journal.limit ≡ old.journal.limit
 
+  -- ---- what refused a line
+
+  -- A worker's log refused a line. It had what the lines before it changed, of the limit that it had, and was up; then a
+  -- call made its log file fail, or found that with one line more the file might get longer than it may.
+  pub record RefusesLine (low : ℕ) (logged : List Commit) (old : LogState) (before : D) : Type 0 where
+    pub high : ℕ
+    pub found : LogState
+    pub at : D
+    pub takes : LogTakes tells clock image_at low high logged old found before at
+    pub limit : found.journal.limit ≡ old.journal.limit
+    pub up : found.journal.down ≡ None
+    pub fault : LogFault
+    pub epoch : ℕ
+    pub left : LogState
+    pub behind : D
+    pub call : MovesLog tells clock image_at faults epoch found left at behind (Some fault)
+    pub full : (size : ℕ) → fault ≡ AtLimit size → IsFull size found.journal
+
   -- ---- a line of a cell
 
   -- the log was made ready for it at the epoch that the pass saw, and it was run
@@ -160,17 +178,19 @@ module _ {D : Type 0} (tells : D → Option (List ℕ)) (clock : D → ℕ) (ima
     pub log : new ≡ old
     pub bank : now ≡ before
 
-  -- What a line leaves of a cell whose log was refused so before, or not at all.
+  -- What a line leaves of a cell whose log was refused so before, or not at all: it is run, the log refuses it, or had
+  -- refused one before.
   abbrev pub StepsOne : ℕ → List Op → List Outcome → List Outcome → LogEnd → LogEnd → View → View → LogState → LogState
       → D → D → Type 0
   StepsOne tries ops was told first end v w old new before now =
       ((end ≡ first) × (first.failed ≡ false) × (first.full ≡ None) × RanNow tries ops was told v w old new before now)
-      ⊎ ((first.full ≡ None) × LeftNow was told end v w old new before now)
+      ⊎ ((first.full ≡ None) × (first.failed ≡ false) × LeftNow was told end v w old new before now)
       ⊎ PassedNow was told first end v w old new before now
 
   -- ---- all lines of a worker
 
-  -- Lines of a worker were run, one after another, and behind the last one that its log took none.
+  -- Lines of a worker were run, one after another. Those behind them were left out: their log refused the first of
+  -- them, and it is told full only where it did.
   pub record RunsLines (tries high : ℕ) (lines : List (List Op)) (outcomes : List Outcome) (full : Option ℕ)
       (v w : View) (old new : LogState) (before now : D) : Type 0 where
     pub ran : List LineRan
@@ -180,6 +200,8 @@ module _ {D : Type 0} (tells : D → Option (List ℕ)) (clock : D → ℕ) (ima
     pub did : RanOver tries high ran v w old new before now
     pub full_is : (size : ℕ) → full ≡ Some size → IsFull size new.journal
     pub all : full ≡ None → new.journal.down ≡ None → left ≡ []
+    pub refuses : (left ≡ [] → ⊥) → RefusesLine v.epoch (logged_of ran) old before
+    pub unfilled : left ≡ [] → full ≡ None
     pub none : lines ≡ [] → (new ≡ old) × (now ≡ before) × (w ≡ v)
 
   -- All lines of the worker were run, or left out. What waits was flushed then, and marked by the epoch that the pass

@@ -1,8 +1,9 @@
 -- Laws of what a gate is told: one line more, and one worker more.
-use Rattle.std.proofs.Common.{◌≡◌, ◌∙◌, ◌++◌, ◌∷◌, ◌+◌, refl, sym, ap, subst, ℕ, suc, Bool, true, false, cond, List, [], length}
-use Rattle.std.proofs.Common.{append-nil, append_assoc, length-append, arith}
+use Rattle.std.proofs.Common.{◌≡◌, ◌∙◌, ◌++◌, ◌∷◌, ◌+◌, sym, ap, subst, ℕ, suc, Bool, true, false, cond, List, []}
+use Rattle.std.proofs.Common.{length, append-nil, append_assoc, length-append, arith}
 use Rattle.tx_script.specs.declared.outcome.Outcome.{Outcome}
-use Rattle.worker_cells.specs.Gates.{After, AreAllTold, Before, GateCall, IsTold, calls_for, calls_in, calls_of, calls_round, is_run}
+use Rattle.worker_cells.specs.Gates.{After, AreAllTold, Before, GateCall, IsTold, calls_for, calls_in, calls_of}
+use Rattle.worker_cells.specs.Gates.{calls_round, is_run}
 use Rattle.worker_cells.specs.declared.cell.LogEnd.{LogEnd}
 
 -- both calls round a line

@@ -1,6 +1,6 @@
 -- Lines in a row: one more of them, and what a pass keeps through them.
-use Rattle.std.proofs.Common.{◌≡◌, ◌⊎◌, inl, inr, subst, ◌∙◌, ◌++◌, ◌∷◌, ◌+◌, refl, sym, ap, ℕ, Bool, false, cond, List, []}
-use Rattle.std.proofs.Common.{Option, Some, None, append_assoc, arith}
+use Rattle.std.proofs.Common.{◌≡◌, ◌⊎◌, inl, inr, subst, ◌∙◌, ◌++◌, ◌∷◌, ◌+◌, refl, sym, ap, ℕ, Bool, false, cond, List}
+use Rattle.std.proofs.Common.{[], Option, Some, None, append_assoc, arith}
 use Rattle.std.specs.Prelude.{Contains, option_to_list}
 use Rattle.std.proofs.lemmas.List.{append-nil, map-append}
 use Rattle.std.proofs.lemmas.Grind.{flat_map-append}
@@ -23,12 +23,14 @@ use Rattle.worker_cells.specs.Rows.{AreInARow, ComesOf, Goes, LineRan, drawn_in,
 
 -- ---- between lines
 
+-- what is seen of the history goes on
 pub seen_then : (u v w : View) → HasSeen u v → HasSeen v w → HasSeen u w
 seen_then u v w first next = record {
   history = front_then u.history v.history w.history first.history next.history;
   decided = front_then u.decided v.decided w.decided first.decided next.decided;
 }
 
+-- nothing was done
 pub goes_none : (v : View) → Goes v v
 goes_none v = record {
   seen = record { history = front_refl v.history; decided = front_refl v.decided };
@@ -41,6 +43,7 @@ goes_none v = record {
   blamed = refl;
 }
 
+-- one step behind another
 pub goes_then : (u v w : View) → Goes u v → Goes v w → Goes u w
 goes_then u v w first next = record {
   seen = seen_then u v w first.seen next.seen;
@@ -55,9 +58,9 @@ goes_then u v w first next = record {
 
 -- ---- one line
 
--- What a line keeps of its pass, whatever comes of it: no transaction is under way, the marks are as they were, what the
--- pass was refused for, the line's tries were, at the keys that are told, so many numbers were drawn for it, and locks
--- were taken of keys that it may write.
+-- What a line keeps of its pass, whatever comes of it: no transaction is under way, the marks are as they were, what
+-- the pass was refused for, the line's tries were, at the keys that are told, so many numbers were drawn for it, and
+-- locks were taken of keys that it may write.
 pub record Kept (ops : List Op) (outcome : Outcome) (refused : List Lost) (v w : View) : Type 0 where
   pub over : IsOver w
   pub layout : w.layout ≡ v.layout
@@ -87,6 +90,7 @@ tries_keep ops outcome losts refused v w t is none = record {
   touched = t.touched;
 }
 
+-- what came of a line tells what it keeps
 pub line_keeps : (tries : ℕ) (ops : List Op) (outcome : Outcome) (refused : List Lost) (logged : Option Commit)
     (v w : View) → ComesOf tries ops outcome refused logged v w → Kept ops outcome refused v w
 line_keeps tries ops (Committed verdict number replies) refused logged v w comes =
@@ -106,7 +110,8 @@ line_keeps tries ops (Committed verdict number replies) refused logged v w comes
 line_keeps tries ops Conflict refused logged v w comes =
     tries_keep ops Conflict comes.1.losts refused v w comes.1.tried comes.2 refl
 line_keeps tries ops Limit refused logged v w comes =
-    tries_keep ops Limit (comes.1.refused.losts ++ ToClock comes.1.clock ∷ []) refused v w comes.1.refused.tried comes.2 refl
+    tries_keep ops Limit (comes.1.refused.losts ++ ToClock comes.1.clock ∷ []) refused v w comes.1.refused.tried comes.2
+    refl
 line_keeps tries ops Full refused logged v w comes = absurd comes
 line_keeps tries ops Wide refused logged v w comes = absurd comes
 line_keeps tries ops Unrun refused logged v w comes = absurd comes
@@ -127,7 +132,7 @@ row_push tries v [] w line row next comes = (goes_then v w line.before row next,
 row_push tries v (first ∷ more) w line row next comes =
     (row.0, row.1, row_push tries first.after more w line row.2 next comes)
 
--- the layout and the role stay
+-- the layout stays
 pub row_layout : (tries : ℕ) (v : View) (ran : List LineRan) (w : View) → AreInARow tries v ran w → w.layout ≡ v.layout
 row_layout tries v [] w row = row.layout
 row_layout tries v (line ∷ more) w row =
@@ -135,6 +140,7 @@ row_layout tries v (line ∷ more) w row =
     ∙ (line_keeps tries line.ops line.outcome line.refused line.logged line.before line.after row.1).layout
     ∙ row.0.layout
 
+-- the role stays
 pub row_role : (tries : ℕ) (v : View) (ran : List LineRan) (w : View) → AreInARow tries v ran w → w.role ≡ v.role
 row_role tries v [] w row = row.role
 row_role tries v (line ∷ more) w row =
@@ -186,6 +192,7 @@ pub record IsTakenBy (seat : ℕ) (ran : List LineRan) (t : Touch) : Type 0 wher
   pub among : Contains ran line
   pub written : IsWrittenBy line.ops t.key
 
+-- its locks were taken for its lines
 pub row_touched : (tries : ℕ) (v : View) (ran : List LineRan) (w : View) → AreInARow tries v ran w → (t : Touch)
     → Contains w.touched t → Contains v.touched t ⊎ IsTakenBy (seat_number v.role) ran t
 row_touched tries v [] w row t has = inl (subst (λ (l : List Touch). Contains l t) row.touched has)

@@ -72,16 +72,19 @@ AreInARow tries v (ran ∷ more) w =
     Goes v ran.before × ComesOf tries ran.ops ran.outcome ran.refused ran.logged ran.before ran.after
     × AreInARow tries ran.after more w
 
--- their operations, their outcomes, the refusals of their tries, and what their log gets
+-- the operations of lines
 abbrev pub lines_of : List LineRan → List (List Op)
 lines_of ran = map (λ (line : LineRan). line.ops) ran
 
+-- what came of them
 abbrev pub outcomes_of : List LineRan → List Outcome
 outcomes_of ran = map (λ (line : LineRan). line.outcome) ran
 
+-- the refusals of their tries
 abbrev pub refused_of : List LineRan → List Lost
 refused_of ran = flat_map (λ (line : LineRan). line.refused) ran
 
+-- what their log gets
 abbrev pub logged_of : List LineRan → List Commit
 logged_of ran = filter_map (λ (line : LineRan). line.logged) ran
 

@@ -5,17 +5,19 @@
 //! that it set is of the epoch before one that the pass saw, from the round's first one to the one that it saw last
 //! (`RanOver`). Before each line the mark on the words holds back no epoch before the one that the pass saw (`marked`),
 //! so no commit is of an epoch before the round's first one (`since`); behind the last line the log's mark stands on
-//! the words (`tied`). From the line on at which its log is refused a worker runs none (`RunsLines`). Each number
-//! that a pass draws is drawn for a commit of its lines, or for a try that was refused behind its draw (`row_draws`);
-//! where a try met another one, that was at a key of its line (`row_blamed`), and locks are taken of keys alone that a
-//! line may write (`row_touched`). No call wants memory: outcomes go into room for all lines that is lent with the
-//! cell. Nothing is said of other workers: what their commits have to do with these is told by the views
+//! the words (`tied`). From the line on at which its log is refused a worker runs none (`RunsLines`): what is left out
+//! was refused by a log that was up until then (`RefusesLine`), and a log is told full only where it refused a line.
+//! Each number that a pass draws is drawn for a commit of its lines, or for a try that was refused behind its draw
+//! (`row_draws`); where a try met another one, that was at a key of its line (`row_blamed`), and locks are taken of
+//! keys alone that a line may write (`row_touched`). No call wants memory: outcomes go into room for all lines that is
+//! lent with the cell. Nothing is said of other workers: what their commits have to do with these is told by the views
 //! (`HasCommittedLine.later`), when all passes are ended.
 //! Each line that is run stands between two calls of the gate, which name its worker and its place among that worker's
-//! lines, and no other call is made for it (`calls_for`): calls are noted as they are made (`GateCalls`), in the order of
-//! the lines, and what runs a line asks for the note of its begin.
-//! Terms: *desk*, a worker's sets and room for what comes of a line, made once a run; *cell*, what one worker's thread is
-//! lent: its pass, a desk, its log and its log file, and room for outcomes; *row*, lines that were run one after another.
+//! lines, and no other call is made for it (`calls_for`): calls are noted as they are made (`GateCalls`), in the order
+//! of the lines, and what runs a line asks for the note of its begin.
+//! Terms: *desk*, a worker's sets and room for what comes of a line, made once a run; *cell*, what one worker's thread
+//! is lent: its pass, a desk, its log and its log file, and room for outcomes; *row*, lines that were run one after
+//! another.
 //! Layout: specs/Rows.antt, what comes of lines in a row; specs/InARow.antt, its laws; specs/Cells.antt, what lines
 //! leave of a cell; specs/Gates.antt, what a gate is told; specs/GateLaws.antt, its laws.
 //! Design: docs/COMMIT.md, docs/DURABILITY.md.

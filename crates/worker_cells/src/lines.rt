@@ -18,7 +18,7 @@ ghost use Rattle.worker_cells.specs.Rows.{logged_by};
 
 use crate::cell::{Cell, LogEnd};
 use crate::gate_calls::{GateCalls, LineGate};
-use crate::readying::{make_ready, mark_last};
+use crate::readying::{flush_last, make_ready};
 use engine_words::Engine;
 use log_writer::LogFault;
 use outside::Disk;
@@ -70,7 +70,7 @@ pub fn run_cell<D: Disk, G: LineGate>(
     }
     cell.end.calls = calls;
     if count > 0 {
-        cell.end.failed = mark_last(
+        cell.end.failed = flush_last(
             engine,
             &mut cell.pass,
             cell.worker,

@@ -75,7 +75,7 @@ fn ready_log<D: Disk>(
 }
 
 /// Makes durable what waits, and marks it. Tells whether the log file failed.
-pub(crate) fn mark_last<D: Disk>(
+pub(crate) fn flush_last<D: Disk>(
     engine: &Engine,
     pass: &mut Pass,
     worker: u8,

@@ -10,10 +10,9 @@ use Rattle.worker_logs.specs.Logs.{LogState}
 use Rattle.worker_logs.specs.Moves.{MovesLog}
 use Rattle.shared_rounds.specs.Standing.{Standing}
 use Rattle.plain_rounds.specs.Steps.{Moves}
-use Rattle.plain_rounds.specs.InTurn.{RunsLines}
 use Rattle.plain_rounds.proofs.Chains.{after_lines-decls}
 use Rattle.plain_rounds.proofs.Fronts.{ops_of, runnable_at, take_other}
-use Rattle.plain_rounds.proofs.SoFar.{lines_begin, lines_epoch, lines_marked, lines_other}
+use Rattle.plain_rounds.proofs.SoFar.{RunsOn, lines_begin, lines_epoch, lines_marked, lines_other}
 use Rattle.plain_rounds.proofs.WorkerLoop.{at_run, empty_of, loop_done, loop_left, loop_ran, loop_stopped, loop_stops}
 use Rattle.plain_rounds.proofs.WorkerLoop.{open_at}
 use Rattle.tx_script.specs.declared.outcome.Outcome.TheVariants.{Unrun}
@@ -26,7 +25,7 @@ use Rattle.plain_rounds.proofs.workers.run_worker.Goals.{in-Some, in-Ok+in_ok-ru
 
 pub loop-index-init : goal.loop-index-init
 loop-index-init g c = (
-  subst (λ o. RunsLines g.D.Disk.tells g.D.Disk.clock g.D.Disk.image_at g.D.Disk.faults [] c.args.engine.now c.args.engine.now
+  subst (λ o. RunsOn g.D.Disk.tells g.D.Disk.clock g.D.Disk.image_at g.D.Disk.faults [] c.args.engine.now c.args.engine.now
       o None c.args.log.now c.args.log.now c.args.bank.now c.args.bank.now) (sym c.new-outcomes.ensures)
       (lines_begin c.args.engine.now c.args.log.now c.args.bank.now c.requires.log),
   refl,
@@ -61,7 +60,7 @@ run_line-requires-clause-fits g c =
     let so = c.loop-index.invariant.0 in
     let can : CanRunOps c.args.engine.now.decls c.args.worker c.in-Some.ops.now =
     runnable_at c.args.engine.now.decls c.args.worker c.args.round.now c.loop-index.index c.in-Some.ops.now c.requires.lines c.in-Some.ensures in
-    let same = ap (λ (s : Standing). s.decls) so.standing ∙ after_lines-decls so.ran c.args.engine.now in
+    let same = ap (λ (s : Standing). s.decls) so.runs.standing ∙ after_lines-decls so.runs.ran c.args.engine.now in
     subst (λ ds. AllByRecursion (λ op. IsTrue (fits ds op)) c.in-Some.ops.now) (sym same) can.fitting
 
 pub run_line-requires-clause-few : goal.run_line-requires-clause-few
@@ -73,8 +72,8 @@ returns-in_err-run_line-in-Ok g c =
     let p = err_from_is_err_and c.from_residual.result c.from_residual.ensures.1 in
     let so = c.loop-index.invariant in
     let epoch : c.engine.inside.clock.epoch ≡ c.args.engine.now.clock.epoch =
-    ap (λ (s : Standing). s.clock.epoch) c.engine.view_is ∙ ap (λ (s : Standing). s.clock.epoch) so.0.standing
-    ∙ lines_epoch so.0.ran c.args.engine.now in
+    ap (λ (s : Standing). s.clock.epoch) c.engine.view_is ∙ ap (λ (s : Standing). s.clock.epoch) so.0.runs.standing
+    ∙ lines_epoch so.0.runs.ran c.args.engine.now in
     let moves = subst (λ e. MovesLog g.D.Disk.tells g.D.Disk.clock g.D.Disk.image_at g.D.Disk.faults (e - 1) c.loop-index.log
     c.prepare.new.self c.loop-index.bank c.prepare.new.bank None) epoch c.in-Ok.ensures.moves in
     let some : 1 ≤ c.args.engine.now.clock.epoch = omega (arith, epoch, c.engine.invariant.0.some_epoch) in
@@ -97,8 +96,8 @@ returns-in_err-push_refused-in-Err g c =
     let p = err_from_is_err_and c.from_residual-in_err-push_refused-in-Err.result c.from_residual-in_err-push_refused-in-Err.ensures.1 in
     let so = c.loop-index.invariant in
     let epoch : c.engine.inside.clock.epoch ≡ c.args.engine.now.clock.epoch =
-    ap (λ (s : Standing). s.clock.epoch) c.engine.view_is ∙ ap (λ (s : Standing). s.clock.epoch) so.0.standing
-    ∙ lines_epoch so.0.ran c.args.engine.now in
+    ap (λ (s : Standing). s.clock.epoch) c.engine.view_is ∙ ap (λ (s : Standing). s.clock.epoch) so.0.runs.standing
+    ∙ lines_epoch so.0.runs.ran c.args.engine.now in
     let moves = subst (λ e. MovesLog g.D.Disk.tells g.D.Disk.clock g.D.Disk.image_at g.D.Disk.faults (e - 1) c.loop-index.log
     c.prepare.new.self c.loop-index.bank c.prepare.new.bank (Some c.in-Err.fault)) epoch c.in-Err.ensures.moves in
     rw p.1 (record {
@@ -112,8 +111,8 @@ loop-index-preserved g c =
     elim c.match-ops_of.branch [
       | in-Some w ↦
           let epoch : w.engine.inside.clock.epoch ≡ c.args.engine.now.clock.epoch =
-          ap (λ (s : Standing). s.clock.epoch) w.engine.view_is ∙ ap (λ (s : Standing). s.clock.epoch) so.0.standing
-          ∙ lines_epoch so.0.ran c.args.engine.now in
+          ap (λ (s : Standing). s.clock.epoch) w.engine.view_is ∙ ap (λ (s : Standing). s.clock.epoch) so.0.runs.standing
+          ∙ lines_epoch so.0.runs.ran c.args.engine.now in
           let some : 1 ≤ c.args.engine.now.clock.epoch = omega (arith, epoch, w.engine.invariant.0.some_epoch) in
           elim w.match-prepare.branch [
             | in-Ok+in_ok-run_line-in-Ok v ↦
@@ -192,10 +191,10 @@ loop-index-preserved g c =
 pub returns : goal.returns
 returns g c =
     let so = c.loop-index.invariant in
-    let mark = c.mark_last-failed.ensures in
+    let mark = c.flush_last-failed.ensures in
     let epoch : c.engine-2.inside.clock.epoch ≡ c.args.engine.now.clock.epoch =
-    ap (λ (s : Standing). s.clock.epoch) c.engine-2.view_is ∙ ap (λ (s : Standing). s.clock.epoch) so.0.standing
-    ∙ lines_epoch so.0.ran c.args.engine.now in
+    ap (λ (s : Standing). s.clock.epoch) c.engine-2.view_is ∙ ap (λ (s : Standing). s.clock.epoch) so.0.runs.standing
+    ∙ lines_epoch so.0.runs.ran c.args.engine.now in
     let all : length c.args.round.now.lines ≤ c.loop-index.index =
     omega (arith, c.loop-index-test.false, c.len-index-end.ensures) in
     let done = loop_done g.row.D.Denot g.D.Disk.tells g.D.Disk.clock g.D.Disk.image_at g.D.Disk.faults c.args.worker c.loop-index.index
@@ -203,13 +202,13 @@ returns g c =
     let count : c.loop-index.count ≡ length (ops_of c.args.worker c.args.round.now.lines) =
     so.1 ∙ ap (λ l. length (ops_of c.args.worker l)) (take_all c.loop-index.index c.args.round.now.lines all) in
     let moves = subst (λ e. Moves g.D.Disk.tells g.D.Disk.clock g.D.Disk.image_at g.D.Disk.faults e c.loop-index.log
-    c.mark_last-failed.new.log c.loop-index.bank c.mark_last-failed.new.bank) epoch mark.moves in
+    c.flush_last-failed.new.log c.loop-index.bank c.flush_last-failed.new.bank) epoch mark.moves in
     record {
       runs = (
         lines_marked done moves (λ none. (mark.none (count ∙ ap length none)).0),
         mark.failed,
         mark.flushed (λ none. ap (λ (l : LogState). l.journal.lines)
-            (done.none (empty_of (ops_of c.args.worker c.args.round.now.lines) (sym count ∙ none))) ∙ c.requires.flushed),
+            (done.runs.none (empty_of (ops_of c.args.worker c.args.round.now.lines) (sym count ∙ none))) ∙ c.requires.flushed),
         so.3.calls_are,
       );
     }

@@ -2,7 +2,7 @@
 use Rattle.std.proofs.lemmas.Result.{err_from_is_err_and}
 use Rattle.shared_rounds.specs.Lines.{standing}
 use Rattle.round_engine.proofs.NoneRun.{none_stops}
-use Rattle.round_engine.proofs.Powers.{no_tree}
+use Rattle.round_engine.proofs.LineEngines.{no_tree}
 use Rattle.round_engine.proofs.engine.run_shared.Goals as goal
 
 pub returns-in_err-rooms-in-None-clause-runs : goal.returns-in_err-rooms-in-None-clause-runs

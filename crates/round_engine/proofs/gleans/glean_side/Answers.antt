@@ -1,5 +1,5 @@
 -- The closed side is gleaned.
-use Rattle.std.proofs.Common.{◌≡◌, ◌∙◌, ap, arith, List, None, subst, sym}
+use Rattle.std.proofs.Common.{ap, arith, List, None, subst, sym}
 use Rattle.serial_model.specs.declared.decl.Decl.{Decl}
 use Rattle.serial_model.specs.declared.number.Number.{Number}
 use Rattle.snapshot_store.specs.Content.{words_of}

@@ -5,10 +5,17 @@ use Rattle.round_engine.specs.Joins.{Joins}
 use Rattle.round_engine.specs.Phases.{ended_as, fails_device}
 use Rattle.round_engine.specs.Standing.{RuntimeState}
 use Rattle.round_engine.proofs.JoinAlone.{ended_still, join_alone}
+use Rattle.round_engine.proofs.LinesLeft.{logs_up}
 use Rattle.round_engine.proofs.joins.join_round.Goals as goal
 
 pub join_logs-durable-requires-clause-stored : goal.join_logs-durable-requires-clause-stored
 join_logs-durable-requires-clause-stored g c = c.requires.stands.stored (c.requires.stands.up c.requires.up).save
+
+pub join_logs-durable-requires-clause-logs : goal.join_logs-durable-requires-clause-logs
+join_logs-durable-requires-clause-logs g c = logs_up c.requires.stands (c.requires.stands.up c.requires.up)
+
+pub join_logs-durable-requires-clause-durable : goal.join_logs-durable-requires-clause-durable
+join_logs-durable-requires-clause-durable g c = c.requires.stands.durable
 
 pub returns : goal.returns
 returns g c =

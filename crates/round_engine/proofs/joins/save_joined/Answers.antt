@@ -10,6 +10,8 @@ use Rattle.round_engine.specs.Standing.{beside_of, RuntimeState}
 use Rattle.round_engine.specs.declared.report.End.TheVariants.{Device}
 use Rattle.round_engine.proofs.JoinSteps.{can_save, flushed_with, joined, not_advanced, not_flushed}
 use Rattle.round_engine.proofs.KeepingSaves.{with_save}
+use Rattle.round_engine.proofs.LogsStanding.{stand_flushed}
+use Rattle.round_engine.proofs.Numbered.{growing_many}
 use Rattle.round_engine.proofs.joins.save_joined.Goals as goal
 
 pub returns-in_err-advance-clause-runs : goal.returns-in_err-advance-clause-runs
@@ -59,7 +61,10 @@ save_marked-requires-clause-ready g c =
     subst (λ x. CanKeep g.D.Disk.tells g.D.Disk.clock g.D.Disk.image_at x c.flush_logs.new.vault) (sym mid_is)
     (can_save g.D.Disk.tells g.D.Disk.clock g.D.Disk.image_at g.D.Disk.faults r c.args.vault.now
     c.requires.whole c.requires.logs c.requires.workers c.requires.up c.requires.stored logs step.0 c.requires.closed
-    c.requires.room c.requires.sound c.requires.snapshot c.flush_logs.new.vault same flushes.as_many_logs flushes.as_many_banks)
+    c.requires.room c.requires.sound c.requires.snapshot c.flush_logs.new.vault same flushes.as_many_logs flushes.as_many_banks
+    (λ always. stand_flushed r.stands.clock.epoch r.side c.args.vault.now c.flush_logs.new.vault c.flush_logs.result
+    c.in_default.field-0 c.in_default.is flushes c.requires.workers
+    (growing_many r.side c.args.vault.now c.requires.whole) same.closed (c.requires.durable always)))
 
 pub returns-clause-runs : goal.returns-clause-runs
 returns-clause-runs g c =

@@ -8,6 +8,10 @@ pub join_logs-durable-requires-clause-stored : goal.join_logs-durable-requires-c
 join_logs-durable-requires-clause-stored g c =
     (c.requires.ready (sym c.leaves_join_out.ensures ∙ c.if-leaves_join_out.false)).stored
 
+pub join_logs-durable-requires-clause-durable : goal.join_logs-durable-requires-clause-durable
+join_logs-durable-requires-clause-durable g c =
+    (c.requires.ready (sym c.leaves_join_out.ensures ∙ c.if-leaves_join_out.false)).durable
+
 pub returns : goal.returns
 returns g c = record {
   joins = inr (

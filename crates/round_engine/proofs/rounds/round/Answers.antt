@@ -5,12 +5,12 @@ use Rattle.tx_script.specs.Run.{CanRun}
 use Rattle.worker_logs.specs.Rows.{AreLogsUp}
 use Rattle.round_engine.specs.Keeping.{CanKeep}
 use Rattle.round_engine.specs.Phases.{RunsAll, RunsSome}
-use Rattle.round_engine.specs.Powers.{SharesWords}
+use Rattle.round_engine.specs.LineEngines.{SharesWords}
 use Rattle.round_engine.specs.Sides.{growing_in}
-use Rattle.round_engine.specs.Standing.{RuntimeState}
+use Rattle.round_engine.specs.Standing.{ArePassed, RuntimeState}
 use Rattle.round_engine.proofs.NothingRun.{all_in_room, room_none, some_in_room, stands_in_room}
 use Rattle.round_engine.proofs.RoundStops.{stopped}
-use Rattle.round_engine.proofs.RoundWhole.{start_can, start_flushed, start_ups, whole}
+use Rattle.round_engine.proofs.RoundWhole.{start_can, start_flushed, start_passes, start_ups, whole}
 use Rattle.round_engine.proofs.WhoseLines.{idled_by}
 use Rattle.round_engine.proofs.rounds.round.Goals as goal
 
@@ -61,6 +61,15 @@ run_round-requires-clause-logs g c κs within =
     subst (λ (r : RuntimeState). AreLogsUp g.D.Disk.tells c.idle_logs.new.runtime.logs (growing_in r.side c.make_room.new.vault))
     (sym idled.alone)
     (start_ups c.args.round.now c.idle_logs.new.runtime.logs stands (c.requires.stands.goes_on c.requires.goes_on)
+    (idled.length ∙ c.requires.stands.workers) idle)
+
+pub run_round-requires-clause-passed : goal.run_round-requires-clause-passed
+run_round-requires-clause-passed g c κs within =
+    let idled = c.idle_logs.ensures in
+    let idle = idled_by c.args.round.now c.owners_of-owners.result c.args.runtime.now.logs c.idle_logs.new.runtime.logs
+    c.owners_of-owners.ensures.owners c.requires.stands.workers c.idle_logs.ensures.idle in
+    subst (ArePassed c.args.round.now) (sym idled.alone)
+    (start_passes c.args.round.now c.idle_logs.new.runtime.logs c.requires.stands (c.requires.stands.goes_on c.requires.goes_on)
     (idled.length ∙ c.requires.stands.workers) idle)
 
 pub run_round-requires-clause-flushed : goal.run_round-requires-clause-flushed

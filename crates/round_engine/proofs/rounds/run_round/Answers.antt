@@ -1,5 +1,5 @@
 -- The phases of a round.
-use Rattle.std.proofs.Common.{◌≡◌, ◌∙◌, ◌++◌, ◌∷◌, [], ap, map, subst, sym, List}
+use Rattle.std.proofs.Common.{◌∙◌, ◌++◌, ◌∷◌, [], ap, map, subst, sym, List}
 use Rattle.std.proofs.lemmas.Result.{err_from_is_err_and}
 use Rattle.script_grammar.specs.Script.{keeper_lines}
 use Rattle.tx_script.specs.Run.{CanRun}
@@ -38,14 +38,14 @@ run_keeper-keeper-requires-clause-lines g c κs within =
 pub run_keeper-keeper-requires-clause-ready : goal.run_keeper-keeper-requires-clause-ready
 run_keeper-keeper-requires-clause-ready g c κs within =
     let lent = c.in_ok-ran.ensures in
-    can_keep c.requires.logs c.requires.ready lent.runs.come lent.runtime (room_none c.args.vault.now) lent.vault
+    can_keep c.requires.logs c.requires.ready c.requires.passed lent.runs.come lent.runtime (room_none c.args.vault.now) lent.vault
 
 pub join-durable-requires-clause-ready : goal.join-durable-requires-clause-ready
 join-durable-requires-clause-ready g c =
     let lent = c.in_ok-ran.ensures in
     let device_is = c.in_lines-refused.ensures.device ∙ ap (λ s. device_refused s c.run_keeper-keeper.result.refusal
     c.in_ok-ran.ran.ends.items) (c.run_keeper-keeper.ensures.runs.leaves.side ∙ ap (λ (x : RuntimeState). x.side) lent.runtime) in
-    ready_to_join c.requires.logs c.requires.ready lent.runs.come lent.runtime (room_none c.args.vault.now) lent.vault
+    ready_to_join c.requires.logs c.requires.ready c.requires.passed lent.runs.come lent.runtime (room_none c.args.vault.now) lent.vault
     c.run_keeper-keeper.ensures.runs c.in_lines-refused.result device_is c.in_lines-refused.ensures.keeper
 
 pub returns-clause-phases : goal.returns-clause-phases

@@ -8,7 +8,7 @@ use Rattle.engine_words.specs.Passes.{view}
 use Rattle.tx_runner.specs.Lines.{IsOnArray}
 use Rattle.worker_cells.specs.GateLaws.{told_none}
 use Rattle.worker_cells.specs.Gates.{IsOpen, calls_for, calls_in, is_run}
-use Rattle.worker_cells.proofs.CellLoop.{so_begin, so_idle, so_layout, so_marked, so_noted, so_other, so_role, so_room}
+use Rattle.worker_cells.proofs.CellLoop.{so_begin, so_layout, so_marked, so_noted, so_other, so_role, so_room}
 use Rattle.worker_cells.proofs.CellLoop.{so_step, so_within}
 use Rattle.worker_cells.proofs.LinesOf.{HasOps, on_arrays, runnable_at}
 use Rattle.worker_cells.proofs.lines.run_cell.Goals as goal
@@ -95,8 +95,8 @@ loop-count-preserved g c =
           )
     ]
 
-pub mark_last-cell-requires-clause-worker : goal.mark_last-cell-requires-clause-worker
-mark_last-cell-requires-clause-worker g c =
+pub flush_last-cell-requires-clause-worker : goal.flush_last-cell-requires-clause-worker
+flush_last-cell-requires-clause-worker g c =
     let so = c.loop-count.invariant in (
       so_role so.0 ∙ c.requires.worker.0 ∙ ap Worker (sym so.2),
       subst (λ n. n < 8) (sym so.2) c.requires.worker.1,
@@ -106,10 +106,10 @@ pub returns-then-count-gt0-clause-runs : goal.returns-then-count-gt0-clause-runs
 returns-then-count-gt0-clause-runs g c =
     let all : length (lines_of_worker c.args.round.now c.args.cell.now.worker) ≤ c.loop-count.count =
     omega (arith, c.loop-count-test.false, c.requires.count) in
-    so_marked c.mark_last-cell.result all (omega (arith, c.if-count-gt0.true))
+    so_marked c.flush_last-cell.result all (omega (arith, c.if-count-gt0.true))
     (so_noted c.loop-count.calls c.loop-count.invariant.0)
-    c.mark_last-cell.ensures.readies c.mark_last-cell.ensures.failed c.mark_last-cell.ensures.flushed
-    c.mark_last-cell.ensures.tied
+    c.flush_last-cell.ensures.readies c.flush_last-cell.ensures.failed c.flush_last-cell.ensures.flushed
+    c.flush_last-cell.ensures.tied
 
 pub returns-then-count-gt0-clause-calls : goal.returns-then-count-gt0-clause-calls
 returns-then-count-gt0-clause-calls g c =

@@ -17,6 +17,7 @@ returns-in-Err-clause-steps g c =
     let ready = c.in-Err.ensures.readies in
     inr (inl (
       before.1,
+      before.0,
       record {
         fault = c.in-Err.fault;
         readies = ready;

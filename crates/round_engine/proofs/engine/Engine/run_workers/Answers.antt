@@ -5,9 +5,9 @@ use Rattle.tx_script.specs.Draws.{HasTree}
 use Rattle.tx_script.specs.Run.{CanRun}
 use Rattle.shared_rounds.specs.Lines.{LinesCome, standing}
 use Rattle.shared_rounds.specs.Standing.{Standing}
-use Rattle.round_engine.specs.Powers.{SharesWords}
-use Rattle.round_engine.proofs.Powers.{ok_then, plain_apart, plain_goes, plain_history, plain_once, plain_stands}
-use Rattle.round_engine.proofs.Powers.{shared_enough, shared_history, shared_once, shared_stands}
+use Rattle.round_engine.specs.LineEngines.{SharesWords}
+use Rattle.round_engine.proofs.LineEngines.{ok_then, plain_apart, plain_goes, plain_history, plain_once, plain_stands}
+use Rattle.round_engine.proofs.LineEngines.{shared_enough, shared_history, shared_once, shared_stands}
 use Rattle.round_engine.proofs.engine.Engine.run_workers.Goals as goal
 use Rattle.round_engine.proofs.engine.Engine.run_workers.Goals.{in-Plain, in-Shared}
 

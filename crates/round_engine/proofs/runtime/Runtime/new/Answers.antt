@@ -34,7 +34,7 @@ returns-clause-stands g c =
       up_to = snapshot.1.up_to;
       let_in = omega (arith, c.requires.count, c.requires.pages);
       most = c.requires.config.most_snap;
-    }))) c.begin.ensures.begins
+    }) c.requires.empty)) c.begin.ensures.begins
 
 pub returns-clause-logs : goal.returns-clause-logs
 returns-clause-logs g c empty =

@@ -4,7 +4,7 @@ use Rattle.std.specs.Prelude.{get_or}
 use Rattle.tx_script.specs.Room.{RoomState}
 use Rattle.shared_rounds.specs.Rooms.{AreRooms}
 use Rattle.shared_rounds.proofs.Counts.{rooms_push}
-use Rattle.shared_rounds.proofs.rooms.make_outcomes.Goals as goal
+use Rattle.shared_rounds.proofs.rooms.make_outcome_rooms.Goals as goal
 
 pub loop-worker-preserved : goal.loop-worker-preserved
 loop-worker-preserved c =

@@ -11,7 +11,7 @@ use Rattle.shared_rounds.specs.Lines.{standing}
 use Rattle.shared_rounds.specs.SharedState.{SharedState, is_array, opened}
 use Rattle.round_engine.specs.Begun.{begins_at}
 use Rattle.round_engine.proofs.Opened.{all_arrays, older_than, opened_state}
-use Rattle.round_engine.proofs.engine.shared_power.Goals as goal
+use Rattle.round_engine.proofs.engine.shared_lines.Goals as goal
 
 pub newest_records-requires : goal.newest_records-requires
 newest_records-requires c = (c.requires.snapshot.0, c.requires.snapshot.1.stands)

@@ -1,7 +1,7 @@
 -- The rooms of the first workers.
 use Rattle.std.proofs.Common.{◌≡◌, ◌≤◌, vec_capacity, vec_len}
 use Rattle.shared_rounds.specs.Rooms.{AreRooms}
-use Rattle.shared_rounds.proofs.rooms.make_outcomes.Given as goal
+use Rattle.shared_rounds.proofs.rooms.make_outcome_rooms.Given as goal
 
 abbrev pub invariant-loop-worker : goal.invariant-loop-worker
 invariant-loop-worker l = record {

@@ -9,30 +9,30 @@ use Rattle.serial_model.specs.Keys.{is_tree, is_tree_of}
 use Rattle.serial_model.specs.declared.decl.Decl.{Decl}
 use Rattle.serial_model.specs.declared.decl.Decl.TheVariants.{Tree}
 use Rattle.script_grammar.specs.Script.{Round}
-use Rattle.tx_script.specs.Draws.{HasTree, commits_of}
+use Rattle.tx_script.specs.Draws.{HasTree, commit_count}
 use Rattle.plain_rounds.specs.Plainly.{DrewOnce}
 use Rattle.shared_rounds.specs.Lines.{standing}
 use Rattle.shared_rounds.specs.SharedState.{SharedState}
 use Rattle.shared_rounds.specs.Standing.{Standing}
 use Rattle.shared_rounds.specs.declared.ends.WorkersRan.{WorkersRan}
 use Rattle.round_engine.specs.Histories.{KeepsHistory}
-use Rattle.round_engine.specs.Powers.{SharesWords, standing_of}
-use Rattle.round_engine.specs.declared.engine.Power.{Power}
-use Rattle.round_engine.specs.declared.engine.Power.TheVariants.{Plain, Shared}
+use Rattle.round_engine.specs.LineEngines.{SharesWords, standing_of}
+use Rattle.round_engine.specs.declared.engine.LineEngine.{LineEngine}
+use Rattle.round_engine.specs.declared.engine.LineEngine.TheVariants.{Plain, Shared}
 
 -- an engine over words is a standing of theirs
-pub shared_stands : {e : SharedState} {p : Power} {s : Standing} (ended : Bool) → p ≡ Shared e → standing_of p ended ≡ s
+pub shared_stands : {e : SharedState} {p : LineEngine} {s : Standing} (ended : Bool) → p ≡ Shared e → standing_of p ended ≡ s
     → standing ended e ≡ s
 shared_stands ended is view = sym (ap (λ q. standing_of q ended) is) ∙ view
 
 -- and one over the plain map one of that, in a run that goes on
-pub plain_stands : {e s : Standing} {p : Power} (ended : Bool) → p ≡ Plain e → standing_of p ended ≡ s → ended ≡ e.ended
+pub plain_stands : {e s : Standing} {p : LineEngine} (ended : Bool) → p ≡ Plain e → standing_of p ended ≡ s → ended ≡ e.ended
     → e ≡ s
 plain_stands {e = e} {s = s} ended is view goes =
     subst (λ b. record e { ended = b } ≡ s) goes (sym (ap (λ q. standing_of q ended) is) ∙ view)
 
 -- the run goes on where the standing's does
-pub plain_goes : {e s : Standing} {p : Power} (ended : Bool) → p ≡ Plain e → standing_of p ended ≡ s → s.ended ≡ false
+pub plain_goes : {e s : Standing} {p : LineEngine} (ended : Bool) → p ≡ Plain e → standing_of p ended ≡ s → s.ended ≡ false
     → ended ≡ false
 plain_goes ended is view goes =
     ap (λ (x : Standing). x.ended) (sym (ap (λ q. standing_of q ended) is) ∙ view) ∙ goes
@@ -42,7 +42,7 @@ pub plain_once : (e now s : Standing) (ended : Bool) (result : Result WorkersRan
     → IfOk result (λ ran. DrewOnce e now ran.outcomes)
     → IfOk result (λ ran. HasTree s.decls → DrewOnce s (record now { ended = ended }) ran.outcomes)
 plain_once e now s ended (Ok ran) same drew = λ has. record {
-  once = drew.once ∙ ap (λ (x : Standing). x.clock.draw + commits_of ran.outcomes) same;
+  once = drew.once ∙ ap (λ (x : Standing). x.clock.draw + commit_count ran.outcomes) same;
   alone = drew.alone ∙ ap (λ (x : Standing). x.conflicts) same;
   plain = drew.plain;
 }

@@ -1,7 +1,7 @@
 -- What waits is made durable, and marked.
 use Rattle.std.proofs.Common.{◌∙◌}
 use Rattle.plain_rounds.proofs.LineSteps.{flushed_down, flushed_up, moves_flushed, moves_none}
-use Rattle.plain_rounds.proofs.workers.mark_last.Goals as goal
+use Rattle.plain_rounds.proofs.workers.flush_last.Goals as goal
 
 pub returns-then-count-eq0-clause-moves : goal.returns-then-count-eq0-clause-moves
 returns-then-count-eq0-clause-moves g c =

@@ -1,7 +1,7 @@
 -- What waits is made durable, and marked.
 use Rattle.std.proofs.Common.{◌∙◌}
 use Rattle.worker_cells.proofs.Moves.{flushed_down, flushed_marked, flushed_up}
-use Rattle.worker_cells.proofs.readying.mark_last.Goals as goal
+use Rattle.worker_cells.proofs.readying.flush_last.Goals as goal
 
 pub returns-clause-failed : goal.returns-clause-failed
 returns-clause-failed g c =

@@ -2,8 +2,9 @@
 //! and which snapshots it has, or makes a script. What it promises, `program_calls::top` states.
 #![tactic(auto)]
 
+use call_notes::ScriptSource;
 use outside::{StdSink, StdSource};
-use program_entry::{Cleared, Progress, ScriptSource, read_args, run_program};
+use program_entry::{Cleared, Progress, read_args, run_program};
 use std::io::IsTerminal;
 use std::process::ExitCode;
 

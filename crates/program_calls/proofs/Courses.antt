@@ -5,13 +5,12 @@ use Rattle.std.specs.FinMap.{empty}
 use Rattle.std.specs.Io.KnownBytes.{Consumes, IsAtEnd}
 use Rattle.std.proofs.lemmas.Bool.{lt-ltb}
 use Rattle.std.proofs.lemmas.List.{append-nil}
+use Rattle.std.proofs.lemmas.List.Sorted.{IsPermutation-refl}
 use Rattle.log_writer.specs.Vault.{IsWhole}
 use Rattle.log_writer.specs.declared.vault.Vault.{Vault}
-use Rattle.outside.specs.declared.fault.Failed.{Failed}
 use Rattle.serial_model.specs.History.{Entry}
 use Rattle.serial_model.specs.State.{State}
 use Rattle.serial_model.specs.declared.decl.Decl.{Decl}
-use Rattle.text_output.specs.Output.{Output}
 use Rattle.script_grammar.specs.Faults.{IsFirstFault, fault_of}
 use Rattle.script_grammar.specs.Script.{Bytes, Script, IsTextOf}
 use Rattle.script_grammar.specs.declared.fault.ScriptFault.{ScriptFault}
@@ -30,12 +29,14 @@ use Rattle.program_calls.specs.Causes.{IsInFull}
 use Rattle.program_calls.specs.InBrief.{CameInBrief, SumsUp, up_to}
 use Rattle.program_calls.specs.declared.ending.Ending.{Ending}
 use Rattle.program_calls.specs.declared.ending.Ending.TheVariants.{Finished, NoScript, Shape, Usage, ReadFault, NoDevice, Damaged, AtLimit, NoMemory, NoSnapshot}
-use Rattle.program_calls.specs.Ending.{Comes, IsNoText, IsReadOut, ReadsFirst, body_text, most_read}
-use Rattle.program_calls.specs.Main.{AreBytes, Came, KeepsRun, StandsWhenStopped}
-use Rattle.program_calls.specs.OnTheWay.{AddsRun, IsUnreadOf, ReadsText, RunsInBrief, RunsScript}
+use Rattle.program_calls.specs.Ending.{AreBytes, Comes, IsNoText, IsReadOut, ReadsFirst, body_text, most_read}
+use Rattle.program_calls.specs.Main.{Came, Course}
+use Rattle.program_calls.specs.OnTheWay.{AddsRun, IsUnreadOf, ReadsText, RunsInBrief, RunsRounds, RunsScript}
+use Rattle.program_calls.specs.RunKept.{KeepsRun, StandsWhenStopped}
 use Rattle.program_calls.specs.Vaults.{IsUntouched, Vaults, vaults_of}
-use Rattle.program_calls.proofs.StandsStill.{none_over, nothing_come, untouched_snapshots, untouched_stands}
 use Rattle.program_calls.proofs.CrashesBegun.{stops_untouched}
+use Rattle.program_calls.proofs.Sentences.{recovered_from, rests_behind, snapshots_are, stands_for, stops_cover, stops_leave}
+use Rattle.program_calls.proofs.StandsStill.{none_over, nothing_come, untouched_snapshots, untouched_stands}
 
 -- where a run would begin that never does
 abbrev pub nowhere : Opening
@@ -57,47 +58,76 @@ module _ {D : Type 0} (v : Vaults D) where
   abbrev pub shown_as : {command : Command} {had left : Option Bytes} {P Q : List Ran → Ending → Type 0}
       → ((rans : List Ran) (ending : Ending) → P rans ending → Q rans ending) → Came v command had left P → Came v command had left Q
   shown_as has came = record {
-    bytes = came.bytes;
-    are_bytes = came.are_bytes;
-    rans = came.rans;
-    ending = came.ending;
     course = came.course;
-    caused = came.caused;
-    history = came.history;
+    read = came.read;
+    comes = came.comes;
+    serial = came.serial;
+    lines = came.lines;
+    snapshots = came.snapshots;
+    stops = came.stops;
+    covers = came.covers;
     kept = came.kept;
-    shown = has came.rans came.ending came.shown;
+    behind = came.behind;
+    history = came.history;
+    caused = came.caused;
+    shown = has came.course.rans came.course.ending came.shown;
   }
 
   -- ---- a script is run
 
-  -- the run of a script that was read out
-  pub script_came : {Shows : List Ran → Ending → Type 0} (options : RunOptions) (had left : Option Bytes) (script : Script)
-      → ReadsText had left (Ok script) → RunsScript v options.snap options.tries script Shows → Came v (Run options) had left Shows
-  script_came options had left script text runs = record {
+  -- the course of the run of a script that was read out
+  abbrev course_of : {snap tries : ℕ} {Shows : List Ran → State → Ending → Type 0} (had left : Option Bytes) (script : Script)
+      → ReadsText had left (Ok script) → RunsRounds v snap tries script Shows → Course
+  course_of had left script text runs = record {
     bytes = text.bytes;
-    are_bytes = text.are_bytes;
+    script = Some script;
+    opening = runs.opening;
     rans = runs.rans;
+    commits = runs.run.ordered;
+    state = runs.state;
     ending = runs.ending;
-    course = record {
-      script = Some script;
-      opening = runs.opening;
-      state = runs.state;
-      run = (text.read.0, runs.run);
-      comes = runs.comes;
-      reads = text.read.1;
+  }
+
+  -- what it comes to, and this is shown of it
+  abbrev pub rounds_came : {Shows : List Ran → State → Ending → Type 0} (Others : List Ran → Ending → Type 0) (options : RunOptions)
+      (had left : Option Bytes) (script : Script) (text : ReadsText had left (Ok script))
+      (runs : RunsRounds v options.snap options.tries script Shows) → Others runs.rans runs.ending
+      → Came v (Run options) had left Others
+  rounds_came Others options had left script text runs shown = record {
+    course = course_of had left script text runs;
+    read = record { bytes = text.are_bytes; script = text.read.0; first = text.read.1 };
+    comes = runs.comes;
+    serial = record {
+      recovered = recovered_from v options.snap script runs.opening runs.rans runs.ending runs.comes;
+      printed = runs.run.same;
+      serial = runs.run.serial;
+      draws = runs.run.draws;
+      clocks = runs.run.clocks;
+      after = runs.run.after;
     };
+    lines = record { lines = runs.run.lines; workers = runs.run.workers };
+    snapshots = snapshots_are v (course_of had left script text runs) runs.kept;
+    stops = stops_leave v (course_of had left script text runs) runs.kept;
+    covers = stops_cover v (course_of had left script text runs) runs.kept;
+    kept = stands_for v (course_of had left script text runs) runs.kept;
+    behind = rests_behind v (course_of had left script text runs) runs.kept;
+    history = runs.history;
     caused = record {
       in_rounds = runs.caused;
       full = runs.full;
       files = runs.files;
     };
-    history = runs.history;
-    kept = runs.kept;
-    shown = runs.shown;
+    shown = shown;
   }
 
+  -- the run of a script whose lines are told
+  pub script_came : {Shows : List Ran → Ending → Type 0} (options : RunOptions) (had left : Option Bytes) (script : Script)
+      → ReadsText had left (Ok script) → RunsScript v options.snap options.tries script Shows → Came v (Run options) had left Shows
+  script_came {Shows = Shows} options had left script text runs =
+      rounds_came Shows options had left script text runs runs.shown
+
   -- what a stop leaves behind a run in brief, also while the vault is read for its sum
-  stops_behind : (mid : Vault D) (rans : List Ran) (ended : Ending) (total : Option ℕ) (decls : List Decl)
+  pub stops_behind : (mid : Vault D) (rans : List Ran) (ended : Ending) (total : Option ℕ) (decls : List Decl)
       (commits : List Entry) (opening : Opening) (t : State) → SumsUp v mid rans t ended total
       → VaultOnlyReads v.tells v.clock v.image_at v.faults mid v.is
       → KeepsRun (up_to v mid) decls commits opening t rans ended → StandsWhenStopped v decls commits opening rans
@@ -107,39 +137,20 @@ module _ {D : Type 0} (v : Vaults D) where
   stops_behind mid (ran ∷ rans) ended total decls commits opening t sums reads kept =
       kept.through_reads (λ none. cc) v.is reads
 
+module _ {D : Type 0} (v : Vaults D) where
   -- the same of a run in brief
   pub script_in_brief : {Shows : Bytes → Ending → Type 0} (options : RunOptions) (had left : Option Bytes) (script : Script)
       → ReadsText had left (Ok script) → RunsInBrief v options.snap options.tries script Shows → CameInBrief v options had left Shows
-  script_in_brief options had left script text brief =
+  script_in_brief {Shows = Shows} options had left script text brief =
       let shown = brief.runs.shown in
       record {
         mid = brief.mid;
         total = brief.total;
-        came = record {
-          bytes = text.bytes;
-          are_bytes = text.are_bytes;
-          rans = brief.runs.rans;
-          ending = brief.runs.ending;
-          course = record {
-            script = Some script;
-            opening = brief.runs.opening;
-            state = brief.runs.state;
-            run = (text.read.0, brief.runs.run);
-            comes = brief.runs.comes;
-            reads = text.read.1;
-          };
-          caused = record {
-            in_rounds = brief.runs.caused;
-            full = brief.runs.full;
-            files = brief.runs.files;
-          };
-          history = brief.runs.history;
-          kept = brief.runs.kept;
-          shown = shown.1;
-        };
+        came = rounds_came (up_to v brief.mid) (λ rans ended. Shows (run_in_brief rans brief.total) ended) options had left
+            script text brief.runs shown.1;
         sums = shown.0;
         reads = brief.reads;
-        stops = stops_behind brief.mid brief.runs.rans brief.runs.ending brief.total _ _ _ _ shown.0 brief.reads
+        stops = stops_behind v brief.mid brief.runs.rans brief.runs.ending brief.total _ _ _ _ shown.0 brief.reads
             brief.runs.kept;
       }
 
@@ -154,58 +165,72 @@ module _ {D : Type 0} (v : Vaults D) where
   brief_as has brief = record {
     mid = brief.mid;
     total = brief.total;
-    came = record {
-      bytes = brief.came.bytes;
-      are_bytes = brief.came.are_bytes;
-      rans = brief.came.rans;
-      ending = brief.came.ending;
-      course = brief.came.course;
-      caused = brief.came.caused;
-      history = brief.came.history;
-      kept = brief.came.kept;
-      shown = has (run_in_brief brief.came.rans brief.total) brief.came.ending brief.came.shown;
-    };
+    came = shown_as (up_to v brief.mid) (λ rans ended. has (run_in_brief rans brief.total) ended) brief.came;
     sums = brief.sums;
     reads = brief.reads;
     stops = brief.stops;
   }
 
--- the same of the command that was asked for
-pub command_as : {D : Type 0} (v : Vaults D) (command asked : Command) (had left : Option Bytes) (old new : Output) (r : Result Ending Failed) → command ≡ asked
-    → Came v command had left (AddsRun command old new r) → Came v asked had left (AddsRun asked old new r)
-command_as v command asked had left old new r is came = subst (λ (m : Command). Came v m had left (AddsRun m old new r)) is came
+-- a course on which nothing was run
+abbrev nothing_of : Bytes → Ending → Course
+nothing_of bytes ending = record {
+  bytes = bytes;
+  script = None;
+  opening = nowhere;
+  rans = [];
+  commits = [];
+  state = empty;
+  ending = ending;
+}
 
 module _ {D : Type 0} (v : Vaults D) (whole : IsWhole v.was)
     (reads_told : (disk : D) (file : Bytes) → v.tells disk ≡ Some file → v.image_at disk (v.clock disk) file) where
   -- ---- nothing is run
+
+  -- what a vault that was let alone keeps
+  pub nothing_kept : (ending : Ending) → IsUntouched v → KeepsRun v [] [] nowhere empty [] ending
+  nothing_kept ending same = record {
+    stands = λ sound. untouched_stands v [] whole same;
+    snapshots = λ sound. untouched_snapshots v [] [] whole same;
+    declared = λ some. absurd (some refl);
+    whole = λ finished. refl;
+    stops = stops_untouched v reads_told [] nowhere whole same;
+    through_reads = λ some. absurd (some refl);
+  }
 
   -- a call that read no script, and left the vault alone
   abbrev pub nothing_run : {Shows : List Ran → Ending → Type 0} (command : Command) (had left : Option Bytes) (bytes : Bytes) (ending : Ending)
       → AreBytes had bytes → Comes v command bytes None nowhere [] ending → ReadsFirst None ending had left → IsUntouched v
       → Shows [] ending → Came v command had left Shows
   nothing_run command had left bytes ending are comes reads same shown = record {
-    bytes = bytes;
-    are_bytes = are;
-    rans = [];
-    ending = ending;
-    course = record { script = None; opening = nowhere; state = empty; run = (refl, refl); comes = comes; reads = reads };
+    course = nothing_of bytes ending;
+    read = record { bytes = are; script = tt; first = reads };
+    comes = comes;
+    serial = record {
+      recovered = λ some. absurd (some refl);
+      printed = IsPermutation-refl [];
+      serial = record { rising = tt; epochs = tt; answers = tt };
+      draws = tt;
+      clocks = tt;
+      after = refl;
+    };
+    lines = record { lines = tt; workers = λ worker. tt };
+    snapshots = snapshots_are v (nothing_of bytes ending) (nothing_kept ending same);
+    stops = stops_leave v (nothing_of bytes ending) (nothing_kept ending same);
+    covers = stops_cover v (nothing_of bytes ending) (nothing_kept ending same);
+    kept = stands_for v (nothing_of bytes ending) (nothing_kept ending same);
+    behind = rests_behind v (nothing_of bytes ending) (nothing_kept ending same);
+    history = nothing_come [] empty;
     caused = record {
       in_rounds = record { caused = tt; durable = tt; sequences = tt; marks = tt; tried = tt; counted = tt; met = tt; plain = λ tree. tt };
       full = λ found told. tt;
       files = none_over;
     };
-    history = nothing_come [] empty;
-    kept = record {
-      stands = λ sound. untouched_stands v [] whole same;
-      snapshots = λ sound. untouched_snapshots v [] [] whole same;
-      declared = λ some. absurd (some refl);
-      whole = λ finished. refl;
-      stops = stops_untouched v reads_told [] nowhere whole same;
-      through_reads = λ some. absurd (some refl);
-    };
     shown = shown;
   }
 
+module _ {D : Type 0} (v : Vaults D) (whole : IsWhole v.was)
+    (reads_told : (disk : D) (file : Bytes) → v.tells disk ≡ Some file → v.image_at disk (v.clock disk) file) where
   -- the same of a run in brief
   nothing_in_brief : {Shows : Bytes → Ending → Type 0} (options : RunOptions) (had left : Option Bytes) (bytes : Bytes) (ending : Ending)
       → AreBytes had bytes → Comes (up_to v v.is) (Run options) bytes None nowhere [] ending → ReadsFirst None ending had left
@@ -214,28 +239,7 @@ module _ {D : Type 0} (v : Vaults D) (whole : IsWhole v.was)
   nothing_in_brief options had left bytes ending are comes reads same shown = record {
     mid = v.is;
     total = None;
-    came = record {
-      bytes = bytes;
-      are_bytes = are;
-      rans = [];
-      ending = ending;
-      course = record { script = None; opening = nowhere; state = empty; run = (refl, refl); comes = comes; reads = reads };
-      caused = record {
-        in_rounds = record { caused = tt; durable = tt; sequences = tt; marks = tt; tried = tt; counted = tt; met = tt; plain = λ tree. tt };
-        full = λ found told. tt;
-        files = none_over;
-      };
-      history = nothing_come [] empty;
-      kept = record {
-        stands = λ sound. untouched_stands (up_to v v.is) [] whole same;
-        snapshots = λ sound. untouched_snapshots (up_to v v.is) [] [] whole same;
-        declared = λ some. absurd (some refl);
-        whole = λ finished. refl;
-        stops = stops_untouched (up_to v v.is) reads_told [] nowhere whole same;
-        through_reads = λ some. absurd (some refl);
-      };
-      shown = shown;
-    };
+    came = nothing_run (up_to v v.is) whole reads_told (Run options) had left bytes ending are comes reads same shown;
     sums = (refl, refl);
     reads = vault_reads_none v.is;
     stops = stops_untouched v reads_told [] nowhere whole same;
@@ -265,15 +269,17 @@ module _ {D : Type 0} (v : Vaults D) (whole : IsWhole v.was)
       of (AtLimit name) is shown = absurd is
       of (NoSnapshot epoch) is shown = absurd is
 
+module _ {D : Type 0} (v : Vaults D) (whole : IsWhole v.was)
+    (reads_told : (disk : D) (file : Bytes) → v.tells disk ≡ Some file → v.image_at disk (v.clock disk) file) where
   -- refused words
   pub usage_came : {Shows : List Ran → Ending → Type 0} (had left : Option Bytes) → IsUntouched v → Shows [] Usage → Came v Refused had left Shows
-  usage_came had left same shown = nothing_run Refused had left (bytes_of had) Usage (are_bytes_of had) same tt same shown
+  usage_came had left same shown = nothing_run v whole reads_told Refused had left (bytes_of had) Usage (are_bytes_of had) same tt same shown
 
   -- a script was made
   pub made_came : {Shows : List Ran → Ending → Type 0} (arguments : MakeArguments) (had left : Option Bytes) → IsUntouched v → Shows [] Finished
       → Came v (Make arguments) had left Shows
   made_came arguments had left same shown =
-      nothing_run (Make arguments) had left (bytes_of had) Finished (are_bytes_of had) same tt same shown
+      nothing_run v whole reads_told (Make arguments) had left (bytes_of had) Finished (are_bytes_of had) same tt same shown
 
   -- memory may be wanted at any time
   memory_comes : (command : Command) (bytes : Bytes) → IsInFull command → IsUntouched v → Comes v command bytes None nowhere [] NoMemory
@@ -288,7 +294,7 @@ module _ {D : Type 0} (v : Vaults D) (whole : IsWhole v.was)
   pub memory_came : {Shows : List Ran → Ending → Type 0} (command : Command) (had left : Option Bytes) → IsInFull command
       → IsUntouched v → Shows [] NoMemory → Came v command had left Shows
   memory_came command had left other same shown =
-      nothing_run command had left (bytes_of had) NoMemory (are_bytes_of had) (memory_comes command (bytes_of had) other same)
+      nothing_run v whole reads_told command had left (bytes_of had) NoMemory (are_bytes_of had) (memory_comes command (bytes_of had) other same)
       tt same shown
 
   -- then nothing is printed before the last line
@@ -313,9 +319,9 @@ module _ {D : Type 0} (v : Vaults D) (whole : IsWhole v.was)
     where
       of : (e : Ending) → IsUnreadOf text.bytes had left e → Shows [] e → Came v (Run options) had left Shows
       of (NoScript fault) is shown =
-          nothing_run (Run options) had left text.bytes (NoScript fault) text.are_bytes (is.0, is.1, same) is.2 same shown
-      of ReadFault is shown = nothing_run (Run options) had left text.bytes ReadFault text.are_bytes same tt same shown
-      of NoMemory is shown = nothing_run (Run options) had left text.bytes NoMemory text.are_bytes same tt same shown
+          nothing_run v whole reads_told (Run options) had left text.bytes (NoScript fault) text.are_bytes (is.0, is.1, same) is.2 same shown
+      of ReadFault is shown = nothing_run v whole reads_told (Run options) had left text.bytes ReadFault text.are_bytes same tt same shown
+      of NoMemory is shown = nothing_run v whole reads_told (Run options) had left text.bytes NoMemory text.are_bytes same tt same shown
       of Finished is shown = absurd is
       of Usage is shown = absurd is
       of (Shape declared others) is shown = absurd is

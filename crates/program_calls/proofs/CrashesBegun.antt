@@ -57,7 +57,7 @@ use Rattle.round_engine.specs.Begun.{begun}
 use Rattle.round_engine.specs.Logs.{AreClosedFiles, AreLogs}
 use Rattle.round_engine.specs.Standing.{RuntimeState}
 use Rattle.program_calls.specs.Beginning.{Opening}
-use Rattle.program_calls.specs.Main.{RecordsOf, StandsWhenStopped}
+use Rattle.program_calls.specs.RunKept.{RecordsOf, StandsWhenStopped}
 use Rattle.program_calls.specs.Vaults.{IsUntouched, Vaults, vaults_of}
 use Rattle.worker_logs.specs.Saves.{closed_number, growing_number}
 use Rattle.program_calls.proofs.CrashPoints.{FoundAt}

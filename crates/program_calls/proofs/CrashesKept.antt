@@ -35,7 +35,8 @@ use Rattle.round_engine.specs.Crashes.{IsSameUpTo, KnowsBefore, StaysReady}
 use Rattle.worker_logs.specs.Rows.{NeverFall}
 use Rattle.round_engine.specs.Saves.{newest_after}
 use Rattle.round_engine.specs.Standing.{RuntimeState}
-use Rattle.program_calls.specs.Main.{RecordsOf, saved_in}
+use Rattle.program_calls.specs.RunKept.{RecordsOf}
+use Rattle.program_calls.specs.RoundCauses.{saved_in}
 use Rattle.program_calls.proofs.CrashPoints.{FoundAt, PointsKept, left_at, StandsThen}
 
 -- ---- what is known

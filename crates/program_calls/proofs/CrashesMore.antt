@@ -32,7 +32,8 @@ use Rattle.round_engine.specs.RanRound.{LeavesVault, StopsIn}
 use Rattle.round_engine.specs.Saves.{saves_told}
 use Rattle.round_engine.specs.Standing.{RuntimeState, StandsOn, files_of}
 use Rattle.round_engine.specs.Swaps.{behind_swap, since_swap}
-use Rattle.program_calls.specs.Main.{RecordsOf, saved_in}
+use Rattle.program_calls.specs.RunKept.{RecordsOf}
+use Rattle.program_calls.specs.RoundCauses.{saved_in}
 use Rattle.program_calls.proofs.CrashPoints.{FoundAt, PointsKept, StandsThen}
 use Rattle.program_calls.proofs.CrashesKept.{CrashesKept, KeptBefore, StoredAt, at_front, either_at, epoch_at, found_before}
 use Rattle.program_calls.proofs.CrashesKept.{newest_length, rise_at, saved_push, saved_with}
@@ -60,7 +61,7 @@ module _ {D : Type 0} {tells : D → Option (List ℕ)} {clock : D → ℕ} {ima
     (own_lines : (w : ℕ) → w < 8 → AllByRecursion (IsLineOf decls) (logged w))
     (workers : AllByRecursion (λ e. e.worker < 8) run)
     (later : AllByRecursion (λ e. old.stands.clock.epoch ≤ e.number.epoch) run)
-    (caused : AllCaused ran) (files_are : ran.files ≡ files_of old)
+    (caused : AllCaused ran) (files_are : ran.beside.files ≡ files_of old)
     (leaves : LeavesVault tells clock image_at faults ran logged old new before now)
     (rises : Rises (ordered ++ run)) (falls : EpochsNeverFall (ordered ++ run))
     (ready : KeptBefore tells clock image_at from reading decls settled saved s rans ordered commits gone old before)
@@ -361,7 +362,7 @@ module _ {D : Type 0} {tells : D → Option (List ℕ)} {clock : D → ℕ} {ima
       let high : was.high ≡ last = ready.high_is in
       let none : begun ≡ [] = nothing_begun leaves.stored leaves.failed
       (leaves.has_stored.epochs
-      ∙ ap (λ (told : List Answer). saves_told told ++ option_to_list stop.ran.durable) stop.unanswered
+      ∙ ap (λ (told : List Answer). saves_told told ++ option_to_list stop.ran.printed.durable) stop.unanswered
       ∙ ap option_to_list stop.durable)
       (λ fails. stop.unstored (leaves.has_stored.fails.0 fails)) in
       let same : last + length begun ≡ last = omega (arith, ap length none) in

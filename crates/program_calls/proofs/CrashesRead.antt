@@ -22,7 +22,7 @@ use Rattle.joint_crashes.specs.Crashes.ToldSteps.{parts}
 use Rattle.joint_crashes.specs.VaultReads.{VaultOnlyReads, whole_read}
 use Rattle.tx_script.specs.Run.{Ran}
 use Rattle.round_engine.specs.Crashes.{StaysReady}
-use Rattle.program_calls.specs.Main.{RecordsOf}
+use Rattle.program_calls.specs.RunKept.{RecordsOf}
 use Rattle.program_calls.proofs.CrashesKept.{CrashesKept, StoredAt}
 use Rattle.program_calls.proofs.VaultsLater.{there}
 

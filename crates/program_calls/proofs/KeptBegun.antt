@@ -125,7 +125,7 @@ module _ {D : Type 0} {tells : D → Option (List ℕ)} {clock : D → ℕ} {ima
     (own_lines : (w : ℕ) → w < 8 → AllByRecursion (IsLineOf decls) (logged w))
     (workers : AllByRecursion (λ e. e.worker < 8) run)
     (later : AllByRecursion (λ e. old.stands.clock.epoch ≤ e.number.epoch) run)
-    (caused : AllCaused ran) (files_are : ran.files ≡ files_of old)
+    (caused : AllCaused ran) (files_are : ran.beside.files ≡ files_of old)
     (leaves : LeavesVault tells clock image_at faults ran logged old new before now)
     (rises : Rises (ordered ++ run)) (falls : EpochsNeverFall (ordered ++ run))
     (story : Story) (from : Moments) (low : ℕ)
@@ -137,7 +137,7 @@ module _ {D : Type 0} {tells : D → Option (List ℕ)} {clock : D → ℕ} {ima
   begun = leaves.stored ++ option_to_list leaves.failed
 
   abbrev beside_then : Beside
-  beside_then = beside_at_end (beside_of old) ran.answers
+  beside_then = beside_at_end (beside_of old) ran.printed.answers
 
   abbrev commits_then : ℕ → List Commit
   commits_then w = commits w ++ logged w
@@ -183,7 +183,7 @@ module _ {D : Type 0} {tells : D → Option (List ℕ)} {clock : D → ℕ} {ima
         (counted_of (Some (point_of sequence x)) (closed_number old.side w)) (newest_epoch store.at.catalogues)
 
   abbrev By : Beside → Saved → Type 0
-  By = IsSavedBy ran.begin.epoch (epoch_joined ran) ran_logs.marks
+  By = IsSavedBy ran.printed.begin.epoch (epoch_joined ran) ran_logs.marks
 
   by_beside : (b : Beside) (pages rest : List Page) (x : Saved)
       → (store : PagesOf was decls saved s (ordered ++ run) pages older old.closed_at)
@@ -204,12 +204,12 @@ module _ {D : Type 0} {tells : D → Option (List ℕ)} {clock : D → ℕ} {ima
   as_begun x by = by_beside (beside_of old) old.store.pages leaves.grows.0 x store_here.0 leaves.grows.1 refl refl
       stands.closed.workers counts_here by
 
-  behind_snap : (x : Saved) (epoch new_pages : ℕ) → Contains ran.answers (answers.Snap epoch new_pages)
+  behind_snap : (x : Saved) (epoch new_pages : ℕ) → Contains ran.printed.answers (answers.Snap epoch new_pages)
       → By beside_then x → Over x
   behind_snap x epoch new_pages has by =
       let needed : some_counted old.counted ≡ true =
       sym (ap (λ (f : LogFiles). some_counted f.counted) files_are)
-      ∙ made_counted ran (keeper_before ran) (beside_of old) ran.asked ran.answers epoch new_pages caused.answers has in
+      ∙ made_counted ran (keeper_before ran) (beside_of old) ran.printed.asked ran.printed.answers epoch new_pages caused.answers has in
       let adds = leaves.gleans.made epoch new_pages has in
       elim counts_here [
         | inr none ↦ absurd (true≢false (sym needed ∙ ap some_counted none.0))
@@ -219,14 +219,14 @@ module _ {D : Type 0} {tells : D → Option (List ℕ)} {clock : D → ℕ} {ima
             decls_are (let first = parts.saved_by in omega (arith, first, up)) store_here.0 all.1 new.store new_pages
             adds in
             let many : beside_then.count ≡ length new.store.pages =
-            made_count ran (keeper_before ran) (beside_of old) ran.asked ran.answers epoch new_pages caused.answers has
+            made_count ran (keeper_before ran) (beside_of old) ran.printed.asked ran.printed.answers epoch new_pages caused.answers has
             ∙ sym (sym (length-map new.store.pages (λ (p : Page). p.words)) ∙ gleaned_count adds.gleaned
             ∙ ap (λ n. n + new_pages) (length-map old.store.pages (λ (p : Page). p.words))) in
             by_beside beside_then new.store.pages [] x next.next (sym (append-nil new.store.pages)) many
-            (growing_stays (beside_of old) ran.answers)
-            (closed_eight (beside_of old) ran.answers stands.closed.workers)
+            (growing_stays (beside_of old) ran.printed.answers)
+            (closed_eight (beside_of old) ran.printed.answers stands.closed.workers)
             (inr (
-              made_zero (beside_of old) ran.answers epoch new_pages has,
+              made_zero (beside_of old) ran.printed.answers epoch new_pages has,
               λ w below. subst (λ e. AllUpTo e (gone w)) (sym next.epoch) (logged_then.gone_by w below),
             )) by
       ]
@@ -234,14 +234,14 @@ module _ {D : Type 0} {tells : D → Option (List ℕ)} {clock : D → ℕ} {ima
   over : (x : Saved) → ByEither By (beside_of old) beside_then x → Over x
   over x by = elim by [
     | inl first ↦ as_begun x first
-    | inr second ↦ elim (snap_in ran.answers) [
+    | inr second ↦ elim (snap_in ran.printed.answers) [
       | inl snap ↦ behind_snap x snap.0 snap.1 snap.2 second
-      | inr none ↦ as_begun x (subst (λ (b : Beside). By b x) (none_same (beside_of old) ran.answers none) second)
+      | inr none ↦ as_begun x (subst (λ (b : Beside). By b x) (none_same (beside_of old) ran.printed.answers none) second)
     ]
   ]
 
   all_over : AllByRecursion (ByEither By (beside_of old) beside_then) begun
-  all_over = by_either By ran (keeper_before ran) (beside_of old) ran.asked ran.answers begun caused.answers
+  all_over = by_either By ran (keeper_before ran) (beside_of old) ran.printed.asked ran.printed.answers begun caused.answers
       ran_logs.saved
 
   -- ---- what it stands for

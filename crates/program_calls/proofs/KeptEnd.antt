@@ -51,7 +51,7 @@ use Rattle.round_engine.specs.Swaps.{behind_swap}
 use Rattle.round_engine.specs.Saves.{newest_after, saves_told}
 use Rattle.round_engine.specs.Sides.{other_side}
 use Rattle.round_engine.specs.Standing.{RuntimeState, StandsOn}
-use Rattle.program_calls.specs.Main.{last_saved}
+use Rattle.program_calls.specs.RunKept.{last_saved}
 use Rattle.program_calls.specs.Snapshots.{EachSnapshot}
 use Rattle.program_calls.proofs.KeptFiles.{closed_file, growing_file, item_at}
 use Rattle.program_calls.proofs.KeptIn.{StandsFor}
@@ -270,7 +270,7 @@ no_snap said none epoch new has =
     in_none (answers.Snap epoch new) (subst (λ l. Contains l (answers.Snap epoch new)) none has)
 
 -- where nothing was made durable no join comes to its swap
-no_swap : (ran : Ran) → ran.durable ≡ None → comes_to_swap ran ≡ false
+no_swap : (ran : Ran) → ran.printed.durable ≡ None → comes_to_swap ran ≡ false
 no_swap ran none = ap (λ (d : Option ℕ). is_some d && not (keeper_at_end ran).counted) none
 
 -- a closed log file that is told
@@ -332,7 +332,7 @@ module _ {D : Type 0} {tells : D → Option (List ℕ)} {clock : D → ℕ} {ima
       {now = now} was found kept stands going stop leaves up sound rises falls told =
       let lr = leaves.runs kept.commits kept.gone kept.durable kept.closed kept.logs (kept.open_files going) in
       let stored = none_stored leaves.stored (leaves.has_stored.epochs
-      ∙ ap (λ (told : List Answer). saves_told told ++ option_to_list stop.ran.durable) stop.unanswered
+      ∙ ap (λ (told : List Answer). saves_told told ++ option_to_list stop.ran.printed.durable) stop.unanswered
       ∙ ap option_to_list stop.durable) in
       let newest : new.save.newest ≡ old.save.newest =
       leaves.has_stored.newest ∙ ap (newest_after old.save.newest) stored in
@@ -341,7 +341,7 @@ module _ {D : Type 0} {tells : D → Option (List ℕ)} {clock : D → ℕ} {ima
       let side : new.side ≡ old.side =
       leaves.files.side ∙ ap (λ b. cond b (other_side old.side) old.side) unturned in
       let store : new.store ≡ old.store =
-      (leaves.gleans.kept (no_snap stop.ran.answers stop.unanswered) sound).0 in
+      (leaves.gleans.kept (no_snap stop.ran.printed.answers stop.unanswered) sound).0 in
       let many : length leaves.logs ≡ 8 = ap length (sym (leaves.files.logs_are
       ∙ ap (λ b. cond b (map reset_log leaves.logs) leaves.logs) unturned)) ∙ leaves.stands.workers in
       let files = subst (λ b. AreClosedFiles tells clock image_at (behind_swap b (λ w. kept.commits w ++ stop.logged w)
@@ -356,7 +356,7 @@ module _ {D : Type 0} {tells : D → Option (List ℕ)} {clock : D → ℕ} {ima
       let n = growing_number old.side w in
       let bank = growing_file old.side now w leaves.stands.whole below in
       let log = item_at leaves.logs w (omega (arith, below, many)) in
-      let epochs = item_at stop.ran.marks w (omega (arith, below, stop.begins.workers)) in
+      let epochs = item_at stop.ran.beside.marks w (omega (arith, below, stop.begins.workers)) in
       let grows = (lr.each w had.log log.0 had.bank bank.bank epochs.0 had.at log.1 had.there bank.there epochs.1).ran.grows
       in (
         front_from (kept.durable w) had.log.journal.lines (lines_bytes (kept.commits w))

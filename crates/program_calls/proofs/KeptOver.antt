@@ -204,7 +204,7 @@ OverFrom room f (ran ∷ rans) g = BeginsOver room f ran × (made : List (List �
 pub record TellsOf (f : FilesAt) (ran : Ran) (made : List (List ℕ)) (counted : List ℕ) (logged : ℕ → List Commit)
     : Type 0 where
   pub gleans : GleansOf f ran made logged
-  pub closes : swaps ran ≡ true → AreLengthsOf logged f.files.closed_at ran.end.epoch counted
+  pub closes : swaps ran ≡ true → AreLengthsOf logged f.files.closed_at ran.printed.end.epoch counted
 
 abbrev pub AllTell : (logged : ℕ → List Commit) (room : ℕ) (f : FilesAt) (rans : List Ran) (g : FilesAt)
     → OverFrom room f rans g → Type 0
@@ -266,7 +266,7 @@ module _ (logged later : ℕ → List Commit) (first : ℕ)
   comes_then f before of None comes = comes
 
   tells_then : (f : FilesAt) (ran : Ran) (made : List (List ℕ)) (counted : List ℕ) → f.files.closed_at < first
-      → ran.end.epoch < first → TellsOf f ran made counted logged → TellsOf f ran made counted then_logged
+      → ran.printed.end.epoch < first → TellsOf f ran made counted logged → TellsOf f ran made counted then_logged
   tells_then f ran made counted before ended tells = record {
     gleans = record {
       found = λ what has. let it = tells.gleans.found what has in
@@ -276,14 +276,14 @@ module _ (logged later : ℕ → List Commit) (first : ℕ)
     closes = λ is. let lengths = tells.closes is in record {
       workers = lengths.workers;
       each = λ w size at. lengths.each w size at ∙ ap (λ cs. length (lines_bytes cs))
-          (between_stays f.files.closed_at ran.end.epoch w ended
+          (between_stays f.files.closed_at ran.printed.end.epoch w ended
           (let many = lengths.workers in let within = below_length counted w size at in omega (arith, many, within)));
     };
   }
 
   -- so what was told of rounds before them is told still
   pub tell_then : (room : ℕ) (f : FilesAt) (rans : List Ran) (g : FilesAt) (over : OverFrom room f rans g)
-      → f.files.closed_at < first → AllByRecursion (λ ran. ran.end.epoch < first) rans
+      → f.files.closed_at < first → AllByRecursion (λ ran. ran.printed.end.epoch < first) rans
       → AllTell logged room f rans g over → AllTell then_logged room f rans g over
   tell_then room f [] g over before ended all = tt
   tell_then room f (ran ∷ rans) g over before ended all = (
@@ -292,7 +292,7 @@ module _ (logged later : ℕ → List Commit) (first : ℕ)
   )
     where
       later_closed : (b : Bool)
-          → (let x : LogFiles = cond b (record { odd = not f.files.odd; counted = over.2; closed_at = ran.end.epoch })
+          → (let x : LogFiles = cond b (record { odd = not f.files.odd; counted = over.2; closed_at = ran.printed.end.epoch })
           (record { odd = f.files.odd; counted = counted_behind ran; closed_at = f.files.closed_at }) in x.closed_at < first)
       later_closed true = ended.0
       later_closed false = before
@@ -341,7 +341,7 @@ module _ {D : Type 0} {tells : D → Option (List ℕ)} {clock : D → ℕ} {ima
     {ran : Ran} {logged : ℕ → List Commit} {old new : RuntimeState} {before now : Vault D}
     (leaves : LeavesVault tells clock image_at faults ran logged old new before now) where
   pub made_pages : MadePages ran old new
-  made_pages = elim (snap_in ran.answers) [
+  made_pages = elim (snap_in ran.printed.answers) [
     | inl snap ↦
         let own = leaves.gleans.made snap.0 snap.1 snap.2 in
         record {
@@ -401,7 +401,7 @@ module _ {D : Type 0} {tells : D → Option (List ℕ)} {clock : D → ℕ} {ima
     (leaves : LeavesVault tells clock image_at faults one.ran one.logged old new before now) (index : ℕ)
     (rises : Rises (ordered ++ (one.lines.run index).ordered))
     (falls : EpochsNeverFall (ordered ++ (one.lines.run index).ordered)) where
-  abbrev of_it : AreOfRound old.stands.clock.epoch one.ran.end.epoch (one.lines.run index).ordered
+  abbrev of_it : AreOfRound old.stands.clock.epoch one.ran.printed.end.epoch (one.lines.run index).ordered
   of_it = of_round (one.lines.run index)
 
   abbrev pub own_logged : (w : ℕ) → w < 8
@@ -429,19 +429,19 @@ module _ {D : Type 0} {tells : D → Option (List ℕ)} {clock : D → ℕ} {ima
       of_it.workers
 
   -- all commits of the growing log files are up to the round's last epoch
-  here_by : (w : ℕ) → w < 8 → AllByRecursion (λ c. c.number.epoch ≤ one.ran.end.epoch) (here_then w)
+  here_by : (w : ℕ) → w < 8 → AllByRecursion (λ c. c.number.epoch ≤ one.ran.printed.end.epoch) (here_then w)
   here_by w below =
       let run = one.lines.run index in
-      let begins : one.ran.begin.epoch ≡ old.stands.clock.epoch = ap (λ (n : Number). n.epoch) run.clocks.0 in
-      let up : old.stands.clock.epoch ≤ one.ran.end.epoch =
-      (let later = advances_later one.ran.begin.epoch one.ran.answers one.ran.end.epoch run.clocks.1.epoch in
+      let begins : one.ran.printed.begin.epoch ≡ old.stands.clock.epoch = ap (λ (n : Number). n.epoch) run.clocks.0 in
+      let up : old.stands.clock.epoch ≤ one.ran.printed.end.epoch =
+      (let later = advances_later one.ran.printed.begin.epoch one.ran.printed.answers one.ran.printed.end.epoch run.clocks.1.epoch in
       omega (arith, begins, later)) in
-      all_behind (λ (c : Commit). c.number.epoch ≤ one.ran.end.epoch) (kept.gone w) (here_then w)
-      (all_behind (λ (c : Commit). c.number.epoch ≤ one.ran.end.epoch) (kept.older w) (kept.gone w ++ here_then w)
-      (commits_all (λ n. n.epoch ≤ one.ran.end.epoch) decls w s (ordered ++ run.ordered)
+      all_behind (λ (c : Commit). c.number.epoch ≤ one.ran.printed.end.epoch) (kept.gone w) (here_then w)
+      (all_behind (λ (c : Commit). c.number.epoch ≤ one.ran.printed.end.epoch) (kept.older w) (kept.gone w ++ here_then w)
+      (commits_all (λ n. n.epoch ≤ one.ran.printed.end.epoch) decls w s (ordered ++ run.ordered)
       (log_of_parts kept.older kept.gone here_then w) (logged_over.is_logged w below)
-      (all_append (λ (e : Entry). e.number.epoch ≤ one.ran.end.epoch) ordered run.ordered
-      (all_weaker (λ (e : Entry). e.number.epoch ≤ old.stands.clock.epoch) (λ (e : Entry). e.number.epoch ≤ one.ran.end.epoch)
+      (all_append (λ (e : Entry). e.number.epoch ≤ one.ran.printed.end.epoch) ordered run.ordered
+      (all_weaker (λ (e : Entry). e.number.epoch ≤ old.stands.clock.epoch) (λ (e : Entry). e.number.epoch ≤ one.ran.printed.end.epoch)
       (λ e by. omega (arith, by, up)) ordered kept.below) of_it.earlier)))
 
   -- A glean's run, by the commits that the closed log files have, where all of these count.
@@ -503,7 +503,7 @@ module _ {D : Type 0} {tells : D → Option (List ℕ)} {clock : D → ℕ} {ima
     closed_is : f.files.closed_at ≡ old.closed_at
     closed_is = ap (λ (x : LogFiles). x.closed_at) files
 
-    finds : (what : Option ℕ) → Contains one.ran.gleans what
+    finds : (what : Option ℕ) → Contains one.ran.beside.gleans what
         → (of : MayGlean f (log_of_parts kept.older kept.gone here_then))
         × NextComesTo f (log_of_parts kept.older kept.gone here_then) of what
     finds (Some count) has =
@@ -565,7 +565,7 @@ module _ {D : Type 0} {tells : D → Option (List ℕ)} {clock : D → ℕ} {ima
           added = λ count makes.
               let needed : some_counted old.counted ≡ true =
               sym (ap (λ (x : LogFiles). some_counted x.counted) one.begins.files)
-              ∙ made_counted one.ran (keeper_before one.ran) (beside_of old) one.ran.asked one.ran.answers makes.0 count
+              ∙ made_counted one.ran (keeper_before one.ran) (beside_of old) one.ran.printed.asked one.ran.printed.answers makes.0 count
               one.lines.caused.answers makes.1 in
               let all = counts needed in
               adds f files words since all.0 all.1 made count makes (of_snap count makes);
@@ -578,14 +578,14 @@ module _ {D : Type 0} {tells : D → Option (List ℕ)} {clock : D → ℕ} {ima
                   let below : w < 8 = (let many = leaves.stands.closed.workers in
                   let within = below_length new.counted w size there in omega (arith, many, within)) in
                   lr.closed_whole is w size there
-                  ∙ ap (λ cs. length (lines_bytes cs)) (sym (ap (λ n. filter (is_after n one.ran.end.epoch)
+                  ∙ ap (λ cs. length (lines_bytes cs)) (sym (ap (λ n. filter (is_after n one.ran.printed.end.epoch)
                   (log_of_parts kept.older kept.gone here_then w)) at
-                  ∙ here_between logged_over w below one.ran.end.epoch (here_by w below)));
+                  ∙ here_between logged_over w below one.ran.printed.end.epoch (here_by w below)));
             };
       }
 
   -- Devices that tell their bytes aren't found damaged.
-  pub never_damaged : (damage : Device × ℕ) → one.ran.damaged ≡ Some damage → ⊥
+  pub never_damaged : (damage : Device × ℕ) → one.ran.beside.damaged ≡ Some damage → ⊥
   never_damaged damage is =
       let it = leaves.gleans.damage damage.0 damage.1 is in
       let d = it.damaged in
@@ -620,32 +620,32 @@ module _ {D : Type 0} {tells : D → Option (List ℕ)} {clock : D → ℕ} {ima
       → (files_after f one.ran made new.counted).files ≡ files_of new
   files_then f files made = by (swaps one.ran) leaves.files.side leaves.files.counted leaves.files.closed_at
     where
-      counted_is : counted_behind one.ran ≡ (beside_at_end (beside_of old) one.ran.answers).closed
+      counted_is : counted_behind one.ran ≡ (beside_at_end (beside_of old) one.ran.printed.answers).closed
       counted_is =
-          let own : one.ran.files.counted ≡ old.counted = ap (λ (x : LogFiles). x.counted) one.begins.files in
-          let end : (keeper_at_end one.ran).counted ≡ some_counted (beside_at_end (beside_of old) one.ran.answers).closed =
-          counted_at_end (keeper_before one.ran) (beside_of old) one.ran.answers (ap some_counted own) in
-          let many : length (beside_at_end (beside_of old) one.ran.answers).closed ≡ 8 =
-          closed_eight (beside_of old) one.ran.answers stands.closed.workers in
+          let own : one.ran.beside.files.counted ≡ old.counted = ap (λ (x : LogFiles). x.counted) one.begins.files in
+          let end : (keeper_at_end one.ran).counted ≡ some_counted (beside_at_end (beside_of old) one.ran.printed.answers).closed =
+          counted_at_end (keeper_before one.ran) (beside_of old) one.ran.printed.answers (ap some_counted own) in
+          let many : length (beside_at_end (beside_of old) one.ran.printed.answers).closed ≡ 8 =
+          closed_eight (beside_of old) one.ran.printed.answers stands.closed.workers in
           elim (cases_Bool (keeper_at_end one.ran).counted) [
-            | inl is ↦ elim (snap_in one.ran.answers) [
+            | inl is ↦ elim (snap_in one.ran.printed.answers) [
               | inl snap ↦ absurd (true≢false (sym is ∙ end
-                  ∙ ap some_counted (made_zero (beside_of old) one.ran.answers snap.0 snap.1 snap.2)))
-              | inr none ↦ ap (λ b. cond b one.ran.files.counted (replicate 8 0)) is ∙ own
-                  ∙ sym (ap (λ (b : Beside). b.closed) (none_same (beside_of old) one.ran.answers none))
+                  ∙ ap some_counted (made_zero (beside_of old) one.ran.printed.answers snap.0 snap.1 snap.2)))
+              | inr none ↦ ap (λ b. cond b one.ran.beside.files.counted (replicate 8 0)) is ∙ own
+                  ∙ sym (ap (λ (b : Beside). b.closed) (none_same (beside_of old) one.ran.printed.answers none))
             ]
-            | inr is ↦ ap (λ b. cond b one.ran.files.counted (replicate 8 0)) is
-                ∙ sym (zeros (beside_at_end (beside_of old) one.ran.answers).closed (sym end ∙ is)
+            | inr is ↦ ap (λ b. cond b one.ran.beside.files.counted (replicate 8 0)) is
+                ∙ sym (zeros (beside_at_end (beside_of old) one.ran.printed.answers).closed (sym end ∙ is)
                 ∙ ap (λ n. replicate n 0) many)
           ]
 
       by : (b : Bool) → new.side ≡ cond b (other_side old.side) old.side
-          → new.counted ≡ cond b (map (λ (m : Mark). m.length) (logs_marks leaves.logs)) (beside_at_end (beside_of old) one.ran.answers).closed
-          → new.closed_at ≡ cond b one.ran.end.epoch old.closed_at
-          → cond b (record { odd = not f.files.odd; counted = new.counted; closed_at = one.ran.end.epoch })
+          → new.counted ≡ cond b (map (λ (m : Mark). m.length) (logs_marks leaves.logs)) (beside_at_end (beside_of old) one.ran.printed.answers).closed
+          → new.closed_at ≡ cond b one.ran.printed.end.epoch old.closed_at
+          → cond b (record { odd = not f.files.odd; counted = new.counted; closed_at = one.ran.printed.end.epoch })
           (record { odd = f.files.odd; counted = counted_behind one.ran; closed_at = f.files.closed_at }) ≡ files_of new
       by true side counted closed =
-          ap (λ (o : Bool). record { odd = o; counted = new.counted; closed_at = one.ran.end.epoch })
+          ap (λ (o : Bool). record { odd = o; counted = new.counted; closed_at = one.ran.printed.end.epoch })
           (ap (λ (x : LogFiles). not x.odd) files ∙ sym (other_odd old.side) ∙ ap is_odd (sym side))
           ∙ ap (λ (n : ℕ). record { odd = is_odd new.side; counted = new.counted; closed_at = n }) (sym closed)
       by false side counted closed =

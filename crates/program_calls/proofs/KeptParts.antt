@@ -103,27 +103,27 @@ module _ {D : Type 0} {tells : D → Option (List ℕ)} {clock : D → ℕ} {ima
     (falls : EpochsNeverFall ordered) (whole : IsWhole before) (eight : length old.counted ≡ 8)
     (files : AreClosedFiles tells clock image_at gone closed old before) (same : old.stands.decls ≡ decls)
     (from : saved ≤ since) (sound : new.store.sound ≡ true) (caused : AllCaused ran)
-    (files_are : ran.files ≡ files_of old)
-    (gleans : RoundGleans tells ran.answers ran.gleans ran.damaged old new before now)
+    (files_are : ran.beside.files ≡ files_of old)
+    (gleans : RoundGleans tells ran.printed.answers ran.beside.gleans ran.beside.damaged old new before now)
     (of : PagesOf was decls saved s ordered old.store.pages older old.closed_at)
     (counts : Counts old.counted gone since (newest_epoch of.at.catalogues)) where
   pub store_then : StoreThen was decls saved s ordered new.store.pages older gone since old.closed_at
-      (beside_at_end (beside_of old) ran.answers).closed
-  store_then = elim (snap_in ran.answers) [
+      (beside_at_end (beside_of old) ran.printed.answers).closed
+  store_then = elim (snap_in ran.printed.answers) [
     | inr none ↦
         let store : new.store ≡ old.store = (gleans.kept none sound).0 in
-        let closed_is : old.counted ≡ (beside_at_end (beside_of old) ran.answers).closed =
-        sym (ap (λ (b : Beside). b.closed) (none_same (beside_of old) ran.answers none)) in
+        let closed_is : old.counted ≡ (beside_at_end (beside_of old) ran.printed.answers).closed =
+        sym (ap (λ (b : Beside). b.closed) (none_same (beside_of old) ran.printed.answers none)) in
         subst (λ (x : StoreState). StoreThen was decls saved s ordered x.pages older gone since old.closed_at
-        (beside_at_end (beside_of old) ran.answers).closed) (sym store) (record {
+        (beside_at_end (beside_of old) ran.printed.answers).closed) (sym store) (record {
           next = of;
-          counts = counts_same old.counted (beside_at_end (beside_of old) ran.answers).closed gone since
+          counts = counts_same old.counted (beside_at_end (beside_of old) ran.printed.answers).closed gone since
               (newest_epoch of.at.catalogues) (newest_epoch of.at.catalogues) closed_is refl counts;
         })
     | inl snap ↦
         let needed : some_counted old.counted ≡ true =
         sym (ap (λ (f : LogFiles). some_counted f.counted) files_are)
-        ∙ made_counted ran (keeper_before ran) (beside_of old) ran.asked ran.answers snap.0 snap.1 caused.answers snap.2
+        ∙ made_counted ran (keeper_before ran) (beside_of old) ran.printed.asked ran.printed.answers snap.0 snap.1 caused.answers snap.2
         in
         elim counts [
           | inr none ↦ absurd (true≢false (sym needed ∙ ap some_counted none.0))
@@ -134,7 +134,7 @@ module _ {D : Type 0} {tells : D → Option (List ℕ)} {clock : D → ℕ} {ima
               record {
                 next = next.next;
                 counts = inr (
-                  made_zero (beside_of old) ran.answers snap.0 snap.1 snap.2,
+                  made_zero (beside_of old) ran.printed.answers snap.0 snap.1 snap.2,
                   λ w below. subst (λ e. AllUpTo e (gone w)) (sym next.epoch) (it.gone_by w below),
                 );
               }

@@ -61,7 +61,8 @@ use Rattle.round_engine.specs.Sides.{other_side}
 use Rattle.round_engine.specs.Standing.{RuntimeState, StandsOn, beside_of}
 use Rattle.round_engine.specs.declared.report.Report.{Report}
 use Rattle.program_calls.specs.EndLaws.{goes_on_quiet}
-use Rattle.program_calls.specs.Main.{last_saved, saved_in}
+use Rattle.program_calls.specs.RunKept.{last_saved}
+use Rattle.program_calls.specs.RoundCauses.{saved_in}
 use Rattle.program_calls.specs.OnTheWay.{KeptSnapshots}
 use Rattle.program_calls.proofs.KeptFiles.{closed_file, item_at}
 use Rattle.program_calls.proofs.KeptHere.{AllUpTo, Counts, PagesOf, pages_more, pages_turned}
@@ -270,10 +271,10 @@ advances_later first (answers.Epoch epoch ∷ more) last up =
 advances_later first (_ ∷ more) last up = advances_later first more last up
 
 -- nor does a join
-joined_later : (ran : Ran) → ran.end.epoch ≤ epoch_joined ran
-joined_later ran = of (comes_to_advance ran) (nat_lt ran.end.epoch last_epoch)
+joined_later : (ran : Ran) → ran.printed.end.epoch ≤ epoch_joined ran
+joined_later ran = of (comes_to_advance ran) (nat_lt ran.printed.end.epoch last_epoch)
   where
-    of : (a b : Bool) → ran.end.epoch ≤ cond a (cond b (ran.end.epoch + 1) ran.end.epoch) ran.end.epoch
+    of : (a b : Bool) → ran.printed.end.epoch ≤ cond a (cond b (ran.printed.end.epoch + 1) ran.printed.end.epoch) ran.printed.end.epoch
     of true true = omega arith
     of true false = omega arith
     of false b = omega arith
@@ -375,8 +376,8 @@ kept_turned {was = was} {decls = decls} {saved = saved} {s = s} {ordered = order
     turned_gone Odd w counts = counts
 
 -- the devices of a round that goes on
-pub unfailed : (ran : Ran) → ran.devices ≡ [] → closed_failed ran ≡ false
-unfailed ran none = ap (list_any (is_closed ran.files)) none
+pub unfailed : (ran : Ran) → ran.beside.devices ≡ [] → closed_failed ran ≡ false
+unfailed ran none = ap (list_any (is_closed ran.beside.files)) none
 
 -- A round's lines, gleans and saves carry on what is kept, up to its swap.
 module _ {D : Type 0} {tells : D → Option (List ℕ)} {clock : D → ℕ} {image_at : D → ℕ → List ℕ → Type 0}
@@ -397,7 +398,7 @@ module _ {D : Type 0} {tells : D → Option (List ℕ)} {clock : D → ℕ} {ima
   commits_then w = kept.commits w ++ logged w
 
   abbrev beside_then : Beside
-  beside_then = beside_at_end (beside_of old) ran.answers
+  beside_then = beside_at_end (beside_of old) ran.printed.answers
 
   abbrev files_open : AreClosedFiles tells clock image_at kept.gone kept.closed old before
   files_open = kept.open_files going
@@ -411,7 +412,7 @@ module _ {D : Type 0} {tells : D → Option (List ℕ)} {clock : D → ℕ} {ima
   own_logged w below = subst (λ (t : State). AreLogged decls w t run_ordered (logged w)) state_is
       (subst (λ ds. AreLogged ds w old.stands.state run_ordered (logged w)) decls_are (lines.logged_are index w below))
 
-  of_run : AreOfRound old.stands.clock.epoch ran.end.epoch run_ordered
+  of_run : AreOfRound old.stands.clock.epoch ran.printed.end.epoch run_ordered
   of_run = of_round (lines.run index)
 
   later_closed : AllByRecursion (λ e. old.closed_at < e.number.epoch) run_ordered
@@ -458,14 +459,14 @@ module _ {D : Type 0} {tells : D → Option (List ℕ)} {clock : D → ℕ} {ima
   }
 
   abbrev By : Beside → Saved → Type 0
-  By = IsSavedBy ran.begin.epoch (epoch_joined ran) logs_ran.marks
+  By = IsSavedBy ran.printed.begin.epoch (epoch_joined ran) logs_ran.marks
 
   newest_then : NewestOf (ByEither By (beside_of old) beside_then) kept.parts.point
       (newest_after old.save.newest leaves.stored) (map (λ (x : Saved). x.epoch) leaves.stored)
   newest_then = newest_of (ByEither By (beside_of old) beside_then) old.save.newest kept.parts.point leaves.stored
       kept.parts.newest_is
       (all_front (ByEither By (beside_of old) beside_then) leaves.stored (option_to_list leaves.failed)
-      (by_either By ran (keeper_before ran) (beside_of old) ran.asked ran.answers
+      (by_either By ran (keeper_before ran) (beside_of old) ran.printed.asked ran.printed.answers
       (leaves.stored ++ option_to_list leaves.failed) lines.caused.answers logs_ran.saved))
 
   lines_closed : (w : ℕ) → w < 8 → lines_bytes (kept.gone w) ≡ kept.closed w
@@ -520,8 +521,8 @@ module _ {D : Type 0} {tells : D → Option (List ℕ)} {clock : D → ℕ} {ima
           leaves.grows.1 refl refl stands.closed.workers counts_here first
       | inr second ↦ by_beside beside_then new.store.pages [] stored.0 stored.1 then_store.next
           (sym (append-nil new.store.pages)) (sym (leaves.gleans.many sound))
-          (growing_stays (beside_of old) ran.answers)
-          (closed_eight (beside_of old) ran.answers stands.closed.workers) then_store.counts second
+          (growing_stays (beside_of old) ran.printed.answers)
+          (closed_eight (beside_of old) ran.printed.answers stands.closed.workers) then_store.counts second
     ])
   ]
 
@@ -590,57 +591,57 @@ module _ {D : Type 0} {tells : D → Option (List ℕ)} {clock : D → ℕ} {ima
       let run = one.lines.run index in
       let here = kept_here kept stands decls_are state_is going one.begins one.lines leaves sound index rises falls in
       let lr = logs_ran kept stands decls_are state_is going one.begins one.lines leaves sound index rises falls in
-      let of : AreOfRound old.stands.clock.epoch ran.end.epoch run.ordered = of_round run in
-      let begins : ran.begin.epoch ≡ old.stands.clock.epoch = ap (λ (n : Number). n.epoch) run.clocks.0 in
-      let up : old.stands.clock.epoch ≤ ran.end.epoch =
-      (let later = advances_later ran.begin.epoch ran.answers ran.end.epoch run.clocks.1.epoch in
+      let of : AreOfRound old.stands.clock.epoch ran.printed.end.epoch run.ordered = of_round run in
+      let begins : ran.printed.begin.epoch ≡ old.stands.clock.epoch = ap (λ (n : Number). n.epoch) run.clocks.0 in
+      let up : old.stands.clock.epoch ≤ ran.printed.end.epoch =
+      (let later = advances_later ran.printed.begin.epoch ran.printed.answers ran.printed.end.epoch run.clocks.1.epoch in
       omega (arith, begins, later)) in
       let joined : new.stands.clock.epoch ≡ epoch_joined ran = ap (λ (n : Number). n.epoch) one.clock in
-      let later : ran.end.epoch ≤ new.stands.clock.epoch =
+      let later : ran.printed.end.epoch ≤ new.stands.clock.epoch =
       (let at = joined_later ran in omega (arith, joined, at)) in
       let below = all_append (λ (e : Entry). e.number.epoch ≤ new.stands.clock.epoch) ordered run.ordered
       (all_weaker (λ (e : Entry). e.number.epoch ≤ old.stands.clock.epoch)
       (λ (e : Entry). e.number.epoch ≤ new.stands.clock.epoch) (λ e by. omega (arith, by, up, later)) ordered
       kept.below)
-      (all_weaker (λ (e : Entry). e.number.epoch ≤ ran.end.epoch)
+      (all_weaker (λ (e : Entry). e.number.epoch ≤ ran.printed.end.epoch)
       (λ (e : Entry). e.number.epoch ≤ new.stands.clock.epoch) (λ e by. omega (arith, by, later)) run.ordered
       of.earlier) in
       let commits : ℕ → List Commit = λ w. kept.commits w ++ one.logged w in
-      let counted_is : (keeper_at_end ran).counted ≡ some_counted (beside_at_end (beside_of old) ran.answers).closed =
-      counted_at_end (keeper_before ran) (beside_of old) ran.answers
+      let counted_is : (keeper_at_end ran).counted ≡ some_counted (beside_at_end (beside_of old) ran.printed.answers).closed =
+      counted_at_end (keeper_before ran) (beside_of old) ran.printed.answers
       (ap (λ (f : LogFiles). some_counted f.counted) one.begins.files) in
       let last : last_in (last_saved saved rans) (saved_in ran) ≡ last_saved saved (rans ++ ran ∷ []) =
       sym (last_push saved rans ran) in
       elim (cases_Bool (swaps ran)) [
         | inl is ↦
             let comes = both_true (comes_to_swap ran) (not (closed_failed ran)) is in
-            let parts_of_it = both_true (is_some ran.durable) (not (keeper_at_end ran).counted) comes.0 in
-            let none : some_counted (beside_at_end (beside_of old) ran.answers).closed ≡ false =
+            let parts_of_it = both_true (is_some ran.printed.durable) (not (keeper_at_end ran).counted) comes.0 in
+            let none : some_counted (beside_at_end (beside_of old) ran.printed.answers).closed ≡ false =
             sym counted_is ∙ not_true (keeper_at_end ran).counted parts_of_it.1 in
-            let durable : ran.durable ≡ Some ran.end.epoch =
-            made_durable ran.durable _ ran.end.epoch one.durable parts_of_it.0 in
-            let saved_last : last_in (last_saved saved rans) (saved_in ran) ≡ ran.end.epoch =
-            ap (λ d. last_in (last_saved saved rans) (saves_told ran.answers ++ option_to_list d)) durable
-            ∙ last_more (last_saved saved rans) ran.end.epoch (saves_told ran.answers) in
-            let by = λ (w : ℕ) (under : w < 8). all_append (λ (c : Commit). c.number.epoch ≤ ran.end.epoch)
+            let durable : ran.printed.durable ≡ Some ran.printed.end.epoch =
+            made_durable ran.printed.durable _ ran.printed.end.epoch one.durable parts_of_it.0 in
+            let saved_last : last_in (last_saved saved rans) (saved_in ran) ≡ ran.printed.end.epoch =
+            ap (λ d. last_in (last_saved saved rans) (saves_told ran.printed.answers ++ option_to_list d)) durable
+            ∙ last_more (last_saved saved rans) ran.printed.end.epoch (saves_told ran.printed.answers) in
+            let by = λ (w : ℕ) (under : w < 8). all_append (λ (c : Commit). c.number.epoch ≤ ran.printed.end.epoch)
             (kept.commits w) (one.logged w)
             (all_weaker (λ (c : Commit). c.number.epoch ≤ old.stands.clock.epoch)
-            (λ (c : Commit). c.number.epoch ≤ ran.end.epoch) (λ c at. omega (arith, at, up)) (kept.commits w)
+            (λ (c : Commit). c.number.epoch ≤ ran.printed.end.epoch) (λ c at. omega (arith, at, up)) (kept.commits w)
             (all_back (λ (c : Commit). c.number.epoch ≤ old.stands.clock.epoch) (kept.gone w) (kept.commits w)
             (all_back (λ (c : Commit). c.number.epoch ≤ old.stands.clock.epoch) (kept.older w)
             (kept.gone w ++ kept.commits w)
             (commits_all (λ n. n.epoch ≤ old.stands.clock.epoch) decls w s ordered
             (kept.older w ++ (kept.gone w ++ kept.commits w)) (kept.parts.it.is_logged w under) kept.below))))
-            (commits_all (λ n. n.epoch ≤ ran.end.epoch) decls w (state_after_all decls s ordered) run.ordered
+            (commits_all (λ n. n.epoch ≤ ran.printed.end.epoch) decls w (state_after_all decls s ordered) run.ordered
             (one.logged w) (own_logged kept stands decls_are state_is going one.begins one.lines leaves sound index rises
             falls w under) of.earlier) in
-            let turned = kept_turned here (closed_eight (beside_of old) ran.answers stands.closed.workers) none
-            (leaves.files.nothing comes.0) ran.end.epoch saved_last by new.counted
+            let turned = kept_turned here (closed_eight (beside_of old) ran.printed.answers stands.closed.workers) none
+            (leaves.files.nothing comes.0) ran.printed.end.epoch saved_last by new.counted
             (λ w n at. lr.closed_whole is w n at) in
             let side : new.side ≡ other_side old.side =
             leaves.files.side ∙ ap (λ b. cond b (other_side old.side) old.side) is in
-            let closed_at : new.closed_at ≡ ran.end.epoch =
-            leaves.files.closed_at ∙ ap (λ b. cond b ran.end.epoch old.closed_at) is in
+            let closed_at : new.closed_at ≡ ran.printed.end.epoch =
+            leaves.files.closed_at ∙ ap (λ b. cond b ran.printed.end.epoch old.closed_at) is in
             let files = subst (λ b. AreClosedFiles tells clock image_at (behind_swap b commits kept.gone)
             (behind_swap b lr.durable kept.closed) new now) is (lr.are_closed (λ comes_too. is)) in (
               record {
@@ -658,7 +659,7 @@ module _ {D : Type 0} {tells : D → Option (List ℕ)} {clock : D → ℕ} {ima
                     new.counted old.closed_at e (λ w. kept.older w ++ kept.gone w) commits (λ w. []) (λ w. []) lr.durable
                     new.store.pages new.save.newest (last_saved saved (rans ++ ran ∷ []))) (sym closed_at)
                     (subst (λ e. KeptParts kept.was.reading decls saved s (ordered ++ run.ordered) (other_side old.side)
-                    new.counted old.closed_at ran.end.epoch (λ w. kept.older w ++ kept.gone w) commits (λ w. []) (λ w. [])
+                    new.counted old.closed_at ran.printed.end.epoch (λ w. kept.older w ++ kept.gone w) commits (λ w. []) (λ w. [])
                     lr.durable new.store.pages new.save.newest e) last turned));
                 below = below;
                 logs = subst (λ b. AreLogs tells clock image_at (since_swap b commits) (since_swap b lr.durable) new now) is
@@ -675,10 +676,10 @@ module _ {D : Type 0} {tells : D → Option (List ℕ)} {clock : D → ℕ} {ima
             let side : new.side ≡ old.side =
             leaves.files.side ∙ ap (λ b. cond b (other_side old.side) old.side) is in
             let closed_at : new.closed_at ≡ old.closed_at =
-            leaves.files.closed_at ∙ ap (λ b. cond b ran.end.epoch old.closed_at) is in
-            let counted : new.counted ≡ (beside_at_end (beside_of old) ran.answers).closed =
+            leaves.files.closed_at ∙ ap (λ b. cond b ran.printed.end.epoch old.closed_at) is in
+            let counted : new.counted ≡ (beside_at_end (beside_of old) ran.printed.answers).closed =
             leaves.files.counted ∙ ap (λ b. cond b (map (λ (m : Mark). m.length) (logs_marks leaves.logs))
-            (beside_at_end (beside_of old) ran.answers).closed) is in
+            (beside_at_end (beside_of old) ran.printed.answers).closed) is in
             let files = λ (whole : comes_to_swap ran ≡ true → swaps ran ≡ true).
             subst (λ b. AreClosedFiles tells clock image_at (behind_swap b commits kept.gone)
             (behind_swap b lr.durable kept.closed) new now) is (lr.are_closed whole) in (
@@ -700,7 +701,7 @@ module _ {D : Type 0} {tells : D → Option (List ℕ)} {clock : D → ℕ} {ima
                     old.closed_at kept.older kept.gone commits lr.durable kept.closed new.store.pages new.save.newest
                     (last_saved saved (rans ++ ran ∷ []))) (sym counted)
                     (subst (λ e. KeptParts kept.was.reading decls saved s (ordered ++ run.ordered) old.side
-                    (beside_at_end (beside_of old) ran.answers).closed kept.since old.closed_at kept.older kept.gone commits
+                    (beside_at_end (beside_of old) ran.printed.answers).closed kept.since old.closed_at kept.older kept.gone commits
                     lr.durable kept.closed new.store.pages new.save.newest e) last here)));
                 below = below;
                 logs = subst (λ b. AreLogs tells clock image_at (since_swap b commits) (since_swap b lr.durable) new now) is

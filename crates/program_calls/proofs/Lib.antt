@@ -15,6 +15,7 @@ pub mod Begins
 pub mod DeclsTold
 pub mod NotBegun
 pub mod Reading
+pub mod Sentences
 pub mod Courses
 pub mod RoundsJoined
 pub mod OneRound
@@ -32,6 +33,7 @@ pub mod SnapshotsFound
 pub mod SnapshotsKept
 pub mod SnapshotsTold
 pub mod Makes
+pub mod Answering
 pub mod KeptThrough
 pub mod CrashPoints
 pub mod CrashesKept

@@ -44,8 +44,9 @@ use Rattle.program_calls.specs.declared.ending.Ending.TheVariants.{Finished, NoS
 use Rattle.program_calls.specs.Causes.{AnswersDevices, AnswersFaults, Counts, IsDumpStatus, IsSnapStatus, IsStatus}
 use Rattle.program_calls.specs.Ending.{damaged_text, last_line, no_snapshot_text, status_of}
 use Rattle.program_calls.specs.Listings.{BreaksAtEpoch, HasBroken, HasNone, IsDamagedFor, IsListing, IsOfEpoch, IsSnapshotOf, IsUndisturbed, Listed}
-use Rattle.program_calls.specs.Listings.{ListingComes, Lists, ShownText, TellsAll, TellsBefore, TellsDamage, TellsListing, TellsNone, snapshots_text}
-use Rattle.program_calls.specs.Main.{SinkHolds}
+use Rattle.program_calls.specs.Listings.{ListingComes, Lists, TellsAll, TellsBefore, TellsDamage, TellsListing, TellsNone, snapshots_text}
+use Rattle.program_calls.specs.Ending.{ShownText}
+use Rattle.program_calls.specs.Ending.{SinkHolds}
 use Rattle.program_calls.specs.OnTheWay.{AddsText, IsNoSnapshot, TakesText, TellsSnapshot, TellsText, ending_of_refusal}
 use Rattle.program_calls.specs.OnTheWay.{status_told}
 use Rattle.program_calls.specs.Snapshots.{HasContent}
@@ -305,7 +306,7 @@ snap_untold r epoch at errors.Memory breaks never = inr (NoMemory, refl, refl, t
 
 module _ {D : Type 0} (command : Command) (tells : D → Option Bytes) (faults : D → ℕ) (was is : Vault D) where
   -- the same ending with the same text, of which something else is shown
-  listed_as : {Shows Others : Bytes → Ending → Type 0} → ((text : Bytes) (ending : Ending) → Shows text ending → Others text ending)
+  pub listed_as : {Shows Others : Bytes → Ending → Type 0} → ((text : Bytes) (ending : Ending) → Shows text ending → Others text ending)
       → Listed command tells faults was is Shows → Listed command tells faults was is Others
   listed_as more d = record { text = d.text; ending = d.ending; comes = d.comes; shown = more d.text d.ending d.shown }
 
@@ -428,17 +429,6 @@ module _ {D : Type 0} (command : Command) (tells : D → Option Bytes) (faults :
       faults_broke source old new (d.text ++ last_line d.ending) d.shown quiet
 
   -- ---- what the sink holds
-
-  -- a fault within the text
-  pub listing_broken : (old new : Output) (e f : Failed) → old.waiting ≡ [] → Listed command tells faults was is (AddsText old new (Err e))
-      → Listed command tells faults was is (TakesText old.held new.held (Err f))
-  listing_broken old new e f empty = listed_as (text_broken old new e f empty)
-
-  -- the text, and then the last line with all that waits, or a fault within these
-  pub listing_finished : (old mid new : Output) (ending : Ending) (r : Result Ending Failed) → old.waiting ≡ []
-      → Prints mid new (last_line ending) r → OnOk r (new.waiting ≡ []) → IfOk r (λ it. it ≡ ending)
-      → Listed command tells faults was is (AddsText old mid (Ok ending)) → Listed command tells faults was is (TakesText old.held new.held r)
-  listing_finished old mid new ending r empty line still same = listed_as (text_finished old mid new ending r empty line still same)
 
   -- the answer, where the printer stood over the sink
   pub listing_over : (held holds : Option Bytes) (r : Result Ending Failed) (status : ℕ) (old new : Output) → status ≡ status_told r → old.held ≡ held

@@ -12,7 +12,7 @@ use Rattle.command_line.specs.declared.command.MakeArguments.{MakeArguments}
 use Rattle.program_calls.specs.declared.ending.Ending.{Ending}
 use Rattle.program_calls.specs.declared.ending.Ending.TheVariants.{Finished, NoMemory, Usage}
 use Rattle.program_calls.specs.Causes.{AnswersDevices, AnswersFaults, Counts, IsMakeStatus}
-use Rattle.program_calls.specs.Listings.{ShownText}
+use Rattle.program_calls.specs.Ending.{ShownText}
 use Rattle.program_calls.specs.Ending.{last_line, status_of}
 use Rattle.program_calls.specs.Made.{Makes}
 use Rattle.program_calls.specs.OnTheWay.{AddsRun, AddsText, TakesText, status_told}
@@ -72,20 +72,6 @@ pub memory_made : (arguments : MakeArguments) (at : Output) → Makes arguments 
 memory_made arguments at = record { text = []; ending = NoMemory; comes = refl; shown = (refl, adds_nothing at) }
 
 -- the same ending with the same text, of which something else is shown
-made_as : {arguments : MakeArguments} {Shows Others : Bytes → Ending → Type 0} → ((text : Bytes) (ending : Ending) → Shows text ending → Others text ending)
+pub made_as : {arguments : MakeArguments} {Shows Others : Bytes → Ending → Type 0} → ((text : Bytes) (ending : Ending) → Shows text ending → Others text ending)
     → Makes arguments Shows → Makes arguments Others
 made_as more m = record { text = m.text; ending = m.ending; comes = m.comes; shown = more m.text m.ending m.shown }
-
-pub made_broken : (arguments : MakeArguments) (old new : Output) (e f : Failed) → old.waiting ≡ [] → Makes arguments (AddsText old new (Err e))
-    → Makes arguments (TakesText old.held new.held (Err f))
-made_broken arguments old new e f empty = made_as (text_broken old new e f empty)
-
-pub made_finished : (arguments : MakeArguments) (old mid new : Output) (ending : Ending) (r : Result Ending Failed) → old.waiting ≡ []
-    → Prints mid new (last_line ending) r → OnOk r (new.waiting ≡ []) → IfOk r (λ it. it ≡ ending) → Makes arguments (AddsText old mid (Ok ending))
-    → Makes arguments (TakesText old.held new.held r)
-made_finished arguments old mid new ending r empty line still same = made_as (text_finished old mid new ending r empty line still same)
-
-pub made_over : (arguments : MakeArguments) (held holds : Option Bytes) (r : Result Ending Failed) (status : ℕ) (old new : Output)
-    → status ≡ status_told r → old.held ≡ held → new.held ≡ holds → Makes arguments (TakesText old.held new.held r)
-    → Makes arguments (ShownText held holds status)
-made_over arguments held holds r status old new is_told had has = made_as (text_shown held holds r status old new is_told had has)

@@ -1,14 +1,12 @@
 -- A run that doesn't begin: how it ends, and what the vault keeps then.
-use Rattle.std.proofs.Common.{◌≡◌, ◌⊎◌, inl, inr, ◌∙◌, sym, ap, subst, refl, true, ℕ, ◌+◌, ◌<◌, ◌≤◌, List, [], Option, Some, None, arith}
+use Rattle.std.proofs.Common.{◌≡◌, inl, inr, ◌∙◌, sym, ap, subst, refl, true, ℕ, ◌+◌, ◌<◌, ◌≤◌, List, [], Option, Some, None, arith}
 use Rattle.std.specs.Prelude.{◌^◌, IfNone, IfSome, IsSome, is_some}
 use Rattle.std.specs.List.{AllByRecursion}
 use Rattle.std.specs.List.Sorted.{IsPermutation}
-use Rattle.std.proofs.lemmas.Bool.{cases_lt}
 use Rattle.std.specs.Option.{option_map}
 use Rattle.std.proofs.lemmas.Option.{same_Some}
 use Rattle.lists.specs.declared.memory.OrMemory.{OrMemory}
 use Rattle.lists.specs.declared.memory.OrMemory.TheVariants as errors
-use Rattle.log_writer.specs.Cuts.{whole_ends}
 use Rattle.outside.specs.Disk.{IfTold, Only}
 use Rattle.outside.specs.Fronts.{AllBegin}
 use Rattle.outside.specs.Moments.{left_after}
@@ -34,7 +32,6 @@ use Rattle.recovery_core.specs.Recovered.{IsUp, Recovers, recovers_state}
 use Rattle.joint_crashes.specs.Resting.{AreTold, HasNoRecords, IsResting}
 use Rattle.checkpoints.specs.SettleGoesOn.{rests_settled}
 use Rattle.joint_crashes.specs.SettleRests.{RestsSince}
-use Rattle.checkpoints.specs.SettleFiles.{has_all}
 use Rattle.checkpoints.specs.Settled.{SameDevices}
 use Rattle.joint_crashes.specs.VaultReads.{AreQuiet, RoseIn, VaultOnlyReads, quiet_then, told_read, whole_read}
 use Rattle.recovery_core.specs.declared.fault.RecoverFault.{RecoverFault}
@@ -46,7 +43,8 @@ use Rattle.checkpoints.specs.declared.without_entries.Settled.{Settled}
 use Rattle.worker_logs.specs.Saves.{CountsOf}
 use Rattle.worker_logs.specs.declared.savepoints.Side.TheVariants.{Even}
 use Rattle.checkpoints.specs.SettleRecords.{SettleRecords}
-use Rattle.checkpoints.specs.Due.{IsOverLimit, IsStoreDue, IsWithin, OfSaved, WouldBeDeep}
+use Rattle.checkpoints.specs.Due.{IsStoreDue, IsWithin}
+use Rattle.checkpoints.specs.SettleAnswers.{IsRefused}
 use Rattle.checkpoints.specs.SettlesInto.{SettlesInto}
 use Rattle.tx_script.specs.Causes.{last_sequence}
 use Rattle.tx_script.specs.Run.{clock_after}
@@ -65,7 +63,7 @@ use Rattle.program_calls.specs.Vaults.{vaults_of}
 use Rattle.program_calls.proofs.Begins.{may_begin, stands_at_pages, stands_at_sequence, stands_too_deep, would_store}
 use Rattle.program_calls.proofs.Courses.{nowhere}
 use Rattle.program_calls.proofs.KeptEnd.{kept_settled, told_reading}
-use Rattle.program_calls.specs.Main.{StandsWhenStopped}
+use Rattle.program_calls.specs.RunKept.{StandsWhenStopped}
 use Rattle.program_calls.specs.Vaults.{vaults_of}
 use Rattle.program_calls.proofs.CrashesBegun.{RestsBehind, rests_after_reads, resting_still, stops_read, stops_settled}
 use Rattle.program_calls.proofs.KeptThrough.{one_kept}
@@ -421,40 +419,21 @@ module _ {D : Type 0} {tells : D → Option Bytes} {clock : D → ℕ} {image_at
 
   -- settling was refused, in whichever way
   pub settling_refused : (is : Vault D) (refusal : OrMemory SettleFault) → SettlingLeaves tells clock image_at between r is
-      → (refusal ≡ errors.Fault settles.Deep → OfSaved r (WouldBeDeep r))
-      → ((have new room : ℕ) → refusal ≡ errors.Fault (settles.Limit have new room)
-      → OfSaved r (λ p. (have ≡ p.count) × (room ≡ snap) × IsOverLimit r p snap new))
-      → ((refusal ≡ errors.Memory → ⊥) → (refusal ≡ errors.Fault settles.Deep → ⊥)
-      → ((have new room : ℕ) → refusal ≡ errors.Fault (settles.Limit have new room) → ⊥)
-      → IfSome r.saved (IsWithin r snap))
-      → ((sequence : ℕ) → refusal ≡ errors.Fault (settles.Sequence sequence)
-      → (sequence ≡ sequence_of r.save.newest) × (sequence ≡ last_sequence) × IsStoreDue r)
-      → (sequence_of r.save.newest ≡ last_sequence → IsStoreDue r → IfSome r.saved (IsWithin r snap)
-      → (refusal ≡ errors.Memory) ⊎ (refusal ≡ errors.Fault (settles.Sequence (sequence_of r.save.newest))))
-      → ((device : Device) → refusal ≡ errors.Fault (settles.Device device) → RoseIn faults device between is)
-      → (((device : Device) → refusal ≡ errors.Fault (settles.Device device) → ⊥) → SameDevices between is)
+      → IsRefused faults r snap between is refusal
       → EndsBefore tells clock image_at faults snap script was is (ending_of_settling refusal)
-  settling_refused is errors.Memory leaves deep limit fits sequence last device untouched =
-      settle_memory is leaves (same_of (untouched (λ d same. cc)))
-  settling_refused is (errors.Fault (settles.Device d)) leaves deep limit fits sequence last device untouched =
-      let fit = fits (λ same. cc) (λ same. cc) (λ have new room same. cc) in
-      settle_device is d leaves (device d refl) fit (λ due at. elim (last at due fit) [
-        | inl memory ↦ absurd cc
-        | inr other ↦ absurd cc
-      ])
-  settling_refused is (errors.Fault settles.Deep) leaves deep limit fits sequence last device untouched =
-      settle_at_limit is Height leaves tt (same_of (untouched (λ d same. cc))) (λ found told.
-      stands_too_deep snap script.decls found r (read.recovers found told) read.up.saved read.has (deep refl))
-  settling_refused is (errors.Fault (settles.Limit have new room)) leaves deep limit fits sequence last device untouched =
-      settle_at_limit is Snap leaves tt (same_of (untouched (λ d same. cc))) (λ found told.
-      stands_at_pages snap script.decls found r have new room (read.recovers found told) read.up.saved read.has
-      (limit have new room refl))
-  settling_refused is (errors.Fault (settles.Sequence n)) leaves deep limit fits sequence last device untouched =
-      let fit = fits (λ same. cc) (λ same. cc) (λ have new room same. cc) in
-      let at = sequence n refl in
-      settle_at_limit is Sequence leaves tt (same_of (untouched (λ d same. cc))) (λ found told.
-      stands_at_sequence snap script.decls found r (read.recovers found told) read.up.saved read.has fit at.2
-      (sym at.0 ∙ at.1))
+  settling_refused is errors.Memory leaves why = settle_memory is leaves (same_of why)
+  settling_refused is (errors.Fault (settles.Device d)) leaves why =
+      settle_device is d leaves why.0 why.1.fits why.1.left
+  settling_refused is (errors.Fault settles.Deep) leaves why =
+      settle_at_limit is Height leaves tt (same_of why.2) (λ found told.
+      stands_too_deep snap script.decls found r (read.recovers found told) read.up.saved read.has why.0)
+  settling_refused is (errors.Fault (settles.Limit have new room)) leaves why =
+      settle_at_limit is Snap leaves tt (same_of why.2) (λ found told.
+      stands_at_pages snap script.decls found r have new room (read.recovers found told) read.up.saved read.has why.0)
+  settling_refused is (errors.Fault (settles.Sequence n)) leaves why =
+      settle_at_limit is Sequence leaves tt (same_of why.4) (λ found told.
+      stands_at_sequence snap script.decls found r (read.recovers found told) read.up.saved read.has why.3 why.2
+      (sym why.0 ∙ why.1))
 
 -- ---- the run begins
 
@@ -500,10 +479,7 @@ module _ {D : Type 0} {tells : D → Option Bytes} {clock : D → ℕ} {image_at
     pages_fit = words;
     logs_told = λ found told.
         let told_between = read.told found told in
-        logs (λ number bank at. elim (cases_lt number 16) [
-          | inl below ↦ settles.emptied (λ n b has there. ap is_some (told_between.bank n b there)) number bank (has_all number below) at
-          | inr past ↦ absurd (cc (at, whole_ends settles.whole number past))
-        ]);
+        logs (settles.emptied (λ n b there. ap is_some (told_between.bank n b there)));
     counts = counts;
     goes_on = λ found from told rest now.
         let rests = read.rests from rest now in

@@ -29,7 +29,7 @@ use Rattle.round_engine.specs.Saves.{newest_after}
 use Rattle.round_engine.specs.Standing.{RuntimeState}
 use Rattle.round_engine.specs.declared.report.Report.{Report}
 use Rattle.program_calls.specs.Ending.{RunGoesOn}
-use Rattle.program_calls.specs.Main.{AllMet, AreFull, AreMarked, FilesFound, IsMarked, SequencesFrom, saved_in}
+use Rattle.program_calls.specs.RoundCauses.{AllMet, AreFull, AreMarked, FilesFound, IsMarked, SequencesFrom, saved_in}
 use Rattle.program_calls.specs.EndLaws.{cause_cases, goes_on_room, goes_on_undamaged}
 use Rattle.program_calls.proofs.KeptFiles.{item_at}
 use Rattle.program_calls.proofs.KeptRounds.{unfailed}
@@ -38,9 +38,9 @@ use Rattle.program_calls.proofs.RoundsJoined.{clock_from}
 -- ---- lists of rounds, with one more
 
 -- the clock after one round more is that after its join
-pub clock_from-push : (clock : Number) (rans : List Ran) (ran : Ran) → clock_from clock (rans ++ ran ∷ []) ≡ joined ran.end
+pub clock_from-push : (clock : Number) (rans : List Ran) (ran : Ran) → clock_from clock (rans ++ ran ∷ []) ≡ joined ran.printed.end
 clock_from-push clock [] ran = refl
-clock_from-push clock (q ∷ rans) ran = clock_from-push (joined q.end) rans ran
+clock_from-push clock (q ∷ rans) ran = clock_from-push (joined q.printed.end) rans ran
 
 -- the sequence of the newest savepoint after the rounds
 abbrev pub sequence_after : ℕ → List Ran → ℕ
@@ -51,7 +51,7 @@ pub sequence_after-push : (n : ℕ) (rans : List Ran) (ran : Ran) → sequence_a
 sequence_after-push n [] ran = refl
 sequence_after-push n (q ∷ rans) ran = sequence_after-push (n + length (saved_in q)) rans ran
 
-pub sequences-push : (n : ℕ) (rans : List Ran) (ran : Ran) → SequencesFrom n rans → ran.sequence ≡ sequence_after n rans → SequencesFrom n (rans ++ ran ∷ [])
+pub sequences-push : (n : ℕ) (rans : List Ran) (ran : Ran) → SequencesFrom n rans → ran.beside.sequence ≡ sequence_after n rans → SequencesFrom n (rans ++ ran ∷ [])
 sequences-push n [] ran so is = (is, tt)
 sequences-push n (q ∷ rans) ran so is = (so.0, sequences-push (n + length (saved_in q)) rans ran so.1 is)
 
@@ -89,15 +89,15 @@ mark_before logs clock worker log joined at =
     let one : IsJoined clock log = all_at (IsJoined clock) logs worker log joined at in ap (λ (m : Mark). m.epoch) one.marked
 
 -- the marks of a round
-pub marked : {tries : ℕ} (round : Round) (old new : RuntimeState) (report : Report) (one : RanRound tries round old new report) → one.ran.begin ≡ old.stands.clock
+pub marked : {tries : ℕ} (round : Round) (old new : RuntimeState) (report : Report) (one : RanRound tries round old new report) → one.ran.printed.begin ≡ old.stands.clock
     → length old.logs ≡ 8 → AllByRecursion (IsJoined old.stands.clock.epoch) old.logs → IsMarked round one.ran
 marked round old new report one begins eight joined = record {
   workers = one.begins.workers;
   marks = λ worker epochs at.
-      let log = item_at old.logs worker (omega (arith, in_range one.ran.marks worker epochs at, one.begins.workers, eight)) in
-      let epoch : log.0.mark.epoch ≡ Some (one.ran.begin.epoch - 1) =
+      let log = item_at old.logs worker (omega (arith, in_range one.ran.beside.marks worker epochs at, one.begins.workers, eight)) in
+      let epoch : log.0.mark.epoch ≡ Some (one.ran.printed.begin.epoch - 1) =
       mark_before old.logs old.stands.clock.epoch worker log.0 joined log.1 ∙ ap (λ (n : Number). Some (n.epoch - 1)) (sym begins) in
-      subst (λ had. AreRoundMarks (lines_of_worker round worker) had one.ran.begin.epoch one.ran.end.epoch epochs) epoch
+      subst (λ had. AreRoundMarks (lines_of_worker round worker) had one.ran.printed.begin.epoch one.ran.printed.end.epoch epochs) epoch
       (one.begins.marks worker log.0 epochs log.1 at);
 }
 
@@ -162,6 +162,6 @@ answers_most ran k (line ∷ lines) (answers.Memory ∷ more) last caused up mos
 answers_most ran k (line ∷ lines) (answers.Unrun ∷ more) last caused up most = answers_most ran k lines more last caused.1 up most
 
 -- where no device failed, a swap that was come to is done
-pub swaps_quiet : (ran : Ran) → ran.devices ≡ [] → comes_to_swap ran ≡ true → swaps ran ≡ true
+pub swaps_quiet : (ran : Ran) → ran.beside.devices ≡ [] → comes_to_swap ran ≡ true → swaps ran ≡ true
 swaps_quiet ran quiet comes =
     ap (λ b. b && not (closed_failed ran)) comes ∙ ap not (unfailed ran quiet)

@@ -18,7 +18,8 @@ use Rattle.checkpoints.specs.SettleRecords.{SettleRecords}
 use Rattle.checkpoints.specs.SettlesInto.{Follows}
 use Rattle.tx_script.specs.Run.{Ran}
 use Rattle.round_engine.specs.Saves.{AreTied}
-use Rattle.program_calls.specs.Main.{RecordsOf, saved_in}
+use Rattle.program_calls.specs.RunKept.{RecordsOf}
+use Rattle.program_calls.specs.RoundCauses.{saved_in}
 use Rattle.program_calls.proofs.CrashesKept.{saved_push}
 
 -- one store is due at most
@@ -82,7 +83,7 @@ one_there (Some saved) is = refl
 pub records_more : {settled : ℕ} {rans : List Ran} {before now : List Tie} (newest : Option Savepoint) (ran : Ran)
     (stored : List Saved) (broke : Option Saved) (was : RecordsOf settled rans before) → was.failed ≡ 0
     → sequence_of newest ≡ settled + length (flat_map saved_in rans) → AreTied newest stored broke before now
-    → length stored ≡ length (saved_in ran) → (is_some broke ≡ true → Contains ran.devices Save)
+    → length stored ≡ length (saved_in ran) → (is_some broke ≡ true → Contains ran.beside.devices Save)
     → (records : RecordsOf settled (rans ++ ran ∷ []) now) × (broke ≡ None → records.failed ≡ 0)
 records_more {settled = settled} {rans = rans} {before = before} {now = now}
     newest ran stored broke was unfailed at tied same fails =

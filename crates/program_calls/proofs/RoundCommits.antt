@@ -11,7 +11,7 @@ use Rattle.serial_model.specs.declared.decl.Decl.{Decl}
 use Rattle.serial_model.specs.declared.number.Number.{Number}
 use Rattle.serial_model.specs.declared.op.Op.{Op}
 use Rattle.script_grammar.specs.Script.{Round, worker_lines}
-use Rattle.tx_script.specs.Run.{IsBetween, IsRun, Ran, entries_of, entries_of_line, entries_of_round, entries_of_worker}
+use Rattle.tx_script.specs.Run.{IsBetween, IsRun, Ran, printed_commits, entries_of_line, entries_of_round, entries_of_worker}
 use Rattle.tx_script.specs.Run.{entries_of_workers}
 use Rattle.tx_script.specs.declared.outcome.Outcome.{Outcome}
 use Rattle.tx_script.specs.declared.outcome.Outcome.TheVariants.{Committed}
@@ -53,23 +53,23 @@ pub record AreOfRound (first last : ℕ) (ordered : List Entry) : Type 0 where
   pub earlier : AllByRecursion (λ e. e.number.epoch ≤ last) ordered
 
 pub of_round : {decls : List Decl} {index : ℕ} {round : Round} {s t : State} {clock : Number} {ran : Ran}
-    → (run : IsRun decls index (round ∷ []) s clock (ran ∷ []) t) → AreOfRound clock.epoch ran.end.epoch run.ordered
+    → (run : IsRun decls index (round ∷ []) s clock (ran ∷ []) t) → AreOfRound clock.epoch ran.printed.end.epoch run.ordered
 of_round {index = index} {round = round} {clock = clock} {ran = ran} run =
     let eight : length (worker_lines round) ≡ 8 = refl in
-    let begins : ran.begin.epoch ≡ clock.epoch = ap (λ (n : Number). n.epoch) run.clocks.0 in
+    let begins : ran.printed.begin.epoch ≡ clock.epoch = ap (λ (n : Number). n.epoch) run.clocks.0 in
     record {
-      workers = all_ordered (λ e. e.worker < 8) (entries_of index (ran ∷ []) (round ∷ [])) run.ordered run.same
+      workers = all_ordered (λ e. e.worker < 8) (printed_commits index (ran ∷ []) (round ∷ [])) run.ordered run.same
           (all_append (λ (e : Entry). e.worker < 8) (entries_of_round index ran round) []
-          (all_workers index 0 ran.outcomes (worker_lines round) (omega (arith, eight))) tt);
-      later = all_ordered (λ e. clock.epoch ≤ e.number.epoch) (entries_of index (ran ∷ []) (round ∷ [])) run.ordered
+          (all_workers index 0 ran.printed.outcomes (worker_lines round) (omega (arith, eight))) tt);
+      later = all_ordered (λ e. clock.epoch ≤ e.number.epoch) (printed_commits index (ran ∷ []) (round ∷ [])) run.ordered
           run.same (all_append (λ (e : Entry). clock.epoch ≤ e.number.epoch) (entries_of_round index ran round) []
-          (all_weaker (λ (e : Entry). IsBetween ran.begin ran.end e.number)
+          (all_weaker (λ (e : Entry). IsBetween ran.printed.begin ran.printed.end e.number)
           (λ (e : Entry). clock.epoch ≤ e.number.epoch)
           (λ e between. omega (arith, begins, between.epoch_from)) (entries_of_round index ran round)
           run.clocks.1.numbers) tt);
-      earlier = all_ordered (λ e. e.number.epoch ≤ ran.end.epoch) (entries_of index (ran ∷ []) (round ∷ [])) run.ordered
-          run.same (all_append (λ (e : Entry). e.number.epoch ≤ ran.end.epoch) (entries_of_round index ran round) []
-          (all_weaker (λ (e : Entry). IsBetween ran.begin ran.end e.number)
-          (λ (e : Entry). e.number.epoch ≤ ran.end.epoch)
+      earlier = all_ordered (λ e. e.number.epoch ≤ ran.printed.end.epoch) (printed_commits index (ran ∷ []) (round ∷ [])) run.ordered
+          run.same (all_append (λ (e : Entry). e.number.epoch ≤ ran.printed.end.epoch) (entries_of_round index ran round) []
+          (all_weaker (λ (e : Entry). IsBetween ran.printed.begin ran.printed.end e.number)
+          (λ (e : Entry). e.number.epoch ≤ ran.printed.end.epoch)
           (λ e between. between.epoch_to) (entries_of_round index ran round) run.clocks.1.numbers) tt);
     }

@@ -13,7 +13,7 @@ use Rattle.serial_model.specs.Numbers.{IsBelow}
 use Rattle.serial_model.specs.declared.decl.Decl.{Decl}
 use Rattle.serial_model.specs.declared.number.Number.{Number}
 use Rattle.script_grammar.specs.Script.{Round}
-use Rattle.tx_script.specs.Run.{AdvancesTo, AreOfFirst, IsBetween, IsOfRound, IsRun, Ran, RunsClock, RunsClocks, entries_of, entries_of_round, joined, of_worker}
+use Rattle.tx_script.specs.Run.{AdvancesTo, AreOfFirst, IsBetween, IsOfRound, IsRun, Ran, RunsClock, RunsClocks, printed_commits, entries_of_round, joined, of_worker}
 use Rattle.tx_script.specs.declared.answer.Answer.{Answer}
 use Rattle.tx_script.specs.declared.answer.Answer.TheVariants as answers
 
@@ -52,7 +52,7 @@ all-reordered P xs ys same all = recursion_from_All P ys (All-permutation P xs y
 -- the clock after the join of the last round
 abbrev pub clock_from : Number → List Ran → Number
 clock_from clock [] = clock
-clock_from clock (ran ∷ rans) = clock_from (joined ran.end) rans
+clock_from clock (ran ∷ rans) = clock_from (joined ran.printed.end) rans
 
 -- the entry has a number below the clock, in an epoch that is over
 abbrev pub IsPast : Number → Entry → Type 0
@@ -74,48 +74,48 @@ clock_from-later : (index : ℕ) (clock : Number) (rans : List Ran) (rounds : Li
 clock_from-later index clock [] rounds runs = (omega arith, omega arith)
 clock_from-later index clock (ran ∷ rans) [] runs = absurd runs
 clock_from-later index clock (ran ∷ rans) (round ∷ rounds) runs =
-    let rest = clock_from-later (index + 1) (joined ran.end) rans rounds runs.2 in
-    let epoch : ran.begin.epoch ≡ clock.epoch = ap (λ (n : Number). n.epoch) runs.0 in
-    let draw : ran.begin.draw ≡ clock.draw = ap (λ (n : Number). n.draw) runs.0 in
+    let rest = clock_from-later (index + 1) (joined ran.printed.end) rans rounds runs.2 in
+    let epoch : ran.printed.begin.epoch ≡ clock.epoch = ap (λ (n : Number). n.epoch) runs.0 in
+    let draw : ran.printed.begin.draw ≡ clock.draw = ap (λ (n : Number). n.draw) runs.0 in
     let own = runs.1 in
-    (omega (arith, rest.0, advances_later ran.begin.epoch ran.answers ran.end.epoch own.epoch), omega (arith, rest.1, own.draw))
+    (omega (arith, rest.0, advances_later ran.printed.begin.epoch ran.printed.answers ran.printed.end.epoch own.epoch), omega (arith, rest.1, own.draw))
 
 -- the commits of a round are past once its join has advanced the epoch
-past_of_round : (clock : Number) (ran : Ran) (es : List Entry) → ran.end.epoch < clock.epoch → ran.end.draw ≤ clock.draw → AllByRecursion (λ e. IsBetween ran.begin ran.end e.number) es → AllByRecursion (IsPast clock) es
+past_of_round : (clock : Number) (ran : Ran) (es : List Entry) → ran.printed.end.epoch < clock.epoch → ran.printed.end.draw ≤ clock.draw → AllByRecursion (λ e. IsBetween ran.printed.begin ran.printed.end e.number) es → AllByRecursion (IsPast clock) es
 past_of_round clock ran [] epoch draw all = tt
 past_of_round clock ran (e ∷ es) epoch draw all =
     let own = all.0 in ((omega (arith, own.epoch_to), omega (arith, own.draw_before)), past_of_round clock ran es epoch draw all.1)
 
 -- the commits of a round have numbers from its begin on
-from_of_round : (ran : Ran) (es : List Entry) → AllByRecursion (λ e. IsBetween ran.begin ran.end e.number) es → AllByRecursion (IsFrom ran.begin) es
+from_of_round : (ran : Ran) (es : List Entry) → AllByRecursion (λ e. IsBetween ran.printed.begin ran.printed.end e.number) es → AllByRecursion (IsFrom ran.printed.begin) es
 from_of_round ran [] all = tt
 from_of_round ran (e ∷ es) all = let own = all.0 in ((own.epoch_from, own.draw_from), from_of_round ran es all.1)
 
 -- all commits so far are before the clock
-past_so_far : (index : ℕ) (clock : Number) (rans : List Ran) (rounds : List Round) → RunsClocks index clock rans rounds → AllByRecursion (IsPast (clock_from clock rans)) (entries_of index rans rounds)
+past_so_far : (index : ℕ) (clock : Number) (rans : List Ran) (rounds : List Round) → RunsClocks index clock rans rounds → AllByRecursion (IsPast (clock_from clock rans)) (printed_commits index rans rounds)
 past_so_far index clock [] rounds runs = tt
 past_so_far index clock (ran ∷ rans) [] runs = absurd runs
 past_so_far index clock (ran ∷ rans) (round ∷ rounds) runs =
-    let later = clock_from-later (index + 1) (joined ran.end) rans rounds runs.2 in
+    let later = clock_from-later (index + 1) (joined ran.printed.end) rans rounds runs.2 in
     let own = runs.1 in
-    all_append (IsPast (clock_from (joined ran.end) rans)) (entries_of_round index ran round) (entries_of (index + 1) rans rounds)
-    (past_of_round (clock_from (joined ran.end) rans) ran (entries_of_round index ran round) (omega (arith, later.0)) (omega (arith, later.1)) own.numbers)
-    (past_so_far (index + 1) (joined ran.end) rans rounds runs.2)
+    all_append (IsPast (clock_from (joined ran.printed.end) rans)) (entries_of_round index ran round) (printed_commits (index + 1) rans rounds)
+    (past_of_round (clock_from (joined ran.printed.end) rans) ran (entries_of_round index ran round) (omega (arith, later.0)) (omega (arith, later.1)) own.numbers)
+    (past_so_far (index + 1) (joined ran.printed.end) rans rounds runs.2)
 
 -- ---- one more round
 
 -- the commits of one round more stand behind those of the rounds before it
-pub entries_of-push : (index : ℕ) (rans : List Ran) (ran : Ran) (rounds : List Round) (round : Round) → slice_get rounds (length rans) ≡ Some round → AreOfFirst rans rounds
-    → entries_of index (rans ++ ran ∷ []) rounds ≡ entries_of index rans rounds ++ entries_of_round (index + length rans) ran round
-entries_of-push index [] ran [] round at first = cc
-entries_of-push index [] ran (r ∷ rounds) round at first =
+pub printed_commits-push : (index : ℕ) (rans : List Ran) (ran : Ran) (rounds : List Round) (round : Round) → slice_get rounds (length rans) ≡ Some round → AreOfFirst rans rounds
+    → printed_commits index (rans ++ ran ∷ []) rounds ≡ printed_commits index rans rounds ++ entries_of_round (index + length rans) ran round
+printed_commits-push index [] ran [] round at first = cc
+printed_commits-push index [] ran (r ∷ rounds) round at first =
     let same : r ≡ round = cc in
     append-nil (entries_of_round index ran r) ∙ ap (λ x. entries_of_round index ran x) same ∙ ap (λ i. entries_of_round i ran round) (sym (add-zero index))
-entries_of-push index (q ∷ rans) ran [] round at first = absurd first
-entries_of-push index (q ∷ rans) ran (r ∷ rounds) round at first =
+printed_commits-push index (q ∷ rans) ran [] round at first = absurd first
+printed_commits-push index (q ∷ rans) ran (r ∷ rounds) round at first =
     let later : (index + 1) + length rans ≡ index + length (q ∷ rans) = omega arith in
-    ap (λ es. entries_of_round index q r ++ es) (entries_of-push (index + 1) rans ran rounds round at first.1 ∙ ap (λ i. entries_of (index + 1) rans rounds ++ entries_of_round i ran round) later)
-    ∙ sym (append_assoc (entries_of_round index q r) (entries_of (index + 1) rans rounds) (entries_of_round (index + length (q ∷ rans)) ran round))
+    ap (λ es. entries_of_round index q r ++ es) (printed_commits-push (index + 1) rans ran rounds round at first.1 ∙ ap (λ i. printed_commits (index + 1) rans rounds ++ entries_of_round i ran round) later)
+    ∙ sym (append_assoc (entries_of_round index q r) (printed_commits (index + 1) rans rounds) (entries_of_round (index + length (q ∷ rans)) ran round))
 
 -- the rounds that were run are the first ones, with one more too
 are_of_first-push : (rans : List Ran) (ran : Ran) (rounds : List Round) (round : Round) → slice_get rounds (length rans) ≡ Some round → AreOfFirst rans rounds → IsOfRound ran round → AreOfFirst (rans ++ ran ∷ []) rounds
@@ -126,7 +126,7 @@ are_of_first-push (q ∷ rans) ran (r ∷ rounds) round at first each = (first.0
 
 -- the clocks run on through one round more
 runs_clocks-push : (index : ℕ) (clock : Number) (rans : List Ran) (ran : Ran) (rounds : List Round) (round : Round) → slice_get rounds (length rans) ≡ Some round
-    → RunsClocks index clock rans rounds → ran.begin ≡ clock_from clock rans → RunsClock (index + length rans) ran round → RunsClocks index clock (rans ++ ran ∷ []) rounds
+    → RunsClocks index clock rans rounds → ran.printed.begin ≡ clock_from clock rans → RunsClock (index + length rans) ran round → RunsClocks index clock (rans ++ ran ∷ []) rounds
 runs_clocks-push index clock [] ran [] round at runs begins own = cc
 runs_clocks-push index clock [] ran (r ∷ rounds) round at runs begins own =
     let same : r ≡ round = cc in
@@ -134,7 +134,7 @@ runs_clocks-push index clock [] ran (r ∷ rounds) round at runs begins own =
 runs_clocks-push index clock (q ∷ rans) ran [] round at runs begins own = absurd runs
 runs_clocks-push index clock (q ∷ rans) ran (r ∷ rounds) round at runs begins own =
     let later : index + length (q ∷ rans) ≡ (index + 1) + length rans = omega arith in
-    (runs.0, runs.1, runs_clocks-push (index + 1) (joined q.end) rans ran rounds round at runs.2 begins (subst (λ i. RunsClock i ran round) later own))
+    (runs.0, runs.1, runs_clocks-push (index + 1) (joined q.printed.end) rans ran rounds round at runs.2 begins (subst (λ i. RunsClock i ran round) later own))
 
 -- ---- serial runs in a row
 
@@ -150,15 +150,15 @@ answers-append decls s (x ∷ xs) ys first then = (first.0, answers-append decls
 
 -- the runs of rounds and of the one after them are a run of all of them
 pub run-push : (decls : List Decl) (rounds : List Round) (s : State) (clock : Number) (rans : List Ran) (t u : State) (ran : Ran) (round : Round)
-    → slice_get rounds (length rans) ≡ Some round → (so : IsRun decls 0 rounds s clock rans t) → ran.begin ≡ clock_from clock rans
-    → (one : IsRun decls (length rans) (round ∷ []) t ran.begin (ran ∷ []) u)
+    → slice_get rounds (length rans) ≡ Some round → (so : IsRun decls 0 rounds s clock rans t) → ran.printed.begin ≡ clock_from clock rans
+    → (one : IsRun decls (length rans) (round ∷ []) t ran.printed.begin (ran ∷ []) u)
     → (run : IsRun decls 0 rounds s clock (rans ++ ran ∷ []) u) × (run.ordered ≡ so.ordered ++ one.ordered)
 run-push decls rounds s clock rans t u ran round at so begins one =
-    let es : List Entry = entries_of 0 rans rounds in
+    let es : List Entry = printed_commits 0 rans rounds in
     let fs : List Entry = entries_of_round (length rans) ran round in
     let c : Number = clock_from clock rans in
     let counted : 0 + length rans ≡ length rans = omega arith in
-    let all : entries_of 0 (rans ++ ran ∷ []) rounds ≡ es ++ fs = entries_of-push 0 rans ran rounds round at so.lines ∙ ap (λ i. es ++ entries_of_round i ran round) counted in
+    let all : printed_commits 0 (rans ++ ran ∷ []) rounds ≡ es ++ fs = printed_commits-push 0 rans ran rounds round at so.lines ∙ ap (λ i. es ++ entries_of_round i ran round) counted in
     let mine : fs ++ [] ≡ fs = append-nil fs in
     let own : RunsClock (length rans) ran round = one.clocks.1 in
     let past : AllByRecursion (IsPast c) es = past_so_far 0 clock rans rounds so.clocks in

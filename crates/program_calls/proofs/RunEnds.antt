@@ -31,8 +31,9 @@ use Rattle.program_calls.specs.Beginning.{Opening, SameDecls}
 use Rattle.program_calls.specs.declared.ending.Ending.{Ending}
 use Rattle.program_calls.specs.declared.ending.Ending.TheVariants.{Finished, NoMemory}
 use Rattle.program_calls.specs.Ending.{RunGoesOn, RanOn, RunComes, status_of}
-use Rattle.program_calls.specs.Main.{FilesFound, IsDurable, HasDeclared, HasEachSnapshot, IsSound, StandsThrough, last_saved}
-use Rattle.program_calls.specs.Main.{StandsThroughReads, StandsWhenStopped}
+use Rattle.program_calls.specs.RoundCauses.{FilesFound, IsDurable}
+use Rattle.program_calls.specs.RunKept.{HasDeclared, HasEachSnapshot, IsSound, StandsThrough, last_saved}
+use Rattle.program_calls.specs.RunKept.{StandsThroughReads, StandsWhenStopped}
 use Rattle.program_calls.specs.Snapshots.{EachSnapshot, HasContent}
 use Rattle.program_calls.specs.Causes.{IsReadStatus, ReadsDamage, RestsAgain}
 use Rattle.program_calls.specs.OnTheWay.{EndsBefore, RunsRounds, ending_of}
@@ -88,9 +89,9 @@ last_same (a ∷ xs) (b ∷ ys) x y is =
     let rest : xs ++ x ∷ [] ≡ ys ++ y ∷ [] = cc in last_same xs ys x y rest
 
 -- the last round was made durable
-durable_last : (rans : List Ran) (ran : Ran) → EndsDurable (rans ++ ran ∷ []) → IsSome ran.durable
+durable_last : (rans : List Ran) (ran : Ran) → EndsDurable (rans ++ ran ∷ []) → IsSome ran.printed.durable
 durable_last rans ran ends =
-    subst (λ (x : Ran). IsSome x.durable) (sym (last_same rans ends.0 ran ends.1 ends.2)) ends.3
+    subst (λ (x : Ran). IsSome x.printed.durable) (sym (last_same rans ends.0 ran ends.1 ends.2)) ends.3
 
 -- and has what all have
 last_has : (P : Ran → Type 0) (rans : List Ran) (ran : Ran) → AllByRecursion P (rans ++ ran ∷ []) → P ran
@@ -99,7 +100,7 @@ last_has P (other ∷ rans) ran all = last_has P rans ran all.1
 
 -- where each round goes on, and made durable what it could, the last one was made durable
 goes_durable : (rans before : List Ran) (last : Ran) → rans ≡ before ++ last ∷ [] → AllByRecursion RunGoesOn rans
-    → AllByRecursion IsDurable rans → last.durable ≡ None → ⊥
+    → AllByRecursion IsDurable rans → last.printed.durable ≡ None → ⊥
 goes_durable rans before last is on durable none =
     let goes = last_has RunGoesOn before last (subst (AllByRecursion RunGoesOn) is on) in
     let made = (last_has IsDurable before last (subst (AllByRecursion IsDurable) is durable)).lasts goes in cc
@@ -166,8 +167,8 @@ module _ {D : Type 0} (tells : D → Option Bytes) (clock : D → ℕ) (image_at
   pages_behind : (opening : Opening) (rans : List Ran) (ordered : List Entry) (decls : List Decl) (now : Vault D)
       (words : List (List ℕ)) (count : ℕ) → Behind opening rans ordered decls now words count
       → (EndsDurable rans → (found : Images) → AreTold tells (parts_of was) found → count ≡ length words)
-      → ((before : List Ran) (last : Ran) → rans ≡ before ++ last ∷ [] → last.durable ≡ None → (found : Images)
-      → AreTold tells (parts_of was) found → (last.pages ≤ count) × (last.pages ≤ length words))
+      → ((before : List Ran) (last : Ran) → rans ≡ before ++ last ∷ [] → last.printed.durable ≡ None → (found : Images)
+      → AreTold tells (parts_of was) found → (last.beside.pages ≤ count) × (last.beside.pages ≤ length words))
       → KeepsPages (at_now tells clock image_at faults snap tries script was now) words rans
   pages_behind opening rans ordered decls now words count keeps counts least found now_found reading told told_now
       is =
@@ -305,7 +306,7 @@ module _ {D : Type 0} (tells : D → Option Bytes) (clock : D → ℕ) (image_at
             all_push (FilesFound script.decls so.opening.state m.run.ordered) so.rans ran
             (all_none_full script.decls so.opening.state m.run.ordered so.rans so.went_on) (record {
               full = m.full found told;
-              undamaged = none_damaged ran.damaged (λ damage is. m.untold damage is found told);
+              undamaged = none_damaged ran.beside.damaged (λ damage is. m.untold damage is found told);
             });
         history = m.history;
         files = m.files (λ quiet some.
@@ -317,7 +318,7 @@ module _ {D : Type 0} (tells : D → Option Bytes) (clock : D → ℕ) (image_at
             m.paged (durable_last so.rans ran durable) up.0 up.1 found told ∙ sym (words_many s.store.pages))
             (λ before last is none found told.
             let both = m.least found told in
-            subst (λ (x : Ran). (x.pages ≤ count_of s.save.newest) × (x.pages ≤ length (words_of s.store.pages)))
+            subst (λ (x : Ran). (x.beside.pages ≤ count_of s.save.newest) × (x.beside.pages ≤ length (words_of s.store.pages)))
             (last_same so.rans before ran last is) (both.0, omega (arith, both.1, words_many s.store.pages)))));
         kept = record {
           stands = λ sound. through so.opening (so.rans ++ ran ∷ []) m.run.ordered s.stands.decls now (words_of s.store.pages) (count_of s.save.newest) so.begins m.same (keeps (sound_up sound));

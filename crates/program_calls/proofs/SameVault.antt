@@ -16,7 +16,7 @@ use Rattle.joint_crashes.specs.JointCrash.{CrashesNow}
 use Rattle.joint_crashes.specs.Story.{IsTold}
 use Rattle.round_engine.specs.Crashes.{StaysReady}
 use Rattle.round_engine.specs.Unbegun.{RoomAlone}
-use Rattle.program_calls.specs.Main.{RecordsOf}
+use Rattle.program_calls.specs.RunKept.{RecordsOf}
 use Rattle.program_calls.proofs.CrashesKept.{CrashesKept, StoredAt}
 
 module _ {D : Type 0} {before now : Vault D} (room : RoomAlone before now) where

@@ -96,19 +96,19 @@ pub round_pages : {D : Type 0} {tells : D → Option (List ℕ)} {clock : D → 
     {faults : D → ℕ} {ran : Ran} {logged : ℕ → List Commit} {old new : RuntimeState} {before now : Vault D}
     (commits gone : ℕ → List Commit) (was closed : ℕ → List ℕ) → AreLogs tells clock image_at commits was old before
     → AreClosedFiles tells clock image_at gone closed old before
-    → (leaves : LeavesVault tells clock image_at faults ran logged old new before now) → IsSome ran.durable
+    → (leaves : LeavesVault tells clock image_at faults ran logged old new before now) → IsSome ran.printed.durable
     → new.save.down ≡ None → new.store.sound ≡ true → count_of new.save.newest ≡ length new.store.pages
 round_pages {ran = ran} {old = old} {new = new} commits gone was closed logs files leaves durable up sound =
     let runs = leaves.runs commits gone was closed logs files in
     let none : leaves.failed ≡ None = no_store leaves.failed (sym leaves.has_stored.down ∙ ap is_some up) in
     let all : leaves.stored ++ option_to_list leaves.failed ≡ leaves.stored =
     ap (λ (o : Option Saved). leaves.stored ++ option_to_list o) none ∙ append-nil leaves.stored in
-    let many : length leaves.stored ≡ length (saves_told ran.answers) + 1 =
+    let many : length leaves.stored ≡ length (saves_told ran.printed.answers) + 1 =
     sym (length-map leaves.stored (λ (s : Saved). s.epoch)) ∙ ap length leaves.has_stored.epochs
-    ∙ told_many (saves_told ran.answers) ran.durable durable in
+    ∙ told_many (saves_told ran.printed.answers) ran.printed.durable durable in
     ap count_of leaves.has_stored.newest
-    ∙ stored_behind (IsSavedBy ran.begin.epoch (epoch_joined ran) runs.marks) (λ b x by. by.5.count) (beside_of old) ran.answers leaves.stored old.save.newest
-    (subst (AreSaved (IsSavedBy ran.begin.epoch (epoch_joined ran) runs.marks) (beside_of old) ran.answers) all
+    ∙ stored_behind (IsSavedBy ran.printed.begin.epoch (epoch_joined ran) runs.marks) (λ b x by. by.5.count) (beside_of old) ran.printed.answers leaves.stored old.save.newest
+    (subst (AreSaved (IsSavedBy ran.printed.begin.epoch (epoch_joined ran) runs.marks) (beside_of old) ran.printed.answers) all
     runs.saved) many
     ∙ sym (leaves.gleans.many sound)
 
@@ -181,9 +181,9 @@ pub least_pages : {D : Type 0} {tells : D → Option (List ℕ)} {clock : D → 
     → count_of old.save.newest ≡ length old.store.pages → length old.store.pages ≤ count_of new.save.newest
 least_pages {ran = ran} {old = old} {new = new} commits gone was closed logs files leaves counted =
     let runs = leaves.runs commits gone was closed logs files in
-    let By : Beside → Saved → Type 0 = IsSavedBy ran.begin.epoch (epoch_joined ran) runs.marks in
+    let By : Beside → Saved → Type 0 = IsSavedBy ran.printed.begin.epoch (epoch_joined ran) runs.marks in
     let all : AllCount (length old.store.pages) (leaves.stored ++ option_to_list leaves.failed) =
-    begun_least By (λ b x by. by.5.count) (beside_of old) ran.answers (leaves.stored ++ option_to_list leaves.failed)
+    begun_least By (λ b x by. by.5.count) (beside_of old) ran.printed.answers (leaves.stored ++ option_to_list leaves.failed)
     runs.saved in
     let up : length old.store.pages ≤ count_of (newest_after old.save.newest leaves.stored) =
     newest_least (length old.store.pages) old.save.newest leaves.stored (omega (arith, counted))

@@ -24,7 +24,7 @@ use Rattle.round_engine.specs.RanRound.{LeavesVault, LogsRan, RanRound}
 use Rattle.round_engine.specs.Standing.{RuntimeState, StandsOn}
 use Rattle.round_engine.specs.declared.report.Report.{Report}
 use Rattle.program_calls.specs.Beginning.{SameDecls}
-use Rattle.program_calls.specs.Main.{AreFull, is_since}
+use Rattle.program_calls.specs.RoundCauses.{AreFull, is_since}
 use Rattle.program_calls.proofs.KeptFiles.{growing_file, item_at}
 use Rattle.program_calls.proofs.KeptLogged.{LoggedIn, logged_more}
 use Rattle.program_calls.proofs.KeptParts.{commits_all}
@@ -99,13 +99,13 @@ module _ {D : Type 0} {tells : D → Option (List ℕ)} {clock : D → ℕ} {ima
         let log_was = item_at old.logs worker (let many = stands.workers in omega (arith, many, below)) in
         let file_was = growing_file old.side before worker stands.whole below in
         let file = growing_file old.side now worker leaves.stands.whole below in
-        let marks = item_at one.ran.marks worker (let many = one.begins.workers in omega (arith, many, below)) in
+        let marks = item_at one.ran.beside.marks worker (let many = one.begins.workers in omega (arith, many, below)) in
         let each = ran_logs.each worker log_was.0 log.0 file_was.bank file.bank marks.0 log_was.1 log.1 file_was.there file.there
         marks.1 in
         let refused = leaves.refused worker log.0 (Some (LogFull size)) log.1 at in
-        let closed : one.ran.files.closed_at ≡ old.closed_at = ap (λ (f : LogFiles). f.closed_at) one.begins.files in
+        let closed : one.ran.beside.files.closed_at ≡ old.closed_at = ap (λ (f : LogFiles). f.closed_at) one.begins.files in
         let all : List Commit = kept.older worker ++ (kept.gone worker ++ (kept.commits worker ++ one.logged worker)) in
-        let lines : filter (is_since one.ran.files.closed_at) all ≡ kept.commits worker ++ one.logged worker =
+        let lines : filter (is_since one.ran.beside.files.closed_at) all ≡ kept.commits worker ++ one.logged worker =
         ap (λ n. filter (is_since n) all) closed ∙ since_closed it worker below in (
           storages,
           same,

@@ -34,21 +34,22 @@ use Rattle.worker_logs.specs.declared.savepoints.Side.TheVariants.{Even}
 use Rattle.serial_model.specs.declared.decl.Decl.TheVariants.{Tree}
 use Rattle.tx_script.specs.Causes.{AllCaused, keeper_before}
 use Rattle.tx_script.specs.Draws.{DrawsAreCounted, RunsPlainly}
-use Rattle.tx_script.specs.Run.{IsRun, IsScriptRun, LogFiles, Ran, clock_after, entries_of, entries_of_round, joined}
+use Rattle.tx_script.specs.Run.{IsRun, IsScriptRun, LogFiles, Ran, clock_after, printed_commits, entries_of_round, joined}
 use Rattle.round_engine.specs.Begun.{begun}
 use Rattle.round_engine.specs.Changes.{AreLogged}
 use Rattle.round_engine.specs.Crashes.{CarriesCrashes}
 use Rattle.round_engine.specs.Ends.{comes_to_swap, swaps}
 use Rattle.round_engine.specs.Histories.{ComeFrom, are_arrays, comes_more, none_come}
 use Rattle.round_engine.specs.Logs.{AreClosedFiles, AreLogs}
-use Rattle.round_engine.specs.Powers.{SharesWords}
+use Rattle.round_engine.specs.LineEngines.{SharesWords}
 use Rattle.round_engine.specs.RanRound.{AreFailed, LeavesVault, RanRound}
 use Rattle.round_engine.specs.Standing.{IsReady, RuntimeState, StandsOn, files_of}
 use Rattle.round_engine.specs.Swaps.{since_swap}
 use Rattle.round_engine.specs.declared.report.Report.{Report}
 use Rattle.program_calls.specs.Beginning.{MayBegin, Opening, SameDecls}
 use Rattle.program_calls.specs.Ending.{RunGoesOn}
-use Rattle.program_calls.specs.Main.{AreRoundsCaused, AreFull, ComeFromWords, IsDurable}
+use Rattle.program_calls.specs.RoundCauses.{AreRoundsCaused, AreFull, IsDurable}
+use Rattle.program_calls.specs.Main.{ComeFromWords}
 use Rattle.program_calls.specs.OnTheWay.{BeginsRun}
 use Rattle.program_calls.specs.RanOver.{BeginsOver, BeginsWith, FilesAt, IsUnbroken, KeepsPages, RunsOverFiles, files_after}
 use Rattle.program_calls.specs.RanOver.{files_before}
@@ -67,7 +68,7 @@ use Rattle.program_calls.proofs.CrashesBegun.{crashes_begin, left_since}
 use Rattle.program_calls.proofs.CrashesKept.{CrashesKept, KeptBefore}
 use Rattle.program_calls.proofs.CrashesMore.{crashes_more, ready_more}
 use Rattle.program_calls.proofs.KeptAll.{joined_where_none}
-use Rattle.program_calls.proofs.RoundsJoined.{clock_from, entries_of-push, run-push}
+use Rattle.program_calls.proofs.RoundsJoined.{clock_from, printed_commits-push, run-push}
 use Rattle.program_calls.proofs.SameRun.{same_run, same_state}
 use Rattle.program_calls.proofs.VaultsLater.{failed_back, quiet_failed, rose_back}
 use Rattle.program_calls.proofs.SavedPages.{least_pages, round_pages, settled_pages}
@@ -127,7 +128,7 @@ module _ {D : Type 0} (tells : D → Option Bytes) (clock : D → ℕ) (image_at
         → (let k = kept found told in AllTell (log_of_parts k.older k.gone k.commits) snap
         (files_before opening.saved words) rans last from)
     pub first : opening.saved < r.stands.clock.epoch
-    pub past : AllByRecursion (λ ran. ran.end.epoch < r.stands.clock.epoch) rans
+    pub past : AllByRecursion (λ ran. ran.printed.end.epoch < r.stands.clock.epoch) rans
 
   -- the rounds were over these, up to one that may have ended the run
   pub record OverOneMore (opening : Opening) (rans : List Ran) (ran : Ran) (old new : RuntimeState) (before : Vault D)
@@ -173,7 +174,7 @@ module _ {D : Type 0} (tells : D → Option Bytes) (clock : D → ℕ) (image_at
     pub over : OverSoFar r.stands.decls opening rans run.ordered r now kept
     pub paged : (found : Images) → AreTold tells (parts_of was) found → count_of r.save.newest ≡ length r.store.pages
     pub history : are_arrays r.stands.decls opening.state ≡ true
-        → SharesWords r.stands × ComeFrom r.stands.decls (entries_of 0 rans script.rounds) r.stands.mine
+        → SharesWords r.stands × ComeFrom r.stands.decls (printed_commits 0 rans script.rounds) r.stands.mine
 
   -- what was run up to a round and of it, and where that left all; the round may have ended the run
   pub record RanOneMore (r : RuntimeState) (now : Vault D) (opening : Opening) (before : List Ran) (ran : Ran) : Type 0 where
@@ -182,16 +183,16 @@ module _ {D : Type 0} (tells : D → Option Bytes) (clock : D → ℕ) (image_at
     pub caused : AreRoundsCaused tries script.decls script.rounds opening.sequence (before ++ ran ∷ [])
     pub own : AllCaused ran
     pub sequence : sequence_of r.save.newest ≡ sequence_after opening.sequence (before ++ ran ∷ [])
-    pub most : ran.end.epoch ≤ last_epoch
+    pub most : ran.printed.end.epoch ≤ last_epoch
     pub stands : StandsOn tells clock image_at r now
-    pub failed : AreFailed faults ran.devices was now
+    pub failed : AreFailed faults ran.beside.devices was now
     pub up : NoneFailed (at_now now) → r.save.down ≡ None
-    pub up_quiet : ran.devices ≡ [] → r.save.down ≡ None
+    pub up_quiet : ran.beside.devices ≡ [] → r.save.down ≡ None
     pub sound : NoneFailed (at_now now) → r.store.sound ≡ true
-    pub sound_quiet : ran.devices ≡ [] → r.store.sound ≡ true
+    pub sound_quiet : ran.beside.devices ≡ [] → r.store.sound ≡ true
     pub kept : r.store.sound ≡ true → KeepsAt opening (before ++ ran ∷ []) run.ordered r now
     pub kept_over : r.store.sound ≡ true → opening.saved < r.stands.clock.epoch
-        → AllByRecursion (λ ran. ran.end.epoch < r.stands.clock.epoch) (before ++ ran ∷ [])
+        → AllByRecursion (λ ran. ran.printed.end.epoch < r.stands.clock.epoch) (before ++ ran ∷ [])
         → (comes_to_swap ran ≡ true → swaps ran ≡ true) → r.save.down ≡ None
         → KeptNext r.stands.decls opening (before ++ ran ∷ []) run.ordered r now
     pub crashes : CrashesBehind r.stands.decls opening (before ++ ran ∷ []) run.ordered now
@@ -200,15 +201,15 @@ module _ {D : Type 0} (tells : D → Option Bytes) (clock : D → ℕ) (image_at
     pub files : (IsUnbroken (at_now now) (before ++ ran ∷ []) → (before ++ ran ∷ [] ≡ [] → ⊥)
         → KeepsPages (at_now now) words (before ++ ran ∷ []))
         → RunsOverFiles (at_now now) snap script.decls opening.state opening.saved run.ordered (before ++ ran ∷ [])
-    pub paged : IsSome ran.durable → r.save.down ≡ None → r.store.sound ≡ true → (found : Images)
+    pub paged : IsSome ran.printed.durable → r.save.down ≡ None → r.store.sound ≡ true → (found : Images)
         → AreTold tells (parts_of was) found → count_of r.save.newest ≡ length r.store.pages
     pub least : (found : Images) → AreTold tells (parts_of was) found
-        → (ran.pages ≤ count_of r.save.newest) × (ran.pages ≤ length r.store.pages)
-    pub untold : (damage : Device × ℕ) → ran.damaged ≡ Some damage → (found : Images) → AreTold tells (parts_of was) found → ⊥
+        → (ran.beside.pages ≤ count_of r.save.newest) × (ran.beside.pages ≤ length r.store.pages)
+    pub untold : (damage : Device × ℕ) → ran.beside.damaged ≡ Some damage → (found : Images) → AreTold tells (parts_of was) found → ⊥
     pub full : (found : Images) → AreTold tells (parts_of was) found → AreFull script.decls opening.state run.ordered ran
-    pub history : ComeFromWords script.decls opening.state (entries_of 0 (before ++ ran ∷ []) script.rounds)
+    pub history : ComeFromWords script.decls opening.state (printed_commits 0 (before ++ ran ∷ []) script.rounds)
     pub on_words : are_arrays r.stands.decls opening.state ≡ true → SharesWords r.stands
-        × ComeFrom r.stands.decls (entries_of 0 (before ++ ran ∷ []) script.rounds) r.stands.mine
+        × ComeFrom r.stands.decls (printed_commits 0 (before ++ ran ∷ []) script.rounds) r.stands.mine
 
   -- the log files and pages of a round more
   over_one : (r s : RuntimeState) (count : ℕ) (before now : Vault D) (round : Round) (report : Report)
@@ -260,7 +261,7 @@ module _ {D : Type 0} (tells : D → Option Bytes) (clock : D → ℕ) (image_at
       → Rises (so.run.ordered ++ (one.lines.run (length so.rans)).ordered)
       → EpochsNeverFall (so.run.ordered ++ (one.lines.run (length so.rans)).ordered) → s.store.sound ≡ true
       → so.opening.saved < s.stands.clock.epoch
-      → AllByRecursion (λ ran. ran.end.epoch < s.stands.clock.epoch) (so.rans ++ one.ran ∷ [])
+      → AllByRecursion (λ ran. ran.printed.end.epoch < s.stands.clock.epoch) (so.rans ++ one.ran ∷ [])
       → (comes_to_swap one.ran ≡ true → swaps one.ran ≡ true) → s.save.down ≡ None
       → KeptNext r.stands.decls so.opening (so.rans ++ one.ran ∷ [])
       (so.run.ordered ++ (one.lines.run (length so.rans)).ordered) s now
@@ -323,9 +324,9 @@ module _ {D : Type 0} (tells : D → Option Bytes) (clock : D → ℕ) (image_at
       let index : ℕ = length so.rans in
       let at_index : slice_get script.rounds (length so.rans) ≡ Some round = subst (λ n. slice_get script.rounds n ≡ Some round) (sym so.counted) at in
       let own : IsRun r.stands.decls (length so.rans) (round ∷ []) r.stands.state r.stands.clock (one.ran ∷ []) s.stands.state = one.lines.run (length so.rans) in
-      let begins : one.ran.begin ≡ r.stands.clock = own.clocks.0 in
+      let begins : one.ran.printed.begin ≡ r.stands.clock = own.clocks.0 in
       let here = same_run r.stands.decls script.decls (back script.decls r.stands.decls so.same) (length so.rans) (round ∷ []) r.stands.state r.stands.clock (one.ran ∷ []) s.stands.state own in
-      let mine : (x : IsRun script.decls (length so.rans) (round ∷ []) r.stands.state one.ran.begin (one.ran ∷ []) s.stands.state) × (x.ordered ≡ own.ordered) =
+      let mine : (x : IsRun script.decls (length so.rans) (round ∷ []) r.stands.state one.ran.printed.begin (one.ran ∷ []) s.stands.state) × (x.ordered ≡ own.ordered) =
       subst (λ c. (x : IsRun script.decls (length so.rans) (round ∷ []) r.stands.state c (one.ran ∷ []) s.stands.state) × (x.ordered ≡ own.ordered)) (sym begins) here in
       let pushed = run-push script.decls script.rounds so.opening.state (clock_after so.opening.saved) so.rans r.stands.state s.stands.state one.ran round
       at_index so.run (begins ∙ so.clock_is) mine.0 in
@@ -356,16 +357,16 @@ module _ {D : Type 0} (tells : D → Option Bytes) (clock : D → ℕ) (image_at
       (crashes_more own.ordered k.parts so.stands refl
       (own_logged k so.stands refl state_is so.unended one leaves (length so.rans) rises falls) one.lines.lines_are of.workers of.later
       one.lines.caused one.begins.files leaves rises falls (so.crashes found from told rest here) carries))) in
-      let commits = entries_of-push 0 so.rans one.ran script.rounds round at_index so.run.lines in
+      let commits = printed_commits-push 0 so.rans one.ran script.rounds round at_index so.run.lines in
       let on_words : are_arrays s.stands.decls so.opening.state ≡ true → SharesWords s.stands
-      × ComeFrom s.stands.decls (entries_of 0 (so.rans ++ one.ran ∷ []) script.rounds) s.stands.mine = λ arrays.
+      × ComeFrom s.stands.decls (printed_commits 0 (so.rans ++ one.ran ∷ []) script.rounds) s.stands.mine = λ arrays.
       let h = so.history (ap (λ ds. are_arrays ds so.opening.state) (sym one.lines.decls) ∙ arrays) in
       let kept = one.history h.0 in (
         kept.shares,
         subst (λ es. ComeFrom s.stands.decls es s.stands.mine) (sym commits)
-            (subst (λ ds. ComeFrom ds (entries_of 0 so.rans script.rounds
+            (subst (λ ds. ComeFrom ds (printed_commits 0 so.rans script.rounds
             ++ entries_of_round (0 + length so.rans) one.ran round) s.stands.mine) (sym one.lines.decls)
-            (comes_more r.stands.decls (0 + length so.rans) round one.ran.outcomes (entries_of 0 so.rans script.rounds)
+            (comes_more r.stands.decls (0 + length so.rans) round one.ran.printed.outcomes (printed_commits 0 so.rans script.rounds)
             r.stands.mine s.stands.mine h.1 kept.gathered)),
       ) in
       record {
@@ -378,7 +379,7 @@ module _ {D : Type 0} (tells : D → Option Bytes) (clock : D → ℕ) (image_at
           sequences = sequences-push so.opening.sequence so.rans one.ran so.caused.sequences (one.begins.sequence ∙ so.sequence);
           marks = marked-push so.rans one.ran script.rounds round at_index so.caused.marks
               (marked round r s report one begins so.stands.workers ready.logs);
-          tried = all_push (λ (ran : Ran). ran.tries ≡ tries) so.rans one.ran so.caused.tried one.begins.tried;
+          tried = all_push (λ (ran : Ran). ran.beside.tries ≡ tries) so.rans one.ran so.caused.tried one.begins.tried;
           met = met-push so.rans one.ran script.rounds round at_index so.caused.met one.met;
           counted = all_push DrawsAreCounted so.rans one.ran so.caused.counted one.counted;
           plain = λ tree. all_push RunsPlainly so.rans one.ran (so.caused.plain tree)
@@ -388,10 +389,10 @@ module _ {D : Type 0} (tells : D → Option Bytes) (clock : D → ℕ) (image_at
         sequence = ap sequence_of stored.newest ∙ stored_length r.save.newest leaves.stored
             ∙ omega (arith, so.sequence, saved_many one.ran leaves.stored stored.epochs)
             ∙ sym (sequence_after-push so.opening.sequence so.rans one.ran);
-        most = answers_most one.ran (keeper_before one.ran) one.ran.asked one.ran.answers one.ran.end.epoch one.lines.caused.answers own.clocks.1.epoch
+        most = answers_most one.ran (keeper_before one.ran) one.ran.printed.asked one.ran.printed.answers one.ran.printed.end.epoch one.lines.caused.answers own.clocks.1.epoch
             (omega (arith, so.most, ap (λ (n : Number). n.epoch) begins));
         stands = leaves.stands;
-        failed = failed_back was before now one.ran.devices so.whole so.stands.whole so.quiet leaves.failed_are;
+        failed = failed_back was before now one.ran.beside.devices so.whole so.stands.whole so.quiet leaves.failed_are;
         up = λ none. save_up leaves (λ rose. none Save (rose_back was before now so.whole so.stands.whole so.quiet Save rose));
         up_quiet = λ quiet. down_none s.save.down leaves.failed stored.down
             (λ fails. in_none Save (subst (λ l. Contains l Save) quiet (stored.fails.0 fails)));
@@ -547,17 +548,17 @@ module _ {D : Type 0} (tells : D → Option Bytes) (clock : D → ℕ) (image_at
       let m = one_more r s count before now round report so at one leaves carries in
       let goes : RunGoesOn one.ran = sym one.reports.end ∙ none in
       let joined_on = joined_where_none one.ran one.lines.caused goes in
-      let clock_joined : s.stands.clock ≡ joined one.ran.end =
-      one.clock ∙ ap (λ epoch. record { epoch = epoch; draw = one.ran.end.draw }) joined_on.epoch in
+      let clock_joined : s.stands.clock ≡ joined one.ran.printed.end =
+      one.clock ∙ ap (λ epoch. record { epoch = epoch; draw = one.ran.printed.end.draw }) joined_on.epoch in
       let sound : s.store.sound ≡ true = m.sound_quiet (goes_on_quiet one.ran goes) in
       let run = one.lines.run (length so.rans) in
-      let later : r.stands.clock.epoch ≤ one.ran.end.epoch =
-      (let up = advances_later one.ran.begin.epoch one.ran.answers one.ran.end.epoch run.clocks.1.epoch in
+      let later : r.stands.clock.epoch ≤ one.ran.printed.end.epoch =
+      (let up = advances_later one.ran.printed.begin.epoch one.ran.printed.answers one.ran.printed.end.epoch run.clocks.1.epoch in
       omega (arith, up, ap (λ (n : Number). n.epoch) run.clocks.0)) in
-      let joined_to : s.stands.clock.epoch ≡ one.ran.end.epoch + 1 = ap (λ (n : Number). n.epoch) clock_joined in
+      let joined_to : s.stands.clock.epoch ≡ one.ran.printed.end.epoch + 1 = ap (λ (n : Number). n.epoch) clock_joined in
       let next = m.kept_over sound (omega (arith, so.over.first, later, joined_to))
-      (all_push (λ (ran : Ran). ran.end.epoch < s.stands.clock.epoch) so.rans one.ran
-      (all_weaker (λ (ran : Ran). ran.end.epoch < r.stands.clock.epoch) (λ (ran : Ran). ran.end.epoch < s.stands.clock.epoch)
+      (all_push (λ (ran : Ran). ran.printed.end.epoch < s.stands.clock.epoch) so.rans one.ran
+      (all_weaker (λ (ran : Ran). ran.printed.end.epoch < r.stands.clock.epoch) (λ (ran : Ran). ran.printed.end.epoch < s.stands.clock.epoch)
       (λ ran past. omega (arith, past, later, joined_to)) so.rans so.over.past) (omega (arith, joined_to)))
       (λ comes. swaps_quiet one.ran (goes_on_quiet one.ran goes) comes) (m.up_quiet (goes_on_quiet one.ran goes)) in (
         record {
@@ -576,7 +577,7 @@ module _ {D : Type 0} (tells : D → Option Bytes) (clock : D → ℕ) (image_at
           room = leaves.room ∙ so.room;
           stands = m.stands;
           whole = so.whole;
-          quiet = quiet_failed one.ran.devices (goes_on_quiet one.ran goes) m.failed;
+          quiet = quiet_failed one.ran.beside.devices (goes_on_quiet one.ran goes) m.failed;
           kept = next.0;
           crashes = next.2;
           over = next.1;

@@ -9,7 +9,8 @@ use Rattle.serial_model.specs.History.{Entry}
 use Rattle.serial_model.specs.State.{State}
 use Rattle.recovery_core.specs.Recoverable.{Reading}
 use Rattle.round_engine.specs.Histories.{none_come}
-use Rattle.program_calls.specs.Main.{ComeFromWords, HasEachSnapshot, StandsThrough}
+use Rattle.program_calls.specs.Main.{ComeFromWords}
+use Rattle.program_calls.specs.RunKept.{HasEachSnapshot, StandsThrough}
 use Rattle.program_calls.specs.RanOver.{RunsOverFiles, files_before}
 use Rattle.program_calls.specs.Vaults.{IsUntouched, TellsTheSame, Vaults}
 use Rattle.program_calls.proofs.KeptEnd.{told_alike, told_reading}

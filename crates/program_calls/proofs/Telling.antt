@@ -32,8 +32,8 @@ pub told_text : {tries : ℕ} (round : Round) (old new : RuntimeState) (report :
     → lines_text report.outcomes report.keeper report.durable ≡ round_text one.ran
 told_text round old new report one =
     ap (λ os. lines_text os report.keeper report.durable) one.reports.outcomes
-    ∙ ap (λ told. lines_text one.ran.outcomes told report.durable) one.reports.answers
-    ∙ ap (λ d. lines_text one.ran.outcomes one.ran.answers d) one.reports.durable
+    ∙ ap (λ told. lines_text one.ran.printed.outcomes told report.durable) one.reports.answers
+    ∙ ap (λ d. lines_text one.ran.printed.outcomes one.ran.printed.answers d) one.reports.durable
 
 -- the report is of the round
 pub of_round : {tries : ℕ} (round : Round) (old new : RuntimeState) (report : Report) (one : RanRound tries round old new report) → IsOf report one.ran
@@ -87,7 +87,7 @@ pub fits_in : (brief now : Bool) (tally : Tally) (old new : Output) (rounds : Li
     → tally.commits + sum_by length report.outcomes < 2 ^ 64
 fits_in true now tally old new rounds rans ran report same few of had is counted =
     subst (λ (os : List (List Outcome)). tally.commits + sum_by length os < 2 ^ 64) is.outcomes
-    (subst (λ (t : Tally). t.commits + sum_by length ran.outcomes < 2 ^ 64) (sym had.1) (tally_fits rounds rans ran few of))
+    (subst (λ (t : Tally). t.commits + sum_by length ran.printed.outcomes < 2 ^ 64) (sym had.1) (tally_fits rounds rans ran few of))
 fits_in false now tally old new rounds rans ran report same few of had is counted = absurd cc
 
 -- what is told of a round doesn't depend on what is handed on

@@ -29,8 +29,8 @@ none_failed_in [] on = refl
 none_failed_in (ran ∷ rans) on = ap (λ (l : List Device). l ++ devices_in rans) (goes_on_quiet ran on.0) ∙ none_failed_in rans on.1
 
 -- those of the last one, where the others went on
-pub devices_in-push : (rans : List Ran) (ran : Ran) → AllByRecursion RunGoesOn rans → devices_in (rans ++ ran ∷ []) ≡ ran.devices
-devices_in-push [] ran on = append-nil ran.devices
+pub devices_in-push : (rans : List Ran) (ran : Ran) → AllByRecursion RunGoesOn rans → devices_in (rans ++ ran ∷ []) ≡ ran.beside.devices
+devices_in-push [] ran on = append-nil ran.beside.devices
 devices_in-push (q ∷ rans) ran on =
     ap (λ (l : List Device). l ++ devices_in (rans ++ ran ∷ [])) (goes_on_quiet q on.0) ∙ devices_in-push rans ran on.1
 

@@ -67,7 +67,8 @@ ReadsOnly Refused status = ⊤
 abbrev pub ReadsDamage : {D : Type 0} → (D → Option Bytes) → (D → ℕ) → (D → ℕ → Bytes → Type 0) → (D → ℕ) → ℕ → Vault D
     → Vault D → Type 0
 ReadsDamage tells clock image_at faults status was is = status ≡ 6 → (found now : Images)
-    → AreTold tells (parts_of was) found → AreTold tells (parts_of is) now → VaultOnlyReads tells clock image_at faults was is
+    → AreTold tells (parts_of was) found → AreTold tells (parts_of is) now
+    → VaultOnlyReads tells clock image_at faults was is
 
 -- These commands tell what was run line by line, or run nothing.
 abbrev pub IsInFull : Command → Type 0

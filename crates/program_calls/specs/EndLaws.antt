@@ -225,13 +225,13 @@ save_met_last ran k (asks.Drop ∷ lines) (answer ∷ more) caused met =
 
 -- ---- the end of a run
 
--- What a refusal tells: a device that failed; or a log file that was found damaged, a limit that stands at its number, or
--- an answer that memory is wanted.
+-- What a refusal tells: a device that failed; or a log file that was found damaged, a limit that stands at its number,
+-- or an answer that memory is wanted.
 abbrev pub EndTells : Ran → End → Type 0
-EndTells ran (ends.Device device) = Contains ran.devices device
-EndTells ran (ends.Damaged device at) = (ran.damaged ≡ Some (device, at)) × (ran.devices ≡ [])
-EndTells ran (ends.Limit name number) = IsLimitOf name number × (ran.devices ≡ [])
-EndTells ran ends.Memory = (list_any wants_memory ran.answers ≡ true) × (ran.devices ≡ [])
+EndTells ran (ends.Device device) = Contains ran.beside.devices device
+EndTells ran (ends.Damaged device at) = (ran.beside.damaged ≡ Some (device, at)) × (ran.beside.devices ≡ [])
+EndTells ran (ends.Limit name number) = IsLimitOf name number × (ran.beside.devices ≡ [])
+EndTells ran ends.Memory = (list_any wants_memory ran.printed.answers ≡ true) × (ran.beside.devices ≡ [])
 
 damage_cases : (damaged : Option (Device × ℕ)) (e : End)
     → option_map (λ (d : Device × ℕ). ends.Damaged d.0 d.1) damaged ≡ Some e
@@ -240,37 +240,39 @@ damage_cases None e is = absurd cc
 damage_cases (Some d) e is = (d.0, d.1, refl, same_Some (ends.Damaged d.0 d.1) e is)
 
 sequence_last : (ran : Ran) → AllCaused ran
-    → save_limited ran.asked ran.answers
+    → save_limited ran.printed.asked ran.printed.answers
     || (comes_to_save ran && ((keeper_at_end ran).sequence == last_sequence)) ≡ true
     → (keeper_at_end ran).sequence ≡ last_sequence
-sequence_last ran caused met = elim (either_true (save_limited ran.asked ran.answers) _ met) [
-  | inl here ↦ save_met_last ran (keeper_before ran) ran.asked ran.answers caused.answers here
+sequence_last ran caused met = elim (either_true (save_limited ran.printed.asked ran.printed.answers) _ met) [
+  | inl here ↦ save_met_last ran (keeper_before ran) ran.printed.asked ran.printed.answers caused.answers here
   | inr joined ↦ eqb-true (keeper_at_end ran).sequence last_sequence (both_true (comes_to_save ran) _ joined).1
 ]
 
-pub end_tells : (ran : Ran) (e : End) → AllCaused ran → ran.end.epoch ≤ last_epoch → end_of ran ≡ Some e
+-- The refusal that ends a run after a round tells this of it.
+pub end_tells : (ran : Ran) (e : End) → AllCaused ran → ran.printed.end.epoch ≤ last_epoch → end_of ran ≡ Some e
     → EndTells ran e
-end_tells ran e caused most is = elim (first_cases (device_end ran.devices) _ e is) [
-  | inl device ↦ let d = device_cases ran.devices e device in subst (EndTells ran) (sym d.1) d.2
+end_tells ran e caused most is = elim (first_cases (device_end ran.beside.devices) _ e is) [
+  | inl device ↦ let d = device_cases ran.beside.devices e device in subst (EndTells ran) (sym d.1) d.2
   | inr later ↦
-      let quiet : ran.devices ≡ [] = no_devices ran.devices later.0 in
+      let quiet : ran.beside.devices ≡ [] = no_devices ran.beside.devices later.0 in
       elim (first_cases (damaged_end ran) _ e later.1) [
         | inl damaged ↦
-            let d = damage_cases ran.damaged e damaged in subst (EndTells ran) d.3 (d.2, quiet)
+            let d = damage_cases ran.beside.damaged e damaged in subst (EndTells ran) d.3 (d.2, quiet)
         | inr whole ↦ elim (first_cases (epoch_end ran) _ e whole.1) [
           | inl epoch ↦
-              let w = where_cases _ (limit_at Epoch ran.end.epoch) e epoch in
-              let past = ltb-false ran.end.epoch last_epoch (not_true _ (both_true _ _ w.0).1) in
-              let at : ran.end.epoch ≡ last_epoch = omega (arith, past, most) in
+              let w = where_cases _ (limit_at Epoch ran.printed.end.epoch) e epoch in
+              let past = ltb-false ran.printed.end.epoch last_epoch (not_true _ (both_true _ _ w.0).1) in
+              let at : ran.printed.end.epoch ≡ last_epoch = omega (arith, past, most) in
               subst (EndTells ran) w.1 (at, quiet)
           | inr then ↦ elim (first_cases (draw_end ran) _ e then.1) [
             | inl draw ↦
-                let w = where_cases _ (limit_at Draw ran.end.draw) e draw in
+                let w = where_cases _ (limit_at Draw ran.printed.end.draw) e draw in
                 subst (EndTells ran) w.1 (limited_at_draws ran caused w.0, quiet)
             | inr last ↦ elim (first_cases (bank_end ran) _ e last.1) [
               | inl bank ↦
-                  let w = bank_cases (full_length ran.logs) e bank in
-                  subst (EndTells ran) w.2 (full_caused ran.files ran.devices 0 ran.logs w.0 caused.logs w.1, quiet)
+                  let w = bank_cases (full_length ran.beside.logs) e bank in
+                  subst (EndTells ran) w.2
+                  (full_caused ran.beside.files ran.beside.devices 0 ran.beside.logs w.0 caused.logs w.1, quiet)
               | inr fits ↦ elim (first_cases (sequence_end ran) _ e fits.1) [
                 | inl sequence ↦
                     let w = where_cases _ (limit_at Sequence (keeper_at_end ran).sequence) e sequence in
@@ -286,34 +288,36 @@ end_tells ran e caused most is = elim (first_cases (device_end ran.devices) _ e 
 ]
 
 -- a round that goes on had no device that failed, and no log that was told full
-pub goes_on_quiet : (ran : Ran) → end_of ran ≡ None → ran.devices ≡ []
-goes_on_quiet ran none = no_devices ran.devices (both_none (device_end ran.devices) _ none).0
+pub goes_on_quiet : (ran : Ran) → end_of ran ≡ None → ran.beside.devices ≡ []
+goes_on_quiet ran none = no_devices ran.beside.devices (both_none (device_end ran.beside.devices) _ none).0
 
+-- A round that goes on told no log file full.
 pub goes_on_room : (ran : Ran) (worker size : ℕ) → end_of ran ≡ None
-    → slice_get ran.logs worker ≡ Some (Some (LogFull size)) → ⊥
+    → slice_get ran.beside.logs worker ≡ Some (Some (LogFull size)) → ⊥
 goes_on_room ran worker size none is =
-    let a = both_none (device_end ran.devices) _ none in
+    let a = both_none (device_end ran.beside.devices) _ none in
     let w = both_none (damaged_end ran) _ a.1 in
     let b = both_none (epoch_end ran) _ w.1 in
     let c = both_none (draw_end ran) _ b.1 in
     let d = both_none (bank_end ran) _ c.1 in
-    none_full ran.logs worker size (bank_none (full_length ran.logs) d.0) is
+    none_full ran.beside.logs worker size (bank_none (full_length ran.beside.logs) d.0) is
 
 -- a round ends the run at the limit of the draws only where its clock came to it
 pub draw_end_met : (ran : Ran) (number : ℕ) → AllCaused ran → end_of ran ≡ Some (ends.Limit Draw number)
-    → draw_limit ≤ ran.end.draw
-draw_end_met ran number caused is = elim (first_cases (device_end ran.devices) _ _ is) [
-  | inl device ↦ absurd (let d = device_cases ran.devices _ device in let same = d.1 in cc)
+    → draw_limit ≤ ran.printed.end.draw
+draw_end_met ran number caused is = elim (first_cases (device_end ran.beside.devices) _ _ is) [
+  | inl device ↦ absurd (let d = device_cases ran.beside.devices _ device in let same = d.1 in cc)
   | inr later ↦ elim (first_cases (damaged_end ran) _ _ later.1) [
-    | inl damaged ↦ absurd (let w = (damage_cases ran.damaged _ damaged).3 in cc)
+    | inl damaged ↦ absurd (let w = (damage_cases ran.beside.damaged _ damaged).3 in cc)
     | inr whole ↦ elim (first_cases (epoch_end ran) _ _ whole.1) [
-      | inl epoch ↦ absurd (let w = (where_cases _ (limit_at Epoch ran.end.epoch) _ epoch).1 in cc)
+      | inl epoch ↦ absurd (let w = (where_cases _ (limit_at Epoch ran.printed.end.epoch) _ epoch).1 in cc)
       | inr then ↦ elim (first_cases (draw_end ran) _ _ then.1) [
-        | inl draw ↦ limited_at_draws ran caused (where_cases _ (limit_at Draw ran.end.draw) _ draw).0
+        | inl draw ↦ limited_at_draws ran caused (where_cases _ (limit_at Draw ran.printed.end.draw) _ draw).0
         | inr last ↦ elim (first_cases (bank_end ran) _ _ last.1) [
-          | inl bank ↦ absurd (let w = (bank_cases (full_length ran.logs) _ bank).2 in cc)
+          | inl bank ↦ absurd (let w = (bank_cases (full_length ran.beside.logs) _ bank).2 in cc)
           | inr fits ↦ elim (first_cases (sequence_end ran) _ _ fits.1) [
-            | inl sequence ↦ absurd (let w = (where_cases _ (limit_at Sequence (keeper_at_end ran).sequence) _ sequence).1 in cc)
+            | inl sequence ↦
+                absurd (let w = (where_cases _ (limit_at Sequence (keeper_at_end ran).sequence) _ sequence).1 in cc)
             | inr memory ↦ absurd (let w = (where_cases _ ends.Memory _ memory.1).1 in cc)
           ]
         ]
@@ -337,8 +341,8 @@ abbrev pub IsUnlimited : Answer → Type 0
 IsUnlimited answers.Limit = ⊥
 IsUnlimited _ = ⊤
 
--- The line was done: one that asked for a snapshot made one, unless nothing counted, its pages aren't let in, or one would
--- stand too deep.
+-- The line was done: one that asked for a snapshot made one, unless nothing counted, its pages aren't let in, or one
+-- would stand too deep.
 abbrev pub IsAnswered : Answer → Type 0
 IsAnswered answers.Device = ⊥
 IsAnswered answers.Damaged = ⊥
@@ -361,6 +365,7 @@ both_answered answers.Damaged one other = one
 both_answered answers.Memory one other = one
 both_answered answers.Unrun one other = one
 
+-- Answers that neither stop a run nor stand at a limit are done.
 pub all_answered : (told : List Answer) → AllByRecursion IsUnstopped told → AllByRecursion IsUnlimited told
     → AllByRecursion IsAnswered told
 all_answered [] one other = tt
@@ -369,13 +374,13 @@ all_answered (answer ∷ more) one other =
 
 -- nothing of a round stopped the maintenance thread
 record IsUnbroken (ran : Ran) : Type 0 where
-  devices : ran.devices ≡ []
-  damaged : ran.damaged ≡ None
+  devices : ran.beside.devices ≡ []
+  damaged : ran.beside.damaged ≡ None
 
-no_fault : (ran : Ran) (device : Device) → ran.devices ≡ [] → Contains ran.devices device → ⊥
+no_fault : (ran : Ran) (device : Device) → ran.beside.devices ≡ [] → Contains ran.beside.devices device → ⊥
 no_fault ran device none has = in_none device (subst (λ l. Contains l device) none has)
 
-no_damage : (ran : Ran) (d : Device × ℕ) → ran.damaged ≡ None → ran.damaged ≡ Some d → ⊥
+no_damage : (ran : Ran) (d : Device × ℕ) → ran.beside.damaged ≡ None → ran.beside.damaged ≡ Some d → ⊥
 no_damage ran d none some = cc
 
 -- so a line that was run is answered, and doesn't stop the next one
@@ -429,9 +434,10 @@ undamaged None none = refl
 undamaged (Some d) none = absurd cc
 
 -- A round that goes on found no log file damaged.
-pub goes_on_undamaged : (ran : Ran) → end_of ran ≡ None → ran.damaged ≡ None
+pub goes_on_undamaged : (ran : Ran) → end_of ran ≡ None → ran.beside.damaged ≡ None
 goes_on_undamaged ran none =
-    let a = both_none (device_end ran.devices) _ none in undamaged ran.damaged (both_none (damaged_end ran) _ a.1).0
+    let a = both_none (device_end ran.beside.devices) _ none in
+    undamaged ran.beside.damaged (both_none (damaged_end ran) _ a.1).0
 
 unwanted : (test : Bool) → where_true test ends.Memory ≡ None → test ≡ false
 unwanted true none = absurd cc
@@ -439,17 +445,17 @@ unwanted false none = refl
 
 -- In a round that goes on no line of the maintenance thread is stopped so, and none refuses the next.
 pub goes_on_answered : (ran : Ran) → AllCaused ran → end_of ran ≡ None
-    → AllByRecursion IsUnstopped ran.answers × ((keeper_at_end ran).refused ≡ false)
+    → AllByRecursion IsUnstopped ran.printed.answers × ((keeper_at_end ran).refused ≡ false)
 goes_on_answered ran caused none =
-    let a = both_none (device_end ran.devices) _ none in
+    let a = both_none (device_end ran.beside.devices) _ none in
     let w = both_none (damaged_end ran) _ a.1 in
     let b = both_none (epoch_end ran) _ w.1 in
     let c = both_none (draw_end ran) _ b.1 in
     let d = both_none (bank_end ran) _ c.1 in
     let e = both_none (sequence_end ran) _ d.1 in
-    answered_all ran (keeper_before ran) ran.asked ran.answers
-    (record { devices = no_devices ran.devices a.0; damaged = undamaged ran.damaged w.0 }) refl
-    (unwanted (list_any wants_memory ran.answers) e.1) caused.answers
+    answered_all ran (keeper_before ran) ran.printed.asked ran.printed.answers
+    (record { devices = no_devices ran.beside.devices a.0; damaged = undamaged ran.beside.damaged w.0 }) refl
+    (unwanted (list_any wants_memory ran.printed.answers) e.1) caused.answers
 
 -- ---- limits of a round that goes on
 
@@ -556,18 +562,21 @@ epoch_at_end k (answers.Limit ∷ more) last up = epoch_at_end k more last up
 epoch_at_end k (answers.Unrun ∷ more) last up = epoch_at_end k more last up
 
 -- Where a round's last epoch was made durable, none of its lines was answered by a limit.
-pub durable_unlimited : (ran : Ran) → AllCaused ran → AdvancesTo ran.begin.epoch ran.answers ran.end.epoch
-    → ran.durable ≡ durable_of ran → ran.durable ≡ Some ran.end.epoch → AllByRecursion IsUnlimited ran.answers
+pub durable_unlimited : (ran : Ran) → AllCaused ran
+    → AdvancesTo ran.printed.begin.epoch ran.printed.answers ran.printed.end.epoch
+    → ran.printed.durable ≡ durable_of ran → ran.printed.durable ≡ Some ran.printed.end.epoch
+    → AllByRecursion IsUnlimited ran.printed.answers
 durable_unlimited ran caused advances told durable =
-    let test = made_by (comes_to_save ran && (has_sequence ran && not (other_failed ran))) ran.end.epoch
+    let test = made_by (comes_to_save ran && (has_sequence ran && not (other_failed ran))) ran.printed.end.epoch
     (sym told ∙ durable) in
     let both = both_true (comes_to_save ran) (has_sequence ran && not (other_failed ran)) test in
-    let save = both_true (comes_to_advance ran) (nat_lt ran.end.epoch last_epoch) both.0 in
+    let save = both_true (comes_to_advance ran) (nat_lt ran.printed.end.epoch last_epoch) both.0 in
     let next = both_true (has_sequence ran) (not (other_failed ran)) both.1 in
-    let below : ran.end.epoch < last_epoch = (let is = save.1 in grind (arith, nat_tests)) in
+    let below : ran.printed.end.epoch < last_epoch = (let is = save.1 in grind (arith, nat_tests)) in
     let sequence : (keeper_at_end ran).sequence < last_sequence = (let is = next.0 in grind (arith, nat_tests)) in
-    let at = epoch_at_end (keeper_before ran) ran.answers ran.end.epoch advances in
-    unlimited ran (keeper_before ran) ran.asked ran.answers caused.answers (omega (arith, at, below)) sequence
+    let at = epoch_at_end (keeper_before ran) ran.printed.answers ran.printed.end.epoch advances in
+    unlimited ran (keeper_before ran) ran.printed.asked ran.printed.answers caused.answers (omega (arith, at, below))
+    sequence
   where
     made_by : (test : Bool) (epoch : ℕ) → where_true test epoch ≡ Some epoch → test ≡ true
     made_by true epoch is = refl
@@ -598,7 +607,8 @@ was_run first last tries log (outcomes.Unrun ∷ more) (refusals ∷ refused) up
     absurd (let is = come.0.1 in cc)
 
 -- where no device failed, and no log file is full, no log was refused
-log_up : (files : LogFiles) (failed : List Device) (worker : ℕ) (log : Option LogRefusal) (logs : List (Option LogRefusal)) → failed ≡ []
+log_up : (files : LogFiles) (failed : List Device) (worker : ℕ) (log : Option LogRefusal)
+    (logs : List (Option LogRefusal)) → failed ≡ []
     → LogsCaused files failed worker (log ∷ logs) → full_length (log ∷ logs) ≡ None
     → (log ≡ None) × LogsCaused files failed (worker + 1) logs × (full_length logs ≡ None)
 log_up files failed worker None logs quiet caused full = (refl, caused, full)
@@ -618,7 +628,7 @@ all_run ran files failed worker (log ∷ logs) (mine ∷ more) [] quiet caused f
 all_run ran files failed worker (log ∷ logs) (mine ∷ more) (tried ∷ refused) quiet caused full by none =
     let up = log_up files failed worker log logs quiet caused full in
     let none_of = neither (list_any is_limit mine) (list_any (list_any is_limit) more) none in (
-      was_run ran.begin.draw ran.end.draw ran.tries log mine tried up.0 by.0 none_of.0,
+      was_run ran.printed.begin.draw ran.printed.end.draw ran.beside.tries log mine tried up.0 by.0 none_of.0,
       all_run ran files failed (worker + 1) logs more refused quiet up.1 up.2 by.2 none_of.1,
     )
 
@@ -628,13 +638,13 @@ where_none false x none = refl
 
 -- So is each line of a round that doesn't end the run.
 pub goes_on_run : (ran : Ran) → AllCaused ran → end_of ran ≡ None
-    → AllByRecursion (AllByRecursion IsCommittedOrInConflict) ran.outcomes
+    → AllByRecursion (AllByRecursion IsCommittedOrInConflict) ran.printed.outcomes
 goes_on_run ran caused none =
-    let a = both_none (device_end ran.devices) _ none in
+    let a = both_none (device_end ran.beside.devices) _ none in
     let w = both_none (damaged_end ran) _ a.1 in
     let b = both_none (epoch_end ran) _ w.1 in
     let c = both_none (draw_end ran) _ b.1 in
     let d = both_none (bank_end ran) _ c.1 in
-    all_run ran ran.files ran.devices 0 ran.logs ran.outcomes ran.refused
-    (no_devices ran.devices a.0) caused.logs (bank_none (full_length ran.logs) d.0)
-    caused.outcomes (where_none _ (limit_at Draw ran.end.draw) c.0)
+    all_run ran ran.beside.files ran.beside.devices 0 ran.beside.logs ran.printed.outcomes ran.beside.refused
+    (no_devices ran.beside.devices a.0) caused.logs (bank_none (full_length ran.beside.logs) d.0)
+    caused.outcomes (where_none _ (limit_at Draw ran.printed.end.draw) c.0)

@@ -1,8 +1,9 @@
--- How a call ends: its status, its last line, and the table of what has to hold where it ends so.
+-- How a call ends: its status, its last line, what its sink holds, and the table of what has to hold where it ends so.
 use Rattle.std.specs.Prelude.{◌≡◌, ◌⊎◌, ◌+◌, ◌<◌, ◌≤◌, ℕ, List, [], ◌∷◌, ◌++◌, length, flat_map}
-use Rattle.std.specs.Prelude.{codes, decimal, Option, Some, None, ⊤}
+use Rattle.std.specs.Prelude.{codes, decimal, Option, Some, None, IfSome, MatchBool, ◌==◌, ⊤}
 use Rattle.std.specs.List.{AllByRecursion}
-use Rattle.std.specs.Io.KnownBytes.{Consumes, IsAtEnd}
+use Rattle.std.specs.Io.KnownBytes.{Appends, Consumes, IsAtEnd}
+use Rattle.outside.specs.Stream.{TakesPrefix}
 use Rattle.serial_model.specs.Numbers.{draw_limit, last_epoch}
 use Rattle.serial_model.specs.declared.decl.Decl.{Decl}
 use Rattle.serial_model.specs.declared.decl.Decl.TheVariants.{Array, Tree}
@@ -27,10 +28,12 @@ use Rattle.outside.specs.declared.device.Device.{Device}
 use Rattle.recovery_core.specs.Damage.{IsDamagedIn, IsReadBefore}
 use Rattle.joint_crashes.specs.VaultReads.{RoseIn}
 use Rattle.program_calls.specs.Beginning.{HasOtherShape, IsBefore, MayBegin, Opening, StandsAtLimit}
-use Rattle.program_calls.specs.Devices.{device_name, device_text}
+use Rattle.database_files.specs.Names.{device_name}
+use Rattle.program_calls.specs.Devices.{device_text}
 use Rattle.program_calls.specs.Vaults.{HoldsOf, IsUntouched, TellsTheSame, Vaults}
 use Rattle.program_calls.specs.declared.ending.Ending.{Ending}
-use Rattle.program_calls.specs.declared.ending.Ending.TheVariants.{Finished, NoScript, Shape, Usage, ReadFault, NoDevice}
+use Rattle.program_calls.specs.declared.ending.Ending.TheVariants.{Finished, NoScript, Shape, Usage, ReadFault}
+use Rattle.program_calls.specs.declared.ending.Ending.TheVariants.{NoDevice}
 use Rattle.program_calls.specs.declared.ending.Ending.TheVariants.{Damaged, AtLimit, NoMemory, NoSnapshot}
 
 -- ---- what is told
@@ -116,9 +119,16 @@ abbrev pub body_text : Command → List Ran → Ending → Bytes
 body_text (Make arguments) rans Finished = script_text arguments.seed arguments.workers arguments.lines
 body_text command rans ending = run_text rans
 
--- What a command prints, by what was run and how that ended.
-abbrev pub output_text : Command → List Ran → Ending → Bytes
-output_text command rans ending = body_text command rans ending ++ last_line ending
+-- ---- what the sink holds
+
+-- The sink holds what it held and then the text, or a prefix of the text, exactly where the status is 4.
+abbrev pub SinkHolds : ℕ → Option Bytes → Option Bytes → Bytes → Type 0
+SinkHolds status held holds text = MatchBool (status == 4) (TakesPrefix held holds text) (Appends held holds text)
+
+-- The status is the ending's, or 4 where the sink failed, and the sink holds the text with the last line.
+pub record ShownText (held holds : Option Bytes) (status : ℕ) (text : Bytes) (ending : Ending) : Type 0 where
+  pub status_is : (status ≡ status_of ending) ⊎ (status ≡ 4)
+  pub printed : SinkHolds status held holds (text ++ last_line ending)
 
 -- ---- how a run goes on, and where a round ends it
 
@@ -127,8 +137,8 @@ abbrev pub RunGoesOn : Ran → Type 0
 RunGoesOn ran = end_of ran ≡ None
 
 -- The number at which a limit of a round stands: the last epoch; draws from which on the clock gives no number; a
--- length that a log file might pass its limit from, with one line more; the last sequence. A snapshot whose pages aren't
--- let in, or would stand too deep, ends no run.
+-- length that a log file might pass its limit from, with one line more; the last sequence. A snapshot whose pages
+-- aren't let in, or would stand too deep, ends no run.
 abbrev pub IsLimitOf : LimitName → ℕ → Type 0
 IsLimitOf Epoch number = number ≡ last_epoch
 IsLimitOf Draw number = draw_limit ≤ number
@@ -152,7 +162,7 @@ pub record RanAll (script : Script) (rans : List Ran) : Type 0 where
 
 -- the devices that failed in some rounds
 abbrev pub devices_in : List Ran → List Device
-devices_in rans = flat_map (λ ran. ran.devices) rans
+devices_in rans = flat_map (λ ran. ran.beside.devices) rans
 
 -- The devices had what a run of the script may begin on, where they tell their bytes.
 abbrev pub BeginsOn : {D : Type 0} → Vaults D → ℕ → Script → Opening → Type 0
@@ -231,6 +241,10 @@ Comes v _ _ _ _ _ _ = ⊥
 -- The longest script, and one byte more.
 abbrev pub most_read : ℕ
 most_read = 67108865
+
+-- These are the bytes of the source that had them, where it tells what it had.
+abbrev pub AreBytes : Option Bytes → Bytes → Type 0
+AreBytes had bytes = IfSome had (λ told. told ≡ bytes)
 
 -- The source was read to its end, or that many bytes of it were.
 abbrev pub IsReadOut : Option Bytes → Option Bytes → Type 0

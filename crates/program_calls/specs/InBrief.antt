@@ -19,7 +19,8 @@ use Rattle.command_line.specs.declared.command.Command.TheVariants.{Run}
 use Rattle.command_line.specs.declared.command.RunOptions.{RunOptions}
 use Rattle.program_calls.specs.declared.ending.Ending.{Ending}
 use Rattle.program_calls.specs.declared.ending.Ending.TheVariants.{Finished}
-use Rattle.program_calls.specs.Main.{Came, StandsWhenStopped, ordered_in, decls_in}
+use Rattle.program_calls.specs.Main.{Came, decls_in}
+use Rattle.program_calls.specs.RunKept.{StandsWhenStopped}
 use Rattle.program_calls.specs.Vaults.{Vaults, vaults_of}
 
 -- The sum of all values of the state that the vault stands for as the call returns, where the devices tell their bytes.
@@ -72,8 +73,6 @@ pub record CameInBrief {D : Type 0} (v : Vaults D) (options : RunOptions) (had l
   pub mid : Vault D
   pub total : Option ℕ
   pub came : Came (up_to v mid) (Run options) had left (λ rans ended. Shows (run_in_brief rans total) ended)
-  pub sums : SumsUp v mid came.rans came.course.state came.ending total
+  pub sums : SumsUp v mid came.course.rans came.course.state came.course.ending total
   pub reads : VaultOnlyReads v.tells v.clock v.image_at v.faults mid v.is
-  pub stops : StandsWhenStopped v (decls_in came.course.script)
-      (ordered_in came.course.script came.course.opening came.bytes came.rans came.course.state came.course.run)
-      came.course.opening came.rans
+  pub stops : StandsWhenStopped v (decls_in came.course.script) came.course.commits came.course.opening came.course.rans

@@ -1,6 +1,7 @@
--- What follows from the main theorem: no round draws more numbers than its lines have tries, and where a tree is declared
--- each number is a commit's; no run ends at the limit of the draws while each line has few tries, or a tree is declared; a run with nothing in its way is done; and of one that is done each line is committed, or in conflict at each
--- of its tries, and each round is durable.
+-- What follows from the main theorem. No round draws more numbers than its lines have tries, and where a tree is
+-- declared each number is a commit's. No run ends at the limit of the draws while each line has few tries, or a tree is
+-- declared. A run with nothing in its way is done; and of one that is done each line is committed, or in conflict at
+-- each of its tries, and each round is durable.
 use Rattle.std.specs.Prelude.{◌≡◌, ◌⊎◌, ◌+◌, ◌≤◌, ℕ, List, [], ◌∷◌, ◌++◌, IfSome, IsSome, Option, Some, None}
 use Rattle.std.specs.List.{AllByRecursion}
 use Rattle.std.proofs.Common.{inl, inr, ◌∙◌, refl, sym, subst, arith}
@@ -20,19 +21,23 @@ use Rattle.joint_crashes.specs.Resting.{AreTold}
 use Rattle.tx_script.specs.Causes.{AllCaused}
 use Rattle.tx_script.specs.Draws.{DrawsAreCounted, DrawsWithin, HasTree, IsBelowDraws, RunsOnce, RunsPlainly}
 use Rattle.tx_script.specs.Draws.{below_draws, counted_once, counted_within, once_within}
-use Rattle.tx_script.specs.Run.{IsScriptRun, Ran, RunsClocks, clock_after, joined}
+use Rattle.tx_script.specs.Run.{AreOfFirst, IsRun, IsScriptRun, Ran, RunsClocks, clock_after, joined}
 use Rattle.round_engine.specs.declared.report.LimitName.{LimitName}
 use Rattle.round_engine.specs.declared.report.LimitName.TheVariants.{Draw}
 use Rattle.command_line.specs.declared.command.Command.TheVariants.{Run}
 use Rattle.command_line.specs.declared.command.RunOptions.{RunOptions}
 use Rattle.program_calls.specs.Beginning.{HasKept, HasStorages, Opening, SameDecls}
-use Rattle.program_calls.specs.EndLaws.{IsAnswered, IsCommittedOrInConflict, all_answered, draw_end_met, durable_unlimited}
+use Rattle.program_calls.specs.EndLaws.{IsAnswered, IsCommittedOrInConflict, all_answered, draw_end_met}
+use Rattle.program_calls.specs.EndLaws.{durable_unlimited}
 use Rattle.program_calls.specs.EndLaws.{goes_on_answered, goes_on_run}
 use Rattle.program_calls.specs.declared.ending.Ending.{Ending}
-use Rattle.program_calls.specs.declared.ending.Ending.TheVariants.{Finished, NoScript, Shape, Usage, ReadFault, NoDevice}
+use Rattle.program_calls.specs.declared.ending.Ending.TheVariants.{Finished, NoScript, Shape, Usage, ReadFault}
+use Rattle.program_calls.specs.declared.ending.Ending.TheVariants.{NoDevice}
 use Rattle.program_calls.specs.declared.ending.Ending.TheVariants.{Damaged, AtLimit, NoMemory, NoSnapshot}
 use Rattle.program_calls.specs.Ending.{Comes, RunGoesOn, RunComes}
-use Rattle.program_calls.specs.Main.{AreBytes, Came, IsDurable, RunsOf, decls_in}
+use Rattle.program_calls.specs.Ending.{AreBytes}
+use Rattle.program_calls.specs.Main.{Came, decls_in, rounds_of}
+use Rattle.program_calls.specs.RoundCauses.{IsDurable}
 use Rattle.program_calls.specs.Vaults.{NoneFailed, Vaults}
 
 -- The last round is one of the rounds.
@@ -57,9 +62,9 @@ storages_of found decls kept here there =
 -- Each line of the round is committed, or in conflict at each of its tries; each of the maintenance thread is done, and
 -- the round's last epoch is durable.
 pub record IsDone (ran : Ran) : Type 0 where
-  pub all_run : AllByRecursion (AllByRecursion IsCommittedOrInConflict) ran.outcomes
-  pub answered : AllByRecursion IsAnswered ran.answers
-  pub durable : ran.durable ≡ Some ran.end.epoch
+  pub all_run : AllByRecursion (AllByRecursion IsCommittedOrInConflict) ran.printed.outcomes
+  pub answered : AllByRecursion IsAnswered ran.printed.answers
+  pub durable : ran.printed.durable ≡ Some ran.printed.end.epoch
 
 -- So it is in rounds that go on.
 done_of : (index : ℕ) (clock : Number) (rans : List Ran) (rounds : List Round) → RunsClocks index clock rans rounds
@@ -71,16 +76,16 @@ done_of index clock (ran ∷ rans) (round ∷ rounds) clocks on caused durable =
     let lasts = durable.0.lasts on.0 in (
       record {
         all_run = goes_on_run ran caused.0 on.0;
-        answered = all_answered ran.answers (goes_on_answered ran caused.0 on.0).0
+        answered = all_answered ran.printed.answers (goes_on_answered ran caused.0 on.0).0
             (durable_unlimited ran caused.0 clocks.1.epoch durable.0.as_told lasts);
         durable = lasts;
       },
-      done_of (index + 1) (joined ran.end) rans rounds clocks.2 on.1 caused.1 durable.1,
+      done_of (index + 1) (joined ran.printed.end) rans rounds clocks.2 on.1 caused.1 durable.1,
     )
 
 -- Rounds whose draws are counted draw no more numbers than their lines have tries.
 all_within : (tries : ℕ) (rans : List Ran) → AllByRecursion AllCaused rans → AllByRecursion DrawsAreCounted rans
-    → AllByRecursion (λ ran. ran.tries ≡ tries) rans → AllByRecursion (DrawsWithin tries) rans
+    → AllByRecursion (λ ran. ran.beside.tries ≡ tries) rans → AllByRecursion (DrawsWithin tries) rans
 all_within tries [] caused counted tried = tt
 all_within tries (ran ∷ rans) caused counted tried = (
   subst (λ n. DrawsWithin n ran) tried.0 (counted_within ran caused.0 counted.0),
@@ -92,20 +97,48 @@ all_once : (rans : List Ran) → AllByRecursion DrawsAreCounted rans → AllByRe
 all_once [] counted plain = tt
 all_once (ran ∷ rans) counted plain = (counted_once ran counted.0 plain.0, all_once rans counted.1 plain.1)
 
+-- rounds of no script are none
+none_of_none : (rans : List Ran) → AreOfFirst rans [] → rans ≡ []
+none_of_none [] of = refl
+none_of_none (ran ∷ rans) of = absurd of
+
 module _ {D : Type 0} (v : Vaults D) (options : RunOptions) (had left : Option Bytes)
     (Shows : List Ran → Ending → Type 0) where
+  -- What was run is a run of the rounds that were read, from where it began.
+  pub whole_run : (came : Came v (Run options) had left Shows)
+      → IsRun (decls_in came.course.script) 0 (rounds_of came.course.script) came.course.opening.state
+      (clock_after came.course.opening.saved) came.course.rans came.course.state
+  whole_run came = record {
+    lines = came.lines.lines;
+    workers = came.lines.workers;
+    clocks = came.serial.clocks;
+    ordered = came.course.commits;
+    same = came.serial.printed;
+    serial = came.serial.serial;
+    draws = came.serial.draws;
+    after = came.serial.after;
+  }
+
+  -- Where no script was read nothing was run.
+  pub none_is_run : (came : Came v (Run options) had left Shows) → came.course.script ≡ None → came.course.rans ≡ []
+  none_is_run came none = none_of_none came.course.rans
+      (subst (λ (o : Option Script). AreOfFirst came.course.rans (rounds_of o)) none came.lines.lines)
+
   -- No round draws more numbers than its lines have tries.
-  pub draws_within : (came : Came v (Run options) had left Shows) → AllByRecursion (DrawsWithin options.tries) came.rans
-  draws_within came = all_within options.tries came.rans came.caused.in_rounds.caused came.caused.in_rounds.counted came.caused.in_rounds.tried
+  pub draws_within : (came : Came v (Run options) had left Shows)
+      → AllByRecursion (DrawsWithin options.tries) came.course.rans
+  draws_within came = all_within options.tries came.course.rans came.caused.in_rounds.caused
+      came.caused.in_rounds.counted came.caused.in_rounds.tried
 
   -- Where a tree is declared each number is a commit's, and nobody is in a line's way.
   pub runs_once : (came : Came v (Run options) had left Shows) → HasTree (decls_in came.course.script)
-      → AllByRecursion RunsOnce came.rans
-  runs_once came tree = all_once came.rans came.caused.in_rounds.counted (came.caused.in_rounds.plain tree)
+      → AllByRecursion RunsOnce came.course.rans
+  runs_once came tree = all_once came.course.rans came.caused.in_rounds.counted (came.caused.in_rounds.plain tree)
 
   -- Where the source tells its bytes they are these.
-  pub bytes_told : (came : Came v (Run options) had left Shows) (told : Bytes) → had ≡ Some told → told ≡ came.bytes
-  bytes_told came told is = subst (λ (o : Option Bytes). AreBytes o came.bytes) is came.are_bytes
+  pub bytes_told : (came : Came v (Run options) had left Shows) (told : Bytes) → had ≡ Some told
+      → told ≡ came.course.bytes
+  bytes_told came told is = subst (λ (o : Option Bytes). AreBytes o came.course.bytes) is came.read.bytes
 
   -- A run that ends at the limit of the draws has a round whose clock came to it.
   met_draws : (snap : ℕ) (script : Script) (opening : Opening) (rans : List Ran) → AllByRecursion AllCaused rans
@@ -120,43 +153,47 @@ module _ {D : Type 0} (v : Vaults D) (options : RunOptions) (had left : Option B
 
   -- No run ends at the limit of the draws where a line has up to 16,383 tries, or a tree is declared.
   pub never_at_draws : (came : Came v (Run options) had left Shows)
-      → (options.tries ≤ 16383) ⊎ HasTree (decls_in came.course.script) → came.ending ≡ AtLimit Draw → ⊥
-  never_at_draws came few is = of came.course.script came.course.run (runs_once came) few
-      (subst (λ (e : Ending). Comes v (Run options) came.bytes came.course.script came.course.opening came.rans e) is
-      came.course.comes)
+      → (options.tries ≤ 16383) ⊎ HasTree (decls_in came.course.script) → came.course.ending ≡ AtLimit Draw → ⊥
+  never_at_draws came few is = of came.course.script came.read.script (whole_run came) (runs_once came) few
+      (subst (λ (e : Ending). Comes v (Run options) came.course.bytes came.course.script came.course.opening
+      came.course.rans e) is came.comes)
     where
-      below : (script : Script) → IsTextOf came.bytes script
-          → IsScriptRun script came.course.opening.state came.course.opening.saved came.rans came.course.state
-          → (HasTree script.decls → AllByRecursion RunsOnce came.rans) → (options.tries ≤ 16383) ⊎ HasTree script.decls
-          → AllByRecursion IsBelowDraws came.rans
+      below : (script : Script) → IsTextOf came.course.bytes script
+          → IsScriptRun script came.course.opening.state came.course.opening.saved came.course.rans came.course.state
+          → (HasTree script.decls → AllByRecursion RunsOnce came.course.rans)
+          → (options.tries ≤ 16383) ⊎ HasTree script.decls → AllByRecursion IsBelowDraws came.course.rans
       below script text run once (inl few) =
-          below_draws came.bytes script came.course.opening.state came.course.opening.saved options.tries came.rans
-          came.course.state text run few (draws_within came)
+          below_draws came.course.bytes script came.course.opening.state came.course.opening.saved options.tries
+          came.course.rans came.course.state text run few (draws_within came)
       below script text run once (inr tree) =
-          below_draws came.bytes script came.course.opening.state came.course.opening.saved 1 came.rans came.course.state
-          text run (omega arith) (all_weaker RunsOnce (DrawsWithin 1) (λ ran r. once_within ran r.once) came.rans (once tree))
+          below_draws came.course.bytes script came.course.opening.state came.course.opening.saved 1 came.course.rans
+          came.course.state text run (omega arith)
+          (all_weaker RunsOnce (DrawsWithin 1) (λ ran r. once_within ran r.once) came.course.rans (once tree))
 
-      of : (script : Option Script) → RunsOf script came.course.opening came.bytes came.rans came.course.state
-          → (HasTree (decls_in script) → AllByRecursion RunsOnce came.rans)
+      of : (script : Option Script) → IfSome script (IsTextOf came.course.bytes)
+          → IsRun (decls_in script) 0 (rounds_of script) came.course.opening.state
+          (clock_after came.course.opening.saved) came.course.rans came.course.state
+          → (HasTree (decls_in script) → AllByRecursion RunsOnce came.course.rans)
           → (options.tries ≤ 16383) ⊎ HasTree (decls_in script)
-          → Comes v (Run options) came.bytes script came.course.opening came.rans (AtLimit Draw) → ⊥
-      of None run once few comes = comes
-      of (Some script) run once few comes = met_draws options.snap script came.course.opening came.rans
-          came.caused.in_rounds.caused (below script run.0 run.1 once few) comes
+          → Comes v (Run options) came.course.bytes script came.course.opening came.course.rans (AtLimit Draw) → ⊥
+      of None text run once few comes = comes
+      of (Some script) text run once few comes =
+          met_draws options.snap script came.course.opening came.course.rans came.caused.in_rounds.caused
+          (below script text run once few) comes
 
   -- With a script, a vault in its formats that has the script's storages, no device or stream that fails, no limit
   -- that is met, and memory, all is done.
   pub all_is_done : (came : Came v (Run options) had left Shows) (script : Script) (found : Images)
-      → IsTextOf came.bytes script
+      → IsTextOf came.course.bytes script
       → AreTold v.tells (parts_of v.was) found
       → ((read : Script) → came.course.script ≡ Some read → HasStorages found read.decls) → NoneFailed v
-      → (came.ending ≡ ReadFault → ⊥) → ((name : LimitName) → came.ending ≡ AtLimit name → ⊥)
-      → (came.ending ≡ NoMemory → ⊥) → came.ending ≡ Finished
+      → (came.course.ending ≡ ReadFault → ⊥) → ((name : LimitName) → came.course.ending ≡ AtLimit name → ⊥)
+      → (came.course.ending ≡ NoMemory → ⊥) → came.course.ending ≡ Finished
   all_is_done came script found text told has none not_read not_limit not_memory =
-      of came.course.script came.ending refl refl came.course.comes
+      of came.course.script came.course.ending refl refl came.comes
     where
-      run_done : (read : Script) (e : Ending) → came.course.script ≡ Some read → came.ending ≡ e
-          → RunComes v options.snap read came.course.opening came.rans e → e ≡ Finished
+      run_done : (read : Script) (e : Ending) → came.course.script ≡ Some read → came.course.ending ≡ e
+          → RunComes v options.snap read came.course.opening came.course.rans e → e ≡ Finished
       run_done read Finished is same comes = refl
       run_done read (NoScript fault) is same comes = absurd comes
       run_done read (Shape declared kept) is same comes =
@@ -175,8 +212,9 @@ module _ {D : Type 0} (v : Vaults D) (options : RunOptions) (had left : Option B
       run_done read NoMemory is same comes = absurd (not_memory same)
       run_done read (NoSnapshot epoch) is same comes = absurd comes
 
-      of : (o : Option Script) (e : Ending) → came.course.script ≡ o → came.ending ≡ e
-          → Comes v (Run options) came.bytes o came.course.opening came.rans e → came.ending ≡ Finished
+      of : (o : Option Script) (e : Ending) → came.course.script ≡ o → came.course.ending ≡ e
+          → Comes v (Run options) came.course.bytes o came.course.opening came.course.rans e
+          → came.course.ending ≡ Finished
       of None Finished is same comes = absurd comes
       of None (NoScript fault) is same comes = absurd (comes.0 script text)
       of None (Shape declared kept) is same comes = absurd comes
@@ -190,14 +228,16 @@ module _ {D : Type 0} (v : Vaults D) (options : RunOptions) (had left : Option B
       of (Some read) e is same comes = same ∙ run_done read e is same comes
 
   -- Then each round is done.
-  pub each_is_done : (came : Came v (Run options) had left Shows) → came.ending ≡ Finished
-      → AllByRecursion IsDone came.rans
-  each_is_done came is = of came.course.script came.course.run
-      (subst (λ (e : Ending). Comes v (Run options) came.bytes came.course.script came.course.opening came.rans e) is
-      came.course.comes)
+  pub each_is_done : (came : Came v (Run options) had left Shows) → came.course.ending ≡ Finished
+      → AllByRecursion IsDone came.course.rans
+  each_is_done came is = of came.course.script came.serial.clocks
+      (subst (λ (e : Ending). Comes v (Run options) came.course.bytes came.course.script came.course.opening
+      came.course.rans e) is came.comes)
     where
-      of : (script : Option Script) → RunsOf script came.course.opening came.bytes came.rans came.course.state
-          → Comes v (Run options) came.bytes script came.course.opening came.rans Finished → AllByRecursion IsDone came.rans
-      of None run comes = absurd comes
-      of (Some script) run comes = done_of 0 (clock_after came.course.opening.saved) came.rans script.rounds run.1.clocks
-          comes.1.went_on came.caused.in_rounds.caused came.caused.in_rounds.durable
+      of : (script : Option Script)
+          → RunsClocks 0 (clock_after came.course.opening.saved) came.course.rans (rounds_of script)
+          → Comes v (Run options) came.course.bytes script came.course.opening came.course.rans Finished
+          → AllByRecursion IsDone came.course.rans
+      of None clocks comes = absurd comes
+      of (Some script) clocks comes = done_of 0 (clock_after came.course.opening.saved) came.course.rans script.rounds
+          clocks comes.1.went_on came.caused.in_rounds.caused came.caused.in_rounds.durable

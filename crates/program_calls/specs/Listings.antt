@@ -26,7 +26,6 @@ use Rattle.command_line.specs.declared.command.Command.TheVariants.{Dump, Snaps,
 use Rattle.program_calls.specs.declared.ending.Ending.{Ending}
 use Rattle.program_calls.specs.declared.ending.Ending.TheVariants.{Finished, NoDevice, Damaged, NoMemory, NoSnapshot}
 use Rattle.program_calls.specs.Ending.{damaged_text, last_line, no_snapshot_text, status_of}
-use Rattle.program_calls.specs.Main.{SinkHolds}
 use Rattle.program_calls.specs.Snapshots.{HasContent}
 
 -- These commands tell something of the vault.
@@ -125,7 +124,8 @@ abbrev pub ListingComes : {D : Type 0} → Command → (D → Option Bytes) → 
 ListingComes command tells faults was is text Finished = AreQuiet faults was is × TellsListing command tells was text
 ListingComes command tells faults was is text (NoSnapshot epoch) =
     (text ≡ []) × (command ≡ Snap epoch) × AreQuiet faults was is × TellsNone tells was epoch
-ListingComes command tells faults was is text (Damaged device at) = (text ≡ []) × TellsDamage command tells was device at
+ListingComes command tells faults was is text (Damaged device at) =
+    (text ≡ []) × TellsDamage command tells was device at
 ListingComes command tells faults was is text (NoDevice device) =
     (text ≡ []) × RoseIn faults device was is × TellsBefore tells was device
 ListingComes command tells faults was is text NoMemory = text ≡ []
@@ -138,11 +138,6 @@ pub record Listed {D : Type 0} (command : Command) (tells : D → Option Bytes) 
   pub ending : Ending
   pub comes : ListingComes command tells faults was is text ending
   pub shown : Shows text ending
-
--- The status is the ending's, or 4 where the sink failed, and the sink holds the text with the last line.
-pub record ShownText (held holds : Option Bytes) (status : ℕ) (text : Bytes) (ending : Ending) : Type 0 where
-  pub status_is : (status ≡ status_of ending) ⊎ (status ≡ 4)
-  pub printed : SinkHolds status held holds (text ++ last_line ending)
 
 -- ---- where nothing fails
 

@@ -45,7 +45,7 @@ use Rattle.checkpoints.specs.declared.without_entries.Settled.{Settled}
 use Rattle.worker_logs.specs.Saves.{CountsOf}
 use Rattle.worker_logs.specs.declared.savepoints.Side.TheVariants.{Even}
 use Rattle.tx_script.specs.Causes.{last_sequence}
-use Rattle.tx_script.specs.Run.{Ran, IsScriptRun, clock_after, entries_of}
+use Rattle.tx_script.specs.Run.{Ran, IsScriptRun, clock_after, printed_commits}
 use Rattle.tx_script.specs.StateText.{state_text}
 use Rattle.round_engine.specs.Begun.{begun}
 use Rattle.round_engine.specs.Logs.{AreClosedFiles, AreLogs}
@@ -59,10 +59,14 @@ use Rattle.program_calls.specs.declared.ending.Ending.TheVariants.{NoScript, Sha
 use Rattle.program_calls.specs.declared.ending.Ending.TheVariants.{AtLimit, Finished, NoMemory, NoSnapshot}
 use Rattle.program_calls.specs.Beginning.{Opening, SameDecls}
 use Rattle.program_calls.specs.Causes.{Counts, ReadsAlone, RestsAgain}
-use Rattle.program_calls.specs.Ending.{IsNoText, IsReadOut, RunComes, body_text, last_line, output_text, status_of}
+use Rattle.program_calls.specs.Answers.{in_lines}
+use Rattle.program_calls.specs.Ending.{IsNoText, IsReadOut, RunComes, last_line, status_of}
 use Rattle.brief_output.specs.Brief.{run_in_brief}
 use Rattle.program_calls.specs.InBrief.{SumsUp, up_to}
-use Rattle.program_calls.specs.Main.{AreBytes, AreRoundsCaused, ComeFromWords, FilesAreFull, SinkHolds, KeepsRun}
+use Rattle.program_calls.specs.Ending.{AreBytes, SinkHolds}
+use Rattle.program_calls.specs.RoundCauses.{AreRoundsCaused, FilesAreFull}
+use Rattle.program_calls.specs.Main.{ComeFromWords}
+use Rattle.program_calls.specs.RunKept.{KeepsRun}
 use Rattle.program_calls.specs.RanOver.{RunsOverFiles}
 use Rattle.program_calls.specs.Vaults.{Vaults, vaults_of}
 
@@ -108,12 +112,6 @@ IsEarly Usage = ⊤
 IsEarly (NoDevice device) = ⊤
 IsEarly NoMemory = ⊤
 IsEarly _ = ⊥
-
--- This device can't be had, unless memory was wanted.
-abbrev pub IsWithout : Device → Ending → Type 0
-IsWithout device (NoDevice other) = other ≡ device
-IsWithout device NoMemory = ⊤
-IsWithout device _ = ⊥
 
 -- The statuses of the program: those of `top`. Status 5 also comes where a device can't be had.
 abbrev pub IsExit : ℕ → Type 0
@@ -196,17 +194,9 @@ abbrev pub TakesText : Option Bytes → Option Bytes → Result Ending Failed �
 TakesText held holds (Ok came) text ending = (ending ≡ came) × Appends held holds (text ++ last_line ending)
 TakesText held holds (Err failed) text ending = TakesPrefix held holds (text ++ last_line ending)
 
--- The call came to this ending, and what is printed before the last line was added; or the sink failed
--- within the call's text.
+-- The same of the text that tells these rounds line by line.
 abbrev pub AddsRun : Command → Output → Output → Result Ending Failed → List Ran → Ending → Type 0
-AddsRun command old new (Ok came) rans ending = (ending ≡ came) × Adds old new (body_text command rans ending)
-AddsRun command old new (Err failed) rans ending = Breaks old new (output_text command rans ending)
-
--- The call came to this ending, and the sink took all of its text; or the sink failed within that.
-abbrev pub Takes : Command → Option Bytes → Option Bytes → Result Ending Failed → List Ran → Ending → Type 0
-Takes command held holds (Ok came) rans ending =
-    (ending ≡ came) × Appends held holds (output_text command rans ending)
-Takes command held holds (Err failed) rans ending = TakesPrefix held holds (output_text command rans ending)
+AddsRun command old new result = in_lines command (AddsText old new result)
 
 -- ---- the begin of a run
 
@@ -261,7 +251,8 @@ pub record BeginsRun {D : Type 0} (tells : D → Option Bytes) (clock : D → �
   pub sequence : IsStoreDue recovered → sequence_of recovered.save.newest ≡ last_sequence → ⊥
   pub settles : SettlesInto tells clock image_at recovered decls between is settled
   pub snapshots : KeptSnapshots recovered settled
-  pub begins : r ≡ begun settled.decls settled.state r.stands.opening settled.save settled.store snap (clock_after settled.saved.epoch)
+  pub begins : r ≡ begun settled.decls settled.state r.stands.opening settled.save settled.store snap
+      (clock_after settled.saved.epoch)
   pub pages_whole : AllByRecursion IsWholePage settled.store.pages
   pub pages_fit : AllByRecursion (AllByRecursion (λ w. w < 2 ^ 64)) (words_of settled.store.pages)
   pub stands : StandsOn tells clock image_at r is
@@ -296,7 +287,7 @@ pub record RunsRounds {D : Type 0} (v : Vaults D) (snap tries : ℕ) (script : S
   pub comes : RunComes v snap script opening rans ending
   pub caused : AreRoundsCaused tries script.decls script.rounds opening.sequence rans
   pub full : FilesAreFull v script.decls run.ordered opening rans
-  pub history : ComeFromWords script.decls opening.state (entries_of 0 rans script.rounds)
+  pub history : ComeFromWords script.decls opening.state (printed_commits 0 rans script.rounds)
   pub files : RunsOverFiles v snap script.decls opening.state opening.saved run.ordered rans
   pub kept : KeepsRun v script.decls run.ordered opening state rans ending
   pub shown : Shows rans state ending

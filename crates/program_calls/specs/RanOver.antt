@@ -1,6 +1,7 @@
 -- The log files and the pages of snapshots that the rounds of a run were over, one round after another: which files
 -- grow, what counts of the closed ones, and what their gleans come to.
-use Rattle.std.specs.Prelude.{◌≡◌, ◌⊎◌, ◌<◌, ◌≤◌, ℕ, Bool, true, false, not, List, [], ◌∷◌, ◌++◌, flat_map, filter, length, map}
+use Rattle.std.specs.Prelude.{◌≡◌, ◌⊎◌, ◌<◌, ◌≤◌, ℕ, Bool, true, false, not, List, [], ◌∷◌, ◌++◌, flat_map, filter}
+use Rattle.std.specs.Prelude.{length, map}
 use Rattle.std.specs.Prelude.{if◌then◌else◌, IsSome, Option, Some, None, replicate, slice_get, ⊤}
 use Rattle.lists.specs.Fronts.{IsFront}
 use Rattle.std.specs.List.{AllByRecursion, Contains}
@@ -52,13 +53,13 @@ files_before saved words = record {
 
 -- what counts of the closed log files behind a round's lines: nothing does behind a snapshot of it
 abbrev pub counted_behind : Ran → List ℕ
-counted_behind ran = if (keeper_at_end ran).counted then ran.files.counted else replicate 8 0
+counted_behind ran = if (keeper_at_end ran).counted then ran.beside.files.counted else replicate 8 0
 
 -- Behind a round that added pages. Where its join swapped the log files, those that grew are closed, and so many bytes
 -- of them count.
 abbrev pub files_after : FilesAt → Ran → List (List ℕ) → List ℕ → FilesAt
 files_after f ran made counted = record {
-  files = if swaps ran then record { odd = not f.files.odd; counted = counted; closed_at = ran.end.epoch }
+  files = if swaps ran then record { odd = not f.files.odd; counted = counted; closed_at = ran.printed.end.epoch }
       else record { odd = f.files.odd; counted = counted_behind ran; closed_at = f.files.closed_at };
   since = if swaps ran then f.files.closed_at else f.since;
   words = f.words ++ made;
@@ -66,9 +67,9 @@ files_after f ran made counted = record {
 
 -- A round begins on these log files and pages, with so many pages let in.
 pub record BeginsOver (room : ℕ) (f : FilesAt) (ran : Ran) : Type 0 where
-  pub files : ran.files ≡ f.files
-  pub pages : ran.pages ≡ length f.words
-  pub room_is : ran.room ≡ room
+  pub files : ran.beside.files ≡ f.files
+  pub pages : ran.beside.pages ≡ length f.words
+  pub room_is : ran.beside.room ≡ room
 
 -- ---- what the workers logged
 
@@ -113,11 +114,11 @@ AreOf f logged of made =
 
 -- A round made so many pages of a snapshot.
 abbrev pub MakesPages : Ran → ℕ → Type 0
-MakesPages ran new = (epoch : ℕ) × Contains ran.answers (answers.Snap epoch new)
+MakesPages ran new = (epoch : ℕ) × Contains ran.printed.answers (answers.Snap epoch new)
 
 -- What gleans found is what the closed log files come to, and the pages that were added are those of the snapshot.
 pub record GleansOf (f : FilesAt) (ran : Ran) (made : List (List ℕ)) (logged : ℕ → List Commit) : Type 0 where
-  pub found : (what : Option ℕ) → Contains ran.gleans what
+  pub found : (what : Option ℕ) → Contains ran.beside.gleans what
       → (of : MayGlean f logged) × NextComesTo f logged of what
   pub added : (new : ℕ) → MakesPages ran new → (of : MayGlean f logged) × AreOf f logged of made
 
@@ -135,7 +136,7 @@ module _ {D : Type 0} (v : Vaults D) (decls : List Decl) (s : State) (commits : 
     pub logged : ℕ → List Commit
     pub is_logged : AllLogged decls s commits logged
     pub gleans : GleansOf f ran made logged
-    pub closes : swaps ran ≡ true → AreLengthsOf logged f.files.closed_at ran.end.epoch counted
+    pub closes : swaps ran ≡ true → AreLengthsOf logged f.files.closed_at ran.printed.end.epoch counted
 
   -- What a round leaves, where the devices tell their bytes by what was logged.
   pub record LeavesFiles (f : FilesAt) (ran : Ran) (made : List (List ℕ)) (counted : List ℕ) : Type 0 where
@@ -167,15 +168,15 @@ BeginsWith decls words found = (reading : Reading) × IsReading found reading ×
 
 -- the last of these rounds was made durable
 abbrev pub EndsDurable : List Ran → Type 0
-EndsDurable rans = (before : List Ran) × (last : Ran) × (rans ≡ before ++ last ∷ []) × IsSome last.durable
+EndsDurable rans = (before : List Ran) × (last : Ran) × (rans ≡ before ++ last ∷ []) × IsSome last.printed.durable
 
 -- Of these pages, over which rounds were run, devices have the first ones: all, where the last round was made durable,
 -- and else at least those that it began on.
 pub record HasSaved (words : List (List ℕ)) (rans : List Ran) (now : Reading) : Type 0 where
   pub first : IsFront now.pages words
   pub all : EndsDurable rans → now.pages ≡ words
-  pub least : (before : List Ran) (last : Ran) → rans ≡ before ++ last ∷ [] → last.durable ≡ None
-      → last.pages ≤ length now.pages
+  pub least : (before : List Ran) (last : Ran) → rans ≡ before ++ last ∷ [] → last.printed.durable ≡ None
+      → last.beside.pages ≤ length now.pages
 
 -- so it is of what the devices say as the call returns
 abbrev pub KeepsPages : {D : Type 0} → Vaults D → List (List ℕ) → List Ran → Type 0

@@ -1,10 +1,8 @@
--- What follows from the main theorem of stops, sentence by sentence: over a vault on which nothing is pending each stop
--- since a run began leaves that run through an epoch, from the kept one on, and each snapshot is the run through its own;
--- from the end of its store on each epoch that was told durable, or saved by a line, is covered, with all its commits;
--- and what the run itself leaves, where no device failed, the next run may begin on.
+-- What follows from the main theorem of stops, over a vault on which nothing that counts was pending. From the end of
+-- its store on each epoch whose line was printed is covered, with all its commits. Each snapshot is right as the call
+-- returns. And what the run itself leaves, where no device failed, the next run may begin on.
 use Rattle.std.specs.Prelude.{◌≡◌, ◌⊎◌, ◌≤◌, ◌<◌, ◌++◌, ◌∷◌, ℕ, List, [], Option, Some, None, filter, flat_map}
 use Rattle.std.specs.Prelude.{nat_le, option_to_list, slice_get}
-use Rattle.std.specs.FinMap.{get}
 use Rattle.std.specs.List.{Contains}
 use Rattle.std.proofs.Common.{zero, suc, inl, inr, ap, subst, sym, arith}
 use Rattle.std.proofs.lemmas.Bool.{cases_lt}
@@ -19,13 +17,11 @@ use Rattle.log_writer.specs.declared.vault.Vault.{Vault}
 use Rattle.serial_model.specs.History.{Entry, as_of}
 use Rattle.serial_model.specs.State.{State}
 use Rattle.serial_model.specs.declared.decl.Decl.{Decl}
-use Rattle.serial_model.specs.declared.key.Key.{Key}
 use Rattle.script_grammar.specs.Script.{Bytes}
 use Rattle.joint_crashes.specs.Images.{Images}
 use Rattle.checkpoints.specs.RestsLaws.{settled_rests}
 use Rattle.joint_crashes.specs.JointCrash.{AreImages, IsJointCrash, IsNow, IsSince, Moments, Parts, parts_of}
 use Rattle.recovery_core.specs.Recoverable.{IsReading, IsRecoverable, Reading}
-use Rattle.recovery_core.specs.RecoverableLaws.{one_recoverable}
 use Rattle.joint_crashes.specs.Resting.{AreSettled, AreTold, IsResting, StopsNow}
 use Rattle.tx_script.specs.Run.{Ran}
 use Rattle.tx_script.specs.declared.answer.Answer.{Answer}
@@ -34,25 +30,11 @@ use Rattle.round_engine.specs.Saves.{saves_told}
 use Rattle.command_line.specs.declared.command.Command.{Command}
 use Rattle.program_calls.specs.declared.ending.Ending.{Ending}
 use Rattle.program_calls.specs.Causes.{RestsAgain}
-use Rattle.program_calls.specs.Main.{Came, StandsAtStops, ordered_in, decls_in, saved_in}
+use Rattle.program_calls.specs.Main.{Came, decls_in}
+use Rattle.program_calls.specs.RoundCauses.{saved_in}
+use Rattle.program_calls.specs.RunKept.{AtRest, IsRunThrough, MayLeave}
 use Rattle.program_calls.specs.Snapshots.{EachSnapshot}
 use Rattle.program_calls.specs.Vaults.{NoneFailed, Vaults}
-
--- ---- what is said of one stop
-
--- The images stand for this epoch, and for the state as of it after these commits; and for nothing else.
-pub record IsRunThrough (left : Images) (decls : List Decl) (state : State) (commits : List Entry) (epoch : ℕ)
-    : Type 0 where
-  pub is : IsRecoverable left epoch (as_of decls state commits epoch)
-  pub alone : (other : ℕ) (s : State) → IsRecoverable left other s
-      → (other ≡ epoch) × ((key : Key) → get s key ≡ get (as_of decls state commits epoch) key)
-
-run_through : (left : Images) (decls : List Decl) (state : State) (commits : List Entry) (epoch : ℕ)
-    → IsRecoverable left epoch (as_of decls state commits epoch) → IsRunThrough left decls state commits epoch
-run_through left decls state commits epoch is = record {
-  is = is;
-  alone = λ other s that. one_recoverable left other epoch s (as_of decls state commits epoch) that is;
-}
 
 -- ---- the lines that tell an epoch saved
 
@@ -60,7 +42,7 @@ run_through left decls state commits epoch is = record {
 pub record TellsSaved (rans : List Ran) (epoch : ℕ) : Type 0 where
   pub ran : Ran
   pub has : Contains rans ran
-  pub tells : (ran.durable ≡ Some epoch) ⊎ Contains ran.answers (answers.Save epoch)
+  pub tells : (ran.printed.durable ≡ Some epoch) ⊎ Contains ran.printed.answers (answers.Save epoch)
 
 -- an item of a list stands somewhere in it
 place_of : {X : Type 0} (xs : List X) (x : X) → Contains xs x → (i : ℕ) × (slice_get xs i ≡ Some x)
@@ -143,12 +125,15 @@ joined_in None epoch is = absurd cc
 joined_in (Some other) epoch is =
     let same : other ≡ epoch = cc in subst (λ e. Contains (other ∷ []) e) same (in_head other [])
 
-saved_by : (ran : Ran) (epoch : ℕ) → (ran.durable ≡ Some epoch) ⊎ Contains ran.answers (answers.Save epoch)
+saved_by : (ran : Ran) (epoch : ℕ)
+    → (ran.printed.durable ≡ Some epoch) ⊎ Contains ran.printed.answers (answers.Save epoch)
     → Contains (saved_in ran) epoch
 saved_by ran epoch (inl joined) =
-    behind (saves_told ran.answers) (option_to_list ran.durable) epoch (joined_in ran.durable epoch joined)
+    behind (saves_told ran.printed.answers) (option_to_list ran.printed.durable) epoch
+    (joined_in ran.printed.durable epoch joined)
 saved_by ran epoch (inr line) =
-    in_front (saves_told ran.answers) (option_to_list ran.durable) epoch (is_told ran.answers epoch line)
+    in_front (saves_told ran.printed.answers) (option_to_list ran.printed.durable) epoch
+    (is_told ran.printed.answers epoch line)
 
 saved_of_all : (rans : List Ran) (ran : Ran) (epoch : ℕ) → Contains rans ran → Contains (saved_in ran) epoch
     → Contains (flat_map saved_in rans) epoch
@@ -175,24 +160,17 @@ commit_kept commits commit epoch later has up_to then =
 
 -- ---- a run over a vault on which nothing that counts is pending
 
--- As a run begins, nothing that counts is pending on its vault, which stands for this epoch and this state; and these are
--- the moments of its begin.
-pub record BeginsResting {D : Type 0} (v : Vaults D) (found : Images) (from : Moments) (epoch : ℕ) (state : State)
-    : Type 0 where
-  pub told : AreTold v.tells (parts_of v.was) found
-  pub rests : IsResting v.clock v.image_at (parts_of v.was)
-  pub kept : IsRecoverable found epoch state
-  pub now : IsNow v.clock v.image_at (parts_of v.was) from
-
 -- a whole vault has the log files below 16 alone
-within : {D : Type 0} {vault : Vault D} → IsWhole vault → (n : ℕ) (bank : D) → disk_in vault (Bank n) ≡ Some bank → n < 16
+within : {D : Type 0} {vault : Vault D} → IsWhole vault → (n : ℕ) (bank : D) → disk_in vault (Bank n) ≡ Some bank
+    → n < 16
 within whole n bank there = elim (cases_lt n 16) [
   | inl below ↦ below
   | inr past ↦ absurd (cc (there, whole_ends whole n past))
 ]
 
 -- What devices tell is what a stop now may leave of them.
-images_told : {D : Type 0} {tells : D → Option Bytes} {clock : D → ℕ} {image_at : D → ℕ → Bytes → Type 0} {parts : Parts D}
+images_told : {D : Type 0} {tells : D → Option Bytes} {clock : D → ℕ} {image_at : D → ℕ → Bytes → Type 0}
+    {parts : Parts D}
     → ((disk : D) (file : Bytes) → tells disk ≡ Some file → image_at disk (clock disk) file) → (at : Moments)
     (left : Images) → IsNow clock image_at parts at → AreTold tells parts left → AreImages clock image_at parts at left
 images_told {image_at = image_at} {parts = parts} reads at left here told = record {
@@ -205,11 +183,15 @@ images_told {image_at = image_at} {parts = parts} reads at left here told = reco
       (reads bank (left.bank n) (told.bank n bank there));
 }
 
--- So it is where nothing is pending: each device has one image.
+-- Nothing that counts is pending where each device has one image.
 pub settled_begins : {D : Type 0} (v : Vaults D) (found : Images) (from : Moments) (epoch : ℕ) (state : State)
     → IsWhole v.was → AreSettled v.tells v.clock v.image_at (parts_of v.was) found → IsRecoverable found epoch state
-    → IsNow v.clock v.image_at (parts_of v.was) from → BeginsResting v found from epoch state
+    → IsNow v.clock v.image_at (parts_of v.was) from → AtRest v
 settled_begins v found from epoch state whole settled kept now = record {
+  found = found;
+  from = from;
+  epoch = epoch;
+  state = state;
   told = settled.told;
   rests = settled_rests (within whole) settled kept;
   kept = kept;
@@ -217,73 +199,47 @@ settled_begins v found from epoch state whole settled kept now = record {
 }
 
 module _ {D : Type 0} (v : Vaults D) (command : Command) (had left : Option Bytes) (Shows : List Ran → Ending → Type 0)
-    (came : Came v command had left Shows) (found : Images) (from : Moments) (epoch : ℕ) (state : State)
-    (begins : BeginsResting v found from epoch state) where
-  -- the commits of the run, and the storages that it declares
-  abbrev commits : List Entry
-  commits = ordered_in came.course.script came.course.opening came.bytes came.rans came.course.state came.course.run
-
+    (came : Came v command had left Shows) (rested : AtRest v) where
+  -- the storages that the run declares
   abbrev decls : List Decl
   decls = decls_in came.course.script
 
-  stops : StandsAtStops v decls commits came.course.opening.sequence came.rans from begins.kept.reading epoch state
-  stops = came.kept.stops found from epoch state begins.told begins.kept begins.rests begins.now
-
-  -- What each stop of moments since the begin leaves is the run through an epoch, which is at least the one that was
-  -- kept as it began.
-  pub each_stop : (at : Moments) (images : Images) → IsSince from at
-      → IsJointCrash v.clock v.image_at (parts_of v.is) at images
-      → (later : ℕ) × (epoch ≤ later) × IsRunThrough images decls state commits later
-  each_stop at images since crash =
-      let it = stops.leaves at images since crash in
-      (it.0, it.1, run_through images decls state commits it.0 it.2)
-
-  -- Each snapshot that it leaves is the run through its own epoch, where that is above the kept one; of the kept one it
-  -- is the state that was kept, and an older one is as it was.
-  pub each_snapshot : (at : Moments) (images : Images) (now : Reading) → IsSince from at
-      → IsJointCrash v.clock v.image_at (parts_of v.is) at images → IsReading images now
-      → EachSnapshot begins.kept.reading now epoch state decls commits
-  each_snapshot at images now since crash is = stops.snapshots at images now since crash is
-
   -- Of each epoch that a line tells durable, or saved, the store has ended; from that moment of the save on each stop
   -- leaves the run through that epoch or a later one, with all commits up to it.
-  pub each_cover : (saved : ℕ) → TellsSaved came.rans saved
+  pub each_cover : (saved : ℕ) → TellsSaved came.course.rans saved
       → (tie : Tie) × (end : ℕ) × Contains v.is.ties.items tie × (tie.ended ≡ Some end)
-      × ((at : Moments) (images : Images) → IsSince from at → IsJointCrash v.clock v.image_at (parts_of v.is) at images
-      → end ≤ at.save → (later : ℕ) × (saved ≤ later) × IsRunThrough images decls state commits later
-      × ((commit : Entry) → Contains commits commit → commit.number.epoch ≤ saved
-      → Contains (filter (λ (e : Entry). nat_le e.number.epoch later) commits) commit))
+      × ((at : Moments) (images : Images) → MayLeave v rested.from at images
+      → end ≤ at.save → (later : ℕ) × (saved ≤ later) × IsRunThrough images decls rested.state came.course.commits later
+      × ((commit : Entry) → Contains came.course.commits commit → commit.number.epoch ≤ saved
+      → Contains (filter (λ (e : Entry). nat_le e.number.epoch later) came.course.commits) commit))
   each_cover saved told =
-      let place = told_saved came.rans saved told in
-      let covered = stops.covers place.0 saved place.1 in (
+      let place = told_saved came.course.rans saved told in
+      let covered = came.covers.covers rested place.0 saved place.1 in (
         covered.tie,
         covered.end,
         covered.has,
         covered.ended,
-        λ at images since crash past.
-            let it = stops.leaves at images since crash in
-            let least = covered.covers at images it.0 (as_of decls state commits it.0) since crash past it.2 in (
+        λ at images may past.
+            let it = came.stops rested at images may in
+            let least = covered.covers at images it.0 (as_of decls rested.state came.course.commits it.0) may.since
+            may.crash past it.2.is in (
               it.0,
               least,
-              run_through images decls state commits it.0 it.2,
-              λ commit has up_to. commit_kept commits commit saved it.0 has up_to least,
+              it.2,
+              λ commit has up_to. commit_kept came.course.commits commit saved it.0 has up_to least,
             ),
       )
 
-  -- A stop as the call returns is one of these, where rounds were run, and else where a stop was one as it began.
-  pub return_stops : StopsNow v.clock v.image_at (parts_of v.was) ⊎ (came.rans ≡ [] → ⊥)
-      → StopsNow v.clock v.image_at (parts_of v.is)
-  return_stops before = stops.instant before
-
-  -- So each snapshot that devices tell as the call returns is as it has to be, also where some of them failed.
-  pub return_snapshots : StopsNow v.clock v.image_at (parts_of v.was) ⊎ (came.rans ≡ [] → ⊥)
+  -- So each snapshot that devices tell as the call returns is as it has to be, also where some of them failed: a stop
+  -- then is one of those since the call began.
+  pub return_snapshots : StopsNow v.clock v.image_at (parts_of v.was) ⊎ (came.course.rans ≡ [] → ⊥)
       → ((disk : D) (file : Bytes) → v.tells disk ≡ Some file → v.image_at disk (v.clock disk) file)
-      → (at : Moments) → IsSince from at → IsNow v.clock v.image_at (parts_of v.is) at
+      → (at : Moments) → IsSince rested.from at → IsNow v.clock v.image_at (parts_of v.is) at
       → (left : Images) (now : Reading) → AreTold v.tells (parts_of v.is) left → IsReading left now
-      → EachSnapshot begins.kept.reading now epoch state decls commits
+      → EachSnapshot rested.kept.reading now rested.epoch rested.state decls came.course.commits
   return_snapshots before reads at since here left now told is =
-      let crash = (stops.instant before).crashes at left here (images_told reads at left here told) in
-      stops.snapshots at left now since crash is
+      let crash = (came.behind.instant rested before).crashes at left here (images_told reads at left here told) in
+      came.snapshots.stopped rested at left now (record { since = since; crash = crash }) is
 
   -- The next run may begin where neither a device nor the sink failed, and the devices tell their bytes: nothing that
   -- counts is pending.
@@ -292,10 +248,10 @@ module _ {D : Type 0} (v : Vaults D) (command : Command) (had left : Option Byte
       → ((disk : D) (file : Bytes) → v.tells disk ≡ Some file → v.image_at disk (v.clock disk) file)
       → (file : Bytes) → v.tells v.is.save ≡ Some file → IsResting v.clock v.image_at (parts_of v.is)
   next_begins status again not_4 not_5 none reads file told =
-      stops.rests none file (reads v.is.save file told) (again.again not_4 not_5 one file told)
+      came.behind.rests rested none file (reads v.is.save file told) (again.again not_4 not_5 one file told)
     where
       one : IfTold (v.tells v.was.save) (Only v.clock v.image_at v.was.save)
       one bytes is =
-          let here : begins.rests.file ≡ bytes =
-          sym (begins.rests.save bytes (reads v.was.save bytes is)) in
-          subst (Only v.clock v.image_at v.was.save) here begins.rests.save
+          let here : rested.rests.file ≡ bytes =
+          sym (rested.rests.save bytes (reads v.was.save bytes is)) in
+          subst (Only v.clock v.image_at v.was.save) here rested.rests.save

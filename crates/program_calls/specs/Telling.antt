@@ -14,8 +14,8 @@ use Rattle.program_calls.specs.Ending.{last_line}
 
 -- this came of the round
 pub record IsOf (report : Report) (ran : Ran) : Type 0 where
-  pub outcomes : ran.outcomes ≡ report.outcomes
-  pub durable : ran.durable ≡ report.durable
+  pub outcomes : ran.printed.outcomes ≡ report.outcomes
+  pub durable : ran.printed.durable ≡ report.durable
 
 -- a tally of rounds has this one more
 abbrev pub CountsRound : Tally → Tally → Report → Type 0

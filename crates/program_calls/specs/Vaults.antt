@@ -8,8 +8,8 @@ use Rattle.joint_crashes.specs.Resting.{AreTold}
 use Rattle.joint_crashes.specs.VaultReads.{RoseIn}
 use Rattle.script_grammar.specs.Script.{Bytes}
 
--- What a device tells of its bytes, of its clock and its crash images at each moment, and its count of faults; the vault
--- as the call began, and as it returned.
+-- What a device tells of its bytes, of its clock and its crash images at each moment, and its count of faults; the
+-- vault as the call began, and as it returned.
 pub record Vaults (D : Type 0) : Type 1 where
   pub tells : D → Option Bytes
   pub clock : D → ℕ

@@ -1,7 +1,8 @@
 // How a call ends.
 ghost use Rattle.std.specs.Prelude.{◌≡◌, [], IfOk, OnOk};
 ghost use Rattle.text_output.specs.Output.{Prints};
-ghost use Rattle.program_calls.specs.Devices.{device_name, device_text};
+ghost use Rattle.program_calls.specs.Devices.{device_text};
+ghost use Rattle.database_files.specs.Names.{device_name};
 ghost use Rattle.program_calls.specs.Ending.{damaged_text, fault_text, kind_text, last_line, limit_text};
 ghost use Rattle.program_calls.specs.Ending.{no_snapshot_text, status_of};
 ghost use Rattle.program_calls.specs.OnTheWay.{ending_of, status_told};

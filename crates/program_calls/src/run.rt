@@ -9,17 +9,12 @@ ghost use Rattle.brief_output.specs.Brief.{tally_of};
 ghost use Rattle.outside.specs.Disk.{IfTold, Only};
 ghost use Rattle.log_writer.specs.Vault.{IsWhole};
 ghost use Rattle.joint_crashes.specs.VaultReads.{VaultOnlyReads};
-ghost use Rattle.program_calls.specs.Causes.{AnswersDevices, AnswersFaults, IsInFull, IsRunStatus, IsStatus};
-ghost use Rattle.program_calls.specs.Causes.{IsReadStatus, LeavesVault, ReadsDamage, ReadsNoSource, ReadsOnly};
-ghost use Rattle.program_calls.specs.Causes.{RestsAgain};
-ghost use Rattle.program_calls.specs.Ending.{TakesAtMost};
-ghost use Rattle.program_calls.specs.Listings.{IsListing, Listed};
-ghost use Rattle.program_calls.specs.Made.{Makes};
-ghost use Rattle.program_calls.specs.Main.{Came};
+ghost use Rattle.program_calls.specs.Answers.{Answers, sources_of};
+ghost use Rattle.program_calls.specs.Causes.{AnswersDevices, AnswersFaults, IsReadStatus, IsRunStatus, ReadsDamage};
+ghost use Rattle.program_calls.specs.Causes.{ReadsOnly, RestsAgain};
 ghost use Rattle.program_calls.specs.OnTheWay.{AddsRun, AddsText, BeginsRun, RunsInBrief, RunsRounds, RunsScript};
 ghost use Rattle.program_calls.specs.OnTheWay.{status_told};
 ghost use Rattle.program_calls.specs.Rounds.{CanCount, RunsRound, RunsToEnd};
-ghost use Rattle.program_calls.specs.InBrief.{CameInBrief};
 ghost use Rattle.program_calls.specs.Telling.{TellsRun};
 ghost use Rattle.program_calls.specs.Vaults.{vaults_of};
 
@@ -64,31 +59,12 @@ pub(crate) fn run<
     requires whole { IsWhole vault.old }
     requires one { (options : RunOptions) → command ≡ Command.Run options
         → IfTold (D.tells vault.old.save) (Only D.clock D.image_at vault.old.save) }
-    ensures came { IsInFull command
-        → Came (vaults_of D.tells D.clock D.image_at D.faults vault.old vault.new) command (S.left source.old)
-        (S.left source.new)
-        (AddsRun command printer.old printer.new result) }
-    ensures brief { (options : RunOptions) → command ≡ Command.Run options → options.brief ≡ true
-        → CameInBrief (vaults_of D.tells D.clock D.image_at D.faults vault.old vault.new) options
-        (S.left source.old) (S.left source.new) (AddsText printer.old printer.new result) }
-    ensures listed { IsListing command → Listed command D.tells D.faults vault.old vault.new
+    ensures answers { Answers (vaults_of D.tells D.clock D.image_at D.faults vault.old vault.new) command
+        (sources_of S.left S.faults source.old source.new)
+        (record { before = printer.old.faults; after = printer.new.faults }) (status_told result)
         (AddsText printer.old printer.new result) }
-    ensures made { (arguments : MakeArguments) → command ≡ Command.Make arguments
-        → Makes arguments (AddsText printer.old printer.new result) }
     ensures usage { result ≡ Ok Ending.Usage → command ≡ Command.Refused }
     ensures refused { command ≡ Command.Refused → result ≡ Ok Ending.Usage }
-    ensures spared { ReadsNoSource command → source.new ≡ source.old }
-    ensures faults { AnswersFaults
-        (record { before = S.faults source.old; after = S.faults source.new })
-        (record { before = printer.old.faults; after = printer.new.faults }) (status_told result) }
-    ensures taken { TakesAtMost (S.left source.old) (S.left source.new) }
-    ensures untouched { LeavesVault command → vault.new ≡ vault.old }
-    ensures reads { ReadsOnly command (status_told result)
-        → VaultOnlyReads D.tells D.clock D.image_at D.faults vault.old vault.new }
-    ensures damage { ReadsDamage D.tells D.clock D.image_at D.faults (status_told result) vault.old vault.new }
-    ensures devices { AnswersDevices D.faults vault.old vault.new (status_told result) }
-    ensures rests { RestsAgain D.tells D.clock D.image_at (status_told result) vault.old vault.new }
-    ensures statuses { IsStatus command (status_told result) }
     ensures same { printer.new.sink ≡ printer.old.sink }
 {
     match command {

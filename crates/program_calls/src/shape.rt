@@ -12,7 +12,7 @@ use crate::ending::Ending;
 use lists::{Memory, Sequence};
 use outside::{Failed, Sink};
 use recovery_core::Recovered;
-use serial_model::Decl;
+use serial_model::{Decl, id_of};
 use std::alloc::Global;
 use text_output::Printer;
 
@@ -70,14 +70,6 @@ fn has(decls: &[Decl], wanted: Decl) -> bool
     ensures { IsTrue result ↔ Contains decls.now wanted }
 {
     decls.contains(&wanted)
-}
-
-fn id_of(decl: &Decl) -> u8
-    ensures { result ≡ id_of decl.now }
-{
-    match *decl {
-        Decl::Array { id, .. } | Decl::Tree { id } => id,
-    }
 }
 
 // The storages in order of their ids.

@@ -5,16 +5,14 @@ ghost use Rattle.log_writer.specs.Vault.{IsWhole};
 ghost use Rattle.command_line.specs.Options.{command_of};
 ghost use Rattle.program_calls.specs.Causes.{AnswersFaults, LeavesVault};
 ghost use Rattle.program_calls.specs.OnTheWay.{Explains, IsEarly, IsExit, TellsEnding};
+ghost use Rattle.program_entry.specs.Endings.{ending_unopened};
 
-use crate::explanations::{USAGE, explanation};
-use crate::files::{no_vault, open_vault};
-use crate::notes::{
-    Asked, tell_causes, tell_faulty_line, tell_no_text, tell_not_opened, tell_opened, tell_refused,
+use call_notes::{
+    Asked, Remembers, USAGE, explanation, tell_causes, tell_faulty_line, tell_no_text,
+    tell_not_opened, tell_opened, tell_refused,
 };
-use crate::opening::Access;
-use crate::script_source::Remembers;
-use crate::streams::fill_places;
 use command_line::{Command, read_words};
+use database_files::{Access, NotOpened, fill_places, no_vault, open_vault};
 use lists::Memory;
 use log_writer::Vault;
 use outside::{FileDisk, Sink, Source};
@@ -204,8 +202,19 @@ where
         }
         Err(error) => {
             tell_not_opened(rt.alloc(), notes, asked.folder, &error);
-            tell(sink, error.ending)
+            tell(sink, ending_of(&error))
         }
+    }
+}
+
+// How a call ends whose database can't be opened.
+fn ending_of(error: &NotOpened) -> Ending
+    ensures early { IsEarly result }
+    ensures is { result ≡ ending_unopened error.now }
+{
+    match error {
+        NotOpened::Without(device, _) => Ending::NoDevice(*device),
+        NotOpened::NoMemory => Ending::NoMemory,
     }
 }
 

@@ -1,12 +1,10 @@
 // Runs that are told in brief.
-ghost use Rattle.outside.specs.Disk.{IfTold, Only};
-
-use super::failing_devices::failing_vault;
 use super::stops::fused_vault;
 use super::*;
 
-// Calls one after another over one vault, as rows of `CASES`.
-const CALLS: &str = "\
+// Calls one after another over one vault, as rows of `CASES`. Nothing is told but the last line where no round was run,
+// and what is kept is all that was kept before too.
+pub(super) const CALLS: &str = "\
 run # array 1 4|0 w 1 2 7| # 0 # 0.0 ok 1:1|durable 1|
 run --brief # array 1 5| # 1 # shape declared 1:5 kept 1:4|
 run --brief # array 1 4|0 r 1 2| # 0 # commits 1|total 7|durable 2|
@@ -14,61 +12,21 @@ run --brief --snap 1 # array 1 4| # 7 # limit snap|
 dump # # 0 # epoch 2|1 2 7|
 ";
 
-// Nothing is told but the last line where no round was run, and what is kept is all that was kept before too.
-#[test]
-fn in_brief_over_what_is_kept(rt: HostRuntime) -> Result<(), Fail> {
-    check_fresh(&rt, CALLS)
-}
-
 // One line, on threads and, where a tree is declared, on the plain map.
-const SHARED: &[u8] = b"array 1 4\n0 w 1 2 7\n";
+pub(super) const SHARED: &[u8] = b"array 1 4\n0 w 1 2 7\n";
 
-const PLAIN: &[u8] = b"array 1 4\ntree 2\n0 w 1 2 7\n";
+pub(super) const PLAIN: &[u8] = b"array 1 4\ntree 2\n0 w 1 2 7\n";
 
-// The device and the number of its call that fails, the status and the text. The run makes 15 calls of the save and
-// three of bank 0. Where it finishes its sum is known, and none is called behind it; else what is kept is read.
-const FAILING: &str = "\
-save # 0 # 5 # device save|
-save # 9 # 5 # commits 1|total 0|device save|
-save # 15 # 0 # commits 1|total 7|durable 1|
-bank0 # 1 # 5 # commits 1|total 0|device bank0|
-bank0 # 3 # 0 # commits 1|total 7|durable 1|
+// The device, and the first and the last of its calls at whose failure the run ends so: its status and its text. The run
+// makes 15 calls of the save and three of bank 0. Where it finishes its sum is known, and none is called behind it; else
+// what is kept is read.
+pub(super) const FAILING: &str = "\
+save # 0 # 0 # 5 # device save|
+save # 9 # 9 # 5 # commits 1|total 0|device save|
+save # 15 # 15 # 0 # commits 1|total 7|durable 1|
+bank0 # 1 # 1 # 5 # commits 1|total 0|device bank0|
+bank0 # 3 # 3 # 0 # commits 1|total 7|durable 1|
 ";
-
-// Makes the run of a row over a vault.
-fn check_run<R: Threads + Wait + Sync + AllocGlobal + Abort, D: Disk + Send + Drop>(
-    rt: &R,
-    vault: &mut Vault<D>,
-    script: &[u8],
-    row: &str,
-) -> Result<(), Fail>
-    requires { IfTold (D.tells vault.old.save) (Only D.clock D.image_at vault.old.save) }
-{
-    let [_, _, status, text] = parts(row);
-    let (got, told) = answer(rt, vault, "run --brief", script)?;
-    check_told(rt, row, (got, &told), (status, text))
-}
-
-fn check_failing<R: Threads + Wait + Sync + AllocGlobal + Abort>(
-    rt: &R,
-    fresh: &Vault<MemDisk>,
-    script: &[u8],
-    row: &str,
-) -> Result<(), Fail> {
-    let [device, call, _, _] = parts(row);
-    let mut vault = failing_vault(rt.alloc(), fresh, device, call.parse::<u64>()?)?;
-    check_run(rt, &mut vault, script, row)
-}
-
-#[test]
-fn a_device_fails_in_brief(rt: HostRuntime) -> Result<(), Fail> {
-    let fresh = fresh_vault(rt.alloc())?;
-    for row in FAILING.lines() {
-        check_failing(&rt, &fresh, SHARED, row)?;
-        check_failing(&rt, &fresh, PLAIN, row)?;
-    }
-    Ok(())
-}
 
 // The same of a device of which each later call fails too: what is kept can't be read behind a run that it ended, and
 // isn't told.
@@ -79,15 +37,16 @@ bank0 # 1 # 5 # commits 1|device bank0|
 bank0 # 3 # 0 # commits 1|total 7|durable 1|
 ";
 
-fn check_broken<R: Threads + Wait + Sync + AllocGlobal + Abort>(
+fn check_broken<R: Threads + Wait + Sync + AllocGlobal>(
     rt: &R,
     fresh: &Vault<MemDisk>,
     script: &[u8],
     row: &str,
 ) -> Result<(), Fail> {
-    let [device, passes, _, _] = parts(row);
+    let [device, passes, status, text] = parts(row);
     let mut vault = fused_vault(rt.alloc(), fresh, device, passes.parse::<u64>()?)?;
-    check_run(rt, &mut vault, script, row)
+    let (got, told) = answer(rt, &mut vault, "run --brief", script)?;
+    check_told(rt, row, (got, &told), (status, text))
 }
 
 #[test]
@@ -100,20 +59,13 @@ fn a_device_stays_broken_in_brief(rt: HostRuntime) -> Result<(), Fail> {
     Ok(())
 }
 
-// A damaged vault has the last line alone.
-#[test]
-fn damage_in_brief(rt: HostRuntime) -> Result<(), Fail> {
-    let mut vault = vault_of(rt.alloc(), &[0; 3], &[], &[], &[])?;
-    check_run(&rt, &mut vault, SHARED, "# # 6 # damaged save 0|")
-}
-
 // Makes a long script, and runs it.
-fn make_and_run<R: Threads + Wait + Sync + AllocGlobal + Abort>(
+fn make_and_run<R: Threads + Wait + Sync + AllocGlobal>(
     rt: &R,
     vault: &mut Vault<MemDisk>,
 ) -> Result<(), Fail> {
     let (made, script) = answer_anew(rt, vault, "make 7 8 65536", b"")?;
-    assert!(rt; made == 0);
+    is_so("a script that is made", made == 0)?;
     let text = b"commits 65536\ntotal 131072\ndurable 1\n";
     check_answer(rt, vault, "run --brief", &script, (0, text.as_slice()))
 }
@@ -126,7 +78,7 @@ fn a_long_script_in_brief(rt: HostRuntime) -> Result<(), Fail> {
 }
 
 // The session of the README.
-const SESSION: &str = "\
+pub(super) const SESSION: &str = "\
 make 1 2 2 # # 0 # array 1 1024|tree 2|0 a 1 454 1; a 2 126 1|1 a 1 897 1; a 2 107 1|
 run --brief # array 1 1024|tree 2|0 a 1 454 1; a 2 126 1|1 a 1 897 1; a 2 107 1| # 0 # commits 2|total 4|durable 1|
 dump # # 0 # epoch 1|1 454 1|1 897 1|2 107 1|2 126 1|
@@ -135,8 +87,3 @@ snaps # # 0 # snap 0 at 1|snap 1 at 6|
 snap 1 # # 0 # epoch 1|1 454 1|1 897 1|2 107 1|2 126 1|
 dump # # 0 # epoch 2|1 454 1|1 897 1|2 107 5|
 ";
-
-#[test]
-fn the_session_of_the_readme(rt: HostRuntime) -> Result<(), Fail> {
-    check_fresh(&rt, SESSION)
-}

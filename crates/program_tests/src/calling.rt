@@ -7,7 +7,6 @@ use log_writer::{Records, Vault};
 use outside::{Disk, MemDisk, MemSink, MemSource, OpenGate, Sink, Source, SureSource};
 use program_calls::{Watcher, top};
 use std::alloc::{AllocError, Global};
-use std::process::Abort;
 use std::sync::Wait;
 use std::test::Fail;
 use std::thread::Threads;
@@ -95,6 +94,21 @@ pub(crate) fn anew(
     })
 }
 
+// What isn't so ends a test, by its name. A comparison that is handed on costs a proof much less than an assert does.
+pub(crate) fn is_so(what: &str, so: bool) -> Result<(), Fail> {
+    if so { Ok(()) } else { Err(Fail::from(what)) }
+}
+
+pub(crate) fn is_same(what: &str, got: &[u8], wanted: &[u8]) -> Result<(), Fail> {
+    is_so(what, got == wanted)
+}
+
+// Compares a status and a text.
+pub(crate) fn is_answer(what: &str, came: (u8, &[u8]), wanted: (u8, &[u8])) -> Result<(), Fail> {
+    is_so(what, came.0 == wanted.0)?;
+    is_same(what, came.1, wanted.1)
+}
+
 // The status of a call over a vault that has all its log files.
 pub(crate) fn ended<
     R: Threads + Wait + Sync + AllocGlobal,
@@ -154,7 +168,7 @@ pub(crate) fn call<R: Threads + Wait + Sync + AllocGlobal, G: Watcher + Sync>(
 }
 
 // Makes such a call, and compares its status and its text.
-pub(crate) fn check_call<R: Threads + Wait + Sync + AllocGlobal + Abort>(
+pub(crate) fn check_call<R: Threads + Wait + Sync + AllocGlobal>(
     rt: &R,
     (asked, script): (&str, &[u8]),
     (failing_read, failing_write): (u64, u64),
@@ -162,13 +176,7 @@ pub(crate) fn check_call<R: Threads + Wait + Sync + AllocGlobal + Abort>(
     text: &str,
 ) -> Result<(), Fail> {
     let (got, held) = call(rt, asked, script, failing_read, failing_write, &OpenGate)?;
-    assert!(rt; got == status, "{failing_read} {failing_write} {text}");
-    assert_eq!(rt;
-        held.as_slice(),
-        text.as_bytes(),
-        "{failing_read} {failing_write}"
-    );
-    Ok(())
+    is_answer(text, (got, &held), (status, text.as_bytes()))
 }
 
 // The bytes of a text in which bars stand for newlines.
@@ -209,14 +217,16 @@ pub(crate) fn answer<R: Threads + Wait + Sync + AllocGlobal, D: Disk + Send + Dr
 }
 
 // The same over what a vault holds, with nothing pending.
-pub(crate) fn answer_anew<R: Threads + Wait + Sync + AllocGlobal + Abort>(
+pub(crate) fn answer_anew<R: Threads + Wait + Sync + AllocGlobal>(
     rt: &R,
     vault: &mut Vault<MemDisk>,
     asked: &str,
     script: &[u8],
 ) -> Result<(u8, Vec<u8>), Fail> {
-    *vault = anew(rt.alloc(), vault, &[])?;
-    answer(rt, vault, asked, script)
+    let mut next = anew(rt.alloc(), vault, &[])?;
+    let came = answer(rt, &mut next, asked, script)?;
+    *vault = next;
+    Ok(came)
 }
 
 // The program's name, and the words of a text.
@@ -239,20 +249,18 @@ pub(crate) fn parts(row: &str) -> [&str; 4] {
 }
 
 // Compares a status and a text with those of a row, with bars for newlines.
-pub(crate) fn check_told<R: AllocGlobal + Abort>(
+pub(crate) fn check_told<R: AllocGlobal>(
     rt: &R,
     row: &str,
     came: (u8, &[u8]),
     wanted: (&str, &str),
 ) -> Result<(), Fail> {
     let text = lines(rt.alloc(), wanted.1)?;
-    assert!(rt; came.0 == wanted.0.parse::<u8>()?, "{row}");
-    assert_eq!(rt; came.1, text.as_slice(), "{row}");
-    Ok(())
+    is_answer(row, came, (wanted.0.parse::<u8>()?, &text))
 }
 
 // Makes the call of a row over what a vault holds, and compares its status and its text.
-pub(crate) fn check_row<R: Threads + Wait + Sync + AllocGlobal + Abort>(
+pub(crate) fn check_row<R: Threads + Wait + Sync + AllocGlobal>(
     rt: &R,
     vault: &mut Vault<MemDisk>,
     row: &str,
@@ -264,7 +272,7 @@ pub(crate) fn check_row<R: Threads + Wait + Sync + AllocGlobal + Abort>(
 }
 
 // Makes the calls of some rows one after another over a vault.
-pub(crate) fn check_rows<R: Threads + Wait + Sync + AllocGlobal + Abort>(
+pub(crate) fn check_rows<R: Threads + Wait + Sync + AllocGlobal>(
     rt: &R,
     vault: &mut Vault<MemDisk>,
     rows: &str,
@@ -275,17 +283,8 @@ pub(crate) fn check_rows<R: Threads + Wait + Sync + AllocGlobal + Abort>(
     Ok(())
 }
 
-// The same over a new vault.
-pub(crate) fn check_fresh<R: Threads + Wait + Sync + AllocGlobal + Abort>(
-    rt: &R,
-    rows: &str,
-) -> Result<(), Fail> {
-    let mut vault = fresh_vault(rt.alloc())?;
-    check_rows(rt, &mut vault, rows)
-}
-
 // Makes a call over what a vault holds, and compares its status and its text.
-pub(crate) fn check_answer<R: Threads + Wait + Sync + AllocGlobal + Abort>(
+pub(crate) fn check_answer<R: Threads + Wait + Sync + AllocGlobal>(
     rt: &R,
     vault: &mut Vault<MemDisk>,
     asked: &str,
@@ -293,7 +292,5 @@ pub(crate) fn check_answer<R: Threads + Wait + Sync + AllocGlobal + Abort>(
     (status, text): (u8, &[u8]),
 ) -> Result<(), Fail> {
     let (got, told) = answer_anew(rt, vault, asked, script)?;
-    assert_eq!(rt; told.as_slice(), text, "{asked}");
-    assert!(rt; got == status, "{asked}");
-    Ok(())
+    is_answer(asked, (got, &told), (status, text))
 }

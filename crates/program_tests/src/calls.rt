@@ -1,5 +1,6 @@
 // Whole calls: their words, scripts, statuses and texts.
-use super::*;
+use super::kept_runs::kept_vault;
+use super::{brief, gleans, kept_runs, listings, *};
 
 // The words after the name, the script, the status and the text, with bars for newlines.
 pub(super) const CASES: &str = "\
@@ -95,11 +96,100 @@ run # array 1 4|tree 2|0 s 2 0 9; s 1 0 9; r 1 4| # 1 # script 3 Kind|
 run # tree 256| # 1 # script 1 Range|
 ";
 
-// With ample memory each call gives its text: a body that always wants memory fails here.
+// What a vault has at first: nothing; what `kept_vault` has, by sequence, epoch, pages and counted bytes; or a save
+// device of another length.
+#[derive(Clone, Copy)]
+pub(super) enum First {
+    Fresh,
+    Kept(u64, u64, u64, u64),
+    Short,
+}
+
+pub(super) fn first_vault(alloc: Global, first: First) -> Result<Vault<MemDisk>, Fail> {
+    match first {
+        First::Fresh => Ok(fresh_vault(alloc)?),
+        First::Kept(sequence, epoch, pages, counted) => {
+            kept_vault(alloc, sequence, epoch, pages, counted)
+        }
+        First::Short => Ok(vault_of(alloc, &[0; 3], &[], &[], &[])?),
+    }
+}
+
+// A save device of another length, with and without a script, and in brief.
+const A_SHORT_SAVE: &str = "\
+run # array 1 4|0 w 1 2 7; r 1 2|0 r 1 0| # 6 # damaged save 0|
+run # walk| # 1 # script 1 Word|
+run --brief # array 1 4|0 w 1 2 7| # 6 # damaged save 0|
+";
+
+const LAST: u64 = (1 << 63) - 1;
+
+// Calls one after another over one vault: each begins where those before it ended.
+const CALLS: [(First, &str); 26] = [
+    (First::Kept(0, 0, 0, 0), kept_runs::AFTER_RUNS_THAT_READ),
+    (First::Kept(0, 0, 0, 0), kept_runs::AFTER_A_RUN_THAT_WROTE),
+    (First::Kept(0, 0, 0, 0), kept_runs::AFTER_A_RUN_OVER_A_TREE),
+    (First::Kept(0, 0, 0, 0), kept_runs::OTHER_STORAGES),
+    (First::Kept(0, 0, 0, 0), kept_runs::NO_STORAGES),
+    (First::Kept(0, 0, 0, 0), kept_runs::NOTHING_CHANGED),
+    (
+        First::Kept(2, 1_048_573, 1, 0),
+        kept_runs::NEAR_THE_LAST_EPOCH,
+    ),
+    (First::Kept(LAST, 1, 1, 0), kept_runs::AT_THE_LAST_SEQUENCE),
+    (
+        First::Kept(LAST, 0, 1, 40),
+        kept_runs::NO_SEQUENCE_FOR_SETTLING,
+    ),
+    (
+        First::Kept(LAST, 1, 1, 40),
+        kept_runs::NO_SEQUENCE_FOR_A_SNAPSHOT,
+    ),
+    (
+        First::Kept(2, 0, 1, 40),
+        "run # array 1 4|0 r 1 2| # 0 # 0.0 ok 1:1 0|durable 1|",
+    ),
+    (
+        First::Kept(2, 1, 1, 40),
+        "run # array 1 4| # 0 # durable 2|\ndump # # 0 # epoch 2|1 2 7|",
+    ),
+    (
+        First::Kept(2, 1, 3, 0),
+        kept_runs::MORE_PAGES_THAN_ARE_LET_IN,
+    ),
+    (First::Kept(2, 1, 1, 41), kept_runs::DAMAGED),
+    (First::Kept(2, 1, 1, 41), "snap 7 # # 6 # damaged bank0 40|"),
+    (First::Short, A_SHORT_SAVE),
+    (First::Fresh, brief::CALLS),
+    (First::Fresh, brief::SESSION),
+    (First::Fresh, gleans::A_SNAPSHOT),
+    (First::Fresh, gleans::AGAIN),
+    (First::Fresh, gleans::A_HIGH_ARRAY),
+    (First::Fresh, gleans::NO_ROOM),
+    (First::Fresh, gleans::A_TREE),
+    (First::Fresh, gleans::TREES_AND_AN_ARRAY),
+    (First::Fresh, listings::RUNS),
+    (First::Fresh, listings::RUNS_OVER_A_TREE),
+];
+
+fn check_first<R: Threads + Wait + Sync + AllocGlobal>(
+    rt: &R,
+    first: First,
+    rows: &str,
+) -> Result<(), Fail> {
+    let mut vault = first_vault(rt.alloc(), first)?;
+    check_rows(rt, &mut vault, rows)
+}
+
+// With ample memory each call gives its text: a body that always wants memory fails here. Each of the cases is over a new
+// vault; the calls behind them one after another over one.
 #[test]
 fn ample_memory_is_enough(rt: HostRuntime) -> Result<(), Fail> {
     for row in CASES.lines() {
-        check_fresh(&rt, row)?;
+        check_first(&rt, First::Fresh, row)?;
+    }
+    for (first, rows) in &CALLS {
+        check_first(&rt, *first, rows)?;
     }
     Ok(())
 }

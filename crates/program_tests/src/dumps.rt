@@ -121,7 +121,7 @@ const DUMPS: [(Kept, u64, u8, &str); 8] = [
     (Kept::Failing, 9, 5, "device save\n"),
 ];
 
-fn check_dump<R: Threads + Wait + Sync + AllocGlobal + Abort>(
+fn check_dump<R: Threads + Wait + Sync + AllocGlobal>(
     rt: &R,
     kept: Kept,
     failing_write: u64,
@@ -130,9 +130,7 @@ fn check_dump<R: Threads + Wait + Sync + AllocGlobal + Abort>(
 ) -> Result<(), Fail> {
     let vault = vault_with(rt.alloc(), kept)?;
     let (got, told) = dump(rt, &vault, failing_write)?;
-    assert!(rt; got == status, "{text}");
-    assert_eq!(rt; told.as_slice(), text.as_bytes());
-    Ok(())
+    is_answer(text, (got, &told), (status, text.as_bytes()))
 }
 
 // What is kept of vaults, and damage at its byte.
@@ -162,7 +160,6 @@ fn a_state_as_text(rt: HostRuntime) -> Result<(), Fail> {
     let mut state = State::new(rt.alloc());
     insert_values(&mut state)?;
     let mut sink = MemSink::new(rt.alloc(), Vec::new(rt.alloc()));
-    assert!(rt; is_written(&mut sink, &state));
-    assert_eq!(rt; sink.bytes(), b"epoch 3\n1 2 7\n2 0 0\n2 5 50\n".as_slice());
-    Ok(())
+    is_so("a state that is written", is_written(&mut sink, &state))?;
+    is_same("a state", sink.bytes(), b"epoch 3\n1 2 7\n2 0 0\n2 5 50\n")
 }

@@ -190,7 +190,7 @@ epoch 2
 ",
 ];
 
-fn check_example<R: Threads + Wait + Sync + AllocGlobal + Abort>(
+fn check_example<R: Threads + Wait + Sync + AllocGlobal>(
     rt: &R,
     example: [&str; 3],
 ) -> Result<(), Fail> {

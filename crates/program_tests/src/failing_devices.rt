@@ -2,8 +2,8 @@
 ghost use Rattle.std.specs.Prelude.{IfOk};
 ghost use Rattle.outside.specs.Disk.{IfTold, Only};
 
-use super::kept_runs::kept_vault;
-use super::*;
+use super::calls::{First, first_vault};
+use super::{brief, gleans, *};
 
 // The names of the log files.
 pub(super) const BANKS: [&str; 16] = [
@@ -127,52 +127,76 @@ bank0 # 0 # 2 # 5 # device bank0| # epoch 1|1 2 7|
 bank0 # 3 # 3 # 0 # 0.0 ok 2:1 7|durable 2| # epoch 2|1 2 7|
 ";
 
-// Makes the run over what a vault holds of which this call of this device fails, and then a dump, and compares what
-// they tell.
-fn check_failure<R: Threads + Wait + Sync + AllocGlobal + Abort>(
-    rt: &R,
-    (vault, script): (&Vault<MemDisk>, &[u8]),
-    device: &str,
-    call: u64,
-    ended: (u8, &[u8]),
-    kept: &[u8],
-) -> Result<(), Fail> {
-    let mut vault = failing_vault(rt.alloc(), vault, device, call)?;
-    check_run(rt, &mut vault, script, (device, call), ended)?;
-    check_answer(rt, &mut vault, "dump", b"", (0, kept))
-}
-
-// Makes a run over a vault of which a call of a device fails.
-pub(super) fn check_run<R: Threads + Wait + Sync + AllocGlobal + Abort>(
+// Makes a run over a vault of which a call of this device fails.
+pub(super) fn check_run<R: Threads + Wait + Sync + AllocGlobal>(
     rt: &R,
     vault: &mut Vault<MemDisk>,
     script: &[u8],
-    failing: (&str, u64),
+    device: &str,
     ended: (u8, &[u8]),
 ) -> Result<(), Fail>
     requires { IfTold (⟦<MemDisk as Disk>⟧.tells vault.old.save)
         (Only ⟦<MemDisk as Disk>⟧.clock ⟦<MemDisk as Disk>⟧.image_at vault.old.save) }
 {
-    let (device, call) = failing;
     let (status, text) = answer(rt, vault, "run", script)?;
-    assert!(rt; status == ended.0, "{device} {call}");
-    assert_eq!(rt; text.as_slice(), ended.1, "{device} {call}");
-    Ok(())
+    is_answer(device, (status, &text), ended)
+}
+
+// Compares what a vault tells with a part of a row, if the row has it.
+fn check_part<R: Threads + Wait + Sync + AllocGlobal>(
+    rt: &R,
+    vault: &mut Vault<MemDisk>,
+    asked: &str,
+    text: Option<&str>,
+) -> Result<(), Fail> {
+    match text {
+        Some(text) => {
+            let kept = lines(rt.alloc(), text.trim())?;
+            check_answer(rt, vault, asked, b"", (0, &kept))
+        }
+        None => Ok(()),
+    }
+}
+
+// Makes the call of a row over a vault, and compares what it tells.
+fn check_ended<R: Threads + Wait + Sync + AllocGlobal>(
+    rt: &R,
+    vault: &mut Vault<MemDisk>,
+    asked: (&str, &[u8]),
+    row: &str,
+) -> Result<(), Fail>
+    requires { IfTold (⟦<MemDisk as Disk>⟧.tells vault.old.save)
+        (Only ⟦<MemDisk as Disk>⟧.clock ⟦<MemDisk as Disk>⟧.image_at vault.old.save) }
+{
+    let (status, text) = answer(rt, vault, asked.0, asked.1)?;
+    check_told(rt, row, (status, &text), (part(row, 3), part(row, 4)))
+}
+
+// Makes the call of a row over what a vault holds, of which this call of this device fails, and compares what it tells,
+// and what a dump and a list of the snapshots tell then.
+fn check_failure<R: Threads + Wait + Sync + AllocGlobal>(
+    rt: &R,
+    vault: &Vault<MemDisk>,
+    asked: (&str, &[u8]),
+    (device, call): (&str, u64),
+    row: &str,
+) -> Result<(), Fail> {
+    let mut vault = failing_vault(rt.alloc(), vault, device, call)?;
+    check_ended(rt, &mut vault, asked, row)?;
+    check_part(rt, &mut vault, "dump", row.split('#').nth(5))?;
+    check_part(rt, &mut vault, "snaps", row.split('#').nth(6))
 }
 
 // Checks each failure of a row.
-fn check_failures<R: Threads + Wait + Sync + AllocGlobal + Abort>(
+pub(super) fn check_failures<R: Threads + Wait + Sync + AllocGlobal>(
     rt: &R,
     vault: &Vault<MemDisk>,
-    script: &[u8],
+    asked: (&str, &[u8]),
     row: &str,
 ) -> Result<(), Fail> {
-    let [device, first, last, ended] = parts(row);
-    let text = lines(rt.alloc(), part(row, 4))?;
-    let kept = lines(rt.alloc(), part(row, 5))?;
-    let status = ended.parse::<u8>()?;
+    let [device, first, last, _] = parts(row);
     for call in first.parse::<u64>()?..=last.parse::<u64>()? {
-        check_failure(rt, (vault, script), device, call, (status, &text), &kept)?;
+        check_failure(rt, vault, asked, (device, call), row)?;
     }
     Ok(())
 }
@@ -182,81 +206,92 @@ pub(super) fn part(row: &str, index: usize) -> &str {
     row.split('#').nth(index).unwrap_or("").trim()
 }
 
+// The other log files are cut, and not called again.
+const CUTS: &str = "\
+bank0 # 0 # 0 # 5 # device bank0| # epoch 0|
+bank1 # 0 # 0 # 5 # device bank1| # epoch 0|
+bank2 # 0 # 0 # 5 # device bank2| # epoch 0|
+bank3 # 0 # 0 # 5 # device bank3| # epoch 0|
+bank4 # 0 # 0 # 5 # device bank4| # epoch 0|
+bank5 # 0 # 0 # 5 # device bank5| # epoch 0|
+bank6 # 0 # 0 # 5 # device bank6| # epoch 0|
+bank7 # 0 # 0 # 5 # device bank7| # epoch 0|
+bank8 # 0 # 0 # 5 # device bank8| # epoch 0|
+bank9 # 0 # 0 # 5 # device bank9| # epoch 0|
+bank10 # 0 # 0 # 5 # device bank10| # epoch 0|
+bank11 # 0 # 0 # 5 # device bank11| # epoch 0|
+bank12 # 0 # 0 # 5 # device bank12| # epoch 0|
+bank13 # 0 # 0 # 5 # device bank13| # epoch 0|
+bank14 # 0 # 0 # 5 # device bank14| # epoch 0|
+bank15 # 0 # 0 # 5 # device bank15| # epoch 0|
+";
+
+// The first call of each device that a listing reads.
+const LISTING: &str = "\
+save # 0 # 0 # 5 # device save|
+snaps # 0 # 0 # 5 # device snaps|
+bank0 # 0 # 0 # 5 # device bank0|
+";
+
+// What a vault has at first, the words after the name, the script, and the failures.
+const FAILURES: [(First, &str, &[u8], &str); 9] = [
+    (First::Fresh, "run", SCRIPT, FAILING),
+    (First::Fresh, "run", SCRIPT, CUTS),
+    (First::Kept(2, 1, 1, 40), "run", READING, SETTLING),
+    (First::Fresh, "run", gleans::SCRIPT, gleans::FAILING),
+    (First::Fresh, "run --brief", brief::SHARED, brief::FAILING),
+    (First::Fresh, "run --brief", brief::PLAIN, brief::FAILING),
+    (First::Kept(2, 1, 1, 40), "snaps", b"", LISTING),
+    (First::Kept(2, 1, 1, 40), "snap 0", b"", LISTING),
+    (First::Kept(2, 1, 1, 40), "snap 7", b"", LISTING),
+];
+
+fn check_all_failures<R: Threads + Wait + Sync + AllocGlobal>(
+    rt: &R,
+    first: First,
+    asked: (&str, &[u8]),
+    rows: &str,
+) -> Result<(), Fail> {
+    let vault = first_vault(rt.alloc(), first)?;
+    for row in rows.lines() {
+        check_failures(rt, &vault, asked, row)?;
+    }
+    Ok(())
+}
+
 #[test]
 fn each_call_of_a_device_may_fail(rt: HostRuntime) -> Result<(), Fail> {
-    let vault = fresh_vault(rt.alloc())?;
-    for row in FAILING.lines() {
-        check_failures(&rt, &vault, SCRIPT, row)?;
+    for (first, asked, script, rows) in &FAILURES {
+        check_all_failures(&rt, *first, (asked, script), rows)?;
     }
     Ok(())
 }
 
-#[test]
-fn each_call_of_a_settling_may_fail(rt: HostRuntime) -> Result<(), Fail> {
-    let vault = kept_vault(rt.alloc(), 2, 1, 1, 40)?;
-    for row in SETTLING.lines() {
-        check_failures(&rt, &vault, READING, row)?;
-    }
-    Ok(())
-}
-
-fn check_cut<R: Threads + Wait + Sync + AllocGlobal + Abort>(
-    rt: &R,
-    vault: &Vault<MemDisk>,
-    bank: &str,
-) -> Result<(), Fail> {
-    let text = format!(in rt.alloc(); "device {bank}\n")?;
-    let ended = (5, text.as_bytes());
-    check_failure(rt, (vault, SCRIPT), bank, 0, ended, b"epoch 0\n")
-}
-
-// The other log files are cut, and not called again.
-#[test]
-fn each_cut_of_a_settling_may_fail(rt: HostRuntime) -> Result<(), Fail> {
-    let vault = fresh_vault(rt.alloc())?;
-    for bank in &BANKS {
-        check_cut(&rt, &vault, bank)?;
-    }
-    Ok(())
-}
-
-// A hundred lines that set a value, and what is told of them: 93 lines of 40 bytes leave fewer than 400 bytes of the
-// buffer free, so the first write of the log file, its second call, stands before the next one.
-fn hundred_lines(
-    alloc: Global,
-    script: &mut Vec<u8>,
-    text: &mut Vec<u8>,
-) -> Result<(), AllocError> {
+// A hundred lines that set a value, and the row of what is told of them: 93 lines of 40 bytes leave fewer than 400 bytes
+// of the buffer free, so the first write of the log file, its second call, stands before the next one.
+fn hundred_lines(alloc: Global, script: &mut Vec<u8>, row: &mut String) -> Result<(), AllocError> {
     script.extend_from_slice(b"array 1 4\n")?;
+    row.push_str("bank0 # 1 # 1 # 5 # ")?;
     for index in 0..100 {
         script.extend_from_slice(b"0 w 1 0 1\n")?;
-        add_line(alloc, text, index)?;
+        add_line(alloc, row, index)?;
     }
-    text.extend_from_slice(b"device bank0\n")
+    row.push_str("device bank0| # epoch 0|")
 }
 
-fn add_line(alloc: Global, text: &mut Vec<u8>, index: u32) -> Result<(), AllocError> {
+fn add_line(alloc: Global, row: &mut String, index: u32) -> Result<(), AllocError> {
     let line = if index < 93 {
-        format!(in alloc; "0.{index} ok 1:{}\n", index + 1)?
+        format!(in alloc; "0.{index} ok 1:{}|", index + 1)?
     } else {
-        format!(in alloc; "0.{index} unrun\n")?
+        format!(in alloc; "0.{index} unrun|")?
     };
-    text.extend_from_slice(line.as_bytes())
-}
-
-fn check_hundred<R: Threads + Wait + Sync + AllocGlobal + Abort>(
-    rt: &R,
-    fresh: &Vault<MemDisk>,
-    script: &[u8],
-    text: &[u8],
-) -> Result<(), Fail> {
-    check_failure(rt, (fresh, script), "bank0", 1, (5, text), b"epoch 0\n")
+    row.push_str(line.as_str())
 }
 
 #[test]
 fn a_log_file_that_fails_ends_its_worker(rt: HostRuntime) -> Result<(), Fail> {
-    let (mut script, mut text) = (Vec::new(rt.alloc()), Vec::new(rt.alloc()));
-    hundred_lines(rt.alloc(), &mut script, &mut text)?;
+    let (mut script, mut row) = (Vec::new(rt.alloc()), String::new(rt.alloc()));
+    hundred_lines(rt.alloc(), &mut script, &mut row)?;
     let fresh = fresh_vault(rt.alloc())?;
-    check_hundred(&rt, &fresh, &script, &text)
+    check_failures(&rt, &fresh, ("run", &script), row.as_str())
 }

@@ -1,7 +1,7 @@
 // The files of a vault in a folder.
 use super::*;
+use database_files::{Access, NotOpened, Opened, Why, open_vault};
 use outside::FileDisk;
-use program_entry::{Access, Opened, Why, open_vault};
 use std::fs::{self, File, Files};
 
 // The first byte of each disk.
@@ -15,14 +15,13 @@ fn first_bytes(alloc: Global, disks: &mut Vec<FileDisk>) -> Result<Vec<u8>, Fail
     Ok(bytes)
 }
 
-fn check_disks<R: AllocGlobal + Abort>(
+fn check_disks<R: Files<File = File> + AllocGlobal>(
     rt: &R,
     disks: &mut Vec<FileDisk>,
     first: [u8; 8],
 ) -> Result<(), Fail> {
     let bytes = first_bytes(rt.alloc(), disks)?;
-    assert_eq!(rt; bytes.as_slice(), first.as_slice());
-    Ok(())
+    is_same("first bytes", &bytes, &first)
 }
 
 // Makes the files that are missing.
@@ -49,7 +48,7 @@ fn open_for<R: Files<File = File> + AllocGlobal>(
 fn is_locked<R: Files<File = File> + AllocGlobal>(rt: &R, folder: &str, access: Access) -> bool {
     match open_vault(rt, rt.alloc(), folder, access) {
         Ok(_) => false,
-        Err(error) => matches!(error.why, Some(Why::Locked)),
+        Err(error) => matches!(error, NotOpened::Without(_, Why::Locked)),
     }
 }
 
@@ -57,28 +56,24 @@ fn is_locked<R: Files<File = File> + AllocGlobal>(rt: &R, folder: &str, access: 
 fn is_lost<R: Files<File = File> + AllocGlobal>(rt: &R, folder: &str, access: Access) -> bool {
     match open_vault(rt, rt.alloc(), folder, access) {
         Ok(_) => false,
-        Err(error) => matches!(error.why, Some(Why::Lost)),
+        Err(error) => matches!(error, NotOpened::Without(_, Why::Lost)),
     }
 }
 
 // Each bank's file has its number as its first byte.
-fn check_banks<R: Files<File = File> + AllocGlobal + Abort>(
-    rt: &R,
-    folder: &str,
-) -> Result<(), Fail> {
+fn check_banks<R: Files<File = File> + AllocGlobal>(rt: &R, folder: &str) -> Result<(), Fail> {
     let mut opened = open_for(rt, folder, Access::Shared)?;
     check_disks(rt, &mut opened.vault.even, [0, 2, 4, 6, 8, 10, 12, 14])?;
     check_disks(rt, &mut opened.vault.odd, [1, 3, 5, 7, 9, 11, 13, 15])
 }
 
-pub(super) fn check_file<R: Files<File = File> + AllocGlobal + Abort>(
+pub(super) fn check_file<R: Files<File = File> + AllocGlobal>(
     rt: &R,
     path: &str,
     bytes: &[u8],
 ) -> Result<(), Fail> {
     let found = fs::read(rt, path)?;
-    assert_eq!(rt; found.as_slice(), bytes);
-    Ok(())
+    is_same(path, &found, bytes)
 }
 
 fn number_bank<R: Files<File = File> + AllocGlobal>(
@@ -117,15 +112,24 @@ fn an_open_database_is_locked(rt: HostRuntime) -> Result<(), Fail> {
     let folder = "foedus_locked";
     let _old = fs::remove_dir_all(&rt, folder);
     let alone = open_for(&rt, folder, Access::Alone)?;
-    assert!(rt; is_locked(&rt, folder, Access::Alone));
-    assert!(rt; is_locked(&rt, folder, Access::Shared));
+    is_so(
+        "alone beside a writer",
+        is_locked(&rt, folder, Access::Alone),
+    )?;
+    is_so(
+        "shared beside a writer",
+        is_locked(&rt, folder, Access::Shared),
+    )?;
     drop(alone);
     let first = open_for(&rt, folder, Access::Shared)?;
     let second = open_for(&rt, folder, Access::Shared)?;
-    assert!(rt; is_locked(&rt, folder, Access::Alone));
+    is_so(
+        "alone beside readers",
+        is_locked(&rt, folder, Access::Alone),
+    )?;
     drop(first);
     drop(second);
-    assert!(rt; !is_locked(&rt, folder, Access::Alone));
+    is_so("alone", !is_locked(&rt, folder, Access::Alone))?;
     fs::remove_dir_all(&rt, folder)?;
     Ok(())
 }
@@ -138,8 +142,8 @@ fn a_lost_savepoint_is_no_new_database(rt: HostRuntime) -> Result<(), Fail> {
     make_files(&rt, folder)?;
     number_bank(&rt, folder, 9)?;
     fs::remove_file(&rt, "foedus_lost/save")?;
-    assert!(rt; is_lost(&rt, folder, Access::Alone));
-    assert!(rt; is_lost(&rt, folder, Access::Shared));
+    is_so("lost to a writer", is_lost(&rt, folder, Access::Alone))?;
+    is_so("lost to a reader", is_lost(&rt, folder, Access::Shared))?;
     check_file(&rt, "foedus_lost/bank9", &[9])?;
     fs::remove_file(&rt, "foedus_lost/bank9")?;
     make_files(&rt, folder)?;

@@ -68,10 +68,11 @@ fn the_gate_stands_round_each_line(rt: HostRuntime) -> Result<(), Fail> {
         calls: AtomicU64::new(0),
     };
     let (status, text) = call(&rt, "run", script.as_slice(), 9, 9, &gate)?;
-    assert_eq!(rt; status, 0);
-    assert_eq!(rt; gate.calls.load(Ordering::SeqCst), all_calls());
+    is_so(
+        "the calls",
+        gate.calls.load(Ordering::SeqCst) == all_calls(),
+    )?;
     let told =
         "0.0 ok 1:1\n0.1 ok 1:2 5\n1.0 ok 1:3 5\n1.1 ok 1:4 0\nk.0 epoch 2\nk.1 save 0\ndurable 2\ndurable 3\n";
-    assert_eq!(rt; text.as_slice(), told.as_bytes());
-    Ok(())
+    is_answer("a gate", (status, &text), (0, told.as_bytes()))
 }

@@ -2,12 +2,12 @@
 ghost use Rattle.std.specs.Prelude.{IfOk};
 ghost use Rattle.outside.specs.Disk.{IfTold, Only};
 
-use super::failing_devices::{BANKS, check_run, failing_vault, part};
+use super::failing_devices::{BANKS, check_failures, check_run, failing_vault};
 use super::*;
 
 // The words after the name, the script, the status and the text, with bars for newlines; one call after another. The
 // pages of a snapshot are what is new of its storages, each page's children before it, and its catalogue.
-const A_SNAPSHOT: &str = "\
+pub(super) const A_SNAPSHOT: &str = "\
 run # array 1 4|0 w 1 2 7|join|k glean|join # 0 # 0.0 ok 1:1|durable 1|k.0 snap 1 new 2|durable 2|
 dump # # 0 # epoch 2|1 2 7|
 snaps # # 0 # snap 0 at 1|snap 1 at 3|
@@ -23,7 +23,7 @@ snap 3 # # 0 # epoch 3|1 2 8|
 ";
 
 // A second one within a round finds nothing, nor does one of what was committed in its own round.
-const AGAIN: &str = "\
+pub(super) const AGAIN: &str = "\
 run # array 1 4|0 w 1 0 1|k glean|join|k glean|k glean| # 0 # 0.0 ok 1:1|k.0 none|durable 1|k.0 snap 1 new 2|\
 k.1 none|durable 2|
 run # array 1 4|k glean # 0 # k.0 none|durable 3|
@@ -35,13 +35,13 @@ snap 1 # # 0 # epoch 1|1 0 1|
 ";
 
 // An array of three levels: a leaf, the page above it, the root and the catalogue.
-const A_HIGH_ARRAY: &str = "\
+pub(super) const A_HIGH_ARRAY: &str = "\
 run # array 1 2049|0 w 1 2048 1|join|k glean # 0 # 0.0 ok 1:1|durable 1|k.0 snap 1 new 4|durable 2|
 snap 1 # # 0 # epoch 1|1 2048 1|
 ";
 
 // What can't be a snapshot for want of pages stays in the log files, which go on, and is one where there are enough.
-const NO_ROOM: &str = "\
+pub(super) const NO_ROOM: &str = "\
 run --snap 1 # array 1 4|0 w 1 0 1|join|k glean # 0 # 0.0 ok 1:1|durable 1|k.0 snap-full|durable 2|
 run --snap 1 # array 1 4| # 7 # limit snap|
 run --snap 3 # array 1 4| # 0 # durable 3|
@@ -57,7 +57,7 @@ snaps # # 0 # snap 0 at 1|snap 2 at 3|snap 4 at 5|snap 7 at 7|
 ";
 
 // Seventeen keys are two leaves, of which the second begins at 10. It alone is new for a greater key.
-const A_TREE: &str = "\
+pub(super) const A_TREE: &str = "\
 run # tree 2|0 w 2 1 1|0 w 2 2 2|0 w 2 3 3|0 w 2 4 4|0 w 2 5 5|0 w 2 6 6|0 w 2 7 7|0 w 2 8 8|0 w 2 9 9|0 w 2 10 10|\
 0 w 2 11 11|0 w 2 12 12|0 w 2 13 13|0 w 2 14 14|0 w 2 15 15|0 w 2 16 16|0 w 2 17 17|join|k glean|join|0 w 2 20 20|\
 join|k glean # 0 # 0.0 ok 1:1|0.1 ok 1:2|0.2 ok 1:3|0.3 ok 1:4|0.4 ok 1:5|0.5 ok 1:6|0.6 ok 1:7|0.7 ok 1:8|\
@@ -73,7 +73,7 @@ snaps # # 0 # snap 0 at 1|snap 1 at 5|snap 3 at 8|snap 5 at 11|snap 6 at 14|
 ";
 
 // Two trees and an array with the same keys over four calls, with a snapshot of each but the last.
-const TREES_AND_AN_ARRAY: &str = "\
+pub(super) const TREES_AND_AN_ARRAY: &str = "\
 run # tree 2|array 1 4|tree 3|0 w 1 1 1; w 2 1 2; w 3 1 3|1 w 2 18446744073709551615 4; w 2 0 5|join|k glean # 0 # \
 0.0 ok 1:1|1.0 ok 1:2|durable 1|k.0 snap 1 new 4|durable 2|
 dump # # 0 # epoch 2|1 1 1|2 0 5|2 1 2|2 18446744073709551615 4|3 1 3|
@@ -91,23 +91,6 @@ dump # # 0 # epoch 6|2 0 5|2 1 0|2 18446744073709551615 4|
 snap 5 # # 0 # epoch 5|2 0 5|2 1 0|2 18446744073709551615 4|
 snap 1 # # 0 # epoch 1|1 1 1|2 0 5|2 1 2|2 18446744073709551615 4|3 1 3|
 ";
-
-const ROWS: [&str; 6] = [
-    A_SNAPSHOT,
-    AGAIN,
-    A_HIGH_ARRAY,
-    NO_ROOM,
-    A_TREE,
-    TREES_AND_AN_ARRAY,
-];
-
-#[test]
-fn snapshots_within_a_run(rt: HostRuntime) -> Result<(), Fail> {
-    for rows in &ROWS {
-        check_fresh(&rt, rows)?;
-    }
-    Ok(())
-}
 
 fn add_round(alloc: Global, script: &mut String, round: u64) -> Result<(), AllocError> {
     let line = format!(in alloc;
@@ -132,15 +115,14 @@ fn rounds(alloc: Global, count: u64) -> Result<String, AllocError> {
     Ok(script)
 }
 
-fn run_rounds<R: Threads + Wait + Sync + AllocGlobal + Abort>(
+fn run_rounds<R: Threads + Wait + Sync + AllocGlobal>(
     rt: &R,
     vault: &mut Vault<MemDisk>,
     count: u64,
 ) -> Result<(), Fail> {
     let script = rounds(rt.alloc(), count)?;
     let (status, _text) = answer_anew(rt, vault, "run", script.as_bytes())?;
-    assert_eq!(rt; status, 0);
-    Ok(())
+    is_so("rounds", status == 0)
 }
 
 // The epochs of the snapshots but the first, and the words that ask for each.
@@ -159,21 +141,20 @@ fn lines_of(text: &[u8], start: &str) -> usize {
     count
 }
 
-fn check_listed<R: Threads + Wait + Sync + AllocGlobal + Abort>(
+fn check_listed<R: Threads + Wait + Sync + AllocGlobal>(
     rt: &R,
     vault: &mut Vault<MemDisk>,
 ) -> Result<(), Fail> {
     let (_status, told) = answer_anew(rt, vault, "snaps", b"")?;
     for (_, asked) in &EPOCHS {
-        assert_eq!(rt; lines_of(&told, asked), 1, "{asked}");
+        is_so(asked, lines_of(&told, asked) == 1)?;
     }
     let lines = str::from_utf8(&told).unwrap_or("").lines().count();
-    assert_eq!(rt; lines, 4);
-    Ok(())
+    is_so("four snapshots", lines == 4)
 }
 
 // What a run keeps that was cut off at an epoch, and what the snapshot of that epoch has.
-fn check_cut_off<R: Threads + Wait + Sync + AllocGlobal + Abort>(
+fn check_cut_off<R: Threads + Wait + Sync + AllocGlobal>(
     rt: &R,
     vault: &mut Vault<MemDisk>,
     epoch: u64,
@@ -183,10 +164,7 @@ fn check_cut_off<R: Threads + Wait + Sync + AllocGlobal + Abort>(
     check_answer(rt, vault, asked, b"", (0, &kept))
 }
 
-fn kept_at<R: Threads + Wait + Sync + AllocGlobal + Abort>(
-    rt: &R,
-    epoch: u64,
-) -> Result<Vec<u8>, Fail> {
+fn kept_at<R: Threads + Wait + Sync + AllocGlobal>(rt: &R, epoch: u64) -> Result<Vec<u8>, Fail> {
     let mut cut = fresh_vault(rt.alloc())?;
     run_rounds(rt, &mut cut, epoch)?;
     let (_status, kept) = answer_anew(rt, &mut cut, "dump", b"")?;
@@ -194,7 +172,7 @@ fn kept_at<R: Threads + Wait + Sync + AllocGlobal + Abort>(
 }
 
 // A snapshot has what a database keeps whose run was cut off at its epoch.
-fn check_snapshots<R: Threads + Wait + Sync + AllocGlobal + Abort>(
+fn check_snapshots<R: Threads + Wait + Sync + AllocGlobal>(
     rt: &R,
     vault: &mut Vault<MemDisk>,
 ) -> Result<(), Fail> {
@@ -212,7 +190,7 @@ fn a_snapshot_is_the_run_cut_off(rt: HostRuntime) -> Result<(), Fail> {
     check_snapshots(&rt, &mut vault)
 }
 
-const SCRIPT: &[u8] = b"array 1 4\n0 w 1 2 7\njoin\nk glean\njoin\n";
+pub(super) const SCRIPT: &[u8] = b"array 1 4\n0 w 1 2 7\njoin\nk glean\njoin\n";
 
 // The device, and the first and the last of its calls at whose failure the run ends so: its status and its text, and
 // what a dump and a list of the snapshots tell then. The last rows of each device are of the first call that the run
@@ -220,7 +198,7 @@ const SCRIPT: &[u8] = b"array 1 4\n0 w 1 2 7\njoin\nk glean\njoin\n";
 //
 // The joins store savepoints by the calls 9 to 14 and 15 to 21 of the save. A glean asks each closed log file for its
 // length, and reads what counts; pages are written and synced by two calls. Each swap empties what was closed.
-const FAILING: &str = "\
+pub(super) const FAILING: &str = "\
 save # 0 # 7 # 5 # device save| # epoch 0| #
 save # 8 # 8 # 5 # device save| # epoch 0| # snap 0 at 1|
 save # 9 # 13 # 5 # 0.0 ok 1:1|device save| # epoch 0| # snap 0 at 1|
@@ -242,53 +220,9 @@ bank1 # 1 # 1 # 5 # 0.0 ok 1:1|durable 1|device bank1| # epoch 1|1 2 7| # snap 0
 bank1 # 2 # 2 # 0 # 0.0 ok 1:1|durable 1|k.0 snap 1 new 2|durable 2| # epoch 2|1 2 7| # snap 0 at 1|snap 1 at 3|
 ";
 
-// What is told of a run of which a call of a device fails, and of what it keeps: the row's texts.
-#[derive(Drop)]
-struct Texts {
-    run: Vec<u8>,
-    dump: Vec<u8>,
-    snaps: Vec<u8>,
-}
-
-fn row_texts(alloc: Global, row: &str) -> Result<Texts, Fail> {
-    let run = lines(alloc, part(row, 4))?;
-    let dump = lines(alloc, part(row, 5))?;
-    let snaps = lines(alloc, part(row, 6))?;
-    Ok(Texts { run, dump, snaps })
-}
-
-// Makes the run with a failure of a row, and compares what is told.
-fn check_failure<R: Threads + Wait + Sync + AllocGlobal + Abort>(
-    rt: &R,
-    fresh: &Vault<MemDisk>,
-    failing: (&str, u64),
-    status: u8,
-    texts: &Texts,
-) -> Result<(), Fail> {
-    let mut vault = failing_vault(rt.alloc(), fresh, failing.0, failing.1)?;
-    check_run(rt, &mut vault, SCRIPT, failing, (status, &texts.run))?;
-    check_answer(rt, &mut vault, "dump", b"", (0, &texts.dump))?;
-    check_answer(rt, &mut vault, "snaps", b"", (0, &texts.snaps))
-}
-
-fn check_failures<R: Threads + Wait + Sync + AllocGlobal + Abort>(
-    rt: &R,
-    fresh: &Vault<MemDisk>,
-    row: &str,
-) -> Result<(), Fail> {
-    let [device, first, last, status] = parts(row);
-    let (first, last) = (first.parse::<u64>()?, last.parse::<u64>()?);
-    let status = status.parse::<u8>()?;
-    let texts = row_texts(rt.alloc(), row)?;
-    for call in first..=last {
-        check_failure(rt, fresh, (device, call), status, &texts)?;
-    }
-    Ok(())
-}
-
 // The same of another worker's files, in which nothing is logged: a glean asks the first one for its length, and the
 // swaps empty the second one and then the first.
-fn check_files<R: Threads + Wait + Sync + AllocGlobal + Abort>(
+fn check_files<R: Threads + Wait + Sync + AllocGlobal>(
     rt: &R,
     fresh: &Vault<MemDisk>,
     first: &str,
@@ -305,12 +239,12 @@ snap 0 at 1|snap 1 at 3|
 "
     )?;
     for row in rows.lines() {
-        check_failures(rt, fresh, row)?;
+        check_failures(rt, fresh, ("run", SCRIPT), row)?;
     }
     Ok(())
 }
 
-fn check_all_files<R: Threads + Wait + Sync + AllocGlobal + Abort>(
+fn check_all_files<R: Threads + Wait + Sync + AllocGlobal>(
     rt: &R,
     fresh: &Vault<MemDisk>,
 ) -> Result<(), Fail> {
@@ -321,11 +255,8 @@ fn check_all_files<R: Threads + Wait + Sync + AllocGlobal + Abort>(
 }
 
 #[test]
-fn each_call_of_a_glean_may_fail(rt: HostRuntime) -> Result<(), Fail> {
+fn a_glean_reads_all_files(rt: HostRuntime) -> Result<(), Fail> {
     let fresh = fresh_vault(rt.alloc())?;
-    for row in FAILING.lines() {
-        check_failures(&rt, &fresh, row)?;
-    }
     check_all_files(&rt, &fresh)
 }
 
@@ -385,7 +316,7 @@ fn deep_script(alloc: Global, script: &mut String, text: &mut String) -> Result<
     text.push_str("k.0 deep\ndurable 34\n0.0 ok 35:34 1\nk.0 deep\ndurable 35\n")
 }
 
-fn check_deep<R: Threads + Wait + Sync + AllocGlobal + Abort>(
+fn check_deep<R: Threads + Wait + Sync + AllocGlobal>(
     rt: &R,
     script: &str,
     text: &str,
@@ -435,7 +366,7 @@ fn failing_twice(
 }
 
 // The lower one is told, and no snapshot is made.
-fn check_twice<R: Threads + Wait + Sync + AllocGlobal + Abort>(
+fn check_twice<R: Threads + Wait + Sync + AllocGlobal>(
     rt: &R,
     fresh: &Vault<MemDisk>,
     low: (usize, u64),
@@ -444,7 +375,7 @@ fn check_twice<R: Threads + Wait + Sync + AllocGlobal + Abort>(
     let name = BANKS[2 * (low.0 % 8)];
     let told = format!(in rt.alloc(); "0.0 ok 1:1\ndurable 1\nk.0 device\ndevice {name}\n")?;
     let mut vault = failing_twice(rt.alloc(), fresh, low, high)?;
-    check_run(rt, &mut vault, SCRIPT, (name, low.1), (5, told.as_bytes()))?;
+    check_run(rt, &mut vault, SCRIPT, name, (5, told.as_bytes()))?;
     check_answer(rt, &mut vault, "dump", b"", (0, b"epoch 1\n1 2 7\n"))?;
     check_answer(rt, &mut vault, "snaps", b"", (0, b"snap 0 at 1\n"))
 }
@@ -493,14 +424,14 @@ fn kept_storages(alloc: Global) -> Result<String, AllocError> {
     Ok(text)
 }
 
-fn check_many<R: Threads + Wait + Sync + AllocGlobal + Abort>(
+fn check_many<R: Threads + Wait + Sync + AllocGlobal>(
     rt: &R,
     vault: &mut Vault<MemDisk>,
     script: &str,
     kept: &str,
 ) -> Result<(), Fail> {
     let (status, _text) = answer_anew(rt, vault, "run", script.as_bytes())?;
-    assert_eq!(rt; status, 0);
+    is_so("a run of many storages", status == 0)?;
     check_answer(rt, vault, "snap 1", b"", (0, kept.as_bytes()))
 }
 
@@ -527,10 +458,9 @@ fn a_snapshot_of_two_workers(rt: HostRuntime) -> Result<(), Fail> {
     let script = additions(rt.alloc())?;
     let mut vault = fresh_vault(rt.alloc())?;
     let (status, text) = answer_anew(&rt, &mut vault, "run --tries 1000000", script.as_bytes())?;
-    assert_eq!(rt; status, 0);
-    assert!(rt;
-        text.as_slice()
-            .ends_with(b"durable 1\nk.0 snap 1 new 2\ndurable 2\n")
-    );
-    Ok(())
+    let end = b"durable 1\nk.0 snap 1 new 2\ndurable 2\n";
+    is_so(
+        "a snapshot of two workers",
+        status == 0 && text.ends_with(end),
+    )
 }

@@ -56,7 +56,7 @@ pub(super) fn kept_vault(
     Ok(vault_of(alloc, &save, &snaps, &line, &[])?)
 }
 
-const AFTER_RUNS_THAT_READ: &str = "\
+pub(super) const AFTER_RUNS_THAT_READ: &str = "\
 run # array 1 4|0 r 1 0| # 0 # 0.0 ok 1:1 0|durable 1|
 run # array 1 4|0 r 1 2| # 0 # 0.0 ok 2:1 0|durable 2|
 run # array 1 4|0 w 1 2 7|1 r 1 2| # 0 # 0.0 ok 3:1|1.0 ok 3:2 7|durable 3|
@@ -67,7 +67,7 @@ dump # # 0 # epoch 5|1 2 7|
 ";
 
 // The log entries become a snapshot of two pages, a leaf and a catalogue, as the next run begins.
-const AFTER_A_RUN_THAT_WROTE: &str = "\
+pub(super) const AFTER_A_RUN_THAT_WROTE: &str = "\
 run # array 1 4|0 w 1 2 7; r 1 2|0 r 1 0| # 0 # 0.0 ok 1:1 7|0.1 ok 1:2 0|durable 1|
 run # array 1 5| # 1 # shape declared 1:5 kept 1:4|
 dump # # 0 # epoch 1|1 2 7|
@@ -82,7 +82,7 @@ dump # # 0 # epoch 4|1 0 9|1 2 8|
 ";
 
 // Seventeen keys of a tree become two leaves, an interior page and a catalogue.
-const AFTER_A_RUN_OVER_A_TREE: &str = "\
+pub(super) const AFTER_A_RUN_OVER_A_TREE: &str = "\
 run # tree 2|0 w 2 1 1; w 2 2 2; w 2 3 3; w 2 4 4; w 2 5 5; w 2 6 6; w 2 7 7; w 2 8 8; w 2 9 9; w 2 10 10; w 2 11 11; \
 w 2 12 12; w 2 13 13; w 2 14 14; w 2 15 15; w 2 16 16|0 w 2 17 0| # 0 # 0.0 ok 1:1|0.1 ok 1:2|durable 1|
 run --snap 4 # tree 2| # 7 # limit snap|
@@ -90,7 +90,7 @@ run --snap 5 # tree 2|0 s 2 9 11; r 2 17; d 2 9; s 2 8 10| # 0 # 0.0 ok 2:1 9=9,
 run # tree 2|0 s 2 8 10; s 2 16 99| # 0 # 0.0 ok 3:1 8=8,10=10 16=16,17=0|durable 3|
 ";
 
-const OTHER_STORAGES: &str = "\
+pub(super) const OTHER_STORAGES: &str = "\
 run # tree 3|array 1 4|0 r 3 5; r 1 0| # 0 # 0.0 ok 1:1 - 0|durable 1|
 run # array 1 4|tree 3|0 s 3 0 9| # 0 # 0.0 ok 2:1 .|durable 2|
 run # array 1 4| # 1 # shape declared 1:4 kept 1:4,3:t|
@@ -101,7 +101,7 @@ run # array 1 5|0 r 1 5| # 1 # script 2 Range|
 dump # # 0 # epoch 2|
 ";
 
-const NO_STORAGES: &str = "\
+pub(super) const NO_STORAGES: &str = "\
 run # # 0 # durable 1|
 run # k save|join|k epoch| # 0 # k.0 save 1|durable 2|k.0 epoch 4|durable 4|
 run # tree 9| # 1 # shape declared 9:t kept .|
@@ -109,7 +109,7 @@ dump # # 0 # epoch 4|
 ";
 
 // Commits that change nothing leave nothing that counts, but a value that is set to itself does.
-const NOTHING_CHANGED: &str = "\
+pub(super) const NOTHING_CHANGED: &str = "\
 run # array 1 4|tree 2|0 t 1 0 5|1 d 2 9| # 0 # 0.0 short 1:1|1.0 ok 1:2|durable 1|
 run # array 1 4|tree 2|0 w 1 0 0| # 0 # 0.0 ok 2:1|durable 2|
 run --snap 1 # array 1 4|tree 2| # 7 # limit snap|
@@ -117,7 +117,7 @@ run # array 1 4|tree 2| # 0 # durable 3|
 dump # # 0 # epoch 3|
 ";
 
-const NEAR_THE_LAST_EPOCH: &str = "\
+pub(super) const NEAR_THE_LAST_EPOCH: &str = "\
 run # array 1 4|0 r 1 0| # 7 # 0.0 ok 1048574:1 0|limit epoch|
 dump # # 0 # epoch 1048573|
 run # array 1 4|k epoch|k save|k epoch| # 7 # k.0 limit|k.1 save 1048573|k.2 limit|limit epoch|
@@ -126,25 +126,25 @@ dump # # 0 # epoch 1048573|
 run # array 1 4|0 r 1 0| # 7 # 0.0 ok 1048574:1 0|limit epoch|
 ";
 
-const AT_THE_LAST_SEQUENCE: &str = "\
+pub(super) const AT_THE_LAST_SEQUENCE: &str = "\
 run # array 1 4|0 w 1 2 9|k save|k save|k epoch| # 7 # 0.0 ok 2:1|k.0 limit|k.1 limit|k.2 epoch 3|limit sequence|
 dump # # 0 # epoch 1|
 run # array 1 4|0 r 1 2|join|0 r 1 2| # 7 # 0.0 ok 2:1 0|limit sequence|
 ";
 
-const NO_SEQUENCE_FOR_A_SNAPSHOT: &str = "\
+pub(super) const NO_SEQUENCE_FOR_A_SNAPSHOT: &str = "\
 run --snap 2 # array 1 4|0 r 1 0| # 7 # limit snap|
 run # array 1 4|0 r 1 0| # 7 # limit sequence|
 dump # # 0 # epoch 1|1 2 7|
 ";
 
-const NO_SEQUENCE_FOR_SETTLING: &str = "\
+pub(super) const NO_SEQUENCE_FOR_SETTLING: &str = "\
 run # array 1 5| # 1 # shape declared 1:5 kept 1:4|
 run # array 1 4|0 r 1 0| # 7 # limit sequence|
 dump # # 0 # epoch 0|
 ";
 
-const MORE_PAGES_THAN_ARE_LET_IN: &str = "\
+pub(super) const MORE_PAGES_THAN_ARE_LET_IN: &str = "\
 run --snap 2 # array 1 4|0 r 1 2| # 7 # limit snap|
 run --snap 3 # array 1 4|0 r 1 2; a 1 2 1; r 1 2| # 0 # 0.0 ok 2:1 5 6|durable 2|
 dump # # 0 # epoch 2|1 2 6|
@@ -152,68 +152,7 @@ run --snap 4 # array 1 4| # 7 # limit snap|
 run --snap 5 # array 1 4|0 r 1 2| # 0 # 0.0 ok 3:1 6|durable 3|
 ";
 
-const DAMAGED: &str = "\
+pub(super) const DAMAGED: &str = "\
 run # walk| # 1 # script 1 Word|
 run # array 1 5| # 6 # damaged bank0 40|
 ";
-
-const LAST: u64 = (1 << 63) - 1;
-
-// What the vault's savepoint says at first: sequence, epoch, pages and counted bytes; and the calls.
-const CALLS: [(u64, u64, u64, u64, &str); 14] = [
-    (0, 0, 0, 0, AFTER_RUNS_THAT_READ),
-    (0, 0, 0, 0, AFTER_A_RUN_THAT_WROTE),
-    (0, 0, 0, 0, AFTER_A_RUN_OVER_A_TREE),
-    (0, 0, 0, 0, OTHER_STORAGES),
-    (0, 0, 0, 0, NO_STORAGES),
-    (0, 0, 0, 0, NOTHING_CHANGED),
-    (2, 1_048_573, 1, 0, NEAR_THE_LAST_EPOCH),
-    (LAST, 1, 1, 0, AT_THE_LAST_SEQUENCE),
-    (LAST, 0, 1, 40, NO_SEQUENCE_FOR_SETTLING),
-    (LAST, 1, 1, 40, NO_SEQUENCE_FOR_A_SNAPSHOT),
-    (
-        2,
-        0,
-        1,
-        40,
-        "run # array 1 4|0 r 1 2| # 0 # 0.0 ok 1:1 0|durable 1|",
-    ),
-    (
-        2,
-        1,
-        1,
-        40,
-        "run # array 1 4| # 0 # durable 2|\ndump # # 0 # epoch 2|1 2 7|",
-    ),
-    (2, 1, 3, 0, MORE_PAGES_THAN_ARE_LET_IN),
-    (2, 1, 1, 41, DAMAGED),
-];
-
-fn check_kept<R: Threads + Wait + Sync + AllocGlobal + Abort>(
-    rt: &R,
-    kept: &(u64, u64, u64, u64, &str),
-) -> Result<(), Fail> {
-    let (sequence, epoch, pages, counted, rows) = *kept;
-    let mut vault = kept_vault(rt.alloc(), sequence, epoch, pages, counted)?;
-    check_rows(rt, &mut vault, rows)
-}
-
-#[test]
-fn a_call_begins_where_the_last_one_ended(rt: HostRuntime) -> Result<(), Fail> {
-    for kept in &CALLS {
-        check_kept(&rt, kept)?;
-    }
-    Ok(())
-}
-
-const A_SHORT_SAVE: &str = "\
-run # array 1 4|0 w 1 2 7; r 1 2|0 r 1 0| # 6 # damaged save 0|
-run # walk| # 1 # script 1 Word|
-";
-
-// A save device of another length, with and without a script.
-#[test]
-fn a_damaged_savepoint_runs_nothing(rt: HostRuntime) -> Result<(), Fail> {
-    let mut vault = vault_of(rt.alloc(), &[0; 3], &[], &[], &[])?;
-    check_rows(&rt, &mut vault, A_SHORT_SAVE)
-}

@@ -50,8 +50,6 @@ use program_calls::{Watcher, top};
 #[cfg(test)]
 use std::alloc::{AllocError, Global};
 #[cfg(test)]
-use std::process::Abort;
-#[cfg(test)]
 use std::sync::Wait;
 #[cfg(test)]
 use std::test::Fail;

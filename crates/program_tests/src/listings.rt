@@ -1,11 +1,9 @@
 // What a database tells of its snapshots: which there are, what each has, and why it can't be told.
-use super::failing_devices::failing_vault;
-use super::kept_runs::kept_vault;
 use super::*;
 
 // The words after the name, the script, the status and the text, with bars for newlines; one call after another. A
 // snapshot is made as the next run begins, of what was logged above the newest one.
-const RUNS: &str = "\
+pub(super) const RUNS: &str = "\
 snaps # # 0 #
 snap 0 # # 9 # no snapshot 0|
 run # array 1 4|0 w 1 2 7; r 1 2|0 r 1 0| # 0 # 0.0 ok 1:1 7|0.1 ok 1:2 0|durable 1|
@@ -33,7 +31,7 @@ snaps 3 # # 2 # usage|
 ";
 
 // Keys of trees that are removed are gone from the next snapshot only.
-const RUNS_OVER_A_TREE: &str = "\
+pub(super) const RUNS_OVER_A_TREE: &str = "\
 run # tree 2|array 1 4|0 w 2 5 0; w 2 9 1; w 1 1 3| # 0 # 0.0 ok 1:1|durable 1|
 run # tree 2|array 1 4|0 d 2 9; a 2 5 4; t 1 1 3| # 0 # 0.0 ok 2:1|durable 2|
 run # tree 2|array 1 4| # 0 # durable 3|
@@ -41,12 +39,6 @@ snap 1 # # 0 # epoch 1|1 1 3|2 5 0|2 9 1|
 snap 2 # # 0 # epoch 2|2 5 4|
 snap 3 # # 9 # no snapshot 3|
 ";
-
-#[test]
-fn each_snapshot_has_what_was_kept_then(rt: HostRuntime) -> Result<(), Fail> {
-    check_fresh(&rt, RUNS)?;
-    check_fresh(&rt, RUNS_OVER_A_TREE)
-}
 
 // The bytes with this one at a place that they have.
 fn with_byte(alloc: Global, bytes: &[u8], at: usize, byte: u8) -> Result<Vec<u8>, AllocError> {
@@ -115,7 +107,7 @@ snap 1 # # 6 # damaged snaps 1536|
     ),
 ];
 
-fn check_changed<R: Threads + Wait + Sync + AllocGlobal + Abort>(
+fn check_changed<R: Threads + Wait + Sync + AllocGlobal>(
     rt: &R,
     vault: &Vault<MemDisk>,
     at: usize,
@@ -125,7 +117,7 @@ fn check_changed<R: Threads + Wait + Sync + AllocGlobal + Abort>(
     check_rows(rt, &mut broken, rows)
 }
 
-fn check_broken<R: Threads + Wait + Sync + AllocGlobal + Abort>(
+fn check_broken<R: Threads + Wait + Sync + AllocGlobal>(
     rt: &R,
     vault: &Vault<MemDisk>,
 ) -> Result<(), Fail> {
@@ -135,54 +127,11 @@ fn check_broken<R: Threads + Wait + Sync + AllocGlobal + Abort>(
     Ok(())
 }
 
-fn check_short<R: Threads + Wait + Sync + AllocGlobal + Abort>(rt: &R) -> Result<(), Fail> {
-    let mut short = kept_vault(rt.alloc(), 2, 1, 1, 41)?;
-    check_row(rt, &mut short, "snap 7 # # 6 # damaged bank0 40|")
-}
-
 #[test]
 fn a_damaged_page_is_told(rt: HostRuntime) -> Result<(), Fail> {
     let mut vault = fresh_vault(rt.alloc())?;
     check_rows(&rt, &mut vault, RUNS)?;
-    check_broken(&rt, &vault)?;
-    check_short(&rt)
-}
-
-// The device, and what is asked for.
-const FAILING: [(&str, &str); 9] = [
-    ("save", "snaps"),
-    ("save", "snap 0"),
-    ("save", "snap 7"),
-    ("snaps", "snaps"),
-    ("snaps", "snap 0"),
-    ("snaps", "snap 7"),
-    ("bank0", "snaps"),
-    ("bank0", "snap 0"),
-    ("bank0", "snap 7"),
-];
-
-fn check_failing<R: Threads + Wait + Sync + AllocGlobal + Abort>(
-    rt: &R,
-    kept: &Vault<MemDisk>,
-    device: &str,
-    asked: &str,
-) -> Result<(), Fail> {
-    let mut vault = failing_vault(rt.alloc(), kept, device, 0)?;
-    let (status, told) = answer(rt, &mut vault, asked, b"")?;
-    assert!(rt; status == 5, "{device} {asked}");
-    let text = format!(in rt.alloc(); "device {device}\n")?;
-    assert_eq!(rt; told.as_slice(), text.as_bytes(), "{device} {asked}");
-    Ok(())
-}
-
-// The first call of each device that is read.
-#[test]
-fn a_device_that_fails_ends_a_listing(rt: HostRuntime) -> Result<(), Fail> {
-    let kept = kept_vault(rt.alloc(), 2, 1, 1, 40)?;
-    for (device, asked) in &FAILING {
-        check_failing(&rt, &kept, device, asked)?;
-    }
-    Ok(())
+    check_broken(&rt, &vault)
 }
 
 // The sink fails in the last line, and no source is read.

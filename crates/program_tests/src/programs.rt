@@ -1,8 +1,9 @@
 // The program over a folder: its files, its words, what it explains.
 use super::folders::check_file;
 use super::*;
+use call_notes::{ScriptSource, explanation};
 use program_calls::Ending;
-use program_entry::{ScriptSource, explanation, run_program};
+use program_entry::run_program;
 use std::fs::{self, File, Files};
 use std::process::ExitCode;
 
@@ -70,7 +71,7 @@ fn program_in<R: Threads + Wait + Sync + Files<File = File> + AllocGlobal>(
 }
 
 // Compares what the program answers and prints.
-fn check_program<R: Threads + Wait + Sync + Files<File = File> + AllocGlobal + Abort>(
+fn check_program<R: Threads + Wait + Sync + Files<File = File> + AllocGlobal>(
     rt: &R,
     folder: &str,
     (asked, script): (&str, &str),
@@ -78,12 +79,11 @@ fn check_program<R: Threads + Wait + Sync + Files<File = File> + AllocGlobal + A
     text: &str,
 ) -> Result<(), Fail> {
     let (code, texts) = program_in(rt, folder, asked, script)?;
-    assert!(rt; code == ExitCode::from(status), "{asked} {text}");
-    assert_eq!(rt; texts.told.bytes(), text.as_bytes(), "{asked}");
-    Ok(())
+    is_so(text, code == ExitCode::from(status))?;
+    is_same(asked, texts.told.bytes(), text.as_bytes())
 }
 
-fn take_name<R: Files<File = File> + AllocGlobal>(
+fn take_name<R: Threads + Wait + Sync + Files<File = File> + AllocGlobal>(
     rt: &R,
     folder: &str,
     name: &str,
@@ -164,7 +164,10 @@ const ALONE: [(&str, u8, &str); 5] = [
     ("", 2, "usage\n"),
 ];
 
-fn is_missing<R: Files<File = File> + AllocGlobal>(rt: &R, path: &str) -> bool {
+fn is_missing<R: Threads + Wait + Sync + Files<File = File> + AllocGlobal>(
+    rt: &R,
+    path: &str,
+) -> bool {
     fs::read(rt, path).is_err()
 }
 
@@ -176,7 +179,7 @@ fn no_file_is_made_for_a_script(rt: HostRuntime) -> Result<(), Fail> {
     let _old = fs::remove_dir_all(&rt, folder);
     for (asked, status, text) in &ALONE {
         check_program(&rt, folder, (asked, "array 1 4\n"), *status, text)?;
-        assert!(rt; is_missing(&rt, "foedus_unmade/save"), "{asked}");
+        is_so(asked, is_missing(&rt, "foedus_unmade/save"))?;
     }
     check_program(&rt, folder, ("dump", ""), 0, "epoch 0\n")?;
     check_file(&rt, "foedus_unmade/save", &[0; 1024])?;
@@ -199,13 +202,12 @@ const EXPLAINED: [&str; 10] = [
 ];
 
 #[test]
-fn each_status_is_explained(rt: HostRuntime) {
+fn each_status_is_explained(_rt: HostRuntime) -> Result<(), Fail> {
     for status in 1..10u8 {
-        assert!(rt;
-            explanation(status).starts_with(EXPLAINED[status as usize]),
-            "{status}"
-        );
+        let start = EXPLAINED[status as usize];
+        is_so(start, explanation(status).starts_with(start))?;
     }
+    Ok(())
 }
 
 // The word, the files that can't be had, of which the first in order is told, the status and the text.
@@ -219,15 +221,13 @@ const EXPLAINED_CALLS: [(&str, [&str; 2], u8, &str); 7] = [
     ("run", ["snaps", "save"], 5, "device save\n"),
 ];
 
-fn check_explained(rt: &impl Abort, explained: &[u8], status: u8, text: &str) {
-    assert!(rt;
-        explained.starts_with(EXPLAINED[status as usize % 10].as_bytes()),
-        "{text}"
-    );
-    assert!(rt; explained.is_empty() == (status == 0), "{text}");
+fn check_explained(explained: &[u8], status: u8, text: &str) -> Result<(), Fail> {
+    let start = EXPLAINED[status as usize % 10].as_bytes();
+    is_so(text, explained.starts_with(start))?;
+    is_so(text, explained.is_empty() == (status == 0))
 }
 
-fn check_taken<R: Threads + Wait + Sync + Files<File = File> + AllocGlobal + Abort>(
+fn check_taken<R: Threads + Wait + Sync + Files<File = File> + AllocGlobal>(
     rt: &R,
     word: &str,
     taken: [&str; 2],
@@ -235,10 +235,9 @@ fn check_taken<R: Threads + Wait + Sync + Files<File = File> + AllocGlobal + Abo
     text: &str,
 ) -> Result<(), Fail> {
     let (code, texts) = program(rt, word, taken)?;
-    assert!(rt; code == ExitCode::from(status), "{text}");
-    assert_eq!(rt; texts.told.bytes(), text.as_bytes());
-    check_explained(rt, texts.explained.bytes(), status, text);
-    Ok(())
+    is_so(text, code == ExitCode::from(status))?;
+    is_same(text, texts.told.bytes(), text.as_bytes())?;
+    check_explained(texts.explained.bytes(), status, text)
 }
 
 fn program_without_words<R: Threads + Wait + Sync + Files<File = File> + AllocGlobal>(
@@ -260,12 +259,14 @@ fn program_without_words<R: Threads + Wait + Sync + Files<File = File> + AllocGl
 }
 
 // Words that can't be had for want of memory.
-fn check_no_words<R: Threads + Wait + Sync + Files<File = File> + AllocGlobal + Abort>(rt: &R) {
+fn check_no_words<R: Threads + Wait + Sync + Files<File = File> + AllocGlobal>(
+    rt: &R,
+) -> Result<(), Fail> {
     let mut texts = Texts::new(rt.alloc());
     let code = program_without_words(rt, &mut texts);
-    assert!(rt; code == ExitCode::from(8));
-    assert!(rt; texts.told.bytes() == b"memory\n".as_slice());
-    check_explained(rt, texts.explained.bytes(), 8, "memory");
+    is_so("no words", code == ExitCode::from(8))?;
+    is_same("no words", texts.told.bytes(), b"memory\n")?;
+    check_explained(texts.explained.bytes(), 8, "memory")
 }
 
 // The words after the name, the script, and what is told beside the explanation.
@@ -298,13 +299,12 @@ const NOTED: [(&str, &str, &str); 8] = [
     ("--help", "", ""),
 ];
 
-fn check_noted<R: Threads + Wait + Sync + Files<File = File> + AllocGlobal + Abort>(
+fn check_noted<R: Threads + Wait + Sync + Files<File = File> + AllocGlobal>(
     rt: &R,
     (asked, script, noted): (&str, &str, &str),
 ) -> Result<(), Fail> {
     let (_code, texts) = program_in(rt, "foedus_noted", asked, script)?;
-    assert_eq!(rt; texts.noted.bytes(), noted.as_bytes(), "{asked}");
-    Ok(())
+    is_same(asked, texts.noted.bytes(), noted.as_bytes())
 }
 
 // What a call met is told beside the explanation of its status.
@@ -323,6 +323,5 @@ fn the_program_tells_and_explains(rt: HostRuntime) -> Result<(), Fail> {
     for (word, taken, status, text) in &EXPLAINED_CALLS {
         check_taken(&rt, word, *taken, *status, text)?;
     }
-    check_no_words(&rt);
-    Ok(())
+    check_no_words(&rt)
 }

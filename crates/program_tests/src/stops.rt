@@ -207,7 +207,7 @@ fn is_saved(saved: &[&str], dump: &[u8], from: usize) -> bool {
 }
 
 // Compares the snapshot of an epoch, if there is one, with what a dump tells once that epoch is saved.
-fn check_snapshot<R: Threads + Wait + Sync + AllocGlobal + Abort>(
+fn check_snapshot<R: Threads + Wait + Sync + AllocGlobal>(
     rt: &R,
     vault: &mut Vault<MemDisk>,
     epoch: usize,
@@ -216,13 +216,12 @@ fn check_snapshot<R: Threads + Wait + Sync + AllocGlobal + Abort>(
     let asked = format!(in rt.alloc(); "snap {epoch}")?;
     let (status, text) = answer_anew(rt, vault, asked.as_str(), b"")?;
     if status != 9 {
-        assert!(rt; status == 0, "{epoch}");
-        assert_eq!(rt; text.as_slice(), saved.as_bytes());
+        is_answer(saved, (status, &text), (0, saved.as_bytes()))?;
     }
     Ok(())
 }
 
-fn check_snapshots<R: Threads + Wait + Sync + AllocGlobal + Abort>(
+fn check_snapshots<R: Threads + Wait + Sync + AllocGlobal>(
     rt: &R,
     vault: &mut Vault<MemDisk>,
     rounds: &Rounds,
@@ -236,18 +235,18 @@ fn check_snapshots<R: Threads + Wait + Sync + AllocGlobal + Abort>(
 
 // Recovers what is held, with what is pending or without: one of the epochs is saved, from as many on as were told
 // durable.
-fn check_left<R: Threads + Wait + Sync + AllocGlobal + Abort>(
+fn check_left<R: Threads + Wait + Sync + AllocGlobal>(
     rt: &R,
     left: &mut Vault<MemDisk>,
     rounds: &Rounds,
     told: usize,
 ) -> Result<(), Fail> {
     let (_status, dump) = answer_anew(rt, left, "dump", b"")?;
-    assert!(rt; is_saved(&rounds.saved, &dump, told), "{told}");
+    is_so("a dump behind a stop", is_saved(&rounds.saved, &dump, told))?;
     check_snapshots(rt, left, rounds)
 }
 
-fn check_held<R: Threads + Wait + Sync + AllocGlobal + Abort>(
+fn check_held<R: Threads + Wait + Sync + AllocGlobal>(
     rt: &R,
     vaults: (&Vault<FuseDisk<MemDisk>>, &Vault<MemDisk>),
     pending: bool,
@@ -260,7 +259,7 @@ fn check_held<R: Threads + Wait + Sync + AllocGlobal + Abort>(
 }
 
 // The status of a run of the rounds, and how many epochs it tells durable.
-fn run_stopped<R: Threads + Wait + Sync + AllocGlobal + Abort>(
+fn run_stopped<R: Threads + Wait + Sync + AllocGlobal>(
     rt: &R,
     vault: &mut Vault<FuseDisk<MemDisk>>,
     rounds: &Rounds,
@@ -274,7 +273,7 @@ fn run_stopped<R: Threads + Wait + Sync + AllocGlobal + Abort>(
 
 // Runs the rounds over what a vault holds, of which this device passes so many calls, and recovers what is held then.
 // Whether the run was finished.
-fn check_stop<R: Threads + Wait + Sync + AllocGlobal + Abort>(
+fn check_stop<R: Threads + Wait + Sync + AllocGlobal>(
     rt: &R,
     first: &Vault<MemDisk>,
     rounds: &Rounds,
@@ -289,7 +288,7 @@ fn check_stop<R: Threads + Wait + Sync + AllocGlobal + Abort>(
 }
 
 // How many calls a device passes so that the rounds are finished.
-fn calls_needed<R: Threads + Wait + Sync + AllocGlobal + Abort>(
+fn calls_needed<R: Threads + Wait + Sync + AllocGlobal>(
     rt: &R,
     first: &Vault<MemDisk>,
     rounds: &Rounds,
@@ -304,23 +303,20 @@ fn calls_needed<R: Threads + Wait + Sync + AllocGlobal + Abort>(
 }
 
 // Stops each device of a run of these rounds at each of its calls, and then makes the whole run.
-fn check_stops<R: Threads + Wait + Sync + AllocGlobal + Abort>(
+fn check_stops<R: Threads + Wait + Sync + AllocGlobal>(
     rt: &R,
     vault: &mut Vault<MemDisk>,
     rounds: &Rounds,
 ) -> Result<(), Fail> {
     for device in &DEVICES {
         let calls = calls_needed(rt, vault, rounds, device)?;
-        assert!(rt; calls < MOST_CALLS, "{device}");
+        is_so(device, calls < MOST_CALLS)?;
     }
     let (status, _text) = answer_anew(rt, vault, "run", rounds.script)?;
-    assert_eq!(rt; status, 0);
-    Ok(())
+    is_so("the whole run", status == 0)
 }
 
-fn check_with_snapshots<R: Threads + Wait + Sync + AllocGlobal + Abort>(
-    rt: &R,
-) -> Result<(), Fail> {
+fn check_with_snapshots<R: Threads + Wait + Sync + AllocGlobal>(rt: &R) -> Result<(), Fail> {
     let mut vault = fresh_vault(rt.alloc())?;
     check_stops(rt, &mut vault, &WITH_SNAPSHOTS)
 }

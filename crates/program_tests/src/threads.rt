@@ -75,7 +75,7 @@ fn plain_line(
 }
 
 // The lines of a round that got numbers, by draw. No two have one.
-fn by_number<'a, R: AllocGlobal + Abort>(
+fn by_number<'a, R: AllocGlobal>(
     rt: &R,
     told: &[&'a str],
 ) -> Result<BTreeMap<u64, Told<'a>>, Fail> {
@@ -84,14 +84,14 @@ fn by_number<'a, R: AllocGlobal + Abort>(
         if let Some(number) = number_of(text)? {
             let (worker, line) = place_of(text)?;
             let other = lines.insert(number.draw, (worker, line, *text))?;
-            assert!(rt; other.is_none(), "{text}");
+            is_so(text, other.is_none())?;
         }
     }
     Ok(lines)
 }
 
 // Checks what is told of a round: by number its commits are what the plain engine gives, and each worker's rise.
-fn check_round<R: AllocGlobal + Abort>(
+fn check_round<R: AllocGlobal>(
     rt: &R,
     plain: &mut Plain,
     round: &Round<'_>,
@@ -109,9 +109,9 @@ fn check_round<R: AllocGlobal + Abort>(
         let number = Number { epoch, draw: *draw };
         let mut want = plain_line(alloc, plain, (*worker, *line), number, &ops)?;
         let _newline = want.pop();
-        assert_eq!(rt; text.as_bytes(), want.as_slice(), "{text}");
+        is_same(text, text.as_bytes(), &want)?;
         let before = &mut last[*worker as usize % 8];
-        assert!(rt; *before < Some(*line), "{text}");
+        is_so(text, *before < Some(*line))?;
         *before = Some(*line);
     }
     Ok(())
@@ -119,11 +119,7 @@ fn check_round<R: AllocGlobal + Abort>(
 
 // Checks what is told of a run over a fresh database: a line for each of the script's, and each round as above. Answers
 // what the plain engine has then.
-fn check_serial<R: AllocGlobal + Abort>(
-    rt: &R,
-    script: &Script,
-    told: &str,
-) -> Result<Plain, Fail> {
+fn check_serial<R: AllocGlobal>(rt: &R, script: &Script, told: &str) -> Result<Plain, Fail> {
     let alloc = rt.alloc();
     let mut plain = Plain::new(alloc, script.decls())?;
     let mut lines = told.lines();
@@ -134,9 +130,12 @@ fn check_serial<R: AllocGlobal + Abort>(
             of_round.push(lines.next().unwrap_or(""))?;
         }
         check_round(rt, &mut plain, &round, &of_round)?;
-        assert!(rt; lines.next().unwrap_or("").starts_with("durable "));
+        is_so(
+            "a durable line",
+            lines.next().unwrap_or("").starts_with("durable "),
+        )?;
     }
-    assert!(rt; lines.next().is_none());
+    is_so("the last line", lines.next().is_none())?;
     Ok(plain)
 }
 
@@ -149,7 +148,7 @@ fn text_of(alloc: Global, plain: &Plain, epoch: u32) -> Result<Vec<u8>, Fail> {
 
 // Runs a script on threads over a fresh database, and checks what is told of it, and that the database keeps what the
 // plain engine has then. Answers the database.
-fn run_checked<R: Threads + Wait + Sync + AllocGlobal + Abort>(
+fn run_checked<R: Threads + Wait + Sync + AllocGlobal>(
     rt: &R,
     bytes: &[u8],
 ) -> Result<Vault<MemDisk>, Fail> {
@@ -159,7 +158,7 @@ fn run_checked<R: Threads + Wait + Sync + AllocGlobal + Abort>(
     };
     let mut vault = fresh_vault(alloc)?;
     let (status, told) = answer_by(rt, &mut vault, "run --tries 1000000", bytes, &OpenGate)?;
-    assert!(rt; status == 0);
+    is_so("a run on threads", status == 0)?;
     let plain = check_serial(rt, &script, str::from_utf8(&told)?)?;
     let Ok(epoch) = u32::try_from(script.rounds()) else {
         return Err(Fail::from("too many rounds"));
@@ -237,8 +236,11 @@ fn eight_workers_are_summed_up(rt: HostRuntime) -> Result<(), Fail> {
         let mut vault = fresh_vault(alloc)?;
         let asked = "run --brief --tries 1000000";
         let (status, told) = answer_by(&rt, &mut vault, asked, &script, &OpenGate)?;
-        assert!(rt; status == 0);
-        assert!(rt; told.as_slice() == b"commits 400\ntotal 1800\ndurable 1\n".as_slice());
+        is_answer(
+            "a sum",
+            (status, &told),
+            (0, b"commits 400\ntotal 1800\ndurable 1\n"),
+        )?;
     }
     Ok(())
 }
@@ -304,9 +306,10 @@ fn workers_overlap(rt: HostRuntime) -> Result<(), Fail> {
         met: AtomicU64::new(0),
     };
     let (status, _text) = call(&rt, "run", b"array 1 1\n0 r 1 0\n1 r 1 0\n", 9, 9, &gate)?;
-    assert_eq!(rt; status, 0);
-    assert_eq!(rt; gate.met.load(Ordering::SeqCst), 2);
-    Ok(())
+    is_so(
+        "two workers met",
+        status == 0 && gate.met.load(Ordering::SeqCst) == 2,
+    )
 }
 
 // The words of each line of a text but for its number.
@@ -357,11 +360,8 @@ fn others_go_on(rt: HostRuntime) -> Result<(), Fail> {
         let (status, told) = answer_by(&rt, &mut vault, "run", &script, &OpenGate)?;
         let mut want = half_run(alloc, failing)?;
         want.extend_from_slice(last.as_bytes())?;
-        assert_eq!(rt; status, 5);
-        assert_eq!(rt;
-            without_numbers(alloc, str::from_utf8(&told)?)?.as_slice(),
-            want.as_slice()
-        );
+        let text = without_numbers(alloc, str::from_utf8(&told)?)?;
+        is_answer(device, (status, &text), (5, &want))?;
         check_row(&rt, &mut vault, "dump # # 0 # epoch 0|")?;
     }
     Ok(())

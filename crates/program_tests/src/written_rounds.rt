@@ -66,8 +66,10 @@ fn a_round_is_written_before_the_next_one(rt: HostRuntime) -> Result<(), Fail> {
     let mut vault = fresh_vault(alloc)?;
     let words = words(alloc, "run")?;
     let status = ended(&rt, &words, &mut source, &mut sink, &mut vault, &gate)?;
-    assert_eq!(rt; status, 0);
-    assert_eq!(rt; gate.seen.load(Ordering::SeqCst), 21_044);
-    assert_eq!(rt; written.load(Ordering::SeqCst), 67);
-    Ok(())
+    is_so("a run", status == 0)?;
+    is_so(
+        "what was written",
+        gate.seen.load(Ordering::SeqCst) == 21_044,
+    )?;
+    is_so("all that was written", written.load(Ordering::SeqCst) == 67)
 }

@@ -10,13 +10,13 @@ use Rattle.program_calls.proofs.brief.read_total.Goals as goal
 pub returns-in-Ok-clause-total : goal.returns-in-Ok-clause-total
 returns-in-Ok-clause-total g c = λ was.
     is_read (vaults_of g.D.Disk.tells g.D.Disk.clock g.D.Disk.image_at g.D.Disk.faults was c.recover.new.vault)
-    c.args.vault.now c.in-Ok.kept _ c.in-Ok.ensures.quiet
-    (λ now told. c.in-Ok.ensures.recovers now (told_back _ _ now c.recover.ensures.reads told)) c.total_of.ensures
+    c.args.vault.now c.in-Ok.kept _ (c.in-Ok.ensures.devices.spared (λ device is. let no = is in cc))
+    (λ now told. c.in-Ok.ensures.recovers now (told_back _ _ now c.recover.ensures.devices.reads told)) c.total_of.ensures
 
 pub returns-in-Err-clause-total : goal.returns-in-Err-clause-total
 returns-in-Err-clause-total g c = λ was.
     is_refused (vaults_of g.D.Disk.tells g.D.Disk.clock g.D.Disk.image_at g.D.Disk.faults was c.recover.new.vault)
     c.args.vault.now c.in-Err.field-0
     (λ device n same. c.in-Err.ensures.damaged device n (ap (λ (x : OrMemory RecoverFault). Err x) same))
-    (λ device same. c.in-Err.ensures.device device (ap (λ (x : OrMemory RecoverFault). Err x) same))
+    (λ device same. c.in-Err.ensures.devices.device device (ap (λ (x : OrMemory RecoverFault). Err x) same))
     (λ device same. c.in-Err.ensures.before device (ap (λ (x : OrMemory RecoverFault). Err x) same))

@@ -1,7 +1,7 @@
 -- The word, the device and the byte.
 use Rattle.std.proofs.Common.{[], ◌∷◌}
 use Rattle.std.specs.Prelude.{codes, decimal}
-use Rattle.program_calls.specs.Devices.{device_name}
+use Rattle.database_files.specs.Names.{device_name}
 use Rattle.text_output.specs.Printed.{adds_then, breaks_then, breaks_within, prints_at_stop, prints_then}
 use Rattle.program_calls.proofs.ending.put_damaged.Goals as goal
 

@@ -1,7 +1,7 @@
 -- The word, the name of the device, and the end of the line.
 use Rattle.std.proofs.Common.{[], ◌∷◌}
 use Rattle.text_output.specs.Printed.{adds_then, breaks_then, breaks_within, prints_at_stop, prints_then}
-use Rattle.program_calls.specs.Devices.{device_name}
+use Rattle.database_files.specs.Names.{device_name}
 use Rattle.program_calls.proofs.ending.put_device.Goals as goal
 
 pub returns-in_err-put : goal.returns-in_err-put

@@ -1,9 +1,8 @@
-// Why a database can't be opened.
+// How it is told that a database can't be opened.
 ghost use Rattle.std.specs.Prelude.{◌≡◌};
-ghost use Rattle.program_calls.specs.declared.ending.Ending.TheVariants as endings;
+ghost use Rattle.database_files.specs.declared.not_opened.NotOpened.TheVariants as refusals;
 
 use outside::Device;
-use program_calls::Ending;
 use std::alloc::{AllocError, AllocFailed};
 use std::io::{self, ErrorKind};
 
@@ -30,46 +29,28 @@ impl Why {
     }
 }
 
-/// How a call ends whose database can't be opened, and why, where that is known.
+/// Why a database can't be opened.
 #[derive(Drop)]
-pub struct NotOpened {
-    pub ending: Ending,
-    pub why: Option<Why>,
-}
-
-impl NotOpened {
-    pub(crate) fn without(device: Device, why: Why) -> Self
-        ensures { result.ending ≡ endings.NoDevice device }
-    {
-        NotOpened {
-            ending: Ending::NoDevice(device),
-            why: Some(why),
-        }
-    }
-
-    fn no_memory() -> Self
-        ensures { result.ending ≡ endings.NoMemory }
-    {
-        NotOpened {
-            ending: Ending::NoMemory,
-            why: None,
-        }
-    }
+pub enum NotOpened {
+    /// The file of a device can't be had, and why.
+    Without(Device, Why),
+    /// Memory was wanted.
+    NoMemory,
 }
 
 impl From<AllocError> for NotOpened {
-    ghost from_gives = { λ _ error. error.ending ≡ endings.NoMemory };
+    ghost from_gives = { λ _ error. error ≡ refusals.NoMemory };
 
     fn from(_error: AllocError) -> NotOpened {
-        NotOpened::no_memory()
+        NotOpened::NoMemory
     }
 }
 
 impl<T: Drop> From<AllocFailed<T>> for NotOpened {
-    ghost from_gives = { λ _ error. error.ending ≡ endings.NoMemory };
+    ghost from_gives = { λ _ error. error ≡ refusals.NoMemory };
 
     fn from(_error: AllocFailed<T>) -> NotOpened {
-        NotOpened::no_memory()
+        NotOpened::NoMemory
     }
 }
 

@@ -2,7 +2,7 @@
 ghost use Rattle.std.specs.Prelude.{◌≡◌, ◌≤ℤ◌, IfErr, IfOk, pos};
 ghost use Rattle.std.specs.Fd.{file_raw_fd};
 ghost use Rattle.outside.specs.declared.device.Device.TheVariants.{Save};
-ghost use Rattle.program_calls.specs.OnTheWay.{IsWithout};
+ghost use Rattle.database_files.specs.Opening.{IsWithout};
 
 use crate::not_opened::{NotOpened, Why};
 use crate::opening::{Access, has_bytes, lock, making, open_apart, sync_folder};
@@ -41,7 +41,7 @@ pub(crate) fn open_save<R: Files<File = File>>(
     folder: &str,
     access: Access,
 ) -> Result<SaveFile, NotOpened>
-    ensures { IfErr result (λ error. IsWithout Save error.ending) }
+    ensures { IfErr result (IsWithout Save) }
 {
     let path = device_path(alloc, folder, Device::Save)?;
     let draft = format!(in alloc; "{path}.new")?;
@@ -53,7 +53,7 @@ pub(crate) fn open_save<R: Files<File = File>>(
             draft,
         }),
         Err(why) if why.is_missing() => begin_save(rt, alloc, folder, access, path, draft),
-        Err(why) => Err(NotOpened::without(Device::Save, why)),
+        Err(why) => Err(NotOpened::Without(Device::Save, why)),
     }
 }
 
@@ -72,12 +72,12 @@ fn begin_save<R: Files<File = File>>(
     path: String,
     draft: String,
 ) -> Result<SaveFile, NotOpened>
-    ensures { IfErr result (λ error. IsWithout Save error.ending) }
+    ensures { IfErr result (IsWithout Save) }
 {
     let around = format!(in alloc; "{folder}/..")?;
     let others = other_paths(alloc, folder)?;
     if let Err(why) = make_folder(rt, folder, around.as_str()) {
-        return Err(NotOpened::without(Device::Save, why));
+        return Err(NotOpened::Without(Device::Save, why));
     }
     match draft_save(rt, path.as_str(), draft.as_str(), &others, access) {
         Ok((file, is_draft)) => Ok(SaveFile {
@@ -86,7 +86,7 @@ fn begin_save<R: Files<File = File>>(
             path,
             draft,
         }),
-        Err(why) => Err(NotOpened::without(Device::Save, why)),
+        Err(why) => Err(NotOpened::Without(Device::Save, why)),
     }
 }
 

@@ -1,13 +1,13 @@
 // The names of a database's files.
 ghost use Rattle.std.specs.Prelude.{◌≡◌, ◌++◌, codes, IfOk};
 ghost use Rattle.std.specs.String.{string_bytes};
-ghost use Rattle.program_calls.specs.Devices.{device_name};
+ghost use Rattle.database_files.specs.Names.{device_name};
 
 use outside::Device;
 use std::alloc::{AllocError, Global};
 
 /// The file of a device in a folder.
-pub(crate) fn device_path(alloc: Global, folder: &str, device: Device) -> Result<String, AllocError>
+pub fn device_path(alloc: Global, folder: &str, device: Device) -> Result<String, AllocError>
     ensures { IfOk result (λ path. string_bytes path
         ≡ folder.now ++ codes "/" ++ device_name device) }
 {

@@ -1,7 +1,7 @@
 // The database directory: a folder with a file for each device.
 ghost use Rattle.std.specs.Prelude.{◌≡◌, IfErr, IfOk};
 ghost use Rattle.log_writer.specs.Vault.{IsWhole};
-ghost use Rattle.program_calls.specs.OnTheWay.{IsEarly, IsWithout};
+ghost use Rattle.database_files.specs.Opening.{IsWithout};
 
 use crate::not_opened::{NotOpened, Why};
 use crate::opening::{Access, making, open_apart};
@@ -36,7 +36,6 @@ pub fn open_vault<R: Files<File = File>>(
     access: Access,
 ) -> Result<Opened, NotOpened>
     ensures whole { IfOk result (λ opened. IsWhole opened.vault) }
-    ensures early { IfErr result (λ error. IsEarly error.ending) }
 {
     let save = open_save(rt, alloc, folder, access)?;
     let mut others = Others {
@@ -82,12 +81,12 @@ struct Others<'a, R: Files<File = File>> {
 
 impl<'a, R: Files<File = File>> Others<'a, R> {
     fn open(&mut self, device: Device) -> Result<FileDisk, NotOpened>
-        ensures { IfErr result (λ error. IsWithout device error.ending) }
+        ensures { IfErr result (IsWithout device) }
     {
         let path = device_path(self.alloc, self.folder, device)?;
         match self.open_or_make(device, path.as_str()) {
             Ok(file) => Ok(FileDisk::new(file)),
-            Err(why) => Err(NotOpened::without(device, why)),
+            Err(why) => Err(NotOpened::Without(device, why)),
         }
     }
 
@@ -102,9 +101,7 @@ impl<'a, R: Files<File = File>> Others<'a, R> {
     }
 
     // Makes what was made stay there. Where that fails, the first that was made can't be had.
-    fn stay(&self, save: &SaveFile) -> Result<(), NotOpened>
-        ensures { IfErr result (λ error. IsEarly error.ending) }
-    {
+    fn stay(&self, save: &SaveFile) -> Result<(), NotOpened> {
         let first = if save.is_draft {
             Some(Device::Save)
         } else {
@@ -115,13 +112,13 @@ impl<'a, R: Files<File = File>> Others<'a, R> {
         };
         match give_name(self.rt, self.folder, save) {
             Ok(()) => Ok(()),
-            Err(error) => Err(NotOpened::without(device, Why::System(error))),
+            Err(error) => Err(NotOpened::Without(device, Why::System(error))),
         }
     }
 }
 
 /// A database of no bytes and no files, for calls that leave the database alone.
-pub(crate) fn no_vault(alloc: Global) -> Result<Vault<MemDisk>, AllocError>
+pub fn no_vault(alloc: Global) -> Result<Vault<MemDisk>, AllocError>
     ensures { IfOk result IsWhole }
 {
     let mut even = Vec::new(alloc);

@@ -1,14 +1,10 @@
 // What a person is told on standard error beside the explanation of the status: what this call met.
 use crate::faulty_line::fault_lines;
-use crate::files::Opened;
-use crate::not_opened::{NotOpened, Why};
-use crate::opening::Access;
-use crate::paths::device_path;
 use crate::refused_words::reason;
 use crate::script_source::Remembers;
+use database_files::{Access, NotOpened, Opened, Why, device_path};
 use log_writer::Vault;
 use outside::{Device, FileDisk, Sink};
-use program_calls::Ending;
 use std::alloc::{AllocError, Global};
 use std::io;
 
@@ -23,12 +19,12 @@ fn put<N: Sink>(notes: &mut N, text: Result<String, AllocError>) {
 }
 
 /// That words were refused which are no text.
-pub(crate) fn tell_no_text<N: Sink>(notes: &mut N) {
+pub fn tell_no_text<N: Sink>(notes: &mut N) {
     let _ = notes.write(b"foedus: a word isn't UTF-8 text\n");
 }
 
 /// What is wrong with refused words.
-pub(crate) fn tell_refused<N: Sink>(alloc: Global, notes: &mut N, words: &[&str]) {
+pub fn tell_refused<N: Sink>(alloc: Global, notes: &mut N, words: &[&str]) {
     put(notes, refusal(alloc, words));
 }
 
@@ -42,20 +38,15 @@ fn refusal(alloc: Global, words: &[&str]) -> Result<String, AllocError> {
 
 /// What a call asks of the database in a folder.
 #[derive(Clone, Copy)]
-pub(crate) struct Asked<'a> {
-    pub(crate) folder: &'a str,
-    pub(crate) access: Access,
+pub struct Asked<'a> {
+    pub folder: &'a str,
+    pub access: Access,
     /// Whether it reads a script that somebody types.
-    pub(crate) is_typed: bool,
+    pub is_typed: bool,
 }
 
 /// That a script is read which somebody types, or that a database was made by a call that was to tell of one.
-pub(crate) fn tell_opened<N: Sink>(
-    alloc: Global,
-    notes: &mut N,
-    asked: Asked<'_>,
-    opened: &Opened,
-) {
+pub fn tell_opened<N: Sink>(alloc: Global, notes: &mut N, asked: Asked<'_>, opened: &Opened) {
     if asked.is_typed {
         let _ = notes.write(TYPED);
     }
@@ -71,13 +62,8 @@ fn new_told(alloc: Global, folder: &str) -> Result<String, AllocError> {
 }
 
 /// Why a database couldn't be opened.
-pub(crate) fn tell_not_opened<N: Sink>(
-    alloc: Global,
-    notes: &mut N,
-    folder: &str,
-    error: &NotOpened,
-) {
-    if let (Ending::NoDevice(device), Some(why)) = (&error.ending, &error.why) {
+pub fn tell_not_opened<N: Sink>(alloc: Global, notes: &mut N, folder: &str, error: &NotOpened) {
+    if let NotOpened::Without(device, why) = error {
         put(notes, cause(alloc, folder, *device, why));
     }
 }
@@ -103,12 +89,7 @@ fn system_cause(alloc: Global, path: &str, error: io::Error) -> Result<String, A
 }
 
 /// What the system said to the calls of devices that it refused.
-pub(crate) fn tell_causes<N: Sink>(
-    alloc: Global,
-    notes: &mut N,
-    folder: &str,
-    vault: &Vault<FileDisk>,
-) {
+pub fn tell_causes<N: Sink>(alloc: Global, notes: &mut N, folder: &str, vault: &Vault<FileDisk>) {
     tell_cause(alloc, notes, folder, Device::Save, &vault.save);
     tell_cause(alloc, notes, folder, Device::Snaps, &vault.snaps);
     for (worker, disk) in vault.even.iter().enumerate() {
@@ -136,6 +117,6 @@ fn tell_cause<N: Sink>(
 }
 
 /// The faulty line of a script, and what its kind of fault is.
-pub(crate) fn tell_faulty_line<N: Sink, S: Remembers>(alloc: Global, notes: &mut N, source: &S) {
+pub fn tell_faulty_line<N: Sink, S: Remembers>(alloc: Global, notes: &mut N, source: &S) {
     put(notes, fault_lines(alloc, source.front(), source.is_whole()));
 }

@@ -12,14 +12,14 @@ const STREAMS: i32 = 3;
 /// the least place that is free: without these, what is printed would be written into the database's first file. The
 /// root folder can be opened by anybody, and both reading and writing it fail, as of a closed stream.
 #[derive(Drop)]
-pub(crate) struct Places {
+pub struct Places {
     _first: Option<File>,
     _second: Option<File>,
     _third: Option<File>,
 }
 
 /// Fills the places of standard streams that are closed.
-pub(crate) fn fill_places<R: Files<File = File>>(rt: &R) -> Places {
+pub fn fill_places<R: Files<File = File>>(rt: &R) -> Places {
     Places {
         _first: fill_place(rt),
         _second: fill_place(rt),

@@ -1,0 +1,14 @@
+pub mod Layout
+pub mod Pages
+pub mod Resident
+pub mod Words
+pub mod Views
+pub mod Rule
+pub mod Stays
+pub mod Steps
+pub mod Slots
+pub mod Beginning
+pub mod BeginningLaws
+pub mod Loads
+pub mod Pointers
+pub mod Passes

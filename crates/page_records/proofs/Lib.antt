@@ -1,0 +1,15 @@
+pub mod Leaves
+pub mod Contents
+pub mod Commits
+pub mod Looks
+pub mod Seeing
+pub mod Values
+pub mod Settling
+pub mod Placing
+pub mod Holding
+pub mod Opening
+pub mod Putting
+pub mod Trying
+pub mod FirstWords
+pub mod Drawing
+pub mod Deciding

@@ -1,0 +1,276 @@
+-- A lock is opened by a store of its record's word: with the word that it found, or with the number of the attempt that
+-- counts.
+use Rattle.std.proofs.Common.{◌≡◌, inl, inr, ℕ, ◌+◌, ◌<◌, Bool, true, false, true≢false, not, cond, List}
+use Rattle.std.proofs.Common.{set, refl, sym, ap, ◌∙◌, subst, arith, Option, Some, None}
+use Rattle.std.specs.Prelude.{◌&&◌, filter, is_some}
+use Rattle.std.specs.List.{Contains, slice_get}
+use Rattle.std.specs.Option.{option_map_or}
+use Rattle.std.proofs.lemmas.Bool.{and_from}
+use Rattle.atomic_table.specs.Table.{Me, Allows}
+use Rattle.lists.specs.Elements.{at_in}
+use Rattle.serial_model.specs.declared.key.Key.{Key}
+use Rattle.serial_model.specs.Numbers.{IsBelow}
+use Rattle.homes.specs.declared.places.Content.{Content}
+use Rattle.homes.specs.declared.places.Holder.{Holder}
+use Rattle.homes.specs.declared.places.Holder.TheVariants.{Free, Dead}
+use Rattle.homes.specs.declared.places.Spot.{Spot}
+use Rattle.wire_form.specs.Words.{number_word}
+use Rattle.commit_core.specs.declared.attempt.Attempt.{Attempt}
+use Rattle.commit_core.specs.declared.event.Act.TheVariants.{Open}
+use Rattle.commit_core.specs.declared.place.Place.{Place}
+use Rattle.commit_core.specs.declared.seat.Mark.{Mark}
+use Rattle.commit_core.specs.declared.seat.Seat.{Seat}
+use Rattle.commit_core.specs.declared.seat.Stage.{Stage}
+use Rattle.commit_core.specs.declared.seat.Stage.TheVariants.{Idle, Trying, Ended, Decided}
+use Rattle.commit_core.specs.declared.story.Story.{Story}
+use Rattle.commit_core.specs.CoreState.{can_begin, is_trying, attempt_decided}
+use Rattle.commit_core.specs.Event.{opened as opened_places}
+use Rattle.commit_core.specs.Keys.{same_key, has_key, content_of, opening_number, written as value_written}
+use Rattle.commit_core.specs.Keys.{writes_key, IsUpTo}
+use Rattle.commit_core.specs.CoreState.{last_marked}
+use Rattle.homes.specs.declared.places.Home.TheVariants.{InSlot}
+use Rattle.commit_core.specs.Places.{place, place_of, home_of, stands, placed, spot_at, spot_of, is_held_at, holder_is}
+use Rattle.commit_core.specs.Sound.Homes.{HomeHeld, half_put}
+use Rattle.commit_core.specs.Sound.Locks.{AttemptStands}
+use Rattle.engine_pages.specs.declared.layout.Layout.{Layout}
+use Rattle.engine_pages.specs.declared.view.View.{View}
+use Rattle.engine_pages.specs.Pages.{is_array}
+use Rattle.engine_pages.specs.Rule.{Shared, WriteValues, KeptAreRecords, KeptIsLow, IsHeld, Shows}
+use Rattle.engine_pages.specs.Views.{IsActive, seat_number, tries}
+use Rattle.engine_pages.specs.Words.{IsSmall, ShowsRecord}
+use Rattle.engine_pages.proofs.Joint.{Laws, seat_sound}
+use Rattle.engine_pages.proofs.OwnView.{own_fits, part_goes}
+use Rattle.engine_pages.proofs.Seats.{at_front, records_none}
+use Rattle.engine_pages.proofs.Turns.{Begins, allows_at, marks_stay, tried_goes, written}
+use Rattle.page_records.specs.Locks.{took_at, opened, CanOpenAgain, CanOpenAnew}
+use Rattle.page_records.specs.Records.{IsRecordAt}
+use Rattle.page_records.proofs.Commits.{pages_kept, frame_kept, commit_stride}
+use Rattle.page_records.proofs.Contents.{stands_there, value_written as no_absence}
+use Rattle.page_records.proofs.Leaves.{array_is, header_is, known, leaf_keys, page_is, shown, tree_is, word_is}
+use Rattle.page_records.proofs.Placing.{Replaced, replaced_leaf, replaced_shows, low_replaced, low_none, held_other, not_at_other}
+use Rattle.page_records.proofs.Settling.{settled_trying, settled_idle, settled_tried, settled_marks, settled_kept}
+
+pub held_alive : (p : ℕ) (h : Holder) → holder_is p h ≡ true → h ≡ Dead → ⊥
+held_alive p h held dead = true≢false (sym held ∙ ap (holder_is p) dead)
+
+-- where a record that the pass locked stands
+taken_at : (l : Layout) (words : List ℕ) (views : List View) (s : Shared) (id : ℕ) (v : View) (k : Key) (x : Spot) (n : ℕ)
+    → Begins l words views s id v → Contains v.took (took_at k x n) → IsHeld s.story (seat_number v.role) (took_at k x n) x
+taken_at l words views s id v k x n b has =
+    let t = b.own.took (took_at k x n) has in
+    subst (IsHeld s.story (seat_number v.role) (took_at k x n)) (sym t.1.spot) t.1
+
+pub taken_home : (l : Layout) (words : List ℕ) (views : List View) (s : Shared) (id : ℕ) (v : View) (k : Key) (x : Spot) (n : ℕ)
+    → Begins l words views s id v → Contains v.took (took_at k x n) → home_of s.story.homes k ≡ InSlot x
+taken_home l words views s id v k x n b has = (taken_at l words views s id v k x n b has).home
+
+pub taken_held : (l : Layout) (words : List ℕ) (views : List View) (s : Shared) (id : ℕ) (v : View) (k : Key) (x : Spot) (n : ℕ)
+    → Begins l words views s id v → Contains v.took (took_at k x n)
+    → holder_is (seat_number v.role) (place_of s.story.places x).holder ≡ true
+taken_held l words views s id v k x n b has = (taken_at l words views s id v k x n b has).own
+
+-- The word that is stored is that of the number which the machine gives the place: its own, or that of the attempt which
+-- counts.
+record Numbered (s : Shared) (v : View) (k : Key) (q : Place) (n : ℕ) : Type 0 where
+  o : Option Attempt
+  is : attempt_decided s.story.history v.seat.stage ≡ o
+  put : option_map_or (λ _. has_key v.seat.put k) o true ≡ true
+  word : number_word (option_map_or (λ b. b.number) o q.content.number) ≡ n
+  small : IsSmall (option_map_or (λ b. b.number) o q.content.number)
+  rise : IsUpTo q.content.number (option_map_or (λ b. b.number) o q.content.number)
+  never : q.content.value ≡ None → option_map_or (λ b. b.number) o q.content.number ≡ opening_number
+
+opens_to : Laws → (l : Layout) (slots id : ℕ) (me : Me (Unit {0}) View) (k : Key) (x : Spot)
+    (at n found : ℕ) → IsActive me.0.role → IsRecordAt me.0 k x at → is_trying me.0.seat.stage ≡ false
+    → Contains me.0.took (took_at k x found)
+    → ((words : List ℕ) (views : List View) (s : Shared) → Begins l words views s id me.0
+    → ShowsRecord words at (place_of s.story.places x)
+    → holder_is (seat_number me.0.role) (place_of s.story.places x).holder ≡ true
+    → Numbered s me.0 k (place_of s.story.places x) n)
+    → Allows (λ s. Shows l s.words s.views) slots id me at (λ _. n)
+    (λ _ now. (now.1 ≡ me.1) × (now.0 ≡ opened k at n me.0))
+opens_to laws l slots id me k x at n found active is resting took gives =
+    allows_at laws l slots id me at (λ _. n) (λ v _ w. w ≡ opened k at n v) active (λ words views s b.
+    let v = me.0 in
+    let p = seat_number v.role in
+    let m = s.story in
+    let h = b.sound in
+    let f = b.fits in
+    let own = b.own in
+    let shows : ShowsRecord words at (place_of m.places x) = shown l words views s id v b k x at is in
+    let q = place_of m.places x in
+    let at-home = taken_home l words views s id v k x found b took in
+    let spot-is : spot_at m.homes k ≡ Some x = ap spot_of at-home in
+    let held : holder_is p q.holder ≡ true = taken_held l words views s id v k x found b took in
+    let alive : q.holder ≡ Dead → ⊥ = held_alive p q.holder held in
+    let g = gives words views s b shows held in
+    let q' : Place = place (content_of (option_map_or (λ b. b.number) g.o q.content.number) q.content.value) Free in
+    let next : Story = record m { places = placed m.places x q' } in
+    let s' : Seat = record v.seat { locks = filter (λ y. not (same_key y k)) v.seat.locks } in
+    let w = opened k at n v in
+    let same : tries w ≡ tries v = ap (λ b. cond b 1 0) (settled_trying s') in
+    let word = word_is l words views s id v b k x at is in
+    let wr = written words at n (let long = h.shown.long in let c = word.slot in let i = word.within in let a = word.word in omega arith) in
+    let words' = set words at n in
+    let leaf = page_is l words views s id v b k x at is in
+    let keys = leaf_keys l words views s id v b k x at is in
+    let new : Replaced l words words' m x at q' = record {
+      word = word;
+      alive = alive;
+      long = wr.long;
+      others = λ j other _. wr.others j other;
+      shows = record {
+        word = let word = g.word in let here = wr.here in omega arith;
+        value = wr.others (at + 1) (λ e. absurd (omega arith)) ∙ shows.value;
+        never = g.never;
+        small = g.small;
+      };
+    } in
+    let one = replaced_leaf l words words' s x at q' keys (known l words views s id v b k x at is)
+    (header_is l words views s id v b k x at is) leaf new in
+    let now = pages_kept laws l words words' views s id v active b next x.slot one in
+    commit_stride laws l words views s id v active b at (λ _. n) (Open k) next w (λ v _ w. w ≡ opened k at n v) record {
+      lets = refl;
+      allowed = and_from (not (is_trying v.seat.stage))
+          (is_held_at p m.places (spot_at m.homes k)
+          && option_map_or (λ _. has_key v.seat.put k) (attempt_decided m.history v.seat.stage) true)
+          (ap not resting)
+          (and_from (is_held_at p m.places (spot_at m.homes k))
+          (option_map_or (λ _. has_key v.seat.put k) (attempt_decided m.history v.seat.stage) true)
+          (ap (is_held_at p m.places) spot-is ∙ held)
+          (ap (λ o. option_map_or (λ _. has_key v.seat.put k) o true) g.is ∙ g.put));
+      story-is = ap (λ o. let z : Story = record m { places = opened_places o m.places (spot_at m.homes k) } in z) g.is
+          ∙ ap (λ o. let z : Story = record m { places = opened_places g.o m.places o } in z) spot-is;
+      seat-is = refl;
+      grip = refl;
+      role = refl;
+      made = refl;
+      small = record { first = h.small.first; drawn = h.small.drawn; clock = h.small.clock };
+      valued = h.valued;
+      shown = replaced_shows l words words' m s.table s.trees s.resident x at q' keys h.few.1 leaf
+          (tree_is l words views s id v b k x at is) h.shown new;
+      marks = marks_stay words words' s.seats p v.seat w.seat h.marks own.seat (settled_marks s')
+          (λ j lo hi. wr.others j (λ e. let a = word.word in absurd (omega arith)));
+      marked = λ mark has. subst (λ (y : List Mark). Contains y mark) (sym (settled_marks s')) has;
+      marks_low = subst (λ (y : List Mark). last_marked y < m.epoch) (sym (settled_marks s'))
+          (subst (λ (z : Seat). last_marked z.marks < m.epoch) (sym own.seat) (h.marked p));
+      drawn = λ a has. inl has;
+      tried = tried_goes m next s.seats p v.seat w.seat own.seat refl refl refl (inr resting) h.tried;
+      fits = own_fits l m next s.seats v w active f
+          (part_goes v.role active v.made v.due v.due v.seat.stage w.seat.stage v.mine v.mine (λ e. e)
+          (λ _ e. settled_idle s' e) f.part)
+          refl refl refl refl refl
+          (λ mark has. subst (λ (y : List Mark). Contains y mark) (sym (settled_marks s')) has) record {
+            history = f.history;
+            decided = f.decided;
+            heard = f.heard;
+            mine = f.mine;
+            mine_own = f.mine_own;
+            records = settled_kept (KeptAreRecords l.decls l.opening m.history) s' f.records (records_none l.decls l.opening m.history);
+            kept = settled_kept (KeptIsLow next.places) s' (low_replaced m.places x q' v.seat.kept alive g.rise f.kept)
+                (low_none next.places);
+            loaded = tt;
+            tried = settled_tried p v.history m.checks v.checked v.mine s' own.tried;
+            took = λ t has.
+                let old = not_at_other k v.took t has in
+                let held-t = own.took t old.0 in (
+                  held-t.0,
+                  held_other m p x held-t.0 q' t
+                      (λ e. old.1 (h.joint.commits.story.homes_apart t.key k x (ap spot_of held-t.1.home ∙ ap Some (sym e)) spot-is))
+                      held-t.1,
+                );
+            low = f.low;
+            epoch = λ keeper. (f.keepers keeper).epoch;
+            past = λ keeper. let was = (f.keepers keeper).past in record { clock = was.clock; tried = was.tried };
+          };
+      mine = λ g. refl;
+      drew = refl;
+      few = omega arith;
+      room = omega (arith, h.sums.room);
+      now = record { within = now.within; ways = now.ways; drafts = now.drafts; copies = now.copies; blanks = now.blanks; resident = now.resident; leads = now.leads; fills = now.fills; known = now.known; shuts = now.shuts; heads = now.heads; moved = now.moved };
+      frame = frame_kept laws l words words' views s id v active b next x.slot one;
+    }
+    refl)
+
+none_decided : (history : List Attempt) (stage : Stage) → can_begin stage ≡ true → attempt_decided history stage ≡ None
+none_decided history Idle e = refl
+none_decided history (Trying i) e = refl
+none_decided history Ended e = refl
+none_decided history (Decided i) e = absurd (true≢false (sym e))
+
+pub not_trying : (stage : Stage) → can_begin stage ≡ true → is_trying stage ≡ false
+not_trying Idle e = refl
+not_trying (Trying i) e = absurd (true≢false (sym e))
+not_trying Ended e = refl
+not_trying (Decided i) e = absurd (true≢false (sym e))
+
+-- with the word that the lock found, where no attempt is decided
+pub opens_again : Laws → (l : Layout) (slots id : ℕ) (me : Me (Unit {0}) View) (k : Key) (x : Spot)
+    (at n : ℕ) → IsActive me.0.role → IsRecordAt me.0 k x at → CanOpenAgain me.0 k x n
+    → Allows (λ s. Shows l s.words s.views) slots id me at (λ _. n)
+    (λ _ now. (now.1 ≡ me.1) × (now.0 ≡ opened k at n me.0))
+opens_again laws l slots id me k x at n active is can =
+    opens_to laws l slots id me k x at n n active is (not_trying me.0.seat.stage can.idle) can.took
+    (λ words views s b shows held. record {
+      o = None;
+      is = none_decided s.story.history me.0.seat.stage can.idle;
+      put = refl;
+      word = (taken_at l words views s id me.0 k x n b can.took).number;
+      small = shows.small;
+      rise = inl refl;
+      never = shows.never;
+    })
+
+-- with the number of the attempt that counts, whose value is put
+pub opens_anew : Laws → (l : Layout) (slots id : ℕ) (me : Me (Unit {0}) View) (k : Key) (x : Spot)
+    (at n : ℕ) → IsActive me.0.role → IsRecordAt me.0 k x at → CanOpenAnew me.0 k x n
+    → Allows (λ s. Shows l s.words s.views) slots id me at (λ _. n)
+    (λ _ now. (now.1 ≡ me.1) × (now.0 ≡ opened k at n me.0))
+opens_anew laws l slots id me k x at n active is can =
+    opens_to laws l slots id me k x at n can.found active is (ap is_trying can.stage) can.took
+    (λ words views s b shows held.
+    let p = seat_number me.0.role in
+    let m = s.story in
+    let h = b.sound in
+    let f = b.fits in
+    let own = b.own in
+    let q = place_of m.places x in
+    let a = can.attempt in
+    let sound-seat = seat_sound l s p b.few h.joint in
+    let here : slice_get m.history can.index ≡ Some a = at_front me.0.history m.history can.index a f.history can.at in
+    let now : (stands m.places m.homes k) ≡ q = stands_there s k x (taken_home l words views s id me.0 k x can.found b can.took) in
+    let stage : (s.seats p).stage ≡ Decided can.index = ap (λ (t : Seat). t.stage) (sym own.seat) ∙ can.stage in
+    let put : has_key (s.seats p).put k ≡ true = subst (λ (t : Seat). has_key t.put k ≡ true) own.seat can.put in
+    let home : HomeHeld m.horizon l.opening m.history m.decided (s.seats p).put k (stands m.places m.homes k).content
+    (Decided can.index) =
+    subst (HomeHeld m.horizon l.opening m.history m.decided (s.seats p).put k (stands m.places m.homes k).content) stage
+    (sound-seat.locked_homes k (subst (λ (z : Place). holder_is p z.holder ≡ true) (sym now) held)) in
+    let so = home a here in
+    let stood = subst (AttemptStands m.history m.decided (stands m.places m.homes) (s.seats p).put p) stage
+    sound-seat.attempt_stands in
+    let same-attempt : stood.0 ≡ a = let both : Some stood.0 ≡ Some a = sym stood.1.at ∙ here in cc in record {
+      o = Some a;
+      is = ap (attempt_decided m.history) can.stage ∙ here;
+      put = can.put;
+      word = sym can.number;
+      small = h.small.drawn a (at_in m.history can.index a here);
+      rise = inr (subst (λ (z : Place). IsBelow z.content.number a.number) now so.1.place);
+      never = λ none. absurd (valued_put l s k a (has_key (s.seats p).put k) put
+          (array_is l words views s id me.0 b k x at is) (stands m.places m.homes k).content so.0.0
+          (at_in m.history can.index a here) h.valued
+          (subst (λ (b : Attempt). writes_key b.writes k ≡ true) same-attempt (stood.1.written k put)) so.0.2
+          (ap (λ (z : Place). z.content.value) now ∙ none));
+    })
+  where
+    valued_put : (l : Layout) (s : Shared) (k : Key) (a : Attempt) (b : Bool) → b ≡ true
+        → is_array l.decls k.storage ≡ true → (c old : Content) → Contains s.story.history a
+        → WriteValues l.decls s.story.history → writes_key a.writes k ≡ true
+        → c ≡ half_put b (value_written k a.writes) old → c.value ≡ None → ⊥
+    valued_put l s k a b put array c old has values writes is none =
+        by_written (value_written k a.writes) refl writes is
+      where
+        by_written : (o : Option (Option ℕ)) → value_written k a.writes ≡ o → is_some o ≡ true → c ≡ half_put b o old → ⊥
+        by_written None e some is = true≢false (sym some)
+        by_written (Some v) e some is =
+            let there : c.value ≡ v = ap (λ (z : Content). z.value) (is ∙ ap (λ t. half_put t (Some v) old) put) in
+            no_absence l.decls s.story.history k a v array values has e (sym there ∙ none)

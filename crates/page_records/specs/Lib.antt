@@ -1,0 +1,4 @@
+pub mod Records
+pub mod Reads
+pub mod Locks
+pub mod Attempts

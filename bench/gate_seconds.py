@@ -1,139 +1,151 @@
 #!/usr/bin/env python3
 """Tells what each crate costs the merge gate, in processor seconds, so that whoever comes next sees what grew.
 
-`rt ci` proves a crate from nothing; where it has tests, once more with them; where it has must-fail edits, once more as
-what they begin with, and then each edit over a copy of that. These are the same checks, one after another and one job
-each: processor time (user and system) hardly depends on what else runs, the time by the clock does.
-Usage: bench/gate_seconds.py [--edits N] [CRATE ..]. Without names all crates are measured, the lowest first, which
-takes as long as the gate on one processor. Of each crate N edits are tried (the first by name; 1 if it isn't said, and 0
-leaves out what they begin with), and the others are reckoned as dear as these. The libraries below a crate have to be
-built: `rt lib` in its folder builds them. A line stands as soon as its crate is measured.
+It looks on while the gate runs, which prints no times of its own: a few times a second it reads from /proc what each
+process of the gate has used (user and system) and whose proof, tests or edits it is, so nothing is run twice.
+Usage: bench/gate_seconds.py [--to FILE] rt ci [--anew | NAME ..]     runs that, and ends with its status
+       bench/gate_seconds.py [--to FILE] --pid PID                    looks on at one that runs, from now on
+       bench/gate_seconds.py --to FILE rt must-fail NAME              any command that checks crates will do
+The table goes to FILE, written anew each minute, and else to standard error at the end; the command's own output stays
+as it is. What `rt ci` takes over from earlier runs costs nothing and has no row; `rt ci --anew` proves all.
+Columns: `begin` is the check that edits begin with and the one that shows it sound, `edits` are all edits together
+and how many, `clock` the minutes from the begin to the crate's first and last process. `other` is the gate itself, and
+the runs of tests and programs. A process that ends between two looks is missed by at most half a second.
 """
 import argparse
-import importlib.machinery
-import importlib.util
 import os
-import resource
-import shutil
+import re
 import subprocess
 import sys
-import tempfile
+import time
 
-HERE = os.path.dirname(os.path.abspath(__file__))
-TOP = os.path.dirname(HERE)
-COLUMNS = ("crate", "proof", "tests", "begin of edits", "edits", "each", "sum")
-
-
-def loaded(name):
-    """The module of this name that lies beside the command `rt`: it knows how a crate is checked."""
-    rt = shutil.which("rt") or sys.exit("gate_seconds: no rt in PATH")
-    path = f"{os.path.dirname(os.path.realpath(rt))}/{name}.py"
-    spec = importlib.util.spec_from_loader(name, importlib.machinery.SourceFileLoader(name, path))
-    module = importlib.util.module_from_spec(spec)
-    sys.modules[name] = module
-    spec.loader.exec_module(module)
-    return module
+TICK = os.sysconf("SC_CLK_TCK")
+LOOK = 0.5
+KINDS = ("proof", "tests", "begin", "edits")
 
 
-def seconds(words, folder, refused=False):
-    """Processor seconds of a command. It has to succeed; an edit has to be refused."""
-    before = resource.getrusage(resource.RUSAGE_CHILDREN)
-    ran = subprocess.run(words, cwd=folder, stdin=subprocess.DEVNULL, stdout=subprocess.PIPE, stderr=subprocess.STDOUT)
-    after = resource.getrusage(resource.RUSAGE_CHILDREN)
-    if (ran.returncode != 0) != refused:
-        sys.stderr.write(ran.stdout.decode(errors="replace")[-2000:])
-        sys.exit(f"gate_seconds: {folder}: {'proved, and not refused' if refused else 'not proved'}")
-    return after.ru_utime - before.ru_utime + after.ru_stime - before.ru_stime
+def read(path):
+    try:
+        with open(path, "rb") as it:
+            return it.read().decode(errors="replace")
+    except OSError:
+        return ""
 
 
-def has_tests(crate):
-    files = (f"{at}/{name}" for at, _, names in os.walk(f"{crate.folder}/src") for name in names)
-    return any("#[test]" in open(name, encoding="utf-8").read() for name in files)
+def looked():
+    """Of each process its parent, and the seconds that it has used."""
+    found = {}
+    for pid in filter(str.isdigit, os.listdir("/proc")):
+        fields = read(f"/proc/{pid}/stat").rpartition(")")[2].split()
+        if fields:
+            found[int(pid)] = int(fields[1]), (int(fields[11]) + int(fields[12])) / TICK
+    return found
 
 
-def edited(crate, edit, room):
-    """Puts the edit's new texts into the copy of the crate."""
-    with open(edit, encoding="utf-8") as it:
-        lines = [line.split(": ", 1) for line in it.read().splitlines() if ": " in line]
-    for kind, text in lines:
-        if kind == "file":
-            path = f"{room}/{text}"
-        elif kind == "old":
-            old = text
-        elif kind == "new":
-            with open(path, encoding="utf-8") as it:
-                was = it.read()
-            with open(path, "w", encoding="utf-8") as it:
-                it.write(was.replace(old, text, 1))
+def part_of(words, cwd):
+    """The crate and the kind of check that a process with these words is, with the number of its edit; or None."""
+    if "--crate-name" in words:
+        name = words[words.index("--crate-name") + 1]
+        kept = words[words.index("--incremental") + 1] if "--incremental" in words else ""
+        if "--test" in words:
+            return name, "tests", ""
+        if kept.endswith("/seed"):
+            return name, "begin", ""
+        return (name, "edits", kept or cwd) if kept or "/rt-edit-" in cwd else (name, "proof", "")
+    # what links a proved program or its tests
+    within = re.search(r"/crates/([a-z0-9_]+)$", cwd)
+    if within and words and words[0].endswith("/rattle-link"):
+        return within[1], "tests" if any("_tests" in it for it in words) else "proof", ""
+    return None
 
 
-def linked(one, other):
-    """Copies what was proved by a link: a check replaces such a file, and changes none."""
-    return os.link(one, other) if one.endswith(".oantt") else shutil.copy2(one, other)
+class Watch:
+    def __init__(self, root):
+        self.root, self.begin = root, time.monotonic()
+        # by process: what it is, its seconds, and when it was seen first and last
+        self.seen = {}
+
+    def look(self):
+        """Looks once at all processes below the root."""
+        now, found = time.monotonic() - self.begin, looked()
+        within = {self.root}
+        for pid in sorted(found):
+            way = [pid]
+            while way[-1] in found and way[-1] not in within and len(way) < 64:
+                way.append(found[way[-1]][0])
+            within.update(way if way[-1] in within else ())
+        for pid in within & found.keys():
+            seconds, (part, before, first, _) = found[pid][1], self.seen.get(pid, (None, 0.0, now, now))
+            if seconds < before:
+                # another process has its number by now
+                self.seen[pid, first] = self.seen.pop(pid)
+                part, first = None, now
+            part = part or self.part(pid, found[pid][0])
+            self.seen[pid] = part, seconds, first, now
+
+    def part(self, pid, parent):
+        words = read(f"/proc/{pid}/cmdline").split("\0")
+        try:
+            cwd = os.readlink(f"/proc/{pid}/cwd")
+        except OSError:
+            cwd = ""
+        return part_of(words, cwd) or self.seen.get(parent, (None,))[0]
+
+    def table(self):
+        rows, other = {}, 0.0
+        for part, seconds, first, last in self.seen.values():
+            if not part:
+                other += seconds
+                continue
+            row = rows.setdefault(part[0], {**dict.fromkeys(KINDS, 0.0), "tried": set(), "from": first, "to": last})
+            row[part[1]] += seconds
+            row["tried"] |= {part[2]} if part[2] else set()
+            row["from"], row["to"] = min(row["from"], first), max(row["to"], last)
+        lines = ["| crate | proof | tests | begin | edits | sum | clock |", "|---|---|---|---|---|---|---|"]
+        whole = {name: sum(row[kind] for kind in KINDS) for name, row in rows.items()}
+        for name in sorted(rows, key=lambda it: -whole[it]):
+            row = rows[name]
+            edits = f"{row['edits']:.0f} ({len(row['tried'])})"
+            clock = f"{row['from'] / 60:.1f} to {row['to'] / 60:.1f}"
+            checks = [f"{row[kind]:.0f}" for kind in ("proof", "tests", "begin")]
+            lines.append("| " + " | ".join([name, *checks, edits, f"{whole[name]:.0f}", clock]) + " |")
+        all_of = [sum(row[kind] for row in rows.values()) for kind in KINDS]
+        total = sum(all_of) + other
+        lines.append("| all | " + " | ".join(f"{it:.0f}" for it in all_of) + f" | {total:.0f} | |")
+        minutes = (time.monotonic() - self.begin) / 60
+        told = f"{total / 60:.0f} processor minutes, {other:.0f} seconds of them other"
+        lines.append(f"\n{told}; {minutes:.0f} minutes by the clock.")
+        return "\n".join(lines) + "\n"
 
 
-class Gate:
-    def __init__(self, rtlib, edits):
-        self.rtlib, self.edits = rtlib, edits
-
-    def words(self, crate, *more, verb="check", tests=False):
-        return [self.rtlib.RATTLE, verb, *crate.words(["--jobs", "1"], tests=tests, keeps=False), *more]
-
-    def proof(self, crate, room):
-        if not crate.makes_rlib():
-            return seconds(self.words(crate, "--empty-contracts"), crate.folder)
-        to = ["--empty-contracts", "-o", f"{room}/{crate.name}.rlib"]
-        return seconds(self.words(crate, *to, verb="build"), crate.folder)
-
-    def tests(self, crate):
-        return seconds(self.words(crate, "--empty-contracts", tests=True), crate.folder) if has_tests(crate) else 0.0
-
-    def begin_of_edits(self, crate, room):
-        os.mkdir(f"{room}/kept")
-        return seconds(self.words(crate, "--incremental", f"{room}/kept"), crate.folder)
-
-    def edit(self, crate, edit, room):
-        with tempfile.TemporaryDirectory(dir=room) as copy:
-            for part in self.rtlib.PARTS:
-                if os.path.isdir(f"{crate.folder}/{part}"):
-                    shutil.copytree(f"{crate.folder}/{part}", f"{copy}/{part}")
-            edited(crate, edit, copy)
-            shutil.copytree(f"{room}/kept", f"{copy}/kept", symlinks=True, copy_function=linked)
-            return seconds(self.words(crate, "--incremental", f"{copy}/kept"), copy, refused=True)
-
-    def crate(self, crate):
-        """A crate's row: seconds of its proof, its tests, of what its edits begin with, their number, seconds of each."""
-        folder = f"{crate.folder}/must-fail"
-        edits = sorted(f"{folder}/{it}" for it in os.listdir(folder)) if os.path.isdir(folder) else []
-        with tempfile.TemporaryDirectory() as room:
-            proof, tests, begin, each = self.proof(crate, room), self.tests(crate), 0.0, 0.0
-            tried = edits[: self.edits]
-            if tried:
-                begin = self.begin_of_edits(crate, room)
-                each = sum(self.edit(crate, it, room) for it in tried) / len(tried)
-        return proof, tests, begin, len(edits), each, proof + tests + begin + len(edits) * each
+def written(watch, to):
+    if to:
+        with open(f"{to}.new", "w", encoding="utf-8") as it:
+            it.write(watch.table())
+        os.replace(f"{to}.new", to)
 
 
 def main():
     parser = argparse.ArgumentParser(description=__doc__, formatter_class=argparse.RawDescriptionHelpFormatter)
-    parser.add_argument("--edits", type=int, default=1)
-    parser.add_argument("crates", nargs="*")
+    parser.add_argument("--to")
+    parser.add_argument("--pid", type=int)
+    parser.add_argument("command", nargs=argparse.REMAINDER)
     asked = parser.parse_args()
-    rtlib = loaded("rtlib")
-    os.chdir(TOP)
-    crates = {it.name: it for it in rtlib.crates_below(TOP)}
-    for name in asked.crates:
-        if name not in crates:
-            sys.exit(f"gate_seconds: there is no crate {name}")
-    gate, total = Gate(rtlib, asked.edits), 0.0
-    print("| " + " | ".join(COLUMNS) + " |\n|" + "---|" * len(COLUMNS), flush=True)
-    for name in asked.crates or crates:
-        crates[name].out = sys.stderr
-        *row, whole = gate.crate(crates[name])
-        total += whole
-        print(f"| {name} | " + " | ".join(f"{it:.0f}" for it in (*row, whole)) + " |", flush=True)
-    print(f"| all | | | | | | {total:.0f} ({total / 60:.0f} minutes) |")
+    if bool(asked.pid) == bool(asked.command):
+        parser.error("either --pid PID or a command")
+    run = subprocess.Popen(asked.command) if asked.command else None
+    watch, looks = Watch(asked.pid or run.pid), 0
+    while (run.poll() is None) if run else os.path.isdir(f"/proc/{asked.pid}"):
+        watch.look()
+        looks += 1
+        if looks % int(60 / LOOK) == 0:
+            written(watch, asked.to)
+        time.sleep(LOOK)
+    written(watch, asked.to)
+    if not asked.to:
+        sys.stderr.write(watch.table())
+    return run.returncode if run else 0
 
 
 if __name__ == "__main__":
-    main()
+    sys.exit(main())

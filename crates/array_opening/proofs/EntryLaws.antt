@@ -20,7 +20,7 @@ use Rattle.wire_form.specs.declared.records.Stored.{Stored}
 use Rattle.wire_form.specs.Pages.{stored_decl}
 use Rattle.commit_core.specs.Keys.{content_at, nothing}
 use Rattle.serial_model.specs.Numbers.{IsBelow}
-use Rattle.snapshot_store.specs.declared.place.Place.{Place}
+use Rattle.snapshot_store.specs.declared.place.PagePlace.{PagePlace}
 use Rattle.snapshot_store.specs.Places.{Found, at_key, find, here_or_below, places_below, words_at}
 use Rattle.snapshot_store.specs.ArrayPages.{array_found, array_format, array_look}
 use Rattle.snapshot_store.specs.Content.{deepest, last_index, record_in}
@@ -28,7 +28,7 @@ use Rattle.engine_words.specs.Layout.{is_record_of, has_record}
 use Rattle.engine_words.specs.Making.{StandsFirst}
 use Rattle.engine_words.specs.Rule.{IsSmall}
 use Rattle.array_opening.specs.Opening.{content_of, content_or_nothing, stands_in, AreOlder}
-use Rattle.array_opening.specs.Entries.{entry, entries_below, entries_by, entries_of, all_entries}
+use Rattle.array_opening.specs.Entries.{entry, entries_below, entries_by, entries_in, all_entries}
 
 -- a key is not in the list
 abbrev is_in : List (Key × Content) → Key → Bool
@@ -144,7 +144,7 @@ later_other : (pages : List (List ℕ)) (more : List Stored) (k : Key)
     → AllByRecursion (λ i. k.storage ≢ i) (map id_of (map stored_decl more)) → is_in (all_entries pages more) k ≡ false
 later_other pages [] k all = refl
 later_other pages (s ∷ more) k all =
-    is_in-append (entries_of pages s) (all_entries pages more) k
+    is_in-append (entries_in pages s) (all_entries pages more) k
     ∙ (ap (λ b. b || is_in (all_entries pages more) k) (storage_other pages s s.decl k (other s.decl all.0))
     ∙ later_other pages more k all.1)
   where
@@ -162,14 +162,14 @@ entries_stand pages (s ∷ more) k distinct =
           let none : is_in (all_entries pages more) k ≡ false =
           later_other pages more k (subst (λ i. AllByRecursion (λ j. i ≢ j) (map id_of (map stored_decl more)))
           (record_id k s.decl here) distinct.0) in
-          content-append (entries_of pages s) (all_entries pages more) k
-          ∙ (keeps (is_in (entries_of pages s) k) (content_at (entries_of pages s) k) (content_at (all_entries pages more) k)
-          (none_there (entries_of pages s) k) (none_there (all_entries pages more) k none)
+          content-append (entries_in pages s) (all_entries pages more) k
+          ∙ (keeps (is_in (entries_in pages s) k) (content_at (entries_in pages s) k) (content_at (all_entries pages more) k)
+          (none_there (entries_in pages s) k) (none_there (all_entries pages more) k none)
           ∙ (storage_here pages s s.decl k here
           ∙ sym (ap (λ b. cond b (content_or_nothing (record_in pages s k.key)) (stands_in pages more k)) here)))
       | inr other ↦
-          content-append (entries_of pages s) (all_entries pages more) k
-          ∙ (ap (λ b. cond b (content_at (entries_of pages s) k) (content_at (all_entries pages more) k))
+          content-append (entries_in pages s) (all_entries pages more) k
+          ∙ (ap (λ b. cond b (content_at (entries_in pages s) k) (content_at (all_entries pages more) k))
           (storage_other pages s s.decl k other)
           ∙ (entries_stand pages more k distinct.1
           ∙ sym (ap (λ b. cond b (content_or_nothing (record_in pages s k.key)) (stands_in pages more k)) other)))
@@ -190,7 +190,7 @@ found_some n v f is = by_test (eqb n 0) refl is
         let same : n ≡ f.number = let inner : (let g : Found = record { number = n; value = v } in g) ≡ f = cc in ap (λ (g : Found). g.number) inner in
         λ none. true≢false (sym (eq-eqb n 0 (same ∙ none)) ∙ some)
 
-at_some : (g : Place → Option Found) (key : ℕ) (f : Found) → ((q : Place) → g q ≡ Some f → f.number ≢ 0) → (qs : List Place)
+at_some : (g : PagePlace → Option Found) (key : ℕ) (f : Found) → ((q : PagePlace) → g q ≡ Some f → f.number ≢ 0) → (qs : List PagePlace)
     → at_key key g qs ≡ Some f → f.number ≢ 0
 at_some g key f each [] is = absurd (cc)
 at_some g key f each (q ∷ qs) is = by_test (nat_le key q.high) is (at_some g key f each qs)
@@ -201,15 +201,15 @@ at_some g key f each (q ∷ qs) is = by_test (nat_le key q.high) is (at_some g k
     by_test false is rest = rest is
 
 -- the number of a record that is found isn't 0
-find_some : (pages : List (List ℕ)) (d key : ℕ) (p : Place) (f : Found) → find array_format pages d key p ≡ Some f
+find_some : (pages : List (List ℕ)) (d key : ℕ) (p : PagePlace) (f : Found) → find array_format pages d key p ≡ Some f
     → f.number ≢ 0
 find_some pages zero key p f is = absurd (let wrong : None ≡ Some f = is in cc)
 find_some pages (suc d) key p f is =
     by_places (places_below array_format pages p) is (λ q here. find_some pages d key q f here)
   where
-    by_places : (qs : List Place)
+    by_places : (qs : List PagePlace)
         → here_or_below (array_look (words_at pages p) p.low key) (at_key key (find array_format pages d key) qs) qs ≡ Some f
-        → ((q : Place) → find array_format pages d key q ≡ Some f → f.number ≢ 0) → f.number ≢ 0
+        → ((q : PagePlace) → find array_format pages d key q ≡ Some f → f.number ≢ 0) → f.number ≢ 0
     by_places [] is each =
         found_some (slice_index (words_at pages p) (2 * (key - p.low))) (slice_index (words_at pages p) (2 * (key - p.low) + 1))
         f is
@@ -272,7 +272,7 @@ storage_first : (pages : List (List ℕ)) (first : Number) (decls : List Decl) (
     → ((k : Key) → is_record_of k d ≡ true → has_record decls k ≡ true)
     → ((index : ℕ) (f : Found) → record_in pages (record { decl = d; root = root }) index ≡ Some f
     → IsBelow (content_of f).number first)
-    → AllByRecursion (StandsFirst first decls) (entries_of pages (record { decl = d; root = root }))
+    → AllByRecursion (StandsFirst first decls) (entries_in pages (record { decl = d; root = root }))
 storage_first pages first decls (Array id size) root small has older =
     below_first pages first decls id size root size small (omega arith) has older
 storage_first pages first decls (Tree id) root small has older = tt
@@ -282,7 +282,7 @@ all_first : (pages : List (List ℕ)) (first : Number) (decls : List Decl) (stor
     → AreOlder pages storages first → AllByRecursion (StandsFirst first decls) (all_entries pages storages)
 all_first pages first decls [] small has older = tt
 all_first pages first decls (s ∷ more) small has older =
-    all_append (StandsFirst first decls) (entries_of pages s) (all_entries pages more)
+    all_append (StandsFirst first decls) (entries_in pages s) (all_entries pages more)
     (storage_first pages first decls s.decl s.root small
     (λ k here. has k (ap (λ b. b || has_record (map stored_decl more) k) here))
     (λ index f is. older s (in_head s more) index f is))

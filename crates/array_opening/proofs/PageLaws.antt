@@ -7,7 +7,7 @@ use Rattle.std.proofs.lemmas.Bool.Decides.{nat_tests}
 use Rattle.std.proofs.lemmas.Grind.{get_or_after_one}
 use Rattle.std.proofs.lemmas.List.{length-map}
 use Rattle.wire_form.specs.declared.page.Page.{Page}
-use Rattle.snapshot_store.specs.declared.place.Place.{Place}
+use Rattle.snapshot_store.specs.declared.place.PagePlace.{PagePlace}
 use Rattle.snapshot_store.specs.Places.{Found, page, at_key, find, here_or_below, words_at, places_below, StandsTo}
 use Rattle.snapshot_store.specs.ArrayPages.{fan, leaf_room, row, array_below, array_found, array_look, array_format}
 use Rattle.snapshot_store.specs.ArrayPages.{IsArrayPage}
@@ -45,15 +45,15 @@ page_at pages (suc n) p h e =
 -- ---- places in a row
 
 -- the i-th place of a row
-abbrev pub child : List ℕ → ℕ → ℕ → ℕ → Place
+abbrev pub child : List ℕ → ℕ → ℕ → ℕ → PagePlace
 child words part low i = record { number = get_or words i 0; low = low + i * part; high = low + i * part + (part - 1) }
 
 same_place : (n m a b c d : ℕ) → n ≡ m → a ≡ b → c ≡ d
-    → (let p : Place = record { number = n; low = a; high = c } in p) ≡ (let q : Place = record { number = m; low = b; high = d } in q)
+    → (let p : PagePlace = record { number = n; low = a; high = c } in p) ≡ (let q : PagePlace = record { number = m; low = b; high = d } in q)
 same_place n m a b c d number low high =
-    ap (λ (x : ℕ). let p : Place = record { number = x; low = a; high = c } in p) number
-    ∙ (ap (λ (x : ℕ). let p : Place = record { number = m; low = x; high = c } in p) low
-    ∙ ap (λ (x : ℕ). let p : Place = record { number = m; low = b; high = x } in p) high)
+    ap (λ (x : ℕ). let p : PagePlace = record { number = x; low = a; high = c } in p) number
+    ∙ (ap (λ (x : ℕ). let p : PagePlace = record { number = m; low = x; high = c } in p) low
+    ∙ ap (λ (x : ℕ). let p : PagePlace = record { number = m; low = b; high = x } in p) high)
 
 next_child : (words : List ℕ) (part low i : ℕ) → child (drop 1 words) part (low + part) i ≡ child words part low (suc i)
 next_child words part low i =
@@ -64,7 +64,7 @@ next_child words part low i =
     (omega (arith, more)) (omega (arith, more))
 
 -- what is looked for at a key is looked for at the place that has it
-at_row : (f : Place → Option Found) (n : ℕ) (words : List ℕ) (part low i key : ℕ) → 1 ≤ part → i < n
+at_row : (f : PagePlace → Option Found) (n : ℕ) (words : List ℕ) (part low i key : ℕ) → 1 ≤ part → i < n
     → low + i * part ≤ key → key < low + i * part + part
     → at_key key f (row words part low n) ≡ f (child words part low i)
 at_row f zero words part low i key some less from to = absurd (omega arith)
@@ -82,7 +82,7 @@ at_row f (suc n) words part low (suc i) key some less from to =
     (omega (arith, more, to)) ∙ ap f (next_child words part low i))
 
 -- and what holds of all of them holds of it
-in_row : (P : Place → Type 0) (n : ℕ) (words : List ℕ) (part low i : ℕ) → i < n → AllByRecursion P (row words part low n)
+in_row : (P : PagePlace → Type 0) (n : ℕ) (words : List ℕ) (part low i : ℕ) → i < n → AllByRecursion P (row words part low n)
     → P (child words part low i)
 in_row P zero words part low i less all = absurd (omega arith)
 in_row P (suc n) words part low zero less all =
@@ -134,7 +134,7 @@ inner_stands pages size d number low high part i some ends wide less stands =
     (below_inner (page pages number) low high part some ends wide) stands.below)
 
 -- its page is there
-pub stands_there : (pages : List Page) (size d : ℕ) (p : Place)
+pub stands_there : (pages : List Page) (size d : ℕ) (p : PagePlace)
     → StandsTo array_format (IsArrayPage size) (words_of pages) (suc d) p → p.number ≤ length pages
 stands_there pages size d p stands = omega (arith, stands.there, length-map pages Page.words)
 
@@ -173,8 +173,8 @@ middle_there pages number low index leaf to stands is =
 
 -- a place from the first index on
 from_zero : (n m i : ℕ) → n ≡ m
-    → (let p : Place = record { number = n; low = 0 + i * 2048; high = 0 + i * 2048 + 2047 } in p)
-    ≡ (let q : Place = record { number = m; low = i * 2048; high = i * 2048 + 2047 } in q)
+    → (let p : PagePlace = record { number = n; low = 0 + i * 2048; high = 0 + i * 2048 + 2047 } in p)
+    ≡ (let q : PagePlace = record { number = m; low = i * 2048; high = i * 2048 + 2047 } in q)
 from_zero n m i is = same_place n m (0 + i * 2048) (i * 2048) (0 + i * 2048 + 2047) (i * 2048 + 2047) is (omega arith) (omega arith)
 
 pub top_record : (pages : List (List ℕ)) (number index middle : ℕ) (f : Option Found) → index < 131072

@@ -16,7 +16,7 @@ use Rattle.log_writer.specs.Points.{IsSaved, point_of, sequence_of}
 use Rattle.log_writer.specs.Save.{Names, IsStored}
 use Rattle.log_writer.specs.declared.saved.Saved.{Saved}
 use Rattle.snapshot_store.specs.Content.{words_of}
-use Rattle.snapshot_store.specs.Store.{IsWhole as IsWholePage, bytes_of_pages, Holds}
+use Rattle.snapshot_store.specs.Store.{IsWhole as IsWholePage, bytes_of_pages, HoldsPages}
 use Rattle.checkpoints.specs.CrashesRecover.{LeavesSame, HasFiles, old_recovers, point_read}
 use Rattle.joint_crashes.specs.Crashes.Rested.{point_new}
 use Rattle.joint_crashes.specs.Crashes.Safe.{old_or_new}
@@ -151,7 +151,7 @@ module _ {D : Type 0} {tells : D → Option (List ℕ)} {clock : D → ℕ} {ima
   pub next_rests : {found : Images} (old new : Vault D) (s : Settled) → AreTold tells (parts_of old) found → s.save.newest ≡ Some (point r (length all))
       → s.store.pages ≡ all → s.decls ≡ r.decls → s.state ≡ r.state
       → is_some (tells new.save) ≡ is_some (tells old.save) → is_some (tells new.snaps) ≡ is_some (tells old.snaps)
-      → IsStored tells clock image_at new.save s.save.newest → Holds tells new.snaps s.store.pages
+      → IsStored tells clock image_at new.save s.save.newest → HoldsPages tells new.snaps s.store.pages
       → AreEmpty tells new
       → (now : Images) × AreTold tells (parts_of new) now × SaysSettled now s
   next_rests {found = found}

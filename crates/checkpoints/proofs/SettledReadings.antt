@@ -17,7 +17,7 @@ use Rattle.log_writer.specs.Points.{point_of, saved_of}
 use Rattle.log_writer.specs.Save.{Names, IsStored}
 use Rattle.log_writer.specs.declared.saved.Saved.{Saved}
 use Rattle.snapshot_store.specs.Content.{words_of}
-use Rattle.snapshot_store.specs.Store.{StoreState, Holds}
+use Rattle.snapshot_store.specs.Store.{StoreState, HoldsPages}
 use Rattle.recovery_core.specs.declared.recovered.Recovered.{Recovered}
 use Rattle.checkpoints.specs.declared.without_entries.Settled.{Settled}
 use Rattle.checkpoints.specs.CrashesRecover.{first_page}
@@ -97,7 +97,7 @@ module _ {D : Type 0} {tells : D → Option (List ℕ)} {clock : D → ℕ} {ima
       → s.save.newest ≡ Some (point_of 1 first_saved)
       → s.store.pages ≡ page ∷ [] → IsFirstPage page.words (first_contents s.decls) → s.state ≡ r.state
       → is_some (tells new.save) ≡ is_some (tells old.save) → is_some (tells new.snaps) ≡ is_some (tells old.snaps)
-      → IsStored tells clock image_at new.save s.save.newest → Holds tells new.snaps s.store.pages
+      → IsStored tells clock image_at new.save s.save.newest → HoldsPages tells new.snaps s.store.pages
       → AreEmpty tells new
       → (now : Images) × AreTold tells (parts_of new) now × SaysSettled now s
   rests_fresh {found = found}

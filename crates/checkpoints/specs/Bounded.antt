@@ -7,7 +7,7 @@ use Rattle.std.proofs.lemmas.Bool.{cases_lt}
 use Rattle.std.proofs.lemmas.Bool.Decides.{nat_tests}
 use Rattle.lists.specs.Each.{all_weaker}
 use Rattle.serial_model.specs.declared.decl.Decl.{Decl}
-use Rattle.snapshot_store.specs.declared.place.Place.{Place}
+use Rattle.snapshot_store.specs.declared.place.PagePlace.{PagePlace}
 use Rattle.snapshot_store.specs.Places.{Found, Format, words_at, places_below, at_key, find, here_or_below}
 use Rattle.snapshot_store.specs.Places.{Cover, Tiles, Stands, StandsTo}
 use Rattle.snapshot_store.specs.Content.{format_of, IsPageOf}
@@ -23,14 +23,14 @@ le_no a b h = grind (arith, nat_tests)
 
 -- ---- places in a row
 
-module _ {X : Type 0} (f : Place → Option X) where
+module _ {X : Type 0} (f : PagePlace → Option X) where
   -- a place of the row, from one key to another: what is looked for in its range is looked for there
-  pub record IsPart (low high : ℕ) (qs : List Place) (q : Place) : Type 0 where
+  pub record IsPart (low high : ℕ) (qs : List PagePlace) (q : PagePlace) : Type 0 where
     pub from : low ≤ q.low
     pub to : q.high ≤ high
     pub found : (key : ℕ) → q.low ≤ key → key ≤ q.high → at_key key f qs ≡ f q
 
-  parts : (low high : ℕ) (qs : List Place) → Cover low high qs → AllByRecursion (IsPart low high qs) qs
+  parts : (low high : ℕ) (qs : List PagePlace) → Cover low high qs → AllByRecursion (IsPart low high qs) qs
   parts low high [] cover = tt
   parts low high (q ∷ qs) cover = (
     record {
@@ -48,7 +48,7 @@ module _ {X : Type 0} (f : Place → Option X) where
   )
 
   -- and what holds of what each has in its range holds of what is found
-  found_in : (P : Option X → Type 0) (key low high : ℕ) (qs : List Place) → Cover low high qs → low ≤ key → key ≤ high
+  found_in : (P : Option X → Type 0) (key low high : ℕ) (qs : List PagePlace) → Cover low high qs → low ≤ key → key ≤ high
       → AllByRecursion (λ q. q.low ≤ key → key ≤ q.high → P (f q)) qs → P (at_key key f qs)
   found_in P key low high [] cover from to all = absurd (omega (arith, cover, from, to))
   found_in P key low high (q ∷ qs) cover from to all =
@@ -76,14 +76,14 @@ module _ (epoch : ℕ) (decl : Decl) (pages : List (List ℕ)) where
   F = format_of decl
 
   -- a page's record is that of what is below it, where something is
-  find_below : (d key : ℕ) (p : Place) (qs : List Place) → places_below F pages p ≡ qs
+  find_below : (d key : ℕ) (p : PagePlace) (qs : List PagePlace) → places_below F pages p ≡ qs
       → find F pages (suc d) key p ≡ here_or_below (F.look (words_at pages p) p.low key)
       (at_key key (find F pages d key) qs) qs
   find_below d key p qs is =
       ap (λ l. here_or_below (F.look (words_at pages p) p.low key) (at_key key (find F pages d key) l) l) is
 
   -- what is found at each of the places in a row
-  every : (d low high : ℕ) (all qs : List Place)
+  every : (d low high : ℕ) (all qs : List PagePlace)
       → ((key : ℕ) → AllByRecursion (IsPart (find F pages d key) low high all) qs)
       → ((key : ℕ) → low ≤ key → key ≤ high → IsUpTo epoch (at_key key (find F pages d key) all))
       → AllByRecursion (λ q. (key : ℕ) → q.low ≤ key → key ≤ q.high → IsUpTo epoch (find F pages d key q)) qs
@@ -97,11 +97,11 @@ module _ (epoch : ℕ) (decl : Decl) (pages : List (List ℕ)) where
   )
 
   -- what is found at a page, by the places below it
-  found_below : (d key : ℕ) (p : Place)
-      → ((r : Place) → StandsTo F (IsPageUpTo epoch decl) pages d r → r.low ≤ key → key ≤ r.high
+  found_below : (d key : ℕ) (p : PagePlace)
+      → ((r : PagePlace) → StandsTo F (IsPageUpTo epoch decl) pages d r → r.low ≤ key → key ≤ r.high
       → IsUpTo epoch (find F pages d key r))
       → Stands F (IsPageUpTo epoch decl) pages (StandsTo F (IsPageUpTo epoch decl) pages d) p → p.low ≤ key
-      → key ≤ p.high → (qs : List Place) → places_below F pages p ≡ qs → Tiles p.low p.high qs
+      → key ≤ p.high → (qs : List PagePlace) → places_below F pages p ≡ qs → Tiles p.low p.high qs
       → AllByRecursion (StandsTo F (IsPageUpTo epoch decl) pages d) qs
       → IsUpTo epoch (here_or_below (F.look (words_at pages p) p.low key) (at_key key (find F pages d key) qs) qs)
   found_below d key p rest stands from to [] is tiles all = stands.right.numbers is key from to
@@ -111,7 +111,7 @@ module _ (epoch : ℕ) (decl : Decl) (pages : List (List ℕ)) where
       (λ r. r.low ≤ key → key ≤ r.high → IsUpTo epoch (find F pages d key r)) rest (q ∷ qs) all)
 
   -- pages up to an epoch have no later record
-  pub found_up_to : (d : ℕ) (p : Place) → StandsTo F (IsPageUpTo epoch decl) pages d p → (key : ℕ) → p.low ≤ key
+  pub found_up_to : (d : ℕ) (p : PagePlace) → StandsTo F (IsPageUpTo epoch decl) pages d p → (key : ℕ) → p.low ≤ key
       → key ≤ p.high → IsUpTo epoch (find F pages d key p)
   found_up_to zero p stands key from to = absurd stands
   found_up_to (suc d) p stands key from to =
@@ -119,11 +119,11 @@ module _ (epoch : ℕ) (decl : Decl) (pages : List (List ℕ)) where
       (places_below F pages p) refl stands.tiles stands.below
 
   -- no record that is found in the range of a place has a later number
-  abbrev pub FoundUpTo : ℕ → Place → Type 0
+  abbrev pub FoundUpTo : ℕ → PagePlace → Type 0
   FoundUpTo d p = (key : ℕ) → p.low ≤ key → key ≤ p.high → IsUpTo epoch (find F pages d key p)
 
   -- so it is of the places below
-  each_up_to : (d : ℕ) (p : Place) → FoundUpTo (suc d) p → (qs : List Place) → places_below F pages p ≡ qs
+  each_up_to : (d : ℕ) (p : PagePlace) → FoundUpTo (suc d) p → (qs : List PagePlace) → places_below F pages p ≡ qs
       → Tiles p.low p.high qs → AllByRecursion (FoundUpTo d) qs
   each_up_to d p found [] is tiles = tt
   each_up_to d p found (q ∷ qs) is tiles = every d p.low p.high (q ∷ qs) (q ∷ qs)
@@ -131,7 +131,7 @@ module _ (epoch : ℕ) (decl : Decl) (pages : List (List ℕ)) where
       (λ key from to. subst (IsUpTo epoch) (find_below d key p (q ∷ qs) is) (found key from to))
 
   -- pages whose records have no later number are pages up to the epoch
-  pub stands_up_to : (d : ℕ) (p : Place) → StandsTo F (IsPageOf decl) pages d p → FoundUpTo d p
+  pub stands_up_to : (d : ℕ) (p : PagePlace) → StandsTo F (IsPageOf decl) pages d p → FoundUpTo d p
       → StandsTo F (IsPageUpTo epoch decl) pages d p
   stands_up_to zero p stands found = absurd stands
   stands_up_to (suc d) p stands found = record {
@@ -147,7 +147,7 @@ module _ (epoch : ℕ) (decl : Decl) (pages : List (List ℕ)) where
   }
 
   -- and pages up to an epoch are pages
-  pub stands_plain : (d : ℕ) (p : Place) → StandsTo F (IsPageUpTo epoch decl) pages d p
+  pub stands_plain : (d : ℕ) (p : PagePlace) → StandsTo F (IsPageUpTo epoch decl) pages d p
       → StandsTo F (IsPageOf decl) pages d p
   stands_plain zero p stands = absurd stands
   stands_plain (suc d) p stands = record {

@@ -12,7 +12,7 @@ use Rattle.log_writer.specs.Save.{IsStored}
 use Rattle.log_writer.specs.Vault.{IsWhole}
 use Rattle.log_writer.specs.declared.saved.Saved.{Saved}
 use Rattle.log_writer.specs.declared.vault.Vault.{Vault}
-use Rattle.snapshot_store.specs.Store.{StoreState, Holds, bytes_of_pages}
+use Rattle.snapshot_store.specs.Store.{StoreState, HoldsPages, bytes_of_pages}
 use Rattle.joint_crashes.specs.Images.{Images}
 use Rattle.joint_crashes.specs.JointCrash.{Moments, parts_of}
 use Rattle.joint_crashes.specs.RecordsAdded.{RecordsAdded}
@@ -56,7 +56,7 @@ pub record LeavesWhole {D : Type 0} (newest due : ℕ) (done : Bool) (old new : 
 pub record StandsDurably {D : Type 0} (tells : D → Option (List ℕ)) (clock : D → ℕ)
     (image_at : D → ℕ → List ℕ → Type 0) (store : StoreState) (old new : Vault D) : Type 0 where
   pub sound : store.sound ≡ true
-  pub holds : Holds tells new.snaps store.pages
+  pub holds : HoldsPages tells new.snaps store.pages
   pub durable : IfTold (tells old.snaps) (λ _. AllBegin (image_at new.snaps (clock new.snaps))
       (bytes_of_pages store.pages))
 

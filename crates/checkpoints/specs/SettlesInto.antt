@@ -19,7 +19,7 @@ use Rattle.log_writer.specs.Points.{IsSaved, saved_of, sequence_of}
 use Rattle.log_writer.specs.Save.{IsStored}
 use Rattle.log_writer.specs.declared.saved.Saved.{Saved}
 use Rattle.snapshot_store.specs.Content.{words_of}
-use Rattle.snapshot_store.specs.Store.{bytes_of_pages, Holds}
+use Rattle.snapshot_store.specs.Store.{bytes_of_pages, HoldsPages}
 use Rattle.root_composer.specs.Composition.{IsComposed}
 use Rattle.joint_crashes.specs.Images.{Images}
 use Rattle.joint_crashes.specs.JointCrash.{Moments, parts_of}
@@ -88,7 +88,7 @@ pub record SettlesInto {D : Type 0} (tells : D → Option (List ℕ)) (clock : D
   -- the pages, which are durable where those that were read are
   pub sound : s.store.sound ≡ true
   pub count : length s.store.pages ≡ s.saved.count
-  pub holds : Holds tells new.snaps s.store.pages
+  pub holds : HoldsPages tells new.snaps s.store.pages
   pub durable : IfTold (tells old.snaps) (λ _.
       AllBegin (image_at old.snaps (clock old.snaps)) (bytes_of_pages r.store.pages)
       → AllBegin (image_at new.snaps (clock new.snaps)) (bytes_of_pages s.store.pages))

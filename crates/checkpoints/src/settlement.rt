@@ -5,7 +5,7 @@ ghost use Rattle.serial_model.specs.Decls.{AreDecls};
 ghost use Rattle.log_writer.specs.Points.{sequence_of};
 ghost use Rattle.log_writer.specs.Save.{IsStored};
 ghost use Rattle.log_writer.specs.Vault.{IsWhole};
-ghost use Rattle.snapshot_store.specs.Store.{Holds};
+ghost use Rattle.snapshot_store.specs.Store.{HoldsPages};
 ghost use Rattle.joint_crashes.specs.Images.{Images};
 ghost use Rattle.recovery_core.specs.Recovered.{Recovers, IsUp};
 ghost use Rattle.recovery_core.specs.SnapshotsKept.{KeepsSnapshots};
@@ -83,7 +83,7 @@ fn settle_entries<D: Disk>(
     requires says { recovered.saved ≡ Some saved }
     requires due { SomeCount recovered }
     requires stored { IsStored D.tells D.clock D.image_at vault.old.save recovered.save.newest }
-    requires holds { Holds D.tells vault.old.snaps recovered.store.pages }
+    requires holds { HoldsPages D.tells vault.old.snaps recovered.store.pages }
     requires snap { snap ≤ 65536 }
     ensures leaves { SettleLeaves D.tells D.clock D.image_at recovered (is_ok result) vault.old vault.new }
     ensures settles { IfOk result (λ s.
@@ -139,7 +139,7 @@ pub fn settle<D: Disk>(
     requires whole { IsWhole vault.old }
     requires up { IsUp recovered }
     requires stored { IsStored D.tells D.clock D.image_at vault.old.save recovered.save.newest }
-    requires holds { Holds D.tells vault.old.snaps recovered.store.pages }
+    requires holds { HoldsPages D.tells vault.old.snaps recovered.store.pages }
     requires decls { AreDecls decls.now }
     requires snap { snap ≤ 65536 }
     ensures leaves { SettleLeaves D.tells D.clock D.image_at recovered (is_ok result) vault.old vault.new }

@@ -11,7 +11,7 @@ ghost use Rattle.serial_model.specs.declared.key.Key.{Key};
 ghost use Rattle.log_writer.specs.Points.{IsSaved, point_of, saved_of, sequence_of};
 ghost use Rattle.log_writer.specs.Save.{IsStored};
 ghost use Rattle.log_writer.specs.Vault.{IsWhole};
-ghost use Rattle.snapshot_store.specs.Store.{Holds};
+ghost use Rattle.snapshot_store.specs.Store.{HoldsPages};
 ghost use Rattle.joint_crashes.specs.Images.{Images};
 ghost use Rattle.joint_crashes.specs.JointCrash.{Moments, parts_of};
 ghost use Rattle.joint_crashes.specs.Resting.{IsResting, HasNoRecords, AreTold};
@@ -167,7 +167,7 @@ fn settle_new<D: Disk>(
     requires fresh { save.old.newest ≡ None }
     requires sound { store.old.sound ≡ true }
     requires empty { store.old.pages ≡ [] }
-    requires holds { Holds D.tells vault.old.snaps store.old.pages }
+    requires holds { HoldsPages D.tells vault.old.snaps store.old.pages }
     requires decls { AreDecls decls.now }
     ensures crashes { (found : Images) (from : Moments) (state : TheState)
         → (rest : IsResting D.clock D.image_at (parts_of vault.old)) → HasNoRecords (parts_of vault.old)
@@ -208,7 +208,7 @@ pub(crate) fn settle_without_entries<D: Disk>(
     requires whole { IsWhole vault.old }
     requires up { IsUp recovered }
     requires stored { IsStored D.tells D.clock D.image_at vault.old.save recovered.save.newest }
-    requires holds { Holds D.tells vault.old.snaps recovered.store.pages }
+    requires holds { HoldsPages D.tells vault.old.snaps recovered.store.pages }
     requires decls { AreDecls decls.now }
     requires none { NoneCount recovered }
     ensures leaves { SettleLeaves D.tells D.clock D.image_at recovered (is_ok result) vault.old vault.new }

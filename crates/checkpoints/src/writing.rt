@@ -2,7 +2,7 @@
 ghost use Rattle.std.specs.Prelude.{◌≡◌, ◌+◌, ◌-◌, ◌^◌, ◌<◌, ◌≤◌, ◌++◌, Some, true, length, is_ok, IfOk, OnOk};
 ghost use Rattle.serial_model.specs.Numbers.{last_epoch};
 ghost use Rattle.log_writer.specs.Points.{point_of, sequence_of};
-ghost use Rattle.snapshot_store.specs.Store.{bytes_of_pages, Holds, NumberedFrom};
+ghost use Rattle.snapshot_store.specs.Store.{bytes_of_pages, HoldsPages, NumberedFrom};
 ghost use Rattle.joint_crashes.specs.JointCrash.{parts_of};
 ghost use Rattle.checkpoints.specs.SettleLeaves.{CanStore, LeavesWhole, StandsDurably, StandsEmptied};
 ghost use Rattle.checkpoints.specs.SettlesInto.{composed_saved};
@@ -34,7 +34,7 @@ pub(crate) fn write_snapshot<D: Disk>(
     requires few { length store.old.pages + length pages.now ≤ 65536 }
     requires numbered { NumberedFrom (length store.old.pages + 1) pages.now }
     requires sound { store.old.sound ≡ true }
-    requires holds { Holds D.tells vault.old.snaps store.old.pages }
+    requires holds { HoldsPages D.tells vault.old.snaps store.old.pages }
     requires below { sequence_of save.old.newest < 2 ^ 63 - 1 }
     ensures crashes { LeavesOldOrNext D.clock D.image_at D.tells save.old.newest
         (composed_saved epoch (length store.old.pages + length pages.now)) (length store.old.pages)

@@ -17,7 +17,7 @@ use Rattle.commit_core.specs.Sound.{IsSound}
 use Rattle.commit_core.specs.Sound.Numbers.{EpochFits}
 use Rattle.lists.specs.declared.memory.OrMemory.{OrMemory}
 use Rattle.lists.specs.declared.memory.OrMemory.TheVariants.{Fault, Memory}
-use Rattle.commit_core.specs.declared.event.Refused.{Refused}
+use Rattle.commit_core.specs.declared.event.NotAllowed.{NotAllowed}
 use Rattle.commit_core.specs.Event.{Answers, AnswersEvent}
 use Rattle.commit_core.proofs.Runs.{happened_sound}
 use Rattle.commit_core.proofs.SerialLaws.{committed_serial, opening_sound}
@@ -37,7 +37,7 @@ same_state c p s m t at e f =
     ap (λ (x : Story). with_seat c p x t) e ∙ ap (λ (x : Seat). with_seat c p c.story x) f
     ∙ ap (λ (l : List Seat). let d : CoreState = record { opening = c.opening; story = c.story; seats = l } in d) (set_itself c.seats p s at)
 
-pub answers_event : {X : Type 0} (c : CoreState) (e : Event) (s : Seat) (r : Result X (OrMemory Refused)) (m : Story) (t : Seat) → slice_get c.seats e.seat ≡ Some s
+pub answers_event : {X : Type 0} (c : CoreState) (e : Event) (s : Seat) (r : Result X (OrMemory NotAllowed)) (m : Story) (t : Seat) → slice_get c.seats e.seat ≡ Some s
     → Answers e.seat e.act c.story s r m t → AnswersEvent c e r (with_seat c e.seat m t)
 answers_event c e s (Ok x) m t at a = (
   ap (λ (o : Option Seat). option_map_or (λ u. is_allowed e.seat c.story u e.act) o false) at ∙ a.0,
@@ -49,7 +49,7 @@ answers_event c e s (Err (Fault f)) m t at a =
 answers_event c e s (Err Memory) m t at a =
     (ap (λ (o : Option Seat). option_map_or (λ u. is_allowed e.seat c.story u e.act) o false) at ∙ a.0, a.1, same_state c e.seat s m t at a.2 a.3)
 
-pub answers_sound : {X : Type 0} (c : CoreState) (e : Event) (r : Result X (OrMemory Refused)) (d : CoreState) → AnswersEvent c e r d → TellsTruly c e → IsSound c → IsSound d
+pub answers_sound : {X : Type 0} (c : CoreState) (e : Event) (r : Result X (OrMemory NotAllowed)) (d : CoreState) → AnswersEvent c e r d → TellsTruly c e → IsSound c → IsSound d
 answers_sound c e (Ok x) d a told sound = subst (λ (y : CoreState). IsSound y) (sym a.1) (happened_sound c e a.0 told sound)
 answers_sound c e (Err (Fault f)) d a told sound = subst (λ (y : CoreState). IsSound y) (sym a.1) sound
 answers_sound c e (Err Memory) d a told sound = subst (λ (y : CoreState). IsSound y) (sym a.2) sound

@@ -9,7 +9,7 @@ use Rattle.lists.specs.declared.memory.OrMemory.TheVariants.{Fault, Memory}
 use Rattle.serial_model.specs.Numbers.{last_epoch}
 use Rattle.homes.specs.declared.places.Holder.TheVariants.{Free, Held}
 use Rattle.homes.specs.declared.places.Spot.{Spot}
-use Rattle.commit_core.specs.declared.event.Refused.{Refused}
+use Rattle.commit_core.specs.declared.event.NotAllowed.{NotAllowed}
 use Rattle.commit_core.specs.declared.place.Place.{Place}
 use Rattle.commit_core.specs.declared.part.Word.{Word}
 use Rattle.commit_core.specs.declared.part.Word.TheVariants.{Record}
@@ -215,14 +215,14 @@ takes_memory (Mark mark) = true
 
 -- What an act answers and leaves: it happens only where it is allowed, is refused only where it is not, and wants
 -- memory only where it is allowed and takes memory; after the last two nothing is changed.
-abbrev pub Answers : {X : Type 0} → ℕ → Act → Story → Seat → Result X (OrMemory Refused) → Story → Seat → Type 0
+abbrev pub Answers : {X : Type 0} → ℕ → Act → Story → Seat → Result X (OrMemory NotAllowed) → Story → Seat → Type 0
 Answers p act m s (Ok x) n t =
     (is_allowed p m s act ≡ true) × (n ≡ (effect p m s act).story) × (t ≡ (effect p m s act).seat)
 Answers p act m s (Err (Fault r)) n t = (is_allowed p m s act ≡ false) × (n ≡ m) × (t ≡ s)
 Answers p act m s (Err Memory) n t = (is_allowed p m s act ≡ true) × (takes_memory act ≡ true) × (n ≡ m) × (t ≡ s)
 
 -- the same of an event and the whole state
-abbrev pub AnswersEvent : {X : Type 0} → CoreState → Event → Result X (OrMemory Refused) → CoreState → Type 0
+abbrev pub AnswersEvent : {X : Type 0} → CoreState → Event → Result X (OrMemory NotAllowed) → CoreState → Type 0
 AnswersEvent c e (Ok x) d = (may_happen c e ≡ true) × (d ≡ happened c e)
 AnswersEvent c e (Err (Fault r)) d = (may_happen c e ≡ false) × (d ≡ c)
 AnswersEvent c e (Err Memory) d = (may_happen c e ≡ true) × (takes_memory e.act ≡ true) × (d ≡ c)

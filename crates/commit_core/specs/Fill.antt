@@ -6,7 +6,7 @@ use Rattle.lists.specs.declared.memory.OrMemory.TheVariants.{Fault, Memory}
 use Rattle.homes.specs.declared.places.Content.{Content}
 use Rattle.homes.specs.declared.places.Holder.TheVariants.{Free}
 use Rattle.homes.specs.declared.places.Spot.{Spot}
-use Rattle.commit_core.specs.declared.event.Refused.{Refused}
+use Rattle.commit_core.specs.declared.event.NotAllowed.{NotAllowed}
 use Rattle.commit_core.specs.declared.part.Word.TheVariants.{Record}
 use Rattle.commit_core.specs.declared.part.Part.{Part}
 use Rattle.commit_core.specs.declared.seat.Seat.{Seat}
@@ -38,7 +38,7 @@ pub record FillKeeps : Type 0 where
       → IsSoundSeat opening m p s → IsSoundSeat opening (filled x c m) p s
 
 -- what filling answers and leaves: it is refused exactly where the place is a key's home
-abbrev pub AnswersFill : {X : Type 0} → CoreState → Spot → Content → Result X (OrMemory Refused) → CoreState → Type 0
+abbrev pub AnswersFill : {X : Type 0} → CoreState → Spot → Content → Result X (OrMemory NotAllowed) → CoreState → Type 0
 AnswersFill c x content (Ok y) d = (is_nobodys c.story.homes (Some x) ≡ true) × (d ≡ record c { story = filled x content c.story })
 AnswersFill c x content (Err (Fault r)) d = (is_nobodys c.story.homes (Some x) ≡ false) × (d ≡ c)
 AnswersFill c x content (Err Memory) d = (is_nobodys c.story.homes (Some x) ≡ true) × (d ≡ c)

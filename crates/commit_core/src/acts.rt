@@ -6,24 +6,24 @@ ghost use Rattle.commit_core.specs.Event.{Answers, EndsCheck};
 use crate::attempt::{copy_changes, copy_parts, written};
 use crate::moves::{can_rehome, make_moves};
 use crate::seat::{keys_elsewhere, keys_unmoved};
-use crate::{Act, Attempt, Check, Mark, Part, Place, Refused, Seat, Stage, Story, Word};
+use crate::{Act, Attempt, Check, Mark, NotAllowed, Part, Place, Seat, Stage, Story, Word};
 use homes::{Content, Holder, Move, Spot};
 use lists::Sequence;
 use serial_model::{Changes, Key, LAST_EPOCH, Memory, OrMemory};
 
 /// What an act answers.
-pub type Answer = Result<(), OrMemory<Refused>>;
+pub type Answer = Result<(), OrMemory<NotAllowed>>;
 
 /// Reads the record of an unlocked key, and keeps what stands there.
 pub fn see(id: u32, story: &mut Story, seat: &mut Seat, key: Key) -> Answer
     ensures { Answers id (Act.See key) story.old seat.old result story.new seat.new }
 {
     let Some(spot) = story.spot(key) else {
-        return Err(OrMemory::Fault(Refused));
+        return Err(OrMemory::Fault(NotAllowed));
     };
     let place = story.place_of(spot);
     if seat.stage.is_trying() || !place.holder.is_free() {
-        return Err(OrMemory::Fault(Refused));
+        return Err(OrMemory::Fault(NotAllowed));
     }
     let part = Part::of_record(seat.kept.alloc(), key, spot, place.content)?;
     seat.keep(part)?;
@@ -35,7 +35,7 @@ pub fn keep(id: u32, story: &mut Story, seat: &mut Seat, part: &Part) -> Answer
     ensures { Answers id (Act.Keep part.now) story.old seat.old result story.new seat.new }
 {
     if seat.stage.is_trying() || part.word.is_record() {
-        return Err(OrMemory::Fault(Refused));
+        return Err(OrMemory::Fault(NotAllowed));
     }
     seat.keep(part.copy()?)?;
     Ok(())
@@ -46,11 +46,11 @@ pub fn lock(id: u32, story: &mut Story, seat: &mut Seat, key: Key) -> Answer
     ensures { Answers id (Act.Lock key) story.old seat.old result story.new seat.new }
 {
     let Some(spot) = story.spot(key) else {
-        return Err(OrMemory::Fault(Refused));
+        return Err(OrMemory::Fault(NotAllowed));
     };
     let place = story.place_of(spot);
     if !seat.stage.can_begin() || !place.holder.is_free() {
-        return Err(OrMemory::Fault(Refused));
+        return Err(OrMemory::Fault(NotAllowed));
     }
     seat.locks.push(key)?;
     let new = Place {
@@ -67,7 +67,7 @@ pub fn draw(id: u32, story: &mut Story, seat: &mut Seat, writes: &Changes) -> An
     ensures { Answers id (Act.Draw writes.now) story.old seat.old result story.new seat.new }
 {
     if !seat.stage.can_begin() || !seat.has_locked(writes.as_slice()) {
-        return Err(OrMemory::Fault(Refused));
+        return Err(OrMemory::Fault(NotAllowed));
     }
     let index = story.history.len();
     let number = story.clock();
@@ -90,10 +90,10 @@ pub fn check(id: u32, story: &mut Story, seat: &mut Seat, spot: Spot) -> Answer
 {
     let word = Word::Record(spot);
     let Some(attempt) = story.attempt_tried(seat.stage) else {
-        return Err(OrMemory::Fault(Refused));
+        return Err(OrMemory::Fault(NotAllowed));
     };
     if !attempt.has_part(word) || story.is_checked(attempt.number, word) {
-        return Err(OrMemory::Fault(Refused));
+        return Err(OrMemory::Fault(NotAllowed));
     }
     let stays = story.stays_as_seen(id, spot, attempt);
     let number = attempt.number;
@@ -106,10 +106,10 @@ pub fn confirm(id: u32, story: &mut Story, seat: &mut Seat, word: Word, told: bo
     ensures { Answers id (Act.Confirm word told) story.old seat.old result story.new seat.new }
 {
     let Some(attempt) = story.attempt_tried(seat.stage) else {
-        return Err(OrMemory::Fault(Refused));
+        return Err(OrMemory::Fault(NotAllowed));
     };
     if !attempt.has_part(word) || story.is_checked(attempt.number, word) || word.is_record() {
-        return Err(OrMemory::Fault(Refused));
+        return Err(OrMemory::Fault(NotAllowed));
     }
     let number = attempt.number;
     end_check(story, seat, Check { number, word }, told)?;
@@ -136,13 +136,13 @@ pub fn decide(id: u32, story: &mut Story, seat: &mut Seat) -> Answer
     ensures { Answers id Act.Decide story.old seat.old result story.new seat.new }
 {
     let Stage::Trying(index) = seat.stage else {
-        return Err(OrMemory::Fault(Refused));
+        return Err(OrMemory::Fault(NotAllowed));
     };
     let Some(attempt) = story.attempt_tried(seat.stage) else {
-        return Err(OrMemory::Fault(Refused));
+        return Err(OrMemory::Fault(NotAllowed));
     };
     if !story.is_all_checked(attempt) {
-        return Err(OrMemory::Fault(Refused));
+        return Err(OrMemory::Fault(NotAllowed));
     }
     let number = attempt.number;
     story.decided.push(number)?;
@@ -157,17 +157,17 @@ pub fn put(id: u32, story: &mut Story, seat: &mut Seat, key: Key) -> Answer
     ensures { Answers id (Act.Put key) story.old seat.old result story.new seat.new }
 {
     let Some(spot) = story.spot(key) else {
-        return Err(OrMemory::Fault(Refused));
+        return Err(OrMemory::Fault(NotAllowed));
     };
     let place = story.place_of(spot);
     let Some(attempt) = story.attempt_decided(seat.stage) else {
-        return Err(OrMemory::Fault(Refused));
+        return Err(OrMemory::Fault(NotAllowed));
     };
     let Some(value) = written(key, attempt.writes.as_slice()) else {
-        return Err(OrMemory::Fault(Refused));
+        return Err(OrMemory::Fault(NotAllowed));
     };
     if !place.holder.is(id) {
-        return Err(OrMemory::Fault(Refused));
+        return Err(OrMemory::Fault(NotAllowed));
     }
     seat.put.push(key)?;
     let content = Content {
@@ -184,17 +184,17 @@ pub fn open(id: u32, story: &mut Story, seat: &mut Seat, key: Key) -> Answer
     ensures { Answers id (Act.Open key) story.old seat.old result story.new seat.new }
 {
     let Some(spot) = story.spot(key) else {
-        return Err(OrMemory::Fault(Refused));
+        return Err(OrMemory::Fault(NotAllowed));
     };
     let place = story.place_of(spot);
     if seat.stage.is_trying() || !place.holder.is(id) {
-        return Err(OrMemory::Fault(Refused));
+        return Err(OrMemory::Fault(NotAllowed));
     }
     let number = match story.attempt_decided(seat.stage) {
         None => place.content.number,
         Some(attempt) => {
             if !seat.has_put(key) {
-                return Err(OrMemory::Fault(Refused));
+                return Err(OrMemory::Fault(NotAllowed));
             }
             attempt.number
         }
@@ -216,7 +216,7 @@ pub fn forget(id: u32, story: &mut Story, seat: &mut Seat) -> Answer
     ensures { Answers id Act.Forget story.old seat.old result story.new seat.new }
 {
     if !seat.stage.can_begin() {
-        return Err(OrMemory::Fault(Refused));
+        return Err(OrMemory::Fault(NotAllowed));
     }
     seat.kept.clear();
     Ok(())
@@ -227,7 +227,7 @@ pub fn rehome(id: u32, story: &mut Story, seat: &mut Seat, moves: &Sequence<Move
     ensures { Answers id (Act.Rehome moves.now) story.old seat.old result story.new seat.new }
 {
     if !can_rehome(id, seat.stage.can_begin(), story, moves.as_slice()) {
-        return Err(OrMemory::Fault(Refused));
+        return Err(OrMemory::Fault(NotAllowed));
     }
     let locks = keys_unmoved(&seat.locks, moves.as_slice())?;
     make_moves(story, moves.as_slice())?;
@@ -241,7 +241,7 @@ pub fn advance(id: u32, story: &mut Story, seat: &mut Seat) -> Answer
     ensures { Answers id Act.Advance story.old seat.old result story.new seat.new }
 {
     if id != 0 || story.epoch >= LAST_EPOCH {
-        return Err(OrMemory::Fault(Refused));
+        return Err(OrMemory::Fault(NotAllowed));
     }
     story.epoch += 1;
     Ok(())
@@ -256,7 +256,7 @@ pub fn mark(id: u32, story: &mut Story, seat: &mut Seat, mark: Mark) -> Answer
         Some(epoch) => epoch < story.epoch && seat.last_marked() <= epoch,
     };
     if seat.stage.is_trying() || !is_possible {
-        return Err(OrMemory::Fault(Refused));
+        return Err(OrMemory::Fault(NotAllowed));
     }
     seat.marks.push(mark)?;
     Ok(())

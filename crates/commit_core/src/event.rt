@@ -44,4 +44,4 @@ pub enum Act {
 
 /// The event's condition fails, and nothing was changed.
 #[derive(Clone, Copy, Debug, PartialEq, Eq, Drop)]
-pub struct Refused;
+pub struct NotAllowed;

@@ -33,7 +33,7 @@ mod story;
 
 pub use acts::rehome;
 pub use attempt::{Attempt, Check};
-pub use event::{Act, Event, Refused};
+pub use event::{Act, Event, NotAllowed};
 pub use law::commits_are_serial;
 pub use machine::{Core, act};
 pub use moves::can_move;

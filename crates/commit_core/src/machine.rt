@@ -10,7 +10,7 @@ ghost use Rattle.commit_core.specs.Fill.{AnswersFill, NobodyKeeps};
 ghost use Rattle.std.specs.Prelude.{map, replicate};
 
 use crate::moves::is_nobodys;
-use crate::{Act, Attempt, Event, FirstDraw, Mark, Place, Refused, Seat, Stage, Story, acts};
+use crate::{Act, Attempt, Event, FirstDraw, Mark, NotAllowed, Place, Seat, Stage, Story, acts};
 use homes::{Content, Holder, Home, Spot};
 use lists::Sequence;
 use serial_model::{Key, Memory, Number, OrMemory};
@@ -58,19 +58,19 @@ impl Core {
     }
 
     /// Lets the event happen, if its condition holds.
-    pub fn step(&mut self, event: &Event) -> Result<(), OrMemory<Refused>>
+    pub fn step(&mut self, event: &Event) -> Result<(), OrMemory<NotAllowed>>
         ensures event { AnswersEvent self.old event.now result self.new }
         ensures sound { TellsTruly self.old event.now → IsSound self.old → IsSound self.new }
     {
         match self.seats.get_mut(event.seat as usize) {
-            None => Err(OrMemory::Fault(Refused)),
+            None => Err(OrMemory::Fault(NotAllowed)),
             Some(seat) => act(event.seat, &mut self.story, seat, &event.act),
         }
     }
 
     /// Lets this content stand in a place that is no key's home, unlocked, as a page is filled that nobody has got to
     /// yet. The machine stays sound where no seat keeps a part of the place's record.
-    pub fn fill(&mut self, spot: Spot, content: Content) -> Result<(), OrMemory<Refused>>
+    pub fn fill(&mut self, spot: Spot, content: Content) -> Result<(), OrMemory<NotAllowed>>
         ensures fill { AnswersFill self.old spot content result self.new }
         ensures sound { NobodyKeeps self.old spot → IsSound self.old → IsSound self.new }
     {
@@ -78,7 +78,7 @@ impl Core {
             self.story.fill(spot, content)?;
             return Ok(());
         }
-        Err(OrMemory::Fault(Refused))
+        Err(OrMemory::Fault(NotAllowed))
     }
 
     /// The decided attempts, in order of number.
@@ -128,7 +128,12 @@ fn opened(alloc: Global, pairs: &[(Key, u64)], passes: u32) -> Result<Core, Memo
 }
 
 /// One act of the seat with this id.
-pub fn act(id: u32, story: &mut Story, seat: &mut Seat, act: &Act) -> Result<(), OrMemory<Refused>>
+pub fn act(
+    id: u32,
+    story: &mut Story,
+    seat: &mut Seat,
+    act: &Act,
+) -> Result<(), OrMemory<NotAllowed>>
     ensures { Answers id act.now story.old seat.old result story.new seat.new }
 {
     match act {

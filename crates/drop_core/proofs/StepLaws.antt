@@ -18,7 +18,7 @@ use Rattle.drop_core.proofs.Openings.{starts_sound}
 use Rattle.drop_core.proofs.Runs.{happened_sound}
 use Rattle.lists.specs.declared.memory.OrMemory.{OrMemory}
 use Rattle.lists.specs.declared.memory.OrMemory.TheVariants.{Fault, Memory}
-use Rattle.drop_core.specs.declared.event.Refused.{Refused}
+use Rattle.drop_core.specs.declared.event.NotAllowed.{NotAllowed}
 
 -- the state with this table, and with this seat's own at its place
 abbrev pub with_grip : DropState → ℕ → Table → Grip → DropState
@@ -38,7 +38,7 @@ same_state c p g d h at e f =
 allowed_at : (c : DropState) (e : Event) (g : Grip) → slice_get c.grips e.seat ≡ Some g → may_happen c e ≡ is_allowed e.seat c.table g e.act
 allowed_at c e g at = ap (λ (o : Option Grip). option_map_or (λ u. is_allowed e.seat c.table u e.act) o false) at
 
-pub answers_event : (c : DropState) (e : Event) (g : Grip) (r : Result (List Move) (OrMemory Refused)) (d : Table) (h : Grip) → slice_get c.grips e.seat ≡ Some g
+pub answers_event : (c : DropState) (e : Event) (g : Grip) (r : Result (List Move) (OrMemory NotAllowed)) (d : Table) (h : Grip) → slice_get c.grips e.seat ≡ Some g
     → Answers e.seat e.act c.table g r d h → AnswersEvent c e r (with_grip c e.seat d h)
 answers_event c e g (Ok m) d h at a = (
   allowed_at c e g at ∙ a.0,
@@ -50,12 +50,12 @@ answers_event c e g (Err (Fault f)) d h at a = (allowed_at c e g at ∙ a.0, sam
 answers_event c e g (Err Memory) d h at a = (allowed_at c e g at ∙ a.0, a.1, same_state c e.seat g d h at a.2 a.3)
 
 -- the state is sound with the homes after what was answered
-pub answers_sound : (homes : Key → Home) (c : DropState) (e : Event) (r : Result (List Move) (OrMemory Refused)) (d : DropState) → AnswersEvent c e r d → IsSound homes c
+pub answers_sound : (homes : Key → Home) (c : DropState) (e : Event) (r : Result (List Move) (OrMemory NotAllowed)) (d : DropState) → AnswersEvent c e r d → IsSound homes c
     → IsOutcome homes r d
 answers_sound homes c e (Ok m) d a sound = subst (λ (y : DropState). IsSound (moved m homes) y) (sym a.2) (subst (λ (l : List Move). IsSound (moved l homes) (happened c e)) (sym a.1) (happened_sound homes c e a.0 sound))
 answers_sound homes c e (Err f) d a sound = unchanged f a
   where
-    unchanged : (f : OrMemory Refused) → AnswersEvent c e (Err f) d → IsSound homes d
+    unchanged : (f : OrMemory NotAllowed) → AnswersEvent c e (Err f) d → IsSound homes d
     unchanged (Fault r) a = subst (λ (y : DropState). IsSound homes y) (sym a.1) sound
     unchanged Memory a = subst (λ (y : DropState). IsSound homes y) (sym a.2) sound
 

@@ -33,7 +33,7 @@ use Rattle.drop_core.specs.declared.event.Chain.{Chain}
 use Rattle.drop_core.specs.declared.event.Act.{Act}
 use Rattle.drop_core.specs.declared.event.Act.TheVariants.{Enter, Leave, Give, Publish, Retire, FillPage, FillPointer, FillSnapshot, Extend, Install, Swing, Renew, Shut, Reopen, FillHeader, LockHeader, OpenHeader, Twin, SwingChain}
 use Rattle.drop_core.specs.declared.event.Event.{Event}
-use Rattle.drop_core.specs.declared.event.Refused.{Refused}
+use Rattle.drop_core.specs.declared.event.NotAllowed.{NotAllowed}
 use Rattle.drop_core.specs.Table.{fresh_slot, slot_of, page_of, no_span, pointer_of, header_of, snap_of, has_slot, at_index, snap_home, page_span, leaf_place, leaf_home, is_led, is_never, is_live, is_split}
 
 -- what the seats share, and what each of them has
@@ -718,14 +718,14 @@ takes_memory (SwingChain x n c) = true
 
 -- What an act answers and leaves: it happens, with these moves, only where it is allowed, is refused only where it
 -- is not, and wants memory only where it is allowed and takes memory; after the last two nothing is changed.
-abbrev pub Answers : ℕ → Act → Table → Grip → Result (List Move) (OrMemory Refused) → Table → Grip → Type 0
+abbrev pub Answers : ℕ → Act → Table → Grip → Result (List Move) (OrMemory NotAllowed) → Table → Grip → Type 0
 Answers p act d g (Ok m) e h =
     (is_allowed p d g act ≡ true) × (m ≡ moves d act) × (e ≡ (effect p d g act).table) × (h ≡ (effect p d g act).grip)
 Answers p act d g (Err (Fault r)) e h = (is_allowed p d g act ≡ false) × (e ≡ d) × (h ≡ g)
 Answers p act d g (Err Memory) e h = (is_allowed p d g act ≡ true) × (takes_memory act ≡ true) × (e ≡ d) × (h ≡ g)
 
 -- the same of an event and the whole state
-abbrev pub AnswersEvent : DropState → Event → Result (List Move) (OrMemory Refused) → DropState → Type 0
+abbrev pub AnswersEvent : DropState → Event → Result (List Move) (OrMemory NotAllowed) → DropState → Type 0
 AnswersEvent c e (Ok m) d = (may_happen c e ≡ true) × (m ≡ moves c.table e.act) × (d ≡ happened c e)
 AnswersEvent c e (Err (Fault r)) d = (may_happen c e ≡ false) × (d ≡ c)
 AnswersEvent c e (Err Memory) d = (may_happen c e ≡ true) × (takes_memory e.act ≡ true) × (d ≡ c)

@@ -11,7 +11,7 @@ use Rattle.homes.specs.declared.places.Home.TheVariants.{InSlot, Nowhere}
 use Rattle.homes.specs.declared.places.Move.{Move}
 use Rattle.homes.specs.Homes.{has_key, in_span, moved}
 use Rattle.lists.specs.declared.memory.OrMemory.{OrMemory}
-use Rattle.drop_core.specs.declared.event.Refused.{Refused}
+use Rattle.drop_core.specs.declared.event.NotAllowed.{NotAllowed}
 use Rattle.drop_core.specs.declared.table.Led.{Led}
 use Rattle.drop_core.specs.declared.table.Led.TheVariants.{Never, From, Away}
 use Rattle.drop_core.specs.declared.table.SlotState.{SlotState}
@@ -204,6 +204,6 @@ IsSound homes c = IsSoundPages homes c.table c.grips
 
 -- After an event that happened the state is sound with the homes after the moves that were answered; after any other
 -- answer it is so with the homes as they were.
-abbrev pub IsOutcome : (Key → Home) → Result (List Move) (OrMemory Refused) → DropState → Type 0
+abbrev pub IsOutcome : (Key → Home) → Result (List Move) (OrMemory NotAllowed) → DropState → Type 0
 IsOutcome homes (Ok m) d = IsSound (moved m homes) d
 IsOutcome homes (Err f) d = IsSound homes d

@@ -3,7 +3,7 @@ use Rattle.std.specs.Prelude.{◌≡◌, ℕ, true, false, Result, Ok, Err, unwr
 use Rattle.lists.specs.declared.memory.OrMemory.{OrMemory}
 use Rattle.lists.specs.declared.memory.OrMemory.TheVariants.{Fault, Memory}
 use Rattle.drop_core.specs.declared.event.Act.{Act}
-use Rattle.drop_core.specs.declared.event.Refused.{Refused}
+use Rattle.drop_core.specs.declared.event.NotAllowed.{NotAllowed}
 use Rattle.drop_core.specs.declared.swaps.Numbers.{Numbers}
 use Rattle.drop_core.specs.declared.swaps.Numbers.TheVariants.{Kept, Made, Taken}
 use Rattle.drop_core.specs.declared.swaps.Swap.{Swap}
@@ -31,7 +31,7 @@ put w d g =
 
 -- What preparing an act answers: to put the swap is the act, and its moves are the act's, only where it is allowed; it is
 -- refused only where it is not, and wants memory only where it is allowed and takes some.
-abbrev pub Prepares : ℕ → Act → Table → Grip → Result Swap (OrMemory Refused) → Type 0
+abbrev pub Prepares : ℕ → Act → Table → Grip → Result Swap (OrMemory NotAllowed) → Type 0
 Prepares p act d g (Ok w) =
     (is_allowed p d g act ≡ true) × (w.moves ≡ moves d act)
     × ((put w d g).table ≡ (effect p d g act).table) × ((put w d g).grip ≡ (effect p d g act).grip)

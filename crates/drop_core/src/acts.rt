@@ -4,14 +4,14 @@ ghost use Rattle.std.specs.Prelude.{◌≡◌, [], ◌∷◌, IfOk, OnOk, OnErr,
 ghost use Rattle.drop_core.specs.Event.{Answers, without, with_pointer, with_header};
 
 use crate::grip::has_slot;
-use crate::{Act, Grip, Led, Page, Pointer, Refused, Slot, SlotState, SnapPage, Table};
+use crate::{Act, Grip, Led, NotAllowed, Page, Pointer, Slot, SlotState, SnapPage, Table};
 use homes::{At, Holder, Move, Spot};
 use lists::Sequence;
 use serial_model::{Memory, OrMemory};
 use std::mem;
 
 /// What an act answers: the moves of keys that it is.
-pub type Answer = Result<Sequence<Move>, OrMemory<Refused>>;
+pub type Answer = Result<Sequence<Move>, OrMemory<NotAllowed>>;
 
 /// A slot is held by so many seats at most: its word has 16 bits for them.
 pub const MOST_PASSES: u64 = 65_535;
@@ -29,7 +29,7 @@ pub fn enter(id: u32, table: &mut Table, grip: &mut Grip, slot: u32) -> Answer
 {
     let old = table.slot(slot);
     if slot >= table.room || has_slot(&grip.holds, slot) || old.passes >= MOST_PASSES {
-        return Err(OrMemory::Fault(Refused));
+        return Err(OrMemory::Fault(NotAllowed));
     }
     let new = Slot {
         state: old.state,
@@ -49,7 +49,7 @@ pub fn leave(id: u32, table: &mut Table, grip: &mut Grip, slot: u32) -> Answer
     ensures { Answers id (Act.Leave slot) table.old grip.old result table.new grip.new }
 {
     if !has_slot(&grip.holds, slot) {
-        return Err(OrMemory::Fault(Refused));
+        return Err(OrMemory::Fault(NotAllowed));
     }
     let old = table.slot(slot);
     let new = Slot {
@@ -72,7 +72,7 @@ pub fn give(id: u32, table: &mut Table, grip: &mut Grip, slot: u32) -> Answer
 {
     let old = table.slot(slot);
     if slot >= table.room || !old.is_usable() {
-        return Err(OrMemory::Fault(Refused));
+        return Err(OrMemory::Fault(NotAllowed));
     }
     let new = Slot {
         state: SlotState::Owned,
@@ -95,7 +95,7 @@ pub fn publish(id: u32, table: &mut Table, grip: &mut Grip, slot: u32) -> Answer
 {
     let old = table.slot(slot);
     if !old.state.is_owned() || !has_slot(&grip.made, slot) {
-        return Err(OrMemory::Fault(Refused));
+        return Err(OrMemory::Fault(NotAllowed));
     }
     let new = Slot {
         state: SlotState::Published,
@@ -114,10 +114,10 @@ pub fn retire(id: u32, table: &mut Table, grip: &mut Grip, slot: u32) -> Answer
 {
     let old = table.slot(slot);
     if !old.state.is_published() || old.led.is_from() {
-        return Err(OrMemory::Fault(Refused));
+        return Err(OrMemory::Fault(NotAllowed));
     }
     if !has_slot(&grip.made, slot) && !has_slot(&grip.taken, slot) {
-        return Err(OrMemory::Fault(Refused));
+        return Err(OrMemory::Fault(NotAllowed));
     }
     let new = Slot {
         state: SlotState::Retired,
@@ -139,7 +139,7 @@ pub fn fill_page(id: u32, table: &mut Table, grip: &mut Grip, slot: u32, page: P
     ensures { Answers id (Act.FillPage slot page) table.old grip.old result table.new grip.new }
 {
     if !table.slot(slot).state.is_owned() || !has_slot(&grip.made, slot) {
-        return Err(OrMemory::Fault(Refused));
+        return Err(OrMemory::Fault(NotAllowed));
     }
     put_front(&mut table.pages, (slot, page))?;
     Ok(no_moves(table))
@@ -150,7 +150,7 @@ pub fn fill_pointer(id: u32, table: &mut Table, grip: &mut Grip, spot: Spot, new
     ensures { Answers id (Act.FillPointer spot new) table.old grip.old result table.new grip.new }
 {
     if !table.slot(spot.slot).state.is_owned() || !has_slot(&grip.made, spot.slot) {
-        return Err(OrMemory::Fault(Refused));
+        return Err(OrMemory::Fault(NotAllowed));
     }
     set_pointer(table, At::In(spot), new)?;
     Ok(no_moves(table))
@@ -167,7 +167,7 @@ pub fn fill_snapshot(
     ensures { Answers id (Act.FillSnapshot number page) table.old grip.old result table.new grip.new }
 {
     if id != 0 || number <= table.published {
-        return Err(OrMemory::Fault(Refused));
+        return Err(OrMemory::Fault(NotAllowed));
     }
     put_front(&mut table.snaps, (number, page))?;
     Ok(no_moves(table))
@@ -178,10 +178,10 @@ pub fn extend(id: u32, table: &mut Table, grip: &mut Grip, number: u32) -> Answe
     ensures { Answers id (Act.Extend number) table.old grip.old result table.new grip.new }
 {
     if id != 0 || number < table.published {
-        return Err(OrMemory::Fault(Refused));
+        return Err(OrMemory::Fault(NotAllowed));
     }
     if !table.are_filled(number) || !table.are_right(number) {
-        return Err(OrMemory::Fault(Refused));
+        return Err(OrMemory::Fault(NotAllowed));
     }
     table.published = number;
     Ok(no_moves(table))
@@ -193,10 +193,10 @@ pub fn renew(id: u32, table: &mut Table, grip: &mut Grip, at: At, number: u32) -
 {
     let old = table.pointer(at);
     if !table.is_open(at) || old.slot.is_none() {
-        return Err(OrMemory::Fault(Refused));
+        return Err(OrMemory::Fault(NotAllowed));
     }
     if number == 0 || number > table.published || !table.is_over(number, old.span) {
-        return Err(OrMemory::Fault(Refused));
+        return Err(OrMemory::Fault(NotAllowed));
     }
     let new = Pointer {
         span: old.span,
@@ -213,7 +213,7 @@ pub fn shut(id: u32, table: &mut Table, grip: &mut Grip, at: At) -> Answer
     ensures { Answers id (Act.Shut at) table.old grip.old result table.new grip.new }
 {
     if !table.is_open(at) {
-        return Err(OrMemory::Fault(Refused));
+        return Err(OrMemory::Fault(NotAllowed));
     }
     let old = table.pointer(at);
     let new = Pointer {
@@ -232,7 +232,7 @@ pub fn reopen(id: u32, table: &mut Table, grip: &mut Grip, at: At) -> Answer
 {
     let old = table.pointer(at);
     if !old.holder.is(id) {
-        return Err(OrMemory::Fault(Refused));
+        return Err(OrMemory::Fault(NotAllowed));
     }
     let new = Pointer {
         span: old.span,
@@ -249,7 +249,7 @@ pub fn fill_header(id: u32, table: &mut Table, grip: &mut Grip, slot: u32) -> An
     ensures { Answers id (Act.FillHeader slot) table.old grip.old result table.new grip.new }
 {
     if !table.slot(slot).state.is_owned() || !has_slot(&grip.made, slot) {
-        return Err(OrMemory::Fault(Refused));
+        return Err(OrMemory::Fault(NotAllowed));
     }
     set_header(table, slot, Holder::Free)?;
     Ok(no_moves(table))
@@ -261,10 +261,10 @@ pub fn lock_header(id: u32, table: &mut Table, grip: &mut Grip, slot: u32) -> An
     ensures { Answers id (Act.LockHeader slot) table.old grip.old result table.new grip.new }
 {
     if !table.slot(slot).led.is_from() || !table.header(slot).is_free() {
-        return Err(OrMemory::Fault(Refused));
+        return Err(OrMemory::Fault(NotAllowed));
     }
     if id != 0 && table.is_split(slot) {
-        return Err(OrMemory::Fault(Refused));
+        return Err(OrMemory::Fault(NotAllowed));
     }
     set_header(table, slot, Holder::Held(id))?;
     Ok(no_moves(table))
@@ -275,7 +275,7 @@ pub fn open_header(id: u32, table: &mut Table, grip: &mut Grip, slot: u32) -> An
     ensures { Answers id (Act.OpenHeader slot None) table.old grip.old result table.new grip.new }
 {
     if !table.header(slot).is(id) {
-        return Err(OrMemory::Fault(Refused));
+        return Err(OrMemory::Fault(NotAllowed));
     }
     set_header(table, slot, Holder::Free)?;
     Ok(no_moves(table))

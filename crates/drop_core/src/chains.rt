@@ -11,7 +11,7 @@ use crate::grip::is_among;
 use crate::queries::slot_in;
 use crate::stands::{each_once, has_key};
 use crate::swaps::{dropped_from, is_in, is_target, led, put, to_page};
-use crate::{Act, Chain, Grip, Led, Numbers, Page, Refused, Slot, Swap, Table};
+use crate::{Act, Chain, Grip, Led, NotAllowed, Numbers, Page, Slot, Swap, Table};
 use homes::{At, Holder, Spot};
 use lists::Sequence;
 use serial_model::{Key, Memory, OrMemory};
@@ -42,11 +42,11 @@ pub fn prepare_swing_chain(
     at: At,
     number: u32,
     chain: &Chain,
-) -> Result<Swap, OrMemory<Refused>>
+) -> Result<Swap, OrMemory<NotAllowed>>
     ensures { Prepares id (Act.SwingChain at number chain.now) table.now grip.now result }
 {
     if !can_swing_chain(id, table, at, number, chain) {
-        return Err(OrMemory::Fault(Refused));
+        return Err(OrMemory::Fault(NotAllowed));
     }
     let gone = chain.slots.as_slice();
     let moves = to_page(table, number, &chain.keys)?;

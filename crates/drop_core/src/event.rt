@@ -77,4 +77,4 @@ pub struct Chain {
 
 /// The event's condition fails, and nothing was changed.
 #[derive(Clone, Copy, Debug, PartialEq, Eq, Drop)]
-pub struct Refused;
+pub struct NotAllowed;

@@ -11,7 +11,7 @@ use crate::acts::{self, Answer, headers_with, numbers_without};
 use crate::queries::leaf_home;
 use crate::stands::{are_in, each_once, has_key};
 use crate::swaps::{is_ready, led, put};
-use crate::{Act, Grip, Led, Numbers, Page, Pointer, Refused, Slot, Swap, Table, Twins};
+use crate::{Act, Grip, Led, NotAllowed, Numbers, Page, Pointer, Slot, Swap, Table, Twins};
 use homes::{At, Holder, Home, Move, Span, Spot};
 use lists::Sequence;
 use serial_model::{Key, Memory, OrMemory};
@@ -59,11 +59,11 @@ pub fn prepare_key(
     grip: &Grip,
     slot: u32,
     key: Key,
-) -> Result<Swap, OrMemory<Refused>>
+) -> Result<Swap, OrMemory<NotAllowed>>
     ensures { Prepares id (Act.OpenHeader slot (Some key)) table.now grip.now result }
 {
     if !can_add(id, table, slot, key) {
-        return Err(OrMemory::Fault(Refused));
+        return Err(OrMemory::Fault(NotAllowed));
     }
     let moves = move_behind(table, slot, key)?;
     let page = page_with(table, slot, key)?;
@@ -85,12 +85,12 @@ pub fn prepare_split(
     table: &Table,
     grip: &Grip,
     twins: &Twins,
-) -> Result<Swap, OrMemory<Refused>>
+) -> Result<Swap, OrMemory<NotAllowed>>
     ensures { Prepares id (Act.Twin twins.now) table.now grip.now result }
 {
     let span = table.slot_span(twins.slot);
     if id == 0 || !can_split(id, table, grip, span, twins) {
-        return Err(OrMemory::Fault(Refused));
+        return Err(OrMemory::Fault(NotAllowed));
     }
     let moves = moves_apart(table, span, twins)?;
     let slots = halves_led(table, span, twins)?;

@@ -37,7 +37,7 @@ mod swaps;
 mod table;
 
 pub use chains::prepare_swing_chain;
-pub use event::{Act, Chain, Event, Refused, Twins};
+pub use event::{Act, Chain, Event, NotAllowed, Twins};
 pub use grip::{Grip, has_slot};
 pub use law::pages_stay_sound;
 pub use leaves::{can_add, prepare_key, prepare_split};

@@ -7,7 +7,7 @@ ghost use Rattle.drop_core.specs.Opening.{CanOpen, opening_state, opening_homes,
 ghost use Rattle.drop_core.specs.Sound.{IsSound, IsOutcome};
 
 use crate::acts::{self, Answer};
-use crate::{Act, Event, Grip, Pointer, Refused, SnapPage, Table, chains, leaves, swaps};
+use crate::{Act, Event, Grip, NotAllowed, Pointer, SnapPage, Table, chains, leaves, swaps};
 use homes::{At, Holder, Span};
 use lists::Sequence;
 use serial_model::{Memory, OrMemory};
@@ -52,7 +52,7 @@ impl DropCore {
         ensures sound { (homes : Key → Home) → IsSound homes self.old → IsOutcome homes result self.new }
     {
         match self.grips.get_mut(event.seat as usize) {
-            None => Err(OrMemory::Fault(Refused)),
+            None => Err(OrMemory::Fault(NotAllowed)),
             Some(grip) => apply(event.seat, &mut self.table, grip, event.act),
         }
     }

@@ -9,7 +9,7 @@ ghost use Rattle.drop_core.specs.Event.{Answers, is_ready, is_target, is_closed_
 use crate::acts::{Answer, headers_with, numbers_with, numbers_without, pointers_with, slots_with};
 use crate::grip::{has_slot, is_among};
 use crate::queries::leaf_home;
-use crate::{Act, Grip, Led, Page, Pointer, Refused, Slot, Table};
+use crate::{Act, Grip, Led, NotAllowed, Page, Pointer, Slot, Table};
 use homes::{At, Holder, Move, Span};
 use lists::Sequence;
 use serial_model::{Key, Memory, OrMemory};
@@ -62,11 +62,11 @@ pub fn prepare_install(
     grip: &Grip,
     at: At,
     slot: u32,
-) -> Result<Swap, OrMemory<Refused>>
+) -> Result<Swap, OrMemory<NotAllowed>>
     ensures { Prepares id (Act.Install at slot) table.now grip.now result }
 {
     if id == 0 || !can_install(table, grip, at, slot) {
-        return Err(OrMemory::Fault(Refused));
+        return Err(OrMemory::Fault(NotAllowed));
     }
     let moves = moves_up(table, slot)?;
     let slots = slots_with(&table.slots, slot, led(table.slot(slot), Led::From(at)))?;
@@ -90,14 +90,14 @@ pub fn prepare_swing(
     grip: &Grip,
     at: At,
     number: u32,
-) -> Result<Swap, OrMemory<Refused>>
+) -> Result<Swap, OrMemory<NotAllowed>>
     ensures { Prepares id (Act.Swing at number) table.now grip.now result }
 {
     if !can_swing(id, table, at, number) || !keeps_header(id, table, table.pointer(at).slot) {
-        return Err(OrMemory::Fault(Refused));
+        return Err(OrMemory::Fault(NotAllowed));
     }
     let Some(slot) = table.pointer(at).slot else {
-        return Err(OrMemory::Fault(Refused));
+        return Err(OrMemory::Fault(NotAllowed));
     };
     let moves = moves_down(table, slot, number)?;
     let slots = slots_with(&table.slots, slot, led(table.slot(slot), Led::Away))?;

@@ -9,7 +9,7 @@ use Rattle.homes.specs.declared.places.Content.{Content}
 use Rattle.homes.specs.declared.places.Holder.TheVariants.{Free}
 use Rattle.homes.specs.declared.places.Span.{Span}
 use Rattle.wire_form.specs.Words.{number_in}
-use Rattle.snapshot_store.specs.declared.place.Place.{Place as PagePlace}
+use Rattle.snapshot_store.specs.declared.place.PagePlace.{PagePlace}
 use Rattle.snapshot_store.specs.Places.{page, Found}
 use Rattle.snapshot_store.specs.ArrayPages.{array_found}
 use Rattle.commit_core.specs.Keys.{nothing}

@@ -15,7 +15,7 @@ use Rattle.homes.specs.declared.places.Holder.TheVariants.{Free, Held, Dead}
 use Rattle.homes.specs.declared.places.Span.{Span}
 use Rattle.homes.specs.declared.places.Spot.{Spot}
 use Rattle.wire_form.specs.Words.{slot_field}
-use Rattle.snapshot_store.specs.declared.place.Place.{Place as PagePlace}
+use Rattle.snapshot_store.specs.declared.place.PagePlace.{PagePlace}
 use Rattle.snapshot_store.specs.Content.{format_of, IsPageOf}
 use Rattle.snapshot_store.specs.Places.{Format, StandsTo}
 use Rattle.commit_core.specs.Places.{place_of}

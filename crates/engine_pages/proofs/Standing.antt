@@ -13,7 +13,7 @@ use Rattle.wire_form.specs.Pages.{HasKind, IsArrayRecord, array_record_words}
 use Rattle.wire_form.specs.Words.{number_field}
 use Rattle.snapshot_store.specs.ArrayPages.{span_of, leaf_room, fan, parts_of, array_kind, IsArrayPage}
 use Rattle.snapshot_store.specs.Content.{format_of, IsPageOf}
-use Rattle.snapshot_store.specs.declared.place.Place.{Place as PagePlace}
+use Rattle.snapshot_store.specs.declared.place.PagePlace.{PagePlace}
 use Rattle.snapshot_store.specs.Places.{StandsTo, words_at}
 use Rattle.std.specs.Prelude.{nat_le}
 use Rattle.engine_pages.specs.Resident.{AreRecords, array_word, array_value}

@@ -22,7 +22,7 @@ use Rattle.engine_pages.specs.Words.{ShowsRecord, ShowsPointer, ShowsSlot, Shows
 use Rattle.engine_pages.specs.Words.{ShowsRecords, ShowsTree, head_word, lock_field, child_high}
 use Rattle.engine_pages.specs.Words.{tree_child, spot}
 use Rattle.serial_model.specs.declared.decl.Decl.{Decl}
-use Rattle.snapshot_store.specs.declared.place.Place.{Place as PagePlace}
+use Rattle.snapshot_store.specs.declared.place.PagePlace.{PagePlace}
 use Rattle.engine_pages.specs.Pages.{Fenced}
 use Rattle.drop_core.specs.Event.{lower_span, upper_span}
 

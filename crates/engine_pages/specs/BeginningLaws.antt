@@ -11,7 +11,7 @@ use Rattle.homes.specs.declared.places.At.{At}
 use Rattle.homes.specs.declared.places.At.TheVariants.{Root, In}
 use Rattle.homes.specs.declared.places.Content.{Content}
 use Rattle.homes.specs.Homes.{look}
-use Rattle.snapshot_store.specs.declared.place.Place.{Place as PagePlace}
+use Rattle.snapshot_store.specs.declared.place.PagePlace.{PagePlace}
 use Rattle.commit_core.specs.Opening.{fresh_seat, fresh_story}
 use Rattle.drop_core.specs.declared.table.SnapPage.{SnapPage}
 use Rattle.drop_core.specs.declared.table.SnapPage.TheVariants.{Missing}

@@ -12,7 +12,7 @@ use Rattle.commit_core.specs.Keys.{nothing}
 use Rattle.drop_core.specs.declared.table.SnapPage.TheVariants.{Missing}
 use Rattle.drop_core.specs.declared.table.Table.{Table}
 use Rattle.drop_core.specs.Table.{snap_of}
-use Rattle.snapshot_store.specs.declared.place.Place.{Place}
+use Rattle.snapshot_store.specs.declared.place.PagePlace.{PagePlace}
 use Rattle.snapshot_store.specs.Content.{deepest, format_of, IsPageOf}
 use Rattle.snapshot_store.specs.ArrayPages.{array_found}
 use Rattle.snapshot_store.specs.Places.{page, Found, StandsTo}
@@ -24,7 +24,7 @@ use Rattle.engine_pages.specs.Layout.{snap_at}
 -- the words of the pages that are published, by their numbers, and the places that have names, in the order of these
 pub record Published : Type 0 where
   pub pages : List (List ℕ)
-  pub places : List (Decl × Place)
+  pub places : List (Decl × PagePlace)
 
 -- ---- words
 
@@ -36,11 +36,11 @@ ShowsResident slots words pages = (n i : ℕ) → 0 < n → n ≤ length pages �
 -- ---- names
 
 -- the keys of a span, where the page with this number stands for them
-abbrev pub place_for : Span → ℕ → Place
+abbrev pub place_for : Span → ℕ → PagePlace
 place_for sp number = record { number = number; low = sp.low; high = sp.high }
 
 -- A pointer over these keys that has this number in its word leads to the page of this name; to none where it is 0.
-pub record IsNamed (places : List (Decl × Place)) (sp : Span) (number name : ℕ) : Type 0 where
+pub record IsNamed (places : List (Decl × PagePlace)) (sp : Span) (number name : ℕ) : Type 0 where
   pub decl : Decl
   pub storage : id_of decl ≡ sp.storage
   pub is : name ≡ name_of places decl (place_for sp number)
@@ -49,7 +49,7 @@ pub record IsNamed (places : List (Decl × Place)) (sp : Span) (number name : �
 -- ---- what the machine makes of them
 
 -- the place is one of a declared storage, and its page is there and stands with all that it leads to
-pub record IsStanding (decls : List Decl) (pages : List (List ℕ)) (e : Decl × Place) : Type 0 where
+pub record IsStanding (decls : List Decl) (pages : List (List ℕ)) (e : Decl × PagePlace) : Type 0 where
   pub declared : Contains decls e.0
   pub there : 0 < (e.1).number
   pub depth : ℕ
@@ -60,9 +60,9 @@ pub record IsStanding (decls : List Decl) (pages : List (List ℕ)) (e : Decl ×
 pub record ArePages (decls : List Decl) (r : Published) (d : Table) : Type 0 where
   pub count : d.published ≡ length r.places
   pub none : snap_of d 0 ≡ Missing
-  pub says : (n : ℕ) (e : Decl × Place) → slice_get r.places n ≡ Some e
+  pub says : (n : ℕ) (e : Decl × PagePlace) → slice_get r.places n ≡ Some e
       → snap_of d (suc n) ≡ page_named r.pages r.places e
-  pub stand : (n : ℕ) (e : Decl × Place) → slice_get r.places n ≡ Some e → IsStanding decls r.pages e
+  pub stand : (n : ℕ) (e : Decl × PagePlace) → slice_get r.places n ≡ Some e → IsStanding decls r.pages e
 
 -- more pages are published, and more places have names
 pub record HasMore (old new : Published) : Type 0 where

@@ -6,7 +6,7 @@ use Rattle.homes.specs.declared.places.Span.{Span}
 use Rattle.drop_core.specs.declared.table.SnapPage.{SnapPage}
 use Rattle.wire_form.specs.declared.page.Page.{Page}
 use Rattle.wire_form.specs.declared.records.Stored.{Stored}
-use Rattle.snapshot_store.specs.declared.place.Place.{Place}
+use Rattle.snapshot_store.specs.declared.place.PagePlace.{PagePlace}
 use Rattle.snapshot_store.specs.Content.{words_of}
 use Rattle.engine_rule.specs.JointState.{JointState}
 use Rattle.engine_rule.specs.Opening.{opening_joint}
@@ -24,11 +24,11 @@ module _ {E : Type 0} (pages : List Page) (decls : List Decl) (roots : List ℕ)
   ss = storages decls roots
 
   -- what was read is what the pages have
-  pub begun_from : (places : List (Decl × Place)) (snaps : List (ℕ × SnapPage)) (count : ℕ) (spans : List (Span × ℕ)) → IfOk r (λ c. c ≡ opening_joint snaps count spans first slots passes)
+  pub begun_from : (places : List (Decl × PagePlace)) (snaps : List (ℕ × SnapPage)) (count : ℕ) (spans : List (Span × ℕ)) → IfOk r (λ c. c ≡ opening_joint snaps count spans first slots passes)
       → places ≡ named_places ws ss → snaps ≡ snaps_of ws places → count ≡ length places → spans ≡ roots_of places ss
       → IfOk r (λ c. c ≡ begun pages decls roots first slots passes)
   begun_from places snaps count spans is places_are snaps_are count_is spans_are =
-      subst (λ (x : List (Decl × Place)). IfOk r (λ c. c ≡ opening_joint (snaps_of ws x) (length x) (roots_of x ss) first slots passes)) places_are
+      subst (λ (x : List (Decl × PagePlace)). IfOk r (λ c. c ≡ opening_joint (snaps_of ws x) (length x) (roots_of x ss) first slots passes)) places_are
       (subst (λ (x : List (Span × ℕ)). IfOk r (λ c. c ≡ opening_joint (snaps_of ws places) (length places) x first slots passes)) spans_are
       (subst (λ (x : ℕ). IfOk r (λ c. c ≡ opening_joint (snaps_of ws places) x spans first slots passes)) count_is
       (subst (λ (x : List (ℕ × SnapPage)). IfOk r (λ c. c ≡ opening_joint x count spans first slots passes)) snaps_are is)))

@@ -9,7 +9,7 @@ use Rattle.homes.specs.declared.places.Span.{Span}
 use Rattle.lists.specs.Elements.{in_none, in_head, in_tail, in_cases}
 use Rattle.drop_core.specs.declared.table.SnapPage.{SnapPage}
 use Rattle.drop_core.specs.declared.table.SnapPage.TheVariants.{Missing}
-use Rattle.snapshot_store.specs.declared.place.Place.{Place}
+use Rattle.snapshot_store.specs.declared.place.PagePlace.{PagePlace}
 use Rattle.snapshot_store.specs.Places.{places_below, StandsTo}
 use Rattle.snapshot_store.specs.Content.{format_of, IsPageOf}
 use Rattle.engine_rule.specs.Reading.{span_of, page_in, led_places, is_place, name_from, name_of, snaps_from}
@@ -18,7 +18,7 @@ use Rattle.engine_rule.proofs.ReadLists.{in_right, in_either, in_flat, from_flat
 -- ---- lists of places
 
 abbrev pub At : Type 0
-At = Decl × Place
+At = Decl × PagePlace
 
 -- an element with what stands before and behind it
 pub record IsSplit (xs : List At) : Type 0 where
@@ -59,12 +59,12 @@ module _ (P : At → SnapPage) where
 -- ---- names
 
 -- a name that was found: it is that of the same place
-pub record IsNamed (i : ℕ) (xs : List At) (decl : Decl) (p : Place) : Type 0 where
+pub record IsNamed (i : ℕ) (xs : List At) (decl : Decl) (p : PagePlace) : Type 0 where
   pub at : IsSplit xs
   pub same : is_place decl p at.e ≡ true
   pub name : name_from i xs decl p ≡ i + length at.before
 
-pub name_cases : (i : ℕ) (xs : List At) (decl : Decl) (p : Place) → (name_from i xs decl p ≡ 0) ⊎ IsNamed i xs decl p
+pub name_cases : (i : ℕ) (xs : List At) (decl : Decl) (p : PagePlace) → (name_from i xs decl p ≡ 0) ⊎ IsNamed i xs decl p
 name_cases i [] decl p = inl refl
 name_cases i (x ∷ xs) decl p = elim (cases_Bool (is_place decl p x)) [
   | inl hit ↦
@@ -94,7 +94,7 @@ split_length xs s =
     omega (arith, all)
 
 -- a name is at most how many there are
-pub name_most : (xs : List At) (decl : Decl) (p : Place) → name_of xs decl p ≤ length xs
+pub name_most : (xs : List At) (decl : Decl) (p : PagePlace) → name_of xs decl p ≤ length xs
 name_most xs decl p =
     cond_both (eqb p.number 0) 0 (name_from 1 xs decl p) (λ (n : ℕ). n ≤ length xs) (λ none. omega arith) (λ some. most (name_cases 1 xs decl p))
   where
@@ -103,7 +103,7 @@ name_most xs decl p =
     most (inr r) = let less = split_length xs r.at in let is = r.name in omega (arith, less, is)
 
 -- one that stands before others has a lower name
-name_low : (i : ℕ) (before rest : List At) (decl : Decl) (p : Place) (e : At) → Contains before e → is_place decl p e ≡ true
+name_low : (i : ℕ) (before rest : List At) (decl : Decl) (p : PagePlace) (e : At) → Contains before e → is_place decl p e ≡ true
     → name_from i (before ++ rest) decl p < i + length before
 name_low i [] rest decl p e there same = absurd (in_none e there)
 name_low i (x ∷ before) rest decl p e there same = elim (cases_Bool (is_place decl p x)) [
@@ -116,14 +116,14 @@ name_low i (x ∷ before) rest decl p e there same = elim (cases_Bool (is_place 
       ]
 ]
 
-place-self : (decl : Decl) (p : Place) → is_place decl p (decl, p) ≡ true
+place-self : (decl : Decl) (p : PagePlace) → is_place decl p (decl, p) ≡ true
 place-self decl p =
     and_from (eqb (id_of decl) (id_of decl)) (eqb p.number p.number && (eqb p.low p.low && eqb p.high p.high)) (eq-eqb (id_of decl) (id_of decl) refl)
     (and_from (eqb p.number p.number) (eqb p.low p.low && eqb p.high p.high) (eq-eqb p.number p.number refl)
     (and_from (eqb p.low p.low) (eqb p.high p.high) (eq-eqb p.low p.low refl) (eq-eqb p.high p.high refl)))
 
 -- the page below another has a lower name
-pub child_low : (before rest : List At) (decl : Decl) (q : Place) → (q.number ≡ 0) ⊎ Contains before (decl, q) → name_of (before ++ rest) decl q < 1 + length before
+pub child_low : (before rest : List At) (decl : Decl) (q : PagePlace) → (q.number ≡ 0) ⊎ Contains before (decl, q) → name_of (before ++ rest) decl q < 1 + length before
 child_low before rest decl q below =
     cond_both (eqb q.number 0) 0 (name_from 1 (before ++ rest) decl q) (λ (n : ℕ). n < 1 + length before) (λ none. omega arith)
     (λ some. elim below [
@@ -132,7 +132,7 @@ child_low before rest decl q below =
     ])
 
 -- the same place is over the same keys
-pub same_span_at : (decl : Decl) (p : Place) (e : At) → is_place decl p e ≡ true → span_of (id_of e.0) e.1 ≡ span_of (id_of decl) p
+pub same_span_at : (decl : Decl) (p : PagePlace) (e : At) → is_place decl p e ≡ true → span_of (id_of e.0) e.1 ≡ span_of (id_of decl) p
 same_span_at decl p e same =
     let a = and_parts (eqb (id_of e.0) (id_of decl)) (eqb (e.1).number p.number && (eqb (e.1).low p.low && eqb (e.1).high p.high)) same in
     let b = and_parts (eqb (e.1).number p.number) (eqb (e.1).low p.low && eqb (e.1).high p.high) a.1 in
@@ -144,12 +144,12 @@ same_span_at decl p e same =
 -- ---- the order of places
 
 module _ (pages : List (List ℕ)) where
-  abbrev pub Stand : Decl → ℕ → Place → Type 0
+  abbrev pub Stand : Decl → ℕ → PagePlace → Type 0
   Stand decl d p = StandsTo (format_of decl) (IsPageOf decl) pages d p
 
   -- each page below this one stands before it
   abbrev pub HasBelow : List At → At → Type 0
-  HasBelow before e = (q : Place) → Contains (places_below (format_of e.0) pages e.1) q → (q.number ≡ 0) ⊎ Contains before (e.0, q)
+  HasBelow before e = (q : PagePlace) → Contains (places_below (format_of e.0) pages e.1) q → (q.number ≡ 0) ⊎ Contains before (e.0, q)
 
   abbrev pub Ordered : List At → List At → Type 0
   Ordered before [] = ⊤
@@ -171,29 +171,29 @@ module _ (pages : List (List ℕ)) where
   flat_ordered R f (x ∷ xs) before all each =
       ordered_append before (f x) (flat_map f xs) (each x before all.0) (flat_ordered R f xs (before ++ f x) all.1 each)
 
-  abbrev below : Decl → Place → List Place
+  abbrev below : Decl → PagePlace → List PagePlace
   below decl p = places_below (format_of decl) pages p
 
-  there_is : (decl : Decl) (d : ℕ) (p : Place) → Stand decl d p → page_in (length pages) p.number ≡ p.number
+  there_is : (decl : Decl) (d : ℕ) (p : PagePlace) → Stand decl d p → page_in (length pages) p.number ≡ p.number
   there_is decl zero p stands = absurd stands
   there_is decl (suc d) p stands = in_count (length pages) p.number stands.there
     where
       in_count : (count n : ℕ) → n ≤ count → page_in count n ≡ n
       in_count count n most = cond-true (nat_le n count) n 0 (le-leb n count most)
 
-  pub led_is : (decl : Decl) (d : ℕ) (p : Place) → Stand decl (suc d) p → (p.number ≡ 0 → ⊥)
+  pub led_is : (decl : Decl) (d : ℕ) (p : PagePlace) → Stand decl (suc d) p → (p.number ≡ 0 → ⊥)
       → led_places decl pages (suc d) p ≡ flat_map (led_places decl pages d) (below decl p) ++ (decl, p) ∷ []
   led_is decl d p stands some =
       cond-false (eqb (page_in (length pages) p.number) 0) [] (flat_map (led_places decl pages d) (below decl p) ++ (decl, p) ∷ [])
       (ap (λ (n : ℕ). eqb n 0) (there_is decl (suc d) p stands) ∙ ne_eqb p.number 0 some)
 
-  led_none : (decl : Decl) (d : ℕ) (p : Place) → Stand decl (suc d) p → p.number ≡ 0 → led_places decl pages (suc d) p ≡ []
+  led_none : (decl : Decl) (d : ℕ) (p : PagePlace) → Stand decl (suc d) p → p.number ≡ 0 → led_places decl pages (suc d) p ≡ []
   led_none decl d p stands none =
       cond-true (eqb (page_in (length pages) p.number) 0) [] (flat_map (led_places decl pages d) (below decl p) ++ (decl, p) ∷ [])
       (ap (λ (n : ℕ). eqb n 0) (there_is decl (suc d) p stands) ∙ eq-eqb p.number 0 none)
 
   -- a place with a page is among its own
-  led_last : (decl : Decl) (d : ℕ) (q : Place) → Stand decl d q → (q.number ≡ 0) ⊎ Contains (led_places decl pages d q) (decl, q)
+  led_last : (decl : Decl) (d : ℕ) (q : PagePlace) → Stand decl d q → (q.number ≡ 0) ⊎ Contains (led_places decl pages d q) (decl, q)
   led_last decl zero q stands = absurd stands
   led_last decl (suc d) q stands = elim (cases_eq q.number 0) [
     | inl none ↦ inl none
@@ -201,7 +201,7 @@ module _ (pages : List (List ℕ)) where
         (in_right (flat_map (led_places decl pages d) (below decl q)) ((decl, q) ∷ []) (decl, q) (in_head (decl, q) [])))
   ]
 
-  pub led_ordered : (decl : Decl) (d : ℕ) (p : Place) (before : List At) → Stand decl d p → Ordered before (led_places decl pages d p)
+  pub led_ordered : (decl : Decl) (d : ℕ) (p : PagePlace) (before : List At) → Stand decl d p → Ordered before (led_places decl pages d p)
   led_ordered decl zero p before stands = absurd stands
   led_ordered decl (suc d) p before stands = elim (cases_eq p.number 0) [
     | inl none ↦ subst (λ (l : List At). Ordered before l) (sym (led_none decl d p stands none)) tt
@@ -224,7 +224,7 @@ module _ (pages : List (List ℕ)) where
     pub stands : Stand e.0 (suc depth) e.1
     pub some : 0 < (e.1).number
 
-  pub led_stands : (decl : Decl) (d : ℕ) (p : Place) → Stand decl d p → (e : At) → Contains (led_places decl pages d p) e → StandsAs e
+  pub led_stands : (decl : Decl) (d : ℕ) (p : PagePlace) → Stand decl d p → (e : At) → Contains (led_places decl pages d p) e → StandsAs e
   led_stands decl zero p stands e there = absurd stands
   led_stands decl (suc d) p stands e there = elim (cases_eq p.number 0) [
     | inl none ↦ absurd (in_none e (subst (λ (l : List At). Contains l e) (led_none decl d p stands none) there))

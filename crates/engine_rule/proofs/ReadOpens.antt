@@ -26,7 +26,7 @@ use Rattle.drop_core.specs.Opening.{opening_table, opening_homes, SpansApart, Pa
 use Rattle.drop_core.specs.Sound.{LeadsWithin, PublishedAreRight}
 use Rattle.wire_form.specs.declared.page.Page.{Page}
 use Rattle.wire_form.specs.declared.records.Stored.{Stored}
-use Rattle.snapshot_store.specs.declared.place.Place.{Place}
+use Rattle.snapshot_store.specs.declared.place.PagePlace.{PagePlace}
 use Rattle.snapshot_store.specs.Places.{Tiles, words_at, places_below}
 use Rattle.snapshot_store.specs.Content.{words_of, deepest, root_place, format_of, IsPageOf, RootStands}
 use Rattle.engine_rule.specs.Pairs.{page_content, snap_keys}
@@ -53,12 +53,12 @@ stored_declared (d ∷ decls) (r ∷ roots) s at = elim (in_cases s (record { de
   | inr more ↦ in_tail s.decl d decls (stored_declared decls roots s more)
 ]
 
-roots_apart : (places : List (Decl × Place)) (decls : List Decl) (roots : List ℕ) → AreDistinct (map id_of decls) → SpansApart (roots_of places (storages decls roots))
+roots_apart : (places : List (Decl × PagePlace)) (decls : List Decl) (roots : List ℕ) → AreDistinct (map id_of decls) → SpansApart (roots_of places (storages decls roots))
 roots_apart places [] roots once = tt
 roots_apart places (d ∷ decls) [] once = tt
 roots_apart places (d ∷ decls) (r ∷ roots) once = (apart, roots_apart places decls roots once.1)
   where
-    in_storage : (id : ℕ) (p : Place) (k : Key) → in_span (span_of id p) k ≡ true → k.storage ≡ id
+    in_storage : (id : ℕ) (p : PagePlace) (k : Key) → in_span (span_of id p) k ≡ true → k.storage ≡ id
     in_storage id p k inside = (in_span-parts (span_of id p) k inside).0
 
     apart : (k : Key) → in_span (span_of (id_of d) (root_place d r)) k ≡ true → has_root (roots_of places (storages decls roots)) k → ⊥
@@ -69,7 +69,7 @@ roots_apart places (d ∷ decls) (r ∷ roots) once = (apart, roots_apart places
         at_mapped (λ (id : ℕ). id_of d ≢ id) id_of decls (s.0).decl once.0 (stored_declared decls roots s.0 s.1)
         (sym (in_storage (id_of d) (root_place d r) k inside) ∙ in_storage (id_of (s.0).decl) (root_place (s.0).decl (s.0).root) k there)
 
-roots_within : (places : List (Decl × Place)) (ss : List Stored) → PagesWithin (length places) (roots_of places ss)
+roots_within : (places : List (Decl × PagePlace)) (ss : List Stored) → PagesWithin (length places) (roots_of places ss)
 roots_within places [] = tt
 roots_within places (s ∷ ss) = (name_most places s.decl (root_place s.decl s.root), roots_within places ss)
 
@@ -82,13 +82,13 @@ child_within count (e ∷ more) each k =
     (λ miss. child_within count more (λ f there. each f (in_tail f e more there)) k)
 
 module _ (ps : List (List ℕ)) (ss : List Stored) (stand : AllByRecursion (RootStands ps) ss) where
-  abbrev places : List (Decl × Place)
+  abbrev places : List (Decl × PagePlace)
   places = named_places ps ss
 
   abbrev count : ℕ
   count = length places
 
-  abbrev P : Decl × Place → SnapPage
+  abbrev P : Decl × PagePlace → SnapPage
   P = page_at ps places
 
   abbrev snaps : ℕ → SnapPage
@@ -96,48 +96,48 @@ module _ (ps : List (List ℕ)) (ss : List Stored) (stand : AllByRecursion (Root
 
   -- ---- one page
 
-  within_from : (decl : Decl) (words : List ℕ) (p : Place) (below : List Place) → LeadsWithin count (page_from places decl words p below)
+  within_from : (decl : Decl) (words : List ℕ) (p : PagePlace) (below : List PagePlace) → LeadsWithin count (page_from places decl words p below)
   within_from decl words p [] = tt
   within_from decl words p (q ∷ below) = child_within count (children_at places decl (q ∷ below)) (λ e at.
-      let r = from_mapped (λ (x : Place). let y : Span × ℕ = (span_of (id_of decl) x, name_of places decl x) in y) (q ∷ below) e at in
+      let r = from_mapped (λ (x : PagePlace). let y : Span × ℕ = (span_of (id_of decl) x, name_of places decl x) in y) (q ∷ below) e at in
       subst (λ (x : Span × ℕ). x.1 ≤ count) r.2 (name_most places decl r.0))
 
-  span_from : (decl : Decl) (words : List ℕ) (p : Place) (below : List Place) → page_span (page_from places decl words p below) ≡ span_of (id_of decl) p
+  span_from : (decl : Decl) (words : List ℕ) (p : PagePlace) (below : List PagePlace) → page_span (page_from places decl words p below) ≡ span_of (id_of decl) p
   span_from decl words p [] = refl
   span_from decl words p (q ∷ below) = refl
 
-  down_from : (decl : Decl) (words : List ℕ) (p : Place) (below : List Place) (n : ℕ) → ((q : Place) → Contains below q → name_of places decl q < n)
+  down_from : (decl : Decl) (words : List ℕ) (p : PagePlace) (below : List PagePlace) (n : ℕ) → ((q : PagePlace) → Contains below q → name_of places decl q < n)
       → leads_down n (page_from places decl words p below) ≡ true
   down_from decl words p [] n low = refl
   down_from decl words p (q ∷ below) n low =
-      all_mapped (λ (e : Span × ℕ). nat_lt e.1 n) (λ (x : Place). let y : Span × ℕ = (span_of (id_of decl) x, name_of places decl x) in y) (q ∷ below)
+      all_mapped (λ (e : Span × ℕ). nat_lt e.1 n) (λ (x : PagePlace). let y : Span × ℕ = (span_of (id_of decl) x, name_of places decl x) in y) (q ∷ below)
       (λ x at. lt-ltb (name_of places decl x) n (low x at))
 
   -- ---- names
 
-  name_is : (decl : Decl) (q : Place) → (name_of places decl q ≡ 0 → ⊥) → name_of places decl q ≡ name_from 1 places decl q
+  name_is : (decl : Decl) (q : PagePlace) → (name_of places decl q ≡ 0 → ⊥) → name_of places decl q ≡ name_from 1 places decl q
   name_is decl q some = elim (cases_Bool (eqb q.number 0)) [
     | inl none ↦ absurd (some (cond-true (eqb q.number 0) 0 (name_from 1 places decl q) none))
     | inr there ↦ cond-false (eqb q.number 0) 0 (name_from 1 places decl q) there
   ]
 
-  named_over : (decl : Decl) (q : Place) → name_of places decl q ≡ name_from 1 places decl q → (r : IsNamed 1 places decl q)
+  named_over : (decl : Decl) (q : PagePlace) → name_of places decl q ≡ name_from 1 places decl q → (r : IsNamed 1 places decl q)
       → page_span (snaps (name_of places decl q)) ≡ span_of (id_of decl) q
   named_over decl q is r =
       ap (λ (n : ℕ). page_span (snaps n)) (is ∙ r.name)
-      ∙ ap (λ (l : List (Decl × Place)). page_span (by_number (snaps_from 1 P l) (1 + length (r.at).before))) (r.at).are
+      ∙ ap (λ (l : List (Decl × PagePlace)). page_span (by_number (snaps_from 1 P l) (1 + length (r.at).before))) (r.at).are
       ∙ ap page_span (at_name P 1 (r.at).before (r.at).e (r.at).after (1 + length (r.at).before) refl)
       ∙ span_from ((r.at).e).0 (words_at ps ((r.at).e).1) ((r.at).e).1 (places_below (format_of ((r.at).e).0) ps ((r.at).e).1)
       ∙ same_span_at decl q (r.at).e r.same
 
   -- the page with a name is over the keys of its place
-  name_over : (decl : Decl) (q : Place) → (name_of places decl q ≡ 0 → ⊥) → page_span (snaps (name_of places decl q)) ≡ span_of (id_of decl) q
+  name_over : (decl : Decl) (q : PagePlace) → (name_of places decl q ≡ 0 → ⊥) → page_span (snaps (name_of places decl q)) ≡ span_of (id_of decl) q
   name_over decl q some = elim (name_cases 1 places decl q) [
     | inl none ↦ absurd (some (name_is decl q some ∙ none))
     | inr r ↦ named_over decl q (name_is decl q some) r
   ]
 
-  name_right : (decl : Decl) (q : Place) → is_right_child snaps (span_of (id_of decl) q, name_of places decl q) ≡ true
+  name_right : (decl : Decl) (q : PagePlace) → is_right_child snaps (span_of (id_of decl) q, name_of places decl q) ≡ true
   name_right decl q = elim (cases_eq (name_of places decl q) 0) [
     | inl none ↦ or_left (eqb (name_of places decl q) 0) (same_span (page_span (snaps (name_of places decl q))) (span_of (id_of decl) q)) (eq-eqb (name_of places decl q) 0 none)
     | inr some ↦
@@ -145,24 +145,24 @@ module _ (ps : List (List ℕ)) (ss : List Stored) (stand : AllByRecursion (Root
         (ap (λ (x : Span). same_span x (span_of (id_of decl) q)) (name_over decl q some) ∙ same_span-self (span_of (id_of decl) q))
   ]
 
-  kids_right : (decl : Decl) (below : List Place) → list_all (is_right_child snaps) (children_at places decl below) ≡ true
+  kids_right : (decl : Decl) (below : List PagePlace) → list_all (is_right_child snaps) (children_at places decl below) ≡ true
   kids_right decl below =
-      all_mapped (is_right_child snaps) (λ (x : Place). let y : Span × ℕ = (span_of (id_of decl) x, name_of places decl x) in y) below (λ x at. name_right decl x)
+      all_mapped (is_right_child snaps) (λ (x : PagePlace). let y : Span × ℕ = (span_of (id_of decl) x, name_of places decl x) in y) below (λ x at. name_right decl x)
 
   -- ---- each page
 
-  leaf_right : (decl : Decl) (p : Place) (words : List ℕ) → 0 < p.number → IsPageOf decl p words → are_entries_of (span_of (id_of decl) p) (leaf_entries decl words p) ≡ true
+  leaf_right : (decl : Decl) (p : PagePlace) (words : List ℕ) → 0 < p.number → IsPageOf decl p words → are_entries_of (span_of (id_of decl) p) (leaf_entries decl words p) ≡ true
   leaf_right (Array id size) p words some right = range_right id p words
   leaf_right (Tree id) p words some right = tree_right id p words some right
 
-  right_from : (decl : Decl) (p : Place) (words : List ℕ) (below : List Place) → 0 < p.number → IsPageOf decl p words → Tiles p.low p.high below
+  right_from : (decl : Decl) (p : PagePlace) (words : List ℕ) (below : List PagePlace) → 0 < p.number → IsPageOf decl p words → Tiles p.low p.high below
       → is_right snaps (page_from places decl words p below) ≡ true
   right_from decl p words [] some right tiles = leaf_right decl p words some right
   right_from decl p words (q ∷ below) some right tiles =
       and_from (tile (span_of (id_of decl) p) (children_at places decl (q ∷ below))) (list_all (is_right_child snaps) (children_at places decl (q ∷ below)))
       (tile_covered (id_of decl) (name_of places decl) p q below tiles) (kids_right decl (q ∷ below))
 
-  all_stand : (e : Decl × Place) → Contains places e → StandsAs ps e
+  all_stand : (e : Decl × PagePlace) → Contains places e → StandsAs ps e
   all_stand e at =
       let r = from_flat (λ (s : Stored). led_places s.decl ps deepest (root_place s.decl s.root)) ss e at in
       led_stands ps (r.0).decl deepest (root_place (r.0).decl (r.0).root) (at_each (RootStands ps) ss r.0 stand r.1) e r.2
@@ -172,20 +172,20 @@ module _ (ps : List (List ℕ)) (ss : List Stored) (stand : AllByRecursion (Root
       flat_ordered ps (RootStands ps) (λ (s : Stored). led_places s.decl ps deepest (root_place s.decl s.root)) ss [] stand
       (λ s before stands. led_ordered ps s.decl deepest (root_place s.decl s.root) before stands)
 
-  page_right : (e : Decl × Place) → Contains places e → is_right snaps (P e) ≡ true
+  page_right : (e : Decl × PagePlace) → Contains places e → is_right snaps (P e) ≡ true
   page_right e at =
       let s = all_stand e at in
       right_from e.0 e.1 (words_at ps e.1) (places_below (format_of e.0) ps e.1) s.some s.stands.right s.stands.tiles
 
   page_down : (s : IsSplit places) → leads_down (1 + length s.before) (P s.e) ≡ true
   page_down s =
-      let has = ordered_at ps [] s.before s.e s.after (subst (λ (l : List (Decl × Place)). Ordered ps [] l) s.are all_ordered) in
+      let has = ordered_at ps [] s.before s.e s.after (subst (λ (l : List (Decl × PagePlace)). Ordered ps [] l) s.are all_ordered) in
       down_from (s.e).0 (words_at ps (s.e).1) (s.e).1 (places_below (format_of (s.e).0) ps (s.e).1) (1 + length s.before)
-      (λ q at. subst (λ (l : List (Decl × Place)). name_of l (s.e).0 q < 1 + length s.before) (sym s.are)
+      (λ q at. subst (λ (l : List (Decl × PagePlace)). name_of l (s.e).0 q < 1 + length s.before) (sym s.are)
       (child_low s.before (s.e ∷ s.after) (s.e).0 q (has q at)))
 
   split_in : (s : IsSplit places) → Contains places s.e
-  split_in s = subst (λ (l : List (Decl × Place)). Contains l s.e) (sym s.are) (in_right s.before (s.e ∷ s.after) s.e (in_head s.e s.after))
+  split_in s = subst (λ (l : List (Decl × PagePlace)). Contains l s.e) (sym s.are) (in_right s.before (s.e ∷ s.after) s.e (in_head s.e s.after))
 
   -- the page with this name
   named_page : (n : ℕ) → 0 < n → n ≤ count → (s : IsSplit places) × (n ≡ 1 + length s.before) × (snaps n ≡ P s.e)
@@ -195,7 +195,7 @@ module _ (ps : List (List ℕ)) (ss : List Stored) (stand : AllByRecursion (Root
       let at : suc i ≡ 1 + length (r.0).before = omega (arith, r.1) in (
         r.0,
         at,
-        ap (λ (l : List (Decl × Place)). by_number (snaps_from 1 P l) (suc i)) (r.0).are
+        ap (λ (l : List (Decl × PagePlace)). by_number (snaps_from 1 P l) (suc i)) (r.0).are
             ∙ at_name P 1 (r.0).before (r.0).e (r.0).after (suc i) at,
       )
 
@@ -209,7 +209,7 @@ module _ (ps : List (List ℕ)) (ss : List Stored) (stand : AllByRecursion (Root
   }
 
   -- each page that is found is one of all, or none
-  pub each_page : (Q : SnapPage → Type 0) → ((e : Decl × Place) → Contains places e → Q (P e)) → Q Missing → (n : ℕ) → Q (snaps n)
+  pub each_page : (Q : SnapPage → Type 0) → ((e : Decl × PagePlace) → Contains places e → Q (P e)) → Q Missing → (n : ℕ) → Q (snaps n)
   each_page Q of_all of_none n = elim (found_or P 1 places n) [
     | inl none ↦ subst Q (sym none) of_none
     | inr r ↦ subst Q (sym r.2) (of_all r.0 r.1)
@@ -251,7 +251,7 @@ pub may_begin : (pages : List Page) (decls : List Decl) (roots : List ℕ) (firs
 may_begin pages decls roots first room can =
     let ps : List (List ℕ) = words_of pages in
     let ss : List Stored = storages decls roots in
-    let named : List (Decl × Place) = named_places ps ss in
+    let named : List (Decl × PagePlace) = named_places ps ss in
     let homes : Key → Home = opening_homes (snaps_of ps named) (length named) (roots_of named ss) room in
     record {
       pages = record {
@@ -264,7 +264,7 @@ may_begin pages decls roots first room can =
       below = λ k. elim (look-made (λ q. page_content (homes q)) nothing (snap_keys (snaps_of ps named)) k) [
         | inl is ↦ subst (λ (c : Content). IsBelow c.number first) (sym is)
             (walk_below first can.number (snap_of (opening_table (snaps_of ps named) (length named) (roots_of named ss) room))
-            (each_page ps ss can.stand (AreBelow first) (λ e at. at_each (λ (x : Decl × Place). AreBelow first (page_at ps named x)) named e can.below at) tt)
+            (each_page ps ss can.stand (AreBelow first) (λ e at. at_each (λ (x : Decl × PagePlace). AreBelow first (page_at ps named x)) named e can.below at) tt)
             (child_of (roots_of named ss) k) (child_of (roots_of named ss) k) k)
         | inr none ↦ subst (λ (c : Content). IsBelow c.number first) (sym none.0) (none_below first can.number)
       ];

@@ -5,7 +5,7 @@ use Rattle.std.specs.List.{flat_map}
 use Rattle.std.specs.Prelude.{nat_le}
 use Rattle.serial_model.specs.declared.decl.Decl.{Decl}
 use Rattle.wire_form.specs.declared.page.Page.{Page}
-use Rattle.snapshot_store.specs.declared.place.Place.{Place}
+use Rattle.snapshot_store.specs.declared.place.PagePlace.{PagePlace}
 use Rattle.snapshot_store.specs.Places.{page, places_below}
 use Rattle.snapshot_store.specs.Content.{words_of, format_of}
 use Rattle.engine_rule.specs.Reading.{below_in, page_in, led_places}
@@ -18,7 +18,7 @@ page_there count n m is some = elim (cases_Bool (nat_le n count)) [
 ]
 
 -- all below a place, and then its own
-pub place_pushed : (ps : List (List ℕ)) (decl : Decl) (depth : ℕ) (p : Place) (n : ℕ) (words : List ℕ) (places later : List Place) (old mid new : List (Decl × Place))
+pub place_pushed : (ps : List (List ℕ)) (decl : Decl) (depth : ℕ) (p : PagePlace) (n : ℕ) (words : List ℕ) (places later : List PagePlace) (old mid new : List (Decl × PagePlace))
     → (depth ≡ 0 → ⊥) → n ≡ page_in (length ps) p.number → (n ≡ 0 → ⊥) → words ≡ page ps n → places ≡ below_in decl words p → later ≡ places
     → mid ≡ old ++ flat_map (led_places decl ps (depth - 1)) later → new ≡ mid ++ (decl, p) ∷ []
     → new ≡ old ++ led_places decl ps depth p
@@ -29,13 +29,13 @@ place_pushed ps decl (suc d) p n words places later old mid new deep n_is some w
     let below : later ≡ places_below (format_of decl) ps p = later_are ∙ places_are ∙ ap (λ (ws : List ℕ). below_in decl ws p) at in
     let less : suc d - 1 ≡ d = omega arith in
     let first : flat_map (led_places decl ps (suc d - 1)) later ≡ flat_map (led_places decl ps d) (places_below (format_of decl) ps p) =
-    ap (λ (m : ℕ). flat_map (led_places decl ps m) later) less ∙ ap (λ (qs : List Place). flat_map (led_places decl ps d) qs) below in
+    ap (λ (m : ℕ). flat_map (led_places decl ps m) later) less ∙ ap (λ (qs : List PagePlace). flat_map (led_places decl ps d) qs) below in
     let all : led_places decl ps (suc d) p ≡ flat_map (led_places decl ps d) (places_below (format_of decl) ps p) ++ (decl, p) ∷ [] =
     cond-false (eqb (page_in (length ps) p.number) 0) [] (flat_map (led_places decl ps d) (places_below (format_of decl) ps p) ++ (decl, p) ∷ [])
     (ne_eqb (page_in (length ps) p.number) 0 (λ e. some (n_is ∙ e))) in
-    new_is ∙ ap (λ (l : List (Decl × Place)). l ++ (decl, p) ∷ []) (mid_is ∙ ap (λ (l : List (Decl × Place)). old ++ l) first)
+    new_is ∙ ap (λ (l : List (Decl × PagePlace)). l ++ (decl, p) ∷ []) (mid_is ∙ ap (λ (l : List (Decl × PagePlace)). old ++ l) first)
     ∙ append_assoc old (flat_map (led_places decl ps d) (places_below (format_of decl) ps p)) ((decl, p) ∷ [])
-    ∙ ap (λ (l : List (Decl × Place)). old ++ l) (sym all)
+    ∙ ap (λ (l : List (Decl × PagePlace)). old ++ l) (sym all)
 
 get_mapped : (f : Page → List ℕ) (xs : List Page) (i : ℕ) (d : Page) → i < length xs → f (get_or xs i d) ≡ get_or (map f xs) i []
 get_mapped f [] i d less = absurd (omega (arith, less))

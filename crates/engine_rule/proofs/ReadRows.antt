@@ -3,7 +3,7 @@ use Rattle.std.proofs.Common.{◌≡◌, ℕ, zero, suc, ◌+◌, ◌-◌, ◌*�
 use Rattle.std.specs.Prelude.{nat_le}
 use Rattle.std.specs.List.{AllByRecursion}
 use Rattle.std.proofs.lemmas.Bool.{le-leb, lt-leb, cond-true, cond-false}
-use Rattle.snapshot_store.specs.declared.place.Place.{Place}
+use Rattle.snapshot_store.specs.declared.place.PagePlace.{PagePlace}
 use Rattle.engine_rule.specs.Reading.{IsBounded}
 use Rattle.snapshot_store.specs.ArrayPages.{fan, leaf_room, row, array_below}
 
@@ -25,7 +25,7 @@ get_behind (w ∷ words) i = refl
 -- ---- a row, place by place
 
 -- a place from its parts
-abbrev pub place_of : ℕ → ℕ → ℕ → Place
+abbrev pub place_of : ℕ → ℕ → ℕ → PagePlace
 place_of number low high = record { number = number; low = low; high = high }
 
 row_snoc : (words : List ℕ) (part low i : ℕ)
@@ -34,21 +34,21 @@ row_snoc words part low zero =
     let is : low + 0 * part ≡ low = omega arith in
     ap (λ (at : ℕ). place_of (get_or words 0 0) at (at + (part - 1)) ∷ []) is
 row_snoc words part low (suc i) =
-    let first : Place = place_of (get_or words 0 0) low (low + (part - 1)) in
-    let behind : List Place = row (drop 1 words) part (low + part) i in
+    let first : PagePlace = place_of (get_or words 0 0) low (low + (part - 1)) in
+    let behind : List PagePlace = row (drop 1 words) part (low + part) i in
     let more : suc i * part ≡ part + i * part = omega arith in
     let at : low + suc i * part ≡ low + part + i * part = omega (arith, more) in
-    ap (λ (l : List Place). first ∷ l)
+    ap (λ (l : List PagePlace). first ∷ l)
     (ap (λ (n : ℕ). behind ++ place_of n (low + suc i * part) (low + suc i * part + (part - 1)) ∷ []) (sym (get_behind words i))
     ∙ ap (λ (n : ℕ). behind ++ place_of (get_or (drop 1 words) i 0) n (n + (part - 1)) ∷ []) at
     ∙ row_snoc (drop 1 words) part (low + part) i)
 
 -- one place more
-pub row_push : (words : List ℕ) (part low i : ℕ) (places new : List Place) (n l h : ℕ) → new ≡ places ++ place_of n l h ∷ [] → places ≡ row words part low i
+pub row_push : (words : List ℕ) (part low i : ℕ) (places new : List PagePlace) (n l h : ℕ) → new ≡ places ++ place_of n l h ∷ [] → places ≡ row words part low i
     → n ≡ get_or words i 0 → l ≡ low + i * part → h ≡ l + (part - 1) → new ≡ row words part low (i + 1)
 row_push words part low i places new n l h is so_far number at end =
     let next : suc i ≡ i + 1 = omega arith in
-    is ∙ ap (λ (p : List Place). p ++ place_of n l h ∷ []) so_far
+    is ∙ ap (λ (p : List PagePlace). p ++ place_of n l h ∷ []) so_far
     ∙ ap (λ (m : ℕ). row words part low i ++ place_of m l h ∷ []) number
     ∙ ap (λ (m : ℕ). row words part low i ++ place_of (get_or words i 0) l m ∷ []) end
     ∙ ap (λ (m : ℕ). row words part low i ++ place_of (get_or words i 0) m (m + (part - 1)) ∷ []) at

@@ -9,7 +9,7 @@ use Rattle.serial_model.specs.declared.decl.Decl.{Decl}
 use Rattle.serial_model.specs.declared.decl.Decl.TheVariants.{Array, Tree}
 use Rattle.wire_form.specs.declared.page.Page.{Page}
 use Rattle.wire_form.specs.declared.records.Stored.{Stored}
-use Rattle.snapshot_store.specs.declared.place.Place.{Place}
+use Rattle.snapshot_store.specs.declared.place.PagePlace.{PagePlace}
 use Rattle.snapshot_store.specs.Places.{places_below, words_at}
 use Rattle.snapshot_store.specs.ArrayPages.{array_below}
 use Rattle.snapshot_store.specs.Content.{words_of, deepest, root_place, format_of}
@@ -23,16 +23,16 @@ pub all_any : {X : Type 0} (xs : List X) → AllByRecursion (λ x. ⊤) xs
 all_any [] = tt
 all_any (x ∷ xs) = (tt, all_any xs)
 
-array_bounded : (words : List ℕ) (p : Place) → IsBounded p → AllByRecursion IsBounded (array_below words p.low p.high)
+array_bounded : (words : List ℕ) (p : PagePlace) → IsBounded p → AllByRecursion IsBounded (array_below words p.low p.high)
 array_bounded words p small = elim (cases_lt 32 (p.high + 1 - p.low)) [
   | inl wide ↦
       let is = below_wide words p.low p.high ((p.high + 1 - p.low) / 64) (omega (arith, wide)) refl in
-      subst (λ (qs : List Place). AllByRecursion IsBounded qs) (sym is)
+      subst (λ (qs : List PagePlace). AllByRecursion IsBounded qs) (sym is)
       (row_bounded words ((p.high + 1 - p.low) / 64) p.low 64 small.0 (omega (arith, wide, small.1)))
-  | inr narrow ↦ subst (λ (qs : List Place). AllByRecursion IsBounded qs) (sym (below_narrow words p.low p.high (omega (arith, narrow)))) tt
+  | inr narrow ↦ subst (λ (qs : List PagePlace). AllByRecursion IsBounded qs) (sym (below_narrow words p.low p.high (omega (arith, narrow)))) tt
 ]
 
-below_bounded : (decl : Decl) (words : List ℕ) (p : Place) → IsBoundedIn decl p → AllByRecursion (IsBoundedIn decl) (below_in decl words p)
+below_bounded : (decl : Decl) (words : List ℕ) (p : PagePlace) → IsBoundedIn decl p → AllByRecursion (IsBoundedIn decl) (below_in decl words p)
 below_bounded (Array id size) words p small = array_bounded words p small
 below_bounded (Tree id) words p small = all_any (below_in (Tree id) words p)
 
@@ -44,11 +44,11 @@ all_flat R Q f (x ∷ xs) all each = all_append Q (f x) (flat_map f xs) (each x 
 positive : (n m : ℕ) → m ≡ n → (m ≡ 0 → ⊥) → 1 ≤ n
 positive n m is some = omega (arith, is, some)
 
-led_there : (pages : List (List ℕ)) (decl : Decl) (d : ℕ) (p : Place) → IsBoundedIn decl p → AllByRecursion (IsThere (length pages)) (led_places decl pages d p)
+led_there : (pages : List (List ℕ)) (decl : Decl) (d : ℕ) (p : PagePlace) → IsBoundedIn decl p → AllByRecursion (IsThere (length pages)) (led_places decl pages d p)
 led_there pages decl zero p small = tt
 led_there pages decl (suc d) p small =
     cond_both (eqb (page_in (length pages) p.number) 0) [] (flat_map (led_places decl pages d) (places_below (format_of decl) pages p) ++ (decl, p) ∷ [])
-    (λ (l : List (Decl × Place)). AllByRecursion (IsThere (length pages)) l) (λ none. tt)
+    (λ (l : List (Decl × PagePlace)). AllByRecursion (IsThere (length pages)) l) (λ none. tt)
     (λ some.
     let there = page_there (length pages) p.number (page_in (length pages) p.number) refl (eqb-false (page_in (length pages) p.number) 0 some) in
     all_append (IsThere (length pages)) (flat_map (led_places decl pages d) (places_below (format_of decl) pages p)) ((decl, p) ∷ [])
@@ -73,15 +73,15 @@ flat_push : {X Y : Type 0} (f : X → List Y) (xs : List X) (x : X) → flat_map
 flat_push f [] x = append-nil (f x)
 flat_push f (y ∷ xs) x = ap (λ l. f y ++ l) (flat_push f xs x) ∙ sym (append_assoc (f y) (flat_map f xs) (f x))
 
-pub root_pushed : (pages : List (List ℕ)) (ss : List Stored) (i : ℕ) (s d : Stored) (root : Place) (old new : List (Decl × Place)) → i < length ss → s ≡ get_or ss i d
+pub root_pushed : (pages : List (List ℕ)) (ss : List Stored) (i : ℕ) (s d : Stored) (root : PagePlace) (old new : List (Decl × PagePlace)) → i < length ss → s ≡ get_or ss i d
     → root ≡ root_place s.decl s.root → new ≡ old ++ led_places s.decl pages 32 root → old ≡ named_places pages (take i ss)
     → new ≡ named_places pages (take (i + 1) ss)
 root_pushed pages ss i s d root old new less is root_is new_is so_far =
     new_is
     ∙ ap (λ (n : ℕ). old ++ led_places s.decl pages n root) (sym deepest_is)
-    ∙ ap (λ (p : Place). old ++ led_places s.decl pages deepest p) root_is
+    ∙ ap (λ (p : PagePlace). old ++ led_places s.decl pages deepest p) root_is
     ∙ ap (λ (x : Stored). old ++ led_places x.decl pages deepest (root_place x.decl x.root)) is
-    ∙ ap (λ (l : List (Decl × Place)). l ++ led_places (get_or ss i d).decl pages deepest (root_place (get_or ss i d).decl (get_or ss i d).root)) so_far
+    ∙ ap (λ (l : List (Decl × PagePlace)). l ++ led_places (get_or ss i d).decl pages deepest (root_place (get_or ss i d).decl (get_or ss i d).root)) so_far
     ∙ sym (flat_push (λ (x : Stored). led_places x.decl pages deepest (root_place x.decl x.root)) (take i ss) (get_or ss i d))
     ∙ ap (λ (l : List Stored). named_places pages l) (sym (take_more ss i d less))
 
@@ -91,9 +91,9 @@ take_whole [] (suc i) most = refl
 take_whole (x ∷ xs) zero most = absurd (omega (arith, most))
 take_whole (x ∷ xs) (suc i) most = ap (λ l. x ∷ l) (take_whole xs i (omega (arith, most)))
 
-pub all_there : (pages : List Page) (ss : List Stored) (i : ℕ) (all : List (Decl × Place)) → all ≡ named_places (words_of pages) (take i ss) → length ss ≤ i
+pub all_there : (pages : List Page) (ss : List Stored) (i : ℕ) (all : List (Decl × PagePlace)) → all ≡ named_places (words_of pages) (take i ss) → length ss ≤ i
     → AllByRecursion (IsThere (length pages)) all
 all_there pages ss i all is most =
     subst (λ (n : ℕ). AllByRecursion (IsThere n) all) (length-map pages (λ (p : Page). p.words))
-    (subst (λ (l : List (Decl × Place)). AllByRecursion (IsThere (length (words_of pages))) l)
+    (subst (λ (l : List (Decl × PagePlace)). AllByRecursion (IsThere (length (words_of pages))) l)
     (sym (is ∙ ap (named_places (words_of pages)) (take_whole ss i most))) (named_there (words_of pages) ss))

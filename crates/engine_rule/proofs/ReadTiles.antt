@@ -11,7 +11,7 @@ use Rattle.homes.specs.Homes.{same_key, in_span}
 use Rattle.homes.specs.Laws.{same_key-true, same_key-self, in_span-from}
 use Rattle.lists.specs.Elements.{any_push-false}
 use Rattle.drop_core.specs.Event.{are_entries_of, is_next_part, is_first_part, tile_after, tile}
-use Rattle.snapshot_store.specs.declared.place.Place.{Place}
+use Rattle.snapshot_store.specs.declared.place.PagePlace.{PagePlace}
 use Rattle.snapshot_store.specs.Places.{Found, Cover}
 use Rattle.snapshot_store.specs.ArrayPages.{array_found}
 use Rattle.wire_form.specs.Words.{number_in}
@@ -19,22 +19,22 @@ use Rattle.engine_rule.specs.Reading.{span_of, entry_of, key_at, array_entries}
 
 -- ---- children
 
-next_part : (id : ℕ) (p q : Place) (at : ℕ) → q.low ≡ at + 1 → q.low ≤ q.high → is_next_part (span_of id p) at (span_of id q) ≡ true
+next_part : (id : ℕ) (p q : PagePlace) (at : ℕ) → q.low ≡ at + 1 → q.low ≤ q.high → is_next_part (span_of id p) at (span_of id q) ≡ true
 next_part id p q at low some =
     and_from (eqb id id) (nat_le q.low q.high && (nat_lt at q.low && eqb (q.low - at) 1)) (eq-eqb id id refl)
     (and_from (nat_le q.low q.high) (nat_lt at q.low && eqb (q.low - at) 1) (grind (arith, nat_tests))
     (and_from (nat_lt at q.low) (eqb (q.low - at) 1) (grind (arith, nat_tests)) (eq-eqb (q.low - at) 1 (omega (arith, low)))))
 
-first_part : (id : ℕ) (p q : Place) → q.low ≡ p.low → q.low ≤ q.high → is_first_part (span_of id p) (span_of id q) ≡ true
+first_part : (id : ℕ) (p q : PagePlace) → q.low ≡ p.low → q.low ≤ q.high → is_first_part (span_of id p) (span_of id q) ≡ true
 first_part id p q low some =
     and_from (eqb id id) (eqb q.low p.low && nat_le q.low q.high) (eq-eqb id id refl)
     (and_from (eqb q.low p.low) (nat_le q.low q.high) (eq-eqb q.low p.low low) (grind (arith, nat_tests)))
 
 -- children at places, whatever their names
-abbrev kids : ℕ → (Place → ℕ) → List Place → List (Span × ℕ)
+abbrev kids : ℕ → (PagePlace → ℕ) → List PagePlace → List (Span × ℕ)
 kids id name qs = map (λ q. (span_of id q, name q)) qs
 
-tile_on : (id : ℕ) (name : Place → ℕ) (p : Place) (at : ℕ) (qs : List Place) → Cover (at + 1) p.high qs → tile_after (span_of id p) at (kids id name qs) ≡ true
+tile_on : (id : ℕ) (name : PagePlace → ℕ) (p : PagePlace) (at : ℕ) (qs : List PagePlace) → Cover (at + 1) p.high qs → tile_after (span_of id p) at (kids id name qs) ≡ true
 tile_on id name p at [] c = eq-eqb at p.high (omega (arith, c))
 tile_on id name p at (q ∷ qs) c =
     let low = c.0 in
@@ -43,7 +43,7 @@ tile_on id name p at (q ∷ qs) c =
     (next_part id p q at low (omega (arith, low, some))) (tile_on id name p q.high qs c.3)
 
 -- places that cover the keys of a place tile its span
-pub tile_covered : (id : ℕ) (name : Place → ℕ) (p q : Place) (qs : List Place) → Cover p.low p.high (q ∷ qs) → tile (span_of id p) (map (λ x. (span_of id x, name x)) (q ∷ qs)) ≡ true
+pub tile_covered : (id : ℕ) (name : PagePlace → ℕ) (p q : PagePlace) (qs : List PagePlace) → Cover p.low p.high (q ∷ qs) → tile (span_of id p) (map (λ x. (span_of id x, name x)) (q ∷ qs)) ≡ true
 tile_covered id name p q qs c =
     let low = c.0 in
     let some = c.1 in
@@ -99,18 +99,18 @@ entry_right : (span : Span) (entries : List (Key × Content)) (k : Key) (o : Opt
 entry_right span entries k None all inside none = ap (λ (l : List (Key × Content)). are_entries_of span l) (append_none entries) ∙ all
 entry_right span entries k (Some f) all inside none = entries_push span entries k (record { number = number_in f.number; value = Some f.value }) all inside refl none
 
-key_inside : (id : ℕ) (p : Place) (i : ℕ) → p.low + i ≤ p.high → in_span (span_of id p) (key_at id p.low i) ≡ true
+key_inside : (id : ℕ) (p : PagePlace) (i : ℕ) → p.low + i ≤ p.high → in_span (span_of id p) (key_at id p.low i) ≡ true
 key_inside id p i less = in_span-from (span_of id p) (key_at id p.low i) refl (omega arith) less
 
 -- a leaf has entries of its keys alone, each once
-pub entries_right : (id : ℕ) (p : Place) (words : List ℕ) (i : ℕ) → p.low + i ≤ p.high + 1 → are_entries_of (span_of id p) (array_entries id p.low words i) ≡ true
+pub entries_right : (id : ℕ) (p : PagePlace) (words : List ℕ) (i : ℕ) → p.low + i ≤ p.high + 1 → are_entries_of (span_of id p) (array_entries id p.low words i) ≡ true
 entries_right id p words zero less = refl
 entries_right id p words (suc i) less =
     entry_right (span_of id p) (array_entries id p.low words i) (key_at id p.low i) (array_found (slice_index words (2 * i)) (slice_index words (2 * i + 1)))
     (entries_right id p words i (omega (arith, less))) (key_inside id p i (omega (arith, less))) (fresh id p.low words i i (omega arith))
 
 -- and so has one whose range ends before it begins
-pub range_right : (id : ℕ) (p : Place) (words : List ℕ) → are_entries_of (span_of id p) (array_entries id p.low words (p.high + 1 - p.low)) ≡ true
+pub range_right : (id : ℕ) (p : PagePlace) (words : List ℕ) → are_entries_of (span_of id p) (array_entries id p.low words (p.high + 1 - p.low)) ≡ true
 range_right id p words = elim (cases_lt (p.high + 1) p.low) [
   | inl above ↦
       let none : p.high + 1 - p.low ≡ 0 = omega (arith, above) in

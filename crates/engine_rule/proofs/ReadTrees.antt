@@ -16,7 +16,7 @@ use Rattle.wire_form.specs.declared.records.TreeRecord.{TreeRecord}
 use Rattle.wire_form.specs.Items.{RisesAfter}
 use Rattle.wire_form.specs.Words.{number_word}
 use Rattle.wire_form.specs.Pages.{IsTreeRecord, Children, tree_record_words, record_key, device_header, tree_leaf_words, tree_inner_words}
-use Rattle.snapshot_store.specs.declared.place.Place.{Place}
+use Rattle.snapshot_store.specs.declared.place.PagePlace.{PagePlace}
 use Rattle.snapshot_store.specs.TreePages.{Record, Node, Leaf, Inner, records_at, count_of, node_of, children, records_of, IsTreePage}
 use Rattle.wire_form.specs.Words.{number_in}
 use Rattle.engine_rule.specs.Reading.{span_of, entry_for, tree_entries, child_count}
@@ -67,7 +67,7 @@ module _ (id : ℕ) where
       from_lower [] up = tt
       from_lower (x ∷ xs) up = (omega (arith, rise.0, up.0), up.1)
 
-  records_right : (p : Place) (last : Option ℕ) (rs : List TreeRecord) → AllByRecursion (IsTreeRecord p.low p.high) rs → RisesAfter ◌<◌ last (map record_key rs)
+  records_right : (p : PagePlace) (last : Option ℕ) (rs : List TreeRecord) → AllByRecursion (IsTreeRecord p.low p.high) rs → RisesAfter ◌<◌ last (map record_key rs)
       → are_entries_of (span_of id p) (tree_entries id (map as_read rs)) ≡ true
   records_right p last [] all rise = refl
   records_right p last (r ∷ rs) all rise =
@@ -79,7 +79,7 @@ module _ (id : ℕ) where
       (and_from new (are_entries_of span others) (ap not (none_later r.key rs rise.1)) (records_right p (Some r.key) rs all.1 rise.1))
 
   -- a tree's page has entries of its keys alone, each once
-  pub tree_right : (p : Place) (words : List ℕ) → 0 < p.number → IsTreePage p words
+  pub tree_right : (p : PagePlace) (words : List ℕ) → 0 < p.number → IsTreePage p words
       → are_entries_of (span_of id p) (tree_entries id (records_of (node_of words))) ≡ true
   tree_right p words some right = elim (right.page some) [
     | inl leaf ↦
@@ -192,11 +192,11 @@ separators w = take (count_of w - 1) (drop 34 w)
 abbrev pub numbers : List ℕ → List ℕ
 numbers w = take (count_of w) (drop 4 w)
 
-abbrev pub child_at : ℕ → ℕ → ℕ → Place
+abbrev pub child_at : ℕ → ℕ → ℕ → PagePlace
 child_at number low high = record { number = number; low = low; high = high }
 
 -- the children from this index on
-abbrev pub children_from : List ℕ → ℕ → ℕ → ℕ → List Place
+abbrev pub children_from : List ℕ → ℕ → ℕ → ℕ → List PagePlace
 children_from w low high i = children low high (drop i (separators w)) (drop i (numbers w))
 
 -- so many children, if any
@@ -272,7 +272,7 @@ module _ (w : List ℕ) (long : length w ≡ 64) (n : ℕ) (has : HasCount w n) 
       ∙ ap (λ ns. children low high [] ns) (number_more i (omega (arith, last)))
 
   -- one child more was put
-  pub child_pushed : (low high i : ℕ) (places new : List Place) (number separator top : ℕ) (all : List Place) → i + 1 < n → number ≡ get_or w (4 + i) 0
+  pub child_pushed : (low high i : ℕ) (places new : List PagePlace) (number separator top : ℕ) (all : List PagePlace) → i + 1 < n → number ≡ get_or w (4 + i) 0
       → separator ≡ get_or w (34 + i) 0 → top ≡ separator - 1 → new ≡ places ++ child_at number low top ∷ [] → places ++ children_from w low high i ≡ all
       → new ++ children_from w separator high (i + 1) ≡ all
   child_pushed low high i places new number separator top all less number_is separator_is top_is new_is so_far =
@@ -285,7 +285,7 @@ module _ (w : List ℕ) (long : length w ≡ 64) (n : ℕ) (has : HasCount w n) 
       ∙ so_far
 
   -- and the last one
-  pub children_done : (low high i : ℕ) (places new : List Place) (number : ℕ) (all : List Place) → i + 1 ≡ n → number ≡ get_or w (4 + i) 0
+  pub children_done : (low high i : ℕ) (places new : List PagePlace) (number : ℕ) (all : List PagePlace) → i + 1 ≡ n → number ≡ get_or w (4 + i) 0
       → new ≡ places ++ child_at number low high ∷ [] → places ++ children_from w low high i ≡ all → new ≡ all
   children_done low high i places new number all last number_is new_is so_far =
       new_is ∙ ap (λ m. places ++ child_at m low high ∷ []) number_is

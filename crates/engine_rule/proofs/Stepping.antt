@@ -6,7 +6,7 @@ use Rattle.lists.specs.declared.memory.OrMemory.{OrMemory}
 use Rattle.lists.specs.declared.memory.OrMemory.TheVariants.{Fault, Memory}
 use Rattle.serial_model.specs.declared.number.Number.{Number}
 use Rattle.homes.specs.declared.places.Span.{Span}
-use Rattle.commit_core.specs.declared.event.Refused.{Refused}
+use Rattle.commit_core.specs.declared.event.NotAllowed.{NotAllowed}
 use Rattle.commit_core.specs.declared.seat.Seat.{Seat}
 use Rattle.commit_core.specs.declared.story.Story.{Story}
 use Rattle.drop_core.specs.declared.table.SnapPage.{SnapPage}
@@ -50,7 +50,7 @@ module _ (c : JointState) (e : JointEvent) (s : Seat) (g : Grip) (at : slice_get
       ∙ ap (λ (l : List Grip). let x : JointState = record { commits = c.commits; pages = record { table = c.pages.table; grips = l } } in x)
       (set_itself c.pages.grips e.seat g holds)
 
-  pub answers_event : {X : Type 0} (r : Result X (OrMemory Refused)) (n : Story) (t : Seat) (d : Table) (h : Grip)
+  pub answers_event : {X : Type 0} (r : Result X (OrMemory NotAllowed)) (n : Story) (t : Seat) (d : Table) (h : Grip)
       → Answers e.seat e.act c.commits.story s c.pages.table g r n t d h → AnswersEvent c e r (with_joined c e.seat (all_of n t d h))
   answers_event (Ok x) n t d h a =
       (may_at ∙ a.0, left_is (effect e.seat c.commits.story s c.pages.table g e.act) n t d h a.1 ∙ sym happened_at)
@@ -81,7 +81,7 @@ no_grip c e most = by_seat (slice_get c.commits.seats e.seat)
     by_seat (Some s) =
         ap (λ (o : Option Grip). option_map_or (λ h. is_allowed e.seat c.commits.story s c.pages.table h e.act) o false) (at_end c.pages.grips e.seat most)
 
-pub answers_sound : {X : Type 0} (keeps : EachEventKeeps) (c : JointState) (e : JointEvent) (r : Result X (OrMemory Refused)) (d : JointState)
+pub answers_sound : {X : Type 0} (keeps : EachEventKeeps) (c : JointState) (e : JointEvent) (r : Result X (OrMemory NotAllowed)) (d : JointState)
     → AnswersEvent c e r d → IsSound c → IsSound d
 answers_sound keeps c e (Ok x) d a sound = subst (λ (y : JointState). IsSound y) (sym a.1) (keeps c e a.0 sound)
 answers_sound keeps c e (Err (Fault f)) d a sound = subst (λ (y : JointState). IsSound y) (sym a.1) sound

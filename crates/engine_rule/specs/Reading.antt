@@ -18,7 +18,7 @@ use Rattle.wire_form.specs.Leaves.{array_leaf, tree_fan, word_in, value_in}
 use Rattle.wire_form.specs.Words.{number_in}
 use Rattle.wire_form.specs.declared.page.Page.{Page}
 use Rattle.wire_form.specs.declared.records.Stored.{Stored}
-use Rattle.snapshot_store.specs.declared.place.Place.{Place}
+use Rattle.snapshot_store.specs.declared.place.PagePlace.{PagePlace}
 use Rattle.snapshot_store.specs.Places.{Found, page, words_at, places_below}
 use Rattle.snapshot_store.specs.ArrayPages.{array_found}
 use Rattle.snapshot_store.specs.TreePages.{Record, count_of, node_of, records_of}
@@ -27,22 +27,22 @@ use Rattle.engine_rule.specs.JointState.{JointState}
 use Rattle.engine_rule.specs.Opening.{opening_joint}
 
 -- the keys of a place, in the storage with this id
-abbrev pub span_of : ℕ → Place → Span
+abbrev pub span_of : ℕ → PagePlace → Span
 span_of id p = record { storage = id; low = p.low; high = p.high }
 
 -- both ends of a place's range are small
-abbrev pub IsBounded : Place → Type 0
+abbrev pub IsBounded : PagePlace → Type 0
 IsBounded p = (p.low < 2 ^ 32) × (p.high < 2 ^ 32)
 
 -- they are so in an array
-abbrev pub IsBoundedIn : Decl → Place → Type 0
+abbrev pub IsBoundedIn : Decl → PagePlace → Type 0
 IsBoundedIn (Array id size) p = IsBounded p
 IsBoundedIn (Tree id) p = ⊤
 
 -- ---- what is below a page
 
 -- the places below a page with these words, at a place of a storage
-abbrev pub below_in : Decl → List ℕ → Place → List Place
+abbrev pub below_in : Decl → List ℕ → PagePlace → List PagePlace
 below_in decl words p = (format_of decl).below words p.low p.high
 
 -- How many children a tree's page names, none where it is a leaf: each but the last has a separator, of which a page has
@@ -65,7 +65,7 @@ page_in count number = if nat_le number count then number else 0
 
 -- The places with pages that a place of a storage leads to, on ways of so many pages at most: those of the places below
 -- it, from left to right, and then its own.
-abbrev pub led_places : Decl → List (List ℕ) → ℕ → Place → List (Decl × Place)
+abbrev pub led_places : Decl → List (List ℕ) → ℕ → PagePlace → List (Decl × PagePlace)
 led_places decl pages zero p = []
 led_places decl pages (suc d) p =
     if page_in (length pages) p.number == 0 then [] else
@@ -78,31 +78,31 @@ storages (d ∷ decls) [] = []
 storages (d ∷ decls) (r ∷ roots) = record { decl = d; root = r } ∷ storages decls roots
 
 -- those of all roots, in the order of their names
-abbrev pub named_places : List (List ℕ) → List Stored → List (Decl × Place)
+abbrev pub named_places : List (List ℕ) → List Stored → List (Decl × PagePlace)
 named_places pages storages =
     flat_map (λ s. led_places s.decl pages deepest (root_place s.decl s.root)) storages
 
 -- there is a page at the place, whose range has small ends in an array
-abbrev pub IsThere : ℕ → Decl × Place → Type 0
+abbrev pub IsThere : ℕ → Decl × PagePlace → Type 0
 IsThere count e = (1 ≤ (e.1).number) × ((e.1).number ≤ count) × IsBoundedIn e.0 e.1
 
 -- ---- their names
 
 -- it is the same place, with the same page
-abbrev pub is_same : Place → Place → Bool
+abbrev pub is_same : PagePlace → PagePlace → Bool
 is_same p q = (q.number == p.number) && ((q.low == p.low) && (q.high == p.high))
 
 -- so it is, in the same storage
-abbrev pub is_place : Decl → Place → Decl × Place → Bool
+abbrev pub is_place : Decl → PagePlace → Decl × PagePlace → Bool
 is_place decl p e = (id_of e.0 == id_of decl) && is_same p e.1
 
 -- the name of a place with its page, where the first of these has that name; 0 where it is none of them
-abbrev pub name_from : ℕ → List (Decl × Place) → Decl → Place → ℕ
+abbrev pub name_from : ℕ → List (Decl × PagePlace) → Decl → PagePlace → ℕ
 name_from name [] decl p = 0
 name_from name (e ∷ more) decl p = if is_place decl p e then name else name_from (suc name) more decl p
 
 -- the name of the page at a place, or 0 where there is none
-abbrev pub name_of : List (Decl × Place) → Decl → Place → ℕ
+abbrev pub name_of : List (Decl × PagePlace) → Decl → PagePlace → ℕ
 name_of places decl p = if p.number == 0 then 0 else name_from 1 places decl p
 
 -- ---- what they are
@@ -133,36 +133,36 @@ abbrev pub tree_entries : ℕ → List Record → List (Key × Content)
 tree_entries id records = map (λ r. entry_for (record { storage = id; key = r.key }) r.found) records
 
 -- the entries of a leaf: of each index of its range, or of each record
-abbrev pub leaf_entries : Decl → List ℕ → Place → List (Key × Content)
+abbrev pub leaf_entries : Decl → List ℕ → PagePlace → List (Key × Content)
 leaf_entries (Array id size) words p = array_entries id p.low words (p.high + 1 - p.low)
 leaf_entries (Tree id) words p = tree_entries id (records_of (node_of words))
 
 -- the children at these places, by their names
-abbrev pub children_at : List (Decl × Place) → Decl → List Place → List (Span × ℕ)
+abbrev pub children_at : List (Decl × PagePlace) → Decl → List PagePlace → List (Span × ℕ)
 children_at places decl below = map (λ q. (span_of (id_of decl) q, name_of places decl q)) below
 
 -- a page with nothing below it is a leaf
-abbrev pub page_from : List (Decl × Place) → Decl → List ℕ → Place → List Place → SnapPage
+abbrev pub page_from : List (Decl × PagePlace) → Decl → List ℕ → PagePlace → List PagePlace → SnapPage
 page_from places decl words p [] = Entries (span_of (id_of decl) p) (leaf_entries decl words p)
 page_from places decl words p (q ∷ below) =
     Children (span_of (id_of decl) p) (children_at places decl (q ∷ below))
 
 -- the page at a place of a storage, where these places have names
-abbrev pub page_at : List (List ℕ) → List (Decl × Place) → Decl × Place → SnapPage
+abbrev pub page_at : List (List ℕ) → List (Decl × PagePlace) → Decl × PagePlace → SnapPage
 page_at pages places e =
     page_from places e.0 (words_at pages e.1) e.1 (places_below (format_of e.0) pages e.1)
 
 -- the pages at these places, by their names, from this one on
-abbrev pub snaps_from : ℕ → (Decl × Place → SnapPage) → List (Decl × Place) → List (ℕ × SnapPage)
+abbrev pub snaps_from : ℕ → (Decl × PagePlace → SnapPage) → List (Decl × PagePlace) → List (ℕ × SnapPage)
 snaps_from name page [] = []
 snaps_from name page (e ∷ more) = (name, page e) ∷ snaps_from (suc name) page more
 
 -- all pages that the roots lead to
-abbrev pub snaps_of : List (List ℕ) → List (Decl × Place) → List (ℕ × SnapPage)
+abbrev pub snaps_of : List (List ℕ) → List (Decl × PagePlace) → List (ℕ × SnapPage)
 snaps_of pages places = snaps_from 1 (page_at pages places) places
 
 -- the roots, each over the keys of its storage
-abbrev pub roots_of : List (Decl × Place) → List Stored → List (Span × ℕ)
+abbrev pub roots_of : List (Decl × PagePlace) → List Stored → List (Span × ℕ)
 roots_of places storages =
     map (λ s. (span_of (id_of s.decl) (root_place s.decl s.root), name_of places s.decl (root_place s.decl s.root)))
     storages
@@ -176,7 +176,7 @@ AreBelow first (Entries span entries) = AllByRecursion (λ e. IsBelow (e.1).numb
 AreBelow first (Children span children) = ⊤
 
 -- The record's number is below this one at each of these places.
-abbrev pub RecordsAreBelow : Number → List (List ℕ) → List (Decl × Place) → Type 0
+abbrev pub RecordsAreBelow : Number → List (List ℕ) → List (Decl × PagePlace) → Type 0
 RecordsAreBelow first pages places = AllByRecursion (λ e. AreBelow first (page_at pages places e)) places
 
 -- A database may begin with these pages: there is a root for each declared storage, and it and all that it leads to are

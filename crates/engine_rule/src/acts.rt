@@ -12,14 +12,14 @@ use crate::headers::{
 use crate::pairs::nothing;
 use crate::pointers::{can_see, is_so_now, pointer_part};
 use crate::shifts::{is_shift, may_shift, prepare};
-use commit_core::{Act as CommitAct, Refused, Seat, Story, Word, rehome};
+use commit_core::{Act as CommitAct, NotAllowed, Seat, Story, Word, rehome};
 use drop_core::{Act as PageAct, Grip, Table, can_add, put};
 use homes::{At, Content, Move, Spot};
 use lists::Sequence;
 use serial_model::{Key, OrMemory};
 
 /// What an act answers.
-pub type Answer = Result<(), OrMemory<Refused>>;
+pub type Answer = Result<(), OrMemory<NotAllowed>>;
 
 /// One act of the seat with this id.
 pub fn act(
@@ -51,7 +51,7 @@ fn commit(id: u32, story: &mut Story, seat: &mut Seat, grip: &Grip, act: CommitA
 {
     if !page_lets(grip, story, &act) {
         drop(act);
-        return Err(OrMemory::Fault(Refused));
+        return Err(OrMemory::Fault(NotAllowed));
     }
     let answer = commit_core::act(id, story, seat, &act);
     drop(act);
@@ -70,7 +70,7 @@ fn see_pointer(
     ensures { Answers id (JointAct.SeePointer at) story.old seat.old table.now grip.now result story.new seat.new table.now grip.now }
 {
     if !can_see(table, grip, at) || seat.stage.is_trying() {
-        return Err(OrMemory::Fault(Refused));
+        return Err(OrMemory::Fault(NotAllowed));
     }
     let part = pointer_part(seat.kept.alloc(), table, at)?;
     commit_core::act(id, story, seat, &CommitAct::Keep(part))
@@ -102,7 +102,7 @@ fn see_header(
     ensures { Answers id (JointAct.SeeHeader slot) story.old seat.old table.now grip.now result story.new seat.new table.now grip.now }
 {
     if !can_see_header(table, grip, slot) || seat.stage.is_trying() {
-        return Err(OrMemory::Fault(Refused));
+        return Err(OrMemory::Fault(NotAllowed));
     }
     let part = header_part(seat.kept.alloc(), table, slot)?;
     commit_core::act(id, story, seat, &CommitAct::Keep(part))
@@ -126,7 +126,7 @@ fn add_record(id: u32, story: &mut Story, table: &Table, slot: u32, key: Key) ->
     ensures { (s : Seat) (g : Grip) → Answers id (JointAct.AddRecord slot key) story.old s table.now g result story.new s table.now g }
 {
     if !can_add(id, table, slot, key) {
-        return Err(OrMemory::Fault(Refused));
+        return Err(OrMemory::Fault(NotAllowed));
     }
     story.fill(next_spot(table, slot), nothing())?;
     Ok(())
@@ -148,13 +148,13 @@ fn add_key(
     let opening = PageAct::OpenHeader(slot, Some(key));
     if seat.stage.is_trying() || !may_shift(id, story, seat, table, &opening) {
         drop(opening);
-        return Err(OrMemory::Fault(Refused));
+        return Err(OrMemory::Fault(NotAllowed));
     }
     let prepared = prepare(id, table, grip, &opening);
     drop(opening);
     let swap = match prepared {
         Ok(swap) => swap,
-        Err(OrMemory::Fault(_)) => return Err(OrMemory::Fault(Refused)),
+        Err(OrMemory::Fault(_)) => return Err(OrMemory::Fault(NotAllowed)),
         Err(OrMemory::Memory) => return Err(OrMemory::Memory),
     };
     let count = table.leaf_keys(slot).len();
@@ -176,7 +176,7 @@ fn fill_record(
     ensures { (p : ℕ) (s : Seat) → Answers p (JointAct.FillRecord spot content) story.old s table.now grip.now result story.new s table.now grip.now }
 {
     if !table.slot(spot.slot).state.is_owned() || !has_made(grip, spot.slot) {
-        return Err(OrMemory::Fault(Refused));
+        return Err(OrMemory::Fault(NotAllowed));
     }
     story.fill(spot, content)?;
     Ok(())
@@ -195,7 +195,7 @@ fn turn(
 {
     if !commit_lets(id, story, seat, table, &act) {
         drop(act);
-        return Err(OrMemory::Fault(Refused));
+        return Err(OrMemory::Fault(NotAllowed));
     }
     if !is_shift(&act) {
         return still(id, table, grip, act);
@@ -211,7 +211,7 @@ fn still(id: u32, table: &mut Table, grip: &mut Grip, act: PageAct) -> Answer
 {
     match drop_core::apply(id, table, grip, act) {
         Ok(_) => Ok(()),
-        Err(OrMemory::Fault(_)) => Err(OrMemory::Fault(Refused)),
+        Err(OrMemory::Fault(_)) => Err(OrMemory::Fault(NotAllowed)),
         Err(OrMemory::Memory) => Err(OrMemory::Memory),
     }
 }
@@ -230,11 +230,11 @@ fn moving(
     ensures { AnswersMoving id act.now story.old seat.old table.old grip.old result story.new seat.new table.new grip.new }
 {
     if !may_shift(id, story, seat, table, act) {
-        return Err(OrMemory::Fault(Refused));
+        return Err(OrMemory::Fault(NotAllowed));
     }
     let swap = match prepare(id, table, grip, act) {
         Ok(swap) => swap,
-        Err(OrMemory::Fault(_)) => return Err(OrMemory::Fault(Refused)),
+        Err(OrMemory::Fault(_)) => return Err(OrMemory::Fault(NotAllowed)),
         Err(OrMemory::Memory) => return Err(OrMemory::Memory),
     };
     move_keys(id, story, seat, &swap.moves)?;

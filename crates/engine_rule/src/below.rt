@@ -7,7 +7,7 @@ ghost use Rattle.engine_rule.specs.Reading.{IsBounded, IsBoundedIn, below_in, ch
 
 use lists::Sequence;
 use serial_model::{Decl, Memory};
-use snapshot_store::Place;
+use snapshot_store::PagePlace;
 use std::alloc::Global;
 
 /// The places below the page at a place of a storage, none where it is a leaf.
@@ -15,8 +15,8 @@ pub fn below_in(
     alloc: Global,
     decl: Decl,
     words: &[u64; 64],
-    place: Place,
-) -> Result<Sequence<Place>, Memory>
+    place: PagePlace,
+) -> Result<Sequence<PagePlace>, Memory>
     requires bounded { IsBoundedIn decl place }
     ensures is { IfOk result (λ places. places ≡ below_in decl words.now place) }
     ensures bounded { IfOk result (λ places. AllByRecursion (IsBoundedIn decl) places) }
@@ -28,7 +28,11 @@ pub fn below_in(
 }
 
 /// The places below a page of an array.
-fn array_below(alloc: Global, words: &[u64; 64], place: Place) -> Result<Sequence<Place>, Memory>
+fn array_below(
+    alloc: Global,
+    words: &[u64; 64],
+    place: PagePlace,
+) -> Result<Sequence<PagePlace>, Memory>
     requires { IsBounded place }
     ensures is { IfOk result (λ places. places ≡ array_below words.now place.low place.high) }
     ensures bounded { IfOk result (λ places. AllByRecursion IsBounded places) }
@@ -41,7 +45,7 @@ fn array_below(alloc: Global, words: &[u64; 64], place: Place) -> Result<Sequenc
 }
 
 /// The places in a row, each for so many indexes.
-fn row(alloc: Global, words: &[u64; 64], part: u64, low: u64) -> Result<Sequence<Place>, Memory>
+fn row(alloc: Global, words: &[u64; 64], part: u64, low: u64) -> Result<Sequence<PagePlace>, Memory>
     requires part { part < 2 ^ 32 }
     requires low { low < 2 ^ 32 }
     ensures { IfOk result (λ places. places ≡ row words.now part low 64) }
@@ -49,7 +53,7 @@ fn row(alloc: Global, words: &[u64; 64], part: u64, low: u64) -> Result<Sequence
     let mut places = Sequence::new(alloc);
     let mut next = low;
     for i in 0..64 {
-        places.push(Place {
+        places.push(PagePlace {
             number: words[i],
             low: next,
             high: next + part.saturating_sub(1),
@@ -75,7 +79,11 @@ fn child_count(words: &[u64; 64]) -> usize
 }
 
 /// The places below a page of a tree.
-fn tree_below(alloc: Global, words: &[u64; 64], place: Place) -> Result<Sequence<Place>, Memory>
+fn tree_below(
+    alloc: Global,
+    words: &[u64; 64],
+    place: PagePlace,
+) -> Result<Sequence<PagePlace>, Memory>
     ensures { IfOk result (λ places. places ≡ node_below place.low place.high (node_of words.now)) }
 {
     let mut places = Sequence::new(alloc);
@@ -86,14 +94,14 @@ fn tree_below(alloc: Global, words: &[u64; 64], place: Place) -> Result<Sequence
     let mut low = place.low;
     for i in 0..count - 1 {
         let separator = words[34 + i];
-        places.push(Place {
+        places.push(PagePlace {
             number: words[4 + i],
             low,
             high: separator.saturating_sub(1),
         })?;
         low = separator;
     }
-    places.push(Place {
+    places.push(PagePlace {
         number: words[3 + count],
         low,
         high: place.high,

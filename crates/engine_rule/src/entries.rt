@@ -7,7 +7,7 @@ ghost use Rattle.engine_rule.specs.Reading.{IsBoundedIn, entry_of, array_entries
 use homes::Content;
 use lists::Sequence;
 use serial_model::{Decl, Key, Memory};
-use snapshot_store::Place;
+use snapshot_store::PagePlace;
 use std::alloc::Global;
 use wire_form::number_in;
 
@@ -36,7 +36,7 @@ pub fn leaf_entries(
     alloc: Global,
     decl: Decl,
     words: &[u64; 64],
-    place: Place,
+    place: PagePlace,
 ) -> Result<Sequence<(Key, Content)>, Memory>
     requires bounded { IsBoundedIn decl place }
     ensures { IfOk result (λ entries. entries ≡ leaf_entries decl words.now place) }

@@ -33,7 +33,7 @@ mod pointers;
 mod reading;
 mod shifts;
 
-pub use commit_core::Refused;
+pub use commit_core::NotAllowed;
 pub use event::{JointAct, JointEvent};
 pub use law::both_stay_sound;
 pub use machine::Joint;

@@ -11,7 +11,7 @@ use crate::event::JointEvent;
 use crate::law::both_stay_sound;
 use crate::opening::opened;
 use crate::reading::{named_places, roots_of, snaps_of, storages};
-use commit_core::{Refused, Seat, Story};
+use commit_core::{NotAllowed, Seat, Story};
 use drop_core::{Grip, SnapPage, Table};
 use homes::{Content, Span};
 use lists::Sequence;
@@ -133,11 +133,11 @@ impl Joint {
         let index = id as usize;
         if index >= self.seats.len() {
             drop(doing);
-            return Err(OrMemory::Fault(Refused));
+            return Err(OrMemory::Fault(NotAllowed));
         }
         if index >= self.grips.len() {
             drop(doing);
-            return Err(OrMemory::Fault(Refused));
+            return Err(OrMemory::Fault(NotAllowed));
         }
         let seat = &mut self.seats[index];
         let grip = &mut self.grips[index];

@@ -11,12 +11,12 @@ use drop_core::SnapPage;
 use homes::Span;
 use lists::Sequence;
 use serial_model::{Decl, Memory, id_of};
-use snapshot_store::{DEEPEST, Place, root_place};
+use snapshot_store::{DEEPEST, PagePlace, root_place};
 use std::alloc::Global;
 use wire_form::{Page, Stored};
 
 /// The keys of a place.
-fn span_of(id: u8, place: Place) -> Span
+fn span_of(id: u8, place: PagePlace) -> Span
     ensures { result ≡ span_of id place }
 {
     Span {
@@ -54,8 +54,8 @@ fn push_place(
     pages: &[Page],
     decl: Decl,
     depth: u32,
-    place: Place,
-    all: &mut Sequence<(Decl, Place)>,
+    place: PagePlace,
+    all: &mut Sequence<(Decl, PagePlace)>,
 ) -> Result<(), Memory>
     requires few { length pages.now ≤ 65536 }
     requires bounded { IsBoundedIn decl place }
@@ -79,8 +79,8 @@ fn push_each(
     pages: &[Page],
     decl: Decl,
     depth: u32,
-    places: &[Place],
-    all: &mut Sequence<(Decl, Place)>,
+    places: &[PagePlace],
+    all: &mut Sequence<(Decl, PagePlace)>,
 ) -> Result<(), Memory>
     requires few { length pages.now ≤ 65536 }
     requires bounded { AllByRecursion (IsBoundedIn decl) places.now }
@@ -93,7 +93,7 @@ fn push_each(
 }
 
 /// The root of a storage stands for all its keys, or for all indexes that a page of its height can have.
-fn root_of(stored: &Stored) -> Place
+fn root_of(stored: &Stored) -> PagePlace
     ensures is { result ≡ root_place stored.now.decl stored.now.root }
     ensures bounded { IsBoundedIn stored.now.decl result }
 {
@@ -105,7 +105,7 @@ pub fn named_places(
     alloc: Global,
     pages: &[Page],
     storages: &[Stored],
-) -> Result<Sequence<(Decl, Place)>, Memory>
+) -> Result<Sequence<(Decl, PagePlace)>, Memory>
     requires { length pages.now ≤ 65536 }
     ensures is { IfOk result (λ places. places ≡ named_places (words_of pages.now) storages.now) }
     ensures there { IfOk result (λ places. AllByRecursion (IsThere (length pages.now)) places) }
@@ -119,21 +119,21 @@ pub fn named_places(
 }
 
 /// Whether it is this place, with this page, of this storage.
-fn is_place(decl: Decl, place: Place, other: (Decl, Place)) -> bool
+fn is_place(decl: Decl, place: PagePlace, other: (Decl, PagePlace)) -> bool
     ensures { result ≡ is_place decl place other }
 {
     id_of(&other.0) == id_of(&decl) && is_same(place, other.1)
 }
 
 /// Whether it is the same place, with the same page.
-fn is_same(place: Place, other: Place) -> bool
+fn is_same(place: PagePlace, other: PagePlace) -> bool
     ensures { result ≡ is_same place other }
 {
     other.number == place.number && (other.low == place.low && other.high == place.high)
 }
 
 /// The name of the page at a place, or 0 where there is none.
-fn name_of(places: &[(Decl, Place)], decl: Decl, place: Place) -> u32
+fn name_of(places: &[(Decl, PagePlace)], decl: Decl, place: PagePlace) -> u32
     requires { length places.now < 4294967295 }
     ensures { result ≡ name_of places.now decl place }
 {
@@ -153,9 +153,9 @@ fn name_of(places: &[(Decl, Place)], decl: Decl, place: Place) -> u32
 /// The children at these places, by their names.
 fn children_at(
     alloc: Global,
-    places: &[(Decl, Place)],
+    places: &[(Decl, PagePlace)],
     decl: Decl,
-    below: &[Place],
+    below: &[PagePlace],
 ) -> Result<Sequence<(Span, u32)>, Memory>
     requires { length places.now < 4294967295 }
     ensures { IfOk result (λ children. children ≡ children_at places.now decl below.now) }
@@ -170,10 +170,10 @@ fn children_at(
 /// The page with these words, at a place of a storage.
 fn page_from(
     alloc: Global,
-    places: &[(Decl, Place)],
+    places: &[(Decl, PagePlace)],
     decl: Decl,
     words: &[u64; 64],
-    place: Place,
+    place: PagePlace,
 ) -> Result<SnapPage, Memory>
     requires few { length places.now < 4294967295 }
     requires bounded { IsBoundedIn decl place }
@@ -191,8 +191,8 @@ fn page_from(
 fn page_at(
     alloc: Global,
     pages: &[Page],
-    places: &[(Decl, Place)],
-    at: (Decl, Place),
+    places: &[(Decl, PagePlace)],
+    at: (Decl, PagePlace),
 ) -> Result<SnapPage, Memory>
     requires pages { length pages.now ≤ 65536 }
     requires places { length places.now < 4294967295 }
@@ -207,7 +207,7 @@ fn page_at(
 pub fn snaps_of(
     alloc: Global,
     pages: &[Page],
-    places: &[(Decl, Place)],
+    places: &[(Decl, PagePlace)],
 ) -> Result<Sequence<(u32, SnapPage)>, Memory>
     requires pages { length pages.now ≤ 65536 }
     requires places { length places.now < 4294967295 }
@@ -226,7 +226,7 @@ pub fn snaps_of(
 /// The roots, each over the keys of its storage.
 pub fn roots_of(
     alloc: Global,
-    places: &[(Decl, Place)],
+    places: &[(Decl, PagePlace)],
     storages: &[Stored],
 ) -> Result<Sequence<(Span, u32)>, Memory>
     requires { length places.now < 4294967295 }

@@ -13,8 +13,8 @@ use crate::asks::keys_in;
 use crate::headers::next_spot;
 use commit_core::{Seat, Story, can_move};
 use drop_core::{
-    Act, Grip, Refused, Swap, Table, Twins, leaf_home, prepare_install, prepare_key, prepare_split,
-    prepare_swing, prepare_swing_chain,
+    Act, Grip, NotAllowed, Swap, Table, Twins, leaf_home, prepare_install, prepare_key,
+    prepare_split, prepare_swing, prepare_swing_chain,
 };
 use homes::{Home, Move, Span, Spot};
 use serial_model::{Key, OrMemory};
@@ -58,7 +58,7 @@ pub fn is_shift(act: &Act) -> bool
 }
 
 /// What the act comes to for the pages, if they let it be.
-pub fn prepare(id: u32, table: &Table, grip: &Grip, act: &Act) -> Result<Swap, OrMemory<Refused>>
+pub fn prepare(id: u32, table: &Table, grip: &Grip, act: &Act) -> Result<Swap, OrMemory<NotAllowed>>
     requires { IsShift act.now }
     ensures { Prepares id act.now table.now grip.now result }
 {
@@ -71,16 +71,16 @@ pub fn prepare(id: u32, table: &Table, grip: &Grip, act: &Act) -> Result<Swap, O
             prepare_swing_chain(id, table, grip, *at, *number, chain)
         }
         Act::Enter(_) | Act::Leave(_) | Act::Give(_) | Act::Publish(_) | Act::Retire(_) => {
-            Err(OrMemory::Fault(Refused))
+            Err(OrMemory::Fault(NotAllowed))
         }
         Act::FillPage(_, _) | Act::FillPointer(_, _) | Act::FillSnapshot(_, _) => {
-            Err(OrMemory::Fault(Refused))
+            Err(OrMemory::Fault(NotAllowed))
         }
         Act::Extend(_) | Act::Renew(_, _) | Act::Shut(_) | Act::Reopen(_) => {
-            Err(OrMemory::Fault(Refused))
+            Err(OrMemory::Fault(NotAllowed))
         }
         Act::FillHeader(_) | Act::LockHeader(_) | Act::OpenHeader(_, None) => {
-            Err(OrMemory::Fault(Refused))
+            Err(OrMemory::Fault(NotAllowed))
         }
     }
 }

@@ -46,8 +46,8 @@ abbrev pub Saw : Key → Spot → ℕ → View → ℕ → View → Type 0
 Saw k x at v n w = MatchBool (nat_lt n (2 ^ 60)) (SawFree k x at v n w) (w ≡ read_at at n v)
 
 -- the same of the step
-abbrev pub Sees : Key → Step (Unit {0}) → View → ℕ → View → Type 0
-Sees k s v n w = Saw k (spot_in v k) s.word v n w
+abbrev pub SeesRecord : Key → Step (Unit {0}) → View → ℕ → View → Type 0
+SeesRecord k s v n w = Saw k (spot_in v k) s.word v n w
 
 -- this value was found at the key, whose record is at this place
 abbrev pub loaded_at : Key → Spot → ℕ → Loaded

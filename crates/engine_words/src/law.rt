@@ -119,9 +119,9 @@ pub struct Seeing<J: Keyed> {
 
 impl<J: Keyed> Play<(), View> for Seeing<J> {
     ghost use Rattle.engine_words.specs.Steps.{told};
-    ghost use Rattle.engine_words.specs.Reads.{Sees};
+    ghost use Rattle.engine_words.specs.Reads.{SeesRecord};
 
-    ghost then = { told (Sees J.key) };
+    ghost then = { told (SeesRecord J.key) };
 }
 
 /// The load of a value.

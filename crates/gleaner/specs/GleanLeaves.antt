@@ -9,7 +9,7 @@ use Rattle.outside.specs.declared.device.Device.TheVariants.{Snaps, Bank}
 use Rattle.serial_model.specs.declared.decl.Decl.{Decl}
 use Rattle.wire_form.specs.declared.page.Page.{Page}
 use Rattle.snapshot_store.specs.Content.{words_of}
-use Rattle.snapshot_store.specs.Store.{StoreState, Holds, KeepsFront}
+use Rattle.snapshot_store.specs.Store.{StoreState, HoldsPages, KeepsFront}
 use Rattle.gleaner.specs.Glean.{bank_of, FailsBeside, IsDamagedFile, DeviceFailed, WouldBeDeep, WouldBeMany}
 use Rattle.gleaner.specs.declared.closed.Closed.{Closed}
 use Rattle.gleaner.specs.declared.closed.Newest.{Newest}
@@ -28,7 +28,7 @@ pub record LeavesPages {D : Type 0} (tells : D → Option (List ℕ)) (clock : D
   pub front : KeepsFront clock image_at (512 * length store_was.pages) was is
   pub told : is_some (tells is) ≡ is_some (tells was)
   pub sound : OnOk answer (store.sound ≡ true)
-  pub holds : OnOk answer (Holds tells is store.pages)
+  pub holds : OnOk answer (HoldsPages tells is store.pages)
   pub kept : OnErr answer (answer ≢ Err (or.Fault (faults.Device Snaps)) → (is ≡ was) × (store ≡ store_was))
   pub unsound : answer ≡ Err (or.Fault (faults.Device Snaps)) → store.sound ≡ false
   pub quiet : answer ≢ Err (or.Fault (faults.Device Snaps)) → count is ≡ count was

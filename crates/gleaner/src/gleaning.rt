@@ -7,7 +7,7 @@ ghost use Rattle.outside.specs.declared.device.Device.TheVariants as devices;
 ghost use Rattle.wire_form.specs.Pages.{Contents};
 ghost use Rattle.wire_form.specs.declared.bucket.Bucket.{Bucket as TheBucket};
 ghost use Rattle.snapshot_store.specs.Content.{words_of};
-ghost use Rattle.snapshot_store.specs.Store.{bytes_of_pages, Holds, NumberedFrom};
+ghost use Rattle.snapshot_store.specs.Store.{bytes_of_pages, HoldsPages, NumberedFrom};
 ghost use Rattle.snapshot_store.specs.declared.store.StoreFault.{StoreFault as TheStoreFault};
 ghost use Rattle.root_composer.specs.Composition.{CanCompose};
 ghost use Rattle.log_reducer.specs.Reduced.{AreLast, all_logged};
@@ -77,7 +77,7 @@ pub fn glean<R: Threads + Wait + Sync, D: Disk + Send>(
     requires workers { length files.old ≡ 8 }
     requires room { room ≤ 65536 }
     requires sound { store.old.sound ≡ true }
-    requires holds { Holds D.tells snaps.old store.old.pages }
+    requires holds { HoldsPages D.tells snaps.old store.old.pages }
     ensures none { (result.answer ≡ Ok Gleaned.Empty) ↔ (none_counted closed.now.lengths ≡ true) }
     ensures untouched { none_counted closed.now.lengths ≡ true
         → (snaps.new ≡ snaps.old) × (files.new ≡ files.old) × (store.new ≡ store.old) }
@@ -131,7 +131,7 @@ fn add<D: Disk>(
     requires can { (contents : Contents) × CanCompose (words_of store.old.pages) newest.page contents run.now epoch }
     requires room { room ≤ 65536 }
     requires sound { store.old.sound ≡ true }
-    requires holds { Holds D.tells snaps.old store.old.pages }
+    requires holds { HoldsPages D.tells snaps.old store.old.pages }
     ensures some { result ≢ Ok Gleaned.Empty }
     ensures gleaned { (at new : ℕ) → result ≡ Ok (Gleaned.Snap at new) → (at ≡ epoch)
         × (made : List (List ℕ)) × (words_of store.new.pages ≡ words_of store.old.pages ++ made)

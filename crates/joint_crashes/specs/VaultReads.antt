@@ -14,7 +14,7 @@ use Rattle.log_writer.specs.declared.vault.Vault.{Vault}
 use Rattle.wire_form.specs.declared.page.Page.{Page}
 use Rattle.wire_form.specs.declared.savepoint.Savepoint.{Savepoint}
 use Rattle.log_writer.specs.Save.{IsStored}
-use Rattle.snapshot_store.specs.Store.{Holds}
+use Rattle.snapshot_store.specs.Store.{HoldsPages}
 use Rattle.joint_crashes.specs.Images.{Images}
 use Rattle.joint_crashes.specs.JointCrash.{parts_of}
 use Rattle.joint_crashes.specs.Resting.{AreTold}
@@ -156,7 +156,7 @@ module _ {D : Type 0} {tells : D → Option (List ℕ)} {clock : D → ℕ} {ima
 
   -- what stands in front of the snapshots stays
   pub holds_read : {old new : Vault D} (pages : List Page) → VaultOnlyReads tells clock image_at faults old new
-      → Holds tells old.snaps pages → Holds tells new.snaps pages
+      → HoldsPages tells old.snaps pages → HoldsPages tells new.snaps pages
   holds_read {old = old} pages reads holds bytes told =
       let now = reads.each Snaps old.snaps refl in
       holds bytes (sym (ap tells (same_Some _ _ now.1) ∙ now.2.told) ∙ told)

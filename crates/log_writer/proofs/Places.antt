@@ -10,7 +10,7 @@ use Rattle.std.specs.Option.{option_map}
 use Rattle.wire_form.specs.Savepoint.{IsSavepoint, IsSavepointOf, place_bytes, valid_byte}
 use Rattle.outside.specs.Disk.{Torn}
 use Rattle.log_writer.specs.Points.{IsSaved, saved_of, point_saved, sequence_of}
-use Rattle.log_writer.specs.Save.{place_in, Holds, newer, Names}
+use Rattle.log_writer.specs.Save.{place_in, HasPoint, newer, Names}
 
 -- equal fronts have equal shorter fronts
 take_kept : (j k : ℕ) (c file : List ℕ) → j ≤ k → take k c ≡ take k file → take j c ≡ take j file
@@ -66,7 +66,7 @@ pub place_within : {place other : ℕ} → Pair place other → (file : List ℕ
 place_within places file size = elim places.either [ inl is ↦ omega (arith, is.0) | inr is ↦ omega (arith, is.0) ]
 
 -- a newest savepoint of even sequence is the one of the second place
-in_second_place : (first second : Option Savepoint) (x y : List ℕ) → Holds 0 x first → Holds 1 y second → sequence_of (newer first second) % 2 ≡ 0 → newer first second ≡ second
+in_second_place : (first second : Option Savepoint) (x y : List ℕ) → HasPoint 0 x first → HasPoint 1 y second → sequence_of (newer first second) % 2 ≡ 0 → newer first second ≡ second
 in_second_place None second x y in_first in_second even = refl
 in_second_place (Some a) None x y in_first in_second even = absurd (omega (arith, in_first.0.stands, even))
 in_second_place (Some a) (Some b) x y in_first in_second even = elim (cases_lt a.sequence b.sequence) [
@@ -77,7 +77,7 @@ in_second_place (Some a) (Some b) x y in_first in_second even = elim (cases_lt a
 ]
 
 -- a newest savepoint of odd sequence is the one of the first place
-in_first_place : (first second : Option Savepoint) (x y : List ℕ) → Holds 0 x first → Holds 1 y second → sequence_of (newer first second) % 2 ≡ 1 → newer first second ≡ first
+in_first_place : (first second : Option Savepoint) (x y : List ℕ) → HasPoint 0 x first → HasPoint 1 y second → sequence_of (newer first second) % 2 ≡ 1 → newer first second ≡ first
 in_first_place None None x y in_first in_second odd = absurd (omega (arith, odd))
 in_first_place None (Some b) x y in_first in_second odd = absurd (omega (arith, in_second.0.stands, odd))
 in_first_place (Some a) None x y in_first in_second odd = refl
@@ -89,16 +89,16 @@ in_first_place (Some a) (Some b) x y in_first in_second odd = elim (cases_lt a.s
 ]
 
 -- the newest savepoint stands in the place that the next one is not stored in
-pub newest_stands : {place other : ℕ} → Pair place other → (file : List ℕ) (newest : Option Savepoint) → Names file newest → place + (sequence_of newest + 1) % 2 ≡ 1 → Holds other (place_in file other) newest
+pub newest_stands : {place other : ℕ} → Pair place other → (file : List ℕ) (newest : Option Savepoint) → Names file newest → place + (sequence_of newest + 1) % 2 ≡ 1 → HasPoint other (place_in file other) newest
 newest_stands {place} {other} places file newest names next = elim places.either [
   | inl is ↦
       let even : sequence_of (newer names.first names.second) % 2 ≡ 0 = omega (arith, next, is.0, ap sequence_of names.counts) in
       let same : newest ≡ names.second = names.counts ∙ in_second_place names.first names.second (place_in file 0) (place_in file 1) names.in_first names.in_second even in
-      subst (λ q. Holds q (place_in file q) newest) (sym is.1) (subst (Holds 1 (place_in file 1)) (sym same) names.in_second)
+      subst (λ q. HasPoint q (place_in file q) newest) (sym is.1) (subst (HasPoint 1 (place_in file 1)) (sym same) names.in_second)
   | inr is ↦
       let odd : sequence_of (newer names.first names.second) % 2 ≡ 1 = omega (arith, next, is.0, ap sequence_of names.counts) in
       let same : newest ≡ names.first = names.counts ∙ in_first_place names.first names.second (place_in file 0) (place_in file 1) names.in_first names.in_second odd in
-      subst (λ q. Holds q (place_in file q) newest) (sym is.1) (subst (Holds 0 (place_in file 0)) (sym same) names.in_first)
+      subst (λ q. HasPoint q (place_in file q) newest) (sym is.1) (subst (HasPoint 0 (place_in file 0)) (sym same) names.in_first)
 ]
 
 -- beside none the newer one is the other
@@ -112,45 +112,45 @@ newer-greater None point lt = (refl, refl)
 newer-greater (Some a) point lt = (grind (arith, nat_tests), grind (arith, nat_tests))
 
 -- where one place is closed, the device has what the other holds
-pub closed_names : {place other : ℕ} → Pair place other → (c : List ℕ) (newest : Option Savepoint) → length c ≡ 1024 → get_or c (512 * place) 0 ≢ valid_byte → Holds other (place_in c other) newest → Names c newest
+pub closed_names : {place other : ℕ} → Pair place other → (c : List ℕ) (newest : Option Savepoint) → length c ≡ 1024 → get_or c (512 * place) 0 ≢ valid_byte → HasPoint other (place_in c other) newest → Names c newest
 closed_names {place} {other} places c newest size shut holds =
-    let none : Holds place (place_in c place) None = λ is. shut (sym (place_first c place (place_within places c size)) ∙ is) in
+    let none : HasPoint place (place_in c place) None = λ is. shut (sym (place_first c place (place_within places c size)) ∙ is) in
     elim places.either [
       | inl is ↦ record {
         size = size;
         first = None;
         second = newest;
-        in_first = subst (λ p. Holds p (place_in c p) None) is.0 none;
-        in_second = subst (λ q. Holds q (place_in c q) newest) is.1 holds;
+        in_first = subst (λ p. HasPoint p (place_in c p) None) is.0 none;
+        in_second = subst (λ q. HasPoint q (place_in c q) newest) is.1 holds;
         counts = refl;
       }
       | inr is ↦ record {
         size = size;
         first = newest;
         second = None;
-        in_first = subst (λ q. Holds q (place_in c q) newest) is.1 holds;
-        in_second = subst (λ p. Holds p (place_in c p) None) is.0 none;
+        in_first = subst (λ q. HasPoint q (place_in c q) newest) is.1 holds;
+        in_second = subst (λ p. HasPoint p (place_in c p) None) is.0 none;
         counts = sym (newer-none newest);
       }
     ]
 
 -- where one place has a savepoint of greater sequence than the other's, the device has that one
-pub open_names : {place other : ℕ} → Pair place other → (c : List ℕ) (older : Option Savepoint) (point : Savepoint) → length c ≡ 1024 → sequence_of older < point.sequence → Holds place (place_in c place) (Some point) → Holds other (place_in c other) older → Names c (Some point)
+pub open_names : {place other : ℕ} → Pair place other → (c : List ℕ) (older : Option Savepoint) (point : Savepoint) → length c ≡ 1024 → sequence_of older < point.sequence → HasPoint place (place_in c place) (Some point) → HasPoint other (place_in c other) older → Names c (Some point)
 open_names {place} {other} places c older point size lt holds_next holds = elim places.either [
   | inl is ↦ record {
     size = size;
     first = Some point;
     second = older;
-    in_first = subst (λ p. Holds p (place_in c p) (Some point)) is.0 holds_next;
-    in_second = subst (λ q. Holds q (place_in c q) older) is.1 holds;
+    in_first = subst (λ p. HasPoint p (place_in c p) (Some point)) is.0 holds_next;
+    in_second = subst (λ q. HasPoint q (place_in c q) older) is.1 holds;
     counts = sym (newer-greater older point lt).1;
   }
   | inr is ↦ record {
     size = size;
     first = older;
     second = Some point;
-    in_first = subst (λ q. Holds q (place_in c q) older) is.1 holds;
-    in_second = subst (λ p. Holds p (place_in c p) (Some point)) is.0 holds_next;
+    in_first = subst (λ q. HasPoint q (place_in c q) older) is.1 holds;
+    in_second = subst (λ p. HasPoint p (place_in c p) (Some point)) is.0 holds_next;
     counts = sym (newer-greater older point lt).0;
   }
 ]
@@ -162,16 +162,16 @@ names_kept {place} {other} places file c newest size same same_other names = eli
     size = size;
     first = names.first;
     second = names.second;
-    in_first = subst (λ l. Holds 0 l names.first) (sym (subst (λ p. place_in c p ≡ place_in file p) is.0 same)) names.in_first;
-    in_second = subst (λ l. Holds 1 l names.second) (sym (subst (λ p. place_in c p ≡ place_in file p) is.1 same_other)) names.in_second;
+    in_first = subst (λ l. HasPoint 0 l names.first) (sym (subst (λ p. place_in c p ≡ place_in file p) is.0 same)) names.in_first;
+    in_second = subst (λ l. HasPoint 1 l names.second) (sym (subst (λ p. place_in c p ≡ place_in file p) is.1 same_other)) names.in_second;
     counts = names.counts;
   }
   | inr is ↦ record {
     size = size;
     first = names.first;
     second = names.second;
-    in_first = subst (λ l. Holds 0 l names.first) (sym (subst (λ p. place_in c p ≡ place_in file p) is.1 same_other)) names.in_first;
-    in_second = subst (λ l. Holds 1 l names.second) (sym (subst (λ p. place_in c p ≡ place_in file p) is.0 same)) names.in_second;
+    in_first = subst (λ l. HasPoint 0 l names.first) (sym (subst (λ p. place_in c p ≡ place_in file p) is.1 same_other)) names.in_first;
+    in_second = subst (λ l. HasPoint 1 l names.second) (sym (subst (λ p. place_in c p ≡ place_in file p) is.0 same)) names.in_second;
     counts = names.counts;
   }
 ]
@@ -183,7 +183,7 @@ place_read place at count file bytes within begins size counted is =
     is ∙ ap (λ n. take n (drop at file) ++ drop n (replicate 512 0)) whole ∙ append-nil (take 512 (drop at file)) ∙ ap (λ i. take 512 (drop i file)) begins
 
 -- what a place was read as, it holds
-pub place_holds : (place : ℕ) (bytes : List ℕ) (found : Option Savepoint) → ((found ≡ None) → slice_index bytes 0 ≢ valid_byte) → IfSome found (IsSpelled (IsSavepointOf place) place_bytes bytes) → Holds place bytes found
+pub place_holds : (place : ℕ) (bytes : List ℕ) (found : Option Savepoint) → ((found ≡ None) → slice_index bytes 0 ≢ valid_byte) → IfSome found (IsSpelled (IsSavepointOf place) place_bytes bytes) → HasPoint place bytes found
 place_holds place bytes None shut spelled = shut refl
 place_holds place bytes (Some point) shut spelled = (spelled.valid, sym spelled.spelled)
 

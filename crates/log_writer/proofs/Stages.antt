@@ -8,7 +8,7 @@ use Rattle.wire_form.specs.Savepoint.{IsSavepointOf, place_bytes, valid_byte}
 use Rattle.outside.specs.Disk.{written, Torn}
 use Rattle.outside.specs.Ranges.{torn_written}
 use Rattle.log_writer.specs.Points.{sequence_of}
-use Rattle.log_writer.specs.Save.{place_in, Holds, Names, NamesOldOrNew, closed, ClosedOrTorn}
+use Rattle.log_writer.specs.Save.{place_in, HasPoint, Names, NamesOldOrNew, closed, ClosedOrTorn}
 use Rattle.log_writer.proofs.Places.{Pair, behind_valid, place_parts, other_kept, size_kept, place_within, closed_names, open_names, names_kept}
 
 -- a written byte stands where it was written
@@ -30,13 +30,13 @@ behind_kept place file c torn = ap (λ (l : List ℕ). take 511 l) torn.after
 pub record Shut (place other : ℕ) (newest : Option Savepoint) (file : List ℕ) : Type 0 where
   pub size : length file ≡ 1024
   pub byte : get_or file (512 * place) 0 ≢ valid_byte
-  pub holds : Holds other (place_in file other) newest
+  pub holds : HasPoint other (place_in file other) newest
 
 -- the next savepoint stands behind the place's valid byte, and the other has the newest
 pub record Filled (place other : ℕ) (newest : Option Savepoint) (point : Savepoint) (file : List ℕ) : Type 0 where
   pub size : length file ≡ 1024
   pub behind : valid_byte ∷ behind_valid file place ≡ place_bytes point
-  pub holds : Holds other (place_in file other) newest
+  pub holds : HasPoint other (place_in file other) newest
 
 -- a closed place isn't written
 pub closed_shut : (at : ℕ) (file : List ℕ) → get_or file at 0 ≢ valid_byte → closed at file ≡ file
@@ -48,11 +48,11 @@ closed_open at file byte = grind (arith, nat_tests)
 
 module _ (place other : ℕ) (places : Pair place other) (newest : Option Savepoint) where
   -- what the other place holds it still holds after a write within the place
-  still_holds : (at count : ℕ) (file c : List ℕ) → 512 * place ≤ at → at + count ≤ 512 * place + 512 → Torn at count file c → Holds other (place_in file other) newest → Holds other (place_in c other) newest
-  still_holds at count file c from to torn holds = subst (λ l. Holds other l newest) (sym (other_kept places at count file c from to torn)) holds
+  still_holds : (at count : ℕ) (file c : List ℕ) → 512 * place ≤ at → at + count ≤ 512 * place + 512 → Torn at count file c → HasPoint other (place_in file other) newest → HasPoint other (place_in c other) newest
+  still_holds at count file c from to torn holds = subst (λ l. HasPoint other l newest) (sym (other_kept places at count file c from to torn)) holds
 
   -- while the place is closed, the device has what it had
-  pub close_stop : (file c : List ℕ) → Names file newest → Holds other (place_in file other) newest → ClosedOrTorn (512 * place) file c → Names c newest
+  pub close_stop : (file c : List ℕ) → Names file newest → HasPoint other (place_in file other) newest → ClosedOrTorn (512 * place) file c → Names c newest
   close_stop file c names holds (inl same) = subst (λ f. Names f newest) (sym same) names
   close_stop file c names holds (inr (byte, torn)) =
       let size = size_kept places (512 * place) 1 file c names.size (omega arith) torn in
@@ -65,11 +65,11 @@ module _ (place other : ℕ) (places : Pair place other) (newest : Option Savepo
             ∙ ap (λ (l : List ℕ). get_or file (512 * place) 0 ∷ l) (behind_kept place file c torn)
             ∙ sym (place_parts file place (place_within places file names.size)) in
             names_kept places file c newest size same kept names
-        | inr shut ↦ closed_names places c newest size shut (subst (λ l. Holds other l newest) (sym kept) holds)
+        | inr shut ↦ closed_names places c newest size shut (subst (λ l. HasPoint other l newest) (sym kept) holds)
       ]
 
   -- closing the place shuts it
-  pub shut_closed : (file : List ℕ) → length file ≡ 1024 → Holds other (place_in file other) newest → Shut place other newest (closed (512 * place) file)
+  pub shut_closed : (file : List ℕ) → length file ≡ 1024 → HasPoint other (place_in file other) newest → Shut place other newest (closed (512 * place) file)
   shut_closed file size holds =
       let within = place_within places file size in
       elim (cases_eq (get_or file (512 * place) 0) valid_byte) [

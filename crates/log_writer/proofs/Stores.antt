@@ -6,7 +6,7 @@ use Rattle.wire_form.specs.Savepoint.{IsSavepoint, IsSavepointOf, StandsAt, plac
 use Rattle.outside.specs.Disk.{written, Torn, Goes, Only, Runs}
 use Rattle.outside.specs.Moments.{runs_weaker, runs_step}
 use Rattle.log_writer.specs.Points.{sequence_of}
-use Rattle.log_writer.specs.Save.{Holds, place_in, Names, LeavesNewest, NamesOldOrNew, closed, ClosedOrTorn}
+use Rattle.log_writer.specs.Save.{HasPoint, place_in, Names, LeavesNewest, NamesOldOrNew, closed, ClosedOrTorn}
 use Rattle.log_writer.proofs.Places.{Pair, pair, place_within, newest_stands}
 use Rattle.log_writer.proofs.Stages.{Shut, Filled, close_stop, shut_closed, fill_stop, filled, open_stop, opened}
 
@@ -55,7 +55,7 @@ module _ {place : ℕ} {newest : Option Savepoint} {point : Savepoint} {bytes : 
   placed : IsSavepointOf place point
   placed = record { point = next.valid; stands = next.stands }
 
-  other_holds : Holds (1 - place) (place_in file (1 - place)) newest
+  other_holds : HasPoint (1 - place) (place_in file (1 - place)) newest
   other_holds = newest_stands places file newest names (rw (sym next.sequence) next.stands)
 
   length-rest : length (rest bytes) ≡ 511

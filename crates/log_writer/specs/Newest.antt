@@ -7,7 +7,7 @@ use Rattle.lists.specs.Each.{all_append, all_below, all_replicate}
 use Rattle.wire_form.specs.Bytes.{bytes_of, padded}
 use Rattle.wire_form.specs.ByteLaws.{same_words}
 use Rattle.wire_form.specs.Savepoint.{IsSavepoint, magic, body_words, place_bytes, valid_byte}
-use Rattle.log_writer.specs.Save.{Holds, place_in, newer, Names}
+use Rattle.log_writer.specs.Save.{HasPoint, place_in, newer, Names}
 
 -- a savepoint is told in words
 body_fits : (s : Savepoint) → IsSavepoint s → AllByRecursion (λ w. w < 2 ^ 64) (body_words s)
@@ -38,7 +38,7 @@ valid_of : (p : Savepoint) → slice_index (place_bytes p) 0 ≡ valid_byte
 valid_of p = refl
 
 -- a place holds one savepoint, or none
-pub holds_one : (place : ℕ) (bytes : List ℕ) (a b : Option Savepoint) → Holds place bytes a → Holds place bytes b → a ≡ b
+pub holds_one : (place : ℕ) (bytes : List ℕ) (a b : Option Savepoint) → HasPoint place bytes a → HasPoint place bytes b → a ≡ b
 holds_one place bytes None None p q = refl
 holds_one place bytes None (Some b) p q = absurd (p (ap (λ l. slice_index l 0) q.1 ∙ valid_of b))
 holds_one place bytes (Some a) None p q = absurd (q (ap (λ l. slice_index l 0) p.1 ∙ valid_of a))

@@ -11,9 +11,9 @@ place_in file place = take 512 (drop (512 * place) file)
 
 -- A place is closed, and then has none whatever its other bytes are, or it is open and has a
 -- savepoint of its own.
-abbrev pub Holds : ℕ → List ℕ → Option Savepoint → Type 0
-Holds place bytes None = slice_index bytes 0 ≢ valid_byte
-Holds place bytes (Some p) = IsSavepointOf place p × (bytes ≡ place_bytes p)
+abbrev pub HasPoint : ℕ → List ℕ → Option Savepoint → Type 0
+HasPoint place bytes None = slice_index bytes 0 ≢ valid_byte
+HasPoint place bytes (Some p) = IsSavepointOf place p × (bytes ≡ place_bytes p)
 
 -- of two places the one that has the savepoint of greater sequence
 abbrev pub newer : Option Savepoint → Option Savepoint → Option Savepoint
@@ -26,20 +26,20 @@ pub record Names (file : List ℕ) (newest : Option Savepoint) : Type 0 where
   pub size : length file ≡ 1024
   pub first : Option Savepoint
   pub second : Option Savepoint
-  pub in_first : Holds 0 (place_in file 0) first
-  pub in_second : Holds 1 (place_in file 1) second
+  pub in_first : HasPoint 0 (place_in file 0) first
+  pub in_second : HasPoint 1 (place_in file 1) second
   pub counts : newest ≡ newer first second
 
 -- a place that is open and has no savepoint of its own
 abbrev pub IsBroken : ℕ → List ℕ → Type 0
-IsBroken place bytes = (point : Option Savepoint) → Holds place bytes point → ⊥
+IsBroken place bytes = (point : Option Savepoint) → HasPoint place bytes point → ⊥
 
 -- Which byte is told of a device that names nothing: 0 for its length, else where the first broken
 -- place begins.
 pub record IsDamaged (file : List ℕ) (at : ℕ) : Type 0 where
   pub cause : ((length file ≢ 1024) × (at ≡ 0))
       ⊎ (((length file ≡ 1024) × IsBroken 0 (place_in file 0) × (at ≡ 0))
-      ⊎ ((length file ≡ 1024) × (first : Option Savepoint) × Holds 0 (place_in file 0) first × IsBroken 1 (place_in file 1) × (at ≡ 512)))
+      ⊎ ((length file ≡ 1024) × (first : Option Savepoint) × HasPoint 0 (place_in file 0) first × IsBroken 1 (place_in file 1) × (at ≡ 512)))
 
 -- a stop now leaves this file and no other, and it names this savepoint for the newest
 pub record LeavesNewest {D : Type 0} (clock : D → ℕ) (image_at : D → ℕ → List ℕ → Type 0) (disk : D) (newest : Option Savepoint) (file : List ℕ) : Type 0 where

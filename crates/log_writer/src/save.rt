@@ -5,7 +5,7 @@ ghost use Rattle.outside.specs.Disk.{IfTold, Same, Goes, Only, Runs};
 ghost use Rattle.wire_form.specs.Savepoint.{IsSavepoint};
 ghost use Rattle.log_writer.specs.Points.{IsSaved, sequence_of};
 ghost use Rattle.outside.specs.Faults.{HasCause};
-ghost use Rattle.log_writer.specs.Save.{place_in, Holds, newer, IsBroken, IsDamaged, IsStored, NamesOldOrNew, closed, ClosedOrTorn};
+ghost use Rattle.log_writer.specs.Save.{place_in, HasPoint, newer, IsBroken, IsDamaged, IsStored, NamesOldOrNew, closed, ClosedOrTorn};
 ghost use Rattle.log_writer.specs.Stores.{Blames, Finds, Stores};
 
 use crate::Saved;
@@ -76,7 +76,7 @@ fn place_of(sequence: u64) -> u64
 fn read_place<D: Disk>(disk: &mut D, place: u8) -> Result<Option<Savepoint>, SaveOpen>
     requires { place ≤ 1 }
     ensures holds { IfOk result (λ point. IfTold (D.tells disk.old) (λ file. length file ≡ 1024
-        → Holds place (place_in file place) point)) }
+        → HasPoint place (place_in file place) point)) }
     ensures point { IfOk result (λ point. IfSome point IsSavepoint) }
     ensures broken { (at : ℕ) → result ≡ Err (SaveOpen.Damaged at)
         → IfTold (D.tells disk.old) (λ file. length file ≡ 1024

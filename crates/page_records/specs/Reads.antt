@@ -65,8 +65,8 @@ abbrev pub Saw : Key → Spot → ℕ → View → ℕ → View → Type 0
 Saw k x at v n w = MatchBool (nat_lt n (2 ^ 60)) (SawFree k x at v n w) (w ≡ read_at at n v)
 
 -- the same of the step
-abbrev pub Sees : Key → Spot → Step (Unit {0}) → View → ℕ → View → Type 0
-Sees k x s v n w = Saw k x s.word v n w
+abbrev pub SeesRecord : Key → Spot → Step (Unit {0}) → View → ℕ → View → Type 0
+SeesRecord k x s v n w = Saw k x s.word v n w
 
 -- ---- the value
 

@@ -27,9 +27,9 @@ pub struct Seeing<J: Placed> {
 
 impl<J: Placed> Play<(), View> for Seeing<J> {
     ghost use Rattle.engine_pages.specs.Steps.{told};
-    ghost use Rattle.page_records.specs.Reads.{Sees};
+    ghost use Rattle.page_records.specs.Reads.{SeesRecord};
 
-    ghost then = { told (Sees J.key J.spot) };
+    ghost then = { told (SeesRecord J.key J.spot) };
 }
 
 /// The load of a value.

@@ -53,7 +53,7 @@ use Rattle.round_engine.specs.Ends.{closed_failed, comes_to_advance, comes_to_sw
 use Rattle.round_engine.specs.Ends.{where_true}
 use Rattle.round_engine.specs.declared.report.End.{End}
 use Rattle.round_engine.specs.Logs.{AreClosedFiles, AreLogs}
-use Rattle.round_engine.specs.RanRound.{Begins, LeavesVault, LogsRan, RanRound, RunsLines}
+use Rattle.round_engine.specs.RanRound.{Begins, LeavesVault, LogsRan, RanRound, RunsRoundLines}
 use Rattle.round_engine.specs.Swaps.{behind_swap, since_swap}
 use Rattle.worker_logs.specs.Rows.{NeverFall}
 use Rattle.round_engine.specs.Saves.{IsSavedBy, beside_at_end, newest_after, saves_told}
@@ -386,7 +386,7 @@ module _ {D : Type 0} {tells : D → Option (List ℕ)} {clock : D → ℕ} {ima
     {logged : ℕ → List Commit} (kept : KeptSoFar tells clock image_at found decls s saved rans ordered old before)
     (stands : StandsOn tells clock image_at old before) (decls_are : old.stands.decls ≡ decls)
     (state_is : old.stands.state ≡ state_after_all decls s ordered) (going : old.stands.ended ≡ false)
-    (begins : Begins tries round old ran) (lines : RunsLines part old new ran logged)
+    (begins : Begins tries round old ran) (lines : RunsRoundLines part old new ran logged)
     (leaves : LeavesVault tells clock image_at faults ran logged old new before now)
     (sound : new.store.sound ≡ true) (index : ℕ)
     (rises : Rises (ordered ++ (lines.run index).ordered))

@@ -15,7 +15,7 @@ use Rattle.wire_form.specs.Pages.{Contents, decls_of}
 use Rattle.wire_form.specs.declared.bucket.Entry.{Entry as LogEntry}
 use Rattle.wire_form.specs.declared.records.Stored.{Stored}
 use Rattle.wire_form.specs.declared.savepoint.Savepoint.{Savepoint}
-use Rattle.snapshot_store.specs.declared.place.Place.{Place}
+use Rattle.snapshot_store.specs.declared.place.PagePlace.{PagePlace}
 use Rattle.snapshot_store.specs.Places.{StandsTo, places_below}
 use Rattle.snapshot_store.specs.Content.{IsContent, IsPageOf, RootStands, deepest, format_of, record_in, root_place}
 use Rattle.snapshot_store.specs.Content.{value_at}
@@ -82,7 +82,7 @@ newest_by pages limit declared number (d ∷ ds) c chain has last = elim (in_cas
 
 -- ---- what it has
 
-stands_plain : (epoch : ℕ) (decl : Decl) (pages : List (List ℕ)) (d : ℕ) (p : Place)
+stands_plain : (epoch : ℕ) (decl : Decl) (pages : List (List ℕ)) (d : ℕ) (p : PagePlace)
     → StandsTo (format_of decl) (IsPageUpTo epoch decl) pages d p → StandsTo (format_of decl) (IsPageOf decl) pages d p
 stands_plain epoch decl pages zero p stands = absurd stands
 stands_plain epoch decl pages (suc d) p stands = record {

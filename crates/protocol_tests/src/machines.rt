@@ -4,7 +4,7 @@ ghost use Rattle.std.specs.Prelude.{◌≤◌, length};
 
 use commit_core::{Act as CommitAct, Attempt, Core, Event as CommitEvent, Place, Story};
 use drop_core::{Act as PageAct, DropCore, Event as PageEvent, Pointer, SnapPage};
-use engine_rule::{Joint, JointAct, JointEvent, Refused};
+use engine_rule::{Joint, JointAct, JointEvent, NotAllowed};
 use homes::{At, Content, Home, Move, Span, Spot};
 use lists::Sequence;
 use serial_model::{Decl, Key, Memory, Number, OrMemory};
@@ -16,7 +16,7 @@ pub fn open_commits(alloc: Global, pairs: &[(Key, u64)], seats: u32) -> Result<C
     Core::new(alloc, pairs, seats)
 }
 
-fn commit_answer(core: &mut Core, seat: u32, act: CommitAct) -> Result<(), OrMemory<Refused>> {
+fn commit_answer(core: &mut Core, seat: u32, act: CommitAct) -> Result<(), OrMemory<NotAllowed>> {
     core.step(&CommitEvent { seat, act })
 }
 
@@ -29,7 +29,7 @@ pub fn commit_happens(core: &mut Core, seat: u32, act: CommitAct) -> Result<bool
     }
 }
 
-fn fill_answer(core: &mut Core, spot: Spot, content: Content) -> Result<(), OrMemory<Refused>> {
+fn fill_answer(core: &mut Core, spot: Spot, content: Content) -> Result<(), OrMemory<NotAllowed>> {
     core.fill(spot, content)
 }
 
@@ -81,7 +81,7 @@ fn page_answer(
     core: &mut DropCore,
     seat: u32,
     act: PageAct,
-) -> Result<Sequence<Move>, OrMemory<drop_core::Refused>> {
+) -> Result<Sequence<Move>, OrMemory<drop_core::NotAllowed>> {
     core.step(PageEvent { seat, act })
 }
 
@@ -128,7 +128,7 @@ pub fn open_over(
     Joint::new(alloc, pages, &[decl], &[root], FIRST, slots, seats)
 }
 
-fn answer(joint: &mut Joint, seat: u32, act: JointAct) -> Result<(), OrMemory<Refused>> {
+fn answer(joint: &mut Joint, seat: u32, act: JointAct) -> Result<(), OrMemory<NotAllowed>> {
     joint.step(JointEvent { seat, act })
 }
 

@@ -11,7 +11,7 @@ use Rattle.serial_model.specs.declared.decl.Decl.TheVariants.{Array}
 use Rattle.serial_model.specs.State.{State}
 use Rattle.wire_form.specs.declared.page.PageKind.TheVariants.{ArrayLeaf, ArrayInner}
 use Rattle.wire_form.specs.Pages.{IsChild, HasKind}
-use Rattle.snapshot_store.specs.declared.place.Place.{Place}
+use Rattle.snapshot_store.specs.declared.place.PagePlace.{PagePlace}
 use Rattle.snapshot_store.specs.Places.{Found, find, Cover, words_at, places_below, StandsTo}
 use Rattle.snapshot_store.specs.ArrayPages.{fan, leaf_room, row, array_below, array_found, array_look}
 use Rattle.snapshot_store.specs.ArrayPages.{IsLevel, array_format, array_kind}
@@ -128,12 +128,12 @@ row_more words part at i short more =
 
 -- ---- what is right
 
-pub is_up_to_kind : (epoch id size : ℕ) (p : Place) (words : List ℕ) → 0 < p.number
+pub is_up_to_kind : (epoch id size : ℕ) (p : PagePlace) (words : List ℕ) → 0 < p.number
     → IsPageUpTo epoch (Array id size) p words → HasKind (array_kind size p.low p.high) p.number words
 is_up_to_kind epoch id size p words some right = right.page.page some
 
 -- an interior page has no records
-pub inner_right : (epoch id size : ℕ) (p : Place) (words : List ℕ) → 0 < p.number
+pub inner_right : (epoch id size : ℕ) (p : PagePlace) (words : List ℕ) → 0 < p.number
     → HasKind (array_kind size p.low p.high) p.number words → 32 ≤ p.high - p.low
     → IsPageUpTo epoch (Array id size) p words
 inner_right epoch id size p words some kind wide = record {
@@ -162,7 +162,7 @@ epoch_found number value epoch h = elim (cases_eq number 0) [
   | inr some ↦ rw (eq_no number 0 some) at h
 ]
 
-pub leaf_right : (epoch id size : ℕ) (p : Place) (words : List ℕ) → 0 < p.number
+pub leaf_right : (epoch id size : ℕ) (p : PagePlace) (words : List ℕ) → 0 < p.number
     → HasKind (array_kind size p.low p.high) p.number words → p.high ≡ p.low + 31
     → ((i : ℕ) → i < 32 → get_or words (2 * i) 0 / 2 ^ 40 ≤ epoch) → IsPageUpTo epoch (Array id size) p words
 leaf_right epoch id size p words some kind leaf numbers = record {
@@ -171,7 +171,7 @@ leaf_right epoch id size p words some kind leaf numbers = record {
       (get_or words (2 * (key - p.low) + 1) 0) epoch (numbers (key - p.low) (omega (arith, leaf)));
 }
 
-pub leaf_numbers : (epoch id size : ℕ) (p : Place) (words : List ℕ) → p.high ≡ p.low + 31
+pub leaf_numbers : (epoch id size : ℕ) (p : PagePlace) (words : List ℕ) → p.high ≡ p.low + 31
     → IsPageUpTo epoch (Array id size) p words → (i : ℕ) → i < 32 → get_or words (2 * i) 0 / 2 ^ 40 ≤ epoch
 leaf_numbers epoch id size p words leaf right i below =
     let found = right.numbers (below_leaf words p.low p.high leaf) (p.low + i) (omega arith) (omega (arith, leaf)) in
@@ -194,7 +194,7 @@ pointer_at number (p ∷ ps) n zero all some = all.0.1
 pointer_at number (p ∷ ps) n (suc i) all some = pointer_at number ps n i all.1 some
 
 -- pointers go down
-pub child_below : (epoch id size : ℕ) (p : Place) (words : List ℕ) (i : ℕ) → 0 < p.number → 32 ≤ p.high - p.low
+pub child_below : (epoch id size : ℕ) (p : PagePlace) (words : List ℕ) (i : ℕ) → 0 < p.number → 32 ≤ p.high - p.low
     → IsPageUpTo epoch (Array id size) p words → get_or words i 0 < p.number
 unfolding leaf_room
 child_below epoch id size p words i some wide right =
@@ -205,16 +205,16 @@ child_below epoch id size p words i some wide right =
 -- ---- a place without a page
 
 module _ (pages : List (List ℕ)) (epoch id size : ℕ) where
-  abbrev Right : Place → List ℕ → Type 0
+  abbrev Right : PagePlace → List ℕ → Type 0
   Right = IsPageUpTo epoch (Array id size)
 
-  abbrev Stand : ℕ → Place → Type 0
+  abbrev Stand : ℕ → PagePlace → Type 0
   Stand d p = StandsTo array_format Right pages d p
 
-  abbrev Whole : ℕ → Place → State → State → Type 0
+  abbrev Whole : ℕ → PagePlace → State → State → Type 0
   Whole d p old now = Gathered array_format Right pages d id p old now
 
-  abbrev Broken : ℕ → ℕ → Place → Type 0
+  abbrev Broken : ℕ → ℕ → PagePlace → Type 0
   Broken n d p = BreaksTo array_format Right pages n d p
 
   empty_stands_at : (d low high : ℕ) → IsLevel d low high → Stand d (no_page low high)
@@ -251,7 +251,7 @@ module _ (pages : List (List ℕ)) (epoch id size : ℕ) where
       (top_finds pages key (d - 3) low))
 
   -- nothing is put
-  pub empty_gathered : (d : ℕ) (p : Place) (s : State) → p.number ≡ 0 → IsLevel d p.low p.high → Whole d p s s
+  pub empty_gathered : (d : ℕ) (p : PagePlace) (s : State) → p.number ≡ 0 → IsLevel d p.low p.high → Whole d p s s
   empty_gathered d p s none level =
       let same : no_page p.low p.high ≡ p = ap (λ n. record { number = n; low = p.low; high = p.high }) (sym none) in
       subst (λ q. Whole d q s s) same
@@ -265,7 +265,7 @@ module _ (pages : List (List ℕ)) (epoch id size : ℕ) where
   -- ---- as the code has it
 
   -- a leaf whose records were put
-  pub leaf_put : (d : ℕ) (p : Place) (words : List ℕ) (old now : State) → IsLevel d p.low p.high
+  pub leaf_put : (d : ℕ) (p : PagePlace) (words : List ℕ) (old now : State) → IsLevel d p.low p.high
       → p.number ≤ length pages → p.high - p.low < 32 → words ≡ words_at pages p
       → Right p words → Puts (array_records words id p.low (p.low + 32)) old now → Whole d p old now
   leaf_put d p words old now level there narrow is right puts =
@@ -281,12 +281,12 @@ module _ (pages : List (List ℕ)) (epoch id size : ℕ) where
       ∙ ap (λ ws. array_records ws id p.low (p.high + 1) key) is) puts))
 
   -- what the loop over the children keeps
-  abbrev pub ArrayGathers : ℕ → Place → ℕ → List ℕ → State → ℕ → ℕ → State → Type 0
+  abbrev pub ArrayGathers : ℕ → PagePlace → ℕ → List ℕ → State → ℕ → ℕ → State → Type 0
   ArrayGathers d p part words old at i now =
       Gathers array_format Right pages d id p.low p.high (row words part p.low fan) old at
       (row (drop i words) part at (fan - i)) now
 
-  pub array_begins : (d : ℕ) (p : Place) (part : ℕ) (words : List ℕ) (s : State) → 1 ≤ part
+  pub array_begins : (d : ℕ) (p : PagePlace) (part : ℕ) (words : List ℕ) (s : State) → 1 ≤ part
       → p.low + 64 * part ≡ p.high + 1 → ArrayGathers d p part words s p.low 0 s
   array_begins d p part words s some ends =
       let all : fan ≡ fan - 0 = omega arith in
@@ -295,7 +295,7 @@ module _ (pages : List (List ℕ)) (epoch id size : ℕ) where
       (gathers_begin array_format Right pages d id p.low p.high (row words part p.low fan) s
       (cover_places words part p.low p.high some ends))
 
-  array_next : (d : ℕ) (p : Place) (part : ℕ) (words : List ℕ) (old : State) (at i : ℕ) (now : State)
+  array_next : (d : ℕ) (p : PagePlace) (part : ℕ) (words : List ℕ) (old : State) (at i : ℕ) (now : State)
       → i < length words → i < 64 → ArrayGathers d p part words old at i now
       → Gathers array_format Right pages d id p.low p.high (row words part p.low fan) old at
       ((record { number = get_or words i 0; low = at; high = at + (part - 1) }) ∷ row (drop (i + 1) words) part
@@ -305,12 +305,12 @@ module _ (pages : List (List ℕ)) (epoch id size : ℕ) where
       (row_more words part at i short (omega (arith, fan_is))) g
 
   -- the next child is within the range
-  pub array_within : (d : ℕ) (p : Place) (part : ℕ) (words : List ℕ) (old : State) (at i : ℕ) (now : State)
+  pub array_within : (d : ℕ) (p : PagePlace) (part : ℕ) (words : List ℕ) (old : State) (at i : ℕ) (now : State)
       → i < length words → i < 64 → ArrayGathers d p part words old at i now → at + (part - 1) ≤ p.high
   array_within d p part words old at i now short more g =
       (array_next d p part words old at i now short more g).tiles.2
 
-  pub array_more : (d : ℕ) (p : Place) (part : ℕ) (words : List ℕ) (old : State) (at i : ℕ) (now new : State)
+  pub array_more : (d : ℕ) (p : PagePlace) (part : ℕ) (words : List ℕ) (old : State) (at i : ℕ) (now new : State)
       → 1 ≤ part → i < length words → i < 64 → ArrayGathers d p part words old at i now
       → Whole d (record { number = get_or words i 0; low = at; high = at + (part - 1) }) now new
       → ArrayGathers d p part words old (at + part) (i + 1) new
@@ -324,7 +324,7 @@ module _ (pages : List (List ℕ)) (epoch id size : ℕ) where
       (array_next d p part words old at i now short more g) one)
 
   -- a child that breaks
-  pub array_break : (d : ℕ) (p : Place) (part : ℕ) (words : List ℕ) (old : State) (at i : ℕ) (now : State) (n : ℕ)
+  pub array_break : (d : ℕ) (p : PagePlace) (part : ℕ) (words : List ℕ) (old : State) (at i : ℕ) (now : State) (n : ℕ)
       → 1 ≤ d → part ≡ (p.high - p.low + 1) / 64 → 32 ≤ p.high - p.low → i < length words → i < 64
       → words ≡ words_at pages p
       → Right p words → ArrayGathers (d - 1) p part words old at i now
@@ -343,7 +343,7 @@ module _ (pages : List (List ℕ)) (epoch id size : ℕ) where
       (array_next (d - 1) p part words old at i now short more g) breaks))
 
   -- a page that isn't right
-  pub array_wrong : (d : ℕ) (p : Place) (words : List ℕ) (n : ℕ) → 1 ≤ d → words ≡ words_at pages p
+  pub array_wrong : (d : ℕ) (p : PagePlace) (words : List ℕ) (n : ℕ) → 1 ≤ d → words ≡ words_at pages p
       → (Right p words → ⊥) → n ≡ first_byte p.number
       → Broken n d p
   array_wrong d p words n deep is wrong at =
@@ -352,7 +352,7 @@ module _ (pages : List (List ℕ)) (epoch id size : ℕ) where
       (breaks_here array_format Right pages (d - 1) id p n (λ right. wrong (subst (Right p) (sym is) right)) at)
 
   -- all children
-  pub array_end : (d : ℕ) (p : Place) (part : ℕ) (words : List ℕ) (old : State) (at i : ℕ) (now : State) → 1 ≤ d
+  pub array_end : (d : ℕ) (p : PagePlace) (part : ℕ) (words : List ℕ) (old : State) (at i : ℕ) (now : State) → 1 ≤ d
       → part ≡ (p.high - p.low + 1) / 64 → 32 ≤ p.high - p.low → 1 ≤ part → p.low + 64 * part ≡ p.high + 1 → i ≡ 64
       → p.number ≤ length pages → words ≡ words_at pages p → Right p words
       → ArrayGathers (d - 1) p part words old at i now → Whole d p old now

@@ -12,7 +12,7 @@ use Rattle.serial_model.specs.Keys.{key_cmp}
 use Rattle.serial_model.specs.State.{State}
 use Rattle.serial_model.specs.declared.key.Key.{Key}
 use Rattle.serial_model.specs.KeyOrder.{keys_total}
-use Rattle.snapshot_store.specs.declared.place.Place.{Place}
+use Rattle.snapshot_store.specs.declared.place.PagePlace.{PagePlace}
 use Rattle.snapshot_store.specs.Places.{Found, Format, at_key, find, here_or_below, words_at, places_below}
 use Rattle.snapshot_store.specs.Places.{Cover, Tiles, StandsTo}
 use Rattle.snapshot_store.specs.ArrayPages.{array_found, array_look}
@@ -160,7 +160,7 @@ leaf_begins words id low s = puts_none (array_records words id low (low + 0)) s 
 -- ---- places in a row
 
 -- the first of some places and then the others
-among_step : (F : Format) (pages : List (List ℕ)) (d id high : ℕ) (q : Place) (qs : List Place) (key : Key)
+among_step : (F : Format) (pages : List (List ℕ)) (d id high : ℕ) (q : PagePlace) (qs : List PagePlace) (key : Key)
     (o : Option ℕ) → q.low ≤ q.high → q.high ≤ high
     → put_over (found_among F pages d id (q.high + 1) high qs key) (put_over (found_at F pages d id q key) o)
     ≡ put_over (found_among F pages d id q.low high (q ∷ qs) key) o
@@ -187,15 +187,15 @@ among_step F pages d id high q qs key o some within =
       | inr other ↦ rw (eq_no key.storage id other) refl
     ]
 
-module _ (F : Format) (Is : Place → List ℕ → Type 0) (pages : List (List ℕ)) (d id : ℕ) where
+module _ (F : Format) (Is : PagePlace → List ℕ → Type 0) (pages : List (List ℕ)) (d id : ℕ) where
   -- none was gathered yet
-  pub gathers_begin : (low high : ℕ) (all : List Place) (s : State) → Cover low high all
+  pub gathers_begin : (low high : ℕ) (all : List PagePlace) (s : State) → Cover low high all
       → Gathers F Is pages d id low high all s low all s
   gathers_begin low high all s cover = record
       { tiles = cover; stands = λ x. x; breaks = λ n x. x; values = λ key. refl }
 
   -- one more
-  pub gathers_more : (low high : ℕ) (all : List Place) (old : State) (at : ℕ) (q : Place) (rest : List Place)
+  pub gathers_more : (low high : ℕ) (all : List PagePlace) (old : State) (at : ℕ) (q : PagePlace) (rest : List PagePlace)
       (now new : State)
       → Gathers F Is pages d id low high all old at (q ∷ rest) now → Gathered F Is pages d id q now new
       → Gathers F Is pages d id low high all old (q.high + 1) rest new
@@ -211,14 +211,14 @@ module _ (F : Format) (Is : Place → List ℕ → Type 0) (pages : List (List �
   }
 
   -- the next one breaks
-  pub gathers_break : (low high : ℕ) (all : List Place) (old : State) (at : ℕ) (q : Place) (rest : List Place)
+  pub gathers_break : (low high : ℕ) (all : List PagePlace) (old : State) (at : ℕ) (q : PagePlace) (rest : List PagePlace)
       (now : State) (n : ℕ)
       → Gathers F Is pages d id low high all old at (q ∷ rest) now → BreaksTo F Is pages n d q
       → FirstBad (StandsTo F Is pages d) (BreaksTo F Is pages n d) all
   gathers_break low high all old at q rest now n g breaks = g.breaks n (inl breaks)
 
   -- what all pages have, once none is left
-  all_put : (low high : ℕ) (all : List Place) (old : State) (at : ℕ) (now : State)
+  all_put : (low high : ℕ) (all : List PagePlace) (old : State) (at : ℕ) (now : State)
       → Gathers F Is pages d id low high all old at [] now → Puts (found_among F pages d id low high all) old now
   all_put low high all old at now g = record {
     values = λ key. sym (ap (λ o. put_over o (get now key)) (no_found (is_from id at (high + 1) key))) ∙ g.values key;
@@ -227,16 +227,16 @@ module _ (F : Format) (Is : Place → List ℕ → Type 0) (pages : List (List �
   -- ---- a page
 
   -- a row of places has no gap
-  tiles_of : (low high : ℕ) (qs : List Place) → Cover low high qs → Tiles low high qs
+  tiles_of : (low high : ℕ) (qs : List PagePlace) → Cover low high qs → Tiles low high qs
   tiles_of low high [] cover = tt
   tiles_of low high (q ∷ qs) cover = cover
 
-  below_of : (here there : Option Found) (qs : List Place) → 0 < length qs → here_or_below here there qs ≡ there
+  below_of : (here there : Option Found) (qs : List PagePlace) → 0 < length qs → here_or_below here there qs ≡ there
   below_of here there [] some = absurd (omega (arith, some))
   below_of here there (q ∷ qs) some = refl
 
   -- an interior page, all of whose children were gathered
-  pub inner_gathered : (p : Place) (all : List Place) (old : State) (at : ℕ) (now : State) → p.number ≤ length pages
+  pub inner_gathered : (p : PagePlace) (all : List PagePlace) (old : State) (at : ℕ) (now : State) → p.number ≤ length pages
       → Is p (words_at pages p) → places_below F pages p ≡ all → 0 < length all → Cover p.low p.high all
       → Gathers F Is pages d id p.low p.high all old at [] now → Gathered F Is pages (suc d) id p old now
   inner_gathered p all old at now there right below some cover g = record {
@@ -257,7 +257,7 @@ module _ (F : Format) (Is : Place → List ℕ → Type 0) (pages : List (List �
   }
 
   -- a leaf
-  pub leaf_gathered : (p : Place) (old now : State) → p.number ≤ length pages → Is p (words_at pages p)
+  pub leaf_gathered : (p : PagePlace) (old now : State) → p.number ≤ length pages → Is p (words_at pages p)
       → places_below F pages p ≡ []
       → Puts (λ key. cond (is_from id p.low (p.high + 1) key) (F.look (words_at pages p) p.low key.key) None) old now
       → Gathered F Is pages (suc d) id p old now
@@ -276,12 +276,12 @@ module _ (F : Format) (Is : Place → List ℕ → Type 0) (pages : List (List �
   }
 
   -- a page that isn't right
-  pub breaks_here : (p : Place) (n : ℕ) → (Is p (words_at pages p) → ⊥) → n ≡ first_byte p.number
+  pub breaks_here : (p : PagePlace) (n : ℕ) → (Is p (words_at pages p) → ⊥) → n ≡ first_byte p.number
       → BreaksTo F Is pages n (suc d) p
   breaks_here p n wrong at = inl (wrong, at)
 
   -- one below it
-  pub breaks_below : (p : Place) (all : List Place) (n : ℕ) → Is p (words_at pages p) → places_below F pages p ≡ all
+  pub breaks_below : (p : PagePlace) (all : List PagePlace) (n : ℕ) → Is p (words_at pages p) → places_below F pages p ≡ all
       → FirstBad (StandsTo F Is pages d) (BreaksTo F Is pages n d) all → BreaksTo F Is pages n (suc d) p
   breaks_below p all n right below bad = inr
       (right, subst (FirstBad (StandsTo F Is pages d) (BreaksTo F Is pages n d)) (sym below) bad)

@@ -15,7 +15,7 @@ use Rattle.serial_model.specs.declared.decl.Decl.TheVariants.{Array, Tree}
 use Rattle.wire_form.specs.Items.{RisesAfter, Rises}
 use Rattle.wire_form.specs.Pages.{stored_id}
 use Rattle.wire_form.specs.declared.records.Stored.{Stored}
-use Rattle.snapshot_store.specs.declared.place.Place.{Place}
+use Rattle.snapshot_store.specs.declared.place.PagePlace.{PagePlace}
 use Rattle.snapshot_store.specs.Places.{Found}
 use Rattle.snapshot_store.specs.ArrayPages.{IsLevel, array_format}
 use Rattle.snapshot_store.specs.TreePages.{tree_format}
@@ -29,11 +29,11 @@ use Rattle.recovery_core.proofs.GatherLaws.{le_yes, le_no, lt_yes, lt_no, eq_yes
 -- ---- a storage
 
 -- an array's root stands for the range of a page, and its indexes are small
-pub array_level : (s : Stored) (id size : ℕ) (p : Place) → s.decl ≡ Array id size → p ≡ root_place s.decl s.root
+pub array_level : (s : Stored) (id size : ℕ) (p : PagePlace) → s.decl ≡ Array id size → p ≡ root_place s.decl s.root
     → IsLevel 32 p.low p.high × (p.high < 4294967296)
 array_level s id size p is place =
     let same : p ≡ root_place (Array id size) s.root = place ∙ ap (λ d. root_place d s.root) is in
-    subst (λ (q : Place). IsLevel 32 q.low q.high × (q.high < 4294967296)) (sym same)
+    subst (λ (q : PagePlace). IsLevel 32 q.low q.high × (q.high < 4294967296)) (sym same)
     (root_level 32 size (omega arith), last_small size)
 
 root_low : (d : Decl) (n : ℕ) → (root_place d n).low ≡ 0
@@ -45,7 +45,7 @@ found_root : (pages : List (List ℕ)) (s : Stored) (key : Key)
     → found_at (format_of s.decl) pages deepest (id_of s.decl) (root_place s.decl s.root) key
     ≡ root_records pages s key
 found_root pages s key =
-    let p : Place = root_place s.decl s.root in
+    let p : PagePlace = root_place s.decl s.root in
     let low = root_low s.decl s.root in
     elim (cases_eq key.storage (id_of s.decl)) [
       | inl here ↦ elim (cases_lt p.high key.key) [
@@ -69,7 +69,7 @@ found_root pages s key =
       | inr other ↦ rw (eq_no key.storage (id_of s.decl) other) refl
     ]
 
-root_gathered : (pages : List (List ℕ)) (epoch : ℕ) (s : Stored) (d : ℕ) (p : Place) (old new : State) → d ≡ deepest
+root_gathered : (pages : List (List ℕ)) (epoch : ℕ) (s : Stored) (d : ℕ) (p : PagePlace) (old new : State) → d ≡ deepest
     → p ≡ root_place s.decl s.root
     → Gathered (format_of s.decl) (IsPageUpTo epoch s.decl) pages d (id_of s.decl) p old new
     → RootGathered pages epoch s old new
@@ -86,14 +86,14 @@ root_gathered pages epoch s d p old new deep place g =
           (root_records pages s) old new (found_root pages s) here.puts;
     }
 
-root_breaks : (pages : List (List ℕ)) (epoch : ℕ) (s : Stored) (d : ℕ) (p : Place) (n : ℕ) → d ≡ deepest
+root_breaks : (pages : List (List ℕ)) (epoch : ℕ) (s : Stored) (d : ℕ) (p : PagePlace) (n : ℕ) → d ≡ deepest
     → p ≡ root_place s.decl s.root
     → BreaksTo (format_of s.decl) (IsPageUpTo epoch s.decl) pages n d p → RootBreaks epoch pages n s
 root_breaks pages epoch s d p n deep place b =
     subst (λ k. BreaksTo (format_of s.decl) (IsPageUpTo epoch s.decl) pages n k (root_place s.decl s.root)) deep
     (subst (λ q. BreaksTo (format_of s.decl) (IsPageUpTo epoch s.decl) pages n d q) place b)
 
-pub array_root : (pages : List (List ℕ)) (epoch : ℕ) (s : Stored) (d id size : ℕ) (p : Place) (old new : State)
+pub array_root : (pages : List (List ℕ)) (epoch : ℕ) (s : Stored) (d id size : ℕ) (p : PagePlace) (old new : State)
     → d ≡ deepest → s.decl ≡ Array id size → p ≡ root_place s.decl s.root
     → Gathered array_format (IsPageUpTo epoch (Array id size)) pages d id p old new
     → RootGathered pages epoch s old new
@@ -101,7 +101,7 @@ array_root pages epoch s d id size p old new deep is place g =
     root_gathered pages epoch s d p old new deep place
     (subst (λ x. Gathered (format_of x) (IsPageUpTo epoch x) pages d (id_of x) p old new) (sym is) g)
 
-pub array_root_breaks : (pages : List (List ℕ)) (epoch : ℕ) (s : Stored) (d id size : ℕ) (p : Place) (n : ℕ)
+pub array_root_breaks : (pages : List (List ℕ)) (epoch : ℕ) (s : Stored) (d id size : ℕ) (p : PagePlace) (n : ℕ)
     → d ≡ deepest → s.decl ≡ Array id size → p ≡ root_place s.decl s.root
     → BreaksTo array_format (IsPageUpTo epoch (Array id size)) pages n d p
     → RootBreaks epoch pages n s
@@ -109,7 +109,7 @@ array_root_breaks pages epoch s d id size p n deep is place b =
     root_breaks pages epoch s d p n deep place
     (subst (λ x. BreaksTo (format_of x) (IsPageUpTo epoch x) pages n d p) (sym is) b)
 
-pub tree_root : (pages : List (List ℕ)) (epoch : ℕ) (s : Stored) (d id : ℕ) (p : Place) (old new : State)
+pub tree_root : (pages : List (List ℕ)) (epoch : ℕ) (s : Stored) (d id : ℕ) (p : PagePlace) (old new : State)
     → d ≡ deepest → s.decl ≡ Tree id → p ≡ root_place s.decl s.root
     → Gathered tree_format (IsPageUpTo epoch (Tree id)) pages d id p old new
     → RootGathered pages epoch s old new
@@ -117,7 +117,7 @@ tree_root pages epoch s d id p old new deep is place g =
     root_gathered pages epoch s d p old new deep place
     (subst (λ x. Gathered (format_of x) (IsPageUpTo epoch x) pages d (id_of x) p old new) (sym is) g)
 
-pub tree_root_breaks : (pages : List (List ℕ)) (epoch : ℕ) (s : Stored) (d id : ℕ) (p : Place) (n : ℕ)
+pub tree_root_breaks : (pages : List (List ℕ)) (epoch : ℕ) (s : Stored) (d id : ℕ) (p : PagePlace) (n : ℕ)
     → d ≡ deepest → s.decl ≡ Tree id → p ≡ root_place s.decl s.root
     → BreaksTo tree_format (IsPageUpTo epoch (Tree id)) pages n d p
     → RootBreaks epoch pages n s

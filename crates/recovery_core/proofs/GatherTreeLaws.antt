@@ -18,7 +18,7 @@ use Rattle.wire_form.specs.Items.{RisesAfter, Rises}
 use Rattle.wire_form.specs.Words.{number_word}
 use Rattle.wire_form.specs.Pages.{IsChild, IsSeparator, IsTreeRecord, Children, HasKind, device_header}
 use Rattle.wire_form.specs.Pages.{record_key, tree_record_words, tree_leaf_words, tree_inner_words}
-use Rattle.snapshot_store.specs.declared.place.Place.{Place}
+use Rattle.snapshot_store.specs.declared.place.PagePlace.{PagePlace}
 use Rattle.snapshot_store.specs.Places.{Found, Cover}
 use Rattle.snapshot_store.specs.TreePages.{Record, records_at, count_of, node_of, children, node_below}
 use Rattle.snapshot_store.specs.TreePages.{record_for, records_of}
@@ -157,7 +157,7 @@ child_at number (n ∷ ns) zero h all = all.0.1
 child_at number (n ∷ ns) (suc i) h all = child_at number ns i (omega (arith, h)) all.1
 
 -- An interior page, as its words are read.
-pub record IsInner (p : Place) (words : List ℕ) : Type 0 where
+pub record IsInner (p : PagePlace) (words : List ℕ) : Type 0 where
   pub some : 2 ≤ count_of words
   pub most : count_of words ≤ 30
   pub between : length (separators_in words) + 1 ≡ count_of words
@@ -166,7 +166,7 @@ pub record IsInner (p : Place) (words : List ℕ) : Type 0 where
   pub each : AllByRecursion (IsChild 1 p.number) (numbers_in words)
   pub rising : Rises ◌<◌ (separators_in words)
 
-pub inner_of : (p : Place) (words : List ℕ) → HasKind (TreeInner p.low p.high) p.number words → IsInner p words
+pub inner_of : (p : PagePlace) (words : List ℕ) → HasKind (TreeInner p.low p.high) p.number words → IsInner p words
 inner_of p words kind =
     let c : Children = kind.0 in
     let is = kind.1 in
@@ -183,7 +183,7 @@ inner_of p words kind =
       rising = subst (λ ss. Rises ◌<◌ ss) (sym separators) is.rising;
     }
 
-pub cover_inner : (p : Place) (words : List ℕ) → IsInner p words
+pub cover_inner : (p : PagePlace) (words : List ℕ) → IsInner p words
     → Cover p.low p.high (children p.low p.high (separators_in words) (numbers_in words))
 cover_inner p words is =
     cover_children p.low p.high (separators_in words) (numbers_in words)
@@ -193,7 +193,7 @@ cover_inner p words is =
     (omega (arith, is.between, is.children))
 
 -- where it is one, by its header
-pub inner_is : (epoch id : ℕ) (p : Place) (words : List ℕ) → 0 < p.number → get_or words 0 0 / 256 ≡ 2
+pub inner_is : (epoch id : ℕ) (p : PagePlace) (words : List ℕ) → 0 < p.number → get_or words 0 0 / 256 ≡ 2
     → IsPageUpTo epoch (Tree id) p words → IsInner p words
 inner_is epoch id p words some kind right = elim (right.page.page some) [
   | inl leaf ↦ absurd (omega (arith, kind, leaf_head p.low p.high leaf.0 words leaf.2, leaf.1.most))
@@ -201,17 +201,17 @@ inner_is epoch id p words some kind right = elim (right.page.page some) [
 ]
 
 -- and where it is a leaf
-pub leaf_is : (epoch id : ℕ) (p : Place) (words : List ℕ) → 0 < p.number → get_or words 0 0 / 256 ≢ 2
+pub leaf_is : (epoch id : ℕ) (p : PagePlace) (words : List ℕ) → 0 < p.number → get_or words 0 0 / 256 ≢ 2
     → IsPageUpTo epoch (Tree id) p words → HasKind (TreeLeaf p.low p.high) p.number words
 leaf_is epoch id p words some kind right = elim (right.page.page some) [
   | inl leaf ↦ leaf
   | inr inner ↦ absurd (kind (omega (arith, inner_head p.low p.high inner.0 words inner.2, inner.1.most)))
 ]
 
-pub leaf_few : (p : Place) (words : List ℕ) → HasKind (TreeLeaf p.low p.high) p.number words → count_of words ≤ 16
+pub leaf_few : (p : PagePlace) (words : List ℕ) → HasKind (TreeLeaf p.low p.high) p.number words → count_of words ≤ 16
 leaf_few p words leaf = omega (arith, leaf_count p.low p.high leaf.0 words leaf.1.most leaf.2, leaf.1.most)
 
-pub leaf_kind : (p : Place) (words : List ℕ) → HasKind (TreeLeaf p.low p.high) p.number words
+pub leaf_kind : (p : PagePlace) (words : List ℕ) → HasKind (TreeLeaf p.low p.high) p.number words
     → get_or words 0 0 / 256 ≢ 2
 leaf_kind p words leaf = λ kind. omega (arith, kind, leaf_head p.low p.high leaf.0 words leaf.2, leaf.1.most)
 
@@ -313,7 +313,7 @@ number_index words i =
 
 -- ---- what is right
 
-pub inner_right : (epoch id : ℕ) (p : Place) (words : List ℕ) → 0 < p.number
+pub inner_right : (epoch id : ℕ) (p : PagePlace) (words : List ℕ) → 0 < p.number
     → HasKind (TreeInner p.low p.high) p.number words → IsPageUpTo epoch (Tree id) p words
 inner_right epoch id p words some kind =
     let is = inner_of p words kind in
@@ -333,15 +333,15 @@ inner_right epoch id p words some kind =
           ));
     }
 
-pub look_leaf : (p : Place) (words : List ℕ) (key : ℕ) → HasKind (TreeLeaf p.low p.high) p.number words
+pub look_leaf : (p : PagePlace) (words : List ℕ) (key : ℕ) → HasKind (TreeLeaf p.low p.high) p.number words
     → record_for (records_of (node_of words)) key ≡ record_for (records_in words) key
 look_leaf p words key leaf = ap (λ n. record_for (records_of n) key) (node_leaf words (leaf_kind p words leaf))
 
-pub below_leaf : (p : Place) (words : List ℕ) → HasKind (TreeLeaf p.low p.high) p.number words
+pub below_leaf : (p : PagePlace) (words : List ℕ) → HasKind (TreeLeaf p.low p.high) p.number words
     → node_below p.low p.high (node_of words) ≡ []
 below_leaf p words leaf = ap (node_below p.low p.high) (node_leaf words (leaf_kind p words leaf))
 
-pub leaf_right : (epoch id : ℕ) (p : Place) (words : List ℕ) → 0 < p.number
+pub leaf_right : (epoch id : ℕ) (p : PagePlace) (words : List ℕ) → 0 < p.number
     → HasKind (TreeLeaf p.low p.high) p.number words
     → ((i : ℕ) → i < count_of words → get_or words (17 + 3 * i) 0 / 2 ^ 40 ≤ epoch)
     → IsPageUpTo epoch (Tree id) p words
@@ -353,7 +353,7 @@ leaf_right epoch id p words some leaf numbers = record {
       (λ i below. subst (λ w. w / 2 ^ 40 ≤ epoch) (sym (number_index words i)) (numbers i below))));
 }
 
-pub leaf_numbers : (epoch id : ℕ) (p : Place) (words : List ℕ) → 0 < p.number
+pub leaf_numbers : (epoch id : ℕ) (p : PagePlace) (words : List ℕ) → 0 < p.number
     → HasKind (TreeLeaf p.low p.high) p.number words → IsPageUpTo epoch (Tree id) p words
     → (i : ℕ) → i < count_of words → get_or words (17 + 3 * i) 0 / 2 ^ 40 ≤ epoch
 leaf_numbers epoch id p words some leaf right i below =

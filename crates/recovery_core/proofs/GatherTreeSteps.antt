@@ -9,7 +9,7 @@ use Rattle.serial_model.specs.State.{State}
 use Rattle.serial_model.specs.declared.key.Key.{Key}
 use Rattle.wire_form.specs.declared.page.PageKind.TheVariants.{TreeLeaf}
 use Rattle.wire_form.specs.Pages.{HasKind}
-use Rattle.snapshot_store.specs.declared.place.Place.{Place}
+use Rattle.snapshot_store.specs.declared.place.PagePlace.{PagePlace}
 use Rattle.snapshot_store.specs.Places.{words_at, places_below}
 use Rattle.snapshot_store.specs.TreePages.{count_of, node_of, children, node_below, record_for, records_of, tree_format}
 use Rattle.recovery_core.specs.Damage.{first_byte, BreaksTo}
@@ -33,14 +33,14 @@ pub separator_at : (words : List ℕ) (i : ℕ) → i < count_of words - 1
 separator_at words i below = get_or-take (count_of words - 1) (drop 34 words) i 0 below ∙ get_or-drop 34 words i 0
 
 -- pointers go down
-pub child_below : (p : Place) (words : List ℕ) (i : ℕ) → IsInner p words → i < count_of words
+pub child_below : (p : PagePlace) (words : List ℕ) (i : ℕ) → IsInner p words → i < count_of words
     → get_or words (4 + i) 0 < p.number
 child_below p words i is below =
     subst (λ n. n < p.number) (number_at words i below)
     (child_at p.number (numbers_in words) i (omega (arith, is.children)) is.each)
 
 -- separators are above the low fence
-pub separator_above : (p : Place) (words : List ℕ) (i : ℕ) → IsInner p words → i < count_of words - 1
+pub separator_above : (p : PagePlace) (words : List ℕ) (i : ℕ) → IsInner p words → i < count_of words - 1
     → 1 ≤ get_or words (34 + i) 0
 separator_above p words i is below =
     subst (λ s. 1 ≤ s) (separator_at words i below)
@@ -48,7 +48,7 @@ separator_above p words i is below =
 
 module _ (pages : List (List ℕ)) (epoch id : ℕ) where
   -- nothing is put of a tree without pages
-  pub tree_empty : (d : ℕ) (p : Place) (s : State) → 1 ≤ d → p.number ≡ 0
+  pub tree_empty : (d : ℕ) (p : PagePlace) (s : State) → 1 ≤ d → p.number ≡ 0
       → Gathered tree_format (IsPageUpTo epoch (Tree id)) pages d id p s s
   tree_empty d p s deep none =
       let same : record { number = 0; low = p.low; high = p.high }
@@ -72,7 +72,7 @@ module _ (pages : List (List ℕ)) (epoch id : ℕ) where
       }))
 
   -- a page that isn't right
-  pub tree_wrong : (d : ℕ) (p : Place) (words : List ℕ) (n : ℕ) → 1 ≤ d → words ≡ words_at pages p
+  pub tree_wrong : (d : ℕ) (p : PagePlace) (words : List ℕ) (n : ℕ) → 1 ≤ d → words ≡ words_at pages p
       → (IsPageUpTo epoch (Tree id) p words → ⊥) → n ≡ first_byte p.number
       → BreaksTo tree_format (IsPageUpTo epoch (Tree id)) pages n d p
   tree_wrong d p words n deep is wrong at =
@@ -82,12 +82,12 @@ module _ (pages : List (List ℕ)) (epoch id : ℕ) where
       (λ right. wrong (subst (IsPageUpTo epoch (Tree id) p) (sym is) right)) at)
 
   -- a page below 32 others is none
-  pub tree_deep : (d : ℕ) (p : Place) (n : ℕ) → d ≡ 0 → n ≡ first_byte p.number
+  pub tree_deep : (d : ℕ) (p : PagePlace) (n : ℕ) → d ≡ 0 → n ≡ first_byte p.number
       → BreaksTo tree_format (IsPageUpTo epoch (Tree id)) pages n d p
   tree_deep d p n none at = subst (λ k. BreaksTo tree_format (IsPageUpTo epoch (Tree id)) pages n k p) (sym none) at
 
   -- the records of a leaf are those in its range
-  leaf_range : (p : Place) (words : List ℕ) (key : Key) → HasKind (TreeLeaf p.low p.high) p.number words
+  leaf_range : (p : PagePlace) (words : List ℕ) (key : Key) → HasKind (TreeLeaf p.low p.high) p.number words
       → tree_records (records_in words) id key
       ≡ cond (is_from id p.low (p.high + 1) key) (record_for (records_of (node_of words)) key.key) None
   leaf_range p words key leaf =
@@ -121,7 +121,7 @@ module _ (pages : List (List ℕ)) (epoch id : ℕ) where
       ]
 
   -- a leaf whose records were put
-  pub leaf_put : (d : ℕ) (p : Place) (words : List ℕ) (old now : State) → 1 ≤ d → 0 < p.number
+  pub leaf_put : (d : ℕ) (p : PagePlace) (words : List ℕ) (old now : State) → 1 ≤ d → 0 < p.number
       → p.number ≤ length pages → words ≡ words_at pages p → get_or words 0 0 / 256 ≢ 2
       → IsPageUpTo epoch (Tree id) p words → Puts (tree_records (records_in words) id) old now
       → Gathered tree_format (IsPageUpTo epoch (Tree id)) pages d id p old now
@@ -140,19 +140,19 @@ module _ (pages : List (List ℕ)) (epoch id : ℕ) where
       (record_for (records_of (node_of ws)) key.key) None) is) puts))
 
   -- what the loop over the children keeps
-  abbrev pub TreeGathers : ℕ → Place → List ℕ → State → ℕ → ℕ → State → Type 0
+  abbrev pub TreeGathers : ℕ → PagePlace → List ℕ → State → ℕ → ℕ → State → Type 0
   TreeGathers d p words old at i now =
       Gathers tree_format (IsPageUpTo epoch (Tree id)) pages d id p.low p.high
       (children p.low p.high (separators_in words) (numbers_in words)) old at
       (children at p.high (drop i (separators_in words)) (drop i (numbers_in words))) now
 
-  pub tree_begins : (d : ℕ) (p : Place) (words : List ℕ) (s : State) → IsInner p words
+  pub tree_begins : (d : ℕ) (p : PagePlace) (words : List ℕ) (s : State) → IsInner p words
       → TreeGathers d p words s p.low 0 s
   tree_begins d p words s is =
       gathers_begin tree_format (IsPageUpTo epoch (Tree id)) pages d id p.low p.high
       (children p.low p.high (separators_in words) (numbers_in words)) s (cover_inner p words is)
 
-  tree_next : (d : ℕ) (p : Place) (words : List ℕ) (old : State) (at i : ℕ) (now : State) → IsInner p words
+  tree_next : (d : ℕ) (p : PagePlace) (words : List ℕ) (old : State) (at i : ℕ) (now : State) → IsInner p words
       → i < count_of words - 1 → TreeGathers d p words old at i now
       → Gathers tree_format (IsPageUpTo epoch (Tree id)) pages d id p.low p.high
       (children p.low p.high (separators_in words) (numbers_in words)) old at
@@ -174,7 +174,7 @@ module _ (pages : List (List ℕ)) (epoch id : ℕ) where
       (omega (arith, is.children, below))) g))
 
   -- the last child
-  tree_last : (d : ℕ) (p : Place) (words : List ℕ) (old : State) (at i : ℕ) (now : State) → IsInner p words
+  tree_last : (d : ℕ) (p : PagePlace) (words : List ℕ) (old : State) (at i : ℕ) (now : State) → IsInner p words
       → i ≡ count_of words - 1 → TreeGathers d p words old at i now
       → Gathers tree_format (IsPageUpTo epoch (Tree id)) pages d id p.low p.high
       (children p.low p.high (separators_in words) (numbers_in words)) old at
@@ -188,7 +188,7 @@ module _ (pages : List (List ℕ)) (epoch id : ℕ) where
       (children_last at p.high (separators_in words) (numbers_in words) i (omega (arith, is.between, end))
       (omega (arith, is.children, is.some, end))) g)
 
-  pub tree_more : (d : ℕ) (p : Place) (words : List ℕ) (old : State) (at i : ℕ) (now new : State) → IsInner p words
+  pub tree_more : (d : ℕ) (p : PagePlace) (words : List ℕ) (old : State) (at i : ℕ) (now new : State) → IsInner p words
       → i < count_of words - 1 → TreeGathers d p words old at i now
       → Gathered tree_format (IsPageUpTo epoch (Tree id)) pages d id
       (record { number = get_or words (4 + i) 0; low = at; high = get_or words (34 + i) 0 - 1 }) now new
@@ -207,13 +207,13 @@ module _ (pages : List (List ℕ)) (epoch id : ℕ) where
       (drop (i + 1) (numbers_in words))) now new (tree_next d p words old at i now is below g) one)
 
   -- where the places below stand
-  below_is : (p : Place) (words : List ℕ) → words ≡ words_at pages p → get_or words 0 0 / 256 ≡ 2
+  below_is : (p : PagePlace) (words : List ℕ) → words ≡ words_at pages p → get_or words 0 0 / 256 ≡ 2
       → places_below tree_format pages p ≡ children p.low p.high (separators_in words) (numbers_in words)
   below_is p words is kind = ap (λ ws. node_below p.low p.high (node_of ws)) (sym is)
       ∙ ap (node_below p.low p.high) (node_inner words kind)
 
   -- a child that breaks
-  pub tree_break : (d : ℕ) (p : Place) (words : List ℕ) (old : State) (at i : ℕ) (now : State) (n : ℕ) → 1 ≤ d
+  pub tree_break : (d : ℕ) (p : PagePlace) (words : List ℕ) (old : State) (at i : ℕ) (now : State) (n : ℕ) → 1 ≤ d
       → 0 < p.number → get_or words 0 0 / 256 ≡ 2 → words ≡ words_at pages p → IsPageUpTo epoch (Tree id) p words
       → i < count_of words - 1 → TreeGathers (d - 1) p words old at i now
       → BreaksTo tree_format (IsPageUpTo epoch (Tree id)) pages n (d - 1)
@@ -233,7 +233,7 @@ module _ (pages : List (List ℕ)) (epoch id : ℕ) where
       (drop (i + 1) (numbers_in words))) now n (tree_next (d - 1) p words old at i now inner below g) breaks))
 
   -- or the last of them
-  pub tree_last_break : (d : ℕ) (p : Place) (words : List ℕ) (old : State) (at i : ℕ) (now : State) (n : ℕ) → 1 ≤ d
+  pub tree_last_break : (d : ℕ) (p : PagePlace) (words : List ℕ) (old : State) (at i : ℕ) (now : State) (n : ℕ) → 1 ≤ d
       → 0 < p.number → get_or words 0 0 / 256 ≡ 2 → words ≡ words_at pages p → IsPageUpTo epoch (Tree id) p words
       → i ≡ count_of words - 1 → TreeGathers (d - 1) p words old at i now
       → BreaksTo tree_format (IsPageUpTo epoch (Tree id)) pages n (d - 1)
@@ -252,7 +252,7 @@ module _ (pages : List (List ℕ)) (epoch id : ℕ) where
       (tree_last (d - 1) p words old at i now inner end g) breaks))
 
   -- all children
-  pub tree_end : (d : ℕ) (p : Place) (words : List ℕ) (old : State) (at i : ℕ) (now new : State) → 1 ≤ d
+  pub tree_end : (d : ℕ) (p : PagePlace) (words : List ℕ) (old : State) (at i : ℕ) (now new : State) → 1 ≤ d
       → 0 < p.number → p.number ≤ length pages → get_or words 0 0 / 256 ≡ 2 → words ≡ words_at pages p
       → IsPageUpTo epoch (Tree id) p words
       → i ≡ count_of words - 1 → TreeGathers (d - 1) p words old at i now

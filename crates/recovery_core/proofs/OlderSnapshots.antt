@@ -10,7 +10,7 @@ use Rattle.serial_model.specs.declared.decl.Decl.{Decl}
 use Rattle.serial_model.specs.declared.decl.Decl.TheVariants.{Array, Tree}
 use Rattle.wire_form.specs.Pages.{Contents, IsCatalogue, IsStored}
 use Rattle.wire_form.specs.declared.records.Stored.{Stored}
-use Rattle.snapshot_store.specs.declared.place.Place.{Place}
+use Rattle.snapshot_store.specs.declared.place.PagePlace.{PagePlace}
 use Rattle.snapshot_store.specs.Places.{Found, Format, page, words_at, places_below, StandsTo}
 use Rattle.snapshot_store.specs.ArrayPages.{array_found}
 use Rattle.snapshot_store.specs.TreePages.{records_at, node_of, count_of, records_of, record_for}
@@ -89,10 +89,10 @@ look_small (Tree id) words fit low key = tree_small words fit key
 
 -- ---- pages that are right by two tests alike
 
-module _ (F : Format) (Is Js : Place → List ℕ → Type 0) (pages : List (List ℕ))
-    (one : (p : Place) → Is p (words_at pages p) → Js p (words_at pages p))
-    (other : (p : Place) → Js p (words_at pages p) → Is p (words_at pages p)) where
-  stands_alike : (d : ℕ) (p : Place) → StandsTo F Is pages d p → StandsTo F Js pages d p
+module _ (F : Format) (Is Js : PagePlace → List ℕ → Type 0) (pages : List (List ℕ))
+    (one : (p : PagePlace) → Is p (words_at pages p) → Js p (words_at pages p))
+    (other : (p : PagePlace) → Js p (words_at pages p) → Is p (words_at pages p)) where
+  stands_alike : (d : ℕ) (p : PagePlace) → StandsTo F Is pages d p → StandsTo F Js pages d p
   stands_alike zero p stands = absurd stands
   stands_alike (suc d) p stands = record {
     there = stands.there;
@@ -110,10 +110,10 @@ first_alike Good Good' Bad Bad' good bad (x ∷ xs) (inl here) = inl (bad x here
 first_alike Good Good' Bad Bad' good bad (x ∷ xs) (inr later) =
     inr (good x later.0, first_alike Good Good' Bad Bad' good bad xs later.1)
 
-module _ (F : Format) (Is Js : Place → List ℕ → Type 0) (pages : List (List ℕ))
-    (one : (p : Place) → Is p (words_at pages p) → Js p (words_at pages p))
-    (other : (p : Place) → Js p (words_at pages p) → Is p (words_at pages p)) where
-  breaks_alike : (at d : ℕ) (p : Place) → BreaksTo F Is pages at d p → BreaksTo F Js pages at d p
+module _ (F : Format) (Is Js : PagePlace → List ℕ → Type 0) (pages : List (List ℕ))
+    (one : (p : PagePlace) → Is p (words_at pages p) → Js p (words_at pages p))
+    (other : (p : PagePlace) → Js p (words_at pages p) → Is p (words_at pages p)) where
+  breaks_alike : (at d : ℕ) (p : PagePlace) → BreaksTo F Is pages at d p → BreaksTo F Js pages at d p
   breaks_alike at zero p breaks = breaks
   breaks_alike at (suc d) p (inl here) = inl ((λ is. here.0 (other p is)), here.1)
   breaks_alike at (suc d) p (inr below) = inr (
@@ -125,10 +125,10 @@ module _ (F : Format) (Is Js : Place → List ℕ → Type 0) (pages : List (Lis
 -- ---- roots
 
 module _ (pages : List (List ℕ)) (fit : AllByRecursion Fit pages) where
-  plain : (d : Decl) (p : Place) → IsPageUpTo 4294967295 d p (words_at pages p) → IsPageOf d p (words_at pages p)
+  plain : (d : Decl) (p : PagePlace) → IsPageUpTo 4294967295 d p (words_at pages p) → IsPageOf d p (words_at pages p)
   plain d p is = is.page
 
-  bounded : (d : Decl) (p : Place) → IsPageOf d p (words_at pages p) → IsPageUpTo 4294967295 d p (words_at pages p)
+  bounded : (d : Decl) (p : PagePlace) → IsPageOf d p (words_at pages p) → IsPageUpTo 4294967295 d p (words_at pages p)
   bounded d p is = record {
     page = is;
     numbers = λ leaf key from to. look_small d (words_at pages p) (fit_page pages fit p.number) p.low key;

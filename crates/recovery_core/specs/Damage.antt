@@ -11,7 +11,7 @@ use Rattle.wire_form.specs.Pages.{Contents, decls_of}
 use Rattle.wire_form.specs.declared.savepoint.Savepoint.{Savepoint}
 use Rattle.log_mapper.specs.Mapped.{IsDamaged as IsDamagedFile}
 use Rattle.log_writer.specs.Save.{Names, IsDamaged}
-use Rattle.snapshot_store.specs.declared.place.Place.{Place}
+use Rattle.snapshot_store.specs.declared.place.PagePlace.{PagePlace}
 use Rattle.snapshot_store.specs.Places.{Format, words_at, places_below, StandsTo}
 use Rattle.snapshot_store.specs.Content.{deepest, root_place, format_of}
 use Rattle.joint_crashes.specs.Images.{Images, counted_of}
@@ -40,7 +40,7 @@ CataloguesBreak pages limit declared number (c ∷ cs) at =
 
 -- The first page that isn't right for its place begins at this byte, each page before those below it, from left to
 -- right; a page below so many others is none.
-abbrev pub BreaksTo : Format → (Place → List ℕ → Type 0) → List (List ℕ) → ℕ → ℕ → Place → Type 0
+abbrev pub BreaksTo : Format → (PagePlace → List ℕ → Type 0) → List (List ℕ) → ℕ → ℕ → PagePlace → Type 0
 BreaksTo F Is pages at zero p = at ≡ first_byte p.number
 BreaksTo F Is pages at (suc d) p =
     ((Is p (words_at pages p) → ⊥) × (at ≡ first_byte p.number))

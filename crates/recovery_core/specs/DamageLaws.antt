@@ -14,7 +14,7 @@ use Rattle.wire_form.specs.Pages.{Contents, decls_of}
 use Rattle.wire_form.specs.declared.savepoint.Savepoint.{Savepoint}
 use Rattle.log_writer.specs.Newest.{names_one}
 use Rattle.log_writer.specs.Save.{Names, IsDamaged}
-use Rattle.snapshot_store.specs.declared.place.Place.{Place}
+use Rattle.snapshot_store.specs.declared.place.PagePlace.{PagePlace}
 use Rattle.snapshot_store.specs.Places.{Format, places_below, StandsTo}
 use Rattle.snapshot_store.specs.Content.{deepest, root_place, format_of}
 use Rattle.joint_crashes.specs.Images.{Images, counted_of}
@@ -77,7 +77,7 @@ one_break pages limit declared number a b (c ∷ cs) (d ∷ ds) p q =
 -- ---- pages below a place
 
 -- a page that stands with all below it doesn't break
-pub stands_whole : (F : Format) (Is : Place → List ℕ → Type 0) (pages : List (List ℕ)) (at d : ℕ) (p : Place)
+pub stands_whole : (F : Format) (Is : PagePlace → List ℕ → Type 0) (pages : List (List ℕ)) (at d : ℕ) (p : PagePlace)
     → StandsTo F Is pages d p → BreaksTo F Is pages at d p → ⊥
 stands_whole F Is pages at zero p stands breaks = stands
 stands_whole F Is pages at (suc d) p stands (inl wrong) = wrong.0 stands.right
@@ -86,7 +86,7 @@ stands_whole F Is pages at (suc d) p stands (inr below) =
     (places_below F pages p) stands.below below.1
 
 -- and one that breaks does so at one byte
-pub one_page_breaks : (F : Format) (Is : Place → List ℕ → Type 0) (pages : List (List ℕ)) (a b d : ℕ) (p : Place)
+pub one_page_breaks : (F : Format) (Is : PagePlace → List ℕ → Type 0) (pages : List (List ℕ)) (a b d : ℕ) (p : PagePlace)
     → BreaksTo F Is pages a d p → BreaksTo F Is pages b d p → a ≡ b
 one_page_breaks F Is pages a b zero p first second = first ∙ sym second
 one_page_breaks F Is pages a b (suc d) p (inl first) (inl second) = first.1 ∙ sym second.1

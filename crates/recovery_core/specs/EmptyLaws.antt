@@ -6,14 +6,14 @@ use Rattle.std.specs.List.{AllByRecursion}
 use Rattle.std.proofs.lemmas.Bool.Decides.{nat_tests}
 use Rattle.serial_model.specs.declared.decl.Decl.{Decl}
 use Rattle.serial_model.specs.declared.decl.Decl.TheVariants.{Array, Tree}
-use Rattle.snapshot_store.specs.declared.place.Place.{Place}
+use Rattle.snapshot_store.specs.declared.place.PagePlace.{PagePlace}
 use Rattle.snapshot_store.specs.Places.{Found, at_key, find, here_or_below, Cover, Tiles, StandsTo}
 use Rattle.snapshot_store.specs.ArrayPages.{fan, leaf_room, row, array_below, array_format}
 use Rattle.snapshot_store.specs.Content.{deepest, last_index, record_in}
 use Rattle.recovery_core.specs.SnapshotPages.{IsPageUpTo, RootStandsUpTo}
 
 -- a place without a page
-abbrev pub no_page : ℕ → ℕ → Place
+abbrev pub no_page : ℕ → ℕ → PagePlace
 no_page low high = record { number = 0; low = low; high = high }
 
 -- so many parts in a row, from one index on, end just before another
@@ -40,12 +40,12 @@ rows_cover part some (suc n) low high ends =
           (rows_cover part some n (low + part) high ends),
     )
 
-rows_all : (P : Place → Type 0) (part : ℕ) → ((low : ℕ) → P (no_page low (low + (part - 1)))) → (n low : ℕ)
+rows_all : (P : PagePlace → Type 0) (part : ℕ) → ((low : ℕ) → P (no_page low (low + (part - 1)))) → (n low : ℕ)
     → AllByRecursion P (row [] part low n)
 rows_all P part each zero low = tt
 rows_all P part each (suc n) low = (each low, rows_all P part each n (low + part))
 
-rows_find : (key part : ℕ) (f : Place → Option Found) → ((low : ℕ) → f (no_page low (low + (part - 1))) ≡ None)
+rows_find : (key part : ℕ) (f : PagePlace → Option Found) → ((low : ℕ) → f (no_page low (low + (part - 1))) ≡ None)
     → (n low : ℕ) → at_key key f (row [] part low n) ≡ None
 rows_find key part f each zero low = refl
 rows_find key part f each (suc n) low =

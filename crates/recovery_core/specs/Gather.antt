@@ -6,7 +6,7 @@ use Rattle.serial_model.specs.Keys.{id_of}
 use Rattle.serial_model.specs.State.{State}
 use Rattle.serial_model.specs.declared.key.Key.{Key}
 use Rattle.wire_form.specs.declared.records.Stored.{Stored}
-use Rattle.snapshot_store.specs.declared.place.Place.{Place}
+use Rattle.snapshot_store.specs.declared.place.PagePlace.{PagePlace}
 use Rattle.snapshot_store.specs.Places.{Found, Format, at_key, find, Cover, StandsTo}
 use Rattle.snapshot_store.specs.ArrayPages.{array_look}
 use Rattle.snapshot_store.specs.TreePages.{Record, record_for}
@@ -44,11 +44,11 @@ abbrev pub tree_records : List Record → ℕ → Key → Option Found
 tree_records records id key = cond (key.storage == id) (record_for records key.key) None
 
 -- what is found of a storage at a place, so many pages down
-abbrev pub found_at : Format → List (List ℕ) → ℕ → ℕ → Place → Key → Option Found
+abbrev pub found_at : Format → List (List ℕ) → ℕ → ℕ → PagePlace → Key → Option Found
 found_at F pages d id p key = cond (is_from id p.low (p.high + 1) key) (find F pages d key.key p) None
 
 -- and at places in a row, from one key to another
-abbrev pub found_among : Format → List (List ℕ) → ℕ → ℕ → ℕ → ℕ → List Place → Key → Option Found
+abbrev pub found_among : Format → List (List ℕ) → ℕ → ℕ → ℕ → ℕ → List PagePlace → Key → Option Found
 found_among F pages d id low high qs key = cond (is_from id low (high + 1) key)
     (at_key key.key (find F pages d key.key) qs) None
 
@@ -57,7 +57,7 @@ abbrev pub root_records : List (List ℕ) → Stored → Key → Option Found
 root_records pages s key = cond (key.storage == id_of s.decl) (record_in pages s key.key) None
 
 -- a place stands, and its records were put
-pub record Gathered (F : Format) (Is : Place → List ℕ → Type 0) (pages : List (List ℕ)) (d id : ℕ) (p : Place)
+pub record Gathered (F : Format) (Is : PagePlace → List ℕ → Type 0) (pages : List (List ℕ)) (d id : ℕ) (p : PagePlace)
     (old new : State) : Type 0 where
   pub stands : StandsTo F Is pages d p
   pub puts : Puts (found_at F pages d id p) old new
@@ -68,8 +68,8 @@ pub record RootGathered (pages : List (List ℕ)) (epoch : ℕ) (s : Stored) (ol
   pub puts : Puts (root_records pages s) old new
 
 -- Of the places below a page those before some were gathered: all is right where the rest is, and so on.
-pub record Gathers (F : Format) (Is : Place → List ℕ → Type 0) (pages : List (List ℕ)) (d id low high : ℕ)
-    (all : List Place) (old : State) (at : ℕ) (rest : List Place) (now : State) : Type 0 where
+pub record Gathers (F : Format) (Is : PagePlace → List ℕ → Type 0) (pages : List (List ℕ)) (d id low high : ℕ)
+    (all : List PagePlace) (old : State) (at : ℕ) (rest : List PagePlace) (now : State) : Type 0 where
   pub tiles : Cover at high rest
   pub stands : AllByRecursion (StandsTo F Is pages d) rest → AllByRecursion (StandsTo F Is pages d) all
   pub breaks : (n : ℕ) → FirstBad (StandsTo F Is pages d) (BreaksTo F Is pages n d) rest

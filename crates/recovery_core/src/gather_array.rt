@@ -10,7 +10,7 @@ ghost use Rattle.recovery_core.specs.Gather.{Puts, only_at, array_records, Gathe
 use crate::gather_page::{first_byte, has_kind, put};
 use lists::{Memory, OrMemory};
 use serial_model::{Key, State};
-use snapshot_store::{Place, SnapStore};
+use snapshot_store::{PagePlace, SnapStore};
 use wire_form::PageKind;
 
 // The kind of the page that stands for a range.
@@ -42,7 +42,7 @@ fn are_up_to(epoch: u32, words: &[u64; 64]) -> bool
 }
 
 // Whether the words are the array's page for a place, with no record of a later epoch.
-fn is_array_page(epoch: u32, size: u32, place: Place, words: &[u64; 64]) -> bool
+fn is_array_page(epoch: u32, size: u32, place: PagePlace, words: &[u64; 64]) -> bool
     requires first { 1 ≤ place.number }
     requires last { place.number ≤ 65536 }
     requires level { IsLevel 3 place.low place.high }
@@ -91,7 +91,7 @@ pub(crate) fn gather_array(
     id: u8,
     size: u32,
     depth: u32,
-    place: Place,
+    place: PagePlace,
     state: &mut State,
 ) -> Result<(), OrMemory<u64>>
     requires there { place.number ≤ length store.now.pages }
@@ -116,7 +116,7 @@ pub(crate) fn gather_array(
     let part = (place.high - place.low + 1) / 64;
     let mut low = place.low;
     for i in 0..64 {
-        let child = Place {
+        let child = PagePlace {
             number: words[i],
             low,
             high: low + (part - 1),

@@ -11,7 +11,7 @@ ghost use Rattle.recovery_core.specs.Gather.{Puts, tree_records, Gathered};
 use crate::gather_page::{first_byte, has_kind, put};
 use lists::{Memory, OrMemory};
 use serial_model::{Key, State};
-use snapshot_store::{Place, SnapStore, is_inner};
+use snapshot_store::{PagePlace, SnapStore, is_inner};
 use wire_form::PageKind;
 
 // How many records or children a page has.
@@ -47,7 +47,7 @@ fn are_up_to(epoch: u32, words: &[u64; 64]) -> bool
 }
 
 // Whether the words are a tree's page for a place, with no record of a later epoch.
-fn is_tree_page(epoch: u32, place: Place, words: &[u64; 64]) -> bool
+fn is_tree_page(epoch: u32, place: PagePlace, words: &[u64; 64]) -> bool
     requires first { 1 ≤ place.number }
     requires last { place.number ≤ 65536 }
     ensures { (id : ℕ) → IsTrue result ↔ IsPageUpTo epoch (Tree id) place words.now }
@@ -86,7 +86,7 @@ pub(crate) fn gather_tree(
     epoch: u32,
     id: u8,
     depth: u32,
-    place: Place,
+    place: PagePlace,
     state: &mut State,
 ) -> Result<(), OrMemory<u64>>
     requires there { place.number ≤ length store.now.pages }
@@ -113,7 +113,7 @@ pub(crate) fn gather_tree(
     let mut low = place.low;
     for i in 0..last {
         let next = words[34 + i];
-        let child = Place {
+        let child = PagePlace {
             number: words[4 + i],
             low,
             high: next - 1,
@@ -121,7 +121,7 @@ pub(crate) fn gather_tree(
         gather_tree(store, epoch, id, depth - 1, child, state)?;
         low = next;
     }
-    let child = Place {
+    let child = PagePlace {
         number: words[4 + last],
         low,
         high: place.high,

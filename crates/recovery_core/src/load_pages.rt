@@ -3,7 +3,7 @@ ghost use Rattle.std.specs.Prelude.{◌≡◌, ◌<◌, ◌≤◌, ◌*◌, ◌^
 ghost use Rattle.std.specs.List.{AllByRecursion};
 ghost use Rattle.outside.specs.Disk.{IfTold};
 ghost use Rattle.snapshot_store.specs.Content.{words_of};
-ghost use Rattle.snapshot_store.specs.Store.{IsWhole, Holds};
+ghost use Rattle.snapshot_store.specs.Store.{IsWhole, HoldsPages};
 ghost use Rattle.recovery_core.specs.Catalogues.{HasPages};
 ghost use Rattle.recovery_core.specs.ReadsDevices.{ReadsDevices};
 
@@ -36,7 +36,7 @@ pub(crate) fn load_pages<D: Disk>(
         HasPages file count (words_of store.pages))) }
     ensures count { IfOk result (λ store. length store.pages ≡ count) }
     ensures sound { IfOk result (λ store. store.sound ≡ true) }
-    ensures holds { IfOk result (λ store. Holds D.tells vault.new.snaps store.pages) }
+    ensures holds { IfOk result (λ store. HoldsPages D.tells vault.new.snaps store.pages) }
     ensures damaged { (device : Device) (at : ℕ) → result ≡ Err (OrMemory.Fault (RecoverFault.Damaged device at))
         → (device ≡ Device.Snaps) × IfTold (D.tells vault.old.snaps) (λ file.
         (length file < 512 * count) × (at ≡ length file)) }

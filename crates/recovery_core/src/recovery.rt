@@ -8,7 +8,7 @@ ghost use Rattle.wire_form.specs.declared.savepoint.Savepoint.{Savepoint};
 ghost use Rattle.log_writer.specs.Points.{IsSaved, saved_of};
 ghost use Rattle.log_writer.specs.Save.{Names, IsStored};
 ghost use Rattle.snapshot_store.specs.Content.{words_of};
-ghost use Rattle.snapshot_store.specs.Store.{Holds};
+ghost use Rattle.snapshot_store.specs.Store.{HoldsPages};
 ghost use Rattle.recovery_core.specs.Catalogues.{HasPages};
 ghost use Rattle.recovery_core.specs.Damage.{IsDamagedIn, IsReadBefore, SnapsBreak};
 ghost use Rattle.joint_crashes.specs.Images.{Images};
@@ -43,7 +43,7 @@ fn load_snapshot<D: Disk>(
         HasPages file saved.now.count (words_of s.store.pages))) }
     ensures count { IfOk result (λ s. length s.store.pages ≡ saved.now.count) }
     ensures sound { IfOk result (λ s. s.store.sound ≡ true) }
-    ensures holds { IfOk result (λ s. Holds D.tells vault.new.snaps s.store.pages) }
+    ensures holds { IfOk result (λ s. HoldsPages D.tells vault.new.snaps s.store.pages) }
     ensures damaged { (device : Device) (at : ℕ) → result ≡ Err (OrMemory.Fault (RecoverFault.Damaged device at))
         → (device ≡ Device.Snaps) × IfTold (D.tells vault.old.snaps) (λ file. (p : Savepoint)
         → saved.now ≡ saved_of p → SnapsBreak file p at) }
@@ -73,7 +73,7 @@ fn recover_fresh<D: Disk>(
     ensures recovers { IfOk result (λ r. (found : Images) → Names found.save None → Recovers found r) }
     ensures up { IfOk result IsUp }
     ensures save { IfOk result (λ r. r.save ≡ save) }
-    ensures holds { IfOk result (λ r. Holds D.tells vault.new.snaps r.store.pages) }
+    ensures holds { IfOk result (λ r. HoldsPages D.tells vault.new.snaps r.store.pages) }
     ensures damaged { (device : Device) (at : ℕ) → result ≡ Err (OrMemory.Fault (RecoverFault.Damaged device at))
         → IfTold (D.tells vault.old.snaps) (λ file. ⊥) }
     ensures only { (device : Device) → result ≡ Err (OrMemory.Fault (RecoverFault.Device device))
@@ -108,7 +108,7 @@ fn recover_saved<D: Disk>(
         → Names found.save save.newest → Recovers found r) }
     ensures up { IfOk result IsUp }
     ensures save { IfOk result (λ r. r.save ≡ save) }
-    ensures holds { IfOk result (λ r. Holds D.tells vault.new.snaps r.store.pages) }
+    ensures holds { IfOk result (λ r. HoldsPages D.tells vault.new.snaps r.store.pages) }
     ensures damaged { (device : Device) (at : ℕ) → result ≡ Err (OrMemory.Fault (RecoverFault.Damaged device at))
         → (found : Images) → AreTold D.tells (parts_of vault.old) found → Names found.save save.newest
         → IsDamagedIn found device at }
@@ -153,7 +153,7 @@ pub fn recover<D: Disk>(
     ensures up { IfOk result IsUp }
     ensures stored { IfOk result (λ r. IfTold (D.tells vault.old.save) (Only D.clock D.image_at vault.old.save)
         → IsStored D.tells D.clock D.image_at vault.new.save r.save.newest) }
-    ensures holds { IfOk result (λ r. Holds D.tells vault.new.snaps r.store.pages) }
+    ensures holds { IfOk result (λ r. HoldsPages D.tells vault.new.snaps r.store.pages) }
     ensures damaged { (device : Device) (at : ℕ) → result ≡ Err (OrMemory.Fault (RecoverFault.Damaged device at))
         → (found : Images) → AreTold D.tells (parts_of vault.old) found → IsDamagedIn found device at }
     ensures before { (device : Device) → result ≡ Err (OrMemory.Fault (RecoverFault.Device device))

@@ -4,7 +4,7 @@ use Rattle.std.specs.List.{AllByRecursion}
 use Rattle.std.proofs.lemmas.List.{length-append, drop_more, drop-set-lt, take_more_set, take_all, append-nil}
 use Rattle.root_composer.specs.declared.last.Last.{Last}
 use Rattle.wire_form.specs.Bytes.{padded}
-use Rattle.snapshot_store.specs.declared.place.Place.{Place}
+use Rattle.snapshot_store.specs.declared.place.PagePlace.{PagePlace}
 use Rattle.root_composer.specs.Overlaid.{touches}
 use Rattle.snapshot_store.specs.Places.{page, Cover}
 use Rattle.root_composer.specs.Composer.{Made, AllMade, Writer, compose_each, with_one, with_page, written}
@@ -108,20 +108,20 @@ all_composed run size old depth part low high i at first words before made len e
 
 -- ---- a page
 
-written_row : (W : Writer) (ws : List ℕ) (p : Place) (run : List Last) (before : ℕ) (f : Place → ℕ → Made) (words : List ℕ) (part low k : ℕ) → 0 < k
+written_row : (W : Writer) (ws : List ℕ) (p : PagePlace) (run : List Last) (before : ℕ) (f : PagePlace → ℕ → Made) (words : List ℕ) (part low k : ℕ) → 0 < k
     → written W ws p run before f (row words part low k) ≡ with_page (W.inner ws p (compose_each f (row words part low k) before).numbers) before (compose_each f (row words part low k) before)
 written_row W ws p run before f words part low zero h = absurd (omega (arith, h))
 written_row W ws p run before f words part low (suc k) h = refl
 
-pub untouched_adds : (run : List Last) (size : ℕ) (old made : List (List ℕ)) (depth : ℕ) (p : Place) → touches run p.low p.high ≡ false → Adds made made p.number (array_one run old depth p (length old + length made))
+pub untouched_adds : (run : List Last) (size : ℕ) (old made : List (List ℕ)) (depth : ℕ) (p : PagePlace) → touches run p.low p.high ≡ false → Adds made made p.number (array_one run old depth p (length old + length made))
 untouched_adds run size old made zero p t = record { number = refl; pages = sym (append-nil made) }
 untouched_adds run size old made (suc depth) p t = rw t (record { number = refl; pages = sym (append-nil made) })
 
-pub leaf_adds : (run : List Last) (size : ℕ) (old made : List (List ℕ)) (depth : ℕ) (p : Place) → touches run p.low p.high ≡ true → p.high + 1 - p.low ≤ leaf_room
+pub leaf_adds : (run : List Last) (size : ℕ) (old made : List (List ℕ)) (depth : ℕ) (p : PagePlace) → touches run p.low p.high ≡ true → p.high + 1 - p.low ≤ leaf_room
     → Adds made (made ++ put_all p.low p.high run (filled (page old p.number)) ∷ []) (length old + (length made + 1)) (array_one run old (suc depth) p (length old + length made))
 leaf_adds run size old made depth p t narrow = rw (t, fits (p.high + 1 - p.low) leaf_room narrow) (record { number = omega arith; pages = refl })
 
-pub inner_adds : (run : List Last) (size : ℕ) (old before made : List (List ℕ)) (depth high at i : ℕ) (p : Place) (words : List ℕ) → touches run p.low p.high ≡ true → leaf_room < p.high + 1 - p.low → length words ≡ fan → i ≡ fan
+pub inner_adds : (run : List Last) (size : ℕ) (old before made : List (List ℕ)) (depth high at i : ℕ) (p : PagePlace) (words : List ℕ) → touches run p.low p.high ≡ true → leaf_room < p.high + 1 - p.low → length words ≡ fan → i ≡ fan
     → Composes run size old depth ((p.high + 1 - p.low) / fan) p.low high i at (filled (page old p.number)) words before made
     → Adds before (made ++ words ∷ []) (length old + (length made + 1)) (array_one run old (suc depth) p (length old + length before))
 inner_adds run size old before made depth high at i p words t wide len end c =
@@ -141,7 +141,7 @@ inner_adds run size old before made depth high at i p words t wide len end c =
     })
 
 -- what stands below an interior page
-pub stand_below : (size : ℕ) (old : List (List ℕ)) (depth : ℕ) (p : Place) → ArrayStands size old (suc depth) p → leaf_room < p.high + 1 - p.low
+pub stand_below : (size : ℕ) (old : List (List ℕ)) (depth : ℕ) (p : PagePlace) → ArrayStands size old (suc depth) p → leaf_room < p.high + 1 - p.low
     → AllByRecursion (ArrayStands size old depth) (row (filled (page old p.number)) ((p.high + 1 - p.low) / fan) p.low fan) × Cover p.low p.high (row (filled (page old p.number)) ((p.high + 1 - p.low) / fan) p.low fan)
 stand_below size old depth p s wide =
     let part : ℕ = (p.high + 1 - p.low) / fan in
@@ -154,11 +154,11 @@ stand_below size old depth p s wide =
 -- ---- as the code has it
 
 -- a place that stands has a page, so at least one step is left
-pub depth_some : (size : ℕ) (old : List (List ℕ)) (depth : ℕ) (p : Place) → ArrayStands size old depth p → depth ≡ suc (depth - 1)
+pub depth_some : (size : ℕ) (old : List (List ℕ)) (depth : ℕ) (p : PagePlace) → ArrayStands size old depth p → depth ≡ suc (depth - 1)
 depth_some size old zero p s = absurd s
 depth_some size old (suc d) p s = omega arith
 
-pub place_there : (size : ℕ) (old : List (List ℕ)) (depth : ℕ) (p : Place) → ArrayStands size old depth p → p.number ≤ length old
+pub place_there : (size : ℕ) (old : List (List ℕ)) (depth : ℕ) (p : PagePlace) → ArrayStands size old depth p → p.number ≤ length old
 place_there size old zero p s = absurd s
 place_there size old (suc d) p s = s.there
 
@@ -168,7 +168,7 @@ part_is low high h = let same : high - low + 1 ≡ high + 1 - low = omega arith 
 filled_is : (ws words : List ℕ) → words ≡ padded 64 ws → words ≡ filled ws
 filled_is ws words e = e ∙ ap (λ k. padded k ws) (sym fan_is)
 
-pub code_begins : (run : List Last) (size : ℕ) (old made : List (List ℕ)) (depth : ℕ) (p : Place) (words : List ℕ) → ArrayStands size old depth p → p.low ≤ p.high → 32 ≤ p.high - p.low → words ≡ padded 64 (page old p.number)
+pub code_begins : (run : List Last) (size : ℕ) (old made : List (List ℕ)) (depth : ℕ) (p : PagePlace) (words : List ℕ) → ArrayStands size old depth p → p.low ≤ p.high → 32 ≤ p.high - p.low → words ≡ padded 64 (page old p.number)
     → (0 < (p.high - p.low + 1) / 64) × Composes run size old (depth - 1) ((p.high - p.low + 1) / 64) p.low p.high 0 p.low words words made made
 code_begins run size old made depth p words s some wide e =
     let deep = subst (λ (d : ℕ). ArrayStands size old d p) (depth_some size old depth p s) s in
@@ -182,7 +182,7 @@ code_begins run size old made depth p words s some wide e =
           (none_composed run size old (depth - 1) part p.low p.high (filled (page old p.number)) made below.0 below.1),
     )
 
-pub code_leaf : (run : List Last) (size : ℕ) (old made : List (List ℕ)) (depth : ℕ) (p : Place) (words filled_words : List ℕ) → ArrayStands size old depth p → p.low ≤ p.high → touches run p.low p.high ≡ true → p.high - p.low < 32
+pub code_leaf : (run : List Last) (size : ℕ) (old made : List (List ℕ)) (depth : ℕ) (p : PagePlace) (words filled_words : List ℕ) → ArrayStands size old depth p → p.low ≤ p.high → touches run p.low p.high ≡ true → p.high - p.low < 32
     → filled_words ≡ padded 64 (page old p.number) → words ≡ put_all p.low p.high run filled_words
     → Adds made (made ++ words ∷ []) (length old + (length made + 1)) (array_one run old depth p (length old + length made))
 code_leaf run size old made depth p words filled_words s some t narrow e put =
@@ -191,7 +191,7 @@ code_leaf run size old made depth p words filled_words s some t narrow e put =
     (subst (λ (ws : List ℕ). Adds made (made ++ ws ∷ []) (length old + (length made + 1)) (array_one run old (suc (depth - 1)) p (length old + length made))) (sym is)
     (leaf_adds run size old made (depth - 1) p t (omega (arith, room_is))))
 
-pub code_inner : (run : List Last) (size : ℕ) (old before made : List (List ℕ)) (depth i at : ℕ) (p : Place) (first words : List ℕ) → ArrayStands size old depth p → p.low ≤ p.high → touches run p.low p.high ≡ true → 32 ≤ p.high - p.low → length words ≡ 64 → i ≡ 64
+pub code_inner : (run : List Last) (size : ℕ) (old before made : List (List ℕ)) (depth i at : ℕ) (p : PagePlace) (first words : List ℕ) → ArrayStands size old depth p → p.low ≤ p.high → touches run p.low p.high ≡ true → 32 ≤ p.high - p.low → length words ≡ 64 → i ≡ 64
     → first ≡ padded 64 (page old p.number) → Composes run size old (depth - 1) ((p.high - p.low + 1) / 64) p.low p.high i at first words before made
     → Adds before (made ++ words ∷ []) (length old + (length made + 1)) (array_one run old depth p (length old + length before))
 code_inner run size old before made depth i at p first words s some t wide len end e c =
@@ -203,14 +203,14 @@ code_inner run size old before made depth i at p first words s some t wide len e
 pub as_pushed : (old before after made : List (List ℕ)) (words : List ℕ) (n : ℕ) (m : Made) → after ≡ made ++ words ∷ [] → n ≡ length old + (length made + 1) → Adds before (made ++ words ∷ []) (length old + (length made + 1)) m → Adds before after n m
 as_pushed old before after made words n m pushed count a = record { number = count ∙ a.number; pages = pushed ∙ a.pages }
 
-pub leaf_end : (run : List Last) (size : ℕ) (old made same : List (List ℕ)) (depth : ℕ) (p : Place) (words filled_words : List ℕ) → ArrayStands size old depth p → p.low ≤ p.high → touches run p.low p.high ≡ true → p.high - p.low < 32
+pub leaf_end : (run : List Last) (size : ℕ) (old made same : List (List ℕ)) (depth : ℕ) (p : PagePlace) (words filled_words : List ℕ) → ArrayStands size old depth p → p.low ≤ p.high → touches run p.low p.high ≡ true → p.high - p.low < 32
     → filled_words ≡ padded 64 (page old p.number) → words ≡ put_all p.low p.high run filled_words → same ≡ made
     → Adds made (same ++ words ∷ []) (length old + (length same + 1)) (array_one run old depth p (length old + length made))
 leaf_end run size old made same depth p words filled_words s some t narrow e put is =
     subst (λ (x : List (List ℕ)). Adds made (x ++ words ∷ []) (length old + (length x + 1)) (array_one run old depth p (length old + length made))) (sym is)
     (code_leaf run size old made depth p words filled_words s some t narrow e put)
 
-pub inner_end : (run : List Last) (size : ℕ) (old before made same : List (List ℕ)) (depth i at : ℕ) (p : Place) (first words same_words : List ℕ) → ArrayStands size old depth p → p.low ≤ p.high → touches run p.low p.high ≡ true → 32 ≤ p.high - p.low → length words ≡ 64 → i ≡ 64
+pub inner_end : (run : List Last) (size : ℕ) (old before made same : List (List ℕ)) (depth i at : ℕ) (p : PagePlace) (first words same_words : List ℕ) → ArrayStands size old depth p → p.low ≤ p.high → touches run p.low p.high ≡ true → 32 ≤ p.high - p.low → length words ≡ 64 → i ≡ 64
     → first ≡ padded 64 (page old p.number) → Composes run size old (depth - 1) ((p.high - p.low + 1) / 64) p.low p.high i at first words before made → same ≡ made → same_words ≡ words
     → Adds before (same ++ same_words ∷ []) (length old + (length same + 1)) (array_one run old depth p (length old + length before))
 inner_end run size old before made same depth i at p first words same_words s some t wide len end e c is are =

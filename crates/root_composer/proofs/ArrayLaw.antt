@@ -15,7 +15,7 @@ use Rattle.serial_model.specs.Numbers.{IsNumber}
 use Rattle.wire_form.specs.Words.{number_word}
 use Rattle.wire_form.specs.ItemLaws.{length-items}
 use Rattle.wire_form.specs.Pages.{IsChild, IsArrayRecord, array_record_words, array_leaf_words, HasKind}
-use Rattle.snapshot_store.specs.declared.place.Place.{Place}
+use Rattle.snapshot_store.specs.declared.place.PagePlace.{PagePlace}
 use Rattle.snapshot_store.specs.Places.{words_at, places_below, Cover, Tiles, StandsTo, moved}
 use Rattle.snapshot_store.specs.ArrayPages.{fan, leaf_room, span_of, row, array_below, array_found, array_look, array_format, parts_of, array_kind, IsArrayPage}
 use Rattle.root_composer.specs.declared.last.Last.{Last}
@@ -234,19 +234,19 @@ row_empty : (words : List ℕ) (span low n : ℕ) → row words span low n ≡ [
 row_empty words span low zero e = refl
 row_empty words span low (suc n) e = absurd (cc)
 
-row_moved : (R : Place → ℕ → Type 0) (words : List ℕ) (span low n : ℕ) (ns : List ℕ) → EachWith R (row words span low n) ns → row ns span low n ≡ all_moved (row words span low n) ns
+row_moved : (R : PagePlace → ℕ → Type 0) (words : List ℕ) (span low n : ℕ) (ns : List ℕ) → EachWith R (row words span low n) ns → row ns span low n ≡ all_moved (row words span low n) ns
 row_moved R words span low zero ns all = refl
 row_moved R words span low (suc n) [] all = absurd all
 row_moved R words span low (suc n) (m ∷ ms) all = ap (λ t. (record { number = m; low = low; high = low + (span - 1) }) ∷ t) (row_moved R (drop 1 words) span (low + span) n ms all.1)
 
-row_length : (R : Place → ℕ → Type 0) (words : List ℕ) (span low n : ℕ) (ns : List ℕ) → EachWith R (row words span low n) ns → length ns ≡ n
+row_length : (R : PagePlace → ℕ → Type 0) (words : List ℕ) (span low n : ℕ) (ns : List ℕ) → EachWith R (row words span low n) ns → length ns ≡ n
 row_length R words span low zero [] all = refl
 row_length R words span low zero (m ∷ ms) all = absurd all
 row_length R words span low (suc n) [] all = absurd all
 row_length R words span low (suc n) (m ∷ ms) all = ap suc (row_length R (drop 1 words) span (low + span) n ms all.1)
 
 -- the place at an index, with its number
-row_at : (R : Place → ℕ → Type 0) (words : List ℕ) (span low n : ℕ) (ns : List ℕ) → EachWith R (row words span low n) ns
+row_at : (R : PagePlace → ℕ → Type 0) (words : List ℕ) (span low n : ℕ) (ns : List ℕ) → EachWith R (row words span low n) ns
     → (i at : ℕ) → i < n → at ≡ low + i * span → R (record { number = get_or words i 0; low = at; high = at + (span - 1) }) (get_or ns i 0)
 row_at R words span low zero ns all i at h e = absurd (omega (arith, h))
 row_at R words span low (suc n) [] all i at h e = absurd all
@@ -286,7 +286,7 @@ touched_below size low high (x ∷ xs) all e =
     ] refl e
 
 -- the records of a leaf that is there, or of none
-old_records : (size : ℕ) (p : Place) (ws : List ℕ) → span_of p.low p.high ≤ leaf_room → IsArrayPage size p ws → AreRecords (min leaf_room (size - p.low)) (filled ws)
+old_records : (size : ℕ) (p : PagePlace) (ws : List ℕ) → span_of p.low p.high ≤ leaf_room → IsArrayPage size p ws → AreRecords (min leaf_room (size - p.low)) (filled ws)
 old_records size p ws narrow is =
     elim (cases_lt 0 p.number) [
       | inl more ↦
@@ -298,7 +298,7 @@ old_records size p ws narrow is =
           (no_records (min leaf_room (size - p.low)) (omega (arith, room_is)))
     ]
 
-length-old : (size : ℕ) (p : Place) (ws : List ℕ) → IsArrayPage size p ws → length ws ≤ fan
+length-old : (size : ℕ) (p : PagePlace) (ws : List ℕ) → IsArrayPage size p ws → length ws ≤ fan
 length-old size p ws is =
     elim (cases_lt 0 p.number) [
       | inr none ↦ omega (arith, ap length (is.none (omega arith)))
@@ -313,7 +313,7 @@ length-old size p ws is =
           ]
     ]
 
-array_leaf_right : (size : ℕ) (run : List Last) (p : Place) (ws : List ℕ) (number : ℕ) → AllByRecursion (IsPut size) run → touches run p.low p.high ≡ true → span_of p.low p.high ≤ leaf_room
+array_leaf_right : (size : ℕ) (run : List Last) (p : PagePlace) (ws : List ℕ) (number : ℕ) → AllByRecursion (IsPut size) run → touches run p.low p.high ≡ true → span_of p.low p.high ≤ leaf_room
     → IsArrayPage size p ws → IsArrayPage size (moved p (suc number)) (put_all p.low p.high run (filled ws))
 array_leaf_right size run p ws number puts touched narrow is = record {
   none = λ e. absurd (omega (arith, e));
@@ -326,7 +326,7 @@ array_leaf_right size run p ws number puts touched narrow is = record {
 }
 
 -- numbers of pages below this one
-each_below : (run : List Last) (have number : ℕ) (qs : List Place) (ns : List ℕ) → EachWith (MayName run have number) qs ns → AllByRecursion (IsChild 0 number) ns
+each_below : (run : List Last) (have number : ℕ) (qs : List PagePlace) (ns : List ℕ) → EachWith (MayName run have number) qs ns → AllByRecursion (IsChild 0 number) ns
 each_below run have number [] [] all = tt
 each_below run have number [] (n ∷ ns) all = absurd all
 each_below run have number (q ∷ qs) [] all = absurd all
@@ -373,7 +373,7 @@ ends_in_zeros ns used n size within zeros =
     same_numbers : (xs ys : List ℕ) → length xs ≡ length ys → ((k : ℕ) → get_or xs k 0 ≡ get_or ys k 0) → xs ≡ ys
     same_numbers xs ys size all = ext_get_or 0 xs ys size (λ i h. all i)
 
-array_inner_right : (size have : ℕ) (run : List Last) (p : Place) (ws : List ℕ) (number : ℕ) (ns : List ℕ) → AllByRecursion (IsPut size) run → touches run p.low p.high ≡ true → leaf_room < span_of p.low p.high
+array_inner_right : (size have : ℕ) (run : List Last) (p : PagePlace) (ws : List ℕ) (number : ℕ) (ns : List ℕ) → AllByRecursion (IsPut size) run → touches run p.low p.high ≡ true → leaf_room < span_of p.low p.high
     → IsArrayPage size p ws → Cover p.low p.high (row ws (span_of p.low p.high / fan) p.low fan)
     → EachWith (MayName run have number) (row ws (span_of p.low p.high / fan) p.low fan) ns → IsArrayPage size (moved p number) ns
 array_inner_right size have run p ws number ns puts touched wide is cover all = record {
@@ -437,7 +437,7 @@ inner_below low high ws wide = ap (λ b. cond b [] (row ws (span_of low high / f
 pub arrays_lawful : (size : ℕ) (run : List Last) (old : List (List ℕ)) → AllByRecursion (IsPut size) run → IsLawful array_format (IsArrayPage size) AnyShape array_writer run old
 arrays_lawful size run old puts = record { leaf = leaf; below = below; right = right }
   where
-    leaf : (siblings : List (List ℕ)) (depth : ℕ) (p : Place) → StandsTo array_format (IsArrayPage size) old (suc depth) p → touches run p.low p.high ≡ true → places_below array_format old p ≡ []
+    leaf : (siblings : List (List ℕ)) (depth : ℕ) (p : PagePlace) → StandsTo array_format (IsArrayPage size) old (suc depth) p → touches run p.low p.high ≡ true → places_below array_format old p ≡ []
         → IsMade array_format (IsArrayPage size) AnyShape run old (old ++ siblings) (put_all p.low p.high run (filled (words_at old p)) ∷ []) (suc depth) 1 p (suc (length (old ++ siblings)))
     leaf siblings depth p s t none =
         let narrow : span_of p.low p.high ≤ leaf_room = narrow_where p.low p.high (words_at old p) none in
@@ -450,7 +450,7 @@ arrays_lawful size run old puts = record { leaf = leaf; below = below; right = r
         ∙ ap (λ f. overlaid f (entry_for run key)) (look_filled p.low key (words_at old p)))
         (array_leaf_right size run p (words_at old p) (length (old ++ siblings)) puts t narrow s.right) (λ later. tt)
 
-    below : (w : List ℕ) (p : Place) (number : ℕ) (ns : List ℕ) → IsArrayPage size p w → EachWith (MayName run (length old) number) (array_below w p.low p.high) ns
+    below : (w : List ℕ) (p : PagePlace) (number : ℕ) (ns : List ℕ) → IsArrayPage size p w → EachWith (MayName run (length old) number) (array_below w p.low p.high) ns
         → array_below ns p.low p.high ≡ all_moved (array_below w p.low p.high) ns
     below w p number ns is =
         elim (leb (span_of p.low p.high) leaf_room) as (λ b. EachWith (MayName run (length old) number) (cond b [] (row w (span_of p.low p.high / fan) p.low fan)) ns
@@ -459,7 +459,7 @@ arrays_lawful size run old puts = record { leaf = leaf; below = below; right = r
           | false ↦ λ all. row_moved (MayName run (length old) number) w (span_of p.low p.high / fan) p.low fan ns all
         ]
 
-    right : (w : List ℕ) (p : Place) (number : ℕ) (q : Place) (qs : List Place) (ns : List ℕ) → IsArrayPage size p w → Tiles p.low p.high (array_below w p.low p.high) → touches run p.low p.high ≡ true
+    right : (w : List ℕ) (p : PagePlace) (number : ℕ) (q : PagePlace) (qs : List PagePlace) (ns : List ℕ) → IsArrayPage size p w → Tiles p.low p.high (array_below w p.low p.high) → touches run p.low p.high ≡ true
         → array_below w p.low p.high ≡ q ∷ qs → EachWith (MayName run (length old) number) (array_below w p.low p.high) ns → IsArrayPage size (moved p number) ns
     right w p number q qs ns is tiles t e all =
         elim (cases_lt leaf_room (span_of p.low p.high)) [
@@ -467,6 +467,6 @@ arrays_lawful size run old puts = record { leaf = leaf; below = below; right = r
               let same = inner_below p.low p.high w wide in
               array_inner_right size (length old) run p w number ns puts t wide is
               (cover_of p.low p.high w (span_of p.low p.high / fan) fan (omega (arith, fan_is)) (subst (Tiles p.low p.high) same tiles))
-              (subst (λ (l : List Place). EachWith (MayName run (length old) number) l ns) same all)
+              (subst (λ (l : List PagePlace). EachWith (MayName run (length old) number) l ns) same all)
           | inr narrow ↦ let gone : [] ≡ q ∷ qs = sym (leaf_below p.low p.high w narrow) ∙ e in absurd (cc)
         ]

@@ -7,10 +7,10 @@ use Rattle.std.proofs.lemmas.Bool.{cases_lt}
 use Rattle.lists.specs.Each.{all_take, all_drop}
 use Rattle.wire_form.specs.Pages.{IsChild}
 use Rattle.snapshot_store.specs.Places.{Found, Format, Cover, StandsTo, moved}
-use Rattle.snapshot_store.specs.declared.place.Place.{Place}
+use Rattle.snapshot_store.specs.declared.place.PagePlace.{PagePlace}
 use Rattle.snapshot_store.specs.TreePages.{Inner, children, node_below, record_for, records_of, tree_format, node_of, IsTreePage}
 use Rattle.root_composer.specs.declared.row.Row.{Row}
-use Rattle.root_composer.specs.Composed.{EachWith, all_moved, Holds, IsBuilt, AreBuilt}
+use Rattle.root_composer.specs.Composed.{EachWith, all_moved, HoldsRange, IsBuilt, AreBuilt}
 use Rattle.root_composer.specs.Composer.{Made, AllMade}
 use Rattle.root_composer.specs.Rows.{row_for, Ascends}
 use Rattle.root_composer.specs.Build.{leaf_most, fan_most, leaf_words, inner_words, cut_of, runs_of, first_key, begins, build_each, one_leaf, over, build}
@@ -58,19 +58,19 @@ same_children low high (s ∷ ss) (n ∷ ns) = ap (λ t. (record { number = n; l
 
 -- ---- a page for each run
 
-abbrev BuiltRight : Format → (Place → List ℕ → Type 0) → ℕ → List (List ℕ) → (ℕ → Option Found) → Place → Made → Type 0
+abbrev BuiltRight : Format → (PagePlace → List ℕ → Type 0) → ℕ → List (List ℕ) → (ℕ → Option Found) → PagePlace → Made → Type 0
 BuiltRight F Is have before t p m = IsBuilt F Is have before m.pages m.levels t p m.number
 
-abbrev EachBuilt : Format → (Place → List ℕ → Type 0) → ℕ → List (List ℕ) → (ℕ → Option Found) → ℕ → ℕ → List ℕ → AllMade → Type 0
+abbrev EachBuilt : Format → (PagePlace → List ℕ → Type 0) → ℕ → List (List ℕ) → (ℕ → Option Found) → ℕ → ℕ → List ℕ → AllMade → Type 0
 EachBuilt F Is have before t low high ss m = AreBuilt F Is have before m.pages m.levels t (children low high ss m.numbers) m.numbers × (length ss + 1 ≡ length m.numbers)
 
-each_built : (F : Format) (Is : Place → List ℕ → Type 0) (have : ℕ) (P : List Row → Type 0) (f : ℕ → ℕ → List Row → ℕ → Made)
-    → ((p : Place) (r : List Row) (before : List (List ℕ)) → P r → Ascends p.low p.high r → p.low ≤ p.high → have ≤ length before → BuiltRight F Is have before (row_for r) p (f p.low p.high r (length before)))
+each_built : (F : Format) (Is : PagePlace → List ℕ → Type 0) (have : ℕ) (P : List Row → Type 0) (f : ℕ → ℕ → List Row → ℕ → Made)
+    → ((p : PagePlace) (r : List Row) (before : List (List ℕ)) → P r → Ascends p.low p.high r → p.low ≤ p.high → have ≤ length before → BuiltRight F Is have before (row_for r) p (f p.low p.high r (length before)))
     → (low high : ℕ) (r : List Row) (rs : List (List Row)) (before : List (List ℕ)) (count : ℕ) → count ≡ length before → have ≤ length before → AreRuns P low high (r ∷ rs)
     → EachBuilt F Is have before (row_for (all_of (r ∷ rs))) low high (begins (r ∷ rs)) (build_each f low high (r ∷ rs) count)
 each_built F Is have P f h low high r [] before count e le a =
     let m : Made = f low high r count in
-    let q : Place = record { number = m.number; low = low; high = high } in
+    let q : PagePlace = record { number = m.number; low = low; high = high } in
     let one : BuiltRight F Is have before (row_for r) (record { number = (f low high r count).number; low = low; high = high }) (f low high r count) =
     subst (λ (n : ℕ). BuiltRight F Is have before (row_for r) (record { number = (f low high r count).number; low = low; high = high }) (f low high r n)) (sym e) (h q r before a.0 a.1 a.2 le) in (
       one_more_built F Is have before m.pages [] m.levels 0 (max m.levels 0) (row_for (all_of (r ∷ []))) q m.number [] [] refl
@@ -80,7 +80,7 @@ each_built F Is have P f h low high r [] before count e le a =
     )
 each_built F Is have P f h low high r (s ∷ ss) before count e le a =
     let m : Made = f low (first_key s - 1) r count in
-    let q : Place = record { number = m.number; low = low; high = first_key s - 1 } in
+    let q : PagePlace = record { number = m.number; low = low; high = first_key s - 1 } in
     let one : BuiltRight F Is have before (row_for r) (record { number = (f low (first_key s - 1) r count).number; low = low; high = first_key s - 1 }) (f low (first_key s - 1) r count) =
     subst (λ (n : ℕ). BuiltRight F Is have before (row_for r) (record { number = (f low (first_key s - 1) r count).number; low = low; high = first_key s - 1 }) (f low (first_key s - 1) r n)) (sym e) (h q r before a.0 a.1 (omega (arith, a.2)) le) in
     let next : count + length m.pages ≡ length (before ++ m.pages) = omega (arith, e, length-append before m.pages) in
@@ -151,22 +151,22 @@ length-begins r (s ∷ ss) = ap suc (length-begins s ss)
 
 -- ---- building
 
-built_names : (F : Format) (Is : Place → List ℕ → Type 0) (have : ℕ) (before made : List (List ℕ)) (levels : ℕ) (t : ℕ → Option Found) (low high : ℕ) (ss ns : List ℕ)
+built_names : (F : Format) (Is : PagePlace → List ℕ → Type 0) (have : ℕ) (before made : List (List ℕ)) (levels : ℕ) (t : ℕ → Option Found) (low high : ℕ) (ss ns : List ℕ)
     → AreBuilt F Is have before made levels t (children low high ss ns) ns → length ss + 1 ≡ length ns → AllByRecursion (IsChild 1 (suc (length before + length made))) ns
 built_names F Is have before made levels t low high ss ns are e = names low high ss ns (are.hold [] levels (omega arith)) are.above e
   where
-    fits : (n d : ℕ) (p : Place) → StandsTo F Is (before ++ (made ++ [])) d (moved p n) → n < suc (length before + length made)
+    fits : (n d : ℕ) (p : PagePlace) → StandsTo F Is (before ++ (made ++ [])) d (moved p n) → n < suc (length before + length made)
     fits n zero p s = absurd s
     fits n (suc d) p s = omega (arith, s.there, length-append before (made ++ []), length-append {A = List ℕ} made [])
 
-    names : (low high : ℕ) (ss ns : List ℕ) → EachWith (Holds F Is (before ++ (made ++ [])) levels t) (children low high ss ns) ns → EachWith (λ q n. have < n) (children low high ss ns) ns → length ss + 1 ≡ length ns
+    names : (low high : ℕ) (ss ns : List ℕ) → EachWith (HoldsRange F Is (before ++ (made ++ [])) levels t) (children low high ss ns) ns → EachWith (λ q n. have < n) (children low high ss ns) ns → length ss + 1 ≡ length ns
         → AllByRecursion (IsChild 1 (suc (length before + length made))) ns
     names low high ss [] all more e = tt
     names low high [] (n ∷ []) all more e = ((omega (arith, more.0), fits n levels (record { number = n; low = low; high = high }) all.0.stands), tt)
     names low high [] (n ∷ m ∷ ms) all more e = absurd (omega (arith, e))
     names low high (s ∷ ss) (n ∷ ns) all more e = ((omega (arith, more.0), fits n levels (record { number = n; low = low; high = s - 1 }) all.0.stands), names s high ss ns all.1 more.1 (omega arith))
 
-leaf_built_right : (have : ℕ) (p : Place) (rs : List Row) (before : List (List ℕ)) → length rs ≤ leaf_most → Ascends p.low p.high rs → AllByRecursion IsNumbered rs → have ≤ length before
+leaf_built_right : (have : ℕ) (p : PagePlace) (rs : List Row) (before : List (List ℕ)) → length rs ≤ leaf_most → Ascends p.low p.high rs → AllByRecursion IsNumbered rs → have ≤ length before
     → BuiltRight tree_format IsTreePage have before (row_for rs) p (one_leaf p.low p.high rs (length before))
 leaf_built_right have p rs before short a is le =
     leaf_built tree_format IsTreePage have before (row_for rs) (leaf_words p.low p.high rs) p le
@@ -174,7 +174,7 @@ leaf_built_right have p rs before short a is le =
     (λ key x y. ap (λ n. record_for (records_of n) key) (leaf_back p.low p.high rs short) ∙ record_for-records rs key)
     (leaf_is p (suc (length before)) rs (omega arith) short a is)
 
-over_right : (have : ℕ) (t : ℕ → Option Found) (p : Place) (s : ℕ) (ss : List ℕ) (ns : List ℕ) (before made : List (List ℕ)) (levels : ℕ) → have ≤ length before
+over_right : (have : ℕ) (t : ℕ → Option Found) (p : PagePlace) (s : ℕ) (ss : List ℕ) (ns : List ℕ) (before made : List (List ℕ)) (levels : ℕ) → have ≤ length before
     → Separate p.low p.high (s ∷ ss) → length (s ∷ ss) + 1 ≡ length ns → length ns ≤ fan_most
     → AreBuilt tree_format IsTreePage have before made levels t (children p.low p.high (s ∷ ss) ns) ns
     → IsBuilt tree_format IsTreePage have before (made ++ inner_words p.low p.high (s ∷ ss) ns ∷ []) (suc levels) t p (suc (length before + length made))
@@ -191,10 +191,10 @@ over_right have t p s ss (n ∷ ns) before made levels le sep e most are =
 
 abbrev BuildsRight : ℕ → ℕ → (ℕ → ℕ → List Row → ℕ → Made) → Type 0
 BuildsRight have fuel f =
-    (p : Place) (rs : List Row) (before : List (List ℕ)) → length rs ≤ fuel → Ascends p.low p.high rs → p.low ≤ p.high → AllByRecursion IsNumbered rs → have ≤ length before
+    (p : PagePlace) (rs : List Row) (before : List (List ℕ)) → length rs ≤ fuel → Ascends p.low p.high rs → p.low ≤ p.high → AllByRecursion IsNumbered rs → have ≤ length before
     → BuiltRight tree_format IsTreePage have before (row_for rs) p (f p.low p.high rs (length before))
 
-cut_right : (have fuel : ℕ) (f : ℕ → ℕ → List Row → ℕ → Made) (p : Place) (rs : List Row) (before : List (List ℕ)) → BuildsRight have fuel f
+cut_right : (have fuel : ℕ) (f : ℕ → ℕ → List Row → ℕ → Made) (p : PagePlace) (rs : List Row) (before : List (List ℕ)) → BuildsRight have fuel f
     → length rs ≤ suc fuel → Ascends p.low p.high rs → p.low ≤ p.high → AllByRecursion IsNumbered rs → have ≤ length before
     → (ks : List ℕ) → total ks ≡ length rs → 2 ≤ length ks → length ks ≤ fan_most → AllByRecursion (IsPart (length rs)) ks
     → BuiltRight tree_format IsTreePage have before (row_for rs) p (over p.low p.high (runs_of ks rs) (length before) (build_each f p.low p.high (runs_of ks rs) (length before)))

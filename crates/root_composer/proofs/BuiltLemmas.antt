@@ -7,12 +7,12 @@ use Rattle.std.proofs.lemmas.Bool.{cases_lt}
 use Rattle.root_composer.specs.Overlaid.{entry_for, touches, overlaid}
 use Rattle.root_composer.specs.declared.last.Last.{Last}
 use Rattle.snapshot_store.specs.Places.{Found, Format, page, words_at, places_below, at_key, on_way, find, here_or_below, Cover, Tiles, StandsTo, moved, newer}
-use Rattle.snapshot_store.specs.declared.place.Place.{Place}
-use Rattle.root_composer.specs.Composed.{numbered, Follows, Succeeds, WaysFollow, IsMade, all_moved, EachWith, Holds, IsBuilt, AreBuilt}
+use Rattle.snapshot_store.specs.declared.place.PagePlace.{PagePlace}
+use Rattle.root_composer.specs.Composed.{numbered, Follows, Succeeds, WaysFollow, IsMade, all_moved, EachWith, HoldsRange, IsBuilt, AreBuilt}
 use Rattle.root_composer.proofs.MadeLemmas.{at_most, above, regroup, numbered-append, cover_moved, page_there}
 
 -- what is told otherwise of the same keys
-pub retold : (F : Format) (Is : Place → List ℕ → Type 0) (have : ℕ) (before made : List (List ℕ)) (levels : ℕ) (t u : ℕ → Option Found) (p : Place) (n : ℕ)
+pub retold : (F : Format) (Is : PagePlace → List ℕ → Type 0) (have : ℕ) (before made : List (List ℕ)) (levels : ℕ) (t u : ℕ → Option Found) (p : PagePlace) (n : ℕ)
     → ((key : ℕ) → p.low ≤ key → key ≤ p.high → t key ≡ u key) → IsBuilt F Is have before made levels t p n → IsBuilt F Is have before made levels u p n
 retold F Is have before made levels t u p n same b = record {
   holds = λ later d le. let h = b.holds later d le in record { content = λ (key : ℕ) x y. h.content key x y ∙ same key x y; stands = h.stands };
@@ -21,8 +21,8 @@ retold F Is have before made levels t u p n same b = record {
   least = b.least;
 }
 
-each_retold : (F : Format) (Is : Place → List ℕ → Type 0) (new : List (List ℕ)) (d low high : ℕ) (t u : ℕ → Option Found) (qs : List Place) (ns : List ℕ)
-    → Cover low high qs → ((key : ℕ) → low ≤ key → key ≤ high → t key ≡ u key) → EachWith (Holds F Is new d t) qs ns → EachWith (Holds F Is new d u) qs ns
+each_retold : (F : Format) (Is : PagePlace → List ℕ → Type 0) (new : List (List ℕ)) (d low high : ℕ) (t u : ℕ → Option Found) (qs : List PagePlace) (ns : List ℕ)
+    → Cover low high qs → ((key : ℕ) → low ≤ key → key ≤ high → t key ≡ u key) → EachWith (HoldsRange F Is new d t) qs ns → EachWith (HoldsRange F Is new d u) qs ns
 each_retold F Is new d low high t u [] [] c same all = tt
 each_retold F Is new d low high t u [] (n ∷ ns) c same all = all
 each_retold F Is new d low high t u (q ∷ qs) [] c same all = all
@@ -31,7 +31,7 @@ each_retold F Is new d low high t u (q ∷ qs) (n ∷ ns) c same all = (
   each_retold F Is new d (q.high + 1) high t u qs ns c.3 (λ (key : ℕ) x y. same key (omega (arith, c.1)) y) all.1,
 )
 
-pub all_retold : (F : Format) (Is : Place → List ℕ → Type 0) (have : ℕ) (before made : List (List ℕ)) (levels low high : ℕ) (t u : ℕ → Option Found) (qs : List Place) (ns : List ℕ)
+pub all_retold : (F : Format) (Is : PagePlace → List ℕ → Type 0) (have : ℕ) (before made : List (List ℕ)) (levels low high : ℕ) (t u : ℕ → Option Found) (qs : List PagePlace) (ns : List ℕ)
     → Cover low high qs → ((key : ℕ) → low ≤ key → key ≤ high → t key ≡ u key) → AreBuilt F Is have before made levels t qs ns → AreBuilt F Is have before made levels u qs ns
 all_retold F Is have before made levels low high t u qs ns c same b = record {
   hold = λ later d le. each_retold F Is (before ++ (made ++ later)) d low high t u qs ns c same (b.hold later d le);
@@ -40,15 +40,15 @@ all_retold F Is have before made levels low high t u qs ns c same b = record {
   least = b.least;
 }
 
-pub none_built : (F : Format) (Is : Place → List ℕ → Type 0) (have : ℕ) (before : List (List ℕ)) (t : ℕ → Option Found) → AreBuilt F Is have before [] 0 t [] []
+pub none_built : (F : Format) (Is : PagePlace → List ℕ → Type 0) (have : ℕ) (before : List (List ℕ)) (t : ℕ → Option Found) → AreBuilt F Is have before [] 0 t [] []
 none_built F Is have before t = record { hold = λ later d le. tt; order = λ later d le. refl; above = tt; least = λ later d u. omega arith }
 
-pub one_more_built : (F : Format) (Is : Place → List ℕ → Type 0) (have : ℕ) (before first rest : List (List ℕ)) (l m levels : ℕ) (t : ℕ → Option Found) (q : Place) (n : ℕ) (qs : List Place) (ns : List ℕ)
+pub one_more_built : (F : Format) (Is : PagePlace → List ℕ → Type 0) (have : ℕ) (before first rest : List (List ℕ)) (l m levels : ℕ) (t : ℕ → Option Found) (q : PagePlace) (n : ℕ) (qs : List PagePlace) (ns : List ℕ)
     → levels ≡ max l m → IsBuilt F Is have before first l t q n → AreBuilt F Is have (before ++ first) rest m t qs ns → AreBuilt F Is have before (first ++ rest) levels t (q ∷ qs) (n ∷ ns)
 one_more_built F Is have before first rest l m levels t q n qs ns a one all = record {
   hold = λ (later : List (List ℕ)) (d : ℕ) le. (
-    subst (λ (x : List (List ℕ)). Holds F Is (before ++ x) d t q n) (sym (append_assoc first rest later)) (one.holds (rest ++ later) d (omega (arith, le))),
-    subst (λ (x : List (List ℕ)). EachWith (Holds F Is x d t) qs ns) (regroup before first rest later) (all.hold later d (omega (arith, le))),
+    subst (λ (x : List (List ℕ)). HoldsRange F Is (before ++ x) d t q n) (sym (append_assoc first rest later)) (one.holds (rest ++ later) d (omega (arith, le))),
+    subst (λ (x : List (List ℕ)). EachWith (HoldsRange F Is x d t) qs ns) (regroup before first rest later) (all.hold later d (omega (arith, le))),
   );
   order = λ (later : List (List ℕ)) (d : ℕ) le.
       let x = subst (λ (x : List (List ℕ)). newer F (before ++ x) have d (moved q n) ≡ numbered (length before + 1) first) (sym (append_assoc first rest later)) (one.order (rest ++ later) d (omega (arith, le))) in
@@ -63,8 +63,8 @@ one_more_built F Is have before first rest l m levels t q n qs ns a one all = re
       omega (arith, x, y, a);
 }
 
-found_built : (F : Format) (Is : Place → List ℕ → Type 0) (new : List (List ℕ)) (d key low high : ℕ) (t : ℕ → Option Found) (qs : List Place) (ns : List ℕ)
-    → Cover low high qs → low ≤ key → key ≤ high → EachWith (Holds F Is new d t) qs ns → at_key key (find F new d key) (all_moved qs ns) ≡ t key
+found_built : (F : Format) (Is : PagePlace → List ℕ → Type 0) (new : List (List ℕ)) (d key low high : ℕ) (t : ℕ → Option Found) (qs : List PagePlace) (ns : List ℕ)
+    → Cover low high qs → low ≤ key → key ≤ high → EachWith (HoldsRange F Is new d t) qs ns → at_key key (find F new d key) (all_moved qs ns) ≡ t key
 found_built F Is new d key low high t [] ns c le ge all = absurd (omega (arith, c))
 found_built F Is new d key low high t (r ∷ rs) [] c le ge all = absurd all
 found_built F Is new d key low high t (r ∷ rs) (m ∷ ms) c le ge all =
@@ -73,13 +73,13 @@ found_built F Is new d key low high t (r ∷ rs) (m ∷ ms) c le ge all =
       | inr h ↦ rw (at_most key r.high h) (all.0.content key (omega (arith, c.0)) h)
     ]
 
-each_stands : (F : Format) (Is : Place → List ℕ → Type 0) (new : List (List ℕ)) (d : ℕ) (t : ℕ → Option Found) (qs : List Place) (ns : List ℕ) → EachWith (Holds F Is new d t) qs ns → AllByRecursion (StandsTo F Is new d) (all_moved qs ns)
+each_stands : (F : Format) (Is : PagePlace → List ℕ → Type 0) (new : List (List ℕ)) (d : ℕ) (t : ℕ → Option Found) (qs : List PagePlace) (ns : List ℕ) → EachWith (HoldsRange F Is new d t) qs ns → AllByRecursion (StandsTo F Is new d) (all_moved qs ns)
 each_stands F Is new d t [] ns all = tt
 each_stands F Is new d t (q ∷ qs) [] all = absurd all
 each_stands F Is new d t (q ∷ qs) (n ∷ ns) all = (all.0.stands, each_stands F Is new d t qs ns all.1)
 
 -- the page above places that were built
-pub page_built : (F : Format) (Is : Place → List ℕ → Type 0) (have : ℕ) (before made : List (List ℕ)) (levels : ℕ) (t : ℕ → Option Found) (w : List ℕ) (p q : Place) (qs : List Place) (n : ℕ) (ns : List ℕ)
+pub page_built : (F : Format) (Is : PagePlace → List ℕ → Type 0) (have : ℕ) (before made : List (List ℕ)) (levels : ℕ) (t : ℕ → Option Found) (w : List ℕ) (p q : PagePlace) (qs : List PagePlace) (n : ℕ) (ns : List ℕ)
     → have ≤ length before → Cover p.low p.high (q ∷ qs) → F.below w p.low p.high ≡ all_moved (q ∷ qs) (n ∷ ns) → Is (moved p (suc (length before + length made))) w
     → AreBuilt F Is have before made levels t (q ∷ qs) (n ∷ ns) → IsBuilt F Is have before (made ++ w ∷ []) (suc levels) t p (suc (length before + length made))
 page_built F Is have before made levels t w p q qs n ns le cover kids is are = record {
@@ -95,10 +95,10 @@ page_built F Is have before made levels t w p q qs n ns le cover kids is are = r
     down : (later : List (List ℕ)) → places_below F (before ++ ((made ++ w ∷ []) ++ later)) (moved p (suc (length before + length made))) ≡ all_moved (q ∷ qs) (n ∷ ns)
     down later = ap (λ ws. F.below ws p.low p.high) (page_there before made later w) ∙ kids
 
-    holds : (later : List (List ℕ)) (d : ℕ) → suc levels ≤ d → Holds F Is (before ++ ((made ++ w ∷ []) ++ later)) d t p (suc (length before + length made))
+    holds : (later : List (List ℕ)) (d : ℕ) → suc levels ≤ d → HoldsRange F Is (before ++ ((made ++ w ∷ []) ++ later)) d t p (suc (length before + length made))
     holds later zero h = absurd (omega (arith, h))
     holds later (suc d) h =
-        let all = subst (λ (x : List (List ℕ)). EachWith (Holds F Is x d t) (q ∷ qs) (n ∷ ns)) (same later) (are.hold (w ∷ later) d (omega arith)) in
+        let all = subst (λ (x : List (List ℕ)). EachWith (HoldsRange F Is x d t) (q ∷ qs) (n ∷ ns)) (same later) (are.hold (w ∷ later) d (omega arith)) in
         record {
           content = λ (key : ℕ) a b.
               ap (λ ts. here_or_below (F.look (words_at (before ++ ((made ++ w ∷ []) ++ later)) (moved p (suc (length before + length made)))) p.low key) (at_key key (find F (before ++ ((made ++ w ∷ []) ++ later)) d key) ts) ts) (down later)
@@ -106,7 +106,7 @@ page_built F Is have before made levels t w p q qs n ns le cover kids is are = r
           stands = record {
             there = omega (arith, length-append before ((made ++ w ∷ []) ++ later), length-append (made ++ w ∷ []) later, length-append made (w ∷ []));
             right = subst (λ (ws : List ℕ). Is (moved p (suc (length before + length made))) ws) (sym (page_there before made later w)) is;
-            tiles = subst (Tiles p.low p.high) (sym (down later)) (cover_moved (Holds F Is (before ++ ((made ++ w ∷ []) ++ later)) d t) p.low p.high (q ∷ qs) (n ∷ ns) all cover);
+            tiles = subst (Tiles p.low p.high) (sym (down later)) (cover_moved (HoldsRange F Is (before ++ ((made ++ w ∷ []) ++ later)) d t) p.low p.high (q ∷ qs) (n ∷ ns) all cover);
             below = subst (AllByRecursion (StandsTo F Is (before ++ ((made ++ w ∷ []) ++ later)) d)) (sym (down later)) (each_stands F Is (before ++ ((made ++ w ∷ []) ++ later)) d t (q ∷ qs) (n ∷ ns) all);
           };
         }
@@ -131,7 +131,7 @@ page_built F Is have before made levels t w p q qs n ns le cover kids is are = r
         omega (arith, x)
 
 -- a leaf that was built
-pub leaf_built : (F : Format) (Is : Place → List ℕ → Type 0) (have : ℕ) (before : List (List ℕ)) (t : ℕ → Option Found) (w : List ℕ) (p : Place)
+pub leaf_built : (F : Format) (Is : PagePlace → List ℕ → Type 0) (have : ℕ) (before : List (List ℕ)) (t : ℕ → Option Found) (w : List ℕ) (p : PagePlace)
     → have ≤ length before → F.below w p.low p.high ≡ [] → ((key : ℕ) → p.low ≤ key → key ≤ p.high → F.look w p.low key ≡ t key) → Is (moved p (suc (length before))) w
     → IsBuilt F Is have before (w ∷ []) 1 t p (suc (length before))
 leaf_built F Is have before t w p le still look is = record {
@@ -147,7 +147,7 @@ leaf_built F Is have before t w p le still look is = record {
     down : (later : List (List ℕ)) → places_below F (before ++ ((w ∷ []) ++ later)) (moved p (suc (length before))) ≡ []
     down later = ap (λ ws. F.below ws p.low p.high) (there later) ∙ still
 
-    holds : (later : List (List ℕ)) (d : ℕ) → 1 ≤ d → Holds F Is (before ++ ((w ∷ []) ++ later)) d t p (suc (length before))
+    holds : (later : List (List ℕ)) (d : ℕ) → 1 ≤ d → HoldsRange F Is (before ++ ((w ∷ []) ++ later)) d t p (suc (length before))
     holds later zero h = absurd (omega (arith, h))
     holds later (suc d) h = record {
       content = λ (key : ℕ) a b.
@@ -168,12 +168,12 @@ leaf_built F Is have before t w p le still look is = record {
         rw (above (suc (length before)) have (omega arith))
         (ap (λ ts. flat_map (newer F (before ++ ((w ∷ []) ++ later)) have d) ts ++ suc (length before) ∷ []) (down later) ∙ ap (λ k. k ∷ []) (omega arith))
 
-    some : (d : ℕ) (r : Place) (pages : List (List ℕ)) → StandsTo F Is pages d r → 1 ≤ d
+    some : (d : ℕ) (r : PagePlace) (pages : List (List ℕ)) → StandsTo F Is pages d r → 1 ≤ d
     some zero r pages u = absurd u
     some (suc d) r pages u = omega arith
 
 -- a leaf of the old snapshot whose range was built anew
-pub made_of_built : (F : Format) (Is : Place → List ℕ → Type 0) (S : List (List ℕ) → Place → Type 0) (run : List Last) (old before made : List (List ℕ)) (depth levels : ℕ) (t : ℕ → Option Found) (p : Place) (n : ℕ)
+pub made_of_built : (F : Format) (Is : PagePlace → List ℕ → Type 0) (S : List (List ℕ) → PagePlace → Type 0) (run : List Last) (old before made : List (List ℕ)) (depth levels : ℕ) (t : ℕ → Option Found) (p : PagePlace) (n : ℕ)
     → touches run p.low p.high ≡ true → places_below F old p ≡ [] → ((key : ℕ) → p.low ≤ key → key ≤ p.high → t key ≡ overlaid (F.look (words_at old p) p.low key) (entry_for run key))
     → IsBuilt F Is (length old) before made levels t p n → ((later : List (List ℕ)) → S (before ++ (made ++ later)) (moved p n)) → IsMade F Is S run old before made (suc depth) levels p n
 made_of_built F Is S run old before made depth levels t p n touched none same b shape = record {
@@ -191,5 +191,5 @@ made_of_built F Is S run old before made depth levels t p n touched none same b 
     mine = record { kept = λ f. absurd (cc); made = λ _. b.above }
 
     way : (later : List (List ℕ)) → WaysFollow F S run old (before ++ (made ++ later)) p (moved p n)
-    way later zero key r x y h = let same : p ≡ r = cc in subst (λ (z : Place). (k : ℕ) × (Some (moved p n) ≡ Some (moved z k)) × Succeeds F S run old (before ++ (made ++ later)) z k) same (n, refl, record { follows = mine; shape = λ u gone. shape later })
+    way later zero key r x y h = let same : p ≡ r = cc in subst (λ (z : PagePlace). (k : ℕ) × (Some (moved p n) ≡ Some (moved z k)) × Succeeds F S run old (before ++ (made ++ later)) z k) same (n, refl, record { follows = mine; shape = λ u gone. shape later })
     way later (suc e) key r x y h = let gone : None ≡ Some r = ap (at_key key (on_way F old e key)) (sym none) ∙ h in absurd (cc)

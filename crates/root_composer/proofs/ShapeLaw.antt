@@ -4,7 +4,7 @@ use Rattle.std.specs.Prelude.{⊤}
 use Rattle.std.specs.List.{AllByRecursion, flat_map}
 use Rattle.std.proofs.lemmas.List.{length-append, length-drop, length-take-le, append-nil, get_or_at}
 use Rattle.std.proofs.lemmas.Bool.{cases_lt}
-use Rattle.snapshot_store.specs.declared.place.Place.{Place}
+use Rattle.snapshot_store.specs.declared.place.PagePlace.{PagePlace}
 use Rattle.snapshot_store.specs.Places.{page}
 use Rattle.snapshot_store.specs.TreePages.{Leaf, Inner, children, node_of, node_below, records_of}
 use Rattle.root_composer.specs.declared.row.Row.{Row}
@@ -18,10 +18,10 @@ use Rattle.root_composer.proofs.CutLaw.{leaf_most_is, total, IsPart, cuts}
 use Rattle.root_composer.proofs.TreePageLemmas.{rows_records, leaf_back, inner_back}
 
 -- a place has these rows, and the shape that they ask for
-abbrev pub Shapes : List (List ℕ) → ℕ → Place → List Row → Type 0
+abbrev pub Shapes : List (List ℕ) → ℕ → PagePlace → List Row → Type 0
 Shapes new d p rs = (rows_under new d p ≡ rs) × IsShaped new d p
 
-abbrev EachShapes : List (List ℕ) → ℕ → List Place → List (List Row) → Type 0
+abbrev EachShapes : List (List ℕ) → ℕ → List PagePlace → List (List Row) → Type 0
 EachShapes new d [] [] = ⊤
 EachShapes new d [] (r ∷ rs) = ⊥
 EachShapes new d (q ∷ qs) [] = ⊥
@@ -62,19 +62,19 @@ each_shaped fuel f h low high r (s ∷ ss) before count e short =
 
 -- ---- what that says of the page above
 
-all_under : (new : List (List ℕ)) (d : ℕ) (qs : List Place) (runs : List (List Row)) → EachShapes new d qs runs → flat_map (rows_under new d) qs ≡ all_of runs
+all_under : (new : List (List ℕ)) (d : ℕ) (qs : List PagePlace) (runs : List (List Row)) → EachShapes new d qs runs → flat_map (rows_under new d) qs ≡ all_of runs
 all_under new d [] [] all = refl
 all_under new d [] (r ∷ rs) all = absurd all
 all_under new d (q ∷ qs) [] all = absurd all
 all_under new d (q ∷ qs) (r ∷ rs) all = ap (λ t. t ++ flat_map (rows_under new d) qs) all.0.0 ∙ ap (λ t. r ++ t) (all_under new d qs rs all.1)
 
-counts_are : (new : List (List ℕ)) (d : ℕ) (qs : List Place) (runs : List (List Row)) → EachShapes new d qs runs → map (λ q. length (rows_under new d q)) qs ≡ map (λ r. length r) runs
+counts_are : (new : List (List ℕ)) (d : ℕ) (qs : List PagePlace) (runs : List (List Row)) → EachShapes new d qs runs → map (λ q. length (rows_under new d q)) qs ≡ map (λ r. length r) runs
 counts_are new d [] [] all = refl
 counts_are new d [] (r ∷ rs) all = absurd all
 counts_are new d (q ∷ qs) [] all = absurd all
 counts_are new d (q ∷ qs) (r ∷ rs) all = ap (λ n. n ∷ map (λ q. length (rows_under new d q)) qs) (ap (λ l. length l) all.0.0) ∙ ap (λ t. length r ∷ t) (counts_are new d qs rs all.1)
 
-all_shaped : (new : List (List ℕ)) (d : ℕ) (qs : List Place) (runs : List (List Row)) → EachShapes new d qs runs → AllByRecursion (IsShaped new d) qs
+all_shaped : (new : List (List ℕ)) (d : ℕ) (qs : List PagePlace) (runs : List (List Row)) → EachShapes new d qs runs → AllByRecursion (IsShaped new d) qs
 all_shaped new d [] runs all = tt
 all_shaped new d (q ∷ qs) [] all = absurd all
 all_shaped new d (q ∷ qs) (r ∷ rs) all = (all.0.1, all_shaped new d qs rs all.1)
@@ -119,8 +119,8 @@ over_shaped low high rs r runs before count m e more whole counts most all later
 over_shaped low high rs r runs before count m e more whole counts most all later (suc d) h =
     let w : List ℕ = inner_words low high (begins (r ∷ runs)) m.numbers in
     let new : List (List ℕ) = before ++ ((m.pages ++ w ∷ []) ++ later) in
-    let p : Place = record { number = suc (count + length m.pages); low = low; high = high } in
-    let kids : List Place = children low high (begins (r ∷ runs)) m.numbers in
+    let p : PagePlace = record { number = suc (count + length m.pages); low = low; high = high } in
+    let kids : List PagePlace = children low high (begins (r ∷ runs)) m.numbers in
     let at : page new (suc (count + length m.pages)) ≡ w = ap (λ k. page new (suc (k + length m.pages))) e ∙ page_there before m.pages later w in
     let read : node_of (page new (suc (count + length m.pages))) ≡ Inner (begins (r ∷ runs)) m.numbers =
     ap node_of at ∙ inner_back low high (begins (r ∷ runs)) m.numbers (omega (arith, all.1, most)) (omega (arith, all.1, length-begins r runs)) in

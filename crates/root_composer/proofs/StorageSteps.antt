@@ -10,7 +10,7 @@ use Rattle.wire_form.specs.declared.records.Stored.{Stored}
 use Rattle.snapshot_store.specs.Places.{StandsTo}
 use Rattle.snapshot_store.specs.Content.{deepest, last_index, root_place, format_of, IsPageOf}
 use Rattle.snapshot_store.specs.ReadLaws.{deepest_is, last_small}
-use Rattle.snapshot_store.specs.declared.place.Place.{Place}
+use Rattle.snapshot_store.specs.declared.place.PagePlace.{PagePlace}
 use Rattle.serial_model.specs.Keys.{id_of}
 use Rattle.root_composer.specs.declared.last.Last.{Last}
 use Rattle.root_composer.specs.Composer.{Made, with_one}
@@ -25,57 +25,57 @@ use Rattle.root_composer.proofs.TreeSteps.{none_left_out, rest_behind, rest_deep
 -- ---- one storage
 
 -- an array's root stands
-pub array_stands : (run : List Entry) (old : List (List ℕ)) (s : Stored) (id size wide : ℕ) (p : Place) → s.decl ≡ Array id size
+pub array_stands : (run : List Entry) (old : List (List ℕ)) (s : Stored) (id size wide : ℕ) (p : PagePlace) → s.decl ≡ Array id size
     → IsReady run old s → p ≡ root_place s.decl s.root → wide ≡ size → ArrayStands wide old 32 p
 array_stands run old s id size wide p is ready place same =
     let stands = subst (λ (d : Decl). StandsTo (format_of d) (IsPageOf d) old deepest (root_place s.decl s.root)) is ready.stands in
     subst (λ (k : ℕ). ArrayStands k old 32 p) (sym same)
-    (subst (λ (q : Place). ArrayStands size old 32 q) (sym place)
+    (subst (λ (q : PagePlace). ArrayStands size old 32 q) (sym place)
     (subst (λ (k : ℕ). ArrayStands size old k (root_place s.decl s.root)) deepest_is stands))
 
 -- and its indexes are small
-pub array_small : (s : Stored) (id size : ℕ) (p : Place) → s.decl ≡ Array id size → p ≡ root_place s.decl s.root → p.high < 4294967296
+pub array_small : (s : Stored) (id size : ℕ) (p : PagePlace) → s.decl ≡ Array id size → p ≡ root_place s.decl s.root → p.high < 4294967296
 array_small s id size p is place =
-    let same : p.high ≡ last_index size = ap (λ (q : Place). q.high) place ∙ ap (λ (d : Decl). (root_place d s.root).high) is in
+    let same : p.high ≡ last_index size = ap (λ (q : PagePlace). q.high) place ∙ ap (λ (d : Decl). (root_place d s.root).high) is in
     omega (arith, same, last_small size)
 
 -- what is made for an array is what is made for the storage
-pub array_adds : (run : List Entry) (old before after : List (List ℕ)) (s : Stored) (id size : ℕ) (p : Place) (part : List Last) (n : ℕ)
+pub array_adds : (run : List Entry) (old before after : List (List ℕ)) (s : Stored) (id size : ℕ) (p : PagePlace) (part : List Last) (n : ℕ)
     → s.decl ≡ Array id size → part ≡ part_of id run → p ≡ root_place s.decl s.root
     → Adds before after n (array_one part old 32 p (length old + length before))
     → AddsWithin deepest before after n (compose_one run old s (length old + length before))
 array_adds run old before after s id size p part n is same place adds =
     let deep = subst (λ (k : ℕ). Adds before after n (array_one part old k p (length old + length before))) (sym deepest_is) adds in
     let whole = subst (λ (l : List Last). Adds before after n (array_one l old deepest p (length old + length before))) same deep in
-    let root = subst (λ (q : Place). Adds before after n (array_one (part_of id run) old deepest q (length old + length before))) place whole in
+    let root = subst (λ (q : PagePlace). Adds before after n (array_one (part_of id run) old deepest q (length old + length before))) place whole in
     subst (λ (d : Decl). AddsWithin deepest before after n (made_for d (part_of (id_of d) run) old (root_place s.decl s.root) (length old + length before))) (sym is)
     (record { number = root.number; pages = root.pages; levels = omega arith })
 
 -- the same of trees
-pub tree_stands : (run : List Entry) (old : List (List ℕ)) (s : Stored) (id : ℕ) (p : Place) → s.decl ≡ Tree id → IsReady run old s
+pub tree_stands : (run : List Entry) (old : List (List ℕ)) (s : Stored) (id : ℕ) (p : PagePlace) → s.decl ≡ Tree id → IsReady run old s
     → p ≡ root_place s.decl s.root → TreeStands old 32 p
 tree_stands run old s id p is ready place =
     let stands = subst (λ (d : Decl). StandsTo (format_of d) (IsPageOf d) old deepest (root_place s.decl s.root)) is ready.stands in
-    subst (λ (q : Place). TreeStands old 32 q) (sym place)
+    subst (λ (q : PagePlace). TreeStands old 32 q) (sym place)
     (subst (λ (k : ℕ). TreeStands old k (root_place s.decl s.root)) deepest_is stands)
 
-pub tree_adds : (run : List Entry) (old before after : List (List ℕ)) (s : Stored) (id : ℕ) (p : Place) (part : List Last) (n : ℕ)
+pub tree_adds : (run : List Entry) (old before after : List (List ℕ)) (s : Stored) (id : ℕ) (p : PagePlace) (part : List Last) (n : ℕ)
     → s.decl ≡ Tree id → part ≡ part_of id run → p ≡ root_place s.decl s.root
     → AddsWithin 32 before after n (tree_one part old 32 p (length old + length before))
     → AddsWithin deepest before after n (compose_one run old s (length old + length before))
 tree_adds run old before after s id p part n is same place adds =
     subst (λ (d : Decl). AddsWithin deepest before after n (made_for d (part_of (id_of d) run) old (root_place s.decl s.root) (length old + length before))) (sym is)
-    (subst (λ (q : Place). AddsWithin deepest before after n (tree_one (part_of id run) old deepest q (length old + length before))) place
+    (subst (λ (q : PagePlace). AddsWithin deepest before after n (tree_one (part_of id run) old deepest q (length old + length before))) place
     (subst (λ (l : List Last). AddsWithin deepest before after n (tree_one l old deepest p (length old + length before))) same
     (subst (λ (k : ℕ). AddsWithin k before after n (tree_one part old k p (length old + length before))) (sym deepest_is) adds)))
 
-pub tree_deep : (run : List Entry) (old before : List (List ℕ)) (s : Stored) (id : ℕ) (p : Place) (part : List Last) (fault : ComposeFault)
+pub tree_deep : (run : List Entry) (old before : List (List ℕ)) (s : Stored) (id : ℕ) (p : PagePlace) (part : List Last) (fault : ComposeFault)
     → s.decl ≡ Tree id → part ≡ part_of id run → p ≡ root_place s.decl s.root
     → WouldBeDeep 32 fault (tree_one part old 32 p (length old + length before))
     → WouldBeDeep deepest fault (compose_one run old s (length old + length before))
 tree_deep run old before s id p part fault is same place deep =
     subst (λ (d : Decl). WouldBeDeep deepest fault (made_for d (part_of (id_of d) run) old (root_place s.decl s.root) (length old + length before))) (sym is)
-    (subst (λ (q : Place). WouldBeDeep deepest fault (tree_one (part_of id run) old deepest q (length old + length before))) place
+    (subst (λ (q : PagePlace). WouldBeDeep deepest fault (tree_one (part_of id run) old deepest q (length old + length before))) place
     (subst (λ (l : List Last). WouldBeDeep deepest fault (tree_one l old deepest p (length old + length before))) same
     (subst (λ (k : ℕ). WouldBeDeep k fault (tree_one part old k p (length old + length before))) (sym deepest_is) deep)))
 

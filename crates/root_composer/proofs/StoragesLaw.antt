@@ -11,7 +11,7 @@ use Rattle.serial_model.specs.declared.decl.Decl.{Decl}
 use Rattle.serial_model.specs.declared.decl.Decl.TheVariants.{Array, Tree}
 use Rattle.wire_form.specs.declared.bucket.Entry.{Entry}
 use Rattle.wire_form.specs.declared.records.Stored.{Stored}
-use Rattle.snapshot_store.specs.declared.place.Place.{Place}
+use Rattle.snapshot_store.specs.declared.place.PagePlace.{PagePlace}
 use Rattle.snapshot_store.specs.TreePages.{tree_format, IsTreePage}
 use Rattle.snapshot_store.specs.Places.{Format, find, moved, newer, words_at, places_below, StandsTo}
 use Rattle.snapshot_store.specs.ArrayPages.{array_format, IsArrayPage}
@@ -57,8 +57,8 @@ stored_with d root = record { decl = d; root = root }
 
 -- ---- at most so many pages one below another
 
-levels_each : (size : ℕ) (run : List Last) (old : List (List ℕ)) (d : ℕ) (qs : List Place) (before : ℕ)
-    → ((q : Place) (b : ℕ) → StandsTo array_format (IsArrayPage size) old d q → (array_one run old d q b).levels ≤ d)
+levels_each : (size : ℕ) (run : List Last) (old : List (List ℕ)) (d : ℕ) (qs : List PagePlace) (before : ℕ)
+    → ((q : PagePlace) (b : ℕ) → StandsTo array_format (IsArrayPage size) old d q → (array_one run old d q b).levels ≤ d)
     → AllByRecursion (StandsTo array_format (IsArrayPage size) old d) qs → (compose_each (array_one run old d) qs before).levels ≤ d
 levels_each size run old d [] before one all = omega arith
 levels_each size run old d (q ∷ qs) before one all =
@@ -66,13 +66,13 @@ levels_each size run old d (q ∷ qs) before one all =
     let rest = levels_each size run old d qs (before + length (array_one run old d q before).pages) one all.1 in
     omega (arith, first, rest)
 
-levels_written : (size : ℕ) (run : List Last) (old : List (List ℕ)) (d : ℕ) (p : Place) (before : ℕ) (ws : List ℕ) (qs : List Place)
-    → ((q : Place) (b : ℕ) → StandsTo array_format (IsArrayPage size) old d q → (array_one run old d q b).levels ≤ d)
+levels_written : (size : ℕ) (run : List Last) (old : List (List ℕ)) (d : ℕ) (p : PagePlace) (before : ℕ) (ws : List ℕ) (qs : List PagePlace)
+    → ((q : PagePlace) (b : ℕ) → StandsTo array_format (IsArrayPage size) old d q → (array_one run old d q b).levels ≤ d)
     → AllByRecursion (StandsTo array_format (IsArrayPage size) old d) qs → (written array_writer ws p run before (array_one run old d) qs).levels ≤ suc d
 levels_written size run old d p before ws [] one all = omega arith
 levels_written size run old d p before ws (q ∷ qs) one all = let rest = levels_each size run old d (q ∷ qs) before one all in omega (arith, rest)
 
-levels_within : (size : ℕ) (run : List Last) (old : List (List ℕ)) (d : ℕ) (p : Place) (before : ℕ) → StandsTo array_format (IsArrayPage size) old d p → (array_one run old d p before).levels ≤ d
+levels_within : (size : ℕ) (run : List Last) (old : List (List ℕ)) (d : ℕ) (p : PagePlace) (before : ℕ) → StandsTo array_format (IsArrayPage size) old d p → (array_one run old d p before).levels ≤ d
 levels_within size run old zero p before s = absurd s
 levels_within size run old (suc d) p before s =
     elim (touches run p.low p.high) as (λ b. (cond b (written array_writer (words_at old p) p run before (array_one run old d) (places_below array_format old p)) (record { number = p.number; pages = []; levels = suc d })).levels ≤ suc d) [
@@ -87,7 +87,7 @@ abbrev IsRootMade : List Last → List (List ℕ) → List (List ℕ) → Decl �
 IsRootMade run old siblings d root m = IsMade (format_of d) (IsPageOf d) (shape_of d) run old (old ++ siblings) m.pages deepest m.levels (root_place d root) m.number
 
 -- what leads to fewer pages one below another
-raised : (F : Format) (Is : Place → List ℕ → Type 0) (S : List (List ℕ) → Place → Type 0) (run : List Last) (old before made : List (List ℕ)) (depth levels : ℕ) (p : Place) (n : ℕ) → levels ≤ depth
+raised : (F : Format) (Is : PagePlace → List ℕ → Type 0) (S : List (List ℕ) → PagePlace → Type 0) (run : List Last) (old before made : List (List ℕ)) (depth levels : ℕ) (p : PagePlace) (n : ℕ) → levels ≤ depth
     → IsMade F Is S run old before made depth levels p n → IsMade F Is S run old before made depth depth p n
 raised F Is S run old before made depth levels p n fits m = record {
   replaces = λ (later : List (List ℕ)) (d : ℕ) le. m.replaces later d (omega (arith, fits, le));
@@ -98,7 +98,7 @@ raised F Is S run old before made depth levels p n fits m = record {
 root_made : (run : List Last) (old siblings : List (List ℕ)) (d : Decl) (root : ℕ) → StandsTo (format_of d) (IsPageOf d) old deepest (root_place d root)
     → FitStorage d run → IsRootMade run old siblings d root (made_for d run old (root_place d root) (length (old ++ siblings)))
 root_made run old siblings (Array id size) root stands fit =
-    let p : Place = root_place (Array id size) root in
+    let p : PagePlace = root_place (Array id size) root in
     let m : Made = array_one run old deepest p (length (old ++ siblings)) in
     raised array_format (IsArrayPage size) AnyShape run old (old ++ siblings) m.pages deepest m.levels p m.number
     (levels_within size run old deepest p (length (old ++ siblings)) stands)
@@ -120,7 +120,7 @@ one_least : (run : List Last) (old siblings later : List (List ℕ)) (s : Stored
     → RootStands ((old ++ siblings) ++ (m.pages ++ later)) (record { decl = s.decl; root = m.number }) → m.levels ≤ deepest
 one_least run old siblings later s m is stands =
     is.least later deepest (omega arith)
-    (subst (λ (p : Place). StandsTo (format_of s.decl) (IsPageOf s.decl) ((old ++ siblings) ++ (m.pages ++ later)) deepest p) (sym (other_root s.decl s.root m.number)) stands)
+    (subst (λ (p : PagePlace). StandsTo (format_of s.decl) (IsPageOf s.decl) ((old ++ siblings) ++ (m.pages ++ later)) deepest p) (sym (other_root s.decl s.root m.number)) stands)
 
 -- ---- all of them
 
@@ -187,7 +187,7 @@ record_composed : (run : List Last) (old new : List (List ℕ)) (s : Stored) (n 
     → Replaces (format_of s.decl) (IsPageOf s.decl) (shape_of s.decl) run old new deepest deepest (root_place s.decl s.root) n
     → (key : ℕ) → record_in new (record { decl = s.decl; root = n }) key ≡ overlaid (record_in old s key) (entry_for run key)
 record_composed run old new s n within replaces key =
-    let same : (root_place s.decl n).high ≡ (root_place s.decl s.root).high = sym (ap Place.high (other_root s.decl s.root n)) in
+    let same : (root_place s.decl n).high ≡ (root_place s.decl s.root).high = sym (ap PagePlace.high (other_root s.decl s.root n)) in
     elim (cases_lt (root_place s.decl s.root).high key) [
       | inl out ↦
           let beyond : (root_place s.decl n).high < key = omega arith in
@@ -230,6 +230,6 @@ roots_stand run old new (s ∷ ss) [] all = absurd all
 roots_stand run old new (s ∷ ss) (t ∷ ts) all =
     let same : record { decl = t.decl; root = t.root } ≡ record { decl = s.decl; root = t.root } = ap (λ (d : Decl). stored_with d t.root) all.0.same in (
       subst (λ (x : Stored). RootStands new x) (sym same)
-          (subst (λ (p : Place). StandsTo (format_of s.decl) (IsPageOf s.decl) new deepest p) (other_root s.decl s.root t.root) all.0.replaces.stands),
+          (subst (λ (p : PagePlace). StandsTo (format_of s.decl) (IsPageOf s.decl) new deepest p) (other_root s.decl s.root t.root) all.0.replaces.stands),
       roots_stand run old new ss ts all.1,
     )

@@ -4,7 +4,7 @@ use Rattle.std.specs.List.{AllByRecursion}
 use Rattle.std.proofs.lemmas.List.{length-append}
 use Rattle.wire_form.specs.Pages.{IsChild}
 use Rattle.snapshot_store.specs.Places.{words_at, places_below, StandsTo, moved}
-use Rattle.snapshot_store.specs.declared.place.Place.{Place}
+use Rattle.snapshot_store.specs.declared.place.PagePlace.{PagePlace}
 use Rattle.snapshot_store.specs.TreePages.{Node, Leaf, Inner, children, node_of, node_below, record_for, records_of, tree_format, IsTreePage}
 use Rattle.root_composer.specs.declared.last.Last.{Last}
 use Rattle.root_composer.specs.declared.row.Row.{Row}
@@ -12,7 +12,7 @@ use Rattle.root_composer.specs.Overlaid.{touches, entry_for, overlaid}
 use Rattle.root_composer.specs.Composed.{IsMade, EachWith, all_moved}
 use Rattle.root_composer.specs.Composer.{Made, MayName, IsLawful}
 use Rattle.root_composer.specs.Rows.{row_of, rows_of, row_for, Ascends, Rising, IsNumberWord, entries_in, merged}
-use Rattle.root_composer.specs.Build.{with_numbers, tree_leaf, tree_writer}
+use Rattle.root_composer.specs.Build.{with_numbers, made_leaf, tree_writer}
 use Rattle.root_composer.specs.Shape.{TreeShape}
 use Rattle.root_composer.proofs.OverlayLemmas.{touched_range}
 use Rattle.root_composer.proofs.BuiltLemmas.{made_of_built}
@@ -26,11 +26,11 @@ children_some low high ss [] h e = absurd (omega (arith, h))
 children_some low high [] (n ∷ ns) h e = cc
 children_some low high (s ∷ ss) (n ∷ ns) h e = cc
 
-pub rows_are : (p : Place) (node : Node) → IsNode p node → node_below p.low p.high node ≡ [] → Ascends p.low p.high (map row_of (records_of node)) × AllByRecursion IsNumbered (map row_of (records_of node))
+pub rows_are : (p : PagePlace) (node : Node) → IsNode p node → node_below p.low p.high node ≡ [] → Ascends p.low p.high (map row_of (records_of node)) × AllByRecursion IsNumbered (map row_of (records_of node))
 rows_are p (Leaf rs) is e = is
 rows_are p (Inner ss ns) is e = absurd (children_some p.low p.high ss ns is.some e)
 
-children_moved : (R : Place → ℕ → Type 0) (low high : ℕ) (ss ms ns : List ℕ) → length ss + 1 ≡ length ms → EachWith R (children low high ss ms) ns → (children low high ss ns ≡ all_moved (children low high ss ms) ns) × (length ns ≡ length ms)
+children_moved : (R : PagePlace → ℕ → Type 0) (low high : ℕ) (ss ms ns : List ℕ) → length ss + 1 ≡ length ms → EachWith R (children low high ss ms) ns → (children low high ss ns ≡ all_moved (children low high ss ms) ns) × (length ns ≡ length ms)
 children_moved R low high ss [] ns e all = absurd (omega (arith, e))
 children_moved R low high [] (m ∷ k ∷ ks) ns e all = absurd (omega (arith, e))
 children_moved R low high [] (m ∷ []) [] e all = absurd all
@@ -41,7 +41,7 @@ children_moved R low high (s ∷ ss) (m ∷ ms) (n ∷ ns) e all =
     let rest = children_moved R s high ss ms ns (omega arith) all.1 in
     (ap (λ t. (record { number = n; low = low; high = s - 1 }) ∷ t) rest.0, ap suc rest.1)
 
-may_name : (run : List Last) (have number : ℕ) (q : Place) (n : ℕ) → 0 < q.number → MayName run have number q n → (0 < n) × (n < number)
+may_name : (run : List Last) (have number : ℕ) (q : PagePlace) (n : ℕ) → 0 < q.number → MayName run have number q n → (0 < n) × (n < number)
 may_name run have number q n some may = (positive, may.0)
   where
     positive : 0 < n
@@ -61,14 +61,14 @@ all_named run have number old low high (s ∷ ss) (m ∷ ms) [] e some all = tt
 all_named run have number old low high (s ∷ ss) (m ∷ ms) (n ∷ ns) e some all =
     (may_name run have number (record { number = m; low = low; high = s - 1 }) n some.0.0 all.0, all_named run have number old s high ss ms ns (omega arith) some.1 all.1)
 
-below_moved : (have number : ℕ) (run : List Last) (p : Place) (node : Node) (ns : List ℕ) → IsNode p node → EachWith (MayName run have number) (node_below p.low p.high node) ns
+below_moved : (have number : ℕ) (run : List Last) (p : PagePlace) (node : Node) (ns : List ℕ) → IsNode p node → EachWith (MayName run have number) (node_below p.low p.high node) ns
     → node_below p.low p.high (node_of (with_numbers p node ns)) ≡ all_moved (node_below p.low p.high node) ns
 below_moved have number run p (Leaf rs) ns is all = refl
 below_moved have number run p (Inner ss ms) ns is all =
     let moved = children_moved (MayName run have number) p.low p.high ss ms ns is.between all in
     ap (node_below p.low p.high) (inner_back p.low p.high ss ns (omega (arith, moved.1, is.most)) (omega (arith, moved.1, is.between))) ∙ moved.0
 
-inner_written : (have number : ℕ) (run : List Last) (p q : Place) (qs : List Place) (node : Node) (ns : List ℕ) → 0 < number → IsNode p node → node_below p.low p.high node ≡ q ∷ qs
+inner_written : (have number : ℕ) (run : List Last) (p q : PagePlace) (qs : List PagePlace) (node : Node) (ns : List ℕ) → 0 < number → IsNode p node → node_below p.low p.high node ≡ q ∷ qs
     → EachWith (MayName run have number) (node_below p.low p.high node) ns → IsTreePage (moved p number) (with_numbers p node ns)
 inner_written have number run p q qs (Leaf rs) ns some is e all = absurd (cc)
 inner_written have number run p q qs (Inner ss ms) ns some is e all =
@@ -82,7 +82,7 @@ inner_written have number run p q qs (Inner ss ms) ns some is e all =
     })
 
 -- a number above that of a page which it may name
-some_number : (run : List Last) (have number : ℕ) (q : Place) (qs : List Place) (ns : List ℕ) → EachWith (MayName run have number) (q ∷ qs) ns → 0 < number
+some_number : (run : List Last) (have number : ℕ) (q : PagePlace) (qs : List PagePlace) (ns : List ℕ) → EachWith (MayName run have number) (q ∷ qs) ns → 0 < number
 some_number run have number q qs [] all = absurd all
 some_number run have number q qs (n ∷ ns) all = omega (arith, all.0.0)
 
@@ -90,23 +90,23 @@ some_number run have number q qs (n ∷ ns) all = omega (arith, all.0.0)
 pub trees_lawful : (run : List Last) (old : List (List ℕ)) → Rising 0 run → AllByRecursion (λ e. IsNumberWord e.number) run → IsLawful tree_format IsTreePage TreeShape tree_writer run old
 trees_lawful run old rising numbers = record {
   leaf = leaf;
-  below = λ (w : List ℕ) (p : Place) (number : ℕ) (ns : List ℕ) is all. below_moved (length old) number run p (node_of w) ns (node_right p w is) all;
-  right = λ (w : List ℕ) (p : Place) (number : ℕ) (q : Place) (qs : List Place) (ns : List ℕ) is tiles t e all.
+  below = λ (w : List ℕ) (p : PagePlace) (number : ℕ) (ns : List ℕ) is all. below_moved (length old) number run p (node_of w) ns (node_right p w is) all;
+  right = λ (w : List ℕ) (p : PagePlace) (number : ℕ) (q : PagePlace) (qs : List PagePlace) (ns : List ℕ) is tiles t e all.
       inner_written (length old) number run p q qs (node_of w) ns
-      (some_number run (length old) number q qs ns (subst (λ (l : List Place). EachWith (MayName run (length old) number) l ns) e all)) (node_right p w is) e all;
+      (some_number run (length old) number q qs ns (subst (λ (l : List PagePlace). EachWith (MayName run (length old) number) l ns) e all)) (node_right p w is) e all;
 }
   where
-    leaf : (siblings : List (List ℕ)) (depth : ℕ) (p : Place) → StandsTo tree_format IsTreePage old (suc depth) p → touches run p.low p.high ≡ true → places_below tree_format old p ≡ []
-        → IsMade tree_format IsTreePage TreeShape run old (old ++ siblings) (tree_leaf p (merged (entries_in p.low p.high run) (rows_of (words_at old p))) (length (old ++ siblings))).pages (suc depth)
-        (tree_leaf p (merged (entries_in p.low p.high run) (rows_of (words_at old p))) (length (old ++ siblings))).levels p
-        (tree_leaf p (merged (entries_in p.low p.high run) (rows_of (words_at old p))) (length (old ++ siblings))).number
+    leaf : (siblings : List (List ℕ)) (depth : ℕ) (p : PagePlace) → StandsTo tree_format IsTreePage old (suc depth) p → touches run p.low p.high ≡ true → places_below tree_format old p ≡ []
+        → IsMade tree_format IsTreePage TreeShape run old (old ++ siblings) (made_leaf p (merged (entries_in p.low p.high run) (rows_of (words_at old p))) (length (old ++ siblings))).pages (suc depth)
+        (made_leaf p (merged (entries_in p.low p.high run) (rows_of (words_at old p))) (length (old ++ siblings))).levels p
+        (made_leaf p (merged (entries_in p.low p.high run) (rows_of (words_at old p))) (length (old ++ siblings))).number
     leaf siblings depth p s t none =
         let was : List Row = rows_of (words_at old p) in
         let part : List Last = entries_in p.low p.high run in
         let order : InOrder p.low p.high part = range_in_order p.low p.high run rising in
         let are = rows_are p (node_of (words_at old p)) (node_right p (words_at old p) s.right) none in
         let rs : List Row = merged (entries_in p.low p.high run) (rows_of (words_at old p)) in
-        let m : Made = tree_leaf p rs (length (old ++ siblings)) in
+        let m : Made = made_leaf p rs (length (old ++ siblings)) in
         made_of_built tree_format IsTreePage TreeShape run old (old ++ siblings) m.pages depth m.levels (row_for rs) p m.number t none
         (λ key a b. row_merged p.low p.high key part was order are.0
         ∙ ap (λ f. overlaid f (entry_for part key)) (row_for-rows (records_of (node_of (words_at old p))) key)

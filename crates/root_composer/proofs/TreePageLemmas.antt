@@ -10,7 +10,7 @@ use Rattle.wire_form.specs.Items.{RisesAfter}
 use Rattle.wire_form.specs.Words.{number_word}
 use Rattle.wire_form.specs.declared.page.PageKind.TheVariants.{TreeLeaf, TreeInner}
 use Rattle.wire_form.specs.Pages.{IsChild, IsSeparator, IsTreeRecord, tree_record_words, record_key, device_header, HasKind}
-use Rattle.snapshot_store.specs.declared.place.Place.{Place}
+use Rattle.snapshot_store.specs.declared.place.PagePlace.{PagePlace}
 use Rattle.snapshot_store.specs.TreePages.{Node, Leaf, Inner, records_at, node_of, IsTreePage}
 use Rattle.root_composer.specs.declared.row.Row.{Row}
 use Rattle.root_composer.specs.Rows.{row_of, record_of, Ascends}
@@ -164,11 +164,11 @@ inner_right number low high ss ns are = (
 
 -- ---- what a page that is right has in it
 
-abbrev pub IsNode : Place → Node → Type 0
+abbrev pub IsNode : PagePlace → Node → Type 0
 IsNode p (Leaf rs) = Ascends p.low p.high (map row_of rs) × AllByRecursion IsNumbered (map row_of rs)
 IsNode p (Inner ss ns) = AreChildren p.number p.low p.high ss ns
 
-pub node_right : (p : Place) (w : List ℕ) → IsTreePage p w → IsNode p (node_of w)
+pub node_right : (p : PagePlace) (w : List ℕ) → IsTreePage p w → IsNode p (node_of w)
 node_right p w is = either p.number refl
   where
     leaf : HasKind (TreeLeaf p.low p.high) p.number w → IsNode p (node_of w)
@@ -202,8 +202,8 @@ node_right p w is = either p.number refl
     either (suc n) e = of_kind (is.page (omega arith))
 
 -- pages that are made
-pub leaf_is : (p : Place) (number : ℕ) (rs : List Row) → 0 < number → length rs ≤ leaf_most → Ascends p.low p.high rs → AllByRecursion IsNumbered rs → IsTreePage (record { number = number; low = p.low; high = p.high }) (leaf_words p.low p.high rs)
+pub leaf_is : (p : PagePlace) (number : ℕ) (rs : List Row) → 0 < number → length rs ≤ leaf_most → Ascends p.low p.high rs → AllByRecursion IsNumbered rs → IsTreePage (record { number = number; low = p.low; high = p.high }) (leaf_words p.low p.high rs)
 leaf_is p number rs some short a is = record { none = λ e. absurd (omega arith); page = λ _. inl (leaf_right number p.low p.high rs short a is) }
 
-pub inner_is : (p : Place) (number : ℕ) (ss ns : List ℕ) → 0 < number → AreChildren number p.low p.high ss ns → IsTreePage (record { number = number; low = p.low; high = p.high }) (inner_words p.low p.high ss ns)
+pub inner_is : (p : PagePlace) (number : ℕ) (ss ns : List ℕ) → 0 < number → AreChildren number p.low p.high ss ns → IsTreePage (record { number = number; low = p.low; high = p.high }) (inner_words p.low p.high ss ns)
 inner_is p number ss ns some are = record { none = λ e. absurd (omega arith); page = λ _. inr (inner_right number p.low p.high ss ns are) }

@@ -9,7 +9,7 @@ use Rattle.wire_form.specs.Bytes.{padded}
 use Rattle.wire_form.specs.Ranges.{child_ranges}
 use Rattle.wire_form.specs.declared.page.PageKind.TheVariants.{TreeLeaf, TreeInner}
 use Rattle.wire_form.specs.Pages.{device_header, Children, IsTreeInner, tree_inner_words, HasKind}
-use Rattle.snapshot_store.specs.declared.place.Place.{Place}
+use Rattle.snapshot_store.specs.declared.place.PagePlace.{PagePlace}
 use Rattle.snapshot_store.specs.Places.{page, places_below}
 use Rattle.snapshot_store.specs.TreePages.{Node, Inner, node_of, node_below, children, count_of, tree_format}
 use Rattle.root_composer.specs.declared.fault.ComposeFault.{ComposeFault}
@@ -17,7 +17,7 @@ use Rattle.root_composer.specs.declared.last.Last.{Last}
 use Rattle.root_composer.specs.Overlaid.{touches}
 use Rattle.root_composer.specs.Composer.{Made, AllMade, Writer, compose_each, with_one, with_page, written}
 use Rattle.root_composer.specs.Rows.{rows_of, Ascends, entries_in, merged}
-use Rattle.root_composer.specs.Build.{inner_words, with_numbers, tree_leaf, tree_writer}
+use Rattle.root_composer.specs.Build.{inner_words, with_numbers, made_leaf, tree_writer}
 use Rattle.root_composer.specs.TreeCode.{TreeStands, tree_one, AddsWithin, WouldBeDeep, LeavesRest}
 use Rattle.root_composer.proofs.CutLaw.{fan_most_is}
 use Rattle.root_composer.proofs.TreePageLemmas.{header_is, inner_back, node_right}
@@ -26,11 +26,11 @@ use Rattle.root_composer.proofs.TreeLaw.{rows_are}
 use Rattle.root_composer.proofs.TreeSteps.{none_left_out, rest_behind, rest_deep, none_rest}
 
 -- a place that stands has a page, so at least one step is left
-pub tree_depth : (old : List (List ℕ)) (depth : ℕ) (p : Place) → TreeStands old depth p → depth ≡ suc (depth - 1)
+pub tree_depth : (old : List (List ℕ)) (depth : ℕ) (p : PagePlace) → TreeStands old depth p → depth ≡ suc (depth - 1)
 tree_depth old zero p s = absurd s
 tree_depth old (suc d) p s = omega arith
 
-pub tree_there : (old : List (List ℕ)) (depth : ℕ) (p : Place) → TreeStands old depth p → p.number ≤ length old
+pub tree_there : (old : List (List ℕ)) (depth : ℕ) (p : PagePlace) → TreeStands old depth p → p.number ≤ length old
 tree_there old zero p s = absurd s
 tree_there old (suc d) p s = s.there
 
@@ -42,7 +42,7 @@ not_two a e = grind (arith, nat_tests)
 
 -- ---- an interior page
 
-pub record InnerAt (old : List (List ℕ)) (d : ℕ) (p : Place) (words : List ℕ) : Type 0 where
+pub record InnerAt (old : List (List ℕ)) (d : ℕ) (p : PagePlace) (words : List ℕ) : Type 0 where
   pub kids : Children
   pub is : IsTreeInner p.low p.high p.number kids
   pub words_are : words ≡ tree_inner_words p.low p.high kids
@@ -53,7 +53,7 @@ pub record InnerAt (old : List (List ℕ)) (d : ℕ) (p : Place) (words : List �
 zero_header : (words ws : List ℕ) → words ≡ padded 64 ws → ws ≡ [] → get_or words 0 0 ≡ 0
 zero_header words ws is none = ap (λ (l : List ℕ). get_or l 0 0) (is ∙ ap (padded 64) none)
 
-pub inner_at : (old : List (List ℕ)) (d : ℕ) (p : Place) (words : List ℕ) → TreeStands old (suc d) p → words ≡ padded 64 (page old p.number) → (0 < p.number → words ≡ page old p.number) → eqb (get_or words 0 0 / 256) 2 ≡ true → InnerAt old d p words
+pub inner_at : (old : List (List ℕ)) (d : ℕ) (p : PagePlace) (words : List ℕ) → TreeStands old (suc d) p → words ≡ padded 64 (page old p.number) → (0 < p.number → words ≡ page old p.number) → eqb (get_or words 0 0 / 256) 2 ≡ true → InnerAt old d p words
 inner_at old d p words s is there two = either p.number refl
   where
     header : get_or words 0 0 / 256 ≡ 2
@@ -79,13 +79,13 @@ inner_at old d p words s is there two = either p.number refl
 
 -- ---- a leaf, or no page
 
-pub record LeafAt (old : List (List ℕ)) (p : Place) (words : List ℕ) : Type 0 where
+pub record LeafAt (old : List (List ℕ)) (p : PagePlace) (words : List ℕ) : Type 0 where
   pub few : count_of words ≤ 16
   pub none : places_below tree_format old p ≡ []
   pub same : rows_of words ≡ rows_of (page old p.number)
   pub ascends : Ascends p.low p.high (rows_of words)
 
-pub leaf_at : (old : List (List ℕ)) (d : ℕ) (p : Place) (words : List ℕ) → TreeStands old (suc d) p → words ≡ padded 64 (page old p.number) → (0 < p.number → words ≡ page old p.number) → eqb (get_or words 0 0 / 256) 2 ≡ false → LeafAt old p words
+pub leaf_at : (old : List (List ℕ)) (d : ℕ) (p : PagePlace) (words : List ℕ) → TreeStands old (suc d) p → words ≡ padded 64 (page old p.number) → (0 < p.number → words ≡ page old p.number) → eqb (get_or words 0 0 / 256) 2 ≡ false → LeafAt old p words
 leaf_at old d p words s is there two = either p.number refl
   where
     ordered : places_below tree_format old p ≡ [] → rows_of words ≡ rows_of (page old p.number) → Ascends p.low p.high (rows_of words)
@@ -117,7 +117,7 @@ leaf_at old d p words s is there two = either p.number refl
 -- ---- children
 
 -- a place from its parts
-abbrev place_with : ℕ → ℕ → ℕ → Place
+abbrev place_with : ℕ → ℕ → ℕ → PagePlace
 place_with number low high = record { number = number; low = low; high = high }
 
 pub child_at : (low high : ℕ) (ss ns : List ℕ) (i n : ℕ) (r : ℕ × ℕ) → slice_get ns i ≡ Some n → slice_get (child_ranges low high ss) i ≡ Some r → slice_get (children low high ss ns) i ≡ Some (record { number = n; low = r.0; high = r.1 })
@@ -139,7 +139,7 @@ length-children low high [] (n ∷ []) e = refl
 length-children low high [] (n ∷ m ∷ ms) e = absurd (omega (arith, e))
 length-children low high (s ∷ ss) (n ∷ ns) e = ap suc (length-children s high ss ns (omega (arith, e)))
 
-drop_get : (qs : List Place) (i : ℕ) (q : Place) → slice_get qs i ≡ Some q → drop i qs ≡ q ∷ drop (i + 1) qs
+drop_get : (qs : List PagePlace) (i : ℕ) (q : PagePlace) → slice_get qs i ≡ Some q → drop i qs ≡ q ∷ drop (i + 1) qs
 drop_get [] i q e = absurd (cc)
 drop_get (r ∷ rs) zero q e = let same : r ≡ q = cc in ap (λ x. x ∷ rs) same
 drop_get (r ∷ rs) (suc i) q e =
@@ -147,18 +147,18 @@ drop_get (r ∷ rs) (suc i) q e =
     drop_get rs i q e ∙ ap (λ k. q ∷ drop k (r ∷ rs)) (sym next)
 
 -- the first i children are composed: with those that are left, all are
-pub record ComposesKids (run : List Last) (old : List (List ℕ)) (d : ℕ) (kids : List Place) (before : List (List ℕ)) (i : ℕ) (numbers : List ℕ) (made : List (List ℕ)) : Type 0 where
+pub record ComposesKids (run : List Last) (old : List (List ℕ)) (d : ℕ) (kids : List PagePlace) (before : List (List ℕ)) (i : ℕ) (numbers : List ℕ) (made : List (List ℕ)) : Type 0 where
   pub count : length numbers ≡ i
   pub left : LeavesRest d numbers before made (compose_each (tree_one run old d) (drop i kids) (length old + length made)) (compose_each (tree_one run old d) kids (length old + length before))
 
-pub no_kid_yet : (run : List Last) (old : List (List ℕ)) (d : ℕ) (kids : List Place) (made : List (List ℕ)) → ComposesKids run old d kids made 0 [] made
+pub no_kid_yet : (run : List Last) (old : List (List ℕ)) (d : ℕ) (kids : List PagePlace) (made : List (List ℕ)) → ComposesKids run old d kids made 0 [] made
 no_kid_yet run old d kids made = record { count = refl; left = none_left_out d made (compose_each (tree_one run old d) kids (length old + length made)) }
 
-kid_first : (run : List Last) (old : List (List ℕ)) (d : ℕ) (kids : List Place) (i : ℕ) (q : Place) (at : ℕ) → slice_get kids i ≡ Some q
+kid_first : (run : List Last) (old : List (List ℕ)) (d : ℕ) (kids : List PagePlace) (i : ℕ) (q : PagePlace) (at : ℕ) → slice_get kids i ≡ Some q
     → compose_each (tree_one run old d) (drop i kids) at ≡ with_one (tree_one run old d q at) (compose_each (tree_one run old d) (drop (i + 1) kids) (at + length (tree_one run old d q at).pages))
-kid_first run old d kids i q at here = ap (λ (qs : List Place). compose_each (tree_one run old d) qs at) (drop_get kids i q here)
+kid_first run old d kids i q at here = ap (λ (qs : List PagePlace). compose_each (tree_one run old d) qs at) (drop_get kids i q here)
 
-pub one_more_kid : (run : List Last) (old : List (List ℕ)) (d : ℕ) (kids : List Place) (before : List (List ℕ)) (i : ℕ) (numbers : List ℕ) (made after : List (List ℕ)) (q : Place) (n : ℕ) → slice_get kids i ≡ Some q
+pub one_more_kid : (run : List Last) (old : List (List ℕ)) (d : ℕ) (kids : List PagePlace) (before : List (List ℕ)) (i : ℕ) (numbers : List ℕ) (made after : List (List ℕ)) (q : PagePlace) (n : ℕ) → slice_get kids i ≡ Some q
     → ComposesKids run old d kids before i numbers made → AddsWithin d made after n (tree_one run old d q (length old + length made)) → ComposesKids run old d kids before (i + 1) (numbers ++ n ∷ []) after
 one_more_kid run old d kids before i numbers made after q n here c adds =
     let one : Made = tree_one run old d q (length old + length made) in
@@ -173,17 +173,17 @@ one_more_kid run old d kids before i numbers made after q n here c adds =
 
 -- ---- the page of a place
 
-written_some : (W : Writer) (ws : List ℕ) (p : Place) (run : List Last) (at : ℕ) (f : Place → ℕ → Made) (qs : List Place) → 0 < length qs
+written_some : (W : Writer) (ws : List ℕ) (p : PagePlace) (run : List Last) (at : ℕ) (f : PagePlace → ℕ → Made) (qs : List PagePlace) → 0 < length qs
     → written W ws p run at f qs ≡ with_page (W.inner ws p (compose_each f qs at).numbers) at (compose_each f qs at)
 written_some W ws p run at f [] h = absurd (omega (arith, h))
 written_some W ws p run at f (q ∷ qs) h = refl
 
-inner_one : (run : List Last) (old : List (List ℕ)) (d : ℕ) (p : Place) (at : ℕ) (c : Children) → touches run p.low p.high ≡ true → node_of (page old p.number) ≡ Inner c.separators c.pointers
+inner_one : (run : List Last) (old : List (List ℕ)) (d : ℕ) (p : PagePlace) (at : ℕ) (c : Children) → touches run p.low p.high ≡ true → node_of (page old p.number) ≡ Inner c.separators c.pointers
     → length c.separators + 1 ≡ length c.pointers → 2 ≤ length c.pointers
     → tree_one run old (suc d) p at ≡ with_page (inner_words p.low p.high c.separators (compose_each (tree_one run old d) (children p.low p.high c.separators c.pointers) at).numbers) at
     (compose_each (tree_one run old d) (children p.low p.high c.separators c.pointers) at)
 inner_one run old d p at c t node between some =
-    let kids : List Place = children p.low p.high c.separators c.pointers in
+    let kids : List PagePlace = children p.low p.high c.separators c.pointers in
     let ws : List ℕ = page old p.number in
     let all : AllMade = compose_each (tree_one run old d) (children p.low p.high c.separators c.pointers) at in
     rw t
@@ -191,40 +191,40 @@ inner_one run old d p at c t node between some =
     ∙ written_some tree_writer (page old p.number) p run at (tree_one run old d) kids (omega (arith, some, length-children p.low p.high c.separators c.pointers between))
     ∙ ap (λ (n : Node). with_page (with_numbers p n all.numbers) at all) node)
 
-leaf_one : (run : List Last) (old : List (List ℕ)) (d : ℕ) (p : Place) (at : ℕ) → touches run p.low p.high ≡ true → places_below tree_format old p ≡ []
-    → tree_one run old (suc d) p at ≡ tree_leaf p (merged (entries_in p.low p.high run) (rows_of (page old p.number))) at
-leaf_one run old d p at t none = rw t (ap (λ (qs : List Place). written tree_writer (page old p.number) p run at (tree_one run old d) qs) none)
+leaf_one : (run : List Last) (old : List (List ℕ)) (d : ℕ) (p : PagePlace) (at : ℕ) → touches run p.low p.high ≡ true → places_below tree_format old p ≡ []
+    → tree_one run old (suc d) p at ≡ made_leaf p (merged (entries_in p.low p.high run) (rows_of (page old p.number))) at
+leaf_one run old d p at t none = rw t (ap (λ (qs : List PagePlace). written tree_writer (page old p.number) p run at (tree_one run old d) qs) none)
 
-pub untouched_tree : (run : List Last) (old made : List (List ℕ)) (depth : ℕ) (p : Place) (at : ℕ) → touches run p.low p.high ≡ false → AddsWithin depth made made p.number (tree_one run old depth p at)
+pub untouched_tree : (run : List Last) (old made : List (List ℕ)) (depth : ℕ) (p : PagePlace) (at : ℕ) → touches run p.low p.high ≡ false → AddsWithin depth made made p.number (tree_one run old depth p at)
 untouched_tree run old made zero p at t = record { number = refl; pages = sym (append-nil made); levels = omega arith }
 untouched_tree run old made (suc d) p at t = rw t (record { number = refl; pages = sym (append-nil made); levels = omega arith })
 
 -- ---- as the code has it
 
 -- a leaf's pages
-pub leaf_tree : (run : List Last) (old before after : List (List ℕ)) (depth : ℕ) (p : Place) (words : List ℕ) (n : ℕ) → TreeStands old depth p → touches run p.low p.high ≡ true → LeafAt old p words
-    → AddsWithin depth before after n (tree_leaf p (merged (entries_in p.low p.high run) (rows_of words)) (length old + length before))
+pub leaf_tree : (run : List Last) (old before after : List (List ℕ)) (depth : ℕ) (p : PagePlace) (words : List ℕ) (n : ℕ) → TreeStands old depth p → touches run p.low p.high ≡ true → LeafAt old p words
+    → AddsWithin depth before after n (made_leaf p (merged (entries_in p.low p.high run) (rows_of words)) (length old + length before))
     → AddsWithin depth before after n (tree_one run old depth p (length old + length before))
 leaf_tree run old before after zero p words n s t leaf adds = absurd s
 leaf_tree run old before after (suc d) p words n s t leaf adds =
     subst (AddsWithin (suc d) before after n) (sym (leaf_one run old d p (length old + length before) t leaf.none))
-    (subst (λ rs. AddsWithin (suc d) before after n (tree_leaf p (merged (entries_in p.low p.high run) rs) (length old + length before))) leaf.same adds)
+    (subst (λ rs. AddsWithin (suc d) before after n (made_leaf p (merged (entries_in p.low p.high run) rs) (length old + length before))) leaf.same adds)
 
-pub leaf_deep : (run : List Last) (old before : List (List ℕ)) (depth : ℕ) (fault : ComposeFault) (p : Place) (words : List ℕ) → TreeStands old depth p → touches run p.low p.high ≡ true → LeafAt old p words
-    → WouldBeDeep depth fault (tree_leaf p (merged (entries_in p.low p.high run) (rows_of words)) (length old + length before))
+pub leaf_deep : (run : List Last) (old before : List (List ℕ)) (depth : ℕ) (fault : ComposeFault) (p : PagePlace) (words : List ℕ) → TreeStands old depth p → touches run p.low p.high ≡ true → LeafAt old p words
+    → WouldBeDeep depth fault (made_leaf p (merged (entries_in p.low p.high run) (rows_of words)) (length old + length before))
     → WouldBeDeep depth fault (tree_one run old depth p (length old + length before))
 leaf_deep run old before zero fault p words s t leaf deep = absurd s
 leaf_deep run old before (suc d) fault p words s t leaf deep =
     subst (WouldBeDeep (suc d) fault) (sym (leaf_one run old d p (length old + length before) t leaf.none))
-    (subst (λ rs. WouldBeDeep (suc d) fault (tree_leaf p (merged (entries_in p.low p.high run) rs) (length old + length before))) leaf.same deep)
+    (subst (λ rs. WouldBeDeep (suc d) fault (made_leaf p (merged (entries_in p.low p.high run) rs) (length old + length before))) leaf.same deep)
 
 -- a child that would be too deep
-pub kid_deep : (run : List Last) (old : List (List ℕ)) (d : ℕ) (p : Place) (words : List ℕ) (at : InnerAt old d p words) (before : List (List ℕ)) (i : ℕ) (numbers : List ℕ) (made : List (List ℕ)) (q : Place) (fault : ComposeFault) → touches run p.low p.high ≡ true
+pub kid_deep : (run : List Last) (old : List (List ℕ)) (d : ℕ) (p : PagePlace) (words : List ℕ) (at : InnerAt old d p words) (before : List (List ℕ)) (i : ℕ) (numbers : List ℕ) (made : List (List ℕ)) (q : PagePlace) (fault : ComposeFault) → touches run p.low p.high ≡ true
     → slice_get (children p.low p.high at.kids.separators at.kids.pointers) i ≡ Some q
     → ComposesKids run old d (children p.low p.high at.kids.separators at.kids.pointers) before i numbers made → WouldBeDeep d fault (tree_one run old d q (length old + length made))
     → WouldBeDeep (suc d) fault (tree_one run old (suc d) p (length old + length before))
 kid_deep run old d p words at before i numbers made q fault t here c deep =
-    let kids : List Place = children p.low p.high at.kids.separators at.kids.pointers in
+    let kids : List PagePlace = children p.low p.high at.kids.separators at.kids.pointers in
     let one : Made = tree_one run old d q (length old + length made) in
     let all : AllMade = compose_each (tree_one run old d) kids (length old + length before) in
     let levels : d < all.levels =
@@ -234,16 +234,16 @@ kid_deep run old d p words at before i numbers made q fault t here c deep =
     record { deep = deep.deep; levels = omega (arith, ap Made.levels whole, levels) }
 
 -- all children, and their page
-pub page_pushed : (run : List Last) (old : List (List ℕ)) (d : ℕ) (p : Place) (words : List ℕ) (at : InnerAt old d p words) (before : List (List ℕ)) (i : ℕ) (numbers : List ℕ) (made after : List (List ℕ)) (w : List ℕ) (n : ℕ) → touches run p.low p.high ≡ true
+pub page_pushed : (run : List Last) (old : List (List ℕ)) (d : ℕ) (p : PagePlace) (words : List ℕ) (at : InnerAt old d p words) (before : List (List ℕ)) (i : ℕ) (numbers : List ℕ) (made after : List (List ℕ)) (w : List ℕ) (n : ℕ) → touches run p.low p.high ≡ true
     → i ≡ length at.kids.pointers → ComposesKids run old d (children p.low p.high at.kids.separators at.kids.pointers) before i numbers made
     → w ≡ inner_words p.low p.high at.kids.separators numbers → after ≡ made ++ w ∷ [] → n ≡ length old + length after
     → AddsWithin (suc d) before after n (tree_one run old (suc d) p (length old + length before))
 page_pushed run old d p words at before i numbers made after w n t end c is pushed count =
-    let kids : List Place = children p.low p.high at.kids.separators at.kids.pointers in
+    let kids : List PagePlace = children p.low p.high at.kids.separators at.kids.pointers in
     let all : AllMade = compose_each (tree_one run old d) kids (length old + length before) in
     let size : length kids ≡ length at.kids.pointers = length-children p.low p.high at.kids.separators at.kids.pointers at.is.between in
     let none : compose_each (tree_one run old d) (drop i kids) (length old + length made) ≡ record { numbers = []; pages = []; levels = 0 } =
-    ap (λ (qs : List Place). compose_each (tree_one run old d) qs (length old + length made)) (drop_all i kids (omega (arith, size, end))) in
+    ap (λ (qs : List PagePlace). compose_each (tree_one run old d) qs (length old + length made)) (drop_all i kids (omega (arith, size, end))) in
     let are = none_rest d numbers before made (compose_each (tree_one run old d) (drop i kids) (length old + length made)) all none c.left in
     let word : w ≡ inner_words p.low p.high at.kids.separators all.numbers = is ∙ ap (inner_words p.low p.high at.kids.separators) are.numbers_are in
     subst (AddsWithin (suc d) before after n) (sym (inner_one run old d p (length old + length before) at.kids t at.node at.is.between at.is.some)) (record {
@@ -253,32 +253,32 @@ page_pushed run old d p words at before i numbers made after w n t end c is push
     })
 
 -- the same at any depth at which the place stands
-pub inner_here : (old : List (List ℕ)) (depth : ℕ) (p : Place) (words : List ℕ) → TreeStands old depth p → words ≡ padded 64 (page old p.number) → (0 < p.number → words ≡ page old p.number) → eqb (get_or words 0 0 / 256) 2 ≡ true → InnerAt old (depth - 1) p words
+pub inner_here : (old : List (List ℕ)) (depth : ℕ) (p : PagePlace) (words : List ℕ) → TreeStands old depth p → words ≡ padded 64 (page old p.number) → (0 < p.number → words ≡ page old p.number) → eqb (get_or words 0 0 / 256) 2 ≡ true → InnerAt old (depth - 1) p words
 inner_here old depth p words s is there two = inner_at old (depth - 1) p words (subst (λ (k : ℕ). TreeStands old k p) (tree_depth old depth p s) s) is there two
 
-pub leaf_here : (old : List (List ℕ)) (depth : ℕ) (p : Place) (words : List ℕ) → TreeStands old depth p → words ≡ padded 64 (page old p.number) → (0 < p.number → words ≡ page old p.number) → eqb (get_or words 0 0 / 256) 2 ≡ false → LeafAt old p words
+pub leaf_here : (old : List (List ℕ)) (depth : ℕ) (p : PagePlace) (words : List ℕ) → TreeStands old depth p → words ≡ padded 64 (page old p.number) → (0 < p.number → words ≡ page old p.number) → eqb (get_or words 0 0 / 256) 2 ≡ false → LeafAt old p words
 leaf_here old depth p words s is there two = leaf_at old (depth - 1) p words (subst (λ (k : ℕ). TreeStands old k p) (tree_depth old depth p s) s) is there two
 
-pub places_at : (old : List (List ℕ)) (d : ℕ) (p : Place) (words : List ℕ) (at : InnerAt old d p words) → places_below tree_format old p ≡ children p.low p.high at.kids.separators at.kids.pointers
+pub places_at : (old : List (List ℕ)) (d : ℕ) (p : PagePlace) (words : List ℕ) (at : InnerAt old d p words) → places_below tree_format old p ≡ children p.low p.high at.kids.separators at.kids.pointers
 places_at old d p words at = ap (node_below p.low p.high) at.node
 
-pub kid_here : (old : List (List ℕ)) (d : ℕ) (p : Place) (words : List ℕ) (at : InnerAt old d p words) (i : ℕ) (q : Place) → slice_get (children p.low p.high at.kids.separators at.kids.pointers) i ≡ Some q
+pub kid_here : (old : List (List ℕ)) (d : ℕ) (p : PagePlace) (words : List ℕ) (at : InnerAt old d p words) (i : ℕ) (q : PagePlace) → slice_get (children p.low p.high at.kids.separators at.kids.pointers) i ≡ Some q
     → slice_get (places_below tree_format old p) i ≡ Some q
-kid_here old d p words at i q here = subst (λ (qs : List Place). slice_get qs i ≡ Some q) (sym (places_at old d p words at)) here
+kid_here old d p words at i q here = subst (λ (qs : List PagePlace). slice_get qs i ≡ Some q) (sym (places_at old d p words at)) here
 
-pub kid_stands : (old : List (List ℕ)) (d : ℕ) (p : Place) (words : List ℕ) (at : InnerAt old d p words) (i : ℕ) (q : Place) → slice_get (children p.low p.high at.kids.separators at.kids.pointers) i ≡ Some q → TreeStands old d q
+pub kid_stands : (old : List (List ℕ)) (d : ℕ) (p : PagePlace) (words : List ℕ) (at : InnerAt old d p words) (i : ℕ) (q : PagePlace) → slice_get (children p.low p.high at.kids.separators at.kids.pointers) i ≡ Some q → TreeStands old d q
 kid_stands old d p words at i q here = all_at (TreeStands old d) (children p.low p.high at.kids.separators at.kids.pointers) i q at.below here
 
-pub deep_here : (run : List Last) (old : List (List ℕ)) (depth : ℕ) (p : Place) (words : List ℕ) (at : InnerAt old (depth - 1) p words) (before : List (List ℕ)) (i : ℕ) (numbers : List ℕ) (made : List (List ℕ)) (q : Place) (fault : ComposeFault) → TreeStands old depth p → touches run p.low p.high ≡ true
+pub deep_here : (run : List Last) (old : List (List ℕ)) (depth : ℕ) (p : PagePlace) (words : List ℕ) (at : InnerAt old (depth - 1) p words) (before : List (List ℕ)) (i : ℕ) (numbers : List ℕ) (made : List (List ℕ)) (q : PagePlace) (fault : ComposeFault) → TreeStands old depth p → touches run p.low p.high ≡ true
     → slice_get (children p.low p.high at.kids.separators at.kids.pointers) i ≡ Some q
     → ComposesKids run old (depth - 1) (places_below tree_format old p) before i numbers made → WouldBeDeep (depth - 1) fault (tree_one run old (depth - 1) q (length old + length made))
     → WouldBeDeep depth fault (tree_one run old depth p (length old + length before))
 deep_here run old depth p words at before i numbers made q fault s t here c deep =
     subst (λ (k : ℕ). WouldBeDeep k fault (tree_one run old k p (length old + length before))) (sym (tree_depth old depth p s))
     (kid_deep run old (depth - 1) p words at before i numbers made q fault t here
-    (subst (λ (qs : List Place). ComposesKids run old (depth - 1) qs before i numbers made) (places_at old (depth - 1) p words at) c) deep)
+    (subst (λ (qs : List PagePlace). ComposesKids run old (depth - 1) qs before i numbers made) (places_at old (depth - 1) p words at) c) deep)
 
-pub page_here : (run : List Last) (old : List (List ℕ)) (depth : ℕ) (p : Place) (words : List ℕ) (at : InnerAt old (depth - 1) p words) (before : List (List ℕ)) (i : ℕ) (numbers list : List ℕ) (made after : List (List ℕ)) (w : List ℕ) (n : ℕ) → TreeStands old depth p → touches run p.low p.high ≡ true
+pub page_here : (run : List Last) (old : List (List ℕ)) (depth : ℕ) (p : PagePlace) (words : List ℕ) (at : InnerAt old (depth - 1) p words) (before : List (List ℕ)) (i : ℕ) (numbers list : List ℕ) (made after : List (List ℕ)) (w : List ℕ) (n : ℕ) → TreeStands old depth p → touches run p.low p.high ≡ true
     → i ≡ length at.kids.pointers → ComposesKids run old (depth - 1) (places_below tree_format old p) before i numbers made
     → list ≡ numbers → w ≡ take 4 words ++ (list ++ drop (4 + length list) words) → after ≡ made ++ w ∷ [] → n ≡ length old + length after
     → AddsWithin depth before after n (tree_one run old depth p (length old + length before))
@@ -288,4 +288,4 @@ page_here run old depth p words at before i numbers list made after w n s t end 
     numbers_written p.low p.high words w at.kids.pointers numbers at.kids.separators at.words_are (omega (arith, c.count, end)) at.is.most put_numbers in
     subst (λ (k : ℕ). AddsWithin k before after n (tree_one run old k p (length old + length before))) (sym (tree_depth old depth p s))
     (page_pushed run old (depth - 1) p words at before i numbers made after w n t end
-    (subst (λ (qs : List Place). ComposesKids run old (depth - 1) qs before i numbers made) (places_at old (depth - 1) p words at) c) word pushed count)
+    (subst (λ (qs : List PagePlace). ComposesKids run old (depth - 1) qs before i numbers made) (places_at old (depth - 1) p words at) c) word pushed count)

@@ -1,7 +1,7 @@
 -- What the code for arrays makes: the pages of the composer.
 use Rattle.std.specs.Prelude.{◌≡◌, ℕ, ◌+◌, ◌-◌, List, ◌++◌, length, take, drop}
 use Rattle.std.specs.List.{AllByRecursion}
-use Rattle.snapshot_store.specs.declared.place.Place.{Place}
+use Rattle.snapshot_store.specs.declared.place.PagePlace.{PagePlace}
 use Rattle.snapshot_store.specs.Places.{StandsTo, Cover}
 use Rattle.snapshot_store.specs.ArrayPages.{fan, row, array_format, IsArrayPage}
 use Rattle.root_composer.specs.declared.last.Last.{Last}
@@ -9,11 +9,11 @@ use Rattle.root_composer.specs.Composer.{Made, AllMade, compose, compose_each}
 use Rattle.root_composer.specs.ArrayWriter.{array_writer}
 
 -- the place's page is one of an array of this size, and so is what it leads to
-abbrev pub ArrayStands : ℕ → List (List ℕ) → ℕ → Place → Type 0
+abbrev pub ArrayStands : ℕ → List (List ℕ) → ℕ → PagePlace → Type 0
 ArrayStands size old depth p = StandsTo array_format (IsArrayPage size) old depth p
 
 -- what is made for one place
-abbrev pub array_one : List Last → List (List ℕ) → ℕ → Place → ℕ → Made
+abbrev pub array_one : List Last → List (List ℕ) → ℕ → PagePlace → ℕ → Made
 array_one run old depth p before = compose array_format array_writer run old depth p before
 
 -- what is made for the rest of the places below a page

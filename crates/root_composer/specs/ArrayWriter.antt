@@ -5,7 +5,7 @@ use Rattle.serial_model.specs.Numbers.{IsNumber}
 use Rattle.wire_form.specs.Words.{number_word}
 use Rattle.wire_form.specs.Bytes.{padded}
 use Rattle.snapshot_store.specs.ArrayPages.{fan}
-use Rattle.snapshot_store.specs.declared.place.Place.{Place}
+use Rattle.snapshot_store.specs.declared.place.PagePlace.{PagePlace}
 use Rattle.root_composer.specs.declared.last.Last.{Last}
 use Rattle.root_composer.specs.Overlaid.{is_between}
 use Rattle.root_composer.specs.Composer.{Writer}
@@ -32,7 +32,7 @@ pub record IsPut (size : ℕ) (e : Last) : Type 0 where
   pub value : (v : ℕ) × (e.value ≡ Some v)
 
 -- a leaf is written anew as one leaf, so no shape is asked for
-abbrev pub AnyShape : List (List ℕ) → Place → Type 0
+abbrev pub AnyShape : List (List ℕ) → PagePlace → Type 0
 AnyShape pages p = ⊤
 
 -- a leaf gets the run's records, and an interior page is its children's numbers

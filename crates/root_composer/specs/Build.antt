@@ -6,7 +6,7 @@ use Rattle.wire_form.specs.Bytes.{padded}
 use Rattle.wire_form.specs.Leaves.{tree_leaf as tree_records, tree_fan}
 use Rattle.wire_form.specs.Pages.{device_header, tree_inner_words}
 use Rattle.snapshot_store.specs.TreePages.{Node, Leaf, Inner, node_of}
-use Rattle.snapshot_store.specs.declared.place.Place.{Place}
+use Rattle.snapshot_store.specs.declared.place.PagePlace.{PagePlace}
 use Rattle.root_composer.specs.declared.row.Row.{Row}
 use Rattle.root_composer.specs.Composer.{Made, AllMade, Writer, with_one, with_page}
 use Rattle.root_composer.specs.Rows.{entries_in, merged, rows_of}
@@ -93,17 +93,17 @@ build (suc fuel) low high rs before =
 -- ---- writing
 
 -- the page of a node with other pages below it
-abbrev pub with_numbers : Place → Node → List ℕ → List ℕ
+abbrev pub with_numbers : PagePlace → Node → List ℕ → List ℕ
 with_numbers p (Leaf rs) numbers = []
 with_numbers p (Inner separators old) numbers = inner_words p.low p.high separators numbers
 
 -- what stands for the range of a leaf with these rows
-abbrev pub tree_leaf : Place → List Row → ℕ → Made
-tree_leaf p rs before = build (length rs) p.low p.high rs before
+abbrev pub made_leaf : PagePlace → List Row → ℕ → Made
+made_leaf p rs before = build (length rs) p.low p.high rs before
 
 -- a leaf's rows under the entries are built, and an interior page gets its children's numbers
 abbrev pub tree_writer : Writer
 tree_writer = record {
-  leaf = λ words p run before. tree_leaf p (merged (entries_in p.low p.high run) (rows_of words)) before;
+  leaf = λ words p run before. made_leaf p (merged (entries_in p.low p.high run) (rows_of words)) before;
   inner = λ words p numbers. with_numbers p (node_of words) numbers;
 }

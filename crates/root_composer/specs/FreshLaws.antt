@@ -9,7 +9,7 @@ use Rattle.serial_model.specs.declared.decl.Decl.{Decl}
 use Rattle.serial_model.specs.declared.decl.Decl.TheVariants.{Array, Tree}
 use Rattle.wire_form.specs.declared.page.Page.{Page}
 use Rattle.wire_form.specs.Pages.{Contents, IsCatalogue, catalogue_words}
-use Rattle.snapshot_store.specs.declared.place.Place.{Place}
+use Rattle.snapshot_store.specs.declared.place.PagePlace.{PagePlace}
 use Rattle.snapshot_store.specs.Places.{StandsTo, Cover, Tiles}
 use Rattle.snapshot_store.specs.ArrayPages.{fan, leaf_room, span_of, row, array_below}
 use Rattle.snapshot_store.specs.TreePages.{tree_format, IsTreePage}
@@ -52,7 +52,7 @@ no_tree pages d high = record {
 }
 
 -- a range of an array for which no page stands
-abbrev no_page : ℕ → ℕ → Place
+abbrev no_page : ℕ → ℕ → PagePlace
 no_page low span = record { number = 0; low = low; high = low + (span - 1) }
 
 span_is : (low span : ℕ) → 0 < span → span_of low (low + (span - 1)) ≡ span
@@ -70,7 +70,7 @@ no_leaf size pages d low =
       below = subst (AllByRecursion (ArrayStands size pages d)) (sym leaf) tt;
     }
 
-empty_row : (P : Place → Type 0) (part low n : ℕ) → ((at : ℕ) → P (no_page at part)) → AllByRecursion P (row [] part low n)
+empty_row : (P : PagePlace → Type 0) (part low n : ℕ) → ((at : ℕ) → P (no_page at part)) → AllByRecursion P (row [] part low n)
 empty_row P part low zero each = tt
 empty_row P part low (suc n) each = (each low, empty_row P part (low + part) n each)
 

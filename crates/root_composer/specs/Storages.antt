@@ -22,7 +22,7 @@ use Rattle.root_composer.specs.ArrayCode.{array_one}
 use Rattle.root_composer.specs.Rows.{Rising, IsNumberWord}
 use Rattle.root_composer.specs.Shape.{TreeShape}
 use Rattle.root_composer.specs.TreeCode.{tree_one}
-use Rattle.snapshot_store.specs.declared.place.Place.{Place}
+use Rattle.snapshot_store.specs.declared.place.PagePlace.{PagePlace}
 
 -- an entry, as one of its storage
 abbrev pub last_of : Entry → Last
@@ -52,7 +52,7 @@ EachOverlaid run old new (s ∷ ss) (t ∷ ts) =
     (id_of s.decl ≡ id_of t.decl) × ((key : ℕ) → new t key ≡ overlaid (old s key) (entry_for (part_of (id_of s.decl) run) key)) × EachOverlaid run old new ss ts
 
 -- the shape that is asked for what stands in place of a leaf
-abbrev pub shape_of : Decl → List (List ℕ) → Place → Type 0
+abbrev pub shape_of : Decl → List (List ℕ) → PagePlace → Type 0
 shape_of (Array id size) = AnyShape
 shape_of (Tree id) = TreeShape
 
@@ -98,7 +98,7 @@ abbrev pub up_to : ℕ → Made → Made
 up_to depth m = record { number = m.number; pages = m.pages; levels = depth }
 
 -- what is made for a root
-abbrev pub made_for : Decl → List Last → List (List ℕ) → Place → ℕ → Made
+abbrev pub made_for : Decl → List Last → List (List ℕ) → PagePlace → ℕ → Made
 made_for (Array id size) part old p before = up_to deepest (array_one part old deepest p before)
 made_for (Tree id) part old p before = tree_one part old deepest p before
 

@@ -1,6 +1,6 @@
 -- What the code for trees makes: the pages of the composer and of `build`.
 use Rattle.std.specs.Prelude.{◌≡◌, ℕ, ◌-◌, ◌<◌, ◌≤◌, List, [], ◌∷◌, ◌++◌, length}
-use Rattle.snapshot_store.specs.declared.place.Place.{Place}
+use Rattle.snapshot_store.specs.declared.place.PagePlace.{PagePlace}
 use Rattle.snapshot_store.specs.Places.{StandsTo}
 use Rattle.snapshot_store.specs.TreePages.{tree_format, IsTreePage}
 use Rattle.root_composer.specs.declared.fault.ComposeFault.{ComposeFault}
@@ -11,11 +11,11 @@ use Rattle.root_composer.specs.Composer.{Made, AllMade, compose}
 use Rattle.root_composer.specs.Build.{build, tree_writer}
 
 -- the place's page is one of a tree, and so is what it leads to
-abbrev pub TreeStands : List (List ℕ) → ℕ → Place → Type 0
+abbrev pub TreeStands : List (List ℕ) → ℕ → PagePlace → Type 0
 TreeStands old depth p = StandsTo tree_format IsTreePage old depth p
 
 -- what is made for one place
-abbrev pub tree_one : List Last → List (List ℕ) → ℕ → Place → ℕ → Made
+abbrev pub tree_one : List Last → List (List ℕ) → ℕ → PagePlace → ℕ → Made
 tree_one run old depth p before = compose tree_format tree_writer run old depth p before
 
 -- the number is that of what was made, its pages were added, and no more of them stand one below another than may

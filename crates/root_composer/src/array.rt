@@ -9,7 +9,7 @@ use crate::Last;
 use crate::range::{has_entry, within};
 use crate::words::page_words;
 use lists::Memory;
-use snapshot_store::{Place, SnapStore};
+use snapshot_store::{PagePlace, SnapStore};
 
 /// Puts a record at an index of a leaf.
 fn put_record(words: &mut [u64; 64], i: usize, number: u64, value: Option<u64>)
@@ -45,7 +45,7 @@ pub fn compose_array(
     run: &[Last],
     size: u64,
     depth: u32,
-    p: Place,
+    p: PagePlace,
 ) -> Result<u64, Memory>
     requires stands { ArrayStands size (words_of store.now.pages) depth p }
     requires range { p.high < 4294967296 }
@@ -64,7 +64,7 @@ pub fn compose_array(
         let part = (p.high - p.low + 1) / 64;
         let mut low = p.low;
         for i in 0..64 {
-            let q = Place {
+            let q = PagePlace {
                 number: words[i],
                 low,
                 high: low + (part - 1),

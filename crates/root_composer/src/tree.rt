@@ -5,7 +5,7 @@ ghost use Rattle.wire_form.specs.Pages.{Children, IsTreeInner, tree_inner_words}
 ghost use Rattle.snapshot_store.specs.Content.{words_of};
 ghost use Rattle.snapshot_store.specs.TreePages.{children, count_of};
 ghost use Rattle.root_composer.specs.Rows.{rows_of, Ascends, Rising, entries_in, merged};
-ghost use Rattle.root_composer.specs.Build.{tree_leaf};
+ghost use Rattle.root_composer.specs.Build.{made_leaf};
 ghost use Rattle.root_composer.specs.TreeCode.{TreeStands, tree_one, AddsWithin, WouldBeDeep};
 
 use crate::build::build;
@@ -14,19 +14,19 @@ use crate::row::{merged, rows_of};
 use crate::words::{page_words, put_words};
 use crate::{ComposeFault, Last};
 use lists::OrMemory;
-use snapshot_store::{Place, SnapStore, is_inner};
+use snapshot_store::{PagePlace, SnapStore, is_inner};
 use std::alloc::Global;
 use wire_form::{child, child_range, count};
 
 /// The place of a child of an interior page.
-fn child_place(words: &[u64; 64], i: usize) -> Place
+fn child_place(words: &[u64; 64], i: usize) -> PagePlace
     requires { i < 30 }
     ensures { (low high number : ℕ) (c : Children) → IsTreeInner low high number c
         → words.now ≡ tree_inner_words low high c → i < length c.pointers
         → slice_get (children low high c.separators c.pointers) i ≡ Some result }
 {
     let (low, high) = child_range(words, i);
-    Place {
+    PagePlace {
         number: child(words, i),
         low,
         high,
@@ -40,7 +40,7 @@ fn compose_leaf(
     made: &mut Vec<[u64; 64]>,
     run: &[Last],
     depth: u32,
-    p: Place,
+    p: PagePlace,
     words: &[u64; 64],
 ) -> Result<u64, OrMemory<ComposeFault>>
     requires leaf { (slice_index words.now 0 / 256 == 2) ≡ false }
@@ -50,9 +50,9 @@ fn compose_leaf(
     requires rising { Rising 0 run.now }
     requires range { p.low ≤ p.high }
     ensures made { IfOk result (λ n. AddsWithin depth made.old.items made.new.items n
-        (tree_leaf p (merged (entries_in p.low p.high run.now) (rows_of words.now)) (have + length made.old.items))) }
+        (made_leaf p (merged (entries_in p.low p.high run.now) (rows_of words.now)) (have + length made.old.items))) }
     ensures deep { (fault : ComposeFault) → result ≡ Err (OrMemory.Fault fault) → WouldBeDeep depth fault
-        (tree_leaf p (merged (entries_in p.low p.high run.now) (rows_of words.now)) (have + length made.old.items)) }
+        (made_leaf p (merged (entries_in p.low p.high run.now) (rows_of words.now)) (have + length made.old.items)) }
 {
     let part = within(run, p.low, p.high);
     let rows = rows_of(alloc, words)?;
@@ -68,7 +68,7 @@ pub fn compose_tree(
     made: &mut Vec<[u64; 64]>,
     run: &[Last],
     depth: u32,
-    p: Place,
+    p: PagePlace,
 ) -> Result<u64, OrMemory<ComposeFault>>
     requires stands { TreeStands (words_of store.now.pages) depth p }
     requires order { IsNonDecreasingBy (λ e. e.key) run.now }

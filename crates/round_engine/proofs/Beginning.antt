@@ -18,7 +18,7 @@ use Rattle.homes.specs.declared.places.Content.{Content}
 use Rattle.wire_form.specs.Pages.{Contents, decls_of}
 use Rattle.wire_form.specs.declared.savepoint.Savepoint.{Savepoint}
 use Rattle.snapshot_store.specs.Content.{SnapshotStands, words_of}
-use Rattle.snapshot_store.specs.Store.{Holds, StoreState}
+use Rattle.snapshot_store.specs.Store.{HoldsPages, StoreState}
 use Rattle.log_writer.specs.Points.{SaveState, saved_of}
 use Rattle.log_writer.specs.Save.{IsStored}
 use Rattle.log_writer.specs.declared.saved.Saved.{Saved}
@@ -71,7 +71,7 @@ begun_counts newest saved known none = record {
 pub record IsSettledOn {D : Type 0} (tells : D → Option (List ℕ)) (decls : List Decl) (store : StoreState) (room : ℕ)
     (epoch : ℕ) (snaps : D) : Type 0 where
   pub sound : store.sound ≡ true
-  pub holds : Holds tells snaps store.pages
+  pub holds : HoldsPages tells snaps store.pages
   pub contents : Contents
   pub stands : SnapshotStands (words_of store.pages) (length store.pages) contents
   pub decls_are : decls ≡ decls_of contents

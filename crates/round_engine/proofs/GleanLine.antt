@@ -27,7 +27,7 @@ use Rattle.log_writer.specs.Points.{SaveState, sequence_of}
 use Rattle.log_writer.specs.Records.{no_ties}
 use Rattle.log_writer.specs.Save.{IsStored}
 use Rattle.snapshot_store.specs.Content.{SnapshotStands, words_of}
-use Rattle.snapshot_store.specs.Store.{bytes_of_page, bytes_of_pages, Holds, IsWhole, StoreState}
+use Rattle.snapshot_store.specs.Store.{bytes_of_page, bytes_of_pages, HoldsPages, IsWhole, StoreState}
 use Rattle.joint_crashes.specs.Images.{epoch_of}
 use Rattle.joint_crashes.specs.Crashes.Instants.{lasts_runs}
 use Rattle.joint_crashes.specs.Crashes.Rounded.{keeper_none}
@@ -241,8 +241,8 @@ module _ {D : Type 0} {tells : D → Option (List ℕ)} {clock : D → ℕ} {ima
   -- the newest snapshot stays
   snapshot_same : AddsNothing r new vault now → HasSnapshot tells r vault.snaps → HasSnapshot tells new now.snaps
   snapshot_same same h = record {
-    holds = subst (λ d. Holds tells d new.store.pages) (sym same.snaps)
-        (subst (λ (s : StoreState). Holds tells vault.snaps s.pages) (sym same.store) h.holds);
+    holds = subst (λ d. HoldsPages tells d new.store.pages) (sym same.snaps)
+        (subst (λ (s : StoreState). HoldsPages tells vault.snaps s.pages) (sym same.store) h.holds);
     contents = h.contents;
     stands = subst (λ (s : StoreState). SnapshotStands (words_of s.pages) (length s.pages) h.contents) (sym same.store) h.stands;
     decls = ap (λ (s : Standing). s.decls) gleans.alone.stands ∙ h.decls;

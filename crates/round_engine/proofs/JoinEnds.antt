@@ -18,7 +18,7 @@ use Rattle.wire_form.specs.declared.clock.Mark.{Mark}
 use Rattle.log_writer.specs.Points.{point_of, sequence_of}
 use Rattle.log_writer.specs.declared.saved.Saved.{Saved}
 use Rattle.snapshot_store.specs.Content.{SnapshotStands, words_of}
-use Rattle.snapshot_store.specs.Store.{Holds}
+use Rattle.snapshot_store.specs.Store.{HoldsPages}
 use Rattle.joint_crashes.specs.Images.{counted_of, epoch_of}
 use Rattle.joint_crashes.specs.VaultReads.{RoseIn}
 use Rattle.tx_script.specs.Causes.{last_sequence, some_counted}
@@ -435,8 +435,8 @@ module _ {D : Type 0} {tells : D → Option (List ℕ)} {clock : D → ℕ} {ima
         };
     stored = facts.runs.keeps.stands;
     snapshot = λ up. record {
-      holds = subst (λ d. Holds tells d joined.store.pages) (sym facts.runs.snaps)
-          (subst (λ (x : RuntimeState). Holds tells after.snaps x.store.pages) (sym facts.runs.alone) facts.snapshot.holds);
+      holds = subst (λ d. HoldsPages tells d joined.store.pages) (sym facts.runs.snaps)
+          (subst (λ (x : RuntimeState). HoldsPages tells after.snaps x.store.pages) (sym facts.runs.alone) facts.snapshot.holds);
       contents = facts.snapshot.contents;
       stands = subst (λ (x : RuntimeState). SnapshotStands (words_of x.store.pages) (length x.store.pages) facts.snapshot.contents)
           (sym facts.runs.alone) facts.snapshot.stands;

@@ -17,7 +17,7 @@ use Rattle.tx_script.specs.Causes.{AnswerCause, keeper_after, some_counted}
 use Rattle.tx_script.specs.declared.answer.Answer.{Answer}
 use Rattle.wire_form.specs.declared.clock.Mark.{Mark}
 use Rattle.snapshot_store.specs.Content.{SnapshotStands, words_of}
-use Rattle.snapshot_store.specs.Store.{Holds, StoreState}
+use Rattle.snapshot_store.specs.Store.{HoldsPages, StoreState}
 use Rattle.worker_logs.specs.Saves.{logs_marks, saved_epoch}
 use Rattle.worker_logs.specs.declared.savepoints.Beside.{Beside}
 use Rattle.log_writer.specs.declared.saved.Saved.{Saved}
@@ -102,8 +102,8 @@ module _ {D : Type 0} (tells : D → Option (List ℕ)) (clock : D → ℕ) (ima
     snapshot = λ has up.
         let h = has (ap (λ (s : StoreState). s.sound) (sym same.store) ∙ up) in
         record {
-          holds = subst (λ d. Holds tells d new.store.pages) (sym same.snaps)
-              (subst (λ (s : StoreState). Holds tells before.snaps s.pages) (sym same.store) h.holds);
+          holds = subst (λ d. HoldsPages tells d new.store.pages) (sym same.snaps)
+              (subst (λ (s : StoreState). HoldsPages tells before.snaps s.pages) (sym same.store) h.holds);
           contents = h.contents;
           stands = subst (λ (s : StoreState). SnapshotStands (words_of s.pages) (length s.pages) h.contents) (sym same.store) h.stands;
           decls = same.decls ∙ h.decls;

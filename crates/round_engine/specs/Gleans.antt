@@ -15,7 +15,7 @@ use Rattle.log_writer.specs.declared.vault.Vault.{Vault}
 use Rattle.wire_form.specs.Pages.{Contents}
 use Rattle.wire_form.specs.declared.page.Page.{Page}
 use Rattle.snapshot_store.specs.Content.{CatalogueAt, words_of}
-use Rattle.snapshot_store.specs.Store.{bytes_of_pages, Holds, IsWhole, KeepsFront, StoreState}
+use Rattle.snapshot_store.specs.Store.{bytes_of_pages, HoldsPages, IsWhole, KeepsFront, StoreState}
 use Rattle.serial_model.specs.declared.decl.Decl.{Decl}
 use Rattle.gleaner.specs.Glean.{bank_of, DeviceFailed, FailsBeside, IsDamagedFile, IsGleaned, IsToldBefore}
 use Rattle.gleaner.specs.Glean.{none_counted}
@@ -138,7 +138,7 @@ pub record AddsPages {D : Type 0} (tells : D → Option (List ℕ)) (clock : D �
   pub found : ComesTo tells old before count
   pub counted : new.counted ≡ replicate 8 0
   pub sound : new.store.sound ≡ true
-  pub holds : Holds tells now.snaps new.store.pages
+  pub holds : HoldsPages tells now.snaps new.store.pages
   pub durable : IfTold (tells before.snaps) (λ _.
       AllBegin (image_at now.snaps (clock now.snaps)) (bytes_of_pages new.store.pages))
 
@@ -226,7 +226,7 @@ pub record GleansFiles {D : Type 0} (tells : D → Option (List ℕ)) (clock : D
   pub durable : OnOk result (IfTold (tells snaps_was) (λ _. none_counted closed.lengths ≢ true
       → AllBegin (image_at snaps (clock snaps)) (bytes_of_pages store.pages)))
   pub sound : OnOk result (store.sound ≡ true)
-  pub holds : OnOk result (Holds tells snaps store.pages)
+  pub holds : OnOk result (HoldsPages tells snaps store.pages)
   pub damaged : (device : Device) (at : ℕ) → result ≡ Err (or.Fault (refusals.Damaged device at))
       → IsDamagedFile tells closed decls newest.epoch files_was device at
   pub device : (device : Device) → result ≡ Err (or.Fault (refusals.Device device))

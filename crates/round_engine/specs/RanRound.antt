@@ -88,7 +88,7 @@ pub record Begins (tries : ℕ) (round : Round) (old : RuntimeState) (ran : Ran)
 -- What was run of a round on the engine: its commits are a serial run from the old contents to the new, and the logs
 -- have what they changed, as log lines; each outcome, answer and refusal has its cause. The conflicts that are told of
 -- lines' tries are those that the engine counted.
-pub record RunsLines (round : Round) (old new : RuntimeState) (ran : Ran) (logged : ℕ → List Commit) : Type 0 where
+pub record RunsRoundLines (round : Round) (old new : RuntimeState) (ran : Ran) (logged : ℕ → List Commit) : Type 0 where
   pub decls : new.stands.decls ≡ old.stands.decls
   pub run : (index : ℕ)
       → IsRun old.stands.decls index (round ∷ []) old.stands.state old.stands.clock (ran ∷ []) new.stands.state
@@ -235,7 +235,7 @@ pub record RanRound (tries : ℕ) (round : Round) (old new : RuntimeState) (repo
   pub logged : ℕ → List Commit
   pub reports : Reports ran report
   pub begins : Begins tries round old ran
-  pub lines : RunsLines round old new ran logged
+  pub lines : RunsRoundLines round old new ran logged
   pub counted : DrawsAreCounted ran
   pub met : AreMet ran round
   pub plain : HasTree old.stands.decls → RunsPlainly ran
@@ -260,7 +260,7 @@ pub record StopsIn (tries : ℕ) (round : Round) (old new : RuntimeState) : Type
   pub ran : Ran
   pub logged : ℕ → List Commit
   pub begins : Begins tries round old ran
-  pub lines : RunsLines front old new ran logged
+  pub lines : RunsRoundLines front old new ran logged
   pub unanswered : ran.printed.answers ≡ []
   pub unstored : Contains ran.beside.devices Save → ⊥
   pub only_logs : (device : Device) → Contains ran.beside.devices device

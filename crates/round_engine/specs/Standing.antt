@@ -11,7 +11,7 @@ use Rattle.log_writer.specs.Journal.{Reaches}
 use Rattle.log_writer.specs.Points.{SaveState}
 use Rattle.log_writer.specs.Save.{IsStored}
 use Rattle.snapshot_store.specs.Content.{SnapshotStands, words_of}
-use Rattle.snapshot_store.specs.Store.{Holds, StoreState}
+use Rattle.snapshot_store.specs.Store.{HoldsPages, StoreState}
 use Rattle.joint_crashes.specs.Images.{epoch_of}
 use Rattle.worker_logs.specs.Logs.{IsJoined, IsPassed, IsSomeLog, LogState, log_limit}
 use Rattle.worker_logs.specs.Saves.{closed_number, growing_number}
@@ -94,7 +94,7 @@ pub record AreClosed (r : RuntimeState) : Type 0 where
 -- which the closed log files were closed, and where bytes of these count it is earlier. The device begins with the
 -- pages, as far as it tells, and they are within what is let in.
 pub record HasSnapshot {D : Type 0} (tells : D → Option (List ℕ)) (r : RuntimeState) (snaps : D) : Type 0 where
-  pub holds : Holds tells snaps r.store.pages
+  pub holds : HoldsPages tells snaps r.store.pages
   pub contents : Contents
   pub stands : SnapshotStands (words_of r.store.pages) (length r.store.pages) contents
   pub decls : r.stands.decls ≡ decls_of contents

@@ -3,7 +3,7 @@ ghost use Rattle.std.specs.Prelude.{◌≡◌, ◌≢◌, ◌<◌, ◌≤◌, �
 ghost use Rattle.log_writer.specs.Vault.{IsWhole};
 ghost use Rattle.wire_form.specs.Pages.{Contents};
 ghost use Rattle.snapshot_store.specs.Content.{CatalogueAt, words_of};
-ghost use Rattle.snapshot_store.specs.Store.{Holds};
+ghost use Rattle.snapshot_store.specs.Store.{HoldsPages};
 ghost use Rattle.gleaner.specs.Glean.{CanGlean, none_counted};
 ghost use Rattle.round_engine.specs.GleanStops.{CarriesKnown};
 ghost use Rattle.round_engine.specs.Gleans.{Gleans, GleansAsked, GleansFiles, closed_of, counted_after};
@@ -138,7 +138,7 @@ fn glean_over<R: Threads + Wait + Sync, D: Disk + Send>(
     requires whole { IsWhole vault.old }
     requires room { room ≤ 65536 }
     requires sound { store.old.sound ≡ true }
-    requires holds { Holds D.tells vault.old.snaps store.old.pages }
+    requires holds { HoldsPages D.tells vault.old.snaps store.old.pages }
     ensures gleans { GleansFiles D.tells D.clock D.image_at D.faults decls.now newest closed.now room
         store.old store.new vault.old.snaps vault.new.snaps (closed_in side vault.old) (closed_in side vault.new)
         result.answer result.beside }
@@ -191,7 +191,7 @@ fn glean_files<R: Threads + Wait + Sync, D: Disk + Send>(
     requires workers { length files.old.items ≡ 8 }
     requires room { room ≤ 65536 }
     requires sound { store.old.sound ≡ true }
-    requires holds { Holds D.tells snaps.old store.old.pages }
+    requires holds { HoldsPages D.tells snaps.old store.old.pages }
     ensures gleans { GleansFiles D.tells D.clock D.image_at D.faults decls.now newest closed.now room
         store.old store.new snaps.old snaps.new files.old.items files.new.items result.answer result.beside }
 {

@@ -10,7 +10,7 @@ ghost use Rattle.wire_form.specs.Pages.{Contents};
 ghost use Rattle.log_writer.specs.Points.{saved_of};
 ghost use Rattle.log_writer.specs.Save.{IsStored};
 ghost use Rattle.snapshot_store.specs.Content.{words_of};
-ghost use Rattle.snapshot_store.specs.Store.{Holds};
+ghost use Rattle.snapshot_store.specs.Store.{HoldsPages};
 ghost use Rattle.tx_script.specs.Run.{clock_after};
 ghost use Rattle.brief_output.specs.Brief.{total_of};
 ghost use Rattle.worker_logs.specs.Logs.{fresh_log};
@@ -97,7 +97,7 @@ impl Runtime {
         requires stored { IsStored D.tells D.clock D.image_at vault.old.save settled.save.newest }
         requires sound { settled.store.sound ≡ true }
         requires count { length settled.store.pages ≡ settled.saved.count }
-        requires holds { Holds D.tells vault.old.snaps settled.store.pages }
+        requires holds { HoldsPages D.tells vault.old.snaps settled.store.pages }
         requires snapshot { (contents : Contents) × IsNewestSnapshot (words_of settled.store.pages)
             (length settled.store.pages) settled.decls settled.state settled.saved.epoch contents }
         // The log files are empty where disks tell their bytes: nothing of them counts, and logs begin there.

@@ -11,7 +11,7 @@ use Rattle.script_grammar.specs.declared.fault.FaultKind.{FaultKind}
 use Rattle.script_grammar.specs.Script.{Bytes, Script, IsTextOf}
 use Rattle.script_grammar.specs.Words.{is_join}
 use Rattle.script_grammar.specs.Reading.{Parts, no_parts, decl_at, line_at, may_declare, may_follow, with_decl, with_line, with_join, with_some_line, begins_declaration, step, steps, parts_of, FindsOrTells, Gives}
-use Rattle.script_grammar.specs.Faults.{Place, place_after, place_past, first_place, kind_of, fault_or, first_fault, fault_of, IsFirstFault}
+use Rattle.script_grammar.specs.Faults.{LinePlace, place_after, place_past, first_place, kind_of, fault_or, first_fault, fault_of, IsFirstFault}
 use Rattle.script_grammar.specs.Front.{LeavesOthers}
 use Rattle.script_grammar.proofs.Found.{bind_some, test_some, not_test_some, some_same}
 use Rattle.script_grammar.proofs.LineTexts.{decl_takes, line_takes}
@@ -66,7 +66,7 @@ step_passes p q (b ∷ bs) e =
 -- ---- the first faulty line
 
 -- where no test finds a fault in a line, the fault is a later one's
-later_fault : (number : ℕ) (place next : Place) (line : Bytes) (lines : List Bytes) → kind_of place line ≡ None → place_past place line ≡ next → first_fault number place (line ∷ lines) ≡ first_fault (number + 1) next lines
+later_fault : (number : ℕ) (place next : LinePlace) (line : Bytes) (lines : List Bytes) → kind_of place line ≡ None → place_past place line ≡ next → first_fault number place (line ∷ lines) ≡ first_fault (number + 1) next lines
 unfolding first_fault
 later_fault number place next line lines e f = rw (e, f) refl
 

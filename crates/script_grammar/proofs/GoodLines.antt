@@ -18,7 +18,7 @@ use Rattle.script_grammar.specs.declared.lines.KeeperLine.TheVariants.{Epoch, Sa
 use Rattle.script_grammar.specs.Script.{Bytes, Line, Worker, Keeper, IsAsked, op_text, keeper_text}
 use Rattle.script_grammar.specs.Words.{passes, words, number_in, is_no_number, is_word, is_join, is_keeper_line, is_worker_line, worker_word, op_parts}
 use Rattle.script_grammar.specs.Reading.{Parts, is_fresh, may_declare, may_run, with_join, ops_in, line_at, decl_at, step}
-use Rattle.script_grammar.specs.Faults.{Place, place_after, begins_with, is_decl_shape, op_is, some_op_is, is_too_long, has_no_shape, lacks_number, is_too_many, is_misdeclared, is_of_other_kind, is_out_of_range, kind_of}
+use Rattle.script_grammar.specs.Faults.{LinePlace, place_after, begins_with, is_decl_shape, op_is, some_op_is, is_too_long, has_no_shape, lacks_number, is_too_many, is_misdeclared, is_of_other_kind, is_out_of_range, kind_of}
 use Rattle.script_grammar.proofs.Found.{or_parts, or_cases, not_true, second_false}
 use Rattle.script_grammar.proofs.OpTexts.{ops_take}
 use Rattle.script_grammar.proofs.LineTexts.{line_takes, line_found, decl_takes}
@@ -61,7 +61,7 @@ good_ops decls (p ∷ ps) none =
 -- ---- tests of a line
 
 -- no test finds a fault in the line
-pub record IsFaultless (place : Place) (line : Bytes) : Type 0 where
+pub record IsFaultless (place : LinePlace) (line : Bytes) : Type 0 where
   pub short : is_too_long place line ≡ false
   pub shape : has_no_shape place line ≡ false
   pub numbers : lacks_number place line ≡ false
@@ -76,7 +76,7 @@ not_chosen true told later e = absurd cc
 not_chosen false told later e = (refl, e)
 
 -- where the line has no kind of fault, no test finds one
-faultless : (place : Place) (line : Bytes) → kind_of place line ≡ None → IsFaultless place line
+faultless : (place : LinePlace) (line : Bytes) → kind_of place line ≡ None → IsFaultless place line
 unfolding kind_of
 faultless place line e =
     let t0 = not_chosen (is_too_long place line) _ _ e in

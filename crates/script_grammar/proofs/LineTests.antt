@@ -17,7 +17,7 @@ use Rattle.script_grammar.specs.declared.lines.KeeperLine.TheVariants.{Epoch, Sa
 use Rattle.script_grammar.specs.Script.{Bytes, Line, Worker, Keeper, IsAsked, Round, op_text, keeper_text, line_text, decl_text}
 use Rattle.script_grammar.specs.Words.{passes, words, number_in, is_no_number, is_join, is_keeper_line, is_worker_line, op_parts}
 use Rattle.script_grammar.specs.Reading.{Parts, is_fresh, may_declare, may_run, may_follow, with_join}
-use Rattle.script_grammar.specs.Faults.{Place, place_after, place_past, declared_by, is_decl_shape, op_is, some_op_is, is_too_long, has_no_shape, lacks_number, is_too_many, is_misdeclared, is_of_other_kind, is_out_of_range, kind_of}
+use Rattle.script_grammar.specs.Faults.{LinePlace, place_after, place_past, declared_by, is_decl_shape, op_is, some_op_is, is_too_long, has_no_shape, lacks_number, is_too_many, is_misdeclared, is_of_other_kind, is_out_of_range, kind_of}
 use Rattle.script_grammar.proofs.Found.{or_from, or_last, not_false, denied}
 use Rattle.script_grammar.proofs.OpTexts.{IsSpelled}
 use Rattle.script_grammar.proofs.LineTexts.{AreSpelled, IsSpelledLine, BeginsLine, line_begins_so, words_array, words_tree}
@@ -27,7 +27,7 @@ use Rattle.script_grammar.proofs.GoodLines.{IsFaultless, HaveNoFault}
 use Rattle.script_grammar.proofs.OpTests.{no_fault_op}
 
 -- where no test finds a fault, the line has no kind of fault
-no_kind : (place : Place) (line : Bytes) → IsFaultless place line → kind_of place line ≡ None
+no_kind : (place : LinePlace) (line : Bytes) → IsFaultless place line → kind_of place line ≡ None
 unfolding kind_of
 no_kind place line f = rw (f.short, f.shape, f.numbers, f.few, f.declared, f.kind, f.range) refl
 
@@ -90,7 +90,7 @@ not_empty : {X : Type 0} (xs : List X) (x : X) → (length (xs ++ x ∷ []) == 0
 not_empty xs x = ne_eqb (length (xs ++ x ∷ [])) 0 (λ none. omega (arith, length-append xs (x ∷ [])))
 
 -- where a line stands
-abbrev stands : List Decl → Bool → ℕ → Place
+abbrev stands : List Decl → Bool → ℕ → LinePlace
 stands decls begun lines = record { decls = decls; begun = begun; lines = lines }
 
 past_line : (p : Parts) (line : Bytes) (l : Line) → (is_worker_line line || is_keeper_line line) ≡ true → place_past (place_after p) line ≡ place_after (record p { lines = p.lines ++ l ∷ [] })

@@ -14,13 +14,13 @@ use Rattle.script_grammar.specs.Reading.{Parts, is_fresh}
 
 -- where a line stands: the storages declared before it, whether a line of another kind came before it, and how many
 -- lines its round has before it
-pub record Place : Type 0 where
+pub record LinePlace : Type 0 where
   pub decls : List Decl
   pub begun : Bool
   pub lines : ℕ
 
 -- where the next line stands
-abbrev pub place_after : Parts → Place
+abbrev pub place_after : Parts → LinePlace
 place_after p = record { decls = p.decls; begun = not (is_fresh p); lines = length p.lines }
 
 -- ---- what an operation lacks
@@ -78,40 +78,40 @@ unfoldable pub is_decl_shape : Bytes → Bool
 is_decl_shape line = begins_with (codes "array") 3 (words line) || begins_with (codes "tree") 2 (words line)
 
 -- more than 1,024 bytes
-unfoldable pub is_too_long : Place → Bytes → Bool
+unfoldable pub is_too_long : LinePlace → Bytes → Bool
 is_too_long place line = nat_lt 1024 (length line)
 
 -- no line has these words
-unfoldable pub has_no_shape : Place → Bytes → Bool
+unfoldable pub has_no_shape : LinePlace → Bytes → Bool
 has_no_shape place line =
     if is_worker_line line then some_op_is Word place.decls line
     else not ((length line == 0) || (is_join line || (is_keeper_line line || is_decl_shape line)))
 
 -- a number's place has something else
-unfoldable pub lacks_number : Place → Bytes → Bool
+unfoldable pub lacks_number : LinePlace → Bytes → Bool
 lacks_number place line =
     if is_worker_line line then is_none (number_of (worker_word line)) || some_op_is Number place.decls line
     else (is_decl_shape line && (is_no_number (words line) 1 || is_no_number (words line) 2))
 
 -- too many operations, the 65,537th line of its round, or the 17th declaration
-unfoldable pub is_too_many : Place → Bytes → Bool
+unfoldable pub is_too_many : LinePlace → Bytes → Bool
 is_too_many place line =
     if is_worker_line line then nat_lt 16 (length (op_parts line)) || nat_le 65536 place.lines
     else ((is_keeper_line line && nat_le 65536 place.lines) || (is_decl_shape line && nat_le 16 (length place.decls)))
 
 -- an operation's storage isn't declared, or a declaration comes late or again
-unfoldable pub is_misdeclared : Place → Bytes → Bool
+unfoldable pub is_misdeclared : LinePlace → Bytes → Bool
 is_misdeclared place line =
     if is_worker_line line then some_op_is Declared place.decls line
     else (is_decl_shape line
     && (place.begun || passes (λ id. list_any (λ d. id_of d == id) place.decls) (number_in (words line) 1)))
 
 -- an operation is one that its storage's kind doesn't have
-unfoldable pub is_of_other_kind : Place → Bytes → Bool
+unfoldable pub is_of_other_kind : LinePlace → Bytes → Bool
 is_of_other_kind place line = is_worker_line line && some_op_is Kind place.decls line
 
 -- a number is out of its range
-unfoldable pub is_out_of_range : Place → Bytes → Bool
+unfoldable pub is_out_of_range : LinePlace → Bytes → Bool
 is_out_of_range place line =
     if is_worker_line line then passes (nat_le 8) (number_of (worker_word line)) || some_op_is Range place.decls line
     else (is_decl_shape line && (passes (nat_le 256) (number_in (words line) 1)
@@ -120,7 +120,7 @@ is_out_of_range place line =
 -- ---- the fault of a line
 
 -- the kinds of faults and their tests: the first that holds of a line decides
-abbrev pub tests : List (FaultKind × (Place → Bytes → Bool))
+abbrev pub tests : List (FaultKind × (LinePlace → Bytes → Bool))
 tests =
     (TooLong, is_too_long)
     ∷ (Word, has_no_shape)
@@ -132,12 +132,12 @@ tests =
     ∷ []
 
 -- the kind whose test is the first that holds
-abbrev pub first_kind : List (FaultKind × (Place → Bytes → Bool)) → Place → Bytes → Option FaultKind
+abbrev pub first_kind : List (FaultKind × (LinePlace → Bytes → Bool)) → LinePlace → Bytes → Option FaultKind
 first_kind [] place line = None
 first_kind (test ∷ tests) place line = if test.1 place line then Some test.0 else first_kind tests place line
 
 -- the first kind of fault that the line has
-unfoldable pub kind_of : Place → Bytes → Option FaultKind
+unfoldable pub kind_of : LinePlace → Bytes → Option FaultKind
 kind_of place line = first_kind tests place line
 
 -- ---- the first faulty line
@@ -149,7 +149,7 @@ declared_by (Some id) None = Tree id ∷ []
 declared_by None size = []
 
 -- where the line behind this one stands
-unfoldable pub place_past : Place → Bytes → Place
+unfoldable pub place_past : LinePlace → Bytes → LinePlace
 place_past place line =
     if is_worker_line line || is_keeper_line line
     then record { decls = place.decls; begun = true; lines = place.lines + 1 }
@@ -162,7 +162,7 @@ place_past place line =
     else place))
 
 -- where the first line stands
-abbrev pub first_place : Place
+abbrev pub first_place : LinePlace
 first_place = record { decls = []; begun = false; lines = 0 }
 
 -- the line's fault, or else a later one
@@ -171,7 +171,7 @@ fault_or (Some kind) number later = Some (record { line = number; kind = kind })
 fault_or None number later = later
 
 -- the first line for which a test holds, with the first such kind, of lines that are counted from this number on
-unfoldable pub first_fault : ℕ → Place → List Bytes → Option ScriptFault
+unfoldable pub first_fault : ℕ → LinePlace → List Bytes → Option ScriptFault
 first_fault number place [] = None
 first_fault number place (line ∷ lines) =
     fault_or (kind_of place line) number (first_fault (number + 1) (place_past place line) lines)

@@ -11,7 +11,7 @@ use Rattle.serial_model.specs.declared.op.Op.TheVariants.{Read, Write, Remove, A
 use Rattle.serial_model.specs.declared.decl.Decl.{Decl}
 use Rattle.serial_model.specs.declared.decl.Decl.TheVariants.{Array, Tree}
 use Rattle.script_grammar.specs.declared.fault.ScriptFault.{ScriptFault}
-use Rattle.script_grammar.specs.declared.fault.Refused.{Refused}
+use Rattle.script_grammar.specs.declared.fault.ScriptRefused.{ScriptRefused}
 use Rattle.script_grammar.specs.declared.lines.KeeperLine.{KeeperLine}
 use Rattle.script_grammar.specs.declared.lines.KeeperLine.TheVariants.{Epoch, Save, Glean}
 use Rattle.script_grammar.specs.Script.{Bytes, Line, Worker, Keeper, Round, Script, last_round}
@@ -198,7 +198,7 @@ script_from p = record { decls = p.decls; rounds = p.joined ++ last_round p.join
 -- ---- what the reader's functions return
 
 -- where memory suffices, what was found is y, or there is nothing and it is refused
-abbrev pub Reads : {X Y : Type 0} → Result X (OrMemory Refused) → Y → Option Y → Type 0
+abbrev pub Reads : {X Y : Type 0} → Result X (OrMemory ScriptRefused) → Y → Option Y → Type 0
 Reads (Ok x) y found = found ≡ Some y
 Reads (Err errors.Memory) y found = ⊤
 Reads (Err (errors.Fault refused)) y found = found ≡ None

@@ -28,4 +28,4 @@ pub struct ScriptFault {
 
 /// A line that is no line of a script here; why is told by its tests.
 #[derive(Clone, Copy)]
-pub(crate) struct Refused;
+pub(crate) struct ScriptRefused;

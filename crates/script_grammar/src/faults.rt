@@ -18,7 +18,7 @@ use std::marker::Model;
 
 /// Where a line stands.
 #[derive(Drop)]
-pub(crate) struct Place<'a> {
+pub(crate) struct LinePlace<'a> {
     /// The storages declared before it.
     pub decls: &'a [Decl],
     /// A line of another kind came before it.
@@ -27,8 +27,8 @@ pub(crate) struct Place<'a> {
     pub lines: usize,
 }
 
-impl<'a> Model for Place<'a> {
-    ghost use Rattle.script_grammar.specs.Faults.{Place as Meaning};
+impl<'a> Model for LinePlace<'a> {
+    ghost use Rattle.script_grammar.specs.Faults.{LinePlace as Meaning};
 
     ghost Value = { Meaning };
 
@@ -71,7 +71,7 @@ fn is_decl_shape(line: &[u8]) -> bool
 }
 
 #[tactic(auto, unfolding(crate::specs::Faults::has_no_shape))]
-fn has_no_shape(place: &Place, line: &[u8]) -> bool
+fn has_no_shape(place: &LinePlace, line: &[u8]) -> bool
     ensures { result ≡ has_no_shape place.now line.now }
 {
     if is_worker_line(line) {
@@ -82,7 +82,7 @@ fn has_no_shape(place: &Place, line: &[u8]) -> bool
 }
 
 #[tactic(auto, unfolding(crate::specs::Faults::lacks_number))]
-fn lacks_number(place: &Place, line: &[u8]) -> bool
+fn lacks_number(place: &LinePlace, line: &[u8]) -> bool
     ensures { result ≡ lacks_number place.now line.now }
 {
     if is_worker_line(line) {
@@ -93,7 +93,7 @@ fn lacks_number(place: &Place, line: &[u8]) -> bool
 }
 
 #[tactic(auto, unfolding(crate::specs::Faults::is_too_many))]
-fn is_too_many(place: &Place, line: &[u8]) -> bool
+fn is_too_many(place: &LinePlace, line: &[u8]) -> bool
     ensures { result ≡ is_too_many place.now line.now }
 {
     if is_worker_line(line) {
@@ -116,7 +116,7 @@ fn is_declared_again(decls: &[Decl], line: &[u8]) -> bool
 }
 
 #[tactic(auto, unfolding(crate::specs::Faults::is_misdeclared))]
-fn is_misdeclared(place: &Place, line: &[u8]) -> bool
+fn is_misdeclared(place: &LinePlace, line: &[u8]) -> bool
     ensures { result ≡ is_misdeclared place.now line.now }
 {
     if is_worker_line(line) {
@@ -127,7 +127,7 @@ fn is_misdeclared(place: &Place, line: &[u8]) -> bool
 }
 
 #[tactic(auto, unfolding(crate::specs::Faults::is_of_other_kind))]
-fn is_of_other_kind(place: &Place, line: &[u8]) -> bool
+fn is_of_other_kind(place: &LinePlace, line: &[u8]) -> bool
     ensures { result ≡ is_of_other_kind place.now line.now }
 {
     is_worker_line(line) && some_op_is(FaultKind::Kind, place.decls, line)
@@ -162,7 +162,7 @@ fn is_no_size(line: &[u8]) -> bool
 }
 
 #[tactic(auto, unfolding(crate::specs::Faults::is_out_of_range))]
-fn is_out_of_range(place: &Place, line: &[u8]) -> bool
+fn is_out_of_range(place: &LinePlace, line: &[u8]) -> bool
     ensures { result ≡ is_out_of_range place.now line.now }
 {
     if is_worker_line(line) {
@@ -174,7 +174,7 @@ fn is_out_of_range(place: &Place, line: &[u8]) -> bool
 
 /// The first kind of fault that the line has, in the order of the kinds.
 #[tactic(auto, unfolding(crate::specs::Faults::kind_of, crate::specs::Faults::is_too_long))]
-pub(crate) fn kind_of(place: &Place, line: &[u8]) -> Option<FaultKind>
+pub(crate) fn kind_of(place: &LinePlace, line: &[u8]) -> Option<FaultKind>
     ensures { result ≡ kind_of place.now line.now }
 {
     if line.len() > LONGEST_LINE {

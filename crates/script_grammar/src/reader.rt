@@ -4,8 +4,8 @@ ghost use Rattle.std.specs.List.{list_any, list_all};
 ghost use Rattle.serial_model.specs.Keys.{id_of, fits};
 ghost use Rattle.script_grammar.specs.Front.{LeavesOthers};
 
-use crate::fault::{FaultKind, Refused, ScriptFault};
-use crate::faults::{Place, kind_of};
+use crate::fault::{FaultKind, ScriptFault, ScriptRefused};
+use crate::faults::{LinePlace, kind_of};
 use crate::flat_ops::LineOps;
 use crate::read_line::{decl_at, is_join, keeper_in, read_worker};
 use crate::rounds::Rounds;
@@ -84,15 +84,15 @@ impl Reader {
 
     /// One declaration more.
     #[tactic(auto, unfolding(crate::specs::Reading::with_decl))]
-    fn add_decl(&mut self, line: &[u8]) -> Result<(), OrMemory<Refused>>
+    fn add_decl(&mut self, line: &[u8]) -> Result<(), OrMemory<ScriptRefused>>
         ensures read { Reads result self.new (with_decl self.old line.now) }
         ensures kept { OnErr result (self.new ≡ self.old) }
     {
         let Some(decl) = decl_at(line) else {
-            return Err(OrMemory::Fault(Refused));
+            return Err(OrMemory::Fault(ScriptRefused));
         };
         if !self.may_declare(&decl) {
-            return Err(OrMemory::Fault(Refused));
+            return Err(OrMemory::Fault(ScriptRefused));
         }
         self.decls.push(decl)?;
         Ok(())
@@ -107,16 +107,16 @@ impl Reader {
 
     /// One line of the maintenance thread more.
     #[tactic(auto, unfolding(crate::specs::Reading::with_line, crate::specs::Reading::line_at))]
-    fn add_keeper(&mut self, line: &[u8]) -> Result<(), OrMemory<Refused>>
+    fn add_keeper(&mut self, line: &[u8]) -> Result<(), OrMemory<ScriptRefused>>
         requires { begins_keeper line.now ≡ true }
         ensures read { Reads result self.new (with_line self.old line.now) }
         ensures kept { OnErr result (self.new ≡ self.old) }
     {
         let Some(asked) = keeper_in(line) else {
-            return Err(OrMemory::Fault(Refused));
+            return Err(OrMemory::Fault(ScriptRefused));
         };
         if self.rounds.rest_len() >= MOST_LINES {
-            return Err(OrMemory::Fault(Refused));
+            return Err(OrMemory::Fault(ScriptRefused));
         }
         self.rounds.push_keeper(asked)?;
         Ok(())
@@ -124,16 +124,16 @@ impl Reader {
 
     /// One worker's line more.
     #[tactic(auto, unfolding(crate::specs::Reading::with_line, crate::specs::Reading::line_at))]
-    fn add_transaction(&mut self, line: &[u8]) -> Result<(), OrMemory<Refused>>
+    fn add_transaction(&mut self, line: &[u8]) -> Result<(), OrMemory<ScriptRefused>>
         requires { begins_keeper line.now ≡ false }
         ensures read { Reads result self.new (with_line self.old line.now) }
         ensures kept { OnErr result (self.new ≡ self.old) }
     {
         let Some(worker) = read_worker(line, &mut self.ops) else {
-            return Err(OrMemory::Fault(Refused));
+            return Err(OrMemory::Fault(ScriptRefused));
         };
         if !self.may_run(self.ops.as_slice()) {
-            return Err(OrMemory::Fault(Refused));
+            return Err(OrMemory::Fault(ScriptRefused));
         }
         self.rounds.push(worker, self.ops.as_slice())?;
         Ok(())
@@ -158,7 +158,7 @@ impl Reader {
     }
 
     /// A join ends the round.
-    fn add_join(&mut self) -> Result<(), OrMemory<Refused>>
+    fn add_join(&mut self) -> Result<(), OrMemory<ScriptRefused>>
         ensures read { Reads result self.new (Some (with_join self.old)) }
         ensures kept { OnErr result (self.new ≡ self.old) }
     {
@@ -167,7 +167,7 @@ impl Reader {
     }
 
     /// One line more of the maintenance thread, or else of a worker.
-    fn add_line(&mut self, line: &[u8]) -> Result<(), OrMemory<Refused>>
+    fn add_line(&mut self, line: &[u8]) -> Result<(), OrMemory<ScriptRefused>>
         ensures read { Reads result self.new (with_line self.old line.now) }
         ensures kept { OnErr result (self.new ≡ self.old) }
     {
@@ -179,7 +179,7 @@ impl Reader {
 
     /// One line more: a join, a declaration, or else a line of a worker or of the maintenance thread.
     #[tactic(auto, unfolding(crate::specs::Reading::with_some_line))]
-    fn add(&mut self, line: &[u8]) -> Result<(), OrMemory<Refused>>
+    fn add(&mut self, line: &[u8]) -> Result<(), OrMemory<ScriptRefused>>
         ensures read { Reads result self.new (with_some_line self.old line.now) }
         ensures kept { OnErr result (self.new ≡ self.old) }
     {
@@ -194,7 +194,7 @@ impl Reader {
 
     /// One line more. An empty one counts for nothing.
     #[tactic(auto, unfolding(crate::specs::Reading::step))]
-    fn take(&mut self, line: &[u8]) -> Result<(), OrMemory<Refused>>
+    fn take(&mut self, line: &[u8]) -> Result<(), OrMemory<ScriptRefused>>
         ensures read { Reads result self.new (step self.old line.now) }
         ensures kept { OnErr result (self.new ≡ self.old) }
     {
@@ -202,7 +202,7 @@ impl Reader {
             return Ok(());
         }
         if line.len() > LONGEST_LINE {
-            return Err(OrMemory::Fault(Refused));
+            return Err(OrMemory::Fault(ScriptRefused));
         }
         self.add(line)
     }
@@ -212,7 +212,7 @@ impl Reader {
         requires { step self.now line.now ≡ None }
         ensures { kind_of (place_after self.now) line.now ≡ Some result }
     {
-        let place = Place {
+        let place = LinePlace {
             decls: self.decls.as_slice(),
             begun: !self.is_fresh(),
             lines: self.rounds.rest_len(),
@@ -231,7 +231,7 @@ impl Reader {
         match self.take(line) {
             Ok(()) => Ok(()),
             Err(OrMemory::Memory) => Err(OrMemory::Memory),
-            Err(OrMemory::Fault(Refused)) => {
+            Err(OrMemory::Fault(ScriptRefused)) => {
                 let kind = self.kind_of(line);
                 Err(OrMemory::Fault(ScriptFault { line: number, kind }))
             }

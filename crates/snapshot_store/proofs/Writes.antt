@@ -7,7 +7,7 @@ use Rattle.lists.specs.Fronts.{IsFront, front_length}
 use Rattle.outside.specs.Disk.{IfTold, written, Torn}
 use Rattle.outside.specs.Fronts.{begins_torn}
 use Rattle.wire_form.specs.declared.page.Page.{Page}
-use Rattle.snapshot_store.specs.Store.{bytes_of_pages, IsWhole, Holds, WritesAt}
+use Rattle.snapshot_store.specs.Store.{bytes_of_pages, IsWhole, HoldsPages, WritesAt}
 use Rattle.snapshot_store.proofs.Pages.{length-bytes_of_pages, bytes_of_pages-append}
 
 -- a device that tells its bytes told them before
@@ -34,8 +34,8 @@ reaches told pages whole holds file is = omega (arith, front_length (bytes_of_pa
 
 module _ {D : Type 0} {tells : D → Option (List ℕ)} {clock : D → ℕ} {image_at : D → ℕ → List ℕ → Type 0} {faults : D → ℕ} {old new : D} where
   -- what was there and what was written are there
-  pub holds_written : (there more : List Page) → AllByRecursion IsWhole there → Holds tells old there
-      → WritesAt tells clock image_at faults (512 * length there) (bytes_of_pages more) old new true → Holds tells new (there ++ more)
+  pub holds_written : (there more : List Page) → AllByRecursion IsWhole there → HoldsPages tells old there
+      → WritesAt tells clock image_at faults (512 * length there) (bytes_of_pages more) old new true → HoldsPages tells new (there ++ more)
   holds_written there more whole holds writes left is =
       let was = was_told (tells old) (tells new) writes.told left is in
       let front = front_written (512 * length there) (bytes_of_pages there) (bytes_of_pages more) was.0 (length-bytes_of_pages there whole) (holds was.0 was.1) in
@@ -44,8 +44,8 @@ module _ {D : Type 0} {tells : D → Option (List ℕ)} {clock : D → ℕ} {ima
       subst (λ l. IsFront l left) bytes (subst (λ l. IsFront (bytes_of_pages there ++ bytes_of_pages more) l) same front)
 
   -- what was there is there
-  pub holds_torn : (there : List Page) (bytes : List ℕ) → AllByRecursion IsWhole there → Holds tells old there
-      → WritesAt tells clock image_at faults (512 * length there) bytes old new false → Holds tells new there
+  pub holds_torn : (there : List Page) (bytes : List ℕ) → AllByRecursion IsWhole there → HoldsPages tells old there
+      → WritesAt tells clock image_at faults (512 * length there) bytes old new false → HoldsPages tells new there
   holds_torn there bytes whole holds writes left is =
       let was = was_told (tells old) (tells new) writes.told left is in
       front_torn (bytes_of_pages there) (512 * length there) (length bytes) was.0 left (omega (arith, length-bytes_of_pages there whole))

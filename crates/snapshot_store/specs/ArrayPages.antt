@@ -6,7 +6,7 @@ use Rattle.wire_form.specs.declared.page.PageKind.{PageKind}
 use Rattle.wire_form.specs.declared.page.PageKind.TheVariants.{ArrayLeaf, ArrayInner}
 use Rattle.wire_form.specs.Leaves.{array_leaf, array_fan, word_in, value_in}
 use Rattle.wire_form.specs.Pages.{HasKind}
-use Rattle.snapshot_store.specs.declared.place.Place.{Place}
+use Rattle.snapshot_store.specs.declared.place.PagePlace.{PagePlace}
 use Rattle.snapshot_store.specs.Places.{Found, Format}
 
 -- how many pointers a page has room for; not computed in goals
@@ -22,13 +22,13 @@ abbrev pub span_of : ℕ → ℕ → ℕ
 span_of low high = high + 1 - low
 
 -- so many places in a row, each for so many indexes, with the words as their pages' numbers
-abbrev pub row : List ℕ → ℕ → ℕ → ℕ → List Place
+abbrev pub row : List ℕ → ℕ → ℕ → ℕ → List PagePlace
 row words span low zero = []
 row words span low (suc n) =
     record { number = slice_index words 0; low = low; high = low + (span - 1) } ∷ row (drop 1 words) span (low + span) n
 
 -- a page is a leaf where its range is no more than a leaf has room for
-abbrev pub array_below : List ℕ → ℕ → ℕ → List Place
+abbrev pub array_below : List ℕ → ℕ → ℕ → List PagePlace
 array_below words low high = if nat_le (span_of low high) leaf_room then [] else row words (span_of low high / fan) low fan
 
 -- a record that was never written has the number 0, and isn't in the content
@@ -68,6 +68,6 @@ IsLevel d low high =
     ((1 ≤ d) × (high ≡ low + last_at 0)) ⊎ (((2 ≤ d) × (high ≡ low + last_at 1)) ⊎ ((3 ≤ d) × (high ≡ low + last_at 2)))
 
 -- no page where there is no number, else the array's page for the range
-pub record IsArrayPage (size : ℕ) (p : Place) (words : List ℕ) : Type 0 where
+pub record IsArrayPage (size : ℕ) (p : PagePlace) (words : List ℕ) : Type 0 where
   pub none : p.number ≡ 0 → words ≡ []
   pub page : 0 < p.number → HasKind (array_kind size p.low p.high) p.number words

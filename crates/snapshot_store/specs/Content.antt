@@ -10,7 +10,7 @@ use Rattle.serial_model.specs.declared.decl.Decl.TheVariants.{Array, Tree}
 use Rattle.wire_form.specs.declared.page.Page.{Page}
 use Rattle.wire_form.specs.declared.records.Stored.{Stored}
 use Rattle.wire_form.specs.Pages.{Contents, IsCatalogue, catalogue_words}
-use Rattle.snapshot_store.specs.declared.place.Place.{Place}
+use Rattle.snapshot_store.specs.declared.place.PagePlace.{PagePlace}
 use Rattle.snapshot_store.specs.Places.{Found, Format, find, page, StandsTo}
 use Rattle.snapshot_store.specs.ArrayPages.{array_format, indexes_at, last_at, IsArrayPage}
 use Rattle.snapshot_store.specs.TreePages.{tree_format, IsTreePage}
@@ -29,7 +29,7 @@ last_index size =
     if nat_le size (indexes_at 0) then last_at 0 else if nat_le size (indexes_at 1) then last_at 1 else last_at 2
 
 -- a root stands for all indexes, or all keys
-abbrev pub root_place : Decl → ℕ → Place
+abbrev pub root_place : Decl → ℕ → PagePlace
 root_place (Array id size) root = record { number = root; low = 0; high = last_index size }
 root_place (Tree id) root = record { number = root; low = 0; high = 2 ^ 64 - 1 }
 
@@ -39,7 +39,7 @@ format_of (Array id size) = array_format
 format_of (Tree id) = tree_format
 
 -- which pages are right in a storage
-abbrev pub IsPageOf : Decl → Place → List ℕ → Type 0
+abbrev pub IsPageOf : Decl → PagePlace → List ℕ → Type 0
 IsPageOf (Array id size) = IsArrayPage size
 IsPageOf (Tree id) = IsTreePage
 

@@ -39,8 +39,8 @@ pub record AreStored (pages : List Page) : Type 0 where
   pub few : length pages ≤ 65536
 
 -- the device begins with the pages, where it tells its bytes
-abbrev pub Holds : {D : Type 0} → (tells : D → Option (List ℕ)) → D → List Page → Type 0
-Holds tells disk pages = IfTold (tells disk) (IsFront (bytes_of_pages pages))
+abbrev pub HoldsPages : {D : Type 0} → (tells : D → Option (List ℕ)) → D → List Page → Type 0
+HoldsPages tells disk pages = IfTold (tells disk) (IsFront (bytes_of_pages pages))
 
 -- Bytes were written at a place, in one call of the device, or the write failed, or was not begun.
 pub record WritesAt {D : Type 0} (tells : D → Option (List ℕ)) (clock : D → ℕ) (image_at : D → ℕ → List ℕ → Type 0) (faults : D → ℕ) (at : ℕ) (bytes : List ℕ) (old new : D) (done : Bool) : Type 0 where

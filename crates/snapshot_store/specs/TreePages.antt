@@ -3,7 +3,7 @@ use Rattle.std.specs.Prelude.{◌≡◌, ◌⊎◌, ℕ, ◌+◌, ◌-◌, ◌/�
 use Rattle.wire_form.specs.declared.page.PageKind.TheVariants.{TreeLeaf, TreeInner}
 use Rattle.wire_form.specs.Leaves.{tree_leaf, tree_fan, stride}
 use Rattle.wire_form.specs.Pages.{HasKind}
-use Rattle.snapshot_store.specs.declared.place.Place.{Place}
+use Rattle.snapshot_store.specs.declared.place.PagePlace.{PagePlace}
 use Rattle.snapshot_store.specs.Places.{Found, Format}
 
 -- a present record
@@ -40,13 +40,13 @@ node_of words =
     else Leaf (records_at (count_of words) (drop tree_leaf.first words))
 
 -- the children's places: from the low fence on, cut just before each separator
-abbrev pub children : ℕ → ℕ → List ℕ → List ℕ → List Place
+abbrev pub children : ℕ → ℕ → List ℕ → List ℕ → List PagePlace
 children low high separators [] = []
 children low high [] (n ∷ ns) = record { number = n; low = low; high = high } ∷ []
 children low high (s ∷ ss) (n ∷ ns) = record { number = n; low = low; high = s - 1 } ∷ children s high ss ns
 
 -- a leaf has nothing below it
-abbrev pub node_below : ℕ → ℕ → Node → List Place
+abbrev pub node_below : ℕ → ℕ → Node → List PagePlace
 node_below low high (Leaf records) = []
 node_below low high (Inner separators numbers) = children low high separators numbers
 
@@ -68,6 +68,6 @@ tree_format = record {
 }
 
 -- no page where there is no number, else a leaf or an interior page with the range for its fences
-pub record IsTreePage (p : Place) (words : List ℕ) : Type 0 where
+pub record IsTreePage (p : PagePlace) (words : List ℕ) : Type 0 where
   pub none : p.number ≡ 0 → words ≡ []
   pub page : 0 < p.number → HasKind (TreeLeaf p.low p.high) p.number words ⊎ HasKind (TreeInner p.low p.high) p.number words

@@ -13,7 +13,7 @@
 //! would be more pages than numbers (`limit`).
 //!
 //! Invariants: pages are numbered from 1 on, and at most 65,536 (`AreStored`); the device begins with them
-//! (`Holds`).
+//! (`HoldsPages`).
 //!
 //! A snapshot is read from its roots on: [`root_place`] is the place of a storage's root, [`SnapStore::words`] are the
 //! words of a page, and [`is_inner`] tells a tree's interior pages from its leaves.
@@ -36,6 +36,6 @@ mod store;
 mod write;
 
 pub use laws::{content_stays, one_leaf};
-pub use place::Place;
+pub use place::PagePlace;
 pub use reading::{DEEPEST, is_inner, last_index, root_place};
 pub use store::{SnapStore, StoreFault};

@@ -5,7 +5,7 @@ ghost use Rattle.outside.specs.Disk.{IfTold};
 ghost use Rattle.outside.specs.Faults.{Rose};
 ghost use Rattle.wire_form.specs.declared.page.PageKind.TheVariants.{Catalogue};
 ghost use Rattle.outside.specs.Reads.{OnlyReads};
-ghost use Rattle.snapshot_store.specs.Store.{bytes_of_page, bytes_of_pages, NumberedFrom, IsWhole, Holds, AreStored, AreRead};
+ghost use Rattle.snapshot_store.specs.Store.{bytes_of_page, bytes_of_pages, NumberedFrom, IsWhole, HoldsPages, AreStored, AreRead};
 
 use crate::store::{MOST, SIZE};
 use crate::{SnapStore, StoreFault};
@@ -93,7 +93,7 @@ impl SnapStore {
             bytes_of_pages store.pages ≡ take (512 * count) file)) }
         ensures read { IfOk result (λ store. AreRead count store.pages) }
         ensures sound { IfOk result (λ store. store.sound ≡ true) }
-        ensures holds { IfOk result (λ store. Holds D.tells disk.new store.pages) }
+        ensures holds { IfOk result (λ store. HoldsPages D.tells disk.new store.pages) }
         ensures short { (at : ℕ) → result ≡ Err (OrMemory.Fault (StoreFault.Short at))
             → IfTold (D.tells disk.old) (λ file. (at ≡ length file) × (at < 512 * count)) }
         ensures limit { (pages : ℕ) → (result ≡ Err (OrMemory.Fault (StoreFault.Limit pages)))

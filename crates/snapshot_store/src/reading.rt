@@ -2,7 +2,7 @@
 ghost use Rattle.std.specs.Prelude.{◌≡◌, ◌/◌, ◌==◌, slice_index};
 ghost use Rattle.snapshot_store.specs.Content.{last_index, root_place};
 
-use crate::Place;
+use crate::PagePlace;
 use serial_model::Decl;
 use wire_form::Stored;
 
@@ -23,18 +23,18 @@ pub fn last_index(size: u32) -> u64
 }
 
 /// The place of a storage's root: all indexes, or all keys.
-pub fn root_place(stored: &Stored) -> Place
+pub fn root_place(stored: &Stored) -> PagePlace
     ensures is { result ≡ root_place stored.now.decl stored.now.root }
     ensures number { result.number ≡ stored.now.root }
 {
     let number = u64::from(stored.root);
     match stored.decl {
-        Decl::Array { size, .. } => Place {
+        Decl::Array { size, .. } => PagePlace {
             number,
             low: 0,
             high: last_index(size),
         },
-        Decl::Tree { .. } => Place {
+        Decl::Tree { .. } => PagePlace {
             number,
             low: 0,
             high: u64::MAX,

@@ -4,7 +4,7 @@ ghost use Rattle.std.specs.Prelude.{IsTrue, is_some, length, is_ok, slice_get, I
 ghost use Rattle.outside.specs.Disk.{IfTold};
 ghost use Rattle.outside.specs.Faults.{Rose};
 ghost use Rattle.outside.specs.Fronts.{AllBegin, KeepsSince};
-ghost use Rattle.snapshot_store.specs.Store.{NumberedFrom, bytes_of_pages, IsWhole, Holds, WritesAt, Syncs};
+ghost use Rattle.snapshot_store.specs.Store.{NumberedFrom, bytes_of_pages, IsWhole, HoldsPages, WritesAt, Syncs};
 ghost use Rattle.snapshot_store.specs.Store.{KeepsFront};
 ghost use Rattle.snapshot_store.specs.Places.{page};
 ghost use Rattle.snapshot_store.specs.Content.{words_of};
@@ -100,7 +100,7 @@ impl SnapStore {
     ) -> Result<u32, OrMemory<StoreFault>>
         requires sound { self.old.sound ≡ true }
         requires numbered { NumberedFrom (length self.old.pages + 1) pages.now }
-        requires holds { Holds D.tells disk.old self.old.pages }
+        requires holds { HoldsPages D.tells disk.old self.old.pages }
         ensures pages { OnOk result (self.new.pages ≡ self.old.pages ++ pages.now) }
         ensures first { IfOk result (λ first. first ≡ length self.old.pages + 1) }
         ensures kept { OnErr result (self.new.pages ≡ self.old.pages) }
@@ -114,7 +114,7 @@ impl SnapStore {
             → disk.new ≡ disk.old) }
         ensures writes { WritesAt D.tells D.clock D.image_at D.faults (512 * length self.old.pages)
             (bytes_of_pages pages.now) disk.old disk.new (is_ok result) }
-        ensures holds { Holds D.tells disk.new self.new.pages }
+        ensures holds { HoldsPages D.tells disk.new self.new.pages }
         ensures stays { (since : ℕ) (front : List ℕ) → length front ≤ 512 * length self.old.pages
             → since ≤ D.clock disk.old → KeepsSince D.clock D.image_at disk.old since front
             → KeepsSince D.clock D.image_at disk.new since front }
@@ -137,7 +137,7 @@ impl SnapStore {
     /// Makes all pages durable: after `Ok` each crash image begins with them.
     pub fn sync<D: Disk>(&mut self, disk: &mut D) -> Result<(), StoreFault>
         requires sound { self.old.sound ≡ true }
-        requires holds { Holds D.tells disk.old self.old.pages }
+        requires holds { HoldsPages D.tells disk.old self.old.pages }
         ensures pages { self.new.pages ≡ self.old.pages }
         ensures sound { self.new.sound ≡ is_ok result }
         ensures device { OnErr result ((result ≡ Err StoreFault.Device)
@@ -145,7 +145,7 @@ impl SnapStore {
         ensures durable { OnOk result (IfTold (D.tells disk.old) (λ _.
             AllBegin (D.image_at disk.new (D.clock disk.new)) (bytes_of_pages self.new.pages))) }
         ensures syncs { Syncs D.tells D.clock D.image_at D.faults disk.old disk.new (is_ok result) }
-        ensures holds { Holds D.tells disk.new self.new.pages }
+        ensures holds { HoldsPages D.tells disk.new self.new.pages }
         ensures stays { (since : ℕ) (front : List ℕ) → since ≤ D.clock disk.old
             → KeepsSince D.clock D.image_at disk.old since front
             → KeepsSince D.clock D.image_at disk.new since front }
@@ -168,12 +168,12 @@ impl SnapStore {
         requires sound { self.old.sound ≡ true }
         requires numbered { NumberedFrom (length self.old.pages + 1) pages.now }
         requires few { length self.old.pages + length pages.now ≤ 65536 }
-        requires holds { Holds D.tells disk.old self.old.pages }
+        requires holds { HoldsPages D.tells disk.old self.old.pages }
         ensures pages { OnOk result (self.new.pages ≡ self.old.pages ++ pages.now) }
         ensures grown { OnErr result ((self.new.pages ≡ self.old.pages)
             ⊎ (self.new.pages ≡ self.old.pages ++ pages.now)) }
         ensures sound { OnOk result (self.new.sound ≡ true) }
-        ensures holds { OnOk result (Holds D.tells disk.new self.new.pages) }
+        ensures holds { OnOk result (HoldsPages D.tells disk.new self.new.pages) }
         ensures durable { OnOk result (IfTold (D.tells disk.old) (λ _.
             AllBegin (D.image_at disk.new (D.clock disk.new)) (bytes_of_pages self.new.pages))) }
         ensures runs { KeepsFront D.clock D.image_at (512 * length self.old.pages) disk.old disk.new }

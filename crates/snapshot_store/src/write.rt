@@ -3,7 +3,7 @@ ghost use Rattle.std.specs.Prelude.{◌≡◌, ◌≢◌, ◌+◌, ◌*◌, ◌�
 ghost use Rattle.std.specs.List.{AllByRecursion};
 ghost use Rattle.outside.specs.Faults.{Rose};
 ghost use Rattle.snapshot_store.specs.declared.store.StoreFault.{StoreFault as Fault};
-ghost use Rattle.snapshot_store.specs.Store.{bytes_of_page, bytes_of_pages, IsWhole, Holds, WritesAt};
+ghost use Rattle.snapshot_store.specs.Store.{bytes_of_page, bytes_of_pages, IsWhole, HoldsPages, WritesAt};
 
 use crate::StoreFault;
 use crate::store::SIZE;
@@ -44,7 +44,7 @@ pub fn add<D: Disk>(
 ) -> Result<(), OrMemory<StoreFault>>
     requires few { length there.old.items + length pages.now ≤ 65536 }
     requires whole { AllByRecursion IsWhole there.old.items }
-    requires holds { Holds D.tells disk.old there.old.items }
+    requires holds { HoldsPages D.tells disk.old there.old.items }
     ensures pages { OnOk result (there.new.items ≡ there.old.items ++ pages.now) }
     ensures whole { AllByRecursion IsWhole there.new.items }
     ensures kept { OnErr result (there.new.items ≡ there.old.items) }

@@ -36,6 +36,7 @@ pub record IsPushed {E : Type 0} (most : ℕ) (x : E) (old new : List E) (result
 
 -- ---- words that were seen
 
+-- at which places words were seen, in the order of the set
 abbrev pub places_of : List Seen → List ℕ
 places_of seen = map (λ s. s.at) seen
 
@@ -49,6 +50,7 @@ word_at at seen = option_map (λ s. s.word) (find (λ s. s.at == at) seen)
 
 -- ---- records that were read
 
+-- the keys of the records that were read, in the order of the set
 abbrev pub read_keys : List ReadEntry → List Key
 read_keys reads = map (λ r. r.key) reads
 
@@ -66,6 +68,7 @@ read_of key reads = find (λ r. same_key r.key key) reads
 abbrev pub IsAscending : List Write → Type 0
 IsAscending writes = Rises IsKeyBelow (map (λ w. w.key) writes)
 
+-- where the records lie that are written, in the order of the set
 abbrev pub record_places_of : List Write → List ℕ
 record_places_of writes = map (λ w. w.at) writes
 

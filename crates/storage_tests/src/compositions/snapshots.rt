@@ -6,7 +6,7 @@ ghost use Rattle.serial_model.specs.Keys.{IsKeyBelow};
 ghost use Rattle.serial_model.specs.Numbers.{last_epoch};
 ghost use Rattle.wire_form.specs.Items.{Rises};
 ghost use Rattle.outside.specs.MemoryDisk.{tells_of};
-ghost use Rattle.snapshot_store.specs.Store.{Holds, NumberedFrom};
+ghost use Rattle.snapshot_store.specs.Store.{HoldsPages, NumberedFrom};
 ghost use Rattle.snapshot_store.specs.Content.{words_of};
 ghost use Rattle.log_reducer.specs.Reduced.{entry_key};
 ghost use Rattle.root_composer.specs.Composition.{IsEntryOf};
@@ -35,7 +35,7 @@ pub struct Snapshots {
     decl: Decl,
     epoch: u32,
     ghost sound: { store.sound ≡ true },
-    ghost holds: { Holds tells_of disk store.pages },
+    ghost holds: { HoldsPages tells_of disk store.pages },
 }
 
 // An array of this size, or a tree where it is 0.

@@ -11,7 +11,7 @@ use Rattle.wire_form.specs.declared.page.Page.{Page}
 use Rattle.log_writer.specs.Points.{IsSaved, point_of, saved_of, sequence_of}
 use Rattle.log_writer.specs.declared.saved.Saved.{Saved}
 use Rattle.snapshot_store.specs.Content.{words_of}
-use Rattle.snapshot_store.specs.Store.{Holds, IsWhole as IsWholePage}
+use Rattle.snapshot_store.specs.Store.{HoldsPages, IsWhole as IsWholePage}
 use Rattle.joint_crashes.specs.JointCrash.{parts_of}
 use Rattle.joint_crashes.specs.RecordsAdded.{nothing_added, records_from, refused_so}
 use Rattle.recovery_core.specs.Recovered.{IsUp, recovers_state, saved_epoch}
@@ -41,7 +41,7 @@ write_snapshot-requires-clause-can g c = can_store c.reserve_records.ensures.sam
     c.requires.stored c.in_ok-reserve_records.ensures.ties c.in_ok-reserve_records.ensures.cuts
 
 pub write_snapshot-requires-clause-holds : goal.write_snapshot-requires-clause-holds
-write_snapshot-requires-clause-holds g c = subst (λ d. Holds g.D.Disk.tells d c.args.recovered.store.pages)
+write_snapshot-requires-clause-holds g c = subst (λ d. HoldsPages g.D.Disk.tells d c.args.recovered.store.pages)
     (sym c.reserve_records.ensures.same.snaps) c.requires.holds
 
 pub write_snapshot-requires-clause-epoch : goal.write_snapshot-requires-clause-epoch

@@ -8,7 +8,7 @@ use Rattle.outside.specs.Fronts.{AllBegin}
 use Rattle.log_writer.specs.Points.{IsSaved, point_of, saved_of, sequence_of}
 use Rattle.log_writer.specs.declared.saved.Saved.{Saved}
 use Rattle.snapshot_store.specs.Content.{words_of}
-use Rattle.snapshot_store.specs.Store.{bytes_of_pages, Holds}
+use Rattle.snapshot_store.specs.Store.{bytes_of_pages, HoldsPages}
 use Rattle.joint_crashes.specs.JointCrash.{parts_of}
 use Rattle.joint_crashes.specs.RecordsAdded.{nothing_added, records_from, refused_so}
 use Rattle.recovery_core.specs.Recovered.{recovers_state, saved_count, saved_epoch}
@@ -250,7 +250,7 @@ returns-in-Ok-clause-settles g c =
       stored = e.stands.stored;
       sound = up.sound;
       count = count;
-      holds = subst (λ d. Holds tells d r.store.pages) (sym snaps) c.requires.holds;
+      holds = subst (λ d. HoldsPages tells d r.store.pages) (sym snaps) c.requires.holds;
       durable = λ bytes told was. subst (λ d. AllBegin (g.D.Disk.image_at d (g.D.Disk.clock d))
           (bytes_of_pages r.store.pages)) (sym snaps) was;
       newest = plain_newest r s c.args.decls.now up c.requires.decls none saved pages count refl declared kept up.rising;

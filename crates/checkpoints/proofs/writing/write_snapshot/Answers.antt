@@ -9,7 +9,7 @@ use Rattle.log_writer.specs.Cuts.{whole_bank}
 use Rattle.outside.specs.Fronts.{AllBegin}
 use Rattle.log_writer.specs.Vault.{IsWhole}
 use Rattle.log_writer.specs.Points.{sequence_of}
-use Rattle.snapshot_store.specs.Store.{Holds, bytes_of_pages}
+use Rattle.snapshot_store.specs.Store.{HoldsPages, bytes_of_pages}
 use Rattle.checkpoints.specs.Files.{listed_bank}
 use Rattle.checkpoints.specs.SettleFiles.{all_below}
 use Rattle.checkpoints.specs.FreshLaws.{zero_at}
@@ -99,7 +99,7 @@ returns-in-Ok-store_and_cut-clause-goes_on g c =
 pub returns-in-Ok-store_and_cut-clause-durable : goal.returns-in-Ok-store_and_cut-clause-durable
 returns-in-Ok-store_and_cut-clause-durable g c = record {
   sound = c.in-Ok.ensures.sound;
-  holds = subst (λ d. Holds g.D.Disk.tells d c.append_durably.new.self.pages) (sym c.store_and_cut.ensures.snaps)
+  holds = subst (λ d. HoldsPages g.D.Disk.tells d c.append_durably.new.self.pages) (sym c.store_and_cut.ensures.snaps)
       c.in-Ok.ensures.holds;
   durable = λ bytes told image left. c.in-Ok.ensures.durable bytes told image
       (subst (λ d. g.D.Disk.image_at d (g.D.Disk.clock d) image) c.store_and_cut.ensures.snaps left);

@@ -7,7 +7,7 @@ use Rattle.snapshot_store.specs.Places.{places_below}
 use Rattle.snapshot_store.specs.TreePages.{tree_format}
 use Rattle.root_composer.specs.Overlaid.{touches}
 use Rattle.root_composer.specs.Rows.{rows_of, entries_in, merged}
-use Rattle.root_composer.specs.Build.{tree_leaf}
+use Rattle.root_composer.specs.Build.{made_leaf}
 use Rattle.root_composer.specs.TreeCode.{AddsWithin, WouldBeDeep}
 use Rattle.root_composer.proofs.OverlayLemmas.{touched_range}
 use Rattle.root_composer.proofs.TreePlaces.{tree_depth, inner_here, leaf_here, kid_here, kid_stands, deep_here, page_here, leaf_tree, leaf_deep, ComposesKids, no_kid_yet, one_more_kid}
@@ -36,7 +36,7 @@ returns-then-not-is_inner-clause-made t c =
     let count : c.count.result ≡ length (words_of c.args.store.now.pages) = omega (arith, c.count.ensures.count, length-map c.args.store.now.pages (λ p. Page.words p)) in
     IfOk-weaker c.compose_leaf.result _ _
     (λ n adds. leaf_tree c.args.run.now old c.args.made.now.items c.compose_leaf.new.made.items c.args.depth c.args.p words n c.requires.stands touched leaf
-    (subst (λ (k : ℕ). AddsWithin c.args.depth c.args.made.now.items c.compose_leaf.new.made.items n (tree_leaf c.args.p (merged (entries_in c.args.p.low c.args.p.high c.args.run.now) (rows_of c.page_words-words.result)) (k + length c.args.made.now.items))) count adds))
+    (subst (λ (k : ℕ). AddsWithin c.args.depth c.args.made.now.items c.compose_leaf.new.made.items n (made_leaf c.args.p (merged (entries_in c.args.p.low c.args.p.high c.args.run.now) (rows_of c.page_words-words.result)) (k + length c.args.made.now.items))) count adds))
     c.compose_leaf.ensures.made
 
 pub returns-then-not-is_inner-clause-deep : goal.returns-then-not-is_inner-clause-deep
@@ -47,7 +47,7 @@ returns-then-not-is_inner-clause-deep t c fault e =
     let leaf = leaf_here old c.args.depth c.args.p words c.requires.stands c.page_words-words.ensures.is c.page_words-words.ensures.there (sym c.is_inner.ensures ∙ c.if-not-is_inner.true) in
     let count : c.count.result ≡ length (words_of c.args.store.now.pages) = omega (arith, c.count.ensures.count, length-map c.args.store.now.pages (λ p. Page.words p)) in
     leaf_deep c.args.run.now old c.args.made.now.items c.args.depth fault c.args.p words c.requires.stands touched leaf
-    (subst (λ (k : ℕ). WouldBeDeep c.args.depth fault (tree_leaf c.args.p (merged (entries_in c.args.p.low c.args.p.high c.args.run.now) (rows_of c.page_words-words.result)) (k + length c.args.made.now.items))) count (c.compose_leaf.ensures.deep fault e))
+    (subst (λ (k : ℕ). WouldBeDeep c.args.depth fault (made_leaf c.args.p (merged (entries_in c.args.p.low c.args.p.high c.args.run.now) (rows_of c.page_words-words.result)) (k + length c.args.made.now.items))) count (c.compose_leaf.ensures.deep fault e))
 
 pub loop-i-init : goal.loop-i-init
 loop-i-init t c =

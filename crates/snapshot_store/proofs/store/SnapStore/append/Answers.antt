@@ -1,7 +1,7 @@
 use Rattle.std.proofs.Common.{◌≡◌, ◌≤◌, ◌+◌, ◌*◌, List, length, ap, sym, subst, arith, length-append}
 use Rattle.wire_form.specs.declared.page.Page.{Page}
 use Rattle.outside.specs.Fronts.{keeps_torn}
-use Rattle.snapshot_store.specs.Store.{StoreState, NumberedFrom, Holds}
+use Rattle.snapshot_store.specs.Store.{StoreState, NumberedFrom, HoldsPages}
 use Rattle.snapshot_store.proofs.Pages.{numbered_append}
 use Rattle.snapshot_store.proofs.Writes.{holds_written, holds_torn}
 use Rattle.snapshot_store.proofs.store.SnapStore.append.Goals as goal
@@ -23,8 +23,8 @@ pub returns-in-Ok-clause-holds : goal.returns-in-Ok-clause-holds
 returns-in-Ok-clause-holds g c =
     let there = c.self.inside.pages.items in
     let viewed : there ≡ c.args.self.now.pages = ap (λ (s : StoreState). s.pages) c.self.view_is in
-    let held : Holds g.D.Disk.tells c.args.disk.now there = subst (λ (l : List Page). Holds g.D.Disk.tells c.args.disk.now l) (sym viewed) c.requires.holds in
-    subst (λ (l : List Page). Holds g.D.Disk.tells c.add.new.disk l) (sym c.in-Ok.ensures.pages)
+    let held : HoldsPages g.D.Disk.tells c.args.disk.now there = subst (λ (l : List Page). HoldsPages g.D.Disk.tells c.args.disk.now l) (sym viewed) c.requires.holds in
+    subst (λ (l : List Page). HoldsPages g.D.Disk.tells c.add.new.disk l) (sym c.in-Ok.ensures.pages)
     (holds_written there c.args.pages.now c.self.invariant.whole held c.in-Ok.ensures.writes)
 
 pub returns-in-Ok-clause-stays : goal.returns-in-Ok-clause-stays
@@ -36,8 +36,8 @@ pub returns-in-Err-Fault-clause-holds : goal.returns-in-Err-Fault-clause-holds
 returns-in-Err-Fault-clause-holds g c =
     let there = c.self.inside.pages.items in
     let viewed : there ≡ c.args.self.now.pages = ap (λ (s : StoreState). s.pages) c.self.view_is in
-    let held : Holds g.D.Disk.tells c.args.disk.now there = subst (λ (l : List Page). Holds g.D.Disk.tells c.args.disk.now l) (sym viewed) c.requires.holds in
-    subst (λ (l : List Page). Holds g.D.Disk.tells c.add.new.disk l) (sym c.in-Err-Fault.ensures.kept)
+    let held : HoldsPages g.D.Disk.tells c.args.disk.now there = subst (λ (l : List Page). HoldsPages g.D.Disk.tells c.args.disk.now l) (sym viewed) c.requires.holds in
+    subst (λ (l : List Page). HoldsPages g.D.Disk.tells c.add.new.disk l) (sym c.in-Err-Fault.ensures.kept)
     (holds_torn there _ c.self.invariant.whole held c.in-Err-Fault.ensures.writes)
 
 pub returns-in-Err-Fault-clause-stays : goal.returns-in-Err-Fault-clause-stays

@@ -28,7 +28,7 @@ use Rattle.engine_words.specs.Layout.{is_record_of, has_record}
 use Rattle.engine_words.specs.Making.{StandsFirst}
 use Rattle.engine_words.specs.Rule.{IsSmall}
 use Rattle.array_opening.specs.Opening.{content_of, content_or_nothing, stands_in, AreOlder}
-use Rattle.array_opening.specs.Entries.{entry, entries_below, entries_by, entries_in, all_entries}
+use Rattle.array_opening.specs.Entries.{entry, entries_below, entries_by, stored_entries, all_entries}
 
 -- a key is not in the list
 abbrev is_in : List (Key × Content) → Key → Bool
@@ -144,7 +144,7 @@ later_other : (pages : List (List ℕ)) (more : List Stored) (k : Key)
     → AllByRecursion (λ i. k.storage ≢ i) (map id_of (map stored_decl more)) → is_in (all_entries pages more) k ≡ false
 later_other pages [] k all = refl
 later_other pages (s ∷ more) k all =
-    is_in-append (entries_in pages s) (all_entries pages more) k
+    is_in-append (stored_entries pages s) (all_entries pages more) k
     ∙ (ap (λ b. b || is_in (all_entries pages more) k) (storage_other pages s s.decl k (other s.decl all.0))
     ∙ later_other pages more k all.1)
   where
@@ -162,14 +162,14 @@ entries_stand pages (s ∷ more) k distinct =
           let none : is_in (all_entries pages more) k ≡ false =
           later_other pages more k (subst (λ i. AllByRecursion (λ j. i ≢ j) (map id_of (map stored_decl more)))
           (record_id k s.decl here) distinct.0) in
-          content-append (entries_in pages s) (all_entries pages more) k
-          ∙ (keeps (is_in (entries_in pages s) k) (content_at (entries_in pages s) k) (content_at (all_entries pages more) k)
-          (none_there (entries_in pages s) k) (none_there (all_entries pages more) k none)
+          content-append (stored_entries pages s) (all_entries pages more) k
+          ∙ (keeps (is_in (stored_entries pages s) k) (content_at (stored_entries pages s) k) (content_at (all_entries pages more) k)
+          (none_there (stored_entries pages s) k) (none_there (all_entries pages more) k none)
           ∙ (storage_here pages s s.decl k here
           ∙ sym (ap (λ b. cond b (content_or_nothing (record_in pages s k.key)) (stands_in pages more k)) here)))
       | inr other ↦
-          content-append (entries_in pages s) (all_entries pages more) k
-          ∙ (ap (λ b. cond b (content_at (entries_in pages s) k) (content_at (all_entries pages more) k))
+          content-append (stored_entries pages s) (all_entries pages more) k
+          ∙ (ap (λ b. cond b (content_at (stored_entries pages s) k) (content_at (all_entries pages more) k))
           (storage_other pages s s.decl k other)
           ∙ (entries_stand pages more k distinct.1
           ∙ sym (ap (λ b. cond b (content_or_nothing (record_in pages s k.key)) (stands_in pages more k)) other)))
@@ -272,7 +272,7 @@ storage_first : (pages : List (List ℕ)) (first : Number) (decls : List Decl) (
     → ((k : Key) → is_record_of k d ≡ true → has_record decls k ≡ true)
     → ((index : ℕ) (f : Found) → record_in pages (record { decl = d; root = root }) index ≡ Some f
     → IsBelow (content_of f).number first)
-    → AllByRecursion (StandsFirst first decls) (entries_in pages (record { decl = d; root = root }))
+    → AllByRecursion (StandsFirst first decls) (stored_entries pages (record { decl = d; root = root }))
 storage_first pages first decls (Array id size) root small has older =
     below_first pages first decls id size root size small (omega arith) has older
 storage_first pages first decls (Tree id) root small has older = tt
@@ -282,7 +282,7 @@ all_first : (pages : List (List ℕ)) (first : Number) (decls : List Decl) (stor
     → AreOlder pages storages first → AllByRecursion (StandsFirst first decls) (all_entries pages storages)
 all_first pages first decls [] small has older = tt
 all_first pages first decls (s ∷ more) small has older =
-    all_append (StandsFirst first decls) (entries_in pages s) (all_entries pages more)
+    all_append (StandsFirst first decls) (stored_entries pages s) (all_entries pages more)
     (storage_first pages first decls s.decl s.root small
     (λ k here. has k (ap (λ b. b || has_record (map stored_decl more) k) here))
     (λ index f is. older s (in_head s more) index f is))

@@ -26,10 +26,10 @@ entries_by pages s (Array id size) = entries_below pages s id size
 entries_by pages s (Tree id) = []
 
 -- those of a storage
-abbrev pub entries_in : List (List ℕ) → Stored → List (Key × Content)
-entries_in pages s = entries_by pages s s.decl
+abbrev pub stored_entries : List (List ℕ) → Stored → List (Key × Content)
+stored_entries pages s = entries_by pages s s.decl
 
 -- those of all storages
 abbrev pub all_entries : List (List ℕ) → List Stored → List (Key × Content)
 all_entries pages [] = []
-all_entries pages (s ∷ more) = entries_in pages s ++ all_entries pages more
+all_entries pages (s ∷ more) = stored_entries pages s ++ all_entries pages more

@@ -12,7 +12,7 @@ ghost use Rattle.snapshot_store.specs.Content.{words_of, RootStands};
 ghost use Rattle.engine_words.specs.Making.{StandsFirst};
 ghost use Rattle.engine_words.specs.Rule.{IsSmall};
 ghost use Rattle.array_opening.specs.Opening.{stands_in, AreOlder};
-ghost use Rattle.array_opening.specs.Entries.{entry, entries_below, entries_in, all_entries};
+ghost use Rattle.array_opening.specs.Entries.{entry, entries_below, stored_entries, all_entries};
 
 use crate::finding::record_at;
 use homes::Content;
@@ -62,7 +62,7 @@ fn add_storage(
 ) -> Result<(), Memory>
     requires decl { IsDecl stored.decl }
     requires stands { RootStands (words_of store.now.pages) stored }
-    ensures { OnOk result (opening.new ≡ opening.old ++ entries_in (words_of store.now.pages) stored) }
+    ensures { OnOk result (opening.new ≡ opening.old ++ stored_entries (words_of store.now.pages) stored) }
 {
     match stored.decl {
         Decl::Array { id, size } => add_array(opening, store, id, size, stored.root),

@@ -16,7 +16,7 @@ use Rattle.homes.specs.declared.places.Holder.TheVariants.{Free, Held, Dead}
 use Rattle.homes.specs.declared.places.Home.TheVariants.{InSlot}
 use Rattle.homes.specs.declared.places.Span.{Span}
 use Rattle.homes.specs.declared.places.Spot.{Spot}
-use Rattle.wire_form.specs.Leaves.{array_leaf, array_fan, tree_leaf, record_word}
+use Rattle.wire_form.specs.Leaves.{array_leaf, array_fan, tree_leaf, record_start}
 use Rattle.wire_form.specs.Words.{at_bit, number_word, slot_field}
 use Rattle.snapshot_store.specs.ArrayPages.{last_at}
 use Rattle.snapshot_store.specs.declared.place.PagePlace.{PagePlace}
@@ -335,7 +335,7 @@ pub record IsKnownLeaf (l : Layout) (d : Table) (trees : ℕ → Option Fenced) 
 
 -- a word of a leaf's page that no record has, and that is neither the header nor a fence
 abbrev pub is_spare : ℕ → ℕ → Bool
-is_spare count i = (nat_le 3 i && nat_le i 5) || nat_le (record_word tree_leaf count) i
+is_spare count i = (nat_le 3 i && nat_le i 5) || nat_le (record_start tree_leaf count) i
 
 -- the seat has locked the header of a leaf with these keys, and these words stand there, but for those of the records
 pub record IsHead

@@ -10,7 +10,7 @@ use Rattle.homes.specs.declared.places.Holder.{Holder}
 use Rattle.homes.specs.declared.places.Holder.TheVariants.{Free, Held, Dead}
 use Rattle.homes.specs.declared.places.Span.{Span}
 use Rattle.homes.specs.declared.places.Spot.{Spot}
-use Rattle.wire_form.specs.Leaves.{array_leaf, array_fan, tree_leaf, tree_fan, record_word, word_in}
+use Rattle.wire_form.specs.Leaves.{array_leaf, array_fan, tree_leaf, tree_fan, record_start, word_in}
 use Rattle.wire_form.specs.Words.{absent_field, at_bit, flag, number_word, mark_epoch, slot_field}
 use Rattle.snapshot_store.specs.declared.place.PagePlace.{PagePlace}
 use Rattle.commit_core.specs.declared.place.Place.{Place}
@@ -122,7 +122,7 @@ pub record ShowsRecords (words : List ℕ) (slots t : ℕ) (f : Fenced) (places 
   pub few : length f.keys ≤ tree_leaf.room
   pub once : each_once f.keys ≡ true
   pub keys : (i : ℕ) (k : Key) → slice_get f.keys i ≡ Some k
-      → ShowsKeyed words (page_at slots t (record_word tree_leaf i)) k (places (spot t i))
+      → ShowsKeyed words (page_at slots t (record_start tree_leaf i)) k (places (spot t i))
 
 -- the two leaves that have the keys of a leaf that was split, and the first key of the second
 pub record ShowsTwins (words : List ℕ) (slots t : ℕ) (sp : Span) (d : Table) : Type 0 where

@@ -22,7 +22,7 @@ use Rattle.tx_sets.specs.Entries.{value_of}
 use Rattle.engine_words.specs.declared.layout.Layout.{Layout}
 use Rattle.engine_words.specs.declared.view.View.{View}
 use Rattle.tx_commit.specs.Committing.{changes_of}
-use Rattle.tx_commit.specs.Running.{RunsOn, BeginsRun, GoesOnRun, EndsRun, CommitsRun, CommitsEnd}
+use Rattle.tx_commit.specs.Running.{RunsOps, BeginsRun, GoesOnRun, EndsRun, CommitsRun, CommitsEnd}
 use Rattle.tx_commit.specs.Turning.{PartsStay}
 
 -- ---- a turn over parts is one over more
@@ -53,8 +53,8 @@ turns_later decls parts later own (Scan storage low high) turn keeps t =
     (t.0, rows_later parts later own storage low high t.0 keeps t.1, t.2)
 
 goes_later : (decls : List Decl) (parts later : List Part) (ops : List Op) (own : List Change) (replies : List Reply)
-    (end : List Change) → PartsStay parts later → RunsOn decls parts ops own replies end
-    → RunsOn decls later ops own replies end
+    (end : List Change) → PartsStay parts later → RunsOps decls parts ops own replies end
+    → RunsOps decls later ops own replies end
 goes_later decls parts later [] own replies end keeps g = g
 goes_later decls parts later (op ∷ ops) own replies end keeps g = (
   g.0,
@@ -69,9 +69,9 @@ goes_later decls parts later (op ∷ ops) own replies end keeps g = (
 -- ---- one operation more
 
 goes_push : (decls : List Decl) (parts : List Part) (ops : List Op) (own : List Change) (replies : List Reply)
-    (mid end : List Change) (op : Op) (reply : Option Reply) → RunsOn decls parts ops own replies mid
+    (mid end : List Change) (op : Op) (reply : Option Reply) → RunsOps decls parts ops own replies mid
     → IsTrue (fits decls op) → Turns decls parts mid op (Continues reply end)
-    → RunsOn decls parts (ops ++ op ∷ []) own (replies ++ option_to_list reply) end
+    → RunsOps decls parts (ops ++ op ∷ []) own (replies ++ option_to_list reply) end
 goes_push decls parts [] own replies mid end op reply g fit t = (
   fit,
   reply,
@@ -93,7 +93,7 @@ goes_push decls parts (x ∷ ops) own replies mid end op reply g fit t = (
 
 -- what is run goes on to an end
 runs_on : (decls : List Decl) (parts : List Part) (ops more : List Op) (own : List Change) (replies : List Reply)
-    (end : List Change) (f : Finished) → RunsOn decls parts ops own replies end → Runs decls parts more end f
+    (end : List Change) (f : Finished) → RunsOps decls parts ops own replies end → Runs decls parts more end f
     → Runs decls parts (ops ++ more) own (finished f.verdict (replies ++ f.replies) f.writes)
 runs_on decls parts [] more own replies end f g r =
     subst (λ l. Runs decls parts more own (finished f.verdict (l ++ f.replies) f.writes)) (sym g.0)
@@ -130,7 +130,7 @@ goes_on_run ops replies op reply sets new v w r fit d =
     let layout : w.layout ≡ v.layout = ap (λ (y : View). y.layout) d.only.is in record {
       own = t.0;
       writes = t.1;
-      runs = subst (λ (l : Layout). RunsOn l.decls w.seat.kept (ops ++ op ∷ []) [] (replies ++ option_to_list reply)
+      runs = subst (λ (l : Layout). RunsOps l.decls w.seat.kept (ops ++ op ∷ []) [] (replies ++ option_to_list reply)
           t.0) (sym layout)
           (goes_push v.layout.decls w.seat.kept ops [] replies r.own t.0 op reply
           (goes_later v.layout.decls v.seat.kept w.seat.kept ops [] replies r.own d.keeps r.runs) fit t.2);

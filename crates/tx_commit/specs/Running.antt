@@ -18,18 +18,18 @@ use Rattle.tx_commit.specs.Turning.{AreWritesOf, HasDone, HasStopped}
 
 -- The operations run in order over the parts, from these own writes to those, with these replies, and none ends the
 -- transaction.
-abbrev pub RunsOn : List Decl → List Part → List Op → List Change → List Reply → List Change → Type 0
-RunsOn decls parts [] own replies end = (replies ≡ []) × (end ≡ own)
-RunsOn decls parts (op ∷ ops) own replies end =
+abbrev pub RunsOps : List Decl → List Part → List Op → List Change → List Reply → List Change → Type 0
+RunsOps decls parts [] own replies end = (replies ≡ []) × (end ≡ own)
+RunsOps decls parts (op ∷ ops) own replies end =
     IsTrue (fits decls op) × (reply : Option Reply) × (next : List Change) × (rest : List Reply)
-    × Turns decls parts own op (Continues reply next) × RunsOn decls parts ops next rest end
+    × Turns decls parts own op (Continues reply next) × RunsOps decls parts ops next rest end
     × (replies ≡ option_to_list reply ++ rest)
 
 -- The transaction that is under way has run these operations with these replies, and its sets have what they wrote.
 pub record HasRun (ops : List Op) (replies : List Reply) (sets : Sets) (v : View) : Type 0 where
   pub own : List Change
   pub writes : AreWritesOf sets.writes own
-  pub runs : RunsOn v.layout.decls v.seat.kept ops [] replies own
+  pub runs : RunsOps v.layout.decls v.seat.kept ops [] replies own
 
 -- The transaction that is under way has run these operations, and the last one ended it so: its writes are to be
 -- dropped.

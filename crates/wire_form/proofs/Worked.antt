@@ -7,7 +7,7 @@ use Rattle.serial_model.specs.declared.number.Commit.{Commit}
 use Rattle.serial_model.specs.declared.decl.Decl.{Decl}
 use Rattle.serial_model.specs.declared.decl.Decl.TheVariants.{Array}
 use Rattle.wire_form.specs.declared.page_words.SlotState.TheVariants.{Owned, Published, Retired}
-use Rattle.wire_form.specs.Leaves.{array_leaf, tree_leaf, tree_form, record_word, word_in, value_in, minor, major}
+use Rattle.wire_form.specs.Leaves.{array_leaf, tree_leaf, tree_form, record_start, word_in, value_in, minor, major}
 use Rattle.wire_form.specs.Words.{clock_word, record_word, pair_word, slot_word}
 use Rattle.wire_form.specs.Bytes.{bytes_of_word}
 use Rattle.wire_form.specs.LogLine.{line_bytes}
@@ -40,7 +40,7 @@ owned_slot = refl
 sixth_record : (word_in array_leaf 5 ≡ 10) × (value_in array_leaf 5 0 ≡ 11)
 sixth_record = (refl, refl)
 
-third_record : (record_word tree_leaf 2 ≡ 22) × (word_in tree_leaf 2 ≡ 23) × (value_in tree_leaf 2 0 ≡ 24)
+third_record : (record_start tree_leaf 2 ≡ 22) × (word_in tree_leaf 2 ≡ 23) × (value_in tree_leaf 2 0 ≡ 24)
 third_record = (refl, refl, refl)
 
 -- with one record more, a full leaf of 16 is split into leaves of 8 and 9, one of 9, with values of three words, in halves

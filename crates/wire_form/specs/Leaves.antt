@@ -50,12 +50,12 @@ further zero at = at
 further (suc n) at = suc n + at
 
 -- where a record begins
-abbrev pub record_word : LeafForm → ℕ → ℕ
-record_word f i = further f.first (stride f * i)
+abbrev pub record_start : LeafForm → ℕ → ℕ
+record_start f i = further f.first (stride f * i)
 
 -- where the word of its number stands
 abbrev pub word_in : LeafForm → ℕ → ℕ
-word_in f i = further f.keys (record_word f i)
+word_in f i = further f.keys (record_start f i)
 
 -- where a word of its value stands
 abbrev pub value_in : LeafForm → ℕ → ℕ → ℕ

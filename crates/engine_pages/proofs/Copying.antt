@@ -1,5 +1,5 @@
 -- A slot is published: its page, whose words its owner has stored, becomes a page of the machine, as a copy or as none.
-use Rattle.std.proofs.Common.{◌≡◌, ◌≢◌, inl, inr, ℕ, ◌+◌, ◌%◌, ◌^◌, ◌<◌, ◌≤◌, Bool, true, true≢false, cond}
+use Rattle.std.proofs.Common.{◌≡◌, ◌≢◌, inl, inr, ℕ, ◌+◌, ◌%◌, ◌^◌, ◌<◌, ◌≤◌, Bool, true, false, true≢false, cond}
 use Rattle.std.proofs.Common.{eq-eqb, ne_eqb, List, ◌∷◌, get_or, set, refl, sym, ap, ◌∙◌, subst, arith}
 use Rattle.std.proofs.Common.{Option, Some, None, IfSome}
 use Rattle.std.specs.Prelude.{◌&&◌}
@@ -8,6 +8,7 @@ use Rattle.std.proofs.lemmas.Bool.{and_from, and_parts}
 use Rattle.homes.specs.declared.places.At.{At}
 use Rattle.homes.specs.declared.places.At.TheVariants.{Root, In}
 use Rattle.homes.specs.declared.places.Holder.TheVariants.{Held}
+use Rattle.homes.specs.declared.places.Span.{Span}
 use Rattle.homes.specs.declared.places.Spot.{Spot}
 use Rattle.commit_core.specs.declared.place.Place.{Place}
 use Rattle.commit_core.specs.declared.seat.Seat.{Seat}
@@ -17,17 +18,22 @@ use Rattle.commit_core.specs.Keys.{IsUpTo}
 use Rattle.commit_core.specs.Parts.{record_part}
 use Rattle.commit_core.specs.Places.{place_of, home_of, holder_is}
 use Rattle.wire_form.specs.Words.{number_word}
+use Rattle.snapshot_store.specs.Places.{page as page_words}
 use Rattle.drop_core.specs.declared.event.Act.TheVariants.{FillPage, Publish}
 use Rattle.drop_core.specs.declared.grip.Grip.{Grip}
+use Rattle.drop_core.specs.declared.table.Led.TheVariants.{From}
 use Rattle.drop_core.specs.declared.table.Page.{Page}
+use Rattle.drop_core.specs.declared.table.Pointer.{Pointer}
 use Rattle.drop_core.specs.declared.table.Slot.{Slot}
 use Rattle.drop_core.specs.declared.table.SlotState.TheVariants.{Published as Shown}
 use Rattle.drop_core.specs.declared.table.Table.{Table}
 use Rattle.drop_core.specs.Event.{is_owned, is_published, with_slot}
 use Rattle.drop_core.specs.Law.{IsMade}
-use Rattle.drop_core.specs.Table.{slot_of, page_of, pointer_of, header_of, has_slot, has_pointer, is_never, is_led, is_live}
+use Rattle.drop_core.specs.Sound.{IsLedSo}
+use Rattle.drop_core.specs.Table.{slot_of, page_of, pointer_of, header_of, has_slot, has_pointer, is_never, is_led, is_live, at_index}
 use Rattle.engine_rule.specs.declared.event.JointAct.TheVariants.{Turn as TurnPages}
 use Rattle.engine_rule.specs.Event.{Joined}
+use Rattle.engine_rule.specs.JointState.{is_slot, slot_at as slot_with}
 use Rattle.engine_rule.specs.Sound.{IsSound}
 use Rattle.engine_rule.specs.Stays.{Stays}
 use Rattle.engine_pages.specs.declared.layout.Layout.{Layout}
@@ -36,20 +42,21 @@ use Rattle.engine_pages.specs.declared.view.Draft.{Draft}
 use Rattle.engine_pages.specs.declared.view.Loaded.{Loaded}
 use Rattle.engine_pages.specs.declared.view.View.{View}
 use Rattle.engine_pages.specs.Layout.{root_at, slot_at, page_at, snap_at}
-use Rattle.engine_pages.specs.Pages.{Fenced, AreLaidOut, decl_of}
-use Rattle.engine_pages.specs.Rule.{Shared, all_seats, joint_of, IsDraft, IsCopy, IsBlank, StillLoaded}
+use Rattle.engine_pages.specs.Pages.{Fenced, AreLaidOut, IsLaidOut, decl_of}
+use Rattle.engine_pages.specs.Rule.{Shared, all_seats, joint_of, IsDraft, IsCopy, IsCopiedPointer, IsBlank, StillLoaded}
 use Rattle.engine_pages.specs.Slots.{other_drafts}
 use Rattle.engine_pages.specs.Stays.{IsKnown, TreesStay}
 use Rattle.engine_pages.specs.Views.{IsActive, seat_number}
-use Rattle.engine_pages.specs.Words.{ShowsWords, ShowsPage, ShowsTree, ShowsSlot, is_shown, state_number, spot}
+use Rattle.engine_pages.specs.Words.{ShowsWords, ShowsPage, ShowsPointer, ShowsTree, ShowsSlot, is_shown, state_number, spot}
 use Rattle.views.specs.ByNumber.{put_at}
+use Rattle.engine_pages.proofs.Dealing.{rests_low}
 use Rattle.engine_pages.proofs.EachSeat.{at_seat, other_seat}
 use Rattle.engine_pages.proofs.Entering.{passes_few}
 use Rattle.engine_pages.proofs.Filling.{owned_never}
 use Rattle.engine_pages.proofs.Joint.{Laws, shared_now, shared_after, joint_act, same_grows}
 use Rattle.engine_pages.proofs.Named.{more_same}
 use Rattle.engine_pages.proofs.OwnView.{own_fits}
-use Rattle.engine_pages.proofs.PagesStay.{words_same}
+use Rattle.engine_pages.proofs.PagesStay.{words_same, shut_live}
 use Rattle.engine_pages.proofs.Seats.{by_equal, put_same, put_other, is_at, home_known, kept_known}
 use Rattle.engine_pages.proofs.SlotFacts.{slot_other, slot_same, filled_same}
 use Rattle.engine_pages.proofs.SlotSteps.{own_pages, trees_same}
@@ -63,10 +70,16 @@ use Rattle.engine_pages.proofs.SlotFacts.{within_same, shut_same}
 
 module _ (laws : Laws) (l : Layout) (words : List ℕ) (views : List View) (s : Shared) (id : ℕ) (v : View)
     (active : IsActive v.role) (b : Begins l words views s id v) (x : Draft) (has-draft : Contains v.drafts x) (pg : Page)
-    (places' : List (Spot × Place))
-    (filled-so : IsSound (joint_of l (record s { story = record s.story { places = places' } })))
+    (places' : List (Spot × Place)) (pointers' : List (At × Pointer))
+    (filled-so : IsSound (joint_of l (record s {
+      story = record s.story { places = places' };
+      table = record s.table { pointers = pointers' };
+    })))
     (places-ok : (y : Spot) → y.slot ≢ x.slot → place_of places' y ≡ place_of s.story.places y)
-    (shown-so : ShowsPage s.resident.places words l.slots x.slot (place_of places') s.table pg)
+    (pointers-ok : (y : At) → is_slot x.slot (slot_with y) ≡ false
+    → pointer_of (record s.table { pointers = pointers' }) y ≡ pointer_of s.table y)
+    (shown-so : ShowsPage s.resident.places words l.slots x.slot (place_of places')
+    (record s.table { pointers = pointers' }) pg)
     (copies' : List Copied) (blanks' : List ℕ) where
   abbrev t : ℕ
   t = x.slot
@@ -83,8 +96,11 @@ module _ (laws : Laws) (l : Layout) (words : List ℕ) (views : List View) (s : 
   abbrev n : Story
   n = record m { places = places' }
 
+  abbrev d0 : Table
+  d0 = record d { pointers = pointers' }
+
   abbrev d1 : Table
-  d1 = record d { pages = (t, pg) ∷ d.pages }
+  d1 = record d0 { pages = (t, pg) ∷ d.pages }
 
   abbrev e : Table
   e = with_slot d1 t (record (slot_of d t) { state = Shown })
@@ -114,6 +130,10 @@ module _ (laws : Laws) (l : Layout) (words : List ℕ) (views : List View) (s : 
   unled =
       owned_never d t (slot_of d t).state (slot_of d t).led draft.owned
       (b.sound.joint.pages.table.holds_counted.led t)
+
+  -- what leads to a slot is live
+  led_live : (u : ℕ) (y : At) → (slot_of d u).led ≡ From y → is_live d y ≡ true
+  led_live u y led = (subst (IsLedSo d u (slot_of d u).state) led (b.sound.joint.pages.table.holds_counted.led u)).1
 
   pub slot_new : slot_of e t ≡ record (slot_of d t) { state = Shown }
   slot_new = slot_same d1 t (record (slot_of d t) { state = Shown })
@@ -156,9 +176,32 @@ module _ (laws : Laws) (l : Layout) (words : List ℕ) (views : List View) (s : 
   held_other : (u q : ℕ) → header_of d u ≡ Held q → u ≢ t
   held_other u q held = led_other u (b.sound.joint.pages.held.headers u q held).1
 
+  -- ---- pointers of other pages
+
+  pointer_root : (r : ℕ) → pointer_of e (Root r) ≡ pointer_of d (Root r)
+  pointer_root r = pointers-ok (Root r) refl
+
+  pointer_old : (u j : ℕ) → u ≢ t → pointer_of e (at_index u j) ≡ pointer_of d (at_index u j)
+  pointer_old u j other = pointers-ok (at_index u j) (ne_eqb u t other)
+
+  -- a live one is none of the owned page
+  pointer_live : (y : At) → is_live d y ≡ true → pointer_of e y ≡ pointer_of d y
+  pointer_live (Root r) live = pointer_root r
+  pointer_live (In y) live =
+      let both = and_parts (is_led (slot_of d y.slot).led) (has_pointer (page_of d y.slot) y.index) live in
+      pointers-ok (In y) (ne_eqb y.slot t (led_other y.slot both.0))
+
+  was_live : (y : At) → is_live e y ≡ true → is_live d y ≡ true
+  was_live (Root r) live = refl
+  was_live (In y) live =
+      let both = and_parts (is_led (slot_of e y.slot).led) (has_pointer (page_of e y.slot) y.index) live in
+      let led : is_led (slot_of d y.slot).led ≡ true = ap is_led (sym (leds y.slot)) ∙ both.0 in
+      and_from (is_led (slot_of d y.slot).led) (has_pointer (page_of d y.slot) y.index) led
+      (ap (λ (z : Page). has_pointer z y.index) (sym (page_old y.slot (led_other y.slot led))) ∙ both.1)
+
   pub sound : IsSound (joint_of l new)
   sound =
-      let s1 : Shared = record s { story = n } in
+      let s1 : Shared = record s { story = n; table = d0 } in
       let laid : IsSound (joint_of l (record s1 { table = d1 })) =
       fill_joint l s1 p n d1
       (joint_act laws l s1 p (TurnPages (FillPage t pg)) b.few
@@ -198,18 +241,22 @@ module _ (laws : Laws) (l : Layout) (words : List ℕ) (views : List View) (s : 
       pages = λ q u h at holds known. record {
         page = inl (page_old u (known_other u known));
         dead = λ is. is;
-        spans = λ j has. refl;
+        spans = λ j has. ap (λ (z : Pointer). z.span) (pointer_old u j (known_other u known));
         known = ap is_never (leds u) ∙ known;
-        led = λ y is. (sym (leds u) ∙ is, refl);
+        led = λ y is.
+            let was : (slot_of d u).led ≡ From y = sym (leds u) ∙ is in (
+              was,
+              ap (λ (z : Pointer). z.span) (pointer_live y (led_live u y was)),
+            );
       };
-      roots = λ r. refl;
+      roots = λ r. ap (λ (z : Pointer). z.span) (pointer_root r);
       snaps = λ i past. refl;
       homes = λ i q past. refl;
       published = omega arith;
     };
     held = record {
       headers = λ q u other held. (held, page_old u (held_other u q held));
-      pointers = λ q y other live held. refl;
+      pointers = λ q y other live held. pointer_live y live;
     };
     made = λ q u h other at has.
         let apart = made_other q u h other at has in record {
@@ -218,7 +265,7 @@ module _ (laws : Laws) (l : Layout) (words : List ℕ) (views : List View) (s : 
           led = leds u;
           page = page_old u apart;
           header = refl;
-          pointers = λ j free. refl;
+          pointers = λ j free. pointer_old u j apart;
         };
     records = λ q y h other at has. places-ok y (made_other q y.slot h other at has);
     seats = λ q other. other_seat s.seats p w.seat q other;
@@ -268,12 +315,13 @@ module _ (laws : Laws) (l : Layout) (words : List ℕ) (views : List View) (s : 
       → ShowsPage s.resident.places words' l.slots i (place_of places') e (page_of e i))
       (λ _ _.
       subst (ShowsPage s.resident.places words' l.slots t (place_of places') e) (sym page_new)
-      (page_shown s.resident.places words words' l.slots t (place_of places') (place_of places') d e pg
+      (page_shown s.resident.places words words' l.slots t (place_of places') (place_of places') d0 e pg
       (λ i less. pages-same (page_at l.slots t i) (omega arith)) (λ i. refl) (λ j. refl) shown-so))
       (λ other now is.
       subst (ShowsPage s.resident.places words' l.slots u (place_of places') e) (sym (page_old u other))
       (page_shown s.resident.places words words' l.slots u (place_of m.places) (place_of places') d e (page_of d u)
-      (λ i less. pages-same (page_at l.slots u i) (omega arith)) (λ i. places-ok (spot u i) other) (λ j. refl)
+      (λ i less. pages-same (page_at l.slots u i) (omega arith)) (λ i. places-ok (spot u i) other)
+      (λ j. pointer_old u j other)
       (b.sound.shown.pages u few (ap (λ (z : Slot). is_shown z.state) (sym (slot_old u other)) ∙ now) (sym (tree_old u other) ∙ is))))
       shown none
 
@@ -286,7 +334,8 @@ module _ (laws : Laws) (l : Layout) (words : List ℕ) (views : List View) (s : 
       (λ other now is.
       subst (ShowsTree s.resident.places words' l.slots u g (place_of places') e) (sym (page_old u other))
       (tree_shown s.resident.places words words' l.slots u g (place_of m.places) (place_of places') d e (page_of d u)
-      (λ i less. pages-same (page_at l.slots u i) (omega arith)) (λ i. places-ok (spot u i) other) (λ j. refl) refl
+      (λ i less. pages-same (page_at l.slots u i) (omega arith)) (λ i. places-ok (spot u i) other)
+      (λ j. pointer_old u j other) refl
       (b.sound.shown.treed u g few (ap (λ (z : Slot). is_shown z.state) (sym (slot_old u other)) ∙ now) (sym (tree_old u other) ∙ is))))
       shown tree
 
@@ -301,12 +350,14 @@ module _ (laws : Laws) (l : Layout) (words : List ℕ) (views : List View) (s : 
         published = others 26 (λ q. omega arith) ∙ h.published;
         unused = λ j from to other. others j (λ q. omega arith) ∙ h.unused j from to other;
         roots = λ r few.
-            let was = h.roots r few in record {
+            let was = h.roots r few in
+            subst (ShowsPointer s.resident.places words' (root_at r)) (sym (pointer_root r)) record {
               number = was.number;
               word = others (root_at r) (λ q. omega arith) ∙ was.word;
               page = was.page;
               slot = was.slot;
               named = was.named;
+              keepers = was.keepers;
             };
         slots = slots_shown;
         pages = pages_shown;
@@ -317,18 +368,13 @@ module _ (laws : Laws) (l : Layout) (words : List ℕ) (views : List View) (s : 
   laid_out : AreLaidOut l.decls k e
   laid_out y u live leads =
       let was-live : is_live d y ≡ true = was_live y live in
-      let back = b.sound.joint.pages.table.holds_counted.back y u was-live leads in
+      let same = pointer_live y was-live in
+      let leads-was : (pointer_of d y).slot ≡ Some u = ap (λ (z : Pointer). z.slot) (sym same) ∙ leads in
+      let back = b.sound.joint.pages.table.holds_counted.back y u was-live leads-was in
       let other : u ≢ t = led_other u (ap is_led back) in
-      laid_at (decl_of l.decls (pointer_of d y).span.storage) s.trees k d e u (pointer_of d y).span (tree_old u other)
-      (page_old u other) refl (λ j. refl) (b.sound.laid_out y u was-live leads)
-    where
-      was_live : (y : At) → is_live e y ≡ true → is_live d y ≡ true
-      was_live (Root r) live = refl
-      was_live (In y) live =
-          let both = and_parts (is_led (slot_of e y.slot).led) (has_pointer (page_of e y.slot) y.index) live in
-          let led : is_led (slot_of d y.slot).led ≡ true = ap is_led (sym (leds y.slot)) ∙ both.0 in
-          and_from (is_led (slot_of d y.slot).led) (has_pointer (page_of d y.slot) y.index) led
-          (ap (λ (z : Page). has_pointer z y.index) (sym (page_old y.slot (led_other y.slot led))) ∙ both.1)
+      subst (λ (z : Span). IsLaidOut (decl_of l.decls z.storage) k e u z) (sym (ap (λ (z : Pointer). z.span) same))
+      (laid_at (decl_of l.decls (pointer_of d y).span.storage) s.trees k d e u (pointer_of d y).span (tree_old u other)
+      (page_old u other) refl (λ j. pointer_old u j other) (b.sound.laid_out y u was-live leads-was))
 
   loaded_same : (o : Option Loaded) → IfSome o (StillLoaded m.history m.decided m.places v.seat.kept)
       → IfSome o (StillLoaded m.history m.decided places' v.seat.kept)
@@ -363,11 +409,11 @@ module _ (laws : Laws) (l : Layout) (words : List ℕ) (views : List View) (s : 
           shown = shows;
           marks = marks_stay words words' s.seats p v.seat w.seat h.marks b.own.seat refl
               (λ j lo hi. others j (λ q. absurd (omega arith)));
-          marked = λ mark has. has;
+          marked = λ place mark has. has;
           marks_low = subst (λ (z : Seat). last_marked z.marks < m.epoch) (sym b.own.seat) (h.marked p);
           drawn = λ a has. inl has;
           tried = tried_goes m n s.seats p v.seat w.seat b.own.seat refl refl refl (inl refl) h.tried;
-          fits = own_fits l m n s.seats v w active fv fv.part refl refl refl refl refl (λ mark has. has) record {
+          fits = own_fits l m n s.seats v w active fv fv.part refl refl refl refl refl (λ place mark has. has) record {
             history = fv.history;
             decided = fv.decided;
             heard = fv.heard;
@@ -390,6 +436,7 @@ module _ (laws : Laws) (l : Layout) (words : List ℕ) (views : List View) (s : 
                     number = ap (λ (z : Place). number_word z.content.number) same ∙ was.1.number;
                   },
                 );
+            locked = b.own.locked;
             low = fv.low;
             epoch = λ keeper. (fv.keepers keeper).epoch;
             past = λ keeper. let was = (fv.keepers keeper).past in record { clock = was.clock; tried = was.tried };
@@ -400,11 +447,14 @@ module _ (laws : Laws) (l : Layout) (words : List ℕ) (views : List View) (s : 
           drew = refl;
           few = omega arith;
           room = omega (arith, h.sums.room);
+          deals = rests_low l words views s id v b words' w
+              record { role = refl; ways = refl; took = refl; gone = refl; touched = refl; blamed = refl; locks = refl }
+              refl pages-same;
           slots = refl;
           within = h.within;
           more = more_same s.resident;
           unpublished = λ other. refl;
-          named = let was = h.named in record { count = was.count; none = was.none; says = was.says; stand = was.stand };
+          named = let was = h.named in record { count = was.count; none = was.none; says = was.says; stand = was.stand; below = was.below };
           laid_out = laid_out;
           pages = own_pages l words words' s n e k s.resident v w active refl refl b.pages record {
             within = b.pages.within;
@@ -415,7 +465,7 @@ module _ (laws : Laws) (l : Layout) (words : List ℕ) (views : List View) (s : 
                   held = was.held;
                   known = ap is_never (leds z.slot) ∙ was.known;
                   over = laid_at (decl_of l.decls z.span.storage) s.trees k d e z.slot z.span (tree_old z.slot other)
-                      (page_old z.slot other) refl (λ j. refl) was.over;
+                      (page_old z.slot other) refl (λ j. pointer_old z.slot j other) was.over;
                 };
             drafts = λ z has.
                 let old = at_others (λ (q : Draft). q.slot) t v.drafts z has in
@@ -442,10 +492,12 @@ module _ (laws : Laws) (l : Layout) (words : List ℕ) (views : List View) (s : 
                   front = was.front;
                 };
             shuts = λ z has.
+                let was = b.pages.shuts p (is_at v.role active) z has in
                 shut_same d e s.resident p v.grip.holds v.grip.holds z
                 (within_same d e v.grip.holds v.grip.holds z.at
-                (λ u is held known. (held, leds u, page_old u (known_other u known)))) refl
-                (b.pages.shuts p (is_at v.role active) z has);
+                (λ u is held known. (held, leds u, page_old u (known_other u known))))
+                (pointer_live z.at (shut_live d v.grip.holds z.at p b.sound.joint.pages.table.one_home_each.dead was.within was.shut))
+                was;
             heads = λ z has.
                 let was = b.pages.treed.heads p (is_at v.role active) z has in
                 let other = known_other z.slot was.known in record {
@@ -494,11 +546,14 @@ module _ (laws : Laws) (l : Layout) (words : List ℕ) (views : List View) (s : 
           slot = was.1.slot;
           made = was.1.made;
           state = ap (λ (q : Slot). is_published q.state) (slot_old z.slot other) ∙ was.1.state;
-          over = over_at d e z.slot z.span (page_old z.slot other) refl (λ j. refl) was.1.over;
+          over = over_at d e z.slot z.span (page_old z.slot other) refl (λ j. pointer_old z.slot j other) was.1.over;
           page = was.1.page;
           exact = was.1.exact;
           records = λ leaf i less. places-ok (spot z.slot i) other ∙ was.1.records leaf i less;
-          pointers = was.1.pointers;
+          pointers = λ inner j less.
+              subst
+              (IsCopiedPointer s.resident.places z.span j (get_or (page_words s.resident.pages z.page) j 0))
+              (sym (pointer_old z.slot j other)) (was.1.pointers inner j less);
         },
       )
 

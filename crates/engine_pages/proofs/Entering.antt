@@ -21,6 +21,7 @@ use Rattle.engine_pages.specs.Rule.{Shared, Shows}
 use Rattle.engine_pages.specs.Slots.{entered}
 use Rattle.engine_pages.specs.Views.{IsActive, seat_number}
 use Rattle.engine_pages.specs.Words.{ShowsSlot, state_number, is_shown}
+use Rattle.engine_pages.proofs.Dealing.{rests_low}
 use Rattle.engine_pages.proofs.EachSeat.{few_holders}
 use Rattle.engine_pages.proofs.Joint.{Laws}
 use Rattle.engine_pages.proofs.Seats.{by_equal, is_at}
@@ -128,5 +129,8 @@ enters laws l slots id me t active few unheld =
             moved_same l words words' s.trees d e v.grip.holds w.grip.holds z (holds z.slot was.held) (uses z.slot).led refl
             (λ i less. pages (page_at l.slots z.slot i) (omega arith)) was;
       };
+      deals = rests_low l words views s id v b words' w
+          record { role = refl; ways = refl; took = refl; gone = refl; touched = refl; blamed = refl; locks = refl } refl
+          pages;
     }
     refl)

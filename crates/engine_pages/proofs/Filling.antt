@@ -1,5 +1,5 @@
 -- A word of an owned slot's page is stored: no act of the machines, since nobody else looks there.
-use Rattle.std.proofs.Common.{◌≡◌, ◌≢◌, inl, inr, ℕ, ◌<◌, true, false}
+use Rattle.std.proofs.Common.{◌≡◌, ◌≢◌, inl, inr, ℕ, ◌*◌, ◌<◌, true, false}
 use Rattle.std.proofs.Common.{true≢false, length, get_or, set, refl}
 use Rattle.std.proofs.Common.{sym, ap, ◌∙◌, subst, arith}
 use Rattle.lists.specs.Elements.{in_cases}
@@ -29,6 +29,7 @@ use Rattle.engine_pages.specs.Rule.{joint_of, IsDraft, Shows}
 use Rattle.engine_pages.specs.Slots.{HasFilled, filled, other_drafts}
 use Rattle.engine_pages.specs.Views.{IsActive, seat_number}
 use Rattle.engine_pages.specs.Words.{ShowsPage, ShowsTree, is_shown}
+use Rattle.engine_pages.proofs.Dealing.{rests}
 use Rattle.engine_pages.proofs.Joint.{stays_none}
 use Rattle.engine_pages.proofs.Looking.{seen_fits}
 use Rattle.engine_pages.proofs.Looks.{same_joint}
@@ -111,6 +112,7 @@ fills laws l slots id me x i value active has few long =
                 page = was.page;
                 slot = was.slot;
                 named = was.named;
+                keepers = was.keepers;
               };
           slots = λ u less.
               let was = h.shown.slots u less in
@@ -132,7 +134,7 @@ fills laws l slots id me x i value active has few long =
         };
         marks = marks_stay words words' s.seats p v.seat w.seat h.marks b.own.seat refl
             (λ j lo hi. wr.others j (λ q. absurd (omega arith)));
-        marked = λ mark has. has;
+        marked = λ place mark has. has;
         marks_low = subst (λ (z : Seat). last_marked z.marks < m.epoch) (sym b.own.seat) (h.marked p);
         drawn = λ a has. inl has;
         tried = tried_goes m m s.seats p v.seat w.seat b.own.seat refl refl refl (inl refl) h.tried;
@@ -144,6 +146,12 @@ fills laws l slots id me x i value active has few long =
         drew = refl;
         few = omega arith;
         room = omega (arith, h.sums.room);
+        deals = rests l words views s id v b words' w
+            record { role = refl; ways = refl; took = refl; gone = refl; touched = refl; blamed = refl; locks = refl } refl
+            (λ k y j r.
+            let word : j ≡ page_at l.slots y.slot (2 * y.index) = r.word in
+            let index : y.index < 32 = r.index in
+            wr.others j (λ e. known y.slot r.known (omega arith)));
         slots = refl;
         within = h.within;
         more = more_same s.resident;

@@ -1,34 +1,47 @@
 -- A pointer is loaded: where it leads, and for which keys the page that it names stands.
-use Rattle.std.proofs.Common.{◌≡◌, inl, inr, ℕ, zero, suc, ◌+◌, ◌/◌, ◌^◌, ◌<◌, ◌≤◌, Bool, true, false, cond}
+use Rattle.std.proofs.Common.{◌≡◌, ◌⊎◌, inl, inr, ℕ, zero, suc, ◌+◌, ◌/◌, ◌^◌, ◌<◌, ◌≤◌, Bool, true, false, cond}
 use Rattle.std.proofs.Common.{ltb, List, length, get_or, refl, sym, ap, ◌∙◌, subst, arith, Option, Some, None, IfSome}
 use Rattle.std.specs.List.{Contains}
 use Rattle.std.proofs.lemmas.Bool.{cases_Bool}
 use Rattle.std.proofs.lemmas.Bool.Decides.{nat_tests}
 use Rattle.atomic_table.specs.Table.{Me, Allows}
-use Rattle.lists.specs.Elements.{in_cases}
+use Rattle.lists.specs.Elements.{in_cases, in_tail}
 use Rattle.lists.specs.Fronts.{front_refl}
+use Rattle.serial_model.specs.declared.key.Key.{Key}
 use Rattle.homes.specs.declared.places.At.{At}
+use Rattle.homes.specs.declared.places.At.TheVariants.{Root, In}
 use Rattle.homes.specs.declared.places.Holder.TheVariants.{Free}
 use Rattle.homes.specs.declared.places.Span.{Span}
+use Rattle.homes.specs.declared.places.Spot.{Spot}
 use Rattle.wire_form.specs.Words.{at_bit, slot_field}
 use Rattle.drop_core.specs.declared.table.Led.TheVariants.{Never, From}
 use Rattle.drop_core.specs.declared.table.Slot.{Slot}
 use Rattle.drop_core.specs.Table.{slot_of, pointer_of, has_slot, is_never}
 use Rattle.engine_pages.specs.declared.layout.Layout.{Layout}
 use Rattle.engine_pages.specs.declared.view.Lead.{Lead}
+use Rattle.engine_pages.specs.declared.view.Read.{Read}
+use Rattle.engine_pages.specs.declared.view.Role.TheVariants.{Worker}
 use Rattle.engine_pages.specs.declared.view.View.{View}
 use Rattle.engine_pages.specs.declared.view.Way.{Way}
+use Rattle.engine_pages.specs.Layout.{page_at, root_at}
 use Rattle.engine_pages.specs.Pages.{IsLaidOutFor}
 use Rattle.engine_pages.specs.Pointers.{IsPointerAt, HasFollowed, StandsFor, followed, half_of, is_open_word, leads_more}
-use Rattle.engine_pages.specs.Pointers.{page_half, slot_half, ways_if, ways_more}
+use Rattle.engine_pages.specs.Pointers.{WaysAgree, page_half, slot_half, ways_if, ways_more}
+use Rattle.engine_pages.specs.Records.{IsRecordIn}
 use Rattle.engine_pages.specs.Resident.{IsNamed}
 use Rattle.engine_pages.specs.Rule.{Shared, IsWay, IsLead, Shows}
+use Rattle.engine_pages.specs.Steps.{kept_at, seen_at, with_read}
+use Rattle.engine_pages.specs.Touches.{IsFacing, Other, Touched, has_took}
 use Rattle.engine_pages.specs.Views.{IsActive, seat_number}
+use Rattle.engine_pages.proofs.Dealing.{blamed, faces, lock_there}
+use Rattle.engine_pages.proofs.Facing.{IsNoted, facing_agree, facing_load, stands_way, takes_same}
 use Rattle.engine_pages.proofs.Joint.{Laws}
+use Rattle.engine_pages.proofs.Leaves.{home_led}
 use Rattle.engine_pages.proofs.Looks.{look_stride}
 use Rattle.engine_pages.proofs.PointerLaws.{PointerIs, pointer_is, open_pointer, halves, named_stands, standing_there}
 use Rattle.engine_pages.proofs.Seats.{is_at}
 use Rattle.engine_pages.proofs.Turns.{Stride, Begins, allows_at}
+use Rattle.engine_pages.proofs.WayLaws.{ways_agree}
 
 module _ (l : Layout) (words : List ℕ) (views : List View) (s : Shared) (id : ℕ) (v : View) (active : IsActive v.role)
     (b : Begins l words views s id v) (x : At) (sp : Span) (at : ℕ) (is : IsPointerAt v x sp at) where
@@ -128,36 +141,130 @@ module _ (l : Layout) (words : List ℕ) (views : List View) (s : Shared) (id : 
       by_half None e z has = b.pages.ways z has
       by_half (Some t) e z has = by_held t e (has_slot v.grip.holds t) refl z has
 
-  leads_now : (z : Lead) → Contains (leads_more (is_open_word n) sp (page_half n) v.leads) z → IsLead s.resident z
+  -- the slot that it leads to is led to from here
+  led_there : (t : ℕ) → half_of n ≡ Some t → (slot_of s.table t).led ≡ From x
+  led_there t half = elim (cases_Bool (is_open_word n)) [
+    | inl open-so ↦
+        b.sound.joint.pages.table.holds_counted.back x t (p.live (open_free open-so)) (half_is open-so ∙ half)
+    | inr shut ↦ let none : None ≡ Some t = sym (shut_half shut) ∙ half in absurd (cc)
+  ]
+
+  -- a way is one that was there, or into that slot
+  new_way : (z : Way) → Contains (ways_more v.grip.holds (half_of n) sp v.ways) z
+      → Contains v.ways z ⊎ ((slot_of s.table z.slot).led ≡ From x)
+  new_way = by_half (half_of n) refl
+    where
+      by_held : (t : ℕ) → half_of n ≡ Some t → (c : Bool) → (z : Way) → Contains (ways_if c t sp v.ways) z
+          → Contains v.ways z ⊎ ((slot_of s.table z.slot).led ≡ From x)
+      by_held t half true z has = elim (in_cases z (record { slot = t; span = sp }) v.ways has) [
+        | inl new ↦ inr (subst (λ (u : Way). (slot_of s.table u.slot).led ≡ From x) new (led_there t half))
+        | inr old ↦ inl old
+      ]
+      by_held t half false z has = inl has
+
+      by_half : (o : Option ℕ) → half_of n ≡ o → (z : Way) → Contains (ways_more v.grip.holds o sp v.ways) z
+          → Contains v.ways z ⊎ ((slot_of s.table z.slot).led ≡ From x)
+      by_half None e z has = inl has
+      by_half (Some t) e z has = by_held t e (has_slot v.grip.holds t) z has
+
+  -- each that was there still is
+  old_way : (z : Way) → Contains v.ways z → Contains (ways_more v.grip.holds (half_of n) sp v.ways) z
+  old_way = by_half (half_of n)
+    where
+      by_held : (t : ℕ) → (c : Bool) → (z : Way) → Contains v.ways z → Contains (ways_if c t sp v.ways) z
+      by_held t true z has = in_tail z (record { slot = t; span = sp }) v.ways has
+      by_held t false z has = has
+
+      by_half : (o : Option ℕ) → (z : Way) → Contains v.ways z → Contains (ways_more v.grip.holds o sp v.ways) z
+      by_half None z has = has
+      by_half (Some t) z has = by_held t (has_slot v.grip.holds t) z has
+
+  agree : WaysAgree (ways_more v.grip.holds (half_of n) sp v.ways)
+  agree = ways_agree l s.table s.trees v.grip.holds (ways_more v.grip.holds (half_of n) sp v.ways) ways_now
+
+  -- the pointer's word is a root's, or in a page that the pass has a way to
+  page_there : (t i : ℕ) → t < l.slots → i < 64 → at ≡ page_at l.slots t i
+      → (z : Way) × Contains (ways_more v.grip.holds (half_of n) sp v.ways) z × (z.slot ≡ t)
+  page_there t i less few word = by_place x is
+    where
+      by_place : (y : At) → IsPointerAt v y sp at
+          → (z : Way) × Contains (ways_more v.grip.holds (half_of n) sp v.ways) z × (z.slot ≡ t)
+      by_place (Root r) root =
+          let decls = b.sound.few.1 in
+          let low : r < length l.decls = subst (λ (y : Layout). r < length y.decls) b.own.layout root.0 in
+          let place : at ≡ root_at r = root.2 in absurd (omega arith)
+      by_place (In y) child =
+          let place : at ≡ page_at l.slots y.slot y.index =
+          child.word ∙ ap (λ (z : Layout). page_at z.slots y.slot y.index) b.own.layout in
+          let index = child.index in
+          let same : y.slot ≡ t = omega arith in (child.way, old_way child.way child.has, child.slot ∙ same)
+
+  -- a lock of a record by a way is the pass's own, or another one took it
+  lock_by : (worker : ℕ) → v.role ≡ Worker worker → (k : Key) (z : Spot) (j : ℕ)
+      → IsRecordIn l.decls l.slots (ways_more v.grip.holds (half_of n) sp v.ways) k z j → 2 ^ 60 ≤ get_or words j 0
+      → (has_took v.took k z ≡ true) ⊎ Other (Touched views) (suc worker) k
+  lock_by worker role k z j there high = elim (new_way there.way there.has) [
+    | inl old ↦ (faces l words views s id v b worker role).locked k z j (record {
+      way = there.way;
+      has = old;
+      slot = there.slot;
+      there = there.there;
+      kind = there.kind;
+      leaf = there.leaf;
+      index = there.index;
+      key = there.key;
+      word = there.word;
+    }) high
+    | inr led ↦
+        let r = stands_way l s v.grip.holds (ways_more v.grip.holds (half_of n) sp v.ways) k z j ways_now there in
+        let home = home_led l words views s b.sound k z j r x
+        (subst (λ t. (slot_of s.table t).led ≡ From x) there.slot led) in
+        subst (λ q. (has_took v.took k z ≡ true) ⊎ Other (Touched views) q k) (ap seat_number role)
+        (lock_there l words views s id v b k z j r home high)
+  ]
+
+  -- what the pass faces, where it met the pointer's word
+  pub follow_faces : (more : List Read) → IsNoted v.reads more at n → (worker : ℕ) → v.role ≡ Worker worker
+      → IsFacing l words (Touched views) (suc worker) (ways_more v.grip.holds (half_of n) sp v.ways) v.took more v.gone
+  follow_faces more note worker role =
+      let ways' : List Way = ways_more v.grip.holds (half_of n) sp v.ways in
+      facing_load l words (Touched views) (suc worker) ways' v.took v.reads v.gone at
+      (facing_agree l words (Touched views) (suc worker) v.ways ways' v.took v.reads v.gone old_way agree
+      (λ k z j there high. lock_by worker role k z j there high) (faces l words views s id v b worker role))
+      more note (λ t i less few word here. page_there t i less few word)
+
+  abbrev name : ℕ
+  name = (pointer_of s.table x).page
+
+  leads_now : (z : Lead) → Contains (leads_more (is_open_word n) sp (page_half n) name v.leads) z → IsLead s.resident z
   leads_now = by_open (is_open_word n) refl
     where
-      by_open : (c : Bool) → is_open_word n ≡ c → (z : Lead) → Contains (leads_more c sp (page_half n) v.leads) z
+      by_open : (c : Bool) → is_open_word n ≡ c → (z : Lead) → Contains (leads_more c sp (page_half n) name v.leads) z
           → IsLead s.resident z
       by_open false open-so z has = b.pages.leads z has
-      by_open true open-so z has = elim (in_cases z (record { span = sp; page = page_half n }) v.leads has) [
-        | inl new ↦ subst (IsLead s.resident) new record {
-          page = there open-so;
-          name = (pointer_of s.table x).page;
-          named = named open-so;
-        }
+      by_open true open-so z has = elim (in_cases z (record { span = sp; page = page_half n; name = name }) v.leads has) [
+        | inl new ↦ subst (IsLead s.resident) new record { page = there open-so; named = named open-so }
         | inr old ↦ b.pages.leads z old
       ]
 
-  tells : HasFollowed sp at v n (followed at sp n s.resident.pages v)
+  tells : HasFollowed sp at v n (followed at sp n name s.resident.pages v)
   tells = record {
     pages = s.resident.pages;
     front = b.pages.resident;
     few = subst (λ (y : Layout). length s.resident.pages ≤ y.resident) (sym b.own.layout) b.sound.within;
+    most = let few = b.sound.few.2 in let within = b.sound.within in omega arith;
     there = there;
     stands = λ open-so some.
         subst (λ (y : Layout). StandsFor y.decls s.resident.pages sp (page_half n)) (sym b.own.layout) (stands open-so some);
     slot = subst (λ (y : Layout). IfSome (half_of n) (λ t. t < y.slots)) (sym b.own.layout) slot_there;
+    name = name;
     is = refl;
+    agree = agree;
   }
 
   pub follow_stride : Stride l words views s (seat_number v.role) v at (λ k. k) (λ v k w. HasFollowed sp at v k w)
   follow_stride =
-      look_stride l words views s id v active b at (λ k. k) (followed at sp n s.resident.pages v)
+      look_stride l words views s id v active b at (λ k. k) (followed at sp n name s.resident.pages v)
       (λ v k w. HasFollowed sp at v k w) refl
       record { layout = refl; role = refl; made = refl; past = refl; parked = refl; epoch = refl; mine = refl; draws = refl; due = refl; seat = refl; checked = refl; took = refl; loaded = refl; met = refl; heard = refl; history = refl; decided = refl }
       refl
@@ -174,6 +281,20 @@ module _ (l : Layout) (words : List ℕ) (views : List View) (s : Shared) (id : 
         heads = b.pages.treed.heads (seat_number v.role) (is_at v.role active);
         moved = b.pages.treed.moved;
         shuts = b.pages.shuts (seat_number v.role) (is_at v.role active);
+      }
+      record {
+        touched = λ q k. omega (arith, takes_same q k v (followed at sp n name s.resident.pages v) refl);
+        locks = λ k has. inl has;
+        changes = λ k z j r. inl refl;
+        facing = λ worker role.
+            follow_faces (with_read v.reads at n) record {
+              new = record { word = at; seen = n; was = seen_at v.reads at; kept = kept_at v.reads at };
+              word = refl;
+              seen = refl;
+              was = refl;
+              is = refl;
+            } worker role;
+        blamed = blamed l words views s id v b;
       }
       tells
 

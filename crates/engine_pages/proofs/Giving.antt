@@ -29,6 +29,7 @@ use Rattle.engine_pages.specs.Rule.{Shared, IsDraft, Shows}
 use Rattle.engine_pages.specs.Slots.{is_usable_word, given_word, given, Given, HasGiven}
 use Rattle.engine_pages.specs.Views.{IsActive, seat_number}
 use Rattle.engine_pages.specs.Words.{ShowsSlot, state_number, is_shown}
+use Rattle.engine_pages.proofs.Dealing.{rests_all, rests_low}
 use Rattle.engine_pages.proofs.EachSeat.{holds_counted}
 use Rattle.engine_pages.proofs.Entering.{low_state, passes_few}
 use Rattle.engine_pages.proofs.Looks.{look_stride}
@@ -239,6 +240,9 @@ gives laws l slots id me t expected active few can =
                 (ap (λ (k : Slot). k.led) (others z.slot (unheld z.slot was.held))) refl
                 (λ i less. pages (page_at l.slots z.slot i) (omega arith)) was;
           };
+          deals = rests_low l words views s id v b words' w
+              record { role = refl; ways = refl; took = refl; gone = refl; touched = refl; blamed = refl; locks = refl } refl
+              pages;
         }
         (subst (λ c. MatchBool c (HasGiven t v n w) (w ≡ glanced (slot_at t) n v)) (sym found) record {
           words = ws;
@@ -268,4 +272,6 @@ gives laws l slots id me t expected active few can =
           moved = b.pages.treed.moved;
           shuts = b.pages.shuts (seat_number v.role) (is_at v.role active);
         }
+        (rests_all l words views s id v b w
+        record { role = refl; ways = refl; took = refl; gone = refl; touched = refl; blamed = refl; locks = refl } refl)
         (subst (λ c. MatchBool c (HasGiven t v n w) (w ≡ glanced (slot_at t) n v)) (sym found) refl)

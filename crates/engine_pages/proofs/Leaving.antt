@@ -1,5 +1,5 @@
 -- A slot is held no more.
-use Rattle.std.proofs.Common.{◌≡◌, ◌≢◌, ℕ, ◌+◌, ◌-◌, ◌%◌, ◌^◌, ◌<◌, ◌≤◌, true, false}
+use Rattle.std.proofs.Common.{◌≡◌, ◌≢◌, inl, suc, ℕ, ◌+◌, ◌*◌, ◌-◌, ◌%◌, ◌^◌, ◌<◌, ◌≤◌, true, false}
 use Rattle.std.proofs.Common.{not, get_or, set, refl}
 use Rattle.std.proofs.Common.{sym, ap, ◌∙◌, subst, arith}
 use Rattle.atomic_table.specs.Table.{Me, Allows}
@@ -20,6 +20,9 @@ use Rattle.engine_pages.specs.Rule.{Shows}
 use Rattle.engine_pages.specs.Slots.{left}
 use Rattle.engine_pages.specs.Views.{IsActive, seat_number}
 use Rattle.engine_pages.specs.Words.{ShowsSlot, state_number, is_shown}
+use Rattle.engine_pages.specs.Touches.{Touched}
+use Rattle.engine_pages.proofs.Dealing.{blamed, faces}
+use Rattle.engine_pages.proofs.Facing.{facing_left, facing_other, takes_same}
 use Rattle.engine_pages.proofs.EachSeat.{holds_counted}
 use Rattle.engine_pages.proofs.Entering.{low_state, passes_few}
 use Rattle.engine_pages.proofs.Slotlists.{without_other, at_others}
@@ -142,6 +145,19 @@ leaves_slot laws l slots id me t active few holds-it unkept =
             let was = b.pages.treed.moved z old.0 in
             moved_same l words words' s.trees d e v.grip.holds w.grip.holds z (holds z.slot old.1 was.held) (uses z.slot).led refl
             (λ i less. pages (page_at l.slots z.slot i) (omega arith)) was;
+      };
+      deals = record {
+        touched = λ q k. omega (arith, takes_same q k v w refl);
+        locks = λ k has. inl has;
+        changes = λ k y at r.
+            inl (pages at (let word : at ≡ page_at l.slots y.slot (2 * y.index) = r.word in omega arith));
+        facing = λ worker is.
+            facing_other l words words' (Touched views) (Touched views) (suc worker) w.ways v.took v.reads w.gone (λ q k has. has)
+            (λ k y at there.
+            let word : at ≡ page_at l.slots y.slot (2 * y.index) = there.word in inl (pages at (omega arith)))
+            (facing_left l words (Touched views) (suc worker) t v.ways v.took v.reads v.gone
+            (faces l words views s id v b worker is));
+        blamed = blamed l words views s id v b;
       };
     }
     refl)

@@ -3,7 +3,10 @@ pub mod Joint
 pub mod Named
 pub mod Seats
 pub mod PagesStay
+pub mod Leaves
+pub mod Facing
 pub mod Turns
+pub mod Dealing
 pub mod OwnView
 pub mod Looking
 pub mod Words
@@ -18,8 +21,13 @@ pub mod Filling
 pub mod Records
 pub mod Copying
 pub mod Publishing
+pub mod CommitSteps
+pub mod FirstWords
+pub mod Alone
+pub mod Times
 pub mod Standing
 pub mod Retiring
 pub mod Loadings
 pub mod PointerLaws
+pub mod WayLaws
 pub mod Following

@@ -10,6 +10,7 @@ use Rattle.engine_pages.specs.Loads.{HasLoaded}
 use Rattle.engine_pages.specs.Rule.{Shows}
 use Rattle.engine_pages.specs.Steps.{glanced}
 use Rattle.engine_pages.specs.Views.{IsActive, seat_number}
+use Rattle.engine_pages.proofs.Dealing.{rests_all}
 use Rattle.engine_pages.proofs.Joint.{Laws}
 use Rattle.engine_pages.proofs.Looks.{look_stride}
 use Rattle.engine_pages.proofs.Named.{page_longer}
@@ -49,4 +50,6 @@ loads_resident laws l slots id me n i active same some known few =
       moved = b.pages.treed.moved;
       shuts = b.pages.shuts (seat_number v.role) (is_at v.role active);
     }
+    (rests_all l words views s id v b w
+    record { role = refl; ways = refl; took = refl; gone = refl; touched = refl; blamed = refl; locks = refl } refl)
     (ap (λ (y : Layout). glanced (snap_at y.slots n i) k v) (sym same), word))

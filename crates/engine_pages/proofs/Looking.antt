@@ -1,7 +1,8 @@
 -- A view that has seen more, with the same seat.
-use Rattle.std.proofs.Common.{◌≡◌, ℕ, suc, ◌≤◌, List, length, get_or, refl, sym, ap, ◌∙◌, subst, arith, IfSome}
-use Rattle.std.specs.List.{Contains}
+use Rattle.std.proofs.Common.{◌≡◌, true, ℕ, suc, ◌≤◌, List, length, get_or, refl, sym, ap, ◌∙◌, subst, arith, IfSome, Some}
+use Rattle.std.specs.List.{Contains, slice_get}
 use Rattle.lists.specs.Fronts.{IsFront}
+use Rattle.homes.specs.Homes.{has_key}
 use Rattle.commit_core.specs.declared.attempt.Attempt.{Attempt}
 use Rattle.commit_core.specs.declared.seat.Seat.{Seat}
 use Rattle.commit_core.specs.declared.story.Story.{Story}
@@ -14,7 +15,7 @@ use Rattle.engine_pages.specs.declared.view.Took.{Took}
 use Rattle.engine_pages.specs.declared.view.View.{View}
 use Rattle.engine_pages.specs.Views.{IsAt, IsActive, IsResting, HasPart, bare_seat, seat_number}
 use Rattle.engine_pages.specs.Rule.{IsInOrder, IsOwn, Tried, IsPast, KeptAreRecords, KeptIsLow, StillLoaded}
-use Rattle.engine_pages.specs.Rule.{Fits}
+use Rattle.engine_pages.specs.Rule.{Fits, HasLockOf}
 use Rattle.engine_pages.proofs.Seats.{by_equal, put_seat, put_same, put_other, at_number, is_at, own_longer, tried_longer}
 
 -- the seats stay as they are where the seat that is put is what was there
@@ -58,6 +59,9 @@ seen_fits l m seats v w active f layout role made past parked epoch mine due sea
                 (subst (λ x. Tried q w.history m.checks v.checked x v.seat.stage) (sym mine)
                 (tried_longer q v.history w.history m.checks v.checked v.mine v.seat.stage longer o.tried)));
             took = λ t has. o.took t (subst (λ (x : List Took). Contains x t) took has);
+            locked = λ k has.
+                subst (λ (x : List Took). HasLockOf x k) (sym took)
+                (o.locked k (subst (λ (s : Seat). has_key s.locks k ≡ true) seat has));
           };
       low = omega (arith, f.low, epoch);
       part = subst (λ r. HasPart r w.made w.due w.seat.stage w.mine) (sym role)
@@ -72,6 +76,9 @@ seen_fits l m seats v w active f layout role made past parked epoch mine due sea
             epoch = omega (arith, was.epoch, epoch);
             past = subst (IsPast m) (sym past) was.past;
             parked_are = ap (λ (x : List Seat). length x) parked ∙ was.parked_are;
+            begun = λ worker few. subst (λ (x : Seat). length (get_or w.parked worker bare_seat).marks ≤ length x.marks)
+                (sym (same (suc worker))) (subst (λ (x : List Seat). length (get_or x worker bare_seat).marks ≤ length (seats (suc worker)).marks) (sym parked)
+                (was.begun worker few));
             parked = λ worker few unmade.
                 let there = was.parked worker few (ap (times worker) (sym made) ∙ unmade) in record {
                   is = same (suc worker) ∙ there.is ∙ ap (λ (x : List Seat). get_or x worker bare_seat) (sym parked);
@@ -81,7 +88,7 @@ seen_fits l m seats v w active f layout role made past parked epoch mine due sea
       met = λ x has.
           let was = f.met x (subst (λ (y : List Met). Contains y x) met has) in (
             was.0,
-            subst (λ (s : Seat). Contains s.marks was.0) (sym (same (suc x.worker))) was.1,
+            subst (λ (s : Seat). slice_get s.marks x.place ≡ Some was.0) (sym (same (suc x.worker))) was.1,
             was.2,
           );
     }

@@ -89,8 +89,7 @@ page_longer xs ys (suc n) front less =
 pub lead_more : (r r' : Published) (x : Lead) → HasMore r r' → IsLead r x → IsLead r' x
 lead_more r r' x more lead = record {
   page = let long = front_length r.pages r'.pages more.pages in let low = lead.page in omega arith;
-  name = lead.name;
-  named = named_more r.places r'.places x.span x.page lead.name more.places lead.named;
+  named = named_more r.places r'.places x.span x.page x.name more.places lead.named;
 }
 
 -- ---- records of a copied leaf

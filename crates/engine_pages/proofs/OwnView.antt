@@ -1,7 +1,7 @@
 -- The view of the seat that steps, after its step.
-use Rattle.std.proofs.Common.{◌≡◌, ℕ, suc, ◌≤◌, Bool, false, List, length, get_or, refl, sym, ap, ◌∙◌}
-use Rattle.std.proofs.Common.{subst, arith, IfSome}
-use Rattle.std.specs.List.{Contains}
+use Rattle.std.proofs.Common.{◌≡◌, ℕ, suc, ◌≤◌, Bool, true, false, List, length, get_or, refl, sym, ap, ◌∙◌}
+use Rattle.std.proofs.Common.{subst, arith, IfSome, Some}
+use Rattle.std.specs.List.{Contains, slice_get}
 use Rattle.lists.specs.Fronts.{IsFront}
 use Rattle.commit_core.specs.declared.attempt.Attempt.{Attempt}
 use Rattle.commit_core.specs.declared.seat.Mark.{Mark}
@@ -22,10 +22,11 @@ use Rattle.serial_model.specs.declared.decl.Decl.{Decl}
 use Rattle.serial_model.specs.declared.key.Key.{Key}
 use Rattle.homes.specs.declared.places.Content.{Content}
 use Rattle.homes.specs.declared.places.Spot.{Spot}
+use Rattle.homes.specs.Homes.{has_key}
 use Rattle.engine_pages.specs.Views.{IsAt, IsActive, IsResting, HasPart, bare_seat, seat_number}
-use Rattle.engine_pages.specs.Rule.{IsInOrder, IsOwn, Tried, Own, IsHeld, IsPast, WasMarked}
+use Rattle.engine_pages.specs.Rule.{IsInOrder, IsOwn, Tried, Own, IsHeld, HasLockOf, IsPast, WasMarked}
 use Rattle.engine_pages.specs.Rule.{KeptAreRecords, KeptIsLow, StillLoaded, Fits}
-use Rattle.engine_pages.proofs.Seats.{put_seat, put_same, put_other, at_number, is_at, marked_stays}
+use Rattle.engine_pages.proofs.Seats.{put_seat, put_same, put_other, at_number, is_at, marked_stays, marks_longer}
 
 -- what is true of the view w of seat p beside the story n, as it is told of the fields that a step may change
 pub record Now (decls : List Decl) (opening : List (Key × Content)) (n : Story) (p : ℕ) (w : View) : Type 0 where
@@ -40,6 +41,7 @@ pub record Now (decls : List Decl) (opening : List (Key × Content)) (n : Story)
   pub loaded : IfSome w.loaded (StillLoaded n.history n.decided n.places w.seat.kept)
   pub tried : Tried p w.history n.checks w.checked w.mine w.seat.stage
   pub took : (t : Took) → Contains w.took t → (x : Spot) × IsHeld n p t x
+  pub locked : (k : Key) → has_key w.seat.locks k ≡ true → HasLockOf w.took k
   pub low : w.epoch ≤ n.epoch
   pub epoch : w.role ≡ Keeper → n.epoch ≤ w.epoch
   pub past : w.role ≡ Keeper → IsPast n w.past
@@ -56,7 +58,7 @@ part_goes Spent active made due due' stage stage' mine mine' still rests part = 
 
 pub own_fits_met : (l : Layout) (m n : Story) (seats : ℕ → Seat) (v w : View) → IsActive v.role → Fits l m seats v
     → HasPart w.role w.made w.due w.seat.stage w.mine → w.layout ≡ v.layout → w.role ≡ v.role → w.made ≡ v.made
-    → w.parked ≡ v.parked → ((x : Met) → Contains w.met x → WasMarked seats x) → ((mark : Mark) → Contains v.seat.marks mark → Contains w.seat.marks mark)
+    → w.parked ≡ v.parked → ((x : Met) → Contains w.met x → WasMarked seats x) → ((place : ℕ) (mark : Mark) → slice_get v.seat.marks place ≡ Some mark → slice_get w.seat.marks place ≡ Some mark)
     → Now l.decls l.opening n (seat_number v.role) w → Fits l n (put_seat seats (seat_number v.role) w.seat) w
 own_fits_met l m n seats v w active f part layout role made parked met marks now =
     let p = seat_number v.role in
@@ -75,6 +77,7 @@ own_fits_met l m n seats v w active f part layout role made parked met marks now
             seat = sym (put_same seats p w.seat p refl);
             tried = now.tried;
             took = now.took;
+            locked = now.locked;
           };
       low = now.low;
       part = part;
@@ -86,6 +89,13 @@ own_fits_met l m n seats v w active f part layout role made parked met marks now
             epoch = now.epoch keeper;
             past = now.past keeper;
             parked_are = ap (λ (x : List Seat). length x) parked ∙ was.parked_are;
+            begun = λ worker few.
+                let more = marks_longer seats p w.seat
+                (λ place mark had. marks place mark (subst (λ (s : Seat). slice_get s.marks place ≡ Some mark) (sym own.seat) had))
+                (suc worker) in
+                let least = subst (λ (x : List Seat). length (get_or x worker bare_seat).marks ≤ length (seats (suc worker)).marks)
+                (sym parked) (was.begun worker few) in
+                omega (arith, least, more);
             parked = λ worker few unmade.
                 let there = was.parked worker few (ap (times worker) (sym made) ∙ unmade) in
                 let same : put_seat seats p w.seat (suc worker) ≡ seats (suc worker) =
@@ -96,14 +106,14 @@ own_fits_met l m n seats v w active f part layout role made parked met marks now
           };
       met = λ x has.
           marked_stays seats p w.seat x
-          (λ mark had. marks mark (subst (λ (s : Seat). Contains s.marks mark) (sym own.seat) had))
+          (λ place mark had. marks place mark (subst (λ (s : Seat). slice_get s.marks place ≡ Some mark) (sym own.seat) had))
           (met x has);
     }
 
 -- the same where no mark was met
 pub own_fits : (l : Layout) (m n : Story) (seats : ℕ → Seat) (v w : View) → IsActive v.role → Fits l m seats v
     → HasPart w.role w.made w.due w.seat.stage w.mine → w.layout ≡ v.layout → w.role ≡ v.role → w.made ≡ v.made
-    → w.parked ≡ v.parked → w.met ≡ v.met → ((mark : Mark) → Contains v.seat.marks mark → Contains w.seat.marks mark)
+    → w.parked ≡ v.parked → w.met ≡ v.met → ((place : ℕ) (mark : Mark) → slice_get v.seat.marks place ≡ Some mark → slice_get w.seat.marks place ≡ Some mark)
     → Now l.decls l.opening n (seat_number v.role) w → Fits l n (put_seat seats (seat_number v.role) w.seat) w
 own_fits l m n seats v w active f part layout role made parked met marks now =
     own_fits_met l m n seats v w active f part layout role made parked

@@ -36,7 +36,7 @@ use Rattle.engine_pages.specs.declared.view.View.{View}
 use Rattle.engine_pages.specs.Layout.{page_at}
 use Rattle.engine_pages.specs.Pages.{decl_of, is_array_kind, root_span, Fenced, IsOver, IsLaidOut}
 use Rattle.engine_pages.specs.Pointers.{IsChildAt, IsPointerAt, page_half, slot_half, StandsFor}
-use Rattle.engine_pages.specs.Resident.{IsNamed, IsStanding, place_for}
+use Rattle.engine_pages.specs.Resident.{IsNamed, place_for}
 use Rattle.engine_pages.specs.Rule.{Shared, IsWay}
 use Rattle.engine_pages.specs.Stays.{IsKnown}
 use Rattle.engine_pages.specs.Words.{ShowsPage, ShowsPointer, is_shown, lock_field}
@@ -152,24 +152,39 @@ halves places words at q shows free =
 
 -- ---- the page that a pointer names
 
--- a name is that of a place
-pub record IsFound (places : List (Decl × PagePlace)) (decl : Decl) (p : PagePlace) : Type 0 where
-  pub index : ℕ
-  pub entry : Decl × PagePlace
-  pub at : slice_get places index ≡ Some entry
-  pub same : is_place decl p entry ≡ true
+-- a name, of which the first is this one, is that of a place
+record IsFound (name : ℕ) (places : List (Decl × PagePlace)) (decl : Decl) (p : PagePlace) : Type 0 where
+  index : ℕ
+  entry : Decl × PagePlace
+  at : slice_get places index ≡ Some entry
+  same : is_place decl p entry ≡ true
+  is : name_from name places decl p ≡ name + index
 
 name_found : (name : ℕ) (xs : List (Decl × PagePlace)) (decl : Decl) (p : PagePlace) → 0 < name_from name xs decl p
-    → IsFound xs decl p
+    → IsFound name xs decl p
 name_found name [] decl p some = absurd (omega arith)
 name_found name (e ∷ xs) decl p some = by_test (is_place decl p e) refl (λ more. name_found (suc name) xs decl p more)
   where
-    by_test : (c : Bool) → is_place decl p e ≡ c → (0 < name_from (suc name) xs decl p → IsFound xs decl p)
-        → IsFound (e ∷ xs) decl p
-    by_test true hit rest = record { index = 0; entry = e; at = refl; same = hit }
+    by_test : (c : Bool) → is_place decl p e ≡ c
+        → (0 < name_from (suc name) xs decl p → IsFound (suc name) xs decl p) → IsFound name (e ∷ xs) decl p
+    by_test true hit rest = record {
+      index = 0;
+      entry = e;
+      at = refl;
+      same = hit;
+      is = ap (λ (c : Bool). cond c name (name_from (suc name) xs decl p)) hit ∙ (omega arith);
+    }
     by_test false miss rest =
-        let found = rest (subst (λ k. 0 < k) (ap (λ (c : Bool). cond c name (name_from (suc name) xs decl p)) miss) some) in
-        record { index = suc found.index; entry = found.entry; at = found.at; same = found.same }
+        let same : name_from name (e ∷ xs) decl p ≡ name_from (suc name) xs decl p =
+        ap (λ (c : Bool). cond c name (name_from (suc name) xs decl p)) miss in
+        let found = rest (subst (λ k. 0 < k) same some) in
+        let is = found.is in record {
+          index = suc found.index;
+          entry = found.entry;
+          at = found.at;
+          same = found.same;
+          is = omega (arith, same, is);
+        }
 
 same_place : (decl : Decl) (p : PagePlace) (e : Decl × PagePlace) → is_place decl p e ≡ true
     → (id_of e.0 ≡ id_of decl) × (e.1 ≡ p)
@@ -187,6 +202,35 @@ same_place decl p e is =
         ∙ (ap (λ k. let z : PagePlace = record { number = c.number; low = k; high = a.high } in z) low
         ∙ ap (λ k. let z : PagePlace = record { number = c.number; low = c.low; high = k } in z) high)
 
+-- The page with this number has its name where it stands for these keys.
+pub record IsEntry (places : List (Decl × PagePlace)) (sp : Span) (number name : ℕ) : Type 0 where
+  pub index : ℕ
+  pub decl : Decl
+  pub at : slice_get places index ≡ Some (decl, place_for sp number)
+  pub storage : id_of decl ≡ sp.storage
+  pub is : name ≡ suc index
+
+pub named_entry : (places : List (Decl × PagePlace)) (sp : Span) (number name : ℕ) → IsNamed places sp number name
+    → 0 < number → IsEntry places sp number name
+named_entry places sp number name named some =
+    let p = place_for sp number in
+    let decl = named.decl in
+    let nonzero : name_of places decl p ≡ name_from 1 places decl p =
+    ap (λ (c : Bool). cond c 0 (name_from 1 places decl p)) (ne_eqb number 0 (λ e. omega (arith, e, some))) in
+    let first : name ≡ name_from 1 places decl p = named.is ∙ nonzero in
+    let found = name_found 1 places decl p (subst (λ k. 0 < k) first (named.there some)) in
+    let same = same_place decl p found.entry found.same in
+    let at-is = found.is in record {
+      index = found.index;
+      decl = (found.entry).0;
+      at = found.at ∙ entry_is found.entry p same.1;
+      storage = same.0 ∙ named.storage;
+      is = omega (arith, first, at-is);
+    }
+  where
+    entry_is : (e : Decl × PagePlace) (p : PagePlace) → e.1 ≡ p → Some e ≡ Some (e.0, p)
+    entry_is e p same = ap (λ (q : PagePlace). let o : Option (Decl × PagePlace) = Some (e.0, q) in o) same
+
 stands_there : (F : Format) (Is : PagePlace → List ℕ → Type 0) (pages : List (List ℕ)) (depth : ℕ) (p : PagePlace)
     → StandsTo F Is pages depth p → p.number ≤ length pages
 stands_there F Is pages zero p stands = absurd stands
@@ -197,17 +241,8 @@ pub named_stands : (l : Layout) (words : List ℕ) (views : List View) (s : Shar
     (number name : ℕ) → Begins l words views s id v → IsNamed s.resident.places sp number name → 0 < number
     → StandsFor l.decls s.resident.pages sp number
 named_stands l words views s id v sp number name b named some =
-    let p = place_for sp number in
-    let decl = named.decl in
-    let nonzero : name_of s.resident.places decl p ≡ name_from 1 s.resident.places decl p =
-    ap (λ (c : Bool). cond c 0 (name_from 1 s.resident.places decl p)) (ne_eqb number 0 (λ e. omega (arith, e, some))) in
-    let found = name_found 1 s.resident.places decl p (subst (λ k. 0 < k) (named.is ∙ nonzero) (named.there some)) in
-    let same = same_place decl p found.entry found.same in
-    let stands = b.sound.named.stand found.index found.entry found.at in (
-      (found.entry).0,
-      same.0 ∙ named.storage,
-      subst (λ (z : PagePlace). IsStanding l.decls s.resident.pages ((found.entry).0, z)) same.1 stands,
-    )
+    let e = named_entry s.resident.places sp number name named some in
+    (e.decl, e.storage, b.sound.named.stand e.index (e.decl, place_for sp number) e.at)
 
 -- and is there
 pub standing_there : (decls : List Decl) (pages : List (List ℕ)) (sp : Span) (n : ℕ) → StandsFor decls pages sp n

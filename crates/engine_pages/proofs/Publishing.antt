@@ -1,9 +1,10 @@
 -- A slot is published as a copy of a snapshot page, or as no page; and a published slot is given up.
-use Rattle.std.proofs.Common.{◌≡◌, ◌≢◌, inl, inr, ℕ, zero, suc, ◌+◌, ◌*◌, ◌/◌, ◌%◌, ◌^◌, ◌<◌, ◌≤◌, Bool, true}
+use Rattle.std.proofs.Common.{◌≡◌, ◌≢◌, inl, inr, ℕ, zero, suc, ◌+◌, ◌*◌, ◌/◌, ◌%◌, ◌^◌, ◌<◌, ◌≤◌, Bool, true, false}
 use Rattle.std.proofs.Common.{true≢false, ne_eqb, List, ◌∷◌, length, get_or, refl}
 use Rattle.std.proofs.Common.{sym, ap, ◌∙◌, subst, arith, None}
 use Rattle.std.specs.Prelude.{◌||◌}
 use Rattle.lists.specs.Elements.{in_cases}
+use Rattle.homes.specs.declared.places.At.{At}
 use Rattle.homes.specs.declared.places.Content.{Content}
 use Rattle.homes.specs.declared.places.Span.{Span}
 use Rattle.homes.specs.declared.places.Spot.{Spot}
@@ -21,7 +22,8 @@ use Rattle.drop_core.specs.declared.table.Page.{Page}
 use Rattle.drop_core.specs.declared.table.Slot.{Slot}
 use Rattle.drop_core.specs.declared.table.SlotState.TheVariants.{Published as Shown}
 use Rattle.drop_core.specs.Event.{is_published, with_slot}
-use Rattle.drop_core.specs.Table.{slot_of, has_slot}
+use Rattle.drop_core.specs.Table.{slot_of, pointer_of, has_slot}
+use Rattle.engine_rule.specs.JointState.{is_slot, slot_at as slot_with}
 use Rattle.engine_pages.specs.declared.layout.Layout.{Layout}
 use Rattle.engine_pages.specs.declared.view.Copied.{Copied}
 use Rattle.engine_pages.specs.declared.view.Draft.{Draft}
@@ -75,6 +77,7 @@ publishes_copy laws l slots id me x sp n active has cd =
     let made : has_slot (s.grips p).made t ≡ true = ap (λ (g : Grip). has_slot g.made t) (sym b.grip) ∙ draft.made in
     let places' = fill_places t c 32 m.places in
     let sound = filled_sound laws l s p t c b.few draft.owned made b.sound.joint 32 in
+    let still : (y : At) → is_slot t (slot_with y) ≡ false → pointer_of d y ≡ pointer_of d y = λ y other. refl in
     let others : (y : Spot) → y.slot ≢ t → place_of places' y ≡ place_of m.places y =
     λ y other. place_unfilled t c 32 m.places y other in
     let shows : ShowsPage s.resident.places words l.slots t (place_of places') d (Leaf keys) = (
@@ -91,20 +94,20 @@ publishes_copy laws l slots id me x sp n active has cd =
           (λ none. sym value ∙ cd.records.blank i few (word ∙ none)))),
     ) in
     let copies' : List Copied = record { slot = t; span = sp; page = n } ∷ v.copies in
-    publish_stride laws l words views s id v active b x has (Leaf keys) places' sound others shows copies' v.blanks
+    publish_stride laws l words views s id v active b x has (Leaf keys) places' d.pointers sound others still shows copies' v.blanks
     (λ z there. elim (in_cases z (record { slot = t; span = sp; page = n }) v.copies there) [
       | inl new ↦
           let first : Copied = record { slot = t; span = sp; page = n } in
           subst (λ (y : Copied). (put_at s.trees t None y.slot ≡ None) × IsCopy l (record m { places = places' }) (with_slot (record d { pages = (t, Leaf keys) ∷ d.pages }) t (record (slot_of d t) { state = Shown })) s.resident v.grip.made y) new (
-            tree_new laws l words views s id v active b x has (Leaf keys) places' sound others shows copies' v.blanks,
+            tree_new laws l words views s id v active b x has (Leaf keys) places' d.pointers sound others still shows copies' v.blanks,
             record {
               slot = draft.slot;
               made = draft.made;
               state = ap (λ (k : Slot). is_published k.state)
-                  (slot_new laws l words views s id v active b x has (Leaf keys) places' sound others shows copies' v.blanks);
+                  (slot_new laws l words views s id v active b x has (Leaf keys) places' d.pointers sound others still shows copies' v.blanks);
               over = record {
                 page =
-                    page_new laws l words views s id v active b x has (Leaf keys) places' sound others shows copies' v.blanks
+                    page_new laws l words views s id v active b x has (Leaf keys) places' d.pointers sound others still shows copies' v.blanks
                     ∙ sym (leaf_shape sp cd.leaf);
                 spans = λ j pointer. absurd (true≢false (sym pointer ∙ ap (λ (y : Page). has_pointer y j) (leaf_shape sp cd.leaf)));
                 header = draft.header;
@@ -115,9 +118,9 @@ publishes_copy laws l slots id me x sp n active has cd =
               pointers = λ inner j few. absurd (true≢false (sym cd.leaf ∙ inner));
             },
           )
-      | inr old ↦ old_copy laws l words views s id v active b x has (Leaf keys) places' sound others shows copies' v.blanks z old
+      | inr old ↦ old_copy laws l words views s id v active b x has (Leaf keys) places' d.pointers sound others still shows copies' v.blanks z old
     ])
-    (λ u there. old_blank laws l words views s id v active b x has (Leaf keys) places' sound others shows copies' v.blanks u there)
+    (λ u there. old_blank laws l words views s id v active b x has (Leaf keys) places' d.pointers sound others still shows copies' v.blanks u there)
     (λ v _ w. w ≡ published_copy x.slot sp n v) refl)
 
 -- ---- published as no page
@@ -132,16 +135,18 @@ publishes_blank laws l slots id me x active has =
     let v = me.0 in
     let draft = b.pages.drafts x has in
     let blanks' : List ℕ = x.slot ∷ v.blanks in
-    publish_stride laws l words views s id v active b x has Blank s.story.places b.sound.joint (λ y other. refl) tt v.copies blanks'
-    (λ z there. old_copy laws l words views s id v active b x has Blank s.story.places b.sound.joint (λ y other. refl) tt v.copies blanks' z there)
+    let still : (y : At) → is_slot x.slot (slot_with y) ≡ false → pointer_of s.table y ≡ pointer_of s.table y =
+    λ y other. refl in
+    publish_stride laws l words views s id v active b x has Blank s.story.places s.table.pointers b.sound.joint (λ y other. refl) still tt v.copies blanks'
+    (λ z there. old_copy laws l words views s id v active b x has Blank s.story.places s.table.pointers b.sound.joint (λ y other. refl) still tt v.copies blanks' z there)
     (λ u there. by_equal u x.slot (λ k. has_slot blanks' k ≡ true → IsBlank l.slots _ v.grip.made k)
     (λ _. record {
       slot = draft.slot;
       made = draft.made;
       state = ap (λ (k : Slot). is_published k.state)
-          (slot_new laws l words views s id v active b x has Blank s.story.places b.sound.joint (λ y other. refl) tt v.copies blanks');
+          (slot_new laws l words views s id v active b x has Blank s.story.places s.table.pointers b.sound.joint (λ y other. refl) still tt v.copies blanks');
     })
     (λ other is.
-    old_blank laws l words views s id v active b x has Blank s.story.places b.sound.joint (λ y other. refl) tt v.copies blanks' u
+    old_blank laws l words views s id v active b x has Blank s.story.places s.table.pointers b.sound.joint (λ y other. refl) still tt v.copies blanks' u
     (ap (λ (c : Bool). c || has_slot v.blanks u) (sym (ne_eqb x.slot u (λ q. other (sym q)))) ∙ is)) there)
     (λ v _ w. w ≡ published_blank x.slot v) refl)

@@ -28,6 +28,7 @@ use Rattle.engine_pages.specs.Slots.{MayRetire, retired}
 use Rattle.engine_pages.specs.Views.{IsActive, seat_number}
 use Rattle.engine_pages.specs.Words.{ShowsSlot, state_number, is_shown}
 use Rattle.engine_pages.proofs.Records.{published_unowned}
+use Rattle.engine_pages.proofs.Dealing.{rests_low}
 use Rattle.engine_pages.proofs.EachSeat.{at_seat, takes_counted}
 use Rattle.engine_pages.proofs.Entering.{passes_few}
 use Rattle.engine_pages.proofs.Slotlists.{without_same, without_other, at_others}
@@ -197,5 +198,8 @@ retires laws l slots id me t active few may =
             moved_same l words words' s.trees d e v.grip.holds w.grip.holds z was.held (leds z.slot) refl
             (λ i less. pages (page_at l.slots z.slot i) (omega arith)) was;
       };
+      deals = rests_low l words views s id v b words' w
+          record { role = refl; ways = refl; took = refl; gone = refl; touched = refl; blamed = refl; locks = refl } refl
+          pages;
     }
     refl)

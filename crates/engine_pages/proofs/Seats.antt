@@ -1,5 +1,5 @@
 -- Seats by their numbers, and what an act of one seat leaves of the machine's state and of other views.
-use Rattle.std.proofs.Common.{◌≡◌, ◌≢◌, ℕ, zero, suc, ◌+◌, ◌<◌, Bool, true, false, true≢false, cond, eq-eqb}
+use Rattle.std.proofs.Common.{◌≡◌, ◌≢◌, ℕ, zero, suc, ◌+◌, ◌<◌, ◌≤◌, Bool, true, false, true≢false, cond, eq-eqb}
 use Rattle.std.proofs.Common.{ne_eqb, ◌⊎◌, inl, inr, List, [], ◌∷◌, ◌++◌, length, drop, refl, sym, ap, ◌∙◌}
 use Rattle.std.proofs.Common.{subst, arith, Option, Some, None, IfSome}
 use Rattle.std.specs.Prelude.{◌||◌, not}
@@ -369,22 +369,41 @@ past_stays m n epoch g drawn h = record {
   ];
 }
 
+-- a list that has all of another at their places is no shorter
+pub no_shorter : {A : Type 0} (xs ys : List A)
+    → ((place : ℕ) (x : A) → slice_get xs place ≡ Some x → slice_get ys place ≡ Some x) → length xs ≤ length ys
+no_shorter [] ys has = omega arith
+no_shorter (x ∷ xs) [] has = let none : slice_get [] 0 ≡ Some x = has 0 x refl in absurd cc
+no_shorter (x ∷ xs) (y ∷ ys) has =
+    let rest = no_shorter xs ys (λ place z is. has (suc place) z is) in omega (arith, rest)
+
+pub marks_longer : (seats : ℕ → Seat) (p : ℕ) (s : Seat)
+    → ((place : ℕ) (mark : Mark) → slice_get (seats p).marks place ≡ Some mark → slice_get s.marks place ≡ Some mark)
+    → (q : ℕ) → length (seats q).marks ≤ length (put_seat seats p s q).marks
+marks_longer seats p s grow q =
+    by_equal q p (λ k. length (seats k).marks ≤ length (put_seat seats p s k).marks)
+    (subst (λ (t : Seat). length (seats p).marks ≤ length t.marks) (sym (put_same seats p s p refl))
+    (no_shorter (seats p).marks s.marks grow))
+    (λ other. subst (λ (t : Seat). length (seats q).marks ≤ length t.marks) (sym (put_other seats p s q other))
+    (omega arith))
+
 pub marked_stays : (seats : ℕ → Seat) (p : ℕ) (s : Seat) (met : Met)
-    → ((mark : Mark) → Contains (seats p).marks mark → Contains s.marks mark) → WasMarked seats met
-    → WasMarked (put_seat seats p s) met
+    → ((place : ℕ) (mark : Mark) → slice_get (seats p).marks place ≡ Some mark → slice_get s.marks place ≡ Some mark)
+    → WasMarked seats met → WasMarked (put_seat seats p s) met
 marked_stays seats p s met grow was = (
   was.0,
   by_equal (suc met.worker) p
-      (λ q. Contains (seats q).marks was.0 → Contains (put_seat seats p s q).marks was.0)
-      (λ has. subst (λ (t : Seat). Contains t.marks was.0) (sym (put_same seats p s p refl)) (grow was.0 has))
-      (λ other has. subst (λ (t : Seat). Contains t.marks was.0) (sym (put_other seats p s (suc met.worker) other)) has)
+      (λ q. slice_get (seats q).marks met.place ≡ Some was.0 → slice_get (put_seat seats p s q).marks met.place ≡ Some was.0)
+      (λ has. subst (λ (t : Seat). slice_get t.marks met.place ≡ Some was.0) (sym (put_same seats p s p refl)) (grow met.place was.0 has))
+      (λ other has. subst (λ (t : Seat). slice_get t.marks met.place ≡ Some was.0) (sym (put_other seats p s (suc met.worker) other)) has)
       was.1,
   was.2,
 )
 
 pub fits_stays : (l : Layout) (s : Shared) (n : Story) (p : ℕ) (t : Seat) (u : View) → IsSound (joint_of l s)
     → StoryStays p s.table s.story n → DrawnNow s.story n
-    → ((mark : Mark) → Contains (s.seats p).marks mark → Contains t.marks mark) → sits p u ≡ 0
+    → ((place : ℕ) (mark : Mark) → slice_get (s.seats p).marks place ≡ Some mark → slice_get t.marks place ≡ Some mark)
+    → sits p u ≡ 0
     → (u.role ≡ Keeper → (worker : ℕ) → times worker u.made ≡ 0 → suc worker ≢ p)
     → Fits l s.story s.seats u → Fits l n (put_seat s.seats p t) u
 fits_stays l s n p t u sound left drawn marks none apart f =
@@ -414,6 +433,7 @@ fits_stays l s n p t u sound left drawn marks none apart f =
             seat = w.seat ∙ sym (put_other seats p t q other);
             tried = tried_stays m n p q u.history u.checked u.mine u.seat.stage left.checks other f.history w.tried;
             took = λ y has. let h = w.took y has in (h.0, held_stays l s n p q sound left other y h.0 h.1);
+            locked = w.locked;
           };
       low = omega (arith, f.low, g.epoch);
       part = f.part;
@@ -425,6 +445,8 @@ fits_stays l s n p t u sound left drawn marks none apart f =
             epoch = omega (arith, was.epoch, left.epoch zero-not);
             past = past_stays m n u.past g drawn was.past;
             parked_are = was.parked_are;
+            begun = λ worker few.
+                let more = marks_longer seats p t marks (suc worker) in omega (arith, was.begun worker few, more);
             parked = λ worker few unmade.
                 let there = was.parked worker few unmade in
                 let same = put_other seats p t (suc worker) (apart keeper worker unmade) in

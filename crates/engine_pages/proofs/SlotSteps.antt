@@ -2,7 +2,7 @@
 use Rattle.std.proofs.Common.{◌≡◌, ◌≢◌, ℕ, suc, ◌+◌, ◌^◌, ◌<◌, Bool, true, cond, inl, List, []}
 use Rattle.std.proofs.Common.{length, get_or, set, refl, sym, ap, ◌∙◌, subst, arith, Option, Some, None, IfSome, eqb}
 use Rattle.std.specs.Prelude.{◌&&◌}
-use Rattle.std.specs.List.{Contains}
+use Rattle.std.specs.List.{Contains, slice_get}
 use Rattle.std.proofs.lemmas.Bool.{and_from, and_parts}
 use Rattle.lists.specs.Fronts.{IsFront, front_refl}
 use Rattle.serial_model.specs.declared.decl.Decl.{Decl}
@@ -49,6 +49,7 @@ use Rattle.engine_pages.specs.Rule.{IsKnownLeaf, IsHead, IsMoved, StillLoaded}
 use Rattle.engine_pages.specs.Stays.{TreesStay}
 use Rattle.engine_pages.specs.Views.{IsAt, IsActive, HasNoPages, HasNoTrees, seat_number, tries, waits}
 use Rattle.engine_pages.specs.Words.{ShowsSlot, is_shown, state_number}
+use Rattle.engine_pages.proofs.Facing.{Deals}
 use Rattle.engine_pages.proofs.Joint.{Laws, Acted, shared_now, effect_of, may_do, joint_act}
 use Rattle.engine_pages.proofs.Looking.{seen_fits}
 use Rattle.engine_pages.proofs.Named.{more_same}
@@ -191,6 +192,7 @@ named_same decls r d e same h = record {
   none = snap 0 ∙ h.none;
   says = λ n x at. snap (suc n) ∙ h.says n x at;
   stand = h.stand;
+  below = h.below;
 }
   where
     snap : (i : ℕ) → snap_of e i ≡ snap_of d i
@@ -254,6 +256,7 @@ module _ (laws : Laws) (l : Layout) (words : List ℕ) (views : List View) (s : 
     pub headers : (u : ℕ) → is_shown (slot_of e u).state ≡ true → header_of e u ≡ header_of d u
     pub leads : (x : At) (u : ℕ) → is_live d x ≡ true → (pointer_of d x).slot ≡ Some u → header_of e u ≡ header_of d u
     pub now : PagesNow l words' new w
+    pub deals : Deals l words words' s p views v w
 
   pub slot_stride : (tells : View → ℕ → View → Type 0) → SlotStep
       → tells v (get_or words (slot_at t) 0) w → Stride l words views s p v (slot_at t) f tells
@@ -291,7 +294,7 @@ module _ (laws : Laws) (l : Layout) (words : List ℕ) (views : List View) (s : 
               h.shown;
           marks = marks_stay words words' s.seats p v.seat w.seat h.marks b.own.seat (ap (λ (x : Seat). x.marks) c.same.seat)
               (λ j lo hi. wr.others j (λ e. absurd (omega arith)));
-          marked = λ mark has. subst (λ (x : Seat). Contains x.marks mark) (sym c.same.seat) has;
+          marked = λ place mark has. subst (λ (x : Seat). slice_get x.marks place ≡ Some mark) (sym c.same.seat) has;
           marks_low = subst (λ (x : Seat). last_marked x.marks < m.epoch) seat (h.marked p);
           drawn = λ a has. inl has;
           tried = tried_goes m m s.seats p v.seat w.seat b.own.seat refl refl refl (inl (ap (λ (x : Seat). x.stage) c.same.seat)) h.tried;
@@ -309,6 +312,7 @@ module _ (laws : Laws) (l : Layout) (words : List ℕ) (views : List View) (s : 
           drew = ap (λ x. x + length m.history) c.same.draws;
           few = let same : tries w ≡ tries v = ap (λ (x : Seat). cond (is_trying x.stage) 1 0) c.same.seat in omega arith;
           room = let same : waits w ≡ waits v = ap (λ (x : Bool). cond x 1 0) c.same.due in let room = h.sums.room in omega arith;
+          deals = c.deals;
           slots = c.room;
           within = h.within;
           more = more_same s.resident;

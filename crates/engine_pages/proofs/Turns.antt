@@ -3,7 +3,7 @@
 use Rattle.std.proofs.Common.{◌≡◌, ◌≢◌, ℕ, suc, ◌+◌, ◌<◌, ◌≤◌, ◌^◌, Bool, true, false, true≢false, ◌⊎◌}
 use Rattle.std.proofs.Common.{inl, inr, List, length, get_or, set, refl, sym, ap, ◌∙◌, subst, arith}
 use Rattle.std.proofs.Common.{Option, Some, length-set, get_or-set_other, get_or-set_same}
-use Rattle.std.specs.List.{slice_get, AllByRecursion, Contains}
+use Rattle.std.specs.List.{slice_get, AllByRecursion}
 use mathlib.Core.Option.{some}
 use lib.ListN.{get_elem?}
 use lib.Seq.{set-get_or}
@@ -34,6 +34,7 @@ use Rattle.engine_pages.specs.Rule.{Shared, joint_of, AllSmall, WriteValues, Eac
 use Rattle.engine_pages.specs.Stays.{TreesStay}
 use Rattle.engine_pages.specs.Views.{IsActive, HasPart, drawn_by, sits, sits_by, makes, waits, tries, owns, seat_number}
 use Rattle.engine_pages.specs.Words.{ShowsWords, ShowsMark}
+use Rattle.engine_pages.proofs.Facing.{Deals, touches_after}
 use Rattle.engine_pages.proofs.Joint.{Laws, shared_now}
 use Rattle.engine_pages.proofs.PagesStay.{WordsStay, pages_stay}
 use Rattle.engine_pages.proofs.Seats.{by_equal, put_seat, put_same, put_other, is_at, sits_here, few_seats}
@@ -49,7 +50,8 @@ pub record Turn
   pub valued : WriteValues l.decls t.story.history
   pub shown : ShowsWords l words' t.story t.table t.trees t.resident
   pub marks : (worker : ℕ) → worker < 8 → ShowsMark words' worker (put_seat s.seats p w.seat (suc worker)).marks
-  pub marked : (mark : Mark) → Contains v.seat.marks mark → Contains w.seat.marks mark
+  pub marked : (place : ℕ) (mark : Mark) → slice_get v.seat.marks place ≡ Some mark
+      → slice_get w.seat.marks place ≡ Some mark
   pub marks_low : last_marked w.seat.marks < t.story.epoch
   pub drawn : DrawnNow s.story t.story
   pub tried : EachIsTried t.story (put_seat s.seats p w.seat)
@@ -61,6 +63,7 @@ pub record Turn
   pub few : (tries w + length t.story.decided) + length s.story.history
       ≤ (tries v + length s.story.decided) + length t.story.history
   pub room : ((t.story.first_draw + length t.story.history) + total waits views) + waits w < 2 ^ 40 + waits v
+  pub deals : Deals l words words' s p views v w
   -- pages
   pub slots : t.table.room ≡ s.table.room
   pub within : length t.resident.pages ≤ l.resident
@@ -126,8 +129,8 @@ turns laws l words views s id v i f tells h at active r =
     let mine = fv.own p (is_at v.role active) in
     let few = few_seats v.role active v.made v.due v.seat.stage v.mine fv.part in
     let left = r.stays.story in
-    let marked : (mark : Mark) → Contains (s.seats p).marks mark → Contains r.view.seat.marks mark = λ mark has.
-    t.marked mark (subst (λ (x : Seat). Contains x.marks mark) (sym mine.seat) has) in
+    let marked : (place : ℕ) (mark : Mark) → slice_get (s.seats p).marks place ≡ Some mark → slice_get r.view.seat.marks place ≡ Some mark = λ place mark has.
+    t.marked place mark (subst (λ (x : Seat). slice_get x.marks place ≡ Some mark) (sym mine.seat) has) in
     let here : sits p v ≡ 1 = sits_here p v.role (is_at v.role active) in
     let sat : (q : ℕ) → sits q r.view ≡ sits q v = λ q. ap (sits_by q) t.role in
     let made : (worker : ℕ) → makes worker r.view ≡ makes worker v = λ worker. ap (times worker) t.made in
@@ -175,6 +178,8 @@ turns laws l words views s id v i f tells h at active r =
         few_open = omega (arith, total-set tries views id v r.view at, t.few, h.sums.few_open);
         room = omega (arith, total-set waits views id v r.view at, t.room, h.sums.room);
       };
+      touching = touches_after l words words' views s new id p v r.view few at mine.seat (λ q. refl) h.touching t.deals
+          (omega (arith, h.sums.once p)) h.pages;
       room = t.slots ∙ h.room;
       few = h.few;
       within = t.within;

@@ -57,7 +57,7 @@ page_shown names words words' slots t places places' d e (Inner n) stays same po
       let was = h.1 j less in
       let few : n ≤ 64 = h.0 in
       subst (ShowsPointer names words' (page_at slots t j)) (sym (pointers j))
-      record { number = was.number; word = stays j (omega arith) ∙ was.word; page = was.page; slot = was.slot; named = was.named }),
+      record { number = was.number; word = stays j (omega arith) ∙ was.word; page = was.page; slot = was.slot; named = was.named; keepers = was.keepers }),
 )
 page_shown names words words' slots t places places' d e Split stays same pointers h = tt
 
@@ -103,7 +103,7 @@ tree_shown names words words' slots t f places places' d e (Inner n) stays same 
       let was = h.5 j less in
       let few : n ≤ 30 = h.2 in (
         subst (ShowsPointer names words' (page_at slots t (4 + j))) (sym (pointers j))
-            record { number = was.0.number; word = stays (4 + j) (omega arith) ∙ was.0.word; page = was.0.page; slot = was.0.slot; named = was.0.named },
+            record { number = was.0.number; word = stays (4 + j) (omega arith) ∙ was.0.word; page = was.0.page; slot = was.0.slot; named = was.0.named; keepers = was.0.keepers },
         ap (λ (q : Pointer). q.span) (pointers j) ∙ (was.1
             ∙ child_same j (λ i low. sym (stays i low)) few less),
       )),
@@ -173,6 +173,7 @@ slot_shown l words words' m d e k r t decls pages pointers roots c h = record {
         page = was.page;
         slot = was.slot;
         named = was.named;
+        keepers = was.keepers;
       };
   slots = λ u few. by_equal u t (λ k. k ≡ u → ShowsSlot words' (slot_at k) (slot_of e k))
       (λ _. c.this)

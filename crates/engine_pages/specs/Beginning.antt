@@ -4,6 +4,7 @@ use Rattle.homes.specs.declared.places.At.TheVariants.{Root}
 use Rattle.homes.specs.declared.places.Span.{Span}
 use Rattle.serial_model.specs.declared.decl.Decl.{Decl}
 use Rattle.serial_model.specs.declared.key.Key.{Key}
+use Rattle.serial_model.specs.declared.number.Number.{Number}
 use Rattle.serial_model.specs.Decls.{AreDecls}
 use Rattle.wire_form.specs.Words.{at_bit, number_word}
 use Rattle.snapshot_store.specs.declared.place.PagePlace.{PagePlace}
@@ -14,11 +15,11 @@ use Rattle.drop_core.specs.Opening.{opening_table}
 use Rattle.drop_core.specs.Sound.{span_at}
 use Rattle.drop_core.specs.Table.{pointer_of}
 use Rattle.engine_rule.specs.Opening.{opening_pairs, CanOpenJoint}
-use Rattle.engine_rule.specs.Reading.{roots_of, snaps_of, storages}
+use Rattle.engine_rule.specs.Reading.{named_places, roots_of, snaps_of, storages}
 use Rattle.engine_pages.specs.declared.layout.Layout.{Layout}
 use Rattle.engine_pages.specs.Layout.{clock_at, decisions_at, mark_at, published_at, root_at, slot_at, slots_at, words_of}
 use Rattle.engine_pages.specs.Pages.{root_span}
-use Rattle.engine_pages.specs.Resident.{IsStanding, ShowsResident}
+use Rattle.engine_pages.specs.Resident.{HasNames, IsStanding, ShowsResident}
 use Rattle.engine_pages.specs.Rule.{StartsBlank}
 use Rattle.engine_pages.specs.Words.{IsSmall, ShowsPointer}
 
@@ -34,6 +35,29 @@ first_roots l places roots = roots_of places (storages l.decls roots)
 abbrev pub first_table : Layout → List (Decl × PagePlace) → List ℕ → Table
 first_table l places roots = opening_table (first_snaps l places) (length places) (first_roots l places roots) l.slots
 
+-- the places that have names at first: those of the pages that the roots lead to
+abbrev pub first_places : Layout → List (Decl × PagePlace)
+first_places l = named_places l.pages (storages l.decls l.roots)
+
+-- what stands at keys at first is what these pages have
+abbrev pub IsRead : Layout → Type 0
+IsRead l = l.opening
+    ≡ opening_pairs (first_snaps l (first_places l)) (length (first_places l)) (first_roots l (first_places l) l.roots) l.slots
+
+-- what is made for these storages, with the numbers of their roots' pages, so many slots, words for so many snapshot
+-- pages, and these pages
+abbrev pub layout_of : Number → List Decl → List ℕ → ℕ → ℕ → List (List ℕ) → Layout
+layout_of first decls roots slots resident pages =
+    let places : List (Decl × PagePlace) = named_places pages (storages decls roots) in record {
+      first = first;
+      decls = decls;
+      roots = roots;
+      opening = opening_pairs (snaps_of pages places) (length places) (roots_of places (storages decls roots)) slots;
+      slots = slots;
+      resident = resident;
+      pages = pages;
+    }
+
 -- Both machines may begin over these pages, of which these places have names; and these are the first words.
 pub record CanBegin (l : Layout) (places : List (Decl × PagePlace)) (roots words : List ℕ) : Type 0 where
   pub can : CanOpenJoint (first_snaps l places) (length places) (first_roots l places roots) l.first l.slots
@@ -46,6 +70,8 @@ pub record CanBegin (l : Layout) (places : List (Decl × PagePlace)) (roots word
   pub few : (l.slots ≤ 4096) × (length l.decls ≤ 16) × (l.resident ≤ 65536)
   pub within : length l.pages ≤ l.resident
   pub standing : (n : ℕ) (e : Decl × PagePlace) → slice_get places n ≡ Some e → IsStanding l.decls l.pages e
+  pub below : (n : ℕ) (e : Decl × PagePlace) → slice_get places n ≡ Some e
+      → HasNames (record { pages = l.pages; places = places }) e
   pub spans_are : (r : ℕ) → span_at (first_table l places roots) (Root r) ≡ root_span l.decls r
   pub unled : (r : ℕ) → (pointer_of (first_table l places roots) (Root r)).slot ≡ None
   -- words

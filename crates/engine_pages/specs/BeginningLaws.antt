@@ -12,6 +12,7 @@ use Rattle.homes.specs.declared.places.At.TheVariants.{Root, In}
 use Rattle.homes.specs.declared.places.Content.{Content}
 use Rattle.homes.specs.Homes.{look}
 use Rattle.snapshot_store.specs.declared.place.PagePlace.{PagePlace}
+use Rattle.commit_core.specs.declared.seat.Seat.{Seat}
 use Rattle.commit_core.specs.Opening.{fresh_seat, fresh_story}
 use Rattle.drop_core.specs.declared.table.SnapPage.{SnapPage}
 use Rattle.drop_core.specs.declared.table.SnapPage.TheVariants.{Missing}
@@ -131,7 +132,13 @@ begins starts l places roots words c =
             records = λ part has. absurd (in_none part has);
             kept = λ k x a has. absurd (in_none _ has);
             loaded = tt;
-            own = λ p at. record { layout = refl; seat = refl; tried = tt; took = λ t has. absurd (in_none t has) };
+            own = λ p at. record {
+              layout = refl;
+              seat = refl;
+              tried = tt;
+              took = λ t has. absurd (in_none t has);
+              locked = λ k has. absurd (true≢false (sym has));
+            };
             low = omega arith;
             part = (refl, refl);
             seatless = λ none. absurd (none tt);
@@ -140,6 +147,9 @@ begins starts l places roots words c =
               epoch = omega arith;
               past = record { clock = let begun = c.begun in omega arith; tried = λ a has now. absurd (in_none a has) };
               parked_are = refl;
+              begun = λ worker few.
+                  subst (λ (x : Seat). length x.marks ≤ 1) (sym (fresh_or worker 8 (fresh_seat l.first) bare_seat few))
+                  (omega arith);
               parked = λ worker few none. record {
                 is = sym (fresh_or worker 8 (fresh_seat l.first) bare_seat few);
                 resting = record { kept = refl; locks = refl; stage = refl };
@@ -158,6 +168,11 @@ begins starts l places roots words c =
           few_open = omega arith;
           room = let e = c.first.draw in omega arith;
         };
+        touching = record {
+          taken = λ q k few has. absurd (true≢false (sym has));
+          facing = ((λ worker is. absurd (cc)), tt);
+          blamed = ((λ x has. absurd (in_none x has)), tt);
+        };
         room = refl;
         few = c.few;
         within = c.within;
@@ -169,6 +184,7 @@ begins starts l places roots words c =
               ap (λ i. snap_of (first_table l places roots) i) next
               ∙ snap_named (page_at l.pages places) 1 places n e at;
           stand = c.standing;
+          below = c.below;
         };
         laid_out = λ x t live leads. absurd (no_slots x t live leads);
         roots = c.spans_are;

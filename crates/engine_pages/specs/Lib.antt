@@ -3,9 +3,12 @@ pub mod Pages
 pub mod Resident
 pub mod Words
 pub mod Views
+pub mod Records
+pub mod Touches
 pub mod Rule
 pub mod Stays
 pub mod Steps
+pub mod Times
 pub mod Slots
 pub mod Beginning
 pub mod BeginningLaws

@@ -16,7 +16,7 @@ use Rattle.engine_pages.specs.declared.view.Way.{Way}
 use Rattle.engine_pages.specs.Layout.{root_at, page_at}
 use Rattle.engine_pages.specs.Pages.{is_array, is_leaf_span, child_span, root_span}
 use Rattle.engine_pages.specs.Resident.{IsStanding, place_for}
-use Rattle.engine_pages.specs.Steps.{glanced}
+use Rattle.engine_pages.specs.Steps.{read_at}
 
 -- a pointer of an array's interior page that the pass holds, over these keys, whose word is here
 pub record IsChildAt (v : View) (y : Spot) (sp : Span) (at : ℕ) : Type 0 where
@@ -65,19 +65,24 @@ abbrev pub ways_more : List ℕ → Option ℕ → Span → List Way → List Wa
 ways_more holds None sp ways = ways
 ways_more holds (Some t) sp ways = ways_if (has_slot holds t) t sp ways
 
--- one more page is known to stand for these keys, where the pointer is open
-abbrev pub leads_more : Bool → Span → ℕ → List Lead → List Lead
-leads_more true sp n leads = record { span = sp; page = n } ∷ leads
-leads_more false sp n leads = leads
+-- one more page, which has this name, is known to stand for these keys, where the pointer is open
+abbrev pub leads_more : Bool → Span → ℕ → ℕ → List Lead → List Lead
+leads_more true sp n name leads = record { span = sp; page = n; name = name } ∷ leads
+leads_more false sp n name leads = leads
 
 -- The pointer was loaded: where it leads to a slot that the pass holds, that slot's page is over the pointer's keys,
 -- and the page that it names stands for them; all published pages are known.
-abbrev pub followed : ℕ → Span → ℕ → List (List ℕ) → View → View
-followed at sp n pages v = record (glanced at n v) {
+abbrev pub followed : ℕ → Span → ℕ → ℕ → List (List ℕ) → View → View
+followed at sp n name pages v = record (read_at at n v) {
   ways = ways_more v.grip.holds (half_of n) sp v.ways;
   pages = pages;
-  leads = leads_more (is_open_word n) sp (page_half n) v.leads;
+  leads = leads_more (is_open_word n) sp (page_half n) name v.leads;
 }
+
+-- two ways into one slot are over the same keys
+abbrev pub WaysAgree : List Way → Type 0
+WaysAgree ways = (a b : Way) → Contains ways a → Contains ways b → a.slot ≡ b.slot
+    → (a.span.storage ≡ b.span.storage) × (a.span.low ≡ b.span.low) × (is_leaf_span a.span ≡ is_leaf_span b.span)
 
 -- the page with this number, which is there, stands for these keys of a declared storage
 abbrev pub StandsFor : List Decl → List (List ℕ) → Span → ℕ → Type 0
@@ -88,10 +93,13 @@ pub record HasFollowed (sp : Span) (at : ℕ) (v : View) (n : ℕ) (w : View) : 
   pub pages : List (List ℕ)
   pub front : IsFront v.pages pages
   pub few : length pages ≤ v.layout.resident
+  pub most : length pages ≤ 65536
   pub there : is_open_word n ≡ true → page_half n ≤ length pages
   pub stands : is_open_word n ≡ true → 0 < page_half n → StandsFor v.layout.decls pages sp (page_half n)
   pub slot : IfSome (half_of n) (λ t. t < v.layout.slots)
-  pub is : w ≡ followed at sp n pages v
+  pub name : ℕ
+  pub is : w ≡ followed at sp n name pages v
+  pub agree : WaysAgree w.ways
 
 -- the same of the step
 abbrev pub Follows : Span → Step (Unit {0}) → View → ℕ → View → Type 0

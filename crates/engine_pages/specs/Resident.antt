@@ -15,7 +15,7 @@ use Rattle.drop_core.specs.Table.{snap_of}
 use Rattle.snapshot_store.specs.declared.place.PagePlace.{PagePlace}
 use Rattle.snapshot_store.specs.Content.{deepest, format_of, IsPageOf}
 use Rattle.snapshot_store.specs.ArrayPages.{array_found}
-use Rattle.snapshot_store.specs.Places.{page, Found, StandsTo}
+use Rattle.snapshot_store.specs.Places.{page, places_below, Found, StandsTo}
 use Rattle.wire_form.specs.Leaves.{array_leaf, word_in, value_in}
 use Rattle.wire_form.specs.Words.{number_in}
 use Rattle.engine_rule.specs.Reading.{name_of, page_at as page_named}
@@ -56,13 +56,20 @@ pub record IsStanding (decls : List Decl) (pages : List (List ℕ)) (e : Decl ×
   pub most : depth ≤ deepest
   pub stands : StandsTo (format_of e.0) (IsPageOf e.0) pages depth e.1
 
--- The machine has the page of each name as its words say at the place with the name, and publishes no other page.
+-- each page below the one at a place has a name
+abbrev pub HasNames : Published → Decl × PagePlace → Type 0
+HasNames r e = (q : PagePlace) → Contains (places_below (format_of e.0) r.pages e.1) q → 0 < q.number
+    → 0 < name_of r.places e.0 q
+
+-- The machine has the page of each name as its words say at the place with the name, and publishes no other page; what
+-- is below such a page has names, too.
 pub record ArePages (decls : List Decl) (r : Published) (d : Table) : Type 0 where
   pub count : d.published ≡ length r.places
   pub none : snap_of d 0 ≡ Missing
   pub says : (n : ℕ) (e : Decl × PagePlace) → slice_get r.places n ≡ Some e
       → snap_of d (suc n) ≡ page_named r.pages r.places e
   pub stand : (n : ℕ) (e : Decl × PagePlace) → slice_get r.places n ≡ Some e → IsStanding decls r.pages e
+  pub below : (n : ℕ) (e : Decl × PagePlace) → slice_get r.places n ≡ Some e → HasNames r e
 
 -- more pages are published, and more places have names
 pub record HasMore (old new : Published) : Type 0 where

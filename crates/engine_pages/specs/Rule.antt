@@ -16,7 +16,8 @@ use Rattle.homes.specs.declared.places.Holder.TheVariants.{Free, Held, Dead}
 use Rattle.homes.specs.declared.places.Home.TheVariants.{InSlot}
 use Rattle.homes.specs.declared.places.Span.{Span}
 use Rattle.homes.specs.declared.places.Spot.{Spot}
-use Rattle.wire_form.specs.Leaves.{array_leaf, array_fan, tree_leaf, record_start}
+use Rattle.homes.specs.Homes.{has_key}
+use Rattle.wire_form.specs.Leaves.{array_leaf, array_fan, tree_leaf, record_start, word_in}
 use Rattle.wire_form.specs.Words.{at_bit, number_word, slot_field}
 use Rattle.snapshot_store.specs.ArrayPages.{last_at}
 use Rattle.snapshot_store.specs.declared.place.PagePlace.{PagePlace}
@@ -71,6 +72,7 @@ use Rattle.engine_pages.specs.Layout.{page_at, snap_at}
 use Rattle.engine_pages.specs.Pages.{is_leaf_span, child_span, root_span, Fenced, IsOver, IsLaidOutFor, AreLaidOut}
 use Rattle.engine_pages.specs.Pages.{is_array}
 use Rattle.engine_pages.specs.Resident.{Published, IsNamed, ArePages, array_record}
+use Rattle.engine_pages.specs.Touches.{AreBlamed, IsFacing, Touched}
 use Rattle.engine_pages.specs.Views.{IsActive, IsAt, HasPart, HasNoPages, HasNoTrees, IsResting, bare_seat, bare_grip}
 use Rattle.engine_pages.specs.Views.{drawn_by, sits, makes, waits, tries, owns}
 use Rattle.engine_pages.specs.Words.{IsSmall, ShowsWords, ShowsMark, word_of_mark, spot}
@@ -185,12 +187,18 @@ pub record IsHeld (m : Story) (p : ℕ) (t : Took) (x : Spot) : Type 0 where
   pub own : holder_is p (place_of m.places x).holder ≡ true
   pub number : number_word (place_of m.places x).content.number ≡ t.word
 
+-- one of these locks is of the key
+abbrev pub HasLockOf : List Took → Key → Type 0
+HasLockOf took k = (t : Took) × Contains took t × (t.key ≡ k)
+
 -- what is true of the view of the pass with this seat
 pub record Own (l : Layout) (m : Story) (seats : ℕ → Seat) (v : View) (p : ℕ) : Type 0 where
   pub layout : v.layout ≡ l
   pub seat : v.seat ≡ seats p
   pub tried : Tried p v.history m.checks v.checked v.mine v.seat.stage
   pub took : (t : Took) → Contains v.took t → (x : Spot) × IsHeld m p t x
+  -- and each lock that the seat has stands in the view
+  pub locked : (k : Key) → has_key v.seat.locks k ≡ true → HasLockOf v.took k
 
 -- what the view has of its own was seen, counts, and is of this seat where that is a worker's
 pub record IsOwn (role : Role) (history : List Attempt) (decided : List Number) (a : Attempt) : Type 0 where
@@ -214,11 +222,15 @@ pub record IsKeepers (m : Story) (seats : ℕ → Seat) (v : View) : Type 0 wher
   pub epoch : m.epoch ≤ v.epoch
   pub past : IsPast m v.past
   pub parked_are : length v.parked ≡ 8
+  -- what it knows of a worker's marks is no more than what is there
+  pub begun : (worker : ℕ) → worker < 8
+      → length (get_or v.parked worker bare_seat).marks ≤ length (seats (suc worker)).marks
   pub parked : (worker : ℕ) → worker < 8 → times worker v.made ≡ 0 → IsParked v.parked seats worker
 
--- the mark that was loaded is one that the worker set
+-- the mark that was loaded stands at its place among those that the worker set
 abbrev pub WasMarked : (ℕ → Seat) → Met → Type 0
-WasMarked seats met = (mark : Mark) × Contains (seats (suc met.worker)).marks mark × (met.word ≡ word_of_mark mark)
+WasMarked seats met =
+    (mark : Mark) × (slice_get (seats (suc met.worker)).marks met.place ≡ Some mark) × (met.word ≡ word_of_mark mark)
 
 -- it drew no number, met and took no lock, shut no pointer, and kept and dropped no page
 pub record HasDoneNothing (v : View) : Type 0 where
@@ -296,11 +308,10 @@ pub record IsBlank (slots : ℕ) (d : Table) (mine : List ℕ) (t : ℕ) : Type 
   pub made : has_slot mine t ≡ true
   pub state : is_published (slot_of d t).state ≡ true
 
--- the page with this number is published, or none, and has a name where it stands for these keys
+-- the page with this number is published, or none, and has this name where it stands for these keys
 pub record IsLead (r : Published) (x : Lead) : Type 0 where
   pub page : x.page ≤ length r.pages
-  pub name : ℕ
-  pub named : IsNamed r.places x.span x.page name
+  pub named : IsNamed r.places x.span x.page x.name
 
 -- the page is above those that are published, and these words stand in it
 pub record IsFilled (l : Layout) (words : List ℕ) (r : Published) (x : Filled) : Type 0 where
@@ -406,6 +417,33 @@ pub record Sums (views : List View) (m : Story) : Type 0 where
   pub few_open : total tries views + length m.decided ≤ length m.history
   pub room : (m.first_draw + length m.history) + total waits views < 2 ^ 40
 
+-- ---- who is in the way
+
+-- The record of the key stands at this place, in the leaf of an array in a slot to which something has led, and its word
+-- here.
+pub record RecordStands (l : Layout) (s : Shared) (k : Key) (x : Spot) (at : ℕ) : Type 0 where
+  pub within : x.slot < l.slots
+  pub known : is_never (slot_of s.table x.slot).led ≡ false
+  pub span : Span
+  pub kind : is_array l.decls span.storage ≡ true
+  pub leaf : is_leaf_span span ≡ true
+  pub over : IsLaidOutFor l.decls s.trees s.table x.slot span
+  pub index : x.index < array_leaf.room
+  pub key : k ≡ record { storage = span.storage; key = span.low + x.index }
+  pub word : at ≡ page_at l.slots x.slot (word_in array_leaf x.index)
+
+-- what a worker's pass has met shows who is in its way
+abbrev pub Faces : Layout → List ℕ → List View → View → Type 0
+Faces l words views v = (worker : ℕ) → v.role ≡ Worker worker
+    → IsFacing l words (Touched views) (suc worker) v.ways v.took v.reads v.gone
+
+-- Each lock that a seat has was taken since somebody was first seated; what each worker's pass met shows who is in its
+-- way, and whoever was refused met another seat.
+pub record Touching (l : Layout) (words : List ℕ) (views : List View) (s : Shared) : Type 0 where
+  pub taken : (q : ℕ) (k : Key) → q < 9 → has_key (s.seats q).locks k ≡ true → Touched views q k
+  pub facing : AllByRecursion (Faces l words views) views
+  pub blamed : AllByRecursion (λ v. AreBlamed (Touched views) v.blamed) views
+
 -- ---- the rule
 
 -- words and views show this state, which is sound
@@ -423,6 +461,7 @@ pub record Sound (l : Layout) (words : List ℕ) (views : List View) (s : Shared
   pub small : AllSmall l.opening s.story
   pub fits : AllByRecursion (Fits l s.story s.seats) views
   pub sums : Sums views s.story
+  pub touching : Touching l words views s
   -- pages
   pub room : s.table.room ≡ l.slots
   pub few : (l.slots ≤ 4096) × (length l.decls ≤ 16) × (l.resident ≤ 65536)

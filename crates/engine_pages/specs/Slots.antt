@@ -1,6 +1,8 @@
 -- What steps on slot words and on the pages of owned slots tell.
-use Rattle.std.specs.Prelude.{◌≡◌, ◌⊎◌, ℕ, ◌+◌, ◌-◌, ◌*◌, ◌/◌, ◌%◌, ◌^◌, ◌<◌, ◌≤◌, ◌==◌, ◌&&◌, ◌||◌, Bool, true, false}
+use Rattle.std.specs.Prelude.{◌≡◌, ◌⊎◌, ℕ, suc, ◌+◌, ◌-◌, ◌*◌, ◌/◌, ◌%◌, ◌^◌, ◌<◌, ◌≤◌, ◌==◌, ◌&&◌, ◌||◌, Bool, true, false}
 use Rattle.std.specs.Prelude.{not, cond, List, [], ◌∷◌, ◌++◌, filter, length, nat_lt, MatchBool, get_or, slice_set, Contains}
+use Rattle.std.specs.Prelude.{Option, Some, None, if◌then◌else◌}
+use Rattle.std.specs.Option.{option_or}
 use Rattle.atomic_table.specs.Table.{Step}
 use Rattle.homes.specs.declared.places.Span.{Span}
 use Rattle.snapshot_store.specs.ArrayPages.{last_at}
@@ -10,6 +12,7 @@ use Rattle.drop_core.specs.Event.{without}
 use Rattle.drop_core.specs.Table.{has_slot}
 use Rattle.engine_pages.specs.declared.view.Copied.{Copied}
 use Rattle.engine_pages.specs.declared.view.Draft.{Draft}
+use Rattle.engine_pages.specs.declared.view.Glance.{Glance}
 use Rattle.engine_pages.specs.declared.view.Shut.{Shut}
 use Rattle.engine_pages.specs.declared.view.View.{View}
 use Rattle.engine_pages.specs.declared.view.Way.{Way}
@@ -52,6 +55,7 @@ left t v = record v {
   heads = filter (λ x. not (x.slot == t)) v.heads;
   moved = filter (λ x. not (x.slot == t)) v.moved;
   shuts = other_shuts t v.shuts;
+  gone = t ∷ v.gone;
 }
 
 -- ---- a slot is given
@@ -64,6 +68,32 @@ looked_at t n v =
 -- the word of a slot that may be given: free or retired, with no pass, and given less than 2 ^ 46 - 1 times
 abbrev pub is_usable_word : ℕ → Bool
 is_usable_word n = ((n % 2 ^ 18 == 0) || (n % 2 ^ 18 == 3 * 2 ^ 16)) && nat_lt (n / 2 ^ 18) (2 ^ 46 - 1)
+
+-- ---- slots that are looked at in a row
+
+-- the slot is retired
+abbrev pub is_retired_word : ℕ → Bool
+is_retired_word n = n / 65536 % 4 == 3
+
+-- the slot isn't usable
+abbrev pub is_taken_word : ℕ → Bool
+is_taken_word n = not (is_usable_word n)
+
+-- the slot with its word, where that is a retired one's
+abbrev pub retired_one : ℕ → ℕ → Option (ℕ × ℕ)
+retired_one t n = if is_retired_word n then Some (t, n) else None
+
+-- the first of these words that is a retired slot's, with the slot, where the first one has this number
+abbrev pub first_retired : ℕ → List ℕ → Option (ℕ × ℕ)
+first_retired t [] = None
+first_retired t (n ∷ more) = option_or (retired_one t n) (first_retired (suc t) more)
+
+-- the loads of slots in a row that found these words, from this step and this slot on
+abbrev pub looks : ℕ → ℕ → List ℕ → List Glance
+looks step t [] = []
+looks step t (n ∷ more) = glance step (slot_at t) n ∷ looks (suc step) (suc t) more
+
+-- ---- a slot is taken
 
 -- the word that giving leaves: owned, given once more
 abbrev pub given_word : ℕ → ℕ

@@ -147,6 +147,7 @@ opening_view l = record {
   checked = [];
   took = [];
   reads = [];
+  gone = [];
   refused = [];
   touched = [];
   blamed = [];

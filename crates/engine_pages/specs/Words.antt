@@ -50,13 +50,15 @@ lock_field Dead = at_bit 60 1
 
 -- ---- pointers and slots
 
--- A pointer is its two halves, and whether it is shut; its lower half is the number of the page that it names.
+-- A pointer is its two halves, and whether it is shut; its lower half is the number of the page that it names. Only the
+-- keeper shuts pointers.
 pub record ShowsPointer (places : List (Decl × PagePlace)) (words : List ℕ) (at : ℕ) (q : Pointer) : Type 0 where
   pub number : ℕ
   pub word : get_or words at 0 ≡ (at_bit 0 number + at_bit 32 (slot_field q.slot)) + lock_field q.holder
   pub page : number ≤ 65536
   pub slot : IfSome q.slot (λ t. t < 4096)
   pub named : IsNamed places q.span number q.page
+  pub keepers : (p : ℕ) → q.holder ≡ Held p → p ≡ 0
 
 -- the field of a slot's state
 abbrev pub state_number : SlotState → ℕ

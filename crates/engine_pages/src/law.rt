@@ -1,12 +1,12 @@
 // The rule of the table, and what its steps on slots and snapshot pages tell.
-use crate::{Layout, View};
+use crate::{Start, View};
 use atomic_table::{Play, TableRule};
 use std::marker::{Brand, PhantomData};
 
 /// The words show a sound state of both machines, and each view a part of it.
 pub struct Law;
 
-impl TableRule<(), View, Layout> for Law {
+impl TableRule<(), View, Start> for Law {
     ghost use Rattle.engine_pages.specs.Rule.{Shows};
     ghost use Rattle.engine_pages.specs.Views.{opening_view};
 

@@ -7,7 +7,8 @@
 //! Terms: *pass*, a seat of the table: a token of no bytes that a thread steps with; *view*, what its thread knows,
 //! which no byte of a running program has; *way*, a slot that is held with the keys of its page; *draft*, the words of
 //! a page that a pass owns and fills; *copy*, a slot that a pass published and led nothing to; *name*, what the machine
-//! calls a snapshot page that stands for certain keys.
+//! calls a snapshot page that stands for certain keys; *start*, the pages of a snapshot and what else an engine begins
+//! with.
 //! Steps, each one atomic step on one word: a slot is held (`enter`) and held no more (`leave`), its word is looked at
 //! (`look`), it is given (`take`), filled (`fill`), published (`publish_copy`, `publish_blank`), given up (`retire`). A
 //! pointer is loaded, and what it leads to is known (`follow`); so is a word of a published snapshot page
@@ -28,6 +29,7 @@ mod layout;
 mod loading;
 mod pointers;
 mod slots;
+mod start;
 mod view;
 
 pub use engine::{Engine, Pass};
@@ -36,6 +38,7 @@ pub use layout::Layout;
 pub use loading::load_resident;
 pub use pointers::follow;
 pub use slots::{enter, fill, leave, look, publish_blank, publish_copy, retire, take};
+pub use start::Start;
 pub use view::{
     Copied, Draft, Dropped, Filled, Glance, Head, Heard, KeptPage, KeptWhy, Known, Lead, Loaded,
     Met, Moved, Read, RefusalCause, Role, SetName, Shut, Took, Touch, View, Way,

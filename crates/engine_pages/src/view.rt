@@ -51,9 +51,11 @@ pub struct Took {
 pub struct Met {
     pub worker: u8,
     pub word: u64,
+    /// Its place among the marks that the worker's seat has set.
+    pub place: u64,
 }
 
-/// A word of a record, as a transaction last saw or left it.
+/// A word of a record or a pointer, as a transaction last saw or left it.
 #[derive(Clone, Copy, Debug, PartialEq, Eq)]
 pub struct Read {
     /// The word's place in the table.
@@ -61,6 +63,8 @@ pub struct Read {
     pub seen: u64,
     /// What the transaction had seen or left there before, if it had met it.
     pub was: Option<u64>,
+    /// A pointer's word as the transaction keeps it as a part, if it does.
+    pub kept: Option<u64>,
 }
 
 /// A lock that a seat took of a key, or met there.
@@ -149,6 +153,8 @@ pub struct Copied {
 pub struct Lead {
     pub span: Span,
     pub page: u32,
+    /// What the machine of pages calls the page where it stands for these keys.
+    pub name: u32,
 }
 
 /// The words of a snapshot page, by its number, that is not published yet. Nobody but the keeper stores there.
@@ -238,8 +244,10 @@ pub struct View {
     pub checked: Sequence<Word>,
     /// The locks that it has.
     pub took: Sequence<Took>,
-    /// Each word of a record that its transaction met, until the next one begins.
+    /// Each word of a record or a pointer that its transaction met, until the next one begins.
     pub reads: Sequence<Read>,
+    /// The slots that it left since its transaction began.
+    pub gone: Sequence<u32>,
     /// What its transactions were refused for, and those of the passes that were ended into it.
     pub refused: Sequence<RefusalCause>,
     /// The locks that its seat took, and those of the passes that were ended into it. As the keeper seats the first

@@ -1,39 +1,13 @@
 -- What a search for a usable slot tells.
-use Rattle.std.specs.Prelude.{◌≡◌, ℕ, suc, ◌+◌, ◌/◌, ◌%◌, ◌==◌, ◌<◌, Bool, true, not, List, [], ◌∷◌, ◌++◌, length, Option}
-use Rattle.std.specs.Prelude.{Some, None, Result, Ok, Err, if◌then◌else◌}
+use Rattle.std.specs.Prelude.{◌≡◌, ℕ, ◌+◌, ◌<◌, true, List, [], ◌∷◌, ◌++◌, length, Option, Result, Ok, Err}
 use Rattle.std.specs.List.{list_all}
-use Rattle.std.specs.Option.{option_or}
-use Rattle.engine_pages.specs.declared.view.Glance.{Glance}
 use Rattle.engine_pages.specs.declared.view.View.{View}
 use Rattle.engine_pages.specs.Layout.{slot_at}
+pub use Rattle.engine_pages.specs.Slots.{first_retired, is_retired_word, is_taken_word, looks, retired_one}
 use Rattle.engine_pages.specs.Slots.{is_usable_word, HasGiven}
-use Rattle.engine_pages.specs.Steps.{glance, glanced}
+use Rattle.engine_pages.specs.Steps.{glanced}
 use Rattle.page_pool.specs.declared.pool.PoolRefusal.{PoolRefusal}
 use Rattle.page_pool.specs.declared.pool.PoolRefusal.TheVariants as refusals
-
--- ---- slot words
-
--- the slot is retired
-abbrev pub is_retired_word : ℕ → Bool
-is_retired_word n = n / 65536 % 4 == 3
-
--- the slot isn't usable
-abbrev pub is_taken_word : ℕ → Bool
-is_taken_word n = not (is_usable_word n)
-
--- the slot with its word, where that is a retired one's
-abbrev pub retired_one : ℕ → ℕ → Option (ℕ × ℕ)
-retired_one t n = if is_retired_word n then Some (t, n) else None
-
--- the first of these words that is a retired slot's, with the slot, where the first one has this number
-abbrev pub first_retired : ℕ → List ℕ → Option (ℕ × ℕ)
-first_retired t [] = None
-first_retired t (n ∷ more) = option_or (retired_one t n) (first_retired (suc t) more)
-
--- the loads of slots in a row that found these words, from this step and this slot on
-abbrev pub looks : ℕ → ℕ → List ℕ → List Glance
-looks step t [] = []
-looks step t (n ∷ more) = glance step (slot_at t) n ∷ looks (suc step) (suc t) more
 
 -- ---- the search
 

@@ -9,7 +9,9 @@ use Rattle.std.proofs.lemmas.List.{append-nil}
 use Rattle.atomic_table.specs.Table.{Me, Allows}
 use Rattle.lists.specs.Elements.{at_in, in_head, in_tail, in_push_cases}
 use Rattle.lists.specs.Fronts.{front_refl, front_grown}
+use Rattle.serial_model.specs.declared.key.Key.{Key}
 use Rattle.serial_model.specs.declared.number.Number.{Number}
+use Rattle.homes.specs.Homes.{has_key}
 use Rattle.serial_model.specs.Numbers.{IsBelow}
 use Rattle.commit_core.specs.declared.attempt.Attempt.{Attempt}
 use Rattle.commit_core.specs.declared.event.Act.TheVariants.{Decide}
@@ -36,16 +38,17 @@ use Rattle.engine_pages.specs.declared.layout.Layout.{Layout}
 use Rattle.engine_pages.specs.declared.view.View.{View}
 use Rattle.engine_pages.specs.Rule.{IsInOrder, IsOwn, has_word, KeptAreRecords, KeptIsLow, Tried, Shows}
 use Rattle.engine_pages.specs.Views.{IsActive, seat_number, tries}
+use Rattle.engine_pages.proofs.Dealing.{rests_low}
 use Rattle.engine_pages.proofs.Joint.{Laws, may_do, joint_act}
 use Rattle.engine_pages.proofs.OwnView.{own_fits, part_goes}
 use Rattle.engine_pages.proofs.PagesStay.{words_same}
 use Rattle.engine_pages.proofs.Seats.{at_front, own_longer, records_none, past_stays}
 use Rattle.engine_pages.proofs.Turns.{allows_at, marks_stay, written}
 use Rattle.page_records.specs.Attempts.{CanDecide, chose, HasChosen}
-use Rattle.page_records.proofs.Commits.{commit_stride}
-use Rattle.page_records.proofs.FirstWords.{FirstTwo, first_kept, first_shown}
+use Rattle.engine_pages.proofs.CommitSteps.{commit_stride}
+use Rattle.engine_pages.proofs.FirstWords.{FirstTen, first_kept, first_shown}
 use Rattle.page_records.proofs.Placing.{low_none}
-use Rattle.page_records.proofs.Settling.{settled_trying, settled_tried, settled_marks, settled_kept}
+use Rattle.page_records.proofs.Settling.{settled_trying, settled_tried, settled_marks, settled_kept, settled_locks}
 use Rattle.page_records.proofs.Trying.{tried_at, attempt_here, never_idle, tried_over}
 
 all_same : (f g : Part → Bool) (parts : List Part) → ((x : Part) → f x ≡ g x) → list_all f parts ≡ list_all g parts
@@ -113,7 +116,7 @@ decides laws serial l slots id me active can =
     subst (IsSoundStory l.opening) story-now
     (joint_act laws l s p (Commit Decide) g.few may h.joint).sound.commits.story in
     let words' = set words 1 y in
-    let two : FirstTwo l words words' m next = record {
+    let two : FirstTen l words words' m next = record {
       long = wr.long;
       others = λ j low. wr.others j (λ e. absurd (omega arith));
       clock = wr.others 0 (λ e. absurd (omega arith)) ∙ h.shown.clock;
@@ -135,7 +138,7 @@ decides laws serial l slots id me active can =
       shown = first_shown l words words' m next s.table s.trees s.resident two h.shown;
       marks = marks_stay words words' s.seats p v.seat w.seat h.marks g.own.seat (settled_marks s')
           (λ j lo hi. wr.others j (λ e. absurd (omega arith)));
-      marked = λ mark has. subst (λ (z : List Mark). Contains z mark) (sym (settled_marks s')) has;
+      marked = λ place mark has. subst (λ (z : List Mark). slice_get z place ≡ Some mark) (sym (settled_marks s')) has;
       marks_low = subst (λ (z : List Mark). last_marked z < m.epoch) (sym (settled_marks s'))
           (subst (λ (z : Seat). last_marked z.marks < m.epoch) (sym g.own.seat) (h.marked p));
       drawn = λ b has. inl has;
@@ -145,7 +148,7 @@ decides laws serial l slots id me active can =
           (part_goes v.role active v.made v.due v.due v.seat.stage w.seat.stage v.mine w.mine (λ z. z)
           (λ _ idle. absurd (never_idle v.seat.stage i can.stage idle)) f.part)
           refl refl refl refl refl
-          (λ mark has. subst (λ (z : List Mark). Contains z mark) (sym (settled_marks s')) has) record {
+          (λ place mark has. subst (λ (z : List Mark). slice_get z place ≡ Some mark) (sym (settled_marks s')) has) record {
             history = front_refl m.history;
             decided = front_refl next.decided;
             heard = λ x has. (
@@ -175,6 +178,7 @@ decides laws serial l slots id me active can =
               held.0,
               record { spot = held.1.spot; home = held.1.home; own = held.1.own; number = held.1.number },
             );
+            locked = λ k has. g.own.locked k (subst (λ (z : List Key). has_key z k ≡ true) (settled_locks s') has);
             low = f.low;
             epoch = λ keeper. (f.keepers keeper).epoch;
             past = λ keeper. past_stays m next v.past grows (λ b has. inl has) (f.keepers keeper).past;
@@ -189,6 +193,9 @@ decides laws serial l slots id me active can =
       room = omega (arith, h.sums.room);
       now = record { within = pages.within; ways = pages.ways; drafts = pages.drafts; copies = pages.copies; blanks = pages.blanks; resident = pages.resident; leads = pages.leads; fills = pages.fills; known = pages.known; shuts = pages.shuts; heads = pages.heads; moved = pages.moved };
       frame = words_same l words words' s p (λ j low. wr.others j (λ e. absurd (omega arith)));
+      deals = rests_low l words views s id v g words' w
+          record { role = refl; ways = refl; took = refl; gone = refl; touched = refl; blamed = refl; locks = settled_locks s' } refl
+          (λ j low. wr.others j (λ e. absurd (omega arith)));
     }
     record {
       history = m.history;

@@ -27,14 +27,15 @@ use Rattle.engine_pages.specs.Pages.{is_array}
 use Rattle.engine_pages.specs.Rule.{Shows}
 use Rattle.engine_pages.specs.Views.{IsActive, HasPart, seat_number, waits, tries}
 use Rattle.engine_pages.specs.Words.{IsSmall}
+use Rattle.engine_pages.proofs.Dealing.{rests_low}
 use Rattle.engine_pages.proofs.Joint.{Laws, seat_sound}
 use Rattle.engine_pages.proofs.OwnView.{own_fits, part_goes}
 use Rattle.engine_pages.proofs.PagesStay.{words_same}
 use Rattle.engine_pages.proofs.Seats.{in_front, own_longer, records_longer}
 use Rattle.engine_pages.proofs.Turns.{allows_at, marks_stay, written}
 use Rattle.page_records.specs.Attempts.{attempt_of, drew, HasDrawn}
-use Rattle.page_records.proofs.Commits.{commit_stride}
-use Rattle.page_records.proofs.FirstWords.{FirstTwo, first_kept, first_shown}
+use Rattle.engine_pages.proofs.CommitSteps.{commit_stride}
+use Rattle.engine_pages.proofs.FirstWords.{FirstTen, first_kept, first_shown}
 use Rattle.page_records.proofs.Opening.{not_trying}
 use Rattle.page_records.proofs.Trying.{tried_drawn}
 
@@ -64,7 +65,7 @@ draws laws l slots id me writes active due idle same values =
     let wr = written words 0 y (let long = h.shown.long in omega arith) in
     let below : (b : Attempt) → Contains m.history b → IsBelow b.number clock = h.joint.commits.story.ordered_numbers.past in
     let words' = set words 0 y in
-    let two : FirstTwo l words words' m next = record {
+    let two : FirstTen l words words' m next = record {
       long = wr.long;
       others = λ j low. wr.others j (λ e. absurd (omega arith));
       clock = wr.here ∙ y-is;
@@ -97,7 +98,7 @@ draws laws l slots id me writes active due idle same values =
       shown = first_shown l words words' m next s.table s.trees s.resident two h.shown;
       marks = marks_stay words words' s.seats p v.seat w.seat h.marks g.own.seat refl
           (λ j lo hi. wr.others j (λ e. absurd (omega arith)));
-      marked = λ mark has. has;
+      marked = λ place mark has. has;
       marks_low = subst (λ (z : Seat). last_marked z.marks < m.epoch) (sym g.own.seat) (h.marked p);
       drawn = λ b has. elim (in_push_cases b a m.history has) [
         | inl old ↦ inl old
@@ -109,7 +110,7 @@ draws laws l slots id me writes active due idle same values =
       fits = own_fits l m next s.seats v w active f
           (part_goes v.role active v.made v.due false v.seat.stage w.seat.stage v.mine v.mine (λ _. refl)
           (λ no _. absurd (true≢false (sym due ∙ no))) f.part)
-          refl refl refl refl refl (λ mark has. has) record {
+          refl refl refl refl refl (λ place mark has. has) record {
             history = front_refl next.history;
             decided = f.decided;
             heard = λ x has. (
@@ -138,6 +139,7 @@ draws laws l slots id me writes active due idle same values =
               held.0,
               record { spot = held.1.spot; home = held.1.home; own = held.1.own; number = held.1.number },
             );
+            locked = g.own.locked;
             low = omega arith;
             epoch = λ keeper. omega arith;
             past = λ keeper. absurd (no_draw v.role keeper v.made v.due v.seat.stage v.mine due f.part);
@@ -148,6 +150,9 @@ draws laws l slots id me writes active due idle same values =
       room = omega (arith, more, h.sums.room);
       now = record { within = pages.within; ways = pages.ways; drafts = pages.drafts; copies = pages.copies; blanks = pages.blanks; resident = pages.resident; leads = pages.leads; fills = pages.fills; known = pages.known; shuts = pages.shuts; heads = pages.heads; moved = pages.moved };
       frame = words_same l words words' s p (λ j low. wr.others j (λ e. absurd (omega arith)));
+      deals = rests_low l words views s id v g words' w
+          record { role = refl; ways = refl; took = refl; gone = refl; touched = refl; blamed = refl; locks = refl } refl
+          (λ j low. wr.others j (λ e. absurd (omega arith)));
     }
     record {
       all = m.history;

@@ -6,11 +6,13 @@ use Rattle.std.proofs.lemmas.Bool.{and_from}
 use Rattle.std.proofs.lemmas.Bool.Decides.{nat_tests}
 use prog.Atomic.{either}
 use Rattle.atomic_table.specs.Table.{Me, Allows}
-use Rattle.lists.specs.Elements.{in_push_cases}
+use Rattle.lists.specs.Elements.{any_push_cases, in_push_cases, in_push_new, in_push_old}
 use Rattle.serial_model.specs.declared.key.Key.{Key}
 use Rattle.homes.specs.declared.places.Holder.{Holder}
 use Rattle.homes.specs.declared.places.Holder.TheVariants.{Free, Held, Dead}
 use Rattle.homes.specs.declared.places.Spot.{Spot}
+use Rattle.homes.specs.Homes.{same_key}
+use Rattle.homes.specs.Laws.{same_key-true}
 use Rattle.wire_form.specs.Words.{number_word}
 use Rattle.commit_core.specs.declared.event.Act.TheVariants.{Lock}
 use Rattle.commit_core.specs.declared.place.Place.{Place}
@@ -33,13 +35,15 @@ use Rattle.engine_pages.proofs.OwnView.{own_fits}
 use Rattle.engine_pages.proofs.Turns.{Stride, Begins, allows_at, marks_stay, tried_goes, written}
 use Rattle.page_records.specs.Locks.{lock_bit, took_at, locked, Locked}
 use Rattle.page_records.specs.Reads.{read_at}
-use Rattle.page_records.specs.Records.{IsRecordAt}
-use Rattle.page_records.proofs.Commits.{pages_kept, frame_kept, commit_stride}
+use Rattle.engine_pages.specs.Records.{IsRecordAt}
+use Rattle.engine_pages.proofs.CommitSteps.{commit_stride}
+use Rattle.page_records.proofs.Commits.{pages_kept, frame_kept}
 use Rattle.page_records.proofs.Contents.{free_below}
 use Rattle.page_records.proofs.Leaves.{header_is, home, known, leaf_keys, page_is, shown, tree_is, word_is}
 use Rattle.page_records.proofs.Looks.{pages_same}
 use Rattle.page_records.proofs.Placing.{Replaced, replaced_leaf, replaced_shows, low_replaced, held_other}
 use Rattle.page_records.proofs.Seeing.{free_alive}
+use Rattle.page_records.proofs.Touching.{lock_deals, meet_deals}
 
 -- nobody holds what is free
 free_not_held : (p : ℕ) (h : Holder) → h ≡ Free → holder_is p h ≡ true → ⊥
@@ -117,11 +121,11 @@ locks laws l slots id me k x at expected active idle is few =
               (tree_is l words views s id v b k x at is) h.shown new;
           marks = marks_stay words words' s.seats p v.seat w.seat h.marks own.seat refl
               (λ j lo hi. wr.others j (λ e. let a = word.word in absurd (omega arith)));
-          marked = λ mark has. has;
+          marked = λ place mark has. has;
           marks_low = subst (λ (z : Seat). last_marked z.marks < m.epoch) (sym own.seat) (h.marked p);
           drawn = λ a has. inl has;
           tried = tried_goes m next s.seats p v.seat w.seat own.seat refl refl refl (inl refl) h.tried;
-          fits = own_fits l m next s.seats v w active fv fv.part refl refl refl refl refl (λ mark has. has) record {
+          fits = own_fits l m next s.seats v w active fv fv.part refl refl refl refl refl (λ place mark has. has) record {
             history = fv.history;
             decided = fv.decided;
             heard = fv.heard;
@@ -151,6 +155,11 @@ locks laws l slots id me k x at expected active idle is few =
                     },
                   )
             ];
+            locked = λ j has. elim (any_push_cases (λ (z : Key). same_key z j) v.seat.locks k has) [
+              | inl old ↦
+                  let t = own.locked j old in (t.0, in_push_old t.0 (took_at k x n) v.took t.1, t.2)
+              | inr new ↦ (took_at k x n, in_push_new (took_at k x n) v.took, same_key-true k j new)
+            ];
             low = fv.low;
             epoch = λ keeper. (fv.keepers keeper).epoch;
             past = λ keeper. let was = (fv.keepers keeper).past in record { clock = was.clock; tried = was.tried };
@@ -161,6 +170,11 @@ locks laws l slots id me k x at expected active idle is few =
           room = omega (arith, h.sums.room);
           now = record { within = now.within; ways = now.ways; drafts = now.drafts; copies = now.copies; blanks = now.blanks; resident = now.resident; leads = now.leads; fills = now.fills; known = now.known; shuts = now.shuts; heads = now.heads; moved = now.moved };
           frame = frame_kept laws l words words' views s id v active b next x.slot one;
+          deals = lock_deals l words views s id v b k x at is n words' record {
+            long = wr.long;
+            here = wr.here ∙ (ap (λ b. either b (expected + lock_bit) n) e ∙ ap (λ z. z + lock_bit) (sym is_expected));
+            others = wr.others;
+          };
         }
         (subst (λ b. MatchBool b (w ≡ locked k x at n v) (w ≡ read_at at n v)) (sym e) refl)
     by_found words views s b false e =
@@ -173,4 +187,6 @@ locks laws l slots id me k x at expected active idle is few =
         record { layout = refl; role = refl; made = refl; past = refl; parked = refl; epoch = refl; mine = refl; draws = refl; due = refl; seat = refl; checked = refl; took = refl; loaded = refl; met = refl; heard = refl; history = refl; decided = refl }
         refl
         record { within = now.within; ways = now.ways; drafts = now.drafts; copies = now.copies; blanks = now.blanks; resident = now.resident; leads = now.leads; fills = now.fills; known = now.known; shuts = now.shuts; heads = now.heads; moved = now.moved }
+        (meet_deals l words views s id v b k x at is w at (omega arith) (omega arith)
+        record { role = refl; ways = refl; took = refl; gone = refl; touched = refl; blamed = refl; locks = refl } refl)
         (subst (λ b. MatchBool b (w ≡ locked k x at n v) (w ≡ read_at at n v)) (sym e) refl)

@@ -1,19 +1,20 @@
 -- A lock is opened by a store of its record's word: with the word that it found, or with the number of the attempt that
 -- counts.
-use Rattle.std.proofs.Common.{◌≡◌, inl, inr, ℕ, ◌+◌, ◌<◌, Bool, true, false, true≢false, not, cond, List}
+use Rattle.std.proofs.Common.{◌≡◌, inl, inr, ℕ, ◌+◌, ◌<◌, ◌≤◌, ◌^◌, Bool, true, false, true≢false, not, cond, List}
 use Rattle.std.proofs.Common.{set, refl, sym, ap, ◌∙◌, subst, arith, Option, Some, None}
 use Rattle.std.specs.Prelude.{◌&&◌, filter, is_some}
 use Rattle.std.specs.List.{Contains, slice_get}
 use Rattle.std.specs.Option.{option_map_or}
-use Rattle.std.proofs.lemmas.Bool.{and_from}
+use Rattle.std.proofs.lemmas.Bool.{and_from, false_from_ne_true, not_from_false}
 use Rattle.atomic_table.specs.Table.{Me, Allows}
-use Rattle.lists.specs.Elements.{at_in}
+use Rattle.lists.specs.Elements.{at_in, in_filtered}
 use Rattle.serial_model.specs.declared.key.Key.{Key}
 use Rattle.serial_model.specs.Numbers.{IsBelow}
 use Rattle.homes.specs.declared.places.Content.{Content}
 use Rattle.homes.specs.declared.places.Holder.{Holder}
 use Rattle.homes.specs.declared.places.Holder.TheVariants.{Free, Dead}
 use Rattle.homes.specs.declared.places.Spot.{Spot}
+use Rattle.homes.specs.Laws.{same_key-true}
 use Rattle.wire_form.specs.Words.{number_word}
 use Rattle.commit_core.specs.declared.attempt.Attempt.{Attempt}
 use Rattle.commit_core.specs.declared.event.Act.TheVariants.{Open}
@@ -33,6 +34,7 @@ use Rattle.commit_core.specs.Places.{place, place_of, home_of, stands, placed, s
 use Rattle.commit_core.specs.Sound.Homes.{HomeHeld, half_put}
 use Rattle.commit_core.specs.Sound.Locks.{AttemptStands}
 use Rattle.engine_pages.specs.declared.layout.Layout.{Layout}
+use Rattle.engine_pages.specs.declared.view.Took.{Took}
 use Rattle.engine_pages.specs.declared.view.View.{View}
 use Rattle.engine_pages.specs.Pages.{is_array}
 use Rattle.engine_pages.specs.Rule.{Shared, WriteValues, KeptAreRecords, KeptIsLow, IsHeld, Shows}
@@ -43,18 +45,20 @@ use Rattle.engine_pages.proofs.OwnView.{own_fits, part_goes}
 use Rattle.engine_pages.proofs.Seats.{at_front, records_none}
 use Rattle.engine_pages.proofs.Turns.{Begins, allows_at, marks_stay, tried_goes, written}
 use Rattle.page_records.specs.Locks.{took_at, opened, CanOpenAgain, CanOpenAnew}
-use Rattle.page_records.specs.Records.{IsRecordAt}
-use Rattle.page_records.proofs.Commits.{pages_kept, frame_kept, commit_stride}
-use Rattle.page_records.proofs.Contents.{stands_there, value_written as no_absence}
+use Rattle.engine_pages.specs.Records.{IsRecordAt}
+use Rattle.engine_pages.proofs.CommitSteps.{commit_stride}
+use Rattle.page_records.proofs.Commits.{pages_kept, frame_kept}
+use Rattle.page_records.proofs.Contents.{small_word, stands_there, value_written as no_absence}
 use Rattle.page_records.proofs.Leaves.{array_is, header_is, known, leaf_keys, page_is, shown, tree_is, word_is}
 use Rattle.page_records.proofs.Placing.{Replaced, replaced_leaf, replaced_shows, low_replaced, low_none, held_other, not_at_other}
-use Rattle.page_records.proofs.Settling.{settled_trying, settled_idle, settled_tried, settled_marks, settled_kept}
+use Rattle.page_records.proofs.Settling.{settled_trying, settled_idle, settled_tried, settled_marks, settled_kept, settled_locks}
+use Rattle.page_records.proofs.Touching.{held_high, open_deals, other_lock}
 
 pub held_alive : (p : ℕ) (h : Holder) → holder_is p h ≡ true → h ≡ Dead → ⊥
 held_alive p h held dead = true≢false (sym held ∙ ap (holder_is p) dead)
 
 -- where a record that the pass locked stands
-taken_at : (l : Layout) (words : List ℕ) (views : List View) (s : Shared) (id : ℕ) (v : View) (k : Key) (x : Spot) (n : ℕ)
+pub taken_at : (l : Layout) (words : List ℕ) (views : List View) (s : Shared) (id : ℕ) (v : View) (k : Key) (x : Spot) (n : ℕ)
     → Begins l words views s id v → Contains v.took (took_at k x n) → IsHeld s.story (seat_number v.role) (took_at k x n) x
 taken_at l words views s id v k x n b has =
     let t = b.own.took (took_at k x n) has in
@@ -151,7 +155,7 @@ opens_to laws l slots id me k x at n found active is resting took gives =
           (tree_is l words views s id v b k x at is) h.shown new;
       marks = marks_stay words words' s.seats p v.seat w.seat h.marks own.seat (settled_marks s')
           (λ j lo hi. wr.others j (λ e. let a = word.word in absurd (omega arith)));
-      marked = λ mark has. subst (λ (y : List Mark). Contains y mark) (sym (settled_marks s')) has;
+      marked = λ place mark has. subst (λ (y : List Mark). slice_get y place ≡ Some mark) (sym (settled_marks s')) has;
       marks_low = subst (λ (y : List Mark). last_marked y < m.epoch) (sym (settled_marks s'))
           (subst (λ (z : Seat). last_marked z.marks < m.epoch) (sym own.seat) (h.marked p));
       drawn = λ a has. inl has;
@@ -160,7 +164,7 @@ opens_to laws l slots id me k x at n found active is resting took gives =
           (part_goes v.role active v.made v.due v.due v.seat.stage w.seat.stage v.mine v.mine (λ e. e)
           (λ _ e. settled_idle s' e) f.part)
           refl refl refl refl refl
-          (λ mark has. subst (λ (y : List Mark). Contains y mark) (sym (settled_marks s')) has) record {
+          (λ place mark has. subst (λ (y : List Mark). slice_get y place ≡ Some mark) (sym (settled_marks s')) has) record {
             history = f.history;
             decided = f.decided;
             heard = f.heard;
@@ -179,6 +183,16 @@ opens_to laws l slots id me k x at n found active is resting took gives =
                       (λ e. old.1 (h.joint.commits.story.homes_apart t.key k x (ap spot_of held-t.1.home ∙ ap Some (sym e)) spot-is))
                       held-t.1,
                 );
+            locked = λ j has.
+                let old = other_lock k j v.seat.locks
+                (subst (λ (z : List Key). has_key z j ≡ true) (settled_locks s') has) in
+                let t = own.locked j old.0 in (
+                  t.0,
+                  in_filtered (λ (y : Took). not (same_key y.key k)) t.0 v.took t.1
+                      (not_from_false (same_key (t.0).key k) (false_from_ne_true (same_key (t.0).key k)
+                      (λ hit. old.1 (sym t.2 ∙ same_key-true (t.0).key k hit)))),
+                  t.2,
+                );
             low = f.low;
             epoch = λ keeper. (f.keepers keeper).epoch;
             past = λ keeper. let was = (f.keepers keeper).past in record { clock = was.clock; tried = was.tried };
@@ -189,6 +203,12 @@ opens_to laws l slots id me k x at n found active is resting took gives =
       room = omega (arith, h.sums.room);
       now = record { within = now.within; ways = now.ways; drafts = now.drafts; copies = now.copies; blanks = now.blanks; resident = now.resident; leads = now.leads; fills = now.fills; known = now.known; shuts = now.shuts; heads = now.heads; moved = now.moved };
       frame = frame_kept laws l words words' views s id v active b next x.slot one;
+      deals = open_deals l words views s id v b k x at is n found words' wr
+          (subst (λ y. y < 2 ^ 60) g.word (small_word (option_map_or (λ b. b.number) g.o q.content.number) g.small)) took
+          (subst (λ (z : Seat). has_key z.locks k ≡ true) (sym own.seat)
+          ((seat_sound l s p b.few h.joint).lock_owners.listed k
+          (ap (λ (z : Place). holder_is p z.holder) (stands_there s k x at-home) ∙ held)))
+          (subst (λ y. 2 ^ 60 ≤ y) (sym shows.word) (held_high (number_word q.content.number) p q.holder held));
     }
     refl)
 

@@ -35,7 +35,7 @@ use Rattle.engine_pages.proofs.Seats.{by_equal}
 use Rattle.engine_pages.proofs.Words.{page_shown, tree_shown}
 use Rattle.page_records.specs.Locks.{not_at}
 use Rattle.page_records.proofs.Commits.{OneLeaf}
-use Rattle.page_records.proofs.Leaves.{IsWordOf}
+use Rattle.engine_pages.proofs.Leaves.{IsWordOf}
 
 -- a spot is this one, or another
 pub spot_cases : (x y : Spot) → (x ≡ y) ⊎ (x ≡ y → ⊥)
@@ -101,6 +101,7 @@ replaced_shows l words words' m d k r x at q keys decls leaf tree h c =
             page = was.page;
             slot = was.slot;
             named = was.named;
+            keepers = was.keepers;
           };
       slots = λ t few.
           let was = h.slots t few in record { word = low (slot_at t) (omega arith) ∙ was.word; times = was.times };

@@ -28,10 +28,12 @@ use Rattle.engine_pages.proofs.OwnView.{own_fits}
 use Rattle.engine_pages.proofs.Seats.{at_front}
 use Rattle.engine_pages.proofs.Turns.{allows_at, marks_stay, tried_goes, written}
 use Rattle.page_records.specs.Locks.{put_at, CanPut}
-use Rattle.page_records.specs.Records.{IsRecordAt}
-use Rattle.page_records.proofs.Commits.{pages_kept, frame_kept, commit_stride}
+use Rattle.engine_pages.specs.Records.{IsRecordAt}
+use Rattle.engine_pages.proofs.CommitSteps.{commit_stride}
+use Rattle.page_records.proofs.Commits.{pages_kept, frame_kept}
 use Rattle.page_records.proofs.Leaves.{header_is, known, leaf_keys, page_is, shown, tree_is, word_is}
 use Rattle.page_records.proofs.Opening.{held_alive, taken_home, taken_held}
+use Rattle.page_records.proofs.Touching.{put_deals}
 use Rattle.page_records.proofs.Placing.{Replaced, replaced_leaf, replaced_shows, low_replaced, held_same}
 
 pub puts : Laws → (l : Layout) (slots id : ℕ) (me : Me (Unit {0}) View) (k : Key) (x : Spot)
@@ -101,11 +103,11 @@ puts laws l slots id me k x at value active is can =
           (tree_is l words views s id v b k x at is) h.shown new;
       marks = marks_stay words words' s.seats p v.seat w.seat h.marks own.seat refl
           (λ j lo hi. wr.others j (λ e. let a = word.word in absurd (omega arith)));
-      marked = λ mark has. has;
+      marked = λ place mark has. has;
       marks_low = subst (λ (z : Seat). last_marked z.marks < m.epoch) (sym own.seat) (h.marked p);
       drawn = λ a has. inl has;
       tried = tried_goes m next s.seats p v.seat w.seat own.seat refl refl refl (inl refl) h.tried;
-      fits = own_fits l m next s.seats v w active f f.part refl refl refl refl refl (λ mark has. has) record {
+      fits = own_fits l m next s.seats v w active f f.part refl refl refl refl refl (λ place mark has. has) record {
         history = f.history;
         decided = f.decided;
         heard = f.heard;
@@ -117,6 +119,7 @@ puts laws l slots id me k x at value active is can =
         tried = own.tried;
         took = λ t has.
             let old = own.took t has in (old.0, held_same m p x old.0 q' t alive refl refl old.1);
+        locked = own.locked;
         low = f.low;
         epoch = λ keeper. (f.keepers keeper).epoch;
         past = λ keeper. let was = (f.keepers keeper).past in record { clock = was.clock; tried = was.tried };
@@ -127,5 +130,6 @@ puts laws l slots id me k x at value active is can =
       room = omega (arith, h.sums.room);
       now = record { within = now.within; ways = now.ways; drafts = now.drafts; copies = now.copies; blanks = now.blanks; resident = now.resident; leads = now.leads; fills = now.fills; known = now.known; shuts = now.shuts; heads = now.heads; moved = now.moved };
       frame = frame_kept laws l words words' views s id v active b next x.slot one;
+      deals = put_deals l words views s id v b k x at is value words' wr;
     }
     refl)

@@ -20,6 +20,7 @@ use Rattle.commit_core.specs.declared.part.Part.{Part}
 use Rattle.commit_core.specs.declared.part.Word.TheVariants.{Record}
 use Rattle.commit_core.specs.declared.event.Act.TheVariants.{See}
 use Rattle.commit_core.specs.declared.seat.Seat.{Seat}
+use Rattle.commit_core.specs.declared.story.Story.{Story}
 use Rattle.commit_core.specs.CoreState.{is_trying, last_marked}
 use Rattle.commit_core.specs.Event.{seen_at}
 use Rattle.commit_core.specs.Parts.{same_word, record_part, with_part}
@@ -33,18 +34,21 @@ use Rattle.engine_pages.specs.declared.view.View.{View}
 use Rattle.engine_pages.specs.Layout.{page_at, snap_at}
 use Rattle.engine_pages.specs.Rule.{Shared, KeptAreRecords, KeptIsLow, Shows}
 use Rattle.engine_pages.specs.Views.{IsActive, seat_number}
-use Rattle.engine_pages.specs.Words.{lock_field, ShowsRecord, ShowsWords}
+use Rattle.engine_pages.specs.Words.{lock_field, spot, ShowsRecord, ShowsWords}
+use Rattle.engine_pages.proofs.Facing.{Deals}
 use Rattle.engine_pages.proofs.Joint.{Laws}
 use Rattle.engine_pages.proofs.Looks.{look_stride}
 use Rattle.engine_pages.proofs.OwnView.{own_fits}
 use Rattle.engine_pages.proofs.Seats.{own_longer, tried_longer}
 use Rattle.engine_pages.proofs.Turns.{Stride, Begins, allows_at, marks_stay, tried_goes, unwritten}
 use Rattle.page_records.specs.Reads.{read_at, saw, Saw, SawFree}
-use Rattle.page_records.specs.Records.{IsRecordAt}
-use Rattle.page_records.proofs.Commits.{OneLeaf, pages_kept, frame_kept, commit_stride}
+use Rattle.engine_pages.specs.Records.{IsRecordAt}
+use Rattle.engine_pages.proofs.CommitSteps.{commit_stride}
+use Rattle.page_records.proofs.Commits.{OneLeaf, pages_kept, frame_kept}
 use Rattle.page_records.proofs.Contents.{free_below, free_last, free_version, parts_same}
 use Rattle.page_records.proofs.Leaves.{array_is, header_is, held, home, known, leaf_keys, page_is, shown}
 use Rattle.page_records.proofs.Looks.{pages_same}
+use Rattle.page_records.proofs.Touching.{meet_deals}
 
 -- ---- what is kept
 
@@ -73,18 +77,18 @@ records_seen decls opening history kept k x c version records part has =
 pub free_alive : (h : Holder) → h ≡ Free → h ≡ Dead → ⊥
 free_alive h free dead = absurd (cc)
 
--- nothing changes by a load
-unchanged : (l : Layout) (words : List ℕ) (views : List View) (s : Shared) (id : ℕ) (v : View)
-    (b : Begins l words views s id v) (k : Key) (x : Spot) (at : ℕ) (is : IsRecordAt v k x at)
-    → OneLeaf l words (set words at (get_or words at 0)) s s.story x.slot
-unchanged l words views s id v b k x at is = record {
+-- no word changes by a load, nor a place
+pub unchanged_by : (l : Layout) (words : List ℕ) (views : List View) (s : Shared) (id : ℕ) (v : View)
+    (b : Begins l words views s id v) (k : Key) (x : Spot) (at : ℕ) (is : IsRecordAt v k x at) (n : Story)
+    → n.places ≡ s.story.places → OneLeaf l words (set words at (get_or words at 0)) s n x.slot
+unchanged_by l words views s id v b k x at is n same = record {
   known = known l words views s id v b k x at is;
   header = header_is l words views s id v b k x at is;
   keys = leaf_keys l words views s id v b k x at is;
   leaf = page_is l words views s id v b k x at is;
   others = λ t i less other. ap (λ (z : List ℕ). get_or z (page_at l.slots t i) 0) (unwritten words at);
   snaps = λ j i some less. ap (λ (z : List ℕ). get_or z (snap_at l.slots j i) 0) (unwritten words at);
-  places = λ t i other. refl;
+  places = λ t i other. ap (λ (z : List (Spot × Place)). place_of z (spot t i)) same;
 }
 
 pub sees : Laws → (l : Layout) (slots id : ℕ) (me : Me (Unit {0}) View) (k : Key) (x : Spot) (at : ℕ)
@@ -115,7 +119,7 @@ sees laws l slots id me k x at active resting is =
         let found : number_word q.content.number ≡ n =
         let word = shows.word in let none : lock_field q.holder ≡ 0 = ap lock_field free in omega arith in
         let w : View = saw m.history m.decided k x q.content at n v in
-        let one = unchanged l words views s id v b k x at is in
+        let one = unchanged_by l words views s id v b k x at is m refl in
         let now = pages_kept laws l words words' views s id v active b m x.slot one in
         let told : SawFree k x at v n w = record {
           content = q.content;
@@ -128,6 +132,7 @@ sees laws l slots id me k x at active resting is =
           never = shows.never;
           last = subst (λ (y : Layout). q.content ≡ last_write y.opening m.history m.decided k) (sym b.own.layout)
               (free_last l words views s k x h array at-home free);
+          whole = h.joint.commits.story.ordered_numbers.decided_drawn;
           is = refl;
         } in
         commit_stride laws l words views s id v active b at (λ n. n) (See k) m w (Saw k x at) record {
@@ -144,11 +149,11 @@ sees laws l slots id me k x at active resting is =
           shown = subst (λ (z : List ℕ). ShowsWords l z m s.table s.trees s.resident) (sym (unwritten words at)) h.shown;
           marks = marks_stay words words' s.seats (seat_number v.role) v.seat w.seat h.marks b.own.seat refl
               (λ j lo hi. ap (λ z. get_or z j 0) (unwritten words at));
-          marked = λ mark has. has;
+          marked = λ place mark has. has;
           marks_low = subst (λ (z : Seat). last_marked z.marks < m.epoch) (sym b.own.seat) (h.marked (seat_number v.role));
           drawn = λ a has. inl has;
           tried = tried_goes m m s.seats (seat_number v.role) v.seat w.seat b.own.seat refl refl refl (inl refl) h.tried;
-          fits = own_fits l m m s.seats v w active f f.part refl refl refl refl refl (λ mark has. has) record {
+          fits = own_fits l m m s.seats v w active f f.part refl refl refl refl refl (λ place mark has. has) record {
             history = front_refl m.history;
             decided = front_refl m.decided;
             heard = f.heard;
@@ -162,6 +167,7 @@ sees laws l slots id me k x at active resting is =
             tried = tried_longer (seat_number v.role) v.history m.history m.checks v.checked v.mine v.seat.stage f.history
                 b.own.tried;
             took = b.own.took;
+            locked = b.own.locked;
             low = f.low;
             epoch = λ keeper. (f.keepers keeper).epoch;
             past = λ keeper. (f.keepers keeper).past;
@@ -172,6 +178,9 @@ sees laws l slots id me k x at active resting is =
           room = omega (arith, h.sums.room);
           now = record { within = now.within; ways = now.ways; drafts = now.drafts; copies = now.copies; blanks = now.blanks; resident = now.resident; leads = now.leads; fills = now.fills; known = now.known; shuts = now.shuts; heads = now.heads; moved = now.moved };
           frame = frame_kept laws l words words' views s id v active b m x.slot one;
+          deals = subst (λ (z : List ℕ). Deals l words z s (seat_number v.role) views v w) (sym (unwritten words at))
+              (meet_deals l words views s id v b k x at is w at (omega arith) (omega arith)
+              record { role = refl; ways = refl; took = refl; gone = refl; touched = refl; blamed = refl; locks = refl } refl);
         }
         (subst (λ c. MatchBool c (SawFree k x at v n w) (w ≡ read_at at n v)) (sym below) told)
     by_found words views s b false above =
@@ -183,4 +192,6 @@ sees laws l slots id me k x at active resting is =
         record { layout = refl; role = refl; made = refl; past = refl; parked = refl; epoch = refl; mine = refl; draws = refl; due = refl; seat = refl; checked = refl; took = refl; loaded = refl; met = refl; heard = refl; history = refl; decided = refl }
         refl
         record { within = now.within; ways = now.ways; drafts = now.drafts; copies = now.copies; blanks = now.blanks; resident = now.resident; leads = now.leads; fills = now.fills; known = now.known; shuts = now.shuts; heads = now.heads; moved = now.moved }
+        (meet_deals l words views s id v b k x at is w at (omega arith) (omega arith)
+        record { role = refl; ways = refl; took = refl; gone = refl; touched = refl; blamed = refl; locks = refl } refl)
         (subst (λ c. MatchBool c (SawFree k x at v n w) (w ≡ read_at at n v)) (sym above) refl)

@@ -35,12 +35,13 @@ use Rattle.engine_pages.specs.Words.{lock_field, ShowsRecord}
 use Rattle.engine_pages.proofs.Joint.{Laws, seat_sound}
 use Rattle.engine_pages.proofs.Turns.{Begins, allows_at}
 use Rattle.page_records.specs.Reads.{read_at, loaded_at, valued, Confirmed}
-use Rattle.page_records.specs.Records.{IsRecordAt}
+use Rattle.engine_pages.specs.Records.{IsRecordAt}
 use Rattle.page_records.proofs.Contents.{free_below, small_word, one_number, version_proper, version_small, shown_is}
 use Rattle.page_records.proofs.Contents.{stands_there, free_last, kept_version}
 use Rattle.page_records.proofs.Leaves.{array_is, shown, home}
 use Rattle.page_records.proofs.Looks.{look_loaded, pages_same}
 use Rattle.page_records.proofs.Seeing.{free_alive}
+use Rattle.page_records.proofs.Touching.{meet_deals}
 
 -- ---- the load of the value
 
@@ -139,6 +140,8 @@ loads laws l slots id me k x at active is =
     (still l words views s id v k x at b is))
     refl
     record { within = now.within; ways = now.ways; drafts = now.drafts; copies = now.copies; blanks = now.blanks; resident = now.resident; leads = now.leads; fills = now.fills; known = now.known; shuts = now.shuts; heads = now.heads; moved = now.moved }
+    (meet_deals l words views s id v b k x at is w (at + 1) (omega arith) (omega arith)
+    record { role = refl; ways = refl; took = refl; gone = refl; touched = refl; blamed = refl; locks = refl } refl)
     refl)
 
 -- ---- the second load of the record's word
@@ -181,6 +184,8 @@ confirms laws l slots id me k x at active is =
     record { layout = refl; role = refl; made = refl; past = refl; parked = refl; epoch = refl; mine = refl; draws = refl; due = refl; seat = refl; checked = refl; took = refl; met = refl; heard = refl; history = refl; decided = refl }
     f.loaded refl
     record { within = now.within; ways = now.ways; drafts = now.drafts; copies = now.copies; blanks = now.blanks; resident = now.resident; leads = now.leads; fills = now.fills; known = now.known; shuts = now.shuts; heads = now.heads; moved = now.moved }
+    (meet_deals l words views s id v b k x at is w at (omega arith) (omega arith)
+    record { role = refl; ways = refl; took = refl; gone = refl; touched = refl; blamed = refl; locks = refl } refl)
     record {
       is = refl;
       value = λ c value has loaded word.

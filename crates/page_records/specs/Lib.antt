@@ -1,4 +1,4 @@
-pub mod Records
 pub mod Reads
 pub mod Locks
 pub mod Attempts
+pub mod Ends

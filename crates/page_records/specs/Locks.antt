@@ -10,9 +10,9 @@ use Rattle.commit_core.specs.declared.seat.Stage.TheVariants.{Decided}
 use Rattle.commit_core.specs.Keys.{same_key, has_key, written}
 use Rattle.commit_core.specs.CoreState.{can_begin, settled}
 use Rattle.engine_pages.specs.declared.view.Took.{Took}
-use Rattle.engine_pages.specs.declared.view.Touch.{Touch}
 use Rattle.engine_pages.specs.declared.view.View.{View}
 use Rattle.engine_pages.specs.Steps.{glanced}
+use Rattle.engine_pages.specs.Touches.{touch}
 use Rattle.engine_pages.specs.Views.{seat_number}
 use Rattle.page_records.specs.Reads.{with_read, read_at}
 
@@ -21,10 +21,6 @@ abbrev pub lock_bit : ℕ
 lock_bit = at_bit 60 1
 
 -- ---- locks
-
--- a lock that this seat took of the key
-abbrev pub touch : ℕ → Key → Touch
-touch q k = record { seat = q; key = k }
 
 -- the key is locked, whose record stands at this place and had this word
 abbrev pub took_at : Key → Spot → ℕ → Took

@@ -1,8 +1,5 @@
 -- What the loads of a read tell.
-use Rattle.std.specs.Prelude.{◌≡◌, ℕ, ◌^◌, ◌==◌, not, nat_lt, List, [], ◌∷◌, ◌++◌, filter, Option, Some, None, Contains}
-use Rattle.std.specs.Prelude.{MatchBool, unwrap_or}
-use Rattle.std.specs.List.{find}
-use Rattle.std.specs.Option.{option_map}
+use Rattle.std.specs.Prelude.{◌≡◌, ℕ, ◌^◌, true, nat_lt, List, Some, None, Contains, MatchBool, unwrap_or}
 use Rattle.atomic_table.specs.Table.{Step}
 use Rattle.lists.specs.Fronts.{IsFront}
 use Rattle.serial_model.specs.declared.key.Key.{Key}
@@ -11,29 +8,14 @@ use Rattle.homes.specs.declared.places.Content.{Content}
 use Rattle.homes.specs.declared.places.Spot.{Spot}
 use Rattle.wire_form.specs.Words.{number_word}
 use Rattle.commit_core.specs.declared.attempt.Attempt.{Attempt}
+use Rattle.commit_core.specs.CoreState.{is_decided}
 use Rattle.commit_core.specs.Keys.{opening_number}
 use Rattle.commit_core.specs.Parts.{record_part, with_part}
 use Rattle.commit_core.specs.Serial.{last_write}
 use Rattle.engine_pages.specs.declared.view.Loaded.{Loaded}
-use Rattle.engine_pages.specs.declared.view.Read.{Read}
 use Rattle.engine_pages.specs.declared.view.View.{View}
-use Rattle.engine_pages.specs.Steps.{glanced}
+pub use Rattle.engine_pages.specs.Steps.{seen_at, with_read, read_at}
 use Rattle.engine_pages.specs.Words.{IsSmall}
-
--- ---- the words of records that a transaction met
-
--- what was last seen or left of a word, where it was met
-abbrev pub seen_at : List Read → ℕ → Option ℕ
-seen_at reads word = option_map (λ r. r.seen) (find (λ r. r.word == word) reads)
-
--- the words that were met, with this one as it was last seen or left, and as it was before that
-abbrev pub with_read : List Read → ℕ → ℕ → List Read
-with_read reads word n =
-    filter (λ r. not (r.word == word)) reads ++ record { word = word; seen = n; was = seen_at reads word } ∷ []
-
--- one load of a word of a record
-abbrev pub read_at : ℕ → ℕ → View → View
-read_at word n v = record (glanced word n v) { reads = with_read v.reads word n }
 
 -- ---- the first load
 
@@ -58,6 +40,8 @@ pub record SawFree (k : Key) (x : Spot) (at : ℕ) (v : View) (n : ℕ) (w : Vie
   pub number : number_word content.number ≡ n
   pub never : content.value ≡ None → content.number ≡ opening_number
   pub last : content ≡ last_write v.layout.opening history decided k
+  -- both are of one step: each decision is of an attempt that was seen drawn
+  pub whole : (n : Number) → is_decided decided n ≡ true → (a : Attempt) × Contains history a × (a.number ≡ n)
   pub is : w ≡ saw history decided k x content at n v
 
 -- an unlocked record is kept, with what stands there; of a locked one nothing is

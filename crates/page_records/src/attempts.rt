@@ -1,14 +1,17 @@
-// Draws and decisions of attempts.
+// Draws, checks and decisions of attempts.
 ghost use Rattle.std.specs.Prelude.{◌≡◌, ℕ};
 ghost use Rattle.engine_pages.specs.Passes.{view, IsPassOf};
+ghost use Rattle.engine_pages.specs.Records.{IsRecordAt};
+ghost use Rattle.engine_pages.specs.Touches.{has_took};
 ghost use Rattle.engine_pages.specs.Views.{IsActive};
-ghost use Rattle.page_records.specs.Attempts.{CanDraw, HasDrawn, CanDecide, HasChosen};
+ghost use Rattle.page_records.specs.Attempts.{CanDraw, HasDrawn, CanCheckWord, Checked, HeldStays, CanDecide, HasChosen};
 
-use crate::law::{Deciding, Drawing, Writing};
+use crate::law::{Checking, Compared, Deciding, Drawing, Writing};
 use crate::laws::laws;
 use commit_core::commits_are_serial;
 use engine_pages::{Engine, Pass};
-use serial_model::{Change, Changes};
+use homes::Spot;
+use serial_model::{Change, Changes, Key};
 use std::marker::Brand;
 
 /// Draws the next number for an attempt with these writes, whose keys are those locked, and with what was kept as its
@@ -33,6 +36,52 @@ pub fn draw_as<J: Writing, W>(engine: &Engine, pass: &mut Pass, _forms: &[W]) ->
 {
     laws();
     engine.table.shared.fetch_add::<Drawing<J>>(pass, 0, 1)
+}
+
+/// Loads the word of a part again, which was this one as it was seen: the part is checked where it still is, maybe with
+/// an own lock at this place, and else the attempt failed. Answers the word that it found.
+pub fn check(
+    engine: &Engine,
+    pass: &mut Pass,
+    key: Key,
+    spot: Spot,
+    at: u32,
+    word: u64,
+    own: bool,
+) -> u64
+    requires of { IsPassOf engine.now pass.old }
+    requires pass { IsActive (view pass.old).role }
+    requires place { IsRecordAt (view pass.old) key spot at }
+    requires part { CanCheckWord (view pass.old) key spot word }
+    requires own { own ≡ has_took (view pass.old).took key spot }
+    ensures of { IsPassOf engine.now pass.new }
+    ensures checks { Checked spot at word own (view pass.old) result (view pass.new) }
+    ensures held { HeldStays key spot (view pass.old) result }
+{
+    check_as::<Brand>(engine, pass, key, spot, at, word, own)
+}
+
+fn check_as<J: Compared>(
+    engine: &Engine,
+    pass: &mut Pass,
+    key: Key,
+    spot: Spot,
+    at: u32,
+    word: u64,
+    own: bool,
+) -> u64
+    requires of { IsPassOf engine.now pass.old }
+    requires pass { IsActive (view pass.old).role }
+    requires place { IsRecordAt (view pass.old) key spot at }
+    requires part { CanCheckWord (view pass.old) key spot word }
+    requires own { own ≡ has_took (view pass.old).took key spot }
+    requires named { (key ≡ J.key) × (spot ≡ J.spot) × (word ≡ J.word) × (own ≡ J.own) }
+    ensures of { IsPassOf engine.now pass.new }
+    ensures checks { Checked spot at word own (view pass.old) result (view pass.new) }
+    ensures held { HeldStays key spot (view pass.old) result }
+{
+    laws();
+    engine.table.shared.load::<Checking<J>>(pass, at as usize)
 }
 
 /// Lets the attempt count, whose parts are checked.

@@ -128,3 +128,80 @@ impl Play<(), View> for Deciding {
 
     ghost then = { told Decides };
 }
+
+/// Which part, by its key and place; its word as it was seen; and whether it has an own lock there. Each call picks them.
+pub trait Compared {
+    ghost use Rattle.std.specs.Prelude.{ℕ, Bool};
+    ghost use Rattle.homes.specs.declared.places.Spot.{Spot};
+    ghost use Rattle.serial_model.specs.declared.key.Key.{Key};
+
+    ghost key: { Key };
+
+    ghost spot: { Spot };
+
+    ghost word: { ℕ };
+
+    ghost own: { Bool };
+}
+
+// No call goes by this one.
+impl Compared for Brand {
+    ghost use Rattle.std.specs.Prelude.{false};
+
+    ghost key = { record { storage = 0; key = 0 } };
+
+    ghost spot = { record { slot = 0; index = 0 } };
+
+    ghost word = { 0 };
+
+    ghost own = { false };
+}
+
+/// A part is checked.
+pub struct Checking<J: Compared> {
+    of: PhantomData<J>,
+}
+
+impl<J: Compared> Play<(), View> for Checking<J> {
+    ghost use Rattle.engine_pages.specs.Steps.{told};
+    ghost use Rattle.page_records.specs.Attempts.{Checks};
+
+    ghost then = { told (Checks J.key J.spot J.word J.own) };
+}
+
+/// A transaction begins.
+pub struct Beginning;
+
+impl Play<(), View> for Beginning {
+    ghost use Rattle.engine_pages.specs.Steps.{told};
+    ghost use Rattle.page_records.specs.Ends.{BeginsTransaction};
+
+    ghost then = { told BeginsTransaction };
+}
+
+/// Why a transaction ends. Each call picks it.
+pub trait Excused {
+    ghost use Rattle.std.specs.Prelude.{Option};
+    ghost use Rattle.engine_pages.specs.declared.view.RefusalCause.{RefusalCause};
+
+    ghost why: { Option RefusalCause };
+}
+
+// No call goes by this one.
+impl Excused for Brand {
+    ghost use Rattle.std.specs.Prelude.{None};
+
+    ghost why = { None };
+}
+
+/// A transaction ends before its draw.
+pub struct Forgetting<J: Excused> {
+    of: PhantomData<J>,
+}
+
+impl<J: Excused> Play<(), View> for Forgetting<J> {
+    ghost use Rattle.engine_pages.specs.Steps.{told};
+    ghost use Rattle.page_records.specs.Ends.{Forgets};
+
+    ghost then = { told (Forgets J.why) };
+}

@@ -4,7 +4,7 @@ ghost use Rattle.commit_core.specs.CoreState.{can_begin};
 ghost use Rattle.engine_pages.specs.Passes.{view, IsPassOf};
 ghost use Rattle.engine_pages.specs.Views.{IsActive};
 ghost use Rattle.page_records.specs.Locks.{Locked, opened, put_at, CanOpenAgain, CanOpenAnew, CanPut};
-ghost use Rattle.page_records.specs.Records.{IsRecordAt};
+ghost use Rattle.engine_pages.specs.Records.{IsRecordAt};
 
 use crate::law::{Locking, Opening, Placed, Putting};
 use crate::laws::laws;

@@ -4,7 +4,7 @@ ghost use Rattle.commit_core.specs.CoreState.{is_trying};
 ghost use Rattle.engine_pages.specs.Passes.{view, IsPassOf};
 ghost use Rattle.engine_pages.specs.Views.{IsActive};
 ghost use Rattle.page_records.specs.Reads.{valued, Confirmed, Saw};
-ghost use Rattle.page_records.specs.Records.{IsRecordAt};
+ghost use Rattle.engine_pages.specs.Records.{IsRecordAt};
 
 use crate::law::{Confirming, Loading, Placed, Seeing};
 use crate::laws::laws;

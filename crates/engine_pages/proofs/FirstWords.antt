@@ -1,4 +1,4 @@
--- Steps on the clock's word and on that of the decisions: no word of a page changes, and no place.
+-- Steps on the words of the clock, of the decisions and of the marks: no word of a page changes, and no place.
 use Rattle.std.proofs.Common.{◌≡◌, ℕ, ◌+◌, ◌≤◌, List, length, get_or, refl, ap, ◌∙◌, arith, Option}
 use Rattle.wire_form.specs.Words.{number_word}
 use Rattle.commit_core.specs.declared.story.Story.{Story}
@@ -21,16 +21,17 @@ use Rattle.engine_pages.proofs.SlotSteps.{PagesNow}
 use Rattle.engine_pages.proofs.Turns.{Begins}
 use Rattle.engine_pages.proofs.Words.{page_shown, tree_shown}
 
--- The first two words alone have changed, which show the story that is now; its places are as before.
-pub record FirstTwo (l : Layout) (old new : List ℕ) (m n : Story) : Type 0 where
+-- The words of the clock, of the decisions and of the marks alone have changed, of which the first two show the story
+-- that is now; its places are as before.
+pub record FirstTen (l : Layout) (old new : List ℕ) (m n : Story) : Type 0 where
   pub long : length new ≡ length old
-  pub others : (j : ℕ) → 2 ≤ j → get_or new j 0 ≡ get_or old j 0
+  pub others : (j : ℕ) → 10 ≤ j → get_or new j 0 ≡ get_or old j 0
   pub clock : get_or new 0 0 ≡ number_word (clock_of n.first_draw n.epoch n.history)
   pub decisions : get_or new 1 0 ≡ length n.decided
   pub places : n.places ≡ m.places
 
 pub first_shown : (l : Layout) (old new : List ℕ) (m n : Story) (d : Table) (k : ℕ → Option Fenced) (r : Published)
-    → FirstTwo l old new m n → ShowsWords l old m d k r → ShowsWords l new n d k r
+    → FirstTen l old new m n → ShowsWords l old m d k r → ShowsWords l new n d k r
 first_shown l old new m n d k r c h = record {
   long = c.long ∙ h.long;
   clock = c.clock;
@@ -44,6 +45,7 @@ first_shown l old new m n d k r c h = record {
         page = was.page;
         slot = was.slot;
         named = was.named;
+        keepers = was.keepers;
       };
   slots = λ t few.
       let was = h.slots t few in record { word = c.others (slot_at t) (omega arith) ∙ was.word; times = was.times };
@@ -60,7 +62,7 @@ first_shown l old new m n d k r c h = record {
 
 -- what the view knows of pages stays so
 pub first_kept : (l : Layout) (old new : List ℕ) (views : List View) (s : Shared) (id : ℕ) (v : View) (n : Story)
-    → IsActive v.role → Begins l old views s id v → FirstTwo l old new s.story n
+    → IsActive v.role → Begins l old views s id v → FirstTen l old new s.story n
     → PagesNow l new (shared_now s (seat_number v.role) n s.table s.trees s.resident v) v
 first_kept l old new views s id v n active b c =
     let d = s.table in

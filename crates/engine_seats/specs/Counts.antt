@@ -1,0 +1,49 @@
+-- What a load of the count of decisions tells.
+use Rattle.std.specs.Prelude.{◌≡◌, ℕ, true, filter, List, [], length, Contains}
+use Rattle.atomic_table.specs.Table.{Step}
+use Rattle.lists.specs.Fronts.{IsFront}
+use Rattle.serial_model.specs.declared.key.Key.{Key}
+use Rattle.serial_model.specs.declared.number.Number.{Number}
+use Rattle.homes.specs.declared.places.Content.{Content}
+use Rattle.commit_core.specs.declared.attempt.Attempt.{Attempt}
+use Rattle.commit_core.specs.CoreState.{is_decided}
+use Rattle.commit_core.specs.Serial.{ReadsAreSerial, ReadsFrom, state_below}
+use Rattle.commit_core.specs.Sound.Numbers.{EachOnce}
+use Rattle.views.specs.Sums.{total}
+use Rattle.engine_pages.specs.declared.view.Role.TheVariants.{Keeper}
+use Rattle.engine_pages.specs.declared.view.View.{View}
+use Rattle.engine_pages.specs.Layout.{decisions_at}
+use Rattle.engine_pages.specs.Steps.{glanced}
+use Rattle.engine_pages.specs.Times.{HasTimed}
+use Rattle.engine_pages.specs.Touches.{touch, AreBlamed}
+
+-- The decided attempts, in order of number, read serially from the opening, and each read what the state below it has.
+pub record AreSerial (opening : List (Key × Content)) (history : List Attempt) (decided : List Number) : Type 0 where
+  pub run : ReadsAreSerial opening (filter (λ a. is_decided decided a.number) history)
+  pub reads : (a : Attempt) → Contains history a → is_decided decided a.number ≡ true
+      → ReadsFrom (state_below opening history decided a.number) a
+
+-- All draws and decisions are now seen, and so many attempts count, each of which was drawn and counts once. They are
+-- serial from what stood at keys at first. Where no worker is seated, they are the keeper's own, it drew as many
+-- numbers as there are, and wherever a transaction was refused with Conflict at a record since somebody was first
+-- seated, another seat has taken a lock of that key since then.
+pub record HasCounted (v : View) (n : ℕ) (w : View) : Type 0 where
+  pub history : IsFront v.history w.history
+  pub decided : IsFront v.decided w.decided
+  pub count : length w.decided ≡ n
+  pub drawn : (number : Number) → is_decided w.decided number ≡ true
+      → (a : Attempt) × Contains w.history a × (a.number ≡ number)
+  pub once : EachOnce w.decided
+  pub serial : AreSerial v.layout.opening w.history w.decided
+  pub all : v.role ≡ Keeper → v.made ≡ [] → (h : Number → ℕ) → total (λ a. h a.number) v.mine ≡ total h w.decided
+  pub draws : v.role ≡ Keeper → v.made ≡ [] → v.draws ≡ length w.history
+  pub blamed : v.role ≡ Keeper → v.made ≡ [] → AreBlamed (λ q k. Contains v.touched (touch q k)) v.blamed
+  pub is : w ≡ record (glanced decisions_at n v) { history = w.history; decided = w.decided }
+
+-- the same of the step
+abbrev pub Counts : Step (Unit {0}) → View → ℕ → View → Type 0
+Counts s v n w = HasCounted v n w
+
+-- the clock was seen, and then the count of decisions
+abbrev pub HasAudited : View → ℕ → ℕ → View → Type 0
+HasAudited v clock n w = (timed : View) × HasTimed v clock timed × HasCounted timed n w

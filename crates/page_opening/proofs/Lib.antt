@@ -1,0 +1,5 @@
+pub mod Named
+pub mod Contents
+pub mod Roots
+pub mod Filled
+pub mod Opens

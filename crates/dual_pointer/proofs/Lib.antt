@@ -1,0 +1,12 @@
+pub mod Rows
+pub mod Names
+pub mod SnapWords
+pub mod Moves
+pub mod InnerStands
+pub mod Below
+pub mod FilledPointers
+pub mod PublishPointers
+pub mod InstallStep
+pub mod Installs
+pub mod Acts
+pub mod SeePointers

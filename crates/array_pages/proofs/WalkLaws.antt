@@ -1,0 +1,579 @@
+-- What a walk leaves, one step after another.
+use Rattle.std.proofs.Common.{◌≡◌, ◌≢◌, ◌⊎◌, inl, inr, ℕ, zero, suc, ◌+◌, ◌-◌, ◌*◌, ◌/◌, ◌%◌, ◌^◌, ◌<◌, ◌≤◌, Bool, true, false, true≢false}
+use Rattle.std.proofs.Common.{cond, eqb, eq-eqb, ltb, List, [], ◌∷◌, ◌++◌, length, refl, sym, ap, ◌∙◌, subst, arith, Option, Some, None}
+use Rattle.std.specs.Prelude.{◌||◌, IfSome, Ok, Err, if◌then◌else◌}
+use Rattle.std.specs.List.{Contains}
+use Rattle.std.proofs.lemmas.Bool.{or_left, or_right}
+use Rattle.std.proofs.lemmas.Bool.Decides.{nat_tests}
+use Rattle.lists.specs.Elements.{in_head, in_tail}
+use Rattle.lists.specs.Fronts.{IsFront, front_refl, front_then}
+use Rattle.serial_model.specs.Decls.{AreDecls}
+use Rattle.serial_model.specs.declared.key.Key.{Key}
+use Rattle.homes.specs.declared.places.At.{At}
+use Rattle.homes.specs.declared.places.At.TheVariants.{Root, In}
+use Rattle.homes.specs.declared.places.Span.{Span}
+use Rattle.homes.specs.declared.places.Spot.{Spot}
+use Rattle.commit_core.specs.declared.part.Part.{Part}
+use Rattle.commit_core.specs.declared.seat.Seat.{Seat}
+use Rattle.commit_core.specs.CoreState.{is_trying}
+use Rattle.commit_core.specs.Parts.{Vouches}
+use Rattle.commit_core.specs.Serial.{last_write}
+use Rattle.drop_core.specs.declared.grip.Grip.{Grip}
+use Rattle.drop_core.specs.Table.{has_slot}
+use Rattle.tx_sets.specs.declared.seen.Seen.{Seen}
+use Rattle.tx_sets.specs.Entries.{word_at}
+use Rattle.engine_pages.specs.declared.layout.Layout.{Layout}
+use Rattle.engine_pages.specs.declared.view.Lead.{Lead}
+use Rattle.engine_pages.specs.declared.view.RefusalCause.{RefusalCause}
+use Rattle.engine_pages.specs.declared.view.RefusalCause.TheVariants as causes
+use Rattle.engine_pages.specs.declared.view.Role.{Role}
+use Rattle.engine_pages.specs.declared.view.SetName.{SetName}
+use Rattle.engine_pages.specs.declared.view.SetName.TheVariants.{Holds}
+use Rattle.engine_pages.specs.declared.view.View.{View}
+use Rattle.engine_pages.specs.declared.view.Way.{Way}
+use Rattle.engine_pages.specs.Layout.{page_at}
+use Rattle.engine_pages.specs.Pages.{is_array, root_span}
+use Rattle.engine_pages.specs.Pointers.{IsPointerAt, HasFollowed, WaysAgree, followed, half_of, is_open_word, leads_more, slot_half}
+use Rattle.engine_pages.specs.Pointers.{ways_if, ways_more}
+use Rattle.engine_pages.specs.Records.{IsRecordAt}
+use Rattle.engine_pages.specs.Slots.{entered}
+use Rattle.engine_pages.specs.Steps.{kept_at, seen_at}
+use Rattle.engine_pages.specs.Views.{IsActive}
+use Rattle.array_pages.specs.Steps.{HoldsSo, IsChangedSince, IsLedTo, IsMetAs, IsMetElse, RefusesHold}
+use Rattle.array_pages.specs.Walks.{as_walked, CanWalk, HasWalked, IsLastBetween, IsPointersWord, IsPointerChanged, IsWide}
+use Rattle.array_pages.specs.Walks.{KeepsMet, OnlyMet, RefusesWalk, SawLast}
+use Rattle.array_pages.proofs.ReadLaws.{noted_in, seen_other, seen_same}
+
+-- ---- what stays
+
+pub layout_stays : (v w : View) → HasWalked v w → w.layout ≡ v.layout
+layout_stays v w walk = ap (λ (z : View). z.layout) walk.is
+
+pub role_stays : (v w : View) → HasWalked v w → w.role ≡ v.role
+role_stays v w walk = ap (λ (z : View). z.role) walk.is
+
+pub stage_stays : (v w : View) → HasWalked v w → w.seat.stage ≡ v.seat.stage
+stage_stays v w walk = ap (λ (z : View). z.seat.stage) walk.is
+
+-- a pointer's place stays known as ways are added
+pub place_grows : (v w : View) (x : At) (span : Span) (at : ℕ) → w.layout ≡ v.layout
+    → ((z : Way) → Contains v.ways z → Contains w.ways z) → IsPointerAt v x span at → IsPointerAt w x span at
+place_grows v w (Root r) span at layout ways place =
+    subst (λ (y : Layout). (r < length y.decls) × (span ≡ root_span y.decls r) × (at ≡ 10 + r)) (sym layout) place
+place_grows v w (In y) span at layout ways place = record {
+  way = place.way;
+  has = ways place.way place.has;
+  slot = place.slot;
+  kind = subst (λ (z : Layout). is_array z.decls place.way.span.storage ≡ true) (sym layout) place.kind;
+  inner = place.inner;
+  index = place.index;
+  span = place.span;
+  word = place.word ∙ ap (λ (z : Layout). page_at z.slots y.slot y.index) (sym layout);
+}
+
+pub place_stays : (v w : View) (x : At) (span : Span) (at : ℕ) → HasWalked v w → IsPointerAt v x span at
+    → IsPointerAt w x span at
+place_stays v w x span at walk place = place_grows v w x span at (layout_stays v w walk) walk.ways place
+
+pub word_stays : (v w : View) (at : ℕ) → HasWalked v w → IsPointersWord v at → IsPointersWord w at
+word_stays v w at walk p = record {
+  place = p.place;
+  span = p.span;
+  is = place_stays v w p.place p.span at walk p.is;
+}
+
+-- so does a record's
+pub record_stays : (v w : View) (k : Key) (x : Spot) (at : ℕ) → HasWalked v w → IsRecordAt v k x at → IsRecordAt w k x at
+record_stays v w k x at walk place =
+    let layout = layout_stays v w walk in record {
+      way = place.way;
+      has = walk.ways place.way place.has;
+      slot = place.slot;
+      there = subst (λ (z : Layout). x.slot < z.slots) (sym layout) place.there;
+      kind = subst (λ (z : Layout). is_array z.decls place.way.span.storage ≡ true) (sym layout) place.kind;
+      leaf = place.leaf;
+      index = place.index;
+      key = place.key;
+      word = place.word ∙ ap (λ (z : Layout). page_at z.slots x.slot (2 * x.index)) (sym layout);
+    }
+
+-- a pointer's word is neither the word of a record nor its value
+pub pointer_apart : (v : View) (x : At) (span : Span) (a : ℕ) (k : Key) (y : Spot) (b : ℕ) → WaysAgree v.ways
+    → AreDecls v.layout.decls → IsPointerAt v x span a → IsRecordAt v k y b → (a ≢ b) × (a ≢ b + 1)
+pointer_apart v (Root r) span a k y b agree are p q =
+    let few = are.few in
+    let less = p.0 in
+    let first = p.2 in
+    let word : b ≡ ((32 + v.layout.slots) + 64 * y.slot) + 2 * y.index = q.word in
+    (λ e. absurd (omega (arith, few, less, first, word, e)), λ e. absurd (omega (arith, few, less, first, word, e)))
+pointer_apart v (In z) span a k y b agree are p q =
+    let low : z.index < 64 = p.index in
+    let high : y.index < 32 = q.index in
+    let first : a ≡ ((32 + v.layout.slots) + 64 * z.slot) + z.index = p.word in
+    let word : b ≡ ((32 + v.layout.slots) + 64 * y.slot) + 2 * y.index = q.word in
+    (λ e. other (omega (arith, low, high, first, word, e)), λ e. other (omega (arith, low, high, first, word, e)))
+  where
+    other : z.slot ≡ y.slot → ⊥
+    other same =
+        let leaf = (agree p.way q.way p.has q.has (p.slot ∙ (same ∙ sym q.slot))).2 in
+        true≢false (sym q.leaf ∙ (sym leaf ∙ p.inner))
+
+-- ---- walks
+
+pub last_since : (v u w : View) (part : Part) → HasWalked v u → IsLastBetween u w part → IsLastBetween v w part
+last_since v u w part walk l = record {
+  history = l.history;
+  decided = l.decided;
+  drawn_since = front_then v.history u.history l.history walk.drawn l.drawn_since;
+  seen_since = front_then v.decided u.decided l.decided walk.seen l.seen_since;
+  drawn_by = l.drawn_by;
+  seen_by = l.seen_by;
+  last = subst (λ (y : Layout). Vouches (last_write y.opening l.history l.decided) part) (layout_stays v u walk) l.last;
+}
+
+pub last_by : (v u w : View) (part : Part) → HasWalked u w → IsLastBetween v u part → IsLastBetween v w part
+last_by v u w part walk l = record {
+  history = l.history;
+  decided = l.decided;
+  drawn_since = l.drawn_since;
+  seen_since = l.seen_since;
+  drawn_by = front_then l.history u.history w.history l.drawn_by walk.drawn;
+  seen_by = front_then l.decided u.decided w.decided l.seen_by walk.seen;
+  last = l.last;
+}
+
+pub walked_self : (v : View) → HasWalked v v
+walked_self v = record {
+  since = omega arith;
+  drawn = front_refl v.history;
+  seen = front_refl v.decided;
+  parts = λ part has. inl has;
+  held = λ t h. h;
+  ways = λ x h. h;
+  pages = front_refl v.pages;
+  leads = λ x h. h;
+  is = refl;
+}
+
+pub walked_then : (v u w : View) → HasWalked v u → HasWalked u w → HasWalked v w
+walked_then v u w a b = record {
+  since = let x = a.since in let y = b.since in omega (arith, x, y);
+  drawn = front_then v.history u.history w.history a.drawn b.drawn;
+  seen = front_then v.decided u.decided w.decided a.seen b.seen;
+  parts = parts;
+  held = λ t h. b.held t (a.held t h);
+  ways = λ x h. b.ways x (a.ways x h);
+  pages = front_then v.pages u.pages w.pages a.pages b.pages;
+  leads = λ x h. b.leads x (a.leads x h);
+  is = b.is ∙ ap (λ (y : View). as_walked y w) a.is;
+}
+  where
+    parts : (part : Part) → Contains w.seat.kept part → Contains v.seat.kept part ⊎ IsLastBetween v w part
+    parts part has =
+        elim (b.parts part has) [
+          | inl mid ↦ elim (a.parts part mid) [ inl old ↦ inl old | inr new ↦ inr (last_by v u w part b new) ]
+          | inr new ↦ inr (last_since v u w part a new)
+        ]
+
+-- a walk that ends where this one does, and goes over the same fields
+pub walked_formed : (v w z : View) → w ≡ as_walked v z → w ≡ as_walked v w
+walked_formed v w z e = subst (λ (y : View). y ≡ as_walked v y) (sym e) refl
+
+-- ---- words that were met
+
+pub only_self : (v : View) → OnlyMet v v
+only_self v = λ a. inl refl
+
+pub only_then : (v u w : View) → HasWalked u w → OnlyMet v u → OnlyMet u w → OnlyMet v w
+only_then v u w walk first second =
+    λ a. elim (second a) [
+      | inl same ↦ elim (first a) [ inl before ↦ inl (same ∙ before) | inr p ↦ inr (word_stays u w a walk p) ]
+      | inr p ↦ inr p
+    ]
+
+pub keeps_self : (pointers : List Seen) (v : View) → KeepsMet pointers v v
+keeps_self pointers v = λ a word has p seen. seen
+
+pub keeps_then : (pointers : List Seen) (v u w : View) → HasWalked v u → KeepsMet pointers v u → KeepsMet pointers u w
+    → KeepsMet pointers v w
+keeps_then pointers v u w walk first second =
+    λ a word has p seen. second a word has (word_stays v u a walk p) (first a word has p seen)
+
+pub saw_back : (at seen : ℕ) (was : Option ℕ) (v u w : View) → v.steps ≤ u.steps → SawLast at seen was u w
+    → SawLast at seen was v w
+saw_back at seen was v u w since s = record {
+  step = s.step;
+  since = let later = s.since in omega (arith, since, later);
+  last = s.last;
+  kept = s.kept;
+  stands = s.stands;
+}
+
+-- ---- the holds
+
+-- the same pass, with these holds
+pub can_by : (slots late : List ℕ) (v w : View) → w.layout ≡ v.layout → w.role ≡ v.role → w.seat.stage ≡ v.seat.stage
+    → ((t : ℕ) → has_slot late t ≡ has_slot w.grip.holds t) → ((t : ℕ) → has_slot late t ≡ true → t < v.layout.slots)
+    → WaysAgree w.ways → CanWalk slots v → CanWalk late w
+can_by slots late v w layout role stage holds within agree c = record {
+  active = subst (λ (r : Role). IsActive r) (sym role) c.active;
+  rest = ap is_trying stage ∙ c.rest;
+  holds = holds;
+  within = λ t h. subst (λ (y : Layout). t < y.slots) (sym layout) (within t h);
+  agree = agree;
+  declared = subst (λ (y : Layout). AreDecls y.decls) (sym layout) c.declared;
+}
+
+pub can_after : (slots : List ℕ) (v w : View) → HasWalked v w → w.grip ≡ v.grip → WaysAgree w.ways → CanWalk slots v
+    → CanWalk slots w
+can_after slots v w walk grip agree c =
+    can_by slots slots v w (layout_stays v w walk) (role_stays v w walk) (stage_stays v w walk)
+    (λ t. c.holds t ∙ ap (λ (g : Grip). has_slot g.holds t) (sym grip)) c.within agree c
+
+push_any : (slots : List ℕ) (t q : ℕ) → has_slot (slots ++ t ∷ []) q ≡ has_slot (t ∷ slots) q
+push_any [] t q = refl
+push_any (s ∷ slots) t q =
+    ap (λ (b : Bool). eqb s q || b) (push_any slots t q) ∙ swap (eqb s q) (eqb t q) (has_slot slots q)
+  where
+    swap : (a b c : Bool) → (a || (b || c)) ≡ (b || (a || c))
+    swap true true c = refl
+    swap true false c = refl
+    swap false true c = refl
+    swap false false c = refl
+
+-- one slot more is held, and noted
+pub entered_holds : (slots : List ℕ) (t : ℕ) (v w : View) → CanWalk slots v → w.grip.holds ≡ t ∷ v.grip.holds
+    → (q : ℕ) → has_slot (slots ++ t ∷ []) q ≡ has_slot w.grip.holds q
+entered_holds slots t v w c holds q =
+    push_any slots t q ∙ (ap (λ (b : Bool). eqb t q || b) (c.holds q) ∙ ap (λ (l : List ℕ). has_slot l q) (sym holds))
+
+pub entered_within : (slots : List ℕ) (t : ℕ) (v : View) → CanWalk slots v → t < v.layout.slots → (q : ℕ)
+    → has_slot (slots ++ t ∷ []) q ≡ true → q < v.layout.slots
+entered_within slots t v c there q h = by_test (eqb t q) refl (sym (push_any slots t q) ∙ h)
+  where
+    by_test : (b : Bool) → eqb t q ≡ b → (eqb t q || has_slot slots q) ≡ true → q < v.layout.slots
+    by_test true same h = let is : t ≡ q = grind (arith, nat_tests) in subst (λ i. i < v.layout.slots) is there
+    by_test false other h = c.within q (subst (λ (b : Bool). (b || has_slot slots q) ≡ true) other h)
+
+pub can_entered : (slots : List ℕ) (t : ℕ) (v w : View) → t < v.layout.slots → w ≡ entered t v → CanWalk slots v
+    → CanWalk (slots ++ t ∷ []) w
+can_entered slots t v w there is c =
+    can_by slots (slots ++ t ∷ []) v w (ap (λ (z : View). z.layout) is) (ap (λ (z : View). z.role) is)
+    (ap (λ (z : View). z.seat.stage) is) (entered_holds slots t v w c (ap (λ (z : View). z.grip.holds) is))
+    (entered_within slots t v c there) (subst (λ (z : View). WaysAgree z.ways) (sym is) c.agree) c
+
+pub self : (t : ℕ) → eqb t t ≡ true
+self t = eq-eqb t t refl
+
+pub walked_entered : (t : ℕ) (v : View) → HasWalked v (entered t v)
+walked_entered t v = record {
+  since = omega arith;
+  drawn = front_refl v.history;
+  seen = front_refl v.decided;
+  parts = λ part has. inl has;
+  held = λ q h. or_right (eqb t q) (has_slot v.grip.holds q) h;
+  ways = λ x h. h;
+  pages = front_refl v.pages;
+  leads = λ x h. h;
+  is = refl;
+}
+
+pub place_entered : (t : ℕ) (v w : View) (x : At) (span : Span) (at : ℕ) → w ≡ entered t v → IsPointerAt v x span at
+    → IsPointerAt w x span at
+place_entered t v w x span at is place =
+    place_stays v w x span at (subst (HasWalked v) (sym is) (walked_entered t v)) place
+
+pub below_full : (n : ℕ) → n ≤ 128 → eqb n 128 ≡ false → n < 128
+below_full n few miss = let other : n ≢ 128 = λ e. true≢false (sym (eq-eqb n 128 e) ∙ miss) in omega (arith, few, other)
+
+-- ---- a pointer was loaded
+
+-- The pointer was loaded with this word, which counts as met; where it leads to a slot that the pass holds, there is a
+-- way into that.
+pub record IsLoaded (span : Span) (at : ℕ) (v : View) (n : ℕ) (u : View) : Type 0 where
+  pub walked : HasWalked v u
+  pub grip : u.grip ≡ v.grip
+  pub agree : WaysAgree u.ways
+  pub met : seen_at u.reads at ≡ Some n
+  pub others : (a : ℕ) → a ≢ at → seen_at u.reads a ≡ seen_at v.reads a
+  pub saw : SawLast at n (seen_at v.reads at) v u
+  pub slot : (t : ℕ) → half_of n ≡ Some t → t < v.layout.slots
+  pub way : (t : ℕ) → half_of n ≡ Some t → has_slot v.grip.holds t ≡ true
+      → Contains u.ways (record { slot = t; span = span })
+
+-- and nothing was kept
+pub record IsFollowed (span : Span) (at : ℕ) (v : View) (n : ℕ) (u : View) : Type 0 where
+  pub loaded : IsLoaded span at v n u
+  pub seat : u.seat ≡ v.seat
+
+more_ways : (o : Option ℕ) (holds : List ℕ) (span : Span) (ways : List Way) (x : Way) → Contains ways x
+    → Contains (ways_more holds o span ways) x
+more_ways None holds span ways x h = h
+more_ways (Some t) holds span ways x h = by_held (has_slot holds t)
+  where
+    by_held : (b : Bool) → Contains (ways_if b t span ways) x
+    by_held true = in_tail x (record { slot = t; span = span }) ways h
+    by_held false = h
+
+more_leads : (b : Bool) (span : Span) (n name : ℕ) (leads : List Lead) (x : Lead) → Contains leads x
+    → Contains (leads_more b span n name leads) x
+more_leads true span n name leads x h = in_tail x (record { span = span; page = n; name = name }) leads h
+more_leads false span n name leads x h = h
+
+pub way_new : (n t : ℕ) (holds : List ℕ) (span : Span) (ways : List Way) → half_of n ≡ Some t → has_slot holds t ≡ true
+    → Contains (ways_more holds (half_of n) span ways) (record { slot = t; span = span })
+way_new n t holds span ways half held =
+    subst (λ (o : Option ℕ). Contains (ways_more holds o span ways) (record { slot = t; span = span })) (sym half)
+    (subst (λ (b : Bool). Contains (ways_if b t span ways) (record { slot = t; span = span })) (sym held)
+    (in_head (record { slot = t; span = span }) ways))
+
+pub walked_followed : (at : ℕ) (span : Span) (n name : ℕ) (pages : List (List ℕ)) (v : View) → IsFront v.pages pages
+    → HasWalked v (followed at span n name pages v)
+walked_followed at span n name pages v front = record {
+  since = omega arith;
+  drawn = front_refl v.history;
+  seen = front_refl v.decided;
+  parts = λ part has. inl has;
+  held = λ t h. h;
+  ways = λ x h. more_ways (half_of n) v.grip.holds span v.ways x h;
+  pages = front;
+  leads = λ x h. more_leads (is_open_word n) span (n % 2 ^ 32) name v.leads x h;
+  is = refl;
+}
+
+pub is_followed : (span : Span) (at : ℕ) (v : View) (n : ℕ) (w : View) → HasFollowed span at v n w
+    → IsFollowed span at v n w
+is_followed span at v n w h =
+    let u : View = followed at span n h.name h.pages v in
+    subst (IsFollowed span at v n) (sym h.is) record {
+      loaded = record {
+        walked = walked_followed at span n h.name h.pages v h.front;
+        grip = refl;
+        agree = subst (λ (z : View). WaysAgree z.ways) h.is h.agree;
+        met = seen_same v.reads at n (kept_at v.reads at);
+        others = λ a apart. seen_other v.reads at n (kept_at v.reads at) a apart;
+        saw = record {
+          step = v.steps;
+          since = omega arith;
+          last = refl;
+          kept = kept_at v.reads at;
+          stands = noted_in v.reads at n (kept_at v.reads at);
+        };
+        slot = λ t half. subst (λ (o : Option ℕ). IfSome o (λ q. q < v.layout.slots)) half h.slot;
+        way = λ t half held. way_new n t v.grip.holds span v.ways half held;
+      };
+      seat = refl;
+    }
+
+-- ---- refusals at a pointer
+
+pub word_loaded : (place : At) (span : Span) (at : ℕ) (v : View) (n : ℕ) (u : View) → IsLoaded span at v n u
+    → IsPointerAt v place span at → IsPointersWord u at
+word_loaded place span at v n u l p =
+    record { place = place; span = span; is = place_stays v u place span at l.walked p }
+
+-- no word but this one of a pointer was met
+pub only_but : (at : ℕ) (v w : View) → IsPointersWord w at → ((a : ℕ) → a ≢ at → seen_at w.reads a ≡ seen_at v.reads a)
+    → OnlyMet v w
+only_but at v w p others = λ a. by_test a (eqb a at) refl
+  where
+    by_test : (a : ℕ) (b : Bool) → eqb a at ≡ b → (seen_at w.reads a ≡ seen_at v.reads a) ⊎ IsPointersWord w a
+    by_test a true same =
+        let is : at ≡ a = grind (arith, nat_tests) in inr (subst (IsPointersWord w) is p)
+    by_test a false other = inl (others a (λ e. true≢false (sym (eq-eqb a at e) ∙ other)))
+
+pub only_loaded : (place : At) (span : Span) (at : ℕ) (v : View) (n : ℕ) (u : View) → IsLoaded span at v n u
+    → IsPointerAt v place span at → OnlyMet v u
+only_loaded place span at v n u l p = only_but at v u (word_loaded place span at v n u l p) l.others
+
+-- it is as the set has it, or not in the set
+pub keeps_but : (pointers : List Seen) (met : Bool) (at n : ℕ) (v w : View) → IsMetAs pointers at n met
+    → seen_at w.reads at ≡ Some n → ((a : ℕ) → a ≢ at → seen_at w.reads a ≡ seen_at v.reads a) → KeepsMet pointers v w
+keeps_but pointers met at n v w set_is here others = λ a word has p seen. by_test a word has seen (eqb a at) refl
+  where
+    in_set : (b : Bool) (word : ℕ) → word_at at pointers ≡ (if b then Some n else None) → word_at at pointers ≡ Some word
+        → Some n ≡ Some word
+    in_set true word is has = sym is ∙ has
+    in_set false word is has = let none : None ≡ Some word = sym is ∙ has in absurd (cc)
+
+    by_test : (a word : ℕ) → word_at a pointers ≡ Some word → seen_at v.reads a ≡ Some word → (b : Bool)
+        → eqb a at ≡ b → seen_at w.reads a ≡ Some word
+    by_test a word has seen true same =
+        let is : a ≡ at = grind (arith, nat_tests) in
+        ap (seen_at w.reads) is
+        ∙ (here ∙ in_set met word set_is (ap (λ (i : ℕ). word_at i pointers) (sym is) ∙ has))
+    by_test a word has seen false other = others a (λ e. true≢false (sym (eq-eqb a at e) ∙ other)) ∙ seen
+
+-- the set has it with another word
+pub met_refuses : (pointers : List Seen) (slots : List ℕ) (place : At) (span : Span) (at : ℕ) (why : RefusalCause)
+    (v : View) (n : ℕ) (u : View) → IsLoaded span at v n u → IsPointerAt v place span at → IsMetElse pointers at n why
+    → RefusesWalk pointers slots why v u
+met_refuses pointers slots place span at (causes.Conflict other expected seen) v n u l p h =
+    subst (λ j. IsPointerChanged pointers j expected seen v u) (sym h.0)
+    (subst (λ k. IsPointerChanged pointers at expected k v u) (sym h.1) record {
+      place = word_loaded place span at v n u l p;
+      was = seen_at v.reads at;
+      saw = l.saw;
+      known = inl h.2;
+      cause = inr h.3;
+    })
+met_refuses pointers slots place span at (causes.Full held) v n u l p h = absurd h
+met_refuses pointers slots place span at (causes.Wide set) v n u l p h = absurd h
+met_refuses pointers slots place span at (causes.NumberLimit clock) v n u l p h = absurd h
+
+-- it was loaded again
+pub changed_since : (place : At) (span : Span) (at word : ℕ) (v : View) (n : ℕ) (u : View) → IsLoaded span at v n u
+    → IsPointerAt v place span at → seen_at v.reads at ≡ Some word → (2 ^ 60 ≤ n) ⊎ (n ≢ word)
+    → IsChangedSince at word n v u
+changed_since place span at word v n u l p met cause = record {
+  place = word_loaded place span at v n u l p;
+  saw = subst (λ (o : Option ℕ). SawLast at n o v u) met l.saw;
+  cause = cause;
+}
+
+pub shut_or_other : (word again : ℕ) → 2 ^ 60 ≤ word → (2 ^ 60 ≤ again) ⊎ (again ≢ word)
+shut_or_other word again shut = by_test (ltb again (2 ^ 60)) refl
+  where
+    by_test : (b : Bool) → ltb again (2 ^ 60) ≡ b → (2 ^ 60 ≤ again) ⊎ (again ≢ word)
+    by_test true low = let less : again < 2 ^ 60 = grind (arith, nat_tests) in inr (λ e. absurd (omega (arith, less, shut, e)))
+    by_test false high = let most : 2 ^ 60 ≤ again = grind (arith, nat_tests) in inl most
+
+pub since_changes : (pointers : List Seen) (met : Bool) (at word seen : ℕ) (v u w : View) → v.steps ≤ u.steps
+    → IsMetAs pointers at word met → IsChangedSince at word seen u w → IsPointerChanged pointers at word seen v w
+since_changes pointers met at word seen v u w since set_is c = record {
+  place = c.place;
+  was = Some word;
+  saw = saw_back at seen (Some word) v u w since c.saw;
+  known = by_met met set_is;
+  cause = c.cause;
+}
+  where
+    by_met : (b : Bool) → word_at at pointers ≡ (if b then Some word else None)
+        → (word_at at pointers ≡ Some word) ⊎ ((word_at at pointers ≡ None) × (Some word ≡ Some word))
+    by_met true is = inl is
+    by_met false is = inr (is, refl)
+
+pub hold_refuses : (pointers : List Seen) (met : Bool) (slots : List ℕ) (at word : ℕ) (why : RefusalCause)
+    (v u w : View) → v.steps ≤ u.steps → IsMetAs pointers at word met → RefusesHold slots at word why u w
+    → RefusesWalk pointers slots why v w
+hold_refuses pointers met slots at word (causes.Conflict other expected seen) v u w since set_is h =
+    subst (λ j. IsPointerChanged pointers j expected seen v w) (sym h.0)
+    (subst (λ k. IsPointerChanged pointers at k seen v w) (sym h.1)
+    (since_changes pointers met at word seen v u w since set_is h.2))
+hold_refuses pointers met slots at word (causes.Full held) v u w since set_is h = absurd h
+hold_refuses pointers met slots at word (causes.Wide set) v u w since set_is h =
+    subst (λ (s : SetName). IsWide pointers slots s) (sym h.0) h.1
+hold_refuses pointers met slots at word (causes.NumberLimit clock) v u w since set_is h = absurd h
+
+-- ---- a slot that is held
+
+pub half_is : (n : ℕ) → 2 ^ 32 ≤ n → n < 2 ^ 60 → half_of n ≡ Some (n / 2 ^ 32 - 1)
+half_is n some less =
+    let open-so : is_open_word n ≡ true = grind (arith, nat_tests) in
+    ap (λ (b : Bool). let o : Option ℕ = cond b (slot_half (n / 2 ^ 32)) None in o) open-so
+    ∙ by_half (n / 2 ^ 32) (omega (arith, some))
+  where
+    by_half : (h : ℕ) → 0 < h → slot_half h ≡ Some (h - 1)
+    by_half zero some = absurd (omega (arith, some))
+    by_half (suc t) some = ap (λ (i : ℕ). let o : Option ℕ = Some i in o) (let e : t ≡ suc t - 1 = omega arith in e)
+
+-- what a pointer that was just seen to lead to a slot tells
+pub led_to : (span : Span) (at : ℕ) (v : View) (n : ℕ) (u : View) → IsLoaded span at v n u → 2 ^ 32 ≤ n → n < 2 ^ 60
+    → IsLedTo n span at u
+led_to span at v n u l some less =
+    let half = half_is n some less in record {
+      there = subst (λ (y : Layout). n / 2 ^ 32 - 1 < y.slots) (sym (layout_stays v u l.walked))
+          (l.slot (n / 2 ^ 32 - 1) half);
+      known = λ held. l.way (n / 2 ^ 32 - 1) half
+          (subst (λ (g : Grip). has_slot g.holds (n / 2 ^ 32 - 1) ≡ true) l.grip held);
+      met = l.met;
+    }
+
+-- it is held already
+pub hold_same : (slots : List ℕ) (at word : ℕ) (span : Span) (v : View) → CanWalk slots v → IsLedTo word span at v
+    → has_slot slots (word / 2 ^ 32 - 1) ≡ true → HoldsSo slots at word span (Ok (word / 2 ^ 32 - 1)) v v
+hold_same slots at word span v can led held = record {
+  can = can;
+  walked = walked_self v;
+  kept = refl;
+  others = λ a apart. refl;
+  still = led.met;
+  held = (led.known (sym (can.holds (word / 2 ^ 32 - 1)) ∙ held), led.there);
+  cause = tt;
+}
+
+-- the holds are full
+pub hold_wide : (slots : List ℕ) (at word : ℕ) (span : Span) (v : View) → CanWalk slots v → length slots ≡ 128
+    → HoldsSo slots at word span (Err (causes.Wide Holds)) v v
+hold_wide slots at word span v can full = record {
+  can = can;
+  walked = walked_self v;
+  kept = refl;
+  others = λ a apart. refl;
+  still = tt;
+  held = tt;
+  cause = (refl, full);
+}
+
+-- the slot was entered, and the pointer loaded once more
+module _ (slots : List ℕ) (place : At) (at word : ℕ) (span : Span) (v e : View) (again : ℕ) (w : View)
+    (can : CanWalk slots v) (p : IsPointerAt v place span at) (led : IsLedTo word span at v)
+    (enters : e ≡ entered (word / 2 ^ 32 - 1) v) (f : IsFollowed span at e again w) where
+  abbrev t : ℕ
+  t = word / 2 ^ 32 - 1
+
+  first : HasWalked v e
+  first = subst (HasWalked v) (sym enters) (walked_entered t v)
+
+  walk : HasWalked v w
+  walk = walked_then v e w first f.loaded.walked
+
+  can_last : CanWalk (slots ++ t ∷ []) w
+  can_last =
+      can_after (slots ++ t ∷ []) e w f.loaded.walked f.loaded.grip f.loaded.agree
+      (can_entered slots t v e led.there enters can)
+
+  kept_last : w.seat.kept ≡ v.seat.kept
+  kept_last = ap (λ (s : Seat). s.kept) f.seat ∙ ap (λ (z : View). z.seat.kept) enters
+
+  others_last : (a : ℕ) → a ≢ at → seen_at w.reads a ≡ seen_at v.reads a
+  others_last a apart = f.loaded.others a apart ∙ ap (λ (z : View). seen_at z.reads a) enters
+
+  pub hold_changed : again ≢ word → HoldsSo (slots ++ t ∷ []) at word span (Err (causes.Conflict at word again)) v w
+  hold_changed other = record {
+    can = can_last;
+    walked = walk;
+    kept = kept_last;
+    others = others_last;
+    still = tt;
+    held = tt;
+    cause = (
+      refl,
+      refl,
+      changed v e (let later = first.since in later) (changed_since place span at word e again w f.loaded
+          (place_stays v e place span at first p) (ap (λ (z : View). seen_at z.reads at) enters ∙ led.met) (inr other)),
+    );
+  }
+    where
+      changed : (v e : View) → v.steps ≤ e.steps → IsChangedSince at word again e w → IsChangedSince at word again v w
+      changed v e since c = record {
+        place = c.place;
+        saw = saw_back at again (Some word) v e w since c.saw;
+        cause = c.cause;
+      }
+
+  pub hold_held : again ≡ word → 2 ^ 32 ≤ word → word < 2 ^ 60 → HoldsSo (slots ++ t ∷ []) at word span (Ok t) v w
+  hold_held same some less = record {
+    can = can_last;
+    walked = walk;
+    kept = kept_last;
+    others = others_last;
+    still = f.loaded.met ∙ ap (λ (i : ℕ). let o : Option ℕ = Some i in o) same;
+    held = (
+      f.loaded.way t (ap half_of same ∙ half_is word some less)
+          (subst (λ (l : List ℕ). has_slot l t ≡ true) (sym (ap (λ (z : View). z.grip.holds) enters))
+          (or_left (eqb t t) (has_slot v.grip.holds t) (self t))),
+      subst (λ (y : Layout). t < y.slots) (sym (layout_stays v w walk)) led.there,
+    );
+    cause = tt;
+  }

@@ -1,0 +1,98 @@
+use Rattle.std.proofs.Common.{sym, subst}
+use Rattle.engine_pages.specs.declared.layout.Layout.{Layout}
+use Rattle.engine_pages.specs.Passes.{view}
+use Rattle.array_pages.specs.Spans.{keys_above, HasArray, IsArrayAt}
+use Rattle.array_pages.proofs.DeclLaws.{array_there, few_at, key_at, size_at, within_at}
+use Rattle.array_pages.proofs.SpanLaws.{over_large}
+use Rattle.array_pages.proofs.SpanLaws.{over_medium, over_small}
+use Rattle.array_pages.proofs.SpanLaws.{root_large, root_middle, root_pointer, root_small, root_word}
+use Rattle.array_pages.proofs.finding.find_from_root.Goals as goal
+
+pub array_of-root-requires : goal.array_of-root-requires
+array_of-root-requires c =
+    subst (λ (l : Layout). HasArray l.decls c.args.key.storage) c.requires.of.layout
+    (array_there (view c.args.pass.now).layout.decls c.args.key.storage c.requires.fits.array)
+
+pub find_in_leaf-requires-clause-place : goal.find_in_leaf-requires-clause-place
+find_in_leaf-requires-clause-place c =
+    let v = view c.args.pass.now in
+    let root = c.array_of-root.result.0 in
+    let size = c.array_of-root.result.1 in
+    let there : IsArrayAt v.layout.decls c.args.key.storage root size =
+    subst (λ (l : Layout). IsArrayAt l.decls c.args.key.storage root size) (sym c.requires.of.layout) c.array_of-root.ensures in
+    root_pointer v root (keys_above c.args.key 0 0) (within_at v.layout.decls c.args.key.storage root size there)
+    (root_small v.layout.decls c.args.key root size there c.if-size-le-LEAF.true)
+
+pub find_in_leaf-requires-clause-word : goal.find_in_leaf-requires-clause-word
+find_in_leaf-requires-clause-word c =
+    let v = view c.args.pass.now in
+    let root = c.array_of-root.result.0 in
+    let size = c.array_of-root.result.1 in
+    let there : IsArrayAt v.layout.decls c.args.key.storage root size =
+    subst (λ (l : Layout). IsArrayAt l.decls c.args.key.storage root size) (sym c.requires.of.layout) c.array_of-root.ensures in
+    root_word v.layout root (few_at v.layout.decls c.args.key.storage root size c.requires.can.declared there)
+
+pub find_in_leaf-requires-clause-over : goal.find_in_leaf-requires-clause-over
+find_in_leaf-requires-clause-over c =
+    let v = view c.args.pass.now in
+    let root = c.array_of-root.result.0 in
+    let size = c.array_of-root.result.1 in
+    let there : IsArrayAt v.layout.decls c.args.key.storage root size =
+    subst (λ (l : Layout). IsArrayAt l.decls c.args.key.storage root size) (sym c.requires.of.layout) c.array_of-root.ensures in
+    over_small c.args.key size (key_at v.layout.decls c.args.key root size c.requires.can.declared c.requires.fits there) c.if-size-le-LEAF.true
+
+pub find_in_middle-requires-clause-place : goal.find_in_middle-requires-clause-place
+find_in_middle-requires-clause-place c =
+    let v = view c.args.pass.now in
+    let root = c.array_of-root.result.0 in
+    let size = c.array_of-root.result.1 in
+    let there : IsArrayAt v.layout.decls c.args.key.storage root size =
+    subst (λ (l : Layout). IsArrayAt l.decls c.args.key.storage root size) (sym c.requires.of.layout) c.array_of-root.ensures in
+    root_pointer v root (keys_above c.args.key 1 0) (within_at v.layout.decls c.args.key.storage root size there)
+    (root_middle v.layout.decls c.args.key root size there c.if-size-le-LEAF.false c.if-size-le-MIDDLE.true)
+
+pub find_in_middle-requires-clause-word : goal.find_in_middle-requires-clause-word
+find_in_middle-requires-clause-word c =
+    let v = view c.args.pass.now in
+    let root = c.array_of-root.result.0 in
+    let size = c.array_of-root.result.1 in
+    let there : IsArrayAt v.layout.decls c.args.key.storage root size =
+    subst (λ (l : Layout). IsArrayAt l.decls c.args.key.storage root size) (sym c.requires.of.layout) c.array_of-root.ensures in
+    root_word v.layout root (few_at v.layout.decls c.args.key.storage root size c.requires.can.declared there)
+
+pub find_in_middle-requires-clause-over : goal.find_in_middle-requires-clause-over
+find_in_middle-requires-clause-over c =
+    let v = view c.args.pass.now in
+    let root = c.array_of-root.result.0 in
+    let size = c.array_of-root.result.1 in
+    let there : IsArrayAt v.layout.decls c.args.key.storage root size =
+    subst (λ (l : Layout). IsArrayAt l.decls c.args.key.storage root size) (sym c.requires.of.layout) c.array_of-root.ensures in
+    over_medium c.args.key size (key_at v.layout.decls c.args.key root size c.requires.can.declared c.requires.fits there) c.if-size-le-MIDDLE.true
+
+pub find_in_top-requires-clause-place : goal.find_in_top-requires-clause-place
+find_in_top-requires-clause-place c =
+    let v = view c.args.pass.now in
+    let root = c.array_of-root.result.0 in
+    let size = c.array_of-root.result.1 in
+    let there : IsArrayAt v.layout.decls c.args.key.storage root size =
+    subst (λ (l : Layout). IsArrayAt l.decls c.args.key.storage root size) (sym c.requires.of.layout) c.array_of-root.ensures in
+    root_pointer v root (keys_above c.args.key 2 0) (within_at v.layout.decls c.args.key.storage root size there)
+    (root_large v.layout.decls c.args.key root size there c.if-size-le-MIDDLE.false)
+
+pub find_in_top-requires-clause-word : goal.find_in_top-requires-clause-word
+find_in_top-requires-clause-word c =
+    let v = view c.args.pass.now in
+    let root = c.array_of-root.result.0 in
+    let size = c.array_of-root.result.1 in
+    let there : IsArrayAt v.layout.decls c.args.key.storage root size =
+    subst (λ (l : Layout). IsArrayAt l.decls c.args.key.storage root size) (sym c.requires.of.layout) c.array_of-root.ensures in
+    root_word v.layout root (few_at v.layout.decls c.args.key.storage root size c.requires.can.declared there)
+
+pub find_in_top-requires-clause-over : goal.find_in_top-requires-clause-over
+find_in_top-requires-clause-over c =
+    let v = view c.args.pass.now in
+    let root = c.array_of-root.result.0 in
+    let size = c.array_of-root.result.1 in
+    let there : IsArrayAt v.layout.decls c.args.key.storage root size =
+    subst (λ (l : Layout). IsArrayAt l.decls c.args.key.storage root size) (sym c.requires.of.layout) c.array_of-root.ensures in
+    over_large c.args.key size (key_at v.layout.decls c.args.key root size c.requires.can.declared c.requires.fits there) (size_at v.layout.decls c.args.key.storage root size c.requires.can.declared there)

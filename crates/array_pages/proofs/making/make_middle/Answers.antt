@@ -1,0 +1,241 @@
+use Rattle.std.proofs.Common.{◌≡◌, inl, ◌+◌, ◌-◌, ◌*◌, ◌/◌, ◌<◌, true, false, sym, ap, ◌∙◌, subst, refl}
+use Rattle.std.specs.List.{Contains}
+use Rattle.std.proofs.lemmas.Result.{err_from_is_err_and}
+use Rattle.homes.specs.declared.places.Span.{Span}
+use Rattle.engine_pages.specs.declared.layout.Layout.{Layout}
+use Rattle.engine_pages.specs.Layout.{page_at, words_of}
+use Rattle.engine_pages.specs.Pages.{is_array}
+use Rattle.engine_pages.specs.Passes.{view}
+use Rattle.engine_pages.specs.Pointers.{IsPointerAt}
+use Rattle.array_pages.specs.Spans.{keys_above}
+use Rattle.array_pages.specs.Steps.{CanCopy}
+use Rattle.array_pages.specs.Walks.{HasWalked}
+use Rattle.array_pages.proofs.FindLaws.{fits_walked}
+use Rattle.array_pages.proofs.MakeLaws.{makes_inner}
+use Rattle.array_pages.proofs.MakeLaws.{makes_less, makes_moved, makes_none}
+use Rattle.array_pages.proofs.SpanLaws.{child_middle, child_pointer, low_leaf, middle_is}
+use Rattle.array_pages.proofs.SpanLaws.{over_leaf, page_word, part_leaf}
+use Rattle.array_pages.proofs.WalkLaws.{layout_stays, place_stays}
+use Rattle.array_pages.proofs.WalkLaws.{walked_then}
+use Rattle.array_pages.proofs.making.make_middle.Goals as goal
+
+pub settle-requires-clause-place : goal.settle-requires-clause-place
+settle-requires-clause-place c =
+    let v = view c.args.pass.now in
+    let span = c.span_from-span.result in
+    let keys : Span = keys_above c.args.key 1 c.args.low in
+    let same : span ≡ keys = c.span_from-span.ensures in
+    let here : IsPointerAt v c.args.place span c.args.at =
+    subst (λ (s : Span). IsPointerAt v c.args.place s c.args.at) (sym same) c.requires.place in
+    here
+
+pub settle-requires-clause-array : goal.settle-requires-clause-array
+settle-requires-clause-array c =
+    let v = view c.args.pass.now in
+    let span = c.span_from-span.result in
+    let keys : Span = keys_above c.args.key 1 c.args.low in
+    let same : span ≡ keys = c.span_from-span.ensures in
+    let here : IsPointerAt v c.args.place span c.args.at =
+    subst (λ (s : Span). IsPointerAt v c.args.place s c.args.at) (sym same) c.requires.place in
+    subst (λ (s : Span). is_array v.layout.decls s.storage ≡ true) (sym same) c.requires.fits.array
+
+pub settle-requires-clause-kind : goal.settle-requires-clause-kind
+settle-requires-clause-kind c =
+    let v = view c.args.pass.now in
+    let span = c.span_from-span.result in
+    let keys : Span = keys_above c.args.key 1 c.args.low in
+    let same : span ≡ keys = c.span_from-span.ensures in
+    let here : IsPointerAt v c.args.place span c.args.at =
+    subst (λ (s : Span). IsPointerAt v c.args.place s c.args.at) (sym same) c.requires.place in
+    subst (CanCopy false) (sym same) (inl refl)
+
+pub returns-in_err-settled-clause-makes : goal.returns-in_err-settled-clause-makes
+returns-in_err-settled-clause-makes c =
+    let p = err_from_is_err_and c.from_residual.result c.from_residual.ensures.1 in
+    let v = view c.args.pass.now in
+    let span = c.span_from-span.result in
+    let keys : Span = keys_above c.args.key 1 c.args.low in
+    let same : span ≡ keys = c.span_from-span.ensures in
+    let here : IsPointerAt v c.args.place span c.args.at =
+    subst (λ (s : Span). IsPointerAt v c.args.place s c.args.at) (sym same) c.requires.place in
+    rw (p.1, p.2)
+    (makes_none c.args.key c.args.pointers.now c.settle.new.holds span c.args.at c.in_err-settled.field-0.0 v
+    (view c.settle.new.pass) c.in_err-settled.ensures.settles)
+
+pub word_at-next-requires-clause-slot : goal.word_at-next-requires-clause-slot
+word_at-next-requires-clause-slot c =
+    let v = view c.args.pass.now in
+    let span = c.span_from-span.result in
+    let keys : Span = keys_above c.args.key 1 c.args.low in
+    let same : span ≡ keys = c.span_from-span.ensures in
+    let here : IsPointerAt v c.args.place span c.args.at =
+    subst (λ (s : Span). IsPointerAt v c.args.place s c.args.at) (sym same) c.requires.place in
+    let u = view c.settle.new.pass in
+    let h = c.in_ok-settled.ensures.settles in
+    subst (λ (l : Layout). c.in_ok-settled.settled.slot < l.slots) c.settle.ensures.of.layout h.settled.there
+
+pub word_at-next-requires-clause-index : goal.word_at-next-requires-clause-index
+word_at-next-requires-clause-index c =
+    part_leaf c.args.key c.args.low c.requires.over
+
+pub make_leaf-requires-clause-can : goal.make_leaf-requires-clause-can
+make_leaf-requires-clause-can c =
+    let v = view c.args.pass.now in
+    let span = c.span_from-span.result in
+    let keys : Span = keys_above c.args.key 1 c.args.low in
+    let same : span ≡ keys = c.span_from-span.ensures in
+    let here : IsPointerAt v c.args.place span c.args.at =
+    subst (λ (s : Span). IsPointerAt v c.args.place s c.args.at) (sym same) c.requires.place in
+    let u = view c.settle.new.pass in
+    let h = c.in_ok-settled.ensures.settles in
+    h.can
+
+pub make_leaf-requires-clause-fits : goal.make_leaf-requires-clause-fits
+make_leaf-requires-clause-fits c =
+    let v = view c.args.pass.now in
+    let span = c.span_from-span.result in
+    let keys : Span = keys_above c.args.key 1 c.args.low in
+    let same : span ≡ keys = c.span_from-span.ensures in
+    let here : IsPointerAt v c.args.place span c.args.at =
+    subst (λ (s : Span). IsPointerAt v c.args.place s c.args.at) (sym same) c.requires.place in
+    let u = view c.settle.new.pass in
+    let h = c.in_ok-settled.ensures.settles in
+    fits_walked c.args.key v u h.walked c.requires.fits
+
+pub make_leaf-requires-clause-place : goal.make_leaf-requires-clause-place
+make_leaf-requires-clause-place c =
+    let v = view c.args.pass.now in
+    let span = c.span_from-span.result in
+    let keys : Span = keys_above c.args.key 1 c.args.low in
+    let same : span ≡ keys = c.span_from-span.ensures in
+    let here : IsPointerAt v c.args.place span c.args.at =
+    subst (λ (s : Span). IsPointerAt v c.args.place s c.args.at) (sym same) c.requires.place in
+    let u = view c.settle.new.pass in
+    let h = c.in_ok-settled.ensures.settles in
+    let part = (c.args.key.key - c.args.low) / 32 in
+    let t = c.in_ok-settled.settled.slot in
+    let next : c.word_at-next.result ≡ page_at u.layout.slots t part =
+    c.word_at-next.ensures ∙ ap (λ (l : Layout). page_at l.slots t part) (sym c.settle.ensures.of.layout) in
+    child_pointer u keys (keys_above c.args.key 0 (c.args.low + part * 32)) t part c.word_at-next.result
+    (subst (λ (s : Span). Contains u.ways (record { slot = t; span = s })) same h.settled.way)
+    (fits_walked c.args.key v u h.walked c.requires.fits).array (middle_is c.args.key c.args.low) (part_leaf c.args.key c.args.low c.requires.over) (child_middle c.args.key c.args.low part) next
+
+pub make_leaf-requires-clause-word : goal.make_leaf-requires-clause-word
+make_leaf-requires-clause-word c =
+    let v = view c.args.pass.now in
+    let span = c.span_from-span.result in
+    let keys : Span = keys_above c.args.key 1 c.args.low in
+    let same : span ≡ keys = c.span_from-span.ensures in
+    let here : IsPointerAt v c.args.place span c.args.at =
+    subst (λ (s : Span). IsPointerAt v c.args.place s c.args.at) (sym same) c.requires.place in
+    let u = view c.settle.new.pass in
+    let h = c.in_ok-settled.ensures.settles in
+    let part = (c.args.key.key - c.args.low) / 32 in
+    let t = c.in_ok-settled.settled.slot in
+    let next : c.word_at-next.result ≡ page_at u.layout.slots t part =
+    c.word_at-next.ensures ∙ ap (λ (l : Layout). page_at l.slots t part) (sym c.settle.ensures.of.layout) in
+    subst (λ i. i < words_of u.layout) (sym next) (page_word u.layout t part h.settled.there (part_leaf c.args.key c.args.low c.requires.over))
+
+pub make_leaf-requires-clause-over : goal.make_leaf-requires-clause-over
+make_leaf-requires-clause-over c =
+    over_leaf c.args.key c.args.low c.requires.over
+
+pub make_leaf-requires-clause-low : goal.make_leaf-requires-clause-low
+make_leaf-requires-clause-low c =
+    low_leaf c.args.key c.args.low c.requires.over c.requires.low
+
+pub returns-in_err-record-clause-makes : goal.returns-in_err-record-clause-makes
+returns-in_err-record-clause-makes c =
+    let p = err_from_is_err_and c.from_residual-in_err-record.result c.from_residual-in_err-record.ensures.1 in
+    let v = view c.args.pass.now in
+    let span = c.span_from-span.result in
+    let keys : Span = keys_above c.args.key 1 c.args.low in
+    let same : span ≡ keys = c.span_from-span.ensures in
+    let here : IsPointerAt v c.args.place span c.args.at =
+    subst (λ (s : Span). IsPointerAt v c.args.place s c.args.at) (sym same) c.requires.place in
+    let u = view c.settle.new.pass in
+    let h = c.in_ok-settled.ensures.settles in
+    rw (p.1, p.2)
+    (makes_less c.args.key c.args.pointers.now c.settle.new.holds c.make_leaf.new.holds span c.args.at c.in_ok-settled.settled
+    c.in_err-record.field-0.0 v u (view c.make_leaf.new.pass) h c.in_err-record.ensures.makes)
+
+pub check_moved-requires-clause-active : goal.check_moved-requires-clause-active
+check_moved-requires-clause-active c =
+    let v = view c.args.pass.now in
+    let span = c.span_from-span.result in
+    let keys : Span = keys_above c.args.key 1 c.args.low in
+    let same : span ≡ keys = c.span_from-span.ensures in
+    let here : IsPointerAt v c.args.place span c.args.at =
+    subst (λ (s : Span). IsPointerAt v c.args.place s c.args.at) (sym same) c.requires.place in
+    let u = view c.settle.new.pass in
+    let h = c.in_ok-settled.ensures.settles in
+    let t = view c.make_leaf.new.pass in
+    let m = c.in_ok-record.ensures.makes in
+    let walk : HasWalked v t = walked_then v u t h.walked m.walked in
+    m.can.walks.active
+
+pub check_moved-requires-clause-place : goal.check_moved-requires-clause-place
+check_moved-requires-clause-place c =
+    let v = view c.args.pass.now in
+    let span = c.span_from-span.result in
+    let keys : Span = keys_above c.args.key 1 c.args.low in
+    let same : span ≡ keys = c.span_from-span.ensures in
+    let here : IsPointerAt v c.args.place span c.args.at =
+    subst (λ (s : Span). IsPointerAt v c.args.place s c.args.at) (sym same) c.requires.place in
+    let u = view c.settle.new.pass in
+    let h = c.in_ok-settled.ensures.settles in
+    let t = view c.make_leaf.new.pass in
+    let m = c.in_ok-record.ensures.makes in
+    let walk : HasWalked v t = walked_then v u t h.walked m.walked in
+    place_stays v t c.args.place span c.args.at walk here
+
+pub check_moved-requires-clause-word : goal.check_moved-requires-clause-word
+check_moved-requires-clause-word c =
+    let v = view c.args.pass.now in
+    let span = c.span_from-span.result in
+    let keys : Span = keys_above c.args.key 1 c.args.low in
+    let same : span ≡ keys = c.span_from-span.ensures in
+    let here : IsPointerAt v c.args.place span c.args.at =
+    subst (λ (s : Span). IsPointerAt v c.args.place s c.args.at) (sym same) c.requires.place in
+    let u = view c.settle.new.pass in
+    let h = c.in_ok-settled.ensures.settles in
+    let t = view c.make_leaf.new.pass in
+    let m = c.in_ok-record.ensures.makes in
+    let walk : HasWalked v t = walked_then v u t h.walked m.walked in
+    subst (λ (y : Layout). c.args.at < words_of y) (sym (layout_stays v t walk)) c.requires.word
+
+pub returns-in_err-check_moved-clause-makes : goal.returns-in_err-check_moved-clause-makes
+returns-in_err-check_moved-clause-makes c =
+    let p = err_from_is_err_and c.from_residual-in_err-check_moved.result c.from_residual-in_err-check_moved.ensures.1 in
+    let v = view c.args.pass.now in
+    let span = c.span_from-span.result in
+    let keys : Span = keys_above c.args.key 1 c.args.low in
+    let same : span ≡ keys = c.span_from-span.ensures in
+    let here : IsPointerAt v c.args.place span c.args.at =
+    subst (λ (s : Span). IsPointerAt v c.args.place s c.args.at) (sym same) c.requires.place in
+    let u = view c.settle.new.pass in
+    let h = c.in_ok-settled.ensures.settles in
+    let t = view c.make_leaf.new.pass in
+    let m = c.in_ok-record.ensures.makes in
+    let walk : HasWalked v t = walked_then v u t h.walked m.walked in
+    rw (p.1, p.2)
+    (makes_moved c.args.key c.args.pointers.now c.make_leaf.new.holds c.args.at c.in_ok-settled.settled.moved
+    c.in_err-check_moved.field-0.0 v t (view c.check_moved.new.pass) walk (m.kept ∙ h.kept) m.can
+    c.in_err-check_moved.ensures.checks)
+
+pub returns-clause-makes : goal.returns-clause-makes
+returns-clause-makes c =
+    let v = view c.args.pass.now in
+    let span = c.span_from-span.result in
+    let keys : Span = keys_above c.args.key 1 c.args.low in
+    let same : span ≡ keys = c.span_from-span.ensures in
+    let here : IsPointerAt v c.args.place span c.args.at =
+    subst (λ (s : Span). IsPointerAt v c.args.place s c.args.at) (sym same) c.requires.place in
+    let u = view c.settle.new.pass in
+    let h = c.in_ok-settled.ensures.settles in
+    let t = view c.make_leaf.new.pass in
+    let m = c.in_ok-record.ensures.makes in
+    let walk : HasWalked v t = walked_then v u t h.walked m.walked in
+    makes_inner c.args.key c.args.pointers.now c.settle.new.holds c.make_leaf.new.holds c.args.place span c.args.at
+    c.in_ok-record.record c.in_ok-settled.settled v u t (view c.check_moved.new.pass) here h m
+    c.in_ok-check_moved.ensures.checks

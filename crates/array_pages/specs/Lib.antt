@@ -1,0 +1,6 @@
+pub mod Spans
+pub mod Snapshots
+pub mod Walks
+pub mod Finding
+pub mod Making
+pub mod Steps

@@ -1,0 +1,31 @@
+-- Which keys the pages are over that lead to the record of a key.
+use Rattle.std.specs.Prelude.{◌≡◌, ℕ, ◌+◌, ◌<◌, ◌≤◌, List, true, Some, slice_get}
+use Rattle.serial_model.specs.declared.decl.Decl.{Decl}
+use Rattle.serial_model.specs.declared.decl.Decl.TheVariants.{Array}
+use Rattle.serial_model.specs.declared.key.Key.{Key}
+use Rattle.serial_model.specs.Keys.{has_key}
+use Rattle.homes.specs.declared.places.Span.{Span}
+use Rattle.snapshot_store.specs.ArrayPages.{indexes_at, last_at}
+use Rattle.engine_pages.specs.Pages.{is_array}
+
+-- the storage is a declared array that has the key
+pub record IsArrayKey (decls : List Decl) (k : Key) : Type 0 where
+  pub has : has_key decls k ≡ true
+  pub array : is_array decls k.storage ≡ true
+
+-- an array with this id and size is the declared storage with this index
+pub record IsArrayAt (decls : List Decl) (id root size : ℕ) : Type 0 where
+  pub there : slice_get decls root ≡ Some (Array id size)
+
+-- an array with this id is declared
+abbrev pub HasArray : List Decl → ℕ → Type 0
+HasArray decls id = (root : ℕ) × (size : ℕ) × IsArrayAt decls id root size
+
+-- the keys of a page so many levels above the leaves, from this one on, in the storage of the key
+abbrev pub keys_above : Key → ℕ → ℕ → Span
+keys_above k height low = record { storage = k.storage; low = low; high = low + last_at height }
+
+-- the key is one of them
+pub record IsOver (k : Key) (height low : ℕ) : Type 0 where
+  pub from : low ≤ k.key
+  pub to : k.key < low + indexes_at height

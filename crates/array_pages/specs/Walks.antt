@@ -1,0 +1,146 @@
+-- What it leaves to go down the pages of an array: words are loaded, and slots entered.
+use Rattle.std.specs.Prelude.{◌≡◌, ◌≢◌, ◌⊎◌, ℕ, ◌^◌, ◌<◌, ◌≤◌, Bool, true, false, List, Contains, Option, Some, None}
+use Rattle.std.specs.Prelude.{length}
+use Rattle.lists.specs.Fronts.{IsFront}
+use Rattle.serial_model.specs.Decls.{AreDecls}
+use Rattle.homes.specs.declared.places.At.{At}
+use Rattle.homes.specs.declared.places.Span.{Span}
+use Rattle.commit_core.specs.declared.attempt.Attempt.{Attempt}
+use Rattle.commit_core.specs.declared.part.Part.{Part}
+use Rattle.serial_model.specs.declared.number.Number.{Number}
+use Rattle.commit_core.specs.CoreState.{is_trying}
+use Rattle.commit_core.specs.Parts.{Vouches}
+use Rattle.commit_core.specs.Serial.{last_write}
+use Rattle.drop_core.specs.Table.{has_slot}
+use Rattle.tx_sets.specs.declared.seen.Seen.{Seen}
+use Rattle.tx_sets.specs.Entries.{word_at}
+use Rattle.engine_pages.specs.declared.view.Lead.{Lead}
+use Rattle.engine_pages.specs.declared.view.RefusalCause.{RefusalCause}
+use Rattle.engine_pages.specs.declared.view.RefusalCause.TheVariants as causes
+use Rattle.engine_pages.specs.declared.view.SetName.{SetName}
+use Rattle.engine_pages.specs.declared.view.SetName.TheVariants as sets
+use Rattle.engine_pages.specs.declared.view.View.{View}
+use Rattle.engine_pages.specs.declared.view.Way.{Way}
+use Rattle.engine_pages.specs.Pointers.{IsPointerAt, WaysAgree}
+use Rattle.engine_pages.specs.Steps.{glance, seen_at}
+use Rattle.engine_pages.specs.Views.{IsActive}
+
+-- ---- a pass with its holds
+
+-- the slots of the set are those that the view holds
+abbrev pub HoldsAre : List ℕ → View → Type 0
+HoldsAre slots v = (t : ℕ) → has_slot slots t ≡ has_slot v.grip.holds t
+
+-- A pass that has a seat and no attempt in progress, with the set of its holds. Two ways into one slot are over the same
+-- keys, and the storages are declared as those of a database.
+pub record CanWalk (slots : List ℕ) (v : View) : Type 0 where
+  pub active : IsActive v.role
+  pub rest : is_trying v.seat.stage ≡ false
+  pub holds : HoldsAre slots v
+  pub within : (t : ℕ) → has_slot slots t ≡ true → t < v.layout.slots
+  pub agree : WaysAgree v.ways
+  pub declared : AreDecls v.layout.decls
+
+-- ---- what has changed
+
+-- At one step of a call the part had the last decided writes of its keys, of all that was drawn and decided by then.
+pub record IsLastBetween (v w : View) (part : Part) : Type 0 where
+  pub history : List Attempt
+  pub decided : List Number
+  pub drawn_since : IsFront v.history history
+  pub seen_since : IsFront v.decided decided
+  pub drawn_by : IsFront history w.history
+  pub seen_by : IsFront decided w.decided
+  pub last : Vouches (last_write v.layout.opening history decided) part
+
+-- the view v with what a walk changes as w has it
+abbrev pub as_walked : View → View → View
+as_walked v w = record v {
+  steps = w.steps;
+  history = w.history;
+  decided = w.decided;
+  seat = record v.seat { kept = w.seat.kept };
+  reads = w.reads;
+  last = w.last;
+  loaded = w.loaded;
+  grip = record v.grip { holds = w.grip.holds };
+  ways = w.ways;
+  pages = w.pages;
+  leads = w.leads;
+  looked = w.looked;
+}
+
+-- Words were loaded and slots entered: what the pass has seen, holds and knows of pages has grown, each part that it
+-- keeps now and didn't before had the last decided writes, and nothing else of it has changed.
+pub record HasWalked (v w : View) : Type 0 where
+  pub since : v.steps ≤ w.steps
+  pub drawn : IsFront v.history w.history
+  pub seen : IsFront v.decided w.decided
+  pub parts : (part : Part) → Contains w.seat.kept part → Contains v.seat.kept part ⊎ IsLastBetween v w part
+  pub held : (t : ℕ) → has_slot v.grip.holds t ≡ true → has_slot w.grip.holds t ≡ true
+  pub ways : (x : Way) → Contains v.ways x → Contains w.ways x
+  pub pages : IsFront v.pages w.pages
+  pub leads : (x : Lead) → Contains v.leads x → Contains w.leads x
+  pub is : w ≡ as_walked v w
+
+-- ---- the words that were met
+
+-- the word is that of a pointer which the pass knows
+pub record IsPointersWord (v : View) (at : ℕ) : Type 0 where
+  pub place : At
+  pub span : Span
+  pub is : IsPointerAt v place span at
+
+-- no words but those of pointers were met
+abbrev pub OnlyMet : View → View → Type 0
+OnlyMet v w = (a : ℕ) → (seen_at w.reads a ≡ seen_at v.reads a) ⊎ IsPointersWord w a
+
+-- each pointer of the set that was last seen as the set has it was last seen so still, but for the one at this word
+-- where that was moved
+abbrev pub KeepsBut : List Seen → Bool → ℕ → View → View → Type 0
+KeepsBut pointers moved at v w = (a word : ℕ) → word_at a pointers ≡ Some word → IsPointersWord v a
+    → (moved ≡ true → a ≢ at) → seen_at v.reads a ≡ Some word → seen_at w.reads a ≡ Some word
+
+-- each pointer of the set that was last seen as the set has it was last seen so still
+abbrev pub KeepsMet : List Seen → View → View → Type 0
+KeepsMet pointers v w = (a word : ℕ) → word_at a pointers ≡ Some word → IsPointersWord v a
+    → seen_at v.reads a ≡ Some word → seen_at w.reads a ≡ Some word
+
+-- the pointer is in the set with this word, or there is room for it
+abbrev pub MeetsSo : List Seen → ℕ → ℕ → Type 0
+MeetsSo pointers at word =
+    (word_at at pointers ≡ Some word) ⊎ ((word_at at pointers ≡ None) × (length pointers < 128))
+
+-- ---- refusals
+
+-- The last load or compare_exchange is one of this call and saw this at the word, of which the transaction had seen or
+-- left that before, if it had met it.
+pub record SawLast (at seen : ℕ) (was : Option ℕ) (v w : View) : Type 0 where
+  pub step : ℕ
+  pub since : v.steps ≤ step
+  pub last : w.last ≡ Some (glance step at seen)
+  pub kept : Option ℕ
+  pub stands : Contains w.reads (record { word = at; seen = seen; was = was; kept = kept })
+
+-- The word is that of a pointer on the way. It is shut, or not the expected one: the set's, where the set has the
+-- pointer, else what the transaction had seen there before.
+pub record IsPointerChanged (pointers : List Seen) (at expected seen : ℕ) (v w : View) : Type 0 where
+  pub place : IsPointersWord w at
+  pub was : Option ℕ
+  pub saw : SawLast at seen was v w
+  pub known : (word_at at pointers ≡ Some expected) ⊎ ((word_at at pointers ≡ None) × (was ≡ Some expected))
+  pub cause : (2 ^ 60 ≤ seen) ⊎ (seen ≢ expected)
+
+-- the set has as many entries as there is room for
+abbrev pub IsWide : List Seen → List ℕ → SetName → Type 0
+IsWide pointers slots sets.Reads = ⊥
+IsWide pointers slots sets.Writes = ⊥
+IsWide pointers slots sets.Pointers = length pointers ≡ 128
+IsWide pointers slots sets.Holds = length slots ≡ 128
+
+-- a walk was refused at a pointer, or for a set that was full
+abbrev pub RefusesWalk : List Seen → List ℕ → RefusalCause → View → View → Type 0
+RefusesWalk pointers slots (causes.Conflict at expected seen) v w = IsPointerChanged pointers at expected seen v w
+RefusesWalk pointers slots (causes.Full held) v w = ⊥
+RefusesWalk pointers slots (causes.Wide set) v w = IsWide pointers slots set
+RefusesWalk pointers slots (causes.NumberLimit clock) v w = ⊥

@@ -1,0 +1,48 @@
+// The storages of an engine, and where words of its table stand.
+ghost use Rattle.std.specs.Prelude.{◌≡◌, ◌+◌, ◌-◌, ◌<◌, ◌≤◌};
+ghost use Rattle.array_pages.specs.Spans.{keys_above, HasArray, IsArrayAt};
+ghost use Rattle.engine_pages.specs.Layout.{page_at};
+ghost use Rattle.snapshot_store.specs.ArrayPages.{last_at};
+
+use engine_pages::Engine;
+use homes::Span;
+use serial_model::{Decl, Key};
+
+/// The index of an array among the storages, and its size.
+pub(crate) fn array_of(engine: &Engine, storage: u8) -> (usize, u64)
+    requires { HasArray engine.now.table.shared.key.decls storage }
+    ensures { IsArrayAt engine.now.table.shared.key.decls storage result.0 result.1 }
+{
+    let decls = engine.decls();
+    for i in 0..decls.len() {
+        if let Decl::Array { id, size } = decls[i] {
+            if id == storage {
+                return (i, u64::from(size));
+            }
+        }
+    }
+    (0, 0)
+}
+
+/// The place of a word of the page in a slot.
+pub(crate) fn word_at(engine: &Engine, slot: u32, index: u32) -> u32
+    requires slot { slot < engine.now.table.shared.key.slots }
+    requires index { index < 64 }
+    ensures { result ≡ page_at engine.now.table.shared.key.slots slot index }
+{
+    32 + engine.slots() + 64 * slot + index
+}
+
+/// So many keys from this one on.
+pub(crate) fn span_from(key: Key, low: u64, count: u64) -> Span
+    requires some { 0 < count }
+    requires few { count ≤ 131072 }
+    requires low { low < 131072 }
+    ensures { result ≡ record { storage = key.storage; low = low; high = low + (count - 1) } }
+{
+    Span {
+        storage: key.storage,
+        low,
+        high: low + (count - 1),
+    }
+}

@@ -1,0 +1,61 @@
+-- What a pass knows of words stays where its ways and leads stay.
+use Rattle.std.proofs.Common.{◌≡◌, ◌⊎◌, inl, inr, ◌<◌, List, sym, ap, ◌∙◌, subst}
+use Rattle.std.specs.Prelude.{Contains}
+use Rattle.std.specs.List.{AllByRecursion}
+use Rattle.commit_core.specs.declared.part.Part.{Part}
+use Rattle.tx_sets.specs.declared.reads.ReadEntry.{ReadEntry}
+use Rattle.tx_sets.specs.declared.seen.Seen.{Seen}
+use Rattle.tx_sets.specs.declared.sets.Sets.{Sets}
+use Rattle.tx_sets.specs.declared.writes.Write.{Write}
+use Rattle.engine_pages.specs.declared.layout.Layout.{Layout}
+use Rattle.engine_pages.specs.declared.view.Lead.{Lead}
+use Rattle.engine_pages.specs.declared.view.View.{View}
+use Rattle.engine_pages.specs.declared.view.Way.{Way}
+use Rattle.engine_pages.specs.Layout.{words_of}
+use Rattle.dual_pointer.specs.Parts.{IsPointerPart, part_stays}
+use Rattle.page_commit.specs.Places.{ground, pointer_at, Ground, IsPointerIn}
+use Rattle.page_commit.specs.Live.{AreParts, IsMetPointer, IsReadPart, IsWriteOf}
+
+-- ---- the same ways
+
+pub grounds : (v w : View) → v.layout ≡ w.layout → v.ways ≡ w.ways → ground v ≡ ground w
+grounds v w layout ways =
+    ap (λ (l : Layout). let g : Ground = record { layout = l; ways = v.ways } in g) layout
+    ∙ ap (λ (l : List Way). let g : Ground = record { layout = w.layout; ways = l } in g) ways
+
+pub writes_stay : (ws : List Write) (v w : View) → w.layout ≡ v.layout → w.ways ≡ v.ways
+    → AllByRecursion (IsWriteOf (ground v)) ws → AllByRecursion (IsWriteOf (ground w)) ws
+writes_stay ws v w layout ways all = subst (λ (g : Ground). AllByRecursion (IsWriteOf g) ws) (sym (grounds w v layout ways)) all
+
+pointer_stays : (v w : View) (p : Seen) (part : Part) → w.layout ≡ v.layout → w.ways ≡ v.ways → w.leads ≡ v.leads
+    → IsMetPointer v p part → IsMetPointer w p part
+pointer_stays v w p part layout ways leads m = record {
+  span = m.span;
+  place = subst (λ (g : Ground). IsPointerIn g m.span p.at) (sym (grounds w v layout ways)) m.place;
+  within = subst (λ (l : Layout). p.at < words_of l) (sym layout) m.within;
+  bare = m.bare;
+  of = subst (λ (l : Layout). IsPointerPart w (pointer_at l.slots p.at) m.span p.word part) (sym layout)
+      (part_stays v w (pointer_at v.layout.slots p.at) m.span p.word part
+      (λ z has. subst (λ (l : List Lead). Contains l z) (sym leads) has) m.of);
+}
+
+pub parts_stay : (sets : Sets) (v w : View) (parts : List Part) → parts ≡ v.seat.kept → w.layout ≡ v.layout
+    → w.ways ≡ v.ways → w.leads ≡ v.leads → AreParts sets v v.seat.kept → AreParts sets w parts
+parts_stay sets v w parts same layout ways leads are = subst (AreParts sets w) (sym same) record {
+  known = λ part has. by_known part (are.known part has);
+  reads = λ e has. let r = are.reads e has in (r.0, r.1, read_stays e r.0 r.2);
+  pointers = λ p has. let r = are.pointers p has in (r.0, r.1, pointer_stays v w p r.0 layout ways leads r.2);
+  once = are.once;
+}
+  where
+    read_stays : (e : ReadEntry) (part : Part) → IsReadPart (ground v) e part → IsReadPart (ground w) e part
+    read_stays e part r = subst (λ (g : Ground). IsReadPart g e part) (sym (grounds w v layout ways)) r
+
+    by_known : (part : Part)
+        → ((e : ReadEntry) × Contains sets.reads e × IsReadPart (ground v) e part)
+        ⊎ ((p : Seen) × Contains sets.pointers p × IsMetPointer v p part)
+        → ((e : ReadEntry) × Contains sets.reads e × IsReadPart (ground w) e part)
+        ⊎ ((p : Seen) × Contains sets.pointers p × IsMetPointer w p part)
+    by_known part (inl r) =
+        inl (r.0, r.1, subst (λ (g : Ground). IsReadPart g r.0 part) (sym (grounds w v layout ways)) r.2)
+    by_known part (inr r) = inr (r.0, r.1, pointer_stays v w r.0 part layout ways leads r.2)

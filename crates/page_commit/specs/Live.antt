@@ -1,0 +1,145 @@
+-- A transaction and its pass: what the sets have, and what the view knows of it.
+use Rattle.std.specs.Prelude.{◌≡◌, ◌⊎◌, ℕ, ◌<◌, ◌^◌, ◌==◌, Bool, true, false, is_some, None, Some, Option}
+use Rattle.std.specs.Prelude.{List, [], unwrap_or, Contains, map}
+use Rattle.std.specs.List.{AllByRecursion, find, list_any}
+use Rattle.std.specs.Option.{option_map}
+use Rattle.lists.specs.Each.{AreDistinct}
+use Rattle.serial_model.specs.Decls.{AreDecls}
+use Rattle.homes.specs.declared.places.Content.{Content}
+use Rattle.homes.specs.declared.places.Span.{Span}
+use Rattle.serial_model.specs.declared.key.Key.{Key}
+use Rattle.commit_core.specs.declared.part.Part.{Part}
+use Rattle.commit_core.specs.declared.seat.Stage.TheVariants.{Idle}
+use Rattle.commit_core.specs.Keys.{opening_number}
+use Rattle.commit_core.specs.Parts.{record_part, same_word}
+use Rattle.wire_form.specs.Words.{number_word}
+use Rattle.engine_pages.specs.Words.{IsSmall}
+use Rattle.drop_core.specs.Table.{has_slot}
+use Rattle.tx_sets.specs.declared.reads.ReadEntry.{ReadEntry}
+use Rattle.tx_sets.specs.declared.seen.Seen.{Seen}
+use Rattle.tx_sets.specs.declared.sets.Sets.{Sets}
+use Rattle.tx_sets.specs.declared.writes.Write.{Write}
+use Rattle.tx_sets.specs.Entries.{writes_at}
+use Rattle.engine_pages.specs.declared.view.Role.TheVariants.{Worker}
+use Rattle.engine_pages.specs.declared.view.View.{View}
+use Rattle.engine_pages.specs.declared.view.Way.{Way}
+use Rattle.engine_pages.specs.Views.{IsResting}
+use Rattle.engine_pages.specs.Steps.{seen_at}
+use Rattle.page_records.specs.Ends.{worker_of}
+use Rattle.dual_pointer.specs.Parts.{IsPointerPart}
+use Rattle.page_commit.specs.Places.{ground, pointer_at, slot_of, spot_at, Ground, IsKeyAt, IsKeyIn, IsPointerIn}
+use Rattle.engine_pages.specs.Layout.{words_of}
+use Rattle.engine_pages.specs.Pointers.{WaysAgree}
+
+-- ---- records that were read, by the places of their words
+
+-- the record whose word stands here was read
+abbrev pub reads_at : ℕ → List ReadEntry → Bool
+reads_at at reads = list_any (λ e. e.at == at) reads
+
+-- the word that it had then
+abbrev pub read_word : ℕ → List ReadEntry → Option ℕ
+read_word at reads = option_map (λ e. e.word) (find (λ e. e.at == at) reads)
+
+-- where the words of records stand that were read, in the order of the set
+abbrev pub entry_places : List ReadEntry → List ℕ
+entry_places reads = map (λ e. e.at) reads
+
+-- ---- parts and sets
+
+-- A record has this word, unlocked, where this stands at its key. One that was never written has number 0:0.
+pub record IsWordFor (c : Content) (word : ℕ) : Type 0 where
+  pub small : IsSmall c.number
+  pub number : number_word c.number ≡ word
+  pub never : c.value ≡ None → c.number ≡ opening_number
+
+-- The part is what was read of the entry's record: one content of it had this word and this value.
+pub record IsReadPart (g : Ground) (e : ReadEntry) (part : Part) : Type 0 where
+  pub place : IsKeyIn g e.key e.at
+  pub content : Content
+  pub shown : IsWordFor content e.word
+  pub value : e.value ≡ unwrap_or content.value 0
+  pub is : part ≡ record_part e.key (spot_at g.layout.slots e.at) content
+
+-- The part is that of the pointer, which led to no slot as its word was seen.
+pub record IsMetPointer (v : View) (p : Seen) (part : Part) : Type 0 where
+  pub span : Span
+  pub place : IsPointerIn (ground v) span p.at
+  pub within : p.at < words_of v.layout
+  pub bare : p.word < 2 ^ 32
+  pub of : IsPointerPart v (pointer_at v.layout.slots p.at) span p.word part
+
+-- Each part is of an entry, and each entry has its part; so who checks the words of the sets checks all parts. Each
+-- part is of another word.
+pub record AreParts (sets : Sets) (v : View) (kept : List Part) : Type 0 where
+  pub known : (part : Part) → Contains kept part
+      → ((e : ReadEntry) × Contains sets.reads e × IsReadPart (ground v) e part)
+      ⊎ ((p : Seen) × Contains sets.pointers p × IsMetPointer v p part)
+  pub reads : (e : ReadEntry) → Contains sets.reads e → (part : Part) × Contains kept part × IsReadPart (ground v) e part
+  pub pointers : (p : Seen) → Contains sets.pointers p → (part : Part) × Contains kept part × IsMetPointer v p part
+  pub once : (a b : Part) → Contains kept a → Contains kept b → same_word a.word b.word ≡ true → a ≡ b
+
+-- a value is written at the key of an array, whose record's word stands there, in a page that is held
+pub record IsWriteOf (g : Ground) (w : Write) : Type 0 where
+  pub place : IsKeyIn g w.key w.at
+  pub value : is_some w.value ≡ true
+
+-- ---- what was met
+
+-- Of a record that is none of these the transaction saw last what it read, and nothing where it wasn't read.
+abbrev pub AreMet : List ReadEntry → List Write → View → Type 0
+AreMet reads ws v = (k : Key) (at : ℕ) → IsKeyAt v k at → writes_at at ws ≡ false → seen_at v.reads at ≡ read_word at reads
+
+-- each pointer of the set was last seen as the set has it
+abbrev pub ArePointersMet : List Seen → View → Type 0
+ArePointersMet pointers v = (p : Seen) → Contains pointers p → seen_at v.reads p.at ≡ Some p.word
+
+-- the word is a root's, or stands in the page of a slot that the pass holds
+abbrev pub StandsIn : Ground → ℕ → Type 0
+StandsIn g at = (at < 32) ⊎ ((way : Way) × Contains g.ways way × (slot_of g.layout.slots at ≡ way.slot))
+
+-- what was met stands where the pass knows of it
+abbrev pub AreInside : View → Type 0
+AreInside v = (at n : ℕ) → seen_at v.reads at ≡ Some n → StandsIn (ground v) at
+
+-- ---- pages
+
+-- The pass holds just these slots, and fills and published no page that it led nothing to.
+pub record HasHolds (slots : List ℕ) (v : View) : Type 0 where
+  pub holds : (s : ℕ) → has_slot slots s ≡ has_slot v.grip.holds s
+  pub within : (s : ℕ) → has_slot slots s ≡ true → s < v.layout.slots
+  pub made : v.grip.made ≡ []
+  pub drafts : v.drafts ≡ []
+  pub copies : v.copies ≡ []
+  pub blanks : v.blanks ≡ []
+
+-- ---- transactions
+
+-- A transaction is under way, and no call of it was refused: it has yet to draw, what it read is kept as its parts, it
+-- holds the slots of its set, and nothing is locked.
+pub record IsLive (sets : Sets) (v : View) : Type 0 where
+  pub decls : AreDecls v.layout.decls
+  pub worker : v.role ≡ Worker (worker_of v.role)
+  pub due : v.due ≡ true
+  pub locks : v.seat.locks ≡ []
+  pub took : v.took ≡ []
+  pub stage : v.seat.stage ≡ Idle
+  pub gone : v.gone ≡ []
+  pub agree : WaysAgree v.ways
+  pub holds : HasHolds sets.holds v
+  pub parts : AreParts sets v v.seat.kept
+  pub places : AreDistinct (entry_places sets.reads)
+  pub writes : AllByRecursion (IsWriteOf (ground v)) sets.writes
+  pub met : AreMet sets.reads [] v
+  pub points : ArePointersMet sets.pointers v
+  pub inside : AreInside v
+
+-- The pass of a worker without a transaction: it holds no slot, and each that it was given leads on or was given up.
+pub record IsOver (v : View) : Type 0 where
+  pub decls : AreDecls v.layout.decls
+  pub worker : v.role ≡ Worker (worker_of v.role)
+  pub due : v.due ≡ false
+  pub took : v.took ≡ []
+  pub seat : IsResting v.seat
+  pub agree : WaysAgree v.ways
+  pub holds : HasHolds [] v

@@ -1,0 +1,69 @@
+-- Where the words of records and pointers stand, as a transaction finds them.
+use Rattle.std.specs.Prelude.{◌≡◌, ◌⊎◌, ℕ, ◌+◌, ◌-◌, ◌/◌, ◌%◌, ◌<◌, true, false, List, Contains, length, cond, nat_lt}
+use Rattle.serial_model.specs.declared.key.Key.{Key}
+use Rattle.homes.specs.declared.places.At.{At}
+use Rattle.homes.specs.declared.places.At.TheVariants.{Root, In}
+use Rattle.homes.specs.declared.places.Span.{Span}
+use Rattle.homes.specs.declared.places.Spot.{Spot}
+use Rattle.engine_pages.specs.declared.layout.Layout.{Layout}
+use Rattle.engine_pages.specs.declared.view.View.{View}
+use Rattle.engine_pages.specs.declared.view.Way.{Way}
+use Rattle.engine_pages.specs.Layout.{page_at, root_at, slots_at}
+use Rattle.engine_pages.specs.Records.{IsRecordIn}
+use Rattle.engine_pages.specs.Pages.{child_span, is_array, is_leaf_span, root_span}
+
+-- What a pass knows of where words stand in the pages that it holds: it stays until the pass leaves a slot.
+pub record Ground : Type 0 where
+  pub layout : Layout
+  pub ways : List Way
+
+-- that of a view
+abbrev pub ground : View → Ground
+ground v = record { layout = v.layout; ways = v.ways }
+
+-- the slot in whose page the word with this place stands, where there are so many slots
+abbrev pub slot_of : ℕ → ℕ → ℕ
+slot_of slots at = (at - (32 + slots)) / 64
+
+-- and which word of the page it is
+abbrev pub word_of : ℕ → ℕ → ℕ
+word_of slots at = (at - (32 + slots)) % 64
+
+-- the place of the record whose word stands here
+abbrev pub spot_at : ℕ → ℕ → Spot
+spot_at slots at = record { slot = slot_of slots at; index = word_of slots at / 2 }
+
+-- the place of the pointer whose word stands here
+abbrev pub pointer_at : ℕ → ℕ → At
+pointer_at slots at =
+    cond (nat_lt at slots_at) (Root (at - 10)) (In (record { slot = slot_of slots at; index = word_of slots at }))
+
+-- the record's word of the key stands here, in the leaf of an array to which a way is known
+abbrev pub IsKeyIn : Ground → Key → ℕ → Type 0
+IsKeyIn g k at = IsRecordIn g.layout.decls g.layout.slots g.ways k (spot_at g.layout.slots at) at
+
+-- the record's word of the key stands here, in a page that the pass holds
+abbrev pub IsKeyAt : View → Key → ℕ → Type 0
+IsKeyAt v k at = IsKeyIn (ground v) k at
+
+-- The word is that of a storage's root.
+pub record IsRootIn (g : Ground) (sp : Span) (at : ℕ) : Type 0 where
+  pub root : ℕ
+  pub few : root < 16
+  pub there : root < length g.layout.decls
+  pub span : sp ≡ root_span g.layout.decls root
+  pub word : at ≡ root_at root
+
+-- The word is that of a pointer of an array's interior page that the pass holds.
+pub record IsChildIn (g : Ground) (sp : Span) (at : ℕ) : Type 0 where
+  pub way : Way
+  pub has : Contains g.ways way
+  pub slot : way.slot ≡ slot_of g.layout.slots at
+  pub kind : is_array g.layout.decls way.span.storage ≡ true
+  pub inner : is_leaf_span way.span ≡ false
+  pub span : sp ≡ child_span way.span (word_of g.layout.slots at)
+  pub word : at ≡ page_at g.layout.slots (slot_of g.layout.slots at) (word_of g.layout.slots at)
+
+-- the pointer's word over these keys stands here, in a page that the pass holds, or as a root
+abbrev pub IsPointerIn : Ground → Span → ℕ → Type 0
+IsPointerIn g sp at = IsRootIn g sp at ⊎ IsChildIn g sp at

@@ -40,6 +40,7 @@ use Rattle.round_engine.specs.Changes.{AreLogged}
 use Rattle.round_engine.specs.Crashes.{CarriesCrashes}
 use Rattle.round_engine.specs.Ends.{comes_to_swap, swaps}
 use Rattle.round_engine.specs.Histories.{ComeFrom, are_arrays, comes_more, none_come}
+use Rattle.round_engine.specs.KnownAtFirst.{left_since}
 use Rattle.round_engine.specs.Logs.{AreClosedFiles, AreLogs}
 use Rattle.round_engine.specs.LineEngines.{SharesWords}
 use Rattle.round_engine.specs.RanRound.{AreFailed, LeavesVault, RanRound}
@@ -64,7 +65,7 @@ use Rattle.program_calls.proofs.KeptOver.{tells_round}
 use Rattle.program_calls.proofs.KeptRounds.{KeptSoFar, advances_later, kept_begins, kept_more, save_up}
 use Rattle.program_calls.proofs.RoundCommits.{of_round}
 use Rattle.program_calls.proofs.SinceSwap.{full_in}
-use Rattle.program_calls.proofs.CrashesBegun.{crashes_begin, left_since}
+use Rattle.program_calls.proofs.CrashesBegun.{crashes_begin}
 use Rattle.program_calls.proofs.CrashesKept.{CrashesKept, KeptBefore}
 use Rattle.program_calls.proofs.CrashesMore.{crashes_more, ready_more}
 use Rattle.program_calls.proofs.KeptAll.{joined_where_none}

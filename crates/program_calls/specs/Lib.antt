@@ -1,4 +1,5 @@
 pub mod Answers
+pub mod TopAnswers
 pub mod Main
 pub mod InBrief
 pub mod Listings

@@ -1,5 +1,5 @@
 -- Which refusal a round is told to end by: the first one of all.
-use Rattle.std.proofs.Common.{◌≡◌, ◌∙◌, ◌≤◌, ◌<◌, ◌+◌, ◌⊎◌, ◌++◌, ◌∷◌, inl, inr, sym, ap, refl, ℕ}
+use Rattle.std.proofs.Common.{◌≡◌, ◌↔◌, ◌∙◌, ◌≤◌, ◌<◌, ◌+◌, ◌⊎◌, ◌++◌, ◌∷◌, inl, inr, sym, ap, refl, ℕ}
 use Rattle.std.proofs.Common.{List, [], map, Bool, true, false, cond, Option, Some, None, arith}
 use Rattle.std.specs.Prelude.{◌||◌, MatchBool, fold, is_some, nat_le}
 use Rattle.std.proofs.lemmas.Bool.Decides.{nat_tests}
@@ -49,6 +49,12 @@ down_from side worker (false ∷ more) = elim (down_from side (worker + 1) more)
   | inl none ↦ inl none
   | inr one ↦ inr (one.0, omega (arith, one.1), one.2)
 ]
+
+-- down where there is a first one, so just where there is one
+pub down_just : (failed : List Device) (down : Bool) → down ≡ is_some (first_device failed)
+    → (down ≡ false) ↔ (failed ≡ [])
+down_just [] down is = (λ up. refl, λ none. is)
+down_just (device ∷ more) down is = (λ up. absurd (let no = sym is ∙ up in cc), λ none. absurd (let no = none in cc))
 
 pub at_most_test : (m n : ℕ) → m ≤ n → nat_le m n ≡ true
 at_most_test m n le = grind (arith, nat_tests, le)

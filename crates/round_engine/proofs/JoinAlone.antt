@@ -33,7 +33,7 @@ use Rattle.worker_logs.specs.Saves.{closed_number, growing_number, logs_marks}
 use Rattle.worker_logs.specs.Rows.{NeverFall}
 use Rattle.round_engine.specs.Crashes.{CarriesCrashes}
 use Rattle.round_engine.specs.Ends.{closed_failed, comes_to_swap, durable_of, end_of}
-use Rattle.round_engine.specs.Ends.{epoch_joined, first_device, first_of}
+use Rattle.round_engine.specs.Ends.{epoch_joined, first_of}
 use Rattle.round_engine.specs.Ends.{swaps}
 use Rattle.round_engine.specs.Gleans.{RoundGleans}
 use Rattle.round_engine.specs.Joins.{Joins, without_lines}
@@ -51,7 +51,7 @@ use Rattle.round_engine.specs.declared.report.LimitName.TheVariants.{Bank, Draw,
 use Rattle.round_engine.specs.declared.rounds.LineRefusals.{LineRefusals}
 use Rattle.round_engine.proofs.CrashesLeft.{with_crashes}
 use Rattle.round_engine.proofs.Devices.{IsBeside, are_down, bank_down, beside_not_growing}
-use Rattle.round_engine.proofs.Ended.{devices_down, first_down}
+use Rattle.round_engine.proofs.Ended.{devices_down, down_just, first_down}
 use Rattle.round_engine.proofs.EndTold.{IsJoinedAs, IsRefusedAs, end_done, end_refused}
 use Rattle.round_engine.proofs.JoinEnds.{JoinFacts, and_parts, asked_by, banks_told, clock_is, closed_same, cut_quiet, cut_rose}
 use Rattle.round_engine.proofs.JoinEnds.{cut_uncut, done_at, joined_many, joined_side, leaves, now_many, pre_whole, rests, stands_new}
@@ -60,7 +60,7 @@ use Rattle.round_engine.proofs.JoinedAs.{bank_told, below_test, closed_is_cut, c
 use Rattle.round_engine.proofs.LogsLeft.{Leaves, rise_then}
 use Rattle.round_engine.proofs.Numbered.{closed_at, closed_many, growing_many}
 use Rattle.round_engine.proofs.Places.{not_save, other_bank}
-use Rattle.round_engine.proofs.RoundJoined.{cut_in, device_up, done_first, in_cut, not_not, up_first}
+use Rattle.round_engine.proofs.RoundJoined.{cut_in, device_just, done_first, in_cut, not_not, up_first}
 use Rattle.round_engine.proofs.RoundKept.{after_up}
 use Rattle.round_engine.proofs.RoundKept.{rise_on}
 use Rattle.round_engine.proofs.Turned.{TurnsBehind, keeps_onto, turned_files, turned_if, turned_parts, turns_behind}
@@ -474,7 +474,7 @@ module _ {D : Type 0} {tells : D → Option (List ℕ)} {clock : D → ℕ} {ima
     end_is = end_so end refused_by_so;
     durable_is = durable_so;
     stands = new_stands ∙ ap (λ (s : Standing). record s { ended = old.stands.ended || is_some end }) js.joins.stands;
-    down = λ none. ap (λ (r : RuntimeState). r.down) new_is ∙ device_up ran end refused_by_so (ap first_device none);
+    down = down_just failed new.down (ap (λ (r : RuntimeState). r.down) new_is ∙ device_just ran end refused_by_so);
     leaves = (left reads).0;
     crashes = (left reads).1;
     not_advanced = λ last.

@@ -38,7 +38,7 @@ use Rattle.round_engine.specs.Standing.{StandsOn}
 use Rattle.round_engine.specs.Workers.{idled}
 use Rattle.round_engine.specs.declared.report.Report.{Report}
 use Rattle.round_engine.proofs.Devices.{are_down, bank_down, beside_not_growing, others_in}
-use Rattle.round_engine.proofs.Ended.{first_of_down, keeper_device}
+use Rattle.round_engine.proofs.Ended.{down_just, first_of_down, keeper_device}
 use Rattle.round_engine.proofs.EndTold.{end_left_out}
 use Rattle.round_engine.proofs.EndTold.{left_out_some}
 use Rattle.round_engine.proofs.GleanDevices.{nothing_in}
@@ -277,7 +277,7 @@ module _ {D : Type 0} {tells : D → Option (List ℕ)} {clock : D → ℕ} {ima
         ∙ ap (λ b. record { epoch = cond (not b) (epoch_after all.kept.stands.clock.epoch) all.kept.stands.clock.epoch; draw = all.kept.stands.clock.draw })
         (sym leaves_so);
     ended = ap (λ (r : RuntimeState). r.stands.ended) new_is;
-    down = λ none. ap (λ (r : RuntimeState). r.down) new_is ∙ ap is_some (sym device_first ∙ ap first_device none);
+    down = down_just ran.beside.devices new.down (ap (λ (r : RuntimeState). r.down) new_is ∙ ap is_some (sym device_first));
     stands = stands_out;
     gleans = gleans_told stands ready some start_many idle all store_is snaps_is;
     sound = λ not. ap (λ (s : StoreState). s.sound) store_is ∙ kept_sound stands ready some start_many idle all

@@ -1,5 +1,5 @@
 -- A round put together from its phases, whichever engine ran its lines.
-use Rattle.std.proofs.Common.{◌≡◌, ◌∙◌, ◌≤◌, ◌<◌, ◌+◌, ◌-◌, ◌⊎◌, ◌++◌, ◌∷◌, inl, inr, sym, ap, subst, refl, ℕ}
+use Rattle.std.proofs.Common.{◌≡◌, ◌↔◌, ◌∙◌, ◌≤◌, ◌<◌, ◌+◌, ◌-◌, ◌⊎◌, ◌++◌, ◌∷◌, inl, inr, sym, ap, subst, refl, ℕ}
 use Rattle.std.proofs.Common.{suc, List, [], length, map, Bool, true, false, Option, Some, None, arith}
 use Rattle.std.specs.Prelude.{is_some, option_to_list, slice_get, Ok}
 use Rattle.std.specs.Option.{option_map}
@@ -261,7 +261,7 @@ module _ {D : Type 0} (tells : D → Option (List ℕ)) (clock : D → ℕ) (ima
     pub clock_is : new.stands.clock
         ≡ record { epoch = epoch_joined (ran_with logs failed others); draw = all.kept.stands.clock.draw }
     pub ended : new.stands.ended ≡ is_some report.end
-    pub down : (ran_with logs failed others).beside.devices ≡ [] → new.down ≡ false
+    pub down : (new.down ≡ false) ↔ ((ran_with logs failed others).beside.devices ≡ [])
     pub stands : StandsOn tells clock image_at new now
     pub gleans : RoundGleans tells report.keeper all.keeper.gleans all.keeper.damaged old new before now
     pub sound : (Contains (ran_with logs failed others).beside.devices devices.Snaps → ⊥) → new.store.sound ≡ true

@@ -47,7 +47,7 @@ use Rattle.round_engine.specs.declared.report.End.{End}
 use Rattle.round_engine.specs.declared.report.End.TheVariants as ends
 use Rattle.round_engine.specs.declared.report.Report.{Report}
 use Rattle.round_engine.proofs.Devices.{IsBeside, are_down}
-use Rattle.round_engine.proofs.Ended.{first_down, limited_last}
+use Rattle.round_engine.proofs.Ended.{down_just, first_down, limited_last}
 use Rattle.round_engine.proofs.EndTold.{IsJoinedAs, IsRefusedAs, NoneRefused, end_done, end_refused}
 use Rattle.round_engine.proofs.EndTold.{nothing, told_some}
 use Rattle.round_engine.proofs.JoinEnds.{JoinFacts, and_parts, asked_by, banks_told, before_later, clock_is, closed_same, cut_quiet, cut_rose}
@@ -94,6 +94,14 @@ device_up ran (Some (ends.Device device)) is none = elim is.device [
 device_up ran (Some (ends.Damaged device at)) is none = refl
 device_up ran (Some (ends.Limit name number)) is none = refl
 device_up ran (Some ends.Memory) is none = refl
+
+-- the join was refused by a device just where one failed
+pub device_just : (ran : Ran) (refusal : Option End) → IsJoinedAs ran refusal
+    → fails_device refusal ≡ is_some (first_device ran.beside.devices)
+device_just ran refusal is = elim is.device [
+  | inl up ↦ device_up ran refusal is up ∙ ap is_some (sym up)
+  | inr failed ↦ ap fails_device failed.1 ∙ ap is_some (sym failed.2)
+]
 
 -- the device of the cut that failed
 pub in_cut : (cut : Option ℕ) (device : Device) → Contains (cut_device cut) device
@@ -531,7 +539,7 @@ module _ {D : Type 0} {tells : D → Option (List ℕ)} {clock : D → ℕ} {ima
         ∙ ap (λ b. record { epoch = cond (not b) (epoch_after all.kept.stands.clock.epoch) all.kept.stands.clock.epoch; draw = all.kept.stands.clock.draw })
         (sym out_is);
     ended = ap (λ (s : Standing). s.ended) new_stands;
-    down = λ none. ap (λ (r : RuntimeState). r.down) new_is ∙ device_up ran refusal refused_by_so (ap first_device none);
+    down = down_just ran.beside.devices new.down (ap (λ (r : RuntimeState). r.down) new_is ∙ device_just ran refusal refused_by_so);
     stands = stands_made;
     gleans = gleans_told stands ready some start_many idle all new_store now_snaps;
     sound = λ not. ap (λ (s : StoreState). s.sound) new_store ∙ kept_sound stands ready some start_many idle all not_snaps;

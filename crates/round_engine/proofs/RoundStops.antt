@@ -460,6 +460,7 @@ module _ {D : Type 0} {tells : D → Option (List ℕ)} {clock : D → ℕ} {ima
           durable = refl;
           clock = refl;
           ended = refl;
+          down = refl;
         },
         made.0,
         made.1,

@@ -1,6 +1,6 @@
 -- What a join comes to: advance of the epoch, flush and mark of every worker's log, save, swap; the first of these that
 -- is refused ends it, and the run.
-use Rattle.std.specs.Prelude.{◌≡◌, ◌<◌, ◌≤◌, ◌||◌, ◌++◌, ℕ, false, List, [], Option, None, is_some, length}
+use Rattle.std.specs.Prelude.{◌≡◌, ◌↔◌, ◌<◌, ◌≤◌, ◌||◌, ◌++◌, ℕ, false, List, [], Option, None, is_some, length}
 use Rattle.std.specs.Prelude.{option_to_list, replicate}
 use Rattle.std.specs.List.{Contains}
 use Rattle.serial_model.specs.Numbers.{last_epoch}
@@ -50,7 +50,7 @@ stands_joined s ran end = record s {
 }
 
 -- What a join comes to over the vault. It makes the clock's epoch durable, as it was before the advance, or it ends
--- the run.
+-- the run; and the runtime is down just where a device failed.
 pub record Joins {D : Type 0} (tells : D → Option (List ℕ)) (clock : D → ℕ) (image_at : D → ℕ → List ℕ → Type 0)
     (faults : D → ℕ) (old new : RuntimeState) (before now : Vault D) (durable : Option ℕ) (end : Option End)
     : Type 0 where
@@ -58,7 +58,7 @@ pub record Joins {D : Type 0} (tells : D → Option (List ℕ)) (clock : D → �
   pub end_is : end ≡ end_of (without_lines old failed durable)
   pub durable_is : durable ≡ durable_of (without_lines old failed durable)
   pub stands : new.stands ≡ stands_joined old.stands (without_lines old failed durable) end
-  pub down : failed ≡ [] → new.down ≡ false
+  pub down : (new.down ≡ false) ↔ (failed ≡ [])
   pub leaves : LeavesVault tells clock image_at faults (without_lines old failed durable) (λ worker. []) old new
       before now
   pub crashes : CarriesCrashes tells clock image_at (λ worker. []) (leaves.stored ++ option_to_list leaves.failed)

@@ -22,3 +22,4 @@ pub mod Histories
 pub mod Unbegun
 pub mod Owners
 pub mod RoundCalls
+pub mod KnownAtFirst

@@ -229,7 +229,8 @@ module _ {D : Type 0} (tells : D → Option (List ℕ)) (clock : D → ℕ) (ima
 -- A round was run, each line being tried so often at most, and joined. Each number was drawn for a commit, or for a try
 -- that was refused behind its draw. A try in conflict met a line of another worker of the round, at a key that it
 -- touches and that one may change. Where nothing ends the run, its last epoch is durable. Where a tree is declared no
--- line is in another's way; on words that threads share the commits are those which came to their history.
+-- line is in another's way; on words that threads share the commits are those which came to their history. The runtime
+-- is down just where a device failed.
 pub record RanRound (tries : ℕ) (round : Round) (old new : RuntimeState) (report : Report) : Type 0 where
   pub ran : Ran
   pub logged : ℕ → List Commit
@@ -244,7 +245,7 @@ pub record RanRound (tries : ℕ) (round : Round) (old new : RuntimeState) (repo
   pub lasts : report.end ≡ None → ran.printed.durable ≡ Some ran.printed.end.epoch
   pub clock : new.stands.clock ≡ record { epoch = epoch_joined ran; draw = ran.printed.end.draw }
   pub ended : new.stands.ended ≡ is_some report.end
-  pub down : ran.beside.devices ≡ [] → new.down ≡ false
+  pub down : (new.down ≡ false) ↔ (ran.beside.devices ≡ [])
 
 -- the first lines of each worker and of the keeper
 pub record IsFrontOf (front round : Round) : Type 0 where
@@ -253,7 +254,7 @@ pub record IsFrontOf (front round : Round) : Type 0 where
 
 -- A round stopped for want of memory, in the workers' lines: a front of them was run, and there the contents and the
 -- clock stand. No line of the maintenance thread was run and the join was left out, so nothing was stored. What the
--- lines came to is lost, and with it the run.
+-- lines came to is lost, and with it the run: the runtime is down, and nothing is joined any more.
 pub record StopsIn (tries : ℕ) (round : Round) (old new : RuntimeState) : Type 0 where
   pub front : Round
   pub first : IsFrontOf front round
@@ -270,6 +271,7 @@ pub record StopsIn (tries : ℕ) (round : Round) (old new : RuntimeState) : Type
   pub durable : ran.printed.durable ≡ None
   pub clock : new.stands.clock ≡ ran.printed.end
   pub ended : new.stands.ended ≡ true
+  pub down : new.down ≡ true
 
 module _ {D : Type 0} (tells : D → Option (List ℕ)) (clock : D → ℕ) (image_at : D → ℕ → List ℕ → Type 0)
     (faults : D → ℕ) where

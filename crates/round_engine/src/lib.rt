@@ -13,6 +13,8 @@
 //!   where lines run on words (`unbegun`); or a front of the workers' lines was run on the map, nothing was stored, and
 //!   the run has ended (`rounds`, by `StopsIn`).
 //! - [`join_round`]: the same of a round without lines (`joins`, by `Joins`).
+//! - [`Runtime::is_down`]: behind a round or a join just where a device failed (`down` of `RanRound` and `Joins`), and
+//!   where memory was wanted within a round (`down` of `StopsIn`).
 //! - [`Runtime::total`]: the sum of all values behind the rounds that were run, without a device.
 //! - [`Runtime::new`] begins in the settled state, in the epoch after the saved one, with empty logs (`begins`). Words
 //!   that threads share open with the newest snapshot's records, each with its number (`opens`).

@@ -1,11 +1,15 @@
 // What the program does over its streams, once they are made.
-ghost use Rattle.std.specs.Prelude.{◌≡◌, IfErr, map};
+ghost use Rattle.std.specs.Prelude.{◌≡◌, IfErr, IfOk, map};
 ghost use Rattle.std.specs.Process.{exit_status};
+ghost use Rattle.std.specs.String.{string_bytes};
 ghost use Rattle.log_writer.specs.Vault.{IsWhole};
 ghost use Rattle.command_line.specs.Options.{command_of};
+ghost use Rattle.program_calls.specs.Answers.{sources_of};
 ghost use Rattle.program_calls.specs.Causes.{AnswersFaults, LeavesVault};
 ghost use Rattle.program_calls.specs.OnTheWay.{Explains, IsEarly, IsExit, TellsEnding};
+ghost use Rattle.program_calls.specs.TopAnswers.{sinks_of};
 ghost use Rattle.program_entry.specs.Endings.{ending_unopened};
+ghost use Rattle.program_entry.specs.Entry.{AnsweredAlone, AnsweredOver, InOneOf, OrEarly};
 
 use call_notes::{
     Asked, Remembers, USAGE, explanation, tell_causes, tell_faulty_line, tell_no_text,
@@ -15,7 +19,7 @@ use command_line::{Command, read_words};
 use database_files::{Access, NotOpened, fill_places, no_vault, open_vault};
 use lists::Memory;
 use log_writer::Vault;
-use outside::{FileDisk, Sink, Source};
+use outside::{Disk, FileDisk, MemDisk, Sink, Source};
 use program_calls::{Ending, Watcher, finish, status_told, top};
 use std::alloc::{AllocError, Global};
 use std::env::{self, Env};
@@ -68,14 +72,59 @@ where
     ensures explained { Explains (exit_status result) USAGE.now (E.held errors.old) (E.held errors.new)
         (E.faults errors.old) (E.faults errors.new) }
     ensures quiet { exit_status result ≡ 0 → errors.new ≡ errors.old }
+    // The words come to what `top` promises of them, over the files of the folder, or over none where they leave these
+    // alone; or it is told which file can't be had, or that memory was wanted. Words that can't be had come to theirs.
+    ensures answered { IfOk words (λ words. OrEarly (InOneOf
+        (AnsweredOver ⟦<FileDisk as Disk>⟧.tells ⟦<FileDisk as Disk>⟧.clock
+        ⟦<FileDisk as Disk>⟧.image_at ⟦<FileDisk as Disk>⟧.faults (map string_bytes words.items)
+        (sources_of S.left S.faults source.old source.new))
+        (AnsweredAlone ⟦<MemDisk as Disk>⟧.tells ⟦<MemDisk as Disk>⟧.clock
+        ⟦<MemDisk as Disk>⟧.image_at ⟦<MemDisk as Disk>⟧.faults (map string_bytes words.items)
+        (sources_of S.left S.faults source.old source.new)))
+        (sinks_of K.held K.faults sink.old sink.new) (exit_status result)) }
+    ensures told { IfErr words (λ ending. TellsEnding ending
+        (record { before = K.faults sink.old; after = K.faults sink.new })
+        (K.held sink.old) (K.held sink.new) (exit_status result)) }
 {
     let _places = fill_places(rt);
-    let status = match words {
-        Ok(words) => answer_words(rt, &words, folder, source, sink, notes, gate),
-        Err(ending) => answer_none(sink, notes, ending),
-    };
+    let status = answer(rt, words, folder, source, sink, notes, gate);
     explain(errors, status);
     ExitCode::from(status)
+}
+
+/// Answers the words, or tells why they can't be had.
+fn answer<R, S: Source + Remembers, K: Sink, N: Sink, G: Watcher + Sync>(
+    rt: &R,
+    words: Result<Vec<String>, Ending>,
+    folder: &str,
+    source: &mut S,
+    sink: &mut K,
+    notes: &mut N,
+    gate: &G,
+) -> u8
+where
+    R: Threads + Wait + Sync + Files<File = File> + AllocGlobal,
+    requires { IfErr words IsEarly }
+    ensures statuses { IsExit result }
+    ensures faults { AnswersFaults
+        (record { before = S.faults source.old; after = S.faults source.new })
+        (record { before = K.faults sink.old; after = K.faults sink.new }) result }
+    ensures answered { IfOk words (λ words. OrEarly (InOneOf
+        (AnsweredOver ⟦<FileDisk as Disk>⟧.tells ⟦<FileDisk as Disk>⟧.clock
+        ⟦<FileDisk as Disk>⟧.image_at ⟦<FileDisk as Disk>⟧.faults (map string_bytes words.items)
+        (sources_of S.left S.faults source.old source.new))
+        (AnsweredAlone ⟦<MemDisk as Disk>⟧.tells ⟦<MemDisk as Disk>⟧.clock
+        ⟦<MemDisk as Disk>⟧.image_at ⟦<MemDisk as Disk>⟧.faults (map string_bytes words.items)
+        (sources_of S.left S.faults source.old source.new)))
+        (sinks_of K.held K.faults sink.old sink.new) result) }
+    ensures told { IfErr words (λ ending. TellsEnding ending
+        (record { before = K.faults sink.old; after = K.faults sink.new })
+        (K.held sink.old) (K.held sink.new) result) }
+{
+    match words {
+        Ok(words) => answer_words(rt, &words, folder, source, sink, notes, gate),
+        Err(ending) => answer_none(sink, notes, ending),
+    }
 }
 
 /// Answers words that can't be had.
@@ -106,18 +155,54 @@ where
     ensures faults { AnswersFaults
         (record { before = S.faults source.old; after = S.faults source.new })
         (record { before = K.faults sink.old; after = K.faults sink.new }) result }
+    ensures answered { OrEarly (InOneOf
+        (AnsweredOver ⟦<FileDisk as Disk>⟧.tells ⟦<FileDisk as Disk>⟧.clock
+        ⟦<FileDisk as Disk>⟧.image_at ⟦<FileDisk as Disk>⟧.faults (map string_bytes words.now)
+        (sources_of S.left S.faults source.old source.new))
+        (AnsweredAlone ⟦<MemDisk as Disk>⟧.tells ⟦<MemDisk as Disk>⟧.clock
+        ⟦<MemDisk as Disk>⟧.image_at ⟦<MemDisk as Disk>⟧.faults (map string_bytes words.now)
+        (sources_of S.left S.faults source.old source.new)))
+        (sinks_of K.held K.faults sink.old sink.new) result }
 {
     let Ok(texts) = texts(rt.alloc(), words) else {
         return tell(sink, Ending::NoMemory);
     };
-    match read_words(rt.alloc(), &texts) {
-        Ok(Command::Make(_)) => answer_alone(rt, &texts, source, sink, gate),
+    answer_texts(rt, &texts, folder, source, sink, notes, gate)
+}
+
+/// The same of texts.
+fn answer_texts<R, S: Source + Remembers, K: Sink, N: Sink, G: Watcher + Sync>(
+    rt: &R,
+    words: &[&str],
+    folder: &str,
+    source: &mut S,
+    sink: &mut K,
+    notes: &mut N,
+    gate: &G,
+) -> u8
+where
+    R: Threads + Wait + Sync + Files<File = File> + AllocGlobal,
+    ensures statuses { IsExit result }
+    ensures faults { AnswersFaults
+        (record { before = S.faults source.old; after = S.faults source.new })
+        (record { before = K.faults sink.old; after = K.faults sink.new }) result }
+    ensures answered { OrEarly (InOneOf
+        (AnsweredOver ⟦<FileDisk as Disk>⟧.tells ⟦<FileDisk as Disk>⟧.clock
+        ⟦<FileDisk as Disk>⟧.image_at ⟦<FileDisk as Disk>⟧.faults (map (λ word. word.now) words.now)
+        (sources_of S.left S.faults source.old source.new))
+        (AnsweredAlone ⟦<MemDisk as Disk>⟧.tells ⟦<MemDisk as Disk>⟧.clock
+        ⟦<MemDisk as Disk>⟧.image_at ⟦<MemDisk as Disk>⟧.faults (map (λ word. word.now) words.now)
+        (sources_of S.left S.faults source.old source.new)))
+        (sinks_of K.held K.faults sink.old sink.new) result }
+{
+    match read_words(rt.alloc(), words) {
+        Ok(Command::Make(_)) => answer_alone(rt, words, source, sink, gate),
         Ok(Command::Refused) => {
-            tell_refused(rt.alloc(), notes, &texts);
-            answer_alone(rt, &texts, source, sink, gate)
+            tell_refused(rt.alloc(), notes, words);
+            answer_alone(rt, words, source, sink, gate)
         }
-        Ok(Command::Run(_)) => answer_run(rt, &texts, folder, source, sink, notes, gate),
-        Ok(_) => answer_listing(rt, &texts, folder, source, sink, notes, gate),
+        Ok(Command::Run(_)) => answer_run(rt, words, folder, source, sink, notes, gate),
+        Ok(_) => answer_listing(rt, words, folder, source, sink, notes, gate),
         Err(Memory) => tell(sink, Ending::NoMemory),
     }
 }
@@ -138,6 +223,10 @@ where
     ensures faults { AnswersFaults
         (record { before = S.faults source.old; after = S.faults source.new })
         (record { before = K.faults sink.old; after = K.faults sink.new }) result }
+    ensures answered { OrEarly (AnsweredOver ⟦<FileDisk as Disk>⟧.tells ⟦<FileDisk as Disk>⟧.clock
+        ⟦<FileDisk as Disk>⟧.image_at ⟦<FileDisk as Disk>⟧.faults (map (λ word. word.now) words.now)
+        (sources_of S.left S.faults source.old source.new))
+        (sinks_of K.held K.faults sink.old sink.new) result }
 {
     let asked = Asked {
         folder,
@@ -167,6 +256,10 @@ where
     ensures faults { AnswersFaults
         (record { before = S.faults source.old; after = S.faults source.new })
         (record { before = K.faults sink.old; after = K.faults sink.new }) result }
+    ensures answered { OrEarly (AnsweredOver ⟦<FileDisk as Disk>⟧.tells ⟦<FileDisk as Disk>⟧.clock
+        ⟦<FileDisk as Disk>⟧.image_at ⟦<FileDisk as Disk>⟧.faults (map (λ word. word.now) words.now)
+        (sources_of S.left S.faults source.old source.new))
+        (sinks_of K.held K.faults sink.old sink.new) result }
 {
     let asked = Asked {
         folder,
@@ -192,6 +285,10 @@ where
     ensures faults { AnswersFaults
         (record { before = S.faults source.old; after = S.faults source.new })
         (record { before = K.faults sink.old; after = K.faults sink.new }) result }
+    ensures answered { OrEarly (AnsweredOver ⟦<FileDisk as Disk>⟧.tells ⟦<FileDisk as Disk>⟧.clock
+        ⟦<FileDisk as Disk>⟧.image_at ⟦<FileDisk as Disk>⟧.faults (map (λ word. word.now) words.now)
+        (sources_of S.left S.faults source.old source.new))
+        (sinks_of K.held K.faults sink.old sink.new) result }
 {
     match open_vault(rt, rt.alloc(), asked.folder, asked.access) {
         Ok(mut opened) => {
@@ -234,6 +331,10 @@ where
     ensures faults { AnswersFaults
         (record { before = S.faults source.old; after = S.faults source.new })
         (record { before = K.faults sink.old; after = K.faults sink.new }) result }
+    ensures answered { AnsweredOver ⟦<FileDisk as Disk>⟧.tells ⟦<FileDisk as Disk>⟧.clock
+        ⟦<FileDisk as Disk>⟧.image_at ⟦<FileDisk as Disk>⟧.faults (map (λ word. word.now) words.now)
+        (sources_of S.left S.faults source.old source.new)
+        (sinks_of K.held K.faults sink.old sink.new) result }
 {
     top(rt, rt.alloc(), words, source, sink, vault, gate)
 }
@@ -254,6 +355,10 @@ where
     ensures faults { AnswersFaults
         (record { before = S.faults source.old; after = S.faults source.new })
         (record { before = K.faults sink.old; after = K.faults sink.new }) result }
+    ensures answered { OrEarly (AnsweredAlone ⟦<MemDisk as Disk>⟧.tells ⟦<MemDisk as Disk>⟧.clock
+        ⟦<MemDisk as Disk>⟧.image_at ⟦<MemDisk as Disk>⟧.faults (map (λ word. word.now) words.now)
+        (sources_of S.left S.faults source.old source.new))
+        (sinks_of K.held K.faults sink.old sink.new) result }
 {
     match no_vault(rt.alloc()) {
         Ok(mut vault) => top(rt, rt.alloc(), words, source, sink, &mut vault, gate),
@@ -262,8 +367,14 @@ where
 }
 
 // The words as texts.
-fn texts(alloc: Global, words: &[String]) -> Result<Vec<&str>, AllocError> {
-    words.iter().map(|word| word.as_str()).collect(alloc)
+fn texts(alloc: Global, words: &[String]) -> Result<Vec<&str>, AllocError>
+    ensures { IfOk result (λ texts. map (λ text. text.now) texts.items ≡ map string_bytes words.now) }
+{
+    let mut texts = Vec::new(alloc);
+    for word in words {
+        texts.push(word.as_str())?;
+    }
+    Ok(texts)
 }
 
 /// Prints how a call ends that doesn't reach `top`, and answers the status.

@@ -1,7 +1,9 @@
 //! What a call of the program makes of its words, of the folder of the database and of its streams.
 //!
-//! Promises: a program's status is that of `top`, or tells that words or files can't be had (`run_program`); each
-//! status but 0 is explained where errors are told (`explained`), and 0 leaves them alone (`quiet`).
+//! Promises of [`run_program`]: the words come to what `program_calls::top` promises of them, over the files of the
+//! folder, or over none where they leave these alone, with its status and its text; or files, words or memory can't be
+//! had, and that is told (`answered`, `told`, by specs/Entry.antt). Each status but 0 is explained where errors are told
+//! (`explained`), and 0 leaves them alone (`quiet`).
 //!
 //! Design: docs/ARCHITECTURE.md.
 #![tactic(auto)]

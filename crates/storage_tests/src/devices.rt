@@ -231,6 +231,16 @@ fn a_closed_way_is_a_fault(rt: HostRuntime) -> Result<(), Fail> {
     Ok(())
 }
 
+// What is no file can't be brought to a device, and the system says so: it is asked.
+#[test]
+fn a_sync_that_is_refused_is_a_fault(rt: HostRuntime) -> Result<(), Fail> {
+    let nothing = OpenOptions::new().write(true).open(&rt, "/dev/null")?;
+    let mut disk = FileDisk::new(nothing);
+    assert!(rt; sync(&mut disk) == Err(Failed));
+    assert!(rt; counts(&disk) == (1, 2));
+    Ok(())
+}
+
 // What a read of two bytes answers, and two bytes, which were dots.
 fn piece<S: Source>(source: &mut S) -> (Result<usize, Failed>, [u8; 2]) {
     let mut buf = [b'.'; 2];

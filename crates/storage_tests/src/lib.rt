@@ -4,8 +4,9 @@
 //! `transactions` has runs one after another and their replies (serial_model). `devices` has disks, streams and vaults
 //! at work, over the system too, and each call that fails (outside). `forms` has words, pages, log lines and savepoints
 //! by their layouts, each rule broken once (wire_form). `logs` has journals and savepoints over disks in memory, and
-//! each call of them that fails (log_writer). `snapshot_pages` has pages that are added (snapshot_store), and
-//! `compositions` the pages of new snapshots, worked and pseudo-random ones (root_composer).
+//! each call of them that fails (log_writer). `snapshot_pages` has pages that are added (snapshot_store), `short_reads`
+//! a device that gives less than it says (log_writer, snapshot_store, log_mapper), and `compositions` the pages of new
+//! snapshots, worked and pseudo-random ones (root_composer).
 //! They stand in a crate above those that they test, because a crate with tests is proved a second time.
 //! Design: docs/ARCHITECTURE.md, docs/DURABILITY.md, docs/CHECKPOINT.md. Bytes: docs/FORMATS.md.
 #![tactic(auto)]
@@ -20,6 +21,8 @@ mod disks;
 mod forms;
 #[cfg(test)]
 mod logs;
+#[cfg(test)]
+mod short_reads;
 #[cfg(test)]
 mod snapshot_pages;
 #[cfg(test)]

@@ -3,10 +3,12 @@
 
     bench/each_call_fails.py PROGRAM
 
-It wants strace. Each call of a first run, which makes the database, of a second one over it and of a dump is made to
-fail with EIO: then the status is 5, the last line is `device NAME` for the file of the call, and standard error has the
-system's words. A call that a signal interrupts (EINTR) is made again: the answer is that of a run without it. After
-each run in which a call failed a dump must find what had been told durable, and the run be made again.
+It wants strace. Each call of a first run, which makes the database, of a second one over it, of one in brief, of a dump
+and of what tells of snapshots is made to fail with EIO: then the status is 5, the last line is `device NAME` for the
+file of the call, and standard error has the system's words. A call that a signal interrupts (EINTR) is made again: the
+answer is that of a run without it. After each run in which a call failed a dump must find what had been told durable,
+and the run be made again. Each read of the script fails too (status 3, and `read` alone), and each write of the text
+(status 4, and so much of it as was written before).
 """
 import os
 import re
@@ -93,6 +95,43 @@ def try_call(name, call, start, words, script, kept):
     raise AssertionError(f"{call} {name}: more than 1000 calls")
 
 
+def run_with_files(words, script, inject, path):
+    """The same over a script and a text in files, with the text that was written."""
+    with open("script", "wb") as file:
+        file.write(script)
+    traced = ["strace", "-f", "-y", "-o", "calls", "-P", path, "-e", f"trace={inject[0]}",
+              "-e", f"inject={inject[0]}:error={inject[1]}:when={inject[2]}"]
+    with open("script", "rb") as source, open("text", "wb") as text:
+        status = subprocess.run([*traced, PROGRAM, *words], stdin=source, stdout=text, stderr=subprocess.PIPE,
+                                timeout=120).returncode
+    with open("text", "rb") as file, open("calls", encoding="utf-8", errors="replace") as calls:
+        return status, file.read(), any("(INJECTED)" in line for line in calls)
+
+
+def try_stream(call, name, start, words, script, kept):
+    """Makes each read of the script, or each write of the text, fail once, and answers how many there were."""
+    fresh(start)
+    whole = run(words, script)[1]
+    path = os.path.join(os.getcwd(), name)
+    for when in range(1, 1000):
+        for error in ("EIO", "EINTR"):
+            fresh(start)
+            status, text, failed = run_with_files(words, script, (call, error, when), path)
+            where = f"{call} {name} {when}: {error}: status {status}, {text!r}"
+            if not failed:
+                assert status == 0 and text == whole, where
+                return when - 1
+            if error == "EINTR":
+                assert status == 0 and text == whole, where
+            elif call == "read":
+                assert status == 3 and text == b"read\n", where
+            else:
+                assert status == 4 and whole.startswith(text) and text != whole, where
+            after = run(["dump"], b"")
+            assert after[0] == 0 and int(after[1].split()[1]) >= max(durable(text), kept), f"{where}: dump: {after}"
+    raise AssertionError(f"{call} {name}: more than 1000 calls")
+
+
 def try_run(what, start, words, script, kept):
     """Makes each call of a run fail once."""
     total = 0
@@ -119,7 +158,16 @@ def main():
         kept = durable(run(["run"], FIRST)[1])
         shutil.copytree("vault", "kept")
         try_run("a second run", "kept", ["run"], SECOND, kept)
+        try_run("a run in brief", "kept", ["run", "--brief"], SECOND, kept)
         try_run("a dump", "kept", ["dump"], b"", kept)
+        try_run("a list of snapshots", "kept", ["snaps"], b"", kept)
+        try_run("a snapshot", "kept", ["snap", "0"], b"", kept)
+        for what, start, words, script in (("a first run", None, ["run"], FIRST), ("a second run", "kept", ["run"], SECOND),
+                                           ("a dump", "kept", ["dump"], b"")):
+            reads = try_stream("read", "script", start, words, script, kept if start else 0) if script else 0
+            writes = try_stream("write", "text", start, words, script, kept if start else 0)
+            print(f"{what}: {reads} reads of the script and {writes} writes of the text, each failed once and was told",
+                  flush=True)
     finally:
         os.chdir("/")
         shutil.rmtree(folder, ignore_errors=True)

@@ -2,9 +2,11 @@
 """Kills the program again and again: while it makes the files of a database, and asks that the next call finds a fresh
 one; and amid a run of many rounds, of which each third one makes a snapshot, and asks that the database then has a
 saved epoch that covers each one that was told durable, with exactly its commits, and that its newest snapshot has
-exactly those of its epoch.
+exactly those of its epoch. The same of runs of several workers and of runs over a tree; and of one database whose runs
+are killed one after another, each as it settles what the one before it left, or in its rounds.
 
-Usage: bench/kill.py PROGRAM [TIMES], where PROGRAM is the built program, crates/foedus/out/foedus.
+Usage: bench/kill.py PROGRAM [TIMES], where PROGRAM is the built program, crates/foedus/out/foedus. TIMES is 400 if it is
+left out; the further kinds of runs are killed a quarter as often each.
 """
 import os
 import random
@@ -42,48 +44,84 @@ def try_making(program, folder):
     return len(made) < FILES
 
 
-def script():
-    """Rounds of which each adds 1 to a value."""
-    rounds = [f"0 a 1 0 1\n{'k glean' if number % 3 == 0 else ''}\njoin\n" for number in range(ROUNDS)]
-    return "array 1 4\n" + "".join(rounds)
+# The declarations, what each round does besides, and what a dump tells as of an epoch that isn't 0.
+KINDS = {
+    "": ("array 1 4\n", "0 a 1 0 1\n", "1 0 {0}\n"),
+    "of three workers, ": ("array 1 4\n", "0 a 1 0 1\n1 a 1 1 1\n7 a 1 3 1\n", "1 0 {0}\n1 1 {0}\n1 3 {0}\n"),
+    "over a tree, ": ("array 1 4\ntree 2\n", "0 a 1 0 1\n1 a 2 9 1\n", "1 0 {0}\n2 9 {0}\n"),
+}
 
 
-def state(epoch):
+def script(kind):
+    """Rounds of which each adds 1 to some values: so each epoch has itself as these values, also behind other runs."""
+    declared, lines, _ = KINDS[kind]
+    rounds = [f"{lines}{'k glean' if number % 3 == 0 else ''}\njoin\n" for number in range(ROUNDS)]
+    return declared + "".join(rounds)
+
+
+def state(kind, epoch):
     """What is told of the state as of an epoch."""
-    return f"epoch {epoch}\n" + (f"1 0 {epoch}\n" if epoch > 0 else "")
+    return f"epoch {epoch}\n" + (KINDS[kind][2].format(epoch) if epoch > 0 else "")
 
 
-def try_run(program, folder):
-    """Whether the program was killed before its last round."""
+def kill_run(program, folder, kind, longest):
+    """Kills a run, checks what is kept then, and answers its epoch."""
     with open(f"{folder}/script", "w") as source:
-        source.write(script())
+        source.write(script(kind))
     with open(f"{folder}/script") as source, open(f"{folder}/text", "w") as text:
         begun = subprocess.Popen([program, "run"], cwd=folder, stdin=source, stdout=text)
-        kill_within(begun, LONGEST_RUN)
+        kill_within(begun, longest)
     with open(f"{folder}/text") as text:
-        told = text.read().rpartition("\n")[0].count("durable")
+        told = [line for line in text.read().split("\n")[:-1] if line.startswith("durable")]
+    durable = int(told[-1].split()[1]) if told else 0
     status, kept = call(program, folder, "dump")
     epoch = int(kept.split()[1]) if status == 0 else -1
-    if kept != state(epoch) or epoch < told:
-        sys.exit(f"{told} rounds were told durable, then: {status}, {kept!r}")
+    if kept != state(kind, epoch) or epoch < durable:
+        sys.exit(f"{durable} was told durable, then: {status}, {kept!r}")
     snapshots = call(program, folder, "snaps")[1].splitlines()
     for newest in snapshots[-1:]:
         of = newest.split()[1]
         answer = call(program, folder, "snap", of)
-        if answer != (0, state(int(of))):
+        if answer != (0, state(kind, int(of))):
             sys.exit(f"the snapshot of epoch {of}, of {len(snapshots)}: {answer}")
-    return epoch < ROUNDS
+    return epoch
+
+
+def try_run(program, folder, kind=""):
+    """Whether the program was killed before its last round."""
+    return kill_run(program, folder, kind, LONGEST_RUN) < ROUNDS
+
+
+def try_chain(program, folder, times):
+    """How many of so many runs over one database were killed before their last rounds."""
+    within, before = 0, 0
+    for _ in range(times):
+        longest = random.choice([0.010, 0.050, LONGEST_RUN])
+        epoch = kill_run(program, folder, "", longest)
+        if epoch < before:
+            sys.exit(f"epoch {before} was kept, and then {epoch}")
+        within += epoch < before + ROUNDS
+        before = epoch
+    return within
 
 
 def main():
     program = os.path.abspath(sys.argv[1])
     times = int(sys.argv[2]) if len(sys.argv) > 2 else 400
-    for name, try_once in (("all files were made", try_making), ("its last round", try_run)):
+    kinds = [("before all files were made", try_making, times), ("before its last round", try_run, times)]
+    for kind in list(KINDS)[1:]:
+        kinds.append((f"{kind}before its last round", lambda program, folder, kind=kind: try_run(program, folder, kind),
+                      times // 4))
+    for name, try_once, count in kinds:
         within = 0
-        for _ in range(times):
+        for _ in range(count):
             with tempfile.TemporaryDirectory() as folder:
                 within += try_once(program, folder)
-        print(f"{times} times killed, {within} of them before {name}: each next dump was right")
+        print(f"{count} times killed, {within} of them {name}: each next dump was right", flush=True)
+    with tempfile.TemporaryDirectory() as folder:
+        within = try_chain(program, folder, times // 4)
+    print(f"{times // 4} runs killed one after another over one database, {within} of them before their last rounds: each "
+          "next dump was right")
 
 
 if __name__ == "__main__":

@@ -9,6 +9,7 @@ The status is 0 where all others hold.
 import fcntl
 import os
 import pty
+import re
 import resource
 import shutil
 import signal
@@ -188,6 +189,16 @@ def a_missing_save_is_no_new_database():
     assert files() == before, "files were changed"
 
 
+def each_file_with_bytes_wants_a_save():
+    for name in ["snaps"] + [f"bank{n}" for n in range(16)]:
+        shutil.rmtree("vault", ignore_errors=True)
+        os.mkdir("vault")
+        with open(os.path.join("vault", name), "wb") as file:
+            file.write(b"x")
+        check(run(["dump"]), 5, b"device save\n", "is missing", "vault/save")
+        assert files()[name][0] == b"x"
+
+
 def a_stop_within_the_making_leaves_a_new_database():
     os.mkdir("vault")
     with open("vault/save.new", "wb") as file:
@@ -335,12 +346,12 @@ def a_typed_script_is_told():
 # ---- what the system is asked for
 
 
-def calls_of(words, script=b""):
+def calls_of(words, script=b"", more=""):
     """The system calls of a run that succeeded, as strace prints them with the paths of descriptors."""
     if shutil.which("strace") is None:
         raise LeftOut("there is no strace")
     traced = ["strace", "-f", "-y", "-o", "calls", "-e",
-              "trace=openat,fsync,fdatasync,rename,renameat,renameat2,mkdir,mkdirat,flock", PROGRAM, *words]
+              f"trace=openat,fsync,fdatasync,rename,renameat,renameat2,mkdir,mkdirat,flock{more}", PROGRAM, *words]
     done = subprocess.run(traced, input=script, stdout=subprocess.PIPE, stderr=subprocess.PIPE, timeout=60)
     with open("calls", encoding="utf-8", errors="replace") as file:
         calls = file.read().splitlines()
@@ -367,8 +378,30 @@ def a_new_database_is_synced_before_it_has_its_name():
     named = index_of(calls, "rename", "save.new", after=names)
     index_of(calls, "sync(", "/vault>", after=named)
     around = index_of(calls, "mkdir")
-    index_of(calls, "sync(", after=around)
+    index_of(calls, "sync(", f"<{os.path.realpath('.')}>", after=around)
     assert sum("sync(" in call for call in calls) <= 4, calls
+
+
+def a_file_that_was_missing_stays():
+    keep_one()
+    os.remove("vault/bank7")
+    calls = calls_of(["dump"])
+    made = index_of(calls, "openat(", "bank7", "O_CREAT")
+    index_of(calls, "sync(", "/vault>", after=made)
+
+
+def what_is_told_durable_was_synced():
+    calls = calls_of(["run"], SCRIPT, ",pwrite64,write")
+    told = index_of(calls, "write(1<", "durable 1")
+    written, waits = set(), set()
+    for call in calls[:told]:
+        found = re.search(r"\b(pwrite64|fsync|fdatasync)\(\d+<[^>]*/vault/([^>]*)>", call)
+        if found and found[1] == "pwrite64":
+            written.add(found[2])
+            waits.add(found[2])
+        elif found:
+            waits.discard(found[2])
+    assert {"save", "snaps"} < written and not waits, (written, waits, calls)
 
 
 def no_file_has_the_place_of_a_stream():
@@ -390,6 +423,7 @@ TESTS = [
     two_may_read_at_once,
     one_of_two_makes_the_database,
     a_missing_save_is_no_new_database,
+    each_file_with_bytes_wants_a_save,
     a_stop_within_the_making_leaves_a_new_database,
     a_new_database_is_told_where_one_was_asked_for,
     a_copy_that_cannot_be_written_is_read,
@@ -401,6 +435,8 @@ TESTS = [
     a_faulty_line_far_down,
     a_typed_script_is_told,
     a_new_database_is_synced_before_it_has_its_name,
+    a_file_that_was_missing_stays,
+    what_is_told_durable_was_synced,
     no_file_has_the_place_of_a_stream,
 ]
 

@@ -27,6 +27,7 @@ class Unreadable(Exception):
 
     def __init__(self, file, why, at=None):
         super().__init__(f"{file}: {why}" if at is None else f"{file}: not in its format from byte {at} on: {why}")
+        self.file, self.at = file, at
 
 
 @dataclass

@@ -34,6 +34,19 @@ pub record IsPushed {E : Type 0} (most : ℕ) (x : E) (old new : List E) (result
   pub kept : OnErr result (new ≡ old)
   pub given_back : IfErr result (λ e. e ≡ x)
 
+-- ---- notes of slots
+
+-- of each slot below 4,096 it is noted whether it is among these
+pub record AreNoted (noted : List Bool) (slots : List ℕ) : Type 0 where
+  pub many : length noted ≡ 4096
+  pub each : (t : ℕ) → t < 4096 → get_or noted t false ≡ list_any (λ s. s == t) slots
+
+-- the slot's note, where it has one, says so, and all others are as they were
+pub record IsNoted (slot : ℕ) (held : Bool) (old new : List Bool) : Type 0 where
+  pub many : length new ≡ 4096
+  pub here : slot < 4096 → get_or new slot false ≡ held
+  pub others : (t : ℕ) → t < 4096 → (slot == t) ≡ false → get_or new t false ≡ get_or old t false
+
 -- ---- words that were seen
 
 -- at which places words were seen, in the order of the set

@@ -1,8 +1,8 @@
 // The slots whose pages a transaction holds.
-ghost use Rattle.std.specs.Prelude.{◌≡◌, ◌==◌, ◌≤◌, false, [], length};
+ghost use Rattle.std.specs.Prelude.{◌≡◌, ◌==◌, ◌≤◌, true, false, [], length};
 ghost use Rattle.std.specs.List.{list_any};
 ghost use Rattle.lists.specs.Each.{AreDistinct};
-ghost use Rattle.tx_sets.specs.Entries.{IsPushed};
+ghost use Rattle.tx_sets.specs.Entries.{AreNoted, IsNoted, IsPushed};
 
 use arrayvec::ArrayVec;
 use std::marker::Model;
@@ -10,21 +10,28 @@ use std::marker::Model;
 /// The most slots that a transaction holds.
 const CAPACITY: usize = 128;
 
-/// Up to 128 slots, each once, in the order in which they were entered.
+/// Of how many slots a note tells whether they are held. An engine has no more.
+const NOTED: usize = 4096;
+
+/// Up to 128 slots, each once, in the order in which they were entered. Whether one of the first 4,096 is held is known
+/// without a search.
 #[derive(Drop)]
 pub struct Holds {
     slots: ArrayVec<u32, CAPACITY>,
+    /// Of each of the first slots whether it is held.
+    noted: [bool; NOTED],
 }
 
 impl Model for Holds {
     ghost use Rattle.std.specs.Prelude.{ℕ, List};
     ghost use Rattle.lists.specs.Each.{AreDistinct};
+    ghost use Rattle.tx_sets.specs.Entries.{AreNoted};
 
     ghost Value = { List ℕ };
 
     ghost view = { λ h. h.slots.items };
 
-    ghost invariant = { λ h. AreDistinct h.slots.items };
+    ghost invariant = { λ h. AreDistinct h.slots.items × AreNoted h.noted h.slots.items };
 }
 
 impl Holds {
@@ -33,6 +40,7 @@ impl Holds {
     {
         Holds {
             slots: ArrayVec::new(),
+            noted: no_notes(),
         }
     }
 
@@ -55,6 +63,9 @@ impl Holds {
     pub fn contains(&self, slot: u32) -> bool
         ensures { result ≡ list_any (λ s. s == slot) self.now }
     {
+        if slot < 4096 {
+            return self.noted[slot as usize];
+        }
         self.slots.as_slice().iter().any(|&held| held == slot)
     }
 
@@ -67,12 +78,51 @@ impl Holds {
             return Err(slot);
         }
         self.slots.push(slot);
+        note(&mut self.noted, slot);
         Ok(())
     }
 
     pub fn clear(&mut self)
         ensures { self.new ≡ [] }
     {
+        forget_all(&mut self.noted, self.slots.as_slice());
         self.slots.clear();
+    }
+}
+
+// Of none it is noted that it is held.
+fn no_notes() -> [bool; NOTED]
+    ensures { AreNoted result [] }
+{
+    [false; NOTED]
+}
+
+// Notes that a slot is held, where there is a note of it.
+fn note(noted: &mut [bool; NOTED], slot: u32)
+    requires { length noted.old ≡ 4096 }
+    ensures { IsNoted slot true noted.old noted.new }
+{
+    if slot < 4096 {
+        noted[slot as usize] = true;
+    }
+}
+
+// Notes that a slot is not held any more, where there is a note of it.
+fn forget(noted: &mut [bool; NOTED], slot: u32)
+    requires { length noted.old ≡ 4096 }
+    ensures { IsNoted slot false noted.old noted.new }
+{
+    if slot < 4096 {
+        noted[slot as usize] = false;
+    }
+}
+
+// Notes that none of these slots is held any more, which are all that were.
+fn forget_all(noted: &mut [bool; NOTED], slots: &[u32])
+    requires { AreNoted noted.old slots.now }
+    ensures { AreNoted noted.new [] }
+{
+    for i in 0..slots.len() {
+        forget(noted, slots[i]);
     }
 }

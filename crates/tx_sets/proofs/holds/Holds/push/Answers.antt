@@ -1,4 +1,5 @@
 use Rattle.std.proofs.Common.{arith, sym}
+use Rattle.tx_sets.proofs.NoteLaws.{more_noted}
 use Rattle.tx_sets.proofs.SetLaws.{room, pushed, slots_more}
 use Rattle.tx_sets.proofs.holds.Holds.push.Goals as goal
 
@@ -10,9 +11,11 @@ push-requires c = (
 )
 
 pub invariant_of-self : goal.invariant_of-self
-invariant_of-self c =
-    slots_more c.args.self.now c.self.inside.slots.items c.push.new.self.items c.args.slot c.self.view_is
-    c.push.ensures.items c.self.invariant c.requires.absent
+invariant_of-self c = (
+  slots_more c.args.self.now c.self.inside.slots.items c.push.new.self.items c.args.slot c.self.view_is
+      c.push.ensures.items c.self.invariant.0 c.requires.absent,
+  more_noted _ _ _ _ c.args.slot c.push.ensures.items c.self.invariant.1 c.note.ensures,
+)
 
 pub returns : goal.returns
 returns c =

@@ -1,0 +1,77 @@
+-- Notes of which slots are held.
+use Rattle.std.proofs.Common.{◌≡◌, ℕ, zero, suc, ◌+◌, ◌<◌, ◌≤◌, ◌==◌, ◌||◌, Bool, true, false, true≢false, inl, inr, refl, cond}
+use Rattle.std.proofs.Common.{List, [], ◌∷◌, ◌++◌, length, get_or, drop, sym, ap, ◌∙◌, subst, arith}
+use Rattle.std.proofs.Math.ListN.{replicate}
+use Rattle.std.specs.List.{list_any}
+use Rattle.std.proofs.lemmas.Bool.{cases_Bool, or_from}
+use Rattle.std.proofs.lemmas.Bool.Decides.{nat_tests}
+use Rattle.std.proofs.lemmas.List.{get_or-replicate, length-replicate}
+use Rattle.std.proofs.lemmas.List.Folds.{list_any-append}
+use Rattle.tx_sets.specs.Entries.{AreNoted, IsNoted}
+
+-- where nothing is noted, no slot is held
+pub none_noted : AreNoted (replicate 4096 false) []
+none_noted = record {
+  many = length-replicate 4096 false;
+  each = λ t less. get_or-replicate 4096 t false false less;
+}
+
+-- with a slot more, which is noted
+pub more_noted : (old new : List Bool) (slots all : List ℕ) (slot : ℕ) → all ≡ slots ++ slot ∷ [] → AreNoted old slots
+    → IsNoted slot true old new → AreNoted new all
+more_noted old new slots all slot put was is = record {
+  many = is.many;
+  each = λ t less. elim (cases_Bool (slot == t)) [
+    | inl same ↦
+        let here : slot ≡ t = grind (arith, nat_tests) in
+        subst (λ u. get_or new u false ≡ true) here (is.here (subst (λ u. u < 4096) (sym here) less))
+        ∙ sym (found t ∙ there (list_any (λ s. s == t) slots) (slot == t) same)
+    | inr other ↦
+        is.others t less other ∙ was.each t less
+        ∙ sym (found t ∙ aside (list_any (λ s. s == t) slots) (slot == t) other)
+  ];
+}
+  where
+    found : (t : ℕ) → list_any (λ s. s == t) all ≡ (list_any (λ s. s == t) slots || ((slot == t) || false))
+    found t = ap (list_any (λ s. s == t)) put ∙ list_any-append (λ s. s == t) slots (slot ∷ [])
+
+    there : (a b : Bool) → b ≡ true → (a || (b || false)) ≡ true
+    there true b is = refl
+    there false true is = refl
+    there false false is = is
+
+    aside : (a b : Bool) → b ≡ false → (a || (b || false)) ≡ a
+    aside true b is = refl
+    aside false true is = is
+    aside false false is = refl
+
+-- what is noted is one of those from here on
+abbrev pub IsLeft : List Bool → List ℕ → Type 0
+IsLeft noted left = (t : ℕ) → t < 4096 → get_or noted t false ≡ true → list_any (λ s. s == t) left ≡ true
+
+-- so it is at first
+pub left_first : (noted : List Bool) (slots : List ℕ) → AreNoted noted slots → IsLeft noted slots
+left_first noted slots was t less is = sym (was.each t less) ∙ is
+
+-- without the first of them
+pub left_less : (old new : List Bool) (slot : ℕ) (left : List ℕ) → IsLeft old (slot ∷ left) → IsNoted slot false old new
+    → IsLeft new left
+left_less old new slot left was is t less on = elim (cases_Bool (slot == t)) [
+  | inl same ↦
+      let here : slot ≡ t = grind (arith, nat_tests) in
+      absurd (true≢false (sym on ∙ subst (λ u. get_or new u false ≡ false) here
+      (is.here (subst (λ u. u < 4096) (sym here) less))))
+  | inr other ↦
+      let found = was t less (sym (is.others t less other) ∙ on) in
+      subst (λ b. (b || list_any (λ s. s == t) left) ≡ true) other found
+]
+
+-- and where none is left nothing is noted
+pub left_none : (noted : List Bool) → length noted ≡ 4096 → IsLeft noted [] → AreNoted noted []
+left_none noted many none = record {
+  many = many;
+  each = λ t less. elim (cases_Bool (get_or noted t false)) [
+    | inl on ↦ absurd (true≢false (sym (none t less on)))
+    | inr off ↦ off
+  ];
+}

@@ -1,6 +1,8 @@
 -- Two ways into one slot are over the same keys: its page is laid out for them.
-use Rattle.std.proofs.Common.{◌≡◌, ℕ, zero, suc, ◌+◌, ◌*◌, ◌<◌, Bool, true, false, List, [], ◌∷◌, refl, sym, ap, ◌∙◌}
+use Rattle.std.proofs.Common.{◌≡◌, ℕ, zero, suc, ◌+◌, ◌*◌, ◌<◌, Bool, true, false, true≢false, List, [], ◌∷◌, refl, sym, ap, ◌∙◌}
 use Rattle.std.proofs.Common.{subst, arith, Option, Some, None}
+use Rattle.std.specs.Prelude.{nat_lt}
+use Rattle.std.proofs.lemmas.Bool.Decides.{nat_tests}
 use Rattle.std.specs.List.{Contains}
 use Rattle.serial_model.specs.declared.decl.Decl.{Decl}
 use Rattle.serial_model.specs.declared.decl.Decl.TheVariants.{Array, Tree}
@@ -14,7 +16,7 @@ use Rattle.drop_core.specs.Table.{has_pointer}
 use Rattle.engine_pages.specs.declared.layout.Layout.{Layout}
 use Rattle.engine_pages.specs.declared.view.Way.{Way}
 use Rattle.engine_pages.specs.Pages.{Fenced, IsLaidOut, IsLaidOutFor, IsOver, child_size, child_span, decl_of}
-use Rattle.engine_pages.specs.Pages.{is_leaf_span, keys_from}
+use Rattle.engine_pages.specs.Pages.{is_leaf_span, keys_from, shape_of}
 use Rattle.engine_pages.specs.Pointers.{WaysAgree}
 use Rattle.engine_pages.specs.Rule.{IsWay}
 use Rattle.engine_pages.proofs.PagesStay.{inner_shape, leaf_shape}
@@ -28,11 +30,17 @@ first_from : (id low n : ℕ) → 0 < n → first_key (keys_from id low n) ≡ r
 first_from id low zero some = absurd (omega arith)
 first_from id low (suc n) some = refl
 
--- the same storage, from the same key on, of one kind of page
+-- the same storage, from the same key on, of one kind of page, with the same parts
 record AreAlike (x y : Span) : Type 0 where
   storage : x.storage ≡ y.storage
   low : x.low ≡ y.low
   leaf : is_leaf_span x ≡ is_leaf_span y
+  children : is_leaf_span x ≡ false → (j : ℕ) → j < 64 → child_span x j ≡ child_span y j
+
+-- an interior page has this pointer
+has_child : (x : Span) (j : ℕ) → is_leaf_span x ≡ false → j < 64 → has_pointer (shape_of x) j ≡ true
+has_child x j inner less =
+    ap (λ (z : Page). has_pointer z j) (inner_shape x inner) ∙ (let test : nat_lt j 64 ≡ true = grind (arith, nat_tests) in test)
 
 no_leaf : (keys : List Key) (n : ℕ) → Leaf keys ≡ Inner n → ⊥
 no_leaf keys n e = absurd (cc)
@@ -46,7 +54,12 @@ over_agree d t x y a b = by_kind (is_leaf_span x) refl (is_leaf_span y) refl
         let first : first_key (keys_from x.storage x.low 32) ≡ first_key (keys_from y.storage y.low 32) =
         ap (λ (z : Page). first_key (leaf_keys z)) keys in
         let same = sym (first_from x.storage x.low 32 (omega arith)) ∙ (first ∙ first_from y.storage y.low 32 (omega arith)) in
-        record { storage = ap (λ (k : Key). k.storage) same; low = ap (λ (k : Key). k.key) same; leaf = one ∙ sym two }
+        record {
+          storage = ap (λ (k : Key). k.storage) same;
+          low = ap (λ (k : Key). k.key) same;
+          leaf = one ∙ sym two;
+          children = λ inner j less. absurd (true≢false (sym one ∙ inner));
+        }
     by_kind true one false two =
         absurd (no_leaf (keys_from x.storage x.low 32) 64
         (sym (leaf_shape x one) ∙ (sym a.page ∙ (b.page ∙ inner_shape y two))))
@@ -58,7 +71,12 @@ over_agree d t x y a b = by_kind (is_leaf_span x) refl (is_leaf_span y) refl
         sym (a.spans 0 (ap (λ (z : Page). has_pointer z 0) (inner_shape x one)))
         ∙ b.spans 0 (ap (λ (z : Page). has_pointer z 0) (inner_shape y two)) in
         let low : x.low + 0 * child_size x ≡ y.low + 0 * child_size y = ap (λ (z : Span). z.low) same in
-        record { storage = ap (λ (z : Span). z.storage) same; low = omega arith; leaf = one ∙ sym two }
+        record {
+          storage = ap (λ (z : Span). z.storage) same;
+          low = omega arith;
+          leaf = one ∙ sym two;
+          children = λ inner j less. sym (a.spans j (has_child x j one less)) ∙ b.spans j (has_child y j two less);
+        }
 
 laid_agree : (o p : Option Decl) (k : ℕ → Option Fenced) (d : Table) (t : ℕ) (x y : Span) → IsLaidOut o k d t x
     → IsLaidOut p k d t y → AreAlike x y
@@ -77,6 +95,7 @@ laid_agree (Some (Tree i)) (Some (Tree j)) k d t x y a b =
       storage = ap (λ (z : Span). z.storage) span;
       low = ap (λ (z : Span). z.low) span;
       leaf = ap (λ (z : Span). is_leaf_span z) span;
+      children = λ inner j less. ap (λ (z : Span). child_span z j) span;
     }
 
 pub ways_agree : (l : Layout) (d : Table) (trees : ℕ → Option Fenced) (holds : List ℕ) (ways : List Way)
@@ -85,4 +104,4 @@ ways_agree l d trees holds ways each a b has there same =
     let one = subst (λ t. IsLaidOutFor l.decls trees d t a.span) same (each a has).over in
     let two = (each b there).over in
     let alike = laid_agree (decl_of l.decls a.span.storage) (decl_of l.decls b.span.storage) trees d b.slot a.span b.span one two in
-    (alike.storage, alike.low, alike.leaf)
+    (alike.storage, alike.low, alike.leaf, alike.children)

@@ -79,10 +79,11 @@ followed at sp n name pages v = record (read_at at n v) {
   leads = leads_more (is_open_word n) sp (page_half n) name v.leads;
 }
 
--- two ways into one slot are over the same keys
+-- two ways into one slot are over the same keys, and those of an interior page lead to the same parts of them
 abbrev pub WaysAgree : List Way → Type 0
 WaysAgree ways = (a b : Way) → Contains ways a → Contains ways b → a.slot ≡ b.slot
     → (a.span.storage ≡ b.span.storage) × (a.span.low ≡ b.span.low) × (is_leaf_span a.span ≡ is_leaf_span b.span)
+    × (is_leaf_span a.span ≡ false → (j : ℕ) → j < 64 → child_span a.span j ≡ child_span b.span j)
 
 -- the page with this number, which is there, stands for these keys of a declared storage
 abbrev pub StandsFor : List Decl → List (List ℕ) → Span → ℕ → Type 0

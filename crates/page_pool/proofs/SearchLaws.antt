@@ -2,7 +2,7 @@
 use Rattle.std.proofs.Common.{◌≡◌, ◌<◌, ℕ, suc, ◌+◌, eqb, ne_eqb, Bool, true, false, List, [], ◌∷◌, ◌++◌, length}
 use Rattle.std.proofs.Common.{Option, Some, None, refl, sym, ap, ◌∙◌, subst, arith, length-append}
 use Rattle.std.specs.Prelude.{cond, not, ◌&&◌, Result, Ok, Err, IfOk, IfErr}
-use Rattle.std.specs.List.{list_all}
+use Rattle.std.specs.List.{last_or, list_all}
 use Rattle.std.specs.Option.{option_or}
 use Rattle.std.proofs.lemmas.Bool.{and_parts, and_from}
 use Rattle.engine_pages.specs.declared.view.Glance.{Glance}
@@ -51,6 +51,11 @@ looks_more (x ∷ xs) step t n i k at-step at =
     let two : k ≡ suc t + length xs = omega (arith, at) in
     ap (λ (l : List Glance). glance step (slot_at t) x ∷ l) (looks_more xs (suc step) (suc t) n i k one two)
 
+-- the last of a list that ends with this one
+last_push : {A : Type 0} (o : Option A) (xs : List A) (x : A) → last_or o (xs ++ x ∷ []) ≡ Some x
+last_push o [] x = refl
+last_push o (y ∷ xs) x = last_push (Some y) xs x
+
 -- ---- the words of the first slots were looked at, as a call began with the view v
 
 -- these are the words, with nothing told of the list where there are none
@@ -59,6 +64,7 @@ pub record LooksBelow (words : List ℕ) (t : ℕ) (v u : View) : Type 0 where
   pub taken : list_all is_taken_word words ≡ true
   pub steps : u.steps ≡ v.steps + t
   pub looked : cond (eqb t 0) [] u.looked ≡ looks v.steps 0 words
+  pub last : u.last ≡ last_or v.last (looks v.steps 0 words)
   pub only : u ≡ record v { steps = u.steps; last = u.last; looked = u.looked }
 
 -- one more
@@ -68,12 +74,17 @@ looked_on words t n v u w is below =
     let steps : w.steps ≡ u.steps + 1 = ap (λ (z : View). z.steps) is in
     let was = below.steps in
     let count = below.count in
-    let long = length-append words (n ∷ []) in record {
+    let long = length-append words (n ∷ []) in
+    let more : looks v.steps 0 (words ++ n ∷ []) ≡ looks v.steps 0 words ++ glance u.steps (slot_at t) n ∷ [] =
+    looks_more words v.steps 0 n u.steps t (omega arith) (omega arith) in record {
       steps = omega arith;
       looked =
           ap (λ (z : View). z.looked) is
-          ∙ (ap (λ (l : List Glance). l ++ glance u.steps (slot_at t) n ∷ []) below.looked
-          ∙ sym (looks_more words v.steps 0 n u.steps t (omega arith) (omega arith)));
+          ∙ (ap (λ (l : List Glance). l ++ glance u.steps (slot_at t) n ∷ []) below.looked ∙ sym more);
+      last =
+          ap (λ (z : View). z.last) is
+          ∙ (sym (last_push v.last (looks v.steps 0 words) (glance u.steps (slot_at t) n))
+          ∙ ap (last_or v.last) (sym more));
       only = is ∙ (ap (λ (z : View). looked_at t n z) below.only ∙ again);
     }
   where
@@ -95,18 +106,20 @@ looks_on words t n v u w is below free =
       taken = taken_more words n below.taken free;
       steps = omega arith;
       looked = ap (λ (b : Bool). cond b [] w.looked) (ne_eqb (t + 1) 0 (λ e. absurd (omega arith))) ∙ all.looked;
+      last = all.last;
       only = all.only;
     }
 
 -- none was looked at yet
 pub looks_none : (v : View) → LooksBelow [] 0 v v
-looks_none v = record { count = refl; taken = refl; steps = omega arith; looked = refl; only = refl }
+looks_none v = record { count = refl; taken = refl; steps = omega arith; looked = refl; last = refl; only = refl }
 
 -- all of some were
 pub looks_all : (words : List ℕ) (t : ℕ) (v u : View) → 0 < t → LooksBelow words t v u → HasLooked words v u
 looks_all words t v u some below = record {
   steps = below.steps ∙ ap (λ i. v.steps + i) (sym below.count);
   looked = sym (ap (λ (b : Bool). cond b [] u.looked) (ne_eqb t 0 (λ e. absurd (omega arith)))) ∙ below.looked;
+  last = below.last;
   only = below.only;
 }
 

@@ -1,6 +1,6 @@
 -- What a search for a usable slot tells.
 use Rattle.std.specs.Prelude.{◌≡◌, ℕ, ◌+◌, ◌<◌, true, List, [], ◌∷◌, ◌++◌, length, Option, Result, Ok, Err}
-use Rattle.std.specs.List.{list_all}
+use Rattle.std.specs.List.{last_or, list_all}
 use Rattle.engine_pages.specs.declared.view.View.{View}
 use Rattle.engine_pages.specs.Layout.{slot_at}
 pub use Rattle.engine_pages.specs.Slots.{first_retired, is_retired_word, is_taken_word, looks, retired_one}
@@ -11,10 +11,12 @@ use Rattle.page_pool.specs.declared.pool.PoolRefusal.TheVariants as refusals
 
 -- ---- the search
 
--- The steps of the call loaded these words, of the first slots in order; nothing else of the pass has changed.
+-- The steps of the call loaded these words, of the first slots in order, and nothing behind the last one; nothing else
+-- of the pass has changed.
 pub record HasLooked (words : List ℕ) (v w : View) : Type 0 where
   pub steps : w.steps ≡ v.steps + length words
   pub looked : w.looked ≡ looks v.steps 0 words
+  pub last : w.last ≡ last_or v.last (looks v.steps 0 words)
   pub only : w ≡ record v { steps = w.steps; last = w.last; looked = w.looked }
 
 -- The call loaded the word of each slot, and none was usable; the lowest retired one is told.

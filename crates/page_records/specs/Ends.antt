@@ -1,14 +1,16 @@
 -- How a transaction begins, and how it ends before its draw: what it was refused for has to be due.
-use Rattle.std.specs.Prelude.{◌≡◌, ◌≢◌, ◌⊎◌, ℕ, suc, ◌+◌, ◌%◌, ◌^◌, ◌<◌, ◌≤◌, true, false, List, [], ◌∷◌, ◌++◌, nat_lt}
-use Rattle.std.specs.Prelude.{length, Option, Some, None, Contains, MatchBool, unwrap_or, ⊤}
-use Rattle.std.specs.List.{list_all}
+use Rattle.std.specs.Prelude.{◌≡◌, ◌≢◌, ◌⊎◌, ℕ, suc, ◌+◌, ◌%◌, ◌^◌, ◌<◌, ◌≤◌, Bool, true, false, List, [], ◌∷◌, ◌++◌}
+use Rattle.std.specs.Prelude.{nat_lt, length, Option, Some, None, Contains, MatchBool, unwrap_or, ⊤}
+use Rattle.std.specs.List.{last_or, list_all}
 use Rattle.atomic_table.specs.Table.{Step}
 use Rattle.serial_model.specs.declared.key.Key.{Key}
 use Rattle.serial_model.specs.Numbers.{draw_limit}
 use Rattle.homes.specs.declared.places.At.{At}
+use Rattle.homes.specs.declared.places.At.TheVariants.{Root, In}
 use Rattle.homes.specs.declared.places.Span.{Span}
 use Rattle.homes.specs.declared.places.Spot.{Spot}
 use Rattle.drop_core.specs.Table.{has_slot}
+use Rattle.engine_pages.specs.declared.view.Glance.{Glance}
 use Rattle.engine_pages.specs.declared.view.RefusalCause.{RefusalCause}
 use Rattle.engine_pages.specs.declared.view.RefusalCause.TheVariants.{Conflict, Full, Wide, NumberLimit}
 use Rattle.engine_pages.specs.declared.view.Role.{Role}
@@ -68,10 +70,16 @@ pub record IsInTheWay (k : Key) (x : Spot) (at expected seen : ℕ) (v : View) :
   pub known : expected ≡ unwrap_or was seen
   pub cause : (2 ^ 60 ≤ seen) ⊎ ((expected < 2 ^ 60) × (seen ≢ expected))
 
--- So it is at a pointer, which is shut, or is not what this transaction saw or left there before, or what it keeps of it
--- as a part.
+-- the place is in the page of one of these slots
+abbrev pub is_left : List ℕ → At → Bool
+is_left gone (Root r) = false
+is_left gone (In y) = has_slot gone y.slot
+
+-- So it is at a pointer, of a root or in a page of a slot that the pass has not left: it is shut, or is not what this
+-- transaction saw or left there before, or what it keeps of it as a part.
 pub record IsPointerInTheWay (x : At) (sp : Span) (at expected seen : ℕ) (v : View) : Type 0 where
   pub place : IsPointerAt v x sp at
+  pub here : is_left v.gone x ≡ false
   pub step : ℕ
   pub last : v.last ≡ Some (glance step at seen)
   pub was : Option ℕ
@@ -95,6 +103,7 @@ pub record IsSlotChanged (t at expected seen : ℕ) (v : View) : Type 0 where
   pub other : seen ≢ expected
 
 -- The last search for a usable slot looked at the word of each slot, and none was usable; the lowest retired one is told.
+-- The last load or compare_exchange is the last one of that search: nothing was loaded since.
 pub record AreTaken (told : Option (ℕ × ℕ)) (v : View) : Type 0 where
   pub words : List ℕ
   pub step : ℕ
@@ -102,6 +111,8 @@ pub record AreTaken (told : Option (ℕ × ℕ)) (v : View) : Type 0 where
   pub taken : list_all is_taken_word words ≡ true
   pub held : told ≡ first_retired 0 words
   pub looked : v.looked ≡ looks step 0 words
+  pub earlier : Option Glance
+  pub last : v.last ≡ last_or earlier (looks step 0 words)
 
 -- A transaction that ends is refused for what its pass met: at a record, at a pointer, at a slot, or at all slots. That
 -- a set was full is told by who has it. A begin alone is refused a number.

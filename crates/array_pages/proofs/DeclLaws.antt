@@ -1,5 +1,6 @@
 -- The declared storages: an array by its id.
-use Rattle.std.proofs.Common.{◌≡◌, ◌≢◌, ℕ, suc, ◌<◌, ◌≤◌, Bool, true, false, true≢false, cond, eqb, eq-eqb, eqb-true, ne_eqb}
+use Rattle.std.proofs.Common.{◌≡◌, ◌≢◌, ℕ, suc, ◌<◌, ◌≤◌, Bool, true, false, true≢false, cond, eqb, eq-eqb, eqb-true}
+use Rattle.std.proofs.Common.{ne_eqb}
 use Rattle.std.proofs.Common.{List, [], ◌∷◌, length, map, refl, sym, ap, ◌∙◌, subst, arith, inl, inr, Option, Some}
 use Rattle.std.specs.Prelude.{nat_lt}
 use Rattle.std.specs.List.{AllByRecursion, Contains}
@@ -48,7 +49,8 @@ decl_in (x ∷ xs) d apart has =
 
 pub array_in : (decls : List Decl) (id root size : ℕ) → AreDecls decls → IsArrayAt decls id root size
     → decl_of decls id ≡ Some (Array id size)
-array_in decls id root size are at = decl_in decls (Array id size) are.distinct (at_in decls root (Array id size) at.there)
+array_in decls id root size are at =
+    decl_in decls (Array id size) are.distinct (at_in decls root (Array id size) at.there)
 
 pub kind_at : (decls : List Decl) (id root size : ℕ) → AreDecls decls → IsArrayAt decls id root size
     → is_array decls id ≡ true
@@ -122,5 +124,6 @@ stands_in decls pages id root size span n are at storage h =
     let decl : h.0 ≡ Array id size = cc in record {
       depth = h.2.depth;
       most = h.2.most;
-      stands = subst (λ (d : Decl). StandsTo (format_of d) (IsPageOf d) pages h.2.depth (place_for span n)) decl h.2.stands;
+      stands = subst (λ (d : Decl). StandsTo (format_of d) (IsPageOf d) pages h.2.depth (place_for span n)) decl
+          h.2.stands;
     }

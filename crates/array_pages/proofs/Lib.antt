@@ -1,8 +1,12 @@
-mod DeclLaws
+pub mod DeclLaws
 mod SpanLaws
 mod PageLaws
 mod LookLaws
 mod ReadLaws
-mod WalkLaws
+pub mod WalkLaws
+mod ReachLaws
+mod RecordLaws
 mod FindLaws
+mod CopyLaws
+mod InstallLaws
 mod MakeLaws

@@ -35,7 +35,8 @@ abbrev pub child : List ℕ → ℕ → ℕ → ℕ → PagePlace
 child words part low i = record { number = get_or words i 0; low = low + i * part; high = low + i * part + (part - 1) }
 
 same_place : (n m a b c d : ℕ) → n ≡ m → a ≡ b → c ≡ d
-    → (let p : PagePlace = record { number = n; low = a; high = c } in p) ≡ (let q : PagePlace = record { number = m; low = b; high = d } in q)
+    → (let p : PagePlace = record { number = n; low = a; high = c } in p) ≡
+    (let q : PagePlace = record { number = m; low = b; high = d } in q)
 same_place n m a b c d number low high =
     ap (λ (x : ℕ). let p : PagePlace = record { number = x; low = a; high = c } in p) number
     ∙ (ap (λ (x : ℕ). let p : PagePlace = record { number = m; low = x; high = c } in p) low
@@ -68,7 +69,8 @@ at_row f (suc n) words part low (suc i) key some less from to =
     (omega (arith, more, to)) ∙ ap f (next_child words part low i))
 
 -- and what holds of all of them holds of it
-in_row : (P : PagePlace → Type 0) (n : ℕ) (words : List ℕ) (part low i : ℕ) → i < n → AllByRecursion P (row words part low n)
+in_row : (P : PagePlace → Type 0) (n : ℕ) (words : List ℕ) (part low i : ℕ) → i < n
+    → AllByRecursion P (row words part low n)
     → P (child words part low i)
 in_row P zero words part low i less all = absurd (omega arith)
 in_row P (suc n) words part low zero less all =
@@ -128,21 +130,25 @@ stands_there pages size d p stands = stands.there
 
 pub leaf_record : (pages : List (List ℕ)) (number low index a b : ℕ)
     → a ≡ get_or (page pages number) (2 * (index - low)) 0 → b ≡ get_or (page pages number) (2 * (index - low) + 1) 0
-    → (d : ℕ) → array_found a b ≡ find array_format pages (suc d) index (record { number = number; low = low; high = low + 31 })
+    → (d : ℕ) → array_found a b ≡ find array_format pages (suc d) index
+    (record { number = number; low = low; high = low + 31 })
 leaf_record pages number low index a b first second d =
     ap (λ n. array_found n b) first
     ∙ (ap (array_found (get_or (page pages number) (2 * (index - low)) 0)) second
     ∙ sym (leaf_find pages d index number low))
 
-pub middle_record : (pages : List (List ℕ)) (number low index leaf : ℕ) (f : Option Found) → low ≤ index → index < low + 2048
+pub middle_record : (pages : List (List ℕ)) (number low index leaf : ℕ) (f : Option Found) → low ≤ index
+    → index < low + 2048
     → leaf ≡ get_or (page pages number) ((index - low) / 32) 0
     → ((d : ℕ) → f ≡ find array_format pages (suc d) index
     (record { number = leaf; low = low + (index - low) / 32 * 32; high = low + (index - low) / 32 * 32 + 31 }))
-    → (d : ℕ) → f ≡ find array_format pages (suc (suc d)) index (record { number = number; low = low; high = low + 2047 })
+    → (d : ℕ) → f ≡ find array_format pages (suc (suc d)) index
+    (record { number = number; low = low; high = low + 2047 })
 middle_record pages number low index leaf f from to is below d =
     let i = (index - low) / 32 in
     below d
-    ∙ (ap (λ n. find array_format pages (suc d) index (record { number = n; low = low + i * 32; high = low + i * 32 + 31 })) is
+    ∙ (ap (λ n. find array_format pages (suc d) index
+    (record { number = n; low = low + i * 32; high = low + i * 32 + 31 })) is
     ∙ sym (inner_find pages (suc d) index number low (low + 2047) 32 i (omega arith) (omega arith) (omega arith)
     (omega (arith, to)) (omega (arith, from)) (omega (arith, from))))
 
@@ -161,17 +167,20 @@ middle_there pages (suc n) low index leaf to stands is =
 from_zero : (n m i : ℕ) → n ≡ m
     → (let p : PagePlace = record { number = n; low = 0 + i * 2048; high = 0 + i * 2048 + 2047 } in p)
     ≡ (let q : PagePlace = record { number = m; low = i * 2048; high = i * 2048 + 2047 } in q)
-from_zero n m i is = same_place n m (0 + i * 2048) (i * 2048) (0 + i * 2048 + 2047) (i * 2048 + 2047) is (omega arith) (omega arith)
+from_zero n m i is =
+    same_place n m (0 + i * 2048) (i * 2048) (0 + i * 2048 + 2047) (i * 2048 + 2047) is (omega arith) (omega arith)
 
 pub top_record : (pages : List (List ℕ)) (number index middle : ℕ) (f : Option Found) → index < 131072
     → middle ≡ get_or (page pages number) (index / 2048) 0
     → ((d : ℕ) → f ≡ find array_format pages (suc (suc d)) index
     (record { number = middle; low = index / 2048 * 2048; high = index / 2048 * 2048 + 2047 }))
-    → (d : ℕ) → f ≡ find array_format pages (suc (suc (suc d))) index (record { number = number; low = 0; high = 131071 })
+    → (d : ℕ) → f ≡ find array_format pages (suc (suc (suc d))) index
+    (record { number = number; low = 0; high = 131071 })
 top_record pages number index middle f to is below d =
     let i = index / 2048 in
     below d
-    ∙ (ap (find array_format pages (suc (suc d)) index) (sym (from_zero (get_or (page pages number) i 0) middle i (sym is)))
+    ∙ (ap (find array_format pages (suc (suc d)) index)
+    (sym (from_zero (get_or (page pages number) i 0) middle i (sym is)))
     ∙ sym (inner_find pages (suc (suc d)) index number 0 131071 2048 i (omega arith) (omega arith) (omega arith)
     (omega (arith, to)) (omega arith) (omega arith)))
 
@@ -202,7 +211,8 @@ pub stands_deep : (size depth : ℕ) (pages : List (List ℕ)) (p : PagePlace) �
     → StandsTo array_format (IsArrayPage size) pages depth p
     → StandsTo array_format (IsArrayPage size) pages (suc (suc (suc 29))) p
 stands_deep size depth pages p most stands =
-    subst (λ (ps : List (List ℕ)). StandsTo array_format (IsArrayPage size) ps (suc (suc (suc 29))) p) (append-nil pages)
+    subst (λ (ps : List (List ℕ)). StandsTo array_format (IsArrayPage size) ps (suc (suc (suc 29))) p)
+    (append-nil pages)
     (stands-append array_format (IsArrayPage size) pages [] depth (suc (suc (suc 29))) p stands
     (let is = deepest_is in omega (arith, most, is)))
 
@@ -211,4 +221,5 @@ pub found_deep : (pages : List (List ℕ)) (index number low high : ℕ) (f : Op
     → f ≡ find array_format pages (suc (suc (suc 29))) index (record { number = number; low = low; high = high })
     → f ≡ find array_format pages deepest index (record { number = number; low = low; high = high })
 found_deep pages index number low high f is =
-    is ∙ ap (λ (d : ℕ). find array_format pages d index (record { number = number; low = low; high = high })) (sym deepest_is)
+    is ∙ ap (λ (d : ℕ). find array_format pages d index (record { number = number; low = low; high = high }))
+    (sym deepest_is)

@@ -1,11 +1,14 @@
 -- What a walk leaves, one step after another.
-use Rattle.std.proofs.Common.{◌≡◌, ◌≢◌, ◌⊎◌, inl, inr, ℕ, zero, suc, ◌+◌, ◌-◌, ◌*◌, ◌/◌, ◌%◌, ◌^◌, ◌<◌, ◌≤◌, Bool, true, false, true≢false}
-use Rattle.std.proofs.Common.{cond, eqb, eq-eqb, ltb, List, [], ◌∷◌, ◌++◌, length, refl, sym, ap, ◌∙◌, subst, arith, Option, Some, None}
+use Rattle.std.proofs.Common.{◌≡◌, ◌≢◌, ◌⊎◌, inl, inr, ℕ, zero, suc, ◌+◌, ◌-◌, ◌*◌, ◌/◌, ◌%◌, ◌^◌, ◌<◌, ◌≤◌, Bool, true}
+use Rattle.std.proofs.Common.{false, true≢false}
+use Rattle.std.proofs.Common.{cond, eqb, eqb-true, eq-eqb, ltb, List, [], ◌∷◌, ◌++◌, length, refl, sym, ap, ◌∙◌, subst}
+use Rattle.std.proofs.Common.{arith, Option, Some, None}
+use Rattle.std.proofs.Common.{length-append}
 use Rattle.std.specs.Prelude.{◌||◌, IfSome, Ok, Err, if◌then◌else◌}
 use Rattle.std.specs.List.{Contains}
-use Rattle.std.proofs.lemmas.Bool.{or_left, or_right}
+use Rattle.std.proofs.lemmas.Bool.{or_cases, or_left, or_right}
 use Rattle.std.proofs.lemmas.Bool.Decides.{nat_tests}
-use Rattle.lists.specs.Elements.{in_head, in_tail}
+use Rattle.lists.specs.Elements.{in_cases, in_head, in_tail}
 use Rattle.lists.specs.Fronts.{IsFront, front_refl, front_then}
 use Rattle.serial_model.specs.Decls.{AreDecls}
 use Rattle.serial_model.specs.declared.key.Key.{Key}
@@ -13,6 +16,8 @@ use Rattle.homes.specs.declared.places.At.{At}
 use Rattle.homes.specs.declared.places.At.TheVariants.{Root, In}
 use Rattle.homes.specs.declared.places.Span.{Span}
 use Rattle.homes.specs.declared.places.Spot.{Spot}
+use Rattle.homes.specs.Homes.{in_span}
+use Rattle.homes.specs.Laws.{in_span-from}
 use Rattle.commit_core.specs.declared.part.Part.{Part}
 use Rattle.commit_core.specs.declared.seat.Seat.{Seat}
 use Rattle.commit_core.specs.CoreState.{is_trying}
@@ -29,20 +34,25 @@ use Rattle.engine_pages.specs.declared.view.RefusalCause.TheVariants as causes
 use Rattle.engine_pages.specs.declared.view.Role.{Role}
 use Rattle.engine_pages.specs.declared.view.SetName.{SetName}
 use Rattle.engine_pages.specs.declared.view.SetName.TheVariants.{Holds}
+use Rattle.engine_pages.specs.declared.view.SetName.TheVariants as sets
 use Rattle.engine_pages.specs.declared.view.View.{View}
 use Rattle.engine_pages.specs.declared.view.Way.{Way}
 use Rattle.engine_pages.specs.Layout.{page_at}
 use Rattle.engine_pages.specs.Pages.{is_array, root_span}
-use Rattle.engine_pages.specs.Pointers.{IsPointerAt, HasFollowed, WaysAgree, followed, half_of, is_open_word, leads_more, slot_half}
+use Rattle.engine_pages.specs.Pointers.{IsPointerAt, HasFollowed, WaysAgree, followed, half_of, is_open_word}
+use Rattle.engine_pages.specs.Pointers.{leads_more, slot_half}
 use Rattle.engine_pages.specs.Pointers.{ways_if, ways_more}
 use Rattle.engine_pages.specs.Records.{IsRecordAt}
 use Rattle.engine_pages.specs.Slots.{entered}
 use Rattle.engine_pages.specs.Steps.{kept_at, seen_at}
 use Rattle.engine_pages.specs.Views.{IsActive}
 use Rattle.array_pages.specs.Steps.{HoldsSo, IsChangedSince, IsLedTo, IsMetAs, IsMetElse, RefusesHold}
-use Rattle.array_pages.specs.Walks.{as_walked, CanWalk, HasWalked, IsLastBetween, IsPointersWord, IsPointerChanged, IsWide}
-use Rattle.array_pages.specs.Walks.{KeepsMet, OnlyMet, RefusesWalk, SawLast}
-use Rattle.array_pages.proofs.ReadLaws.{noted_in, seen_other, seen_same}
+use Rattle.array_pages.specs.Walks.{as_walked, AreLed, CanWalk, HasWalked, IsLastBetween, IsPointersWord}
+use Rattle.array_pages.specs.Walks.{IsPointerChanged}
+use Rattle.array_pages.specs.Walks.{IsHeldWide, IsWayWord, KeepsMet, KeepsWords, OnlyMet, OnlyWays, OnlyWaysTo}
+use Rattle.array_pages.specs.Walks.{RefusesPointer}
+use Rattle.array_pages.specs.Walks.{RefusesWalk, SawLast}
+use Rattle.array_pages.proofs.ReadLaws.{kept_here, kept_other, kept_with, noted_in, seen_other, seen_same}
 
 -- ---- what stays
 
@@ -83,7 +93,8 @@ word_stays v w at walk p = record {
 }
 
 -- so does a record's
-pub record_stays : (v w : View) (k : Key) (x : Spot) (at : ℕ) → HasWalked v w → IsRecordAt v k x at → IsRecordAt w k x at
+pub record_stays : (v w : View) (k : Key) (x : Spot) (at : ℕ) → HasWalked v w → IsRecordAt v k x at
+    → IsRecordAt w k x at
 record_stays v w k x at walk place =
     let layout = layout_stays v w walk in record {
       way = place.way;
@@ -179,6 +190,71 @@ walked_then v u w a b = record {
 pub walked_formed : (v w z : View) → w ≡ as_walked v z → w ≡ as_walked v w
 walked_formed v w z e = subst (λ (y : View). y ≡ as_walked v y) (sym e) refl
 
+-- ---- ways that are new
+
+-- the key is one of these
+pub over_keys : (k : Key) (low last : ℕ) (span : Span) → span ≡ record { storage = k.storage; low = low; high = last }
+    → low ≤ k.key → k.key ≤ last → in_span span k ≡ true
+over_keys k low last span same from to =
+    subst (λ (s : Span). in_span s k ≡ true) (sym same)
+    (in_span-from (record { storage = k.storage; low = low; high = last }) k refl from to)
+
+pub ways_then : (span : Span) (v u w : View) → OnlyWays span v u → OnlyWays span u w → OnlyWays span v w
+ways_then span v u w first second =
+    λ x has. elim (second x has) [ inl mid ↦ first x mid | inr new ↦ inr new ]
+
+pub ways_to_then : (k : Key) (v u w : View) → OnlyWaysTo k v u → OnlyWaysTo k u w → OnlyWaysTo k v w
+ways_to_then k v u w first second =
+    λ x has. elim (second x has) [ inl mid ↦ first x mid | inr new ↦ inr new ]
+
+-- over keys that the key is one of they are ways to it
+pub ways_to : (k : Key) (span : Span) (v w : View) → in_span span k ≡ true → OnlyWays span v w → OnlyWaysTo k v w
+ways_to k span v w over only =
+    λ x has. elim (only x has) [
+      | inl old ↦ inl old
+      | inr new ↦ inr (subst (λ (s : Span). in_span s k ≡ true) (sym new) over)
+    ]
+
+pub ways_same : (k : Key) (v u w : View) → w.ways ≡ u.ways → OnlyWaysTo k v u → OnlyWaysTo k v w
+ways_same k v u w same only = λ x has. only x (subst (λ (l : List Way). Contains l x) same has)
+
+-- ---- ways into the slots that are held newly
+
+-- of the same slots none is new
+pub led_none : (v w : View) → w.grip ≡ v.grip → AreLed v w
+led_none v w grip t now was =
+    absurd (true≢false (sym now ∙ (ap (λ (g : Grip). has_slot g.holds t) grip ∙ was)))
+
+pub led_since : (v u w : View) → u.grip ≡ v.grip → AreLed u w → AreLed v w
+led_since v u w grip led t now was = led t now (ap (λ (g : Grip). has_slot g.holds t) grip ∙ was)
+
+pub led_by : (v u w : View) → w.grip ≡ u.grip → ((x : Way) → Contains u.ways x → Contains w.ways x) → AreLed v u
+    → AreLed v w
+led_by v u w grip grows led t now was =
+    let m = led t (ap (λ (g : Grip). has_slot g.holds t) (sym grip) ∙ now) was in (m.0, grows m.0 m.1, m.2)
+
+pub led_then : (v u w : View) → HasWalked u w → AreLed v u → AreLed u w → AreLed v w
+led_then v u w walk first second t now was = by_test (has_slot u.grip.holds t) refl
+  where
+    by_test : (b : Bool) → has_slot u.grip.holds t ≡ b → (x : Way) × Contains w.ways x × (x.slot ≡ t)
+    by_test true mid = let m = first t mid was in (m.0, walk.ways m.0 m.1, m.2)
+    by_test false mid = second t now mid
+
+abbrev way_to : ℕ → Span → Way
+way_to t span = record { slot = t; span = span }
+
+-- of one slot more, this one is
+pub led_new : (t : ℕ) (span : Span) (v w : View) → w.grip.holds ≡ t ∷ v.grip.holds
+    → Contains w.ways (record { slot = t; span = span }) → AreLed v w
+led_new t span v w holds way q now was =
+    (way_to t span, way, here (ap (λ (l : List ℕ). has_slot l q) (sym holds) ∙ now))
+  where
+    here : has_slot (t ∷ v.grip.holds) q ≡ true → t ≡ q
+    here either = elim (or_cases (eqb t q) (has_slot v.grip.holds q) either) [
+      | inl same ↦ eqb-true t q same
+      | inr old ↦ absurd (true≢false (sym old ∙ was))
+    ]
+
 -- ---- words that were met
 
 pub only_self : (v : View) → OnlyMet v v
@@ -206,6 +282,7 @@ saw_back at seen was v u w since s = record {
   since = let later = s.since in omega (arith, since, later);
   last = s.last;
   kept = s.kept;
+  kept_is = s.kept_is;
   stands = s.stands;
 }
 
@@ -293,9 +370,12 @@ below_full n few miss = let other : n ≢ 128 = λ e. true≢false (sym (eq-eqb 
 pub record IsLoaded (span : Span) (at : ℕ) (v : View) (n : ℕ) (u : View) : Type 0 where
   pub walked : HasWalked v u
   pub grip : u.grip ≡ v.grip
+  pub most : u.steps ≤ v.steps + 1
   pub agree : WaysAgree u.ways
+  pub only : OnlyWays span v u
   pub met : seen_at u.reads at ≡ Some n
   pub others : (a : ℕ) → a ≢ at → seen_at u.reads a ≡ seen_at v.reads a
+  pub words : (a : ℕ) → a ≢ at → kept_at u.reads a ≡ kept_at v.reads a
   pub saw : SawLast at n (seen_at v.reads at) v u
   pub slot : (t : ℕ) → half_of n ≡ Some t → t < v.layout.slots
   pub way : (t : ℕ) → half_of n ≡ Some t → has_slot v.grip.holds t ≡ true
@@ -305,6 +385,7 @@ pub record IsLoaded (span : Span) (at : ℕ) (v : View) (n : ℕ) (u : View) : T
 pub record IsFollowed (span : Span) (at : ℕ) (v : View) (n : ℕ) (u : View) : Type 0 where
   pub loaded : IsLoaded span at v n u
   pub seat : u.seat ≡ v.seat
+  pub words : KeepsWords v u
 
 more_ways : (o : Option ℕ) (holds : List ℕ) (span : Span) (ways : List Way) (x : Way) → Contains ways x
     → Contains (ways_more holds o span ways) x
@@ -341,6 +422,20 @@ walked_followed at span n name pages v front = record {
   is = refl;
 }
 
+pub only_if : (b : Bool) (t : ℕ) (span : Span) (ways : List Way) (x : Way) → Contains (ways_if b t span ways) x
+    → Contains ways x ⊎ (x.span ≡ span)
+only_if true t span ways x h =
+    elim (in_cases x (way_to t span) ways h) [
+      | inl e ↦ inr (ap (λ (y : Way). y.span) (sym e))
+      | inr old ↦ inl old
+    ]
+only_if false t span ways x h = inl h
+
+only_more : (o : Option ℕ) (holds : List ℕ) (span : Span) (ways : List Way) (x : Way)
+    → Contains (ways_more holds o span ways) x → Contains ways x ⊎ (x.span ≡ span)
+only_more None holds span ways x h = inl h
+only_more (Some t) holds span ways x h = only_if (has_slot holds t) t span ways x h
+
 pub is_followed : (span : Span) (at : ℕ) (v : View) (n : ℕ) (w : View) → HasFollowed span at v n w
     → IsFollowed span at v n w
 is_followed span at v n w h =
@@ -349,20 +444,25 @@ is_followed span at v n w h =
       loaded = record {
         walked = walked_followed at span n h.name h.pages v h.front;
         grip = refl;
+        most = omega arith;
         agree = subst (λ (z : View). WaysAgree z.ways) h.is h.agree;
+        only = λ x has. only_more (half_of n) v.grip.holds span v.ways x has;
         met = seen_same v.reads at n (kept_at v.reads at);
         others = λ a apart. seen_other v.reads at n (kept_at v.reads at) a apart;
+        words = λ a apart. kept_other v.reads at n (kept_at v.reads at) a apart;
         saw = record {
           step = v.steps;
           since = omega arith;
           last = refl;
           kept = kept_at v.reads at;
+          kept_is = sym (kept_here v.reads at n (kept_at v.reads at));
           stands = noted_in v.reads at n (kept_at v.reads at);
         };
         slot = λ t half. subst (λ (o : Option ℕ). IfSome o (λ q. q < v.layout.slots)) half h.slot;
         way = λ t half held. way_new n t v.grip.holds span v.ways half held;
       };
       seat = refl;
+      words = λ a. kept_with v.reads at n a;
     }
 
 -- ---- refusals at a pointer
@@ -371,6 +471,11 @@ pub word_loaded : (place : At) (span : Span) (at : ℕ) (v : View) (n : ℕ) (u 
     → IsPointerAt v place span at → IsPointersWord u at
 word_loaded place span at v n u l p =
     record { place = place; span = span; is = place_stays v u place span at l.walked p }
+
+pub way_loaded : (k : Key) (place : At) (span : Span) (at : ℕ) (v : View) (n : ℕ) (u : View) → in_span span k ≡ true
+    → IsLoaded span at v n u → IsPointerAt v place span at → IsWayWord k u at
+way_loaded k place span at v n u over l p =
+    record { place = place; span = span; is = place_stays v u place span at l.walked p; over = over }
 
 -- no word but this one of a pointer was met
 pub only_but : (at : ℕ) (v w : View) → IsPointersWord w at → ((a : ℕ) → a ≢ at → seen_at w.reads a ≡ seen_at v.reads a)
@@ -391,7 +496,8 @@ pub keeps_but : (pointers : List Seen) (met : Bool) (at n : ℕ) (v w : View) �
     → seen_at w.reads at ≡ Some n → ((a : ℕ) → a ≢ at → seen_at w.reads a ≡ seen_at v.reads a) → KeepsMet pointers v w
 keeps_but pointers met at n v w set_is here others = λ a word has p seen. by_test a word has seen (eqb a at) refl
   where
-    in_set : (b : Bool) (word : ℕ) → word_at at pointers ≡ (if b then Some n else None) → word_at at pointers ≡ Some word
+    in_set : (b : Bool) (word : ℕ) → word_at at pointers ≡ (if b then Some n else None)
+        → word_at at pointers ≡ Some word
         → Some n ≡ Some word
     in_set true word is has = sym is ∙ has
     in_set false word is has = let none : None ≡ Some word = sym is ∙ has in absurd (cc)
@@ -407,26 +513,28 @@ keeps_but pointers met at n v w set_is here others = λ a word has p seen. by_te
 -- the set has it with another word
 pub met_refuses : (pointers : List Seen) (slots : List ℕ) (place : At) (span : Span) (at : ℕ) (why : RefusalCause)
     (v : View) (n : ℕ) (u : View) → IsLoaded span at v n u → IsPointerAt v place span at → IsMetElse pointers at n why
-    → RefusesWalk pointers slots why v u
-met_refuses pointers slots place span at (causes.Conflict other expected seen) v n u l p h =
-    subst (λ j. IsPointerChanged pointers j expected seen v u) (sym h.0)
-    (subst (λ k. IsPointerChanged pointers at expected k v u) (sym h.1) record {
-      place = word_loaded place span at v n u l p;
+    → (k : Key) → in_span span k ≡ true → RefusesPointer k pointers slots why v u
+met_refuses pointers slots place span at (causes.Conflict other expected seen) v n u l p h k over =
+    subst (λ j. IsPointerChanged k pointers j expected seen v u) (sym h.0)
+    (subst (λ i. IsPointerChanged k pointers at expected i v u) (sym h.1) record {
+      place = way_loaded k place span at v n u over l p;
       was = seen_at v.reads at;
       saw = l.saw;
       known = inl h.2;
+      before = λ p has seen. inl seen;
       cause = inr h.3;
     })
-met_refuses pointers slots place span at (causes.Full held) v n u l p h = absurd h
-met_refuses pointers slots place span at (causes.Wide set) v n u l p h = absurd h
-met_refuses pointers slots place span at (causes.NumberLimit clock) v n u l p h = absurd h
+met_refuses pointers slots place span at (causes.Full held) v n u l p h k over = absurd h
+met_refuses pointers slots place span at (causes.Wide set) v n u l p h k over = absurd h
+met_refuses pointers slots place span at (causes.NumberLimit clock) v n u l p h k over = absurd h
 
 -- it was loaded again
 pub changed_since : (place : At) (span : Span) (at word : ℕ) (v : View) (n : ℕ) (u : View) → IsLoaded span at v n u
     → IsPointerAt v place span at → seen_at v.reads at ≡ Some word → (2 ^ 60 ≤ n) ⊎ (n ≢ word)
-    → IsChangedSince at word n v u
+    → IsChangedSince span at word n v u
 changed_since place span at word v n u l p met cause = record {
-  place = word_loaded place span at v n u l p;
+  place = place;
+  is = place_stays v u place span at l.walked p;
   saw = subst (λ (o : Option ℕ). SawLast at n o v u) met l.saw;
   cause = cause;
 }
@@ -435,16 +543,19 @@ pub shut_or_other : (word again : ℕ) → 2 ^ 60 ≤ word → (2 ^ 60 ≤ again
 shut_or_other word again shut = by_test (ltb again (2 ^ 60)) refl
   where
     by_test : (b : Bool) → ltb again (2 ^ 60) ≡ b → (2 ^ 60 ≤ again) ⊎ (again ≢ word)
-    by_test true low = let less : again < 2 ^ 60 = grind (arith, nat_tests) in inr (λ e. absurd (omega (arith, less, shut, e)))
+    by_test true low = let less : again < 2 ^ 60 = grind (arith, nat_tests) in inr
+        (λ e. absurd (omega (arith, less, shut, e)))
     by_test false high = let most : 2 ^ 60 ≤ again = grind (arith, nat_tests) in inl most
 
-pub since_changes : (pointers : List Seen) (met : Bool) (at word seen : ℕ) (v u w : View) → v.steps ≤ u.steps
-    → IsMetAs pointers at word met → IsChangedSince at word seen u w → IsPointerChanged pointers at word seen v w
-since_changes pointers met at word seen v u w since set_is c = record {
-  place = c.place;
+pub since_changes : (k : Key) (pointers : List Seen) (met : Bool) (span : Span) (at word seen : ℕ) (v u w : View)
+    → in_span span k ≡ true → v.steps ≤ u.steps → IsMetAs pointers at word met → IsChangedSince span at word seen u w
+    → IsPointerChanged k pointers at word seen v w
+since_changes k pointers met span at word seen v u w over since set_is c = record {
+  place = record { place = c.place; span = span; is = c.is; over = over };
   was = Some word;
   saw = saw_back at seen (Some word) v u w since c.saw;
   known = by_met met set_is;
+  before = λ p has seen. inl refl;
   cause = c.cause;
 }
   where
@@ -453,17 +564,41 @@ since_changes pointers met at word seen v u w since set_is c = record {
     by_met true is = inl is
     by_met false is = inr (is, refl)
 
-pub hold_refuses : (pointers : List Seen) (met : Bool) (slots : List ℕ) (at word : ℕ) (why : RefusalCause)
-    (v u w : View) → v.steps ≤ u.steps → IsMetAs pointers at word met → RefusesHold slots at word why u w
-    → RefusesWalk pointers slots why v w
-hold_refuses pointers met slots at word (causes.Conflict other expected seen) v u w since set_is h =
-    subst (λ j. IsPointerChanged pointers j expected seen v w) (sym h.0)
-    (subst (λ k. IsPointerChanged pointers at k seen v w) (sym h.1)
-    (since_changes pointers met at word seen v u w since set_is h.2))
-hold_refuses pointers met slots at word (causes.Full held) v u w since set_is h = absurd h
-hold_refuses pointers met slots at word (causes.Wide set) v u w since set_is h =
-    subst (λ (s : SetName). IsWide pointers slots s) (sym h.0) h.1
-hold_refuses pointers met slots at word (causes.NumberLimit clock) v u w since set_is h = absurd h
+pub hold_refuses : (k : Key) (pointers : List Seen) (met : Bool) (slots : List ℕ) (span : Span) (at word : ℕ)
+    (why : RefusalCause) (v u w : View) → in_span span k ≡ true → v.steps ≤ u.steps → IsMetAs pointers at word met
+    → RefusesHold slots span at word why u w → RefusesPointer k pointers slots why v w
+hold_refuses k pointers met slots span at word (causes.Conflict other expected seen) v u w over since set_is h =
+    subst (λ j. IsPointerChanged k pointers j expected seen v w) (sym h.0)
+    (subst (λ i. IsPointerChanged k pointers at i seen v w) (sym h.1)
+    (since_changes k pointers met span at word seen v u w over since set_is h.2))
+hold_refuses k pointers met slots span at word (causes.Full held) v u w over since set_is h = absurd h
+hold_refuses k pointers met slots span at word (causes.Wide set) v u w over since set_is h =
+    let some = h.1 in
+    let room = h.3 in
+    subst (λ (s : SetName). IsHeldWide k slots s w) (sym h.0) (
+      room.full,
+      record {
+        at = at;
+        word = word;
+        on = record { place = room.place; span = span; is = room.is; over = over };
+        saw = room.saw;
+        led = some;
+        unshut = h.2;
+        unheld = room.unheld some;
+      },
+    )
+hold_refuses k pointers met slots span at word (causes.NumberLimit clock) v u w over since set_is h = absurd h
+
+-- so is a walk
+pub pointer_walks : (k : Key) (pointers : List Seen) (slots : List ℕ) (why : RefusalCause) (v w : View)
+    → RefusesPointer k pointers slots why v w → RefusesWalk k pointers slots why v w
+pointer_walks k pointers slots (causes.Conflict at expected seen) v w h = h
+pointer_walks k pointers slots (causes.Full held) v w h = absurd h
+pointer_walks k pointers slots (causes.Wide sets.Reads) v w h = absurd h
+pointer_walks k pointers slots (causes.Wide sets.Writes) v w h = absurd h
+pointer_walks k pointers slots (causes.Wide sets.Pointers) v w h = absurd h
+pointer_walks k pointers slots (causes.Wide sets.Holds) v w h = h
+pointer_walks k pointers slots (causes.NumberLimit clock) v w h = absurd h
 
 -- ---- a slot that is held
 
@@ -491,11 +626,17 @@ led_to span at v n u l some less =
 
 -- it is held already
 pub hold_same : (slots : List ℕ) (at word : ℕ) (span : Span) (v : View) → CanWalk slots v → IsLedTo word span at v
-    → has_slot slots (word / 2 ^ 32 - 1) ≡ true → HoldsSo slots at word span (Ok (word / 2 ^ 32 - 1)) v v
+    → has_slot slots (word / 2 ^ 32 - 1) ≡ true
+    → HoldsSo (length slots + 1) slots at word span (Ok (word / 2 ^ 32 - 1)) v v
 hold_same slots at word span v can led held = record {
   can = can;
   walked = walked_self v;
   kept = refl;
+  most = omega arith;
+  grows = omega arith;
+  words = λ a. refl;
+  only = λ x has. inl has;
+  led = led_none v v refl;
   others = λ a apart. refl;
   still = led.met;
   held = (led.known (sym (can.holds (word / 2 ^ 32 - 1)) ∙ held), led.there);
@@ -503,16 +644,34 @@ hold_same slots at word span v can led held = record {
 }
 
 -- the holds are full
-pub hold_wide : (slots : List ℕ) (at word : ℕ) (span : Span) (v : View) → CanWalk slots v → length slots ≡ 128
-    → HoldsSo slots at word span (Err (causes.Wide Holds)) v v
-hold_wide slots at word span v can full = record {
+pub hold_wide : (slots : List ℕ) (place : At) (at word : ℕ) (span : Span) (v : View) → CanWalk slots v
+    → IsPointerAt v place span at → IsLedTo word span at v → 2 ^ 32 ≤ word → word < 2 ^ 60
+    → has_slot slots (word / 2 ^ 32 - 1) ≡ false → length slots ≡ 128
+    → HoldsSo (length slots + 1) slots at word span (Err (causes.Wide Holds)) v v
+hold_wide slots place at word span v can p led some less unheld full = record {
   can = can;
   walked = walked_self v;
   kept = refl;
+  most = omega arith;
+  grows = omega arith;
+  words = λ a. refl;
+  only = λ x has. inl has;
+  led = tt;
   others = λ a apart. refl;
   still = tt;
   held = tt;
-  cause = (refl, full);
+  cause = (
+    refl,
+    some,
+    less,
+    record {
+      full = full;
+      place = place;
+      is = p;
+      saw = led.met;
+      unheld = λ more. unheld;
+    },
+  );
 }
 
 -- the slot was entered, and the pointer loaded once more
@@ -536,14 +695,36 @@ module _ (slots : List ℕ) (place : At) (at word : ℕ) (span : Span) (v e : Vi
   kept_last : w.seat.kept ≡ v.seat.kept
   kept_last = ap (λ (s : Seat). s.kept) f.seat ∙ ap (λ (z : View). z.seat.kept) enters
 
+  most_last : w.steps ≤ v.steps + 2
+  most_last =
+      let first = ap (λ (z : View). z.steps) enters in let next = f.loaded.most in omega (arith, first, next)
+
+  grows_last : length (slots ++ t ∷ []) ≤ length slots + 1
+  grows_last = let long = length-append slots (t ∷ []) in omega (arith, long)
+
+  words_last : (a : ℕ) → kept_at w.reads a ≡ kept_at v.reads a
+  words_last a = f.words a ∙ ap (λ (z : View). kept_at z.reads a) enters
+
+  only_last : OnlyWays span v w
+  only_last = λ x has. elim (f.loaded.only x has) [
+    | inl old ↦ inl (subst (λ (z : View). Contains z.ways x) enters old)
+    | inr new ↦ inr new
+  ]
+
   others_last : (a : ℕ) → a ≢ at → seen_at w.reads a ≡ seen_at v.reads a
   others_last a apart = f.loaded.others a apart ∙ ap (λ (z : View). seen_at z.reads a) enters
 
-  pub hold_changed : again ≢ word → HoldsSo (slots ++ t ∷ []) at word span (Err (causes.Conflict at word again)) v w
+  pub hold_changed : again ≢ word
+      → HoldsSo (length slots + 1) (slots ++ t ∷ []) at word span (Err (causes.Conflict at word again)) v w
   hold_changed other = record {
     can = can_last;
     walked = walk;
     kept = kept_last;
+    most = most_last;
+    grows = grows_last;
+    words = words_last;
+    only = only_last;
+    led = tt;
     others = others_last;
     still = tt;
     held = tt;
@@ -555,24 +736,39 @@ module _ (slots : List ℕ) (place : At) (at word : ℕ) (span : Span) (v e : Vi
     );
   }
     where
-      changed : (v e : View) → v.steps ≤ e.steps → IsChangedSince at word again e w → IsChangedSince at word again v w
+      changed : (v e : View) → v.steps ≤ e.steps → IsChangedSince span at word again e w
+          → IsChangedSince span at word again v w
       changed v e since c = record {
         place = c.place;
+        is = c.is;
         saw = saw_back at again (Some word) v e w since c.saw;
         cause = c.cause;
       }
 
-  pub hold_held : again ≡ word → 2 ^ 32 ≤ word → word < 2 ^ 60 → HoldsSo (slots ++ t ∷ []) at word span (Ok t) v w
+  holds_last : w.grip.holds ≡ t ∷ v.grip.holds
+  holds_last = ap (λ (g : Grip). g.holds) f.loaded.grip ∙ ap (λ (z : View). z.grip.holds) enters
+
+  way_last : again ≡ word → 2 ^ 32 ≤ word → word < 2 ^ 60 → Contains w.ways (record { slot = t; span = span })
+  way_last same some less =
+      f.loaded.way t (ap half_of same ∙ half_is word some less)
+      (subst (λ (l : List ℕ). has_slot l t ≡ true) (sym (ap (λ (z : View). z.grip.holds) enters))
+      (or_left (eqb t t) (has_slot v.grip.holds t) (self t)))
+
+  pub hold_held : again ≡ word → 2 ^ 32 ≤ word → word < 2 ^ 60
+      → HoldsSo (length slots + 1) (slots ++ t ∷ []) at word span (Ok t) v w
   hold_held same some less = record {
     can = can_last;
     walked = walk;
     kept = kept_last;
+    most = most_last;
+    grows = grows_last;
+    words = words_last;
+    only = only_last;
+    led = led_new t span v w holds_last (way_last same some less);
     others = others_last;
     still = f.loaded.met ∙ ap (λ (i : ℕ). let o : Option ℕ = Some i in o) same;
     held = (
-      f.loaded.way t (ap half_of same ∙ half_is word some less)
-          (subst (λ (l : List ℕ). has_slot l t ≡ true) (sym (ap (λ (z : View). z.grip.holds) enters))
-          (or_left (eqb t t) (has_slot v.grip.holds t) (self t))),
+      way_last same some less,
       subst (λ (y : Layout). t < y.slots) (sym (layout_stays v w walk)) led.there,
     );
     cause = tt;

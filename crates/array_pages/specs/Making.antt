@@ -1,9 +1,11 @@
 -- What it comes to that the page of a key's record is brought into memory.
-use Rattle.std.specs.Prelude.{◌≡◌, ◌⊎◌, ℕ, ◌<◌, ◌≤◌, List, [], ◌∷◌, length, get_or, Contains}
+use Rattle.std.specs.Prelude.{◌≡◌, ◌⊎◌, ℕ, ◌-◌, ◌/◌, ◌^◌, ◌<◌, ◌≤◌, false, List, [], ◌∷◌, length, get_or, Contains}
+use Rattle.std.specs.Prelude.{Option, Some}
 use Rattle.serial_model.specs.declared.key.Key.{Key}
 use Rattle.homes.specs.declared.places.Span.{Span}
 use Rattle.homes.specs.declared.places.Spot.{Spot}
 use Rattle.snapshot_store.specs.Places.{page}
+use Rattle.drop_core.specs.Table.{has_slot}
 use Rattle.commit_core.specs.declared.seat.Stage.TheVariants.{Idle}
 use Rattle.tx_sets.specs.declared.seen.Seen.{Seen}
 use Rattle.engine_pages.specs.declared.view.Copied.{Copied}
@@ -11,11 +13,15 @@ use Rattle.engine_pages.specs.declared.view.Draft.{Draft}
 use Rattle.engine_pages.specs.declared.view.RefusalCause.{RefusalCause}
 use Rattle.engine_pages.specs.declared.view.RefusalCause.TheVariants as causes
 use Rattle.engine_pages.specs.declared.view.Role.TheVariants.{Keeper}
+use Rattle.engine_pages.specs.declared.view.SetName.{SetName}
+use Rattle.engine_pages.specs.declared.view.SetName.TheVariants as sets
 use Rattle.engine_pages.specs.declared.view.View.{View}
 use Rattle.engine_pages.specs.Records.{IsRecordAt}
+use Rattle.engine_pages.specs.Steps.{seen_at}
 use Rattle.page_pool.specs.Pool.{IsChanged, IsFull}
 use Rattle.array_pages.specs.declared.making.Settled.{Settled}
-use Rattle.array_pages.specs.Walks.{CanWalk, HasWalked, IsPointerChanged, IsWide, KeepsBut, KeepsMet, OnlyMet}
+use Rattle.array_pages.specs.Walks.{AreLed, CanWalk, HasWalked, IsPointerChanged, IsWayWord, KeepsBut, KeepsMet}
+use Rattle.array_pages.specs.Walks.{OnlyMet}
 
 -- ---- a pass that makes pages
 
@@ -39,29 +45,54 @@ pub record HasRecordAt (k : Key) (at : ℕ) (w : View) : Type 0 where
   pub spot : Spot
   pub place : IsRecordAt w k spot at
 
--- The word of the key's record stands there, in a page that the pass holds; no words were met but those of pointers, and
--- those of the set that were last seen as the set has them were last seen so still.
+-- The word of the key's record stands there, in a page that the pass holds; no words were met but those of pointers,
+-- and those of the set that were last seen as the set has them were last seen so still.
 pub record HasMade (k : Key) (pointers : List Seen) (at : ℕ) (v w : View) : Type 0 where
   pub record_at : HasRecordAt k at w
   pub others : OnlyMet v w
   pub keeps : KeepsMet pointers v w
 
--- The page below a pointer over these keys is in this slot, which the pass holds. The pointer may be one of the set, and
--- was moved then.
+-- The page below a pointer over these keys is in this slot, which the pass holds. The pointer may be one of the set,
+-- and was moved then.
 pub record HasSettled (pointers : List Seen) (s : Settled) (span : Span) (at : ℕ) (v w : View) : Type 0 where
   pub way : Contains w.ways (record { slot = s.slot; span = span })
   pub there : s.slot < w.layout.slots
   pub others : OnlyMet v w
   pub keeps : KeepsBut pointers s.moved at v w
 
--- A page was not made: a pointer or the slot that was to be given was in conflict, no slot was usable, or the holds were
--- full.
-abbrev pub RefusesMake : List Seen → List ℕ → RefusalCause → View → View → Type 0
-RefusesMake pointers slots (causes.Conflict at expected seen) v w =
-    IsPointerChanged pointers at expected seen v w ⊎ ((u : View) × HasWalked v u × IsChanged at expected seen u w)
-RefusesMake pointers slots (causes.Full held) v w = (u : View) × HasWalked v u × IsFull held u w
-RefusesMake pointers slots (causes.Wide set) v w = IsWide pointers slots set
-RefusesMake pointers slots (causes.NumberLimit clock) v w = ⊥
+-- Behind a walk the call looked at the word of each slot, and none was usable. There is a way into each slot that it
+-- holds and didn't before: what it was given until then it put in.
+pub record NoneUsable (told : Option (ℕ × ℕ)) (v w : View) : Type 0 where
+  pub before : View
+  pub walked : HasWalked v before
+  pub full : IsFull told before w
+  pub led : AreLed v w
+
+-- A pointer on the way to the key was last seen to lead to a slot that isn't held, or to none, so that a page is to be
+-- put in there: it is one more to hold.
+pub record NeedsPage (k : Key) (slots : List ℕ) (w : View) : Type 0 where
+  pub at : ℕ
+  pub word : ℕ
+  pub on : IsWayWord k w at
+  pub saw : seen_at w.reads at ≡ Some word
+  pub unshut : word < 2 ^ 60
+  pub unheld : 2 ^ 32 ≤ word → has_slot slots (word / 2 ^ 32 - 1) ≡ false
+
+-- the holds are as many as there is room for, and the way to the key needs one more; no other set is asked for room
+abbrev pub IsMadeWide : Key → List ℕ → SetName → View → Type 0
+IsMadeWide k slots sets.Reads w = ⊥
+IsMadeWide k slots sets.Writes w = ⊥
+IsMadeWide k slots sets.Pointers w = ⊥
+IsMadeWide k slots sets.Holds w = (length slots ≡ 128) × NeedsPage k slots w
+
+-- A page was not made: a pointer or the slot that was to be given was in conflict, no slot was usable, or the holds
+-- were full.
+abbrev pub RefusesMake : Key → List Seen → List ℕ → RefusalCause → View → View → Type 0
+RefusesMake k pointers slots (causes.Conflict at expected seen) v w =
+    IsPointerChanged k pointers at expected seen v w ⊎ ((u : View) × HasWalked v u × IsChanged at expected seen u w)
+RefusesMake k pointers slots (causes.Full held) v w = NoneUsable held v w
+RefusesMake k pointers slots (causes.Wide set) v w = IsMadeWide k slots set w
+RefusesMake k pointers slots (causes.NumberLimit clock) v w = ⊥
 
 -- ---- a page under construction
 

@@ -1,5 +1,5 @@
 -- Which keys the pages are over that lead to the record of a key.
-use Rattle.std.specs.Prelude.{◌≡◌, ℕ, ◌+◌, ◌<◌, ◌≤◌, List, true, Some, slice_get}
+use Rattle.std.specs.Prelude.{◌≡◌, ℕ, ◌+◌, ◌*◌, ◌<◌, ◌≤◌, List, true, Some, slice_get}
 use Rattle.serial_model.specs.declared.decl.Decl.{Decl}
 use Rattle.serial_model.specs.declared.decl.Decl.TheVariants.{Array}
 use Rattle.serial_model.specs.declared.key.Key.{Key}
@@ -24,6 +24,19 @@ HasArray decls id = (root : ℕ) × (size : ℕ) × IsArrayAt decls id root size
 -- the keys of a page so many levels above the leaves, from this one on, in the storage of the key
 abbrev pub keys_above : Key → ℕ → ℕ → Span
 keys_above k height low = record { storage = k.storage; low = low; high = low + last_at height }
+
+-- a walk comes to at most so many pages, and holds at most so many slots more: an array's pages are of three heights
+abbrev pub walk_holds : ℕ
+walk_holds = 3
+
+-- Finding a record takes at most so many steps: three for each pointer on its way, and three for the record.
+abbrev pub find_steps : ℕ
+find_steps = 12
+
+-- With so many slots, bringing a record's pages into memory takes at most so many steps: for each of three pages one
+-- search of all slots, and 135 steps more, most of which copy its words.
+abbrev pub make_steps : ℕ → ℕ
+make_steps slots = 3 * (slots + 135)
 
 -- the key is one of them
 pub record IsOver (k : Key) (height low : ℕ) : Type 0 where

@@ -1,12 +1,14 @@
 -- What it leaves to go down the pages of an array: words are loaded, and slots entered.
-use Rattle.std.specs.Prelude.{◌≡◌, ◌≢◌, ◌⊎◌, ℕ, ◌^◌, ◌<◌, ◌≤◌, Bool, true, false, List, Contains, Option, Some, None}
-use Rattle.std.specs.Prelude.{length}
+use Rattle.std.specs.Prelude.{◌≡◌, ◌≢◌, ◌⊎◌, ℕ, ◌-◌, ◌/◌, ◌^◌, ◌<◌, ◌≤◌, Bool, true, false, List, Contains, Option}
+use Rattle.std.specs.Prelude.{Some, None, length}
 use Rattle.lists.specs.Fronts.{IsFront}
 use Rattle.serial_model.specs.Decls.{AreDecls}
 use Rattle.homes.specs.declared.places.At.{At}
 use Rattle.homes.specs.declared.places.Span.{Span}
+use Rattle.homes.specs.Homes.{in_span}
 use Rattle.commit_core.specs.declared.attempt.Attempt.{Attempt}
 use Rattle.commit_core.specs.declared.part.Part.{Part}
+use Rattle.serial_model.specs.declared.key.Key.{Key}
 use Rattle.serial_model.specs.declared.number.Number.{Number}
 use Rattle.commit_core.specs.CoreState.{is_trying}
 use Rattle.commit_core.specs.Parts.{Vouches}
@@ -22,7 +24,7 @@ use Rattle.engine_pages.specs.declared.view.SetName.TheVariants as sets
 use Rattle.engine_pages.specs.declared.view.View.{View}
 use Rattle.engine_pages.specs.declared.view.Way.{Way}
 use Rattle.engine_pages.specs.Pointers.{IsPointerAt, WaysAgree}
-use Rattle.engine_pages.specs.Steps.{glance, seen_at}
+use Rattle.engine_pages.specs.Steps.{glance, kept_at, seen_at}
 use Rattle.engine_pages.specs.Views.{IsActive}
 
 -- ---- a pass with its holds
@@ -31,8 +33,8 @@ use Rattle.engine_pages.specs.Views.{IsActive}
 abbrev pub HoldsAre : List ℕ → View → Type 0
 HoldsAre slots v = (t : ℕ) → has_slot slots t ≡ has_slot v.grip.holds t
 
--- A pass that has a seat and no attempt in progress, with the set of its holds. Two ways into one slot are over the same
--- keys, and the storages are declared as those of a database.
+-- A pass that has a seat and no attempt in progress, with the set of its holds. Two ways into one slot are over the
+-- same keys, and the storages are declared as those of a database.
 pub record CanWalk (slots : List ℕ) (v : View) : Type 0 where
   pub active : IsActive v.role
   pub rest : is_trying v.seat.stage ≡ false
@@ -83,6 +85,21 @@ pub record HasWalked (v w : View) : Type 0 where
   pub leads : (x : Lead) → Contains v.leads x → Contains w.leads x
   pub is : w ≡ as_walked v w
 
+-- ---- the pages that it came to
+
+-- each way that is new is over these keys
+abbrev pub OnlyWays : Span → View → View → Type 0
+OnlyWays span v w = (x : Way) → Contains w.ways x → Contains v.ways x ⊎ (x.span ≡ span)
+
+-- each way that is new is one to the key: over keys that it is one of
+abbrev pub OnlyWaysTo : Key → View → View → Type 0
+OnlyWaysTo k v w = (x : Way) → Contains w.ways x → Contains v.ways x ⊎ (in_span x.span k ≡ true)
+
+-- there is a way into each slot that is held now and wasn't before
+abbrev pub AreLed : View → View → Type 0
+AreLed v w = (t : ℕ) → has_slot w.grip.holds t ≡ true → has_slot v.grip.holds t ≡ false
+    → (x : Way) × Contains w.ways x × (x.slot ≡ t)
+
 -- ---- the words that were met
 
 -- the word is that of a pointer which the pass knows
@@ -90,6 +107,13 @@ pub record IsPointersWord (v : View) (at : ℕ) : Type 0 where
   pub place : At
   pub span : Span
   pub is : IsPointerAt v place span at
+
+-- the word is that of a pointer on the way to the key: over keys that it is one of
+pub record IsWayWord (k : Key) (v : View) (at : ℕ) : Type 0 where
+  pub place : At
+  pub span : Span
+  pub is : IsPointerAt v place span at
+  pub over : in_span span k ≡ true
 
 -- no words but those of pointers were met
 abbrev pub OnlyMet : View → View → Type 0
@@ -111,36 +135,78 @@ abbrev pub MeetsSo : List Seen → ℕ → ℕ → Type 0
 MeetsSo pointers at word =
     (word_at at pointers ≡ Some word) ⊎ ((word_at at pointers ≡ None) × (length pointers < 128))
 
+-- each word is known as a part that is kept, or not, as it was
+abbrev pub KeepsWords : View → View → Type 0
+KeepsWords v w = (a : ℕ) → kept_at w.reads a ≡ kept_at v.reads a
+
 -- ---- refusals
 
 -- The last load or compare_exchange is one of this call and saw this at the word, of which the transaction had seen or
--- left that before, if it had met it.
+-- left that before, if it had met it, and which it keeps as a part with this word, if it does.
 pub record SawLast (at seen : ℕ) (was : Option ℕ) (v w : View) : Type 0 where
   pub step : ℕ
   pub since : v.steps ≤ step
   pub last : w.last ≡ Some (glance step at seen)
   pub kept : Option ℕ
+  pub kept_is : kept ≡ kept_at w.reads at
   pub stands : Contains w.reads (record { word = at; seen = seen; was = was; kept = kept })
 
--- The word is that of a pointer on the way. It is shut, or not the expected one: the set's, where the set has the
--- pointer, else what the transaction had seen there before.
-pub record IsPointerChanged (pointers : List Seen) (at expected seen : ℕ) (v w : View) : Type 0 where
-  pub place : IsPointersWord w at
+-- The word is that of a pointer on the way to the key. It is shut, or not the expected one: the set's, where the set
+-- has the pointer, else what the transaction had seen there before. Where a pointer of the set was last seen as the set
+-- has it as the call began, it was seen so right before, or is known as a part as it was.
+pub record IsPointerChanged (k : Key) (pointers : List Seen) (at expected seen : ℕ) (v w : View) : Type 0 where
+  pub place : IsWayWord k w at
   pub was : Option ℕ
   pub saw : SawLast at seen was v w
   pub known : (word_at at pointers ≡ Some expected) ⊎ ((word_at at pointers ≡ None) × (was ≡ Some expected))
+  pub before : IsPointersWord v at → word_at at pointers ≡ Some expected → seen_at v.reads at ≡ Some expected
+      → (was ≡ Some expected) ⊎ (saw.kept ≡ kept_at v.reads at)
   pub cause : (2 ^ 60 ≤ seen) ⊎ (seen ≢ expected)
 
--- the set has as many entries as there is room for
-abbrev pub IsWide : List Seen → List ℕ → SetName → Type 0
-IsWide pointers slots sets.Reads = ⊥
-IsWide pointers slots sets.Writes = ⊥
-IsWide pointers slots sets.Pointers = length pointers ≡ 128
-IsWide pointers slots sets.Holds = length slots ≡ 128
+-- A pointer on the way to the key was last seen to lead to no slot, and isn't in the set: the set needs one entry more.
+pub record NeedsPointer (k : Key) (pointers : List Seen) (w : View) : Type 0 where
+  pub at : ℕ
+  pub word : ℕ
+  pub on : IsWayWord k w at
+  pub saw : seen_at w.reads at ≡ Some word
+  pub bare : word < 2 ^ 32
+  pub absent : word_at at pointers ≡ None
+
+-- A pointer on the way to the key was last seen to lead to a slot that isn't held: it is one more to hold.
+pub record NeedsHold (k : Key) (slots : List ℕ) (w : View) : Type 0 where
+  pub at : ℕ
+  pub word : ℕ
+  pub on : IsWayWord k w at
+  pub saw : seen_at w.reads at ≡ Some word
+  pub led : 2 ^ 32 ≤ word
+  pub unshut : word < 2 ^ 60
+  pub unheld : has_slot slots (word / 2 ^ 32 - 1) ≡ false
+
+-- so it is with the holds, and with no other set
+abbrev pub IsHeldWide : Key → List ℕ → SetName → View → Type 0
+IsHeldWide k slots sets.Reads w = ⊥
+IsHeldWide k slots sets.Writes w = ⊥
+IsHeldWide k slots sets.Pointers w = ⊥
+IsHeldWide k slots sets.Holds w = (length slots ≡ 128) × NeedsHold k slots w
+
+-- the set has as many entries as there is room for, and the way to the key needs one more
+abbrev pub IsWide : Key → List Seen → List ℕ → SetName → View → Type 0
+IsWide k pointers slots sets.Reads w = ⊥
+IsWide k pointers slots sets.Writes w = ⊥
+IsWide k pointers slots sets.Pointers w = (length pointers ≡ 128) × NeedsPointer k pointers w
+IsWide k pointers slots sets.Holds w = (length slots ≡ 128) × NeedsHold k slots w
+
+-- a pointer was refused, or the slot that it leads to
+abbrev pub RefusesPointer : Key → List Seen → List ℕ → RefusalCause → View → View → Type 0
+RefusesPointer k pointers slots (causes.Conflict at expected seen) v w =
+    IsPointerChanged k pointers at expected seen v w
+RefusesPointer k pointers slots (causes.Full held) v w = ⊥
+RefusesPointer k pointers slots (causes.Wide set) v w = IsHeldWide k slots set w
+RefusesPointer k pointers slots (causes.NumberLimit clock) v w = ⊥
 
 -- a walk was refused at a pointer, or for a set that was full
-abbrev pub RefusesWalk : List Seen → List ℕ → RefusalCause → View → View → Type 0
-RefusesWalk pointers slots (causes.Conflict at expected seen) v w = IsPointerChanged pointers at expected seen v w
-RefusesWalk pointers slots (causes.Full held) v w = ⊥
-RefusesWalk pointers slots (causes.Wide set) v w = IsWide pointers slots set
-RefusesWalk pointers slots (causes.NumberLimit clock) v w = ⊥
+abbrev pub RefusesWalk : Key → List Seen → List ℕ → RefusalCause → View → View → Type 0
+RefusesWalk k pointers slots (causes.Conflict at expected seen) v w = IsPointerChanged k pointers at expected seen v w
+RefusesWalk k pointers slots (causes.Full held) v w = ⊥
+RefusesWalk k pointers slots (causes.Wide set) v w = IsWide k pointers slots set w
+RefusesWalk k pointers slots (causes.NumberLimit clock) v w = ⊥

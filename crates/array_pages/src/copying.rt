@@ -1,5 +1,5 @@
 // Copies of snapshot pages in slots.
-ghost use Rattle.std.specs.Prelude.{◌≡◌, ◌<◌, ◌≤◌, ◌∷◌, [], ℕ, List, length, true, IfOk, IfErr};
+ghost use Rattle.std.specs.Prelude.{◌≡◌, ◌+◌, ◌<◌, ◌≤◌, ◌∷◌, [], ℕ, List, length, true, IfOk, IfErr};
 ghost use Rattle.array_pages.specs.Making.{draft_of, AreCopied, CanMake, HasCopied};
 ghost use Rattle.array_pages.specs.Snapshots.{CanLook};
 ghost use Rattle.array_pages.specs.Steps.{CanCopy, HasPublished, InstallsSo, IsBareAt, RefusesGive};
@@ -19,8 +19,8 @@ use homes::{At, Span};
 use page_pool::{PoolRefusal, give};
 use tx_sets::Holds;
 
-/// Leads a pointer, which was just seen to lead to no slot and to the snapshot page of this word, to a slot whose page is
-/// a copy of that, or empty for 0. The slot is held. Where the pointer has changed meanwhile, the slot is given up.
+/// Leads a pointer, which was just seen to lead to no slot and to the snapshot page of this word, to a slot whose page
+/// is a copy of that, or empty for 0. The slot is held. Where the pointer has changed meanwhile, the slot is given up.
 pub(crate) fn install_copy(
     engine: &Engine,
     pass: &mut Pass,
@@ -39,7 +39,8 @@ pub(crate) fn install_copy(
     requires kind { CanCopy leaf span }
     requires bare { IsBareAt word span at (view pass.old) }
     ensures of { IsPassOf engine.now pass.new }
-    ensures installs { InstallsSo holds.new at word span result (view pass.old) (view pass.new) }
+    ensures installs { InstallsSo (length holds.old + 1) holds.new at word span result
+        (view pass.old) (view pass.new) }
 {
     if holds.is_full() {
         return Err(RefusalCause::Wide {
@@ -72,7 +73,8 @@ fn publish_page(
     requires kind { CanCopy leaf span }
     requires bare { IsBareAt word span at (view pass.old) }
     ensures of { IsPassOf engine.now pass.new }
-    ensures published { IfOk result (λ slot. HasPublished slot span word (view pass.old) (view pass.new)) }
+    ensures published { IfOk result (λ slot.
+        HasPublished slot span word (view pass.old) (view pass.new)) }
     ensures missed { IfErr result (λ why. RefusesGive why (view pass.old) (view pass.new)) }
 {
     let slot = give_slot(engine, pass)?;
@@ -112,8 +114,10 @@ fn copy_page(engine: &Engine, pass: &mut Pass, slot: u32, page: u64)
     requires can { CanLook (view pass.old) }
     requires slot { slot < (view pass.old).layout.slots }
     requires there { page ≤ length (view pass.old).pages }
-    requires own { (words : List ℕ) × (length words ≡ 64) × ((view pass.old).drafts ≡ draft_of slot words ∷ []) }
+    requires own { (words : List ℕ) × (length words ≡ 64)
+        × ((view pass.old).drafts ≡ draft_of slot words ∷ []) }
     ensures of { IsPassOf engine.now pass.new }
+    ensures most { (view pass.new).steps ≤ (view pass.old).steps + 128 }
     ensures copies { (words : List ℕ) × AreCopied words (view pass.old).pages page
         × HasCopied slot words (view pass.old) (view pass.new) }
 {

@@ -1,9 +1,9 @@
 // The record of a key.
-ghost use Rattle.std.specs.Prelude.{◌≡◌, ◌+◌, ◌<◌, ◌≤◌, false, Contains, IfOk, IfErr, OnOk};
+ghost use Rattle.std.specs.Prelude.{◌≡◌, ◌+◌, ◌%◌, ◌<◌, ◌≤◌, false, length, Contains, IfOk, IfErr, OnOk};
 ghost use Rattle.array_pages.specs.Finding.{IsContentBelow, IsFound, RefusesFind};
-ghost use Rattle.array_pages.specs.Spans.{keys_above, IsArrayKey, IsOver};
+ghost use Rattle.array_pages.specs.Spans.{find_steps, keys_above, walk_holds, IsArrayKey, IsOver};
 ghost use Rattle.array_pages.specs.Steps.{FindsSo, ReadsSo};
-ghost use Rattle.array_pages.specs.Walks.{CanWalk, HasWalked, KeepsMet};
+ghost use Rattle.array_pages.specs.Walks.{AreLed, CanWalk, HasWalked, KeepsMet, OnlyWaysTo};
 ghost use Rattle.commit_core.specs.CoreState.{is_trying};
 ghost use Rattle.engine_pages.specs.Layout.{words_of};
 ghost use Rattle.engine_pages.specs.Passes.{view, IsPassOf};
@@ -45,7 +45,8 @@ pub enum Found {
 }
 
 /// The record of a key of an array. The slots of the pages on the way are held from then on; the pointers that the
-/// transaction has kept are told.
+/// transaction has kept are told. At most 12 steps: three for each of up to three pointers, and three for the record;
+/// and at most three slots more are held.
 pub fn find(
     engine: &Engine,
     pass: &mut Pass,
@@ -59,8 +60,13 @@ pub fn find(
     ensures of { IsPassOf engine.now pass.new }
     ensures can { CanWalk holds.new (view pass.new) }
     ensures walked { HasWalked (view pass.old) (view pass.new) }
+    ensures most { (view pass.new).steps ≤ (view pass.old).steps + find_steps }
+    ensures grows { length holds.new ≤ length holds.old + walk_holds }
+    ensures only { OnlyWaysTo key (view pass.old) (view pass.new) }
+    ensures led { OnOk result (AreLed (view pass.old) (view pass.new)) }
     ensures keeps { OnOk result (KeepsMet pointers.now (view pass.old) (view pass.new)) }
-    ensures found { IfOk result (λ found. IsFound key pointers.now found (view pass.old) (view pass.new)) }
+    ensures found { IfOk result (λ found.
+        IsFound key pointers.now found (view pass.old) (view pass.new)) }
     ensures cause { IfErr result (λ why.
         RefusesFind key pointers.now holds.new why (view pass.old) (view pass.new)) }
 {
@@ -78,7 +84,8 @@ fn find_from_root(
     requires can { CanWalk holds.old (view pass.old) }
     requires fits { IsArrayKey (view pass.old).layout.decls key }
     ensures of { IsPassOf engine.now pass.new }
-    ensures finds { FindsSo key pointers.now holds.new result (view pass.old) (view pass.new) }
+    ensures finds { FindsSo 12 (length holds.old + 3) key pointers.now holds.new result
+        (view pass.old) (view pass.new) }
 {
     let (root, size) = array_of(engine, key.storage);
     let place = At::Root(root);
@@ -109,9 +116,11 @@ fn find_in_leaf(
     requires place { IsPointerAt (view pass.old) place (keys_above key 0 low) at }
     requires word { at < words_of (view pass.old).layout }
     requires over { IsOver key 0 low }
+    requires even { low % 32 ≡ 0 }
     requires low { low + indexes_at 0 ≤ 131072 }
     ensures of { IsPassOf engine.now pass.new }
-    ensures finds { FindsSo key pointers.now holds.new result (view pass.old) (view pass.new) }
+    ensures finds { FindsSo 6 (length holds.old + 1) key pointers.now holds.new result
+        (view pass.old) (view pass.new) }
 {
     let span = span_from(key, low, LEAF);
     let reached = reach(engine, pass, holds, pointers, place, span, at)?;
@@ -141,9 +150,11 @@ fn find_in_middle(
     requires place { IsPointerAt (view pass.old) place (keys_above key 1 low) at }
     requires word { at < words_of (view pass.old).layout }
     requires over { IsOver key 1 low }
+    requires even { low % 32 ≡ 0 }
     requires low { low + indexes_at 1 ≤ 131072 }
     ensures of { IsPassOf engine.now pass.new }
-    ensures finds { FindsSo key pointers.now holds.new result (view pass.old) (view pass.new) }
+    ensures finds { FindsSo 9 (length holds.old + 2) key pointers.now holds.new result
+        (view pass.old) (view pass.new) }
 {
     let span = span_from(key, low, MIDDLE);
     let reached = reach(engine, pass, holds, pointers, place, span, at)?;
@@ -182,7 +193,8 @@ fn find_in_top(
     requires word { at < words_of (view pass.old).layout }
     requires over { IsOver key 2 0 }
     ensures of { IsPassOf engine.now pass.new }
-    ensures finds { FindsSo key pointers.now holds.new result (view pass.old) (view pass.new) }
+    ensures finds { FindsSo 12 (length holds.old + 3) key pointers.now holds.new result
+        (view pass.old) (view pass.new) }
 {
     let span = span_from(key, 0, TOP);
     let reached = reach(engine, pass, holds, pointers, place, span, at)?;
@@ -230,8 +242,10 @@ fn read_record(
     requires active { IsActive (view pass.old).role }
     requires rest { is_trying (view pass.old).seat.stage ≡ false }
     requires fits { IsArrayKey (view pass.old).layout.decls key }
-    requires way { Contains (view pass.old).ways (record { slot = slot; span = keys_above key 0 low }) }
+    requires way { Contains (view pass.old).ways
+        (record { slot = slot; span = keys_above key 0 low }) }
     requires there { slot < (view pass.old).layout.slots }
+    requires even { low % 32 ≡ 0 }
     requires over { IsOver key 0 low }
     ensures of { IsPassOf engine.now pass.new }
     ensures reads { ReadsSo key result (view pass.old) (view pass.new) }

@@ -1,9 +1,9 @@
 // The record of a key is brought into a page in memory.
-ghost use Rattle.std.specs.Prelude.{◌≡◌, ◌+◌, ◌<◌, ◌≤◌, Bool, true, IfOk, IfErr};
+ghost use Rattle.std.specs.Prelude.{◌≡◌, ◌+◌, ◌*◌, ◌<◌, ◌≤◌, Bool, true, length, IfOk, IfErr, OnOk};
 ghost use Rattle.array_pages.specs.Making.{CanMake, HasMade, RefusesMake};
-ghost use Rattle.array_pages.specs.Spans.{keys_above, IsArrayKey, IsOver};
+ghost use Rattle.array_pages.specs.Spans.{keys_above, make_steps, walk_holds, IsArrayKey, IsOver};
 ghost use Rattle.array_pages.specs.Steps.{CanCopy, ChecksSo, MakesSo, SettlesSo};
-ghost use Rattle.array_pages.specs.Walks.{HasWalked};
+ghost use Rattle.array_pages.specs.Walks.{AreLed, HasWalked, KeepsWords, OnlyWaysTo};
 ghost use Rattle.engine_pages.specs.Layout.{words_of};
 ghost use Rattle.engine_pages.specs.Pages.{is_array, is_leaf_span};
 ghost use Rattle.engine_pages.specs.Passes.{view, IsPassOf};
@@ -29,8 +29,10 @@ pub(crate) struct Settled {
 }
 
 /// Brings the record of a key of an array into a page in memory, from the root down: each page on its way is one then,
-/// and is held. A page that wasn't there is copied from the snapshot page, or is empty. Answers the place of the record's
-/// word. Where a pointer that the transaction has kept was led to a page by this, the transaction is refused.
+/// and is held. A page that wasn't there is copied from the snapshot page, or is empty. Answers the place of the
+/// record's word. Where a pointer that the transaction has kept was led to a page by this, the transaction is refused.
+/// For each of up to three pages the slots are searched at most once, at most 135 steps more are made, and at most one
+/// slot more is held.
 pub fn make_volatile(
     engine: &Engine,
     pass: &mut Pass,
@@ -45,8 +47,15 @@ pub fn make_volatile(
     ensures can { CanMake holds.new (view pass.new) }
     ensures walked { HasWalked (view pass.old) (view pass.new) }
     ensures kept { (view pass.new).seat.kept ≡ (view pass.old).seat.kept }
+    ensures words { KeepsWords (view pass.old) (view pass.new) }
+    ensures most { (view pass.new).steps
+        ≤ (view pass.old).steps + make_steps (view pass.old).layout.slots }
+    ensures grows { length holds.new ≤ length holds.old + walk_holds }
+    ensures only { OnlyWaysTo key (view pass.old) (view pass.new) }
+    ensures led { OnOk result (AreLed (view pass.old) (view pass.new)) }
     ensures made { IfOk result (λ at. HasMade key pointers.now at (view pass.old) (view pass.new)) }
-    ensures cause { IfErr result (λ why. RefusesMake pointers.now holds.new why (view pass.old) (view pass.new)) }
+    ensures cause { IfErr result (λ why.
+        RefusesMake key pointers.now holds.new why (view pass.old) (view pass.new)) }
 {
     make_from_root(engine, pass, key, holds, pointers)
 }
@@ -62,7 +71,8 @@ fn make_from_root(
     requires can { CanMake holds.old (view pass.old) }
     requires fits { IsArrayKey (view pass.old).layout.decls key }
     ensures of { IsPassOf engine.now pass.new }
-    ensures makes { MakesSo key pointers.now holds.new result (view pass.old) (view pass.new) }
+    ensures makes { MakesSo (3 * ((view pass.old).layout.slots + 135)) (length holds.old + 3)
+        key pointers.now holds.new result (view pass.old) (view pass.new) }
 {
     let (root, size) = array_of(engine, key.storage);
     let place = At::Root(root);
@@ -95,7 +105,8 @@ fn make_leaf(
     requires over { IsOver key 0 low }
     requires low { low + indexes_at 0 ≤ 131072 }
     ensures of { IsPassOf engine.now pass.new }
-    ensures makes { MakesSo key pointers.now holds.new result (view pass.old) (view pass.new) }
+    ensures makes { MakesSo ((view pass.old).layout.slots + 135) (length holds.old + 1)
+        key pointers.now holds.new result (view pass.old) (view pass.new) }
 {
     let span = span_from(key, low, LEAF);
     let settled = settle(engine, pass, holds, pointers, place, span, at, true)?;
@@ -123,7 +134,8 @@ fn make_middle(
     requires over { IsOver key 1 low }
     requires low { low + indexes_at 1 ≤ 131072 }
     ensures of { IsPassOf engine.now pass.new }
-    ensures makes { MakesSo key pointers.now holds.new result (view pass.old) (view pass.new) }
+    ensures makes { MakesSo (2 * ((view pass.old).layout.slots + 135)) (length holds.old + 2)
+        key pointers.now holds.new result (view pass.old) (view pass.new) }
 {
     let span = span_from(key, low, MIDDLE);
     let settled = settle(engine, pass, holds, pointers, place, span, at, false)?;
@@ -156,7 +168,8 @@ fn make_top(
     requires word { at < words_of (view pass.old).layout }
     requires over { IsOver key 2 0 }
     ensures of { IsPassOf engine.now pass.new }
-    ensures makes { MakesSo key pointers.now holds.new result (view pass.old) (view pass.new) }
+    ensures makes { MakesSo (3 * ((view pass.old).layout.slots + 135)) (length holds.old + 3)
+        key pointers.now holds.new result (view pass.old) (view pass.new) }
 {
     let span = span_from(key, 0, TOP);
     let settled = settle(engine, pass, holds, pointers, place, span, at, false)?;
@@ -190,7 +203,8 @@ fn settle(
     requires array { is_array (view pass.old).layout.decls span.storage ≡ true }
     requires kind { CanCopy leaf span }
     ensures of { IsPassOf engine.now pass.new }
-    ensures settles { SettlesSo pointers.now holds.new span at result (view pass.old) (view pass.new) }
+    ensures settles { SettlesSo (length holds.old + 1) pointers.now holds.new span at result
+        (view pass.old) (view pass.new) }
 {
     let word = follow(engine, pass, place, span, at);
     let met = is_met(pointers, at, word)?;
@@ -226,7 +240,7 @@ fn check_moved(
     requires place { IsPointerAt (view pass.old) place span at }
     requires word { at < words_of (view pass.old).layout }
     ensures of { IsPassOf engine.now pass.new }
-    ensures checks { ChecksSo pointers.now at moved result (view pass.old) (view pass.new) }
+    ensures checks { ChecksSo pointers.now span at moved result (view pass.old) (view pass.new) }
 {
     if !moved {
         return Ok(());

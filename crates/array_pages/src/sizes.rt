@@ -1,5 +1,5 @@
-// How many keys the pages of arrays are over. Contracts say it by the form of a leaf and the fan of a page; these are the
-// same numbers for the code, and no proof takes others.
+// How many keys the pages of arrays are over. Contracts say it by the form of a leaf and the fan of a page; these are
+// the same numbers for the code, and no proof takes others.
 
 /// The keys of a leaf.
 pub(crate) const LEAF: u64 = 32;

@@ -24,7 +24,9 @@ pub(crate) fn in_leaf(
     requires to { index < low + indexes_at 0 }
     ensures of { IsPassOf engine.now pass.new }
     ensures glances { HasGlanced (view pass.old) (view pass.new) }
-    ensures finds { (d : ℕ) → array_found result.0 result.1 ≡ find array_format (view pass.old).pages (suc d) index
+    ensures most { (view pass.new).steps ≤ (view pass.old).steps + 2 }
+    ensures finds { (d : ℕ) → array_found result.0 result.1
+        ≡ find array_format (view pass.old).pages (suc d) index
         (record { number = number; low = low; high = low + last_at 0 }) }
 {
     let at = RECORD * (index - low) as u32;
@@ -50,7 +52,9 @@ pub(crate) fn in_middle(
     requires low { low < 131072 }
     ensures of { IsPassOf engine.now pass.new }
     ensures glances { HasGlanced (view pass.old) (view pass.new) }
-    ensures finds { (d : ℕ) → array_found result.0 result.1 ≡ find array_format (view pass.old).pages (suc (suc d)) index
+    ensures most { (view pass.new).steps ≤ (view pass.old).steps + 3 }
+    ensures finds { (d : ℕ) → array_found result.0 result.1
+        ≡ find array_format (view pass.old).pages (suc (suc d)) index
         (record { number = number; low = low; high = low + last_at 1 }) }
 {
     let part = (index - low) / LEAF;
@@ -67,7 +71,9 @@ pub(crate) fn in_top(engine: &Engine, pass: &mut Pass, number: u64, index: u64) 
     requires to { index < indexes_at 2 }
     ensures of { IsPassOf engine.now pass.new }
     ensures glances { HasGlanced (view pass.old) (view pass.new) }
-    ensures finds { (d : ℕ) → array_found result.0 result.1 ≡ find array_format (view pass.old).pages (suc (suc (suc d))) index
+    ensures most { (view pass.new).steps ≤ (view pass.old).steps + 4 }
+    ensures finds { (d : ℕ) → array_found result.0 result.1
+        ≡ find array_format (view pass.old).pages (suc (suc (suc d))) index
         (record { number = number; low = 0; high = last_at 2 }) }
 {
     let part = index / MIDDLE;
@@ -83,6 +89,7 @@ pub(crate) fn word_of(engine: &Engine, pass: &mut Pass, number: u64, index: u32)
     requires index { index < 64 }
     ensures of { IsPassOf engine.now pass.new }
     ensures glances { HasGlanced (view pass.old) (view pass.new) }
+    ensures most { (view pass.new).steps ≤ (view pass.old).steps + 1 }
     ensures word { result ≡ get_or (page (view pass.old).pages number) index 0 }
 {
     if number == 0 {

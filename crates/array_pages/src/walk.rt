@@ -1,5 +1,5 @@
 // One pointer down.
-ghost use Rattle.std.specs.Prelude.{◌≡◌, ◌^◌, ◌++◌, ◌∷◌, [], ◌<◌, ◌≤◌, true, false, length, IfOk, IfErr};
+ghost use Rattle.std.specs.Prelude.{◌≡◌, ◌+◌, ◌^◌, ◌++◌, ◌∷◌, [], ◌<◌, ◌≤◌, true, false, length, IfOk, IfErr};
 ghost use Rattle.array_pages.specs.Steps.{HoldsSo, IsLedTo, IsMetAs, IsMetElse, ReachesSo};
 ghost use Rattle.array_pages.specs.Walks.{CanWalk};
 ghost use Rattle.drop_core.specs.Table.{has_slot};
@@ -52,8 +52,8 @@ pub(crate) fn is_met(pointers: &PointerSet, at: u32, word: u64) -> Result<bool, 
     Ok(true)
 }
 
-/// Follows a pointer, whose word stands here. The slot that it leads to is held from then on; where it leads to none, its
-/// word is kept, and the pages in memory end there.
+/// Follows a pointer, whose word stands here. The slot that it leads to is held from then on; where it leads to none,
+/// its word is kept, and the pages in memory end there.
 pub(crate) fn reach(
     engine: &Engine,
     pass: &mut Pass,
@@ -69,14 +69,15 @@ pub(crate) fn reach(
     requires word { at < words_of (view pass.old).layout }
     requires array { is_array (view pass.old).layout.decls span.storage ≡ true }
     ensures of { IsPassOf engine.now pass.new }
-    ensures reaches { ReachesSo pointers.now holds.new place span at result (view pass.old) (view pass.new) }
+    ensures reaches { ReachesSo (length holds.old + 1) pointers.now holds.new place span at result
+        (view pass.old) (view pass.new) }
 {
     let word = see_pointer(engine, pass, place, span, at);
     let met = is_met(pointers, at, word)?;
     if word >= SHUT {
         // Loaded once more: so what is expected there is what the step before saw.
-        let again = follow(engine, pass, place, span, at);
-        return Err(conflict(at, word, again));
+        let later = follow(engine, pass, place, span, at);
+        return Err(conflict(at, word, later));
     }
     if word >= SLOT {
         let slot = hold(engine, pass, holds, place, span, at, word)?;
@@ -112,7 +113,8 @@ pub(crate) fn hold(
     requires unshut { word < 2 ^ 60 }
     requires led { IsLedTo word span at (view pass.old) }
     ensures of { IsPassOf engine.now pass.new }
-    ensures holds { HoldsSo holds.new at word span result (view pass.old) (view pass.new) }
+    ensures holds { HoldsSo (length holds.old + 1) holds.new at word span result
+        (view pass.old) (view pass.new) }
 {
     let slot = (word / SLOT) as u32 - 1;
     if holds.contains(slot) {

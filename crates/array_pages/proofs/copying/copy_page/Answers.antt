@@ -11,8 +11,7 @@ use Rattle.engine_pages.specs.Layout.{page_at}
 use Rattle.engine_pages.specs.Passes.{view}
 use Rattle.engine_pages.specs.Views.{IsActive}
 use Rattle.array_pages.specs.Making.{draft_of}
-use Rattle.array_pages.proofs.MakeLaws.{below_more}
-use Rattle.array_pages.proofs.MakeLaws.{copied_more, copied_none}
+use Rattle.array_pages.proofs.CopyLaws.{below_more, copied_more, copied_none}
 use Rattle.array_pages.proofs.copying.copy_page.Goals as goal
 
 pub loop-i-init : goal.loop-i-init
@@ -22,6 +21,7 @@ loop-i-init c =
       words = c.requires.own.0;
       copied = λ j none. absurd (omega (arith, none));
       has = copied_none c.args.slot c.requires.own.0 (view c.args.pass.now) c.requires.own.1 c.requires.own.2;
+      most = omega arith;
     }
 
 pub word_of-word-requires-clause-of : goal.word_of-word-requires-clause-of
@@ -75,7 +75,8 @@ fill-requires-clause-word c =
     let a = view c.loop-i.pass in
     let u = view c.word_of-word.new.pass in
     let g = c.word_of-word.ensures.glances in
-    c.word_at-at.ensures ∙ ap (λ (l : Layout). page_at l.slots c.args.slot c.loop-i.i) (sym c.word_of-word.ensures.of.layout)
+    c.word_at-at.ensures ∙ ap (λ (l : Layout). page_at l.slots c.args.slot c.loop-i.i)
+    (sym c.word_of-word.ensures.of.layout)
 
 pub fill-requires-clause-draft : goal.fill-requires-clause-draft
 fill-requires-clause-draft c =
@@ -109,7 +110,15 @@ loop-i-preserved c =
           (c.word_of-word.ensures.word
           ∙ ap (λ (z : View). get_or (page z.pages c.args.page) c.loop-i.i 0) so.has.is) so.copied;
       has = copied_more c.args.slot c.loop-i.i n so.words v a u w so.has g c.fill.ensures.fills;
+      most =
+          let first = so.most in
+          let load = c.word_of-word.ensures.most in
+          let store = ap (λ (z : View). z.steps) c.fill.ensures.fills.3 in omega (arith, first, load, store);
     }
+
+pub returns-clause-most : goal.returns-clause-most
+returns-clause-most c =
+    let most = c.loop-i.invariant.most in let end = c.loop-i.auto.i-end in omega (arith, most, end)
 
 pub returns-clause-copies : goal.returns-clause-copies
 returns-clause-copies c =

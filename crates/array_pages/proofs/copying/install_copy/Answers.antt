@@ -1,4 +1,5 @@
-use Rattle.std.proofs.Common.{◌≡◌, ℕ, ◌<◌, Bool, List, length, ne_eqb, eqb-true, eq-eqb, sym, ap, ◌∙◌, subst, arith}
+use Rattle.std.proofs.Common.{◌≡◌, ℕ, ◌+◌, ◌<◌, Bool, List, length, ne_eqb, eqb-true, eq-eqb, sym, ap, ◌∙◌, subst}
+use Rattle.std.proofs.Common.{arith}
 use Rattle.std.specs.Prelude.{Ok, Err, MatchBool}
 use Rattle.std.proofs.lemmas.Result.{err_from_is_err_and}
 use Rattle.drop_core.specs.Table.{has_slot}
@@ -13,16 +14,15 @@ use Rattle.engine_pages.specs.Steps.{read_at}
 use Rattle.engine_pages.specs.Views.{IsActive}
 use Rattle.dual_pointer.specs.Installs.{HasInstalled}
 use Rattle.array_pages.specs.Steps.{InstallsSo}
-use Rattle.array_pages.proofs.MakeLaws.{can_install}
-use Rattle.array_pages.proofs.MakeLaws.{install_held}
-use Rattle.array_pages.proofs.MakeLaws.{install_missed, install_none, install_wide}
-use Rattle.array_pages.proofs.MakeLaws.{may_retire}
+use Rattle.array_pages.proofs.InstallLaws.{can_install, install_held, install_missed, install_none, install_wide}
+use Rattle.array_pages.proofs.InstallLaws.{may_retire}
 use Rattle.array_pages.proofs.WalkLaws.{below_full}
 use Rattle.array_pages.proofs.copying.install_copy.Goals as goal
 
 pub returns-then-is_full-clause-installs : goal.returns-then-is_full-clause-installs
 returns-then-is_full-clause-installs c =
-    install_wide c.args.holds.now c.args.at c.args.word c.args.span (view c.args.pass.now) c.requires.can
+    install_wide c.args.holds.now c.args.place c.args.at c.args.word c.args.span (view c.args.pass.now) c.requires.can
+    c.requires.place c.requires.bare
     (eqb-true (length c.args.holds.now) 128 (sym c.is_full.ensures.value ∙ c.if-is_full.true))
 
 pub publish_page-requires-clause-can : goal.publish_page-requires-clause-can
@@ -101,7 +101,8 @@ install-seen-requires-clause-install c =
     let h = c.in_ok-slot.ensures.published in
     let d = view c.enter.new.pass in
     let held : d ≡ entered t b = c.enter.ensures.enters in
-    can_install c.args.holds.now c.args.place c.args.span c.args.at c.args.word t v b d c.requires.can c.requires.place c.requires.bare h held
+    can_install c.args.holds.now c.args.place c.args.span c.args.at c.args.word t v b d c.requires.can c.requires.place
+    c.requires.bare h held
     c.args.leaf c.requires.array c.requires.kind
 
 pub install-seen-requires-clause-word : goal.install-seen-requires-clause-word
@@ -143,7 +144,8 @@ retire-requires-clause-slot c =
     let missed : e ≡ read_at c.args.at n d =
     subst (λ (f : Bool). MatchBool f (HasInstalled t c.args.at c.args.span d n e) (e ≡ read_at c.args.at n d))
     (ne_eqb n c.args.word c.if-seen-word.true) c.install-seen.ensures.installs in
-    subst (λ (z : View). t < z.layout.slots) (sym (missed ∙ ap (read_at c.args.at n) (held ∙ ap (entered t) h.is))) h.there
+    subst (λ (z : View). t < z.layout.slots) (sym (missed ∙ ap (read_at c.args.at n) (held ∙ ap (entered t) h.is)))
+    h.there
 
 pub retire-requires-clause-may : goal.retire-requires-clause-may
 retire-requires-clause-may c =
@@ -158,7 +160,8 @@ retire-requires-clause-may c =
     let missed : e ≡ read_at c.args.at n d =
     subst (λ (f : Bool). MatchBool f (HasInstalled t c.args.at c.args.span d n e) (e ≡ read_at c.args.at n d))
     (ne_eqb n c.args.word c.if-seen-word.true) c.install-seen.ensures.installs in
-    may_retire c.args.holds.now c.args.place c.args.span c.args.at c.args.word t v b d c.requires.can c.requires.place c.requires.bare h held n e missed
+    may_retire c.args.holds.now c.args.place c.args.span c.args.at c.args.word t v b d c.requires.can c.requires.place
+    c.requires.bare h held n e missed
 
 pub returns-then-seen-word-clause-installs : goal.returns-then-seen-word-clause-installs
 returns-then-seen-word-clause-installs c =
@@ -174,12 +177,15 @@ returns-then-seen-word-clause-installs c =
     subst (λ (f : Bool). MatchBool f (HasInstalled t c.args.at c.args.span d n e) (e ≡ read_at c.args.at n d))
     (ne_eqb n c.args.word c.if-seen-word.true) c.install-seen.ensures.installs in
     let f = view c.retire.new.pass in
-    subst (λ (r : RefusalCause). InstallsSo c.note_hold.new.holds c.args.at c.args.word c.args.span (Err r) v f)
+    subst (λ (r : RefusalCause). InstallsSo (length c.args.holds.now + 1) c.note_hold.new.holds c.args.at c.args.word
+    c.args.span (Err r) v f)
     (sym c.conflict.ensures)
     (subst (λ (l : List ℕ).
-    InstallsSo l c.args.at c.args.word c.args.span (Err (causes.Conflict c.args.at c.args.word n)) v f)
+    InstallsSo (length c.args.holds.now + 1) l c.args.at c.args.word c.args.span
+    (Err (causes.Conflict c.args.at c.args.word n)) v f)
     (sym c.note_hold.ensures)
-    (install_missed c.args.holds.now c.args.place c.args.span c.args.at c.args.word t v b d c.requires.can c.requires.place c.requires.bare h held n e f
+    (install_missed c.args.holds.now c.args.place c.args.span c.args.at c.args.word t v b d c.requires.can
+    c.requires.place c.requires.bare h held n e f
     c.if-seen-word.true missed c.retire.ensures.retires))
 
 pub returns-clause-installs : goal.returns-clause-installs
@@ -195,5 +201,7 @@ returns-clause-installs c =
     let put : HasInstalled t c.args.at c.args.span d n e =
     subst (λ (f : Bool). MatchBool f (HasInstalled t c.args.at c.args.span d n e) (e ≡ read_at c.args.at n d))
     (eq-eqb n c.args.word c.if-seen-word.false) c.install-seen.ensures.installs in
-    subst (λ (l : List ℕ). InstallsSo l c.args.at c.args.word c.args.span (Ok t) v e) (sym c.note_hold.ensures)
-    (install_held c.args.holds.now c.args.place c.args.span c.args.at c.args.word t v b d c.requires.can c.requires.place c.requires.bare h held n e put)
+    subst (λ (l : List ℕ). InstallsSo (length c.args.holds.now + 1) l c.args.at c.args.word c.args.span (Ok t) v e)
+    (sym c.note_hold.ensures)
+    (install_held c.args.holds.now c.args.place c.args.span c.args.at c.args.word t v b d c.requires.can
+    c.requires.place c.requires.bare h held n e put)

@@ -6,9 +6,8 @@ use Rattle.engine_pages.specs.Passes.{view}
 use Rattle.engine_pages.specs.Views.{IsActive}
 use Rattle.array_pages.specs.Making.{draft_of, HasCopied}
 use Rattle.array_pages.specs.Steps.{CanCopy}
-use Rattle.array_pages.proofs.MakeLaws.{copy_draft, given_draft, given_looks}
-use Rattle.array_pages.proofs.MakeLaws.{is_given, IsGiven}
-use Rattle.array_pages.proofs.MakeLaws.{pointers_draft, published}
+use Rattle.array_pages.proofs.CopyLaws.{IsGiven, copy_draft, given_draft, given_looks, is_given}
+use Rattle.array_pages.proofs.CopyLaws.{pointers_draft, published}
 use Rattle.array_pages.proofs.copying.publish_page.Goals as goal
 
 pub give_slot-requires-clause-pass : goal.give_slot-requires-clause-pass
@@ -66,7 +65,10 @@ publish_copy-requires-clause-pass c =
     let words = c.copy_page.ensures.copies.0 in
     let copied = c.copy_page.ensures.copies.1 in
     let has : HasCopied t words a b = c.copy_page.ensures.copies.2 in
-    subst (λ (z : View). IsActive z.role) (sym (has.is ∙ ap (λ (z : View). (let y : View = record z { steps = b.steps; last = b.last; drafts = draft_of t words ∷ [] } in y)) g.is)) c.requires.can.1.walks.active
+    subst (λ (z : View). IsActive z.role)
+    (sym (has.is ∙ ap (λ (z : View).
+    (let y : View = record z { steps = b.steps; last = b.last; drafts = draft_of t words ∷ [] } in y)) g.is))
+    c.requires.can.1.walks.active
 
 pub publish_copy-requires-clause-slot : goal.publish_copy-requires-clause-slot
 publish_copy-requires-clause-slot c =
@@ -78,7 +80,8 @@ publish_copy-requires-clause-slot c =
     let words = c.copy_page.ensures.copies.0 in
     let copied = c.copy_page.ensures.copies.1 in
     let has : HasCopied t words a b = c.copy_page.ensures.copies.2 in
-    subst (λ (y : Layout). t < y.slots) (sym (ap (λ (z : View). z.layout) has.is ∙ ap (λ (z : View). z.layout) g.is)) g.there
+    subst (λ (y : Layout). t < y.slots) (sym (ap (λ (z : View). z.layout) has.is ∙ ap (λ (z : View). z.layout) g.is))
+    g.there
 
 pub publish_copy-requires-clause-draft : goal.publish_copy-requires-clause-draft
 publish_copy-requires-clause-draft c =
@@ -103,7 +106,10 @@ publish_pointers-requires-clause-pass c =
     let words = c.copy_page.ensures.copies.0 in
     let copied = c.copy_page.ensures.copies.1 in
     let has : HasCopied t words a b = c.copy_page.ensures.copies.2 in
-    subst (λ (z : View). IsActive z.role) (sym (has.is ∙ ap (λ (z : View). (let y : View = record z { steps = b.steps; last = b.last; drafts = draft_of t words ∷ [] } in y)) g.is)) c.requires.can.1.walks.active
+    subst (λ (z : View). IsActive z.role)
+    (sym (has.is ∙ ap (λ (z : View).
+    (let y : View = record z { steps = b.steps; last = b.last; drafts = draft_of t words ∷ [] } in y)) g.is))
+    c.requires.can.1.walks.active
 
 pub publish_pointers-requires-clause-slot : goal.publish_pointers-requires-clause-slot
 publish_pointers-requires-clause-slot c =
@@ -115,7 +121,8 @@ publish_pointers-requires-clause-slot c =
     let words = c.copy_page.ensures.copies.0 in
     let copied = c.copy_page.ensures.copies.1 in
     let has : HasCopied t words a b = c.copy_page.ensures.copies.2 in
-    subst (λ (y : Layout). t < y.slots) (sym (ap (λ (z : View). z.layout) has.is ∙ ap (λ (z : View). z.layout) g.is)) g.there
+    subst (λ (y : Layout). t < y.slots) (sym (ap (λ (z : View). z.layout) has.is ∙ ap (λ (z : View). z.layout) g.is))
+    g.there
 
 pub publish_pointers-requires-clause-draft : goal.publish_pointers-requires-clause-draft
 publish_pointers-requires-clause-draft c =
@@ -140,7 +147,8 @@ returns-then-leaf-clause-published c =
     let words = c.copy_page.ensures.copies.0 in
     let copied = c.copy_page.ensures.copies.1 in
     let has : HasCopied t words a b = c.copy_page.ensures.copies.2 in
-    published c.requires.can.0 t c.args.span c.args.word words v a b (view c.publish_copy.new.pass) c.requires.can.1 g has
+    published c.requires.can.0 t c.args.span c.args.word words v a b
+    (view c.publish_copy.new.pass) c.requires.can.1 g has c.copy_page.ensures.most
     c.publish_copy.ensures.publishes
 
 pub returns-clause-published : goal.returns-clause-published
@@ -153,5 +161,6 @@ returns-clause-published c =
     let words = c.copy_page.ensures.copies.0 in
     let copied = c.copy_page.ensures.copies.1 in
     let has : HasCopied t words a b = c.copy_page.ensures.copies.2 in
-    published c.requires.can.0 t c.args.span c.args.word words v a b (view c.publish_pointers.new.pass) c.requires.can.1 g has
+    published c.requires.can.0 t c.args.span c.args.word words v a b
+    (view c.publish_pointers.new.pass) c.requires.can.1 g has c.copy_page.ensures.most
     c.publish_pointers.ensures.publishes

@@ -8,6 +8,14 @@ pub returns-clause-walked : goal.returns-clause-walked
 returns-clause-walked c =
     c.find_from_root.ensures.finds.walked
 
+pub returns-clause-only : goal.returns-clause-only
+returns-clause-only c =
+    c.find_from_root.ensures.finds.only
+
+pub returns-clause-led : goal.returns-clause-led
+returns-clause-led c =
+    c.find_from_root.ensures.finds.led
+
 pub returns-clause-keeps : goal.returns-clause-keeps
 returns-clause-keeps c =
     c.find_from_root.ensures.finds.keeps
@@ -19,3 +27,11 @@ returns-clause-found c =
 pub returns-clause-cause : goal.returns-clause-cause
 returns-clause-cause c =
     c.find_from_root.ensures.finds.cause
+
+pub returns-clause-grows : goal.returns-clause-grows
+returns-clause-grows c =
+    c.find_from_root.ensures.finds.grows
+
+pub returns-clause-most : goal.returns-clause-most
+returns-clause-most c =
+    c.find_from_root.ensures.finds.most

@@ -1,4 +1,4 @@
-use Rattle.std.proofs.Common.{◌≡◌, ◌+◌, ◌-◌, ◌*◌, ◌/◌, ◌<◌, true, sym, ap, ◌∙◌, subst, arith, refl}
+use Rattle.std.proofs.Common.{◌≡◌, ◌+◌, ◌-◌, ◌*◌, ◌/◌, ◌<◌, true, length, sym, ap, ◌∙◌, subst, arith, refl}
 use Rattle.std.proofs.lemmas.Result.{err_from_is_err_and}
 use Rattle.homes.specs.declared.places.Span.{Span}
 use Rattle.engine_pages.specs.declared.layout.Layout.{Layout}
@@ -8,11 +8,13 @@ use Rattle.engine_pages.specs.Passes.{view}
 use Rattle.engine_pages.specs.Pointers.{IsPointerAt}
 use Rattle.array_pages.specs.declared.walk.Reached.TheVariants as ends
 use Rattle.array_pages.specs.Spans.{keys_above}
-use Rattle.array_pages.proofs.FindLaws.{finds_back, finds_below, finds_none, fits_walked, looks_below, over_span}
-use Rattle.array_pages.proofs.FindLaws.{reached_end, stands_here}
+use Rattle.array_pages.proofs.FindLaws.{finds_back, finds_below, finds_none, fits_walked, looks_below}
+use Rattle.array_pages.proofs.FindLaws.{over_span, reached_end, stands_here}
+use Rattle.array_pages.proofs.RecordLaws.{even_leaf}
 use Rattle.array_pages.proofs.PageLaws.{found_deep}
 use Rattle.array_pages.proofs.SpanLaws.{child_middle, child_pointer, low_leaf, middle_is}
 use Rattle.array_pages.proofs.SpanLaws.{over_leaf, page_word, part_leaf}
+use Rattle.array_pages.proofs.WalkLaws.{over_keys, ways_to}
 use Rattle.array_pages.proofs.finding.find_in_middle.Goals as goal
 
 pub reach-requires-clause-place : goal.reach-requires-clause-place
@@ -29,7 +31,8 @@ pub word_at-next-requires-clause-slot : goal.word_at-next-requires-clause-slot
 word_at-next-requires-clause-slot c =
     let v = view c.args.pass.now in
     let u = view c.reach.new.pass in
-    let h = reached_end c.args.pointers.now c.reach.new.holds c.args.place c.span_from-span.result
+    let h = reached_end (length c.args.holds.now + 1) c.args.pointers.now c.reach.new.holds c.args.place
+    c.span_from-span.result
     (keys_above c.args.key 1 c.args.low) c.args.at c.in_ok-reached.reached (ends.Slot c.in-Slot.slot) v u
     c.span_from-span.ensures c.in-Slot.is c.in_ok-reached.ensures.reaches in
     subst (λ (l : Layout). c.in-Slot.slot < l.slots) c.reach.ensures.of.layout h.reached.1
@@ -42,17 +45,20 @@ find_in_leaf-requires-clause-can c = c.in_ok-reached.ensures.reaches.can
 
 pub find_in_leaf-requires-clause-fits : goal.find_in_leaf-requires-clause-fits
 find_in_leaf-requires-clause-fits c =
-    fits_walked c.args.key (view c.args.pass.now) (view c.reach.new.pass) c.in_ok-reached.ensures.reaches.walked c.requires.fits
+    fits_walked c.args.key (view c.args.pass.now) (view c.reach.new.pass) c.in_ok-reached.ensures.reaches.walked
+    c.requires.fits
 
 pub find_in_leaf-requires-clause-place : goal.find_in_leaf-requires-clause-place
 find_in_leaf-requires-clause-place c =
     let v = view c.args.pass.now in
     let u = view c.reach.new.pass in
-    let h = reached_end c.args.pointers.now c.reach.new.holds c.args.place c.span_from-span.result
+    let h = reached_end (length c.args.holds.now + 1) c.args.pointers.now c.reach.new.holds c.args.place
+    c.span_from-span.result
     (keys_above c.args.key 1 c.args.low) c.args.at c.in_ok-reached.reached (ends.Slot c.in-Slot.slot) v u
     c.span_from-span.ensures c.in-Slot.is c.in_ok-reached.ensures.reaches in
     let part = (c.args.key.key - c.args.low) / 32 in
-    child_pointer u (keys_above c.args.key 1 c.args.low) (keys_above c.args.key 0 (c.args.low + part * 32)) c.in-Slot.slot part
+    child_pointer u (keys_above c.args.key 1 c.args.low) (keys_above c.args.key 0 (c.args.low + part * 32))
+    c.in-Slot.slot part
     c.word_at-next.result h.reached.0 (fits_walked c.args.key v u h.walked c.requires.fits).array
     (middle_is c.args.key c.args.low) (part_leaf c.args.key c.args.low c.requires.over)
     (child_middle c.args.key c.args.low part)
@@ -62,12 +68,14 @@ pub find_in_leaf-requires-clause-word : goal.find_in_leaf-requires-clause-word
 find_in_leaf-requires-clause-word c =
     let v = view c.args.pass.now in
     let u = view c.reach.new.pass in
-    let h = reached_end c.args.pointers.now c.reach.new.holds c.args.place c.span_from-span.result
+    let h = reached_end (length c.args.holds.now + 1) c.args.pointers.now c.reach.new.holds c.args.place
+    c.span_from-span.result
     (keys_above c.args.key 1 c.args.low) c.args.at c.in_ok-reached.reached (ends.Slot c.in-Slot.slot) v u
     c.span_from-span.ensures c.in-Slot.is c.in_ok-reached.ensures.reaches in
     let part = (c.args.key.key - c.args.low) / 32 in
     subst (λ i. i < words_of u.layout)
-    (sym (c.word_at-next.ensures ∙ ap (λ (l : Layout). page_at l.slots c.in-Slot.slot part) (sym c.reach.ensures.of.layout)))
+    (sym (c.word_at-next.ensures ∙ ap (λ (l : Layout). page_at l.slots c.in-Slot.slot part)
+    (sym c.reach.ensures.of.layout)))
     (page_word u.layout c.in-Slot.slot part h.reached.1 (part_leaf c.args.key c.args.low c.requires.over))
 
 pub find_in_leaf-requires-clause-over : goal.find_in_leaf-requires-clause-over
@@ -80,17 +88,26 @@ pub returns-in-Slot-clause-finds : goal.returns-in-Slot-clause-finds
 returns-in-Slot-clause-finds c =
     let v = view c.args.pass.now in
     let u = view c.reach.new.pass in
-    let h = reached_end c.args.pointers.now c.reach.new.holds c.args.place c.span_from-span.result
+    let h = reached_end (length c.args.holds.now + 1) c.args.pointers.now c.reach.new.holds c.args.place
+    c.span_from-span.result
     (keys_above c.args.key 1 c.args.low) c.args.at c.in_ok-reached.reached (ends.Slot c.in-Slot.slot) v u
     c.span_from-span.ensures c.in-Slot.is c.in_ok-reached.ensures.reaches in
-    finds_back c.args.key c.args.pointers.now c.find_in_leaf.new.holds c.find_in_leaf.result v u
-    (view c.find_in_leaf.new.pass) h.walked h.others h.keeps h.reached.2 c.find_in_leaf.ensures.finds
+    finds_back 6 9 (length c.reach.new.holds + 1) (length c.args.holds.now + 2) c.args.key c.args.pointers.now
+    c.find_in_leaf.new.holds c.find_in_leaf.result v u
+    (view c.find_in_leaf.new.pass)
+    (let one = h.most in let two = c.find_in_leaf.ensures.finds.most in omega (arith, one, two))
+    (let grows = h.grows in omega (arith, grows)) h.walked h.others h.keeps h.reached.2 h.reached.3
+    (ways_to c.args.key (keys_above c.args.key 1 c.args.low) v u
+    (over_span c.args.key c.args.low (c.args.low + 2047) c.requires.over.from
+    (let to = c.requires.over.to in omega (arith, to))) h.only) h.led
+    c.find_in_leaf.ensures.finds
 
 pub in_middle-number-requires-clause-can : goal.in_middle-number-requires-clause-can
 in_middle-number-requires-clause-can c =
     let v = view c.args.pass.now in
     let u = view c.reach.new.pass in
-    let h = reached_end c.args.pointers.now c.reach.new.holds c.args.place c.span_from-span.result
+    let h = reached_end (length c.args.holds.now + 1) c.args.pointers.now c.reach.new.holds c.args.place
+    c.span_from-span.result
     (keys_above c.args.key 1 c.args.low) c.args.at c.in_ok-reached.reached (ends.Page c.in-Page.page) v u
     c.span_from-span.ensures c.in-Page.is c.in_ok-reached.ensures.reaches in
     looks_below c.reach.new.holds c.args.place (keys_above c.args.key 1 c.args.low) c.args.at c.in-Page.page v u h.can
@@ -100,7 +117,8 @@ pub in_middle-number-requires-clause-there : goal.in_middle-number-requires-clau
 in_middle-number-requires-clause-there c =
     let v = view c.args.pass.now in
     let u = view c.reach.new.pass in
-    let h = reached_end c.args.pointers.now c.reach.new.holds c.args.place c.span_from-span.result
+    let h = reached_end (length c.args.holds.now + 1) c.args.pointers.now c.reach.new.holds c.args.place
+    c.span_from-span.result
     (keys_above c.args.key 1 c.args.low) c.args.at c.in_ok-reached.reached (ends.Page c.in-Page.page) v u
     c.span_from-span.ensures c.in-Page.is c.in_ok-reached.ensures.reaches in h.reached.0.there
 
@@ -108,29 +126,46 @@ pub in_middle-number-requires-clause-stands : goal.in_middle-number-requires-cla
 in_middle-number-requires-clause-stands c =
     let v = view c.args.pass.now in
     let u = view c.reach.new.pass in
-    let h = reached_end c.args.pointers.now c.reach.new.holds c.args.place c.span_from-span.result
+    let h = reached_end (length c.args.holds.now + 1) c.args.pointers.now c.reach.new.holds c.args.place
+    c.span_from-span.result
     (keys_above c.args.key 1 c.args.low) c.args.at c.in_ok-reached.reached (ends.Page c.in-Page.page) v u
     c.span_from-span.ensures c.in-Page.is c.in_ok-reached.ensures.reaches in
-    stands_here c.args.key c.args.place (keys_above c.args.key 1 c.args.low) c.args.at c.in-Page.page 1 30 c.args.low v u
+    stands_here c.args.key c.args.place (keys_above c.args.key 1 c.args.low) c.args.at c.in-Page.page 1 30 c.args.low v
+    u
     c.reach.new.holds h.can (fits_walked c.args.key v u h.walked c.requires.fits) refl refl h.reached.0
 
 pub returns-in-Page-clause-finds : goal.returns-in-Page-clause-finds
 returns-in-Page-clause-finds c =
     let v = view c.args.pass.now in
     let u = view c.reach.new.pass in
-    let h = reached_end c.args.pointers.now c.reach.new.holds c.args.place c.span_from-span.result
+    let h = reached_end (length c.args.holds.now + 1) c.args.pointers.now c.reach.new.holds c.args.place
+    c.span_from-span.result
     (keys_above c.args.key 1 c.args.low) c.args.at c.in_ok-reached.reached (ends.Page c.in-Page.page) v u
     c.span_from-span.ensures c.in-Page.is c.in_ok-reached.ensures.reaches in
-    finds_below c.args.key c.args.pointers.now c.reach.new.holds c.args.place (keys_above c.args.key 1 c.args.low) c.args.at
+    finds_below 9 (length c.args.holds.now + 1) (length c.args.holds.now + 2) c.args.key c.args.pointers.now
+    c.reach.new.holds c.args.place (keys_above c.args.key 1 c.args.low) c.args.at
     c.in-Page.page c.in_middle-number.result.0 c.in_middle-number.result.1 c.found_below.result v u
-    (view c.in_middle-number.new.pass) c.requires.place c.requires.word h c.in_middle-number.ensures.glances
-    (over_span c.args.key c.args.low (c.args.low + 2047) c.requires.over.from (let to = c.requires.over.to in omega (arith, to)))
-    (found_deep u.pages c.args.key.key c.in-Page.page c.args.low (c.args.low + 2047) _ (c.in_middle-number.ensures.finds 30))
+    (view c.in_middle-number.new.pass)
+    (let one = h.most in let two = c.in_middle-number.ensures.most in omega (arith, one, two))
+    (omega arith) c.requires.place c.requires.word h c.in_middle-number.ensures.glances
+    (over_span c.args.key c.args.low (c.args.low + 2047) c.requires.over.from
+    (let to = c.requires.over.to in omega (arith, to)))
+    (found_deep u.pages c.args.key.key c.in-Page.page c.args.low (c.args.low + 2047) _
+    (c.in_middle-number.ensures.finds 30))
     c.found_below.ensures
 
 pub returns-in_err-reached-clause-finds : goal.returns-in_err-reached-clause-finds
 returns-in_err-reached-clause-finds c =
     let p = err_from_is_err_and c.from_residual.result c.from_residual.ensures.1 in
     rw (p.1, p.2)
-    (finds_none c.args.key c.args.pointers.now c.reach.new.holds c.args.place c.span_from-span.result c.args.at
-    c.in_err-reached.field-0.0 (view c.args.pass.now) (view c.reach.new.pass) c.in_err-reached.ensures.reaches)
+    (finds_none 9 (length c.args.holds.now + 1) (length c.args.holds.now + 2) c.args.key c.args.pointers.now
+    c.reach.new.holds c.args.place c.span_from-span.result c.args.at
+    c.in_err-reached.field-0.0 (view c.args.pass.now) (view c.reach.new.pass)
+    (let one = c.in_err-reached.ensures.reaches.most in omega (arith, one)) (omega arith)
+    (over_keys c.args.key c.args.low (c.args.low + 2047) c.span_from-span.result c.span_from-span.ensures
+    c.requires.over.from
+    (let to = c.requires.over.to in omega (arith, to)))
+    c.in_err-reached.ensures.reaches)
+
+pub find_in_leaf-requires-clause-even : goal.find_in_leaf-requires-clause-even
+find_in_leaf-requires-clause-even c = even_leaf c.args.key c.args.low c.requires.even

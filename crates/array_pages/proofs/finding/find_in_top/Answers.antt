@@ -1,4 +1,4 @@
-use Rattle.std.proofs.Common.{◌≡◌, ◌*◌, ◌/◌, ◌<◌, true, sym, ap, ◌∙◌, subst, arith, refl}
+use Rattle.std.proofs.Common.{◌≡◌, ◌+◌, ◌*◌, ◌/◌, ◌<◌, true, length, sym, ap, ◌∙◌, subst, arith, refl}
 use Rattle.std.proofs.lemmas.Result.{err_from_is_err_and}
 use Rattle.homes.specs.declared.places.Span.{Span}
 use Rattle.engine_pages.specs.declared.layout.Layout.{Layout}
@@ -8,12 +8,14 @@ use Rattle.engine_pages.specs.Passes.{view}
 use Rattle.engine_pages.specs.Pointers.{IsPointerAt}
 use Rattle.array_pages.specs.declared.walk.Reached.TheVariants as ends
 use Rattle.array_pages.specs.Spans.{keys_above}
-use Rattle.array_pages.proofs.FindLaws.{finds_back, finds_below, finds_none, fits_walked, looks_below, over_span}
-use Rattle.array_pages.proofs.FindLaws.{reached_end, stands_here}
+use Rattle.array_pages.proofs.FindLaws.{finds_back, finds_below, finds_none, fits_walked, looks_below}
+use Rattle.array_pages.proofs.FindLaws.{over_span, reached_end, stands_here}
+use Rattle.array_pages.proofs.RecordLaws.{even_middle}
 use Rattle.array_pages.proofs.PageLaws.{found_deep}
 use Rattle.array_pages.proofs.SpanLaws.{child_pointer, child_top, low_middle}
 use Rattle.array_pages.proofs.SpanLaws.{over_middle, page_word, part_middle}
 use Rattle.array_pages.proofs.SpanLaws.{top_is}
+use Rattle.array_pages.proofs.WalkLaws.{over_keys, ways_to}
 use Rattle.array_pages.proofs.finding.find_in_top.Goals as goal
 
 pub reach-requires-clause-place : goal.reach-requires-clause-place
@@ -30,7 +32,8 @@ pub word_at-next-requires-clause-slot : goal.word_at-next-requires-clause-slot
 word_at-next-requires-clause-slot c =
     let v = view c.args.pass.now in
     let u = view c.reach.new.pass in
-    let h = reached_end c.args.pointers.now c.reach.new.holds c.args.place c.span_from-span.result
+    let h = reached_end (length c.args.holds.now + 1) c.args.pointers.now c.reach.new.holds c.args.place
+    c.span_from-span.result
     (keys_above c.args.key 2 0) c.args.at c.in_ok-reached.reached (ends.Slot c.in-Slot.slot) v u
     c.span_from-span.ensures c.in-Slot.is c.in_ok-reached.ensures.reaches in
     subst (λ (l : Layout). c.in-Slot.slot < l.slots) c.reach.ensures.of.layout h.reached.1
@@ -43,13 +46,15 @@ find_in_middle-requires-clause-can c = c.in_ok-reached.ensures.reaches.can
 
 pub find_in_middle-requires-clause-fits : goal.find_in_middle-requires-clause-fits
 find_in_middle-requires-clause-fits c =
-    fits_walked c.args.key (view c.args.pass.now) (view c.reach.new.pass) c.in_ok-reached.ensures.reaches.walked c.requires.fits
+    fits_walked c.args.key (view c.args.pass.now) (view c.reach.new.pass) c.in_ok-reached.ensures.reaches.walked
+    c.requires.fits
 
 pub find_in_middle-requires-clause-place : goal.find_in_middle-requires-clause-place
 find_in_middle-requires-clause-place c =
     let v = view c.args.pass.now in
     let u = view c.reach.new.pass in
-    let h = reached_end c.args.pointers.now c.reach.new.holds c.args.place c.span_from-span.result
+    let h = reached_end (length c.args.holds.now + 1) c.args.pointers.now c.reach.new.holds c.args.place
+    c.span_from-span.result
     (keys_above c.args.key 2 0) c.args.at c.in_ok-reached.reached (ends.Slot c.in-Slot.slot) v u
     c.span_from-span.ensures c.in-Slot.is c.in_ok-reached.ensures.reaches in
     let part = c.args.key.key / 2048 in
@@ -63,12 +68,14 @@ pub find_in_middle-requires-clause-word : goal.find_in_middle-requires-clause-wo
 find_in_middle-requires-clause-word c =
     let v = view c.args.pass.now in
     let u = view c.reach.new.pass in
-    let h = reached_end c.args.pointers.now c.reach.new.holds c.args.place c.span_from-span.result
+    let h = reached_end (length c.args.holds.now + 1) c.args.pointers.now c.reach.new.holds c.args.place
+    c.span_from-span.result
     (keys_above c.args.key 2 0) c.args.at c.in_ok-reached.reached (ends.Slot c.in-Slot.slot) v u
     c.span_from-span.ensures c.in-Slot.is c.in_ok-reached.ensures.reaches in
     let part = c.args.key.key / 2048 in
     subst (λ i. i < words_of u.layout)
-    (sym (c.word_at-next.ensures ∙ ap (λ (l : Layout). page_at l.slots c.in-Slot.slot part) (sym c.reach.ensures.of.layout)))
+    (sym (c.word_at-next.ensures ∙ ap (λ (l : Layout). page_at l.slots c.in-Slot.slot part)
+    (sym c.reach.ensures.of.layout)))
     (page_word u.layout c.in-Slot.slot part h.reached.1 (part_middle c.args.key c.requires.over))
 
 pub find_in_middle-requires-clause-over : goal.find_in_middle-requires-clause-over
@@ -81,17 +88,26 @@ pub returns-in-Slot-clause-finds : goal.returns-in-Slot-clause-finds
 returns-in-Slot-clause-finds c =
     let v = view c.args.pass.now in
     let u = view c.reach.new.pass in
-    let h = reached_end c.args.pointers.now c.reach.new.holds c.args.place c.span_from-span.result
+    let h = reached_end (length c.args.holds.now + 1) c.args.pointers.now c.reach.new.holds c.args.place
+    c.span_from-span.result
     (keys_above c.args.key 2 0) c.args.at c.in_ok-reached.reached (ends.Slot c.in-Slot.slot) v u
     c.span_from-span.ensures c.in-Slot.is c.in_ok-reached.ensures.reaches in
-    finds_back c.args.key c.args.pointers.now c.find_in_middle.new.holds c.find_in_middle.result v u
-    (view c.find_in_middle.new.pass) h.walked h.others h.keeps h.reached.2 c.find_in_middle.ensures.finds
+    finds_back 9 12 (length c.reach.new.holds + 2) (length c.args.holds.now + 3) c.args.key c.args.pointers.now
+    c.find_in_middle.new.holds c.find_in_middle.result v u
+    (view c.find_in_middle.new.pass)
+    (let one = h.most in let two = c.find_in_middle.ensures.finds.most in omega (arith, one, two))
+    (let grows = h.grows in omega (arith, grows)) h.walked h.others h.keeps h.reached.2 h.reached.3
+    (ways_to c.args.key (keys_above c.args.key 2 0) v u
+    (over_span c.args.key 0 131071 c.requires.over.from (let to = c.requires.over.to in omega (arith, to))) h.only)
+    h.led
+    c.find_in_middle.ensures.finds
 
 pub in_top-number-requires-clause-can : goal.in_top-number-requires-clause-can
 in_top-number-requires-clause-can c =
     let v = view c.args.pass.now in
     let u = view c.reach.new.pass in
-    let h = reached_end c.args.pointers.now c.reach.new.holds c.args.place c.span_from-span.result
+    let h = reached_end (length c.args.holds.now + 1) c.args.pointers.now c.reach.new.holds c.args.place
+    c.span_from-span.result
     (keys_above c.args.key 2 0) c.args.at c.in_ok-reached.reached (ends.Page c.in-Page.page) v u
     c.span_from-span.ensures c.in-Page.is c.in_ok-reached.ensures.reaches in
     looks_below c.reach.new.holds c.args.place (keys_above c.args.key 2 0) c.args.at c.in-Page.page v u h.can
@@ -101,7 +117,8 @@ pub in_top-number-requires-clause-there : goal.in_top-number-requires-clause-the
 in_top-number-requires-clause-there c =
     let v = view c.args.pass.now in
     let u = view c.reach.new.pass in
-    let h = reached_end c.args.pointers.now c.reach.new.holds c.args.place c.span_from-span.result
+    let h = reached_end (length c.args.holds.now + 1) c.args.pointers.now c.reach.new.holds c.args.place
+    c.span_from-span.result
     (keys_above c.args.key 2 0) c.args.at c.in_ok-reached.reached (ends.Page c.in-Page.page) v u
     c.span_from-span.ensures c.in-Page.is c.in_ok-reached.ensures.reaches in h.reached.0.there
 
@@ -109,7 +126,8 @@ pub in_top-number-requires-clause-stands : goal.in_top-number-requires-clause-st
 in_top-number-requires-clause-stands c =
     let v = view c.args.pass.now in
     let u = view c.reach.new.pass in
-    let h = reached_end c.args.pointers.now c.reach.new.holds c.args.place c.span_from-span.result
+    let h = reached_end (length c.args.holds.now + 1) c.args.pointers.now c.reach.new.holds c.args.place
+    c.span_from-span.result
     (keys_above c.args.key 2 0) c.args.at c.in_ok-reached.reached (ends.Page c.in-Page.page) v u
     c.span_from-span.ensures c.in-Page.is c.in_ok-reached.ensures.reaches in
     stands_here c.args.key c.args.place (keys_above c.args.key 2 0) c.args.at c.in-Page.page 2 29 0 v u
@@ -119,12 +137,16 @@ pub returns-in-Page-clause-finds : goal.returns-in-Page-clause-finds
 returns-in-Page-clause-finds c =
     let v = view c.args.pass.now in
     let u = view c.reach.new.pass in
-    let h = reached_end c.args.pointers.now c.reach.new.holds c.args.place c.span_from-span.result
+    let h = reached_end (length c.args.holds.now + 1) c.args.pointers.now c.reach.new.holds c.args.place
+    c.span_from-span.result
     (keys_above c.args.key 2 0) c.args.at c.in_ok-reached.reached (ends.Page c.in-Page.page) v u
     c.span_from-span.ensures c.in-Page.is c.in_ok-reached.ensures.reaches in
-    finds_below c.args.key c.args.pointers.now c.reach.new.holds c.args.place (keys_above c.args.key 2 0) c.args.at
+    finds_below 12 (length c.args.holds.now + 1) (length c.args.holds.now + 3) c.args.key c.args.pointers.now
+    c.reach.new.holds c.args.place (keys_above c.args.key 2 0) c.args.at
     c.in-Page.page c.in_top-number.result.0 c.in_top-number.result.1 c.found_below.result v u
-    (view c.in_top-number.new.pass) c.requires.place c.requires.word h c.in_top-number.ensures.glances
+    (view c.in_top-number.new.pass)
+    (let one = h.most in let two = c.in_top-number.ensures.most in omega (arith, one, two))
+    (omega arith) c.requires.place c.requires.word h c.in_top-number.ensures.glances
     (over_span c.args.key 0 131071 c.requires.over.from (let to = c.requires.over.to in omega (arith, to)))
     (found_deep u.pages c.args.key.key c.in-Page.page 0 131071 _ (c.in_top-number.ensures.finds 29))
     c.found_below.ensures
@@ -133,5 +155,13 @@ pub returns-in_err-reached-clause-finds : goal.returns-in_err-reached-clause-fin
 returns-in_err-reached-clause-finds c =
     let p = err_from_is_err_and c.from_residual.result c.from_residual.ensures.1 in
     rw (p.1, p.2)
-    (finds_none c.args.key c.args.pointers.now c.reach.new.holds c.args.place c.span_from-span.result c.args.at
-    c.in_err-reached.field-0.0 (view c.args.pass.now) (view c.reach.new.pass) c.in_err-reached.ensures.reaches)
+    (finds_none 12 (length c.args.holds.now + 1) (length c.args.holds.now + 3) c.args.key c.args.pointers.now
+    c.reach.new.holds c.args.place c.span_from-span.result c.args.at
+    c.in_err-reached.field-0.0 (view c.args.pass.now) (view c.reach.new.pass)
+    (let one = c.in_err-reached.ensures.reaches.most in omega (arith, one)) (omega arith)
+    (over_keys c.args.key 0 131071 c.span_from-span.result c.span_from-span.ensures c.requires.over.from
+    (let to = c.requires.over.to in omega (arith, to)))
+    c.in_err-reached.ensures.reaches)
+
+pub find_in_middle-requires-clause-even : goal.find_in_middle-requires-clause-even
+find_in_middle-requires-clause-even c = even_middle c.args.key

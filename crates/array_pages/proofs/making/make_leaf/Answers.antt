@@ -1,4 +1,4 @@
-use Rattle.std.proofs.Common.{◌≡◌, ◌-◌, ◌*◌, ◌<◌, true, sym, ap, ◌∙◌, subst, refl}
+use Rattle.std.proofs.Common.{◌≡◌, ◌+◌, ◌-◌, ◌*◌, ◌<◌, true, length, sym, ap, ◌∙◌, subst, refl, arith}
 use Rattle.std.specs.List.{Contains}
 use Rattle.std.proofs.lemmas.Result.{err_from_is_err_and}
 use Rattle.homes.specs.declared.places.Span.{Span}
@@ -10,10 +10,10 @@ use Rattle.engine_pages.specs.Pointers.{IsPointerAt}
 use Rattle.array_pages.specs.Making.{HasRecordAt}
 use Rattle.array_pages.specs.Spans.{keys_above}
 use Rattle.array_pages.specs.Steps.{CanCopy}
-use Rattle.array_pages.proofs.MakeLaws.{makes_leaf}
-use Rattle.array_pages.proofs.MakeLaws.{makes_moved, makes_none}
+use Rattle.array_pages.proofs.MakeLaws.{makes_leaf, makes_moved, makes_none}
 use Rattle.array_pages.proofs.SpanLaws.{record_at}
 use Rattle.array_pages.proofs.WalkLaws.{layout_stays, place_stays}
+use Rattle.array_pages.proofs.WalkLaws.{over_keys, ways_to}
 use Rattle.array_pages.proofs.making.make_leaf.Goals as goal
 
 pub settle-requires-clause-place : goal.settle-requires-clause-place
@@ -56,8 +56,14 @@ returns-in_err-settled-clause-makes c =
     let here : IsPointerAt v c.args.place span c.args.at =
     subst (λ (s : Span). IsPointerAt v c.args.place s c.args.at) (sym same) c.requires.place in
     rw (p.1, p.2)
-    (makes_none c.args.key c.args.pointers.now c.settle.new.holds span c.args.at c.in_err-settled.field-0.0 v
-    (view c.settle.new.pass) c.in_err-settled.ensures.settles)
+    (makes_none (v.layout.slots + 135) (length c.args.holds.now + 1)
+    (length c.args.holds.now + 1) c.args.key c.args.pointers.now c.settle.new.holds span c.args.at
+    c.in_err-settled.field-0.0 v
+    (view c.settle.new.pass)
+    (let one = c.in_err-settled.ensures.settles.most in omega (arith, one)) (omega arith)
+    (over_keys c.args.key c.args.low (c.args.low + 31) span same c.requires.over.from
+    (let to = c.requires.over.to in omega (arith, to)))
+    c.in_err-settled.ensures.settles)
 
 pub check_moved-requires-clause-active : goal.check_moved-requires-clause-active
 check_moved-requires-clause-active c =
@@ -97,7 +103,8 @@ check_moved-requires-clause-word c =
 
 pub returns-in_err-check_moved-clause-makes : goal.returns-in_err-check_moved-clause-makes
 returns-in_err-check_moved-clause-makes c =
-    let p = err_from_is_err_and c.from_residual-in_err-check_moved.result c.from_residual-in_err-check_moved.ensures.1 in
+    let p = err_from_is_err_and c.from_residual-in_err-check_moved.result c.from_residual-in_err-check_moved.ensures.1
+    in
     let v = view c.args.pass.now in
     let span = c.span_from-span.result in
     let keys : Span = keys_above c.args.key 0 c.args.low in
@@ -107,8 +114,16 @@ returns-in_err-check_moved-clause-makes c =
     let u = view c.settle.new.pass in
     let h = c.in_ok-settled.ensures.settles in
     rw (p.1, p.2)
-    (makes_moved c.args.key c.args.pointers.now c.settle.new.holds c.args.at c.in_ok-settled.settled.moved
-    c.in_err-check_moved.field-0.0 v u (view c.check_moved.new.pass) h.walked h.kept h.can
+    (makes_moved (v.layout.slots + 135) (length c.args.holds.now + 1) c.args.key c.args.pointers.now c.settle.new.holds
+    span c.args.at c.in_ok-settled.settled.moved
+    c.in_err-check_moved.field-0.0 v u (view c.check_moved.new.pass)
+    (let one = h.most in let two = c.in_err-check_moved.ensures.checks.most in omega (arith, one, two)) h.grows
+    (over_keys c.args.key c.args.low (c.args.low + 31) span same c.requires.over.from
+    (let to = c.requires.over.to in omega (arith, to)))
+    h.walked h.kept h.words (ways_to c.args.key span v u
+    (over_keys c.args.key c.args.low (c.args.low + 31) span same c.requires.over.from
+    (let to = c.requires.over.to in omega (arith, to)))
+    h.only) h.led h.can
     c.in_err-check_moved.ensures.checks)
 
 pub word_at-requires-clause-slot : goal.word_at-requires-clause-slot
@@ -140,15 +155,21 @@ returns-clause-makes c =
     let first = layout_stays v u h.walked in
     let record_word : c.word_at.result ≡ page_at w.layout.slots t (2 * (c.args.key.key - c.args.low)) =
     c.word_at.ensures
-    ∙ ap (λ (l : Layout). page_at l.slots t (2 * (c.args.key.key - c.args.low))) (sym c.check_moved.ensures.of.layout) in
+    ∙ ap (λ (l : Layout). page_at l.slots t (2 * (c.args.key.key - c.args.low)))
+    (sym c.check_moved.ensures.of.layout) in
     let found : HasRecordAt c.args.key c.word_at.result w = record {
       spot = record { slot = t; index = c.args.key.key - c.args.low };
       place = record_at w c.args.key t c.args.low c.word_at.result
           (subst (λ (s : Span). Contains w.ways (record { slot = t; span = s })) same
           (k.walked.ways (record { slot = t; span = span }) h.settled.way))
           (subst (λ (y : Layout). t < y.slots) (sym layout) h.settled.there)
-          (subst (λ (y : Layout). is_array y.decls c.args.key.storage ≡ true) (sym (layout ∙ first)) c.requires.fits.array)
+          (subst (λ (y : Layout). is_array y.decls c.args.key.storage ≡ true)
+          (sym (layout ∙ first)) c.requires.fits.array)
           c.requires.over record_word;
     } in
-    makes_leaf c.args.key c.args.pointers.now c.settle.new.holds c.args.place span c.args.at c.word_at.result
-    c.in_ok-settled.settled v u w here h k found
+    makes_leaf (v.layout.slots + 135) (length c.args.holds.now + 1) c.args.key c.args.pointers.now c.settle.new.holds
+    c.args.place span c.args.at c.word_at.result
+    c.in_ok-settled.settled v u w (let one = h.most in let two = k.most in omega (arith, one, two))
+    (over_keys c.args.key c.args.low (c.args.low + 31) span same c.requires.over.from
+    (let to = c.requires.over.to in omega (arith, to)))
+    here h k found

@@ -1,4 +1,4 @@
-use Rattle.std.proofs.Common.{◌≡◌, ◌<◌, true, sym, subst}
+use Rattle.std.proofs.Common.{◌≡◌, ◌+◌, ◌<◌, true, length, sym, subst}
 use Rattle.std.specs.Prelude.{Err}
 use Rattle.std.proofs.lemmas.Result.{err_from_is_err_and}
 use Rattle.engine_pages.specs.declared.layout.Layout.{Layout}
@@ -7,9 +7,9 @@ use Rattle.engine_pages.specs.Layout.{words_of}
 use Rattle.engine_pages.specs.Pages.{is_array}
 use Rattle.engine_pages.specs.Passes.{view}
 use Rattle.array_pages.specs.Steps.{SettlesSo}
-use Rattle.array_pages.proofs.FindLaws.{active_stays}
-use Rattle.array_pages.proofs.MakeLaws.{bare_at, can_first}
-use Rattle.array_pages.proofs.MakeLaws.{settle_bare, settle_held, settle_other, settle_put, settle_shut, settle_unheld}
+use Rattle.array_pages.proofs.RecordLaws.{active_stays}
+use Rattle.array_pages.proofs.MakeLaws.{bare_at, can_first, settle_bare, settle_held, settle_other}
+use Rattle.array_pages.proofs.MakeLaws.{settle_put, settle_shut, settle_unheld}
 use Rattle.array_pages.proofs.WalkLaws.{IsFollowed, is_followed, layout_stays, led_to, place_stays}
 use Rattle.array_pages.proofs.making.settle.Goals as goal
 
@@ -51,7 +51,8 @@ hold-requires-clause-can c =
     let n = c.follow-word.result in
     let f : IsFollowed c.args.span c.args.at v n u =
     is_followed c.args.span c.args.at v n u c.follow-word.ensures.follows in
-    (can_first c.args.pointers.now c.args.holds.now c.args.place c.args.span c.args.at n v u c.requires.can c.requires.place f).walks
+    (can_first c.args.pointers.now c.args.holds.now c.args.place c.args.span c.args.at n v u c.requires.can
+    c.requires.place f).walks
 
 pub hold-requires-clause-place : goal.hold-requires-clause-place
 hold-requires-clause-place c =
@@ -87,7 +88,8 @@ install_copy-requires-clause-can c =
     let n = c.follow-word.result in
     let f : IsFollowed c.args.span c.args.at v n u =
     is_followed c.args.span c.args.at v n u c.follow-word.ensures.follows in
-    can_first c.args.pointers.now c.args.holds.now c.args.place c.args.span c.args.at n v u c.requires.can c.requires.place f
+    can_first c.args.pointers.now c.args.holds.now c.args.place c.args.span c.args.at n v u c.requires.can
+    c.requires.place f
 
 pub install_copy-requires-clause-place : goal.install_copy-requires-clause-place
 install_copy-requires-clause-place c =
@@ -124,7 +126,9 @@ install_copy-requires-clause-bare c =
     let n = c.follow-word.result in
     let f : IsFollowed c.args.span c.args.at v n u =
     is_followed c.args.span c.args.at v n u c.follow-word.ensures.follows in
-    bare_at c.args.holds.now c.args.span c.args.at v n u (can_first c.args.pointers.now c.args.holds.now c.args.place c.args.span c.args.at n v u c.requires.can c.requires.place f).walks
+    bare_at c.args.holds.now c.args.span c.args.at v n u
+    (can_first c.args.pointers.now c.args.holds.now c.args.place c.args.span c.args.at n v u c.requires.can
+    c.requires.place f).walks
     c.if-word-ge-SLOT.false c.follow-word.ensures.follows
 
 pub returns-in_err-met-clause-settles : goal.returns-in_err-met-clause-settles
@@ -136,7 +140,8 @@ returns-in_err-met-clause-settles c =
     let f : IsFollowed c.args.span c.args.at v n u =
     is_followed c.args.span c.args.at v n u c.follow-word.ensures.follows in
     rw (p.1, p.2)
-    (settle_other c.args.pointers.now c.args.holds.now c.args.place c.args.span c.args.at n v u c.requires.can c.requires.place f
+    (settle_other c.args.pointers.now c.args.holds.now c.args.place c.args.span c.args.at n v u c.requires.can
+    c.requires.place f
     c.in_err-met.field-0.0 c.in_err-met.ensures.other)
 
 pub returns-then-word-ge-SHUT-clause-settles : goal.returns-then-word-ge-SHUT-clause-settles
@@ -147,9 +152,11 @@ returns-then-word-ge-SHUT-clause-settles c =
     let f : IsFollowed c.args.span c.args.at v n u =
     is_followed c.args.span c.args.at v n u c.follow-word.ensures.follows in
     let w = view c.follow-again.new.pass in
-    subst (λ (r : RefusalCause). SettlesSo c.args.pointers.now c.args.holds.now c.args.span c.args.at (Err r) v w)
+    subst (λ (r : RefusalCause). SettlesSo (length c.args.holds.now + 1) c.args.pointers.now c.args.holds.now
+    c.args.span c.args.at (Err r) v w)
     (sym c.conflict.ensures)
-    (settle_shut c.args.pointers.now c.args.holds.now c.args.place c.args.span c.args.at n v u c.requires.can c.requires.place f
+    (settle_shut c.args.pointers.now c.args.holds.now c.args.place c.args.span c.args.at n v u c.requires.can
+    c.requires.place f
     c.in_ok-met.met c.follow-again.result w c.in_ok-met.ensures.met c.if-word-ge-SHUT.true
     (is_followed c.args.span c.args.at u c.follow-again.result w c.follow-again.ensures.follows))
 
@@ -162,7 +169,8 @@ returns-in_err-held-clause-settles c =
     let f : IsFollowed c.args.span c.args.at v n u =
     is_followed c.args.span c.args.at v n u c.follow-word.ensures.follows in
     rw (p.1, p.2)
-    (settle_unheld c.args.pointers.now c.args.holds.now c.args.place c.args.span c.args.at n v u c.requires.can c.requires.place f
+    (settle_unheld c.args.pointers.now c.args.holds.now c.args.place c.args.span c.args.at n v u c.requires.can
+    c.requires.place f
     c.in_ok-met.met c.hold.new.holds c.in_err-held.field-0.0 (view c.hold.new.pass) c.in_ok-met.ensures.met
     c.in_err-held.ensures.holds)
 
@@ -173,7 +181,8 @@ returns-then-word-ge-SLOT-clause-settles c =
     let n = c.follow-word.result in
     let f : IsFollowed c.args.span c.args.at v n u =
     is_followed c.args.span c.args.at v n u c.follow-word.ensures.follows in
-    settle_held c.args.pointers.now c.args.holds.now c.args.place c.args.span c.args.at n v u c.requires.can c.requires.place f
+    settle_held c.args.pointers.now c.args.holds.now c.args.place c.args.span c.args.at n v u c.requires.can
+    c.requires.place f
     c.in_ok-met.met c.hold.new.holds c.in_ok-held.held (view c.hold.new.pass) c.in_ok-met.ensures.met
     c.in_ok-held.ensures.holds
 
@@ -186,8 +195,10 @@ returns-in_err-slot-clause-settles c =
     let f : IsFollowed c.args.span c.args.at v n u =
     is_followed c.args.span c.args.at v n u c.follow-word.ensures.follows in
     rw (p.1, p.2)
-    (settle_bare c.args.pointers.now c.args.holds.now c.args.place c.args.span c.args.at n v u c.requires.can c.requires.place f
-    c.in_ok-met.met c.install_copy.new.holds c.in_err-slot.field-0.0 (view c.install_copy.new.pass) c.in_ok-met.ensures.met
+    (settle_bare c.args.pointers.now c.args.holds.now c.args.place c.args.span c.args.at n v u c.requires.can
+    c.requires.place f
+    c.in_ok-met.met c.install_copy.new.holds c.in_err-slot.field-0.0
+    (view c.install_copy.new.pass) c.in_ok-met.ensures.met
     c.in_err-slot.ensures.installs)
 
 pub returns-clause-settles : goal.returns-clause-settles
@@ -197,6 +208,7 @@ returns-clause-settles c =
     let n = c.follow-word.result in
     let f : IsFollowed c.args.span c.args.at v n u =
     is_followed c.args.span c.args.at v n u c.follow-word.ensures.follows in
-    settle_put c.args.pointers.now c.args.holds.now c.args.place c.args.span c.args.at n v u c.requires.can c.requires.place f
+    settle_put c.args.pointers.now c.args.holds.now c.args.place c.args.span c.args.at n v u c.requires.can
+    c.requires.place f
     c.in_ok-met.met c.install_copy.new.holds c.in_ok-slot.slot (view c.install_copy.new.pass) c.in_ok-met.ensures.met
     c.in_ok-slot.ensures.installs

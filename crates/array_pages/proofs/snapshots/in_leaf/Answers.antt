@@ -1,4 +1,4 @@
-use Rattle.std.proofs.Common.{ℕ, ◌+◌, ◌-◌, ◌*◌, ◌≤◌, List, get_or, length, sym, ap, ◌∙◌, subst}
+use Rattle.std.proofs.Common.{ℕ, ◌+◌, ◌-◌, ◌*◌, ◌≤◌, List, get_or, length, sym, ap, ◌∙◌, subst, arith}
 use Rattle.snapshot_store.specs.Places.{page}
 use Rattle.engine_pages.specs.Passes.{view}
 use Rattle.array_pages.proofs.LookLaws.{glanced_then, looks_glanced, pages_glanced}
@@ -27,3 +27,7 @@ returns-clause-finds c =
     (c.word_of-value.ensures.word
     ∙ ap (λ (pages : List (List ℕ)). get_or (page pages c.args.number) (2 * (c.args.index - c.args.low) + 1) 0)
     (pages_glanced (view c.args.pass.now) (view c.word_of-found.new.pass) c.word_of-found.ensures.glances))
+
+pub returns-clause-most : goal.returns-clause-most
+returns-clause-most c =
+    let first = c.word_of-found.ensures.most in let next = c.word_of-value.ensures.most in omega (arith, first, next)

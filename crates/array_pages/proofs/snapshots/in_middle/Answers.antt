@@ -1,4 +1,4 @@
-use Rattle.std.proofs.Common.{ℕ, suc, ◌+◌, ◌-◌, ◌*◌, ◌/◌, ◌≤◌, List, length, sym, ap, ◌∙◌, subst}
+use Rattle.std.proofs.Common.{ℕ, suc, ◌+◌, ◌-◌, ◌*◌, ◌/◌, ◌≤◌, List, length, sym, ap, ◌∙◌, subst, arith}
 use Rattle.snapshot_store.specs.ArrayPages.{array_format, array_found}
 use Rattle.snapshot_store.specs.Places.{find}
 use Rattle.engine_pages.specs.Passes.{view}
@@ -32,3 +32,7 @@ returns-clause-finds c =
       low = c.args.low + (c.args.index - c.args.low) / 32 * 32;
       high = c.args.low + (c.args.index - c.args.low) / 32 * 32 + 31;
     })) (pages_glanced (view c.args.pass.now) (view c.word_of-leaf.new.pass) c.word_of-leaf.ensures.glances))
+
+pub returns-clause-most : goal.returns-clause-most
+returns-clause-most c =
+    let first = c.word_of-leaf.ensures.most in let next = c.in_leaf.ensures.most in omega (arith, first, next)

@@ -1,4 +1,4 @@
-use Rattle.std.proofs.Common.{ℕ, suc, ◌+◌, ◌*◌, ◌/◌, ◌≤◌, List, length, sym, ap, ◌∙◌, subst}
+use Rattle.std.proofs.Common.{ℕ, suc, ◌+◌, ◌*◌, ◌/◌, ◌≤◌, List, length, sym, ap, ◌∙◌, subst, arith}
 use Rattle.snapshot_store.specs.ArrayPages.{array_format, array_found}
 use Rattle.snapshot_store.specs.Places.{find}
 use Rattle.engine_pages.specs.Passes.{view}
@@ -9,7 +9,8 @@ use Rattle.array_pages.proofs.snapshots.in_top.Goals as goal
 
 pub in_middle-requires-clause-can : goal.in_middle-requires-clause-can
 in_middle-requires-clause-can c =
-    looks_glanced (view c.args.pass.now) (view c.word_of-middle.new.pass) c.word_of-middle.ensures.glances c.requires.can
+    looks_glanced (view c.args.pass.now) (view c.word_of-middle.new.pass) c.word_of-middle.ensures.glances
+    c.requires.can
 
 pub in_middle-requires-clause-there : goal.in_middle-requires-clause-there
 in_middle-requires-clause-there c =
@@ -40,3 +41,7 @@ returns-clause-finds c =
       low = c.args.index / 2048 * 2048;
       high = c.args.index / 2048 * 2048 + 2047;
     })) (pages_glanced (view c.args.pass.now) (view c.word_of-middle.new.pass) c.word_of-middle.ensures.glances))
+
+pub returns-clause-most : goal.returns-clause-most
+returns-clause-most c =
+    let first = c.word_of-middle.ensures.most in let next = c.in_middle.ensures.most in omega (arith, first, next)

@@ -1,4 +1,4 @@
-use Rattle.std.proofs.Common.{ℕ, ◌-◌, ◌/◌, ◌^◌, ◌<◌, List, eqb-true, length, sym, ◌∙◌, subst}
+use Rattle.std.proofs.Common.{ℕ, ◌+◌, ◌-◌, ◌/◌, ◌^◌, ◌<◌, List, eqb-true, length, sym, ◌∙◌, subst}
 use Rattle.std.specs.Prelude.{Ok, Err}
 use Rattle.engine_pages.specs.declared.view.RefusalCause.TheVariants as causes
 use Rattle.engine_pages.specs.declared.view.RefusalCause.{RefusalCause}
@@ -7,7 +7,8 @@ use Rattle.engine_pages.specs.Layout.{words_of}
 use Rattle.engine_pages.specs.Passes.{view}
 use Rattle.engine_pages.specs.Views.{IsActive}
 use Rattle.array_pages.specs.Steps.{HoldsSo}
-use Rattle.array_pages.proofs.WalkLaws.{below_full, hold_changed, hold_held, hold_same, hold_wide, is_followed, place_entered}
+use Rattle.array_pages.proofs.WalkLaws.{below_full, hold_changed, hold_held, hold_same, hold_wide, is_followed}
+use Rattle.array_pages.proofs.WalkLaws.{place_entered}
 use Rattle.array_pages.proofs.walk.hold.Goals as goal
 
 pub returns-then-contains-clause-holds : goal.returns-then-contains-clause-holds
@@ -17,7 +18,8 @@ returns-then-contains-clause-holds c =
 
 pub returns-then-is_full-clause-holds : goal.returns-then-is_full-clause-holds
 returns-then-is_full-clause-holds c =
-    hold_wide c.args.holds.now c.args.at c.args.word c.args.span (view c.args.pass.now) c.requires.can
+    hold_wide c.args.holds.now c.args.place c.args.at c.args.word c.args.span (view c.args.pass.now) c.requires.can
+    c.requires.place c.requires.led c.requires.slot c.requires.unshut (sym c.contains.ensures ∙ c.if-contains.false)
     (eqb-true (length c.args.holds.now) 128 (sym c.is_full.ensures.value ∙ c.if-is_full.true))
 
 pub enter-requires-clause-pass : goal.enter-requires-clause-pass
@@ -43,7 +45,8 @@ follow-again-requires-clause-pass c =
 
 pub follow-again-requires-clause-place : goal.follow-again-requires-clause-place
 follow-again-requires-clause-place c =
-    place_entered (c.args.word / 2 ^ 32 - 1) (view c.args.pass.now) (view c.enter.new.pass) c.args.place c.args.span c.args.at
+    place_entered (c.args.word / 2 ^ 32 - 1) (view c.args.pass.now)
+    (view c.enter.new.pass) c.args.place c.args.span c.args.at
     c.enter.ensures.enters c.requires.place
 
 pub follow-again-requires-clause-word : goal.follow-again-requires-clause-word
@@ -55,10 +58,13 @@ returns-then-again-word-clause-holds c =
     let v = view c.args.pass.now in
     let e = view c.enter.new.pass in
     let w = view c.follow-again.new.pass in
-    subst (λ (r : RefusalCause). HoldsSo c.note_hold.new.holds c.args.at c.args.word c.args.span (Err r) v w) (sym c.conflict.ensures)
-    (subst (λ (l : List ℕ). HoldsSo l c.args.at c.args.word c.args.span (Err (causes.Conflict c.args.at c.args.word c.follow-again.result)) v w)
+    subst (λ (r : RefusalCause). HoldsSo (length c.args.holds.now + 1) c.note_hold.new.holds c.args.at c.args.word
+    c.args.span (Err r) v w) (sym c.conflict.ensures)
+    (subst (λ (l : List ℕ). HoldsSo (length c.args.holds.now + 1) l c.args.at c.args.word c.args.span
+    (Err (causes.Conflict c.args.at c.args.word c.follow-again.result)) v w)
     (sym c.note_hold.ensures)
-    (hold_changed c.args.holds.now c.args.place c.args.at c.args.word c.args.span v e c.follow-again.result w c.requires.can
+    (hold_changed c.args.holds.now c.args.place c.args.at c.args.word c.args.span v e c.follow-again.result w
+    c.requires.can
     c.requires.place c.requires.led c.enter.ensures.enters
     (is_followed c.args.span c.args.at e c.follow-again.result w c.follow-again.ensures.follows) c.if-again-word.true))
 
@@ -67,9 +73,11 @@ returns-clause-holds c =
     let v = view c.args.pass.now in
     let e = view c.enter.new.pass in
     let w = view c.follow-again.new.pass in
-    subst (λ (l : List ℕ). HoldsSo l c.args.at c.args.word c.args.span (Ok (c.args.word / 2 ^ 32 - 1)) v w)
+    subst (λ (l : List ℕ). HoldsSo (length c.args.holds.now + 1) l c.args.at c.args.word c.args.span
+    (Ok (c.args.word / 2 ^ 32 - 1)) v w)
     (sym c.note_hold.ensures)
-    (hold_held c.args.holds.now c.args.place c.args.at c.args.word c.args.span v e c.follow-again.result w c.requires.can
+    (hold_held c.args.holds.now c.args.place c.args.at c.args.word c.args.span v e c.follow-again.result w
+    c.requires.can
     c.requires.place c.requires.led c.enter.ensures.enters
     (is_followed c.args.span c.args.at e c.follow-again.result w c.follow-again.ensures.follows) c.if-again-word.false
     c.requires.slot c.requires.unshut)

@@ -1,2 +1,10 @@
 pub mod Claims
 pub mod PageFills
+pub mod Snaps
+pub mod LongerPages
+pub mod PlacesRight
+pub mod NamesShown
+pub mod NewPages
+pub mod Extends
+pub mod PagesFilled
+pub mod PagesPublished

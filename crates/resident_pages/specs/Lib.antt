@@ -1,1 +1,3 @@
 pub mod Fills
+pub mod Extends
+pub mod Publishes

@@ -10,7 +10,7 @@ use crate::laws::laws;
 use engine_pages::{Engine, Pass};
 use std::marker::Brand;
 
-const PUBLISHED: usize = 26;
+pub(crate) const PUBLISHED: usize = 26;
 
 /// Loads how many snapshot pages are published. Where this page is above them, it is the keeper's to fill.
 pub fn claim_page(engine: &Engine, pass: &mut Pass, page: u32) -> u64

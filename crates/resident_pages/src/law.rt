@@ -58,3 +58,35 @@ impl<J: Stored> Play<(), View> for FillingPage<J> {
 
     ghost then = { told (FillsPage J.page J.index J.value) };
 }
+
+/// Which pages are published, and which places get names, in this order. Each call picks them.
+pub trait Publishing {
+    ghost use Rattle.std.specs.Prelude.{ℕ, List};
+    ghost use Rattle.serial_model.specs.declared.decl.Decl.{Decl};
+    ghost use Rattle.snapshot_store.specs.declared.place.PagePlace.{PagePlace};
+
+    ghost pages: { List (List ℕ) };
+
+    ghost places: { List (Decl × PagePlace) };
+}
+
+// No call goes by this one.
+impl Publishing for Brand {
+    ghost use Rattle.std.specs.Prelude.{[]};
+
+    ghost pages = { [] };
+
+    ghost places = { [] };
+}
+
+/// The count of published pages rises.
+pub struct Extending<J: Publishing> {
+    of: PhantomData<J>,
+}
+
+impl<J: Publishing> Play<(), View> for Extending<J> {
+    ghost use Rattle.engine_pages.specs.Steps.{told};
+    ghost use Rattle.resident_pages.specs.Extends.{Extends};
+
+    ghost then = { told (Extends J.pages J.places) };
+}

@@ -2,15 +2,24 @@
 //!
 //! Promises: each step keeps the rule of engine_pages (`Shows`). A page above those that are published is the keeper's
 //! to fill, with the words that stand in it (`claim_page`), and stays so until the count rises: nobody else stores there
-//! (`fill_page`).
+//! (`fill_page`). The count rises over filled pages alone, where each place that gets a name stands with all below it,
+//! and those below have names before it (`extend`): so no name that there was leads to another page.
 //! Terms: *snapshot page*, a page of 64 words behind those of the slots, by its number; *count*, how many of them are
-//! published.
-//! Layout: specs/Fills.antt, what the steps tell; proofs/ has a file for each step.
+//! published; *name*, what the machine of pages calls a page that stands for certain keys; *place*, those keys with the
+//! page's number.
+//! Layout: specs/Fills.antt and Extends, what the steps ask and tell. In proofs/ `Claims` and `PageFills` have the first
+//! two steps, `Snaps` the acts of the machine, `LongerPages` what stays of pages and names, `PlacesRight` that pages that
+//! stand are right, `NewPages` what is published then, `NamesShown` what slots show, and `Extends` the step.
 //! Design: docs/PAGES.md.
 #![tactic(auto)]
 
+mod extending;
 mod filling;
 mod law;
 mod laws;
+mod publishing;
 
+pub use extending::extend;
 pub use filling::{claim_page, fill_page};
+pub use law::Publishing;
+pub use publishing::publish_pages;

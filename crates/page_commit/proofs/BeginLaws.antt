@@ -12,6 +12,7 @@ use Rattle.serial_model.specs.Numbers.{draw_limit}
 use Rattle.tx_sets.specs.declared.reads.ReadEntry.{ReadEntry}
 use Rattle.tx_sets.specs.declared.seen.Seen.{Seen}
 use Rattle.tx_sets.specs.declared.sets.Sets.{Sets}
+use Rattle.tx_sets.specs.Entries.{places_of}
 use Rattle.tx_sets.specs.Gathered.{AreEmpty}
 use Rattle.engine_pages.specs.declared.layout.Layout.{Layout}
 use Rattle.engine_pages.specs.declared.view.RefusalCause.TheVariants as refusals
@@ -65,9 +66,11 @@ begun_live sets v u n over empty h =
       holds = subst (λ l. HasHolds l (readied u)) (sym empty.holds) (ready_holds u (holds_stay [] v u pages over.holds));
       parts = subst (AreParts sets (readied u)) (sym kept) (no_parts sets (readied u) empty);
       places = subst (λ (l : List ReadEntry). AreDistinct (entry_places l)) (sym empty.reads) tt;
+      once = subst (λ (l : List Seen). AreDistinct (places_of l)) (sym empty.pointers) tt;
       writes = subst (AllByRecursion (IsWriteOf (ground (readied u)))) (sym empty.writes) tt;
       met = λ k at place clear. ap (λ (l : List ReadEntry). Rattle.page_commit.specs.Live.read_word at l) (sym empty.reads);
       points = λ p has. absurd (in_none p (subst (λ (l : List Seen). Contains l p) empty.pointers has));
+      kept = λ p has. absurd (in_none p (subst (λ (l : List Seen). Contains l p) empty.pointers has));
       inside = λ at m seen. absurd (none_some m seen);
     }
   where
@@ -79,6 +82,7 @@ begun_live sets v u n over empty h =
       holds = h.holds;
       within = h.within;
       made = h.made;
+      taken = h.taken;
       drafts = h.drafts;
       copies = h.copies;
       blanks = h.blanks;
@@ -145,6 +149,8 @@ refuses_begin v w n over b high =
           history = subst (λ (y : View). IsFront v.history y.history) (sym is) h.history;
           decided = subst (λ (y : View). IsFront v.decided y.decided) (sym is) h.decided;
         };
+        since = let one : w.steps ≡ v.steps + 1 = ap (λ (y : View). y.steps) is ∙ ap (λ (y : View). y.steps) h.is in
+            omega (arith, one);
         mine = ap (λ (y : View). y.mine) is ∙ ap (λ (y : View). y.mine) h.is;
         drew = false;
         draws = let same = draws in omega (arith, same);

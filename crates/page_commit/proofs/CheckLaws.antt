@@ -397,6 +397,7 @@ failed_one sets n m at word own b k v w x p test miss c =
     let y : View = failed_at at k u in record {
       checked = y.checked;
       steps = y.steps;
+      since = omega (arith, p.since);
       last = y.last;
       loaded = y.loaded;
       reads = y.reads;

@@ -169,7 +169,7 @@ stopped_place sets ws all found one at v w live h is has same =
     (all_in (IsWriteOf (ground w)) all one (stopped_places sets ws all found v w live h is) has).place
 
 -- the key that is told of a conflict at a record
-told_key : (ws : List Write) (why : RefusalCause) (k : Key) (at expected seen : ℕ) (v w x : View) → w.role ≡ v.role
+pub told_key : (ws : List Write) (why : RefusalCause) (k : Key) (at expected seen : ℕ) (v w x : View) → w.role ≡ v.role
     → w.blamed ≡ v.blamed → why ≡ Conflict at expected seen → IsKeyAt w k at → HasGivenUp ws why w x
     → x.blamed ≡ v.blamed ++ touch (seat_number v.role) k ∷ []
 told_key ws why k at expected seen v w x role blamed same place g =
@@ -181,7 +181,7 @@ told_key ws why k at expected seen v w x role blamed same place g =
     ∙ ap (λ (r : Role). v.blamed ++ touch (seat_number r) k ∷ []) role)))
 
 -- and none of one at a pointer
-told_none : (ws : List Write) (why : RefusalCause) (sp : Span) (at expected seen : ℕ) (v w x : View)
+pub told_none : (ws : List Write) (why : RefusalCause) (sp : Span) (at expected seen : ℕ) (v w x : View)
     → w.blamed ≡ v.blamed → why ≡ Conflict at expected seen → IsPointerIn (ground w) sp at → HasGivenUp ws why w x
     → x.blamed ≡ v.blamed
 told_none ws why sp at expected seen v w x blamed same place g =
@@ -191,15 +191,15 @@ told_none ws why sp at expected seen v w x blamed same place g =
     ∙ (ap (λ l. l ++ g.met) blamed ∙ (ap (λ l. v.blamed ++ l) (tells.1 sp place) ∙ append-nil v.blamed)))
 
 -- what was met of other words is still so
-kept_others : (ws : List Write) (why : RefusalCause) (w x : View) → HasGivenUp ws why w x → KeepOthers ws w.reads x.reads
+pub kept_others : (ws : List Write) (why : RefusalCause) (w x : View) → HasGivenUp ws why w x → KeepOthers ws w.reads x.reads
 kept_others ws why w x g = λ r has free.
     subst (λ (l : List Read). Contains l r)
     (sym (ap (λ (y : View). y.reads) g.left.is ∙ ap (λ (y : View). y.reads) g.forgot)) (g.others r has free)
 
-last_same : (ws : List Write) (why : RefusalCause) (w x : View) → HasGivenUp ws why w x → x.last ≡ w.last
+pub last_same : (ws : List Write) (why : RefusalCause) (w x : View) → HasGivenUp ws why w x → x.last ≡ w.last
 last_same ws why w x g = ap (λ (y : View). y.last) g.left.is ∙ ap (λ (y : View). y.last) g.forgot
 
-touched_same : (ws : List Write) (why : RefusalCause) (w x : View) → HasGivenUp ws why w x → x.touched ≡ w.touched
+pub touched_same : (ws : List Write) (why : RefusalCause) (w x : View) → HasGivenUp ws why w x → x.touched ≡ w.touched
 touched_same ws why w x g = ap (λ (y : View). y.touched) g.left.is ∙ ap (λ (y : View). y.touched) g.forgot
 
 pub stopped_cause : (sets : Sets) (n : ℕ) (all : List Write) (found : List ℕ) (at expected seen : ℕ)

@@ -11,13 +11,13 @@ use Rattle.serial_model.specs.declared.number.Number.{Number}
 use Rattle.tx_sets.specs.declared.reads.ReadEntry.{ReadEntry}
 use Rattle.tx_sets.specs.declared.sets.Sets.{Sets}
 use Rattle.tx_sets.specs.declared.writes.Write.{Write}
-use Rattle.tx_sets.specs.Entries.{has_read, has_write, IsAscending}
+use Rattle.tx_sets.specs.Entries.{has_read, has_write, places_of, IsAscending}
 use Rattle.engine_pages.specs.declared.view.RefusalCause.{RefusalCause}
 use Rattle.engine_pages.specs.declared.view.RefusalCause.TheVariants.{Conflict, Full, NumberLimit, Wide}
 use Rattle.engine_pages.specs.declared.view.View.{View}
 use Rattle.page_commit.specs.Committing.{changes_of, commit_steps, kept_writes, AreChangesOf, HasCommitted}
 use Rattle.page_commit.specs.Committing.{RefusesCommit, TookOnly, IsRecordOf, IsDropped}
-use Rattle.page_commit.specs.Live.{AreParts, AreMet, IsWriteOf, IsLive, entry_places, ArePointersMet, HasHolds}
+use Rattle.page_commit.specs.Live.{AreParts, AreMet, IsWriteOf, IsLive, entry_places, ArePointersKept, ArePointersMet, HasHolds}
 use Rattle.page_commit.specs.Refusing.{HasRefused, IsConflictAt, IsPointerConflict}
 use Rattle.page_commit.specs.Steps.{CanCommit}
 use Rattle.page_commit.proofs.StepLaws.{all_steps, all_most}
@@ -33,7 +33,7 @@ kept_all : (g : Ground) (keep : Bool) (ws : List Write) → AllByRecursion (IsWr
 kept_all g true ws all = all
 kept_all g false ws all = tt
 
-parts_dropped : (sets new : Sets) (v : View) (kept : List Part) → new.reads ≡ sets.reads → new.pointers ≡ sets.pointers
+pub parts_dropped : (sets new : Sets) (v : View) (kept : List Part) → new.reads ≡ sets.reads → new.pointers ≡ sets.pointers
     → AreParts sets v kept → AreParts new v kept
 parts_dropped sets new v kept reads pointers are = record {
   known = λ part has. elim (are.known part has) [
@@ -58,9 +58,11 @@ live_dropped sets new keep v live d = record {
   holds = subst (λ l. HasHolds l v) (sym d.holds) live.holds;
   parts = parts_dropped sets new v v.seat.kept d.reads d.pointers live.parts;
   places = subst (λ (l : List ReadEntry). AreDistinct (entry_places l)) (sym d.reads) live.places;
+  once = subst (λ (l : List Seen). AreDistinct (places_of l)) (sym d.pointers) live.once;
   writes = subst (AllByRecursion (IsWriteOf (ground v))) (sym d.writes) (kept_all (ground v) keep sets.writes live.writes);
   met = subst (λ (l : List ReadEntry). AreMet l [] v) (sym d.reads) live.met;
   points = subst (λ (l : List Seen). ArePointersMet l v) (sym d.pointers) live.points;
+  kept = subst (λ (l : List Seen). ArePointersKept l v) (sym d.pointers) live.kept;
   inside = live.inside;
 }
 

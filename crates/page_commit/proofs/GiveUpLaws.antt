@@ -1,9 +1,11 @@
 -- What is left of a transaction that is given up, before its draw or behind it.
-use Rattle.std.proofs.Common.{◌≡◌, inl, inr, ℕ, ◌+◌, ◌≤◌, Bool, true, false, cond, List, [], ◌∷◌, ◌++◌, length}
+use Rattle.std.proofs.Common.{◌≡◌, inl, inr, ℕ, ◌+◌, ◌<◌, ◌≤◌, Bool, true, false, cond, List, [], ◌∷◌, ◌++◌, length}
 use Rattle.std.proofs.Common.{Some, refl, sym, ap, ◌∙◌, subst, arith}
 use Rattle.std.specs.Prelude.{Contains}
 use Rattle.lists.specs.Fronts.{IsFront, front_then, front_refl, front_append}
 use Rattle.serial_model.specs.declared.number.Change.{Change}
+use Rattle.homes.specs.declared.places.At.{At}
+use Rattle.homes.specs.declared.places.At.TheVariants.{Root, In}
 use Rattle.commit_core.specs.declared.attempt.Attempt.{Attempt}
 use Rattle.commit_core.specs.declared.seat.Seat.{Seat}
 use Rattle.commit_core.specs.declared.seat.Stage.TheVariants.{Ended}
@@ -23,7 +25,7 @@ use Rattle.engine_pages.specs.Pointers.{WaysAgree}
 use Rattle.engine_pages.specs.Touches.{has_took, touch}
 use Rattle.engine_pages.specs.Views.{seat_number, IsResting}
 use Rattle.page_records.specs.Attempts.{HasDrawn, attempt_of}
-use Rattle.page_records.specs.Ends.{forgot_for, worker_of, HasForgotten, IsDue, IsMetFor}
+use Rattle.page_records.specs.Ends.{forgot_for, is_left, worker_of, HasForgotten, IsDue, IsMetFor}
 use Rattle.page_commit.specs.Places.{ground, pointer_at, spot_at, IsKeyAt, IsPointerIn}
 use Rattle.page_commit.specs.Between.{HasSeen}
 use Rattle.page_commit.specs.Live.{HasHolds, IsLive}
@@ -54,6 +56,7 @@ pub tells_of : (why : RefusalCause) (met : List Touch) (v : View) → IsMetFor (
 tells_of (refusals.Conflict at expected seen) met v of = (
   (λ k place. of.keyed k (spot_at v.layout.slots at) place),
   (λ sp place. of.pointer (pointer_at v.layout.slots at) sp (pointer_there v sp at place)),
+  (λ t low is. of.slot t low is),
 )
 tells_of (refusals.Full held) met v of = of
 tells_of (refusals.Wide set) met v of = of
@@ -62,22 +65,23 @@ tells_of (refusals.NumberLimit clock) met v of = of
 -- and it is the same where places are the same
 tells_same : (why : RefusalCause) (met : List Touch) (v w : View) → w.layout ≡ v.layout → w.ways ≡ v.ways → w.role ≡ v.role
     → TellsOf why met w → TellsOf why met v
-tells_same (refusals.Conflict at expected seen) met v w layout ways role t = (
-  (λ k place. t.0 k (subst (λ (l : Layout). Rattle.engine_pages.specs.Records.IsRecordIn l.decls l.slots w.ways k
+tells_same (refusals.Conflict at expected seen) met v w layout ways role t' = (
+  (λ k place. t'.0 k (subst (λ (l : Layout). Rattle.engine_pages.specs.Records.IsRecordIn l.decls l.slots w.ways k
       (spot_at l.slots at) at) (sym layout)
       (subst (λ z. Rattle.engine_pages.specs.Records.IsRecordIn v.layout.decls v.layout.slots z k
       (spot_at v.layout.slots at) at) (sym ways) place))
       ∙ ap (λ (r : Role). touch (seat_number r) k ∷ []) role),
-  (λ sp place. t.1 sp (subst (λ (g : Rattle.page_commit.specs.Places.Ground). IsPointerIn g sp at)
+  (λ sp place. t'.1 sp (subst (λ (g : Rattle.page_commit.specs.Places.Ground). IsPointerIn g sp at)
       (sym (Rattle.page_commit.proofs.StayLaws.grounds w v layout ways)) place)),
+  (λ t low is. t'.2 t (subst (λ (l : Layout). t < l.slots) (sym layout) low) is),
 )
 tells_same (refusals.Full held) met v w layout ways role t = t
 tells_same (refusals.Wide set) met v w layout ways role t = t
 tells_same (refusals.NumberLimit clock) met v w layout ways role t = t
 
 pub given_up : (ws : List Write) (why : RefusalCause) (v w x y : View) → HasUnlocked ws v w → HasForgotten (Some why) w x
-    → HasLeft x y → HasGivenUp ws why v y
-given_up ws why v w x y h is l =
+    → HasLeft x y → v.steps ≤ y.steps → HasGivenUp ws why v y
+given_up ws why v w x y h is l since =
     let u : View = record v { seat = h.seat; took = []; steps = h.steps; loaded = h.loaded; reads = h.reads } in
     let z : View = forgot_for (Some why) is.met u in record {
       seat = record h.seat { kept = [] };
@@ -93,6 +97,7 @@ given_up ws why v w x y h is l =
       left = l;
       resting = record { kept = refl; locks = h.locks; stage = h.stage };
       marks = h.marks;
+      since = since;
     }
 
 pub can_forget : (ws : List Write) (v w : View) → v.role ≡ Worker (worker_of v.role) → HasUnlocked ws v w
@@ -118,6 +123,11 @@ forgot_holds slots ws why v w x h is holds =
     holds_stay slots v x (same_then v w x (unlocked_pages ws v w h) (forgotten_pages (Some why) w x is)) holds
 
 -- ---- who was in the way
+
+-- where no slot was left, no place is in one
+pub none_left : (x : At) → is_left [] x ≡ false
+none_left (Root r) = refl
+none_left (In y) = refl
 
 -- a conflict that was met is due, once the locks are open
 pub is_due : (ws : List Write) (at expected seen : ℕ) (v w : View) → HasMet at expected seen v → v.gone ≡ []
@@ -149,6 +159,8 @@ is_due ws at expected seen v w (inr m) gone apart h =
       m.span,
       record {
         place = pointer_there w m.span at (subst (λ (y : View). IsPointerIn (ground y) m.span at) (sym h.is) m.place);
+        here = ap (λ (y : View). is_left y.gone (pointer_at w.layout.slots at)) h.is
+            ∙ (ap (λ l. is_left l (pointer_at w.layout.slots at)) gone ∙ none_left (pointer_at w.layout.slots at));
         step = m.step;
         last = ap (λ (y : View). y.last) h.is ∙ m.last;
         was = m.was;
@@ -178,10 +190,10 @@ one_told why at expected seen met v same met-so tells =
 -- what a given-up transaction leaves, where the pass's view was this before
 pub refused_from : (why : RefusalCause) (drew : Bool) (sets : Sets) (ws : List Write) (v w x : View) → IsLive sets v
     → SamePages v w → w.role ≡ v.role
-    → HasSeen v w → w.mine ≡ v.mine → w.draws ≡ v.draws + cond drew 1 0 → w.seat.marks ≡ v.seat.marks → w.refused ≡ v.refused
+    → HasSeen v w → v.steps ≤ w.steps → w.mine ≡ v.mine → w.draws ≡ v.draws + cond drew 1 0 → w.seat.marks ≡ v.seat.marks → w.refused ≡ v.refused
     → w.blamed ≡ v.blamed → ((met : List Touch) → TellsOf why met w → TellsOnly why met) → HasGivenUp ws why w x
     → HasRefused why v x
-refused_from why drew sets ws v w x live pages role seen mine draws marks refused blamed told g =
+refused_from why drew sets ws v w x live pages role seen since mine draws marks refused blamed told g =
     let h = g.forgot in
     let l = g.left in
     let layout' : x.layout ≡ v.layout =
@@ -213,6 +225,7 @@ refused_from why drew sets ws v w x live pages role seen mine draws marks refuse
         decided = subst (λ (y : View). IsFront v.decided y.decided) (sym l.is)
             (subst (λ (y : View). IsFront v.decided y.decided) (sym h) seen.decided);
       };
+      since = let more = g.since in omega (arith, since, more);
       mine = ap (λ (y : View). y.mine) l.is ∙ (ap (λ (y : View). y.mine) h ∙ mine);
       drew = drew;
       draws = ap (λ (y : View). y.draws) l.is ∙ (ap (λ (y : View). y.draws) h ∙ draws);
@@ -233,6 +246,7 @@ locked_refused why sets ws found at expected seen v w x live h same met g =
       history = subst (λ (y : View). IsFront v.history y.history) (sym h.is) (front_refl v.history);
       decided = subst (λ (y : View). IsFront v.decided y.decided) (sym h.is) (front_refl v.decided);
     }
+    (let more = h.since in let steps = ap (λ (y : View). y.steps) h.is in omega (arith, more, steps))
     (ap (λ (y : View). y.mine) h.is) (let draws = ap (λ (y : View). y.draws) h.is in omega (arith, draws))
     (ap (λ (y : View). y.seat.marks) h.is) (ap (λ (y : View). y.refused) h.is) (ap (λ (y : View). y.blamed) h.is)
     (λ l tells. one_told why at expected seen l w same met tells) g
@@ -280,6 +294,7 @@ failed_refused why sets ws us found changes n at expected seen v w x y z live h 
           (subst (λ (u : View). IsFront v.decided u.decided) (sym d.is)
           (subst (λ (u : View). IsFront v.decided u.decided) (sym h.is) (front_refl v.decided)));
     }
+    failed_since
     (ap (λ (u : View). u.mine) f.is ∙ (ap (λ (u : View). u.mine) d.is ∙ ap (λ (u : View). u.mine) h.is))
     (omega (arith, failed_draws))
     (ap (λ (u : View). u.seat.marks) f.is ∙ (settled_marks s
@@ -288,6 +303,14 @@ failed_refused why sets ws us found changes n at expected seen v w x y z live h 
     (ap (λ (u : View). u.blamed) f.is ∙ (ap (λ (u : View). u.blamed) d.is ∙ ap (λ (u : View). u.blamed) h.is))
     (λ l tells. one_told why at expected seen l y same met tells) g
   where
+    failed_since : v.steps ≤ y.steps
+    failed_since =
+        let first = h.since in
+        let locked = ap (λ (u : View). u.steps) h.is in
+        let drawn : x.steps ≡ w.steps + 1 = ap (λ (u : View). u.steps) d.is in
+        let last = f.since in
+        let now = ap (λ (u : View). u.steps) f.is in omega (arith, first, locked, drawn, last, now)
+
     failed_draws : y.draws ≡ v.draws + 1
     failed_draws = ap (λ (u : View). u.draws) f.is ∙ (ap (λ (u : View). u.draws) d.is
         ∙ ap (λ (u : View). u.draws + 1) h.is)

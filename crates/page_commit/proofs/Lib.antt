@@ -17,3 +17,14 @@ pub mod StepLaws
 pub mod CommitLaws
 pub mod CommitResults
 pub mod BeginLaws
+pub mod BelowLaws
+pub mod GrowLaws
+pub mod KeepLaws
+pub mod WalkedLaws
+pub mod FoundLaws
+pub mod DueLaws
+pub mod RefuseLaws
+pub mod WriteLaws
+pub mod TurnLaws
+pub mod Handing
+pub mod BroughtLaws

@@ -289,6 +289,7 @@ pointer_failed_one sets n m at word k v w x p other c =
     let y : View = failed_at at k u in record {
       checked = y.checked;
       steps = y.steps;
+      since = omega (arith, p.since);
       last = y.last;
       loaded = y.loaded;
       reads = y.reads;

@@ -1,5 +1,5 @@
 -- What a pass knows of words stays where its ways and leads stay.
-use Rattle.std.proofs.Common.{◌≡◌, ◌⊎◌, inl, inr, ◌<◌, List, sym, ap, ◌∙◌, subst}
+use Rattle.std.proofs.Common.{◌≡◌, ◌⊎◌, inl, inr, ℕ, ◌<◌, true, List, sym, ap, ◌∙◌, subst}
 use Rattle.std.specs.Prelude.{Contains}
 use Rattle.std.specs.List.{AllByRecursion}
 use Rattle.commit_core.specs.declared.part.Part.{Part}
@@ -12,7 +12,9 @@ use Rattle.engine_pages.specs.declared.view.Lead.{Lead}
 use Rattle.engine_pages.specs.declared.view.View.{View}
 use Rattle.engine_pages.specs.declared.view.Way.{Way}
 use Rattle.engine_pages.specs.Layout.{words_of}
-use Rattle.dual_pointer.specs.Parts.{IsPointerPart, part_stays}
+use Rattle.engine_pages.specs.Pages.{is_array}
+use Rattle.engine_pages.specs.Pointers.{StandsFor}
+use Rattle.dual_pointer.specs.Parts.{content_below, IsPointerPart, part_stays}
 use Rattle.page_commit.specs.Places.{ground, pointer_at, Ground, IsPointerIn}
 use Rattle.page_commit.specs.Live.{AreParts, IsMetPointer, IsReadPart, IsWriteOf}
 
@@ -28,8 +30,8 @@ pub writes_stay : (ws : List Write) (v w : View) → w.layout ≡ v.layout → w
 writes_stay ws v w layout ways all = subst (λ (g : Ground). AllByRecursion (IsWriteOf g) ws) (sym (grounds w v layout ways)) all
 
 pointer_stays : (v w : View) (p : Seen) (part : Part) → w.layout ≡ v.layout → w.ways ≡ v.ways → w.leads ≡ v.leads
-    → IsMetPointer v p part → IsMetPointer w p part
-pointer_stays v w p part layout ways leads m = record {
+    → w.pages ≡ v.pages → IsMetPointer v p part → IsMetPointer w p part
+pointer_stays v w p part layout ways leads pages m = record {
   span = m.span;
   place = subst (λ (g : Ground). IsPointerIn g m.span p.at) (sym (grounds w v layout ways)) m.place;
   within = subst (λ (l : Layout). p.at < words_of l) (sym layout) m.within;
@@ -37,14 +39,21 @@ pointer_stays v w p part layout ways leads m = record {
   of = subst (λ (l : Layout). IsPointerPart w (pointer_at l.slots p.at) m.span p.word part) (sym layout)
       (part_stays v w (pointer_at v.layout.slots p.at) m.span p.word part
       (λ z has. subst (λ (l : List Lead). Contains l z) (sym leads) has) m.of);
+  array = subst (λ (l : Layout). is_array l.decls m.span.storage ≡ true) (sym layout) m.array;
+  stands = λ some.
+      subst (λ (l : Layout). StandsFor l.decls w.pages m.span p.word) (sym layout)
+      (subst (λ (l : List (List ℕ)). StandsFor v.layout.decls l m.span p.word) (sym pages) (m.stands some));
+  inside = m.inside;
+  all = m.all;
+  says = λ k over. m.says k over ∙ ap (λ (l : List (List ℕ)). content_below l m.span p.word k) (sym pages);
 }
 
 pub parts_stay : (sets : Sets) (v w : View) (parts : List Part) → parts ≡ v.seat.kept → w.layout ≡ v.layout
-    → w.ways ≡ v.ways → w.leads ≡ v.leads → AreParts sets v v.seat.kept → AreParts sets w parts
-parts_stay sets v w parts same layout ways leads are = subst (AreParts sets w) (sym same) record {
+    → w.ways ≡ v.ways → w.leads ≡ v.leads → w.pages ≡ v.pages → AreParts sets v v.seat.kept → AreParts sets w parts
+parts_stay sets v w parts same layout ways leads pages are = subst (AreParts sets w) (sym same) record {
   known = λ part has. by_known part (are.known part has);
   reads = λ e has. let r = are.reads e has in (r.0, r.1, read_stays e r.0 r.2);
-  pointers = λ p has. let r = are.pointers p has in (r.0, r.1, pointer_stays v w p r.0 layout ways leads r.2);
+  pointers = λ p has. let r = are.pointers p has in (r.0, r.1, pointer_stays v w p r.0 layout ways leads pages r.2);
   once = are.once;
 }
   where
@@ -58,4 +67,4 @@ parts_stay sets v w parts same layout ways leads are = subst (AreParts sets w) (
         ⊎ ((p : Seen) × Contains sets.pointers p × IsMetPointer w p part)
     by_known part (inl r) =
         inl (r.0, r.1, subst (λ (g : Ground). IsReadPart g r.0 part) (sym (grounds w v layout ways)) r.2)
-    by_known part (inr r) = inr (r.0, r.1, pointer_stays v w r.0 part layout ways leads r.2)
+    by_known part (inr r) = inr (r.0, r.1, pointer_stays v w r.0 part layout ways leads pages r.2)

@@ -71,9 +71,9 @@ pub record AreChangesOf (writes : List Write) (changes : List Change) : Type 0 w
 abbrev pub touches_of : ℕ → List Change → List Touch
 touches_of q changes = map (λ c. touch q c.key) changes
 
--- The steps of a commit that counts: of each write a load, a compare_exchange, a put and an opening, of each record that
--- was read and each pointer that was met a check, of each slot that is held its leaving, and the draw and the decision. So
--- each lock is tried once, and nothing is waited for.
+-- The steps of a commit that counts: of each write a load, a compare_exchange, a put and an opening, of each record
+-- that was read and each pointer that was met a check, of each slot that is held its leaving, and the draw and the
+-- decision. So each lock is tried once, and nothing is waited for.
 abbrev pub commit_steps : Sets → List Write → ℕ
 commit_steps sets writes =
     4 * length writes + (length sets.reads + length sets.pointers) + length sets.holds + 2
@@ -132,7 +132,8 @@ IsRecordOf reads writes k at =
     ((e : ReadEntry) × Contains reads e × (e.key ≡ k) × (e.at ≡ at))
     ⊎ ((w : Write) × Contains writes w × (w.key ≡ k) × (w.at ≡ at))
 
--- A commit is refused only for a conflict at a record or a pointer of its sets, and has locked keys of its writes alone.
+-- A commit is refused only for a conflict at a record or a pointer of its sets, and has locked keys of its writes
+-- alone.
 abbrev pub RefusesCommit : Sets → List Write → RefusalCause → View → View → Type 0
 RefusesCommit sets writes (refusals.Conflict at expected seen) v w =
     (((k : Key) × IsRecordOf sets.reads writes k at × IsConflictAt sets.reads k at expected seen v w)

@@ -4,3 +4,10 @@ pub mod Between
 pub mod Refusing
 pub mod Committing
 pub mod Steps
+pub mod Turning
+pub mod Altering
+pub mod Calls
+pub mod Keeping
+pub mod Running
+pub mod RunLaws
+pub mod Below

@@ -1,5 +1,5 @@
 -- A transaction and its pass: what the sets have, and what the view knows of it.
-use Rattle.std.specs.Prelude.{◌≡◌, ◌⊎◌, ℕ, ◌<◌, ◌^◌, ◌==◌, Bool, true, false, is_some, None, Some, Option}
+use Rattle.std.specs.Prelude.{◌≡◌, ◌⊎◌, ℕ, ◌<◌, ◌^◌, ◌==◌, Bool, true, false, is_some, Some, Option}
 use Rattle.std.specs.Prelude.{List, [], unwrap_or, Contains, map}
 use Rattle.std.specs.List.{AllByRecursion, find, list_any}
 use Rattle.std.specs.Option.{option_map}
@@ -7,29 +7,29 @@ use Rattle.lists.specs.Each.{AreDistinct}
 use Rattle.serial_model.specs.Decls.{AreDecls}
 use Rattle.homes.specs.declared.places.Content.{Content}
 use Rattle.homes.specs.declared.places.Span.{Span}
+use Rattle.homes.specs.Homes.{in_span}
 use Rattle.serial_model.specs.declared.key.Key.{Key}
 use Rattle.commit_core.specs.declared.part.Part.{Part}
 use Rattle.commit_core.specs.declared.seat.Stage.TheVariants.{Idle}
-use Rattle.commit_core.specs.Keys.{opening_number}
-use Rattle.commit_core.specs.Parts.{record_part, same_word}
-use Rattle.wire_form.specs.Words.{number_word}
-use Rattle.engine_pages.specs.Words.{IsSmall}
+use Rattle.commit_core.specs.Parts.{covers, found, record_part, same_word}
 use Rattle.drop_core.specs.Table.{has_slot}
 use Rattle.tx_sets.specs.declared.reads.ReadEntry.{ReadEntry}
 use Rattle.tx_sets.specs.declared.seen.Seen.{Seen}
 use Rattle.tx_sets.specs.declared.sets.Sets.{Sets}
 use Rattle.tx_sets.specs.declared.writes.Write.{Write}
-use Rattle.tx_sets.specs.Entries.{writes_at}
+use Rattle.tx_sets.specs.Entries.{places_of, writes_at}
 use Rattle.engine_pages.specs.declared.view.Role.TheVariants.{Worker}
 use Rattle.engine_pages.specs.declared.view.View.{View}
 use Rattle.engine_pages.specs.declared.view.Way.{Way}
 use Rattle.engine_pages.specs.Views.{IsResting}
-use Rattle.engine_pages.specs.Steps.{seen_at}
+use Rattle.engine_pages.specs.Steps.{kept_at, seen_at}
 use Rattle.page_records.specs.Ends.{worker_of}
-use Rattle.dual_pointer.specs.Parts.{IsPointerPart}
+use Rattle.dual_pointer.specs.Parts.{content_below, IsPointerPart}
+pub use Rattle.array_pages.specs.Finding.{IsWordFor}
 use Rattle.page_commit.specs.Places.{ground, pointer_at, slot_of, spot_at, Ground, IsKeyAt, IsKeyIn, IsPointerIn}
 use Rattle.engine_pages.specs.Layout.{words_of}
-use Rattle.engine_pages.specs.Pointers.{WaysAgree}
+use Rattle.engine_pages.specs.Pages.{is_array}
+use Rattle.engine_pages.specs.Pointers.{StandsFor, WaysAgree}
 
 -- ---- records that were read, by the places of their words
 
@@ -47,12 +47,6 @@ entry_places reads = map (λ e. e.at) reads
 
 -- ---- parts and sets
 
--- A record has this word, unlocked, where this stands at its key. One that was never written has number 0:0.
-pub record IsWordFor (c : Content) (word : ℕ) : Type 0 where
-  pub small : IsSmall c.number
-  pub number : number_word c.number ≡ word
-  pub never : c.value ≡ None → c.number ≡ opening_number
-
 -- The part is what was read of the entry's record: one content of it had this word and this value.
 pub record IsReadPart (g : Ground) (e : ReadEntry) (part : Part) : Type 0 where
   pub place : IsKeyIn g e.key e.at
@@ -61,13 +55,19 @@ pub record IsReadPart (g : Ground) (e : ReadEntry) (part : Part) : Type 0 where
   pub value : e.value ≡ unwrap_or content.value 0
   pub is : part ≡ record_part e.key (spot_at g.layout.slots e.at) content
 
--- The part is that of the pointer, which led to no slot as its word was seen.
+-- The part is that of the pointer, which led to no slot as its word was seen: it vouches for the keys of the pointer,
+-- with what is found below the page that the word names.
 pub record IsMetPointer (v : View) (p : Seen) (part : Part) : Type 0 where
   pub span : Span
   pub place : IsPointerIn (ground v) span p.at
   pub within : p.at < words_of v.layout
   pub bare : p.word < 2 ^ 32
   pub of : IsPointerPart v (pointer_at v.layout.slots p.at) span p.word part
+  pub array : is_array v.layout.decls span.storage ≡ true
+  pub stands : 0 < p.word → StandsFor v.layout.decls v.pages span p.word
+  pub inside : (k : Key) → covers part k ≡ true → in_span span k ≡ true
+  pub all : (k : Key) → in_span span k ≡ true → covers part k ≡ true
+  pub says : (k : Key) → in_span span k ≡ true → found part k ≡ content_below v.pages span p.word k
 
 -- Each part is of an entry, and each entry has its part; so who checks the words of the sets checks all parts. Each
 -- part is of another word.
@@ -75,7 +75,8 @@ pub record AreParts (sets : Sets) (v : View) (kept : List Part) : Type 0 where
   pub known : (part : Part) → Contains kept part
       → ((e : ReadEntry) × Contains sets.reads e × IsReadPart (ground v) e part)
       ⊎ ((p : Seen) × Contains sets.pointers p × IsMetPointer v p part)
-  pub reads : (e : ReadEntry) → Contains sets.reads e → (part : Part) × Contains kept part × IsReadPart (ground v) e part
+  pub reads : (e : ReadEntry) → Contains sets.reads e
+      → (part : Part) × Contains kept part × IsReadPart (ground v) e part
   pub pointers : (p : Seen) → Contains sets.pointers p → (part : Part) × Contains kept part × IsMetPointer v p part
   pub once : (a b : Part) → Contains kept a → Contains kept b → same_word a.word b.word ≡ true → a ≡ b
 
@@ -88,11 +89,16 @@ pub record IsWriteOf (g : Ground) (w : Write) : Type 0 where
 
 -- Of a record that is none of these the transaction saw last what it read, and nothing where it wasn't read.
 abbrev pub AreMet : List ReadEntry → List Write → View → Type 0
-AreMet reads ws v = (k : Key) (at : ℕ) → IsKeyAt v k at → writes_at at ws ≡ false → seen_at v.reads at ≡ read_word at reads
+AreMet reads ws v = (k : Key) (at : ℕ) → IsKeyAt v k at → writes_at at ws ≡ false
+    → seen_at v.reads at ≡ read_word at reads
 
 -- each pointer of the set was last seen as the set has it
 abbrev pub ArePointersMet : List Seen → View → Type 0
 ArePointersMet pointers v = (p : Seen) → Contains pointers p → seen_at v.reads p.at ≡ Some p.word
+
+-- and is kept as a part with that word
+abbrev pub ArePointersKept : List Seen → View → Type 0
+ArePointersKept pointers v = (p : Seen) → Contains pointers p → kept_at v.reads p.at ≡ Some p.word
 
 -- the word is a root's, or stands in the page of a slot that the pass holds
 abbrev pub StandsIn : Ground → ℕ → Type 0
@@ -104,11 +110,12 @@ AreInside v = (at n : ℕ) → seen_at v.reads at ≡ Some n → StandsIn (groun
 
 -- ---- pages
 
--- The pass holds just these slots, and fills and published no page that it led nothing to.
+-- The pass holds just these slots, fills and published no page that it led nothing to, and took none away.
 pub record HasHolds (slots : List ℕ) (v : View) : Type 0 where
   pub holds : (s : ℕ) → has_slot slots s ≡ has_slot v.grip.holds s
   pub within : (s : ℕ) → has_slot slots s ≡ true → s < v.layout.slots
   pub made : v.grip.made ≡ []
+  pub taken : v.grip.taken ≡ []
   pub drafts : v.drafts ≡ []
   pub copies : v.copies ≡ []
   pub blanks : v.blanks ≡ []
@@ -129,9 +136,11 @@ pub record IsLive (sets : Sets) (v : View) : Type 0 where
   pub holds : HasHolds sets.holds v
   pub parts : AreParts sets v v.seat.kept
   pub places : AreDistinct (entry_places sets.reads)
+  pub once : AreDistinct (places_of sets.pointers)
   pub writes : AllByRecursion (IsWriteOf (ground v)) sets.writes
   pub met : AreMet sets.reads [] v
   pub points : ArePointersMet sets.pointers v
+  pub kept : ArePointersKept sets.pointers v
   pub inside : AreInside v
 
 -- The pass of a worker without a transaction: it holds no slot, and each that it was given leads on or was given up.

@@ -27,13 +27,14 @@ TellsOnly (refusals.Wide set) met = met ≡ []
 TellsOnly (refusals.NumberLimit clock) met = met ≡ []
 
 -- The transaction is over, without locks and holds: what the pass had seen and its own commits stay, and this is the
--- last of its refusals. It had drawn its number by then (`drew`), or drew none. Where it was a conflict at a record, the
--- key is told (`blamed`).
+-- last of its refusals. It had drawn its number by then (`drew`), or drew none. Where it was a conflict at a record,
+-- the key is told (`blamed`).
 pub record HasRefused (why : RefusalCause) (v w : View) : Type 0 where
   pub over : IsOver w
   pub layout : w.layout ≡ v.layout
   pub role : w.role ≡ v.role
   pub seen : HasSeen v w
+  pub since : v.steps ≤ w.steps
   pub mine : w.mine ≡ v.mine
   pub drew : Bool
   pub draws : w.draws ≡ v.draws + cond drew 1 0
@@ -79,8 +80,9 @@ pub record IsConflictAt (reads : List ReadEntry) (k : Key) (at expected seen : �
   pub conflict : IsConflict reads at expected seen v w
   pub blamed : w.blamed ≡ v.blamed ++ touch (seat_number v.role) k ∷ []
 
--- The last load or compare_exchange is one of this call, of the word of a pointer, and found it shut or not the expected
--- one. That is the pointer set's word, and where the set has none, what the transaction saw there before this step.
+-- The last load or compare_exchange is one of this call, of the word of a pointer, and found it shut or not the
+-- expected one. That is the pointer set's word, and where the set has none, what the transaction saw there before
+-- this step.
 pub record IsPointerConflict (pointers : List Seen) (at expected seen : ℕ) (v w : View) : Type 0 where
   pub step : ℕ
   pub last : w.last ≡ Some (glance step at seen)

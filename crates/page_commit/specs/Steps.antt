@@ -30,6 +30,7 @@ use Rattle.engine_pages.specs.declared.view.Took.{Took}
 use Rattle.engine_pages.specs.declared.view.Touch.{Touch}
 use Rattle.engine_pages.specs.declared.view.View.{View}
 use Rattle.engine_pages.specs.declared.view.Way.{Way}
+use Rattle.engine_pages.specs.Layout.{slot_at}
 use Rattle.engine_pages.specs.Steps.{glance}
 use Rattle.engine_pages.specs.Views.{IsResting, seat_number}
 use Rattle.page_records.specs.Attempts.{CanDecide}
@@ -199,11 +200,12 @@ pub record CanRefuse (slots : List ℕ) (v : View) : Type 0 where
   pub took : v.took ≡ []
   pub stage : v.seat.stage ≡ Idle
 
--- of a conflict at a record the key is told, and nothing else
+-- of a conflict at a record the key is told, and nothing else: none at a pointer, and none at a slot
 abbrev pub TellsOf : RefusalCause → List Touch → View → Type 0
 TellsOf (refusals.Conflict at expected seen) met v =
     ((k : Key) → IsKeyAt v k at → met ≡ touch (seat_number v.role) k ∷ [])
     × ((sp : Span) → IsPointerIn (ground v) sp at → met ≡ [])
+    × ((t : ℕ) → t < v.layout.slots → at ≡ slot_at t → met ≡ [])
 TellsOf (refusals.Full held) met v = met ≡ []
 TellsOf (refusals.Wide set) met v = met ≡ []
 TellsOf (refusals.NumberLimit clock) met v = met ≡ []
@@ -231,6 +233,7 @@ pub record HasGivenUp (writes : List Write) (why : RefusalCause) (v w : View) : 
   pub left : HasLeft mid w
   pub resting : IsResting seat
   pub marks : seat.marks ≡ v.seat.marks
+  pub since : v.steps ≤ w.steps
 
 -- The pass met this word last, at the record of this key: it is locked, or not the one that the transaction had seen
 -- there before, which is the expected one.
@@ -262,8 +265,8 @@ HasMet at expected seen v = ((k : Key) × MetRecord k at expected seen v) ⊎ Me
 
 -- ---- checks
 
--- An attempt is in progress, with the parts of these sets and these locks, and none of its parts is checked. A lock at a
--- record that was read found the word that was read.
+-- An attempt is in progress, with the parts of these sets and these locks, and none of its parts is checked. A lock
+-- at a record that was read found the word that was read.
 pub record HasTried (sets : Sets) (v : View) : Type 0 where
   pub worker : v.role ≡ Worker (worker_of v.role)
   pub index : ℕ
@@ -323,6 +326,7 @@ pub record HasChecked (v w : View) : Type 0 where
 pub record HasFailed (v w : View) : Type 0 where
   pub checked : List Word
   pub steps : ℕ
+  pub since : v.steps ≤ steps
   pub last : Option Glance
   pub loaded : Option Loaded
   pub reads : List Read

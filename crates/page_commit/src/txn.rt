@@ -1,18 +1,27 @@
 // Transactions of one worker.
-ghost use Rattle.std.specs.Prelude.{◌≡◌, ◌+◌, ◌≤◌, true, Some, None, IfOk, IfErr, OnOk, OnErr};
+ghost use Rattle.std.specs.Prelude.{◌≡◌, ◌+◌, ◌≤◌, length, true, Some, None, IfOk, IfErr, OnOk, OnErr};
+ghost use Rattle.serial_model.specs.declared.op.Op.TheVariants as ops;
+ghost use Rattle.serial_model.specs.declared.reply.Reply.TheVariants as replies;
 ghost use Rattle.tx_sets.specs.Gathered.{AreEmpty};
+ghost use Rattle.array_pages.specs.Spans.{walk_holds, IsArrayKey};
 ghost use Rattle.engine_pages.specs.Passes.{view, IsPassOf};
 ghost use Rattle.page_commit.specs.Live.{IsLive, IsOver};
+ghost use Rattle.page_commit.specs.Turning.{HasDone, IsValueRead};
+ghost use Rattle.page_commit.specs.Altering.{Alters};
 ghost use Rattle.page_commit.specs.Refusing.{HasRefused, RefusesBegin};
-ghost use Rattle.page_commit.specs.Committing.{changes_of, commit_steps, kept_writes, AreChangesOf, IsDropped, HasBegun, HasAborted};
-ghost use Rattle.page_commit.specs.Committing.{HasCommitted, RefusesCommit};
+ghost use Rattle.page_commit.specs.Calls.{alter_most, op_holds, read_most, write_most, RefusesAlter};
+ghost use Rattle.page_commit.specs.Calls.{RefusesRead, RefusesWrite};
+ghost use Rattle.page_commit.specs.Committing.{changes_of, commit_steps, kept_writes, AreChangesOf, IsDropped};
+ghost use Rattle.page_commit.specs.Committing.{HasAborted, HasBegun, HasCommitted, RefusesCommit};
 
 use crate::committing::{commit_all, put_changes};
 use crate::leaving::leave_all;
 use crate::locking::LockWords;
+use crate::reading::value_of;
+use crate::writing::{By, alter, write_value};
 use engine_pages::{Engine, Pass, RefusalCause};
 use page_records::{begin, forget};
-use serial_model::{Changes, DRAW_LIMIT, Number};
+use serial_model::{Changes, DRAW_LIMIT, Key, Number, Verdict};
 use tx_sets::Sets;
 
 /// The transactions of one worker, one after another. It is made once and not moved: what the one under way has read
@@ -47,6 +56,100 @@ impl Txn {
             return Err(RefusalCause::NumberLimit { clock });
         }
         Ok(())
+    }
+
+    /// The value at the key of an array: what the transaction wrote last, else what it first read. A key that it has
+    /// not met before is read, and kept.
+    pub fn read(&mut self, engine: &Engine, pass: &mut Pass, key: Key) -> Result<u64, RefusalCause>
+        requires of { IsPassOf engine.now pass.old }
+        requires live { IsLive self.old.sets (view pass.old) }
+        requires fits { IsArrayKey (view pass.old).layout.decls key }
+        ensures of { IsPassOf engine.now pass.new }
+        ensures replies { IfOk result (λ value.
+            HasDone (ops.Read key) (Some (replies.Value value)) self.old.sets self.new.sets (view pass.old)
+            (view pass.new)) }
+        ensures value { IfOk result (λ value.
+            IsValueRead key value self.old.sets (view pass.old) (view pass.new)) }
+        ensures cause { IfErr result (λ why.
+            RefusesRead self.old.sets self.new.sets key why (view pass.old) (view pass.new)) }
+        ensures refused { IfErr result (λ why. HasRefused why (view pass.old) (view pass.new)) }
+        ensures most { (view pass.new).steps ≤ (view pass.old).steps + read_most }
+        ensures grows { length self.new.sets.holds ≤ length self.old.sets.holds + walk_holds }
+    {
+        value_of(engine, pass, &mut self.sets, key)
+    }
+
+    /// Sets the value at the key of an array, for the transaction alone until it commits.
+    pub fn write(
+        &mut self,
+        engine: &Engine,
+        pass: &mut Pass,
+        key: Key,
+        value: u64,
+    ) -> Result<(), RefusalCause>
+        requires of { IsPassOf engine.now pass.old }
+        requires live { IsLive self.old.sets (view pass.old) }
+        requires fits { IsArrayKey (view pass.old).layout.decls key }
+        ensures of { IsPassOf engine.now pass.new }
+        ensures done { OnOk result (
+            HasDone (ops.Write key value) None self.old.sets self.new.sets (view pass.old) (view pass.new)) }
+        ensures cause { IfErr result (λ why.
+            RefusesWrite self.old.sets self.new.sets key why (view pass.old) (view pass.new)) }
+        ensures refused { IfErr result (λ why. HasRefused why (view pass.old) (view pass.new)) }
+        ensures most { (view pass.new).steps ≤ (view pass.old).steps + write_most (view pass.old).layout.slots }
+        ensures grows { length self.new.sets.holds ≤ length self.old.sets.holds + walk_holds }
+    {
+        write_value(engine, pass, &mut self.sets, key, value)
+    }
+
+    /// Adds to the value at the key of an array. Above 2^64 - 1 the transaction ends as `Over`: no operation is to
+    /// follow, and it is to commit without its writes.
+    #[inline(always)]
+    pub fn add(
+        &mut self,
+        engine: &Engine,
+        pass: &mut Pass,
+        key: Key,
+        amount: u64,
+    ) -> Result<Verdict, RefusalCause>
+        requires of { IsPassOf engine.now pass.old }
+        requires live { IsLive self.old.sets (view pass.old) }
+        requires fits { IsArrayKey (view pass.old).layout.decls key }
+        ensures of { IsPassOf engine.now pass.new }
+        ensures turns { IfOk result (λ verdict.
+            Alters (ops.Add key amount) verdict self.old.sets self.new.sets (view pass.old) (view pass.new)) }
+        ensures cause { IfErr result (λ why.
+            RefusesAlter self.old.sets self.new.sets key why (view pass.old) (view pass.new)) }
+        ensures refused { IfErr result (λ why. HasRefused why (view pass.old) (view pass.new)) }
+        ensures most { (view pass.new).steps ≤ (view pass.old).steps + alter_most (view pass.old).layout.slots }
+        ensures grows { length self.new.sets.holds ≤ length self.old.sets.holds + op_holds }
+    {
+        alter(engine, pass, &mut self.sets, key, By::Add(amount))
+    }
+
+    /// Takes from the value at the key of an array. Below 0 the transaction ends as `Short`: no operation is to follow,
+    /// and it is to commit without its writes.
+    #[inline(always)]
+    pub fn take(
+        &mut self,
+        engine: &Engine,
+        pass: &mut Pass,
+        key: Key,
+        amount: u64,
+    ) -> Result<Verdict, RefusalCause>
+        requires of { IsPassOf engine.now pass.old }
+        requires live { IsLive self.old.sets (view pass.old) }
+        requires fits { IsArrayKey (view pass.old).layout.decls key }
+        ensures of { IsPassOf engine.now pass.new }
+        ensures turns { IfOk result (λ verdict.
+            Alters (ops.Take key amount) verdict self.old.sets self.new.sets (view pass.old) (view pass.new)) }
+        ensures cause { IfErr result (λ why.
+            RefusesAlter self.old.sets self.new.sets key why (view pass.old) (view pass.new)) }
+        ensures refused { IfErr result (λ why. HasRefused why (view pass.old) (view pass.new)) }
+        ensures most { (view pass.new).steps ≤ (view pass.old).steps + alter_most (view pass.old).layout.slots }
+        ensures grows { length self.new.sets.holds ≤ length self.old.sets.holds + op_holds }
+    {
+        alter(engine, pass, &mut self.sets, key, By::Take(amount))
     }
 
     /// Commits the transaction, with its writes or without them, or gives it up. A commit answers its number, and

@@ -1,4 +1,4 @@
-use Rattle.std.proofs.Common.{Some, length}
+use Rattle.std.proofs.Common.{Some, arith, length}
 use Rattle.engine_pages.specs.declared.view.RefusalCause.TheVariants as refusals
 use Rattle.engine_pages.specs.Passes.{view}
 use Rattle.page_commit.proofs.DrawLaws.{active_worker}
@@ -43,6 +43,10 @@ pub returns-clause-gives_up : goal.returns-clause-gives_up
 returns-clause-gives_up c =
     given_up c.args.writes.now _ (view c.args.pass.now) (view c.unlock_all.new.pass) (view c.forget.new.pass)
     (view c.leave_all.new.pass) c.unlock_all.ensures.unlocked c.forget.ensures.forgets c.leave_all.ensures.left
+    (let all = forgot_steps (Some (refusals.Conflict c.args.conflict.word c.args.conflict.expected c.args.conflict.seen))
+    (view c.args.pass.now) (view c.unlock_all.new.pass) (view c.forget.new.pass) (view c.leave_all.new.pass)
+    (length c.args.writes.now) (length c.args.holds.now) c.unlock_all.ensures.steps c.forget.ensures.forgets
+    c.leave_all.ensures.steps in omega (arith, all))
 
 pub returns-clause-steps : goal.returns-clause-steps
 returns-clause-steps c =

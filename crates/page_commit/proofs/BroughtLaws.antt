@@ -1,0 +1,76 @@
+-- A page that was brought up for a write: the transaction goes on, and nothing was read.
+use Rattle.std.proofs.Common.{◌≡◌, inl, inr, ℕ, List, [], sym, ap, subst}
+use Rattle.std.specs.Prelude.{Contains}
+use Rattle.lists.specs.Each.{AreDistinct}
+use Rattle.serial_model.specs.declared.key.Key.{Key}
+use Rattle.tx_sets.specs.declared.reads.ReadEntry.{ReadEntry}
+use Rattle.tx_sets.specs.declared.seen.Seen.{Seen}
+use Rattle.tx_sets.specs.declared.sets.Sets.{Sets}
+use Rattle.tx_sets.specs.Entries.{places_of}
+use Rattle.engine_pages.specs.declared.layout.Layout.{Layout}
+use Rattle.engine_pages.specs.declared.view.View.{View}
+use Rattle.array_pages.specs.Making.{CanMake, HasMade}
+use Rattle.array_pages.specs.Spans.{IsArrayKey}
+use Rattle.array_pages.specs.Walks.{HasWalked, KeepsWords, OnlyWaysTo}
+use Rattle.page_commit.specs.Live.{entry_places, AreMet, AreParts, ArePointersKept, ArePointersMet, IsLive}
+use Rattle.page_commit.specs.Keeping.{HasBrought}
+use Rattle.page_commit.proofs.GrowLaws.{key_here, knows_more, met_pointer_grown, read_grown, KnowsMore}
+use Rattle.page_commit.proofs.WalkedLaws.{inside_only, kept_walked, live_walked, met_only, only_walked, points_walked}
+
+-- the parts are those that were kept, where the pass knows more
+pub parts_grown : (sets new : Sets) (v w : View) → IsLive sets v → KnowsMore v w → new.reads ≡ sets.reads
+    → new.pointers ≡ sets.pointers → w.seat.kept ≡ v.seat.kept → AreParts new w w.seat.kept
+parts_grown sets new v w live more reads pointers kept = subst (AreParts new w) (sym kept) record {
+  known = λ part has. elim (live.parts.known part has) [
+    | inl r ↦ inl (
+      r.0,
+      subst (λ (l : List ReadEntry). Contains l r.0) (sym reads) r.1,
+      read_grown v w r.0 part more r.2,
+    )
+    | inr r ↦ inr (
+      r.0,
+      subst (λ (l : List Seen). Contains l r.0) (sym pointers) r.1,
+      met_pointer_grown v w r.0 part live.decls more r.2,
+    )
+  ];
+  reads = λ e has.
+      let r = live.parts.reads e (subst (λ (l : List ReadEntry). Contains l e) reads has) in
+      (r.0, r.1, read_grown v w e r.0 more r.2);
+  pointers = λ p has.
+      let r = live.parts.pointers p (subst (λ (l : List Seen). Contains l p) pointers has) in
+      (r.0, r.1, met_pointer_grown v w p r.0 live.decls more r.2);
+  once = live.parts.once;
+}
+
+pub brought : (sets new : Sets) (v w : View) (k : Key) (at : ℕ) → IsLive sets v → HasWalked v w
+    → CanMake new.holds w → w.seat.kept ≡ v.seat.kept → KeepsWords v w → OnlyWaysTo k v w → HasMade k sets.pointers at v w
+    → new.reads ≡ sets.reads → new.pointers ≡ sets.pointers → new.writes ≡ sets.writes → HasBrought k at sets new v w
+brought sets new v w k at live walk can kept words paths made reads pointers writes =
+    let more = knows_more v w walk in
+    let agree = can.walks.agree in
+    let decls = can.walks.declared in record {
+      live = live_walked sets new v w live walk can.walks record {
+        parts = parts_grown sets new v w live more reads pointers kept;
+        places = subst (λ (l : List ReadEntry). AreDistinct (entry_places l)) (sym reads) live.places;
+        once = subst (λ (l : List Seen). AreDistinct (places_of l)) (sym pointers) live.once;
+        writes = writes;
+        met = subst (λ (l : List ReadEntry). AreMet l [] w) (sym reads)
+            (met_only sets v w live more agree decls made.others);
+        points = subst (λ (l : List Seen). ArePointersMet l w) (sym pointers) (points_walked sets v w live made.keeps);
+        kept = subst (λ (l : List Seen). ArePointersKept l w) (sym pointers) (kept_walked sets v w live words);
+        inside = inside_only sets v w live more decls made.others;
+      };
+      only = only_walked v w walk;
+      paths = paths;
+      kept = kept;
+      reads = reads;
+      pointers = pointers;
+      writes = writes;
+      place = key_here w k made.record_at.spot at made.record_at.place;
+    }
+
+-- the key's storage is as it was
+pub brought_fits : (sets new : Sets) (v w : View) (k : Key) (at : ℕ) → HasBrought k at sets new v w
+    → IsArrayKey v.layout.decls k → IsArrayKey w.layout.decls k
+brought_fits sets new v w k at h fits =
+    subst (λ (l : Layout). IsArrayKey l.decls k) (sym (ap (λ (y : View). y.layout) h.only.is)) fits

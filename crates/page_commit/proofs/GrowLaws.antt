@@ -1,0 +1,399 @@
+-- What a pass knows of words stays where it learns of more ways and pages.
+use Rattle.std.proofs.Common.{◌≡◌, ◌≢◌, inl, inr, ℕ, ◌+◌, ◌-◌, ◌*◌, ◌/◌, ◌%◌, ◌<◌, Bool, true, false, true≢false}
+use Rattle.std.proofs.Common.{List, [], ◌∷◌, ◌++◌, refl, sym, ap, ◌∙◌, subst, arith, cond, Option, Some, None}
+use Rattle.std.specs.Prelude.{Contains, ◌==◌, nat_lt}
+use Rattle.std.specs.List.{find, AllByRecursion}
+use Rattle.std.specs.Option.{option_map}
+use Rattle.std.proofs.lemmas.Bool.{eqb-true, eq-eqb, ne_eqb}
+use Rattle.std.proofs.lemmas.Bool.Decides.{nat_tests}
+use Rattle.lists.specs.Elements.{any_in, in_head, in_tail}
+use Rattle.lists.specs.Fronts.{IsFront}
+use Rattle.serial_model.specs.declared.key.Key.{Key}
+use Rattle.serial_model.specs.Decls.{AreDecls}
+use Rattle.homes.specs.declared.places.At.{At}
+use Rattle.homes.specs.declared.places.At.TheVariants.{Root, In}
+use Rattle.homes.specs.declared.places.Span.{Span}
+use Rattle.homes.specs.declared.places.Spot.{Spot}
+use Rattle.homes.specs.Homes.{same_key}
+use Rattle.homes.specs.Laws.{same_key-self}
+use Rattle.commit_core.specs.declared.part.Part.{Part}
+use Rattle.tx_sets.specs.declared.reads.ReadEntry.{ReadEntry}
+use Rattle.tx_sets.specs.declared.seen.Seen.{Seen}
+use Rattle.tx_sets.specs.declared.sets.Sets.{Sets}
+use Rattle.tx_sets.specs.declared.writes.Write.{Write}
+use Rattle.tx_sets.specs.Entries.{has_read}
+use Rattle.engine_pages.specs.declared.layout.Layout.{Layout}
+use Rattle.engine_pages.specs.declared.view.Lead.{Lead}
+use Rattle.engine_pages.specs.declared.view.View.{View}
+use Rattle.engine_pages.specs.declared.view.Way.{Way}
+use Rattle.engine_pages.specs.Layout.{page_at, words_of}
+use Rattle.engine_pages.specs.Pages.{child_span, is_array, root_span}
+use Rattle.engine_pages.specs.Pointers.{IsPointerAt, StandsFor, WaysAgree}
+use Rattle.engine_pages.specs.Records.{IsRecordAt, IsRecordIn}
+use Rattle.engine_pages.specs.Steps.{seen_at}
+use Rattle.dual_pointer.specs.Parts.{IsPointerPart, part_stays}
+use Rattle.array_pages.specs.Walks.{HasWalked, IsPointersWord}
+use Rattle.page_commit.specs.Places.{ground, pointer_at, slot_of, spot_at, word_of, Ground, IsChildIn, IsKeyAt}
+use Rattle.page_commit.specs.Places.{IsPointerIn, IsRootIn}
+use Rattle.page_commit.specs.Live.{read_word, IsLive, IsMetPointer, IsReadPart, IsWriteOf, StandsIn}
+use Rattle.page_commit.proofs.BelowLaws.{content_longer, stands_longer}
+use Rattle.page_commit.proofs.PlaceLaws.{one_key, pointer_there}
+
+-- the pass knows of more ways, leads and pages
+pub record KnowsMore (v w : View) : Type 0 where
+  pub layout : w.layout ≡ v.layout
+  pub ways : (x : Way) → Contains v.ways x → Contains w.ways x
+  pub leads : (x : Lead) → Contains v.leads x → Contains w.leads x
+  pub pages : IsFront v.pages w.pages
+
+pub knows_more : (v w : View) → HasWalked v w → KnowsMore v w
+knows_more v w walk = record {
+  layout = ap (λ (y : View). y.layout) walk.is;
+  ways = walk.ways;
+  leads = walk.leads;
+  pages = walk.pages;
+}
+
+-- ---- places
+
+pub key_grown : (v w : View) (k : Key) (at : ℕ) → KnowsMore v w → IsKeyAt v k at → IsKeyAt w k at
+key_grown v w k at more p =
+    subst (λ (l : Layout). IsRecordIn l.decls l.slots w.ways k (spot_at l.slots at) at) (sym more.layout) record {
+      way = p.way;
+      has = more.ways p.way p.has;
+      slot = p.slot;
+      there = p.there;
+      kind = p.kind;
+      leaf = p.leaf;
+      index = p.index;
+      key = p.key;
+      word = p.word;
+    }
+
+-- the ground with these ways
+abbrev with_ways : List Way → Layout → Ground
+with_ways ways l = record { layout = l; ways = ways }
+
+pub pointer_grown : (v w : View) (sp : Span) (at : ℕ) → KnowsMore v w → IsPointerIn (ground v) sp at
+    → IsPointerIn (ground w) sp at
+pointer_grown v w sp at more (inl r) =
+    inl (subst (λ (l : Layout). IsRootIn (with_ways w.ways l) sp at) (sym more.layout) record {
+      root = r.root;
+      few = r.few;
+      there = r.there;
+      span = r.span;
+      word = r.word;
+    })
+pointer_grown v w sp at more (inr c) =
+    inr (subst (λ (l : Layout). IsChildIn (with_ways w.ways l) sp at) (sym more.layout) record {
+      way = c.way;
+      has = more.ways c.way c.has;
+      slot = c.slot;
+      kind = c.kind;
+      inner = c.inner;
+      span = c.span;
+      word = c.word;
+    })
+
+-- the place of a record follows from that of its word
+pub spot_of_word : (v : View) (k : Key) (x : Spot) (at : ℕ) → IsRecordAt v k x at → x ≡ spot_at v.layout.slots at
+spot_of_word v k x at p =
+    let index : x.index < 32 = p.index in
+    let word : at ≡ ((32 + v.layout.slots) + 64 * x.slot) + 2 * x.index = p.word in
+    let slot : x.slot ≡ (at - (32 + v.layout.slots)) / 64 = omega (arith, index, word) in
+    let rest : (at - (32 + v.layout.slots)) % 64 ≡ 2 * x.index = omega (arith, index, word) in
+    let place : x.index ≡ ((at - (32 + v.layout.slots)) % 64) / 2 = omega (arith, rest) in
+    ap (λ (n : ℕ). let y : Spot = record { slot = n; index = x.index } in y) slot
+    ∙ ap (λ (n : ℕ). let y : Spot = record { slot = (at - (32 + v.layout.slots)) / 64; index = n } in y) place
+
+pub key_here : (v : View) (k : Key) (x : Spot) (at : ℕ) → IsRecordAt v k x at → IsKeyAt v k at
+key_here v k x at p = subst (λ (y : Spot). IsRecordAt v k y at) (spot_of_word v k x at p) p
+
+-- so does that of a pointer
+pub place_of_word : (v : View) (x : At) (sp : Span) (at : ℕ) → AreDecls v.layout.decls → IsPointerAt v x sp at
+    → x ≡ pointer_at v.layout.slots at
+place_of_word v (Root r) sp at are p =
+    let few = are.few in
+    let less = p.0 in
+    let word : at ≡ 10 + r = p.2 in
+    let low : nat_lt at 32 ≡ true = grind (arith, nat_tests) in
+    let root : r ≡ at - 10 = omega (arith, word) in
+    ap (λ (n : ℕ). Root n) root
+    ∙ sym (ap (λ (b : Bool). cond b (Root (at - 10))
+    (In (record { slot = slot_of v.layout.slots at; index = word_of v.layout.slots at }))) low)
+place_of_word v (In y) sp at are p =
+    let index : y.index < 64 = p.index in
+    let word : at ≡ ((32 + v.layout.slots) + 64 * y.slot) + y.index = p.word in
+    let high : nat_lt at 32 ≡ false = grind (arith, nat_tests) in
+    let slot : y.slot ≡ (at - (32 + v.layout.slots)) / 64 = omega (arith, index, word) in
+    let place : y.index ≡ (at - (32 + v.layout.slots)) % 64 = omega (arith, index, word) in
+    ap (λ (n : ℕ). let z : At = In (record { slot = n; index = y.index }) in z) slot
+    ∙ (ap (λ (n : ℕ). let z : At = In (record { slot = (at - (32 + v.layout.slots)) / 64; index = n }) in z) place
+    ∙ sym (ap (λ (b : Bool). cond b (Root (at - 10))
+    (In (record { slot = slot_of v.layout.slots at; index = word_of v.layout.slots at }))) high))
+
+pub pointer_here : (v : View) (x : At) (sp : Span) (at : ℕ) → AreDecls v.layout.decls → IsPointerAt v x sp at
+    → IsPointerIn (ground v) sp at
+pointer_here v (Root r) sp at are p =
+    let few = are.few in
+    let less = p.0 in
+    inl record { root = r; few = omega (arith, few, less); there = p.0; span = p.1; word = p.2 }
+pointer_here v (In y) sp at are p =
+    let index : y.index < 64 = p.index in
+    let word : at ≡ ((32 + v.layout.slots) + 64 * y.slot) + y.index = p.word in
+    let slot : y.slot ≡ (at - (32 + v.layout.slots)) / 64 = omega (arith, index, word) in
+    let place : y.index ≡ (at - (32 + v.layout.slots)) % 64 = omega (arith, index, word) in
+    inr record {
+      way = p.way;
+      has = p.has;
+      slot = p.slot ∙ slot;
+      kind = p.kind;
+      inner = p.inner;
+      span = p.span ∙ ap (λ (n : ℕ). child_span p.way.span n) place;
+      word = p.word
+          ∙ (ap (λ (n : ℕ). page_at v.layout.slots n y.index) slot
+          ∙ ap (λ (n : ℕ). page_at v.layout.slots ((at - (32 + v.layout.slots)) / 64) n) place);
+    }
+
+-- the word is that of a pointer
+pub points_here : (v : View) (sp : Span) (at : ℕ) → IsPointerIn (ground v) sp at → IsPointersWord v at
+points_here v sp at p = record {
+  place = pointer_at v.layout.slots at;
+  span = sp;
+  is = pointer_there v sp at p;
+}
+
+-- a pointer's word is over one span
+pub one_span : (g : Ground) (sp tp : Span) (at : ℕ) → WaysAgree g.ways → IsPointerIn g sp at → IsPointerIn g tp at → sp ≡ tp
+one_span g sp tp at agree (inl a) (inl b) =
+    let one : at ≡ 10 + a.root = a.word in
+    let two : at ≡ 10 + b.root = b.word in
+    let same : a.root ≡ b.root = omega (arith, one, two) in
+    a.span ∙ (ap (λ (r : ℕ). root_span g.layout.decls r) same ∙ sym b.span)
+one_span g sp tp at agree (inl a) (inr b) =
+    let few = a.few in
+    let one : at ≡ 10 + a.root = a.word in
+    let two : at ≡ ((32 + g.layout.slots) + 64 * ((at - (32 + g.layout.slots)) / 64)) + (at - (32 + g.layout.slots)) % 64 =
+    b.word in
+    absurd (omega (arith, few, one, two))
+one_span g sp tp at agree (inr a) (inl b) =
+    let few = b.few in
+    let one : at ≡ 10 + b.root = b.word in
+    let two : at ≡ ((32 + g.layout.slots) + 64 * ((at - (32 + g.layout.slots)) / 64)) + (at - (32 + g.layout.slots)) % 64 =
+    a.word in
+    absurd (omega (arith, few, one, two))
+one_span g sp tp at agree (inr a) (inr b) =
+    let same = agree a.way b.way a.has b.has (a.slot ∙ sym b.slot) in
+    let less : (at - (32 + g.layout.slots)) % 64 < 64 = omega arith in
+    a.span ∙ (same.3 a.inner (word_of g.layout.slots at) less ∙ sym b.span)
+
+-- ---- parts and writes
+
+pub read_grown : (v w : View) (e : ReadEntry) (part : Part) → KnowsMore v w → IsReadPart (ground v) e part
+    → IsReadPart (ground w) e part
+read_grown v w e part more r = record {
+  place = key_grown v w e.key e.at more r.place;
+  content = r.content;
+  shown = r.shown;
+  value = r.value;
+  is = r.is ∙ ap (λ (l : Layout). Rattle.commit_core.specs.Parts.record_part e.key (spot_at l.slots e.at) r.content)
+      (sym more.layout);
+}
+
+pub met_pointer_grown : (v w : View) (p : Seen) (part : Part) → AreDecls v.layout.decls → KnowsMore v w
+    → IsMetPointer v p part → IsMetPointer w p part
+met_pointer_grown v w p part are more m = record {
+  span = m.span;
+  place = pointer_grown v w m.span p.at more m.place;
+  within = subst (λ (l : Layout). p.at < words_of l) (sym more.layout) m.within;
+  bare = m.bare;
+  of = subst (λ (l : Layout). IsPointerPart w (pointer_at l.slots p.at) m.span p.word part) (sym more.layout)
+      (part_stays v w (pointer_at v.layout.slots p.at) m.span p.word part more.leads m.of);
+  array = subst (λ (l : Layout). is_array l.decls m.span.storage ≡ true) (sym more.layout) m.array;
+  stands = λ some. subst (λ (l : Layout). StandsFor l.decls w.pages m.span p.word) (sym more.layout)
+      (stands_longer v.layout.decls v.pages w.pages m.span p.word more.pages (m.stands some));
+  inside = m.inside;
+  all = m.all;
+  says = λ k over. m.says k over
+      ∙ sym (content_longer v.layout.decls v.pages w.pages m.span p.word k are m.array more.pages m.stands);
+}
+
+pub writes_grown : (ws : List Write) (v w : View) → KnowsMore v w → AllByRecursion (IsWriteOf (ground v)) ws
+    → AllByRecursion (IsWriteOf (ground w)) ws
+writes_grown [] v w more all = tt
+writes_grown (x ∷ ws) v w more all =
+    (record { place = key_grown v w x.key x.at more all.0.place; value = all.0.value }, writes_grown ws v w more all.1)
+
+-- ---- entries, by their words
+
+some_is : (a c : ℕ) → Some a ≡ Some c → a ≡ c
+some_is a c same = cc
+
+-- what is found at a word is the entry of that word
+pub entry_at : (reads : List ReadEntry) (at n : ℕ) → read_word at reads ≡ Some n
+    → (e : ReadEntry) × Contains reads e × (e.at ≡ at) × (e.word ≡ n)
+entry_at [] at n is = absurd cc
+entry_at (f ∷ reads) at n is = by_test (f.at == at) refl is (entry_at reads at n)
+  where
+    by_test : (b : Bool) → (f.at == at) ≡ b → read_word at (f ∷ reads) ≡ Some n
+        → (read_word at reads ≡ Some n → (e : ReadEntry) × Contains reads e × (e.at ≡ at) × (e.word ≡ n))
+        → (e : ReadEntry) × Contains (f ∷ reads) e × (e.at ≡ at) × (e.word ≡ n)
+    by_test true hit is rest = (
+      f,
+      in_head f reads,
+      eqb-true f.at at hit,
+      some_is f.word n (sym (ap (λ b. option_map (λ (x : ReadEntry). x.word)
+          (cond b (Some f) (find (λ (x : ReadEntry). x.at == at) reads))) hit) ∙ is),
+    )
+    by_test false miss is rest =
+        let later = rest (sym (ap (λ b. option_map (λ (x : ReadEntry). x.word)
+        (cond b (Some f) (find (λ (x : ReadEntry). x.at == at) reads))) miss) ∙ is) in
+        (later.0, in_tail later.0 f reads later.1, later.2, later.3)
+
+-- where no entry is of the word, nothing is found
+pub none_read : (reads : List ReadEntry) (at : ℕ) → ((e : ReadEntry) → Contains reads e → e.at ≡ at → ⊥)
+    → read_word at reads ≡ None
+none_read [] at other = refl
+none_read (f ∷ reads) at other =
+    ap (λ b. option_map (λ (x : ReadEntry). x.word) (cond b (Some f) (find (λ (x : ReadEntry). x.at == at) reads)))
+    (ne_eqb f.at at (λ same. other f (in_head f reads) same))
+    ∙ none_read reads at (λ e has same. other e (in_tail e f reads has) same)
+
+pub word_push_new : (reads : List ReadEntry) (e : ReadEntry) (at : ℕ) → read_word at reads ≡ None → e.at ≡ at
+    → read_word at (reads ++ e ∷ []) ≡ Some e.word
+word_push_new [] e at none same =
+    ap (λ b. option_map (λ (x : ReadEntry). x.word) (cond b (Some e) None)) (eq-eqb e.at at same)
+word_push_new (f ∷ reads) e at none same = by_test (f.at == at) refl none (λ rest. word_push_new reads e at rest same)
+  where
+    by_test : (b : Bool) → (f.at == at) ≡ b → read_word at (f ∷ reads) ≡ None
+        → (read_word at reads ≡ None → read_word at (reads ++ e ∷ []) ≡ Some e.word)
+        → read_word at (f ∷ (reads ++ e ∷ [])) ≡ Some e.word
+    by_test true hit none rest =
+        let no : Some f.word ≡ None =
+        sym (ap (λ b. option_map (λ (x : ReadEntry). x.word)
+        (cond b (Some f) (find (λ (x : ReadEntry). x.at == at) reads))) hit) ∙ none in
+        absurd (cc)
+    by_test false miss none rest =
+        ap (λ b. option_map (λ (x : ReadEntry). x.word)
+        (cond b (Some f) (find (λ (x : ReadEntry). x.at == at) (reads ++ e ∷ [])))) miss
+        ∙ rest (sym (ap (λ b. option_map (λ (x : ReadEntry). x.word)
+        (cond b (Some f) (find (λ (x : ReadEntry). x.at == at) reads))) miss) ∙ none)
+
+pub word_push_old : (reads : List ReadEntry) (e : ReadEntry) (at : ℕ) → e.at ≢ at
+    → read_word at (reads ++ e ∷ []) ≡ read_word at reads
+word_push_old [] e at apart =
+    ap (λ b. option_map (λ (x : ReadEntry). x.word) (cond b (Some e) None)) (ne_eqb e.at at apart)
+word_push_old (f ∷ reads) e at apart = by_test (f.at == at) refl (word_push_old reads e at apart)
+  where
+    by_test : (b : Bool) → (f.at == at) ≡ b → read_word at (reads ++ e ∷ []) ≡ read_word at reads
+        → read_word at (f ∷ (reads ++ e ∷ [])) ≡ read_word at (f ∷ reads)
+    by_test true hit rest =
+        ap (λ b. option_map (λ (x : ReadEntry). x.word)
+        (cond b (Some f) (find (λ (x : ReadEntry). x.at == at) (reads ++ e ∷ [])))) hit
+        ∙ sym (ap (λ b. option_map (λ (x : ReadEntry). x.word)
+        (cond b (Some f) (find (λ (x : ReadEntry). x.at == at) reads))) hit)
+    by_test false miss rest =
+        ap (λ b. option_map (λ (x : ReadEntry). x.word)
+        (cond b (Some f) (find (λ (x : ReadEntry). x.at == at) (reads ++ e ∷ [])))) miss
+        ∙ (rest ∙ sym (ap (λ b. option_map (λ (x : ReadEntry). x.word)
+        (cond b (Some f) (find (λ (x : ReadEntry). x.at == at) reads))) miss))
+
+-- ---- words that were met
+
+-- of a record to which a way is known now, the transaction had seen what it read
+pub met_before : (sets : Sets) (v w : View) (k : Key) (at : ℕ) → IsLive sets v → KnowsMore v w → WaysAgree w.ways
+    → IsKeyAt w k at → seen_at v.reads at ≡ read_word at sets.reads
+met_before sets v w k at live more agree place = by_read (read_word at sets.reads) refl
+  where
+    key_same : (i : ℕ) (b : Way) → place.way.span.storage ≡ b.span.storage → place.way.span.low ≡ b.span.low
+        → (let x : Key = record { storage = place.way.span.storage; key = place.way.span.low + i } in
+        let y : Key = record { storage = b.span.storage; key = b.span.low + i } in x ≡ y)
+    key_same i b storage low =
+        ap (λ (s : ℕ). let z : Key = record { storage = s; key = place.way.span.low + i } in z) storage
+        ∙ ap (λ (l : ℕ). let z : Key = record { storage = b.span.storage; key = l + i } in z) low
+
+    -- the way that was known before leads to this record
+    by_way : (way : Way) → Contains v.ways way → slot_of v.layout.slots at ≡ way.slot → IsKeyAt v k at
+    by_way way has slot =
+        let here : place.way.slot ≡ way.slot =
+        place.slot ∙ (ap (λ (l : Layout). slot_of l.slots at) more.layout ∙ slot) in
+        let same = agree place.way way place.has (more.ways way has) here in
+        subst (λ (l : Layout). IsRecordIn l.decls l.slots v.ways k (spot_at l.slots at) at) more.layout record {
+          way = way;
+          has = has;
+          slot = sym here ∙ place.slot;
+          there = place.there;
+          kind = ap (λ (i : ℕ). is_array w.layout.decls i) (sym same.0) ∙ place.kind;
+          leaf = sym same.2 ∙ place.leaf;
+          index = place.index;
+          key = place.key ∙ key_same (spot_at w.layout.slots at).index way same.0 same.1;
+          word = place.word;
+        }
+
+    by_side : StandsIn (ground v) at → seen_at v.reads at ≡ read_word at sets.reads
+    by_side (inl low) =
+        let word : at
+        ≡ ((32 + w.layout.slots) + 64 * ((at - (32 + w.layout.slots)) / 64)) + 2 * (((at - (32 + w.layout.slots)) % 64) / 2) =
+        place.word in absurd (omega (arith, low, word))
+    by_side (inr way) = live.met k at (by_way way.0 way.1 way.2) refl
+
+    by_entry : (e : ReadEntry) → Contains sets.reads e → e.at ≡ at → seen_at v.reads at ≡ read_word at sets.reads
+    by_entry e has same =
+        let r = live.parts.reads e has in
+        live.met e.key at (subst (IsKeyAt v e.key) same r.2.place) refl
+
+    by_seen : (o : Option ℕ) → seen_at v.reads at ≡ o → read_word at sets.reads ≡ None
+        → seen_at v.reads at ≡ read_word at sets.reads
+    by_seen (Some n) is none = by_side (live.inside at n is)
+    by_seen None is none = is ∙ sym none
+
+    by_read : (o : Option ℕ) → read_word at sets.reads ≡ o → seen_at v.reads at ≡ read_word at sets.reads
+    by_read (Some n) is = let e = entry_at sets.reads at n is in by_entry e.0 e.1 e.2
+    by_read None is = by_seen (seen_at v.reads at) refl is
+
+-- no entry has the word of a record whose key wasn't read
+pub no_entry : (sets : Sets) (v w : View) (k : Key) (at : ℕ) → IsLive sets v → KnowsMore v w → WaysAgree w.ways
+    → IsKeyAt w k at → has_read k sets.reads ≡ false → (e : ReadEntry) → Contains sets.reads e → e.at ≡ at → ⊥
+no_entry sets v w k at live more agree place unread e has same =
+    let r = live.parts.reads e has in
+    let there : IsKeyAt w e.key at = subst (IsKeyAt w e.key) same (key_grown v w e.key e.at more r.2.place) in
+    let key : e.key ≡ k = one_key (ground w) e.key k at agree there place in
+    true≢false (sym (any_in (λ (x : ReadEntry). same_key x.key k) sets.reads e has
+    (ap (λ (q : Key). same_key q k) key ∙ same_key-self k)) ∙ unread)
+
+-- ---- words stand where the pass knows of them
+
+pub stands_grown : (v w : View) (at : ℕ) → KnowsMore v w → StandsIn (ground v) at → StandsIn (ground w) at
+stands_grown v w at more (inl low) = inl low
+stands_grown v w at more (inr way) =
+    inr (way.0, more.ways way.0 way.1, ap (λ (l : Layout). slot_of l.slots at) more.layout ∙ way.2)
+
+pub pointer_stands : (v : View) (at : ℕ) → AreDecls v.layout.decls → IsPointersWord v at → StandsIn (ground v) at
+pointer_stands v at are p = by_side (pointer_here v p.place p.span at are p.is)
+  where
+    by_side : IsPointerIn (ground v) p.span at → StandsIn (ground v) at
+    by_side (inl r) = let few = r.few in let word : at ≡ 10 + r.root = r.word in inl (omega (arith, few, word))
+    by_side (inr c) = inr (c.way, c.has, sym c.slot)
+
+pub record_stands : (v : View) (k : Key) (at : ℕ) → IsKeyAt v k at → StandsIn (ground v) at
+record_stands v k at p = inr (p.way, p.has, sym p.slot)
+
+-- the value's word, too
+pub value_stands : (v : View) (k : Key) (at : ℕ) → IsKeyAt v k at → StandsIn (ground v) (at + 1)
+value_stands v k at p =
+    let word : at
+    ≡ ((32 + v.layout.slots) + 64 * ((at - (32 + v.layout.slots)) / 64)) + 2 * (((at - (32 + v.layout.slots)) % 64) / 2) =
+    p.word in
+    let same : (at + 1 - (32 + v.layout.slots)) / 64 ≡ (at - (32 + v.layout.slots)) / 64 = omega (arith, word) in
+    inr (p.way, p.has, same ∙ sym p.slot)
+
+-- no record's word is another one's value
+pub no_value : (v : View) (k q : Key) (at other : ℕ) → IsKeyAt v k at → IsKeyAt v q other → other ≢ at + 1
+no_value v k q at other p o = λ same.
+    let one : at
+    ≡ ((32 + v.layout.slots) + 64 * ((at - (32 + v.layout.slots)) / 64)) + 2 * (((at - (32 + v.layout.slots)) % 64) / 2) =
+    p.word in
+    let two : other
+    ≡ ((32 + v.layout.slots) + 64 * ((other - (32 + v.layout.slots)) / 64))
+    + 2 * (((other - (32 + v.layout.slots)) % 64) / 2) = o.word in
+    absurd (omega (arith, one, two, same))

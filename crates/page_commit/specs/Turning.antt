@@ -1,0 +1,138 @@
+-- What an operation of a transaction comes to: the turn of the serial step, over the parts and the own writes.
+use Rattle.std.specs.Prelude.{◌≡◌, ℕ, ◌⊎◌, ◌+◌, ◌≤◌, length, List, [], ◌∷◌, ◌++◌, Option, Some, None, true}
+use Rattle.std.specs.Prelude.{Contains, unwrap_or}
+use Rattle.lists.specs.Fronts.{IsFront}
+use Rattle.serial_model.specs.declared.key.Key.{Key}
+use Rattle.serial_model.specs.declared.number.Change.{Change}
+use Rattle.serial_model.specs.declared.op.Op.{Op}
+use Rattle.serial_model.specs.declared.op.Op.TheVariants as ops
+use Rattle.serial_model.specs.declared.reply.Reply.{Reply}
+use Rattle.serial_model.specs.declared.reply.Verdict.{Verdict}
+use Rattle.commit_core.specs.declared.part.Part.{Part}
+use Rattle.commit_core.specs.Keys.{written}
+use Rattle.commit_core.specs.Serial.{last_write}
+use Rattle.serial_bridge.specs.Transaction.{Vouched, Turns, Continues, Stops}
+use Rattle.tx_sets.specs.declared.reads.ReadEntry.{ReadEntry}
+use Rattle.tx_sets.specs.declared.seen.Seen.{Seen}
+use Rattle.tx_sets.specs.declared.sets.Sets.{Sets}
+use Rattle.tx_sets.specs.declared.writes.Write.{Write}
+use Rattle.tx_sets.specs.Entries.{has_write, read_of, value_of}
+use Rattle.engine_pages.specs.declared.view.View.{View}
+use Rattle.engine_pages.specs.declared.view.Way.{Way}
+use Rattle.homes.specs.Homes.{in_span}
+use Rattle.array_pages.specs.Walks.{IsLastBetween}
+use Rattle.page_commit.specs.Live.{IsLive}
+
+-- what was written, the newest first, is what the write set has
+abbrev pub AreWritesOf : List Write → List Change → Type 0
+AreWritesOf writes own = (k : Key) → written k own ≡ value_of k writes
+
+-- what some part had, some part has still
+abbrev pub PartsStay : List Part → List Part → Type 0
+PartsStay parts later = (k : Key) (value : Option ℕ) → Vouched parts k value → Vouched later k value
+
+-- the operation may read at this key; a plain write reads nothing
+abbrev pub MayRead : Op → Key → Type 0
+MayRead (ops.Read k) q = k ≡ q
+MayRead (ops.Write k v) q = ⊥
+MayRead (ops.Remove k) q = ⊥
+MayRead (ops.Add k v) q = k ≡ q
+MayRead (ops.Take k v) q = k ≡ q
+MayRead (ops.Scan storage low high) q = ⊥
+
+-- at most a record that the operation may read was read
+abbrev pub ReadsOnly : Op → List ReadEntry → List ReadEntry → Type 0
+ReadsOnly op old new = (new ≡ old) ⊎ ((e : ReadEntry) × MayRead op e.key × (new ≡ old ++ e ∷ []))
+
+-- at most one pointer was met where the pages in memory end, by an operation that may read
+abbrev pub MeetsOnly : Op → List Seen → List Seen → Type 0
+MeetsOnly op old new =
+    (new ≡ old) ⊎ ((k : Key) × MayRead op k × (p : Seen) × (new ≡ old ++ p ∷ []))
+
+-- the parts are as they were, but where the operation may read
+abbrev pub PartsOnly : Op → List Part → List Part → Type 0
+PartsOnly op old new = (new ≡ old) ⊎ ((k : Key) × MayRead op k)
+
+-- the operation may write this key
+abbrev pub MayWrite : Op → Key → Type 0
+MayWrite (ops.Read k) q = ⊥
+MayWrite (ops.Write k v) q = k ≡ q
+MayWrite (ops.Remove k) q = k ≡ q
+MayWrite (ops.Add k v) q = k ≡ q
+MayWrite (ops.Take k v) q = k ≡ q
+MayWrite (ops.Scan storage low high) q = ⊥
+
+-- at most the key of the operation is written now
+abbrev pub WritesOnly : Op → List Write → List Write → Type 0
+WritesOnly op old new = (q : Key) → has_write q new ≡ true → (has_write q old ≡ true) ⊎ MayWrite op q
+
+-- the view v with what loads, and pages that were made, change as w has it
+abbrev pub as_walked : View → View → View
+as_walked v w = record v {
+  history = w.history;
+  decided = w.decided;
+  seat = record v.seat { kept = w.seat.kept };
+  steps = w.steps;
+  last = w.last;
+  loaded = w.loaded;
+  reads = w.reads;
+  grip = record v.grip { holds = w.grip.holds };
+  ways = w.ways;
+  pages = w.pages;
+  leads = w.leads;
+  looked = w.looked;
+}
+
+-- Words were loaded and slots entered, with draws and decisions that were seen, and pages may have been made; parts
+-- may have joined, each of which had the last decided writes of its keys at one of these loads. All else that the
+-- pass knows is as it was.
+pub record OnlyWalked (v w : View) : Type 0 where
+  pub drawn : IsFront v.history w.history
+  pub seen : IsFront v.decided w.decided
+  pub since : v.steps ≤ w.steps
+  pub parts : (part : Part) → Contains w.seat.kept part → Contains v.seat.kept part ⊎ IsLastBetween v w part
+  pub is : w ≡ as_walked v w
+
+-- What a read answers: what the transaction wrote at the key last; else what it first read there; else what this call
+-- read, the last decided write of the key, of all that was drawn and decided up to the step which loaded its word, or
+-- what stood there at first. A key that was never written has value 0.
+pub record IsValueRead (k : Key) (value : ℕ) (sets : Sets) (v w : View) : Type 0 where
+  pub own : (x : Option ℕ) → value_of k sets.writes ≡ Some x → value ≡ unwrap_or x 0
+  pub again : (e : ReadEntry) → value_of k sets.writes ≡ None → read_of k sets.reads ≡ Some e → value ≡ e.value
+  pub anew : value_of k sets.writes ≡ None → read_of k sets.reads ≡ None
+      → value ≡ unwrap_or (last_write v.layout.opening w.history w.decided k).value 0
+
+-- each way that is new is one to a key of the operation: no other pages were brought in or held
+abbrev pub OnlyWaysOf : Op → View → View → Type 0
+OnlyWaysOf op v w = (x : Way) → Contains w.ways x
+    → Contains v.ways x ⊎ ((k : Key) × (MayRead op k ⊎ MayWrite op k) × (in_span x.span k ≡ true))
+
+-- The transaction goes on after this operation, with this reply or none. It reads at most one record more and writes at
+-- most one key more.
+pub record HasDone (op : Op) (reply : Option Reply) (sets new : Sets) (v w : View) : Type 0 where
+  pub live : IsLive new w
+  pub only : OnlyWalked v w
+  pub paths : OnlyWaysOf op v w
+  pub reads : ReadsOnly op sets.reads new.reads
+  pub pointers : MeetsOnly op sets.pointers new.pointers
+  pub joined : PartsOnly op v.seat.kept w.seat.kept
+  pub writes : WritesOnly op sets.writes new.writes
+  pub grows : length new.writes ≤ length sets.writes + 1
+  pub keeps : PartsStay v.seat.kept w.seat.kept
+  pub turns : (own : List Change) → AreWritesOf sets.writes own
+      → (next : List Change) × AreWritesOf new.writes next
+      × Turns v.layout.decls w.seat.kept own op (Continues reply next)
+
+-- The transaction ends with this operation, whose verdict this is. It is still to be committed, without its writes.
+pub record HasStopped (op : Op) (verdict : Verdict) (sets new : Sets) (v w : View) : Type 0 where
+  pub live : IsLive new w
+  pub only : OnlyWalked v w
+  pub paths : OnlyWaysOf op v w
+  pub reads : ReadsOnly op sets.reads new.reads
+  pub pointers : MeetsOnly op sets.pointers new.pointers
+  pub joined : PartsOnly op v.seat.kept w.seat.kept
+  pub writes : WritesOnly op sets.writes new.writes
+  pub grows : length new.writes ≤ length sets.writes + 1
+  pub keeps : PartsStay v.seat.kept w.seat.kept
+  pub turns : (own : List Change) → AreWritesOf sets.writes own
+      → Turns v.layout.decls w.seat.kept own op (Stops verdict)

@@ -1,8 +1,8 @@
 -- Pages behind those that are published are filled, one word and one page after another.
-use Rattle.std.proofs.Common.{◌≡◌, ◌≢◌, ℕ, suc, ◌+◌, ◌<◌, ◌≤◌, Bool, true, false, eqb, ne_eqb, ltb, not, inl, inr, List, [], ◌∷◌}
+use Rattle.std.proofs.Common.{◌≡◌, ◌≢◌, ℕ, suc, ◌+◌, ◌<◌, Bool, true, false, eqb, ne_eqb, ltb, not, inl, inr, List, [], ◌∷◌}
 use Rattle.std.proofs.Common.{length, get_or, set, Option, Some, refl, sym, ap, ◌∙◌, subst, arith, get_or-set_other, get_or-set_same}
 use Rattle.std.proofs.Common.{length-set}
-use Rattle.std.proofs.lemmas.Bool.{cases_eq, cases_lt, lt-ltb}
+use Rattle.std.proofs.lemmas.Bool.{cases_eq, lt-ltb}
 use Rattle.std.proofs.lemmas.List.{get_or-drop}
 use Rattle.std.specs.Prelude.{MatchBool, drop}
 use Rattle.std.specs.List.{Contains}
@@ -17,7 +17,7 @@ use Rattle.engine_pages.specs.Layout.{published_at}
 use Rattle.engine_pages.specs.Steps.{glance, glanced}
 use Rattle.engine_pages.proofs.Slotlists.{at_others}
 use Rattle.resident_pages.specs.Extends.{IsFilledWith}
-use Rattle.resident_pages.specs.Fills.{HasClaimed, HasFilledPage, HasPage, IsClaimed, claimed, filled_page, other_fills}
+use Rattle.resident_pages.specs.Fills.{HasClaimed, HasFilledPage, IsClaimed, claimed, filled_page, other_fills}
 use Rattle.resident_pages.specs.Publishes.{AreFilled, AreFilledOr, HasFoundMore, IsFilledUpTo, OnlyFilled}
 
 -- ---- lists

@@ -1,25 +1,25 @@
 -- The pages of a snapshot are published once they are filled, and those that its roots lead to have names.
-use Rattle.std.proofs.Common.{◌≡◌, ◌⊎◌, ℕ, zero, suc, ◌+◌, ◌<◌, inl, inr, List, [], ◌∷◌, ◌++◌, length, get_or, refl, sym, ap, ◌∙◌}
-use Rattle.std.proofs.Common.{subst, arith, Option, Some}
-use Rattle.std.specs.Prelude.{filter, map, nat_lt, take}
+use Rattle.std.proofs.Common.{◌≡◌, ◌⊎◌, ℕ, zero, suc, ◌+◌, ◌<◌, inl, inr, List, [], ◌∷◌, ◌++◌, length, refl, sym, ap, ◌∙◌}
+use Rattle.std.proofs.Common.{subst, arith, Some}
+use Rattle.std.specs.Prelude.{map, take}
 use Rattle.std.specs.List.{AllByRecursion, Contains, slice_get}
 use Rattle.std.proofs.lemmas.List.{take_at}
-use Rattle.lists.specs.Elements.{at_in}
+use Rattle.lists.specs.Elements.{at_in, in_cases, in_head, in_none, in_tail}
 use Rattle.serial_model.specs.declared.decl.Decl.{Decl}
 use Rattle.serial_model.specs.Keys.{id_of}
 use Rattle.wire_form.specs.declared.records.Stored.{Stored}
 use Rattle.snapshot_store.specs.declared.place.PagePlace.{PagePlace}
-use Rattle.snapshot_store.specs.Content.{deepest, format_of, root_place, RootStands}
+use Rattle.wire_form.specs.Pages.{Contents, decls_of, stored_decl}
+use Rattle.snapshot_store.specs.Content.{deepest, format_of, root_place, RootStands, SnapshotStands}
 use Rattle.snapshot_store.specs.Places.{places_below}
 use Rattle.engine_rule.specs.Reading.{led_places, named_places, span_of}
 use Rattle.engine_rule.proofs.ReadNames.{HasBelow, Ordered, flat_ordered, led_ordered, ordered_at, split_at}
-use Rattle.engine_pages.specs.declared.view.Filled.{Filled}
 use Rattle.engine_pages.specs.declared.view.Lead.{Lead}
 use Rattle.engine_pages.specs.declared.view.View.{View}
 use Rattle.engine_pages.specs.Resident.{IsStanding}
 use Rattle.page_opening.proofs.Named.{each_named}
 use Rattle.resident_pages.specs.Extends.{CanExtend, CanName, HasExtended, IsNamedBefore, extended, lead_of}
-use Rattle.resident_pages.specs.Publishes.{AreFilled, CanNameAll, HasPublished, IsSnapshot, OnlyFilled}
+use Rattle.resident_pages.specs.Publishes.{AreFilled, CanNameAll, HasPublished, IsSnapshot}
 
 -- ---- the step
 
@@ -37,7 +37,8 @@ over name new names v z = record v {
   fills = z.fills;
 }
 
-module _ (new : List (List ℕ)) (names : List (Decl × PagePlace)) (v u : View) (are : AreFilled (length new) new v u) where
+module _ (new : List (List ℕ)) (names : List (Decl × PagePlace)) (v u : View)
+    (are : AreFilled (length new) new v u) where
   known : u.pages ≡ v.pages
   known = ap (λ (z : View). z.pages) are.only
 
@@ -52,7 +53,8 @@ module _ (new : List (List ℕ)) (names : List (Decl × PagePlace)) (v u : View)
     below = λ q there.
         subst (λ (l : List Lead). (q.number ≡ 0) ⊎ (Contains before (e.0, q)
         ⊎ ((x : Lead) × Contains l x × (x.span ≡ span_of (id_of e.0) q) × (x.page ≡ q.number)))) leads
-        (can.below q (subst (λ (ps : List (List ℕ)). Contains (places_below (format_of e.0) (ps ++ new) e.1) q) known there));
+        (can.below q
+        (subst (λ (ps : List (List ℕ)). Contains (places_below (format_of e.0) (ps ++ new) e.1) q) known there));
   }
 
   pub can_extend : 0 < length new → CanNameAll new names v → CanExtend new names u
@@ -141,3 +143,18 @@ module _ (pages new : List (List ℕ)) (ss : List Stored) (v : View) (snap : IsS
 pub can_name_all : (pages new : List (List ℕ)) (ss : List Stored) (v : View) → IsSnapshot pages v.layout.decls ss
     → v.pages ++ new ≡ pages → CanNameAll new (named_places pages ss) v
 can_name_all pages new ss v snap all i e at = can_name pages new ss v snap all i e at
+
+decl_in : (ss : List Stored) (s : Stored) → Contains ss s → Contains (map stored_decl ss) s.decl
+decl_in [] s there = absurd (in_none s there)
+decl_in (x ∷ ss) s there = elim (in_cases s x ss there) [
+  | inl is ↦ subst (λ (y : Stored). Contains (map stored_decl (x ∷ ss)) y.decl) is (in_head x.decl (map stored_decl ss))
+  | inr more ↦ in_tail s.decl x.decl (map stored_decl ss) (decl_in ss s more)
+]
+
+-- So it is with those of a catalogue.
+pub of_catalogue : (pages : List (List ℕ)) (number : ℕ) (contents : Contents) (decls : List Decl)
+    → SnapshotStands pages number contents → decls_of contents ≡ decls → IsSnapshot pages decls contents.storages
+of_catalogue pages number contents decls stands same = record {
+  declared = λ s there. subst (λ (ds : List Decl). Contains ds s.decl) same (decl_in contents.storages s there);
+  stand = stands.roots;
+}

@@ -1,5 +1,6 @@
 -- What the step that raises the count of published pages asks and tells.
-use Rattle.std.specs.Prelude.{◌≡◌, ◌⊎◌, ℕ, suc, ◌+◌, ◌<◌, List, [], ◌++◌, map, filter, take, length, get_or, slice_get, nat_lt, Some, Contains}
+use Rattle.std.specs.Prelude.{◌≡◌, ◌⊎◌, ℕ, suc, ◌+◌, ◌<◌, List, [], ◌++◌, map, filter, take, length, get_or, nat_lt}
+use Rattle.std.specs.Prelude.{slice_get, Some, Contains}
 use Rattle.atomic_table.specs.Table.{Step}
 use Rattle.serial_model.specs.declared.decl.Decl.{Decl}
 use Rattle.serial_model.specs.Keys.{id_of}
@@ -26,7 +27,8 @@ IsNamedBefore v before decl q =
     ⊎ ((x : Lead) × Contains v.leads x × (x.span ≡ span_of (id_of decl) q) × (x.page ≡ q.number)))
 
 -- A page may get a name: it stands at its place, and those below it have names before it.
-pub record CanName (v : View) (pages : List (List ℕ)) (before : List (Decl × PagePlace)) (e : Decl × PagePlace) : Type 0 where
+pub record CanName (v : View) (pages : List (List ℕ)) (before : List (Decl × PagePlace)) (e : Decl × PagePlace)
+    : Type 0 where
   pub stands : IsStanding v.layout.decls pages e
   pub below : (q : PagePlace) → Contains (places_below (format_of e.0) pages e.1) q → IsNamedBefore v before e.0 q
 

@@ -1,6 +1,6 @@
 -- What filling the new pages of a snapshot, and publishing them with names, asks and tells.
-use Rattle.std.specs.Prelude.{◌≡◌, ◌≢◌, ℕ, suc, ◌+◌, ◌<◌, ◌≤◌, Bool, List, [], ◌++◌, map, take, length, get_or, slice_get, Some}
-use Rattle.std.specs.Prelude.{Contains, MatchBool}
+use Rattle.std.specs.Prelude.{◌≡◌, ◌≢◌, ℕ, suc, ◌+◌, ◌<◌, ◌≤◌, Bool, List, [], ◌++◌, map, take, length, get_or}
+use Rattle.std.specs.Prelude.{slice_get, Some, Contains, MatchBool}
 use Rattle.std.specs.List.{AllByRecursion}
 use Rattle.serial_model.specs.declared.decl.Decl.{Decl}
 use Rattle.wire_form.specs.declared.records.Stored.{Stored}

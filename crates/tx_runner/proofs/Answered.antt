@@ -8,42 +8,45 @@ use Rattle.std.specs.List.{AllByRecursion, Contains}
 use Rattle.std.proofs.lemmas.List.{append-nil, take_more, take-append-drop}
 use Rattle.std.proofs.lemmas.List.Elements.{Contains-append_left}
 use Rattle.lists.specs.Elements.{any_in, any_is, in_push_cases, in_push_new, in_push_old}
-use Rattle.lists.specs.Fronts.{IsFront, front_refl, front_then}
+use Rattle.lists.specs.Fronts.{front_refl, front_then}
 use Rattle.homes.specs.Homes.{same_key}
 use Rattle.homes.specs.Laws.{same_key-true}
 use Rattle.serial_model.specs.declared.decl.Decl.{Decl}
 use Rattle.serial_model.specs.declared.key.Key.{Key}
 use Rattle.serial_model.specs.declared.number.Change.{Change}
-use Rattle.serial_model.specs.declared.number.Number.{Number}
 use Rattle.serial_model.specs.declared.op.Op.{Op}
 use Rattle.serial_model.specs.declared.reply.Reply.{Reply}
 use Rattle.serial_model.specs.declared.reply.Reply.TheVariants.{Value}
 use Rattle.serial_model.specs.declared.reply.Verdict.{Verdict}
 use Rattle.serial_model.specs.declared.reply.Verdict.TheVariants.{Done, Short, Over}
-use Rattle.commit_core.specs.declared.attempt.Attempt.{Attempt}
 use Rattle.commit_core.specs.declared.part.Part.{Part}
 use Rattle.serial_bridge.specs.Transaction.{Turn, Continues, Stops, Finished, finished, FinishesBy, Runs}
 use Rattle.tx_sets.specs.declared.reads.ReadEntry.{ReadEntry}
+use Rattle.tx_sets.specs.declared.seen.Seen.{Seen}
 use Rattle.tx_sets.specs.declared.sets.Sets.{Sets}
 use Rattle.tx_sets.specs.declared.writes.Write.{Write}
 use Rattle.tx_sets.specs.Entries.{has_read, has_write}
 use Rattle.tx_sets.specs.Gathered.{AreEmpty}
-use Rattle.engine_words.specs.Layout.{IsAtKey, spot_for}
-use Rattle.engine_words.specs.declared.layout.Layout.{Layout}
-use Rattle.engine_words.specs.declared.view.RefusalCause.{RefusalCause}
-use Rattle.engine_words.specs.declared.view.RefusalCause.TheVariants as refusals
-use Rattle.engine_words.specs.declared.view.View.{View}
-use Rattle.engine_words.specs.Cuts.{HasSeen}
-use Rattle.engine_words.specs.ReadLaws.{last_by, last_since}
-use Rattle.tx_commit.specs.Live.{IsLive}
-use Rattle.tx_commit.specs.Turning.{Alters, HasDone, OnlyLoaded, HasStopped, IsOfKey, ReadsOnly, WritesOnly}
-use Rattle.tx_commit.specs.Refusing.{RefusesRead, RefusesWrite, RefusesAlter}
-use Rattle.tx_commit.specs.Running.{HasRun, HasEnded}
-use Rattle.tx_commit.specs.RunLaws.{goes_on_run, ends_run}
-use Rattle.tx_runner.specs.Lines.{keeps, IsOnArray}
+use Rattle.engine_pages.specs.declared.layout.Layout.{Layout}
+use Rattle.engine_pages.specs.declared.view.RefusalCause.{RefusalCause}
+use Rattle.engine_pages.specs.declared.view.RefusalCause.TheVariants as refusals
+use Rattle.engine_pages.specs.declared.view.View.{View}
+use Rattle.engine_pages.specs.Views.{seat_number}
+use Rattle.engine_seats.specs.Cuts.{HasSeen}
+use Rattle.page_commit.specs.Live.{IsLive}
+use Rattle.page_commit.specs.Altering.{Alters}
+use Rattle.page_commit.specs.Turning.{as_walked, HasDone, OnlyWalked, HasStopped, MayWrite, MeetsOnly, ReadsOnly}
+use Rattle.page_commit.specs.Turning.{WritesOnly}
+use Rattle.page_commit.specs.Calls.{alter_most, op_holds, RefusesRead, RefusesWrite, RefusesAlter}
+use Rattle.page_commit.specs.Running.{HasRun, HasEnded}
+use Rattle.page_commit.specs.RunLaws.{goes_on_run, ends_run}
+use Rattle.tx_runner.specs.Lines.{keeps, IsOfKey, IsOnArray}
 use Rattle.tx_runner.specs.Steps.{AreKeysOf, AreWithin, HasAnswered, HasAnsweredAll, IsCauseAmong, IsOpCause}
 use Rattle.tx_runner.specs.Steps.{OpEndsIt, OpGoesOn}
-use Rattle.tx_runner.proofs.Arrays.{array_fits}
+use Rattle.tx_runner.specs.Tries.{blame_at}
+use Rattle.tx_runner.proofs.Arrays.{array_fits, read_at_key}
+use Rattle.tx_runner.proofs.LastLaws.{last_by, last_since}
+use Rattle.tx_runner.proofs.Sums.{steps_more, steps_within}
 
 -- ---- one operation
 
@@ -77,25 +80,88 @@ alters_answered (Err why) op replies sets new v w a = tt
 
 -- ---- why it was refused
 
-pub read_cause : (op : Op) (sets : Sets) (k : Key) (why : RefusalCause) (v w : View) → IsOfKey op k → AreWithin 15 sets
-    → RefusesRead sets k why v w → IsOpCause op why v w
-read_cause op sets k (refusals.Conflict at expected seen) v w of few r = (r.3.cause, k, of, r.3.place, r.4)
-read_cause op sets k (refusals.Wide set) v w of few r = absurd (omega (arith, r.1, few.reads))
-read_cause op sets k (refusals.NumberLimit clock) v w of few r = absurd r
+pub read_cause : (op : Op) (sets new : Sets) (k : Key) (why : RefusalCause) (v w : View) → IsOfKey op k
+    → AreWithin 15 sets → length new.holds ≤ length sets.holds + op_holds → RefusesRead sets new k why v w
+    → IsOpCause op why v w
+read_cause op sets new k (refusals.Conflict at expected seen) v w of few grows r = elim r.3 [
+  | inl here ↦ record {
+    met = Some k;
+    key = λ q is. let same : k ≡ q = cc in subst (IsOfKey op) same of;
+    cause = here.0.conflict.cause;
+    blamed = here.0.blamed;
+    draws = r.2;
+    touched = r.4;
+  }
+  | inr pointer ↦ record {
+    met = None;
+    key = λ q is. absurd cc;
+    cause = pointer.0.cause;
+    blamed = pointer.1 ∙ sym (append-nil v.blamed);
+    draws = r.2;
+    touched = r.4;
+  }
+]
+read_cause op sets new k (refusals.Full told) v w of few grows r = absurd r
+read_cause op sets new k (refusals.Wide set) v w of few grows r = elim r.3 [
+  | inl reads ↦ absurd (omega (arith, reads.1, few.reads))
+  | inr other ↦ elim other [
+    | inl holds ↦
+        let most : length sets.holds ≤ 90 = few.holds in
+        let more : length new.holds ≤ length sets.holds + 6 = grows in
+        absurd (omega (arith, holds.1, most, more))
+    | inr pointers ↦ absurd (omega (arith, pointers.1, few.pointers))
+  ]
+]
+read_cause op sets new k (refusals.NumberLimit clock) v w of few grows r = absurd r
 
-pub write_cause : (op : Op) (sets : Sets) (k : Key) (why : RefusalCause) (v w : View) → AreWithin 15 sets
-    → RefusesWrite sets k why → IsOpCause op why v w
-write_cause op sets k why v w few r = absurd (omega (arith, r.1, few.writes))
+pub write_cause : (op : Op) (sets new : Sets) (k : Key) (why : RefusalCause) (v w : View) → MayWrite op k
+    → AreWithin 15 sets → length new.holds ≤ length sets.holds + op_holds → RefusesWrite sets new k why v w
+    → IsOpCause op why v w
+write_cause op sets new k (refusals.Conflict at expected seen) v w may few grows r = record {
+  met = None;
+  key = λ q is. absurd cc;
+  cause = elim r.3 [ inl pointer ↦ pointer.cause | inr slot ↦ inr slot.other ];
+  blamed = r.4 ∙ sym (append-nil v.blamed);
+  draws = r.2;
+  touched = r.5;
+}
+write_cause op sets new k (refusals.Full told) v w may few grows r =
+    let full = r.3 in record {
+      key = k;
+      writes = may;
+      words = full.words;
+      all = record {
+        count = full.count;
+        taken = full.taken;
+        step = full.step;
+        since = full.since;
+        looked = full.looked;
+      };
+      told_is = full.held;
+      draws = r.2;
+      touched = r.4;
+    }
+write_cause op sets new k (refusals.Wide set) v w may few grows r = elim r.2 [
+  | inl writes ↦ absurd (omega (arith, writes.1, few.writes))
+  | inr holds ↦
+      let most : length sets.holds ≤ 90 = few.holds in
+      let more : length new.holds ≤ length sets.holds + 6 = grows in
+      absurd (omega (arith, holds.2, most, more))
+]
+write_cause op sets new k (refusals.NumberLimit clock) v w may few grows r = absurd r
 
-alter_cause : (op : Op) (sets : Sets) (k : Key) (why : RefusalCause) (v w : View) → IsOfKey op k → AreWithin 15 sets
-    → RefusesAlter sets k why v w → IsOpCause op why v w
-alter_cause op sets k why v w of few (inl r) = write_cause op sets k why v w few r
-alter_cause op sets k why v w of few (inr r) = read_cause op sets k why v w of few r.1
+-- an addition or a subtraction may write its key
+alter_cause : (op : Op) (sets new : Sets) (k : Key) (why : RefusalCause) (v w : View) → IsOfKey op k → MayWrite op k
+    → AreWithin 15 sets → length new.holds ≤ length sets.holds + op_holds → RefusesAlter sets new k why v w
+    → IsOpCause op why v w
+alter_cause op sets new k why v w of may few grows (inl r) = write_cause op sets new k why v w may few grows r
+alter_cause op sets new k why v w of may few grows (inr r) = read_cause op sets new k why v w of few grows r.1
 
-pub alters_caused : (r : Result Verdict RefusalCause) (op : Op) (sets : Sets) (k : Key) (v w : View) → IsOfKey op k
-    → AreWithin 15 sets → IfErr r (λ why. RefusesAlter sets k why v w) → IfErr r (λ why. IsOpCause op why v w)
-alters_caused (Ok verdict) op sets k v w of few a = tt
-alters_caused (Err why) op sets k v w of few a = alter_cause op sets k why v w of few a
+pub alters_caused : (r : Result Verdict RefusalCause) (op : Op) (sets new : Sets) (k : Key) (v w : View) → IsOfKey op k
+    → MayWrite op k → AreWithin 15 sets → length new.holds ≤ length sets.holds + op_holds
+    → IfErr r (λ why. RefusesAlter sets new k why v w) → IfErr r (λ why. IsOpCause op why v w)
+alters_caused (Ok verdict) op sets new k v w of may few grows a = tt
+alters_caused (Err why) op sets new k v w of may few grows a = alter_cause op sets new k why v w of may few grows a
 
 -- ---- how many keys there are
 
@@ -103,6 +169,8 @@ none_within : (sets : Sets) → AreEmpty sets → AreWithin 0 sets
 none_within sets empty = record {
   reads = omega (arith, ap (λ (l : List ReadEntry). length l) empty.reads);
   writes = omega (arith, ap (λ (l : List Write). length l) empty.writes);
+  pointers = omega (arith, ap (λ (l : List Seen). length l) empty.pointers);
+  holds = omega (arith, ap (λ (l : List ℕ). length l) empty.holds);
 }
 
 reads_more : (op : Op) (old new : List ReadEntry) (n : ℕ) → ReadsOnly op old new → length old ≤ n → length new ≤ n + 1
@@ -114,24 +182,46 @@ reads_more op old new n (inr more) few = omega (
   length-append old (more.0 ∷ []),
 )
 
+meets_more : (op : Op) (old new : List Seen) (n : ℕ) → MeetsOnly op old new → length old ≤ n → length new ≤ n + 1
+meets_more op old new n (inl same) few = omega (arith, few, ap (λ (l : List Seen). length l) same)
+meets_more op old new n (inr more) few = omega (
+  arith,
+  few,
+  ap (λ (l : List Seen). length l) more.3,
+  length-append old (more.2 ∷ []),
+)
+
+holds_more : (n old new : ℕ) → old ≤ op_holds * n → new ≤ old + op_holds → new ≤ op_holds * (n + 1)
+holds_more n old new few more =
+    let first : old ≤ 6 * n = few in let second : new ≤ old + 6 = more in
+    let all : new ≤ 6 * (n + 1) = omega (arith, first, second) in all
+
 done_within : (op : Op) (reply : Option Reply) (sets new : Sets) (v w : View) (n : ℕ) → HasDone op reply sets new v w
-    → AreWithin n sets → AreWithin (n + 1) new
-done_within op reply sets new v w n d few = record {
+    → length new.holds ≤ length sets.holds + op_holds → AreWithin n sets → AreWithin (n + 1) new
+done_within op reply sets new v w n d grows few = record {
   reads = reads_more op sets.reads new.reads n d.reads few.reads;
   writes = omega (arith, d.grows, few.writes);
+  pointers = meets_more op sets.pointers new.pointers n d.pointers few.pointers;
+  holds = holds_more n (length sets.holds) (length new.holds) few.holds grows;
 }
 
 stopped_within : (op : Op) (verdict : Verdict) (sets new : Sets) (v w : View) (n : ℕ)
-    → HasStopped op verdict sets new v w → AreWithin n sets → AreWithin (n + 1) new
-stopped_within op verdict sets new v w n d few = record {
+    → HasStopped op verdict sets new v w → length new.holds ≤ length sets.holds + op_holds → AreWithin n sets
+    → AreWithin (n + 1) new
+stopped_within op verdict sets new v w n d grows few = record {
   reads = reads_more op sets.reads new.reads n d.reads few.reads;
   writes = omega (arith, d.grows, few.writes);
+  pointers = meets_more op sets.pointers new.pointers n d.pointers few.pointers;
+  holds = holds_more n (length sets.holds) (length new.holds) few.holds grows;
 }
 
 pub within_more : (m n : ℕ) (sets : Sets) → m ≤ n → AreWithin m sets → AreWithin n sets
 within_more m n sets le few = record {
   reads = omega (arith, le, few.reads);
   writes = omega (arith, le, few.writes);
+  pointers = omega (arith, le, few.pointers);
+  holds = let old : length sets.holds ≤ 6 * m = few.holds in
+      let now : length sets.holds ≤ 6 * n = omega (arith, le, old) in now;
 }
 
 -- ---- which keys
@@ -151,8 +241,10 @@ among_later ops d op i less has =
 
 no_keys : (ops : List Op) (sets : Sets) → AreEmpty sets → AreKeysOf ops sets
 no_keys ops sets empty = record {
-  reads = λ k has. absurd (let none : has_read k sets.reads ≡ false = ap (has_read k) empty.reads in true≢false (sym has ∙ none));
-  writes = λ k has. absurd (let none : has_write k sets.writes ≡ false = ap (has_write k) empty.writes in true≢false (sym has ∙ none));
+  reads = λ k has. absurd (let none : has_read k sets.reads ≡ false = ap (has_read k) empty.reads in
+      true≢false (sym has ∙ none));
+  writes = λ k has. absurd (let none : has_write k sets.writes ≡ false = ap (has_write k) empty.writes in
+      true≢false (sym has ∙ none));
 }
 
 read_among : (op : Op) (old new : List ReadEntry) (k : Key) → ReadsOnly op old new → has_read k new ≡ true
@@ -167,7 +259,8 @@ read_among op old new k (inr more) has = by_test (has_read k old) refl
         elim (in_push_cases found.0 more.0 old (subst (λ (l : List ReadEntry). Contains l found.0) more.2 found.1)) [
           | inl before ↦ inl (any_in (λ (e : ReadEntry). same_key e.key k) old found.0 before found.2)
           | inr last ↦ inr (subst (IsOfKey op) (same_key-true more.0.key k
-              (subst (λ (e : ReadEntry). same_key e.key k ≡ true) (sym last) found.2)) more.1)
+              (subst (λ (e : ReadEntry). same_key e.key k ≡ true) (sym last) found.2))
+              (read_at_key op more.0.key more.1))
         ]
 
 -- the keys of one operation more
@@ -192,7 +285,8 @@ keys_more ops d done sets new less are reads writes = record {
 -- those of first operations are keys of all
 in_taken : (ops : List Op) (op : Op) (i : ℕ) → Contains (take i ops) op → Contains ops op
 in_taken ops op i has =
-    subst (λ (l : List Op). Contains l op) (take-append-drop i ops) (Contains-append_left (take i ops) (drop i ops) op has)
+    subst (λ (l : List Op). Contains l op) (take-append-drop i ops)
+    (Contains-append_left (take i ops) (drop i ops) op has)
 
 keys_of_all : (ops : List Op) (done : ℕ) (sets : Sets) → AreKeysOf (take done ops) sets → AreKeysOf ops sets
 keys_of_all ops done sets are = record {
@@ -202,64 +296,38 @@ keys_of_all ops done sets are = record {
       record { op = key.op; among = in_taken ops key.op done key.among; writes = key.writes };
 }
 
--- ---- loads
+-- ---- walks
 
-pub nothing_loaded : (v : View) → OnlyLoaded v v
+pub nothing_loaded : (v : View) → OnlyWalked v v
 nothing_loaded v = record {
-  history = v.history;
-  decided = v.decided;
   drawn = front_refl v.history;
   seen = front_refl v.decided;
-  kept = v.seat.kept;
-  steps = v.steps;
-  last = v.last;
-  loaded = v.loaded;
-  reads = v.reads;
+  since = omega arith;
   parts = λ part has. inl has;
   is = refl;
 }
 
-loaded_layout : (v w : View) → OnlyLoaded v w → w.layout ≡ v.layout
+loaded_layout : (v w : View) → OnlyWalked v w → w.layout ≡ v.layout
 loaded_layout v w l = ap (λ (x : View). x.layout) l.is
 
--- what was seen behind loads
-pub loaded_seen : (v w : View) → OnlyLoaded v w → HasSeen v w
-loaded_seen v w l = record {
-  history = subst (λ (xs : List Attempt). IsFront v.history xs) (sym (ap (λ (x : View). x.history) l.is)) l.drawn;
-  decided = subst (λ (xs : List Number). IsFront v.decided xs) (sym (ap (λ (x : View). x.decided) l.is)) l.seen;
-}
+-- what was seen behind walks
+pub loaded_seen : (v w : View) → OnlyWalked v w → HasSeen v w
+loaded_seen v w l = record { history = l.drawn; decided = l.seen }
 
-pub loaded_then : (u v w : View) → OnlyLoaded u v → OnlyLoaded v w → OnlyLoaded u w
+pub loaded_then : (u v w : View) → OnlyWalked u v → OnlyWalked v w → OnlyWalked u w
 loaded_then u v w a b = record {
-  history = b.history;
-  decided = b.decided;
-  drawn = front_then u.history v.history b.history seen.history b.drawn;
-  seen = front_then u.decided v.decided b.decided seen.decided b.seen;
-  kept = b.kept;
-  steps = b.steps;
-  last = b.last;
-  loaded = b.loaded;
-  reads = b.reads;
+  drawn = front_then u.history v.history w.history a.drawn b.drawn;
+  seen = front_then u.decided v.decided w.decided a.seen b.seen;
+  since = let first = a.since in let second = b.since in omega (arith, first, second);
   parts = λ part has. elim (b.parts part has) [
-    | inl old ↦ elim (a.parts part (subst (λ (l : List Part). Contains l part) (ap (λ (x : View). x.seat.kept) a.is) old)) [
+    | inl old ↦ elim (a.parts part old) [
       | inl first ↦ inl first
       | inr before ↦ inr (last_by u v w part (loaded_seen v w b) before)
     ]
-    | inr now ↦ inr (last_since u v w part (loaded_layout u v a) seen now)
+    | inr now ↦ inr (last_since u v w part (loaded_layout u v a) (loaded_seen u v a) now)
   ];
-  is = b.is ∙ ap (λ (x : View). record x {
-    history = b.history;
-    decided = b.decided;
-    seat = record x.seat { kept = b.kept };
-    steps = b.steps;
-    last = b.last;
-    loaded = b.loaded;
-    reads = b.reads;
-  }) a.is;
+  is = b.is ∙ ap (λ (x : View). as_walked x w) a.is;
 }
-  where
-    seen : HasSeen u v
-    seen = loaded_seen u v a
 
 -- ---- one operation after others
 
@@ -268,11 +336,14 @@ pub record HasRunSome (ops : List Op) (done : ℕ) (replies : List Reply) (sets 
   pub within : done ≤ length ops
   pub few : length replies ≤ done
   pub live : IsLive sets w
-  pub only : OnlyLoaded v w
+  pub only : OnlyWalked v w
   pub sized : AreWithin done sets
-  pub steps : w.steps ≤ v.steps + 4 * done
+  pub steps : w.steps ≤ v.steps + done * alter_most v.layout.slots
   pub run : HasRun (take done ops) replies sets w
   pub keys : AreKeysOf (take done ops) sets
+
+none_took : (start most : ℕ) → start ≤ start + 0 * most
+none_took start most = omega arith
 
 pub run_none : (ops : List Op) (replies : List Reply) (sets : Sets) (v : View) → replies ≡ [] → IsLive sets v
     → AreEmpty sets → HasRun [] [] sets v → HasRunSome ops 0 replies sets v v
@@ -282,7 +353,7 @@ run_none ops replies sets v none live empty run = record {
   live = live;
   only = nothing_loaded v;
   sized = none_within sets empty;
-  steps = omega arith;
+  steps = none_took v.steps (alter_most v.layout.slots);
   run = subst (λ l. HasRun [] l sets v) (sym none) run;
   keys = no_keys (take 0 ops) sets empty;
 }
@@ -291,18 +362,25 @@ few_more : (reply : Option Reply) → length (option_to_list reply) ≤ 1
 few_more None = omega arith
 few_more (Some r) = omega arith
 
+-- an operation took so many steps, with as many slots as there were before
+op_took : (u v w : View) → OnlyWalked u v → w.steps ≤ v.steps + alter_most v.layout.slots
+    → w.steps ≤ v.steps + alter_most u.layout.slots
+op_took u v w l most =
+    subst (λ (y : Layout). w.steps ≤ v.steps + alter_most y.slots) (loaded_layout u v l) most
+
 run_more : (ops : List Op) (d : Op) (done : ℕ) (old now : List Reply) (sets new : Sets) (u v w : View)
     → done < length ops → IsOnArray v.layout.decls (get_or ops done d) → HasRunSome ops done old sets u v
-    → OpGoesOn (get_or ops done d) old now sets new v w → w.steps ≤ v.steps + 4 → HasRunSome ops (done + 1) now new u w
-run_more ops d done old now sets new u v w less on h g four = record {
+    → OpGoesOn (get_or ops done d) old now sets new v w → w.steps ≤ v.steps + alter_most v.layout.slots
+    → length new.holds ≤ length sets.holds + op_holds → HasRunSome ops (done + 1) now new u w
+run_more ops d done old now sets new u v w less on h g most grows = record {
   within = omega arith;
   few = let count : length now ≡ length old + length (option_to_list g.reply) =
       ap length g.replies ∙ length-append old (option_to_list g.reply) in
       omega (arith, h.few, few_more g.reply);
   live = g.done.live;
   only = loaded_then u v w h.only g.done.only;
-  sized = done_within (get_or ops done d) g.reply sets new v w done g.done h.sized;
-  steps = omega (arith, h.steps, four);
+  sized = done_within (get_or ops done d) g.reply sets new v w done g.done grows h.sized;
+  steps = steps_more done (alter_most u.layout.slots) u.steps v.steps w.steps h.steps (op_took u v w h.only most);
   run = subst (λ l. HasRun l now new w) (sym (take_more ops done d less))
       (subst (λ l. HasRun (take done ops ++ get_or ops done d ∷ []) l new w) (sym g.replies)
       (goes_on_run (take done ops) old (get_or ops done d) g.reply sets new v w h.run
@@ -314,11 +392,12 @@ run_more ops d done old now sets new u v w less on h g four = record {
 pub run_on : (ops : List Op) (d : Op) (done : ℕ) (verdict : Verdict) (old now : List Reply) (sets new : Sets)
     (u v w : View) → done < length ops → keeps verdict ≡ true → IsOnArray v.layout.decls (get_or ops done d)
     → HasRunSome ops done old sets u v → HasAnswered (get_or ops done d) verdict old now sets new v w
-    → w.steps ≤ v.steps + 4 → HasRunSome ops (done + 1) now new u w
-run_on ops d done Done old now sets new u v w less goes on h a four =
-    run_more ops d done old now sets new u v w less on h a four
-run_on ops d done Short old now sets new u v w less goes on h a four = absurd cc
-run_on ops d done Over old now sets new u v w less goes on h a four = absurd cc
+    → w.steps ≤ v.steps + alter_most v.layout.slots → length new.holds ≤ length sets.holds + op_holds
+    → HasRunSome ops (done + 1) now new u w
+run_on ops d done Done old now sets new u v w less goes on h a most grows =
+    run_more ops d done old now sets new u v w less on h a most grows
+run_on ops d done Short old now sets new u v w less goes on h a most grows = absurd cc
+run_on ops d done Over old now sets new u v w less goes on h a most grows = absurd cc
 
 -- ---- the end
 
@@ -358,8 +437,9 @@ ended_line ops done verdict replies w stops e = record {
 stops_at : (ops : List Op) (d : Op) (done : ℕ) (verdict : Verdict) (old now : List Reply) (sets new : Sets)
     (u v w : View) → keeps verdict ≡ false → done < length ops → IsOnArray v.layout.decls (get_or ops done d)
     → HasRunSome ops done old sets u v → OpEndsIt (get_or ops done d) verdict old now sets new v w
-    → HasEnded ops verdict now w × IsLive new w × OnlyLoaded u w × AreWithin (length ops) new × AreKeysOf ops new
-stops_at ops d done verdict old now sets new u v w stops less on h e = (
+    → length new.holds ≤ length sets.holds + op_holds
+    → HasEnded ops verdict now w × IsLive new w × OnlyWalked u w × AreWithin (length ops) new × AreKeysOf ops new
+stops_at ops d done verdict old now sets new u v w stops less on h e grows = (
   ended_line ops (done + 1) verdict now w stops
       (subst (λ l. HasEnded l verdict now w) (sym (take_more ops done d less))
       (subst (λ l. HasEnded (take done ops ++ get_or ops done d ∷ []) verdict l w) (sym e.replies)
@@ -368,22 +448,40 @@ stops_at ops d done verdict old now sets new u v w stops less on h e = (
   e.stopped.live,
   loaded_then u v w h.only e.stopped.only,
   within_more (done + 1) (length ops) new (omega (arith, less))
-      (stopped_within (get_or ops done d) verdict sets new v w done e.stopped h.sized),
+      (stopped_within (get_or ops done d) verdict sets new v w done e.stopped grows h.sized),
   keys_of_all ops (done + 1) new (keys_more ops d done sets new less h.keys e.stopped.reads e.stopped.writes),
 )
+
+-- with one operation more they took no more steps than all may
+pub all_took : (ops : List Op) (done : ℕ) (u v w : View) → done < length ops → OnlyWalked u v
+    → v.steps ≤ u.steps + done * alter_most u.layout.slots → w.steps ≤ v.steps + alter_most v.layout.slots
+    → w.steps ≤ u.steps + length ops * alter_most u.layout.slots
+all_took ops done u v w less l before most =
+    steps_within (done + 1) (length ops) (alter_most u.layout.slots) u.steps w.steps (omega (arith, less))
+    (steps_more done (alter_most u.layout.slots) u.steps v.steps w.steps before (op_took u v w l most))
 
 -- an operation that ends the transaction
 pub run_ended : (ops : List Op) (d : Op) (done : ℕ) (verdict : Verdict) (old now : List Reply) (sets new : Sets)
     (u v w : View) → done < length ops → keeps verdict ≡ false → IsOnArray v.layout.decls (get_or ops done d)
     → HasRunSome ops done old sets u v → HasAnswered (get_or ops done d) verdict old now sets new v w
-    → w.steps ≤ v.steps + 4 → HasAnsweredAll ops verdict now new u w
-run_ended ops d done Done old now sets new u v w less stops on h a four = absurd cc
-run_ended ops d done Short old now sets new u v w less stops on h a four =
-    let e = stops_at ops d done Short old now sets new u v w refl less on h a in
-    record { live = e.1; only = e.2; sized = e.3; steps = omega (arith, h.steps, four, less); run = e.0; keys = e.4 }
-run_ended ops d done Over old now sets new u v w less stops on h a four =
-    let e = stops_at ops d done Over old now sets new u v w refl less on h a in
-    record { live = e.1; only = e.2; sized = e.3; steps = omega (arith, h.steps, four, less); run = e.0; keys = e.4 }
+    → length new.holds ≤ length sets.holds + op_holds → HasAnsweredAll ops verdict now new u w
+run_ended ops d done Done old now sets new u v w less stops on h a grows = absurd cc
+run_ended ops d done Short old now sets new u v w less stops on h a grows =
+    let e = stops_at ops d done Short old now sets new u v w refl less on h a grows in record {
+      live = e.1;
+      only = e.2;
+      sized = e.3;
+      run = e.0;
+      keys = e.4;
+    }
+run_ended ops d done Over old now sets new u v w less stops on h a grows =
+    let e = stops_at ops d done Over old now sets new u v w refl less on h a grows in record {
+      live = e.1;
+      only = e.2;
+      sized = e.3;
+      run = e.0;
+      keys = e.4;
+    }
 
 -- all operations were run
 pub run_all : (ops : List Op) (done : ℕ) (replies : List Reply) (sets : Sets) (v w : View) → take done ops ≡ ops
@@ -392,29 +490,48 @@ run_all ops done replies sets v w all h = record {
   live = h.live;
   only = h.only;
   sized = within_more done (length ops) sets h.within h.sized;
-  steps = omega (arith, h.steps, h.within);
   run = subst (λ l. HasRun l replies sets w) all h.run;
   keys = keys_of_all ops done sets h.keys;
 }
 
 -- ---- a refusal among the operations
 
--- an operation was refused, behind loads
-pub cause_among : (ops : List Op) (d : Op) (i : ℕ) (why : RefusalCause) (u v w : View) → i < length ops → OnlyLoaded u v
+-- an operation was refused, behind walks
+pub cause_among : (ops : List Op) (d : Op) (i : ℕ) (why : RefusalCause) (u v w : View) → i < length ops → OnlyWalked u v
     → IsOpCause (get_or ops i d) why v w → IsCauseAmong ops why u w
-cause_among ops d i (refusals.Conflict at expected seen) u v w less l c = record {
+cause_among ops d i why u v w less l c = record {
   op = get_or ops i d;
   among = in_taken ops (get_or ops i d) (i + 1) (among_take ops d i less);
-  cause = (
-    c.0,
-    c.1,
-    c.2,
-    subst (λ (y : Layout). IsAtKey y.decls c.1 (spot_for y.decls c.1) at) (loaded_layout u v l) c.3,
-    c.4 ∙ ap (λ (x : View). x.touched) l.is,
-  );
+  cause = by_why why c;
 }
-cause_among ops d i (refusals.Wide set) u v w less l c = absurd c
-cause_among ops d i (refusals.NumberLimit clock) u v w less l c = absurd c
+  where
+    by_why : (y : RefusalCause) → IsOpCause (get_or ops i d) y v w → IsOpCause (get_or ops i d) y u w
+    by_why (refusals.Conflict at expected seen) c = record {
+      met = c.met;
+      key = c.key;
+      cause = c.cause;
+      blamed = c.blamed ∙ ap (λ (x : View). x.blamed ++ blame_at (seat_number x.role) c.met) l.is;
+      draws = c.draws ∙ ap (λ (x : View). x.draws) l.is;
+      touched = c.touched ∙ ap (λ (x : View). x.touched) l.is;
+    }
+    by_why (refusals.Full told) c =
+        let a = c.all in record {
+          key = c.key;
+          writes = c.writes;
+          words = c.words;
+          all = record {
+            count = a.count ∙ ap (λ (y : Layout). y.slots) (loaded_layout u v l);
+            taken = a.taken;
+            step = a.step;
+            since = let first = l.since in let later = a.since in omega (arith, first, later);
+            looked = a.looked;
+          };
+          told_is = c.told_is;
+          draws = c.draws ∙ ap (λ (x : View). x.draws) l.is;
+          touched = c.touched ∙ ap (λ (x : View). x.touched) l.is;
+        }
+    by_why (refusals.Wide set) c = absurd c
+    by_why (refusals.NumberLimit clock) c = absurd c
 
 -- ---- by index
 
@@ -426,7 +543,7 @@ array_at decls (op ∷ ops) d (suc i) all less = array_at decls ops d i all.1 (o
 
 -- behind loads the declarations are the same
 pub loaded_array : (ops : List Op) (d : Op) (i : ℕ) (v w : View) → AllByRecursion (IsOnArray v.layout.decls) ops
-    → i < length ops → OnlyLoaded v w → IsOnArray w.layout.decls (get_or ops i d)
+    → i < length ops → OnlyWalked v w → IsOnArray w.layout.decls (get_or ops i d)
 loaded_array ops d i v w all less l =
     subst (λ (y : Layout). IsOnArray y.decls (get_or ops i d)) (sym (loaded_layout v w l))
     (array_at v.layout.decls ops d i all less)

@@ -7,12 +7,12 @@ use Rattle.serial_model.specs.Numbers.{last_epoch}
 use Rattle.wire_form.specs.Words.{number_word}
 use Rattle.commit_core.specs.declared.seat.Mark.{Mark}
 use Rattle.commit_core.specs.CoreState.{mark_of, is_trying}
-use Rattle.engine_words.specs.declared.view.Role.TheVariants.{Keeper}
-use Rattle.engine_words.specs.declared.view.View.{View}
-use Rattle.engine_words.specs.Rule.{IsSmall}
-use Rattle.engine_words.specs.Clock.{advanced, marked}
-use Rattle.engine_words.specs.Steps.{past_at, HasTimed}
-use Rattle.tx_commit.specs.Live.{IsOver}
+use Rattle.engine_pages.specs.declared.view.Role.TheVariants.{Keeper}
+use Rattle.engine_pages.specs.declared.view.View.{View}
+use Rattle.engine_pages.specs.Words.{IsSmall}
+use Rattle.engine_seats.specs.Clock.{advanced, marked}
+use Rattle.engine_pages.specs.Times.{past_at, HasTimed}
+use Rattle.page_commit.specs.Live.{IsOver}
 use Rattle.tx_runner.specs.Epochs.{HasAdvanced, HasSeenEpoch, IsLastEpoch, IsMarkedUpTo}
 
 -- the clock's word has the epoch of the number that it is
@@ -43,6 +43,11 @@ seen_epoch v w clock epoch a is =
       touched = ap (λ (x : View). x.touched) a.is;
       blamed = ap (λ (x : View). x.blamed) a.is;
       met = ap (λ (x : View). x.met) a.is;
+      grip = ap (λ (x : View). x.grip) a.is;
+      ways = ap (λ (x : View). x.ways) a.is;
+      drafts = ap (λ (x : View). x.drafts) a.is;
+      copies = ap (λ (x : View). x.copies) a.is;
+      blanks = ap (λ (x : View). x.blanks) a.is;
     }
 
 -- the keeper's clock is in the epoch that it knows
@@ -85,6 +90,16 @@ marked_over mark v w over is = subst IsOver (sym is) record {
   due = over.due;
   took = over.took;
   seat = record { kept = over.seat.kept; locks = over.seat.locks; stage = over.seat.stage };
+  agree = over.agree;
+  holds = record {
+    holds = over.holds.holds;
+    within = over.holds.within;
+    made = over.holds.made;
+    taken = over.holds.taken;
+    drafts = over.holds.drafts;
+    copies = over.holds.copies;
+    blanks = over.holds.blanks;
+  };
 }
 
 -- the last mark counts

@@ -1,6 +1,6 @@
 -- Tries that committed.
-use Rattle.std.proofs.Common.{◌≡◌, ◌≢◌, ◌⊎◌, inl, inr, ℕ, ◌+◌, ◌≤◌, ◌<◌, Bool, true, false, map, List, [], ◌∷◌, ◌++◌, length}
-use Rattle.std.proofs.Common.{refl, sym, ap, ◌∙◌, subst, arith, append_assoc, drop, length-append}
+use Rattle.std.proofs.Common.{◌≡◌, ◌≢◌, ◌⊎◌, inl, inr, ℕ, ◌+◌, ◌≤◌, ◌<◌, Bool, true, false, map, List, [], ◌∷◌, ◌++◌}
+use Rattle.std.proofs.Common.{length, refl, sym, ap, ◌∙◌, subst, arith, append_assoc, drop, length-append}
 use Rattle.std.specs.Prelude.{Contains}
 use Rattle.std.proofs.lemmas.List.{append-nil, map-append}
 use Rattle.std.proofs.lemmas.List.Sums.{sum_by-append}
@@ -31,17 +31,17 @@ use Rattle.serial_bridge.specs.Transaction.{IsAttemptOf}
 use Rattle.tx_sets.specs.declared.sets.Sets.{Sets}
 use Rattle.tx_sets.specs.declared.writes.Write.{Write}
 use Rattle.tx_sets.specs.Entries.{has_write}
-use Rattle.engine_words.specs.declared.layout.Layout.{Layout}
-use Rattle.engine_words.specs.declared.view.Touch.{Touch}
-use Rattle.engine_words.specs.declared.view.View.{View}
-use Rattle.engine_words.specs.ReadLaws.{last_by, last_since}
-use Rattle.engine_words.specs.Reads.{IsLastBetween}
-use Rattle.engine_words.specs.Steps.{AreSerial}
-use Rattle.engine_words.specs.Touches.{touch}
-use Rattle.engine_words.specs.Views.{seat_number}
-use Rattle.tx_commit.specs.Committing.{changes_of, kept_writes, touches_of, HasCommitted}
-use Rattle.tx_commit.specs.Running.{HasRun, HasEnded}
-use Rattle.tx_commit.specs.RunLaws.{commits_run, commits_end}
+use Rattle.engine_pages.specs.declared.layout.Layout.{Layout}
+use Rattle.engine_pages.specs.declared.view.Touch.{Touch}
+use Rattle.engine_pages.specs.declared.view.View.{View}
+use Rattle.tx_runner.proofs.LastLaws.{last_by, last_since}
+use Rattle.page_commit.specs.Below.{IsLastBetween}
+use Rattle.engine_seats.specs.Counts.{AreSerial}
+use Rattle.engine_pages.specs.Touches.{touch}
+use Rattle.engine_pages.specs.Views.{seat_number}
+use Rattle.page_commit.specs.Committing.{changes_of, kept_writes, touches_of, HasCommitted}
+use Rattle.page_commit.specs.Running.{HasRun, HasEnded}
+use Rattle.page_commit.specs.RunLaws.{commits_run, commits_end}
 use Rattle.tx_runner.specs.Lines.{keeps, IsAnswered}
 use Rattle.tx_runner.specs.LineEnds.{HasCommittedLine, IsAsAlone}
 use Rattle.tx_runner.specs.Steps.{AreKeysOf, HasRunTo}
@@ -146,10 +146,10 @@ pub try_committed : (ops : List Op) (verdict : Verdict) (replies : List Reply) (
     (u v w : View) → StandsAs u v → AreKeysOf ops sets → HasRunTo ops verdict replies sets v
     → commit.changes ≡ changes_of (kept_writes (keeps verdict) sets.writes)
     → Rises IsKeyBelow (map (λ (x : Change). x.key) commit.changes) → length commit.changes ≤ 16
-    → HasCommitted commit.changes commit.number v w → HasDrawsLeft u
+    → HasCommitted commit.changes commit.number v w → v.steps ≤ w.steps → HasDrawsLeft u
     → ((part : Part) → Contains v.seat.kept part → IsLastBetween u v part)
     → HasCommittedLine ops 1 verdict replies commit u w
-try_committed ops verdict replies commit sets u v w s keys run written rises few c left last = record {
+try_committed ops verdict replies commit sets u v w s keys run written rises few c took left last = record {
   began = left;
   losts = [];
   fewer = omega arith;
@@ -159,6 +159,7 @@ try_committed ops verdict replies commit sets u v w s keys run written rises few
   layout = c.layout ∙ s.layout;
   role = c.role ∙ s.role;
   seen = seen_then u v w s.seen c.seen;
+  since = let before = s.since in omega (arith, before, took);
   marks = c.marks ∙ s.marks;
   attempt = c.attempt;
   mine = c.mine ∙ ap (λ l. l ++ c.attempt ∷ []) s.mine;
@@ -171,7 +172,8 @@ try_committed ops verdict replies commit sets u v w s keys run written rises few
             let x = of_change (seat_number v.role) commit.changes t own in
             inr (
               ap (λ (y : Touch). y.seat) (sym x.2) ∙ ap seat_number s.role,
-              subst (IsWrittenBy ops) (ap (λ (y : Touch). y.key) x.2) (keys.writes x.0.key (of_kept (keeps verdict) x.0 sets.writes
+              subst (IsWrittenBy ops) (ap (λ (y : Touch). y.key) x.2)
+                  (keys.writes x.0.key (of_kept (keeps verdict) x.0 sets.writes
                   (subst (λ (l : List Change). Contains l x.0) written x.1))),
             )
       ];
@@ -230,6 +232,7 @@ line_committed ops done tries verdict replies commit u v w less h k = record {
     history = front_then u.history v.history w.history h.tried.seen.history k.seen.history;
     decided = front_then u.decided v.decided w.decided h.tried.seen.decided k.seen.decided;
   };
+  since = let before = h.tried.since in let later = k.since in omega (arith, before, later);
   marks = k.marks ∙ h.tried.marks;
   attempt = k.attempt;
   mine = k.mine ∙ ap (λ l. l ++ k.attempt ∷ []) h.tried.mine;

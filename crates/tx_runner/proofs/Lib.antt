@@ -1,4 +1,6 @@
 mod Arrays
+mod LastLaws
+mod Sums
 mod Answered
 mod Standing
 mod Commits

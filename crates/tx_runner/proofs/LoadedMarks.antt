@@ -11,14 +11,14 @@ use Rattle.wire_form.specs.declared.clock.Mark.{Mark}
 use Rattle.wire_form.specs.Items.{Reads}
 use Rattle.wire_form.specs.Words.{IsMark, mark_word}
 use Rattle.commit_core.specs.declared.seat.Mark as core
-use Rattle.engine_words.specs.declared.view.Glance.{Glance}
-use Rattle.engine_words.specs.declared.view.Role.TheVariants.{Keeper}
-use Rattle.engine_words.specs.declared.view.View.{View}
-use Rattle.engine_words.specs.Clock.{met_at, HasMet, IsLast}
-use Rattle.engine_words.specs.Layout.{mark_at}
-use Rattle.engine_words.specs.Rule.{IsSmallMark, word_of_mark}
-use Rattle.engine_words.specs.Steps.{glance}
-use Rattle.engine_words.specs.Views.{bare_seat, IsActive}
+use Rattle.engine_pages.specs.declared.view.Glance.{Glance}
+use Rattle.engine_pages.specs.declared.view.Role.TheVariants.{Keeper}
+use Rattle.engine_pages.specs.declared.view.View.{View}
+use Rattle.engine_seats.specs.Clock.{met_at, HasMet, IsLast}
+use Rattle.engine_pages.specs.Layout.{mark_at}
+use Rattle.engine_pages.specs.Words.{IsSmallMark, word_of_mark}
+use Rattle.engine_pages.specs.Steps.{glance}
+use Rattle.engine_pages.specs.Views.{bare_seat, IsActive}
 use Rattle.tx_runner.specs.Epochs.{last_of, mets_of, AreLast, HasMetAll, IsLastOf}
 
 -- a mark that was set has a word that is read
@@ -36,13 +36,18 @@ taken_all (m ∷ marks) zero le = absurd (omega (arith, le))
 taken_all (m ∷ marks) (suc i) le = ap (λ l. m ∷ l) (taken_all marks i (omega (arith, le)))
 
 -- one mark more
-mets_push : (from : ℕ) (marks : List Mark) (mark : Mark)
-    → mets_of from (marks ++ mark ∷ []) ≡ mets_of from marks ++ met_at (from + length marks) (mark_word mark) ∷ []
-mets_push from [] mark = let same : from ≡ from + 0 = omega arith in ap (λ n. met_at n (mark_word mark) ∷ []) same
-mets_push from (m ∷ marks) mark =
+mets_push : (from : ℕ) (marks : List Mark) (mark : Mark) (places : List ℕ) (place : ℕ) → length places ≡ length marks
+    → mets_of from (marks ++ mark ∷ []) (places ++ place ∷ [])
+    ≡ mets_of from marks places ++ met_at (from + length marks) (mark_word mark) place ∷ []
+mets_push from [] mark [] place count =
+    let same : from ≡ from + 0 = omega arith in ap (λ n. met_at n (mark_word mark) place ∷ []) same
+mets_push from [] mark (p ∷ places) place count = absurd (omega (arith, count))
+mets_push from (m ∷ marks) mark [] place count = absurd (omega (arith, count))
+mets_push from (m ∷ marks) mark (p ∷ places) place count =
     let same : (from + 1) + length marks ≡ from + suc (length marks) = omega arith in
-    ap (λ l. met_at from (mark_word m) ∷ l)
-    (mets_push (from + 1) marks mark ∙ ap (λ n. mets_of (from + 1) marks ++ met_at n (mark_word mark) ∷ []) same)
+    ap (λ l. met_at from (mark_word m) p ∷ l)
+    (mets_push (from + 1) marks mark places place (omega (arith, count))
+    ∙ ap (λ n. mets_of (from + 1) marks places ++ met_at n (mark_word mark) place ∷ []) same)
 
 last_push : (step from : ℕ) (marks : List Mark) (mark : Mark) (last : Option Glance)
     → last_of step from (marks ++ mark ∷ []) last
@@ -62,6 +67,8 @@ pub none_met : (marks : List Mark) (v : View) → marks ≡ [] → HasMetAll mar
 none_met marks v none = subst (λ l. HasMetAll l v v) (sym none) record {
   each = tt;
   parked = λ keeper. tt;
+  places = [];
+  count = refl;
   is = let steps : v.steps ≡ v.steps + 0 = omega arith in
       ap (λ n. record v { steps = n; last = v.last; met = v.met }) steps
       ∙ ap (λ l. record v { steps = v.steps + 0; last = v.last; met = l }) (sym (append-nil v.met));
@@ -108,14 +115,16 @@ met_one marks mark worker word u v w count h m is spelled = record {
   parked = λ keeper. last_more u 0 marks mark (h.parked keeper) (λ unmade.
       one_last u v marks mark (0 + length marks) worker (sym (at_end marks worker count)) word h m spelled keeper
       unmade);
+  places = h.places ++ m.place ∷ [];
+  count = length-append h.places (m.place ∷ []) ∙ ap (λ n. n + 1) h.count ∙ sym (length-append marks (mark ∷ []));
   is = m.is ∙ (ap (λ (x : View). record x {
     steps = x.steps + 1;
     last = Some (glance x.steps (mark_at worker) word);
-    met = x.met ++ met_at worker word ∷ [];
+    met = x.met ++ met_at worker word m.place ∷ [];
   }) h.is ∙ (ap (λ n. record u {
     steps = n;
     last = Some (glance (u.steps + length marks) (mark_at worker) word);
-    met = (u.met ++ mets_of 0 marks) ++ met_at worker word ∷ [];
+    met = (u.met ++ mets_of 0 marks h.places) ++ met_at worker word m.place ∷ [];
   }) steps ∙ (ap (λ l. record u {
     steps = u.steps + length (marks ++ mark ∷ []);
     last = Some (glance (u.steps + length marks) (mark_at worker) word);
@@ -123,7 +132,7 @@ met_one marks mark worker word u v w count h m is spelled = record {
   }) met ∙ ap (λ g. record u {
     steps = u.steps + length (marks ++ mark ∷ []);
     last = g;
-    met = u.met ++ mets_of 0 (marks ++ mark ∷ []);
+    met = u.met ++ mets_of 0 (marks ++ mark ∷ []) (h.places ++ m.place ∷ []);
   }) last)));
 }
   where
@@ -135,11 +144,12 @@ met_one marks mark worker word u v w count h m is spelled = record {
     steps : (u.steps + length marks) + 1 ≡ u.steps + length (marks ++ mark ∷ [])
     steps = let more = length-append marks (mark ∷ []) in omega arith
 
-    met : (u.met ++ mets_of 0 marks) ++ met_at worker word ∷ [] ≡ u.met ++ mets_of 0 (marks ++ mark ∷ [])
-    met = append_assoc u.met (mets_of 0 marks) (met_at worker word ∷ [])
-        ∙ ap (λ l. u.met ++ l) (ap (λ n. mets_of 0 marks ++ met_at worker n ∷ []) (sym spelled)
-        ∙ (ap (λ n. mets_of 0 marks ++ met_at n (mark_word mark) ∷ []) (at_end marks worker count)
-        ∙ sym (mets_push 0 marks mark)))
+    met : (u.met ++ mets_of 0 marks h.places) ++ met_at worker word m.place ∷ []
+        ≡ u.met ++ mets_of 0 (marks ++ mark ∷ []) (h.places ++ m.place ∷ [])
+    met = append_assoc u.met (mets_of 0 marks h.places) (met_at worker word m.place ∷ [])
+        ∙ ap (λ l. u.met ++ l) (ap (λ n. mets_of 0 marks h.places ++ met_at worker n m.place ∷ []) (sym spelled)
+        ∙ (ap (λ n. mets_of 0 marks h.places ++ met_at n (mark_word mark) m.place ∷ []) (at_end marks worker count)
+        ∙ sym (mets_push 0 marks mark h.places m.place h.count)))
 
 -- the next worker's mark was loaded
 pub met_more : (marks : List Mark) (mark : Mark) (worker word : ℕ) (u v w : View) → worker < length marks

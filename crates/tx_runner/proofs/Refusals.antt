@@ -1,65 +1,79 @@
 -- Tries that were refused.
-use Rattle.std.proofs.Common.{◌≡◌, ◌⊎◌, inl, inr, Some, true≢false, ℕ, suc, Bool, true, false, ◌+◌, ◌*◌, ◌≤◌, ◌<◌, length, List, [], ◌∷◌, ◌++◌}
+use Rattle.std.proofs.Common.{◌≡◌, inl, inr, Option, Some, None, true≢false, ℕ, Bool, true, false, ◌+◌, ◌*◌, ◌≤◌, ◌<◌}
+use Rattle.std.proofs.Common.{length, List, [], ◌∷◌, ◌++◌}
 use Rattle.std.proofs.Common.{refl, sym, ap, ◌∙◌, subst, arith, append_assoc, length-append}
 use Rattle.std.specs.List.{AllByRecursion, Contains}
 use Rattle.std.proofs.lemmas.Grind.{flat_map-append}
 use Rattle.std.proofs.lemmas.List.{append-nil, map-append}
 use Rattle.std.proofs.lemmas.List.Sums.{sum_by-append, sum_by-cons}
-use Rattle.std.proofs.Math.Nat.{mul-le-mul_right, suc-mul}
 use Rattle.lists.specs.Each.{all_push}
+use Rattle.lists.specs.Elements.{any_in}
 use Rattle.lists.specs.Fronts.{front_refl}
+use Rattle.homes.specs.Homes.{same_key}
+use Rattle.homes.specs.Laws.{same_key-self}
 use Rattle.serial_model.specs.declared.key.Key.{Key}
 use Rattle.serial_model.specs.declared.op.Op.{Op}
-use Rattle.serial_model.specs.declared.op.Op.TheVariants.{Read, Write, Remove, Add, Take, Scan}
+use Rattle.tx_sets.specs.declared.reads.ReadEntry.{ReadEntry}
 use Rattle.tx_sets.specs.declared.sets.Sets.{Sets}
+use Rattle.tx_sets.specs.declared.writes.Write.{Write}
 use Rattle.tx_sets.specs.Entries.{has_read, has_write}
-use Rattle.engine_words.specs.declared.layout.Layout.{Layout}
-use Rattle.engine_words.specs.declared.view.RefusalCause.{RefusalCause}
-use Rattle.engine_words.specs.declared.view.RefusalCause.TheVariants as refusals
-use Rattle.engine_words.specs.declared.view.Touch.{Touch}
-use Rattle.engine_words.specs.declared.view.View.{View}
-use Rattle.engine_words.specs.Steps.{IsKeyAt, IsMetFor}
-use Rattle.engine_words.specs.Touches.{touch}
-use Rattle.engine_words.specs.Views.{seat_number}
-use Rattle.tx_commit.specs.Live.{IsOver}
-use Rattle.tx_commit.specs.Refusing.{HasRefused, RefusesBegin}
-use Rattle.tx_commit.specs.Committing.{RefusesCommit, TookOnly, kept_writes}
-use Rattle.tx_commit.specs.Turning.{IsOfKey, MayWrite}
-use Rattle.tx_runner.specs.Lines.{IsOnArray}
-use Rattle.tx_runner.specs.Steps.{AreKeysOf, IsCauseAmong, IsOpCause, IsTryCause, RefusesTry, is_limit}
-use Rattle.tx_runner.specs.Tries.{HasConflicted, HasDrawsLeft, HasTriedFor, IsAtLimit, IsClash, IsConflicting}
-use Rattle.tx_runner.specs.Tries.{IsKeyOf, IsWrittenBy, Lost, ToClock, ToOther, TouchesOnly, blame_of, blames_of}
-use Rattle.tx_runner.specs.Tries.{drawn_for, why_of, whys_of}
+use Rattle.engine_pages.specs.declared.layout.Layout.{Layout}
+use Rattle.engine_pages.specs.declared.view.RefusalCause.{RefusalCause}
+use Rattle.engine_pages.specs.declared.view.RefusalCause.TheVariants as refusals
+use Rattle.engine_pages.specs.declared.view.SetName.{SetName}
+use Rattle.engine_pages.specs.declared.view.SetName.TheVariants.{Holds}
+use Rattle.engine_pages.specs.declared.view.Touch.{Touch}
+use Rattle.engine_pages.specs.declared.view.View.{View}
+use Rattle.engine_pages.specs.Slots.{first_retired}
+use Rattle.engine_pages.specs.Views.{seat_number}
+use Rattle.page_commit.specs.Live.{IsOver}
+use Rattle.page_commit.specs.Refusing.{HasRefused, RefusesBegin}
+use Rattle.page_commit.specs.Committing.{IsRecordOf, RefusesCommit, TookOnly, kept_writes}
+use Rattle.tx_runner.specs.declared.lines.LineEnd.{LineEnd}
+use Rattle.tx_runner.specs.declared.lines.LineEnd.TheVariants as answers
+use Rattle.tx_runner.specs.declared.room.LineRoom.{LineRoom}
+use Rattle.tx_runner.specs.LineEnds.{RunsLine}
+use Rattle.tx_runner.specs.Lines.{try_steps, IsOnArray}
+use Rattle.tx_runner.specs.Steps.{AreKeysOf, IsCauseAmong, IsOpCause, IsTryCause, RefusesTry, end_of}
+use Rattle.tx_runner.specs.Tries.{AreAllTaken, HasConflicted, HasDrawsLeft, HasTriedFor, IsChangedAt, IsClash}
+use Rattle.tx_runner.specs.Tries.{IsConflicting, IsKeyOf, IsLostAt, IsMetKey, IsWrittenBy, Lost, ToClock, ToOther}
+use Rattle.tx_runner.specs.Tries.{ToSet, ToSlots, TouchesOnly, Writes, blame_at, blame_of, blames_of, drawn_for}
+use Rattle.tx_runner.specs.Tries.{why_of, whys_of}
+use Rattle.tx_runner.proofs.Arrays.{written_at}
 use Rattle.tx_runner.proofs.Standing.{StandsAs, left_before, seen_then, still}
+use Rattle.tx_runner.proofs.Sums.{steps_more, steps_within}
 
 -- ---- one try
 
--- what an operation may write is its key
-written_at : (op : Op) (k : Key) → MayWrite op k → IsOfKey op k
-written_at (Read q) k may = absurd may
-written_at (Write q value) k may = may
-written_at (Remove q) k may = may
-written_at (Add q value) k may = may
-written_at (Take q value) k may = may
-written_at (Scan storage low high) k may = absurd may
-
 -- a refusal since the try began, for which so many numbers were drawn, and at which this one was met
-tried_once : (ops : List Op) (why : RefusalCause) (lost : Lost) (u v w : View) → StandsAs u v → (r : HasRefused why v w)
-    → why_of lost ≡ why → w.draws ≡ v.draws + drawn_for lost → r.met ≡ blame_of (seat_number u.role) lost
-    → TouchesOnly ops u w → HasTriedFor ops (lost ∷ []) u w
-tried_once ops why lost u v w s r is drawn met touched = record {
+tried_once : (ops : List Op) (why : RefusalCause) (lost : Lost) (u v w : View) → StandsAs u v → HasRefused why v w
+    → why_of lost ≡ why → w.draws ≡ v.draws + drawn_for lost
+    → w.blamed ≡ v.blamed ++ blame_of (seat_number v.role) lost → TouchesOnly ops u w → HasTriedFor ops (lost ∷ []) u w
+tried_once ops why lost u v w s r is drawn blamed touched = record {
   over = r.over;
   layout = r.layout ∙ s.layout;
   role = r.role ∙ s.role;
   seen = seen_then u v w s.seen r.seen;
+  since = let before = s.since in let later = r.since in omega (arith, before, later);
   mine = r.mine ∙ s.mine;
   draws = let same = s.draws in omega (arith, drawn, same, sum_by-cons drawn_for lost []);
   marks = r.marks ∙ s.marks;
   refused = r.refused ∙ ap (λ l. l ++ why ∷ []) s.refused ∙ ap (λ (x : RefusalCause). u.refused ++ x ∷ []) (sym is);
-  blamed = r.blamed ∙ ap (λ l. l ++ r.met) s.blamed
-      ∙ ap (λ l. u.blamed ++ l) (met ∙ sym (append-nil (blame_of (seat_number u.role) lost)));
+  blamed = blamed ∙ ap (λ (q : ℕ). v.blamed ++ blame_of q lost) (ap seat_number s.role)
+      ∙ ap (λ l. l ++ blame_of (seat_number u.role) lost) s.blamed
+      ∙ ap (λ l. u.blamed ++ l) (sym (append-nil (blame_of (seat_number u.role) lost)));
   touched = touched;
 }
+
+-- an entry of the key is in the read set
+has_entry : (k : Key) (e : ReadEntry) (reads : List ReadEntry) → Contains reads e → e.key ≡ k → has_read k reads ≡ true
+has_entry k e reads has is = any_in (λ (x : ReadEntry). same_key x.key k) reads e has
+    (subst (λ (q : Key). same_key e.key q ≡ true) is (same_key-self e.key))
+
+-- and one of the write set
+has_written : (k : Key) (w : Write) (writes : List Write) → Contains writes w → w.key ≡ k → has_write k writes ≡ true
+has_written k w writes has is = any_in (λ (x : Write). same_key x.key k) writes w has
+    (subst (λ (q : Key). same_key w.key q ≡ true) is (same_key-self w.key))
 
 -- where nothing was locked
 untouched : (ops : List Op) (v w : View) → w.touched ≡ v.touched → TouchesOnly ops v w
@@ -72,29 +86,50 @@ begin_refused ops why v w r =
       lost = lost;
       is = sym r.is;
       tried = tried_once ops why lost v v w (still v) r.refused (sym r.is) (let none = r.undrawn in omega (arith, none))
-          (subst (λ (x : RefusalCause). IsMetFor (Some x) r.refused.met v.layout.decls
-          (seat_number v.role)) r.is r.refused.of)
-          (untouched ops v w r.touched);
+          (r.blamed ∙ sym (append-nil v.blamed)) (untouched ops v w r.touched);
       cause = (r.high, r.draws, v.steps, r.last);
     }
 
--- a conflict at the record of a key was met there
-met_there : (at expected seen : ℕ) (k : Key) (u v w : View) → StandsAs u v
-    → (r : HasRefused (refusals.Conflict at expected seen) v w) → IsKeyAt v k at
-    → r.met ≡ touch (seat_number u.role) k ∷ []
-met_there at expected seen k u v w s r place =
-    r.of k place ∙ ap (λ (q : ℕ). touch q k ∷ []) (ap seat_number s.role)
+-- where a record was in conflict, its key is one of the line
+met_key : (ops : List Op) (met : Option Key) → ((k : Key) → met ≡ Some k → IsKeyOf ops k) → IsMetKey ops met
+met_key ops (Some k) keys = keys k refl
+met_key ops None keys = tt
 
-clash_try : (ops : List Op) (at expected seen : ℕ) (k : Key) (u v w : View) → HasDrawsLeft u → StandsAs u v
-    → HasRefused (refusals.Conflict at expected seen) v w → IsConflicting (refusals.Conflict at expected seen)
-    → IsKeyOf ops k → IsKeyAt v k at → TouchesOnly ops u w → RefusesTry ops (refusals.Conflict at expected seen) u w
-clash_try ops at expected seen k u v w left s r cause key place touched =
+-- a conflict, behind which so many numbers were drawn
+clash_try : (ops : List Op) (at expected seen : ℕ) (met : Option Key) (u v w : View) → HasDrawsLeft u → StandsAs u v
+    → HasRefused (refusals.Conflict at expected seen) v w → IsChangedAt met expected seen
+    → ((k : Key) → met ≡ Some k → IsKeyOf ops k) → w.blamed ≡ v.blamed ++ blame_at (seat_number v.role) met
+    → TouchesOnly ops u w → RefusesTry ops (refusals.Conflict at expected seen) u w
+clash_try ops at expected seen met u v w left s r cause keys blamed touched =
     let why : RefusalCause = refusals.Conflict at expected seen in
-    let lost : Lost = ToOther (record { why = why; key = k; drew = r.drew }) in record {
+    let lost : Lost = ToOther (record { why = why; met = met; drew = r.drew }) in record {
       lost = lost;
       is = refl;
-      tried = tried_once ops why lost u v w s r refl r.draws (met_there at expected seen k u v w s r place) touched;
-      cause = (cause, key, left);
+      tried = tried_once ops why lost u v w s r refl r.draws blamed touched;
+      cause = ((cause, met_key ops met keys), left);
+    }
+
+-- no slot was usable
+full_try : (ops : List Op) (told : Option (ℕ × ℕ)) (words : List ℕ) (u v w : View) → HasDrawsLeft u → StandsAs u v
+    → HasRefused (refusals.Full told) v w → told ≡ first_retired 0 words → AreAllTaken words v w → Writes ops
+    → w.draws ≡ v.draws → TouchesOnly ops u w → RefusesTry ops (refusals.Full told) u w
+full_try ops told words u v w left s r is all writes draws touched =
+    let why : RefusalCause = refusals.Full told in
+    let lost : Lost = ToSlots words in record {
+      lost = lost;
+      is = ap refusals.Full (sym is);
+      tried = tried_once ops why lost u v w s r (ap refusals.Full (sym is)) (omega (arith, draws))
+          (r.blamed ∙ ap (λ l. v.blamed ++ l) r.told) touched;
+      cause = (writes, taken_since, left);
+    }
+  where
+    taken_since : AreAllTaken words u w
+    taken_since = record {
+      count = all.count ∙ ap (λ (l : Layout). l.slots) s.layout;
+      taken = all.taken;
+      step = all.step;
+      since = let before = s.since in let later = all.since in omega (arith, before, later);
+      looked = all.looked;
     }
 
 -- an operation was refused
@@ -105,8 +140,13 @@ op_refused ops why u v w left s r c = by_why why r c.op c.among c.cause
     by_why : (y : RefusalCause) → HasRefused y v w → (op : Op) → Contains ops op → IsOpCause op y v w
         → RefusesTry ops y u w
     by_why (refusals.Conflict at expected seen) r op among c =
-        clash_try ops at expected seen c.1 u v w left s r c.0 (record { op = op; among = among; at = c.2 }) c.3
-        (untouched ops u w (c.4 ∙ s.touched))
+        clash_try ops at expected seen c.met u v w left s r c.cause
+        (λ k is. record { op = op; among = among; at = c.key k is }) c.blamed
+        (untouched ops u w (c.touched ∙ s.touched))
+    by_why (refusals.Full told) r op among c =
+        full_try ops told c.words u v w left s r c.told_is c.all
+        (c.key, record { op = op; among = among; writes = c.writes }) c.draws
+        (untouched ops u w (c.touched ∙ s.touched))
     by_why (refusals.Wide set) r op among c = absurd c
     by_why (refusals.NumberLimit clock) r op among c = absurd c
 
@@ -120,11 +160,11 @@ commit_refused ops why sets keep u v w left s keys r c = by_why why r c
     kept k true has = keys.writes k has
     kept k false has = absurd (true≢false (sym has))
 
-    read_or_written : (k : Key) → (has_read k sets.reads ≡ true) ⊎ (has_write k (kept_writes keep sets.writes) ≡ true)
-        → IsKeyOf ops k
-    read_or_written k (inl read) = keys.reads k read
-    read_or_written k (inr written) =
-        let w = kept k keep written in record { op = w.op; among = w.among; at = written_at w.op k w.writes }
+    read_or_written : (k : Key) (at : ℕ) → IsRecordOf sets.reads (kept_writes keep sets.writes) k at → IsKeyOf ops k
+    read_or_written k at (inl entry) = keys.reads k (has_entry k entry.0 sets.reads entry.1 entry.2)
+    read_or_written k at (inr write) =
+        let w = kept k keep (has_written k write.0 (kept_writes keep sets.writes) write.1 write.2) in
+        record { op = w.op; among = w.among; at = written_at w.op k w.writes }
 
     touches : TookOnly (kept_writes keep sets.writes) v w → TouchesOnly ops u w
     touches took t has = elim (took t has) [
@@ -134,8 +174,16 @@ commit_refused ops why sets keep u v w left s keys r c = by_why why r c
 
     by_why : (y : RefusalCause) → HasRefused y v w → RefusesCommit sets (kept_writes keep sets.writes) y v w
         → RefusesTry ops y u w
-    by_why (refusals.Conflict at expected seen) r c =
-        clash_try ops at expected seen c.0 u v w left s r c.2.cause (read_or_written c.0 c.1) c.2.place (touches c.3)
+    by_why (refusals.Conflict at expected seen) r c = elim c.0 [
+      | inl here ↦
+          clash_try ops at expected seen (Some here.0) u v w left s r here.2.conflict.cause
+          (λ k is. let same : here.0 ≡ k = cc in subst (IsKeyOf ops) same (read_or_written here.0 at here.1))
+          here.2.blamed (touches c.1)
+      | inr pointer ↦
+          clash_try ops at expected seen None u v w left s r pointer.1.cause (λ k is. absurd cc)
+          (pointer.2 ∙ sym (append-nil v.blamed)) (touches c.1)
+    ]
+    by_why (refusals.Full told) r c = absurd c
     by_why (refusals.Wide set) r c = absurd c
     by_why (refusals.NumberLimit clock) r c = absurd c
 
@@ -152,6 +200,7 @@ none_tried ops v over = record {
     layout = refl;
     role = refl;
     seen = record { history = front_refl v.history; decided = front_refl v.decided };
+    since = omega arith;
     mine = refl;
     draws = omega arith;
     marks = refl;
@@ -182,6 +231,7 @@ tried_then ops xs ys u v w a b = record {
   layout = b.layout ∙ a.layout;
   role = b.role ∙ a.role;
   seen = seen_then u v w a.seen b.seen;
+  since = let before = a.since in let later = b.since in omega (arith, before, later);
   mine = b.mine ∙ a.mine;
   draws =
       let first = a.draws in
@@ -198,47 +248,77 @@ tried_then ops xs ys u v w a b = record {
 
 -- one try more was refused with Conflict
 pub conflicted_more : (ops : List Op) (done : ℕ) (why : RefusalCause) (u v w : View) → HasConflicted ops done u v
-    → RefusesTry ops why v w → is_limit why ≡ false → HasConflicted ops (done + 1) u w
+    → RefusesTry ops why v w → ((end : LineEnd) → end_of why ≡ Some end → ⊥) → HasConflicted ops (done + 1) u w
 conflicted_more ops done why u v w h r goes = by_lost r.lost r.is r.tried r.cause
   where
     by_lost : (lost : Lost) → why_of lost ≡ why → HasTriedFor ops (lost ∷ []) v w → IsTryCause ops lost v w
         → HasConflicted ops (done + 1) u w
     by_lost (ToOther clash) is tried cause =
         let lost : Lost = ToOther clash in record {
-          began = λ one. left_before u v h.tried.layout h.tried.seen cause.2;
+          began = λ one. left_before u v h.tried.layout h.tried.seen cause.1;
           losts = h.losts ++ lost ∷ [];
           count = length-append h.losts (lost ∷ []) ∙ ap (λ n. n + 1) h.count;
-          each = all_push (IsClash ops) h.losts lost h.each (cause.0, cause.1);
+          each = all_push (IsClash ops) h.losts lost h.each cause.0;
           tried = tried_then ops h.losts (lost ∷ []) u v w h.tried tried;
         }
-    by_lost (ToClock clock) is tried cause = absurd (let limit = ap is_limit is in cc)
+    by_lost (ToSlots words) is tried cause = absurd (goes answers.Full (ap end_of (sym is)))
+    by_lost (ToSet set) is tried cause = absurd (goes answers.Wide (ap end_of (sym is)))
+    by_lost (ToClock clock) is tried cause = absurd (goes answers.Limit (ap end_of (sym is)))
 
-conflicting_no_limit : (why : RefusalCause) → IsConflicting why → is_limit why ≡ true → ⊥
-conflicting_no_limit (refusals.Conflict at expected seen) cause is = cc
-conflicting_no_limit (refusals.Wide set) cause is = cause
-conflicting_no_limit (refusals.NumberLimit clock) cause is = cause
+-- a conflict ends no line
+conflict_goes_on : (why : RefusalCause) (met : Option Key) → IsConflicting why met → end_of why ≡ None
+conflict_goes_on (refusals.Conflict at expected seen) met cause = refl
+conflict_goes_on (refusals.Full told) met cause = absurd cause
+conflict_goes_on (refusals.Wide set) met cause = absurd cause
+conflict_goes_on (refusals.NumberLimit clock) met cause = absurd cause
 
--- one try was refused by the clock
-pub line_limited : (ops : List Op) (done tries : ℕ) (why : RefusalCause) (u v w : View) → done < tries
-    → HasConflicted ops done u v → RefusesTry ops why v w → is_limit why ≡ true → IsAtLimit ops tries u w
-line_limited ops done tries why u v w less h r limit = by_lost r.lost r.is r.tried r.cause
+-- the try behind others was lost so
+abbrev lost_behind : (ops : List Op) (done tries : ℕ) (lost : Lost) (u v w : View) → done < tries
+    → HasConflicted ops done u v → HasTriedFor ops (lost ∷ []) v w → IsLostAt ops lost tries u w
+lost_behind ops done tries lost u v w less h tried = record {
+  losts = h.losts;
+  fewer = omega (arith, less, h.count);
+  each = h.each;
+  tried = tried_then ops h.losts (lost ∷ []) u v w h.tried tried;
+}
+
+-- one try was refused so that the line isn't tried again
+pub line_ended : (ops : List Op) (done tries : ℕ) (why : RefusalCause) (end : LineEnd) (room : LineRoom) (u v w : View)
+    → done < tries → HasConflicted ops done u v → RefusesTry ops why v w → end_of why ≡ Some end
+    → RunsLine ops tries end room u w
+line_ended ops done tries why end room u v w less h r ends = by_lost r.lost r.is r.tried r.cause
   where
+    as_end : (told : LineEnd) → end_of why ≡ Some told → RunsLine ops tries told room u w
+        → RunsLine ops tries end room u w
+    as_end told is runs =
+        let same : told ≡ end = cc in subst (λ (x : LineEnd). RunsLine ops tries x room u w) same runs
+
     by_lost : (lost : Lost) → why_of lost ≡ why → HasTriedFor ops (lost ∷ []) v w → IsTryCause ops lost v w
-        → IsAtLimit ops tries u w
+        → RunsLine ops tries end room u w
     by_lost (ToOther clash) is tried cause =
-        absurd (conflicting_no_limit clash.why cause.0 (ap is_limit is ∙ limit))
-    by_lost (ToClock clock) is tried cause = record {
+        absurd (let goes = conflict_goes_on clash.why clash.met cause.0.0 in let same = ap end_of is in cc)
+    by_lost (ToSlots words) is tried cause = as_end answers.Full (ap end_of (sym is)) record {
+      began = left_before u v h.tried.layout h.tried.seen cause.2;
+      writes = cause.0;
+      words = words;
+      refused = lost_behind ops done tries (ToSlots words) u v w less h tried;
+      last = v;
+      before = h.tried;
+      all = cause.1;
+    }
+    by_lost (ToSet set) is tried cause = as_end answers.Wide (ap end_of (sym is)) record {
+      began = left_before u v h.tried.layout h.tried.seen cause.2;
+      many = cause.1;
+      refused = lost_behind ops done tries (ToSet Holds) u v w less h
+          (subst (λ (x : SetName). HasTriedFor ops (ToSet x ∷ []) v w) cause.0 tried);
+    }
+    by_lost (ToClock clock) is tried cause = as_end answers.Limit (ap end_of (sym is)) record {
       clock = clock;
       high = cause.0;
       draws = cause.1 ∙ ap (λ (l : Layout). l.first.draw + length w.history) h.tried.layout;
       step = cause.2;
       last = cause.3;
-      refused = record {
-        losts = h.losts;
-        fewer = omega (arith, less, h.count);
-        each = h.each;
-        tried = tried_then ops h.losts (ToClock clock ∷ []) u v w h.tried tried;
-      };
+      refused = lost_behind ops done tries (ToClock clock) u v w less h tried;
     }
 
 -- ---- the line's tries
@@ -257,23 +337,20 @@ tried_arrays ops tried v w h all =
 
 -- ---- steps
 
--- the first tries took so many steps, and one more took so many
-pub tries_steps : (done most start now next : ℕ) → now ≤ start + done * most → next ≤ now + most
-    → next ≤ start + (done + 1) * most
-tries_steps done most start now next before more =
-    subst (λ n. next ≤ start + n) (sym (one_more done most)) (sum (done * most) most start now next before more)
-  where
-    one_more : (a b : ℕ) → (a + 1) * b ≡ a * b + b
-    one_more a b = let on : a + 1 ≡ suc a = omega arith in ap (λ n. n * b) on ∙ suc-mul a b
+-- one more took no more steps than each may, with as many slots as there were before
+pub more_took : (ops : List Op) (tried : ℕ) (u v w : View) → HasConflicted ops tried u v
+    → v.steps ≤ u.steps + tried * try_steps u.layout.slots (length ops)
+    → w.steps ≤ v.steps + try_steps v.layout.slots (length ops)
+    → w.steps ≤ u.steps + (tried + 1) * try_steps u.layout.slots (length ops)
+more_took ops tried u v w h before took =
+    steps_more tried (try_steps u.layout.slots (length ops)) u.steps v.steps w.steps before
+    (subst (λ (l : Layout). w.steps ≤ v.steps + try_steps l.slots (length ops)) h.tried.layout took)
 
-    sum : (a b start now next : ℕ) → now ≤ start + a → next ≤ now + b → next ≤ start + (a + b)
-    sum a b start now next before more = omega (arith, before, more)
-
--- so many tries are within more of them
-pub steps_within : (done tries most start now : ℕ) → done ≤ tries → now ≤ start + done * most
-    → now ≤ start + tries * most
-steps_within done tries most start now le before =
-    sum (done * most) (tries * most) start now (mul-le-mul_right most le) before
-  where
-    sum : (a b start now : ℕ) → a ≤ b → now ≤ start + a → now ≤ start + b
-    sum a b start now le before = omega (arith, le, before)
+-- so a line that ends with it took no more than all its tries may
+pub line_took : (ops : List Op) (tried tries : ℕ) (u v w : View) → tried < tries → HasConflicted ops tried u v
+    → v.steps ≤ u.steps + tried * try_steps u.layout.slots (length ops)
+    → w.steps ≤ v.steps + try_steps v.layout.slots (length ops)
+    → w.steps ≤ u.steps + tries * try_steps u.layout.slots (length ops)
+line_took ops tried tries u v w less h before took =
+    steps_within (tried + 1) tries (try_steps u.layout.slots (length ops)) u.steps w.steps (omega (arith, less))
+    (more_took ops tried u v w h before took)

@@ -1,6 +1,6 @@
 -- What stays of a pass while its transaction runs.
 use Rattle.std.proofs.Common.{◌≡◌, ℕ, ◌+◌, ◌*◌, ◌≤◌, Bool, true, false, length, arith, List, [], ◌∷◌, ◌++◌, refl, sym}
-use Rattle.std.proofs.Common.{ap, ◌∙◌, subst, Some, inl, inr}
+use Rattle.std.proofs.Common.{ap, ◌∙◌, subst, inl, inr}
 use Rattle.std.specs.List.{AllByRecursion, Contains}
 use Rattle.lists.specs.Elements.{in_none}
 use Rattle.lists.specs.Fronts.{IsFront, front_refl, front_then, front_length}
@@ -10,28 +10,31 @@ use Rattle.commit_core.specs.declared.attempt.Attempt.{Attempt}
 use Rattle.commit_core.specs.declared.part.Part.{Part}
 use Rattle.tx_sets.specs.declared.sets.Sets.{Sets}
 use Rattle.tx_sets.specs.declared.writes.Write.{Write}
-use Rattle.engine_words.specs.declared.layout.Layout.{Layout}
-use Rattle.engine_words.specs.declared.view.RefusalCause.{RefusalCause}
-use Rattle.engine_words.specs.declared.view.View.{View}
-use Rattle.engine_words.specs.Cuts.{HasSeen}
-use Rattle.engine_words.specs.ReadLaws.{last_since}
-use Rattle.engine_words.specs.Reads.{IsLastBetween}
-use Rattle.engine_words.specs.Steps.{IsMetFor, readied, timed}
-use Rattle.engine_words.specs.Views.{seat_number}
-use Rattle.tx_commit.specs.Live.{IsOver}
-use Rattle.tx_commit.specs.Turning.{OnlyLoaded}
-use Rattle.tx_commit.specs.Committing.{commit_steps, kept_writes, HasBegun}
-use Rattle.tx_commit.specs.Refusing.{HasRefused}
+use Rattle.engine_pages.specs.declared.layout.Layout.{Layout}
+use Rattle.engine_pages.specs.declared.view.RefusalCause.{RefusalCause}
+use Rattle.engine_pages.specs.declared.view.View.{View}
+use Rattle.page_commit.specs.Calls.{alter_most}
+use Rattle.engine_seats.specs.Cuts.{HasSeen}
+use Rattle.tx_runner.proofs.LastLaws.{last_since}
+use Rattle.page_commit.specs.Below.{IsLastBetween}
+use Rattle.page_commit.specs.Below.{readied}
+use Rattle.engine_pages.specs.Times.{timed}
+use Rattle.page_commit.specs.Live.{IsOver}
+use Rattle.page_commit.specs.Turning.{OnlyWalked}
+use Rattle.page_commit.specs.Committing.{commit_steps, kept_writes, HasBegun}
+use Rattle.page_commit.specs.Refusing.{HasRefused}
 use Rattle.tx_runner.specs.Lines.{try_steps, IsOnArray}
 use Rattle.tx_runner.specs.Steps.{AreWithin}
 use Rattle.tx_runner.specs.Tries.{HasDrawsLeft}
 use Rattle.tx_runner.proofs.Answered.{loaded_seen}
+use Rattle.tx_runner.proofs.Sums.{refused_sum, steps_as, try_sum}
 
 -- what the pass had seen, its own commits, its draws, its marks, its refusals and its locks so far stay
 pub record StandsAs (v w : View) : Type 0 where
   pub layout : w.layout ≡ v.layout
   pub role : w.role ≡ v.role
   pub seen : HasSeen v w
+  pub since : v.steps ≤ w.steps
   pub mine : w.mine ≡ v.mine
   pub draws : w.draws ≡ v.draws
   pub marks : w.seat.marks ≡ v.seat.marks
@@ -50,6 +53,7 @@ begun_stands sets v w b =
         decided = subst (λ (l : List Number). IsFront v.decided l) (sym (ap (λ (x : View). x.decided) b.is))
             b.timed.decided;
       };
+      since = let one : w.steps ≡ v.steps + 1 = ap (λ (x : View). x.steps) is in omega (arith, one);
       mine = ap (λ (x : View). x.mine) is;
       draws = ap (λ (x : View). x.draws) is;
       marks = ap (λ (x : View). x.seat.marks) is;
@@ -58,11 +62,12 @@ begun_stands sets v w b =
       blamed = ap (λ (x : View). x.blamed) is;
     }
 
-loaded_stands : (v w : View) → OnlyLoaded v w → StandsAs v w
+loaded_stands : (v w : View) → OnlyWalked v w → StandsAs v w
 loaded_stands v w l = record {
   layout = ap (λ (x : View). x.layout) l.is;
   role = ap (λ (x : View). x.role) l.is;
   seen = loaded_seen v w l;
+  since = l.since;
   mine = ap (λ (x : View). x.mine) l.is;
   draws = ap (λ (x : View). x.draws) l.is;
   marks = ap (λ (x : View). x.seat.marks) l.is;
@@ -79,12 +84,13 @@ seen_then u v w a b = record {
 }
 
 -- since the begin there were but loads
-pub run_stands : (sets : Sets) (u v w : View) → HasBegun sets u v → OnlyLoaded v w → StandsAs u w
+pub run_stands : (sets : Sets) (u v w : View) → HasBegun sets u v → OnlyWalked v w → StandsAs u w
 run_stands sets u v w b l =
     let first = begun_stands sets u v b in let second = loaded_stands v w l in record {
       layout = second.layout ∙ first.layout;
       role = second.role ∙ first.role;
       seen = seen_then u v w first.seen second.seen;
+      since = let before = first.since in let later = second.since in omega (arith, before, later);
       mine = second.mine ∙ first.mine;
       draws = second.draws ∙ first.draws;
       marks = second.marks ∙ first.marks;
@@ -94,13 +100,12 @@ run_stands sets u v w b l =
     }
 
 -- and what is kept then was read since, each record with the last decided write of its key at a step of the try
-pub run_last : (sets : Sets) (u v w : View) → IsOver u → HasBegun sets u v → OnlyLoaded v w → (part : Part)
+pub run_last : (sets : Sets) (u v w : View) → IsOver u → HasBegun sets u v → OnlyWalked v w → (part : Part)
     → Contains w.seat.kept part → IsLastBetween u w part
 run_last sets u v w over b l part has =
     let s = begun_stands sets u v b in
     let none : v.seat.kept ≡ [] = ap (λ (x : View). x.seat.kept) (b.is ∙ ap readied b.timed.is) ∙ over.seat.kept in
-    let kept : w.seat.kept ≡ l.kept = ap (λ (x : View). x.seat.kept) l.is in
-    elim (l.parts part (subst (λ (x : List Part). Contains x part) kept has)) [
+    elim (l.parts part has) [
       | inl before ↦ absurd (in_none part (subst (λ (x : List Part). Contains x part) none before))
       | inr now ↦ last_since u v w part s.layout s.seen now
     ]
@@ -125,6 +130,7 @@ still v = record {
   layout = refl;
   role = refl;
   seen = record { history = front_refl v.history; decided = front_refl v.decided };
+  since = omega arith;
   mine = refl;
   draws = refl;
   marks = refl;
@@ -133,23 +139,23 @@ still v = record {
   blamed = refl;
 }
 
--- ---- refusals behind loads
+-- ---- refusals behind walks
 
--- the transaction was refused behind some loads
-pub refused_since : (why : RefusalCause) (u v w : View) → OnlyLoaded u v → HasRefused why v w → HasRefused why u w
+-- the transaction was refused behind some walks
+pub refused_since : (why : RefusalCause) (u v w : View) → OnlyWalked u v → HasRefused why v w → HasRefused why u w
 refused_since why u v w l r = let s = loaded_stands u v l in record {
   over = r.over;
   layout = r.layout ∙ s.layout;
   role = r.role ∙ s.role;
   seen = seen_then u v w s.seen r.seen;
+  since = let before = s.since in let later = r.since in omega (arith, before, later);
   mine = r.mine ∙ s.mine;
   drew = r.drew;
   draws = let few = r.draws in let same = s.draws in omega (arith, few, same);
   marks = r.marks ∙ s.marks;
   refused = r.refused ∙ ap (λ l. l ++ why ∷ []) s.refused;
   met = r.met;
-  of = subst (λ (q : ℕ). IsMetFor (Some why) r.met u.layout.decls q) (ap seat_number s.role)
-      (subst (λ (y : Layout). IsMetFor (Some why) r.met y.decls (seat_number v.role)) s.layout r.of);
+  told = r.told;
   blamed = r.blamed ∙ ap (λ l. l ++ r.met) s.blamed;
 }
 
@@ -163,12 +169,30 @@ kept_few : (keep : Bool) (writes : List Write) → length (kept_writes keep writ
 kept_few true writes = omega arith
 kept_few false writes = omega arith
 
+-- what the operations took since the begin, with as many slots as there were before
+begun_took : (sets : Sets) (count : ℕ) (t u v : View) → HasBegun sets t u
+    → v.steps ≤ u.steps + count * alter_most u.layout.slots → v.steps ≤ u.steps + count * alter_most t.layout.slots
+begun_took sets count t u v b took =
+    steps_as count (alter_most u.layout.slots) (alter_most t.layout.slots) u.steps v.steps
+    (ap (λ (l : Layout). alter_most l.slots) (begun_stands sets t u b).layout) took
+
 -- a begin, operations and a commit
-pub try_took : (count : ℕ) (keep : Bool) (sets : Sets) (t u v w : View) → u.steps ≡ t.steps + 1
-    → v.steps ≤ u.steps + 4 * count → AreWithin count sets
-    → w.steps ≤ v.steps + commit_steps sets.reads (kept_writes keep sets.writes) → w.steps ≤ t.steps + try_steps count
-try_took count keep sets t u v w begun run few commit =
-    omega (arith, begun, run, few.reads, few.writes, commit, kept_few keep sets.writes)
+pub try_took : (count : ℕ) (keep : Bool) (first sets : Sets) (t u v w : View) → HasBegun first t u
+    → v.steps ≤ u.steps + count * alter_most u.layout.slots → AreWithin count sets
+    → w.steps ≤ v.steps + commit_steps sets (kept_writes keep sets.writes)
+    → w.steps ≤ t.steps + try_steps t.layout.slots count
+try_took count keep first sets t u v w begun run few commit =
+    try_sum (count * alter_most t.layout.slots) count (length sets.reads) (length sets.writes)
+    (length (kept_writes keep sets.writes)) (length sets.pointers) (length sets.holds) t.steps u.steps v.steps w.steps
+    (begun_steps first t u begun) (begun_took first count t u v begun run) few.reads few.writes
+    (kept_few keep sets.writes) few.pointers few.holds commit
+
+-- a begin, and operations of which one was refused
+pub try_refused : (count : ℕ) (first : Sets) (t u w : View) → HasBegun first t u
+    → w.steps ≤ u.steps + count * alter_most u.layout.slots → w.steps ≤ t.steps + try_steps t.layout.slots count
+try_refused count first t u w begun run =
+    refused_sum (count * alter_most t.layout.slots) count t.steps u.steps w.steps (begun_steps first t u begun)
+    (begun_took first count t u w begun run)
 
 -- the declarations are the same behind a begin
 pub begun_arrays : (ops : List Op) (sets : Sets) (v w : View) → HasBegun sets v w

@@ -6,17 +6,18 @@ use Rattle.wire_form.specs.declared.clock.Mark.{Mark}
 use Rattle.wire_form.specs.Words.{IsMark, mark_word}
 use Rattle.commit_core.specs.CoreState.{mark_of, last_marked}
 use Rattle.commit_core.specs.declared.seat.Mark as core
-use Rattle.engine_words.specs.declared.view.Glance.{Glance}
-use Rattle.engine_words.specs.declared.view.Met.{Met}
-use Rattle.engine_words.specs.declared.view.Role.TheVariants.{Keeper}
-use Rattle.engine_words.specs.declared.view.View.{View}
-use Rattle.engine_words.specs.Clock.{advanced, met_at, IsLast}
-use Rattle.engine_words.specs.Cuts.{HasSeen}
-use Rattle.engine_words.specs.Layout.{mark_at}
-use Rattle.engine_words.specs.Rule.{word_of_mark}
-use Rattle.engine_words.specs.Views.{bare_seat}
+use Rattle.engine_pages.specs.declared.view.Glance.{Glance}
+use Rattle.engine_pages.specs.declared.view.Met.{Met}
+use Rattle.engine_pages.specs.declared.view.Role.TheVariants.{Keeper}
+use Rattle.engine_pages.specs.declared.view.View.{View}
+use Rattle.engine_seats.specs.Clock.{advanced, met_at, IsLast}
+use Rattle.engine_seats.specs.Cuts.{HasSeen}
+use Rattle.engine_pages.specs.Layout.{mark_at}
+use Rattle.engine_pages.specs.Words.{word_of_mark}
+use Rattle.engine_pages.specs.Views.{bare_seat}
 use Rattle.views.specs.Sums.{times}
-use Rattle.engine_words.specs.Steps.{glance, past_at, HasTimed}
+use Rattle.engine_pages.specs.Steps.{glance}
+use Rattle.engine_pages.specs.Times.{past_at, HasTimed}
 
 -- ---- the clock
 
@@ -43,6 +44,11 @@ pub record HasSeenEpoch (epoch : ℕ) (v w : View) : Type 0 where
   pub touched : w.touched ≡ v.touched
   pub blamed : w.blamed ≡ v.blamed
   pub met : w.met ≡ v.met
+  pub grip : w.grip ≡ v.grip
+  pub ways : w.ways ≡ v.ways
+  pub drafts : w.drafts ≡ v.drafts
+  pub copies : w.copies ≡ v.copies
+  pub blanks : w.blanks ≡ v.blanks
 
 -- the keeper saw the clock in its epoch, which was not the last, and has moved it on to this one
 pub record HasAdvanced (epoch : ℕ) (v w : View) : Type 0 where
@@ -65,10 +71,12 @@ pub record IsMarkedUpTo (clock : ℕ) (v : View) : Type 0 where
   pub mark : mark_of v.seat.marks ≡ Some epoch
   pub late : clock ≤ epoch + 1
 
--- the marks of the workers from this one on, as they are met
-abbrev pub mets_of : ℕ → List Mark → List Met
-mets_of worker [] = []
-mets_of worker (mark ∷ marks) = met_at worker (mark_word mark) ∷ mets_of (worker + 1) marks
+-- the marks of the workers from this one on, as they are met, each at its place among those of its seat
+abbrev pub mets_of : ℕ → List Mark → List ℕ → List Met
+mets_of worker [] places = []
+mets_of worker (mark ∷ marks) [] = []
+mets_of worker (mark ∷ marks) (place ∷ places) =
+    met_at worker (mark_word mark) place ∷ mets_of (worker + 1) marks places
 
 -- the last load behind those of the marks of the workers from this one on
 abbrev pub last_of : ℕ → ℕ → List Mark → Option Glance → Option Glance
@@ -93,8 +101,10 @@ AreLast v worker (mark ∷ marks) =
 pub record HasMetAll (marks : List Mark) (v w : View) : Type 0 where
   pub each : AllByRecursion IsMark marks
   pub parked : v.role ≡ Keeper → AreLast v 0 marks
+  pub places : List ℕ
+  pub count : length places ≡ length marks
   pub is : w ≡ record v {
     steps = v.steps + length marks;
     last = last_of v.steps 0 marks v.last;
-    met = v.met ++ mets_of 0 marks;
+    met = v.met ++ mets_of 0 marks places;
   }

@@ -5,3 +5,4 @@ pub mod Epochs
 pub mod Steps
 pub mod LineWrites
 pub mod OwnThreads
+pub mod Below

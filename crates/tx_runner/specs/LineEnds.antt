@@ -22,19 +22,19 @@ use Rattle.commit_core.specs.CoreState.{is_decided, mark_of}
 use Rattle.commit_core.specs.Serial.{ReadsFrom, state_below}
 use Rattle.serial_bridge.specs.Bridge.{Agrees, StepsAs}
 use Rattle.serial_bridge.specs.Transaction.{IsAttemptOf}
-use Rattle.engine_words.specs.declared.view.View.{View}
-use Rattle.engine_words.specs.Cuts.{HasSeen}
-use Rattle.engine_words.specs.Reads.{IsLastBetween}
-use Rattle.engine_words.specs.Rule.{IsSmall}
-use Rattle.engine_words.specs.Steps.{AreSerial}
-use Rattle.engine_words.specs.Views.{seat_number}
-use Rattle.tx_commit.specs.Live.{IsOver}
+use Rattle.engine_pages.specs.declared.view.View.{View}
+use Rattle.engine_seats.specs.Cuts.{HasSeen}
+use Rattle.page_commit.specs.Below.{IsLastBetween}
+use Rattle.engine_pages.specs.Words.{IsSmall}
+use Rattle.engine_seats.specs.Counts.{AreSerial}
+use Rattle.engine_pages.specs.Views.{seat_number}
+use Rattle.page_commit.specs.Live.{IsOver}
 use Rattle.tx_runner.specs.declared.lines.LineEnd.{LineEnd}
 use Rattle.tx_runner.specs.declared.lines.LineEnd.TheVariants as answers
 use Rattle.tx_runner.specs.declared.room.LineRoom.{LineRoom}
 use Rattle.tx_runner.specs.Lines.{keeps, IsAnswered}
-use Rattle.tx_runner.specs.Tries.{HasConflicted, HasDrawsLeft, IsAtLimit, IsClash, Lost, TouchesOnly}
-use Rattle.tx_runner.specs.Tries.{blames_of, lost_to, whys_of}
+use Rattle.tx_runner.specs.Tries.{HasConflicted, HasDrawsLeft, IsAtLimit, IsClash, IsFullAt, IsWideAt, Lost}
+use Rattle.tx_runner.specs.Tries.{TouchesOnly, blames_of, lost_to, whys_of}
 
 -- The entry's transaction, alone on whatever state agrees with the one below its number, as these attempts and
 -- decisions have it, answers what was answered and changes what the attempt writes.
@@ -61,6 +61,7 @@ pub record HasCommittedLine (ops : List Op) (tries : ℕ) (verdict : Verdict) (r
   pub layout : w.layout ≡ v.layout
   pub role : w.role ≡ v.role
   pub seen : HasSeen v w
+  pub since : v.steps ≤ w.steps
   pub marks : w.seat.marks ≡ v.seat.marks
   pub attempt : Attempt
   pub mine : w.mine ≡ v.mine ++ attempt ∷ []
@@ -92,9 +93,12 @@ pub record HasCommittedLine (ops : List Op) (tries : ℕ) (verdict : Verdict) (r
       → IsAsAlone v.layout.decls v.layout.opening history decided attempt e
 
 -- What comes of a line with so many tries, whose room is as it was left. It is Conflict exactly where each of the tries
--- was refused with Conflict, and Limit exactly where a try found the clock at the last draws.
+-- was refused with Conflict; Full, Wide and Limit exactly where a try found no usable slot, a full set, or the clock at
+-- the last draws: such a line isn't tried again.
 abbrev pub RunsLine : List Op → ℕ → LineEnd → LineRoom → View → View → Type 0
 RunsLine ops tries (answers.Committed verdict) room v w =
     HasCommittedLine ops tries verdict room.replies room.commit v w
 RunsLine ops tries answers.Conflict room v w = HasConflicted ops tries v w
+RunsLine ops tries answers.Full room v w = IsFullAt ops tries v w
+RunsLine ops tries answers.Wide room v w = IsWideAt ops tries v w
 RunsLine ops tries answers.Limit room v w = IsAtLimit ops tries v w

@@ -1,8 +1,10 @@
--- Laws for a caller's own threads: with what a worker's pass begins, and that what they committed between two counts is
--- a serial run of their transactions.
-use Rattle.std.proofs.Common.{◌≡◌, refl, subst, ap, sym, ◌∙◌, ℕ, ◌++◌, List, get_or}
+-- Laws for a caller's own threads: with what a worker's pass begins, goes on and ends, and that what they committed
+-- between two counts is a serial run of their transactions.
+use Rattle.std.proofs.Common.{◌≡◌, refl, subst, ap, sym, ◌∙◌, ℕ, ◌++◌, List, [], ◌∷◌, get_or, true, false, true≢false}
+use Rattle.std.proofs.Common.{◌*◌, ◌≤◌, length, arith, eqb, eq-eqb}
 use Rattle.std.specs.Prelude.{filter}
 use Rattle.std.specs.List.Sorted.{IsPermutation}
+use Rattle.lists.specs.Elements.{any_in, in_head, in_none}
 use Rattle.serial_model.specs.Decls.{AreDecls}
 use Rattle.serial_model.specs.History.{Entry}
 use Rattle.serial_model.specs.State.{State}
@@ -16,19 +18,92 @@ use Rattle.commit_core.specs.declared.attempt.Attempt.{Attempt}
 use Rattle.serial_bridge.specs.Bridge.{Agrees, RunsSerially, after_attempts}
 use Rattle.serial_bridge.specs.Transaction.{AreAttemptsOf}
 use Rattle.serial_bridge.specs.WriteLaws.{attempts_permuted, runs_behind}
-use Rattle.engine_words.specs.Between.{Between, Splits, counts, splits}
-use Rattle.engine_words.specs.Cuts.{worker_view}
-use Rattle.engine_words.specs.Gathered.{joined}
-use Rattle.engine_words.specs.Views.{IsResting, bare_seat}
-use Rattle.engine_words.specs.declared.view.View.{View}
-use Rattle.tx_commit.specs.Live.{IsOver}
+use Rattle.engine_seats.specs.Between.{Between, Splits, counts, splits}
+use Rattle.engine_seats.specs.Cuts.{worker_view}
+use Rattle.engine_seats.specs.Gathered.{joined}
+use Rattle.engine_pages.specs.Views.{IsResting, bare_grip, bare_seat}
+use Rattle.drop_core.specs.Table.{has_slot}
+use Rattle.drop_core.specs.declared.grip.Grip.{Grip}
+use Rattle.engine_pages.specs.declared.layout.Layout.{Layout}
+use Rattle.engine_pages.specs.declared.view.Role.{Role}
+use Rattle.engine_pages.specs.declared.view.Role.TheVariants.{Worker}
+use Rattle.engine_pages.specs.declared.view.View.{View}
+use Rattle.engine_pages.specs.Pointers.{WaysAgree}
+use Rattle.page_commit.specs.Below.{worker_of}
+use Rattle.engine_seats.specs.Cuts.{IsDone}
+use Rattle.serial_model.specs.declared.op.Op.{Op}
+use Rattle.tx_runner.specs.Epochs.{HasSeenEpoch}
+use Rattle.tx_runner.specs.Tries.{IsWideAt}
+use Rattle.page_commit.specs.Live.{IsOver}
 
 -- ---- seats
 
 -- A pass that is cut from the keeper's, for a worker whose seat rests there, has no transaction under way.
 pub seat_over : (keeper : View) (worker : ℕ) → AreDecls keeper.layout.decls
     → IsResting (get_or keeper.parked worker bare_seat) → IsOver (worker_view worker keeper)
-seat_over keeper worker decls rests = record { decls = decls; worker = refl; due = refl; took = refl; seat = rests }
+seat_over keeper worker decls rests = record {
+  decls = decls;
+  worker = refl;
+  due = refl;
+  took = refl;
+  seat = rests;
+  agree = λ a b has. absurd (in_none a has);
+  holds = record {
+    holds = λ s. refl;
+    within = λ s has. absurd (true≢false (sym has));
+    made = refl;
+    taken = refl;
+    drafts = refl;
+    copies = refl;
+    blanks = refl;
+  };
+}
+
+-- A pass that loaded the clock has none under way, if it had none before.
+pub seen_over : (epoch : ℕ) (v w : View) → HasSeenEpoch epoch v w → IsOver v → IsOver w
+seen_over epoch v w s over = record {
+  decls = subst (λ (l : Layout). AreDecls l.decls) (sym s.layout) over.decls;
+  worker = s.role ∙ over.worker ∙ ap (λ (r : Role). Worker (worker_of r)) (sym s.role);
+  due = s.due ∙ over.due;
+  took = s.took ∙ over.took;
+  seat = subst IsResting (sym s.seat) over.seat;
+  agree = subst WaysAgree (sym s.ways) over.agree;
+  holds = record {
+    holds = λ t. over.holds.holds t ∙ ap (λ (g : Grip). has_slot g.holds t) (sym s.grip);
+    within = λ t has. absurd (true≢false (sym has));
+    made = ap (λ (g : Grip). g.made) s.grip ∙ over.holds.made;
+    taken = ap (λ (g : Grip). g.taken) s.grip ∙ over.holds.taken;
+    drafts = s.drafts ∙ over.holds.drafts;
+    copies = s.copies ∙ over.holds.copies;
+    blanks = s.blanks ∙ over.holds.blanks;
+  };
+}
+
+no_slots : (slots : List ℕ) → ((t : ℕ) → has_slot slots t ≡ false) → slots ≡ []
+no_slots [] none = refl
+no_slots (x ∷ slots) none =
+    absurd (true≢false (sym (any_in (λ (t : ℕ). eqb t x) (x ∷ slots) x (in_head x slots) (eq-eqb x x refl)) ∙ none x))
+
+bare_of : (g : Grip) → g.holds ≡ [] → g.made ≡ [] → g.taken ≡ [] → g ≡ bare_grip
+bare_of g holds made taken =
+    ap (λ (l : List ℕ). let x : Grip = record { holds = l; made = g.made; taken = g.taken } in x) holds
+    ∙ ap (λ (l : List ℕ). let x : Grip = record { holds = []; made = l; taken = g.taken } in x) made
+    ∙ ap (λ (l : List ℕ). let x : Grip = record { holds = []; made = []; taken = l } in x) taken
+
+-- A pass that has none under way has no slot, and can be taken into the keeper's.
+pub over_done : (v : View) → IsOver v → IsDone v
+over_done v over = record {
+  due = over.due;
+  resting = over.seat;
+  grip = bare_of v.grip (no_slots v.grip.holds (λ t. sym (over.holds.holds t))) over.holds.made over.holds.taken;
+}
+
+-- ---- lines on arrays
+
+-- No line of 16 operations is wide.
+pub never_wide : (ops : List Op) (tries : ℕ) (v w : View) → length ops ≤ 16 → IsWideAt ops tries v w → ⊥
+never_wide ops tries v w few wide =
+    let many : 128 ≤ 6 * length ops = wide.many in omega (arith, many, few)
 
 -- ---- from two counts to a serial run
 

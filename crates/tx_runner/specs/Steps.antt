@@ -1,6 +1,6 @@
 -- What the parts of a try do.
-use Rattle.std.specs.Prelude.{◌≡◌, ◌≢◌, ◌⊎◌, ℕ, ◌+◌, ◌*◌, ◌%◌, ◌^◌, ◌≤◌, ◌<◌, length, List, [], ◌∷◌, ◌++◌, Some, Option}
-use Rattle.std.specs.Prelude.{Bool, true, false}
+use Rattle.std.specs.Prelude.{◌≡◌, ℕ, ◌+◌, ◌*◌, ◌%◌, ◌^◌, ◌≤◌, length, List, [], ◌∷◌, ◌++◌, Some, None, Option}
+use Rattle.std.specs.Prelude.{true}
 use Rattle.std.specs.Prelude.{Contains, option_to_list}
 use Rattle.serial_model.specs.declared.key.Key.{Key}
 use Rattle.serial_model.specs.declared.op.Op.{Op}
@@ -10,23 +10,33 @@ use Rattle.serial_model.specs.declared.reply.Verdict.TheVariants.{Done, Short, O
 use Rattle.serial_model.specs.Numbers.{draw_limit}
 use Rattle.tx_sets.specs.declared.sets.Sets.{Sets}
 use Rattle.tx_sets.specs.Entries.{has_read, has_write}
-use Rattle.engine_words.specs.declared.view.RefusalCause.{RefusalCause}
-use Rattle.engine_words.specs.declared.view.RefusalCause.TheVariants as refusals
-use Rattle.engine_words.specs.declared.view.View.{View}
-use Rattle.engine_words.specs.Layout.{clock_at}
-use Rattle.engine_words.specs.Steps.{glance, IsKeyAt}
-use Rattle.tx_commit.specs.Live.{IsLive}
-use Rattle.tx_commit.specs.Turning.{HasDone, HasStopped, OnlyLoaded, IsOfKey}
-use Rattle.tx_commit.specs.Running.{HasRun, HasEnded}
-use Rattle.tx_runner.specs.Tries.{HasDrawsLeft, HasTriedFor, IsConflicting, IsKeyOf, IsWrittenBy, Lost}
-use Rattle.tx_runner.specs.Tries.{ToClock, ToOther, why_of}
+use Rattle.engine_pages.specs.declared.view.RefusalCause.{RefusalCause}
+use Rattle.engine_pages.specs.declared.view.RefusalCause.TheVariants as refusals
+use Rattle.engine_pages.specs.declared.view.SetName.TheVariants.{Holds}
+use Rattle.engine_pages.specs.declared.view.View.{View}
+use Rattle.engine_pages.specs.Layout.{clock_at}
+use Rattle.engine_pages.specs.Slots.{first_retired}
+use Rattle.engine_pages.specs.Steps.{glance}
+use Rattle.engine_pages.specs.Views.{seat_number}
+use Rattle.page_commit.specs.Calls.{op_holds}
+use Rattle.page_commit.specs.Live.{IsLive}
+use Rattle.page_commit.specs.Turning.{HasDone, HasStopped, MayWrite, OnlyWalked}
+use Rattle.page_commit.specs.Running.{HasRun, HasEnded}
+use Rattle.tx_runner.specs.declared.lines.LineEnd.{LineEnd}
+use Rattle.tx_runner.specs.declared.lines.LineEnd.TheVariants as ends
+use Rattle.tx_runner.specs.Lines.{IsOfKey}
+use Rattle.tx_runner.specs.Tries.{AreAllTaken, HasDrawsLeft, HasTriedFor, IsChangedAt, IsClash, IsKeyOf, IsWrittenBy}
+use Rattle.tx_runner.specs.Tries.{Lost, ToClock, ToOther, ToSet, ToSlots, Writes, blame_at, why_of}
 
 -- ---- operations
 
--- the transaction has read and written at most so many keys
+-- the transaction has read and written at most so many keys, met so many pointers, and holds no more slots than so many
+-- operations may
 pub record AreWithin (count : ℕ) (sets : Sets) : Type 0 where
   pub reads : length sets.reads ≤ count
   pub writes : length sets.writes ≤ count
+  pub pointers : length sets.pointers ≤ count
+  pub holds : length sets.holds ≤ op_holds * count
 
 -- the transaction goes on, with this reply or none
 pub record OpGoesOn (op : Op) (old now : List Reply) (sets new : Sets) (v w : View) : Type 0 where
@@ -56,20 +66,40 @@ pub record AreKeysOf (ops : List Op) (sets : Sets) : Type 0 where
   pub reads : (k : Key) → has_read k sets.reads ≡ true → IsKeyOf ops k
   pub writes : (k : Key) → has_write k sets.writes ≡ true → IsWrittenBy ops k
 
--- and is still under way, with nothing new but loads and parts
+-- and is still under way, with nothing new but loads, parts, and pages in memory
 pub record HasAnsweredAll (ops : List Op) (verdict : Verdict) (replies : List Reply) (sets : Sets) (v w : View)
     : Type 0 where
   pub live : IsLive sets w
-  pub only : OnlyLoaded v w
+  pub only : OnlyWalked v w
   pub sized : AreWithin (length ops) sets
-  pub steps : w.steps ≤ v.steps + 4 * length ops
   pub run : HasRunTo ops verdict replies sets w
   pub keys : AreKeysOf ops sets
 
--- An operation is refused for a conflict alone, at the record of its key: 16 operations fill no set. Nothing was locked.
+-- An operation met a word that was changed, or is locked or shut: the record's of its key, or a pointer's or a slot's.
+-- Nothing was drawn or locked.
+pub record IsOpConflict (op : Op) (expected seen : ℕ) (v w : View) : Type 0 where
+  pub met : Option Key
+  pub key : (k : Key) → met ≡ Some k → IsOfKey op k
+  pub cause : IsChangedAt met expected seen
+  pub blamed : w.blamed ≡ v.blamed ++ blame_at (seat_number v.role) met
+  pub draws : w.draws ≡ v.draws
+  pub touched : w.touched ≡ v.touched
+
+-- An operation that may write found no slot usable; of those that were seen the lowest retired one is told. Nothing was
+-- drawn or locked.
+pub record IsOpFull (op : Op) (told : Option (ℕ × ℕ)) (v w : View) : Type 0 where
+  pub key : Key
+  pub writes : MayWrite op key
+  pub words : List ℕ
+  pub all : AreAllTaken words v w
+  pub told_is : told ≡ first_retired 0 words
+  pub draws : w.draws ≡ v.draws
+  pub touched : w.touched ≡ v.touched
+
+-- Why an operation is refused, of a transaction that ran fewer than 16: they fill no set.
 abbrev pub IsOpCause : Op → RefusalCause → View → View → Type 0
-IsOpCause op (refusals.Conflict at expected seen) v w = ((2 ^ 60 ≤ seen) ⊎ ((expected < 2 ^ 60) × (seen ≢ expected)))
-    × (k : Key) × IsOfKey op k × IsKeyAt v k at × (w.touched ≡ v.touched)
+IsOpCause op (refusals.Conflict at expected seen) v w = IsOpConflict op expected seen v w
+IsOpCause op (refusals.Full told) v w = IsOpFull op told v w
 IsOpCause op (refusals.Wide set) v w = ⊥
 IsOpCause op (refusals.NumberLimit clock) v w = ⊥
 
@@ -81,9 +111,12 @@ pub record IsCauseAmong (ops : List Op) (why : RefusalCause) (v w : View) : Type
 
 -- ---- tries
 
--- The cause of a refusal: a conflict of a try that began, or the clock, which was loaded last.
+-- The cause of a refusal: of a try that began, a conflict, all slots that were taken, or a full set; or the clock,
+-- which was loaded last.
 abbrev pub IsTryCause : List Op → Lost → View → View → Type 0
-IsTryCause ops (ToOther clash) v w = IsConflicting clash.why × IsKeyOf ops clash.key × HasDrawsLeft v
+IsTryCause ops (ToOther clash) v w = IsClash ops (ToOther clash) × HasDrawsLeft v
+IsTryCause ops (ToSlots words) v w = Writes ops × AreAllTaken words v w × HasDrawsLeft v
+IsTryCause ops (ToSet set) v w = (set ≡ Holds) × (128 ≤ op_holds * length ops) × HasDrawsLeft v
 IsTryCause ops (ToClock clock) v w =
     (draw_limit ≤ clock % 2 ^ 40) × (clock % 2 ^ 40 ≡ v.layout.first.draw + length w.history)
     × (step : ℕ) × (w.last ≡ Some (glance step clock_at clock))
@@ -95,8 +128,9 @@ pub record RefusesTry (ops : List Op) (why : RefusalCause) (v w : View) : Type 0
   pub tried : HasTriedFor ops (lost ∷ []) v w
   pub cause : IsTryCause ops lost v w
 
--- the try was refused by the clock
-abbrev pub is_limit : RefusalCause → Bool
-is_limit (refusals.Conflict at expected seen) = false
-is_limit (refusals.Wide set) = false
-is_limit (refusals.NumberLimit clock) = true
+-- How a line ends with a try that was refused for this. A conflict alone is tried again.
+abbrev pub end_of : RefusalCause → Option LineEnd
+end_of (refusals.Conflict at expected seen) = None
+end_of (refusals.Full told) = Some ends.Full
+end_of (refusals.Wide set) = Some ends.Wide
+end_of (refusals.NumberLimit clock) = Some ends.Limit

@@ -1,27 +1,26 @@
 -- Tries of a line that were refused.
-use Rattle.std.specs.Prelude.{◌≡◌, ◌≢◌, ◌⊎◌, ℕ, ◌+◌, ◌%◌, ◌^◌, ◌≤◌, ◌<◌, Bool, List, [], ◌∷◌, ◌++◌, length}
-use Rattle.std.specs.Prelude.{Some, Contains, cond, flat_map, map, sum_by}
-use Rattle.std.specs.List.{AllByRecursion}
+use Rattle.std.specs.Prelude.{◌≡◌, ◌≢◌, ◌⊎◌, ℕ, ◌+◌, ◌*◌, ◌%◌, ◌^◌, ◌≤◌, ◌<◌, Bool, true, List, [], ◌∷◌, ◌++◌, length}
+use Rattle.std.specs.Prelude.{Some, None, Option, Contains, cond, flat_map, map, sum_by, ⊤}
+use Rattle.std.specs.List.{AllByRecursion, list_all}
 use Rattle.serial_model.specs.Numbers.{draw_limit}
 use Rattle.serial_model.specs.declared.key.Key.{Key}
 use Rattle.serial_model.specs.declared.op.Op.{Op}
-use Rattle.engine_words.specs.declared.view.RefusalCause.{RefusalCause}
-use Rattle.engine_words.specs.declared.view.RefusalCause.TheVariants as refusals
-use Rattle.engine_words.specs.declared.view.Touch.{Touch}
-use Rattle.engine_words.specs.declared.view.View.{View}
-use Rattle.engine_words.specs.Cuts.{HasSeen}
-use Rattle.engine_words.specs.Layout.{clock_at}
-use Rattle.engine_words.specs.Steps.{glance}
-use Rattle.engine_words.specs.Touches.{touch}
-use Rattle.engine_words.specs.Views.{seat_number}
-use Rattle.tx_commit.specs.Live.{IsOver}
-use Rattle.tx_commit.specs.Turning.{IsOfKey, MayWrite}
-
--- a refusal with Conflict: the word was locked, or not the expected one
-abbrev pub IsConflicting : RefusalCause → Type 0
-IsConflicting (refusals.Conflict at expected seen) = (2 ^ 60 ≤ seen) ⊎ ((expected < 2 ^ 60) × (seen ≢ expected))
-IsConflicting (refusals.Wide set) = ⊥
-IsConflicting (refusals.NumberLimit clock) = ⊥
+use Rattle.engine_pages.specs.declared.view.RefusalCause.{RefusalCause}
+use Rattle.engine_pages.specs.declared.view.RefusalCause.TheVariants as refusals
+use Rattle.engine_pages.specs.declared.view.SetName.{SetName}
+use Rattle.engine_pages.specs.declared.view.SetName.TheVariants.{Holds}
+use Rattle.engine_pages.specs.declared.view.Touch.{Touch}
+use Rattle.engine_pages.specs.declared.view.View.{View}
+use Rattle.engine_pages.specs.Layout.{clock_at}
+use Rattle.engine_pages.specs.Slots.{first_retired, is_taken_word, looks}
+use Rattle.engine_pages.specs.Steps.{glance}
+use Rattle.engine_pages.specs.Touches.{touch}
+use Rattle.engine_pages.specs.Views.{seat_number}
+use Rattle.page_commit.specs.Calls.{op_holds}
+use Rattle.page_commit.specs.Between.{HasSeen}
+use Rattle.page_commit.specs.Live.{IsOver}
+use Rattle.page_commit.specs.Turning.{MayWrite}
+use Rattle.tx_runner.specs.Lines.{IsOfKey}
 
 -- ---- the keys of a line
 
@@ -37,22 +36,63 @@ pub record IsWrittenBy (ops : List Op) (k : Key) : Type 0 where
   pub among : Contains ops op
   pub writes : MayWrite op k
 
+-- some operation of the line may write
+abbrev pub Writes : List Op → Type 0
+Writes ops = (k : Key) × IsWrittenBy ops k
+
+-- ---- conflicts
+
+-- A word was in conflict: that of a key's record, which was locked, or not the expected one; or else that of a pointer
+-- or a slot, which was shut, or not the expected one.
+abbrev pub IsChangedAt : Option Key → ℕ → ℕ → Type 0
+IsChangedAt (Some k) expected seen = (2 ^ 60 ≤ seen) ⊎ ((expected < 2 ^ 60) × (seen ≢ expected))
+IsChangedAt None expected seen = (2 ^ 60 ≤ seen) ⊎ (seen ≢ expected)
+
+-- the refusal is a conflict there
+abbrev pub IsConflicting : RefusalCause → Option Key → Type 0
+IsConflicting (refusals.Conflict at expected seen) met = IsChangedAt met expected seen
+IsConflicting (refusals.Full held) met = ⊥
+IsConflicting (refusals.Wide set) met = ⊥
+IsConflicting (refusals.NumberLimit clock) met = ⊥
+
+-- where a record was in conflict, its key is one of the line
+abbrev pub IsMetKey : List Op → Option Key → Type 0
+IsMetKey ops (Some k) = IsKeyOf ops k
+IsMetKey ops None = ⊤
+
+-- ---- no slot was usable
+
+-- These are the words of all slots, as steps of the pass between these views saw them in one search, and none of the
+-- slots is usable.
+pub record AreAllTaken (words : List ℕ) (v w : View) : Type 0 where
+  pub count : length words ≡ v.layout.slots
+  pub taken : list_all is_taken_word words ≡ true
+  pub step : ℕ
+  pub since : v.steps ≤ step
+  pub looked : w.looked ≡ looks step 0 words
+
 -- ---- tries
 
--- A try that was refused with Conflict: why, at the record of which key, and whether it had drawn its number by then.
+-- A try that was refused with Conflict: why, at the record of which key, if it was at a record's word and not at that
+-- of a pointer or a slot, and whether it had drawn its number by then.
 pub record Clash : Type 0 where
   pub why : RefusalCause
-  pub key : Key
+  pub met : Option Key
   pub drew : Bool
 
--- How a try was lost: it met another transaction, or the clock, which had this word and gave it no number.
+-- How a try was lost: it met another transaction, or a word that was changed; it was to be given a slot, and all of
+-- them had these words; it needed more than a set has room for; or the clock had this word and gave it no number.
 pub data Lost : Type 0 where
   ToOther : Clash → Lost
+  ToSlots : List ℕ → Lost
+  ToSet : SetName → Lost
   ToClock : ℕ → Lost
 
--- why it was refused
+-- why it was refused; of slots the lowest retired one is told
 abbrev pub why_of : Lost → RefusalCause
 why_of (ToOther clash) = clash.why
+why_of (ToSlots words) = refusals.Full (first_retired 0 words)
+why_of (ToSet set) = refusals.Wide set
 why_of (ToClock clock) = refusals.NumberLimit clock
 
 -- the same of these tries, in order
@@ -62,20 +102,31 @@ whys_of losts = map why_of losts
 -- how many numbers were drawn for it
 abbrev pub drawn_for : Lost → ℕ
 drawn_for (ToOther clash) = cond clash.drew 1 0
+drawn_for (ToSlots words) = 0
+drawn_for (ToSet set) = 0
 drawn_for (ToClock clock) = 0
 
 -- and for these tries
 abbrev pub lost_to : List Lost → ℕ
 lost_to losts = sum_by drawn_for losts
 
--- the try of this line was refused with Conflict, at a key of its
+-- the try of this line was refused with Conflict, at a key of its, or at no record
 abbrev pub IsClash : List Op → Lost → Type 0
-IsClash ops (ToOther clash) = IsConflicting clash.why × IsKeyOf ops clash.key
+IsClash ops (ToOther clash) = IsConflicting clash.why clash.met × IsMetKey ops clash.met
+IsClash ops (ToSlots words) = ⊥
+IsClash ops (ToSet set) = ⊥
 IsClash ops (ToClock clock) = ⊥
+
+-- what the pass of this seat tells of such a conflict
+abbrev pub blame_at : ℕ → Option Key → List Touch
+blame_at q (Some k) = touch q k ∷ []
+blame_at q None = []
 
 -- at which key the pass of this seat met another one's, where the try was refused for that
 abbrev pub blame_of : ℕ → Lost → List Touch
-blame_of q (ToOther clash) = touch q clash.key ∷ []
+blame_of q (ToOther clash) = blame_at q clash.met
+blame_of q (ToSlots words) = []
+blame_of q (ToSet set) = []
 blame_of q (ToClock clock) = []
 
 -- and of these tries, in order
@@ -87,14 +138,15 @@ abbrev pub TouchesOnly : List Op → View → View → Type 0
 TouchesOnly ops v w = (t : Touch) → Contains w.touched t
     → Contains v.touched t ⊎ ((t.seat ≡ seat_number v.role) × IsWrittenBy ops t.key)
 
--- These tries of a line were made, in their order, and refused: no transaction is under way, so nothing is locked, and
--- of the pass's own nothing is new but the refusals, with the keys at which it met others, the numbers that were drawn
--- for these tries, and locks that were taken of keys which the line may write.
+-- These tries of a line were made, in their order, and refused: no transaction is under way, so nothing is locked and
+-- no slot held, and of the pass's own nothing is new but the refusals, with the keys at which it met others, the
+-- numbers that were drawn for these tries, and locks that were taken of keys which the line may write.
 pub record HasTriedFor (ops : List Op) (losts : List Lost) (v w : View) : Type 0 where
   pub over : IsOver w
   pub layout : w.layout ≡ v.layout
   pub role : w.role ≡ v.role
   pub seen : HasSeen v w
+  pub since : v.steps ≤ w.steps
   pub mine : w.mine ≡ v.mine
   pub draws : w.draws ≡ v.draws + lost_to losts
   pub marks : w.seat.marks ≡ v.seat.marks
@@ -120,6 +172,26 @@ pub record IsLostAt (ops : List Op) (last : Lost) (tries : ℕ) (v w : View) : T
   pub fewer : length losts < tries
   pub each : AllByRecursion (IsClash ops) losts
   pub tried : HasTriedFor ops (losts ++ last ∷ []) v w
+
+-- ---- ends of a line that isn't tried again
+
+-- A slot was wanted, by a line that may write, and none is usable: these are the words of all, as steps of the last try
+-- saw them, which began behind the other ones.
+pub record IsFullAt (ops : List Op) (tries : ℕ) (v w : View) : Type 0 where
+  pub began : HasDrawsLeft v
+  pub writes : Writes ops
+  pub words : List ℕ
+  pub refused : IsLostAt ops (ToSlots words) tries v w
+  pub last : View
+  pub before : HasTriedFor ops refused.losts v last
+  pub all : AreAllTaken words last w
+
+-- The set of the slots that a transaction holds, which has room for 128, was full: each operation holds so many more at
+-- most. No other set can be filled by 16 operations.
+pub record IsWideAt (ops : List Op) (tries : ℕ) (v w : View) : Type 0 where
+  pub began : HasDrawsLeft v
+  pub many : 128 ≤ op_holds * length ops
+  pub refused : IsLostAt ops (ToSet Holds) tries v w
 
 -- The last try wasn't begun, and drew no number: the clock, which it loaded and with which all draws are seen, is at
 -- the last draws.

@@ -1,11 +1,12 @@
 // The clock's epochs.
 ghost use Rattle.std.specs.Prelude.{◌≡◌, IfOk, IfErr};
-ghost use Rattle.engine_words.specs.declared.view.Role.TheVariants.{Keeper};
-ghost use Rattle.engine_words.specs.Passes.{view, IsPassOf};
-ghost use Rattle.engine_words.specs.Views.{IsActive};
+ghost use Rattle.engine_pages.specs.declared.view.Role.TheVariants.{Keeper};
+ghost use Rattle.engine_pages.specs.Passes.{view, IsPassOf};
+ghost use Rattle.engine_pages.specs.Views.{IsActive};
 ghost use Rattle.tx_runner.specs.Epochs.{HasAdvanced, HasSeenEpoch, IsLastEpoch};
 
-use engine_words::{Engine, Pass, load_clock};
+use engine_pages::{Engine, Pass};
+use engine_seats::load_clock;
 use serial_model::LAST_EPOCH;
 use wire_form::EPOCH;
 
@@ -39,6 +40,6 @@ pub fn advance(engine: &Engine, keeper: &mut Pass) -> Result<u32, EpochLimit>
     if epoch >= LAST_EPOCH {
         return Err(EpochLimit { clock });
     }
-    engine_words::advance(engine, keeper);
+    engine_seats::advance(engine, keeper);
     Ok(epoch + 1)
 }

@@ -1,32 +1,36 @@
 // Lines, with their tries.
 ghost use Rattle.std.specs.Prelude.{◌≡◌, ◌+◌, ◌*◌, ◌≤◌, length};
 ghost use Rattle.std.specs.List.{AllByRecursion};
-ghost use Rattle.engine_words.specs.Passes.{view, IsPassOf};
-ghost use Rattle.tx_commit.specs.Live.{IsOver};
+ghost use Rattle.engine_pages.specs.Passes.{view, IsPassOf};
+ghost use Rattle.page_commit.specs.Live.{IsOver};
 ghost use Rattle.tx_runner.specs.Lines.{try_steps, IsOnArray};
 ghost use Rattle.tx_runner.specs.LineEnds.{RunsLine};
-ghost use Rattle.tx_runner.specs.Steps.{is_limit};
+ghost use Rattle.tx_runner.specs.Steps.{end_of};
 
 use crate::LineRoom;
 use crate::tries::try_line;
-use engine_words::{Engine, Pass, RefusalCause};
+use engine_pages::{Engine, Pass, RefusalCause};
+use page_commit::Txn;
 use serial_model::{Op, Verdict};
 use std::thread::yield_now;
-use tx_commit::Txn;
 
 /// What came of a line.
 #[derive(Clone, Copy, Debug, PartialEq, Eq)]
 pub enum LineEnd {
     /// The replies, the number and the changes are in the room.
     Committed(Verdict),
-    /// Each of the tries met another transaction.
+    /// Each of the tries met another transaction, or a pointer or a slot that was changed meanwhile.
     Conflict,
+    /// A try was to be given a slot, and none was usable.
+    Full,
+    /// A try needed more than a set of a transaction has room for.
+    Wide,
     /// The clock gives no further numbers.
     Limit,
 }
 
-/// Runs a line of 16 operations at most, which fill no set of a transaction, and runs it again after each conflict, up
-/// to so many tries. Between two tries other threads may go first.
+/// Runs a line of 16 operations at most, and runs it again after each conflict, up to so many tries; after another
+/// refusal it isn't run again. Between two tries other threads may go first.
 pub fn run_line(
     engine: &Engine,
     pass: &mut Pass,
@@ -41,7 +45,8 @@ pub fn run_line(
     requires few { length ops.now ≤ 16 }
     requires tries { 1 ≤ tries }
     ensures of { IsPassOf engine.now pass.new }
-    ensures steps { (view pass.new).steps ≤ (view pass.old).steps + tries * try_steps (length ops.now) }
+    ensures steps { (view pass.new).steps
+        ≤ (view pass.old).steps + tries * try_steps (view pass.old).layout.slots (length ops.now) }
     ensures runs { RunsLine ops.now tries result room.new (view pass.old) (view pass.new) }
 {
     let mut tried = 0;
@@ -49,8 +54,8 @@ pub fn run_line(
         match try_line(engine, pass, txn, ops, room) {
             Ok(verdict) => return LineEnd::Committed(verdict),
             Err(why) => {
-                if is_limit(why) {
-                    return LineEnd::Limit;
+                if let Some(end) = end_of(why) {
+                    return end;
                 }
             }
         }
@@ -62,12 +67,14 @@ pub fn run_line(
     LineEnd::Conflict
 }
 
-// Whether a try was refused by the clock.
-fn is_limit(why: RefusalCause) -> bool
-    ensures { result ≡ is_limit why }
+// How a line ends with a try that was refused for this. A conflict alone is tried again.
+fn end_of(why: RefusalCause) -> Option<LineEnd>
+    ensures { result ≡ end_of why }
 {
     match why {
-        RefusalCause::Conflict { .. } | RefusalCause::Wide { .. } => false,
-        RefusalCause::NumberLimit { .. } => true,
+        RefusalCause::Conflict { .. } => None,
+        RefusalCause::Full { .. } => Some(LineEnd::Full),
+        RefusalCause::Wide { .. } => Some(LineEnd::Wide),
+        RefusalCause::NumberLimit { .. } => Some(LineEnd::Limit),
     }
 }

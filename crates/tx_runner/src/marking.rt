@@ -4,15 +4,16 @@ ghost use Rattle.serial_model.specs.Numbers.{last_epoch};
 ghost use Rattle.wire_form.specs.Words.{IsMark, mark_word};
 ghost use Rattle.commit_core.specs.CoreState.{last_marked};
 ghost use Rattle.commit_core.specs.declared.seat.Mark as core;
-ghost use Rattle.engine_words.specs.declared.view.Role.TheVariants.{Worker};
-ghost use Rattle.engine_words.specs.Clock.{marked};
-ghost use Rattle.engine_words.specs.Passes.{view, IsPassOf};
-ghost use Rattle.engine_words.specs.Rule.{IsSmallMark, word_of_mark};
-ghost use Rattle.engine_words.specs.Views.{IsActive};
-ghost use Rattle.tx_commit.specs.Live.{IsOver};
+ghost use Rattle.engine_pages.specs.declared.view.Role.TheVariants.{Worker};
+ghost use Rattle.engine_seats.specs.Clock.{marked};
+ghost use Rattle.engine_pages.specs.Passes.{view, IsPassOf};
+ghost use Rattle.engine_pages.specs.Words.{IsSmallMark, word_of_mark};
+ghost use Rattle.engine_pages.specs.Views.{IsActive};
+ghost use Rattle.page_commit.specs.Live.{IsOver};
 ghost use Rattle.tx_runner.specs.Epochs.{HasMetAll, IsMarkedUpTo};
 
-use engine_words::{Engine, Pass, load_mark};
+use engine_pages::{Engine, Pass};
+use engine_seats::load_mark;
 use serial_model::WORKERS;
 use wire_form::Mark;
 
@@ -35,7 +36,7 @@ pub fn mark(engine: &Engine, pass: &mut Pass, worker: u8, clock: u32, length: u6
         epoch: Some(clock - 1),
         length,
     };
-    engine_words::mark(engine, pass, worker, mark);
+    engine_seats::mark(engine, pass, worker, mark);
 }
 
 /// Marks this worker as idle: it holds no epoch back. The length is that of its log's mark, what a save counts of its
@@ -53,7 +54,7 @@ pub fn idle(engine: &Engine, pass: &mut Pass, worker: u8, length: u64)
         epoch: None,
         length,
     };
-    engine_words::mark(engine, pass, worker, mark);
+    engine_seats::mark(engine, pass, worker, mark);
 }
 
 /// All workers' marks, in their order, as each is when it is loaded.

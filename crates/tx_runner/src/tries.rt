@@ -2,18 +2,19 @@
 ghost use Rattle.std.specs.Prelude.{◌≡◌, ◌+◌, ◌*◌, ◌≤◌, ◌<◌, [], IfOk, IfErr, length};
 ghost use Rattle.std.specs.List.{AllByRecursion};
 ghost use Rattle.tx_sets.specs.Gathered.{AreEmpty};
-ghost use Rattle.engine_words.specs.Passes.{view, IsPassOf};
-ghost use Rattle.tx_commit.specs.Live.{IsLive, IsOver};
-ghost use Rattle.tx_commit.specs.Refusing.{HasRefused};
-ghost use Rattle.tx_commit.specs.Running.{HasRun};
+ghost use Rattle.engine_pages.specs.Passes.{view, IsPassOf};
+ghost use Rattle.page_commit.specs.Calls.{alter_most, op_holds};
+ghost use Rattle.page_commit.specs.Live.{IsLive, IsOver};
+ghost use Rattle.page_commit.specs.Refusing.{HasRefused};
+ghost use Rattle.page_commit.specs.Running.{HasRun};
 ghost use Rattle.tx_runner.specs.Lines.{keeps, try_steps, IsOnArray};
 ghost use Rattle.tx_runner.specs.LineEnds.{HasCommittedLine};
 ghost use Rattle.tx_runner.specs.Steps.{AreWithin, HasAnswered, HasAnsweredAll, IsCauseAmong, IsOpCause, RefusesTry};
 
 use crate::{LineReplies, LineRoom};
-use engine_words::{Engine, Pass, RefusalCause};
+use engine_pages::{Engine, Pass, RefusalCause};
+use page_commit::Txn;
 use serial_model::{Op, Verdict};
-use tx_commit::Txn;
 
 /// Runs the operations as one transaction, and commits it, with its writes or without them as it ended.
 pub(crate) fn try_line(
@@ -31,7 +32,8 @@ pub(crate) fn try_line(
     ensures commits { IfOk result (λ verdict. HasCommittedLine ops.now 1 verdict room.new.replies room.new.commit
         (view pass.old) (view pass.new)) }
     ensures refused { IfErr result (λ why. RefusesTry ops.now why (view pass.old) (view pass.new)) }
-    ensures steps { (view pass.new).steps ≤ (view pass.old).steps + try_steps (length ops.now) }
+    ensures steps { (view pass.new).steps
+        ≤ (view pass.old).steps + try_steps (view pass.old).layout.slots (length ops.now) }
 {
     room.replies.clear();
     txn.begin(engine, pass)?;
@@ -70,7 +72,8 @@ fn run_ops(
         (view pass.old) (view pass.new)) }
     ensures refused { IfErr result (λ why. HasRefused why (view pass.old) (view pass.new)) }
     ensures cause { IfErr result (λ why. IsCauseAmong ops.now why (view pass.old) (view pass.new)) }
-    ensures steps { (view pass.new).steps ≤ (view pass.old).steps + 4 * length ops.now }
+    ensures steps { (view pass.new).steps
+        ≤ (view pass.old).steps + length ops.now * alter_most (view pass.old).layout.slots }
 {
     let mut done = 0;
     while done < ops.len() {
@@ -101,7 +104,8 @@ fn run_op(
         (view pass.old) (view pass.new)) }
     ensures refused { IfErr result (λ why. HasRefused why (view pass.old) (view pass.new)) }
     ensures cause { IfErr result (λ why. IsOpCause op why (view pass.old) (view pass.new)) }
-    ensures steps { (view pass.new).steps ≤ (view pass.old).steps + 4 }
+    ensures steps { (view pass.new).steps ≤ (view pass.old).steps + alter_most (view pass.old).layout.slots }
+    ensures grows { length txn.new.sets.holds ≤ length txn.old.sets.holds + op_holds }
 {
     match op {
         Op::Read(key) => {

@@ -1,8 +1,8 @@
 -- What must have happened for each outcome and each answer of a round. None comes without a cause.
-use Rattle.std.specs.Prelude.{◌≡◌, ◌<◌, ◌≤◌, ◌+◌, ◌-◌, ◌*◌, ◌^◌, ◌||◌, ℕ, Bool, true, false, not, List}
-use Rattle.std.specs.Prelude.{[], ◌∷◌, flat_map, fold, min, MatchBool, Option, Some, None}
-use Rattle.std.specs.Prelude.{is_some, nat_lt, option_to_list, if◌then◌else◌, ⊤}
-use Rattle.std.specs.List.{AllByRecursion, Contains, list_any}
+use Rattle.std.specs.Prelude.{◌≡◌, ◌<◌, ◌≤◌, ◌+◌, ◌-◌, ◌*◌, ◌/◌, ◌%◌, ◌^◌, ◌==◌, ◌&&◌, ◌||◌, ℕ, Bool, true, false, not}
+use Rattle.std.specs.Prelude.{List, [], ◌∷◌, ◌++◌, flat_map, fold, min, MatchBool, Option, Some, None}
+use Rattle.std.specs.Prelude.{is_some, length, nat_lt, option_to_list, if◌then◌else◌, ⊤}
+use Rattle.std.specs.List.{AllByRecursion, Contains, list_all, list_any}
 use Rattle.serial_model.specs.Numbers.{last_epoch}
 use Rattle.outside.specs.declared.device.Device.{Device}
 use Rattle.outside.specs.declared.device.Device.TheVariants as devices
@@ -12,8 +12,10 @@ use Rattle.tx_script.specs.declared.answer.Answer.{Answer}
 use Rattle.tx_script.specs.declared.answer.Answer.TheVariants as answers
 use Rattle.tx_script.specs.declared.outcome.Outcome.{Outcome}
 use Rattle.tx_script.specs.declared.outcome.Outcome.TheVariants.{Unrun}
-use Rattle.tx_script.specs.Run.{LogFiles, LogRefusal, LogFailed, LogFull, Ran, TryRefusal}
-use Rattle.tx_script.specs.Tries.{AllCome}
+use Rattle.tx_script.specs.Run.{InConflict, LogFiles, LogRefusal, LogFailed, LogFull, NoNumber, NoRoom, NoSlot, Ran}
+use Rattle.tx_script.specs.Run.{TryRefusal}
+use Rattle.tx_script.specs.Tries.{AllCome, EndsWith}
+use Rattle.std.proofs.Common.{subst}
 
 -- ---- logs
 
@@ -59,6 +61,33 @@ abbrev pub UnrunLast : List Outcome → Type 0
 UnrunLast [] = ⊤
 UnrunLast (outcome ∷ outcomes) = MatchBool (is_unrun outcome) (AllByRecursion (λ o. is_unrun o ≡ true) outcomes)
     (UnrunLast outcomes)
+
+-- A slot may be given where nobody holds it, it is free or retired, and it was given fewer than 2^46 - 1 times. Its
+-- word has the holders in the lowest 16 bits, its state in the two above them, 0 free and 3 retired, and how often it
+-- was given above those.
+abbrev pub is_usable : ℕ → Bool
+is_usable word =
+    ((word % 2 ^ 18 == 0) || (word % 2 ^ 18 == 3 * 2 ^ 16)) && nat_lt (word / 2 ^ 18) (2 ^ 46 - 1)
+
+-- The cause of a refusal, where there are so many slots: no slot is usable, by the words of all of them, as the try's
+-- steps saw them. No line needs more than a set has room for: its 16 operations fill none.
+abbrev pub IsTryCause : ℕ → TryRefusal → Type 0
+IsTryCause slots (InConflict met) = ⊤
+IsTryCause slots (NoSlot words) = (length words ≡ slots) × (list_all (λ word. not (is_usable word)) words ≡ true)
+IsTryCause slots NoRoom = ⊥
+IsTryCause slots NoNumber = ⊤
+
+-- what holds of each of these and one behind them holds of that one
+last_of : (P : TryRefusal → Type 0) (before : List TryRefusal) (last : TryRefusal)
+    → AllByRecursion P (before ++ last ∷ []) → P last
+last_of P [] last all = all.0
+last_of P (first ∷ before) last all = last_of P before last all.1
+
+-- So the last refusal of a line's tries has its cause, where each of them has.
+pub last_caused : (slots tries : ℕ) (last : TryRefusal) (refusals : List TryRefusal) → EndsWith tries last refusals
+    → AllByRecursion (IsTryCause slots) refusals → IsTryCause slots last
+last_caused slots tries last refusals ends all =
+    last_of (IsTryCause slots) ends.before last (subst (AllByRecursion (IsTryCause slots)) ends.all all)
 
 -- Each worker's outcomes have their causes, by the refusals of its lines' tries and by what refused its log: `ComesTo`.
 abbrev pub WorkersCaused : Ran → List (Option LogRefusal) → List (List Outcome) → List (List (List TryRefusal))
@@ -172,6 +201,7 @@ AnswersCaused ran k (line ∷ lines) [] = ⊥
 pub record AllCaused (ran : Ran) : Type 0 where
   pub logs : LogsCaused ran.beside.files ran.beside.devices 0 ran.beside.logs
   pub outcomes : WorkersCaused ran ran.beside.logs ran.printed.outcomes ran.beside.refused
+  pub tries : AllByRecursion (AllByRecursion (AllByRecursion (IsTryCause ran.beside.slots))) ran.beside.refused
   pub answers : AnswersCaused ran (keeper_before ran) ran.printed.asked ran.printed.answers
 
 -- The steps of the join are left out: a log was refused in the round, or a keeper line in a way after which none is

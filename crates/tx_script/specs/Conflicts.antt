@@ -1,15 +1,15 @@
--- Whom tries in conflict met: at a key of their line, another worker with a line of the same round that may change it.
-use Rattle.std.specs.Prelude.{◌≡◌, ◌≢◌, ◌+◌, ◌==◌, ◌&&◌, ℕ, Bool, true, false, List, [], ◌∷◌, nat_le, Contains, Some}
-use Rattle.std.specs.Prelude.{slice_get, ◌≤◌, Option, ⊤}
+-- Whom tries in conflict at a record met: at a key of their line, another worker with a line of the same round that may
+-- change it.
+use Rattle.std.specs.Prelude.{◌≡◌, ◌≢◌, ◌+◌, ◌==◌, ◌&&◌, ℕ, Bool, true, false, List, [], ◌∷◌, nat_le, Contains}
+use Rattle.std.specs.Prelude.{slice_get, ◌≤◌, Option, Some, None, ⊤}
 use Rattle.std.specs.List.{AllByRecursion, list_any}
-use Rattle.std.proofs.Common.{arith, subst}
+use Rattle.std.proofs.Common.{arith, refl, subst}
 use Rattle.lists.specs.Elements.{in_none}
 use Rattle.serial_model.specs.declared.key.Key.{Key}
 use Rattle.serial_model.specs.declared.op.Op.{Op}
 use Rattle.serial_model.specs.declared.op.Op.TheVariants.{Read, Write, Remove, Add, Take, Scan}
 use Rattle.script_grammar.specs.Script.{Round, worker_lines}
-use Rattle.tx_script.specs.Draws.{IsAlone}
-use Rattle.tx_script.specs.Run.{InConflict, LogRefusal, Met, NoNumber, Ran, TryRefusal}
+use Rattle.tx_script.specs.Run.{InConflict, LogRefusal, Met, NoNumber, NoRoom, NoSlot, Ran, TryRefusal}
 use Rattle.tx_script.specs.Tries.{ComesTo}
 use Rattle.tx_script.specs.declared.outcome.Outcome.TheVariants.{Conflict}
 
@@ -55,16 +55,24 @@ pub record ChangesIn (lines : List (List (List Op))) (worker : ℕ) (k : Key) : 
   pub among : Contains mine ops
   pub changes : changes ops k ≡ true
 
--- A try of a worker's line met another worker's, at a key that the line touches and that one may change.
-pub record IsMetBy (lines : List (List (List Op))) (worker : ℕ) (ops : List Op) (met : Met) : Type 0 where
-  pub key : touches ops met.key ≡ true
+-- A try of a worker's line met another worker's at this key, which the line touches and that one may change.
+pub record IsMetBy (lines : List (List (List Op))) (worker : ℕ) (ops : List Op) (k : Key) : Type 0 where
+  pub key : touches ops k ≡ true
   pub by : ℕ
   pub other : by ≢ worker
-  pub changer : ChangesIn lines by met.key
+  pub changer : ChangesIn lines by k
 
--- a try that was refused in conflict met another worker's line so
+-- A try in conflict at a record met another worker's line so. At a pointer or a slot nobody is told: its word was
+-- changed since the try saw it, or is shut, and that may have been by the worker itself.
+abbrev pub IsMetAt : List (List (List Op)) → ℕ → List Op → Option Key → Type 0
+IsMetAt lines worker ops (Some k) = IsMetBy lines worker ops k
+IsMetAt lines worker ops None = ⊤
+
+-- a try that was refused in conflict met another worker's line, where it was at a record
 abbrev pub IsMet : List (List (List Op)) → ℕ → List Op → TryRefusal → Type 0
-IsMet lines worker ops (InConflict met) = IsMetBy lines worker ops met
+IsMet lines worker ops (InConflict met) = IsMetAt lines worker ops met.key
+IsMet lines worker ops (NoSlot words) = ⊤
+IsMet lines worker ops NoRoom = ⊤
 IsMet lines worker ops NoNumber = ⊤
 
 -- so it is of the tries of each line of a worker
@@ -83,19 +91,22 @@ WorkersMet lines worker (mine ∷ more) (refused ∷ others) =
 WorkersMet lines worker [] (refused ∷ others) = ⊥
 WorkersMet lines worker (mine ∷ more) [] = ⊥
 
--- Each conflict of the round is with a line of another worker in it.
+-- Each conflict of the round at a record is with a line of another worker in it.
 pub record AreMet (ran : Ran) (round : Round) : Type 0 where
   pub workers : WorkersMet (worker_lines round) 0 (worker_lines round) ran.beside.refused
 
 -- ---- what is told
 
--- A line that is told in conflict met a line of another worker.
+-- A line that is told in conflict met a line of another worker, or was in conflict at a pointer or a slot.
 pub conflict_met : (lines : List (List (List Op))) (worker first last tries : ℕ) (log : Option LogRefusal)
     (ops : List Op) (refusals : List TryRefusal) → 1 ≤ tries → ComesTo first last tries log Conflict refusals
-    → AllByRecursion (IsMet lines worker ops) refusals → (met : Met) × IsMetBy lines worker ops met
+    → AllByRecursion (IsMet lines worker ops) refusals → (met : Met) × IsMetAt lines worker ops met.key
 conflict_met lines worker first last tries log ops [] some come all =
     absurd (let none = come.2 in omega (arith, some, none))
 conflict_met lines worker first last tries log ops (InConflict met ∷ more) some come all = (met, all.0)
+conflict_met lines worker first last tries log ops (NoSlot words ∷ more) some come all =
+    absurd (let no = come.1.0 in cc)
+conflict_met lines worker first last tries log ops (NoRoom ∷ more) some come all = absurd (let no = come.1.0 in cc)
 conflict_met lines worker first last tries log ops (NoNumber ∷ more) some come all = absurd (let no = come.1.0 in cc)
 
 -- ---- a worker by itself
@@ -105,21 +116,42 @@ abbrev pub IsByItself : List (List (List Op)) → ℕ → Type 0
 IsByItself lines worker =
     (other : ℕ) (mine : List (List Op)) → other ≢ worker → slice_get lines other ≡ Some mine → mine ≡ []
 
-meets_nobody : (lines : List (List (List Op))) (worker : ℕ) (ops : List Op) (met : Met) → IsByItself lines worker
-    → IsMetBy lines worker ops met → ⊥
-meets_nobody lines worker ops met alone m =
+meets_nobody : (lines : List (List (List Op))) (worker : ℕ) (ops : List Op) (k : Key) → IsByItself lines worker
+    → IsMetBy lines worker ops k → ⊥
+meets_nobody lines worker ops k alone m =
     let c = m.changer in
     in_none c.ops (subst (λ (l : List (List Op)). Contains l c.ops) (alone m.by c.mine m.other c.at) c.among)
 
-no_try_met : (lines : List (List (List Op))) (worker : ℕ) (ops : List Op) (refusals : List TryRefusal)
-    → IsByItself lines worker → AllByRecursion (IsMet lines worker ops) refusals → AllByRecursion IsAlone refusals
-no_try_met lines worker ops [] alone all = tt
-no_try_met lines worker ops (InConflict met ∷ more) alone all = absurd (meets_nobody lines worker ops met alone all.0)
-no_try_met lines worker ops (NoNumber ∷ more) alone all = (tt, no_try_met lines worker ops more alone all.1)
+-- the try was in conflict at no record
+abbrev pub MeetsNobody : TryRefusal → Type 0
+MeetsNobody (InConflict met) = met.key ≡ None
+MeetsNobody (NoSlot words) = ⊤
+MeetsNobody NoRoom = ⊤
+MeetsNobody NoNumber = ⊤
 
--- A worker that has a round to itself meets nobody.
+one_alone : (lines : List (List (List Op))) (worker : ℕ) (ops : List Op) (refusal : TryRefusal)
+    → IsByItself lines worker → IsMet lines worker ops refusal → MeetsNobody refusal
+one_alone lines worker ops (InConflict met) alone m = by_key met.key m
+  where
+    by_key : (key : Option Key) → IsMetAt lines worker ops key → key ≡ None
+    by_key (Some k) m = absurd (meets_nobody lines worker ops k alone m)
+    by_key None m = refl
+one_alone lines worker ops (NoSlot words) alone m = tt
+one_alone lines worker ops NoRoom alone m = tt
+one_alone lines worker ops NoNumber alone m = tt
+
+no_try_met : (lines : List (List (List Op))) (worker : ℕ) (ops : List Op) (refusals : List TryRefusal)
+    → IsByItself lines worker → AllByRecursion (IsMet lines worker ops) refusals
+    → AllByRecursion MeetsNobody refusals
+no_try_met lines worker ops [] alone all = tt
+no_try_met lines worker ops (refusal ∷ more) alone all =
+    (one_alone lines worker ops refusal alone all.0, no_try_met lines worker ops more alone all.1)
+
+-- A worker that has a round to itself is in conflict at no record. At a pointer it may be: at one that it led to a page
+-- itself, in a transaction that had read below it.
 pub alone_met : (lines : List (List (List Op))) (worker : ℕ) (mine : List (List Op)) (refused : List (List TryRefusal))
-    → IsByItself lines worker → LinesMet lines worker mine refused → AllByRecursion (AllByRecursion IsAlone) refused
+    → IsByItself lines worker → LinesMet lines worker mine refused
+    → AllByRecursion (AllByRecursion MeetsNobody) refused
 alone_met lines worker [] [] alone all = tt
 alone_met lines worker [] (refusals ∷ more) alone all = absurd all
 alone_met lines worker (ops ∷ mine) [] alone all = absurd all

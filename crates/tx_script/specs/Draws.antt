@@ -20,9 +20,10 @@ use Rattle.tx_script.specs.declared.outcome.Outcome.{Outcome}
 use Rattle.tx_script.specs.declared.outcome.Outcome.TheVariants.{Committed, Conflict, Full, Wide, Limit, Unrun}
 use Rattle.tx_script.specs.Causes.{AllCaused, WorkersCaused}
 use Rattle.tx_script.specs.Counts.{total, total-worker_lines}
-use Rattle.tx_script.specs.Run.{AreOfFirst, InConflict, IsOfRound, IsScriptRun, LogRefusal, NoNumber, OneForEach, Ran}
+use Rattle.tx_script.specs.Run.{AreOfFirst, InConflict, IsOfRound, IsScriptRun, LogRefusal, NoNumber, NoRoom, NoSlot}
+use Rattle.tx_script.specs.Run.{OneForEach, Ran}
 use Rattle.tx_script.specs.Run.{RunsClocks, TryRefusal, clock_after, is_commit, is_limit, joined}
-use Rattle.tx_script.specs.Tries.{AllCome, ComesTo}
+use Rattle.tx_script.specs.Tries.{AllCome, ComesTo, EndsWith}
 
 -- how many of the outcomes are commits
 abbrev pub commit_count : List (List Outcome) → ℕ
@@ -31,6 +32,8 @@ commit_count = sum_by (λ outcomes. length (filter is_commit outcomes))
 -- 1 for a try that was refused behind its draw
 abbrev pub drew_by : TryRefusal → ℕ
 drew_by (InConflict met) = cond met.drew 1 0
+drew_by (NoSlot words) = 0
+drew_by NoRoom = 0
 drew_by NoNumber = 0
 
 -- how many numbers were drawn for tries of a line that were refused
@@ -71,9 +74,11 @@ IsUnhindered Limit = ⊤
 IsUnhindered Unrun = ⊤
 IsUnhindered _ = ⊥
 
--- no try met another transaction
+-- no try was in conflict
 abbrev pub IsAlone : TryRefusal → Type 0
 IsAlone (InConflict met) = ⊥
+IsAlone (NoSlot words) = ⊤
+IsAlone NoRoom = ⊤
 IsAlone NoNumber = ⊤
 
 -- so it is of each line of the round, and of each of its tries
@@ -91,6 +96,9 @@ pub record RunsOnce (ran : Ran) : Type 0 where
 lost_none : (refusals : List TryRefusal) → AllByRecursion IsAlone refusals → lost_of_line refusals ≡ 0
 lost_none [] all = refl
 lost_none (InConflict met ∷ more) all = absurd all.0
+lost_none (NoSlot words ∷ more) all =
+    omega (arith, sum_by-cons drew_by (NoSlot words) more, lost_none more all.1)
+lost_none (NoRoom ∷ more) all = omega (arith, sum_by-cons drew_by NoRoom more, lost_none more all.1)
 lost_none (NoNumber ∷ more) all = omega (arith, sum_by-cons drew_by NoNumber more, lost_none more all.1)
 
 lost_no_lines : (refused : List (List TryRefusal)) → AllByRecursion (AllByRecursion IsAlone) refused
@@ -119,6 +127,8 @@ drew_at_most_one (InConflict met) = one met.drew
     one : (b : Bool) → cond b 1 0 ≤ 1
     one true = omega arith
     one false = omega arith
+drew_at_most_one (NoSlot words) = omega arith
+drew_at_most_one NoRoom = omega arith
 drew_at_most_one NoNumber = omega arith
 
 lost_few : (refusals : List TryRefusal) → lost_of_line refusals ≤ length refusals
@@ -126,20 +136,27 @@ lost_few [] = omega arith
 lost_few (refusal ∷ more) =
     omega (arith, sum_by-cons drew_by refusal more, drew_at_most_one refusal, lost_few more)
 
+-- nor do tries of which the last one was not refused in conflict
+ended_few : (tries : ℕ) (last : TryRefusal) (refusals : List TryRefusal) → EndsWith tries last refusals
+    → lost_of_line refusals ≤ tries
+ended_few tries last refusals ends =
+    let long : length refusals ≡ length ends.before + 1 =
+    ap length ends.all ∙ length-append ends.before (last ∷ []) in
+    let fewer = ends.fewer in
+    omega (arith, long, fewer, lost_few refusals)
+
 -- a line with its commit draws no more numbers than it has tries
 line_within : (first last tries : ℕ) (log : Option LogRefusal) (outcome : Outcome) (refusals : List TryRefusal)
     → ComesTo first last tries log outcome refusals → cond (is_commit outcome) 1 0 + lost_of_line refusals ≤ tries
 line_within first last tries log (Committed verdict number replies) refusals come =
     let fewer = come.3 in omega (arith, fewer, lost_few refusals)
 line_within first last tries log Conflict refusals come = let all = come.2 in omega (arith, all, lost_few refusals)
-line_within first last tries log Full refusals come = absurd come
-line_within first last tries log Wide refusals come = absurd come
+line_within first last tries log Full refusals come =
+    let few = ended_few tries (NoSlot come.1) refusals come.2 in omega (arith, few)
+line_within first last tries log Wide refusals come =
+    let few = ended_few tries NoRoom refusals come.1 in omega (arith, few)
 line_within first last tries log Limit refusals come =
-    let ends = come.0 in
-    let long : length refusals ≡ length ends.before + 1 =
-    ap length ends.all ∙ length-append ends.before (NoNumber ∷ []) in
-    let fewer = ends.fewer in
-    omega (arith, long, fewer, lost_few refusals)
+    let few = ended_few tries NoNumber refusals come.0 in omega (arith, few)
 line_within first last tries log Unrun refusals come =
     let none : lost_of_line refusals ≡ 0 = ap lost_of_line come.0 in omega (arith, none)
 
@@ -216,8 +233,10 @@ of_worker_limited first last tries log (Committed verdict number replies ∷ out
     of_worker_limited first last tries log outcomes refused come.1 is
 of_worker_limited first last tries log (Conflict ∷ outcomes) (refusals ∷ refused) come is =
     of_worker_limited first last tries log outcomes refused come.1 is
-of_worker_limited first last tries log (Full ∷ outcomes) (refusals ∷ refused) come is = absurd come.0
-of_worker_limited first last tries log (Wide ∷ outcomes) (refusals ∷ refused) come is = absurd come.0
+of_worker_limited first last tries log (Full ∷ outcomes) (refusals ∷ refused) come is =
+    of_worker_limited first last tries log outcomes refused come.1 is
+of_worker_limited first last tries log (Wide ∷ outcomes) (refusals ∷ refused) come is =
+    of_worker_limited first last tries log outcomes refused come.1 is
 of_worker_limited first last tries log (Unrun ∷ outcomes) (refusals ∷ refused) come is =
     of_worker_limited first last tries log outcomes refused come.1 is
 

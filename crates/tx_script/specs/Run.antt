@@ -26,14 +26,18 @@ pub data LogRefusal : Type 0 where
   LogFailed : LogRefusal
   LogFull : ℕ → LogRefusal
 
--- Where a try met another transaction: at this key, and `drew` where it had drawn its number by then.
+-- Where a try was in conflict: at the record of this key, where it met another transaction, or at no record, but at a
+-- pointer or a slot that was changed; and `drew` where it had drawn its number by then.
 pub record Met : Type 0 where
-  pub key : Key
+  pub key : Option Key
   pub drew : Bool
 
--- Why a try of a line was refused: another transaction was in its way, or no number was left for it.
+-- Why a try of a line was refused: it was in conflict; it was to be given a slot for a page, and the slots had these
+-- words, one for each; it needed more than a set has room for; or no number was left for it.
 pub data TryRefusal : Type 0 where
   InConflict : Met → TryRefusal
+  NoSlot : List ℕ → TryRefusal
+  NoRoom : TryRefusal
   NoNumber : TryRefusal
 
 -- The log files at the begin of a round: of each worker that of odd number grows, or that of even number; the other
@@ -59,10 +63,11 @@ pub record RanPrinted : Type 0 where
 -- What stands beside it and isn't printed: what it began with, what it met on the way, and which devices failed.
 pub record RanBeside : Type 0 where
   -- At its begin: the sequence of the newest savepoint, how many pages of snapshots there are and how many are let in,
-  -- and the log files.
+  -- how many slots there are for pages in memory, and the log files.
   pub sequence : ℕ
   pub pages : ℕ
   pub room : ℕ
+  pub slots : ℕ
   pub files : LogFiles
   -- of each worker the epochs of the marks that it had while the lines ran, none for an idle one, the first being that
   -- at the begin, and what refused its log, if anything did

@@ -12,7 +12,7 @@ pub enum Outcome {
         number: Number,
         replies: Replies,
     },
-    /// Each of the tries met another transaction.
+    /// Each of the tries was in conflict: at a record with another transaction, or at a pointer or a slot.
     Conflict,
     /// A try saw no slot that it could use.
     Full,

@@ -7,8 +7,8 @@ use Rattle.serial_model.specs.declared.op.Op.{Op}
 use Rattle.script_grammar.specs.Script.{Line}
 use Rattle.wire_form.specs.declared.clock.Mark.{Mark}
 use Rattle.log_writer.specs.Journal.{Reaches}
-use Rattle.engine_words.specs.declared.view.View.{View}
-use Rattle.tx_commit.specs.Live.{IsOver}
+use Rattle.engine_pages.specs.declared.view.View.{View}
+use Rattle.tx_runner.specs.Below.{IsOver}
 use Rattle.tx_script.specs.declared.outcome.Outcome.{Outcome}
 use Rattle.worker_logs.specs.Logs.{LogState}
 use Rattle.worker_cells.specs.declared.cell.LogEnd.{LogEnd}

@@ -14,13 +14,13 @@ use Rattle.serial_model.specs.ReplyWords.{replies_words}
 use Rattle.wire_form.specs.LogFile.{IsChangeOf, IsLineOf}
 use Rattle.wire_form.specs.LogLine.{IsLogLine, IsLoggable}
 use Rattle.serial_bridge.specs.WriteSets.{EachCounts}
-use Rattle.engine_words.specs.declared.view.View.{View}
+use Rattle.engine_pages.specs.declared.view.View.{View}
 use Rattle.tx_runner.specs.LineEnds.{HasCommittedLine}
 use Rattle.tx_runner.specs.LineWrites.{rising_counts}
 use Rattle.tx_runner.specs.Lines.{IsAnswered, IsOnArray}
-use Rattle.tx_runner.specs.Tries.{HasConflicted, IsAtLimit, ToClock}
+use Rattle.tx_runner.specs.Tries.{HasConflicted, IsAtLimit, IsFullAt, ToClock, ToSlots}
 use Rattle.tx_script.specs.declared.outcome.Outcome.{Outcome}
-use Rattle.tx_script.specs.declared.outcome.Outcome.TheVariants.{Committed, Conflict, Limit}
+use Rattle.tx_script.specs.declared.outcome.Outcome.TheVariants.{Committed, Conflict, Full, Limit}
 use Rattle.worker_logs.specs.Logs.{LogState}
 use Rattle.worker_logs.specs.Rows.{TakesCommit}
 use Rattle.worker_cells.specs.Cells.{IsMarkedBelow, LogsLine, RunsOne}
@@ -121,6 +121,20 @@ conflict_logs tries ops v w log line = (
   record {
     outcome = Conflict;
     refused = line.losts;
+    logged = None;
+    comes = (refl, line, refl);
+    line = tt;
+    takes = refl;
+  },
+  refl,
+)
+
+pub full_logs : (tries : ℕ) (ops : List Op) (v w : View) (log : LogState) → IsFullAt ops tries v w
+    → LogsAs Full tries ops v w log log
+full_logs tries ops v w log line = (
+  record {
+    outcome = Full;
+    refused = line.refused.losts ++ ToSlots line.words ∷ [];
     logged = None;
     comes = (refl, line, refl);
     line = tt;

@@ -3,7 +3,7 @@ use Rattle.std.proofs.Common.{◌≡◌, ◌⊎◌, inl, inr, refl, sym, ◌∙�
 use Rattle.std.specs.Prelude.{is_some}
 use Rattle.serial_model.specs.declared.number.Commit.{Commit}
 use Rattle.serial_model.specs.declared.op.Op.{Op}
-use Rattle.engine_words.specs.declared.view.View.{View}
+use Rattle.engine_pages.specs.declared.view.View.{View}
 use Rattle.log_writer.specs.declared.journal.LogFault.{LogFault}
 use Rattle.log_writer.specs.declared.journal.LogFault.TheVariants.{Device, Down, Limit as AtLimit}
 use Rattle.tx_runner.specs.Tries.{Lost}
@@ -21,7 +21,7 @@ pub comes_run : (tries : ℕ) (ops : List Op) (outcome : Outcome) (refused : Lis
 comes_run tries ops (Committed verdict number replies) refused logged v w comes = refl
 comes_run tries ops Conflict refused logged v w comes = refl
 comes_run tries ops Limit refused logged v w comes = refl
-comes_run tries ops Full refused logged v w comes = absurd comes
+comes_run tries ops Full refused logged v w comes = refl
 comes_run tries ops Wide refused logged v w comes = absurd comes
 comes_run tries ops Unrun refused logged v w comes = absurd comes
 

@@ -15,7 +15,7 @@ use Rattle.commit_core.specs.declared.seat.Mark as core
 use Rattle.log_writer.specs.declared.journal.LogFault.{LogFault}
 use Rattle.tx_runner.specs.Epochs.{IsMarkedUpTo}
 use Rattle.tx_runner.specs.Tries.{Lost}
-use Rattle.engine_words.specs.declared.view.View.{View}
+use Rattle.engine_pages.specs.declared.view.View.{View}
 use Rattle.tx_script.specs.declared.outcome.Outcome.{Outcome}
 use Rattle.tx_script.specs.declared.outcome.Outcome.TheVariants.{Committed, Conflict, Full, Wide, Limit, Unrun}
 use Rattle.worker_logs.specs.Logs.{LogState}
@@ -96,7 +96,7 @@ line_above tries ops (Committed verdict number replies) refused logged v w marke
 line_above tries ops Conflict refused logged v w marked comes mark c is = absurd (let no = sym comes.0 ∙ is in cc)
 line_above tries ops Wide refused logged v w marked comes mark c is = absurd comes
 line_above tries ops Limit refused logged v w marked comes mark c is = absurd (let no = sym comes.0 ∙ is in cc)
-line_above tries ops Full refused logged v w marked comes mark c is = absurd comes
+line_above tries ops Full refused logged v w marked comes mark c is = absurd (let no = sym comes.0 ∙ is in cc)
 line_above tries ops Unrun refused logged v w marked comes mark c is = absurd comes
 
 -- whatever it changed

@@ -11,8 +11,8 @@ use Rattle.commit_core.specs.declared.seat.Mark as core
 use Rattle.log_writer.specs.Journal.{Reaches}
 use Rattle.log_writer.specs.declared.journal.LogFault.{LogFault}
 use Rattle.log_writer.specs.declared.journal.LogFault.TheVariants.{Device, Down, Limit as AtLimit}
-use Rattle.engine_words.specs.declared.view.View.{View}
-use Rattle.tx_commit.specs.Live.{IsOver}
+use Rattle.engine_pages.specs.declared.view.View.{View}
+use Rattle.tx_runner.specs.Below.{IsOver}
 use Rattle.tx_runner.specs.Epochs.{IsMarkedUpTo}
 use Rattle.tx_runner.specs.Tries.{Lost}
 use Rattle.tx_script.specs.declared.outcome.Outcome.{Outcome}

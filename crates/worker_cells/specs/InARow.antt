@@ -9,12 +9,13 @@ use Rattle.lists.specs.Elements.{in_head, in_tail}
 use Rattle.lists.specs.Fronts.{front_refl, front_then}
 use Rattle.serial_model.specs.declared.number.Commit.{Commit}
 use Rattle.serial_model.specs.declared.op.Op.{Op}
-use Rattle.engine_words.specs.declared.view.Touch.{Touch}
-use Rattle.engine_words.specs.declared.view.View.{View}
-use Rattle.engine_words.specs.Views.{seat_number}
-use Rattle.engine_words.specs.Cuts.{HasSeen}
-use Rattle.tx_commit.specs.Live.{IsOver}
-use Rattle.tx_runner.specs.Tries.{HasTriedFor, IsWrittenBy, Lost, ToClock, TouchesOnly, blame_of, blames_of, lost_to}
+use Rattle.engine_pages.specs.declared.view.Touch.{Touch}
+use Rattle.engine_pages.specs.declared.view.View.{View}
+use Rattle.engine_pages.specs.Views.{seat_number}
+use Rattle.engine_seats.specs.Cuts.{HasSeen}
+use Rattle.tx_runner.specs.Below.{IsOver}
+use Rattle.tx_runner.specs.Tries.{HasTriedFor, IsWrittenBy, Lost, ToClock, ToSlots, TouchesOnly, blame_of}
+use Rattle.tx_runner.specs.Tries.{blames_of, lost_to}
 use Rattle.tx_runner.specs.Tries.{why_of, whys_of}
 use Rattle.tx_script.specs.Run.{is_commit}
 use Rattle.tx_script.specs.declared.outcome.Outcome.{Outcome}
@@ -112,7 +113,9 @@ line_keeps tries ops Conflict refused logged v w comes =
 line_keeps tries ops Limit refused logged v w comes =
     tries_keep ops Limit (comes.1.refused.losts ++ ToClock comes.1.clock ∷ []) refused v w comes.1.refused.tried comes.2
     refl
-line_keeps tries ops Full refused logged v w comes = absurd comes
+line_keeps tries ops Full refused logged v w comes =
+    tries_keep ops Full (comes.1.refused.losts ++ ToSlots comes.1.words ∷ []) refused v w comes.1.refused.tried comes.2
+    refl
 line_keeps tries ops Wide refused logged v w comes = absurd comes
 line_keeps tries ops Unrun refused logged v w comes = absurd comes
 

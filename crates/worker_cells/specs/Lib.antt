@@ -1,3 +1,4 @@
+pub mod Below
 pub mod Rows
 pub mod InARow
 pub mod Cells

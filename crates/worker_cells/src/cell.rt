@@ -1,9 +1,8 @@
 // What one worker's thread is lent for a round.
 
 use crate::gate_calls::GateCalls;
-use engine_words::Pass;
-use tx_commit::Txn;
-use tx_runner::LineRoom;
+use engine_pages::Pass;
+use tx_runner::{LineRoom, Txn};
 use tx_script::OutcomeRoom;
 use wire_form::Mark;
 use worker_logs::WorkerLog;

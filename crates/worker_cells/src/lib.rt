@@ -31,3 +31,4 @@ mod readying;
 pub use cell::{Cell, Desk, LogEnd};
 pub use gate_calls::{GateCalls, LineGate};
 pub use lines::run_cell;
+pub use tx_runner::idle;

@@ -7,9 +7,9 @@ ghost use Rattle.script_grammar.specs.Script.{lines_of_worker, ops_of_worker};
 ghost use Rattle.wire_form.specs.LogLine.{IsLogLine, IsLoggable};
 ghost use Rattle.log_writer.specs.Journal.{Reaches, end_of, free};
 ghost use Rattle.worker_logs.specs.Rows.{TakesCommit, full_after};
-ghost use Rattle.engine_words.specs.declared.view.Role.TheVariants.{Worker};
-ghost use Rattle.engine_words.specs.Passes.{IsPassOf, view};
-ghost use Rattle.tx_commit.specs.Live.{IsOver};
+ghost use Rattle.engine_pages.specs.declared.view.Role.TheVariants.{Worker};
+ghost use Rattle.engine_pages.specs.Passes.{IsPassOf, view};
+ghost use Rattle.tx_runner.specs.Below.{IsOver};
 ghost use Rattle.tx_runner.specs.Lines.{HasNoTree, IsOnArray};
 ghost use Rattle.tx_script.specs.Run.{CanRun};
 ghost use Rattle.worker_cells.specs.Cells.{IsCell, IsMarkedBelow, IsShown, RunsCell, RunsOne, StepsOne, fails};
@@ -19,7 +19,7 @@ ghost use Rattle.worker_cells.specs.Rows.{logged_by};
 use crate::cell::{Cell, LogEnd};
 use crate::gate_calls::{GateCalls, LineGate};
 use crate::readying::{flush_last, make_ready};
-use engine_words::Engine;
+use engine_pages::Engine;
 use log_writer::LogFault;
 use outside::Disk;
 use serial_model::{Commit, Op};
@@ -208,6 +208,8 @@ fn run_logged<D: Disk>(
             cell.outcomes.push_words(verdict, desk.room.commit.number, desk.room.replies.words());
         }
         LineEnd::Conflict => cell.outcomes.push_refused(Refused::Conflict),
+        LineEnd::Full => cell.outcomes.push_refused(Refused::Full),
+        LineEnd::Wide => cell.outcomes.push_refused(Refused::Wide),
         LineEnd::Limit => cell.outcomes.push_refused(Refused::Limit),
     }
 }

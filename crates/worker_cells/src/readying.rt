@@ -3,15 +3,15 @@ ghost use Rattle.std.specs.Prelude.{◌≡◌, ◌+◌, ◌-◌, ◌<◌, ◌≤
 ghost use Rattle.log_writer.specs.Journal.{Reaches, end_of, free};
 ghost use Rattle.serial_model.specs.Numbers.{last_epoch};
 ghost use Rattle.commit_core.specs.CoreState.{last_marked};
-ghost use Rattle.engine_words.specs.declared.view.Role.TheVariants.{Worker};
-ghost use Rattle.engine_words.specs.Passes.{IsPassOf, view};
-ghost use Rattle.tx_commit.specs.Live.{IsOver};
+ghost use Rattle.engine_pages.specs.declared.view.Role.TheVariants.{Worker};
+ghost use Rattle.engine_pages.specs.Passes.{IsPassOf, view};
+ghost use Rattle.tx_runner.specs.Below.{IsOver};
 ghost use Rattle.worker_logs.specs.Logs.{IsUpTo};
 ghost use Rattle.worker_logs.specs.Moves.{MovesLog, refusal};
 ghost use Rattle.worker_cells.specs.Cells.{IsMarkedBelow, IsShown, IsShownBefore, IsTied, Readies, ReadiesSome};
 ghost use Rattle.worker_cells.specs.Rows.{Goes};
 
-use engine_words::{Engine, Pass};
+use engine_pages::{Engine, Pass};
 use log_writer::LogFault;
 use outside::Disk;
 use tx_runner::{load_epoch, mark};

@@ -1,5 +1,5 @@
 use Rattle.std.proofs.Common.{refl, arith}
-use Rattle.engine_words.specs.Passes.{view}
+use Rattle.engine_pages.specs.Passes.{view}
 use Rattle.tx_runner.proofs.Clocks.{advanced_epoch, last_one}
 use Rattle.tx_runner.proofs.epochs.advance.Goals as goal
 

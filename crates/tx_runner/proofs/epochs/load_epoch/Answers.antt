@@ -1,5 +1,5 @@
 use Rattle.std.proofs.Common.{refl}
-use Rattle.engine_words.specs.Passes.{view}
+use Rattle.engine_pages.specs.Passes.{view}
 use Rattle.tx_runner.proofs.Clocks.{seen_epoch}
 use Rattle.tx_runner.proofs.epochs.load_epoch.Goals as goal
 

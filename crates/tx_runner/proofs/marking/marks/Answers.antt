@@ -1,6 +1,6 @@
 use Rattle.std.proofs.Common.{refl, ◌∙◌, arith}
 use Rattle.std.proofs.lemmas.List.{length-set}
-use Rattle.engine_words.specs.Passes.{view}
+use Rattle.engine_pages.specs.Passes.{view}
 use Rattle.tx_runner.proofs.LoadedMarks.{none_met, met_active, met_more, met_all}
 use Rattle.tx_runner.proofs.marking.marks.Goals as goal
 

@@ -1,7 +1,7 @@
 use Rattle.std.proofs.Common.{◌≡◌, ℕ, ◌-◌, ◌≤◌, List, length, take}
 use Rattle.wire_form.specs.declared.clock.Mark.{Mark}
-use Rattle.engine_words.specs.declared.engine.Engine.{Engine}
-use Rattle.engine_words.specs.Passes.{Pass, view, IsPassOf}
+use Rattle.engine_pages.specs.declared.engine.Engine.{Engine}
+use Rattle.engine_pages.specs.Passes.{Pass, view, IsPassOf}
 use Rattle.tx_runner.specs.Epochs.{HasMetAll}
 use Rattle.tx_runner.proofs.marking.marks.Given as goal
 

@@ -1,10 +1,12 @@
 use Rattle.std.specs.Prelude.{Err}
-use Rattle.std.proofs.Common.{◌≡◌, arith}
+use Rattle.std.proofs.Common.{◌≡◌, arith, length}
 use Rattle.std.proofs.lemmas.Result.{err_from_is_err_and}
-use Rattle.engine_words.specs.Passes.{view}
+use Rattle.engine_pages.specs.Passes.{view}
 use Rattle.tx_runner.proofs.Answered.{run_none, run_on, run_ended, run_all, taken_all, loaded_array, kept_so}
-use Rattle.tx_runner.proofs.Answered.{cause_among, dropped_so, within_more}
+use Rattle.tx_runner.proofs.Answered.{all_took, cause_among, dropped_so, within_more}
 use Rattle.tx_runner.proofs.Standing.{refused_since}
+use Rattle.tx_runner.proofs.Sums.{steps_within}
+use Rattle.page_commit.specs.Calls.{alter_most}
 use Rattle.tx_runner.proofs.tries.run_ops.Goals as goal
 
 pub loop-done-init : goal.loop-done-init
@@ -33,7 +35,7 @@ loop-done-preserved c = record {
       (kept_so c.in_ok-verdict.verdict c.keeps.result c.keeps.ensures c.if-not-keeps.false)
       (loaded_array c.args.ops.now _ c.loop-done.done (view c.args.pass.now) (view c.loop-done.pass) c.requires.arrays
       c.loop-done-test.true c.loop-done.invariant.some.only) c.loop-done.invariant.some c.in_ok-verdict.ensures.answers
-      c.run_op.ensures.steps;
+      c.run_op.ensures.steps c.run_op.ensures.grows;
 }
 
 pub returns-in_err-verdict-clause-refused : goal.returns-in_err-verdict-clause-refused
@@ -58,7 +60,7 @@ returns-then-not-keeps-clause-answers c =
     (dropped_so c.in_ok-verdict.verdict c.keeps.result c.keeps.ensures c.if-not-keeps.true)
     (loaded_array c.args.ops.now _ c.loop-done.done (view c.args.pass.now) (view c.loop-done.pass) c.requires.arrays
     c.loop-done-test.true c.loop-done.invariant.some.only) c.loop-done.invariant.some c.in_ok-verdict.ensures.answers
-    c.run_op.ensures.steps
+    c.run_op.ensures.grows
 
 pub returns-clause-answers : goal.returns-clause-answers
 returns-clause-answers c =
@@ -72,12 +74,16 @@ run_op-requires-clause-sized c = within_more c.loop-done.done 15 c.loop-done.txn
 
 pub returns-in_err-verdict-clause-steps : goal.returns-in_err-verdict-clause-steps
 returns-in_err-verdict-clause-steps c =
-    omega (arith, c.loop-done.invariant.some.steps, c.run_op.ensures.steps, c.loop-done-test.true)
+    all_took c.args.ops.now c.loop-done.done (view c.args.pass.now) (view c.loop-done.pass) (view c.run_op.new.pass)
+    c.loop-done-test.true c.loop-done.invariant.some.only c.loop-done.invariant.some.steps c.run_op.ensures.steps
 
 pub returns-then-not-keeps-clause-steps : goal.returns-then-not-keeps-clause-steps
 returns-then-not-keeps-clause-steps c =
-    omega (arith, c.loop-done.invariant.some.steps, c.run_op.ensures.steps, c.loop-done-test.true)
+    all_took c.args.ops.now c.loop-done.done (view c.args.pass.now) (view c.loop-done.pass) (view c.run_op.new.pass)
+    c.loop-done-test.true c.loop-done.invariant.some.only c.loop-done.invariant.some.steps c.run_op.ensures.steps
 
 pub returns-clause-steps : goal.returns-clause-steps
 returns-clause-steps c =
-    omega (arith, c.loop-done.invariant.some.steps, c.loop-done.invariant.some.within)
+    steps_within c.loop-done.done (length c.args.ops.now) (alter_most (view c.args.pass.now).layout.slots)
+    (view c.args.pass.now).steps (view c.loop-done.pass).steps c.loop-done.invariant.some.within
+    c.loop-done.invariant.some.steps

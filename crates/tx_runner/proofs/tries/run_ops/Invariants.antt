@@ -2,8 +2,8 @@ use Rattle.std.proofs.Common.{ℕ, ◌-◌, List, length}
 use Rattle.serial_model.specs.declared.op.Op.{Op}
 use Rattle.serial_model.specs.declared.reply.Reply.{Reply}
 use Rattle.tx_sets.specs.declared.sets.Sets.{Sets}
-use Rattle.engine_words.specs.declared.engine.Engine.{Engine}
-use Rattle.engine_words.specs.Passes.{Pass, view, IsPassOf}
+use Rattle.engine_pages.specs.declared.engine.Engine.{Engine}
+use Rattle.engine_pages.specs.Passes.{Pass, view, IsPassOf}
 use Rattle.tx_runner.proofs.Answered.{HasRunSome}
 use Rattle.tx_runner.proofs.tries.run_ops.Given as goal
 

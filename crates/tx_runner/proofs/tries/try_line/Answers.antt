@@ -1,11 +1,12 @@
 use Rattle.std.specs.Prelude.{Err}
 use Rattle.std.proofs.Common.{◌≡◌, ap, ◌∙◌, length, arith}
 use Rattle.std.proofs.lemmas.Result.{err_from_is_err_and}
-use Rattle.engine_words.specs.Passes.{view}
-use Rattle.tx_commit.specs.Committing.{changes_of, kept_writes}
+use Rattle.engine_pages.specs.Passes.{view}
+use Rattle.page_commit.specs.Committing.{changes_of, kept_writes}
 use Rattle.tx_runner.proofs.Commits.{try_committed}
 use Rattle.tx_runner.proofs.Refusals.{begin_refused, commit_refused, op_refused}
-use Rattle.tx_runner.proofs.Standing.{begins_stands, run_stands, run_last, begun_below, begun_steps, begun_arrays, try_took}
+use Rattle.tx_runner.proofs.Standing.{begins_stands, run_stands, run_last, begun_below, begun_arrays}
+use Rattle.tx_runner.proofs.Standing.{try_refused, try_took}
 use Rattle.tx_runner.proofs.tries.try_line.Goals as goal
 
 pub returns-clause-commits : goal.returns-clause-commits
@@ -20,6 +21,7 @@ returns-clause-commits c =
     (c.in_ok-room.ensures.changes.are
     ∙ ap (λ b. changes_of (kept_writes b c.run_ops.new.txn.sets.writes)) c.keeps.ensures)
     c.in_ok-room.ensures.changes.rising c.in_ok-room.ensures.changes.few c.in_ok-room.ensures.commits
+    (let took = c.in_ok-room.ensures.steps in omega (arith, took))
     (begun_below c.begin.new.self.sets (view c.args.pass.now) (view c.begin.new.pass) c.in_ok-begin.ensures.begins)
     (run_last c.begin.new.self.sets (view c.args.pass.now) (view c.begin.new.pass) (view c.run_ops.new.pass)
     c.requires.over c.in_ok-begin.ensures.begins a.only)
@@ -27,10 +29,9 @@ returns-clause-commits c =
 pub returns-clause-steps : goal.returns-clause-steps
 returns-clause-steps c =
     let a = c.in_ok-verdict.ensures.answers in
-    try_took (length c.args.ops.now) c.keeps.result c.run_ops.new.txn.sets (view c.args.pass.now)
-    (view c.begin.new.pass) (view c.run_ops.new.pass) (view c.commit.new.pass)
-    (begun_steps c.begin.new.self.sets (view c.args.pass.now) (view c.begin.new.pass) c.in_ok-begin.ensures.begins)
-    a.steps a.sized (omega (arith, c.in_ok-room.ensures.steps))
+    try_took (length c.args.ops.now) c.keeps.result c.begin.new.self.sets c.run_ops.new.txn.sets (view c.args.pass.now)
+    (view c.begin.new.pass) (view c.run_ops.new.pass) (view c.commit.new.pass) c.in_ok-begin.ensures.begins
+    c.run_ops.ensures.steps a.sized (let took = c.in_ok-room.ensures.steps in omega (arith, took))
 
 pub returns-in_err-begin-clause-refused : goal.returns-in_err-begin-clause-refused
 returns-in_err-begin-clause-refused c =
@@ -59,9 +60,8 @@ returns-in_err-verdict-clause-refused c =
 
 pub returns-in_err-verdict-clause-steps : goal.returns-in_err-verdict-clause-steps
 returns-in_err-verdict-clause-steps c =
-    let one = begun_steps c.begin.new.self.sets (view c.args.pass.now) (view c.begin.new.pass)
-    c.in_ok-begin.ensures.begins in
-    omega (arith, one, c.run_ops.ensures.steps)
+    try_refused (length c.args.ops.now) c.begin.new.self.sets (view c.args.pass.now) (view c.begin.new.pass)
+    (view c.run_ops.new.pass) c.in_ok-begin.ensures.begins c.run_ops.ensures.steps
 
 pub returns-in_err-room-clause-refused : goal.returns-in_err-room-clause-refused
 returns-in_err-room-clause-refused c =
@@ -80,7 +80,6 @@ returns-in_err-room-clause-refused c =
 pub returns-in_err-room-clause-steps : goal.returns-in_err-room-clause-steps
 returns-in_err-room-clause-steps c =
     let a = c.in_ok-verdict.ensures.answers in
-    try_took (length c.args.ops.now) c.keeps.result c.run_ops.new.txn.sets (view c.args.pass.now)
-    (view c.begin.new.pass) (view c.run_ops.new.pass) (view c.commit.new.pass)
-    (begun_steps c.begin.new.self.sets (view c.args.pass.now) (view c.begin.new.pass) c.in_ok-begin.ensures.begins)
-    a.steps a.sized c.in_err-room.ensures.most
+    try_took (length c.args.ops.now) c.keeps.result c.begin.new.self.sets c.run_ops.new.txn.sets (view c.args.pass.now)
+    (view c.begin.new.pass) (view c.run_ops.new.pass) (view c.commit.new.pass) c.in_ok-begin.ensures.begins
+    c.run_ops.ensures.steps a.sized c.in_err-room.ensures.most

@@ -3,8 +3,8 @@ use Rattle.std.proofs.Common.{◌∙◌, ◌≡◌, ◌<◌, ◌≤◌, Some, No
 use Rattle.std.specs.Prelude.{is_some}
 use Rattle.std.specs.List.{AllByRecursion}
 use Rattle.script_grammar.specs.Script.{lines_of_worker}
-use Rattle.engine_words.specs.declared.view.Role.TheVariants.{Worker}
-use Rattle.engine_words.specs.Passes.{view}
+use Rattle.engine_pages.specs.declared.view.Role.TheVariants.{Worker}
+use Rattle.engine_pages.specs.Passes.{view}
 use Rattle.tx_runner.specs.Lines.{IsOnArray}
 use Rattle.worker_cells.specs.GateLaws.{told_none}
 use Rattle.worker_cells.specs.Gates.{IsOpen, calls_for, calls_in, is_run}

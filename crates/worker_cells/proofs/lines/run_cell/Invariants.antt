@@ -1,6 +1,6 @@
 -- The worker's lines among the first ones were run, or left out.
 use Rattle.std.proofs.Common.{◌≡◌, ◌+◌, ◌-◌, length}
-use Rattle.engine_words.specs.Passes.{IsPassOf, view}
+use Rattle.engine_pages.specs.Passes.{IsPassOf, view}
 use Rattle.worker_cells.specs.Gates.{IsOpen, IsTold, calls_in, is_run}
 use Rattle.worker_cells.proofs.CellLoop.{SoFar}
 use Rattle.worker_cells.proofs.lines.run_cell.Given as goal

@@ -1,7 +1,7 @@
 -- The log refused the line.
 use Rattle.std.proofs.Common.{◌∙◌, ◌+◌, ◌++◌, ◌∷◌, [], ap, refl, subst, sym, inl, inr, arith, Err}
 use Rattle.std.specs.List.{AllByRecursion}
-use Rattle.engine_words.specs.Passes.{view}
+use Rattle.engine_pages.specs.Passes.{view}
 use Rattle.tx_runner.specs.Lines.{IsOnArray}
 use Rattle.tx_script.specs.declared.outcome.Outcome.TheVariants.{Unrun}
 use Rattle.tx_script.specs.Room.{RoomState}

@@ -1,7 +1,14 @@
 -- What waits is made durable, and marked.
 use Rattle.std.proofs.Common.{◌∙◌}
+use Rattle.engine_pages.specs.Passes.{view}
+use Rattle.tx_runner.specs.OwnThreads.{seen_over}
 use Rattle.worker_cells.proofs.Moves.{flushed_down, flushed_marked, flushed_up}
 use Rattle.worker_cells.proofs.readying.flush_last.Goals as goal
+
+pub show_mark-requires-clause-over : goal.show_mark-requires-clause-over
+show_mark-requires-clause-over g c =
+    seen_over c.load_epoch-clock.result (view c.args.pass.now) (view c.load_epoch-clock.new.pass)
+    c.load_epoch-clock.ensures.seen c.requires.over
 
 pub returns-clause-failed : goal.returns-clause-failed
 returns-clause-failed g c =

@@ -62,6 +62,7 @@ pub after_numbered : (s : Standing) (ops : List Op) (decls : List Decl) (state :
       clock = next_number s.clock;
       mine = s.mine;
       conflicts = s.conflicts;
+      slots = s.slots;
       ended = s.ended;
     })
     (after_line s ops)
@@ -73,6 +74,7 @@ after_numbered s ops decls state has same is =
       clock = next_number s.clock;
       mine = s.mine;
       conflicts = s.conflicts;
+      slots = s.slots;
       ended = s.ended;
     } in
     let kept : t ≡ record s { state = state; clock = next_number s.clock } =

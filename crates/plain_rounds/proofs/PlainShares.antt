@@ -16,9 +16,9 @@ use Rattle.serial_model.specs.Step.{step}
 use Rattle.serial_model.specs.declared.number.Commit.{Commit}
 use Rattle.serial_model.specs.declared.op.Op.{Op}
 use Rattle.script_grammar.specs.Script.{Round, lines_of_worker}
-use Rattle.tx_script.specs.Causes.{is_unrun}
+use Rattle.tx_script.specs.Causes.{IsTryCause, is_unrun}
 use Rattle.tx_script.specs.declared.outcome.Outcome.{Outcome}
-use Rattle.tx_script.specs.declared.outcome.Outcome.TheVariants.{Limit, Unrun}
+use Rattle.tx_script.specs.declared.outcome.Outcome.TheVariants.{Committed, Conflict, Full, Limit, Unrun, Wide}
 use Rattle.tx_script.specs.Conflicts.{WorkersMet}
 use Rattle.tx_script.specs.Draws.{IsUnhindered, commit_count, lost_of, lost_of_lines}
 use Rattle.tx_script.specs.Run.{LogRefusal, TryRefusal, entries_of_workers, of_worker}
@@ -36,8 +36,7 @@ use Rattle.shared_rounds.specs.Shares.{entries_in, logged_in}
 use Rattle.shared_rounds.specs.Standing.{Standing}
 use Rattle.shared_rounds.specs.Workers.{LeftBy, RunsOver, RunsWorkers, StopsWorkers}
 use Rattle.shared_rounds.specs.UnrunLaws.{AreRun, some_left, some_unrun}
-use Rattle.worker_cells.specs.Cells.{RefusesLine}
-use Rattle.worker_cells.specs.declared.cell.LogEnd.{LogEnd}
+use Rattle.shared_rounds.specs.Below.{RefusesLine, LogEnd}
 use Rattle.plain_rounds.proofs.Chains.{Chained, after_lines-decls, chained_answers, chained_clock, chained_state}
 use Rattle.plain_rounds.proofs.Chains.{consecutive_between, consecutive_rise, in_order-kept, length-outcomes_in}
 use Rattle.plain_rounds.proofs.Drawn.{lines_free, lines_grow, lines_lost, lines_meet, part_comes, part_plain, parts_counted, parts_grow, refusals_at}
@@ -132,6 +131,27 @@ shares_meet lines first (p ∷ parts) s = (
   lines_meet lines first (lines_in p) (outcomes_in s p) (length-outcomes_in s p),
   shares_meet lines (first + 1) parts (after_lines s p.ran),
 )
+
+-- of those of one line each has its cause
+line_caused : (slots : ℕ) (outcome : Outcome) → AllByRecursion (IsTryCause slots) (refusals_at outcome)
+line_caused slots (Committed verdict number replies) = tt
+line_caused slots Conflict = tt
+line_caused slots Full = tt
+line_caused slots Wide = tt
+line_caused slots Limit = (tt, tt)
+line_caused slots Unrun = tt
+
+lines_caused : (slots : ℕ) (outcomes : List Outcome)
+    → AllByRecursion (AllByRecursion (IsTryCause slots)) (map refusals_at outcomes)
+lines_caused slots [] = tt
+lines_caused slots (outcome ∷ more) = (line_caused slots outcome, lines_caused slots more)
+
+-- and of those of all
+pub shares_caused : (slots : ℕ) (parts : List Part) (s : Standing)
+    → AllByRecursion (λ (p : Share). AllByRecursion (AllByRecursion (IsTryCause slots)) p.tries_refused) (shares_of s parts)
+shares_caused slots [] s = tt
+shares_caused slots (p ∷ parts) s =
+    (lines_caused slots (outcomes_in s p), shares_caused slots parts (after_lines s p.ran))
 
 -- no try of theirs is in conflict
 pub shares_free : (parts : List Part) (s : Standing)
@@ -242,6 +262,7 @@ plain_shares parts s tries some eight are =
           ≡ commit_count (outcomes_of s parts) = ap commit_count (shares_told parts s) in
           omega (arith, parts_counted parts s, same, shares_lost parts s);
       met = shares_meet (lines_of (shares_of s parts)) 0 parts s;
+      caused = shares_caused s.slots parts s;
       conflicts = omega (arith, parts_free parts s, shares_free parts s);
       each = shares_are parts s s.clock.draw (after_parts s parts).clock.draw tries some are (omega arith) (omega arith);
       ordered = λ index. plain_ordered index parts s are;

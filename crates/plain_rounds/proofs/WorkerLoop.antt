@@ -17,7 +17,7 @@ use Rattle.worker_logs.specs.Logs.{LogState}
 use Rattle.worker_logs.specs.Moves.{MovesLog}
 use Rattle.worker_logs.specs.Rows.{full_after}
 use Rattle.worker_logs.specs.RowLaws.{blames_move, keeps_then, room_left, still_full, takes_move, was_up}
-use Rattle.worker_cells.specs.Gates.{is_run}
+use Rattle.shared_rounds.specs.Below.{is_run}
 use Rattle.plain_rounds.specs.Plainly.{after_line, committed, has_number, outcome_at}
 use Rattle.shared_rounds.specs.Standing.{Standing}
 use Rattle.plain_rounds.specs.Steps.{TakesLine}

@@ -22,8 +22,7 @@ use Rattle.shared_rounds.specs.Standing.{Standing}
 use Rattle.plain_rounds.specs.InTurn.{AreFirstLines, RunsFirst, StopsInTurn, RunsLines, RunsWorker, StopsLines}
 use Rattle.plain_rounds.specs.InTurn.{WorkersSoFar}
 use Rattle.shared_rounds.specs.Workers.{LeavesOut, LeftBy, refusal_of, refused_as}
-use Rattle.worker_cells.specs.GateLaws.{all_told_push}
-use Rattle.worker_cells.specs.declared.cell.LogEnd.{LogEnd}
+use Rattle.shared_rounds.specs.Below.{all_told_push, LogEnd}
 use Rattle.plain_rounds.proofs.Logged.{parts_push}
 use Rattle.plain_rounds.proofs.PlainRun.{plain_kept}
 

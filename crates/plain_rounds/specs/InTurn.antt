@@ -19,9 +19,7 @@ use Rattle.shared_rounds.specs.Lines.{LinesCome}
 use Rattle.shared_rounds.specs.Standing.{Standing}
 use Rattle.shared_rounds.specs.Workers.{LeavesOut, LeftBy, refusal_of}
 use Rattle.shared_rounds.specs.declared.ends.WorkersRan.{WorkersRan}
-use Rattle.worker_cells.specs.Cells.{RefusesLine}
-use Rattle.worker_cells.specs.Gates.{AreAllTold, calls_for, calls_in, is_run}
-use Rattle.worker_cells.specs.declared.cell.LogEnd.{LogEnd}
+use Rattle.shared_rounds.specs.Below.{RefusesLine, AreAllTold, calls_for, calls_in, is_run, LogEnd}
 
 -- first lines of the workers, and none left out
 abbrev pub AreFirstLines : Round → List Part → Type 0

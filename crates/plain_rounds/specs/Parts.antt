@@ -8,7 +8,7 @@ use Rattle.wire_form.specs.LogFile.{IsLineOf}
 use Rattle.tx_script.specs.Run.{LogRefusal}
 use Rattle.tx_script.specs.declared.outcome.Outcome.{Outcome}
 use Rattle.worker_logs.specs.Changes.{IsLogged}
-pub use Rattle.worker_cells.specs.Rows.{unrun}
+pub use Rattle.shared_rounds.specs.Below.{unrun}
 use Rattle.plain_rounds.specs.Plainly.{after_line, after_lines, has_number, outcomes_at}
 use Rattle.shared_rounds.specs.Standing.{Standing}
 

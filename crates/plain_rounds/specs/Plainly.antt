@@ -25,6 +25,7 @@ stands_at decls state clock = record {
   clock = clock;
   mine = [];
   conflicts = 0;
+  slots = 0;
   ended = false;
 }
 

@@ -1,11 +1,9 @@
 // The plain map with its clock.
 ghost use Rattle.std.specs.Prelude.{◌≡◌, ◌+◌, ◌<◌, false};
 ghost use Rattle.serial_model.specs.Numbers.{IsNumber, last_epoch};
-ghost use Rattle.brief_output.specs.Brief.{total_of};
 ghost use Rattle.shared_rounds.specs.SharedState.{are_arrays};
 ghost use Rattle.plain_rounds.specs.Plainly.{IsApart, stands_at};
 
-use brief_output::total_of;
 use serial_model::{Decl, Decls, Number, Plain, State};
 use std::marker::Model;
 
@@ -38,6 +36,7 @@ impl Model for PlainEngine {
       clock = e.clock;
       mine = [];
       conflicts = 0;
+      slots = 0;
       ended = false;
     } };
 
@@ -82,12 +81,5 @@ impl PlainEngine {
         ensures { result.now ≡ self.now.decls }
     {
         self.plain.decls.as_slice()
-    }
-
-    /// The sum of all values.
-    pub fn total(&self) -> u128
-        ensures { result ≡ total_of self.now.state }
-    {
-        total_of(&self.plain.state)
     }
 }

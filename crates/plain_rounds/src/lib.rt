@@ -4,8 +4,8 @@
 //! `shared_rounds`, and it goes once trees stand on such words.
 //!
 //! Promises: a [`PlainEngine`] is its storages, their contents and the clock (`Standing`). It begins in the state that
-//! it is given (`new`), goes on to the next epoch with all else as it is (`advance`), and tells the sum of its values
-//! (`total`). Words that threads share couldn't have its contents (`IsApart`).
+//! it is given (`new`), and goes on to the next epoch with all else as it is (`advance`). Words that threads share
+//! couldn't have its contents (`IsApart`).
 //! - [`run_workers`]: the lines come to what a round's lines come to on any engine, however often each may be tried
 //!   (`LinesCome` of `shared_rounds`), though none is tried twice: each number was drawn for a commit, and no line met
 //!   another (`DrewOnce`). From the line on at which its log is refused a worker runs none. After want of memory some

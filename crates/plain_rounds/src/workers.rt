@@ -15,17 +15,16 @@ ghost use Rattle.plain_rounds.specs.Plainly.{DrewOnce, after_line, outcome_at};
 ghost use Rattle.plain_rounds.specs.Steps.{Moves, TakesLine};
 ghost use Rattle.plain_rounds.specs.InTurn.{RunsInTurn, RunsWorker};
 ghost use Rattle.shared_rounds.specs.Lines.{LinesCome};
-ghost use Rattle.worker_cells.specs.Gates.{AreAllTold, Before, calls_in, calls_of};
+ghost use Rattle.shared_rounds.specs.Below.{AreAllTold, Before, calls_in, calls_of};
 
 use crate::engine::PlainEngine;
 use arrayvec::ArrayVec;
 use log_writer::LogFault;
 use outside::Disk;
 use serial_model::{Commit, DRAW_LIMIT, Draft, Memory, Op, Replies, WORKERS, run_in};
-use shared_rounds::{LogEnd, WorkersRan};
+use shared_rounds::{GateCalls, LineGate, LogEnd, WorkersRan};
 use std::alloc::Global;
 use tx_script::{Line, LineOps, Outcomes, Refused, Round, RoundOutcomes};
-use worker_cells::{GateCalls, LineGate};
 use worker_logs::{WorkerLog, WriteSet};
 
 /// Runs worker 0's lines, then worker 1's and on, over their logs and log files: each line between the gate's two

@@ -5,13 +5,13 @@ use Rattle.std.proofs.Common.{Option}
 use Rattle.std.specs.Prelude.{◌≤◌, ⊤, slice_index_or}
 use Rattle.std.specs.List.{AllByRecursion}
 use Rattle.script_grammar.specs.Script.{Round, lines_of_worker}
-use Rattle.engine_words.specs.Cuts.{worker_view}
-use Rattle.engine_words.specs.Passes.{view}
-use Rattle.engine_words.specs.declared.engine.Engine.{Engine}
-use Rattle.engine_words.specs.declared.layout.Layout.{Layout}
-use Rattle.engine_words.specs.declared.view.Role.TheVariants.{Worker}
-use Rattle.engine_words.specs.declared.view.View.{View}
-use Rattle.tx_runner.specs.Lines.{HasNoTree}
+use Rattle.engine_seats.specs.Cuts.{worker_view}
+use Rattle.engine_pages.specs.Passes.{view}
+use Rattle.engine_pages.specs.declared.engine.Engine.{Engine}
+use Rattle.engine_pages.specs.declared.layout.Layout.{Layout}
+use Rattle.engine_pages.specs.declared.view.Role.TheVariants.{Worker}
+use Rattle.engine_pages.specs.declared.view.View.{View}
+use Rattle.worker_cells.specs.Below.{HasNoTree}
 use Rattle.tx_script.specs.Run.{CanRun}
 use Rattle.worker_cells.specs.Cells.{RunsCell}
 use Rattle.worker_cells.specs.Gates.{calls_for, calls_in, is_run}

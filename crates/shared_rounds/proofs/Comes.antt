@@ -9,12 +9,12 @@ use Rattle.serial_model.specs.declared.number.Commit.{Commit}
 use Rattle.serial_model.specs.declared.number.Number.{Number}
 use Rattle.serial_model.specs.declared.op.Op.{Op}
 use Rattle.serial_model.specs.Numbers.{draw_limit}
-use Rattle.engine_words.specs.declared.layout.Layout.{Layout}
-use Rattle.engine_words.specs.declared.view.View.{View}
-use Rattle.engine_words.specs.Cuts.{HasSeen}
-use Rattle.tx_runner.specs.Tries.{IsClash, Lost, ToClock, ToOther}
+use Rattle.engine_pages.specs.declared.layout.Layout.{Layout}
+use Rattle.engine_pages.specs.declared.view.View.{View}
+use Rattle.engine_seats.specs.Cuts.{HasSeen}
+use Rattle.worker_cells.specs.Below.{IsClash, IsLostAt, Lost, ToClock, ToOther, ToSet, ToSlots}
 use Rattle.tx_script.specs.Causes.{UnrunLast, is_unrun}
-use Rattle.tx_script.specs.Run.{LogRefusal, NoNumber}
+use Rattle.tx_script.specs.Run.{LogRefusal}
 use Rattle.tx_script.specs.declared.outcome.Outcome.{Outcome}
 use Rattle.tx_script.specs.declared.outcome.Outcome.TheVariants.{Committed, Conflict, Full, Wide, Limit, Unrun}
 use Rattle.worker_cells.specs.Rows.{AreInARow, ComesOf, LineRan, lines_of, outcomes_of, unrun}
@@ -24,9 +24,12 @@ use Rattle.shared_rounds.proofs.Made.{seen_then}
 
 -- ---- one line
 
-refused_so : (ops : List Op) (losts : List Lost) → AllByRecursion (IsClash ops) losts → AreConflicts (map try_refusal losts)
+refused_so : (ops : List Op) (losts : List Lost) → AllByRecursion (IsClash ops) losts
+    → AreConflicts (map try_refusal losts)
 refused_so ops [] each = tt
 refused_so ops (ToOther clash ∷ losts) each = (refl, refused_so ops losts each.1)
+refused_so ops (ToSlots words ∷ losts) each = absurd each.0
+refused_so ops (ToSet set ∷ losts) each = absurd each.0
 refused_so ops (ToClock clock ∷ losts) each = absurd each.0
 
 as_many : (losts : List Lost) → length (map try_refusal losts) ≡ length losts
@@ -37,6 +40,17 @@ refused_last : (losts : List Lost) (last : Lost)
     → map try_refusal (losts ++ last ∷ []) ≡ map try_refusal losts ++ try_refusal last ∷ []
 refused_last [] last = refl
 refused_last (first ∷ losts) last = ap (λ l. try_refusal first ∷ l) (refused_last losts last)
+
+-- the last of its tries was lost so
+ends_with : (ops : List Op) (tries : ℕ) (last : Lost) (refused : List Lost) (v w : View)
+    → (so : IsLostAt ops last tries v w) → refused ≡ so.losts ++ last ∷ [] → EndsWith tries (try_refusal last) (map try_refusal refused)
+ends_with ops tries last refused v w so is =
+    subst (λ l. EndsWith tries (try_refusal last) (map try_refusal l)) (sym is) (record {
+      before = map try_refusal so.losts;
+      all = refused_last so.losts last;
+      conflicts = refused_so ops so.losts so.each;
+      fewer = subst (λ n. n < tries) (sym (as_many so.losts)) so.fewer;
+    })
 
 -- what comes of a line, where the draws end at this one
 pub line_comes : (first tries last : ℕ) (log : Option LogRefusal) (ops : List Op) (outcome : Outcome)
@@ -57,18 +71,17 @@ line_comes first tries last log ops Conflict refused logged v w some from below 
     (sym comes.2)
     (omega (arith, line.began some, from), refused_so ops line.losts line.each, as_many line.losts ∙ line.count)
 line_comes first tries last log ops Limit refused logged v w some from below comes =
-    let line = comes.1 in
-    let so = line.refused in (
-      subst (λ l. EndsWith tries NoNumber (map try_refusal l)) (sym comes.2) (record {
-        before = map try_refusal so.losts;
-        all = refused_last so.losts (ToClock line.clock);
-        conflicts = refused_so ops so.losts so.each;
-        fewer = subst (λ n. n < tries) (sym (as_many so.losts)) so.fewer;
-      }),
+    let line = comes.1 in (
+      ends_with ops tries (ToClock line.clock) refused v w line.refused comes.2,
       omega (arith, line.high, line.draws, below),
     )
+line_comes first tries last log ops Full refused logged v w some from below comes =
+    let line = comes.1 in (
+      omega (arith, line.began, from),
+      line.words,
+      ends_with ops tries (ToSlots line.words) refused v w line.refused comes.2,
+    )
 line_comes first tries last log ops Wide refused logged v w some from below comes = absurd comes
-line_comes first tries last log ops Full refused logged v w some from below comes = absurd comes
 line_comes first tries last log ops Unrun refused logged v w some from below comes = absurd comes
 
 -- what a line keeps of its pass
@@ -77,8 +90,8 @@ line_seen : (tries : ℕ) (ops : List Op) (outcome : Outcome) (refused : List Lo
 line_seen tries ops (Committed verdict number replies) refused logged v w comes = (comes.3.seen, comes.3.layout)
 line_seen tries ops Conflict refused logged v w comes = (comes.1.tried.seen, comes.1.tried.layout)
 line_seen tries ops Limit refused logged v w comes = (comes.1.refused.tried.seen, comes.1.refused.tried.layout)
+line_seen tries ops Full refused logged v w comes = (comes.1.refused.tried.seen, comes.1.refused.tried.layout)
 line_seen tries ops Wide refused logged v w comes = absurd comes
-line_seen tries ops Full refused logged v w comes = absurd comes
 line_seen tries ops Unrun refused logged v w comes = absurd comes
 
 -- ---- lines in a row
@@ -135,8 +148,8 @@ line_last : (tries : ℕ) (ops : List Op) (outcome : Outcome) (refused : List Lo
 line_last tries ops (Committed verdict number replies) refused logged v w more comes rest = rest
 line_last tries ops Conflict refused logged v w more comes rest = rest
 line_last tries ops Limit refused logged v w more comes rest = rest
+line_last tries ops Full refused logged v w more comes rest = rest
 line_last tries ops Wide refused logged v w more comes rest = absurd comes
-line_last tries ops Full refused logged v w more comes rest = absurd comes
 line_last tries ops Unrun refused logged v w more comes rest = absurd comes
 
 pub row_last : (tries : ℕ) (v : View) (ran : List LineRan) (left : List (List Op)) (w : View) → AreInARow tries v ran w

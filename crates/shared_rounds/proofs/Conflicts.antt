@@ -10,10 +10,12 @@ use Rattle.std.proofs.lemmas.List.Sums.{sum_by-cons}
 use Rattle.lists.specs.Each.{all_push}
 use Rattle.serial_model.specs.declared.number.Commit.{Commit}
 use Rattle.serial_model.specs.declared.op.Op.{Op}
-use Rattle.engine_words.specs.declared.view.RefusalCause.{RefusalCause}
-use Rattle.engine_words.specs.declared.view.RefusalCause.TheVariants as refusals
-use Rattle.engine_words.specs.declared.view.View.{View}
-use Rattle.tx_runner.specs.Tries.{IsClash, IsConflicting, IsKeyOf, Lost, ToClock, ToOther, why_of, whys_of}
+use Rattle.engine_pages.specs.declared.view.RefusalCause.{RefusalCause}
+use Rattle.engine_pages.specs.declared.view.RefusalCause.TheVariants as refusals
+use Rattle.engine_pages.specs.declared.view.View.{View}
+use Rattle.serial_model.specs.declared.key.Key.{Key}
+use Rattle.worker_cells.specs.Below.{why_of, whys_of, IsClash, IsConflicting, IsLostAt, IsMetKey, Lost, ToClock}
+use Rattle.worker_cells.specs.Below.{ToOther, ToSet, ToSlots}
 use Rattle.tx_script.specs.Run.{TryRefusal}
 use Rattle.tx_script.specs.declared.outcome.Outcome.{Outcome}
 use Rattle.tx_script.specs.declared.outcome.Outcome.TheVariants.{Committed, Conflict, Full, Wide, Limit, Unrun}
@@ -28,33 +30,44 @@ conflicts_append xs ys =
     ap (λ (l : List RefusalCause). length l) (filter-append was_conflict xs ys)
     ∙ length-append (filter was_conflict xs) (filter was_conflict ys)
 
--- each try of a line that was lost to another transaction was refused with a conflict at a key of its
+-- Each try of a line that was lost in conflict was refused so, at a key of the line where it was at a record.
 abbrev pub IsLostOf : List Op → Lost → Type 0
-IsLostOf ops (ToOther clash) = IsConflicting clash.why × IsKeyOf ops clash.key
+IsLostOf ops (ToOther clash) = IsConflicting clash.why clash.met × IsMetKey ops clash.met
+IsLostOf ops (ToSlots words) = ⊤
+IsLostOf ops (ToSet set) = ⊤
 IsLostOf ops (ToClock clock) = ⊤
 
-conflicting : (why : RefusalCause) → IsConflicting why → was_conflict why ≡ true
-conflicting (refusals.Conflict at expected seen) is = refl
-conflicting (refusals.Wide set) is = absurd is
-conflicting (refusals.NumberLimit clock) is = absurd is
+conflicting : (why : RefusalCause) (met : Option Key) → IsConflicting why met → was_conflict why ≡ true
+conflicting (refusals.Conflict at expected seen) met is = refl
+conflicting (refusals.Full held) met is = absurd is
+conflicting (refusals.Wide set) met is = absurd is
+conflicting (refusals.NumberLimit clock) met is = absurd is
 
-clashes_lost : (ops : List Op) (losts : List Lost) → AllByRecursion (IsClash ops) losts → AllByRecursion (IsLostOf ops) losts
+clashes_lost : (ops : List Op) (losts : List Lost) → AllByRecursion (IsClash ops) losts
+    → AllByRecursion (IsLostOf ops) losts
 clashes_lost ops [] each = tt
 clashes_lost ops (ToOther clash ∷ losts) each = (each.0, clashes_lost ops losts each.1)
+clashes_lost ops (ToSlots words ∷ losts) each = absurd each.0
+clashes_lost ops (ToSet set ∷ losts) each = absurd each.0
 clashes_lost ops (ToClock clock ∷ losts) each = absurd each.0
 
-pub line_lost : (tries : ℕ) (ops : List Op) (outcome : Outcome) (refused : List Lost) (logged : Option Commit) (v w : View)
-    → ComesOf tries ops outcome refused logged v w → AllByRecursion (IsLostOf ops) refused
+lost_at : (ops : List Op) (tries : ℕ) (last : Lost) (refused : List Lost) (v w : View)
+    → (so : IsLostAt ops last tries v w) → refused ≡ so.losts ++ last ∷ [] → IsLostOf ops last → AllByRecursion (IsLostOf ops) refused
+lost_at ops tries last refused v w so is of =
+    subst (AllByRecursion (IsLostOf ops)) (sym is)
+    (all_push (IsLostOf ops) so.losts last (clashes_lost ops so.losts so.each) of)
+
+pub line_lost : (tries : ℕ) (ops : List Op) (outcome : Outcome) (refused : List Lost) (logged : Option Commit)
+    (v w : View) → ComesOf tries ops outcome refused logged v w → AllByRecursion (IsLostOf ops) refused
 line_lost tries ops (Committed verdict number replies) refused logged v w comes =
     subst (AllByRecursion (IsLostOf ops)) (sym comes.4) (clashes_lost ops comes.3.losts comes.3.each)
 line_lost tries ops Conflict refused logged v w comes =
     subst (AllByRecursion (IsLostOf ops)) (sym comes.2) (clashes_lost ops comes.1.losts comes.1.each)
 line_lost tries ops Limit refused logged v w comes =
-    subst (AllByRecursion (IsLostOf ops)) (sym comes.2)
-    (all_push (IsLostOf ops) comes.1.refused.losts (ToClock comes.1.clock)
-    (clashes_lost ops comes.1.refused.losts comes.1.refused.each) tt)
+    lost_at ops tries (ToClock comes.1.clock) refused v w comes.1.refused comes.2 tt
+line_lost tries ops Full refused logged v w comes =
+    lost_at ops tries (ToSlots comes.1.words) refused v w comes.1.refused comes.2 tt
 line_lost tries ops Wide refused logged v w comes = absurd comes
-line_lost tries ops Full refused logged v w comes = absurd comes
 line_lost tries ops Unrun refused logged v w comes = absurd comes
 
 conflicts_same : (ops : List Op) (xs : List Lost) → AllByRecursion (IsLostOf ops) xs
@@ -62,7 +75,10 @@ conflicts_same : (ops : List Op) (xs : List Lost) → AllByRecursion (IsLostOf o
 conflicts_same ops [] each = refl
 conflicts_same ops (ToOther clash ∷ xs) each =
     ap suc (conflicts_same ops xs each.1)
-    ∙ sym (ap (λ b. length (cond b (clash.why ∷ filter was_conflict (whys_of xs)) (filter was_conflict (whys_of xs)))) (conflicting clash.why each.0.0))
+    ∙ sym (ap (λ b. length (cond b (clash.why ∷ filter was_conflict (whys_of xs)) (filter was_conflict (whys_of xs))))
+    (conflicting clash.why clash.met each.0.0))
+conflicts_same ops (ToSlots words ∷ xs) each = conflicts_same ops xs each.1
+conflicts_same ops (ToSet set ∷ xs) each = conflicts_same ops xs each.1
 conflicts_same ops (ToClock clock ∷ xs) each = conflicts_same ops xs each.1
 
 none_tried : (left : List (List Op)) → sum_by conflicts_among (no_tries left) ≡ 0

@@ -6,10 +6,10 @@ use Rattle.commit_core.specs.declared.attempt.Attempt.{Attempt}
 use Rattle.commit_core.specs.Keys.{content_at, opening_number}
 use Rattle.commit_core.specs.Serial.{ReadsAreSerial}
 use Rattle.views.specs.Sums.{total}
-use Rattle.engine_words.specs.Between.{Between, Splits, counts, splits}
-use Rattle.engine_words.specs.Cuts.{HasSeen}
-use Rattle.engine_words.specs.declared.layout.Layout.{Layout}
-use Rattle.engine_words.specs.declared.view.View.{View}
+use Rattle.engine_seats.specs.Between.{Between, Splits, counts, splits}
+use Rattle.engine_seats.specs.Cuts.{HasSeen}
+use Rattle.engine_pages.specs.declared.layout.Layout.{Layout}
+use Rattle.engine_pages.specs.declared.view.View.{View}
 use Rattle.shared_rounds.specs.Parts.{IsRound, Part}
 use Rattle.shared_rounds.specs.SharedState.{IsCounted}
 use Rattle.shared_rounds.proofs.Joined.{joined_made, joined_order, mines_of}

@@ -1,10 +1,9 @@
 -- How many numbers a round draws, as the passes count them and as shares tell them.
 use Rattle.std.proofs.Common.{◌≡◌, sym, refl, ◌+◌, Bool, true, false, cond, List, [], ◌∷◌, ◌++◌}
 use Rattle.std.proofs.Common.{filter, length, map, arith}
-use Rattle.std.specs.Prelude.{sum_by}
 use Rattle.std.proofs.lemmas.List.Sums.{sum_by-cons}
 use Rattle.serial_model.specs.declared.op.Op.{Op}
-use Rattle.tx_runner.specs.Tries.{Lost, ToClock, ToOther, drawn_for, lost_to}
+use Rattle.worker_cells.specs.Below.{drawn_for, lost_to, Lost, ToClock, ToOther, ToSet, ToSlots}
 use Rattle.tx_script.specs.Draws.{commit_count, drew_by, lost_of, lost_of_line, lost_of_lines}
 use Rattle.tx_script.specs.Run.{is_commit}
 use Rattle.tx_script.specs.declared.outcome.Outcome.{Outcome}
@@ -17,6 +16,8 @@ use Rattle.shared_rounds.proofs.Joined.{shares_of}
 
 drew_same : (lost : Lost) → drew_by (try_refusal lost) ≡ drawn_for lost
 drew_same (ToOther clash) = refl
+drew_same (ToSlots words) = refl
+drew_same (ToSet set) = refl
 drew_same (ToClock clock) = refl
 
 line_lost : (losts : List Lost) → lost_of_line (map try_refusal losts) ≡ lost_to losts

@@ -15,15 +15,15 @@ use Rattle.script_grammar.specs.Script.{Round, lines_of_worker}
 use Rattle.commit_core.specs.declared.attempt.Attempt.{Attempt}
 use Rattle.commit_core.specs.declared.seat.Seat.{Seat}
 use Rattle.views.specs.Sums.{without}
-use Rattle.engine_words.specs.Cuts.{HasSeen, ended, gathered, worker_of}
-use Rattle.engine_words.specs.Gathered.{gathered_all}
-use Rattle.engine_words.specs.Steps.{HasTimed}
-use Rattle.engine_words.specs.Views.{IsResting, bare_seat, seat_number}
-use Rattle.engine_words.specs.declared.view.Touch.{Touch}
-use Rattle.engine_words.specs.declared.view.Role.TheVariants.{Worker}
-use Rattle.engine_words.specs.declared.view.View.{View}
+use Rattle.engine_seats.specs.Cuts.{HasSeen, ended, gathered, worker_of}
+use Rattle.engine_seats.specs.Gathered.{gathered_all}
+use Rattle.engine_pages.specs.Times.{HasTimed}
+use Rattle.engine_pages.specs.Views.{IsResting, bare_seat, seat_number}
+use Rattle.engine_pages.specs.declared.view.Touch.{Touch}
+use Rattle.engine_pages.specs.declared.view.Role.TheVariants.{Worker}
+use Rattle.engine_pages.specs.declared.view.View.{View}
 use Rattle.tx_script.specs.declared.outcome.Outcome.{Outcome}
-use Rattle.tx_runner.specs.Tries.{blames_of}
+use Rattle.worker_cells.specs.Below.{blames_of}
 use Rattle.worker_cells.specs.InARow.{IsTakenBy, row_blamed, row_draws, row_touched}
 use Rattle.worker_cells.specs.Gates.{AreAllTold}
 use Rattle.worker_cells.specs.Rows.{draws_of, refused_of}

@@ -5,9 +5,9 @@ use Rattle.serial_model.specs.History.{Entry}
 use Rattle.script_grammar.specs.Script.{Round, worker_lines}
 use Rattle.commit_core.specs.declared.attempt.Attempt.{Attempt}
 use Rattle.serial_bridge.specs.Transaction.{AreAttemptsOf}
-use Rattle.engine_words.specs.Gathered.{joined}
-use Rattle.engine_words.specs.Steps.{HasAudited}
-use Rattle.engine_words.specs.declared.view.View.{View}
+use Rattle.engine_seats.specs.Gathered.{joined}
+use Rattle.engine_seats.specs.Counts.{HasAudited}
+use Rattle.engine_pages.specs.declared.view.View.{View}
 use Rattle.tx_script.specs.Run.{entries_of_workers}
 use Rattle.worker_logs.specs.Logs.{LogState}
 use Rattle.shared_rounds.specs.Ended.{EndedSoFar}

@@ -9,12 +9,12 @@ use Rattle.serial_model.specs.declared.op.Op.{Op}
 use Rattle.serial_model.specs.History.{Entry}
 use Rattle.commit_core.specs.declared.attempt.Attempt.{Attempt}
 use Rattle.commit_core.specs.Keys.{IsUpTo, opening_number}
-use Rattle.engine_words.specs.Cuts.{HasSeen}
-use Rattle.engine_words.specs.Gathered.{joined, up_from_opening}
-use Rattle.engine_words.specs.Rule.{IsInOrder}
-use Rattle.engine_words.specs.Views.{seat_number}
-use Rattle.engine_words.specs.declared.layout.Layout.{Layout}
-use Rattle.engine_words.specs.declared.view.View.{View}
+use Rattle.engine_seats.specs.Cuts.{HasSeen}
+use Rattle.engine_seats.specs.Gathered.{joined, up_from_opening}
+use Rattle.engine_pages.specs.Rule.{IsInOrder}
+use Rattle.engine_pages.specs.Views.{seat_number}
+use Rattle.engine_pages.specs.declared.layout.Layout.{Layout}
+use Rattle.engine_pages.specs.declared.view.View.{View}
 use Rattle.tx_script.specs.Run.{entries_of_line, entries_of_worker, entries_of_workers}
 use Rattle.worker_cells.specs.Rows.{LineRan, lines_of, logged_of, outcomes_of, unrun}
 use Rattle.shared_rounds.specs.Parts.{AreParts, IsPart, Part, share_of}

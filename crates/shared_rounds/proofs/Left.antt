@@ -7,11 +7,11 @@ use Rattle.std.specs.Option.{option_map}
 use Rattle.serial_model.specs.declared.number.Commit.{Commit}
 use Rattle.serial_model.specs.declared.op.Op.{Op}
 use Rattle.log_writer.specs.Journal.{JournalState}
-use Rattle.engine_words.specs.Cuts.{HasSeen, worker_view}
+use Rattle.engine_seats.specs.Cuts.{HasSeen, worker_view}
 use Rattle.commit_core.specs.declared.seat.Mark.{Mark}
-use Rattle.engine_words.specs.declared.layout.Layout.{Layout}
-use Rattle.engine_words.specs.declared.view.View.{View}
-use Rattle.tx_runner.specs.Tries.{Lost}
+use Rattle.engine_pages.specs.declared.layout.Layout.{Layout}
+use Rattle.engine_pages.specs.declared.view.View.{View}
+use Rattle.worker_cells.specs.Below.{Lost}
 use Rattle.tx_script.specs.Causes.{is_unrun}
 use Rattle.tx_script.specs.Run.{LogRefusal, LogFailed, LogFull}
 use Rattle.tx_script.specs.declared.outcome.Outcome.{Outcome}

@@ -1,4 +1,3 @@
-mod Arrays
 mod Backward
 mod Begins
 mod Comes
@@ -6,6 +5,7 @@ mod Conflicts
 mod Contents
 mod Counted
 mod Counts
+mod Declared
 mod Draws
 mod Ending
 mod Gathering
@@ -30,6 +30,5 @@ mod Seats
 mod Shared
 mod StillArrays
 mod Told
-mod Totals
-mod Values
+mod TriesCaused
 mod Whole

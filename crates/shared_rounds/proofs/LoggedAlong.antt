@@ -17,7 +17,7 @@ use Rattle.wire_form.specs.Items.{Rises}
 use Rattle.commit_core.specs.declared.attempt.Attempt.{Attempt}
 use Rattle.serial_bridge.specs.Transaction.{AreAttemptsOf}
 use Rattle.serial_bridge.specs.WriteSets.{keys_of, WriteAlong, WritesItsSet}
-use Rattle.tx_runner.specs.LineWrites.{rising_counts}
+use Rattle.worker_cells.specs.Below.{rising_counts}
 use Rattle.worker_logs.specs.Changes.{IsLogged}
 use Rattle.shared_rounds.specs.Changes.{AreLogged}
 

@@ -17,10 +17,10 @@ use Rattle.serial_model.specs.Numbers.{IsBelow}
 use Rattle.wire_form.specs.Items.{Rises}
 use Rattle.commit_core.specs.declared.attempt.Attempt.{Attempt}
 use Rattle.serial_bridge.specs.WriteSets.{keys_of}
-use Rattle.engine_words.specs.Cuts.{HasSeen}
-use Rattle.engine_words.specs.Views.{seat_number}
-use Rattle.engine_words.specs.declared.layout.Layout.{Layout}
-use Rattle.engine_words.specs.declared.view.View.{View}
+use Rattle.engine_seats.specs.Cuts.{HasSeen}
+use Rattle.engine_pages.specs.Views.{seat_number}
+use Rattle.engine_pages.specs.declared.layout.Layout.{Layout}
+use Rattle.engine_pages.specs.declared.view.View.{View}
 use Rattle.shared_rounds.proofs.LoggedAlong.{logged_as}
 use Rattle.shared_rounds.proofs.Pairs.{ArePairs, pairs_append}
 

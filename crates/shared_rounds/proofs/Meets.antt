@@ -1,6 +1,6 @@
 -- Whom tries in conflict met: where one met another's lock, a line of another worker may change that key.
 use Rattle.std.proofs.Common.{◌≡◌, ◌⊎◌, ◌∙◌, inl, inr, sym, ap, subst, refl, ℕ, zero, suc, ◌+◌, true, List, []}
-use Rattle.std.proofs.Common.{◌∷◌, ◌++◌, map, arith, Some}
+use Rattle.std.proofs.Common.{◌∷◌, ◌++◌, map, arith, Option, Some, None}
 use Rattle.std.specs.Prelude.{slice_get}
 use Rattle.std.specs.List.{AllByRecursion, Contains}
 use Rattle.std.proofs.lemmas.Bool.Decides.{nat_tests}
@@ -9,12 +9,13 @@ use Rattle.lists.specs.Elements.{any_in, in_cases, in_head, in_none, in_tail}
 use Rattle.serial_model.specs.declared.key.Key.{Key}
 use Rattle.serial_model.specs.declared.op.Op.{Op}
 use Rattle.serial_model.specs.declared.op.Op.TheVariants.{Read, Write, Remove, Add, Take, Scan}
-use Rattle.engine_words.specs.Touches.{AreBlamed, touch}
-use Rattle.engine_words.specs.declared.view.Touch.{Touch}
-use Rattle.engine_words.specs.declared.view.View.{View}
-use Rattle.tx_commit.specs.Turning.{IsOfKey, MayWrite}
-use Rattle.tx_runner.specs.Tries.{IsKeyOf, IsWrittenBy, Lost, ToClock, ToOther, blame_of, blames_of}
-use Rattle.tx_script.specs.Conflicts.{IsMet, LinesMet, WorkersMet, changes, changes_key, same_key, touches}
+use Rattle.engine_pages.specs.Touches.{AreBlamed, touch}
+use Rattle.engine_pages.specs.declared.view.Touch.{Touch}
+use Rattle.engine_pages.specs.declared.view.View.{View}
+use Rattle.worker_cells.specs.Below.{blame_at, blame_of, blames_of, IsKeyOf, IsMetKey, IsOfKey, IsWrittenBy, Lost}
+use Rattle.worker_cells.specs.Below.{MayWrite, ToClock, ToOther, ToSet, ToSlots}
+use Rattle.tx_script.specs.Conflicts.{IsMet, IsMetAt, IsMetBy, LinesMet, WorkersMet, changes, changes_key, same_key}
+use Rattle.tx_script.specs.Conflicts.{touches}
 use Rattle.tx_script.specs.Conflicts.{touches_key}
 use Rattle.worker_cells.specs.Rows.{AreInARow, LineRan, lines_of, refused_of}
 use Rattle.shared_rounds.specs.Parts.{AreParts, IsPart, IsRound, Part, no_tries, tries_of, try_refusal}
@@ -64,13 +65,14 @@ line_changes ops k key = any_in (changes_key k) ops key.op key.among (changed_by
 -- ---- lines that were run
 
 -- a refusal is among those of its line, and so of all lines
-blame_in : (q : ℕ) (k : Key) (losts : List Lost) (lost : Lost) → Contains losts lost → Contains (blame_of q lost) (touch q k)
-    → Contains (blames_of q losts) (touch q k)
+blame_in : (q : ℕ) (k : Key) (losts : List Lost) (lost : Lost) → Contains losts lost
+    → Contains (blame_of q lost) (touch q k) → Contains (blames_of q losts) (touch q k)
 blame_in q k [] lost has here = absurd (in_none lost has)
 blame_in q k (x ∷ losts) lost has here = elim (in_cases lost x losts has) [
   | inl same ↦ Contains-append_left (blame_of q x) (blames_of q losts) (touch q k)
       (subst (λ (y : Lost). Contains (blame_of q y) (touch q k)) (sym same) here)
-  | inr later ↦ Contains-append_right (blame_of q x) (blames_of q losts) (touch q k) (blame_in q k losts lost later here)
+  | inr later ↦ Contains-append_right (blame_of q x) (blames_of q losts) (touch q k)
+      (blame_in q k losts lost later here)
 ]
 
 refused_in : (ran : List LineRan) (line : LineRan) (lost : Lost) → Contains ran line → Contains line.refused lost
@@ -132,31 +134,46 @@ module _ (tries : ℕ) (was now : View) (parts : List Part) (r : IsRound tries w
       record {
         by = o.by;
         apart = o.apart;
-        taken = subst (λ (l : List Touch). Contains l (touch o.by b.key)) (ap (λ (v : View). v.touched) r.audited.1.is) o.taken;
+        taken = subst (λ (l : List Touch). Contains l (touch o.by b.key))
+            (ap (λ (v : View). v.touched) r.audited.1.is) o.taken;
       }
 
   lost_met : (worker : ℕ) (p : Part) → slice_get parts worker ≡ Some p → (line : LineRan) → Contains p.ran line
       → (lost : Lost) → Contains line.refused lost → IsLostOf line.ops lost
       → IsMet lines_all worker line.ops (try_refusal lost)
   lost_met worker p at line among (ToClock clock) has of = tt
+  lost_met worker p at line among (ToSlots words) has of = tt
+  lost_met worker p at line among (ToSet set) has of = tt
   lost_met worker p at line among (ToOther clash) has of =
-      let b : Touch = touch (suc worker) clash.key in
-      let o = blamed_all b (r.blamed worker p at b (blame_in (suc worker) clash.key (refused_of p.ran) (ToOther clash)
-      (refused_in p.ran line (ToOther clash) among has) (in_head b []))) in
-      let x = r.touched (touch o.by clash.key) o.taken in
-      let own : o.by ≡ suc x.0 = x.3.own in
-      record {
-        key = line_touches line.ops clash.key of.1;
-        by = x.0;
-        other = λ same. o.apart (own ∙ ap suc same);
-        changer = record {
-          mine = lines_of x.1.ran ++ x.1.left;
-          at = share_there parts x.0 x.1 x.2;
-          ops = x.3.line.ops;
-          among = ops_in x.1.ran x.1.left x.3.line x.3.among;
-          changes = line_changes x.3.line.ops clash.key x.3.written;
-        };
-      }
+      by_met clash.met refl of.1
+    where
+      at_key : (k : Key) → clash.met ≡ Some k → IsKeyOf line.ops k → IsMetBy lines_all worker line.ops k
+      at_key k met key =
+          let b : Touch = touch (suc worker) k in
+          let here : Contains (blame_of (suc worker) (ToOther clash)) b =
+          subst (λ (o : Option Key). Contains (blame_at (suc worker) o) b) (sym met) (in_head b []) in
+          let o = blamed_all b (r.blamed worker p at b (blame_in (suc worker) k (refused_of p.ran) (ToOther clash)
+          (refused_in p.ran line (ToOther clash) among has) here)) in
+          let x = r.touched (touch o.by k) o.taken in
+          let own : o.by ≡ suc x.0 = x.3.own in
+          record {
+            key = line_touches line.ops k key;
+            by = x.0;
+            other = λ same. o.apart (own ∙ ap suc same);
+            changer = record {
+              mine = lines_of x.1.ran ++ x.1.left;
+              at = share_there parts x.0 x.1 x.2;
+              ops = x.3.line.ops;
+              among = ops_in x.1.ran x.1.left x.3.line x.3.among;
+              changes = line_changes x.3.line.ops k x.3.written;
+            };
+          }
+
+      by_met : (met : Option Key) → clash.met ≡ met → IsMetKey line.ops clash.met
+          → IsMetAt lines_all worker line.ops clash.met
+      by_met (Some k) is key =
+          subst (IsMetAt lines_all worker line.ops) (sym is) (at_key k is (subst (IsMetKey line.ops) is key))
+      by_met None is key = subst (IsMetAt lines_all worker line.ops) (sym is) tt
 
   line_met : (worker : ℕ) (p : Part) → slice_get parts worker ≡ Some p → (line : LineRan) → Contains p.ran line
       → (losts : List Lost) → ((lost : Lost) → Contains losts lost → Contains line.refused lost)
@@ -179,7 +196,8 @@ module _ (tries : ℕ) (was now : View) (parts : List Part) (r : IsRound tries w
   lines_met worker p at (line ∷ ran) within left =
       let among = within line (in_head line ran) in
       let part = part_at tries was r.ended 0 parts worker p r.parts_are at in (
-        line_met worker p at line among line.refused (λ lost has. has) (row_lost tries p.from p.ran p.to part.row line among),
+        line_met worker p at line among line.refused (λ lost has. has)
+            (row_lost tries p.from p.ran p.to part.row line among),
         lines_met worker p at ran (λ x has. within x (in_tail x line ran has)) left,
       )
 

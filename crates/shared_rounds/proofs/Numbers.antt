@@ -11,10 +11,10 @@ use Rattle.serial_model.specs.declared.number.Number.{Number}
 use Rattle.serial_model.specs.Numbers.{IsBelow, not_below_itself}
 use Rattle.wire_form.specs.Words.{number_word}
 use Rattle.commit_core.specs.declared.attempt.Attempt.{Attempt}
-use Rattle.engine_words.specs.Gathered.{joined}
-use Rattle.engine_words.specs.Rule.{IsSmall}
-use Rattle.engine_words.specs.declared.layout.Layout.{Layout}
-use Rattle.engine_words.specs.declared.view.View.{View}
+use Rattle.engine_seats.specs.Gathered.{joined}
+use Rattle.engine_pages.specs.Words.{IsSmall}
+use Rattle.engine_pages.specs.declared.layout.Layout.{Layout}
+use Rattle.engine_pages.specs.declared.view.View.{View}
 use Rattle.tx_script.specs.Run.{IsBetween}
 use Rattle.shared_rounds.specs.Parts.{IsClockOf, IsRound, Part, clock_number}
 use Rattle.shared_rounds.proofs.Joined.{joined_made, mines_of}

@@ -5,12 +5,12 @@ use Rattle.std.proofs.Common.{ap, append-nil, append_assoc, length, length-appen
 use Rattle.lists.specs.Elements.{in_head, in_none, in_tail}
 use Rattle.lists.specs.Fronts.{front_refl}
 use Rattle.script_grammar.specs.Script.{Round, lines_of_worker}
-use Rattle.engine_words.specs.Cuts.{HasSeen, ended, heard_of}
-use Rattle.engine_words.specs.Passes.{view}
-use Rattle.engine_words.specs.Steps.{HasTimed}
-use Rattle.engine_words.specs.declared.engine.Engine.{Engine}
-use Rattle.engine_words.specs.declared.view.Role.TheVariants.{Worker}
-use Rattle.engine_words.specs.declared.view.View.{View}
+use Rattle.engine_seats.specs.Cuts.{HasSeen, ended, heard_of}
+use Rattle.engine_pages.specs.Passes.{view}
+use Rattle.engine_pages.specs.Times.{HasTimed}
+use Rattle.engine_pages.specs.declared.engine.Engine.{Engine}
+use Rattle.engine_pages.specs.declared.view.Role.TheVariants.{Worker}
+use Rattle.engine_pages.specs.declared.view.View.{View}
 use Rattle.tx_script.specs.declared.outcome.Outcome.{Outcome}
 use Rattle.worker_cells.specs.GateLaws.{all_told_push}
 use Rattle.worker_cells.specs.InARow.{row_role}

@@ -16,8 +16,8 @@ use Rattle.serial_bridge.specs.Bridge.{Agrees, after_attempts}
 use Rattle.serial_bridge.specs.Transaction.{AreAttemptsOf}
 use Rattle.serial_bridge.specs.WriteLaws.{each_in, runs_behind, writes_behind}
 use Rattle.serial_bridge.specs.WriteSets.{keys_of}
-use Rattle.engine_words.specs.Gathered.{joined}
-use Rattle.engine_words.specs.declared.view.View.{View}
+use Rattle.engine_seats.specs.Gathered.{joined}
+use Rattle.engine_pages.specs.declared.view.View.{View}
 use Rattle.tx_script.specs.Run.{IsBetween, of_worker}
 use Rattle.shared_rounds.specs.Changes.{AreLogged}
 use Rattle.shared_rounds.specs.Contents.{after_commits}
@@ -44,6 +44,7 @@ standing_at v state clock mine conflicts done = record {
   clock = clock;
   mine = mine;
   conflicts = conflicts;
+  slots = v.layout.slots;
   ended = done;
 }
 

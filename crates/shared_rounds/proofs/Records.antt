@@ -1,20 +1,18 @@
 -- Commits write the keys of arrays alone.
 use Rattle.std.proofs.Common.{◌≡◌, ◌∙◌, sym, ap, subst, refl, ℕ, ◌+◌, Bool, true, false, true≢false, cond}
 use Rattle.std.proofs.Common.{List, [], ◌∷◌, ◌++◌, inl, inr, Option, None, Some}
-use Rattle.std.specs.Prelude.{◌||◌, IsTrue, option_to_list, unwrap_or}
+use Rattle.std.specs.Prelude.{IsTrue, option_to_list, unwrap_or}
 use Rattle.std.specs.FinMap.{get}
 use Rattle.std.specs.List.{AllByRecursion, Contains}
 use Rattle.std.specs.Option.{option_or}
-use Rattle.std.proofs.lemmas.Bool.{or_parts}
 use Rattle.std.proofs.lemmas.List.Elements.{Contains-append_cases}
 use Rattle.std.proofs.lemmas.List.Sorted.{Contains-permutation, IsPermutation-sym}
 use Rattle.lists.specs.Elements.{in_cases, in_head, in_none, in_tail}
 use Rattle.serial_model.specs.declared.decl.Decl.{Decl}
-use Rattle.serial_model.specs.declared.decl.Decl.TheVariants.{Array, Tree}
 use Rattle.serial_model.specs.declared.key.Key.{Key}
 use Rattle.serial_model.specs.declared.number.Change.{Change}
 use Rattle.serial_model.specs.declared.number.Commit.{Commit}
-use Rattle.serial_model.specs.Keys.{has_key, is_tree, is_tree_of}
+use Rattle.serial_model.specs.Keys.{has_key}
 use Rattle.serial_model.specs.State.{State}
 use Rattle.wire_form.specs.LogFile.{IsChangeOf, IsLineOf, has_place_for}
 use Rattle.commit_core.specs.declared.attempt.Attempt.{Attempt}
@@ -23,9 +21,8 @@ use Rattle.commit_core.specs.Lemmas.Keys.{same_key-true}
 use Rattle.serial_bridge.specs.Bridge.{last_written}
 use Rattle.serial_bridge.specs.WriteLaws.{written-cons}
 use Rattle.serial_bridge.specs.WriteSets.{HasNoTree}
-use Rattle.engine_words.specs.Gathered.{joined}
-use Rattle.engine_words.specs.Layout.{has_record, is_record_of}
-use Rattle.engine_words.specs.declared.view.View.{View}
+use Rattle.engine_seats.specs.Gathered.{joined}
+use Rattle.engine_pages.specs.declared.view.View.{View}
 use Rattle.shared_rounds.specs.Contents.{after_commits}
 use Rattle.shared_rounds.specs.Parts.{AreParts, IsRound, Part}
 use Rattle.shared_rounds.proofs.Contents.{commits_over}
@@ -34,26 +31,16 @@ use Rattle.shared_rounds.proofs.Joined.{mines_of, part_made}
 use Rattle.shared_rounds.proofs.LoggedAlong.{logged_as}
 use Rattle.shared_rounds.proofs.Made.{logged_from}
 
--- without trees the keys that storages have are those of records
-key_has : (decls : List Decl) (k : Key) → HasNoTree decls → has_key decls k ≡ has_record decls k
-key_has [] k arrays = refl
-key_has (Array id size ∷ decls) k arrays =
-    ap (λ b. is_record_of k (Array id size) || b) (key_has decls k (λ storage. arrays storage))
-key_has (Tree id ∷ decls) k arrays =
-    let parts = or_parts (is_tree_of k.storage (Tree id)) (is_tree decls k.storage) (arrays k.storage) in
-    ap (λ b. b || has_key decls k) parts.0
-    ∙ key_has decls k (λ storage. (or_parts (is_tree_of storage (Tree id)) (is_tree decls storage) (arrays storage)).1)
-
--- a change of these storages is of a record's key
-change_has : (decls : List Decl) (c : Change) → HasNoTree decls → IsChangeOf decls c → has_record decls c.key ≡ true
+-- a change of these storages, which are arrays, is at a key of theirs
+change_has : (decls : List Decl) (c : Change) → HasNoTree decls → IsChangeOf decls c → has_key decls c.key ≡ true
 change_has decls c arrays is = by_value c.value is
   where
-    by_value : (value : Option ℕ) → IsTrue (has_place_for decls c.key value) → has_record decls c.key ≡ true
-    by_value (Some v) is = sym (key_has decls c.key arrays) ∙ is
+    by_value : (value : Option ℕ) → IsTrue (has_place_for decls c.key value) → has_key decls c.key ≡ true
+    by_value (Some v) is = is
     by_value None is = absurd (true≢false (sym is ∙ arrays c.key.storage))
 
--- a key without a record is not written
-not_written : (decls : List Decl) (k : Key) (writes : List Change) → HasNoTree decls → has_record decls k ≡ false
+-- a key that no storage has is not written
+not_written : (decls : List Decl) (k : Key) (writes : List Change) → HasNoTree decls → has_key decls k ≡ false
     → AllByRecursion (IsChangeOf decls) writes → written k writes ≡ None
 not_written decls k [] arrays none are = refl
 not_written decls k (c ∷ writes) arrays none are =
@@ -65,7 +52,7 @@ not_written decls k (c ∷ writes) arrays none are =
     by_test false is rest = rest
     by_test true is rest =
         absurd (true≢false (sym (change_has decls c arrays are.0)
-        ∙ ap (has_record decls) (same_key-true c.key k is) ∙ none))
+        ∙ ap (has_key decls) (same_key-true c.key k is) ∙ none))
 
 -- what was logged of an attempt are its writes
 logged_writes : (decls : List Decl) (a : Attempt) (writes : List Change)
@@ -110,9 +97,9 @@ none_last k (a ∷ more) none =
     ap (λ o. option_or o (written k a.writes)) (none_last k more (λ x has. none x (in_tail x a more has)))
     ∙ none a (in_head a more)
 
--- a key without a record gets no value in a round
+-- a key that no storage has gets no value in a round
 pub records_stay : (tries : ℕ) (was now : View) (parts : List Part) (r : IsRound tries was now parts) (s : State)
-    (k : Key) → has_record was.layout.decls k ≡ false → get s k ≡ None
+    (k : Key) → has_key was.layout.decls k ≡ false → get s k ≡ None
     → get (after_commits s (split tries was now parts r).new) k ≡ None
 records_stay tries was now parts r s k none empty =
     let new = (split tries was now parts r).new in

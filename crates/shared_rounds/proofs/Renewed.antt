@@ -9,7 +9,7 @@ use Rattle.serial_model.specs.declared.decl.Decl.{Decl}
 use Rattle.serial_model.specs.declared.key.Key.{Key}
 use Rattle.serial_model.specs.declared.number.Number.{Number}
 use Rattle.serial_model.specs.Decls.{AreDecls}
-use Rattle.serial_model.specs.Keys.{is_tree}
+use Rattle.serial_model.specs.Keys.{has_key, is_tree}
 use Rattle.serial_model.specs.Numbers.{IsNumber}
 use Rattle.serial_model.specs.State.{State}
 use Rattle.serial_model.specs.Step.{reply_of}
@@ -20,11 +20,10 @@ use Rattle.commit_core.specs.Serial.{after_writes}
 use Rattle.commit_core.specs.declared.seat.Seat.{Seat}
 use Rattle.serial_bridge.specs.Bridge.{Agrees, after_attempts}
 use Rattle.serial_bridge.specs.WriteSets.{HasNoTree}
-use Rattle.engine_words.specs.Layout.{has_record}
-use Rattle.engine_words.specs.Steps.{AreSerial}
-use Rattle.engine_words.specs.Views.{IsResting, bare_seat}
-use Rattle.engine_words.specs.declared.layout.Layout.{Layout}
-use Rattle.engine_words.specs.declared.view.View.{View}
+use Rattle.engine_seats.specs.Counts.{AreSerial}
+use Rattle.engine_pages.specs.Views.{IsResting, bare_seat}
+use Rattle.engine_pages.specs.declared.layout.Layout.{Layout}
+use Rattle.engine_pages.specs.declared.view.View.{View}
 use Rattle.shared_rounds.specs.Contents.{after_changes, after_commits}
 use Rattle.shared_rounds.specs.Parts.{IsRound, Part, clock_number}
 use Rattle.shared_rounds.specs.SharedState.{IsKept, opened, state_of}
@@ -80,8 +79,8 @@ module _ (tries : ℕ) (was now : View) (parts : List Part) (r : IsRound tries w
         first = subst (λ (l : Layout). IsNumber l.first) (sym layout) kept.first;
         records = λ k none. ap (λ (t : State). get t k) state_now
             ∙ records_stay tries was now parts r (state_of was) k
-            (ap (λ (l : Layout). has_record l.decls k) (sym layout) ∙ none)
-            (kept.records k (ap (λ (l : Layout). has_record l.decls k) (sym layout) ∙ none));
+            (ap (λ (l : Layout). has_key l.decls k) (sym layout) ∙ none)
+            (kept.records k (ap (λ (l : Layout). has_key l.decls k) (sym layout) ∙ none));
         counted = now_counted tries was now parts r;
         draws = ap (λ (v : View). v.draws) r.audited.2.is
             ∙ r.audited.2.draws (ap (λ (v : View). v.role) r.audited.1.is ∙ r.role)

@@ -6,11 +6,11 @@ use Rattle.std.specs.Prelude.{slice_index_or}
 use Rattle.serial_model.specs.Numbers.{IsNumber}
 use Rattle.serial_model.specs.declared.number.Number.{Number}
 use Rattle.script_grammar.specs.Script.{Round}
-use Rattle.engine_words.specs.Passes.{IsPassOf, Pass, view}
-use Rattle.engine_words.specs.Steps.{HasAudited}
-use Rattle.engine_words.specs.declared.engine.Engine.{Engine}
-use Rattle.engine_words.specs.declared.layout.Layout.{Layout}
-use Rattle.engine_words.specs.declared.view.View.{View}
+use Rattle.engine_pages.specs.Passes.{IsPassOf, Pass, view}
+use Rattle.engine_seats.specs.Counts.{HasAudited}
+use Rattle.engine_pages.specs.declared.engine.Engine.{Engine}
+use Rattle.engine_pages.specs.declared.layout.Layout.{Layout}
+use Rattle.engine_pages.specs.declared.view.View.{View}
 use Rattle.serial_model.specs.declared.decl.Decl.{Decl}
 use Rattle.tx_script.specs.declared.outcome.Outcome.{Outcome}
 use Rattle.worker_cells.specs.declared.cell.Cell.{Cell}
@@ -35,6 +35,7 @@ pub may_seat : (v : View) → IsKept v → CanSeat v
 may_seat v kept = record {
   role = kept.role;
   made = kept.made;
+  locks = kept.rests.locks;
   decls = kept.decls;
   draws = kept.first.some_draw;
   parked = kept.parked;

@@ -18,13 +18,12 @@ use Rattle.wire_form.specs.Items.{Rises}
 use Rattle.commit_core.specs.declared.attempt.Attempt.{Attempt}
 use Rattle.serial_bridge.specs.Transaction.{IsAttemptOf}
 use Rattle.serial_bridge.specs.WriteSets.{keys_of}
-use Rattle.engine_words.specs.declared.layout.Layout.{Layout}
-use Rattle.engine_words.specs.declared.view.Role.TheVariants.{Worker}
-use Rattle.engine_words.specs.declared.view.View.{View}
-use Rattle.engine_words.specs.Cuts.{HasSeen}
-use Rattle.engine_words.specs.Views.{seat_number}
-use Rattle.tx_runner.specs.LineEnds.{HasCommittedLine}
-use Rattle.tx_runner.specs.Tries.{HasTriedFor, Lost}
+use Rattle.engine_pages.specs.declared.layout.Layout.{Layout}
+use Rattle.engine_pages.specs.declared.view.Role.TheVariants.{Worker}
+use Rattle.engine_pages.specs.declared.view.View.{View}
+use Rattle.engine_seats.specs.Cuts.{HasSeen}
+use Rattle.engine_pages.specs.Views.{seat_number}
+use Rattle.worker_cells.specs.Below.{HasCommittedLine, HasTriedFor, Lost}
 use Rattle.tx_script.specs.Run.{entries_of_line, entries_of_worker}
 use Rattle.tx_script.specs.declared.outcome.Outcome.{Outcome}
 use Rattle.tx_script.specs.declared.outcome.Outcome.TheVariants.{Committed, Conflict, Full, Wide, Limit, Unrun}
@@ -138,7 +137,9 @@ made_line decls low worker tries ops Limit refused logged v w layout role since 
     subst (λ (l : Option Commit). Made decls low v w (λ index line. []) (option_to_list l)) (sym comes.0)
     (made_tried decls low ops _ v w comes.1.refused.tried)
 made_line decls low worker tries ops Wide refused logged v w layout role since comes = absurd comes
-made_line decls low worker tries ops Full refused logged v w layout role since comes = absurd comes
+made_line decls low worker tries ops Full refused logged v w layout role since comes =
+    subst (λ (l : Option Commit). Made decls low v w (λ index line. []) (option_to_list l)) (sym comes.0)
+    (made_tried decls low ops _ v w comes.1.refused.tried)
 made_line decls low worker tries ops Unrun refused logged v w layout role since comes = absurd comes
 
 -- ---- lines in a row

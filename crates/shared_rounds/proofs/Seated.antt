@@ -5,13 +5,13 @@ use Rattle.std.proofs.Common.{append-nil, append_assoc, get_or, Option, Some}
 use Rattle.std.specs.Prelude.{slice_get}
 use Rattle.std.specs.List.{AllByRecursion}
 use Rattle.std.proofs.lemmas.Bool.Decides.{nat_tests}
-use Rattle.tx_commit.specs.Live.{IsOver}
+use Rattle.worker_cells.specs.Below.{IsOver}
 use Rattle.views.specs.Sums.{one_at, times, total-append}
-use Rattle.engine_words.specs.Cuts.{seated, worker_view}
-use Rattle.engine_words.specs.Passes.{IsPassOf, view}
-use Rattle.engine_words.specs.declared.engine.Engine.{Engine}
-use Rattle.engine_words.specs.declared.layout.Layout.{Layout}
-use Rattle.engine_words.specs.declared.view.View.{View}
+use Rattle.engine_seats.specs.Cuts.{seated, worker_view}
+use Rattle.engine_pages.specs.Passes.{IsPassOf, view}
+use Rattle.engine_pages.specs.declared.engine.Engine.{Engine}
+use Rattle.engine_pages.specs.declared.layout.Layout.{Layout}
+use Rattle.engine_pages.specs.declared.view.View.{View}
 use Rattle.tx_script.specs.Room.{RoomState}
 use Rattle.worker_cells.specs.declared.cell.Cell.{Cell}
 use Rattle.worker_logs.specs.Logs.{LogState}
@@ -24,7 +24,8 @@ use Rattle.shared_rounds.proofs.Backward.{backward_push}
 -- ---- who is seated
 
 -- one worker more is seated
-pub seated_made : (made : List ℕ) (worker : ℕ) (v : View) → seated worker (with_made made v) ≡ with_made (made ++ worker ∷ []) v
+pub seated_made : (made : List ℕ) (worker : ℕ) (v : View)
+    → seated worker (with_made made v) ≡ with_made (made ++ worker ∷ []) v
 seated_made [] worker v = refl
 seated_made (first ∷ more) worker v = refl
 

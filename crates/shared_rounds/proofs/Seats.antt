@@ -7,8 +7,8 @@ use Rattle.std.proofs.lemmas.Bool.Decides.{nat_tests}
 use Rattle.std.proofs.lemmas.List.Elements.{Contains-append_cases, filter-append}
 use Rattle.lists.specs.Elements.{in_none}
 use Rattle.commit_core.specs.declared.attempt.Attempt.{Attempt}
-use Rattle.engine_words.specs.Gathered.{joined}
-use Rattle.engine_words.specs.declared.view.View.{View}
+use Rattle.engine_seats.specs.Gathered.{joined}
+use Rattle.engine_pages.specs.declared.view.View.{View}
 use Rattle.shared_rounds.specs.Parts.{AreParts, Part}
 use Rattle.shared_rounds.specs.Shares.{logged_in}
 use Rattle.shared_rounds.proofs.Joined.{mines_of, part_made, shares_of}

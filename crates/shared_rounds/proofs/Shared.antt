@@ -8,13 +8,14 @@ use Rattle.serial_model.specs.declared.op.Op.{Op}
 use Rattle.serial_model.specs.State.{State}
 use Rattle.commit_core.specs.Keys.{content_at}
 use Rattle.serial_bridge.specs.Bridge.{Agrees, after_attempts}
-use Rattle.engine_words.specs.Cuts.{HasSeen}
-use Rattle.engine_words.specs.declared.view.View.{View}
+use Rattle.engine_seats.specs.Cuts.{HasSeen}
+use Rattle.engine_pages.specs.declared.view.View.{View}
 use Rattle.worker_cells.specs.Rows.{LineRan, lines_of, logged_of}
 use Rattle.shared_rounds.specs.Contents.{after_commits}
 use Rattle.shared_rounds.specs.Parts.{AreParts, IsClockOf, IsPart, IsRound, Part, clock_number, share_of}
 use Rattle.shared_rounds.specs.SharedState.{conflicts_in}
-use Rattle.shared_rounds.specs.Shares.{IsShare, RunsShares}
+use Rattle.shared_rounds.specs.Shares.{IsShare, RunsShares, Share}
+use Rattle.tx_script.specs.Causes.{IsTryCause}
 use Rattle.shared_rounds.proofs.Comes.{row_comes, row_each, row_last}
 use Rattle.shared_rounds.proofs.Counted.{split}
 use Rattle.shared_rounds.proofs.Joined.{shares_of}
@@ -24,6 +25,7 @@ use Rattle.shared_rounds.proofs.Meets.{all_met}
 use Rattle.shared_rounds.proofs.Numbers.{ended_draws, same_epoch}
 use Rattle.shared_rounds.proofs.Renewed.{clock_draws}
 use Rattle.shared_rounds.proofs.Ordered.{ordered_so, standing_at}
+use Rattle.shared_rounds.proofs.TriesCaused.{row_caused}
 
 no_lines : (ran : List LineRan) (left : List (List Op)) → lines_of ran ++ left ≡ [] → logged_of ran ≡ []
 no_lines [] left none = refl
@@ -59,6 +61,16 @@ share_count : (parts : List Part) → length (shares_of parts) ≡ length parts
 share_count [] = refl
 share_count (p ∷ parts) = ap suc (share_count parts)
 
+-- each try that was refused has its cause
+parts_caused : (tries : ℕ) (was ended : View) (worker : ℕ) (parts : List Part) → AreParts tries was ended worker parts
+    → AllByRecursion (λ (share : Share).
+    AllByRecursion (AllByRecursion (IsTryCause was.layout.slots)) share.tries_refused) (shares_of parts)
+parts_caused tries was ended worker [] are = tt
+parts_caused tries was ended worker (p ∷ parts) are = (
+  row_caused was.layout.slots tries p.from p.ran p.left p.to (ap (λ (v : View). v.layout.slots) are.0.seated) are.0.row,
+  parts_caused tries was ended (worker + 1) parts are.1,
+)
+
 -- The lines of a round on seats are run from the standing that the engine had to the one that the count behind them
 -- tells.
 pub round_runs : (tries : ℕ) (was now : View) (parts : List Part) (r : IsRound tries was now parts) (state : State)
@@ -80,6 +92,7 @@ round_runs tries was now parts r state clock done some agrees at drew =
           let drawn = r.draws in
           omega (arith, clock_is, drawn, begins, drew, parts_drawn parts);
       met = all_met tries was now parts r;
+      caused = parts_caused tries was r.ended 0 parts r.parts_are;
       conflicts = ap (λ (v : View). conflicts_in v.refused) r.audited.2.is
           ∙ ap (λ (v : View). conflicts_in v.refused) r.audited.1.is ∙ r.conflicts;
       each = parts_share clock.draw tries (r.clock % 2 ^ 40) was r.ended 0 parts some (omega (arith, begins)) ends

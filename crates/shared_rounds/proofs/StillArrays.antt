@@ -13,11 +13,10 @@ use Rattle.serial_model.specs.declared.decl.Decl.{Decl}
 use Rattle.serial_model.specs.declared.decl.Decl.TheVariants.{Array, Tree}
 use Rattle.serial_model.specs.declared.key.Key.{Key}
 use Rattle.serial_model.specs.KeyOrder.{keys_total}
-use Rattle.serial_model.specs.Keys.{is_tree, is_tree_of, key_cmp}
+use Rattle.serial_model.specs.Keys.{has_key, is_tree, is_tree_of, key_cmp}
 use Rattle.serial_model.specs.State.{State}
 use Rattle.serial_bridge.specs.WriteSets.{HasNoTree}
-use Rattle.engine_words.specs.Layout.{has_record}
-use Rattle.engine_words.specs.declared.view.View.{View}
+use Rattle.engine_pages.specs.declared.view.View.{View}
 use Rattle.shared_rounds.specs.SharedState.{IsKept, are_arrays, is_array, state_of}
 
 -- what is there is found
@@ -36,16 +35,16 @@ found_there (x ∷ es) e has none = by_test (eq_by_cmp key_cmp e.0 x.0) refl non
       | inr later ↦ rest later none
     ]
 
-all_records : (decls : List Decl) (s : State) → ((k : Key) → has_record decls k ≡ false → get s k ≡ None)
+all_records : (decls : List Decl) (s : State) → ((k : Key) → has_key decls k ≡ false → get s k ≡ None)
     → (es : List (Key × ℕ)) → ((e : Key × ℕ) → Contains es e → Contains (entries s) e)
-    → list_all (λ e. has_record decls e.0) es ≡ true
+    → list_all (λ e. has_key decls e.0) es ≡ true
 all_records decls s records [] within = refl
 all_records decls s records (e ∷ es) within =
-    and_from (has_record decls e.0) (list_all (λ x. has_record decls x.0) es)
-    (by_test (has_record decls e.0) refl)
+    and_from (has_key decls e.0) (list_all (λ x. has_key decls x.0) es)
+    (by_test (has_key decls e.0) refl)
     (all_records decls s records es (λ x has. within x (in_tail x e es has)))
   where
-    by_test : (b : Bool) → has_record decls e.0 ≡ b → has_record decls e.0 ≡ true
+    by_test : (b : Bool) → has_key decls e.0 ≡ b → has_key decls e.0 ≡ true
     by_test true is = is
     by_test false is =
         absurd (found_there (entries s) e (within e (in_head e es)) (sym (get-entries s e.0) ∙ records e.0 is))
@@ -73,6 +72,6 @@ all_arrays (d ∷ decls) none =
 -- what is kept between two rounds stands on words
 pub still_arrays : (v : View) → IsKept v → are_arrays v.layout.decls (state_of v) ≡ true
 still_arrays v kept =
-    and_from (list_all is_array v.layout.decls) (list_all (λ e. has_record v.layout.decls e.0) (entries (state_of v)))
+    and_from (list_all is_array v.layout.decls) (list_all (λ e. has_key v.layout.decls e.0) (entries (state_of v)))
     (all_arrays v.layout.decls kept.arrays)
     (all_records v.layout.decls (state_of v) kept.records (entries (state_of v)) (λ e has. has))

@@ -7,7 +7,7 @@ use Rattle.std.proofs.lemmas.Option.{same_Some}
 use Rattle.serial_model.specs.declared.op.Op.{Op}
 use Rattle.commit_core.specs.declared.seat.Mark.{Mark}
 use Rattle.commit_core.specs.declared.seat.Seat.{Seat}
-use Rattle.engine_words.specs.Views.{bare_seat}
+use Rattle.engine_pages.specs.Views.{bare_seat}
 use Rattle.script_grammar.specs.Script.{Round, lines_of_worker}
 use Rattle.tx_script.specs.declared.outcome.Outcome.{Outcome}
 use Rattle.tx_script.specs.declared.outcome.Outcome.TheVariants.{Unrun}

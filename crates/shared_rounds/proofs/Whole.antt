@@ -1,14 +1,14 @@
 -- A round's lines on seats, from the ends of all seats and the count behind them.
 use Rattle.std.proofs.Common.{◌≡◌, ◌∙◌, sym, ap, subst, ℕ, ◌/◌, ◌^◌, ◌≤◌, Bool, List}
-use Rattle.std.proofs.Common.{length, arith, Option}
+use Rattle.std.proofs.Common.{arith, Option}
 use Rattle.std.specs.List.{Contains}
 use Rattle.std.proofs.lemmas.List.{length-map}
 use Rattle.commit_core.specs.declared.seat.Seat.{Seat}
 use Rattle.serial_model.specs.declared.number.Number.{Number}
 use Rattle.script_grammar.specs.Script.{Round}
-use Rattle.engine_words.specs.Steps.{HasAudited}
-use Rattle.engine_words.specs.declared.layout.Layout.{Layout}
-use Rattle.engine_words.specs.declared.view.View.{View}
+use Rattle.engine_seats.specs.Counts.{HasAudited}
+use Rattle.engine_pages.specs.declared.layout.Layout.{Layout}
+use Rattle.engine_pages.specs.declared.view.View.{View}
 use Rattle.tx_script.specs.declared.outcome.Outcome.{Outcome}
 use Rattle.tx_script.specs.declared.outcome.Outcome.TheVariants.{Unrun}
 use Rattle.worker_cells.specs.declared.cell.LogEnd.{LogEnd}
@@ -80,6 +80,7 @@ module _ {D : Type 0} (tells : D → Option (List ℕ)) (clock : D → ℕ) (ima
               clock = clock_number word;
               mine = now.mine;
               conflicts = conflicts_in now.refused;
+              slots = l.slots;
               ended = done;
             } in t) (sym (now_layout tries was now so.parts round_is))
 

@@ -2,14 +2,14 @@
 use Rattle.std.specs.Prelude.{◌≡◌, ◌<◌, ◌+◌, ◌-◌, ◌++◌, ℕ, List, [], ◌∷◌, Option, Some}
 use Rattle.std.specs.Prelude.{map, length, get_or, slice_get, ⊤}
 use Rattle.script_grammar.specs.Script.{Round, lines_of_worker}
-use Rattle.engine_words.specs.Cuts.{HasSeen}
-use Rattle.engine_words.specs.Gathered.{gathered_all}
-use Rattle.engine_words.specs.Views.{IsResting, bare_seat}
-use Rattle.engine_words.specs.declared.view.Role.TheVariants.{Keeper}
-use Rattle.engine_words.specs.declared.view.View.{View}
+use Rattle.engine_seats.specs.Cuts.{HasSeen}
+use Rattle.engine_seats.specs.Gathered.{gathered_all}
+use Rattle.engine_pages.specs.Views.{IsResting, bare_seat}
+use Rattle.engine_pages.specs.declared.view.Role.TheVariants.{Keeper}
+use Rattle.engine_pages.specs.declared.view.View.{View}
 use Rattle.tx_script.specs.declared.outcome.Outcome.{Outcome}
 use Rattle.worker_cells.specs.Gates.{AreAllTold}
-use Rattle.engine_words.specs.declared.engine.Engine.{Engine}
+use Rattle.engine_pages.specs.declared.engine.Engine.{Engine}
 use Rattle.worker_cells.specs.declared.cell.Cell.{Cell}
 use Rattle.worker_cells.specs.declared.cell.LogEnd.{LogEnd}
 use Rattle.worker_logs.specs.Logs.{LogState}

@@ -2,7 +2,7 @@
 use Rattle.std.specs.Prelude.{◌≡◌, ℕ, List, [], ◌++◌, Option, None, is_some}
 use Rattle.std.specs.List.{Contains}
 use Rattle.serial_model.specs.declared.op.Op.{Op}
-use Rattle.engine_words.specs.declared.view.View.{View}
+use Rattle.engine_pages.specs.declared.view.View.{View}
 use Rattle.tx_script.specs.declared.outcome.Outcome.{Outcome}
 use Rattle.tx_script.specs.declared.outcome.Outcome.TheVariants.{Unrun}
 use Rattle.worker_cells.specs.Cells.{core_mark}

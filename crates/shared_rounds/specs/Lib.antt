@@ -1,3 +1,4 @@
+pub mod Below
 pub mod Standing
 pub mod Changes
 pub mod Shares
@@ -15,4 +16,3 @@ pub mod Lines
 pub mod Gathers
 pub mod Rooms
 pub mod Marks
-pub mod Totals

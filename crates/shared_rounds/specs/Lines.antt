@@ -17,6 +17,7 @@ standing ended s = record {
   clock = s.clock;
   mine = s.mine;
   conflicts = s.conflicts;
+  slots = s.slots;
   ended = ended;
 }
 

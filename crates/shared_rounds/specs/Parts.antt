@@ -6,17 +6,17 @@ use Rattle.serial_model.specs.declared.number.Number.{Number}
 use Rattle.serial_model.specs.declared.op.Op.{Op}
 use Rattle.wire_form.specs.LogFile.{IsLineOf}
 use Rattle.serial_bridge.specs.WriteSets.{HasNoTree}
-use Rattle.engine_words.specs.Cuts.{HasSeen, worker_view}
-use Rattle.engine_words.specs.Gathered.{gathered_all}
-use Rattle.engine_words.specs.Steps.{HasAudited}
-use Rattle.engine_words.specs.declared.view.Role.TheVariants.{Keeper}
-use Rattle.engine_words.specs.declared.view.Touch.{Touch}
-use Rattle.engine_words.specs.declared.view.View.{View}
-use Rattle.tx_runner.specs.Tries.{Lost, ToClock, ToOther, blames_of}
+use Rattle.engine_seats.specs.Cuts.{HasSeen, worker_view}
+use Rattle.engine_seats.specs.Gathered.{gathered_all}
+use Rattle.engine_seats.specs.Counts.{HasAudited}
+use Rattle.engine_pages.specs.declared.view.Role.TheVariants.{Keeper}
+use Rattle.engine_pages.specs.declared.view.Touch.{Touch}
+use Rattle.engine_pages.specs.declared.view.View.{View}
+use Rattle.worker_cells.specs.Below.{blames_of, Lost, ToClock, ToOther, ToSet, ToSlots}
 use Rattle.worker_cells.specs.InARow.{IsTakenBy}
 use Rattle.worker_cells.specs.Rows.{AreInARow, IsSince, LineRan, draws_of, lines_of, logged_of, outcomes_of, refused_of}
 use Rattle.worker_cells.specs.Rows.{unrun}
-use Rattle.tx_script.specs.Run.{LogRefusal, TryRefusal, InConflict, NoNumber}
+use Rattle.tx_script.specs.Run.{LogRefusal, TryRefusal, InConflict, NoNumber, NoRoom, NoSlot}
 use Rattle.shared_rounds.specs.SharedState.{IsCounted, conflicts_in}
 use Rattle.shared_rounds.specs.Shares.{Share, all_conflicts}
 
@@ -33,7 +33,9 @@ pub record Part : Type 0 where
 
 -- what a try was refused for
 abbrev pub try_refusal : Lost → TryRefusal
-try_refusal (ToOther clash) = InConflict (record { key = clash.key; drew = clash.drew })
+try_refusal (ToOther clash) = InConflict (record { key = clash.met; drew = clash.drew })
+try_refusal (ToSlots words) = NoSlot words
+try_refusal (ToSet set) = NoRoom
 try_refusal (ToClock clock) = NoNumber
 
 -- the refusals of each line's tries

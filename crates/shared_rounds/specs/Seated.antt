@@ -2,13 +2,12 @@
 use Rattle.std.specs.Prelude.{◌≡◌, ◌<◌, ◌+◌, ◌++◌, get_or, ℕ, List, [], ◌∷◌, Option, None, ⊤}
 use Rattle.std.specs.Prelude.{◌≤◌, length}
 use Rattle.script_grammar.specs.Script.{Round, lines_of_worker}
-use Rattle.engine_words.specs.Cuts.{worker_view}
-use Rattle.engine_words.specs.Passes.{IsPassOf, view}
-use Rattle.engine_words.specs.declared.engine.Engine.{Engine}
-use Rattle.engine_words.specs.declared.view.Role.TheVariants.{Worker}
-use Rattle.engine_words.specs.declared.view.View.{View}
-use Rattle.tx_commit.specs.Live.{IsOver}
-use Rattle.tx_runner.specs.Lines.{HasNoTree}
+use Rattle.engine_seats.specs.Cuts.{worker_view}
+use Rattle.engine_pages.specs.Passes.{IsPassOf, view}
+use Rattle.engine_pages.specs.declared.engine.Engine.{Engine}
+use Rattle.engine_pages.specs.declared.view.Role.TheVariants.{Worker}
+use Rattle.engine_pages.specs.declared.view.View.{View}
+use Rattle.worker_cells.specs.Below.{HasNoTree, IsOver}
 use Rattle.tx_script.specs.Run.{CanRun}
 use Rattle.worker_cells.specs.Cells.{IsCell, RunsCell}
 use Rattle.worker_cells.specs.Gates.{calls_for, calls_in, is_run}

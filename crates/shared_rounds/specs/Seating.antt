@@ -1,10 +1,10 @@
 -- The keeper's view as workers are seated.
 use Rattle.std.specs.Prelude.{◌≡◌, ◌<◌, ◌≤◌, ◌+◌, ℕ, zero, suc, List, [], ◌∷◌, ◌++◌, get_or, length}
 use Rattle.serial_model.specs.Decls.{AreDecls}
-use Rattle.engine_words.specs.Views.{IsResting, bare_seat}
-use Rattle.engine_words.specs.declared.view.Role.TheVariants.{Keeper}
-use Rattle.engine_words.specs.declared.view.Touch.{Touch}
-use Rattle.engine_words.specs.declared.view.View.{View}
+use Rattle.engine_pages.specs.Views.{IsResting, bare_seat}
+use Rattle.engine_pages.specs.declared.view.Role.TheVariants.{Keeper}
+use Rattle.engine_pages.specs.declared.view.Touch.{Touch}
+use Rattle.engine_pages.specs.declared.view.View.{View}
 
 -- what it has of locks and of refusals in conflict with these workers seated: nothing yet, where there are some
 abbrev pub since_made : List ℕ → List Touch → List Touch
@@ -24,10 +24,11 @@ abbrev pub seats_from : ℕ → ℕ → List ℕ
 seats_from zero low = []
 seats_from (suc n) low = seats_from n (low + 1) ++ low ∷ []
 
--- nobody is seated, and no worker's seat has a transaction
+-- nobody is seated, no worker's seat has a transaction, and the keeper has no locks
 pub record CanSeat (v : View) : Type 0 where
   pub role : v.role ≡ Keeper
   pub made : v.made ≡ []
+  pub locks : v.seat.locks ≡ []
   pub decls : AreDecls v.layout.decls
   pub draws : 1 ≤ v.layout.first.draw
   pub parked : (worker : ℕ) → worker < 8 → IsResting (get_or v.parked worker bare_seat)

@@ -9,6 +9,7 @@ use Rattle.serial_model.specs.declared.decl.Decl.TheVariants.{Array, Tree}
 use Rattle.serial_model.specs.declared.key.Key.{Key}
 use Rattle.serial_model.specs.declared.number.Number.{Number}
 use Rattle.serial_model.specs.Decls.{AreDecls}
+use Rattle.serial_model.specs.Keys.{has_key}
 use Rattle.serial_model.specs.Numbers.{IsNumber}
 use Rattle.serial_model.specs.State.{State}
 use Rattle.homes.specs.declared.places.Content.{Content}
@@ -18,16 +19,15 @@ use Rattle.commit_core.specs.Sound.Numbers.{EachOnce}
 use Rattle.commit_core.specs.declared.seat.Mark.{Mark}
 use Rattle.commit_core.specs.declared.seat.Seat.{Seat}
 use Rattle.serial_bridge.specs.WriteSets.{HasNoTree}
-use Rattle.engine_words.specs.declared.engine.Engine.{Engine}
-use Rattle.engine_words.specs.declared.view.RefusalCause.{RefusalCause}
-use Rattle.engine_words.specs.declared.view.RefusalCause.TheVariants.{Conflict, Wide, NumberLimit}
-use Rattle.engine_words.specs.declared.view.Role.TheVariants.{Keeper}
-use Rattle.engine_words.specs.declared.view.View.{View}
-use Rattle.engine_words.specs.Between.{counts}
-use Rattle.engine_words.specs.Layout.{has_record}
-use Rattle.engine_words.specs.Passes.{view, IsPassOf, Pass}
-use Rattle.engine_words.specs.Steps.{AreSerial}
-use Rattle.engine_words.specs.Views.{bare_seat, IsResting}
+use Rattle.engine_pages.specs.declared.engine.Engine.{Engine}
+use Rattle.engine_pages.specs.declared.view.RefusalCause.{RefusalCause}
+use Rattle.engine_pages.specs.declared.view.RefusalCause.TheVariants.{Conflict, Full, Wide, NumberLimit}
+use Rattle.engine_pages.specs.declared.view.Role.TheVariants.{Keeper}
+use Rattle.engine_pages.specs.declared.view.View.{View}
+use Rattle.engine_seats.specs.Between.{counts}
+use Rattle.engine_pages.specs.Passes.{view, IsPassOf, Pass}
+use Rattle.engine_seats.specs.Counts.{AreSerial}
+use Rattle.engine_pages.specs.Views.{bare_seat, IsResting}
 use Rattle.shared_rounds.specs.Contents.{after_commits, with_value}
 
 -- ---- what an engine begins with
@@ -39,7 +39,7 @@ is_array (Tree id) = false
 
 -- all storages are arrays, and each key of the state is one of theirs
 abbrev pub are_arrays : List Decl → State → Bool
-are_arrays decls s = list_all is_array decls && list_all (λ e. has_record decls e.0) (entries s)
+are_arrays decls s = list_all is_array decls && list_all (λ e. has_key decls e.0) (entries s)
 
 -- ---- what it is between two rounds
 
@@ -67,6 +67,7 @@ marks_of seats = map (λ (seat : Seat). last_mark seat.marks) seats
 -- the refusal is a conflict
 abbrev pub was_conflict : RefusalCause → Bool
 was_conflict (Conflict word expected seen) = true
+was_conflict (Full held) = false
 was_conflict (Wide set) = false
 was_conflict (NumberLimit clock) = false
 
@@ -75,8 +76,8 @@ abbrev pub conflicts_in : List RefusalCause → ℕ
 conflicts_in refused = length (filter was_conflict refused)
 
 -- the storages, their contents, what stood at keys at first, with its numbers, the number that the next commit gets,
--- the attempts that count, in order of number, how many tries were refused with a conflict so far, and the workers'
--- marks on the words, worker 0's first
+-- the attempts that count, in order of number, how many tries were refused with a conflict so far, the workers' marks
+-- on the words, worker 0's first, and how many slots there are for pages in memory
 pub record SharedState : Type 0 where
   pub decls : List Decl
   pub state : State
@@ -85,6 +86,7 @@ pub record SharedState : Type 0 where
   pub mine : List Attempt
   pub conflicts : ℕ
   pub marks : List Mark
+  pub slots : ℕ
 
 -- what the keeper's pass and the clock are
 abbrev pub shared_by : Pass → Number → SharedState
@@ -96,6 +98,7 @@ shared_by keeper clock = record {
   mine = (view keeper).mine;
   conflicts = conflicts_in (view keeper).refused;
   marks = marks_of (view keeper).parked;
+  slots = (view keeper).layout.slots;
 }
 
 -- What a count told of the keeper's view, with nobody seated: its own commits are those that count.
@@ -113,7 +116,7 @@ pub record IsKept (v : View) : Type 0 where
   pub decls : AreDecls v.layout.decls
   pub arrays : HasNoTree v.layout.decls
   pub first : IsNumber v.layout.first
-  pub records : (k : Key) → has_record v.layout.decls k ≡ false → get (state_of v) k ≡ None
+  pub records : (k : Key) → has_key v.layout.decls k ≡ false → get (state_of v) k ≡ None
   pub counted : IsCounted v
   pub draws : v.draws ≡ length v.history
   pub once : EachOnce v.decided

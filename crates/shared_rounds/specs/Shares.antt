@@ -10,6 +10,7 @@ use Rattle.serial_model.specs.declared.number.Commit.{Commit}
 use Rattle.serial_model.specs.declared.op.Op.{Op}
 use Rattle.wire_form.specs.LogFile.{IsLineOf}
 use Rattle.tx_script.specs.Causes.{UnrunLast}
+use Rattle.tx_script.specs.Causes.{IsTryCause}
 use Rattle.tx_script.specs.Conflicts.{WorkersMet}
 use Rattle.tx_script.specs.Draws.{commit_count, lost_of}
 use Rattle.tx_script.specs.Run.{IsBetween, LogRefusal, TryRefusal, entries_of_workers, of_worker}
@@ -74,7 +75,8 @@ all_conflicts refused = sum_by (λ of_worker. sum_by conflicts_among of_worker) 
 -- The lines of eight workers were run from s to t, each with so many tries. Contents, clock, the attempts that count
 -- and the count of conflicts change alone; the epoch stays, as long as the maintenance thread's lines don't run beside
 -- them. Each number was drawn for a commit of theirs, or for a try of theirs that was refused behind its draw. Each
--- conflict that is told of a line is with a line of another worker, and the engine counted it, and no others.
+-- conflict that is told of a line at a record is with a line of another worker; the engine counted each, and no others.
+-- Where a try found no slot usable, the words of all slots are told.
 pub record RunsShares (tries : ℕ) (s t : Standing) (shares : List Share) : Type 0 where
   pub workers : length shares ≡ 8
   pub only : t ≡ record s { state = t.state; clock = t.clock; mine = t.mine; conflicts = t.conflicts }
@@ -83,6 +85,8 @@ pub record RunsShares (tries : ℕ) (s t : Standing) (shares : List Share) : Typ
       + lost_of (map (λ (share : Share). share.tries_refused) shares)
   pub met : WorkersMet (map (λ (share : Share). share.lines) shares) 0 (map (λ (share : Share). share.lines) shares)
       (map (λ (share : Share). share.tries_refused) shares)
+  pub caused : AllByRecursion (λ (share : Share).
+      AllByRecursion (AllByRecursion (IsTryCause s.slots)) share.tries_refused) shares
   pub conflicts : t.conflicts ≡ s.conflicts + all_conflicts (map (λ (share : Share). share.tries_refused) shares)
   pub each : AllByRecursion (IsShare s.decls s.clock.draw t.clock.draw tries) shares
   pub ordered : (index : ℕ) → AreOrdered index s t shares

@@ -1,5 +1,5 @@
 -- Which lines are told unrun: those that were left out, and no others.
-use Rattle.std.proofs.Common.{◌≡◌, ◌++◌, inl, inr, refl, sym, ◌∙◌, ap, List, [], ◌∷◌, true, false, true≢false}
+use Rattle.std.proofs.Common.{◌≡◌, ◌++◌, inl, inr, refl, sym, ◌∙◌, ap, List, [], ◌∷◌, false, true≢false}
 use Rattle.std.specs.List.{AllByRecursion, Contains}
 use Rattle.lists.specs.Elements.{in_cases, in_head, in_none, in_tail}
 use Rattle.serial_model.specs.declared.op.Op.{Op}

@@ -5,21 +5,21 @@ ghost use Rattle.std.specs.Thread.{IsSend, IsSync};
 ghost use Rattle.worker_logs.specs.Logs.{LogState};
 ghost use Rattle.worker_logs.specs.Rows.{AreLogsUp};
 ghost use Rattle.views.specs.Sums.{times};
-ghost use Rattle.engine_words.specs.Cuts.{seated, worker_view};
-ghost use Rattle.engine_words.specs.Passes.{IsPassOf, view};
-ghost use Rattle.engine_words.specs.declared.view.Role.TheVariants.{Keeper};
+ghost use Rattle.engine_seats.specs.Cuts.{seated, worker_view};
+ghost use Rattle.engine_pages.specs.Passes.{IsPassOf, view};
+ghost use Rattle.engine_pages.specs.declared.view.Role.TheVariants.{Keeper};
 ghost use Rattle.shared_rounds.specs.Rooms.{AreRooms};
 ghost use Rattle.shared_rounds.specs.Seated.{AreSeated, HasRun, IsBegun, IsReady, backward};
 ghost use Rattle.shared_rounds.specs.Seating.{CanSeat, seats_from, with_made};
-ghost use Rattle.tx_commit.specs.Live.{IsOver};
+ghost use Rattle.worker_cells.specs.Below.{IsOver};
 
-use engine_words::{Engine, Pass, seat};
+use engine_pages::{Engine, Pass};
+use engine_seats::seat;
 use outside::Disk;
 use serial_model::WORKERS;
 use std::thread::{Threads, for_each_mut, join_mut};
-use tx_runner::idle;
 use tx_script::{OutcomeRoom, Round};
-use worker_cells::{Cell, Desk, LineGate, LogEnd, run_cell};
+use worker_cells::{Cell, Desk, LineGate, LogEnd, idle, run_cell};
 use worker_logs::WorkerLog;
 
 /// Seats the workers, the last one first, each with its log, its log file, its room and a desk. Those that have none of
@@ -87,6 +87,7 @@ pub(crate) fn seat_all<D: Disk + Drop>(
 fn seat_one(engine: &Engine, keeper: &mut Pass, worker: u8, lines: u32, length: u64) -> Pass
     requires of { IsPassOf engine.now keeper.old }
     requires keeper { (view keeper.old).role ≡ Keeper }
+    requires locks { (view keeper.old).seat.locks ≡ [] }
     requires worker { (worker < 8) × (times worker (view keeper.old).made ≡ 0) }
     requires over { IsOver (worker_view worker (view keeper.old)) }
     requires length { length < 2 ^ 40 }

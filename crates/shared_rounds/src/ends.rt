@@ -3,15 +3,16 @@ ghost use Rattle.std.specs.Prelude.{◌≡◌, ◌≤◌, ℕ, List, [], vec_cap
 ghost use Rattle.std.specs.List.{AllByRecursion};
 ghost use Rattle.script_grammar.specs.Script.{Round};
 ghost use Rattle.worker_logs.specs.Logs.{LogState};
-ghost use Rattle.engine_words.specs.Passes.{IsPassOf, view};
-ghost use Rattle.engine_words.specs.declared.view.Role.TheVariants.{Keeper};
-ghost use Rattle.engine_words.specs.declared.view.View.{View};
+ghost use Rattle.engine_pages.specs.Passes.{IsPassOf, view};
+ghost use Rattle.engine_pages.specs.declared.view.Role.TheVariants.{Keeper};
+ghost use Rattle.engine_pages.specs.declared.view.View.{View};
 ghost use Rattle.shared_rounds.specs.Ended.{EndedSoFar};
 ghost use Rattle.shared_rounds.specs.Seated.{AreRan, MayEnd, backward};
 ghost use Rattle.shared_rounds.specs.Seating.{StandsFor};
 
 use arrayvec::ArrayVec;
-use engine_words::{Engine, Pass, end};
+use engine_pages::{Engine, Pass};
+use engine_seats::end;
 use outside::Disk;
 use tx_script::{Outcomes, RoundOutcomes};
 use worker_cells::{Cell, Desk, LogEnd};

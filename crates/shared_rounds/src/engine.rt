@@ -1,16 +1,14 @@
 // The engine of words that a runtime keeps.
 ghost use Rattle.std.specs.Prelude.{◌≡◌, ◌+◌, ◌-◌, ◌<◌, [], true, IfOk, Some, replicate, vec_len};
-ghost use Rattle.std.specs.List.{AllByRecursion, list_all};
-ghost use Rattle.serial_model.specs.Decls.{AreDecls};
+ghost use Rattle.std.specs.List.{list_all};
 ghost use Rattle.serial_model.specs.Numbers.{IsNumber, last_epoch};
-ghost use Rattle.engine_words.specs.Making.{StandsFirst};
+ghost use Rattle.page_opening.specs.Making.{CanMake};
 ghost use Rattle.shared_rounds.specs.SharedState.{is_array, opened};
 
-use crate::opening::first_layout;
-use engine_words::{Engine, Layout, Pass};
-use homes::Content;
-use lists::{Memory, Sequence};
-use serial_model::{Decl, Decls, Key, Number, WORKERS};
+use engine_pages::{Engine, Pass, Start};
+use lists::Memory;
+use page_opening::make;
+use serial_model::{Decl, Decls, Number, WORKERS};
 use std::alloc::Global;
 use std::marker::Model;
 use worker_cells::Desk;
@@ -46,36 +44,26 @@ impl Model for SharedEngine {
 }
 
 impl SharedEngine {
-    /// An engine of these arrays, whose first commit gets this number. Each record opens with what stands at its key at
-    /// first, with that number, and as never written where nothing does.
-    pub fn new(
-        alloc: Global,
-        decls: &[Decl],
-        opening: Sequence<(Key, Content)>,
-        first: Number,
-    ) -> Result<SharedEngine, Memory>
-        requires decls { AreDecls decls.now }
-        requires arrays { list_all is_array decls.now ≡ true }
-        requires first { IsNumber first }
-        requires opening { AllByRecursion (StandsFirst first decls.now) opening }
+    /// An engine over the pages of a snapshot, all of whose storages are arrays. What the pages have at a key stands
+    /// there at first, with its number.
+    pub fn new(alloc: Global, decls: Decls, start: Start) -> Result<SharedEngine, Memory>
+        requires can { CanMake start }
+        requires decls { decls ≡ start.decls }
+        requires arrays { list_all is_array start.decls ≡ true }
         ensures begins { IfOk result (λ engine. engine ≡ record {
-          decls = decls.now;
-          state = opened opening;
-          opening = opening;
-          clock = first;
+          decls = start.decls;
+          state = opened start.opening;
+          opening = start.opening;
+          clock = start.first;
           mine = [];
           conflicts = 0;
-          marks = replicate 8 (record { epoch = Some (first.epoch - 1); length = 0 });
+          marks = replicate 8 (record { epoch = Some (start.first.epoch - 1); length = 0 });
+          slots = start.slots;
         }) }
     {
         let desks = make_desks(alloc)?;
-        let layout = first_layout(alloc, decls, opening, first)?;
-        let (words, keeper) = Engine::new(alloc, &layout)?;
-        let Layout {
-            first: clock,
-            decls,
-            opening: _,
-        } = layout;
+        let clock = start.first();
+        let (words, keeper) = make(alloc, start)?;
         Ok(SharedEngine {
             words,
             keeper,
@@ -104,7 +92,7 @@ impl SharedEngine {
         requires { self.old.clock.epoch < last_epoch }
         ensures { self.new ≡ record self.old { clock = record self.old.clock { epoch = self.old.clock.epoch + 1 } } }
     {
-        engine_words::advance(&self.words, &mut self.keeper);
+        engine_seats::advance(&self.words, &mut self.keeper);
         self.clock.epoch += 1;
     }
 }

@@ -1,9 +1,9 @@
 //! An engine of words that threads share, as a runtime keeps it, and all workers' lines of a round on it, in threads.
 //!
 //! Promises: a [`SharedEngine`] is its storages, their contents, the clock and the workers' marks (`SharedState`),
-//! whatever its words are. It begins with the contents that it is given (`new`), goes on to the next epoch with all
-//! else as it is (`advance`), and tells the sum of its values (`total`). Between two rounds nobody is seated, all
-//! attempts that count are the keeper's own, and these leave the contents (`IsKept`).
+//! whatever its words are. It begins with what the pages of a snapshot have at the keys of arrays (`new`), and goes on
+//! to the next epoch with all else as it is (`advance`). Between two rounds nobody is seated, all attempts that count
+//! are the keeper's own, and these leave the contents (`IsKept`).
 //!
 //! `RunsWorkers` says what a round's lines come to, whichever engine ran them: each line's outcome with its cause, an
 //! order of all commits in which they are serial from the standing before to the one after, and of each log that it
@@ -19,8 +19,8 @@
 //! Terms: *standing*, the storages, their contents and the clock; *share*, a worker's lines with what came of them;
 //! *keeper*, the pass of the maintenance thread; *part*, a share with what the worker's pass knew at its begin and
 //! behind its lines; *room*, memory that was taken before it is wanted.
-//! Layout: specs/SharedState.antt, the engine between two rounds; specs/Contents.antt, what attempts leave of a state,
-//! and specs/Totals.antt, its sum; specs/Rooms.antt, room for a round; specs/Shares.antt, the lines;
+//! Layout: specs/SharedState.antt, the engine between two rounds; specs/Contents.antt, what attempts leave of a state;
+//! specs/Rooms.antt, room for a round; specs/Shares.antt, the lines;
 //! specs/Workers.antt, the logs and log files; specs/Marks.antt, the marks on the words; specs/Parts.antt, the workers'
 //! seats, and specs/Left.antt, their logs.
 //! Design: docs/COMMIT.md, docs/DURABILITY.md.
@@ -31,12 +31,11 @@ mod ends;
 mod engine;
 mod opening;
 mod rooms;
-mod total;
 mod workers;
 
 pub use ends::WorkersRan;
 pub use engine::SharedEngine;
 pub use opening::are_arrays;
 pub use rooms::{Rooms, make_rooms};
-pub use worker_cells::LogEnd;
+pub use worker_cells::{GateCalls, LineGate, LogEnd};
 pub use workers::run_workers;

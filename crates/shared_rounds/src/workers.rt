@@ -17,7 +17,7 @@ use crate::SharedEngine;
 use crate::cells::{run_all, seat_all};
 use crate::ends::{WorkersRan, end_all};
 use crate::rooms::Rooms;
-use engine_words::audit;
+use engine_seats::audit;
 use outside::Disk;
 use serial_model::{Number, WORKERS};
 use std::thread::Threads;

@@ -26,6 +26,7 @@ returns-clause-takes c =
       clock = c.engine.inside.clock;
       mine = [];
       conflicts = 0;
+      slots = 0;
       ended = false;
     } in
     let has = number_there c.args.engine.now view c.engine.view_is c.requires.number in
@@ -47,6 +48,7 @@ returns-clause-stops c =
       clock = c.engine.inside.clock;
       mine = [];
       conflicts = 0;
+      slots = 0;
       ended = false;
     } in
     let has = number_there c.args.engine.now view c.engine.view_is c.requires.number in

@@ -16,8 +16,7 @@ use Rattle.plain_rounds.proofs.SoFar.{RunsOn, lines_begin, lines_epoch, lines_ma
 use Rattle.plain_rounds.proofs.WorkerLoop.{at_run, empty_of, loop_done, loop_left, loop_ran, loop_stopped, loop_stops}
 use Rattle.plain_rounds.proofs.WorkerLoop.{open_at}
 use Rattle.tx_script.specs.declared.outcome.Outcome.TheVariants.{Unrun}
-use Rattle.worker_cells.specs.GateLaws.{calls_both, told_left, told_none, told_ran}
-use Rattle.worker_cells.specs.Gates.{Before, calls_in, calls_of, is_run}
+use Rattle.shared_rounds.specs.Below.{calls_both, told_left, told_none, told_ran, Before, calls_in, calls_of, is_run}
 use Rattle.worker_logs.specs.RowLaws.{never_up}
 use Rattle.plain_rounds.specs.Plainly.{outcome_at}
 use Rattle.plain_rounds.proofs.workers.run_worker.Goals as goal

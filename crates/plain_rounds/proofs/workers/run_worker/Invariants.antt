@@ -1,6 +1,6 @@
 -- The worker's lines among the first ones were run, or left out.
 use Rattle.std.proofs.Common.{◌≡◌, ◌≤◌, None, length, take}
-use Rattle.worker_cells.specs.Gates.{IsTold, calls_in, is_run}
+use Rattle.shared_rounds.specs.Below.{IsTold, calls_in, is_run}
 use Rattle.plain_rounds.proofs.Fronts.{ops_of}
 use Rattle.plain_rounds.proofs.SoFar.{RunsOn}
 use Rattle.plain_rounds.proofs.workers.run_worker.Given as goal

@@ -2,12 +2,11 @@ use Rattle.std.proofs.Common.{rules, ◌≡◌, ◌∙◌, ◌<◌, ◌+◌, ◌
 use Rattle.std.proofs.Common.{sym, subst}
 use Rattle.std.specs.Prelude.{get_or}
 use Rattle.wire_form.specs.declared.clock.Mark.{Mark}
-use Rattle.tx_commit.specs.Live.{IsOver}
-use Rattle.tx_runner.specs.OwnThreads.{seat_over}
+use Rattle.worker_cells.specs.Below.{seat_over, IsOver}
 use Rattle.views.specs.Sums.{times}
-use Rattle.engine_words.specs.Cuts.{seated, worker_view}
-use Rattle.engine_words.specs.Passes.{view}
-use Rattle.engine_words.specs.declared.view.View.{View}
+use Rattle.engine_seats.specs.Cuts.{seated, worker_view}
+use Rattle.engine_pages.specs.Passes.{view}
+use Rattle.engine_pages.specs.declared.view.View.{View}
 use Rattle.shared_rounds.specs.Rooms.{AreRooms}
 use Rattle.shared_rounds.specs.Seated.{IsBegun, SeatedSoFar}
 use Rattle.shared_rounds.specs.Seating.{seats_from, with_made}
@@ -46,6 +45,10 @@ seat_one-pass-requires-clause-worker g c =
       ap (λ (v : View). times (7 - c.loop-count.count) v.made) c.loop-count.invariant.keeper
           ∙ not_seated c.loop-count.count (8 - c.loop-count.count) (7 - c.loop-count.count) (omega (arith, less)),
     )
+
+pub seat_one-pass-requires-clause-locks : goal.seat_one-pass-requires-clause-locks
+seat_one-pass-requires-clause-locks g c =
+    ap (λ (v : View). v.seat.locks) c.loop-count.invariant.keeper ∙ c.requires.keeper.locks
 
 pub seat_one-pass-requires-clause-over : goal.seat_one-pass-requires-clause-over
 seat_one-pass-requires-clause-over g c =

@@ -1,5 +1,5 @@
 use Rattle.std.proofs.Common.{◌≡◌, ◌≤◌, ◌+◌, ◌-◌, vec_capacity, vec_len}
-use Rattle.engine_words.specs.Passes.{IsPassOf, view}
+use Rattle.engine_pages.specs.Passes.{IsPassOf, view}
 use Rattle.shared_rounds.specs.Rooms.{AreRooms}
 use Rattle.shared_rounds.specs.Seated.{SeatedSoFar}
 use Rattle.shared_rounds.specs.Seating.{seats_from, with_made}

@@ -1,8 +1,12 @@
-use Rattle.std.proofs.Common.{rules, ◌≡◌, ◌∙◌, ◌+◌, ◌-◌, [], ◌∷◌, ◌++◌, length, vec_len, arith, ap, sym}
+use Rattle.std.proofs.Common.{rules, ℕ, ◌≡◌, ◌∙◌, ◌+◌, ◌-◌, [], ◌∷◌, ◌++◌, length, vec_len, arith, ap, sym}
 use Rattle.std.proofs.Common.{subst}
 use Rattle.std.specs.List.{AllByRecursion}
-use Rattle.engine_words.specs.Passes.{view}
-use Rattle.engine_words.specs.declared.view.View.{View}
+use Rattle.engine_pages.specs.Passes.{view}
+use Rattle.engine_pages.specs.declared.view.Role.{Role}
+use Rattle.engine_pages.specs.declared.view.Role.TheVariants.{Worker}
+use Rattle.engine_pages.specs.declared.view.View.{View}
+use Rattle.engine_seats.specs.Cuts.{worker_of}
+use Rattle.worker_cells.specs.Below.{over_done}
 use Rattle.shared_rounds.specs.Ended.{EndedSoFar}
 use Rattle.shared_rounds.specs.Seated.{MayEnd}
 use Rattle.shared_rounds.proofs.Backward.{all_push}
@@ -44,19 +48,22 @@ end-requires-clause-of g c =
     (subst (AllByRecursion (MayEnd c.args.engine.now)) is c.loop-cell.invariant.cells)).1 in
     (c.loop-cell.invariant.of, may.of)
 
+worker_is : (r : Role) (w : ℕ) → r ≡ Worker w → r ≡ Worker (worker_of r)
+worker_is r w is = is ∙ ap (λ (x : Role). Worker (worker_of x)) (sym is)
+
 pub end-requires-clause-worker : goal.end-requires-clause-worker
 end-requires-clause-worker g c =
     let is : c.loop-cell.cells.items ≡ c.pop.new.self.items ++ c.in-Some.cell ∷ [] = search rules in
     let may = (all_push (MayEnd c.args.engine.now) c.pop.new.self.items c.in-Some.cell
     (subst (AllByRecursion (MayEnd c.args.engine.now)) is c.loop-cell.invariant.cells)).1 in
-    may.over.worker
+    worker_is (view c.in-Some.cell.pass).role _ may.over.worker
 
 pub end-requires-clause-over : goal.end-requires-clause-over
 end-requires-clause-over g c =
     let is : c.loop-cell.cells.items ≡ c.pop.new.self.items ++ c.in-Some.cell ∷ [] = search rules in
     let may = (all_push (MayEnd c.args.engine.now) c.pop.new.self.items c.in-Some.cell
     (subst (AllByRecursion (MayEnd c.args.engine.now)) is c.loop-cell.invariant.cells)).1 in
-    (may.over.due, may.over.seat)
+    over_done (view c.in-Some.cell.pass) may.over
 
 pub loop-cell-preserved : goal.loop-cell-preserved
 loop-cell-preserved g c =

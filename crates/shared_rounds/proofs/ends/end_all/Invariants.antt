@@ -1,9 +1,9 @@
 use Rattle.std.proofs.Common.{◌≡◌, ◌≤◌, ◌+◌, ◌-◌, ℕ, List, length, vec_capacity, vec_len}
 use Rattle.std.specs.List.{AllByRecursion}
 use Rattle.script_grammar.specs.Script.{Round}
-use Rattle.engine_words.specs.Passes.{IsPassOf, view}
-use Rattle.engine_words.specs.declared.view.Role.TheVariants.{Keeper}
-use Rattle.engine_words.specs.declared.view.View.{View}
+use Rattle.engine_pages.specs.Passes.{IsPassOf, view}
+use Rattle.engine_pages.specs.declared.view.Role.TheVariants.{Keeper}
+use Rattle.engine_pages.specs.declared.view.View.{View}
 use Rattle.worker_logs.specs.Logs.{LogState}
 use Rattle.shared_rounds.specs.Ended.{EndsOn}
 use Rattle.shared_rounds.specs.Seated.{AreRan, MayEnd, backward}

@@ -1,8 +1,8 @@
 use Rattle.std.proofs.Common.{rules, ◌≡◌, ◌++◌, Ok, drop, length, subst, sym, take}
 use Rattle.serial_bridge.specs.WriteSets.{HasNoTree}
 use Rattle.std.specs.List.{AllByRecursion}
-use Rattle.engine_words.specs.Passes.{view}
-use Rattle.engine_words.specs.Views.{IsActive}
+use Rattle.engine_pages.specs.Passes.{view}
+use Rattle.engine_pages.specs.Views.{IsActive}
 use Rattle.tx_script.specs.Run.{CanRun}
 use Rattle.shared_rounds.specs.Gathers.{HasGathered}
 use Rattle.shared_rounds.specs.Lines.{LinesCome, standing}

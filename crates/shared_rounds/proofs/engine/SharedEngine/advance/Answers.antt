@@ -1,7 +1,7 @@
 -- The clock alone goes on.
 use Rattle.std.proofs.Common.{◌+◌, ◌<◌, ◌∙◌, arith, sym, ap, subst}
 use Rattle.serial_model.specs.Numbers.{last_epoch}
-use Rattle.engine_words.specs.declared.view.View.{View}
+use Rattle.engine_pages.specs.declared.view.View.{View}
 use Rattle.shared_rounds.specs.SharedState.{SharedState}
 use Rattle.shared_rounds.proofs.Kept.{kept_next}
 use Rattle.shared_rounds.proofs.engine.SharedEngine.advance.Goals as goal

@@ -1,14 +1,16 @@
--- Where no conflict was counted no try met another transaction.
+-- Where no conflict was counted no try was in conflict.
 use Rattle.std.proofs.Common.{◌≡◌, List, [], ◌∷◌, arith}
 use Rattle.std.specs.Prelude.{sum_by}
 use Rattle.std.specs.List.{AllByRecursion}
 use Rattle.std.proofs.lemmas.List.Sums.{sum_by-cons}
 use Rattle.tx_script.specs.Draws.{IsAlone}
-use Rattle.round_engine.specs.Shares.{InConflict, NoNumber, TryRefusal, all_conflicts, conflicts_among}
+use Rattle.round_engine.specs.Shares.{InConflict, NoNumber, NoRoom, NoSlot, TryRefusal, all_conflicts, conflicts_among}
 
 alone_line : (refusals : List TryRefusal) → conflicts_among refusals ≡ 0 → AllByRecursion IsAlone refusals
 alone_line [] none = tt
 alone_line (InConflict met ∷ more) none = absurd cc
+alone_line (NoSlot words ∷ more) none = (tt, alone_line more none)
+alone_line (NoRoom ∷ more) none = (tt, alone_line more none)
 alone_line (NoNumber ∷ more) none = (tt, alone_line more none)
 
 alone_lines : (refused : List (List TryRefusal)) → sum_by conflicts_among refused ≡ 0

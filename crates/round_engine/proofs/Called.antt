@@ -14,9 +14,7 @@ use Rattle.gleaner.specs.declared.gleaning.Gleaned.TheVariants.{Empty, Snap}
 use Rattle.tx_script.specs.declared.answer.Answer.{Answer}
 use Rattle.tx_script.specs.declared.answer.Answer.TheVariants as answers
 use Rattle.tx_script.specs.declared.outcome.Outcome.{Outcome}
-use Rattle.worker_cells.specs.Gates.{AreAllTold, calls_for, calls_in, is_run}
-use Rattle.worker_cells.specs.declared.cell.LogEnd.{LogEnd}
-use Rattle.worker_cells.specs.declared.gate_calls.GateCalls.{GateCalls}
+use Rattle.shared_rounds.specs.Below.{AreAllTold, GateCalls, LogEnd, calls_for, calls_in, is_run}
 use Rattle.round_engine.specs.Keeping.{StepsEpoch, StepsLine, glean_answer, save_answer}
 use Rattle.round_engine.specs.RoundCalls.{calls_at, is_answered, round_calls}
 use Rattle.round_engine.specs.Standing.{RuntimeState}

@@ -18,7 +18,7 @@ use Rattle.round_engine.specs.Ends.{device_place, earlier, first_device, first_o
 use Rattle.round_engine.specs.Keeping.{is_refusal}
 use Rattle.round_engine.specs.Refusals.{first_failed, first_full, first_told}
 use Rattle.round_engine.specs.Workers.{refusal_of, refused_as}
-use Rattle.worker_cells.specs.declared.cell.LogEnd.{LogEnd}
+use Rattle.shared_rounds.specs.Below.{LogEnd}
 use Rattle.round_engine.proofs.Numbered.{growing_least}
 
 -- ---- the devices that failed

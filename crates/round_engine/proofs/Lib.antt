@@ -55,4 +55,7 @@ mod NothingRun
 mod WhoseLines
 mod NoneRun
 mod Called
+pub mod Taking
+pub mod FirstContents
+pub mod FirstNumbers
 pub mod Opened

@@ -32,7 +32,7 @@ use Rattle.round_engine.specs.Standing.{ArePassed, beside_of, LogsStand, Runtime
 use Rattle.round_engine.specs.Swaps.{CutsBanks}
 use Rattle.round_engine.specs.Workers.{RunsOver, RunsWorkers, idled, is_busy}
 use Rattle.round_engine.specs.declared.report.End.{End}
-use Rattle.worker_cells.specs.declared.cell.LogEnd.{LogEnd}
+use Rattle.shared_rounds.specs.Below.{LogEnd}
 use Rattle.round_engine.proofs.BanksCut.{banks_empty, closed_in_numbers, some_there}
 use Rattle.round_engine.proofs.LinesLeft.{lines_at}
 use Rattle.round_engine.proofs.LogsLeft.{idled_log, idled_passed}

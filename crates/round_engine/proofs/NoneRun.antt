@@ -12,6 +12,7 @@ use Rattle.serial_model.specs.History.{Rises}
 use Rattle.serial_model.specs.declared.decl.Decl.{Decl}
 use Rattle.serial_model.specs.declared.op.Op.{Op}
 use Rattle.script_grammar.specs.Script.{Round, lines_of_worker}
+use Rattle.tx_script.specs.Causes.{IsTryCause}
 use Rattle.tx_script.specs.Conflicts.{WorkersMet}
 use Rattle.tx_script.specs.Draws.{commit_count, lost_of, lost_of_lines}
 use Rattle.tx_script.specs.Run.{entries_of_workers, is_commit, of_worker}
@@ -76,6 +77,11 @@ none_met : (lines : List (List (List Op))) (first n : ℕ)
 none_met lines first zero = tt
 none_met lines first (suc n) = (tt, none_met lines (first + 1) n)
 
+none_caused : (slots n : ℕ)
+    → AllByRecursion (λ (p : Share). AllByRecursion (AllByRecursion (IsTryCause slots)) p.tries_refused) (nothings n)
+none_caused slots zero = tt
+none_caused slots (suc n) = (tt, none_caused slots n)
+
 are_shares : (decls : List Decl) (first last tries n : ℕ) → AllByRecursion (IsShare decls first last tries) (nothings n)
 are_shares decls first last tries zero = tt
 are_shares decls first last tries (suc n) = (
@@ -111,6 +117,7 @@ none_shares s tries = record {
   epoch = refl;
   draw = omega (arith, no_commits 8, none_lost 8);
   met = none_met (map (λ (p : Share). p.lines) (nothings 8)) 0 8;
+  caused = none_caused s.slots 8;
   conflicts = omega (arith, no_conflicts 8);
   each = are_shares s.decls s.clock.draw s.clock.draw tries 8;
   ordered = λ index. none_ordered index s 8;

@@ -267,6 +267,7 @@ module _ {D : Type 0} {tells : D → Option (List ℕ)} {clock : D → ℕ} {ima
     between_whole = subst IsWhole (sym now_is) (after_whole stands ready some start_many idle all);
     rests = λ is. absurd (let no = sym is ∙ not_swapped in cc);
     conflicts = ap (λ (r : RuntimeState). r.stands.conflicts) new_is;
+    slots = ap (λ (r : RuntimeState). r.stands.slots) new_is;
     mine = ap (λ (r : RuntimeState). r.stands.mine) new_is;
     decls = ap (λ (r : RuntimeState). r.stands.decls) new_is;
     state = ap (λ (r : RuntimeState). r.stands.state) new_is;

@@ -58,6 +58,7 @@ use Rattle.round_engine.proofs.Ended.{devices_down}
 use Rattle.round_engine.proofs.LinesLeft.{LastStep, lines_at, logs_total, logs_up}
 use Rattle.round_engine.proofs.Numbered.{closed_many, growing_at, growing_many, log_of_is, whole_of}
 use Rattle.round_engine.proofs.SharesRun.{IsRanOf, logged_above, logged_nothing, logged_some, run_caused, same_decls}
+use Rattle.round_engine.proofs.SharesRun.{same_slots, tries_caused}
 use Rattle.round_engine.proofs.SharesRun.{share_lines, shares_lines, shares_run}
 use Rattle.round_engine.proofs.Whole.{IsAtRest, LogsTotal, SeenIn, below_8, epochs_at, first_epochs, leaves_vault, round_front}
 use Rattle.round_engine.proofs.Places.{item_at, map_at, within_of}
@@ -157,6 +158,7 @@ ran_of tries round old start kept logs shares failed others gleans damaged repor
     sequence = sequence_of old.save.newest;
     pages = length old.store.pages;
     room = old.room;
+    slots = old.stands.slots;
     files = files_of old;
     marks = first_epochs start;
     logs = map (λ (p : Share). p.refusal) shares;
@@ -252,6 +254,7 @@ module _ {D : Type 0} (tells : D → Option (List ℕ)) (clock : D → ℕ) (ima
     pub between_whole : IsWhole files.between
     pub rests : swaps (ran_with logs failed others) ≡ true → (w : ℕ) (log : LogState) → slice_get logs w ≡ Some log → IsAtRest log
     pub conflicts : new.stands.conflicts ≡ all.kept.stands.conflicts
+    pub slots : new.stands.slots ≡ all.kept.stands.slots
     pub mine : new.stands.mine ≡ all.kept.stands.mine
     pub decls : new.stands.decls ≡ all.kept.stands.decls
     pub state : new.stands.state ≡ all.kept.stands.state
@@ -455,6 +458,7 @@ module _ {D : Type 0} {tells : D → Option (List ℕ)} {clock : D → ℕ} {ima
           let full = subst (λ r. IsRefusedBy r left.1.journal) p.2 left.2.refused in
           omega (arith, full.1, left.2.limit, left.4));
       outcomes = run_caused round ran all.lines.over.runs of;
+      tries = tries_caused old.stands.slots shares all.lines.over.runs.caused;
       answers = answers_caused logs failed others ends.fails ends.told_others;
     }
 
@@ -488,6 +492,7 @@ module _ {D : Type 0} {tells : D → Option (List ℕ)} {clock : D → ℕ} {ima
               sequence = refl;
               pages = refl;
               room = refl;
+              slots = refl;
               files = refl;
               workers = length-map start (λ (log : LogState). log.mark.epoch ∷ []) ∙ start_many;
               marks = λ w log epochs at are.
@@ -497,6 +502,7 @@ module _ {D : Type 0} {tells : D → Option (List ℕ)} {clock : D → ℕ} {ima
             };
             lines = record {
               decls = ends.decls ∙ ap (λ (x : Standing). x.decls) all.keeper.stands ∙ mid_decls;
+              slots = ends.slots ∙ ap (λ (x : Standing). x.slots) all.keeper.stands ∙ same_slots all.lines.over.runs;
               run = λ index. (run index).0;
               caused = caused;
               conflicts = ends.conflicts ∙ ap (λ (x : Standing). x.conflicts) all.keeper.stands

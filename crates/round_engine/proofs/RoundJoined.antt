@@ -528,6 +528,8 @@ module _ {D : Type 0} {tells : D → Option (List ℕ)} {clock : D → ℕ} {ima
     rests = λ is. rests facts (sym comes_is ∙ (and_parts (comes_to_swap ran) (not (closed_failed ran)) is).0);
     conflicts = ap (λ (s : Standing). s.conflicts) (new_stands
         ∙ ap (λ (s : Standing). record s { ended = is_some report.end }) js.joins.stands);
+    slots = ap (λ (s : Standing). s.slots) (new_stands
+        ∙ ap (λ (s : Standing). record s { ended = is_some report.end }) js.joins.stands);
     mine = ap (λ (s : Standing). s.mine) (new_stands
         ∙ ap (λ (s : Standing). record s { ended = is_some report.end }) js.joins.stands);
     decls = ap (λ (s : Standing). s.decls) (new_stands ∙ ap (λ (s : Standing). record s { ended = is_some report.end }) js.joins.stands);

@@ -49,7 +49,7 @@ use Rattle.round_engine.specs.declared.report.End.{End}
 use Rattle.round_engine.specs.declared.report.End.TheVariants as ends
 use Rattle.round_engine.specs.declared.report.LimitName.TheVariants.{Draw}
 use Rattle.round_engine.specs.declared.report.Report.{Report}
-use Rattle.worker_cells.specs.declared.cell.LogEnd.{LogEnd}
+use Rattle.shared_rounds.specs.Below.{LogEnd}
 use Rattle.round_engine.proofs.Beside.{keeps_from}
 use Rattle.round_engine.proofs.Devices.{IsBeside, are_down}
 use Rattle.round_engine.proofs.Ended.{failed_down, first_down, full_is_first, keeper_device}

@@ -51,6 +51,7 @@ use Rattle.round_engine.proofs.LinesLeft.{logs_total, logs_up}
 use Rattle.round_engine.proofs.LogsStanding.{stand_lines, stand_start, start_passed}
 use Rattle.round_engine.proofs.Numbered.{closed_at, closed_many, growing_at, growing_many, log_of_is, whole_of}
 use Rattle.round_engine.proofs.SharesRun.{IsRanOf, lines_of, logged_above, logged_nothing, outcomes_of, run_caused}
+use Rattle.round_engine.proofs.SharesRun.{same_slots, tries_caused}
 use Rattle.round_engine.proofs.SharesRun.{same_decls}
 use Rattle.round_engine.proofs.SharesRun.{shares_lines, shares_run}
 use Rattle.round_engine.proofs.Places.{all_from, map_there}
@@ -146,6 +147,7 @@ module _ {D : Type 0} {tells : D → Option (List ℕ)} {clock : D → ℕ} {ima
       sequence = sequence_of old.save.newest;
       pages = length old.store.pages;
       room = old.room;
+      slots = old.stands.slots;
       files = files_of old;
       marks = first_epochs start;
       logs = map (λ (p : Share). p.refusal) part.stops.shares;
@@ -432,6 +434,7 @@ module _ {D : Type 0} {tells : D → Option (List ℕ)} {clock : D → ℕ} {ima
             sequence = refl;
             pages = refl;
             room = refl;
+            slots = refl;
             files = refl;
             workers = length-map start (λ (log : LogState). log.mark.epoch ∷ []) ∙ start_many;
             marks = λ w log epochs at are.
@@ -441,10 +444,12 @@ module _ {D : Type 0} {tells : D → Option (List ℕ)} {clock : D → ℕ} {ima
           };
           lines = record {
             decls = same_decls runs;
+            slots = same_slots runs;
             run = λ index. (run index).0;
             caused = record {
               logs = logs_caused_so;
               outcomes = run_caused front ran runs of;
+              tries = tries_caused old.stands.slots shares runs.caused;
               answers = tt;
             };
             conflicts = runs.conflicts;

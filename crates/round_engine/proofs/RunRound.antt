@@ -26,7 +26,7 @@ use Rattle.round_engine.specs.Standing.{AreClosed, ArePassed, beside_of, HasSnap
 use Rattle.round_engine.specs.Workers.{RunsWorkers, StopsWorkers, refusal_of}
 use Rattle.round_engine.specs.declared.report.End.{End}
 use Rattle.round_engine.specs.declared.rounds.LineRefusals.{LineRefusals}
-use Rattle.worker_cells.specs.declared.cell.LogEnd.{LogEnd}
+use Rattle.shared_rounds.specs.Below.{LogEnd}
 use Rattle.round_engine.proofs.Devices.{are_down}
 use Rattle.round_engine.proofs.Ended.{failed_down, first_down}
 use Rattle.round_engine.proofs.EndTold.{nothing}

@@ -22,7 +22,7 @@ use Rattle.worker_logs.specs.Changes.{IsLogged}
 use Rattle.tx_script.specs.declared.answer.Answer.{Answer}
 use Rattle.tx_script.specs.declared.answer.Answer.TheVariants as answers
 use Rattle.tx_script.specs.declared.outcome.Outcome.{Outcome}
-use Rattle.tx_script.specs.Causes.{WorkersCaused}
+use Rattle.tx_script.specs.Causes.{IsTryCause, WorkersCaused}
 use Rattle.tx_script.specs.Run.{AdvancesTo, IsBetween, IsOfRound, IsRun, LogRefusal, OneForEach, Ran, TryRefusal}
 use Rattle.tx_script.specs.Run.{entries_of_workers, of_worker}
 use Rattle.round_engine.specs.Changes.{AreLogged}
@@ -66,6 +66,10 @@ module _ {X : Type 0} (P : X → Type 0) where
 pub same_decls : {tries : ℕ} {s t : Standing} {shares : List Share} → RunsShares tries s t shares → t.decls ≡ s.decls
 same_decls runs = ap (λ (x : Standing). x.decls) runs.only
 
+-- and so do the slots
+pub same_slots : {tries : ℕ} {s t : Standing} {shares : List Share} → RunsShares tries s t shares → t.slots ≡ s.slots
+same_slots runs = ap (λ (x : Standing). x.slots) runs.only
+
 -- ---- one outcome for each line
 
 pub shares_one_each : (decls : List Decl) (first last tries : ℕ) (shares : List Share)
@@ -74,6 +78,13 @@ shares_one_each decls first last tries [] each = tt
 shares_one_each decls first last tries (p ∷ shares) each = (each.0.one_each, shares_one_each decls first last tries shares each.1)
 
 -- ---- causes
+
+-- each refusal of a try has its cause
+pub tries_caused : (slots : ℕ) (shares : List Share)
+    → AllByRecursion (λ (p : Share). AllByRecursion (AllByRecursion (IsTryCause slots)) p.tries_refused) shares
+    → AllByRecursion (AllByRecursion (AllByRecursion (IsTryCause slots))) (tries_of shares)
+tries_caused slots [] each = tt
+tries_caused slots (p ∷ shares) each = (each.0, tries_caused slots shares each.1)
 
 -- each line has its cause
 shares_caused : (decls : List Decl) (ran : Ran) (shares : List Share)

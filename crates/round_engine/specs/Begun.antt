@@ -10,22 +10,23 @@ use Rattle.log_writer.specs.Points.{SaveState}
 use Rattle.snapshot_store.specs.Content.{SnapshotStands}
 use Rattle.snapshot_store.specs.Store.{StoreState}
 use Rattle.commit_core.specs.Keys.{content_at}
-use Rattle.array_opening.specs.Opening.{stands_in}
 use Rattle.worker_logs.specs.Logs.{fresh_log}
 use Rattle.worker_logs.specs.declared.savepoints.Side.TheVariants.{Even}
 use Rattle.shared_rounds.specs.Standing.{Standing}
+use Rattle.round_engine.specs.FirstRecords.{stands_in}
 use Rattle.round_engine.specs.LineEngines.{SharesWords}
 use Rattle.round_engine.specs.Standing.{RuntimeState}
 
--- the engine in a state, with what stood at keys as its words were made, at this number
-abbrev pub begins_at : List Decl → State → List (Key × Content) → Number → Standing
-begins_at decls state opening first = record {
+-- the engine in a state, with what stood at keys as its words were made, at this number, with so many slots
+abbrev pub begins_at : List Decl → State → List (Key × Content) → Number → ℕ → Standing
+begins_at decls state opening first slots = record {
   decls = decls;
   state = state;
   opening = opening;
   clock = first;
   mine = [];
   conflicts = 0;
+  slots = slots;
   ended = false;
 }
 
@@ -35,17 +36,20 @@ abbrev pub OpensOn : List (List ℕ) → ℕ → Standing → Type 0
 OpensOn pages number s = SharesWords s → (contents : Contents) → SnapshotStands pages number contents → (key : Key)
     → content_at s.opening key ≡ stands_in pages contents.storages key
 
--- An engine begins in this state, at this number, and opens with the records of that snapshot.
-pub record Begins (pages : List (List ℕ)) (number : ℕ) (decls : List Decl) (state : State) (first : Number)
+-- An engine begins in this state, at this number, and opens with the records of that snapshot. Words that threads share
+-- have so many slots.
+pub record Begins (pages : List (List ℕ)) (number : ℕ) (decls : List Decl) (state : State) (first : Number) (slots : ℕ)
     (s : Standing) : Type 0 where
-  pub stands : s ≡ begins_at decls state s.opening first
+  pub stands : s ≡ begins_at decls state s.opening first s.slots
   pub opens : OpensOn pages number s
+  pub slots_are : SharesWords s → s.slots ≡ slots
 
--- In a settled state with its stores, at this number, with so many pages let in. All log files are empty: those of even
--- number grow, with empty logs marked at the epoch before, which is also that at which the others were closed.
-abbrev pub begun : List Decl → State → List (Key × Content) → SaveState → StoreState → ℕ → Number → RuntimeState
-begun decls state opening save store room first = record {
-  stands = begins_at decls state opening first;
+-- In a settled state with its stores, at this number, with so many slots, and so many pages let in. All log files are
+-- empty: those of even number grow, with empty logs marked at the epoch before, which is also that at which the others
+-- were closed.
+abbrev pub begun : List Decl → State → List (Key × Content) → ℕ → SaveState → StoreState → ℕ → Number → RuntimeState
+begun decls state opening slots save store room first = record {
+  stands = begins_at decls state opening first slots;
   save = save;
   store = store;
   room = room;

@@ -31,6 +31,7 @@ without_lines r failed durable = record {
     sequence = sequence_of r.save.newest;
     pages = length r.store.pages;
     room = r.room;
+    slots = r.stands.slots;
     files = files_of r;
     marks = replicate 8 [];
     logs = [];

@@ -1,5 +1,6 @@
 pub mod Sides
 pub mod Standing
+pub mod FirstRecords
 pub mod Begun
 pub mod Changes
 pub mod Logs

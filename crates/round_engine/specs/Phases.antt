@@ -27,7 +27,7 @@ use Rattle.round_engine.specs.Workers.{RunsWorkers, StopsWorkers}
 use Rattle.round_engine.specs.declared.report.End.{End}
 use Rattle.round_engine.specs.declared.report.Report.{Report}
 use Rattle.round_engine.specs.declared.rounds.LineRefusals.{LineRefusals}
-use Rattle.worker_cells.specs.declared.cell.LogEnd.{LogEnd}
+use Rattle.shared_rounds.specs.Below.{LogEnd}
 
 -- the runtime as the end of the round leaves it
 abbrev pub ended_as : RuntimeState → Bool → Bool → RuntimeState

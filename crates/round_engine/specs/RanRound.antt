@@ -79,6 +79,7 @@ pub record Begins (tries : ℕ) (round : Round) (old : RuntimeState) (ran : Ran)
   pub sequence : ran.beside.sequence ≡ sequence_of old.save.newest
   pub pages : ran.beside.pages ≡ length old.store.pages
   pub room : ran.beside.room ≡ old.room
+  pub slots : ran.beside.slots ≡ old.stands.slots
   pub files : ran.beside.files ≡ files_of old
   pub workers : length ran.beside.marks ≡ 8
   pub marks : (worker : ℕ) (log : LogState) (epochs : List (Option ℕ)) → slice_get old.logs worker ≡ Some log
@@ -90,6 +91,7 @@ pub record Begins (tries : ℕ) (round : Round) (old : RuntimeState) (ran : Ran)
 -- lines' tries are those that the engine counted.
 pub record RunsRoundLines (round : Round) (old new : RuntimeState) (ran : Ran) (logged : ℕ → List Commit) : Type 0 where
   pub decls : new.stands.decls ≡ old.stands.decls
+  pub slots : new.stands.slots ≡ old.stands.slots
   pub run : (index : ℕ)
       → IsRun old.stands.decls index (round ∷ []) old.stands.state old.stands.clock (ran ∷ []) new.stands.state
   pub caused : AllCaused ran
@@ -227,8 +229,8 @@ module _ {D : Type 0} (tells : D → Option (List ℕ)) (clock : D → ℕ) (ima
 -- ---- a round
 
 -- A round was run, each line being tried so often at most, and joined. Each number was drawn for a commit, or for a try
--- that was refused behind its draw. A try in conflict met a line of another worker of the round, at a key that it
--- touches and that one may change. Where nothing ends the run, its last epoch is durable. Where a tree is declared no
+-- that was refused behind its draw. A try in conflict at a record met a line of another worker of the round, at a key
+-- that it touches and that one may change. Where nothing ends the run, its last epoch is durable. Where a tree is declared no
 -- line is in another's way; on words that threads share the commits are those which came to their history. The runtime
 -- is down just where a device failed.
 pub record RanRound (tries : ℕ) (round : Round) (old new : RuntimeState) (report : Report) : Type 0 where

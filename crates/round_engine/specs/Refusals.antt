@@ -11,7 +11,7 @@ use Rattle.round_engine.specs.declared.report.End.{End}
 use Rattle.round_engine.specs.declared.report.End.TheVariants as ends
 use Rattle.round_engine.specs.declared.report.LimitName.TheVariants.{Bank, Draw, Sequence}
 use Rattle.round_engine.specs.declared.rounds.LineRefusals.{LineRefusals}
-use Rattle.worker_cells.specs.declared.cell.LogEnd.{LogEnd}
+use Rattle.shared_rounds.specs.Below.{LogEnd}
 
 -- the first growing log file that failed, of the workers from this one on
 abbrev pub first_failed : Side → ℕ → List LogEnd → Option Device

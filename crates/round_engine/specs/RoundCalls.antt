@@ -3,9 +3,7 @@ use Rattle.std.specs.Prelude.{◌+◌, ℕ, List, [], ◌∷◌, Bool, true, fal
 use Rattle.tx_script.specs.declared.answer.Answer.{Answer}
 use Rattle.tx_script.specs.declared.answer.Answer.TheVariants.{Unrun}
 use Rattle.tx_script.specs.declared.outcome.Outcome.{Outcome}
-use Rattle.worker_cells.specs.Gates.{GateCall, calls_for, is_run}
-use Rattle.worker_cells.specs.declared.cell.LogEnd.{LogEnd}
-use Rattle.worker_cells.specs.declared.gate_calls.GateCalls.{GateCalls}
+use Rattle.shared_rounds.specs.Below.{GateCall, GateCalls, LogEnd, calls_for, is_run}
 
 -- whether a line of the maintenance thread was run
 abbrev pub is_answered : Answer → Bool

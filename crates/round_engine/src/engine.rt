@@ -18,20 +18,19 @@ ghost use Rattle.round_engine.specs.Histories.{KeepsHistory};
 ghost use Rattle.plain_rounds.specs.InTurn.{RunsInTurn};
 ghost use Rattle.plain_rounds.specs.Plainly.{DrewOnce};
 ghost use Rattle.round_engine.specs.LineEngines.{SharesWords, standing_of};
-ghost use Rattle.brief_output.specs.Brief.{total_of};
-ghost use Rattle.worker_cells.specs.Gates.{AreAllTold};
+ghost use Rattle.shared_rounds.specs.Below.{AreAllTold};
 
-use crate::opening::newest_records;
+use crate::opening::newest_start;
+use lists::Sequence;
 use outside::Disk;
 use plain_rounds::PlainEngine;
 use serial_model::{Decl, Decls, Memory, Number, State};
-use shared_rounds::{Rooms, SharedEngine, WorkersRan, are_arrays, make_rooms};
+use shared_rounds::{LineGate, Rooms, SharedEngine, WorkersRan, are_arrays, make_rooms};
 use snapshot_store::SnapStore;
 use std::alloc::Global;
 use std::marker::Model;
 use std::thread::Threads;
 use tx_script::Round;
-use worker_cells::LineGate;
 use worker_logs::WorkerLog;
 
 /// What runs the lines.
@@ -65,24 +64,27 @@ impl Model for Engine {
 }
 
 impl Engine {
-    /// An engine in this state, which gives this number first. Words that threads share open with the records of the
-    /// newest snapshot.
+    /// An engine in this state, which gives this number first. Words that threads share have so many slots, and open
+    /// with the records of the newest snapshot.
     pub(crate) fn new(
         alloc: Global,
         store: &SnapStore,
         decls: Decls,
         state: State,
         first: Number,
+        slots: u32,
     ) -> Result<Engine, Memory>
         requires decls { AreDecls decls }
         requires first { IsNumber first }
+        requires some_slots { 1 ≤ slots }
+        requires most_slots { slots ≤ 4096 }
         requires snapshot { (contents : Contents) × IsNewestSnapshot (words_of store.now.pages)
             (length store.now.pages) decls state (first.epoch - 1) contents }
         ensures { IfOk result
-            (Begins (words_of store.now.pages) (length store.now.pages) decls state first) }
+            (Begins (words_of store.now.pages) (length store.now.pages) decls state first slots) }
     {
         Ok(Engine {
-            line_engine: line_engine_for(alloc, store, decls, state, first)?,
+            line_engine: line_engine_for(alloc, store, decls, state, first, slots)?,
             ended: false,
         })
     }
@@ -117,17 +119,6 @@ impl Engine {
         match &self.line_engine {
             LineEngine::Plain(engine) => engine.decls(),
             LineEngine::Shared(engine) => engine.decls(),
-        }
-    }
-
-    /// The sum of all values.
-    pub(crate) fn total(&mut self) -> u128
-        ensures value { result ≡ total_of self.old.state }
-        ensures alone { self.new ≡ self.old }
-    {
-        match &mut self.line_engine {
-            LineEngine::Plain(engine) => engine.total(),
-            LineEngine::Shared(engine) => engine.total(),
         }
     }
 
@@ -276,16 +267,19 @@ fn line_engine_for(
     decls: Decls,
     state: State,
     first: Number,
+    slots: u32,
 ) -> Result<LineEngine, Memory>
     requires decls { AreDecls decls }
     requires first { IsNumber first }
+    requires some_slots { 1 ≤ slots }
+    requires most_slots { slots ≤ 4096 }
     requires snapshot { (contents : Contents) × IsNewestSnapshot (words_of store.now.pages)
         (length store.now.pages) decls state (first.epoch - 1) contents }
-    ensures { IfOk result (λ line_engine.
-        Begins (words_of store.now.pages) (length store.now.pages) decls state first (standing_of line_engine false)) }
+    ensures { IfOk result (λ line_engine. Begins (words_of store.now.pages) (length store.now.pages) decls state first
+        slots (standing_of line_engine false)) }
 {
     if are_arrays(decls.as_slice(), &state) {
-        return shared_lines(alloc, store, decls, state, first);
+        return shared_lines(alloc, store, decls, state, first, slots);
     }
     Ok(plain_lines(decls, state, first))
 }
@@ -294,30 +288,34 @@ fn line_engine_for(
 fn plain_lines(decls: Decls, state: State, first: Number) -> LineEngine
     requires first { IsNumber first }
     requires apart { are_arrays decls state ≡ false }
-    ensures { (pages : List (List ℕ)) (number : ℕ)
-        → Begins pages number decls state first (standing_of result false) }
+    ensures { (pages : List (List ℕ)) (number slots : ℕ)
+        → Begins pages number decls state first slots (standing_of result false) }
 {
     LineEngine::Plain(PlainEngine::new(decls, state, first))
 }
 
-// Each record of the words opens as the newest snapshot has it, so the map isn't wanted any more.
+// The words open with the pages of the newest snapshot, so the map isn't wanted any more.
 fn shared_lines(
     alloc: Global,
     store: &SnapStore,
     decls: Decls,
     state: State,
     first: Number,
+    slots: u32,
 ) -> Result<LineEngine, Memory>
     requires decls { AreDecls decls }
     requires arrays { are_arrays decls state ≡ true }
     requires first { IsNumber first }
+    requires some_slots { 1 ≤ slots }
+    requires most_slots { slots ≤ 4096 }
     requires snapshot { (contents : Contents) × IsNewestSnapshot (words_of store.now.pages)
         (length store.now.pages) decls state (first.epoch - 1) contents }
-    ensures { IfOk result (λ line_engine.
-        Begins (words_of store.now.pages) (length store.now.pages) decls state first (standing_of line_engine false)) }
+    ensures { IfOk result (λ line_engine. Begins (words_of store.now.pages) (length store.now.pages) decls state first
+        slots (standing_of line_engine false)) }
 {
     drop(state);
-    let records = newest_records(alloc, store)?;
-    let engine = SharedEngine::new(alloc, decls.as_slice(), records, first)?;
+    let copy = Sequence::from_slice(alloc, decls.as_slice())?;
+    let start = newest_start(alloc, store, copy, first, slots)?;
+    let engine = SharedEngine::new(alloc, decls, start)?;
     Ok(LineEngine::Shared(engine))
 }

@@ -3,7 +3,7 @@ ghost use Rattle.std.specs.Prelude.{◌≡◌, ◌≤◌, ◌<◌, ◌+◌, ◌|
 ghost use Rattle.tx_script.specs.declared.answer.Answer.{Answer};
 ghost use Rattle.script_grammar.specs.Script.{IsAsked, keeper_lines};
 ghost use Rattle.tx_script.specs.Run.{CanRun};
-ghost use Rattle.worker_cells.specs.Gates.{Before, IsTold, calls_for, calls_in, calls_of};
+ghost use Rattle.shared_rounds.specs.Below.{Before, IsTold, calls_for, calls_in, calls_of};
 ghost use Rattle.worker_logs.specs.Saves.{SavesMarks, logs_marks};
 ghost use Rattle.round_engine.specs.Ends.{save_limited};
 ghost use Rattle.round_engine.specs.Keeping.{CanKeep, RunsKeeper, StepsEpoch, StepsGlean, StepsKeeper, StepsLine};
@@ -18,11 +18,11 @@ use gleaner::{GleanFault, Gleaned, Gleaning};
 use lists::OrMemory;
 use log_writer::{SaveFault, Vault};
 use outside::{Device, Disk};
+use shared_rounds::{GateCalls, LineGate};
 use std::alloc::Global;
 use std::sync::Wait;
 use std::thread::Threads;
 use tx_script::{Answer, KeeperLine, Round};
-use worker_cells::{GateCalls, LineGate};
 use worker_logs::{Beside, save_marks};
 
 /// The maintenance thread, as a gate is told of it.

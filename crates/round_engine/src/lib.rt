@@ -5,9 +5,9 @@
 //! - [`round`]: one outcome for each line and one answer for each line of the maintenance thread, each with its cause;
 //!   the commits, in order of number, are a serial run from the standing before to the one after, and the logs have
 //!   what they changed; each number was drawn for a commit or for a try that was refused behind its draw; a try in
-//!   conflict met a line of another worker of the round; on words the commits are those of their history; the join
-//!   makes the round's last epoch durable or ends the run, with the first refusal (`rounds`, by `RanRound`). A line is
-//!   left out only where its worker's log refused one earlier in the round (`rounds`, by `LeavesLinesOut`). Of the
+//!   conflict at a record met a line of another worker of the round; on words the commits are those of their history;
+//!   the join makes the round's last epoch durable or ends the run, with the first refusal (`rounds`, by `RanRound`). A
+//!   line is left out only where its worker's log refused one earlier in the round (`rounds`, by `LeavesLinesOut`). Of the
 //!   vault, each log file grew by its worker's lines and its marks count what is durable; the savepoints stored are
 //!   those that are told (`rounds`, by `LeavesVault`). After want of memory all is as it was (`IsUnbegun`), as always
 //!   where lines run on words (`unbegun`); or a front of the workers' lines was run on the map, nothing was stored, and
@@ -15,9 +15,10 @@
 //! - [`join_round`]: the same of a round without lines (`joins`, by `Joins`).
 //! - [`Runtime::is_down`]: behind a round or a join just where a device failed (`down` of `RanRound` and `Joins`), and
 //!   where memory was wanted within a round (`down` of `StopsIn`).
-//! - [`Runtime::total`]: the sum of all values behind the rounds that were run, without a device.
 //! - [`Runtime::new`] begins in the settled state, in the epoch after the saved one, with empty logs (`begins`). Words
-//!   that threads share open with the newest snapshot's records, each with its number (`opens`).
+//!   that threads share open with the newest snapshot's records, each with its number (`opens`), and have so many slots
+//!   as are asked for (`slots`). The pages that they have are those of the store then; snapshots that are made within a
+//!   run are read by the next one.
 //!
 //! Invariants: a runtime has a log for each of eight workers, and knows what the newest savepoint says; while the run
 //! goes on, no line waits between two rounds, and each mark counts all that is durable (`IsReady`).

@@ -1,40 +1,71 @@
-// What words that threads share open with.
-ghost use Rattle.std.specs.Prelude.{◌≡◌, IfOk, length};
-ghost use Rattle.std.specs.List.{AllByRecursion};
-ghost use Rattle.serial_model.specs.declared.key.Key.{Key as TheKey};
-ghost use Rattle.serial_model.specs.declared.number.Number.{Number as TheNumber};
-ghost use Rattle.wire_form.specs.Pages.{Contents, decls_of};
-ghost use Rattle.snapshot_store.specs.Content.{SnapshotStands, words_of};
-ghost use Rattle.commit_core.specs.Keys.{content_at};
-ghost use Rattle.engine_words.specs.Making.{StandsFirst};
-ghost use Rattle.engine_words.specs.Rule.{IsSmall};
-ghost use Rattle.array_opening.specs.Opening.{stands_in, AreOlder};
+// What words that threads share are made from.
+ghost use Rattle.std.specs.Prelude.{◌≡◌, ◌<◌, IfOk, Some, length, map, slice_get};
+ghost use Rattle.wire_form.specs.Pages.{Contents};
+ghost use Rattle.snapshot_store.specs.Content.{CatalogueAt, words_of};
+ghost use Rattle.round_engine.specs.FirstRecords.{IsOfNewest, root_in};
 
-use array_opening::opening;
-use homes::Content;
+use engine_pages::Start;
 use lists::{Memory, Sequence};
 use recovery_core::newest_storages;
-use serial_model::Key;
+use serial_model::{Decls, Number};
 use snapshot_store::SnapStore;
 use std::alloc::Global;
-use wire_form::catalogue_declares;
+use wire_form::{Page, Stored};
 
-/// The records that the newest snapshot has at the keys of arrays, with their numbers.
-pub(crate) fn newest_records(
+/// An engine's beginning over all pages of the store, the last of which is the newest snapshot's catalogue, with its
+/// roots; it gives this number first, and has so many slots.
+pub(crate) fn newest_start(
     alloc: Global,
     store: &SnapStore,
-) -> Result<Sequence<(Key, Content)>, Memory>
-    requires { (contents : Contents)
-        × SnapshotStands (words_of store.now.pages) (length store.now.pages) contents }
-    ensures records { IfOk result (λ records. (contents : Contents)
-        → SnapshotStands (words_of store.now.pages) (length store.now.pages) contents → (key : TheKey)
-        → content_at records key ≡ stands_in (words_of store.now.pages) contents.storages key) }
-    ensures opens { IfOk result (λ records. (contents : Contents) (first : TheNumber)
-        → SnapshotStands (words_of store.now.pages) (length store.now.pages) contents → IsSmall first
-        → AreOlder (words_of store.now.pages) contents.storages first
-        → AllByRecursion (StandsFirst first (decls_of contents)) records) }
+    decls: Decls,
+    first: Number,
+    slots: u32,
+) -> Result<Start, Memory>
+    requires { (contents : Contents) × CatalogueAt (words_of store.now.pages) (length store.now.pages) contents }
+    ensures { IfOk result (IsOfNewest first decls slots store.now.pages) }
 {
-    catalogue_declares();
     let storages = newest_storages(alloc, store)?;
-    opening(alloc, store, storages.as_slice())
+    let roots = roots_of(alloc, storages.as_slice())?;
+    let pages = copy_pages(alloc, store)?;
+    // As many pages have words as there are: the next run has those of snapshots that this one makes.
+    Ok(Start::new(first, decls, roots, slots, store.count(), pages))
+}
+
+// The number of the page of each root, or 0.
+fn roots_of(alloc: Global, storages: &[Stored]) -> Result<Sequence<u32>, Memory>
+    ensures { IfOk result (λ roots. roots ≡ map root_in storages.now) }
+{
+    let mut roots = Sequence::new(alloc);
+    for i in 0..storages.len() {
+        roots.push(root_at(storages, i))?;
+    }
+    Ok(roots)
+}
+
+// The number of the page of one root, or 0.
+fn root_at(storages: &[Stored], i: usize) -> u32
+    requires { i < length storages.now }
+    ensures { slice_get (map root_in storages.now) i ≡ Some result }
+{
+    storages[i].root
+}
+
+// All pages of the store.
+fn copy_pages(alloc: Global, store: &SnapStore) -> Result<Sequence<Page>, Memory>
+    ensures { IfOk result (λ pages. pages ≡ store.now.pages) }
+{
+    let mut pages = Sequence::new(alloc);
+    for i in 0..store.count() {
+        pages.push(page_at(store, i))?;
+    }
+    Ok(pages)
+}
+
+// The page with this index.
+fn page_at(store: &SnapStore, i: u32) -> Page
+    requires within { i < length store.now.pages }
+    requires few { i < 65536 }
+    ensures { slice_get store.now.pages i ≡ Some result }
+{
+    *store.page(i + 1)
 }

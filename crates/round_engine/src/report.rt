@@ -2,8 +2,8 @@
 
 use arrayvec::ArrayVec;
 use outside::Device;
+use shared_rounds::GateCalls;
 use tx_script::{Answers, RoundOutcomes};
-use worker_cells::GateCalls;
 
 /// A limit of the engine, in the order in which limits of one round are told.
 #[derive(Clone, Copy, Debug, PartialEq, Eq)]

@@ -26,7 +26,7 @@ ghost use Rattle.plain_rounds.specs.Plainly.{DrewOnce};
 ghost use Rattle.round_engine.specs.LineEngines.{SharesWords};
 ghost use Rattle.round_engine.specs.RoundCalls.{calls_at, round_calls};
 ghost use Rattle.round_engine.specs.Unbegun.{IsUnbegun, RoomAlone};
-ghost use Rattle.worker_cells.specs.Gates.{AreAllTold, calls_in};
+ghost use Rattle.shared_rounds.specs.Below.{AreAllTold, calls_in};
 ghost use Rattle.shared_rounds.specs.Rooms.{IsRoomOf};
 ghost use Rattle.round_engine.specs.Workers.{idle_if_not};
 ghost use Rattle.round_engine.specs.declared.report.End.TheVariants as ends;
@@ -41,12 +41,11 @@ use arrayvec::ArrayVec;
 use log_writer::Vault;
 use outside::{Device, Disk, Gate};
 use serial_model::{Memory, WORKERS};
-use shared_rounds::{LogEnd, Rooms, WorkersRan};
+use shared_rounds::{GateCalls, LineGate, LogEnd, Rooms, WorkersRan};
 use std::alloc::Global;
 use std::sync::Wait;
 use std::thread::Threads;
 use tx_script::{Answer, Answers, Outcomes, Round, RoundOutcomes};
-use worker_cells::{GateCalls, LineGate};
 use worker_logs::Side;
 
 /// Runs the workers' lines, each between the gate's two calls and tried so often at most, then those of the

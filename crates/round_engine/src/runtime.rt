@@ -12,12 +12,12 @@ ghost use Rattle.log_writer.specs.Save.{IsStored};
 ghost use Rattle.snapshot_store.specs.Content.{words_of};
 ghost use Rattle.snapshot_store.specs.Store.{HoldsPages};
 ghost use Rattle.tx_script.specs.Run.{clock_after};
-ghost use Rattle.brief_output.specs.Brief.{total_of};
 ghost use Rattle.worker_logs.specs.Logs.{fresh_log};
 ghost use Rattle.worker_logs.specs.Saves.{CountsOf};
 ghost use Rattle.worker_logs.specs.declared.savepoints.Side.TheVariants.{Even};
 ghost use Rattle.recovery_core.specs.NewestSnapshot.{IsNewestSnapshot};
 ghost use Rattle.round_engine.specs.Begun.{OpensOn, begun};
+ghost use Rattle.round_engine.specs.LineEngines.{SharesWords};
 ghost use Rattle.round_engine.specs.Logs.{AreClosedFiles, AreLogs};
 ghost use Rattle.round_engine.specs.Standing.{StandsOn};
 
@@ -79,8 +79,8 @@ impl Model for Runtime {
 
 impl Runtime {
     /// A runtime over a vault that was just settled, in its state, and in the epoch after the saved one. Where words
-    /// that threads share run the lines, each record of an array opens as the newest snapshot has it, with its number.
-    /// The logs are empty, and the vault is left as it is.
+    /// that threads share run the lines, each record of an array opens as the newest snapshot has it, with its number,
+    /// and they have the slots that are asked for. The logs are empty, and the vault is left as it is.
     pub fn new<D: Disk>(
         alloc: Global,
         vault: &mut Vault<D>,
@@ -104,9 +104,10 @@ impl Runtime {
         requires empty { AlwaysTells D.tells → (number : ℕ) (bank : D)
             → disk_in vault.old (devices.Bank number) ≡ Some bank → D.tells bank ≡ Some [] }
         ensures begins { IfOk result (λ runtime. runtime ≡ begun settled.decls settled.state
-            runtime.stands.opening settled.save settled.store config.snap config.first) }
+            runtime.stands.opening runtime.stands.slots settled.save settled.store config.snap config.first) }
         ensures opens { IfOk result (λ runtime.
             OpensOn (words_of settled.store.pages) (length settled.store.pages) runtime.stands) }
+        ensures slots { IfOk result (λ runtime. SharesWords runtime.stands → runtime.stands.slots ≡ config.slots) }
         ensures stands { IfOk result (λ runtime.
             StandsOn D.tells D.clock D.image_at runtime vault.new) }
         // Over log files that are empty as far as they tell, which a settling leaves.
@@ -122,14 +123,6 @@ impl Runtime {
         let _vault = &vault.ties;
         catalogue_declares();
         begin(alloc, settled, config)
-    }
-
-    /// The sum of all values behind the rounds that were run. It calls no device.
-    pub fn total(&mut self) -> u128
-        ensures value { result ≡ total_of self.old.stands.state }
-        ensures alone { self.new ≡ self.old }
-    {
-        self.engine.total()
     }
 
     /// Whether a round or a join ended the run: by a refusal, or for want of memory within it. Then no further
@@ -156,9 +149,10 @@ fn begin(alloc: Global, settled: Settled, config: Config) -> Result<Runtime, Mem
     requires snapshot { (contents : Contents) × IsNewestSnapshot (words_of settled.store.pages)
         (length settled.store.pages) settled.decls settled.state settled.saved.epoch contents }
     ensures begins { IfOk result (λ runtime. runtime ≡ begun settled.decls settled.state
-        runtime.stands.opening settled.save settled.store config.snap config.first) }
+        runtime.stands.opening runtime.stands.slots settled.save settled.store config.snap config.first) }
     ensures opens { IfOk result (λ runtime.
         OpensOn (words_of settled.store.pages) (length settled.store.pages) runtime.stands) }
+    ensures slots { IfOk result (λ runtime. SharesWords runtime.stands → runtime.stands.slots ≡ config.slots) }
 {
     let Settled {
         save,
@@ -169,7 +163,7 @@ fn begin(alloc: Global, settled: Settled, config: Config) -> Result<Runtime, Mem
     } = settled;
     let closed_at = config.first.epoch - 1;
     let logs = new_logs(alloc, closed_at)?;
-    let engine = Engine::new(alloc, &store, decls, state, config.first)?;
+    let engine = Engine::new(alloc, &store, decls, state, config.first, config.slots)?;
     Ok(Runtime {
         engine,
         save,

@@ -1,52 +1,85 @@
--- Words open with the records of the pages, which have the state.
-use Rattle.std.proofs.Common.{◌≡◌, ◌∙◌, ap, false, subst, sym, true, List}
-use Rattle.std.specs.List.{AllByRecursion, list_all}
-use Rattle.serial_model.specs.Decls.{AreDecls}
+-- Words open with the pages of the newest snapshot, which have the state.
+use Rattle.std.proofs.Common.{◌≡◌, ◌∙◌, ◌-◌, ap, arith, false, subst, sym, true, List, [], Some, replicate}
+use Rattle.std.specs.List.{list_all}
 use Rattle.serial_model.specs.State.{State}
 use Rattle.serial_model.specs.declared.decl.Decl.{Decl}
+use Rattle.serial_model.specs.declared.key.Key.{Key}
+use Rattle.wire_form.specs.declared.records.Stored.{Stored}
 use Rattle.snapshot_store.specs.Content.{words_of}
 use Rattle.commit_core.specs.Keys.{content_at}
-use Rattle.engine_words.specs.Making.{StandsFirst}
+use Rattle.engine_pages.specs.declared.layout.Layout.{Layout}
+use Rattle.page_opening.specs.Making.{CanMake}
 use Rattle.shared_rounds.specs.Lines.{standing}
 use Rattle.shared_rounds.specs.SharedState.{SharedState, is_array, opened}
 use Rattle.round_engine.specs.Begun.{begins_at}
-use Rattle.round_engine.proofs.Opened.{all_arrays, older_than, opened_state}
+use Rattle.round_engine.specs.FirstRecords.{first_layout, stands_in}
+use Rattle.round_engine.proofs.Opened.{Starts, all_arrays, starts}
 use Rattle.round_engine.proofs.engine.shared_lines.Goals as goal
 
-pub newest_records-requires : goal.newest_records-requires
-newest_records-requires c = (c.requires.snapshot.0, c.requires.snapshot.1.stands)
+pub newest_start-requires : goal.newest_start-requires
+newest_start-requires c = (c.requires.snapshot.0, c.requires.snapshot.1.stands.here)
+
+-- an engine over these, on which nothing was run
+abbrev unused : Layout → SharedState
+unused l = record {
+  decls = l.decls;
+  state = opened l.opening;
+  opening = l.opening;
+  clock = l.first;
+  mine = [];
+  conflicts = 0;
+  marks = replicate 8 (record { epoch = Some (l.first.epoch - 1); length = 0 });
+  slots = l.slots;
+}
+
+pub new-requires-clause-can : goal.new-requires-clause-can
+new-requires-clause-can c =
+    let is = c.requires.snapshot.1 in
+    let made = c.in_ok-start.ensures in
+    let contents = c.requires.snapshot.0 in
+    let pages = c.args.store.now.pages in
+    let same = made.start_is
+    ∙ (ap (λ (ds : List Decl). first_layout c.args.first ds made.storages c.args.slots pages)
+    (c.in_ok-copy.ensures ∙ c.as_slice.ensures)
+    ∙ ap (λ (ss : List Stored). first_layout c.args.first c.args.decls ss c.args.slots pages) (made.are contents is.stands.here)) in
+    let so = starts pages contents c.args.decls c.args.state c.args.first c.args.slots made.few c.requires.some_slots
+    c.requires.most_slots c.requires.decls c.requires.arrays c.requires.first is in
+    subst CanMake (sym same) so.can
 
 pub new-requires-clause-decls : goal.new-requires-clause-decls
-new-requires-clause-decls c = subst AreDecls (sym c.as_slice.ensures) c.requires.decls
+new-requires-clause-decls c =
+    sym (ap (λ (l : Layout). l.decls) c.in_ok-start.ensures.start_is ∙ (c.in_ok-copy.ensures ∙ c.as_slice.ensures))
 
 pub new-requires-clause-arrays : goal.new-requires-clause-arrays
-new-requires-clause-arrays c = subst (λ (ds : List Decl). list_all is_array ds ≡ true) (sym c.as_slice.ensures)
-    (all_arrays c.args.decls c.args.state c.requires.arrays)
-
-pub new-requires-clause-opening : goal.new-requires-clause-opening
-new-requires-clause-opening c =
-    let is = c.requires.snapshot.1 in
-    let number = c.requires.first in
-    subst (λ (ds : List Decl). AllByRecursion (StandsFirst c.args.first ds) c.in_ok-records.records)
-    (sym (c.as_slice.ensures ∙ is.decls_are))
-    (c.in_ok-records.ensures.opens c.requires.snapshot.0 c.args.first is.stands
-    (record { draw = number.most_draw; epoch = number.most_epoch })
-    (older_than (words_of c.args.store.now.pages) c.requires.snapshot.0 c.args.first number is.up_to is.older))
+new-requires-clause-arrays c =
+    ap (list_all is_array)
+    (ap (λ (l : Layout). l.decls) c.in_ok-start.ensures.start_is ∙ (c.in_ok-copy.ensures ∙ c.as_slice.ensures))
+    ∙ all_arrays c.args.decls c.args.state c.requires.arrays
 
 pub returns : goal.returns
 returns c =
     let is = c.requires.snapshot.1 in
-    let engine = c.in_ok-engine.ensures.begins in
-    let records = c.in_ok-records.records in
-    let same = opened_state (words_of c.args.store.now.pages) c.requires.snapshot.0.storages c.args.decls c.args.state
-    records is.decls_are c.requires.decls c.requires.arrays is.content
-    (c.in_ok-records.ensures.records c.requires.snapshot.0 is.stands) in
+    let made = c.in_ok-start.ensures in
+    let contents = c.requires.snapshot.0 in
+    let pages = c.args.store.now.pages in
+    let first = c.args.first in
+    let decls = c.args.decls in
+    let slots = c.args.slots in
+    let same = made.start_is
+    ∙ (ap (λ (ds : List Decl). first_layout first ds made.storages slots pages) (c.in_ok-copy.ensures ∙ c.as_slice.ensures)
+    ∙ ap (λ (ss : List Stored). first_layout first decls ss slots pages) (made.are contents is.stands.here)) in
+    let so = starts pages contents decls c.args.state first slots made.few c.requires.some_slots c.requires.most_slots
+    c.requires.decls c.requires.arrays c.requires.first is in
+    let engine = c.in_ok-engine.ensures.begins ∙ ap unused same in
+    let l : Layout = first_layout first decls contents.storages slots pages in
     record {
       stands = ap (standing false) engine
-          ∙ ap (λ (ds : List Decl). begins_at ds (opened records) records c.args.first) c.as_slice.ensures
-          ∙ ap (λ (s : State). begins_at c.args.decls s records c.args.first) same
-          ∙ ap (λ (e : SharedState). begins_at c.args.decls c.args.state e.opening c.args.first) (sym engine);
-      opens = λ shares contents stands key.
+          ∙ (ap (λ (s : State). begins_at decls s l.opening first slots) so.state_is
+          ∙ ap (λ (e : SharedState). begins_at decls c.args.state e.opening first e.slots) (sym engine));
+      opens = λ shares others stands key.
           ap (λ (e : SharedState). content_at e.opening key) engine
-          ∙ c.in_ok-records.ensures.records contents stands key;
+          ∙ (so.opens key
+          ∙ ap (λ (ss : List Stored). stands_in (words_of pages) ss key)
+          (sym (made.are contents is.stands.here) ∙ made.are others stands.here));
+      slots_are = λ shares. ap (λ (e : SharedState). e.slots) engine;
     }

@@ -2,8 +2,7 @@
 use Rattle.std.proofs.Common.{◌≡◌, ◌∙◌, ◌++◌, ◌∷◌, [], None, refl, sym, ap, true≢false}
 use Rattle.std.specs.Prelude.{is_some}
 use Rattle.tx_script.specs.declared.answer.Answer.TheVariants.{Unrun}
-use Rattle.worker_cells.specs.GateLaws.{calls_both, told_left, told_ran}
-use Rattle.worker_cells.specs.Gates.{Before, calls_in}
+use Rattle.shared_rounds.specs.Below.{Before, calls_both, calls_in, told_left, told_ran}
 use Rattle.round_engine.proofs.Called.{line_run}
 use Rattle.round_engine.proofs.Places.{nothing_there}
 use Rattle.round_engine.proofs.keeper.answer_line.Goals as goal

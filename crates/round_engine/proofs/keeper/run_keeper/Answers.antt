@@ -8,8 +8,7 @@ use Rattle.script_grammar.specs.declared.lines.KeeperLine.{KeeperLine}
 use Rattle.tx_script.specs.declared.answer.Answer.{Answer}
 use Rattle.round_engine.specs.Ends.{save_limited}
 use Rattle.round_engine.specs.RoundCalls.{is_answered}
-use Rattle.worker_cells.specs.GateLaws.{told_none}
-use Rattle.worker_cells.specs.Gates.{calls_for, calls_in}
+use Rattle.shared_rounds.specs.Below.{calls_for, calls_in, told_none}
 use Rattle.round_engine.specs.Keeping.{is_limited, RunsKeeper}
 use Rattle.round_engine.specs.declared.report.End.{End}
 use Rattle.round_engine.proofs.KeeperSteps.{can_keep, keeper_begin, keeper_step, limited_on}

@@ -1,6 +1,6 @@
 -- The first lines of the maintenance thread were run and answered.
 use Rattle.std.proofs.Common.{◌≡◌, ◌≤◌, None, take}
-use Rattle.worker_cells.specs.Gates.{IsTold, calls_in}
+use Rattle.shared_rounds.specs.Below.{IsTold, calls_in}
 use Rattle.round_engine.specs.RoundCalls.{is_answered}
 use Rattle.std.specs.Prelude.{vec_capacity}
 use Rattle.std.specs.List.{filter_map}

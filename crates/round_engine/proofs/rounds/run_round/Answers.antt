@@ -10,7 +10,7 @@ use Rattle.round_engine.specs.Keeping.{RunsKeeper}
 use Rattle.round_engine.specs.Refusals.{device_refused}
 use Rattle.round_engine.specs.Standing.{RuntimeState}
 use Rattle.round_engine.specs.RoundCalls.{calls_at, round_calls}
-use Rattle.worker_cells.specs.Gates.{calls_in}
+use Rattle.shared_rounds.specs.Below.{calls_in}
 use Rattle.round_engine.proofs.Called.{all_called}
 use Rattle.round_engine.proofs.NothingRun.{room_none}
 use Rattle.round_engine.proofs.RunRound.{can_keep, ready_to_join, some_lines}

@@ -23,6 +23,9 @@ new-requires-clause-snapshot c =
     (before_first settled.saved.epoch c.args.config.first (ap (λ (n : Number). n.epoch) c.requires.first))
     c.requires.snapshot
 
+pub new-requires-clause-some_slots : goal.new-requires-clause-some_slots
+new-requires-clause-some_slots c = let some = c.requires.config.some_slots in omega (arith, some)
+
 pub returns-clause-begins : goal.returns-clause-begins
 returns-clause-begins c =
     let first = c.args.config.first in
@@ -39,4 +42,5 @@ returns-clause-begins c =
       down = false;
     } in
     ap (λ (s : Standing). made s c.in_ok-logs.logs.items) c.in_ok-engine.ensures.stands
-    ∙ ap (made (begins_at settled.decls settled.state c.in_ok-engine.engine.opening first)) c.in_ok-logs.ensures
+    ∙ ap (made (begins_at settled.decls settled.state c.in_ok-engine.engine.opening first c.in_ok-engine.engine.slots))
+    c.in_ok-logs.ensures

@@ -21,7 +21,7 @@ returns-clause-stands g c =
     let snapshot = c.requires.snapshot in
     IfOk-weaker c.begin.result _ _ (λ runtime is.
     subst (λ (r : RuntimeState). StandsOn g.D.Disk.tells g.D.Disk.clock g.D.Disk.image_at r c.args.vault.now) (sym is)
-    (begun_stands c.args.settled.decls c.args.settled.state runtime.stands.opening c.args.settled.save
+    (begun_stands c.args.settled.decls c.args.settled.state runtime.stands.opening runtime.stands.slots c.args.settled.save
     c.args.settled.store c.args.config.snap
     c.args.settled.saved c.args.config.first c.args.vault.now c.requires.known
     (ap (λ (n : Number). n.epoch) c.requires.first) c.requires.whole c.requires.up c.requires.stored
@@ -42,7 +42,7 @@ returns-clause-logs g c empty =
     subst (λ (r : RuntimeState). AreLogs g.D.Disk.tells g.D.Disk.clock g.D.Disk.image_at (λ worker. []) (λ worker. []) r
     c.args.vault.now × AreClosedFiles g.D.Disk.tells g.D.Disk.clock g.D.Disk.image_at (λ worker. []) (λ worker. []) r
     c.args.vault.now) (sym is)
-    (begun_logs c.args.settled.decls c.args.settled.state runtime.stands.opening c.args.settled.save
+    (begun_logs c.args.settled.decls c.args.settled.state runtime.stands.opening runtime.stands.slots c.args.settled.save
     c.args.settled.store c.args.config.snap c.args.config.first c.args.vault.now empty)) c.begin.ensures.begins
 
 pub returns-clause-counts : goal.returns-clause-counts

@@ -30,8 +30,8 @@ foedus runs the transactions of a script on a database and prints a line for eac
   foedus make SEED WORKERS LINES
 
   run         reads the script from standard input and runs it on what the folder vault keeps
-  --tries N   how often a transaction is tried that others are in the way of: 1 to 1000000, 1000 if left out
-  --slots N   pages in memory that can change: 4 to 4096, 256 if left out; no effect for now
+  --tries N   how often a transaction is tried that is in conflict: 1 to 1000000, 1000 if left out
+  --slots N   pages in memory that can change: 4 to 4096, 256 if left out; a transaction that finds none free is full
   --snap N    snapshot pages in memory: 1 to 65536, 4096 if left out
   --brief     prints how many transactions committed, the sum of all values that the database keeps then, and
               the last durable epoch, in place of the lines

@@ -100,8 +100,8 @@ module _ {D S : Type 0} (v : Vaults D) (source : Sources S) (options : RunOption
   pub script_answers : (script : Script) (old new : Output) (r : Result Ending Failed)
       → ReadsText source.had source.left (Ok script) → source.faults.after ≡ source.faults.before
       → TakesAtMost source.had source.left
-      → (options.brief ≡ false → RunsScript v options.snap options.tries script (AddsRun (Run options) old new r))
-      → (options.brief ≡ true → RunsInBrief v options.snap options.tries script (AddsText old new r))
+      → (options.brief ≡ false → RunsScript v options.snap options.slots options.tries script (AddsRun (Run options) old new r))
+      → (options.brief ≡ true → RunsInBrief v options.snap options.slots options.tries script (AddsText old new r))
       → IsRunStatus (status_told r)
       → ((n : ℕ) → AnswersFaults (record { before = n; after = n }) (record { before = old.faults; after = new.faults }) (status_told r))
       → (ReadsOnly (Run options) (status_told r) → VaultOnlyReads v.tells v.clock v.image_at v.faults v.was v.is)

@@ -6,6 +6,7 @@ use Rattle.std.specs.Io.KnownBytes.{Consumes, IsAtEnd}
 use Rattle.std.proofs.lemmas.Bool.{lt-ltb}
 use Rattle.std.proofs.lemmas.List.{append-nil}
 use Rattle.std.proofs.lemmas.List.Sorted.{IsPermutation-refl}
+use Rattle.lists.specs.declared.memory.OrMemory.{OrMemory}
 use Rattle.log_writer.specs.Vault.{IsWhole}
 use Rattle.log_writer.specs.declared.vault.Vault.{Vault}
 use Rattle.serial_model.specs.History.{Entry}
@@ -24,19 +25,22 @@ use Rattle.command_line.specs.declared.command.Command.TheVariants.{Run, Dump, S
 use Rattle.command_line.specs.declared.command.MakeArguments.{MakeArguments}
 use Rattle.command_line.specs.declared.command.RunOptions.{RunOptions}
 use Rattle.joint_crashes.specs.VaultReads.{VaultOnlyReads, vault_reads_none}
+use Rattle.recovery_core.specs.declared.fault.RecoverFault.{RecoverFault}
 use Rattle.program_calls.specs.Beginning.{Opening}
 use Rattle.program_calls.specs.Causes.{IsInFull}
-use Rattle.program_calls.specs.InBrief.{CameInBrief, SumsUp, up_to}
+use Rattle.program_calls.specs.InBrief.{CameInBrief, SumsUp, ended_behind, up_to}
 use Rattle.program_calls.specs.declared.ending.Ending.{Ending}
 use Rattle.program_calls.specs.declared.ending.Ending.TheVariants.{Finished, NoScript, Shape, Usage, ReadFault, NoDevice, Damaged, AtLimit, NoMemory, NoSnapshot}
 use Rattle.program_calls.specs.Ending.{AreBytes, Comes, IsNoText, IsReadOut, ReadsFirst, body_text, most_read}
 use Rattle.program_calls.specs.Main.{Came, Course}
+use Rattle.program_calls.specs.RoundCauses.{slots_asked}
 use Rattle.program_calls.specs.OnTheWay.{AddsRun, IsUnreadOf, ReadsText, RunsInBrief, RunsRounds, RunsScript}
 use Rattle.program_calls.specs.RunKept.{KeepsRun, StandsWhenStopped}
 use Rattle.program_calls.specs.Vaults.{IsUntouched, Vaults, vaults_of}
 use Rattle.program_calls.proofs.CrashesBegun.{stops_untouched}
 use Rattle.program_calls.proofs.Sentences.{recovered_from, rests_behind, snapshots_are, stands_for, stops_cover, stops_leave}
-use Rattle.program_calls.proofs.StandsStill.{none_over, nothing_come, untouched_snapshots, untouched_stands}
+use Rattle.program_calls.proofs.StandsStill.{none_over, none_slotted, nothing_come, untouched_snapshots}
+use Rattle.program_calls.proofs.StandsStill.{untouched_stands}
 
 -- where a run would begin that never does
 abbrev pub nowhere : Opening
@@ -76,8 +80,8 @@ module _ {D : Type 0} (v : Vaults D) where
   -- ---- a script is run
 
   -- the course of the run of a script that was read out
-  abbrev course_of : {snap tries : ℕ} {Shows : List Ran → State → Ending → Type 0} (had left : Option Bytes) (script : Script)
-      → ReadsText had left (Ok script) → RunsRounds v snap tries script Shows → Course
+  abbrev course_of : {snap slots tries : ℕ} {Shows : List Ran → State → Ending → Type 0} (had left : Option Bytes) (script : Script)
+      → ReadsText had left (Ok script) → RunsRounds v snap slots tries script Shows → Course
   course_of had left script text runs = record {
     bytes = text.bytes;
     script = Some script;
@@ -91,7 +95,7 @@ module _ {D : Type 0} (v : Vaults D) where
   -- what it comes to, and this is shown of it
   abbrev pub rounds_came : {Shows : List Ran → State → Ending → Type 0} (Others : List Ran → Ending → Type 0) (options : RunOptions)
       (had left : Option Bytes) (script : Script) (text : ReadsText had left (Ok script))
-      (runs : RunsRounds v options.snap options.tries script Shows) → Others runs.rans runs.ending
+      (runs : RunsRounds v options.snap options.slots options.tries script Shows) → Others runs.rans runs.ending
       → Came v (Run options) had left Others
   rounds_came Others options had left script text runs shown = record {
     course = course_of had left script text runs;
@@ -122,36 +126,40 @@ module _ {D : Type 0} (v : Vaults D) where
 
   -- the run of a script whose lines are told
   pub script_came : {Shows : List Ran → Ending → Type 0} (options : RunOptions) (had left : Option Bytes) (script : Script)
-      → ReadsText had left (Ok script) → RunsScript v options.snap options.tries script Shows → Came v (Run options) had left Shows
+      → ReadsText had left (Ok script) → RunsScript v options.snap options.slots options.tries script Shows → Came v (Run options) had left Shows
   script_came {Shows = Shows} options had left script text runs =
       rounds_came Shows options had left script text runs runs.shown
 
   -- what a stop leaves behind a run in brief, also while the vault is read for its sum
-  pub stops_behind : (mid : Vault D) (rans : List Ran) (ended : Ending) (total : Option ℕ) (decls : List Decl)
-      (commits : List Entry) (opening : Opening) (t : State) → SumsUp v mid rans t ended total
+  pub stops_behind : (mid : Vault D) (rans : List Ran) (ended : Ending) (total : Option ℕ)
+      (refusal : Option (OrMemory RecoverFault)) (decls : List Decl) (commits : List Entry) (opening : Opening) (t : State)
+      → SumsUp v mid rans total refusal
       → VaultOnlyReads v.tells v.clock v.image_at v.faults mid v.is
       → KeepsRun (up_to v mid) decls commits opening t rans ended → StandsWhenStopped v decls commits opening rans
-  stops_behind mid [] ended total decls commits opening t sums reads kept = subst (λ (x : Vault D).
-      StandsWhenStopped (vaults_of v.tells v.clock v.image_at v.faults v.was x) decls commits opening []) (sym sums.1)
+  stops_behind mid [] ended total refusal decls commits opening t sums reads kept = subst (λ (x : Vault D).
+      StandsWhenStopped (vaults_of v.tells v.clock v.image_at v.faults v.was x) decls commits opening []) (sym sums.2)
       kept.stops
-  stops_behind mid (ran ∷ rans) ended total decls commits opening t sums reads kept =
+  stops_behind mid (ran ∷ rans) ended total refusal decls commits opening t sums reads kept =
       kept.through_reads (λ none. cc) v.is reads
 
 module _ {D : Type 0} (v : Vaults D) where
   -- the same of a run in brief
   pub script_in_brief : {Shows : Bytes → Ending → Type 0} (options : RunOptions) (had left : Option Bytes) (script : Script)
-      → ReadsText had left (Ok script) → RunsInBrief v options.snap options.tries script Shows → CameInBrief v options had left Shows
+      → ReadsText had left (Ok script) → RunsInBrief v options.snap options.slots options.tries script Shows → CameInBrief v options had left Shows
   script_in_brief {Shows = Shows} options had left script text brief =
       let shown = brief.runs.shown in
       record {
         mid = brief.mid;
         total = brief.total;
-        came = rounds_came (up_to v brief.mid) (λ rans ended. Shows (run_in_brief rans brief.total) ended) options had left
+        refusal = brief.refusal;
+        came = rounds_came (up_to v brief.mid)
+            (λ rans ended. Shows (run_in_brief rans brief.total) (ended_behind ended brief.refusal)) options had left
             script text brief.runs shown.1;
         sums = shown.0;
         reads = brief.reads;
-        stops = stops_behind v brief.mid brief.runs.rans brief.runs.ending brief.total _ _ _ _ shown.0 brief.reads
-            brief.runs.kept;
+        whole = brief.whole;
+        stops = stops_behind v brief.mid brief.runs.rans brief.runs.ending brief.total brief.refusal _ _ _ _ shown.0
+            brief.reads brief.runs.kept;
       }
 
   -- the same of the options that were asked for
@@ -165,9 +173,12 @@ module _ {D : Type 0} (v : Vaults D) where
   brief_as has brief = record {
     mid = brief.mid;
     total = brief.total;
-    came = shown_as (up_to v brief.mid) (λ rans ended. has (run_in_brief rans brief.total) ended) brief.came;
+    refusal = brief.refusal;
+    came = shown_as (up_to v brief.mid)
+        (λ rans ended. has (run_in_brief rans brief.total) (ended_behind ended brief.refusal)) brief.came;
     sums = brief.sums;
     reads = brief.reads;
+    whole = brief.whole;
     stops = brief.stops;
   }
 
@@ -222,7 +233,7 @@ module _ {D : Type 0} (v : Vaults D) (whole : IsWhole v.was)
     behind = rests_behind v (nothing_of bytes ending) (nothing_kept ending same);
     history = nothing_come [] empty;
     caused = record {
-      in_rounds = record { caused = tt; durable = tt; sequences = tt; marks = tt; tried = tt; counted = tt; met = tt; plain = λ tree. tt };
+      in_rounds = record { caused = tt; durable = tt; sequences = tt; marks = tt; tried = tt; counted = tt; met = tt; plain = λ tree. tt; slotted = none_slotted (slots_asked command) [] empty };
       full = λ found told. tt;
       files = none_over;
     };
@@ -239,9 +250,11 @@ module _ {D : Type 0} (v : Vaults D) (whole : IsWhole v.was)
   nothing_in_brief options had left bytes ending are comes reads same shown = record {
     mid = v.is;
     total = None;
+    refusal = None;
     came = nothing_run (up_to v v.is) whole reads_told (Run options) had left bytes ending are comes reads same shown;
-    sums = (refl, refl);
+    sums = (refl, refl, refl);
     reads = vault_reads_none v.is;
+    whole = λ some. absurd (some refl);
     stops = stops_untouched v reads_told [] nowhere whole same;
   }
 

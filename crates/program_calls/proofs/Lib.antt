@@ -53,6 +53,5 @@ pub mod KeptSaves
 pub mod SinceSwap
 pub mod KeptOver
 pub mod KeptBegun
-mod Unfinished
 mod SameVault
 pub mod ToldRounds

@@ -49,6 +49,7 @@ use Rattle.checkpoints.specs.SettlesInto.{SettlesInto}
 use Rattle.tx_script.specs.Causes.{last_sequence}
 use Rattle.tx_script.specs.Run.{clock_after}
 use Rattle.round_engine.specs.Begun.{begun}
+use Rattle.round_engine.specs.LineEngines.{SharesWords}
 use Rattle.round_engine.specs.Logs.{AreClosedFiles, AreLogs}
 use Rattle.round_engine.specs.Standing.{RuntimeState, StandsOn}
 use Rattle.round_engine.specs.declared.report.LimitName.{LimitName}
@@ -447,20 +448,21 @@ declared_same r decls settled fresh kept has = of r.saved fresh kept has
     of None fresh kept has = permuted_decls decls settled fresh
     of (Some s) fresh kept has = subst (λ ds. SameDecls decls ds) (sym kept) has
 
-module _ {D : Type 0} {tells : D → Option Bytes} {clock : D → ℕ} {image_at : D → ℕ → Bytes → Type 0} {faults : D → ℕ} {snap : ℕ} {decls : List Decl} {was between : Vault D} {r : Recovered}
+module _ {D : Type 0} {tells : D → Option Bytes} {clock : D → ℕ} {image_at : D → ℕ → Bytes → Type 0} {faults : D → ℕ} {snap slots : ℕ} {decls : List Decl} {was between : Vault D} {r : Recovered}
     (read : IsRead tells clock image_at faults decls was between r) where
   -- what was settled is what a run begins on
   pub begins_run : (is : Vault D) (settled : Settled) (runtime : RuntimeState) → SettlingLeaves tells clock image_at between r is
       → SettlesInto tells clock image_at r decls between is settled → KeptSnapshots r settled → AreQuiet faults between is
       → SettleRecords r true between is → IfSome r.saved (IsWithin r snap) → (IsStoreDue r → sequence_of r.save.newest ≡ last_sequence → ⊥)
-      → runtime ≡ begun settled.decls settled.state runtime.stands.opening settled.save settled.store snap (clock_after settled.saved.epoch)
+      → runtime ≡ begun settled.decls settled.state runtime.stands.opening runtime.stands.slots settled.save settled.store snap (clock_after settled.saved.epoch)
+      → (SharesWords runtime.stands → runtime.stands.slots ≡ slots)
       → AllByRecursion IsWholePage settled.store.pages → AllByRecursion (AllByRecursion (λ w. w < 2 ^ 64)) (words_of settled.store.pages)
       → StandsOn tells clock image_at runtime is
       → (((number : ℕ) (bank : D) → disk_in is (Bank number) ≡ Some bank → tells bank ≡ Some []) → AreLogs tells clock image_at (λ worker. []) (λ worker. []) runtime is
       × AreClosedFiles tells clock image_at (λ worker. []) (λ worker. []) runtime is)
       → CountsOf Even (λ worker. []) (λ worker. []) (λ worker. []) (λ worker. []) runtime.save.newest
-      → BeginsRun tells clock image_at faults snap decls was is runtime
-  begins_run is settled runtime leaves settles keeps quiet records fits left begins pages words stands logs counts = record {
+      → BeginsRun tells clock image_at faults snap slots decls was is runtime
+  begins_run is settled runtime leaves settles keeps quiet records fits left begins slots_are pages words stands logs counts = record {
     recovered = r;
     settled = settled;
     between = between;
@@ -474,6 +476,7 @@ module _ {D : Type 0} {tells : D → Option Bytes} {clock : D → ℕ} {image_at
     settles = settles;
     snapshots = keeps;
     begins = begins;
+    slots_are = slots_are;
     stands = stands;
     pages_whole = pages;
     pages_fit = words;
@@ -500,15 +503,16 @@ module _ {D : Type 0} {tells : D → Option Bytes} {clock : D → ℕ} {image_at
   -- the same over a vault that a call left as it was
   pub begins_over : (is now : Vault D) (settled : Settled) (runtime : RuntimeState) → SettlingLeaves tells clock image_at between r is → now ≡ is → SettlesInto tells clock image_at r decls between is settled → KeptSnapshots r settled → AreQuiet faults between is
       → SettleRecords r true between is → IfSome r.saved (IsWithin r snap) → (IsStoreDue r → sequence_of r.save.newest ≡ last_sequence → ⊥)
-      → runtime ≡ begun settled.decls settled.state runtime.stands.opening settled.save settled.store snap (clock_after settled.saved.epoch)
+      → runtime ≡ begun settled.decls settled.state runtime.stands.opening runtime.stands.slots settled.save settled.store snap (clock_after settled.saved.epoch)
+      → (SharesWords runtime.stands → runtime.stands.slots ≡ slots)
       → AllByRecursion IsWholePage settled.store.pages → AllByRecursion (AllByRecursion (λ w. w < 2 ^ 64)) (words_of settled.store.pages)
       → StandsOn tells clock image_at runtime now
       → (((number : ℕ) (bank : D) → disk_in is (Bank number) ≡ Some bank → tells bank ≡ Some []) → AreLogs tells clock image_at (λ worker. []) (λ worker. []) runtime now
       × AreClosedFiles tells clock image_at (λ worker. []) (λ worker. []) runtime now)
       → CountsOf Even (λ worker. []) (λ worker. []) (λ worker. []) (λ worker. []) runtime.save.newest
-      → BeginsRun tells clock image_at faults snap decls was now runtime
-  begins_over is now settled runtime leaves same settles keeps quiet records fits left begins pages words stands logs counts =
-      subst (λ vault. BeginsRun tells clock image_at faults snap decls was vault runtime) (sym same)
-      (begins_run is settled runtime leaves settles keeps quiet records fits left begins pages words (subst (λ vault. StandsOn tells clock image_at runtime vault) same stands)
+      → BeginsRun tells clock image_at faults snap slots decls was now runtime
+  begins_over is now settled runtime leaves same settles keeps quiet records fits left begins slots_are pages words stands logs counts =
+      subst (λ vault. BeginsRun tells clock image_at faults snap slots decls was vault runtime) (sym same)
+      (begins_run is settled runtime leaves settles keeps quiet records fits left begins slots_are pages words (subst (λ vault. StandsOn tells clock image_at runtime vault) same stands)
       (λ empty. subst (λ vault. AreLogs tells clock image_at (λ worker. []) (λ worker. []) runtime vault
       × AreClosedFiles tells clock image_at (λ worker. []) (λ worker. []) runtime vault) same (logs empty)) counts)

@@ -40,7 +40,7 @@ use Rattle.program_calls.specs.OnTheWay.{EndsBefore, RunsRounds, ending_of}
 use Rattle.program_calls.specs.RanOver.{RunsOverFiles, files_before, EndsDurable, IsUnbroken, KeepsPages}
 use Rattle.program_calls.specs.EndLaws.{EndTells, end_tells, goes_on_quiet}
 use Rattle.program_calls.proofs.KeptOver.{files_from, log_of_parts}
-use Rattle.program_calls.proofs.StandsStill.{none_over, nothing_come}
+use Rattle.program_calls.proofs.StandsStill.{none_over, none_slotted, nothing_come}
 use Rattle.program_calls.proofs.CrashesKept.{CrashesKept, crash_covered, crash_leaves, rests_kept}
 use Rattle.program_calls.proofs.CrashesMore.{crashes_stopped}
 use Rattle.program_calls.proofs.CrashesRead.{crashes_read}
@@ -68,7 +68,7 @@ ending_after None = NoMemory
 ending_after (Some e) = ending_of e
 
 -- a run that a round ended didn't finish
-pub not_finished : (e : End) → ending_of e ≡ Finished → ⊥
+not_finished : (e : End) → ending_of e ≡ Finished → ⊥
 not_finished (ends.Device device) is = cc
 not_finished (ends.Damaged device at) is = cc
 not_finished (ends.Limit name number) is = cc
@@ -106,7 +106,7 @@ goes_durable rans before last is on durable none =
     let made = (last_has IsDurable before last (subst (AllByRecursion IsDurable) is durable)).lasts goes in cc
 
 -- A disk that tells its bytes has them in an image of now.
-module _ {D : Type 0} (tells : D → Option Bytes) (clock : D → ℕ) (image_at : D → ℕ → Bytes → Type 0) (faults : D → ℕ) (snap tries : ℕ) (script : Script) (was : Vault D)
+module _ {D : Type 0} (tells : D → Option Bytes) (clock : D → ℕ) (image_at : D → ℕ → Bytes → Type 0) (faults : D → ℕ) (snap slots tries : ℕ) (script : Script) (was : Vault D)
     (reads : (disk : D) (file : Bytes) → tells disk ≡ Some file → image_at disk (clock disk) file) where
   -- what the devices stand for behind these rounds, where they tell it
   abbrev Behind : Opening → List Ran → List Entry → List Decl → Vault D → List (List ℕ) → ℕ → Type 0
@@ -117,9 +117,9 @@ module _ {D : Type 0} (tells : D → Option Bytes) (clock : D → ℕ) (image_at
   -- what the vault stands for after these rounds
   through : (opening : Opening) (rans : List Ran) (ordered : List Entry) (decls : List Decl) (now : Vault D)
       (words : List (List ℕ)) (count : ℕ)
-      → BeginsAt tells clock image_at faults snap tries script was opening → SameDecls script.decls decls
+      → BeginsAt tells clock image_at faults snap slots tries script was opening → SameDecls script.decls decls
       → Behind opening rans ordered decls now words count
-      → StandsThrough (at_now tells clock image_at faults snap tries script was now) script.decls ordered rans
+      → StandsThrough (at_now tells clock image_at faults snap slots tries script was now) script.decls ordered rans
   through opening rans ordered decls now words count begins same keeps found now_found epoch state told told_now is =
       let b = begins found told in
       let that : IsRecoverable found opening.saved opening.state = record { reading = b.has.reading; is = b.has.is; epoch_is = b.saved; state_is = b.state } in
@@ -136,7 +136,7 @@ module _ {D : Type 0} (tells : D → Option Bytes) (clock : D → ℕ) (image_at
       (words : List (List ℕ)) (count : ℕ)
       → SameDecls script.decls decls
       → Behind opening rans ordered decls now words count
-      → HasDeclared (at_now tells clock image_at faults snap tries script was now) script.decls
+      → HasDeclared (at_now tells clock image_at faults snap slots tries script was now) script.decls
   declares opening rans ordered decls now words count same keeps found now_found told told_now =
       let kept = keeps found now_found told told_now in storages_kept same kept.is kept.decls_are
 
@@ -156,7 +156,7 @@ module _ {D : Type 0} (tells : D → Option Bytes) (clock : D → ℕ) (image_at
   snapshots_behind : (opening : Opening) (rans : List Ran) (ordered : List Entry) (decls : List Decl) (now : Vault D)
       (words : List (List ℕ)) (count : ℕ)
       → SameDecls script.decls decls → Behind opening rans ordered decls now words count
-      → HasEachSnapshot (at_now tells clock image_at faults snap tries script was now) script.decls ordered
+      → HasEachSnapshot (at_now tells clock image_at faults snap slots tries script was now) script.decls ordered
   snapshots_behind opening rans ordered decls now words count same keeps found now_found epoch state reading told told_now before reads =
       let kept = keeps found now_found told told_now in
       each_told script.decls ordered found now_found kept.was.reading kept.is.reading opening.saved opening.state kept.was.is kept.is.is
@@ -169,7 +169,7 @@ module _ {D : Type 0} (tells : D → Option Bytes) (clock : D → ℕ) (image_at
       → (EndsDurable rans → (found : Images) → AreTold tells (parts_of was) found → count ≡ length words)
       → ((before : List Ran) (last : Ran) → rans ≡ before ++ last ∷ [] → last.printed.durable ≡ None → (found : Images)
       → AreTold tells (parts_of was) found → (last.beside.pages ≤ count) × (last.beside.pages ≤ length words))
-      → KeepsPages (at_now tells clock image_at faults snap tries script was now) words rans
+      → KeepsPages (at_now tells clock image_at faults snap slots tries script was now) words rans
   pages_behind opening rans ordered decls now words count keeps counts least found now_found reading told told_now
       is =
       let kept = keeps found now_found told told_now in
@@ -185,9 +185,9 @@ module _ {D : Type 0} (tells : D → Option Bytes) (clock : D → ℕ) (image_at
 
   -- and what it stands for at each stop
   stopped_through : (opening : Opening) (rans : List Ran) (ordered : List Entry) (decls : List Decl) (now : Vault D)
-      → BeginsAt tells clock image_at faults snap tries script was opening → SameDecls script.decls decls → IsWhole now
-      → CrashesBehind tells clock image_at faults snap tries script was decls opening rans ordered now
-      → StandsWhenStopped (at_now tells clock image_at faults snap tries script was now) script.decls ordered opening rans
+      → BeginsAt tells clock image_at faults snap slots tries script was opening → SameDecls script.decls decls → IsWhole now
+      → CrashesBehind tells clock image_at faults snap slots tries script was decls opening rans ordered now
+      → StandsWhenStopped (at_now tells clock image_at faults snap slots tries script was now) script.decls ordered opening rans
   stopped_through opening rans ordered decls now begins same whole crashes found from epoch state told is rest
       here =
       let b = begins found told in
@@ -225,8 +225,8 @@ module _ {D : Type 0} (tells : D → Option Bytes) (clock : D → ℕ) (image_at
 
   -- what is known of the crashes behind the rounds so far
   crashes_so : (r : RuntimeState) (count : ℕ) (before : Vault D)
-      (so : RanSoFar tells clock image_at faults snap tries script was r count before)
-      → CrashesBehind tells clock image_at faults snap tries script was r.stands.decls so.opening so.rans so.run.ordered before
+      (so : RanSoFar tells clock image_at faults snap slots tries script was r count before)
+      → CrashesBehind tells clock image_at faults snap slots tries script was r.stands.decls so.opening so.rans so.run.ordered before
   crashes_so r count before so found from reading is told rest here =
       let k = so.kept found told in
       subst (λ (x : Reading). CrashesKept clock image_at from x r.stands.decls so.opening.sequence so.opening.saved
@@ -235,11 +235,11 @@ module _ {D : Type 0} (tells : D → Option Bytes) (clock : D → ℕ) (image_at
 
   -- and behind a round that stopped for want of memory
   crashes_behind : (r s : RuntimeState) (count : ℕ) (before now : Vault D) (round : Round)
-      (so : RanSoFar tells clock image_at faults snap tries script was r count before) (stop : StopsIn tries round r s)
+      (so : RanSoFar tells clock image_at faults snap slots tries script was r count before) (stop : StopsIn tries round r s)
       → (leaves : LeavesVault tells clock image_at faults stop.ran stop.logged r s before now)
       → CarriesCrashes tells clock image_at stop.logged (leaves.stored ++ option_to_list leaves.failed) stop.ran r s
       before now
-      → CrashesBehind tells clock image_at faults snap tries script was r.stands.decls so.opening so.rans so.run.ordered now
+      → CrashesBehind tells clock image_at faults snap slots tries script was r.stands.decls so.opening so.rans so.run.ordered now
   crashes_behind r s count before now round so stop leaves carries found from reading is told rest here =
       let k = so.kept found told in
       subst (λ (x : Reading). CrashesKept clock image_at from x r.stands.decls so.opening.sequence so.opening.saved
@@ -248,47 +248,47 @@ module _ {D : Type 0} (tells : D → Option Bytes) (clock : D → ℕ) (image_at
 
   -- and through reads from then on
   stopped_reading : (opening : Opening) (rans : List Ran) (ordered : List Entry) (decls : List Decl) (now : Vault D)
-      → BeginsAt tells clock image_at faults snap tries script was opening → SameDecls script.decls decls → IsWhole now
-      → CrashesBehind tells clock image_at faults snap tries script was decls opening rans ordered now
-      → StandsThroughReads (at_now tells clock image_at faults snap tries script was now) script.decls ordered opening rans
+      → BeginsAt tells clock image_at faults snap slots tries script was opening → SameDecls script.decls decls → IsWhole now
+      → CrashesBehind tells clock image_at faults snap slots tries script was decls opening rans ordered now
+      → StandsThroughReads (at_now tells clock image_at faults snap slots tries script was now) script.decls ordered opening rans
   stopped_reading opening rans ordered decls now begins same whole crashes later reads =
       stopped_through opening rans ordered decls later begins same (whole_read reads whole)
       (λ found from reading is told rest here. crashes_read whole reads (crashes found from reading is told rest here))
 
   -- the log files and pages of the rounds so far
   runs_over : (r : RuntimeState) (count : ℕ) (before now : Vault D)
-      (so : RanSoFar tells clock image_at faults snap tries script was r count before)
-      → KeepsPages (at_now tells clock image_at faults snap tries script was now) (words_of r.store.pages) so.rans
-      → RunsOverFiles (at_now tells clock image_at faults snap tries script was now) snap script.decls so.opening.state so.opening.saved
+      (so : RanSoFar tells clock image_at faults snap slots tries script was r count before)
+      → KeepsPages (at_now tells clock image_at faults snap slots tries script was now) (words_of r.store.pages) so.rans
+      → RunsOverFiles (at_now tells clock image_at faults snap slots tries script was now) snap script.decls so.opening.state so.opening.saved
       so.run.ordered so.rans
   runs_over r count before now so pages = record {
     words = so.over.words;
     begins = λ some. so.over.begins;
     last = so.over.last;
-    rounds = files_from (at_now tells clock image_at faults snap tries script was now) script.decls r.stands.decls so.opening.state
+    rounds = files_from (at_now tells clock image_at faults snap slots tries script was now) script.decls r.stands.decls so.opening.state
         so.run.ordered snap (files_before so.opening.saved so.over.words) so.rans so.over.last so.same
         (λ found told. let k = so.kept found told in log_of_parts k.older k.gone k.commits)
         (λ found told w below. (so.kept found told).parts.it.is_logged w below) so.over.from so.over.says;
-    pages = λ quiet some. subst (λ ws. KeepsPages (at_now tells clock image_at faults snap tries script was now) ws so.rans)
+    pages = λ quiet some. subst (λ ws. KeepsPages (at_now tells clock image_at faults snap slots tries script was now) ws so.rans)
         (sym so.over.pages) pages;
   }
 
   -- after a round that ended the run, or within whose text the sink failed
   after_round : {Shows : List Ran → State → Ending → Type 0} (r s : RuntimeState) (count : ℕ) (before now : Vault D)
-      (so : RanSoFar tells clock image_at faults snap tries script was r count before) (ran : Ran)
-      → (m : RanOneMore tells clock image_at faults snap tries script was s now so.opening so.rans ran) → (ending : Ending) → (ending ≡ Finished → ⊥)
-      → RunComes (at_now tells clock image_at faults snap tries script was now) snap script so.opening (so.rans ++ ran ∷ []) ending
-      → Shows (so.rans ++ ran ∷ []) s.stands.state ending → RunsRounds (at_now tells clock image_at faults snap tries script was now) snap tries script Shows
+      (so : RanSoFar tells clock image_at faults snap slots tries script was r count before) (ran : Ran)
+      → (m : RanOneMore tells clock image_at faults snap slots tries script was s now so.opening so.rans ran) → (ending : Ending) → (ending ≡ Finished → ⊥)
+      → RunComes (at_now tells clock image_at faults snap slots tries script was now) snap script so.opening (so.rans ++ ran ∷ []) ending
+      → Shows (so.rans ++ ran ∷ []) s.stands.state ending → RunsRounds (at_now tells clock image_at faults snap slots tries script was now) snap slots tries script Shows
   after_round r s count before now so ran m ending other comes shown =
       let keeps : (s.save.down ≡ None) × (s.store.sound ≡ true) → (found now_found : Images) → AreTold tells (parts_of was) found → AreTold tells (parts_of now) now_found
       → StandsBehind found now_found s.stands.decls so.opening.saved so.opening.state m.run.ordered (last_saved so.opening.saved (so.rans ++ ran ∷ [])) (as_of s.stands.decls so.opening.state m.run.ordered (last_saved so.opening.saved (so.rans ++ ran ∷ [])))
       (words_of s.store.pages) (count_of s.save.newest) =
       λ up found now_found told told_now. kept_at_end reads found now_found (m.kept up.1 found told) m.stands up.0 up.1 m.run.serial.rising m.run.serial.epochs told_now in
-      let sound_up : IsSound (at_now tells clock image_at faults snap tries script was now) ending → (s.save.down ≡ None) × (s.store.sound ≡ true) = λ sound. elim sound [
+      let sound_up : IsSound (at_now tells clock image_at faults snap slots tries script was now) ending → (s.save.down ≡ None) × (s.store.sound ≡ true) = λ sound. elim sound [
         | inl none ↦ (m.up none, m.sound none)
         | inr finished ↦ absurd (other finished)
       ] in
-      let unbroken_up : IsUnbroken (at_now tells clock image_at faults snap tries script was now) (so.rans ++ ran ∷ [])
+      let unbroken_up : IsUnbroken (at_now tells clock image_at faults snap slots tries script was now) (so.rans ++ ran ∷ [])
       → (s.save.down ≡ None) × (s.store.sound ≡ true) = λ quiet. elim quiet [
         | inl none ↦ (m.up none, m.sound none)
         | inr on ↦
@@ -311,7 +311,7 @@ module _ {D : Type 0} (tells : D → Option Bytes) (clock : D → ℕ) (image_at
         history = m.history;
         files = m.files (λ quiet some.
             let up = unbroken_up quiet in
-            subst (λ ws. KeepsPages (at_now tells clock image_at faults snap tries script was now) ws (so.rans ++ ran ∷ []))
+            subst (λ ws. KeepsPages (at_now tells clock image_at faults snap slots tries script was now) ws (so.rans ++ ran ∷ []))
             (sym (m.words_are up.1))
             (pages_behind so.opening (so.rans ++ ran ∷ []) m.run.ordered s.stands.decls now (words_of s.store.pages)
             (count_of s.save.newest) (keeps up) (λ durable found told.
@@ -335,9 +335,9 @@ module _ {D : Type 0} (tells : D → Option Bytes) (clock : D → ℕ) (image_at
 
   -- the run began, and these devices failed
   ran_on : (r s : RuntimeState) (count : ℕ) (before now : Vault D)
-      (so : RanSoFar tells clock image_at faults snap tries script was r count before) (ran : Ran)
-      → RanOneMore tells clock image_at faults snap tries script was s now so.opening so.rans ran
-      → RanOn (at_now tells clock image_at faults snap tries script was now) snap script so.opening (so.rans ++ ran ∷ [])
+      (so : RanSoFar tells clock image_at faults snap slots tries script was r count before) (ran : Ran)
+      → RanOneMore tells clock image_at faults snap slots tries script was s now so.opening so.rans ran
+      → RanOn (at_now tells clock image_at faults snap slots tries script was now) snap script so.opening (so.rans ++ ran ∷ [])
   ran_on r s count before now so ran m = record {
     begins = so.begins;
     failed = subst (λ l. AreFailed faults l was now) (sym (devices_in-push so.rans ran so.went_on)) m.failed;
@@ -345,9 +345,9 @@ module _ {D : Type 0} (tells : D → Option Bytes) (clock : D → ℕ) (image_at
 
   -- a refusal that ends the run comes to its ending
   comes_at : (r s : RuntimeState) (count : ℕ) (before now : Vault D)
-      (so : RanSoFar tells clock image_at faults snap tries script was r count before) (ran : Ran)
-      → (m : RanOneMore tells clock image_at faults snap tries script was s now so.opening so.rans ran) → (e : End) → end_of ran ≡ Some e → EndTells ran e
-      → RunComes (at_now tells clock image_at faults snap tries script was now) snap script so.opening (so.rans ++ ran ∷ []) (ending_of e)
+      (so : RanSoFar tells clock image_at faults snap slots tries script was r count before) (ran : Ran)
+      → (m : RanOneMore tells clock image_at faults snap slots tries script was s now so.opening so.rans ran) → (e : End) → end_of ran ≡ Some e → EndTells ran e
+      → RunComes (at_now tells clock image_at faults snap slots tries script was now) snap script so.opening (so.rans ++ ran ∷ []) (ending_of e)
   comes_at r s count before now so ran m (ends.Device device) is it = (
     m.failed.rose device it,
     inl (
@@ -373,14 +373,14 @@ module _ {D : Type 0} (tells : D → Option Bytes) (clock : D → ℕ) (image_at
 
   -- a round ended the run
   pub stopped : {Shows : List Ran → State → Ending → Type 0} (r s : RuntimeState) (count : ℕ) (before now : Vault D) (round : Round) (report : Report) (e : End)
-      → (so : RanSoFar tells clock image_at faults snap tries script was r count before) → slice_get script.rounds count ≡ Some round
+      → (so : RanSoFar tells clock image_at faults snap slots tries script was r count before) → slice_get script.rounds count ≡ Some round
       → (one : RanRound tries round r s report) → (leaves : LeavesVault tells clock image_at faults one.ran one.logged r s before now)
       → CarriesCrashes tells clock image_at one.logged (leaves.stored ++ option_to_list leaves.failed) one.ran r s
       before now
       → report.end ≡ Some e → Shows (so.rans ++ one.ran ∷ []) s.stands.state (ending_of e)
-      → RunsRounds (at_now tells clock image_at faults snap tries script was now) snap tries script Shows
+      → RunsRounds (at_now tells clock image_at faults snap slots tries script was now) snap slots tries script Shows
   stopped r s count before now round report e so at one leaves carries is shown =
-      let m = one_more tells clock image_at faults snap tries script was r s count before now round report so at one leaves carries in
+      let m = one_more tells clock image_at faults snap slots tries script was r s count before now round report so at one leaves carries in
       let ends_is : end_of one.ran ≡ Some e = sym one.reports.end ∙ is in
       after_round r s count before now so one.ran m (ending_of e) (not_finished e)
       (comes_at r s count before now so one.ran m e ends_is (end_tells one.ran e m.own m.most ends_is))
@@ -388,9 +388,9 @@ module _ {D : Type 0} (tells : D → Option Bytes) (clock : D → ℕ) (image_at
 
   -- how the run would have ended may come after the round
   comes_after : (r s : RuntimeState) (count : ℕ) (before now : Vault D)
-      (so : RanSoFar tells clock image_at faults snap tries script was r count before) (ran : Ran)
-      → (m : RanOneMore tells clock image_at faults snap tries script was s now so.opening so.rans ran) → (end : Option End) → end_of ran ≡ end
-      → RunComes (at_now tells clock image_at faults snap tries script was now) snap script so.opening (so.rans ++ ran ∷ []) (ending_after end)
+      (so : RanSoFar tells clock image_at faults snap slots tries script was r count before) (ran : Ran)
+      → (m : RanOneMore tells clock image_at faults snap slots tries script was s now so.opening so.rans ran) → (end : Option End) → end_of ran ≡ end
+      → RunComes (at_now tells clock image_at faults snap slots tries script was now) snap script so.opening (so.rans ++ ran ∷ []) (ending_after end)
   comes_after r s count before now so ran m None is = inl (all_push RunGoesOn so.rans ran so.went_on is, inr so.begins)
   comes_after r s count before now so ran m (Some e) is = comes_at r s count before now so ran m e is (end_tells ran e m.own m.most is)
 
@@ -400,14 +400,14 @@ module _ {D : Type 0} (tells : D → Option Bytes) (clock : D → ℕ) (image_at
 
   -- the sink failed within a round's text
   pub broke : {Shows : List Ran → State → Ending → Type 0} (r s : RuntimeState) (count : ℕ) (before now : Vault D) (round : Round) (report : Report)
-      → (so : RanSoFar tells clock image_at faults snap tries script was r count before) → slice_get script.rounds count ≡ Some round
+      → (so : RanSoFar tells clock image_at faults snap slots tries script was r count before) → slice_get script.rounds count ≡ Some round
       → (one : RanRound tries round r s report) → (leaves : LeavesVault tells clock image_at faults one.ran one.logged r s before now)
       → CarriesCrashes tells clock image_at one.logged (leaves.stored ++ option_to_list leaves.failed) one.ran r s
       before now
       → Shows (so.rans ++ one.ran ∷ []) s.stands.state (ending_after report.end)
-      → RunsRounds (at_now tells clock image_at faults snap tries script was now) snap tries script Shows
+      → RunsRounds (at_now tells clock image_at faults snap slots tries script was now) snap slots tries script Shows
   broke r s count before now round report so at one leaves carries shown =
-      let m = one_more tells clock image_at faults snap tries script was r s count before now round report so at one leaves carries in
+      let m = one_more tells clock image_at faults snap slots tries script was r s count before now round report so at one leaves carries in
       after_round r s count before now so one.ran m (ending_after report.end) (after_not_finished report.end)
       (comes_after r s count before now so one.ran m report.end (sym one.reports.end))
       shown
@@ -422,8 +422,8 @@ module _ {D : Type 0} (tells : D → Option Bytes) (clock : D → ℕ) (image_at
 
   -- all rounds were run
   pub all_run : {Shows : List Ran → State → Ending → Type 0} (r : RuntimeState) (count : ℕ) (now : Vault D)
-      (so : RanSoFar tells clock image_at faults snap tries script was r count now) → count ≡ length script.rounds → Shows so.rans r.stands.state Finished
-      → RunsRounds (at_now tells clock image_at faults snap tries script was now) snap tries script Shows
+      (so : RanSoFar tells clock image_at faults snap slots tries script was r count now) → count ≡ length script.rounds → Shows so.rans r.stands.state Finished
+      → RunsRounds (at_now tells clock image_at faults snap slots tries script was now) snap slots tries script Shows
   all_run r count now so all shown =
       let up : r.save.down ≡ None = store_up r now so.stands so.unended in
       let sound : r.store.sound ≡ true = pages_sound r now so.stands so.unended in
@@ -467,9 +467,9 @@ module _ {D : Type 0} (tells : D → Option Bytes) (clock : D → ℕ) (image_at
 
   -- memory was wanted before a round began
   at_begin : {Shows : List Ran → State → Ending → Type 0} (r s : RuntimeState) (count : ℕ) (before now : Vault D)
-      → (so : RanSoFar tells clock image_at faults snap tries script was r count before)
+      → (so : RanSoFar tells clock image_at faults snap slots tries script was r count before)
       → IsUnbegun r s before now → Shows so.rans r.stands.state NoMemory
-      → RunsRounds (at_now tells clock image_at faults snap tries script was now) snap tries script Shows
+      → RunsRounds (at_now tells clock image_at faults snap slots tries script was now) snap slots tries script Shows
   at_begin r s count before now so unbegun shown =
       let room = unbegun.devices in
       let up : r.save.down ≡ None = store_up r before so.stands so.unended in
@@ -516,11 +516,11 @@ module _ {D : Type 0} (tells : D → Option Bytes) (clock : D → ℕ) (image_at
 
   -- memory was wanted in a round
   at_memory : {Shows : List Ran → State → Ending → Type 0} (r s : RuntimeState) (count : ℕ) (before now : Vault D) (round : Round)
-      → (so : RanSoFar tells clock image_at faults snap tries script was r count before)
+      → (so : RanSoFar tells clock image_at faults snap slots tries script was r count before)
       → (stop : StopsIn tries round r s) → (leaves : LeavesVault tells clock image_at faults stop.ran stop.logged r s before now)
       → CarriesCrashes tells clock image_at stop.logged (leaves.stored ++ option_to_list leaves.failed) stop.ran r s
       before now → Shows so.rans r.stands.state NoMemory
-      → RunsRounds (at_now tells clock image_at faults snap tries script was now) snap tries script Shows
+      → RunsRounds (at_now tells clock image_at faults snap slots tries script was now) snap slots tries script Shows
   at_memory r s count before now round so stop leaves carries shown =
       let up : s.save.down ≡ None = down_none s.save.down leaves.failed leaves.has_stored.down
       (λ fails. stop.unstored (leaves.has_stored.fails.0 fails)) in
@@ -562,9 +562,9 @@ module _ {D : Type 0} (tells : D → Option Bytes) (clock : D → ℕ) (image_at
   -- it was wanted before it, or in it
   pub at_want : {Shows : List Ran → State → Ending → Type 0} (r s : RuntimeState) (count : ℕ) (before now : Vault D)
       (round : Round) (memory : Memory)
-      → (so : RanSoFar tells clock image_at faults snap tries script was r count before)
+      → (so : RanSoFar tells clock image_at faults snap slots tries script was r count before)
       → Rounds tells clock image_at faults tries round r s before now (Err memory) → Shows so.rans r.stands.state NoMemory
-      → RunsRounds (at_now tells clock image_at faults snap tries script was now) snap tries script Shows
+      → RunsRounds (at_now tells clock image_at faults snap slots tries script was now) snap slots tries script Shows
   at_want r s count before now round memory so rounds shown = elim rounds [
     | inl unbegun ↦ at_begin r s count before now so unbegun shown
     | inr some ↦ at_memory r s count before now round so some.0 some.1 some.2 shown
@@ -572,7 +572,7 @@ module _ {D : Type 0} (tells : D → Option Bytes) (clock : D → ℕ) (image_at
 
   -- the vault is whole then
   pub want_whole : (r s : RuntimeState) (count : ℕ) (before now : Vault D) (round : Round) (memory : Memory)
-      → RanSoFar tells clock image_at faults snap tries script was r count before
+      → RanSoFar tells clock image_at faults snap slots tries script was r count before
       → Rounds tells clock image_at faults tries round r s before now (Err memory) → IsWhole now
   want_whole r s count before now round memory so rounds = elim rounds [
     | inl unbegun ↦ whole_room unbegun.devices so.stands.whole
@@ -581,15 +581,15 @@ module _ {D : Type 0} (tells : D → Option Bytes) (clock : D → ℕ) (image_at
 
   -- a run that doesn't begin
   pub not_begun : {Shows : List Ran → State → Ending → Type 0} (now : Vault D) (ending : Ending)
-      → (before : EndsBefore tells clock image_at faults snap script was now ending) → Shows [] before.opening.state ending → RunsRounds (at_now tells clock image_at faults snap tries script was now) snap tries script Shows
+      → (before : EndsBefore tells clock image_at faults snap script was now ending) → Shows [] before.opening.state ending → RunsRounds (at_now tells clock image_at faults snap slots tries script was now) snap slots tries script Shows
   not_begun now ending before shown = record {
     rans = [];
     ending = ending;
     opening = before.opening;
     state = before.opening.state;
-    run = no_run tells clock image_at faults snap tries script was before.opening;
+    run = no_run tells clock image_at faults snap slots tries script was before.opening;
     comes = before.comes;
-    caused = record { caused = tt; durable = tt; sequences = tt; marks = tt; tried = tt; counted = tt; met = tt; plain = λ tree. tt };
+    caused = record { caused = tt; durable = tt; sequences = tt; marks = tt; tried = tt; counted = tt; met = tt; plain = λ tree. tt; slotted = none_slotted slots script.decls before.opening.state };
     full = λ found told. tt;
     history = nothing_come script.decls before.opening.state;
     files = none_over;
@@ -611,7 +611,7 @@ module _ {D : Type 0} (tells : D → Option Bytes) (clock : D → ℕ) (image_at
       rests_on 8 s now leaves.stands (down_none s.save.down leaves.failed leaves.has_stored.down (λ fails. stop.unstored (leaves.has_stored.fails.0 fails)))
 
   pub rests_wanting : (r s : RuntimeState) (count : ℕ) (before now : Vault D) (round : Round) (memory : Memory)
-      → RanSoFar tells clock image_at faults snap tries script was r count before
+      → RanSoFar tells clock image_at faults snap slots tries script was r count before
       → Rounds tells clock image_at faults tries round r s before now (Err memory)
       → RestsAgain tells clock image_at 8 was now
   rests_wanting r s count before now round memory so rounds = elim rounds [
@@ -626,7 +626,7 @@ module _ {D : Type 0} (tells : D → Option Bytes) (clock : D → ℕ) (image_at
 
   -- a round ended the run by a limit
   rests_ended : (s : RuntimeState) (now : Vault D) (opening : Opening) (rans : List Ran) (ran : Ran)
-      → RanOneMore tells clock image_at faults snap tries script was s now opening rans ran → (e : End) → EndTells ran e
+      → RanOneMore tells clock image_at faults snap slots tries script was s now opening rans ran → (e : End) → EndTells ran e
       → RestsAgain tells clock image_at (status_of (ending_of e)) was now
   rests_ended s now opening rans ran m (ends.Device device) it = record { again = λ not_4 not_5. absurd (not_5 refl) }
   rests_ended s now opening rans ran m (ends.Damaged device at) it = rests_on 6 s now m.stands (m.up_quiet it.1)
@@ -642,7 +642,7 @@ module _ {D : Type 0} (tells : D → Option Bytes) (clock : D → ℕ) (image_at
 
   -- and devices that tell their bytes aren't found damaged
   damage_ended : (s : RuntimeState) (now : Vault D) (opening : Opening) (rans : List Ran) (ran : Ran)
-      → RanOneMore tells clock image_at faults snap tries script was s now opening rans ran → (e : End) → EndTells ran e
+      → RanOneMore tells clock image_at faults snap slots tries script was s now opening rans ran → (e : End) → EndTells ran e
       → ReadsDamage tells clock image_at faults (status_of (ending_of e)) was now
   damage_ended s now opening rans ran m (ends.Damaged device at) it = λ six found here told told_here.
       absurd (m.untold (device, at) it.0 found told)
@@ -651,7 +651,7 @@ module _ {D : Type 0} (tells : D → Option Bytes) (clock : D → ℕ) (image_at
   damage_ended s now opening rans ran m ends.Memory it = λ six. absurd (omega arith)
 
   pub rests_after : (r s : RuntimeState) (count : ℕ) (before now : Vault D) (round : Round) (report : Report) (e : End)
-      → (so : RanSoFar tells clock image_at faults snap tries script was r count before) → slice_get script.rounds count ≡ Some round
+      → (so : RanSoFar tells clock image_at faults snap slots tries script was r count before) → slice_get script.rounds count ≡ Some round
       → (one : RanRound tries round r s report) → (leaves : LeavesVault tells clock image_at faults one.ran one.logged r s before now)
       → CarriesCrashes tells clock image_at one.logged (leaves.stored ++ option_to_list leaves.failed) one.ran r s
       before now
@@ -659,11 +659,11 @@ module _ {D : Type 0} (tells : D → Option Bytes) (clock : D → ℕ) (image_at
       → RestsAgain tells clock image_at (status_of (ending_of e)) was now × (IsReadStatus (status_of (ending_of e)) → ⊥)
       × ReadsDamage tells clock image_at faults (status_of (ending_of e)) was now
   rests_after r s count before now round report e so at one leaves carries is =
-      let m = one_more tells clock image_at faults snap tries script was r s count before now round report so at one leaves carries in
+      let m = one_more tells clock image_at faults snap slots tries script was r s count before now round report so at one leaves carries in
       let tells_end = end_tells one.ran e m.own m.most (sym one.reports.end ∙ is) in
       (rests_ended s now so.opening so.rans one.ran m e tells_end, reads_ended e, damage_ended s now so.opening so.rans one.ran m e tells_end)
 
   -- all rounds were run
-  pub rests_all : (r : RuntimeState) (count : ℕ) (now : Vault D) → RanSoFar tells clock image_at faults snap tries script was r count now
+  pub rests_all : (r : RuntimeState) (count : ℕ) (now : Vault D) → RanSoFar tells clock image_at faults snap slots tries script was r count now
       → RestsAgain tells clock image_at 0 was now
   rests_all r count now so = rests_on 0 r now so.stands (store_up r now so.stands so.unended)

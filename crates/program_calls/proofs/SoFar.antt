@@ -82,7 +82,7 @@ use Rattle.program_calls.proofs.OneRound.{marked-push, marked, met-push, saved_m
 back : (decls others : List Decl) → SameDecls decls others → SameDecls others decls
 back decls others same d = ((same d).1, (same d).0)
 
-module _ {D : Type 0} (tells : D → Option Bytes) (clock : D → ℕ) (image_at : D → ℕ → Bytes → Type 0) (faults : D → ℕ) (snap tries : ℕ) (script : Script) (was : Vault D) where
+module _ {D : Type 0} (tells : D → Option Bytes) (clock : D → ℕ) (image_at : D → ℕ → Bytes → Type 0) (faults : D → ℕ) (snap slots tries : ℕ) (script : Script) (was : Vault D) where
   -- where the devices told what lets a run begin
   abbrev pub BeginsAt : Opening → Type 0
   BeginsAt opening = (found : Images) → AreTold tells (parts_of was) found → MayBegin snap script.decls opening found
@@ -152,6 +152,10 @@ module _ {D : Type 0} (tells : D → Option Bytes) (clock : D → ℕ) (image_at
   KeptNext decls opening rans ordered r now = (k : KeepsIn decls opening rans ordered r now)
       × OverSoFar decls opening rans ordered r now k × CrashesAt decls opening rans ordered r now k
 
+  -- the runtime has the slots that were asked for, and so had the rounds
+  abbrev IsSlotted : RuntimeState → List Ran → Type 0
+  IsSlotted r rans = (r.stands.slots ≡ slots) × AllByRecursion (λ ran. ran.beside.slots ≡ slots) rans
+
   -- what was run up to a round, and where that left the runtime and the vault
   pub record RanSoFar (r : RuntimeState) (count : ℕ) (now : Vault D) : Type 0 where
     pub rans : List Ran
@@ -160,7 +164,7 @@ module _ {D : Type 0} (tells : D → Option Bytes) (clock : D → ℕ) (image_at
     pub same : SameDecls script.decls r.stands.decls
     pub run : IsScriptRun script opening.state opening.saved rans r.stands.state
     pub begins : BeginsAt opening
-    pub caused : AreRoundsCaused tries script.decls script.rounds opening.sequence rans
+    pub caused : AreRoundsCaused slots tries script.decls script.rounds opening rans
     pub went_on : AllByRecursion RunGoesOn rans
     pub clock_is : r.stands.clock ≡ clock_from (clock_after opening.saved) rans
     pub sequence : sequence_of r.save.newest ≡ sequence_after opening.sequence rans
@@ -176,12 +180,13 @@ module _ {D : Type 0} (tells : D → Option Bytes) (clock : D → ℕ) (image_at
     pub paged : (found : Images) → AreTold tells (parts_of was) found → count_of r.save.newest ≡ length r.store.pages
     pub history : are_arrays r.stands.decls opening.state ≡ true
         → SharesWords r.stands × ComeFrom r.stands.decls (printed_commits 0 rans script.rounds) r.stands.mine
+    pub slotted : are_arrays r.stands.decls opening.state ≡ true → IsSlotted r rans
 
   -- what was run up to a round and of it, and where that left all; the round may have ended the run
   pub record RanOneMore (r : RuntimeState) (now : Vault D) (opening : Opening) (before : List Ran) (ran : Ran) : Type 0 where
     pub same : SameDecls script.decls r.stands.decls
     pub run : IsScriptRun script opening.state opening.saved (before ++ ran ∷ []) r.stands.state
-    pub caused : AreRoundsCaused tries script.decls script.rounds opening.sequence (before ++ ran ∷ [])
+    pub caused : AreRoundsCaused slots tries script.decls script.rounds opening (before ++ ran ∷ [])
     pub own : AllCaused ran
     pub sequence : sequence_of r.save.newest ≡ sequence_after opening.sequence (before ++ ran ∷ [])
     pub most : ran.printed.end.epoch ≤ last_epoch
@@ -211,6 +216,7 @@ module _ {D : Type 0} (tells : D → Option Bytes) (clock : D → ℕ) (image_at
     pub history : ComeFromWords script.decls opening.state (printed_commits 0 (before ++ ran ∷ []) script.rounds)
     pub on_words : are_arrays r.stands.decls opening.state ≡ true → SharesWords r.stands
         × ComeFrom r.stands.decls (printed_commits 0 (before ++ ran ∷ []) script.rounds) r.stands.mine
+    pub slotted : are_arrays r.stands.decls opening.state ≡ true → IsSlotted r (before ++ ran ∷ [])
 
   -- the log files and pages of a round more
   over_one : (r s : RuntimeState) (count : ℕ) (before now : Vault D) (round : Round) (report : Report)
@@ -370,6 +376,11 @@ module _ {D : Type 0} (tells : D → Option Bytes) (clock : D → ℕ) (image_at
             (comes_more r.stands.decls (0 + length so.rans) round one.ran.printed.outcomes (printed_commits 0 so.rans script.rounds)
             r.stands.mine s.stands.mine h.1 kept.gathered)),
       ) in
+      let slotted : are_arrays s.stands.decls so.opening.state ≡ true → IsSlotted s (so.rans ++ one.ran ∷ []) =
+      λ arrays. let were = so.slotted (ap (λ ds. are_arrays ds so.opening.state) (sym one.lines.decls) ∙ arrays) in (
+        one.lines.slots ∙ were.0,
+        all_push (λ (ran : Ran). ran.beside.slots ≡ slots) so.rans one.ran were.1 (one.begins.slots ∙ were.0),
+      ) in
       record {
         same = same;
         run = pushed.0;
@@ -385,6 +396,7 @@ module _ {D : Type 0} (tells : D → Option Bytes) (clock : D → ℕ) (image_at
           counted = all_push DrawsAreCounted so.rans one.ran so.caused.counted one.counted;
           plain = λ tree. all_push RunsPlainly so.rans one.ran (so.caused.plain tree)
               (one.plain (tree.0, (so.same (Tree tree.0)).0 tree.1));
+          slotted = (s.stands.decls, same, λ arrays. (slotted arrays).1);
         };
         own = one.lines.caused;
         sequence = ap sequence_of stored.newest ∙ stored_length r.save.newest leaves.stored
@@ -435,6 +447,7 @@ module _ {D : Type 0} (tells : D → Option Bytes) (clock : D → ℕ) (image_at
             (full_in script.decls so.same (so.kept found told) so.stands refl state_is so.unended one leaves (length so.rans));
         history = (s.stands.decls, same, λ arrays. (s.stands.mine, (on_words arrays).1));
         on_words = on_words;
+        slotted = slotted;
       }
 
   -- ---- before the first round
@@ -458,7 +471,7 @@ module _ {D : Type 0} (tells : D → Option Bytes) (clock : D → ℕ) (image_at
 
   -- a run that begins stands before the first round
   pub none_so_far : (reads_told : (disk : D) (file : Bytes) → tells disk ≡ Some file → image_at disk (clock disk) file)
-      (r : RuntimeState) (now : Vault D) → BeginsRun tells clock image_at faults snap script.decls was now r
+      (r : RuntimeState) (now : Vault D) → BeginsRun tells clock image_at faults snap slots script.decls was now r
       → (so : RanSoFar r 0 now) × (so.rans ≡ [])
   none_so_far reads_told r now b =
       let settled : Settled = b.settled in
@@ -467,7 +480,7 @@ module _ {D : Type 0} (tells : D → Option Bytes) (clock : D → ℕ) (image_at
       let begins : BeginsAt opening = λ found told.
       may_begin snap script.decls found b.recovered opening stored.0 (b.recovers found told) b.up.saved b.has b.fits b.sequence
       b.settles.state b.settles.epoch stored.1 stored.2 in
-      let start : RuntimeState = begun settled.decls settled.state r.stands.opening settled.save settled.store snap (clock_after settled.saved.epoch) in
+      let start : RuntimeState = begun settled.decls settled.state r.stands.opening r.stands.slots settled.save settled.store snap (clock_after settled.saved.epoch) in
       let kept = λ (found : Images) (told : AreTold tells (parts_of was) found).
       let logs = b.logs_told found told in
       kept_begins found snap start b.settles (b.told found told) (b.recovers found told) b.snapshots refl b.pages_whole b.pages_fit
@@ -482,7 +495,7 @@ module _ {D : Type 0} (tells : D → Option Bytes) (clock : D → ℕ) (image_at
           same = b.same;
           run = no_run opening;
           begins = begins;
-          caused = record { caused = tt; durable = tt; sequences = tt; marks = tt; tried = tt; counted = tt; met = tt; plain = λ tree. tt };
+          caused = record { caused = tt; durable = tt; sequences = tt; marks = tt; tried = tt; counted = tt; met = tt; plain = λ tree. tt; slotted = (settled.decls, b.same, λ arrays. tt) };
           went_on = tt;
           clock_is = refl;
           sequence = refl;
@@ -495,6 +508,10 @@ module _ {D : Type 0} (tells : D → Option Bytes) (clock : D → ℕ) (image_at
           kept = λ found told. (kept found told).0;
           paged = λ found told. settled_pages b.settles;
           history = λ arrays. (arrays, none_come settled.decls);
+          slotted = λ arrays. (
+            subst (λ (x : RuntimeState). SharesWords x.stands → x.stands.slots ≡ slots) b.begins b.slots_are arrays,
+            tt,
+          );
           over = record {
             words = words_of settled.store.pages;
             begins = λ found told.
@@ -584,6 +601,7 @@ module _ {D : Type 0} (tells : D → Option Bytes) (clock : D → ℕ) (image_at
           over = next.1;
           paged = m.paged (ap is_some (one.lasts none)) (m.up_quiet (goes_on_quiet one.ran goes)) sound;
           history = m.on_words;
+          slotted = m.slotted;
         },
         refl,
       )

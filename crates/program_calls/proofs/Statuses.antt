@@ -227,7 +227,7 @@ module _ {D : Type 0} (v : Vaults D) (snap : ℕ) (script : Script) where
   ran_not_usage opening rans (NoSnapshot epoch) comes usage = comes
 
   -- a script was run
-  pub faults_ran : {tries : ℕ} (source : Counts) (old new : Output) (options : RunOptions) (r : Result Ending Failed) → RunsScript v snap tries script (AddsRun (Run options) old new r) → source.after ≡ source.before
+  pub faults_ran : {slots tries : ℕ} (source : Counts) (old new : Output) (options : RunOptions) (r : Result Ending Failed) → RunsScript v snap slots tries script (AddsRun (Run options) old new r) → source.after ≡ source.before
       → AnswersFaults source (record { before = old.faults; after = new.faults }) (status_told r)
   faults_ran source old new options (Ok ending) runs quiet =
       let shown = runs.shown in
@@ -238,7 +238,7 @@ module _ {D : Type 0} (v : Vaults D) (snap : ℕ) (script : Script) where
   faults_ran source old new options (Err failed) runs quiet = faults_broke source old new _ runs.shown quiet
 
   -- a script's run is no usage
-  pub usage_not_ran : {tries : ℕ} (old new : Output) (options : RunOptions) (r : Result Ending Failed) → RunsScript v snap tries script (AddsRun (Run options) old new r) → r ≡ Ok Usage → ⊥
+  pub usage_not_ran : {slots tries : ℕ} (old new : Output) (options : RunOptions) (r : Result Ending Failed) → RunsScript v snap slots tries script (AddsRun (Run options) old new r) → r ≡ Ok Usage → ⊥
   usage_not_ran old new options (Ok ending) runs is =
       let shown = runs.shown in
       let same : ending ≡ Usage = cc in
@@ -246,7 +246,7 @@ module _ {D : Type 0} (v : Vaults D) (snap : ℕ) (script : Script) where
   usage_not_ran old new options (Err failed) runs is = cc
 
   -- the run prints to the same sink
-  pub same_ran : {tries : ℕ} (old new : Output) (options : RunOptions) (r : Result Ending Failed) → RunsScript v snap tries script (AddsRun (Run options) old new r) → new.sink ≡ old.sink
+  pub same_ran : {slots tries : ℕ} (old new : Output) (options : RunOptions) (r : Result Ending Failed) → RunsScript v snap slots tries script (AddsRun (Run options) old new r) → new.sink ≡ old.sink
   same_ran old new options (Ok ending) runs = let shown = runs.shown in let adds = shown.1 in adds.same
   same_ran old new options (Err failed) runs = let breaks = runs.shown in breaks.same
 
@@ -276,7 +276,7 @@ module _ {D : Type 0} (v : Vaults D) (snap : ℕ) (script : Script) where
   device_ended opening rans NoMemory comes five = absurd (omega arith)
   device_ended opening rans (NoSnapshot epoch) comes five = absurd comes
 
-  pub devices_ran : {tries : ℕ} (old new : Output) (options : RunOptions) (r : Result Ending Failed) → RunsScript v snap tries script (AddsRun (Run options) old new r) → AnswersDevices v.faults v.was v.is (status_told r)
+  pub devices_ran : {slots tries : ℕ} (old new : Output) (options : RunOptions) (r : Result Ending Failed) → RunsScript v snap slots tries script (AddsRun (Run options) old new r) → AnswersDevices v.faults v.was v.is (status_told r)
   devices_ran old new options (Ok ending) runs =
       let shown = runs.shown in
       subst (λ (e : Ending). AnswersDevices v.faults v.was v.is (status_of e)) shown.0 (record {
@@ -331,8 +331,8 @@ pub unread_most : (ending : Ending) → IsUnread ending → status_of ending ≤
 unread_most ending unread = run_status ending (λ epoch is. subst IsUnread is unread)
 
 -- nor does a script's run
-pub ran_most : {D : Type 0} {tries : ℕ} (v : Vaults D) (snap : ℕ) (script : Script) (old new : Output) (options : RunOptions)
-    (r : Result Ending Failed) → RunsScript v snap tries script (AddsRun (Run options) old new r) → status_told r ≤ 8
+pub ran_most : {D : Type 0} {slots tries : ℕ} (v : Vaults D) (snap : ℕ) (script : Script) (old new : Output) (options : RunOptions)
+    (r : Result Ending Failed) → RunsScript v snap slots tries script (AddsRun (Run options) old new r) → status_told r ≤ 8
 ran_most v snap script old new options (Ok came) runs =
     let shown = runs.shown in
     run_status came (λ epoch is. subst (RunComes v snap script runs.opening runs.rans) (shown.0 ∙ is) runs.comes)

@@ -1,5 +1,5 @@
 -- What is told of one round more.
-use Rattle.std.proofs.Common.{◌≡◌, ◌∙◌, sym, ap, subst, refl, ℕ, ◌+◌, ◌<◌, ◌^◌, Bool, true, false, List, [], ◌∷◌, ◌++◌, length, append_assoc, Option, Some, None, Result, Ok, Err}
+use Rattle.std.proofs.Common.{◌≡◌, ◌∙◌, sym, ap, subst, refl, ℕ, ◌+◌, ◌<◌, ◌^◌, Bool, true, false, List, [], ◌∷◌, ◌++◌, length, append_assoc, Result, Ok, Err}
 use Rattle.std.specs.Prelude.{sum_by}
 use Rattle.std.proofs.lemmas.List.{append-nil}
 use Rattle.outside.specs.declared.fault.Failed.{Failed}
@@ -11,16 +11,15 @@ use Rattle.tx_script.specs.Draws.{lines_in}
 use Rattle.tx_script.specs.Run.{AreOfFirst, Ran}
 use Rattle.tx_script.specs.Text.{lines_text, round_text, run_text}
 use Rattle.tx_script.specs.declared.outcome.Outcome.{Outcome}
-use Rattle.brief_output.specs.Brief.{tally_of, total_of}
+use Rattle.brief_output.specs.Brief.{tally_of}
 use Rattle.brief_output.specs.Fits.{tally_fits}
 use Rattle.brief_output.specs.declared.tally.Tally.{Tally}
 use Rattle.round_engine.specs.RanRound.{RanRound}
 use Rattle.round_engine.specs.Standing.{RuntimeState}
 use Rattle.round_engine.specs.declared.report.Report.{Report}
 use Rattle.program_calls.specs.declared.ending.Ending.{Ending}
-use Rattle.program_calls.specs.declared.ending.Ending.TheVariants.{Finished}
 use Rattle.program_calls.specs.Ending.{last_line}
-use Rattle.program_calls.specs.Telling.{HasSum, HasTold, IsOf, IsSumOf, TellsRound, TellsRun}
+use Rattle.program_calls.specs.Telling.{HasTold, IsOf, TellsRound, TellsRun}
 
 -- the text of one round more stands behind that of the rounds before it
 run_text-push : (rans : List Ran) (ran : Ran) → run_text rans ++ round_text ran ≡ run_text (rans ++ ran ∷ [])
@@ -48,19 +47,6 @@ none_told false tally out is = adds_nothing out
 pub none_ran : (tally : Tally) → tally ≡ tally_of [] → tally.ran ≡ true → ⊥
 none_ran tally is ran = let none : tally.ran ≡ false = ap (λ (t : Tally). t.ran) is in cc
 
--- no sum is known of a run that didn't finish
-pub no_sum : (brief : Bool) (total : Option ℕ) (state : State) (ending : Ending) → (ending ≡ Finished → ⊥)
-    → total ≡ None → HasSum brief total state ending
-no_sum true total state ending apart none = subst (λ (o : Option ℕ). IsSumOf o state ending) (sym none) apart
-no_sum false total state ending apart none = tt
-
--- and that of one that did is its state's
-pub has_sum : (brief : Bool) (total : Option ℕ) (state : State) → (brief ≡ true → total ≡ Some (total_of state))
-    → HasSum brief total state Finished
-has_sum true total state told =
-    subst (λ (o : Option ℕ). IsSumOf o state Finished) (sym (told refl)) (refl, refl)
-has_sum false total state told = tt
-
 -- one round more was told
 pub told_more : {T : Type 0} (brief now : Bool) (before after : Tally) (old mid new : Output) (report : Report) (rans : List Ran) (ran : Ran) (done : T) → now ≡ brief
     → lines_text report.outcomes report.keeper report.durable ≡ round_text ran → IsOf report ran
@@ -74,12 +60,12 @@ told_more false true before after old mid new report rans ran done same text of 
 pub told_broken : (T : Type 0) (brief now : Bool) (before after : Tally) (old mid new : Output) (report : Report) (rans : List Ran) (ran : Ran) (failed : Failed) (ending : Ending)
     → now ≡ brief → lines_text report.outcomes report.keeper report.durable ≡ round_text ran
     → HasTold brief before old mid rans → TellsRound {T = T} now before after mid new report (Err failed)
-    → (total : Option ℕ) (state : State) → TellsRun brief after total old new (Err failed) (rans ++ ran ∷ []) state ending
-told_broken T true true before after old mid new report rans ran failed ending same text had one total state = absurd one
-told_broken T false false before after old mid new report rans ran failed ending same text had one total state =
+    → (state : State) → TellsRun brief after old new (Err failed) (rans ++ ran ∷ []) state ending
+told_broken T true true before after old mid new report rans ran failed ending same text had one state = absurd one
+told_broken T false false before after old mid new report rans ran failed ending same text had one state =
     breaks_within (last_line ending) (breaks_as (run_text-push rans ran) (breaks_then had (breaks_as text one)))
-told_broken T true false before after old mid new report rans ran failed ending same text had one total state = absurd cc
-told_broken T false true before after old mid new report rans ran failed ending same text had one total state = absurd cc
+told_broken T true false before after old mid new report rans ran failed ending same text had one state = absurd cc
+told_broken T false true before after old mid new report rans ran failed ending same text had one state = absurd cc
 
 -- the commits so far, and the lines of the round, are few
 pub fits_in : (brief now : Bool) (tally : Tally) (old new : Output) (rounds : List Round) (rans : List Ran) (ran : Ran) (report : Report) → now ≡ brief

@@ -2,6 +2,7 @@
 use Rattle.std.specs.Prelude.{◌≡◌, ℕ, List, [], ◌∷◌, Option, Some, None, ⊤}
 use Rattle.lists.specs.declared.memory.OrMemory.{OrMemory}
 use Rattle.lists.specs.declared.memory.OrMemory.TheVariants as errors
+use Rattle.log_writer.specs.Vault.{IsWhole}
 use Rattle.log_writer.specs.declared.vault.Vault.{Vault}
 use Rattle.serial_model.specs.State.{State}
 use Rattle.script_grammar.specs.Script.{Bytes}
@@ -18,7 +19,7 @@ use Rattle.brief_output.specs.Brief.{run_in_brief, total_of}
 use Rattle.command_line.specs.declared.command.Command.TheVariants.{Run}
 use Rattle.command_line.specs.declared.command.RunOptions.{RunOptions}
 use Rattle.program_calls.specs.declared.ending.Ending.{Ending}
-use Rattle.program_calls.specs.declared.ending.Ending.TheVariants.{Finished}
+use Rattle.program_calls.specs.declared.ending.Ending.TheVariants.{Damaged, Finished, NoDevice, NoMemory}
 use Rattle.program_calls.specs.Main.{Came, decls_in}
 use Rattle.program_calls.specs.RunKept.{StandsWhenStopped}
 use Rattle.program_calls.specs.Vaults.{Vaults, vaults_of}
@@ -38,41 +39,57 @@ IsUnreadable v mid (errors.Fault (causes.Damaged device at)) =
     (now : Images) → AreTold v.tells (parts_of mid) now → IsDamagedIn now device at
 IsUnreadable v mid errors.Memory = ⊤
 
--- The sum of a run that finished is that of its state, and no device is called for it.
-pub record IsKnown {D : Type 0} (v : Vaults D) (mid : Vault D) (state : State) (total : Option ℕ) : Type 0 where
-  pub sum : total ≡ Some (total_of state)
-  pub alone : v.is ≡ mid
+-- What the vault keeps was read, which the run left so: this is its sum; or that was refused for this cause, and there
+-- is none.
+abbrev pub SumsRead : {D : Type 0} → Vaults D → Vault D → Option ℕ → Option (OrMemory RecoverFault) → Type 0
+SumsRead v mid (Some total) None = AreQuiet v.faults mid v.is × IsTotal v total
+SumsRead v mid None (Some refusal) = IsUnreadable v mid refusal
+SumsRead v mid _ _ = ⊥
 
--- What the vault keeps was read, which the run left so: this is its sum; or that was refused, and there is none.
-abbrev pub SumsRead : {D : Type 0} → Vaults D → Vault D → Option ℕ → Type 0
-SumsRead v mid (Some total) = AreQuiet v.faults mid v.is × IsTotal v total
-SumsRead v mid None = (refusal : OrMemory RecoverFault) × IsUnreadable v mid refusal
+-- The sum that is told behind these rounds, which left the vault so, or why none is. Where no round was run none is
+-- told, and nothing is read.
+abbrev pub SumsUp : {D : Type 0} → Vaults D → Vault D → List Ran → Option ℕ → Option (OrMemory RecoverFault) → Type 0
+SumsUp v mid [] total refusal = (total ≡ None) × (refusal ≡ None) × (v.is ≡ mid)
+SumsUp v mid (ran ∷ rans) total refusal = SumsRead v mid total refusal
 
--- The sum behind rounds of a run that ended so, in this state: it is known where the run finished, and else read.
-pub record SumsBehind {D : Type 0} (v : Vaults D) (mid : Vault D) (state : State) (ended : Ending) (total : Option ℕ)
-    : Type 0 where
-  pub known : ended ≡ Finished → IsKnown v mid state total
-  pub read : (ended ≡ Finished → ⊥) → SumsRead v mid total
+-- How a call ends where recovery is refused.
+abbrev pub ending_of_fault : RecoverFault → Ending
+ending_of_fault (causes.Device device) = NoDevice device
+ending_of_fault (causes.Damaged device at) = Damaged device at
 
--- The sum that is told of these rounds, behind which the run ended so, in this state, and left the vault so. Where the
--- devices tell their bytes it is that of what the vault stands for, also where it is the run's that finished (law
--- `sum_stands` of proofs/BriefDone). Where no round was run none is told, and nothing is read.
-abbrev pub SumsUp : {D : Type 0} → Vaults D → Vault D → List Ran → State → Ending → Option ℕ → Type 0
-SumsUp v mid [] state ended total = (total ≡ None) × (v.is ≡ mid)
-SumsUp v mid (ran ∷ rans) state ended total = SumsBehind v mid state ended total
+-- The same, or for want of memory.
+abbrev pub ending_of_refusal : OrMemory RecoverFault → Ending
+ending_of_refusal (errors.Fault fault) = ending_of_fault fault
+ending_of_refusal errors.Memory = NoMemory
+
+-- How a call ends whose run came to this ending, where recovery is refused behind it: that is told of a run that
+-- finished alone.
+abbrev pub ended_refused : Ending → OrMemory RecoverFault → Ending
+ended_refused Finished refusal = ending_of_refusal refusal
+ended_refused ended refusal = ended
+
+-- The same, if it is refused.
+abbrev pub ended_behind : Ending → Option (OrMemory RecoverFault) → Ending
+ended_behind ended None = ended
+ended_behind ended (Some refusal) = ended_refused ended refusal
 
 -- the vault of the call, up to how the run left it
 abbrev pub up_to : {D : Type 0} → Vaults D → Vault D → Vaults D
 up_to v mid = vaults_of v.tells v.clock v.image_at v.faults v.was mid
 
 -- What `run --brief` comes to over a source: over the vault up to how the run left it, all that a run comes to that is
--- told line by line; and of its ending, with a text that has nothing but the counts and the sum, this is shown. From
--- then on the vault was at most read, and each stop leaves what it leaves of that run, also while it is read.
+-- told line by line; and of how the call ends, with a text that has nothing but the counts and the sum, this is shown.
+-- The sum is that of what the vault keeps, as recovery reads it behind the run: where the devices tell their bytes, and
+-- the run finished, it is that of the run's state (law `sum_is` of proofs/BriefDone). A run of rounds leaves the vault
+-- whole; from then on it was at most read, and each stop leaves what it leaves of that run, also while it is read.
 pub record CameInBrief {D : Type 0} (v : Vaults D) (options : RunOptions) (had left : Option Bytes)
     (Shows : Bytes → Ending → Type 0) : Type 0 where
   pub mid : Vault D
   pub total : Option ℕ
-  pub came : Came (up_to v mid) (Run options) had left (λ rans ended. Shows (run_in_brief rans total) ended)
-  pub sums : SumsUp v mid came.course.rans came.course.state came.course.ending total
+  pub refusal : Option (OrMemory RecoverFault)
+  pub came : Came (up_to v mid) (Run options) had left
+      (λ rans ended. Shows (run_in_brief rans total) (ended_behind ended refusal))
+  pub sums : SumsUp v mid came.course.rans total refusal
   pub reads : VaultOnlyReads v.tells v.clock v.image_at v.faults mid v.is
+  pub whole : (came.course.rans ≡ [] → ⊥) → IsWhole mid
   pub stops : StandsWhenStopped v (decls_in came.course.script) came.course.commits came.course.opening came.course.rans

@@ -1,7 +1,7 @@
 -- What follows from the main theorem. No round draws more numbers than its lines have tries, and where a tree is
 -- declared each number is a commit's. No run ends at the limit of the draws while each line has few tries, or a tree is
--- declared. A run with nothing in its way is done; and of one that is done each line is committed, or in conflict at
--- each of its tries, and each round is durable.
+-- declared. A run with nothing in its way is done; and of one that is done each line is committed, in conflict at each
+-- of its tries, or found no usable slot at the last one, and each round is durable.
 use Rattle.std.specs.Prelude.{◌≡◌, ◌⊎◌, ◌+◌, ◌≤◌, ℕ, List, [], ◌∷◌, ◌++◌, IfSome, IsSome, Option, Some, None}
 use Rattle.std.specs.List.{AllByRecursion}
 use Rattle.std.proofs.Common.{inl, inr, ◌∙◌, refl, sym, subst, arith}
@@ -27,7 +27,7 @@ use Rattle.round_engine.specs.declared.report.LimitName.TheVariants.{Draw}
 use Rattle.command_line.specs.declared.command.Command.TheVariants.{Run}
 use Rattle.command_line.specs.declared.command.RunOptions.{RunOptions}
 use Rattle.program_calls.specs.Beginning.{HasKept, HasStorages, Opening, SameDecls}
-use Rattle.program_calls.specs.EndLaws.{IsAnswered, IsCommittedOrInConflict, all_answered, draw_end_met}
+use Rattle.program_calls.specs.EndLaws.{IsAnswered, WasRun, all_answered, draw_end_met}
 use Rattle.program_calls.specs.EndLaws.{durable_unlimited}
 use Rattle.program_calls.specs.EndLaws.{goes_on_answered, goes_on_run}
 use Rattle.program_calls.specs.declared.ending.Ending.{Ending}
@@ -59,10 +59,10 @@ storages_of found decls kept here there =
     subst (λ (r : Reading). IfSome r.point (λ _. SameDecls decls (newest_decls r.catalogues))) same here.same in
     subst (λ ds. SameDecls decls ds) (sym there.kept_are) (taken there.reading.point there.saved has)
 
--- Each line of the round is committed, or in conflict at each of its tries; each of the maintenance thread is done, and
--- the round's last epoch is durable.
+-- Each line of the round is committed, in conflict at each of its tries, or found no usable slot at the last one; each of
+-- the maintenance thread is done, and the round's last epoch is durable.
 pub record IsDone (ran : Ran) : Type 0 where
-  pub all_run : AllByRecursion (AllByRecursion IsCommittedOrInConflict) ran.printed.outcomes
+  pub all_run : AllByRecursion (AllByRecursion WasRun) ran.printed.outcomes
   pub answered : AllByRecursion IsAnswered ran.printed.answers
   pub durable : ran.printed.durable ≡ Some ran.printed.end.epoch
 

@@ -21,7 +21,7 @@ use Rattle.command_line.specs.declared.command.Command.{Command}
 use Rattle.program_calls.specs.Beginning.{Opening, SameDecls}
 use Rattle.program_calls.specs.Ending.{AreBytes, Comes, ReadsFirst}
 use Rattle.program_calls.specs.RanOver.{room_of}
-use Rattle.program_calls.specs.RoundCauses.{AreCaused, saved_in, tries_asked}
+use Rattle.program_calls.specs.RoundCauses.{AreCaused, saved_in, slots_asked, tries_asked}
 use Rattle.program_calls.specs.RunKept.{AtRest, HasDeclared, HasEachSnapshot, IsCovered, IsRunThrough, IsSound}
 use Rattle.program_calls.specs.RunKept.{MayLeave, RecordsOf, StandsThrough, StandsThroughReads, last_saved}
 use Rattle.program_calls.specs.Snapshots.{EachSnapshot}
@@ -160,7 +160,7 @@ pub record Came {D : Type 0} (v : Vaults D) (command : Command) (had left : Opti
   -- The commits are of one history that the threads shared.
   pub history : ComeFromWords (decls_in course.script) course.opening.state (printed_in course)
   -- Each outcome, each answer and each refusal has its cause.
-  pub caused : AreCaused v (room_of command) (tries_asked command) (decls_in course.script) (rounds_of course.script)
-      course.commits course.opening course.rans
+  pub caused : AreCaused v (room_of command) (slots_asked command) (tries_asked command) (decls_in course.script)
+      (rounds_of course.script) course.commits course.opening course.rans
   -- It is printed, or told otherwise.
   pub shown : Shows course.rans course.ending

@@ -37,7 +37,6 @@ use Rattle.checkpoints.specs.SettlesInto.{SettlesInto}
 use Rattle.recovery_core.specs.SnapshotsKept.{KeepsSnapshots}
 use Rattle.joint_crashes.specs.VaultReads.{AreQuiet, VaultOnlyReads}
 use Rattle.recovery_core.specs.declared.fault.RecoverFault.{RecoverFault}
-use Rattle.recovery_core.specs.declared.fault.RecoverFault.TheVariants as recovers
 use Rattle.checkpoints.specs.declared.fault.SettleFault.{SettleFault}
 use Rattle.checkpoints.specs.declared.fault.SettleFault.TheVariants as settles
 use Rattle.recovery_core.specs.declared.recovered.Recovered.{Recovered}
@@ -48,6 +47,7 @@ use Rattle.tx_script.specs.Causes.{last_sequence}
 use Rattle.tx_script.specs.Run.{Ran, IsScriptRun, clock_after, printed_commits}
 use Rattle.tx_script.specs.StateText.{state_text}
 use Rattle.round_engine.specs.Begun.{begun}
+use Rattle.round_engine.specs.LineEngines.{SharesWords}
 use Rattle.round_engine.specs.Logs.{AreClosedFiles, AreLogs}
 use Rattle.round_engine.specs.Standing.{RuntimeState, StandsOn}
 use Rattle.round_engine.specs.declared.report.End.{End}
@@ -62,7 +62,8 @@ use Rattle.program_calls.specs.Causes.{Counts, ReadsAlone, RestsAgain}
 use Rattle.program_calls.specs.Answers.{in_lines}
 use Rattle.program_calls.specs.Ending.{IsNoText, IsReadOut, RunComes, last_line, status_of}
 use Rattle.brief_output.specs.Brief.{run_in_brief}
-use Rattle.program_calls.specs.InBrief.{SumsUp, up_to}
+pub use Rattle.program_calls.specs.InBrief.{ending_of_fault, ending_of_refusal}
+use Rattle.program_calls.specs.InBrief.{SumsUp, ended_behind, up_to}
 use Rattle.program_calls.specs.Ending.{AreBytes, SinkHolds}
 use Rattle.program_calls.specs.RoundCauses.{AreRoundsCaused, FilesAreFull}
 use Rattle.program_calls.specs.Main.{ComeFromWords}
@@ -133,16 +134,6 @@ ReadsWithCause before after (Err (errors.Fault failed)) = (before ≤ after) × 
 abbrev pub EndsWithCause : ℕ → ℕ → Ending → Type 0
 EndsWithCause before after ReadFault = (before ≤ after) × Rose before after
 EndsWithCause before after ending = after ≡ before
-
--- How a call ends where recovery is refused.
-abbrev pub ending_of_fault : RecoverFault → Ending
-ending_of_fault (recovers.Device device) = NoDevice device
-ending_of_fault (recovers.Damaged device at) = Damaged device at
-
--- The same, or for want of memory.
-abbrev pub ending_of_refusal : OrMemory RecoverFault → Ending
-ending_of_refusal (errors.Fault fault) = ending_of_fault fault
-ending_of_refusal errors.Memory = NoMemory
 
 -- How a call ends whose vault can't be settled.
 abbrev pub ending_of_settle_fault : SettleFault → Ending
@@ -238,7 +229,7 @@ KeptSnapshots r s = (found now : Images) (is : Recovers found r) (says : SaysSet
 
 -- A run begins: the vault was recovered, as it reads, has the storages, and was settled; and the runtime stands on it.
 pub record BeginsRun {D : Type 0} (tells : D → Option Bytes) (clock : D → ℕ) (image_at : D → ℕ → Bytes → Type 0)
-    (faults : D → ℕ) (snap : ℕ) (decls : List Decl) (was is : Vault D) (r : RuntimeState) : Type 0 where
+    (faults : D → ℕ) (snap slots : ℕ) (decls : List Decl) (was is : Vault D) (r : RuntimeState) : Type 0 where
   pub recovered : Recovered
   pub settled : Settled
   pub between : Vault D
@@ -251,8 +242,9 @@ pub record BeginsRun {D : Type 0} (tells : D → Option Bytes) (clock : D → �
   pub sequence : IsStoreDue recovered → sequence_of recovered.save.newest ≡ last_sequence → ⊥
   pub settles : SettlesInto tells clock image_at recovered decls between is settled
   pub snapshots : KeptSnapshots recovered settled
-  pub begins : r ≡ begun settled.decls settled.state r.stands.opening settled.save settled.store snap
+  pub begins : r ≡ begun settled.decls settled.state r.stands.opening r.stands.slots settled.save settled.store snap
       (clock_after settled.saved.epoch)
+  pub slots_are : SharesWords r.stands → r.stands.slots ≡ slots
   pub pages_whole : AllByRecursion IsWholePage settled.store.pages
   pub pages_fit : AllByRecursion (AllByRecursion (λ w. w < 2 ^ 64)) (words_of settled.store.pages)
   pub stands : StandsOn tells clock image_at r is
@@ -277,7 +269,7 @@ pub record BeginsRun {D : Type 0} (tells : D → Option Bytes) (clock : D → �
 -- ---- a script's run
 
 -- What was run of a script from what the vault stood for, to which state, and how that ended; and this is shown of it.
-pub record RunsRounds {D : Type 0} (v : Vaults D) (snap tries : ℕ) (script : Script)
+pub record RunsRounds {D : Type 0} (v : Vaults D) (snap slots tries : ℕ) (script : Script)
     (Shows : List Ran → State → Ending → Type 0) : Type 0 where
   pub rans : List Ran
   pub ending : Ending
@@ -285,7 +277,7 @@ pub record RunsRounds {D : Type 0} (v : Vaults D) (snap tries : ℕ) (script : S
   pub state : State
   pub run : IsScriptRun script opening.state opening.saved rans state
   pub comes : RunComes v snap script opening rans ending
-  pub caused : AreRoundsCaused tries script.decls script.rounds opening.sequence rans
+  pub caused : AreRoundsCaused slots tries script.decls script.rounds opening rans
   pub full : FilesAreFull v script.decls run.ordered opening rans
   pub history : ComeFromWords script.decls opening.state (printed_commits 0 rans script.rounds)
   pub files : RunsOverFiles v snap script.decls opening.state opening.saved run.ordered rans
@@ -293,23 +285,28 @@ pub record RunsRounds {D : Type 0} (v : Vaults D) (snap tries : ℕ) (script : S
   pub shown : Shows rans state ending
 
 -- the same, where the state isn't shown
-abbrev pub RunsScript : {D : Type 0} → Vaults D → ℕ → ℕ → Script → (List Ran → Ending → Type 0) → Type 0
-RunsScript v snap tries script Shows = RunsRounds v snap tries script (λ rans state ending. Shows rans ending)
+abbrev pub RunsScript : {D : Type 0} → Vaults D → ℕ → ℕ → ℕ → Script → (List Ran → Ending → Type 0) → Type 0
+RunsScript v snap slots tries script Shows =
+    RunsRounds v snap slots tries script (λ rans state ending. Shows rans ending)
 
 -- ---- a run in brief
 
--- Behind rounds that were run so, to this state, and ended so, a sum is told or none; and this is shown of the text.
-pub record TellsInBrief {D : Type 0} (v : Vaults D) (mid : Vault D) (rans : List Ran) (state : State) (ended : Ending)
+-- Behind rounds that were run so, and ended so, a sum is told or none; and this is shown of the text and of how the call
+-- ends.
+pub record TellsInBrief {D : Type 0} (v : Vaults D) (mid : Vault D) (rans : List Ran) (ended : Ending)
     (Shows : Bytes → Ending → Type 0) : Type 0 where
   pub total : Option ℕ
-  pub sums : SumsUp v mid rans state ended total
-  pub shown : Shows (run_in_brief rans total) ended
+  pub refusal : Option (OrMemory RecoverFault)
+  pub sums : SumsUp v mid rans total refusal
+  pub shown : Shows (run_in_brief rans total) (ended_behind ended refusal)
 
 -- The same of the run of a script, which left the vault so; from then on it was at most read.
-pub record RunsInBrief {D : Type 0} (v : Vaults D) (snap tries : ℕ) (script : Script) (Shows : Bytes → Ending → Type 0)
-    : Type 0 where
+pub record RunsInBrief {D : Type 0} (v : Vaults D) (snap slots tries : ℕ) (script : Script)
+    (Shows : Bytes → Ending → Type 0) : Type 0 where
   pub mid : Vault D
   pub total : Option ℕ
-  pub runs : RunsRounds (up_to v mid) snap tries script
-      (λ rans state ended. SumsUp v mid rans state ended total × Shows (run_in_brief rans total) ended)
+  pub refusal : Option (OrMemory RecoverFault)
+  pub runs : RunsRounds (up_to v mid) snap slots tries script (λ rans state ended. SumsUp v mid rans total refusal
+      × Shows (run_in_brief rans total) (ended_behind ended refusal))
   pub reads : VaultOnlyReads v.tells v.clock v.image_at v.faults mid v.is
+  pub whole : (runs.rans ≡ [] → ⊥) → IsWhole mid

@@ -1,7 +1,7 @@
 -- Why a round came as it did: the epochs that it saved, the marks of its workers, the tries of its lines, and its log
 -- files.
 use Rattle.std.specs.Prelude.{◌≡◌, ◌+◌, ◌-◌, ◌<◌, ◌++◌, ℕ, List, [], ◌∷◌, length, option_to_list, slice_get, Bool}
-use Rattle.std.specs.Prelude.{filter, nat_lt, Option, Some, None, ⊤}
+use Rattle.std.specs.Prelude.{filter, nat_lt, Option, Some, None, true, ⊤}
 use Rattle.std.specs.List.{AllByRecursion}
 use Rattle.serial_model.specs.History.{Entry}
 use Rattle.serial_model.specs.State.{State}
@@ -15,6 +15,7 @@ use Rattle.tx_script.specs.Draws.{DrawsAreCounted, HasTree, RunsPlainly}
 use Rattle.wire_form.specs.LogFile.{lines_bytes}
 use Rattle.round_engine.specs.Changes.{AreLogged}
 use Rattle.round_engine.specs.Ends.{durable_of, end_of}
+use Rattle.round_engine.specs.Histories.{are_arrays}
 use Rattle.round_engine.specs.RanRound.{AreRoundMarks}
 use Rattle.round_engine.specs.Saves.{saves_told}
 use Rattle.command_line.specs.declared.command.Command.{Command}
@@ -58,27 +59,40 @@ abbrev pub tries_asked : Command → ℕ
 tries_asked (Run options) = options.tries
 tries_asked _ = 1
 
--- in the first of these rounds each try in conflict met a line of another worker of its round
+-- how many slots there are to be
+abbrev pub slots_asked : Command → ℕ
+slots_asked (Run options) = options.slots
+slots_asked _ = 0
+
+-- Where all storages are arrays, and each key that the call began with is one of theirs, each round has so many slots.
+abbrev pub HaveSlots : ℕ → List Decl → State → List Ran → Type 0
+HaveSlots slots decls s rans = (storages : List Decl) × SameDecls decls storages
+    × (are_arrays storages s ≡ true → AllByRecursion (λ ran. ran.beside.slots ≡ slots) rans)
+
+-- in the first of these rounds each try in conflict at a record met a line of another worker of its round; of one in
+-- conflict at a pointer or a slot nobody is told
 abbrev pub AllMet : List Ran → List Round → Type 0
 AllMet [] rounds = ⊤
 AllMet (ran ∷ rans) (round ∷ rounds) = AreMet ran round × AllMet rans rounds
 AllMet (ran ∷ rans) [] = ⊥
 
 -- Each outcome and each answer of the rounds has its cause, as has each epoch that was made durable; by the sequences
--- of the savepoints, the marks of the workers, and how often a line may be tried, which these causes speak of. Each
--- number of a round was drawn for one of its commits, or for a try that was refused behind its draw. A try in
--- conflict met a line of another worker of its round, at a key that it touches and that one may change; where a tree is
--- declared nobody is in a line's way.
-pub record AreRoundsCaused (tries : ℕ) (decls : List Decl) (rounds : List Round) (sequence : ℕ) (rans : List Ran)
-    : Type 0 where
+-- of the savepoints, the marks of the workers, how often a line may be tried, and how many slots there are, which these
+-- causes speak of. Each number of a round was drawn for one of its commits, or for a try that was refused behind its
+-- draw. A try in conflict at a record met a line of another worker of its round, at a key that it touches and that one
+-- may change; of one in conflict at a pointer or a slot nobody is told. Where a tree is declared nobody is in a line's
+-- way.
+pub record AreRoundsCaused (slots tries : ℕ) (decls : List Decl) (rounds : List Round) (opening : Opening)
+    (rans : List Ran) : Type 0 where
   pub caused : AllByRecursion AllCaused rans
   pub durable : AllByRecursion IsDurable rans
-  pub sequences : SequencesFrom sequence rans
+  pub sequences : SequencesFrom opening.sequence rans
   pub marks : AreMarked rans rounds
   pub tried : AllByRecursion (λ ran. ran.beside.tries ≡ tries) rans
   pub counted : AllByRecursion DrawsAreCounted rans
   pub met : AllMet rans rounds
   pub plain : HasTree decls → AllByRecursion RunsPlainly rans
+  pub slotted : HaveSlots slots decls opening.state rans
 
 -- the commit has an epoch above this one
 abbrev pub is_since : ℕ → Commit → Bool
@@ -105,8 +119,8 @@ FilesAreFull v decls commits opening rans =
 
 -- What came of the rounds has its cause, a log file that was told full is so long and none was found damaged, and the
 -- log files and pages that the rounds were over are those that their swaps and gleans left.
-pub record AreCaused {D : Type 0} (v : Vaults D) (room tries : ℕ) (decls : List Decl) (rounds : List Round)
+pub record AreCaused {D : Type 0} (v : Vaults D) (room slots tries : ℕ) (decls : List Decl) (rounds : List Round)
     (commits : List Entry) (opening : Opening) (rans : List Ran) : Type 0 where
-  pub in_rounds : AreRoundsCaused tries decls rounds opening.sequence rans
+  pub in_rounds : AreRoundsCaused slots tries decls rounds opening rans
   pub full : FilesAreFull v decls commits opening rans
   pub files : RunsOverFiles v room decls opening.state opening.saved commits rans

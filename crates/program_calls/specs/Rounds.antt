@@ -63,9 +63,9 @@ CanCount tells clock image_at faults tries round old before brief tally = brief 
 
 -- The rounds of a script were run to the end of the run, which has this status, and this is shown of them; and the
 -- vault is left as it has to be.
-pub record RunsToEnd {D : Type 0} (v : Vaults D) (snap tries : ℕ) (script : Script) (status : ℕ)
+pub record RunsToEnd {D : Type 0} (v : Vaults D) (snap slots tries : ℕ) (script : Script) (status : ℕ)
     (Shows : List Ran → State → Ending → Type 0) : Type 0 where
-  pub runs : RunsRounds v snap tries script Shows
+  pub runs : RunsRounds v snap slots tries script Shows
   pub whole : IsWhole v.is
   pub reads : IsReadStatus status → VaultOnlyReads v.tells v.clock v.image_at v.faults v.was v.is
   pub damage : ReadsDamage v.tells v.clock v.image_at v.faults status v.was v.is

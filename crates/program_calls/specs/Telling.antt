@@ -1,15 +1,14 @@
--- What is told of a run while it goes on: its lines, or nothing, where what came of it is counted and summed up.
-use Rattle.std.specs.Prelude.{◌≡◌, ◌++◌, ℕ, Bool, true, false, List, [], ◌∷◌, Option, Some, None, Result, Ok, Err, ⊤}
+-- What is told of a run while it goes on: its lines, or nothing, where what came of it is counted.
+use Rattle.std.specs.Prelude.{◌≡◌, ◌++◌, Bool, true, false, List, [], ◌∷◌, Result, Ok, Err}
 use Rattle.outside.specs.declared.fault.Failed.{Failed}
 use Rattle.serial_model.specs.State.{State}
 use Rattle.text_output.specs.Output.{Adds, Breaks, Output, Prints}
 use Rattle.tx_script.specs.Run.{Ran}
 use Rattle.tx_script.specs.Text.{lines_text, run_text}
-use Rattle.brief_output.specs.Brief.{tally_of, total_of}
+use Rattle.brief_output.specs.Brief.{tally_of}
 use Rattle.brief_output.specs.declared.tally.Tally.{Tally}
 use Rattle.round_engine.specs.declared.report.Report.{Report}
 use Rattle.program_calls.specs.declared.ending.Ending.{Ending}
-use Rattle.program_calls.specs.declared.ending.Ending.TheVariants.{Finished}
 use Rattle.program_calls.specs.Ending.{last_line}
 
 -- this came of the round
@@ -34,21 +33,8 @@ abbrev pub HasTold : Bool → Tally → Output → Output → List Ran → Type 
 HasTold true tally old new rans = (new ≡ old) × (tally ≡ tally_of rans)
 HasTold false tally old new rans = Adds old new (run_text rans)
 
--- The sum of a run that finished is known, and is that of its state; of one that ended otherwise none is known.
-abbrev pub IsSumOf : Option ℕ → State → Ending → Type 0
-IsSumOf None state ending = ending ≡ Finished → ⊥
-IsSumOf (Some sum) state ending = (ending ≡ Finished) × (sum ≡ total_of state)
-
--- so it is in brief
-abbrev pub HasSum : Bool → Option ℕ → State → Ending → Type 0
-HasSum true total state ending = IsSumOf total state ending
-HasSum false total state ending = ⊤
-
--- The run came to this ending, and its rounds and its sum were told; or the sink failed within their lines and the last
--- one.
-abbrev pub TellsRun : Bool → Tally → Option ℕ → Output → Output → Result Ending Failed → List Ran → State → Ending
-    → Type 0
-TellsRun brief tally total old new (Ok came) rans state ending =
-    (ending ≡ came) × HasTold brief tally old new rans × HasSum brief total state ending
-TellsRun true tally total old new (Err failed) rans state ending = ⊥
-TellsRun false tally total old new (Err failed) rans state ending = Breaks old new (run_text rans ++ last_line ending)
+-- The run came to this ending, and its rounds were told; or the sink failed within their lines and the last one.
+abbrev pub TellsRun : Bool → Tally → Output → Output → Result Ending Failed → List Ran → State → Ending → Type 0
+TellsRun brief tally old new (Ok came) rans state ending = (ending ≡ came) × HasTold brief tally old new rans
+TellsRun true tally old new (Err failed) rans state ending = ⊥
+TellsRun false tally old new (Err failed) rans state ending = Breaks old new (run_text rans ++ last_line ending)

@@ -1,5 +1,5 @@
 // From what a vault keeps to the first round of a run.
-ghost use Rattle.std.specs.Prelude.{◌≡◌, ◌≢◌, ◌+◌, ◌≤◌, IfErr, IfOk};
+ghost use Rattle.std.specs.Prelude.{◌≡◌, ◌+◌, ◌≤◌, IfErr, IfOk};
 ghost use Rattle.outside.specs.Disk.{IfTold, Only};
 ghost use Rattle.log_writer.specs.Vault.{IsWhole};
 ghost use Rattle.command_line.specs.Options.{AreInRange};
@@ -35,11 +35,10 @@ pub(crate) fn begin<D: Disk>(
     requires ranges { AreInRange options }
     requires whole { IsWhole vault.old }
     requires one { IfTold (D.tells vault.old.save) (Only D.clock D.image_at vault.old.save) }
-    ensures begins { IfOk result (BeginsRun D.tells D.clock D.image_at D.faults options.snap script.now.decls
-        vault.old vault.new) }
+    ensures begins { IfOk result (BeginsRun D.tells D.clock D.image_at D.faults options.snap options.slots
+        script.now.decls vault.old vault.new) }
     ensures ends { IfErr result (EndsBefore D.tells D.clock D.image_at D.faults options.snap script.now
         vault.old vault.new) }
-    ensures unfinished { IfErr result (λ ended. ended ≢ Ending.Finished) }
 {
     let recovered = match recover(alloc, vault) {
         Ok(recovered) => recovered,
@@ -64,6 +63,7 @@ fn config_of(options: RunOptions, saved: u32) -> Config
     requires ranges { AreInRange options }
     requires saved { saved + 1 ≤ last_epoch }
     ensures config { IsConfig result }
+    ensures slots { result.slots ≡ options.slots }
     ensures snap { result.snap ≡ options.snap }
     ensures first { result.first ≡ clock_after saved }
 {

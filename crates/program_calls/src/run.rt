@@ -1,5 +1,5 @@
 // Runs of a script, printed round by round.
-ghost use Rattle.std.specs.Prelude.{◌≡◌, ◌≢◌, ◌<◌, ◌≤◌, ◌^◌, ℕ, [], None, Ok, true, false};
+ghost use Rattle.std.specs.Prelude.{◌≡◌, ◌≢◌, ◌<◌, ◌≤◌, ◌^◌, ℕ, [], Ok, true, false};
 ghost use Rattle.command_line.specs.Options.{AreInRange, AreMadeInRange};
 ghost use Rattle.script_grammar.specs.Script.{IsScript};
 ghost use Rattle.tx_script.specs.Draws.{lines_in};
@@ -105,11 +105,11 @@ fn run_script<R: Threads + Wait + Sync, K: Sink, D: Disk + Send + Drop, G: Watch
     requires whole { IsWhole vault.old }
     requires one { IfTold (D.tells vault.old.save) (Only D.clock D.image_at vault.old.save) }
     ensures full { options.brief ≡ false
-        → RunsScript (vaults_of D.tells D.clock D.image_at D.faults vault.old vault.new) options.snap options.tries
-        script.now (AddsRun (Command.Run options) printer.old printer.new result) }
+        → RunsScript (vaults_of D.tells D.clock D.image_at D.faults vault.old vault.new) options.snap
+        options.slots options.tries script.now (AddsRun (Command.Run options) printer.old printer.new result) }
     ensures brief { options.brief ≡ true
-        → RunsInBrief (vaults_of D.tells D.clock D.image_at D.faults vault.old vault.new) options.snap options.tries
-        script.now (AddsText printer.old printer.new result) }
+        → RunsInBrief (vaults_of D.tells D.clock D.image_at D.faults vault.old vault.new) options.snap
+        options.slots options.tries script.now (AddsText printer.old printer.new result) }
     ensures usage { result ≢ Ok Ending.Usage }
     ensures statuses { IsRunStatus (status_told result) }
     ensures faults { (source : ℕ) → AnswersFaults (record { before = source; after = source })
@@ -143,7 +143,7 @@ fn run_in_full<R: Threads + Wait + Sync, K: Sink, D: Disk + Send + Drop, G: Watc
     requires whole { IsWhole vault.old }
     requires one { IfTold (D.tells vault.old.save) (Only D.clock D.image_at vault.old.save) }
     ensures runs { RunsScript (vaults_of D.tells D.clock D.image_at D.faults vault.old vault.new) options.snap
-        options.tries script.now (AddsRun (Command.Run options) printer.old printer.new result) }
+        options.slots options.tries script.now (AddsRun (Command.Run options) printer.old printer.new result) }
     ensures reads { IsReadStatus (status_told result)
         → VaultOnlyReads D.tells D.clock D.image_at D.faults vault.old vault.new }
     ensures damage { ReadsDamage D.tells D.clock D.image_at D.faults (status_told result) vault.old vault.new }
@@ -178,7 +178,7 @@ fn run_in_brief<R: Threads + Wait + Sync, K: Sink, D: Disk + Send + Drop, G: Wat
     requires whole { IsWhole vault.old }
     requires one { IfTold (D.tells vault.old.save) (Only D.clock D.image_at vault.old.save) }
     ensures runs { RunsInBrief (vaults_of D.tells D.clock D.image_at D.faults vault.old vault.new) options.snap
-        options.tries script.now (AddsText printer.old printer.new result) }
+        options.slots options.tries script.now (AddsText printer.old printer.new result) }
     ensures damage { ReadsDamage D.tells D.clock D.image_at D.faults (status_told result) vault.old vault.new }
     ensures devices { AnswersDevices D.faults vault.old vault.new (status_told result) }
     ensures reads { IsReadStatus (status_told result)
@@ -215,12 +215,11 @@ fn run_rounds<R: Threads + Wait + Sync, K: Sink, D: Disk + Send + Drop, G: Watch
     requires few { lines_in script.now.rounds < 2 ^ 64 }
     requires ranges { AreInRange options }
     requires fresh { teller.old.tally ≡ tally_of [] }
-    requires unsummed { teller.old.total ≡ None }
     requires whole { IsWhole vault.old }
     requires one { IfTold (D.tells vault.old.save) (Only D.clock D.image_at vault.old.save) }
     ensures runs { RunsRounds (vaults_of D.tells D.clock D.image_at D.faults vault.old vault.new) options.snap
-        options.tries script.now
-        (TellsRun teller.old.brief teller.new.tally teller.new.total printer.old printer.new result) }
+        options.slots options.tries script.now
+        (TellsRun teller.old.brief teller.new.tally printer.old printer.new result) }
     ensures whole { teller.new.tally.ran ≡ true → IsWhole vault.new }
     ensures reads { IsReadStatus (status_told result)
         → VaultOnlyReads D.tells D.clock D.image_at D.faults vault.old vault.new }
@@ -259,14 +258,14 @@ fn run_from<R: Threads + Wait + Sync, K: Sink, D: Disk + Send + Drop, G: Watcher
     requires few { lines_in script.now.rounds < 2 ^ 64 }
     requires ranges { AreInRange options }
     requires fresh { teller.old.tally ≡ tally_of [] }
-    requires unsummed { teller.old.total ≡ None }
-    requires begun { (was : Vault D) × BeginsRun D.tells D.clock D.image_at D.faults options.snap script.now.decls
-        was vault.old runtime.old }
+    requires begun { (was : Vault D) × BeginsRun D.tells D.clock D.image_at D.faults options.snap options.slots
+        script.now.decls was vault.old runtime.old }
     ensures { (was : Vault D)
-        → BeginsRun D.tells D.clock D.image_at D.faults options.snap script.now.decls was vault.old runtime.old
-        → RunsToEnd (vaults_of D.tells D.clock D.image_at D.faults was vault.new) options.snap options.tries
-        script.now (status_told result)
-        (TellsRun teller.old.brief teller.new.tally teller.new.total printer.old printer.new result) }
+        → BeginsRun D.tells D.clock D.image_at D.faults options.snap options.slots
+        script.now.decls was vault.old runtime.old
+        → RunsToEnd (vaults_of D.tells D.clock D.image_at D.faults was vault.new) options.snap
+        options.slots options.tries script.now (status_told result)
+        (TellsRun teller.old.brief teller.new.tally printer.old printer.new result) }
 {
     for index in 0..script.rounds() {
         gate.begins(index + 1, script.rounds());
@@ -286,7 +285,6 @@ fn run_from<R: Threads + Wait + Sync, K: Sink, D: Disk + Send + Drop, G: Watcher
             return Ok(ending_of(end));
         }
     }
-    teller.sum_up(runtime);
     Ok(Ending::Finished)
 }
 
@@ -310,7 +308,6 @@ fn run_round<R: Threads + Wait + Sync, K: Sink, D: Disk + Send + Drop, G: Watche
     requires few { CanCount D.tells D.clock D.image_at D.faults tries lines.now runtime.old vault.old
         teller.old.brief teller.old.tally }
     ensures kind { teller.new.brief ≡ teller.old.brief }
-    ensures total { teller.new.total ≡ teller.old.total }
     ensures runs { RunsRound D.tells D.clock D.image_at D.faults tries lines.now runtime.old runtime.new
         vault.old vault.new teller.old.brief teller.old.tally teller.new.tally printer.old printer.new result }
 {

@@ -13,3 +13,6 @@ mod progress;
 
 pub use entry::{read_args, run_program};
 pub use progress::{Cleared, Progress};
+
+// Names of the crate below that those above speak of.
+pub use program_calls::{Ending, Watcher, top};

@@ -1,11 +1,10 @@
 -- A run begins, or the call ends before its first round.
-use Rattle.std.proofs.Common.{ap, Err, subst, sym}
+use Rattle.std.proofs.Common.{◌∙◌, ap, Err, subst, sym}
 use Rattle.std.proofs.lemmas.Result.{err_from_is_err_and}
 use Rattle.lists.specs.declared.memory.OrMemory.{OrMemory}
 use Rattle.log_writer.specs.Save.{IsStored}
 use Rattle.recovery_core.specs.declared.fault.RecoverFault.{RecoverFault}
 use Rattle.program_calls.proofs.NotBegun.{begins_over, is_read, recovery_refused, settled_memory, settling_refused, shape_refused}
-use Rattle.program_calls.proofs.Unfinished.{other_apart, refused_apart, settling_apart}
 use Rattle.program_calls.proofs.begin.begin.Goals as goal
 
 pub returns-in-Err-clause-ends : goal.returns-in-Err-clause-ends
@@ -52,17 +51,5 @@ returns-in-Ok-new-clause-begins g c =
     (rw c.decls.ensures at c.in_ok-check_shape.ensures.same))
     _ _ c.in-Ok-settle.settled c.in-Ok-new.runtime c.in-Ok-settle.ensures.leaves.crashes c.new.ensures.vault (rw c.decls-2.ensures at c.in-Ok-settle.ensures.settles) c.in-Ok-settle.ensures.snapshots c.in-Ok-settle.ensures.answers.0 c.in-Ok-settle.ensures.leaves.records c.in-Ok-settle.ensures.answers.1.fits
     c.in-Ok-settle.ensures.answers.1.left
-    (rw (c.config_of-config.ensures.snap, c.config_of-config.ensures.first) at c.in-Ok-new.ensures.begins) c.pages_fit.ensures.whole c.pages_fit.ensures.fit c.in-Ok-new.ensures.stands c.in-Ok-new.ensures.logs c.in-Ok-new.ensures.counts
-
--- none of these is the end of a run that finished
-pub returns-in-Err-clause-unfinished : goal.returns-in-Err-clause-unfinished
-returns-in-Err-clause-unfinished g c = rw c.ending_of_refusal.ensures (refused_apart c.in-Err.refusal)
-
-pub returns-in_err-check_shape-clause-unfinished : goal.returns-in_err-check_shape-clause-unfinished
-returns-in_err-check_shape-clause-unfinished g c =
-    let p = err_from_is_err_and c.from_residual.result c.from_residual.ensures.1 in
-    let shape = c.in_err-check_shape.ensures.other in
-    rw p.1 (other_apart c.decls.result.now c.in-Ok.recovered.decls _ (rw p.2 shape.other))
-
-pub returns-in-Err-settle-clause-unfinished : goal.returns-in-Err-settle-clause-unfinished
-returns-in-Err-settle-clause-unfinished g c = rw c.ending_of_settling.ensures (settling_apart c.in-Err-settle.refusal)
+    (rw (c.config_of-config.ensures.snap, c.config_of-config.ensures.first) at c.in-Ok-new.ensures.begins)
+    (λ shares. c.in-Ok-new.ensures.slots shares ∙ c.config_of-config.ensures.slots) c.pages_fit.ensures.whole c.pages_fit.ensures.fit c.in-Ok-new.ensures.stands c.in-Ok-new.ensures.logs c.in-Ok-new.ensures.counts

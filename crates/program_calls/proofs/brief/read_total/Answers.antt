@@ -16,7 +16,7 @@ returns-in-Ok-clause-total g c = λ was.
 pub returns-in-Err-clause-total : goal.returns-in-Err-clause-total
 returns-in-Err-clause-total g c = λ was.
     is_refused (vaults_of g.D.Disk.tells g.D.Disk.clock g.D.Disk.image_at g.D.Disk.faults was c.recover.new.vault)
-    c.args.vault.now c.in-Err.field-0
+    c.args.vault.now c.in-Err.refusal
     (λ device n same. c.in-Err.ensures.damaged device n (ap (λ (x : OrMemory RecoverFault). Err x) same))
     (λ device same. c.in-Err.ensures.devices.device device (ap (λ (x : OrMemory RecoverFault). Err x) same))
     (λ device same. c.in-Err.ensures.before device (ap (λ (x : OrMemory RecoverFault). Err x) same))

@@ -2,17 +2,16 @@
 use Rattle.std.proofs.Common.{inl, inr, refl}
 use Rattle.program_calls.proofs.Here.{here}
 use Rattle.program_calls.proofs.RunEnds.{not_begun}
-use Rattle.program_calls.proofs.Telling.{no_sum, none_ran, none_told}
+use Rattle.program_calls.proofs.Telling.{none_ran, none_told}
 use Rattle.program_calls.proofs.run.run_rounds.Goals as goal
 
 -- ---- it doesn't begin
 
 pub returns-in-Err-clause-runs : goal.returns-in-Err-clause-runs
 returns-in-Err-clause-runs g c =
-    not_begun _ _ _ _ _ _ _ _ (g.met.D.Disk g.world.𝓛 g.world.𝓜 g.world.𝓡 (here _)).reads _ c.in-Err.ending c.in-Err.ensures.ends (
+    not_begun _ _ _ _ _ _ _ _ _ (g.met.D.Disk g.world.𝓛 g.world.𝓜 g.world.𝓡 (here _)).reads _ c.in-Err.ending c.in-Err.ensures.ends (
       refl,
       none_told c.args.teller.now.brief _ _ c.requires.fresh,
-      no_sum c.args.teller.now.brief _ _ _ (λ is. c.in-Err.ensures.unfinished is) c.requires.unsummed,
     )
 
 pub returns-in-Err-clause-whole : goal.returns-in-Err-clause-whole

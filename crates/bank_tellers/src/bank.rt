@@ -1,19 +1,23 @@
 // An engine with its keeper and its tellers.
 ghost use Rattle.std.specs.Prelude.{◌≡◌, ◌+◌, ◌<◌, IfOk};
 ghost use Rattle.std.specs.List.{AllByRecursion};
-ghost use Rattle.engine_words.specs.Making.{CanMake};
-ghost use Rattle.bank_tellers.specs.Standing.{accounts, CanSeat, IsKeeper, Stands};
+ghost use Rattle.bank_tellers.specs.Standing.{blank, CanSeat, IsKeeper, Stands};
 
 use crate::teller::Teller;
-use engine_words::{Engine, Layout, Pass, audit, end, seat};
+use engine_pages::{Engine, Pass, Start};
+use engine_seats::{audit, end, seat};
 use lists::{Memory, Sequence};
+use page_commit::Txn;
+use page_opening::make;
 use serial_model::{Decl, Number};
 use std::alloc::Global;
 use std::marker::Model;
 use std::thread::{Threads, for_each_mut};
-use tx_commit::Txn;
 
 const TELLERS: u8 = 4;
+
+// In how many pages records may lie in memory: all accounts lie in one.
+const SLOTS: u32 = 16;
 
 // What each account has at first, and how many transfers a teller makes.
 const ENDOWMENT: u64 = 1_000;
@@ -79,7 +83,7 @@ impl Bank {
         let mut done: u64 = 0;
         while let Some(teller) = tellers.pop() {
             done = done.saturating_add(teller.done);
-            end(&engine, &mut keeper, teller.pass);
+            end_one(&engine, &mut keeper, teller);
         }
         let (_clock, counted) = audit(&engine, &mut keeper);
         (done, counted)
@@ -90,19 +94,19 @@ impl Bank {
 fn new_engine(alloc: Global) -> Result<(Engine, Pass), Memory>
     ensures { IfOk result (λ r. CanSeat r.0 0 r.1) }
 {
-    let layout = layout(alloc)?;
-    Ok(Engine::new(alloc, &layout)?)
+    let start = new_start(alloc)?;
+    let (engine, keeper) = make(alloc, start)?;
+    Ok((engine, keeper))
 }
 
-fn layout(alloc: Global) -> Result<Layout, Memory>
-    ensures decls { IfOk result (λ l. l.decls ≡ accounts) }
-    ensures can { IfOk result CanMake }
+// There is no page yet: each account has 0.
+fn new_start(alloc: Global) -> Result<Start, Memory>
+    ensures { IfOk result (λ s. s ≡ blank) }
 {
-    Ok(Layout {
-        first: Number { epoch: 1, draw: 1 },
-        decls: Sequence::from_slice(alloc, &[Decl::Array { id: 1, size: 8 }])?,
-        opening: Sequence::new(alloc),
-    })
+    let decls = Sequence::from_slice(alloc, &[Decl::Array { id: 1, size: 8 }])?;
+    let roots = Sequence::from_slice(alloc, &[0])?;
+    let first = Number { epoch: 1, draw: 1 };
+    Ok(Start::new(first, decls, roots, SLOTS, 0, Sequence::new(alloc)))
 }
 
 // The teller with this number.
@@ -117,6 +121,15 @@ fn seat_next(engine: &Engine, keeper: &mut Pass, number: u8) -> Teller
         pass: seat(engine, keeper, number),
         done: 0,
     }
+}
+
+// Takes in a teller's pass, which has no transaction under way.
+fn end_one(engine: &Engine, keeper: &mut Pass, teller: Teller)
+    requires keeper { IsKeeper engine.now keeper.old }
+    requires teller { Stands engine.now teller }
+    ensures { IsKeeper engine.now keeper.new }
+{
+    end(engine, keeper, teller.pass);
 }
 
 // The first teller gives each account its endowment.

@@ -1,12 +1,12 @@
 // A teller: a worker's pass with its transactions.
 ghost use Rattle.std.specs.Prelude.{◌≡◌, ◌<◌, true};
-ghost use Rattle.engine_words.specs.Layout.{has_record};
+ghost use Rattle.page_commit.specs.Below.{IsArrayKey};
 ghost use Rattle.bank_tellers.specs.Standing.{accounts, Stands};
 
-use engine_words::{Engine, Pass};
+use engine_pages::{Engine, Pass};
+use page_commit::Txn;
 use serial_model::{Key, Verdict};
 use std::thread::yield_now;
-use tx_commit::Txn;
 
 /// How many accounts there are, from 0 on.
 pub const ACCOUNTS: u64 = 8;
@@ -23,7 +23,7 @@ pub struct Teller {
 }
 
 fn account(number: u64) -> Key
-    ensures { has_record accounts result ≡ true }
+    ensures { IsArrayKey accounts result }
 {
     Key {
         storage: 1,

@@ -18,23 +18,27 @@ pub(super) const SHARED: &[u8] = b"array 1 4\n0 w 1 2 7\n";
 pub(super) const PLAIN: &[u8] = b"array 1 4\ntree 2\n0 w 1 2 7\n";
 
 // The device, and the first and the last of its calls at whose failure the run ends so: its status and its text. The run
-// makes 15 calls of the save and three of bank 0. Where it finishes its sum is known, and none is called behind it; else
-// what is kept is read.
+// makes 15 calls of the save, three of the snapshots' file and three of bank 0; behind it what is kept is read by three
+// calls of the save and two of each of the others. Where it finished, and that is refused, it ends so.
 pub(super) const FAILING: &str = "\
 save # 0 # 0 # 5 # device save|
 save # 9 # 9 # 5 # commits 1|total 0|device save|
-save # 15 # 15 # 0 # commits 1|total 7|durable 1|
+save # 15 # 17 # 5 # commits 1|durable 1|device save|
+save # 18 # 18 # 0 # commits 1|total 7|durable 1|
+snaps # 3 # 4 # 5 # commits 1|durable 1|device snaps|
+snaps # 5 # 5 # 0 # commits 1|total 7|durable 1|
 bank0 # 1 # 1 # 5 # commits 1|total 0|device bank0|
-bank0 # 3 # 3 # 0 # commits 1|total 7|durable 1|
+bank0 # 3 # 4 # 5 # commits 1|durable 1|device bank0|
+bank0 # 5 # 5 # 0 # commits 1|total 7|durable 1|
 ";
 
 // The same of a device of which each later call fails too: what is kept can't be read behind a run that it ended, and
 // isn't told.
 const BROKEN: &str = "\
 save # 9 # 5 # commits 1|device save|
-save # 15 # 0 # commits 1|total 7|durable 1|
+save # 15 # 5 # commits 1|durable 1|device save|
 bank0 # 1 # 5 # commits 1|device bank0|
-bank0 # 3 # 0 # commits 1|total 7|durable 1|
+bank0 # 3 # 5 # commits 1|durable 1|device bank0|
 ";
 
 fn check_broken<R: Threads + Wait + Sync + AllocGlobal>(

@@ -5,7 +5,7 @@ ghost use Rattle.outside.specs.Disk.{IfTold, Only};
 use crate::in_turn::InTurn;
 use log_writer::{Records, Vault};
 use outside::{Disk, MemDisk, MemSink, MemSource, OpenGate, Sink, Source, SureSource};
-use program_calls::{Watcher, top};
+use program_entry::{Watcher, top};
 use std::alloc::{AllocError, Global};
 use std::sync::Wait;
 use std::test::Fail;

@@ -1,6 +1,6 @@
 // Whole calls: their words, scripts, statuses and texts.
 use super::kept_runs::kept_vault;
-use super::{brief, gleans, kept_runs, listings, *};
+use super::{brief, gleans, kept_runs, listings, slots, *};
 
 // The words after the name, the script, the status and the text, with bars for newlines.
 pub(super) const CASES: &str = "\
@@ -40,6 +40,21 @@ run # array 1 4|tree 2|tree 3|0 w 1 1 7; w 2 1 8; w 3 1 9; a 3 2 5; t 3 4 0|0 d 
 9; s 3 0 9; r 1 1; r 1 2| # 0 # 0.0 ok 1:1|0.1 ok 1:2 7 - 9|durable 1|1.0 ok 2:3 . 1=9,2=5,4=0 7 0|durable 2|
 run --snap 1 --tries 1000000 # array 1 4|0 r 1 0 # 0 # 0.0 ok 1:1 0|durable 1|
 run --slots 4096 # array 1 4|0 r 1 0 # 0 # 0.0 ok 1:1 0|durable 1|
+run --slots 4 # array 1 160|0 w 1 0 1|0 w 1 32 1|0 w 1 64 1|0 w 1 96 1| # 0 # 0.0 ok 1:1|0.1 ok 1:2|0.2 ok 1:3|0.3 \
+full|durable 1|
+run --slots 5 # array 1 160|0 w 1 0 1|0 w 1 32 1|0 w 1 64 1|0 w 1 96 1| # 0 # 0.0 ok 1:1|0.1 ok 1:2|0.2 ok 1:3|0.3 \
+ok 1:4|durable 1|
+run --slots 4 --brief # array 1 160|0 w 1 0 1|0 w 1 32 1|0 w 1 64 1; w 1 96 1|0 r 1 64| # 0 # commits 3|total 2|\
+durable 1|
+run --slots 4 # array 1 160|tree 2|0 w 1 0 1|0 w 1 32 1|0 w 1 64 1|0 w 1 96 1; w 2 9 1| # 0 # 0.0 ok 1:1|0.1 ok 1:2|\
+0.2 ok 1:3|0.3 ok 1:4|durable 1|
+run # array 1 131072|0 w 1 0 1; a 1 8192 2; w 1 16384 3; w 1 24576 4; w 1 32768 5; w 1 40960 6; w 1 49152 7; \
+w 1 57344 8; w 1 65536 9; w 1 73728 10; w 1 81920 11; w 1 90112 12; w 1 98304 13; w 1 106496 14; w 1 114688 15; a 1 122880 16|\
+0 r 1 0; r 1 8192; r 1 16384; r 1 24576; r 1 32768; r 1 40960; r 1 49152; r 1 57344; r 1 65536; r 1 73728; r 1 81920; \
+r 1 90112; r 1 98304; r 1 106496; r 1 114688; r 1 122880| # 0 # 0.0 ok 1:1|0.1 ok 1:2 1 2 3 4 5 6 7 8 9 10 11 12 13 14 \
+15 16|durable 1|
+run # array 1 4|0 r 1 0; w 1 0 5| # 0 # 0.0 ok 1:1 0|durable 1|
+run --tries 1 # array 1 4|0 r 1 0; w 1 0 5| # 0 # 0.0 conflict|durable 1|
 run --slots 3 # array 1 4| # 2 # usage|
 run --tries 0 # array 1 4| # 2 # usage|
 run --tries 5 --help # array 1 4| # 2 # usage|
@@ -125,7 +140,7 @@ run --brief # array 1 4|0 w 1 2 7| # 6 # damaged save 0|
 const LAST: u64 = (1 << 63) - 1;
 
 // Calls one after another over one vault: each begins where those before it ended.
-const CALLS: [(First, &str); 26] = [
+const CALLS: [(First, &str); 29] = [
     (First::Kept(0, 0, 0, 0), kept_runs::AFTER_RUNS_THAT_READ),
     (First::Kept(0, 0, 0, 0), kept_runs::AFTER_A_RUN_THAT_WROTE),
     (First::Kept(0, 0, 0, 0), kept_runs::AFTER_A_RUN_OVER_A_TREE),
@@ -170,6 +185,9 @@ const CALLS: [(First, &str); 26] = [
     (First::Fresh, gleans::TREES_AND_AN_ARRAY),
     (First::Fresh, listings::RUNS),
     (First::Fresh, listings::RUNS_OVER_A_TREE),
+    (First::Fresh, slots::TWO_LEVELS),
+    (First::Fresh, slots::THREE_LEVELS),
+    (First::Fresh, slots::SEVERAL_ARRAYS),
 ];
 
 fn check_first<R: Threads + Wait + Sync + AllocGlobal>(

@@ -32,6 +32,8 @@ mod listings;
 #[cfg(test)]
 mod programs;
 #[cfg(test)]
+mod slots;
+#[cfg(test)]
 mod stops;
 #[cfg(test)]
 mod threads;
@@ -46,7 +48,7 @@ use in_turn::InTurn;
 use log_writer::{Records, Vault};
 use outside::{Disk, MemDisk, MemSink, MemSource, OpenGate, SureSource};
 #[cfg(test)]
-use program_calls::{Watcher, top};
+use program_entry::{Watcher, top};
 #[cfg(test)]
 use std::alloc::{AllocError, Global};
 #[cfg(test)]

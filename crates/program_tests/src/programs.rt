@@ -2,8 +2,7 @@
 use super::folders::check_file;
 use super::*;
 use call_notes::{ScriptSource, explanation};
-use program_calls::Ending;
-use program_entry::run_program;
+use program_entry::{Ending, run_program};
 use std::fs::{self, File, Files};
 use std::process::ExitCode;
 

@@ -146,10 +146,30 @@ fn text_of(alloc: Global, plain: &Plain, epoch: u32) -> Result<Vec<u8>, Fail> {
     Ok(sink.bytes().to_vec(alloc)?)
 }
 
+// How scripts are run: with few slots, so that lines may be full; with more; and with one try, so that lines may be in
+// conflict.
+const FEW_SLOTS: &str = "run --tries 1000000 --slots 4";
+
+const SOME_SLOTS: &str = "run --tries 1000000 --slots 64";
+
+const MANY_SLOTS: &str = "run --tries 1000000 --slots 4096";
+
+const ONE_TRY: &str = "run --tries 1";
+
+const HOW: [&str; 4] = [FEW_SLOTS, SOME_SLOTS, MANY_SLOTS, ONE_TRY];
+
+// Whether what is told has no line that is full or in conflict, or how the script was run allows it.
+fn may_tell(asked: &str, told: &str) -> bool {
+    let is_full = told.contains(" full\n");
+    let is_in_conflict = told.contains(" conflict\n");
+    (!is_full || asked == FEW_SLOTS) && (!is_in_conflict || asked == ONE_TRY)
+}
+
 // Runs a script on threads over a fresh database, and checks what is told of it, and that the database keeps what the
 // plain engine has then. Answers the database.
 fn run_checked<R: Threads + Wait + Sync + AllocGlobal>(
     rt: &R,
+    asked: &str,
     bytes: &[u8],
 ) -> Result<Vault<MemDisk>, Fail> {
     let alloc = rt.alloc();
@@ -157,9 +177,10 @@ fn run_checked<R: Threads + Wait + Sync + AllocGlobal>(
         return Err(Fail::from("no script"));
     };
     let mut vault = fresh_vault(alloc)?;
-    let (status, told) = answer_by(rt, &mut vault, "run --tries 1000000", bytes, &OpenGate)?;
-    is_so("a run on threads", status == 0)?;
-    let plain = check_serial(rt, &script, str::from_utf8(&told)?)?;
+    let (status, bytes) = answer_by(rt, &mut vault, asked, bytes, &OpenGate)?;
+    let told = str::from_utf8(&bytes)?;
+    is_so(asked, status == 0 && may_tell(asked, told))?;
+    let plain = check_serial(rt, &script, told)?;
     let Ok(epoch) = u32::try_from(script.rounds()) else {
         return Err(Fail::from("too many rounds"));
     };
@@ -192,7 +213,7 @@ fn repeated(
 #[test]
 fn no_raise_is_lost(rt: HostRuntime) -> Result<(), Fail> {
     let script = repeated(rt.alloc(), ARRAY, &["0 a 1 0 1", "1 a 1 0 1"], 100)?;
-    let mut vault = run_checked(&rt, &script)?;
+    let mut vault = run_checked(&rt, SOME_SLOTS, &script)?;
     check_row(&rt, &mut vault, "dump # # 0 # epoch 1|1 0 200|")
 }
 
@@ -211,7 +232,7 @@ const AT_ONCE: [&str; 8] = [
 #[test]
 fn eight_workers_are_serial(rt: HostRuntime) -> Result<(), Fail> {
     let script = repeated(rt.alloc(), ARRAY, &AT_ONCE, 40)?;
-    let _vault = run_checked(&rt, &script)?;
+    let _vault = run_checked(&rt, SOME_SLOTS, &script)?;
     Ok(())
 }
 
@@ -261,6 +282,19 @@ fn dealt(alloc: Global, script: &str, workers: u8) -> Result<Vec<u8>, AllocError
     Ok(bytes)
 }
 
+// Runs a script whose lines are dealt to so many workers in each of these ways.
+fn check_dealt<R: Threads + Wait + Sync + AllocGlobal>(
+    rt: &R,
+    script: &str,
+    workers: u8,
+) -> Result<(), Fail> {
+    let bytes = dealt(rt.alloc(), script, workers)?;
+    for asked in HOW {
+        let _vault = run_checked(rt, asked, &bytes)?;
+    }
+    Ok(())
+}
+
 // The scripts of the rows that are run to their end, and have no line of the maintenance thread's.
 #[test]
 fn lines_may_be_any_workers(rt: HostRuntime) -> Result<(), Fail> {
@@ -268,11 +302,34 @@ fn lines_may_be_any_workers(rt: HostRuntime) -> Result<(), Fail> {
         let [asked, script, status, _text] = parts(row);
         if asked.starts_with("run") && status == "0" && !script.contains("k ") {
             for workers in [1, 2, 8] {
-                let _vault = run_checked(&rt, &dealt(rt.alloc(), script, workers)?)?;
+                check_dealt(&rt, script, workers)?;
             }
         }
     }
     Ok(())
+}
+
+// Lines of which each adds to values of two leaves of 32, and reads one in the first of 64 pages above leaves. Fifty
+// pages are put in.
+fn scattered(alloc: Global) -> Result<String, AllocError> {
+    let mut script = String::from_str(alloc, "array 1 131072")?;
+    for line in 0..200u32 {
+        let key = line.wrapping_mul(8_000) % 128_000;
+        let text = format!(in alloc;
+            "|0 a 1 {key} 1; r 1 {}; a 1 {} 2",
+            key.wrapping_add(40) / 64,
+            key.wrapping_add(70)
+        )?;
+        script.push_str(text.as_str())?;
+    }
+    Ok(script)
+}
+
+// Threads that put pages in at once, each its own and those of others.
+#[test]
+fn pages_are_put_in_at_once(rt: HostRuntime) -> Result<(), Fail> {
+    let script = scattered(rt.alloc())?;
+    check_dealt(&rt, script.as_str(), 8)
 }
 
 // A gate that holds the first line of each of two workers until the other's begins.

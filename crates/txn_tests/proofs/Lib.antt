@@ -1,2 +1,5 @@
+mod EmptyLaws
+mod HandLaws
 mod KeyLaws
+mod OpeningLaws
 mod SeatLaws

@@ -1,16 +1,16 @@
 // A worker whose transactions are driven call by call.
-ghost use Rattle.std.specs.Prelude.{◌≡◌, ◌<◌, true};
-ghost use Rattle.engine_words.specs.Layout.{has_record};
+ghost use Rattle.std.specs.Prelude.{◌≡◌, ◌<◌};
+ghost use Rattle.page_commit.specs.Below.{IsArrayKey};
 ghost use Rattle.txn_tests.specs.declared.worker.Phase.TheVariants as phases;
 ghost use Rattle.txn_tests.specs.Standing.{declared, Stands};
 
 use crate::one_key::{lock_first, open_first, put_first};
 use crate::{Phase, Worker};
-use engine_words::{Engine, RefusalCause};
+use engine_pages::{Engine, RefusalCause};
 use serial_model::{Change, Key, Verdict};
 use std::thread::yield_now;
 
-/// What a worker is asked for. Keys are those of storage 1, each modulo 300.
+/// What a worker is asked for. Keys are those of storage 1, each modulo the size of the array.
 #[derive(Clone, Copy, Debug, PartialEq, Eq)]
 pub enum Call {
     Begin,
@@ -21,7 +21,7 @@ pub enum Call {
     /// With the writes, or without them.
     Commit(bool),
     Abort,
-    /// Begins a transaction, and locks key 0, which was never written.
+    /// Begins a transaction, brings the record of key 0 into memory, and locks it, which was never written.
     Hold,
     /// Draws a number, decides, and puts this value at key 0.
     Put(u64),
@@ -38,7 +38,7 @@ pub enum Answer {
     /// The draw of a commit.
     Draw(u64),
     No(RefusalCause),
-    /// Key 0 is locked, or was written. The transaction is over.
+    /// Key 0 is locked, or was written, or its page could not be made. The transaction is over.
     Locked,
     /// The call may not be made where the transaction stands.
     Wrong,
@@ -49,24 +49,20 @@ pub enum Answer {
 pub enum Work {
     /// Adds 1 to this key, and to the one that differs from it in the last bit.
     AddTwo(u64),
-    /// Reads so many keys, from 0 on: at most 300.
+    /// Reads so many keys, spread over the array.
     ReadMany(u64),
+    /// Of four keys, this one and those a quarter of the array behind one another, reads two and adds 1 to two.
+    ReadTwoWriteTwo(u64),
 }
 
-fn key_of(key: u64) -> Key
-    ensures { has_record declared result ≡ true }
+fn key_of(size: u32, key: u64) -> Key
+    requires { 0 < size }
+    ensures { IsArrayKey (declared size) result }
 {
     Key {
         storage: 1,
-        key: key % 300,
+        key: key % u64::from(size),
     }
-}
-
-fn low_key(key: u64) -> Key
-    requires { key < 300 }
-    ensures { has_record declared result ≡ true }
-{
-    Key { storage: 1, key }
 }
 
 impl Worker {
@@ -136,7 +132,7 @@ impl Worker {
         requires live { self.old.phase ≡ phases.Live }
         ensures { Stands engine.now self.new }
     {
-        match self.txn.read(engine, &mut self.pass, key_of(k)) {
+        match self.txn.read(engine, &mut self.pass, key_of(self.size, k)) {
             Ok(value) => Answer::Value(value),
             Err(why) => {
                 self.phase = Phase::Over;
@@ -150,7 +146,10 @@ impl Worker {
         requires live { self.old.phase ≡ phases.Live }
         ensures { Stands engine.now self.new }
     {
-        match self.txn.write(engine, &mut self.pass, key_of(k), value) {
+        match self
+            .txn
+            .write(engine, &mut self.pass, key_of(self.size, k), value)
+        {
             Ok(()) => Answer::Fine,
             Err(why) => {
                 self.phase = Phase::Over;
@@ -164,7 +163,10 @@ impl Worker {
         requires live { self.old.phase ≡ phases.Live }
         ensures { Stands engine.now self.new }
     {
-        match self.txn.add(engine, &mut self.pass, key_of(k), amount) {
+        match self
+            .txn
+            .add(engine, &mut self.pass, key_of(self.size, k), amount)
+        {
             Ok(verdict) => answer_of(verdict),
             Err(why) => {
                 self.phase = Phase::Over;
@@ -178,7 +180,10 @@ impl Worker {
         requires live { self.old.phase ≡ phases.Live }
         ensures { Stands engine.now self.new }
     {
-        match self.txn.take(engine, &mut self.pass, key_of(k), amount) {
+        match self
+            .txn
+            .take(engine, &mut self.pass, key_of(self.size, k), amount)
+        {
             Ok(verdict) => answer_of(verdict),
             Err(why) => {
                 self.phase = Phase::Over;
@@ -220,9 +225,11 @@ impl Worker {
         if let Err(why) = self.txn.begin(engine, &mut self.pass) {
             return Answer::No(why);
         }
-        if !lock_first(engine, &mut self.pass) {
+        self.holds.clear();
+        let Some(at) = lock_first(engine, &mut self.pass, &mut self.holds) else {
             return Answer::Locked;
-        }
+        };
+        self.at = at;
         self.phase = Phase::Held;
         Answer::Fine
     }
@@ -235,7 +242,7 @@ impl Worker {
         let Call::Put(value) = call else {
             return Answer::Wrong;
         };
-        self.number = put_first(engine, &mut self.pass, value);
+        self.number = put_first(engine, &mut self.pass, &self.holds, self.at, value);
         self.phase = Phase::Put;
         Answer::Fine
     }
@@ -248,7 +255,7 @@ impl Worker {
         let Call::Open = call else {
             return Answer::Wrong;
         };
-        open_first(engine, &mut self.pass, self.number);
+        open_first(engine, &mut self.pass, &self.holds, self.at, self.number);
         self.phase = Phase::Over;
         Answer::Fine
     }
@@ -263,6 +270,7 @@ impl Worker {
         match work {
             Work::AddTwo(first) => self.add_two(engine, first),
             Work::ReadMany(count) => read_many(self, engine, count),
+            Work::ReadTwoWriteTwo(first) => self.read_two_write_two(engine, first),
         }
     }
 
@@ -274,13 +282,58 @@ impl Worker {
         let Ok(()) = self.txn.begin(engine, &mut self.pass) else {
             return false;
         };
-        let Ok(_) = self.txn.add(engine, &mut self.pass, key_of(first), 1) else {
+        let Ok(_) = self
+            .txn
+            .add(engine, &mut self.pass, key_of(self.size, first), 1)
+        else {
             return false;
         };
-        let Ok(_) = self.txn.add(engine, &mut self.pass, key_of(first ^ 1), 1) else {
+        let Ok(_) = self
+            .txn
+            .add(engine, &mut self.pass, key_of(self.size, first ^ 1), 1)
+        else {
             return false;
         };
         self.txn.commit_number(engine, &mut self.pass, true).is_ok()
+    }
+}
+
+impl Worker {
+    fn read_two_write_two(&mut self, engine: &Engine, first: u64) -> bool
+        requires stands { Stands engine.now self.old }
+        requires over { self.old.phase ≡ phases.Over }
+        ensures { Stands engine.now self.new }
+    {
+        let part = u64::from(self.size / 4);
+        let Ok(()) = self.txn.begin(engine, &mut self.pass) else {
+            return false;
+        };
+        let one = key_of(self.size, first);
+        let Ok(_) = self.txn.read(engine, &mut self.pass, one) else {
+            return false;
+        };
+        let two = key_of(self.size, first.wrapping_add(part));
+        let Ok(_) = self.txn.read(engine, &mut self.pass, two) else {
+            return false;
+        };
+        let three = key_of(self.size, first.wrapping_add(2 * part));
+        let Ok(_) = self.txn.add(engine, &mut self.pass, three, 1) else {
+            return false;
+        };
+        let four = key_of(self.size, first.wrapping_add(3 * part));
+        let Ok(_) = self.txn.add(engine, &mut self.pass, four, 1) else {
+            return false;
+        };
+        self.txn.commit_number(engine, &mut self.pass, true).is_ok()
+    }
+}
+
+/// The same work, from so many keys further on.
+pub(crate) fn further(work: Work, keys: u64) -> Work {
+    match work {
+        Work::AddTwo(first) => Work::AddTwo(first.wrapping_add(keys)),
+        Work::ReadMany(count) => Work::ReadMany(count),
+        Work::ReadTwoWriteTwo(first) => Work::ReadTwoWriteTwo(first.wrapping_add(keys)),
     }
 }
 
@@ -315,6 +368,14 @@ fn insist(worker: &mut Worker, engine: &Engine, work: Work)
     }
 }
 
+// The key with this number of so many that are spread over an array of this size.
+fn spread(size: u32, number: u64, count: u64) -> u64 {
+    if count == 0 {
+        return number;
+    }
+    number.wrapping_mul(u64::from(size)) / count
+}
+
 fn read_many(worker: &mut Worker, engine: &Engine, count: u64) -> bool
     requires stands { Stands engine.now worker.old }
     requires over { worker.old.phase ≡ phases.Over }
@@ -323,8 +384,9 @@ fn read_many(worker: &mut Worker, engine: &Engine, count: u64) -> bool
     let Ok(()) = worker.txn.begin(engine, &mut worker.pass) else {
         return false;
     };
-    for k in 0..count.min(300) {
-        let Ok(_) = worker.txn.read(engine, &mut worker.pass, low_key(k)) else {
+    for k in 0..count {
+        let key = key_of(worker.size, spread(worker.size, k, count));
+        let Ok(_) = worker.txn.read(engine, &mut worker.pass, key) else {
             return false;
         };
     }

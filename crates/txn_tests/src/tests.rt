@@ -1,21 +1,22 @@
 // Schedules of two and three workers, sets that are full, transactions made from numbers, and threads. What is expected
 // was worked by hand, or is what the plain engine gives.
 use super::*;
-use engine_words::{LOCK, RefusalCause, SetName};
+use engine_pages::{RefusalCause, SetName};
+use page_records::LOCK;
 use serial_model::{Change, Decl, Key, Memory, Op, Plain, Replies, Reply, Verdict, fits, run_one};
 use std::alloc::Global;
 use std::test::Fail;
 use std::thread::Threads;
 
 // A row of a schedule: who calls, what, and the answer.
-type Row = (usize, Call, Answer);
+pub(crate) type Row = (usize, Call, Answer);
 
 // The word of a commit in epoch 1 with this draw.
-const fn word(draw: u64) -> u64 {
+pub(crate) const fn word(draw: u64) -> u64 {
     (1 << 40) | draw
 }
 
-const fn clash(at: u32, expected: u64, seen: u64) -> Answer {
+pub(crate) const fn clash(at: u32, expected: u64, seen: u64) -> Answer {
     Answer::No(RefusalCause::Conflict {
         word: at,
         expected,
@@ -23,18 +24,40 @@ const fn clash(at: u32, expected: u64, seen: u64) -> Answer {
     })
 }
 
+// The place of the first record's word: behind 32 words, those of 64 slots, and the page of the array's root.
+const FIRST: u32 = 32 + 64 + 64;
+
 const fn held() -> Answer {
-    clash(32, LOCK, LOCK)
+    clash(FIRST, LOCK, LOCK)
 }
 
-fn is_same(workers: &mut Workers, row: &Row) -> bool {
+pub(crate) fn is_same(workers: &mut Workers, row: &Row) -> bool {
     workers.play(row.0, row.1) == row.2
 }
 
-// Plays a schedule of three workers from this first draw on. Answers the row that came out otherwise, where one did,
-// and how many draws and commits there were.
+// 300 values in ten pages, and one more above them.
+const fn plan(draw: u64) -> Plan {
+    Plan {
+        size: 300,
+        slots: 64,
+        draw,
+    }
+}
+
+// A transaction that comes to nothing brings the pages of the first keys into memory, up to this one, and leaves them.
+pub(crate) fn bring_up(workers: &mut Workers, keys: u64) {
+    workers.play(0, Call::Begin);
+    for page in 0..1 + keys / 32 {
+        workers.play(0, Call::Write(32 * page, 0));
+    }
+    workers.play(0, Call::Abort);
+}
+
+// Plays a schedule of three workers from this first draw on, over pages in memory. Answers the row that came out
+// otherwise, where one did, and how many draws and commits there were.
 fn play_from(alloc: Global, first: u64, rows: &[Row]) -> Result<(Option<usize>, u64, u64), Memory> {
-    let mut workers = Workers::new(alloc, first, 3)?;
+    let mut workers = Workers::new(alloc, plan(first), 3)?;
+    bring_up(&mut workers, 0);
     let mut other = None;
     for i in 0..rows.len() {
         if other.is_none() && !is_same(&mut workers, &rows[i]) {
@@ -59,7 +82,7 @@ fn a_lost_update_is_refused(rt: HostRuntime) -> Result<(), Fail> {
         (1, Call::Commit(true), Answer::Draw(1)),
         (0, Call::Write(0, 1), Answer::Fine),
         // The word isn't the one that was read, so it isn't locked, and no draw is used.
-        (0, Call::Commit(true), clash(32, 0, word(1))),
+        (0, Call::Commit(true), clash(FIRST, 0, word(1))),
         (1, Call::Begin, Answer::Fine),
         (1, Call::Add(0, 2), Answer::Fine),
         (1, Call::Commit(true), Answer::Draw(2)),
@@ -77,7 +100,7 @@ fn a_read_that_changed_is_refused(rt: HostRuntime) -> Result<(), Fail> {
         (1, Call::Write(0, 0), Answer::Fine),
         (1, Call::Commit(true), Answer::Draw(1)),
         (0, Call::Write(1, 1), Answer::Fine),
-        (0, Call::Commit(true), clash(32, 0, word(1))),
+        (0, Call::Commit(true), clash(FIRST, 0, word(1))),
         (0, Call::Begin, Answer::Fine),
         (0, Call::Write(1, 1), Answer::Fine),
         (0, Call::Commit(true), Answer::Draw(3)),
@@ -96,7 +119,7 @@ fn write_skew_is_refused(rt: HostRuntime) -> Result<(), Fail> {
         (0, Call::Write(1, 5), Answer::Fine),
         (1, Call::Write(0, 6), Answer::Fine),
         (0, Call::Commit(true), Answer::Draw(1)),
-        (1, Call::Commit(true), clash(34, 0, word(1))),
+        (1, Call::Commit(true), clash(FIRST + 2, 0, word(1))),
         (2, Call::Begin, Answer::Fine),
         (2, Call::Read(0), Answer::Value(0)),
         (2, Call::Read(1), Answer::Value(5)),
@@ -119,7 +142,7 @@ fn three_workers_take_turns(rt: HostRuntime) -> Result<(), Fail> {
         (2, Call::Write(1, 9), Answer::Fine),
         (1, Call::Commit(true), Answer::Draw(1)),
         (0, Call::Commit(true), Answer::Draw(2)),
-        (2, Call::Commit(true), clash(32, 0, word(2))),
+        (2, Call::Commit(true), clash(FIRST, 0, word(2))),
         (2, Call::Begin, Answer::Fine),
         (2, Call::Write(1, 9), Answer::Fine),
         (1, Call::Begin, Answer::Fine),
@@ -221,7 +244,7 @@ fn change(key: u64, value: u64) -> Option<Change> {
 
 #[test]
 fn changes_stand_in_order_of_key(rt: HostRuntime) -> Result<(), Fail> {
-    let mut workers = Workers::new(rt.alloc(), 1, 1)?;
+    let mut workers = Workers::new(rt.alloc(), plan(1), 1)?;
     workers.play(0, Call::Begin);
     workers.play(0, Call::Write(7, 1));
     workers.play(0, Call::Write(2, 5));
@@ -257,7 +280,8 @@ const fn wide(set: SetName) -> Answer {
 
 #[test]
 fn sets_are_full_at_16_and_256(rt: HostRuntime) -> Result<(), Fail> {
-    let mut workers = Workers::new(rt.alloc(), 1, 1)?;
+    let mut workers = Workers::new(rt.alloc(), plan(1), 1)?;
+    bring_up(&mut workers, 256);
     assert_eq!(rt; many(&mut workers, 16, false), Answer::Fine);
     assert_eq!(rt; workers.play(0, Call::Commit(true)), Answer::Draw(1));
     assert_eq!(rt; many(&mut workers, 17, false), wide(SetName::Writes));
@@ -366,7 +390,8 @@ fn is_as_plain(
 #[test]
 fn one_seat_is_as_the_plain_engine(rt: HostRuntime) -> Result<(), Fail> {
     let alloc = rt.alloc();
-    let mut workers = Workers::new(alloc, 1, 1)?;
+    let mut workers = Workers::new(alloc, plan(1), 1)?;
+    bring_up(&mut workers, 0);
     let mut plain = Plain::new(alloc, &[Decl::Array { id: 1, size: 300 }])?;
     let mut seed = 88_172_645_463_325_252;
     for _ in 0..3000 {
@@ -409,7 +434,7 @@ fn add_in_threads<R: Threads + Sync>(
     count: u8,
     apart: bool,
 ) -> Result<Sums, Memory> {
-    let mut workers = Workers::new(alloc, 1, count)?;
+    let mut workers = Workers::new(alloc, plan(1), count)?;
     workers.add_in_threads(rt, 500, apart);
     workers.play(0, Call::Begin);
     let mut keys = 0u64;

@@ -1,8 +1,19 @@
 // Where a worker stands: what the definitions speak of.
 
-use engine_words::Pass;
+use engine_pages::Pass;
+use page_commit::Txn;
 use serial_model::Changes;
-use tx_commit::Txn;
+use tx_sets::Holds;
+
+/// What an engine is made for.
+#[derive(Clone, Copy, Debug, PartialEq, Eq)]
+pub struct Plan {
+    /// How many values the array has.
+    pub size: u32,
+    pub slots: u32,
+    /// The first draw.
+    pub draw: u64,
+}
 
 /// Where a worker's transaction stands.
 #[derive(Clone, Copy, Debug, PartialEq, Eq)]
@@ -19,7 +30,13 @@ pub struct Worker {
     pub txn: Txn,
     pub pass: Pass,
     pub phase: Phase,
-    /// Of a transaction by hand: the word of its number.
+    /// How many values the array has.
+    pub size: u32,
+    /// Of a transaction by hand: the slots that it holds.
+    pub holds: Holds,
+    /// The place of the locked record's word.
+    pub at: u32,
+    /// The word of its number.
     pub number: u64,
     /// How often it has done its work.
     pub done: u64,

@@ -1,11 +1,14 @@
 // An engine with its keeper and its workers.
 ghost use Rattle.std.specs.List.{AllByRecursion};
+ghost use Rattle.engine_pages.specs.Passes.{view, IsPassOf};
+ghost use Rattle.page_commit.specs.Live.{IsOver};
 ghost use Rattle.txn_tests.specs.Standing.{IsKeeper, Stands};
 
-use crate::plays::repeat;
-use crate::seating::{new_engine, seat_next};
-use crate::{Answer, Call, Phase, Work, Worker};
-use engine_words::{Engine, Pass, audit, end};
+use crate::plays::{further, repeat};
+use crate::seating::{bounded, new_engine, seat_next};
+use crate::{Answer, Call, Phase, Plan, Work, Worker};
+use engine_pages::{Engine, Pass};
+use engine_seats::{audit, end};
 use lists::Memory;
 use serial_model::Change;
 use std::alloc::Global;
@@ -32,12 +35,13 @@ impl Model for Workers {
 }
 
 impl Workers {
-    /// So many workers, eight at most, of a new engine with this first draw, modulo 2^40. None has a transaction.
-    pub fn new(alloc: Global, draw: u64, count: u8) -> Result<Workers, Memory> {
-        let (engine, mut keeper) = new_engine(alloc, draw % (1 << 40))?;
+    /// So many workers, eight at most, of a new engine without a page. None has a transaction.
+    pub fn new(alloc: Global, plan: Plan, count: u8) -> Result<Workers, Memory> {
+        let bounds = bounded(plan);
+        let (engine, mut keeper) = new_engine(alloc, bounds)?;
         let mut workers = Vec::new(alloc);
         for number in 0..count.min(8) {
-            workers.push(seat_next(&engine, &mut keeper, number))?;
+            workers.push(seat_next(&engine, &mut keeper, number, bounds.size))?;
         }
         Ok(Workers {
             engine,
@@ -64,7 +68,18 @@ impl Workers {
 
     /// Each worker adds to two keys so many times, in a thread of its own: to keys of its own, or all to 0 and 1.
     pub fn add_in_threads<R: Threads + Sync>(&mut self, rt: &R, rounds: u32, apart: bool) {
-        add_all(rt, &self.engine, &mut self.workers, rounds, apart);
+        self.work_in_threads(rt, Work::AddTwo(0), rounds, apart);
+    }
+
+    /// Each worker does the work so many times, in a thread of its own: from keys of its own on, or all from the same.
+    pub fn work_in_threads<R: Threads + Sync>(
+        &mut self,
+        rt: &R,
+        work: Work,
+        rounds: u32,
+        apart: bool,
+    ) {
+        work_all(rt, &self.engine, &mut self.workers, work, rounds, apart);
     }
 
     /// How often the worker has done its work.
@@ -104,14 +119,24 @@ fn end_one(engine: &Engine, keeper: &mut Pass, worker: Worker)
     ensures { IsKeeper engine.now keeper.new }
 {
     if let Phase::Over = worker.phase {
-        end(engine, keeper, worker.pass);
+        end_pass(engine, keeper, worker.pass);
     }
 }
 
-fn add_all<R: Threads + Sync>(
+fn end_pass(engine: &Engine, keeper: &mut Pass, pass: Pass)
+    requires keeper { IsKeeper engine.now keeper.old }
+    requires of { IsPassOf engine.now pass }
+    requires over { IsOver (view pass) }
+    ensures { IsKeeper engine.now keeper.new }
+{
+    end(engine, keeper, pass);
+}
+
+fn work_all<R: Threads + Sync>(
     rt: &R,
     engine: &Engine,
     workers: &mut [Worker],
+    work: Work,
     rounds: u32,
     apart: bool,
 )
@@ -129,7 +154,7 @@ fn add_all<R: Threads + Sync>(
         &|i: usize, worker: &mut Worker|
             requires { Stands engine.now worker.now }
             ensures { Stands engine.entry.now worker.exit.now }
-        { repeat(worker, engine, Work::AddTwo(first_of(i, apart)), rounds) },
+        { repeat(worker, engine, further(work, first_of(i, apart)), rounds) },
     );
 }
 

@@ -1,6 +1,6 @@
 use Rattle.std.proofs.Common.{◌≡◌}
-use Rattle.engine_words.specs.Passes.{view, IsPassOf}
-use Rattle.tx_commit.specs.Live.{IsLive}
+use Rattle.engine_pages.specs.Passes.{view, IsPassOf}
+use Rattle.page_commit.specs.Live.{IsLive}
 use Rattle.bank_tellers.specs.Standing.{accounts}
 use Rattle.bank_tellers.proofs.teller.Teller.try_total.Given as goal
 

@@ -1,0 +1,7 @@
+use Rattle.std.specs.List.{AllByRecursion}
+use Rattle.txn_tests.specs.Standing.{CanSeat, HandStands}
+use Rattle.txn_tests.proofs.hands.Hands.new.Given as goal
+
+abbrev pub invariant-loop-number : goal.invariant-loop-number
+invariant-loop-number l =
+    CanSeat l.bounds.size l.engine l.number l.keeper × AllByRecursion (HandStands l.engine) l.hands.items

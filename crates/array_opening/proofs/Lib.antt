@@ -1,2 +1,0 @@
-pub mod PageLaws
-pub mod EntryLaws

@@ -1,5 +1,0 @@
--- The mark.
-use Rattle.engine_words.proofs.clock.mark.Given as goal
-
-abbrev pub ghosts-mark_as : goal.ghosts-mark_as
-ghosts-mark_as a = record { mark = a.mark }

@@ -1,5 +1,0 @@
--- The key of the record.
-use Rattle.engine_words.proofs.locking.open_anew.Given as goal
-
-abbrev pub ghosts-open_anew_as : goal.ghosts-open_anew_as
-ghosts-open_anew_as a = record { key = a.key }

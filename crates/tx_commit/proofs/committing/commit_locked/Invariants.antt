@@ -1,6 +1,0 @@
--- What is written.
-use Rattle.tx_commit.specs.Committing.{changes_of}
-use Rattle.tx_commit.proofs.committing.commit_locked.Given as goal
-
-abbrev pub ghosts-draw_as : goal.ghosts-draw_as
-ghosts-draw_as a = record { writes = changes_of a._forms.now }

@@ -29,9 +29,10 @@ TREE = "tree 2\n"
 
 
 def line(number, kind):
+    """Sixteen operations, each at one of the last 256 values of another array: their pages have room in memory."""
     ops = []
     for place in range(16):
-        key = (number * 16 + place) * 2654435761 % 131072
+        key = 131072 - 256 + (number * 16 + place) * 2654435761 % 256
         ops.append(f"w {place} {key} {2**64 - 1 - key}" if kind == "writes" else f"r {place} {key}")
     text = f"{number % 8} " + "; ".join(ops)
     return text + "\n" * (BYTES - len(text))

@@ -16,14 +16,15 @@ import tempfile
 import time
 
 LINES = 16384
+VALUES = 4096  # whose pages all have room in memory
 TIMES = 11
 COMPILE = ["g++", "-O2", "-std=c++17", "-o"]
 
 
 def script():
-    lines = ["array 1 131072"]
+    lines = [f"array 1 {VALUES}"]
     for number in range(LINES):
-        first, second = number * 2654435761 % 131072, number * 40503 % 131071
+        first, second = number * 2654435761 % VALUES, number * 40503 % (VALUES - 1)
         lines.append(f"0 a 1 {first} 1; a 1 {second} 1")
     return "\n".join(lines) + "\n"
 

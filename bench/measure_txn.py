@@ -1,9 +1,10 @@
 #!/usr/bin/env python3
-"""Measures transactions over shared words (tx_commit), beside plain_txn.cpp, which makes the same atomic steps by hand.
+"""Measures transactions over pages (page_commit), beside plain_txn.cpp, which makes the same atomic steps by hand.
 
-One worker makes transactions of two additions and of sixteen reads; then 1, 2 and 4 workers add in threads, on keys
-apart and on the same two. Both programs run in turn, and of each the middle and the best of its times are told: a
-transaction's nanoseconds, and of those in threads how many commit in a second, all workers together.
+Over arrays of 32, 1,000 and 131,072 values (heights 1 to 3), one worker and four in threads make transactions that read
+two values and add to two others, and transactions of sixteen reads, each worker from another first key on. Both
+programs run in turn, and of each the middle and the best of its times are told: a transaction's nanoseconds, all
+workers together.
 Usage: bench/measure_txn.py FOLDER. The proved program is made in FOLDER, from a copy of the crates as they stand here
 and a crate of a few lines, and stays there (txn_tests, which drives the transactions, is for tests alone here; in the
 copy it is a library): the first time all crates below are proved, which takes as long as for the
@@ -22,47 +23,45 @@ COMPILE = ["g++", "-O2", "-std=c++17", "-pthread", "-o"]
 TIMES = 15
 NAME = "txn_timing"
 MAIN = """\
-//! Times transactions over shared words; bench/measure_txn.py makes this crate.
+//! Times transactions over pages; bench/measure_txn.py makes this crate.
 #![tactic(auto)]
 
 use std::io;
 use std::time::Instant;
-use txn_tests::{Work, Workers};
+use txn_tests::{Plan, Work, Workers};
 
 fn main(rt: HostRuntime) -> io::Result<()> {
     let alloc = rt.alloc();
-    for (name, work) in [("adds", Work::AddTwo(0)), ("reads", Work::ReadMany(16))] {
-        let Ok(mut workers) = Workers::new(alloc, 1, 1) else {
-            return Ok(());
-        };
-        let start = Instant::now(&rt)?;
-        workers.repeat(0, work, 1_000_000);
-        let took = start.elapsed(&rt)?;
-        println!(rt; "{name} {} {}", workers.done(0), took.as_nanos())?;
-    }
-    for (name, count, apart) in [
-        ("apart1", 1, true),
-        ("same1", 1, false),
-        ("apart2", 2, true),
-        ("same2", 2, false),
-        ("apart4", 4, true),
-        ("same4", 4, false),
-    ] {
-        let Ok(mut workers) = Workers::new(alloc, 1, count) else {
-            return Ok(());
-        };
-        let start = Instant::now(&rt)?;
-        workers.add_in_threads(&rt, 500_000, apart);
-        let took = start.elapsed(&rt)?;
-        let mut done = 0u64;
-        for worker in 0..4 {
-            done = done.saturating_add(workers.done(worker));
+    for (size, slots) in [(32, 256), (1000, 256), (131072, 4096)] {
+        for count in [1, 4] {
+            for (name, work) in [("writes", Work::ReadTwoWriteTwo(0)), ("reads", Work::ReadMany(16))] {
+                let Ok(mut workers) = Workers::new(alloc, Plan { size, slots, draw: 1 }, count) else {
+                    return Ok(());
+                };
+                let start = Instant::now(&rt)?;
+                workers.work_in_threads(&rt, work, 500_000, true);
+                let took = start.elapsed(&rt)?;
+                let mut done = 0u64;
+                for worker in 0..4 {
+                    done = done.saturating_add(workers.done(worker));
+                }
+                println!(rt; "{name}{size}x{count} {done} {}", took.as_nanos())?;
+            }
         }
-        println!(rt; "{name} {done} {}", took.as_nanos())?;
     }
     Ok(())
 }
 """
+
+
+def uses_of(crate):
+    """The libraries that a crate uses, as crates.txt lists them."""
+    with open(f"{TOP}/crates.txt", encoding="utf-8") as crates:
+        for line in crates:
+            name, _, uses = line.split("#")[0].partition(":")
+            if name.split()[:1] == [crate]:
+                return uses.strip()
+    sys.exit(f"crates.txt has no {crate}")
 
 
 def make(folder):
@@ -75,12 +74,15 @@ def make(folder):
         else:
             shutil.copy(source, target)
     with open(f"{folder}/crates.txt", "a", encoding="utf-8") as crates:
-        crates.write(f"{NAME}: lists serial_model homes views wire_form commit_core serial_bridge engine_words tx_sets")
-        crates.write(" array_storage tx_commit txn_tests # times of transactions\n")
+        crates.write(f"{NAME}: {uses_of('txn_tests')} txn_tests # times of transactions\n")
     with open(f"{folder}/crates/txn_tests/src/lib.rt", encoding="utf-8") as root:
         text = root.read()
+    for module in ("tests", "page_tests", "slot_tests"):
+        text = text.replace(f"#[cfg(test)]\nmod {module};\n", "")
+        os.remove(f"{folder}/crates/txn_tests/src/{module}.rt")
+        shutil.rmtree(f"{folder}/crates/txn_tests/proofs/{module}", ignore_errors=True)
     with open(f"{folder}/crates/txn_tests/src/lib.rt", "w", encoding="utf-8") as root:
-        root.write(text.replace("#[cfg(test)]\nmod tests;\n", "").replace("#[cfg(test)]\n", ""))
+        root.write(text.replace("#[cfg(test)]\n", ""))
     os.makedirs(f"{folder}/crates/{NAME}/src", exist_ok=True)
     with open(f"{folder}/crates/{NAME}/src/main.rt", "w", encoding="utf-8") as program:
         program.write(MAIN)
@@ -97,8 +99,6 @@ def times(program):
 
 def row(name, own, hand):
     cells = [f"{statistics.median(own):.1f}", f"{min(own):.1f}", f"{statistics.median(hand):.1f}", f"{min(hand):.1f}"]
-    if name not in ("adds", "reads"):
-        cells = [f"{1e9 / float(cell):.0f}" for cell in cells]
     ratio = statistics.median(own) / statistics.median(hand)
     print(f"| {name} | " + " | ".join(cells) + f" | {ratio:.2f} | {min(own) / min(hand):.2f} |")
 

@@ -227,6 +227,15 @@ class Loading(Folder):
             self.assertLessEqual(max(part.count("\n") for part in script[len(declared) :].split("join\n")), load.LINES)
         self.loads("new", *scripts)
 
+    def test_pages_of_arrays(self):
+        rows = [f"1 {key} 1" for key in range(0, 131072, 32)]
+        scripts = list(load.scripts_of("array 1 131072\n", load.lines_of(f"w {row}" for row in rows)))
+        self.assertEqual(len(scripts), 2)
+        folder = self.new("pages")
+        for script in scripts:
+            foedus(folder, "run", "--brief", "--slots", "4096", text=script)
+        self.assertEqual(rows_of(foedus(folder, "dump")).splitlines(), rows)
+
     def test_files(self):
         self.assertEqual(tool(self.folder, "load.py", "--vault", "vault", "--out", "part", "kept.txt"), (0, "", ""))
         self.assertEqual([name for name in os.listdir(self.folder) if "part" in name], ["part1.txt"])

@@ -2,10 +2,11 @@
 # Builds the program, in the shell of the launcher `foedus` and with its `top`, `program`, `say`, `give_up`, `is_stale`.
 #
 # First each library that the program stands on is proved, several side by side. While the toolchain proves one it
-# locks the folder of each crate that this one stands on, so that is done in copies of the tree. The tree itself then
-# takes over what they made: the toolchain does so of itself for a library of the same text, in about a second. At last
-# the program is proved and linked in the tree. What is proved, the toolchain alone decides: a build that is cut off
-# leaves libraries that are whole or none, and the next one goes on from there.
+# locks the folder of each crate that this one stands on, so that is done in copies of the tree. What a copy made is
+# handed to the tree, and from there to the copies that need it below theirs. At last the program is proved and linked in
+# the tree. What is proved, the toolchain alone decides: it takes a library only where that is made from the text that
+# stands there, and proves it anew else. A build that is cut off leaves libraries that are whole or none, and the next
+# one goes on from there.
 #
 # FOEDUS_COPIES: how many libraries at once; 1 for one after another, in the tree itself. Else it is as many as
 # processors and memory allow.
@@ -66,19 +67,31 @@ call_rt() (
     exit "$status"
 )
 
+# Gives the crate of one folder the library that was built in another one, whole or not at all.
+hand_over() (
+    [ -e "$1/out/rlib/stamp" ] && ! cmp -s "$1/out/rlib/stamp" "$2/out/rlib/stamp" || exit 0
+    mkdir -p "$2/out" && rm -rf "$2/out/rlib" "$2/out/rlib.new" || exit
+    cp -Rl -- "$1/out/rlib" "$2/out/rlib.new" 2>/dev/null ||
+        { rm -rf "$2/out/rlib.new" && cp -R -- "$1/out/rlib" "$2/out/rlib.new"; } || exit
+    mv -- "$2/out/rlib.new" "$2/out/rlib"
+)
+
 # In the background, where it lets go of the guard's pipe: proves a library with so many jobs in a copy, by its number,
-# or in the tree, which has the number 0; tells how that ended; and then has the tree take over what a copy made. One
-# with a single job gives way to the one that all others wait for.
+# or in the tree, which has the number 0, over those below it, which the tree has; hands the tree what a copy made; and
+# tells how that ended. One with a single job gives way to the one that all others wait for.
 prove() {
     exec 8>&-
     gentle=''
     [ "$2" != 1 ] || gentle='nice -n 10'
     place=$room/$3
     [ "$3" != 0 ] || place=$top
+    for below in $ended; do
+        [ "$3" = 0 ] || hand_over "$top/crates/$below" "$place/crates/$below" 2>>"$logs/$1.log"
+    done
     call_rt "$place/crates/$1" "$1" lib --jobs "$2" >"$logs/$1.log" 2>&1
     status=$?
+    [ "$status" != 0 ] || [ "$3" = 0 ] || hand_over "$place/crates/$1" "$top/crates/$1" 2>>"$logs/$1.log"
     echo "$1 $status $3" >&3
-    [ "$status" != 0 ] || [ "$3" = 0 ] || call_rt "$top/crates/$1" "$1.taken" lib --jobs 1 >"$room/$1.log" 2>&1
 }
 
 # Copies what the toolchain reads of the tree.

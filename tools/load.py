@@ -11,8 +11,9 @@ Usage: tools/load.py [--csv] (--vault FOLDER | --declare STORAGE ..) [--out NAME
   --out NAME         writes NAME1.txt and, since a script has at most 64 MiB, as many more as it takes, which are to be
                      run one after another; without it there is one script, on standard output
 
-A line has sixteen writes, a round 65,536 lines. Nothing is written unless the whole input is well. Status: 0; 1 where
-the input, the storages or the output can't be used, which standard error names; 2 for other words.
+A line has sixteen writes, a round 65,536 lines. Over arrays alone a script writes to at most 4,000 pages, and is to be
+run with `--slots 4096` where it has more than some 8,000 values. Nothing is written unless the whole input is well.
+Status: 0; 1 where the input, the storages or the output can't be used, which standard error names; 2 for other words.
 """
 import argparse
 import sys
@@ -26,6 +27,7 @@ WORKERS = 8
 STORAGES = 16
 MOST_VALUES = 131072
 BYTES = 64 << 20  # of a script
+PAGES = 4000  # that a script over arrays alone writes to, with room for what threads make in vain
 ROUND = "join\n"
 
 
@@ -76,13 +78,21 @@ def lines_of(writes):
         yield f"{count % WORKERS} {'; '.join(ops)}\n"
 
 
+def pages_of(line):
+    """The pages of arrays that a line writes to: leaves of 32 values, and those above them."""
+    ops = (op.split() for op in line[2:].split("; "))
+    return {(id, span, int(key) // span) for _, id, key, _ in ops for span in (32, 2048, MOST_VALUES)}
+
+
 def scripts_of(declared, lines):
     """The lines in scripts, each with the declarations, in rounds."""
-    parts, size, count = [declared], len(declared), 0
+    parts, size, count, held = [declared], len(declared), 0, set()
     for line in lines:
-        if size + len(line) + len(ROUND) > BYTES:
+        pages = set() if "tree" in declared else pages_of(line)
+        if size + len(line) + len(ROUND) > BYTES or len(held) + len(pages - held) > PAGES:
             yield "".join(parts)
-            parts, size, count = [declared], len(declared), 0
+            parts, size, count, held = [declared], len(declared), 0, set()
+        held |= pages
         if count == LINES:
             parts.append(ROUND)
             size, count = size + len(ROUND), 0
@@ -100,7 +110,7 @@ def load(options):
     if options.out is not None:
         write_files(scripts, [f"{options.out}{place}.txt" for place in range(1, len(scripts) + 1)])
     elif len(scripts) > 1:
-        raise Refused(f"{name}: too long for one script, which has at most 64 MiB: name files by --out")
+        raise Refused(f"{name}: too much for one script of 64 MiB, or {PAGES} pages of arrays: name files by --out")
     else:
         write_out(scripts[0])
 

@@ -21,6 +21,7 @@ use tx_sets::Holds;
 
 /// Leads a pointer, which was just seen to lead to no slot and to the snapshot page of this word, to a slot whose page
 /// is a copy of that, or empty for 0. The slot is held. Where the pointer has changed meanwhile, the slot is given up.
+#[inline(never)]
 pub(crate) fn install_copy(
     engine: &Engine,
     pass: &mut Pass,

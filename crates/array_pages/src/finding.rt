@@ -47,6 +47,7 @@ pub enum Found {
 /// The record of a key of an array. The slots of the pages on the way are held from then on; the pointers that the
 /// transaction has kept are told. At most 12 steps: three for each of up to three pointers, and three for the record;
 /// and at most three slots more are held.
+#[inline(always)]
 pub fn find(
     engine: &Engine,
     pass: &mut Pass,
@@ -73,6 +74,7 @@ pub fn find(
     find_from_root(engine, pass, key, holds, pointers)
 }
 
+#[inline(always)]
 fn find_from_root(
     engine: &Engine,
     pass: &mut Pass,
@@ -100,6 +102,7 @@ fn find_from_root(
 }
 
 // A pointer to a leaf.
+#[inline(always)]
 fn find_in_leaf(
     engine: &Engine,
     pass: &mut Pass,
@@ -134,6 +137,7 @@ fn find_in_leaf(
 }
 
 // A pointer to a page over leaves.
+#[inline(always)]
 fn find_in_middle(
     engine: &Engine,
     pass: &mut Pass,
@@ -177,6 +181,7 @@ fn find_in_middle(
 }
 
 // The root's pointer to a page over such pages.
+#[inline(always)]
 fn find_in_top(
     engine: &Engine,
     pass: &mut Pass,
@@ -216,6 +221,7 @@ fn find_in_top(
     }
 }
 
+#[inline(always)]
 fn found_below(at: u32, word: u64, number: u64, value: u64) -> Found
     ensures { IsContentBelow (record { at = at; word = word }) number value result }
 {
@@ -231,6 +237,7 @@ fn found_below(at: u32, word: u64, number: u64, value: u64) -> Found
 }
 
 // The record of a key in the leaf in a slot that the pass holds.
+#[inline(always)]
 fn read_record(
     engine: &Engine,
     pass: &mut Pass,

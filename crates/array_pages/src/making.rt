@@ -33,6 +33,7 @@ pub(crate) struct Settled {
 /// record's word. Where a pointer that the transaction has kept was led to a page by this, the transaction is refused.
 /// For each of up to three pages the slots are searched at most once, at most 135 steps more are made, and at most one
 /// slot more is held.
+#[inline(always)]
 pub fn make_volatile(
     engine: &Engine,
     pass: &mut Pass,
@@ -60,6 +61,7 @@ pub fn make_volatile(
     make_from_root(engine, pass, key, holds, pointers)
 }
 
+#[inline(always)]
 fn make_from_root(
     engine: &Engine,
     pass: &mut Pass,
@@ -87,6 +89,7 @@ fn make_from_root(
 }
 
 // A pointer to a leaf.
+#[inline(always)]
 fn make_leaf(
     engine: &Engine,
     pass: &mut Pass,
@@ -116,6 +119,7 @@ fn make_leaf(
 }
 
 // A pointer to a page over leaves.
+#[inline(always)]
 fn make_middle(
     engine: &Engine,
     pass: &mut Pass,
@@ -152,6 +156,7 @@ fn make_middle(
 }
 
 // The root's pointer to a page over such pages.
+#[inline(always)]
 fn make_top(
     engine: &Engine,
     pass: &mut Pass,
@@ -186,6 +191,7 @@ fn make_top(
 }
 
 // The page below a pointer is in a slot, and held. Where there was none, it is a copy of the snapshot page.
+#[inline(always)]
 fn settle(
     engine: &Engine,
     pass: &mut Pass,
@@ -226,6 +232,7 @@ fn settle(
 
 // A pointer of the set that the call led to a page is loaded once more: the transaction that has kept it is refused,
 // unless it is as it was.
+#[inline(always)]
 fn check_moved(
     engine: &Engine,
     pass: &mut Pass,

@@ -10,6 +10,7 @@ use crate::sizes::{LEAF, MIDDLE, RECORD};
 use engine_pages::{Engine, Pass, load_resident};
 
 /// The number and the value of a record of a leaf, both 0 where it was never written.
+#[inline(never)]
 pub(crate) fn in_leaf(
     engine: &Engine,
     pass: &mut Pass,
@@ -36,6 +37,7 @@ pub(crate) fn in_leaf(
 }
 
 /// That of a record below a page over leaves.
+#[inline(never)]
 pub(crate) fn in_middle(
     engine: &Engine,
     pass: &mut Pass,
@@ -63,6 +65,7 @@ pub(crate) fn in_middle(
 }
 
 /// That of a record below a page over such pages, which is the root.
+#[inline(never)]
 pub(crate) fn in_top(engine: &Engine, pass: &mut Pass, number: u64, index: u64) -> (u64, u64)
     requires of { IsPassOf engine.now pass.old }
     requires can { CanLook (view pass.old) }

@@ -9,6 +9,7 @@ use homes::Span;
 use serial_model::{Decl, Key};
 
 /// The index of an array among the storages, and its size.
+#[inline(always)]
 pub(crate) fn array_of(engine: &Engine, storage: u8) -> (usize, u64)
     requires { HasArray engine.now.table.shared.key.decls storage }
     ensures { IsArrayAt engine.now.table.shared.key.decls storage result.0 result.1 }
@@ -25,6 +26,7 @@ pub(crate) fn array_of(engine: &Engine, storage: u8) -> (usize, u64)
 }
 
 /// The place of a word of the page in a slot.
+#[inline(always)]
 pub(crate) fn word_at(engine: &Engine, slot: u32, index: u32) -> u32
     requires slot { slot < engine.now.table.shared.key.slots }
     requires index { index < 64 }
@@ -34,6 +36,7 @@ pub(crate) fn word_at(engine: &Engine, slot: u32, index: u32) -> u32
 }
 
 /// So many keys from this one on.
+#[inline(always)]
 pub(crate) fn span_from(key: Key, low: u64, count: u64) -> Span
     requires some { 0 < count }
     requires few { count ≤ 131072 }

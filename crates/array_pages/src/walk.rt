@@ -28,6 +28,7 @@ pub(crate) enum Reached {
     Page(u64),
 }
 
+#[inline(always)]
 pub(crate) fn conflict(word: u32, expected: u64, seen: u64) -> RefusalCause
     ensures { result ≡ causes.Conflict word expected seen }
 {
@@ -39,6 +40,7 @@ pub(crate) fn conflict(word: u32, expected: u64, seen: u64) -> RefusalCause
 }
 
 /// Whether the set has a pointer, which has this word now. One that is not as the set has it is refused.
+#[inline(always)]
 pub(crate) fn is_met(pointers: &PointerSet, at: u32, word: u64) -> Result<bool, RefusalCause>
     ensures met { IfOk result (λ met. IsMetAs pointers.now at word met) }
     ensures other { IfErr result (λ why. IsMetElse pointers.now at word why) }
@@ -54,6 +56,7 @@ pub(crate) fn is_met(pointers: &PointerSet, at: u32, word: u64) -> Result<bool, 
 
 /// Follows a pointer, whose word stands here. The slot that it leads to is held from then on; where it leads to none,
 /// its word is kept, and the pages in memory end there.
+#[inline(always)]
 pub(crate) fn reach(
     engine: &Engine,
     pass: &mut Pass,
@@ -96,6 +99,7 @@ pub(crate) fn reach(
 
 /// Holds the slot to which a pointer was just seen to lead, and looks at the pointer once more, unless the slot is held
 /// already.
+#[inline(always)]
 pub(crate) fn hold(
     engine: &Engine,
     pass: &mut Pass,
@@ -135,6 +139,7 @@ pub(crate) fn hold(
 }
 
 /// Notes a slot that the pass holds now.
+#[inline(always)]
 pub(crate) fn note_hold(holds: &mut Holds, slot: u32)
     requires absent { has_slot holds.old slot ≡ false }
     requires room { length holds.old < 128 }

@@ -28,6 +28,7 @@ use std::marker::Brand;
 use tx_sets::{ReadEntry, Sets, Write};
 
 /// Commits a transaction with its writes, or gives it up.
+#[inline(always)]
 pub(crate) fn commit_all(
     engine: &Engine,
     pass: &mut Pass,
@@ -56,6 +57,7 @@ pub(crate) fn commit_all(
 }
 
 // The same, with what the sets have as slices.
+#[inline(always)]
 fn commit_in(
     engine: &Engine,
     pass: &mut Pass,
@@ -92,6 +94,7 @@ fn commit_in(
 }
 
 // Commits a transaction whose writes are locked, or gives it up.
+#[inline(always)]
 fn commit_locked(
     engine: &Engine,
     pass: &mut Pass,
@@ -132,6 +135,7 @@ fn commit_locked(
 }
 
 // Opens the locks that were taken, those of the first writes, drops what was read, and leaves what is held.
+#[inline(never)]
 fn back_out(
     engine: &Engine,
     pass: &mut Pass,

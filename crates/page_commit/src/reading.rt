@@ -20,6 +20,7 @@ use serial_model::Key;
 use tx_sets::{PointerSet, ReadEntry, ReadSet, Seen, Sets};
 
 /// The value at a key: what the transaction wrote last, else what it first read.
+#[inline(always)]
 pub(crate) fn value_of(
     engine: &Engine,
     pass: &mut Pass,
@@ -47,6 +48,7 @@ pub(crate) fn value_of(
 }
 
 /// What the transaction first read at a key that it does not write. A key that it has not met before is read, and kept.
+#[inline(always)]
 pub(crate) fn read_value(
     engine: &Engine,
     pass: &mut Pass,
@@ -73,6 +75,7 @@ pub(crate) fn read_value(
 }
 
 // Reads a key that the transaction has not met before.
+#[inline(always)]
 fn read_anew(
     engine: &Engine,
     pass: &mut Pass,
@@ -108,6 +111,7 @@ fn read_anew(
 }
 
 // What was found needs an entry, and there is no room for one.
+#[inline(always)]
 fn is_wide(reads: &ReadSet, found: Found) -> bool
     ensures value { result ≡ lacks_entry reads.now found }
     ensures bound { length reads.now ≤ 256 }
@@ -120,6 +124,7 @@ fn is_wide(reads: &ReadSet, found: Found) -> bool
 }
 
 // Keeps what was found of a key: its record, or the pointer at which the pages in memory end. Answers its value.
+#[inline(always)]
 fn keep(sets: &mut Sets, key: Key, found: Found) -> u64
     requires room { HasRoomFor sets.old.reads found }
     requires unread { has_read key sets.old.reads ≡ false }
@@ -148,6 +153,7 @@ fn keep(sets: &mut Sets, key: Key, found: Found) -> u64
 }
 
 // The pointer is in the set then. There is room for it where it is not.
+#[inline(always)]
 fn keep_pointer(pointers: &mut PointerSet, pointer: Seen)
     requires { MeetsSo pointers.old pointer.at pointer.word }
     ensures { MeetsPointer pointer pointers.old pointers.new }

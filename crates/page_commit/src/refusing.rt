@@ -13,6 +13,7 @@ use page_records::forget;
 use tx_sets::Holds;
 
 /// Drops what was read, and leaves what is held: the transaction was refused for this.
+#[inline(never)]
 pub(crate) fn refuse(
     engine: &Engine,
     pass: &mut Pass,

@@ -26,6 +26,7 @@ pub enum By {
 }
 
 /// Sets the value at a key, in the write set. Its record is brought into a page in memory first.
+#[inline(always)]
 pub(crate) fn write_value(
     engine: &Engine,
     pass: &mut Pass,
@@ -61,6 +62,7 @@ pub(crate) fn write_value(
 
 // The record of a key that the transaction doesn't write yet is brought into a page in memory, where the write set has
 // room for it. Answers the place of its word.
+#[inline(always)]
 fn bring_up(
     engine: &Engine,
     pass: &mut Pass,
@@ -95,6 +97,7 @@ fn bring_up(
 }
 
 // One write more, of a key that is not written yet.
+#[inline(always)]
 fn put_in(sets: &mut Sets, key: Key, value: u64, at: u32)
     requires room { length sets.old.writes < 16 }
     requires absent { has_write key sets.old.writes ≡ false }
@@ -110,6 +113,7 @@ fn put_in(sets: &mut Sets, key: Key, value: u64, at: u32)
 }
 
 /// Alters the value at a key.
+#[inline(always)]
 pub(crate) fn alter(
     engine: &Engine,
     pass: &mut Pass,
@@ -141,6 +145,7 @@ pub(crate) fn alter(
 }
 
 // Alters the value at a key that the transaction does not write yet: its record is brought up, and read there.
+#[inline(never)]
 fn alter_record(
     engine: &Engine,
     pass: &mut Pass,
@@ -172,6 +177,7 @@ fn alter_record(
 }
 
 // The value afterwards, where it is one.
+#[inline(always)]
 fn after(by: By, before: u64) -> Option<u64>
     ensures { result ≡ altered by before }
 {
@@ -182,6 +188,7 @@ fn after(by: By, before: u64) -> Option<u64>
 }
 
 // How the transaction ends where it isn't.
+#[inline(always)]
 fn ending(by: By) -> Verdict
     ensures { result ≡ ended_by by }
 {

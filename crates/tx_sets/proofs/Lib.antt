@@ -1,2 +1,3 @@
+mod MarkLaws
 mod NoteLaws
 mod SetLaws

@@ -1,5 +1,5 @@
 -- Lists in which no two elements are alike stay so with one more, wherever it is put, and with one in another's place.
-use Rattle.std.proofs.Common.{◌≡◌, ◌≢◌, true≢false, inl, inr, ℕ, zero, suc, ◌+◌, ◌<◌, ◌≤◌, ◌==◌, Bool, false, cond}
+use Rattle.std.proofs.Common.{◌≡◌, ◌≢◌, true≢false, inl, inr, ℕ, zero, suc, ◌+◌, ◌<◌, ◌≤◌, ◌==◌, Bool, true, false, cond}
 use Rattle.std.proofs.Common.{nat_lt}
 use Rattle.std.proofs.Common.{List, [], ◌∷◌, ◌++◌, map, length, get_or, set, take, drop, Option, Some, None, Ok, refl}
 use Rattle.std.proofs.Common.{sym, ap, ◌∙◌, subst, arith}
@@ -19,7 +19,10 @@ use Rattle.tx_sets.specs.declared.reads.ReadEntry.{ReadEntry}
 use Rattle.tx_sets.specs.declared.seen.Seen.{Seen}
 use Rattle.tx_sets.specs.declared.writes.Write.{Write}
 use Rattle.tx_sets.specs.Entries.{IsPushed, IsAscending, IsPlaceOf, IsPut, IsRewritten, has_read, has_word, has_write}
-use Rattle.tx_sets.specs.Entries.{places_of, read_keys, writes_at, record_places_of}
+use Rattle.tx_sets.specs.Entries.{places_of, read_keys, writes_at, record_places_of, hash_of, AreMarked, AreNoted}
+use Rattle.tx_sets.specs.Entries.{IsNoted}
+use Rattle.tx_sets.proofs.MarkLaws.{more_marked}
+use Rattle.tx_sets.proofs.NoteLaws.{more_noted}
 
 -- ---- each once
 
@@ -291,24 +294,41 @@ read_more old xs new y same is distinct absent =
         let parts = or_parts (same_key e.key y.key) (has_read y.key l) none in
         (each e.key l apart.0 (λ is. key_apart e.key y.key parts.0 (sym is)), by_entries l apart.1 parts.1)
 
--- one record more, behind the first so many of a longer list
-pub read_put : (old xs : List ReadEntry) (i : ℕ) (y : ReadEntry) → take i xs ≡ old
-    → (i ≤ 256) × (length xs ≡ 256) × AreDistinct (read_keys (take i xs)) → (i ≡ 256 → ⊥)
-    → has_read y.key old ≡ false
+below : {i n : ℕ} → i ≤ n → (i ≡ n → ⊥) → i < n
+below {i} {n} le other = elim (cases_order i n) [
+  | inl same ↦ absurd (other same)
+  | inr order ↦ elim order [ inl less ↦ less | inr more ↦ absurd (omega (arith, le, more)) ]
+]
+
+-- one record more, behind the first so many of a longer list, with its mark
+pub read_put : (old xs : List ReadEntry) (marked new : List Bool) (i : ℕ) (y : ReadEntry) → take i xs ≡ old
+    → (i ≤ 256) × (length xs ≡ 256) × AreDistinct (read_keys (take i xs)) × AreMarked marked (take i xs)
+    → (i ≡ 256 → ⊥) → has_read y.key old ≡ false → hash_of y.key < 128 → new ≡ set marked (hash_of y.key) true
     → (i + 1 ≤ 256) × (length (set xs i y) ≡ 256) × AreDistinct (read_keys (take (i + 1) (set xs i y)))
-read_put old xs i y same kept room absent =
-    let within : i < 256 = below kept.0 room in (
+    × AreMarked new (take (i + 1) (set xs i y))
+read_put old xs marked new i y same kept room absent bound mark =
+    let within : i < 256 = below kept.0 room in
+    let more = take-set_at xs i (i + 1) y refl (subst (λ n. i < n) (sym kept.1) within) in (
       omega (arith, within),
       length-set xs i y ∙ kept.1,
-      read_more old (take i xs) (take (i + 1) (set xs i y)) y same
-          (take-set_at xs i (i + 1) y refl (subst (λ n. i < n) (sym kept.1) within)) kept.2 absent,
+      read_more old (take i xs) (take (i + 1) (set xs i y)) y same more kept.2 absent,
+      more_marked marked new (take i xs) (take (i + 1) (set xs i y)) y more kept.3 bound mark,
     )
-  where
-    below : {i n : ℕ} → i ≤ n → (i ≡ n → ⊥) → i < n
-    below {i} {n} le other = elim (cases_order i n) [
-      | inl same ↦ absurd (other same)
-      | inr order ↦ elim order [ inl less ↦ less | inr more ↦ absurd (omega (arith, le, more)) ]
-    ]
+
+-- one slot more, behind the first so many of a longer list, with its note
+pub slot_put : (old xs : List ℕ) (noted new : List Bool) (i y : ℕ) → take i xs ≡ old
+    → (i ≤ 128) × (length xs ≡ 128) × AreDistinct (take i xs) × AreNoted noted (take i xs) → (i ≡ 128 → ⊥)
+    → list_any (λ s. s == y) old ≡ false → IsNoted y true noted new
+    → (i + 1 ≤ 128) × (length (set xs i y) ≡ 128) × AreDistinct (take (i + 1) (set xs i y))
+    × AreNoted new (take (i + 1) (set xs i y))
+slot_put old xs noted new i y same kept room absent note =
+    let within : i < 128 = below kept.0 room in
+    let more = take-set_at xs i (i + 1) y refl (subst (λ n. i < n) (sym kept.1) within) in (
+      omega (arith, within),
+      length-set xs i y ∙ kept.1,
+      slots_more old (take i xs) (take (i + 1) (set xs i y)) y same more kept.2 absent,
+      more_noted noted new (take i xs) (take (i + 1) (set xs i y)) y more kept.3 note,
+    )
 
 -- one word more
 pub seen_more : (old xs new : List Seen) (y : Seen) → xs ≡ old → new ≡ xs ++ y ∷ [] → AreDistinct (places_of xs)

@@ -1,7 +1,7 @@
 -- What the sets of a transaction have, and what a call leaves of them.
-use Rattle.std.specs.Prelude.{◌≡◌, ◌↔◌, ℕ, ◌<◌, ◌==◌, Bool, false, List, [], ◌∷◌, ◌++◌, map, length, Option, Some}
+use Rattle.std.specs.Prelude.{◌≡◌, ◌↔◌, ℕ, ◌<◌, ◌==◌, ◌%◌, ◌*◌, ◌/◌, Bool, true, false, List, [], ◌∷◌, ◌++◌, map, length, Option}
 use Rattle.std.specs.Prelude.{Result, IsOk, OnOk, OnErr, IfErr, get_or}
-use Rattle.std.specs.List.{find, list_any}
+use Rattle.std.specs.List.{AllByRecursion, find, list_any}
 use Rattle.std.specs.Option.{option_map}
 use Rattle.serial_model.specs.declared.key.Key.{Key}
 use Rattle.serial_model.specs.Keys.{IsKeyBelow}
@@ -74,6 +74,15 @@ has_read key reads = list_any (λ r. same_key r.key key) reads
 -- what was read of the key's record
 abbrev pub read_of : Key → List ReadEntry → Option ReadEntry
 read_of key reads = find (λ r. same_key r.key key) reads
+
+-- the hash of a key, which is one of 128
+abbrev pub hash_of : Key → ℕ
+hash_of key = key.key % 4294967296 * 2654435761 / 33554432 % 128
+
+-- the hash of each key that was read is marked
+pub record AreMarked (marked : List Bool) (reads : List ReadEntry) : Type 0 where
+  pub many : length marked ≡ 128
+  pub each : AllByRecursion (λ r. get_or marked (hash_of r.key) false ≡ true) reads
 
 -- ---- writes
 

@@ -4,7 +4,6 @@ ghost use Rattle.std.specs.List.{list_any};
 ghost use Rattle.lists.specs.Each.{AreDistinct};
 ghost use Rattle.tx_sets.specs.Entries.{AreNoted, IsNoted, IsPushed};
 
-use arrayvec::ArrayVec;
 use std::marker::Model;
 
 /// The most slots that a transaction holds.
@@ -17,21 +16,25 @@ const NOTED: usize = 4096;
 /// without a search.
 #[derive(Drop)]
 pub struct Holds {
-    slots: ArrayVec<u32, CAPACITY>,
+    /// The first `count` of them are held.
+    slots: [u32; CAPACITY],
+    count: usize,
     /// Of each of the first slots whether it is held.
     noted: [bool; NOTED],
 }
 
 impl Model for Holds {
-    ghost use Rattle.std.specs.Prelude.{ℕ, List};
+    ghost use Rattle.std.specs.Prelude.{ℕ, List, ◌≡◌, ◌≤◌, length, take};
     ghost use Rattle.lists.specs.Each.{AreDistinct};
     ghost use Rattle.tx_sets.specs.Entries.{AreNoted};
 
     ghost Value = { List ℕ };
 
-    ghost view = { λ h. h.slots.items };
+    ghost view = { λ h. take h.count h.slots };
 
-    ghost invariant = { λ h. AreDistinct h.slots.items × AreNoted h.noted h.slots.items };
+    ghost invariant = { λ h.
+        (h.count ≤ 128) × (length h.slots ≡ 128) × AreDistinct (take h.count h.slots)
+        × AreNoted h.noted (take h.count h.slots) };
 }
 
 impl Holds {
@@ -39,7 +42,8 @@ impl Holds {
         ensures { result ≡ [] }
     {
         Holds {
-            slots: ArrayVec::new(),
+            slots: Default::default(),
+            count: 0,
             noted: no_notes(),
         }
     }
@@ -50,34 +54,38 @@ impl Holds {
         ensures bound { length self.now ≤ 128 }
         ensures once { AreDistinct self.now }
     {
-        self.slots.as_slice()
+        &self.slots[..self.count]
     }
 
     pub fn is_full(&self) -> bool
         ensures value { result ≡ (length self.now == 128) }
         ensures bound { length self.now ≤ 128 }
     {
-        self.slots.is_full()
+        self.count == CAPACITY
     }
 
+    #[inline(always)]
     pub fn contains(&self, slot: u32) -> bool
         ensures { result ≡ list_any (λ s. s == slot) self.now }
     {
         if slot < 4096 {
             return self.noted[slot as usize];
         }
-        self.slots.as_slice().iter().any(|&held| held == slot)
+        self.as_slice().iter().any(|&held| held == slot)
     }
 
     /// Adds a slot that is not held yet. It is given back where there is no room.
+    #[inline(always)]
     pub fn push(&mut self, slot: u32) -> Result<(), u32>
         requires absent { list_any (λ s. s == slot) self.old ≡ false }
         ensures { IsPushed 128 slot self.old self.new result }
     {
-        if self.is_full() {
+        let count = self.count;
+        if count == CAPACITY {
             return Err(slot);
         }
-        self.slots.push(slot);
+        self.slots[count] = slot;
+        self.count = count + 1;
         note(&mut self.noted, slot);
         Ok(())
     }
@@ -85,8 +93,8 @@ impl Holds {
     pub fn clear(&mut self)
         ensures { self.new ≡ [] }
     {
-        forget_all(&mut self.noted, self.slots.as_slice());
-        self.slots.clear();
+        forget_all(&mut self.noted, &self.slots[..self.count]);
+        self.count = 0;
     }
 }
 

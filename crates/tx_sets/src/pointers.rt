@@ -56,6 +56,7 @@ impl PointerSet {
     }
 
     /// Whether the word at this place is in the set.
+    #[inline(always)]
     pub fn contains(&self, at: u32) -> bool
         ensures { result ≡ has_word at self.now }
     {
@@ -63,6 +64,7 @@ impl PointerSet {
     }
 
     /// What was first seen at this place.
+    #[inline(always)]
     pub fn find(&self, at: u32) -> Option<u64>
         ensures { result ≡ word_at at self.now }
     {
@@ -70,6 +72,7 @@ impl PointerSet {
     }
 
     /// Adds a word that is not in the set yet. It is given back where there is no room.
+    #[inline(always)]
     pub fn push(&mut self, seen: Seen) -> Result<(), Seen>
         requires absent { has_word seen.at self.old ≡ false }
         ensures { IsPushed 128 seen self.old self.new result }

@@ -1,15 +1,22 @@
 // The records that a transaction read.
-ghost use Rattle.std.specs.Prelude.{◌≡◌, ◌==◌, ◌≤◌, false, [], length};
+ghost use Rattle.std.specs.Prelude.{◌≡◌, ◌==◌, ◌<◌, ◌≤◌, true, false, [], length, get_or, set};
 ghost use Rattle.std.specs.List.{find, list_any};
 ghost use Rattle.homes.specs.Homes.{same_key};
 ghost use Rattle.lists.specs.Each.{AreDistinct};
-ghost use Rattle.tx_sets.specs.Entries.{has_read, read_keys, read_of, IsPushed};
+ghost use Rattle.tx_sets.specs.Entries.{has_read, hash_of, read_keys, read_of, AreMarked, IsPushed};
 
 use serial_model::Key;
 use std::marker::Model;
 
 /// The most records that a transaction reads.
 const CAPACITY: usize = 256;
+
+/// How many hashes of keys there are.
+const HASHES: usize = 128;
+
+/// What a key is multiplied by for its hash, so that keys which lie evenly apart have different ones: 2^32 by the
+/// golden ratio.
+const GOLDEN: u64 = 2_654_435_761;
 
 /// A record as a transaction first read it.
 #[derive(Clone, Copy, Debug, Default, PartialEq, Eq)]
@@ -24,26 +31,29 @@ pub struct ReadEntry {
 }
 
 /// Up to 256 records, each once, in the order in which they were read: a commit finds their words as they were, or is
-/// given up.
+/// given up. That a record wasn't read is mostly known without a search.
 #[derive(Drop)]
 pub struct ReadSet {
     /// The first `count` of them are in the set.
     entries: [ReadEntry; CAPACITY],
     count: usize,
+    /// Of each hash whether a key that has it may have been read: else none was.
+    marked: [bool; HASHES],
 }
 
 impl Model for ReadSet {
     ghost use Rattle.std.specs.Prelude.{List, ◌≡◌, ◌≤◌, length, take};
     ghost use Rattle.lists.specs.Each.{AreDistinct};
     ghost use Rattle.tx_sets.specs.declared.reads.ReadEntry.{ReadEntry};
-    ghost use Rattle.tx_sets.specs.Entries.{read_keys};
+    ghost use Rattle.tx_sets.specs.Entries.{read_keys, AreMarked};
 
     ghost Value = { List ReadEntry };
 
     ghost view = { λ s. take s.count s.entries };
 
     ghost invariant = { λ s.
-        (s.count ≤ 256) × (length s.entries ≡ 256) × AreDistinct (read_keys (take s.count s.entries)) };
+        (s.count ≤ 256) × (length s.entries ≡ 256) × AreDistinct (read_keys (take s.count s.entries))
+        × AreMarked s.marked (take s.count s.entries) };
 }
 
 impl ReadSet {
@@ -53,6 +63,7 @@ impl ReadSet {
         ReadSet {
             entries: Default::default(),
             count: 0,
+            marked: no_marks(),
         }
     }
 
@@ -80,13 +91,18 @@ impl ReadSet {
     }
 
     /// What was first read of this key's record.
+    #[inline(always)]
     pub fn find(&self, key: Key) -> Option<ReadEntry>
         ensures { result ≡ read_of key self.now }
     {
+        if !is_marked(&self.marked, key) {
+            return None;
+        }
         read_of(self.as_slice(), key)
     }
 
     /// Adds a record that was not read yet. It is given back where there is no room.
+    #[inline(always)]
     pub fn push(&mut self, entry: ReadEntry) -> Result<(), ReadEntry>
         requires absent { has_read entry.key self.old ≡ false }
         ensures { IsPushed 256 entry self.old self.new result }
@@ -97,6 +113,7 @@ impl ReadSet {
         }
         self.entries[count] = entry;
         self.count = count + 1;
+        mark(&mut self.marked, entry.key);
         Ok(())
     }
 
@@ -104,7 +121,38 @@ impl ReadSet {
         ensures { self.new ≡ [] }
     {
         self.count = 0;
+        self.marked = no_marks();
     }
+}
+
+// No hash is marked.
+fn no_marks() -> [bool; HASHES]
+    ensures { AreMarked result [] }
+{
+    [false; HASHES]
+}
+
+// Marks the hash of a key that is read.
+fn mark(marked: &mut [bool; HASHES], key: Key)
+    requires { length marked.old ≡ 128 }
+    ensures { marked.new ≡ set marked.old (hash_of key) true }
+{
+    marked[hash_of(key)] = true;
+}
+
+fn is_marked(marked: &[bool; HASHES], key: Key) -> bool
+    requires { length marked.now ≡ 128 }
+    ensures { result ≡ get_or marked.now (hash_of key) false }
+{
+    marked[hash_of(key)]
+}
+
+fn hash_of(key: Key) -> usize
+    ensures value { result ≡ hash_of key }
+    ensures bound { result < 128 }
+{
+    let product = key.key % (1 << 32) * GOLDEN;
+    (product / (1 << 25) % 128) as usize
 }
 
 fn has_read(entries: &[ReadEntry], key: Key) -> bool
@@ -113,7 +161,7 @@ fn has_read(entries: &[ReadEntry], key: Key) -> bool
     entries.iter().any(|entry| entry.key == key)
 }
 
-// The search is as long as the set. The numbers of keys differ more often than their storages, so they are compared
+// The search is as long as the set at most. The numbers of keys differ more often than their storages, so they are compared
 // first, and the rest of an entry isn't read then.
 fn read_of(entries: &[ReadEntry], key: Key) -> Option<ReadEntry>
     ensures { result ≡ find (λ r. same_key r.key key) entries.now }

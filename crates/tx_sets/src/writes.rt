@@ -69,6 +69,7 @@ impl WriteSet {
     }
 
     /// Whether the transaction writes this key.
+    #[inline(always)]
     pub fn contains(&self, key: Key) -> bool
         ensures { result ≡ has_write key self.now }
     {
@@ -76,6 +77,7 @@ impl WriteSet {
     }
 
     /// Whether the record at this place is one that the transaction writes.
+    #[inline(always)]
     pub fn contains_record(&self, at: u32) -> bool
         ensures { result ≡ writes_at at self.now }
     {
@@ -83,6 +85,7 @@ impl WriteSet {
     }
 
     /// What the transaction writes at this key: a value, or no value where it removes it.
+    #[inline(always)]
     pub fn find(&self, key: Key) -> Option<Option<u64>>
         ensures { result ≡ value_of key self.now }
     {
@@ -94,6 +97,7 @@ impl WriteSet {
     }
 
     /// Adds a write of a key, and of a record, that are not in the set yet. It is given back where there is no room.
+    #[inline(always)]
     pub fn push(&mut self, write: Write) -> Result<(), Write>
         requires absent { has_write write.key self.old ≡ false }
         requires another { writes_at write.at self.old ≡ false }

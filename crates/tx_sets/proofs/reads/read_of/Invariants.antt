@@ -1,5 +1,5 @@
 -- What is found among all is found among those that are left.
-use Rattle.std.proofs.Common.{◌≡◌, ℕ, ◌-◌, length, drop}
+use Rattle.std.proofs.Common.{◌≡◌, ◌-◌, length, drop}
 use Rattle.tx_sets.specs.Entries.{read_of}
 use Rattle.tx_sets.proofs.reads.read_of.Given as goal
 

@@ -63,6 +63,8 @@ pub after_numbered : (s : Standing) (ops : List Op) (decls : List Decl) (state :
       mine = s.mine;
       conflicts = s.conflicts;
       slots = s.slots;
+      pages = s.pages;
+      resident = s.resident;
       ended = s.ended;
     })
     (after_line s ops)
@@ -75,6 +77,8 @@ after_numbered s ops decls state has same is =
       mine = s.mine;
       conflicts = s.conflicts;
       slots = s.slots;
+      pages = s.pages;
+      resident = s.resident;
       ended = s.ended;
     } in
     let kept : t ≡ record s { state = state; clock = next_number s.clock } =

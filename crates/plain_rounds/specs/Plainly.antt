@@ -26,6 +26,8 @@ stands_at decls state clock = record {
   mine = [];
   conflicts = 0;
   slots = 0;
+  pages = [];
+  resident = 0;
   ended = false;
 }
 

@@ -37,6 +37,8 @@ impl Model for PlainEngine {
       mine = [];
       conflicts = 0;
       slots = 0;
+      pages = [];
+      resident = 0;
       ended = false;
     } };
 
@@ -63,6 +65,7 @@ impl PlainEngine {
         ensures number { IsNumber result }
         ensures goes_on { self.now.ended ≡ false }
         ensures apart { IsApart self.now }
+        ensures no_slots { self.now.slots ≡ 0 }
     {
         self.clock
     }

@@ -1,7 +1,7 @@
 -- The keeper loads the count of published pages: a page above it is its own to fill, with the words that stand there.
 use Rattle.std.proofs.Common.{◌≡◌, inl, inr, ℕ, ◌<◌, ◌≤◌, Bool, true, false, ltb, List, length, get_or, refl, sym, subst}
 use Rattle.std.proofs.Common.{arith}
-use Rattle.std.specs.Prelude.{MatchBool}
+use Rattle.std.specs.Prelude.{Contains, MatchBool}
 use Rattle.std.proofs.lemmas.Bool.Decides.{nat_tests}
 use Rattle.atomic_table.specs.Table.{Me, Allows}
 use Rattle.lists.specs.Elements.{in_cases}
@@ -45,6 +45,12 @@ claims_page laws l slots id me n keeper same room =
         let front = front_length me.0.pages s.resident.pages b.pages.resident in
         let count = b.sound.shown.published in omega arith
 
+    above : (words : List ℕ) (views : List View) (s : Shared) → Begins l words views s id me.0 → (x : Filled)
+        → Contains me.0.fills x → get_or words published_at 0 < x.page
+    above words views s b x has =
+        let count = b.sound.shown.published in
+        let behind = (b.pages.fills x has).1.above in omega (arith, count, behind)
+
     by_test : (words : List ℕ) (views : List View) (s : Shared) → Begins l words views s id me.0 → (t : Bool)
         → ltb (get_or words published_at 0) n ≡ t
         → Stride l words views s (seat_number me.0.role) me.0 published_at (λ k. k) (λ v k w. HasClaimed n v k w)
@@ -74,6 +80,7 @@ claims_page laws l slots id me n keeper same room =
         record {
           most = most words views s b;
           known = known words views s b;
+          above = above words views s b;
           is = subst (λ c. MatchBool c (IsClaimed n v k w) (w ≡ glanced published_at k v)) (sym low) refl;
         }
     by_test words views s b true low =
@@ -115,5 +122,6 @@ claims_page laws l slots id me n keeper same room =
         record {
           most = most words views s b;
           known = known words views s b;
+          above = above words views s b;
           is = subst (λ c. MatchBool c (IsClaimed n v k w) (w ≡ glanced published_at k v)) (sym low) (ws, length_tab at 64, refl);
         }

@@ -1,12 +1,13 @@
 -- Pages behind those that are published are filled, one word and one page after another.
-use Rattle.std.proofs.Common.{◌≡◌, ◌≢◌, ℕ, suc, ◌+◌, ◌<◌, Bool, true, false, eqb, ne_eqb, ltb, not, inl, inr, List, [], ◌∷◌}
+use Rattle.std.proofs.Common.{◌≡◌, ◌≢◌, ℕ, suc, ◌+◌, ◌<◌, ◌≤◌, Bool, true, false, eqb, ne_eqb, ltb, not, inl, inr, List, [], ◌∷◌}
 use Rattle.std.proofs.Common.{length, get_or, set, Option, Some, refl, sym, ap, ◌∙◌, subst, arith, get_or-set_other, get_or-set_same}
-use Rattle.std.proofs.Common.{length-set}
-use Rattle.std.proofs.lemmas.Bool.{cases_eq, lt-ltb}
+use Rattle.std.proofs.Common.{length-set, true≢false}
+use Rattle.std.proofs.lemmas.Bool.{cases_eq, cases_order, lt-ltb}
+use Rattle.std.proofs.lemmas.Bool.Decides.{nat_tests}
 use Rattle.std.proofs.lemmas.List.{get_or-drop}
 use Rattle.std.specs.Prelude.{MatchBool, drop}
 use Rattle.std.specs.List.{Contains}
-use Rattle.lists.specs.Elements.{in_cases, in_filtered, in_head, in_tail}
+use Rattle.lists.specs.Elements.{in_cases, in_filtered, in_head, in_none, in_tail}
 use Rattle.wire_form.specs.declared.page.Page.{Page}
 use Rattle.snapshot_store.specs.Content.{words_of}
 use Rattle.snapshot_store.specs.Places.{page}
@@ -17,8 +18,9 @@ use Rattle.engine_pages.specs.Layout.{published_at}
 use Rattle.engine_pages.specs.Steps.{glance, glanced}
 use Rattle.engine_pages.proofs.Slotlists.{at_others}
 use Rattle.resident_pages.specs.Extends.{IsFilledWith}
-use Rattle.resident_pages.specs.Fills.{HasClaimed, HasFilledPage, IsClaimed, claimed, filled_page, other_fills}
-use Rattle.resident_pages.specs.Publishes.{AreFilled, AreFilledOr, HasFoundMore, IsFilledUpTo, OnlyFilled}
+use Rattle.resident_pages.specs.Fills.{AreClaimed, HasClaimed, HasFilledPage, HasLooked, HasPage, IsClaimed, claimed}
+use Rattle.resident_pages.specs.Fills.{filled_page, other_fills}
+use Rattle.resident_pages.specs.Publishes.{AreClaimedTo, AreFilled, HasFoundMore, IsFilledUpTo, OnlyFilled}
 
 -- ---- lists
 
@@ -85,73 +87,138 @@ module _ (n : ℕ) (v : View) (count : ℕ) (w : View) where
   claimed_page h low =
       subst (λ (b : Bool). MatchBool b (IsClaimed n v count w) (w ≡ glanced published_at count v)) (lt-ltb count n low) h.is
 
-  only_claimed : (b : Bool) → MatchBool b (IsClaimed n v count w) (w ≡ glanced published_at count v)
-      → OnlyFilled v w × (w.last ≡ Some (glance v.steps published_at count))
-  only_claimed true h =
-      let is : w ≡ claimed n h.0 count v = h.2 in (
-        only_then v v w (v.steps + 1) (Some (glance v.steps published_at count)) (with_page n h.0 v.fills) refl is,
-        ap (λ (z : View). z.last) is,
-      )
-  only_claimed false is = (
-    only_then v v w (v.steps + 1) (Some (glance v.steps published_at count)) v.fills refl is,
-    ap (λ (z : View). z.last) is,
-  )
-
-  pub claimed_same : HasClaimed n v count w → OnlyFilled v w
-  claimed_same h = (only_claimed (ltb count n) h.is).0
-
-  -- more pages are published than the pass knows
-  pub found_more : HasClaimed n v count w → count ≢ length v.pages → HasFoundMore v w
-  found_more h other =
-      let known = h.known in
-      let r = only_claimed (ltb count n) h.is in record {
-        only = r.0;
-        step = v.steps;
-        since = omega arith;
-        count = count;
-        last = r.1;
-        more = omega (arith, known, other);
-      }
-
-  -- none of its words is filled yet
-  pub none_filled : (words : List ℕ) → IsClaimed n v count w → IsFilledUpTo n 0 words w w
-  none_filled words h =
-      let is : w.fills ≡ with_page n h.0 v.fills = ap (λ (z : View). z.fills) h.2 in
-      let first : Filled = record { page = n; words = h.0 } in record {
-        later = omega arith;
-        only = refl;
-        has = (
-          first,
-          subst (λ (fills : List Filled). Contains fills first) (sym is) (in_head first (other_fills n v.fills)),
-          refl,
-          h.1,
-        );
-        same = λ y there at. (
-          ap (λ (ws : List ℕ). length ws)
-              (only_page n h.0 v.fills y (subst (λ (fills : List Filled). Contains fills y) is there) at)
-              ∙ h.1,
-          λ j less. absurd (omega (arith, less)),
-        );
-        kept = λ y there other. there;
-      }
-
-  -- what was filled since the page was claimed
-  pub filled_since : (words : List ℕ) (x : View) → IsClaimed n v count w → IsFilledUpTo n 64 words w x
-      → IsFilledUpTo n 64 words v x
-  filled_since words x h so =
+  -- it is the pass's own to fill, behind those that were so already
+  pub claim_more : (known i : ℕ) (first : View) → AreClaimedTo i first v → known ≡ length first.pages
+      → n ≡ (known + i) + 1 → HasClaimed n v count w → count < n → AreClaimedTo (i + 1) first w
+  claim_more known i first so same at claims low =
+      let h = claimed_page claims low in
       let is : w ≡ claimed n h.0 count v = h.2 in
-      let first = only_then v v w (v.steps + 1) (Some (glance v.steps published_at count)) (with_page n h.0 v.fills) refl is in
-      let steps : w.steps ≡ v.steps + 1 = ap (λ (z : View). z.steps) is in
-      let later = so.later in record {
-        later = omega (arith, steps, later);
-        only = only_then v w x x.steps x.last x.fills first so.only;
-        has = so.has;
-        same = so.same;
-        kept = λ y there other.
-            so.kept y
-            (subst (λ (fills : List Filled). Contains fills y) (sym (ap (λ (z : View). z.fills) is))
-            (other_page n h.0 v.fills y there other)) other;
+      let fills : w.fills ≡ with_page n h.0 v.fills = ap (λ (z : View). z.fills) is in
+      let one : Filled = record { page = n; words = h.0 } in record {
+        only = only_then first v w (v.steps + 1) (Some (glance v.steps published_at count)) (with_page n h.0 v.fills)
+            so.only is;
+        has = λ m less most. elim (cases_eq m n) [
+          | inl here ↦ (
+            one,
+            subst (λ (l : List Filled). Contains l one) (sym fills) (in_head one (other_fills n v.fills)),
+            sym here,
+            h.1,
+          )
+          | inr other ↦
+              let x = so.has m less (omega (arith, most, other, at, same)) in (
+                x.0,
+                subst (λ (l : List Filled). Contains l x.0) (sym fills)
+                    (other_page n h.0 v.fills x.0 x.1 (λ here. other (sym x.2 ∙ here))),
+                x.2,
+                x.3,
+              )
+        ];
+        long = λ y there.
+            elim (in_cases y one (other_fills n v.fills) (subst (λ (l : List Filled). Contains l y) fills there)) [
+              | inl new ↦ ap (λ (z : Filled). length z.words) (sym new) ∙ h.1
+              | inr old ↦ so.long y (at_others (λ (z : Filled). z.page) n v.fills y old).0
+            ];
       }
+
+  -- what the pass has to fill, and what it loaded last, changed alone
+  pub claimed_same : HasClaimed n v count w → OnlyFilled v w
+  claimed_same h = by_test (ltb count n) h.is
+    where
+      by_test : (b : Bool) → MatchBool b (IsClaimed n v count w) (w ≡ glanced published_at count v) → OnlyFilled v w
+      by_test true so =
+          only_then v v w (v.steps + 1) (Some (glance v.steps published_at count)) (with_page n so.0 v.fills) refl so.2
+      by_test false is =
+          only_then v v w (v.steps + 1) (Some (glance v.steps published_at count)) v.fills refl is
+
+-- more pages are published than the pass knew as the call began
+pub found_more : (first v : View) (n count : ℕ) (w : View) → length first.pages < n → n ≤ count
+    → HasClaimed n v count w → HasFoundMore first w
+found_more first v n count w known high h = record {
+  count = count;
+  more = omega (arith, known, high);
+  before = v;
+  saw = by_test (ltb count n) (none_below count n high) h.is;
+}
+  where
+    none_below : (k m : ℕ) → m ≤ k → ltb k m ≡ false
+    none_below k m most = grind (arith, nat_tests, most)
+
+    by_test : (b : Bool) → b ≡ false → MatchBool b (IsClaimed n v count w) (w ≡ glanced published_at count v)
+        → w ≡ glanced published_at count v
+    by_test true not so = absurd (true≢false not)
+    by_test false not is = is
+
+-- the count alone is loaded
+pub looked : (v : View) (count : ℕ) (w : View) → HasClaimed 0 v count w → HasLooked v count w
+looked v count w h = record {
+  most = h.most;
+  known = h.known;
+  above = h.above;
+  is = subst (λ (b : Bool). MatchBool b (IsClaimed 0 v count w) (w ≡ glanced published_at count v)) (none_below count)
+      h.is;
+}
+  where
+    none_below : (k : ℕ) → ltb k 0 ≡ false
+    none_below k = grind (arith, nat_tests)
+
+-- where all pages behind those that the pass knows are its own to fill, it knows all that are published
+pub knows_all : (v : View) (count : ℕ) (w : View) → AreClaimed v → HasLooked v count w → count ≡ length v.pages
+knows_all v count w claims h = elim (cases_order count (length v.pages)) [
+  | inl same ↦ same
+  | inr (inl less) ↦ absurd (let known = h.known in omega (arith, known, less))
+  | inr (inr more) ↦
+      let most = h.most in
+      let x = claims.has count more most in
+      let above = h.above x.0 x.1 in
+      let page : (x.0).page ≡ count = x.2 in absurd (omega (arith, above, page))
+]
+
+-- none is claimed yet
+pub none_claimed : (v : View) → v.fills ≡ [] → AreClaimedTo 0 v v
+none_claimed v none = record {
+  only = refl;
+  has = λ n less most. absurd (omega (arith, less, most));
+  long = λ x there. absurd (in_none x (subst (λ (l : List Filled). Contains l x) none there));
+}
+
+-- all are
+pub claimed_all : (known resident count : ℕ) (v w : View) → AreClaimedTo count v w → known ≡ length v.pages
+    → resident ≡ v.layout.resident → known + count ≡ resident → AreClaimed w
+claimed_all known resident count v w so same room all =
+    let pages : length w.pages ≡ length v.pages = ap (λ (z : View). length z.pages) so.only in
+    let most : w.layout.resident ≡ v.layout.resident = ap (λ (z : View). z.layout.resident) so.only in record {
+      has = λ n less low. so.has n (omega (arith, pages, less)) (omega (arith, most, low, same, room, all));
+      long = so.long;
+    }
+
+-- none of the words of a page is filled yet
+pub none_filled : (n : ℕ) (words : List ℕ) (v : View) → AreClaimed v → length v.pages < n → n ≤ v.layout.resident
+    → IsFilledUpTo n 0 words v v
+none_filled n words v claims above room = record {
+  later = omega arith;
+  only = refl;
+  has = claims.has n above room;
+  same = λ y there at. (claims.long y there, λ j less. absurd (omega (arith, less)));
+  kept = λ y there other. there;
+  from = λ y there other. there;
+}
+
+-- the pages behind those that the pass knows are its own still
+pub still_claimed : (n : ℕ) (words : List ℕ) (v w : View) → AreClaimed v → IsFilledUpTo n 64 words v w → AreClaimed w
+still_claimed n words v w claims h =
+    let pages : length w.pages ≡ length v.pages = ap (λ (z : View). length z.pages) h.only in
+    let room : w.layout.resident ≡ v.layout.resident = ap (λ (z : View). z.layout.resident) h.only in record {
+      has = λ m less most. elim (cases_eq m n) [
+        | inl here ↦ subst (λ k. HasPage w k) (sym here) h.has
+        | inr other ↦
+            let x = claims.has m (omega (arith, pages, less)) (omega (arith, room, most)) in
+            (x.0, h.kept x.0 x.1 (λ here. other (sym x.2 ∙ here)), x.2, x.3)
+      ];
+      long = λ y there. elim (cases_eq y.page n) [
+        | inl at ↦ (h.same y there at).0
+        | inr other ↦ claims.long y (h.from y there other)
+      ];
+    }
 
 -- ---- a word more
 
@@ -184,6 +251,11 @@ filled_on n i value words v u w so few is h =
       kept = λ y there other.
           subst (λ (l : List Filled). Contains l y) (sym fills)
           (other_page x.page (set x.words i value) u.fills y (so.kept y there other) (λ same. other (same ∙ at)));
+      from = λ y there other.
+          elim (in_cases y first (other_fills x.page u.fills) (subst (λ (l : List Filled). Contains l y) fills there)) [
+            | inl new ↦ absurd (other (ap (λ (z : Filled). z.page) (sym new) ∙ at))
+            | inr old ↦ so.from y (at_others (λ (z : Filled). z.page) x.page u.fills y old).0 other
+          ];
     }
   where
     one : (old : List ℕ) → length old ≡ 64 → ((j : ℕ) → j < i → get_or old j 0 ≡ get_or words j 0) → (j : ℕ) → j < i + 1
@@ -207,22 +279,6 @@ filled_with n words v w long so =
       (so.has).2,
       same_numbers x.words words (count ∙ sym long) (λ i less. same.1 i (omega (arith, less, count))),
     )
-
--- ---- what was answered
-
-pub filled_so : (b : Bool) (n : ℕ) (words : List ℕ) (v w : View) → b ≡ true
-    → MatchBool b (IsFilledUpTo n 64 words v w) (HasFoundMore v w) → IsFilledUpTo n 64 words v w
-filled_so b n words v w so h =
-    subst (λ (x : Bool). MatchBool x (IsFilledUpTo n 64 words v w) (HasFoundMore v w)) so h
-
-pub found_so : (b : Bool) (n : ℕ) (words : List ℕ) (v w : View) → b ≡ false
-    → MatchBool b (IsFilledUpTo n 64 words v w) (HasFoundMore v w) → HasFoundMore v w
-found_so b n words v w so h =
-    subst (λ (x : Bool). MatchBool x (IsFilledUpTo n 64 words v w) (HasFoundMore v w)) so h
-
-pub all_so : (b : Bool) (pages : List (List ℕ)) (v w : View) → b ≡ true → AreFilledOr b pages v w
-    → AreFilled (length pages) pages v w
-all_so b pages v w so h = subst (λ (x : Bool). AreFilledOr x pages v w) so h
 
 -- ---- a page more
 
@@ -251,20 +307,4 @@ page_more i k n words pages v u w so known at are long h =
             let page : (r.0).page ≡ suc (length v.pages + j) = r.2 in
             (r.0, h.kept r.0 r.1 (λ same. omega (arith, page, same, at, known, other)), r.2, r.3)
       ];
-    }
-
--- what was found since
-pub more_since : (i : ℕ) (pages : List (List ℕ)) (v u w : View) → AreFilled i pages v u → HasFoundMore u w
-    → HasFoundMore v w
-more_since i pages v u w so h =
-    let later = so.later in
-    let since = h.since in
-    let more = h.more in
-    let known : length u.pages ≡ length v.pages = ap (λ (z : View). length z.pages) so.only in record {
-      only = only_then v u w w.steps w.last w.fills so.only h.only;
-      step = h.step;
-      since = omega (arith, later, since);
-      count = h.count;
-      last = h.last;
-      more = omega (arith, more, known);
     }

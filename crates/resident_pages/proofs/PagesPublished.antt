@@ -1,10 +1,11 @@
 -- The pages of a snapshot are published once they are filled, and those that its roots lead to have names.
 use Rattle.std.proofs.Common.{◌≡◌, ◌⊎◌, ℕ, zero, suc, ◌+◌, ◌<◌, inl, inr, List, [], ◌∷◌, ◌++◌, length, refl, sym, ap, ◌∙◌}
-use Rattle.std.proofs.Common.{subst, arith, Some}
-use Rattle.std.specs.Prelude.{map, take}
+use Rattle.std.proofs.Common.{subst, arith, length-append, ltb, Some}
+use Rattle.std.specs.Prelude.{filter, map, take}
 use Rattle.std.specs.List.{AllByRecursion, Contains, slice_get}
+use Rattle.std.proofs.lemmas.Bool.{lt-ltb}
 use Rattle.std.proofs.lemmas.List.{take_at}
-use Rattle.lists.specs.Elements.{at_in, in_cases, in_head, in_none, in_tail}
+use Rattle.lists.specs.Elements.{at_in, in_cases, in_filter, in_filtered, in_head, in_none, in_tail}
 use Rattle.serial_model.specs.declared.decl.Decl.{Decl}
 use Rattle.serial_model.specs.Keys.{id_of}
 use Rattle.wire_form.specs.declared.records.Stored.{Stored}
@@ -14,11 +15,13 @@ use Rattle.snapshot_store.specs.Content.{deepest, format_of, root_place, RootSta
 use Rattle.snapshot_store.specs.Places.{places_below}
 use Rattle.engine_rule.specs.Reading.{led_places, named_places, span_of}
 use Rattle.engine_rule.proofs.ReadNames.{HasBelow, Ordered, flat_ordered, led_ordered, ordered_at, split_at}
+use Rattle.engine_pages.specs.declared.view.Filled.{Filled}
 use Rattle.engine_pages.specs.declared.view.Lead.{Lead}
 use Rattle.engine_pages.specs.declared.view.View.{View}
 use Rattle.engine_pages.specs.Resident.{IsStanding}
 use Rattle.page_opening.proofs.Named.{each_named}
 use Rattle.resident_pages.specs.Extends.{CanExtend, CanName, HasExtended, IsNamedBefore, extended, lead_of}
+use Rattle.resident_pages.specs.Fills.{AreClaimed}
 use Rattle.resident_pages.specs.Publishes.{AreFilled, CanNameAll, HasPublished, IsSnapshot}
 
 -- ---- the step
@@ -73,6 +76,31 @@ module _ (new : List (List ℕ)) (names : List (Decl × PagePlace)) (v u : View)
       let all : w ≡ extended name new names (as_filled v u) =
       h.1 ∙ ap (λ (z : View). extended name new names z) are.only in
       record { name = name; is = all ∙ ap (λ (z : View). over name new names v z) (sym all) }
+
+  -- those behind them are the pass's own to fill still
+  pub claimed_behind : (w : View) → AreClaimed u → HasExtended new names u w → AreClaimed w
+  claimed_behind w claims h =
+      let is : w ≡ extended h.0 new names u = h.1 in
+      let many : length w.pages ≡ length u.pages + length new =
+      ap (λ (z : View). length z.pages) is ∙ length-append u.pages new in
+      let room : w.layout.resident ≡ u.layout.resident = ap (λ (z : View). z.layout.resident) is in
+      let fills : w.fills ≡ filter (λ x. ltb (length u.pages + length new) x.page) u.fills =
+      ap (λ (z : View). z.fills) is in record {
+        has = λ n less most.
+            let x = claims.has n (omega (arith, many, less)) (omega (arith, room, most)) in
+            let page : (x.0).page ≡ n = x.2 in (
+              x.0,
+              subst (λ (l : List Filled). Contains l x.0) (sym fills)
+                  (in_filtered (λ (y : Filled). ltb (length u.pages + length new) y.page) x.0 u.fills x.1
+                  (lt-ltb (length u.pages + length new) (x.0).page (omega (arith, many, less, page)))),
+              x.2,
+              x.3,
+            );
+        long = λ y there.
+            claims.long y
+            (in_filter (λ (z : Filled). ltb (length u.pages + length new) z.page) y u.fills
+            (subst (λ (l : List Filled). Contains l y) fills there));
+      }
 
 -- ---- the names of a snapshot's pages
 

@@ -1,5 +1,5 @@
 -- What steps on snapshot pages that are not published tell.
-use Rattle.std.specs.Prelude.{◌≡◌, ℕ, ◌+◌, ◌≤◌, ◌==◌, not, List, ◌∷◌, filter, length, nat_lt, MatchBool, slice_set, Contains}
+use Rattle.std.specs.Prelude.{◌≡◌, ℕ, ◌+◌, ◌<◌, ◌≤◌, ◌==◌, not, List, ◌∷◌, filter, length, nat_lt, MatchBool, slice_set, Contains}
 use Rattle.atomic_table.specs.Table.{Step}
 use Rattle.engine_pages.specs.declared.view.Filled.{Filled}
 use Rattle.engine_pages.specs.declared.view.View.{View}
@@ -22,17 +22,31 @@ claimed n words count v = record (glanced published_at count v) {
 abbrev pub IsClaimed : ℕ → View → ℕ → View → Type 0
 IsClaimed n v count w = (words : List ℕ) × (length words ≡ 64) × (w ≡ claimed n words count v)
 
--- So many pages are published: those that the pass knows, and maybe more. A page above them is claimed.
+-- So many pages are published: those that the pass knows, and maybe more, but none that is its own to fill. A page above
+-- them is claimed.
 pub record HasClaimed (n : ℕ) (v : View) (count : ℕ) (w : View) : Type 0 where
   pub most : count ≤ v.layout.resident
   pub known : length v.pages ≤ count
+  pub above : (x : Filled) → Contains v.fills x → count < x.page
   pub is : MatchBool (nat_lt count n) (IsClaimed n v count w) (w ≡ glanced published_at count v)
-
--- ---- a page is filled
 
 -- the page is the keeper's to fill
 abbrev pub HasPage : View → ℕ → Type 0
 HasPage v n = (x : Filled) × Contains v.fills x × (x.page ≡ n) × (length x.words ≡ 64)
+
+-- So many pages are published, as a load tells.
+pub record HasLooked (v : View) (count : ℕ) (w : View) : Type 0 where
+  pub most : count ≤ v.layout.resident
+  pub known : length v.pages ≤ count
+  pub above : (x : Filled) → Contains v.fills x → count < x.page
+  pub is : w ≡ glanced published_at count v
+
+-- Each page behind those that the pass knows is its own to fill, as far as the table has words for pages.
+pub record AreClaimed (v : View) : Type 0 where
+  pub has : (n : ℕ) → length v.pages < n → n ≤ v.layout.resident → HasPage v n
+  pub long : (x : Filled) → Contains v.fills x → length x.words ≡ 64
+
+-- ---- a page is filled
 
 -- a word of it was stored
 abbrev pub filled_page : Filled → ℕ → ℕ → View → View

@@ -3,7 +3,7 @@ ghost use Rattle.std.specs.Prelude.{◌≡◌, ◌<◌, ◌≤◌};
 ghost use Rattle.engine_pages.specs.declared.view.Role.TheVariants.{Keeper};
 ghost use Rattle.engine_pages.specs.Layout.{snap_at};
 ghost use Rattle.engine_pages.specs.Passes.{view, IsPassOf};
-ghost use Rattle.resident_pages.specs.Fills.{HasClaimed, HasFilledPage, HasPage};
+ghost use Rattle.resident_pages.specs.Fills.{HasClaimed, HasFilledPage, HasLooked, HasPage};
 
 use crate::law::{Claiming, FillingPage, Numbered, Stored};
 use crate::laws::laws;
@@ -74,4 +74,15 @@ fn fill_page_as<J: Stored>(
         .table
         .shared
         .store::<FillingPage<J>>(pass, at as usize, value);
+}
+
+/// Loads how many snapshot pages are published: all that the pass knows, and none that is its own to fill.
+pub fn look_at_pages(engine: &Engine, pass: &mut Pass) -> u64
+    requires of { IsPassOf engine.now pass.old }
+    requires keeper { (view pass.old).role ≡ Keeper }
+    ensures of { IsPassOf engine.now pass.new }
+    ensures looks { HasLooked (view pass.old) result (view pass.new) }
+{
+    // No page has this number, so none is claimed.
+    claim_page(engine, pass, 0)
 }

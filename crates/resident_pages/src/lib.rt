@@ -3,9 +3,10 @@
 //! Promises: each step keeps the rule of engine_pages (`Shows`). A page above those that are published is the keeper's
 //! to fill, with the words that stand in it (`claim_page`), and stays so until the count rises: nobody else stores
 //! there (`fill_page`). The count rises over filled pages alone, where each place that gets a name stands with all
-//! below it, and those below have names before it (`extend`): so no name that there was leads to another page. All
-//! pages of a store behind those that the keeper knows are filled and published in one call (`publish_pages`), where
-//! it knows all that are published.
+//! below it, and those below have names before it (`extend`): so no name that there was leads to another page. What
+//! the keeper has claimed nobody else has published: so where all pages behind those that it knows are its own to fill
+//! (`claim_rest`, once, as an engine begins), it knows all that are published. Those of a store are filled and
+//! published in one call (`publish_pages`).
 //! Terms: *snapshot page*, a page of 64 words behind those of the slots, by its number; *count*, how many of them are
 //! published; *name*, what the machine of pages calls a page that stands for certain keys; *place*, those keys with the
 //! page's number.
@@ -24,6 +25,6 @@ mod laws;
 mod publishing;
 
 pub use extending::extend;
-pub use filling::{claim_page, fill_page};
+pub use filling::{claim_page, fill_page, look_at_pages};
 pub use law::Publishing;
-pub use publishing::publish_pages;
+pub use publishing::{claim_rest, publish_pages};

@@ -1,5 +1,5 @@
 -- An engine begins with the contents of the pages that it is given.
-use Rattle.std.proofs.Common.{◌≡◌, ℕ, zero, suc, ◌-◌, true, true≢false, List, [], ◌∷◌}
+use Rattle.std.proofs.Common.{◌≡◌, ℕ, zero, suc, ◌-◌, ◌<◌, ◌≤◌, length, true, true≢false, List, [], ◌∷◌}
 use Rattle.std.proofs.Common.{Some}
 use Rattle.std.proofs.Common.{get_or, replicate, refl, sym, ap, ◌∙◌, subst}
 use Rattle.std.specs.List.{list_all}
@@ -12,6 +12,8 @@ use Rattle.serial_bridge.specs.WriteSets.{HasNoTree}
 use Rattle.engine_pages.specs.declared.layout.Layout.{Layout}
 use Rattle.engine_pages.specs.declared.view.View.{View}
 use Rattle.page_opening.specs.Making.{CanMake}
+use Rattle.resident_pages.specs.Fills.{AreClaimed}
+use Rattle.resident_pages.specs.Publishes.{OnlyFilled}
 use Rattle.engine_pages.specs.Passes.{view, Pass}
 use Rattle.engine_pages.specs.Views.{bare_seat, opening_view, IsResting}
 use Rattle.shared_rounds.specs.SharedState.{conflicts_in, is_array, marks_of, opened, shared_by}
@@ -43,9 +45,11 @@ unused l clock = record {
   conflicts = 0;
   marks = replicate 8 (record { epoch = Some (l.first.epoch - 1); length = 0 });
   slots = l.slots;
+  pages = l.pages;
+  resident = l.resident;
 }
 
-pub first_shared : (l : Layout) (clock : Number) (keeper : Pass) → view keeper ≡ opening_view l → clock ≡ l.first
+pub first_shared : (l : Layout) (clock : Number) (keeper : Pass) → OnlyFilled (opening_view l) (view keeper) → clock ≡ l.first
     → shared_by keeper clock ≡ unused l l.first
 first_shared l clock keeper is same =
     ap (λ (v : View). record {
@@ -57,12 +61,14 @@ first_shared l clock keeper is same =
       conflicts = conflicts_in v.refused;
       marks = marks_of v.parked;
       slots = v.layout.slots;
+      pages = v.pages;
+      resident = v.layout.resident;
     }) is
     ∙ ap (unused l) same
 
 pub first_kept : (l : Layout) (v : View) → CanMake l → list_all is_array l.decls ≡ true → OpensDeclared l
-    → v ≡ opening_view l → IsKept v
-first_kept l v can arrays none is = subst IsKept (sym is) record {
+    → OnlyFilled (opening_view l) v → AreClaimed v → IsKept v
+first_kept l v can arrays none is claims = subst IsKept (sym is) record {
   role = refl;
   made = refl;
   decls = can.opens.declared;
@@ -76,4 +82,12 @@ first_kept l v can arrays none is = subst IsKept (sym is) record {
   parked_are = refl;
   parked = λ worker few. rests l.first 8 worker;
   rests = record { kept = refl; locks = refl; stage = refl };
+  some_slots = can.some;
+  few = can.resident;
+  claimed = record {
+    has = λ n less most.
+        claims.has n (subst (λ (w : View). length w.pages < n) (sym is) less)
+        (subst (λ (w : View). n ≤ w.layout.resident) (sym is) most);
+    long = claims.long;
+  };
 }

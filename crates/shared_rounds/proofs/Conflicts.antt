@@ -15,7 +15,7 @@ use Rattle.engine_pages.specs.declared.view.RefusalCause.TheVariants as refusals
 use Rattle.engine_pages.specs.declared.view.View.{View}
 use Rattle.serial_model.specs.declared.key.Key.{Key}
 use Rattle.worker_cells.specs.Below.{why_of, whys_of, IsClash, IsConflicting, IsLostAt, IsMetKey, Lost, ToClock}
-use Rattle.worker_cells.specs.Below.{ToOther, ToSet, ToSlots}
+use Rattle.worker_cells.specs.Below.{ToOther, ToSet, ToSlots, Writes}
 use Rattle.tx_script.specs.Run.{TryRefusal}
 use Rattle.tx_script.specs.declared.outcome.Outcome.{Outcome}
 use Rattle.tx_script.specs.declared.outcome.Outcome.TheVariants.{Committed, Conflict, Full, Wide, Limit, Unrun}
@@ -30,11 +30,12 @@ conflicts_append xs ys =
     ap (λ (l : List RefusalCause). length l) (filter-append was_conflict xs ys)
     ∙ length-append (filter was_conflict xs) (filter was_conflict ys)
 
--- Each try of a line that was lost in conflict was refused so, at a key of the line where it was at a record.
+-- Each try of a line that was lost in conflict was refused so, at a key of the line where it was at a record; one that
+-- found no slot is of a line that may write; and no set was full.
 abbrev pub IsLostOf : List Op → Lost → Type 0
 IsLostOf ops (ToOther clash) = IsConflicting clash.why clash.met × IsMetKey ops clash.met
-IsLostOf ops (ToSlots words) = ⊤
-IsLostOf ops (ToSet set) = ⊤
+IsLostOf ops (ToSlots words) = Writes ops
+IsLostOf ops (ToSet set) = ⊥
 IsLostOf ops (ToClock clock) = ⊤
 
 conflicting : (why : RefusalCause) (met : Option Key) → IsConflicting why met → was_conflict why ≡ true
@@ -66,7 +67,7 @@ line_lost tries ops Conflict refused logged v w comes =
 line_lost tries ops Limit refused logged v w comes =
     lost_at ops tries (ToClock comes.1.clock) refused v w comes.1.refused comes.2 tt
 line_lost tries ops Full refused logged v w comes =
-    lost_at ops tries (ToSlots comes.1.words) refused v w comes.1.refused comes.2 tt
+    lost_at ops tries (ToSlots comes.1.words) refused v w comes.1.refused comes.2 comes.1.writes
 line_lost tries ops Wide refused logged v w comes = absurd comes
 line_lost tries ops Unrun refused logged v w comes = absurd comes
 
@@ -78,7 +79,7 @@ conflicts_same ops (ToOther clash ∷ xs) each =
     ∙ sym (ap (λ b. length (cond b (clash.why ∷ filter was_conflict (whys_of xs)) (filter was_conflict (whys_of xs))))
     (conflicting clash.why clash.met each.0.0))
 conflicts_same ops (ToSlots words ∷ xs) each = conflicts_same ops xs each.1
-conflicts_same ops (ToSet set ∷ xs) each = conflicts_same ops xs each.1
+conflicts_same ops (ToSet set ∷ xs) each = absurd each.0
 conflicts_same ops (ToClock clock ∷ xs) each = conflicts_same ops xs each.1
 
 none_tried : (left : List (List Op)) → sum_by conflicts_among (no_tries left) ≡ 0

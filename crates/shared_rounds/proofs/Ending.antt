@@ -2,7 +2,7 @@
 use Rattle.std.proofs.Common.{◌≡◌, ◌∙◌, sym, ap, subst, refl, ℕ, suc, zero, ◌+◌, ◌-◌, ◌<◌, List}
 use Rattle.std.proofs.Common.{[], ◌∷◌, ◌++◌}
 use Rattle.std.proofs.Common.{append-nil, append_assoc, length, length-append, map, arith}
-use Rattle.std.proofs.Common.{Option, Some, inl, inr, ◌⊎◌}
+use Rattle.std.proofs.Common.{Bool, true, false, cond, ltb, Option, Some, inl, inr, ◌⊎◌}
 use Rattle.std.specs.Prelude.{get_or, ◌==◌, slice_get, slice_set}
 use Rattle.std.proofs.lemmas.Bool.{cases_order, cond-false, cond-true}
 use Rattle.std.proofs.lemmas.Bool.Decides.{nat_tests}
@@ -14,6 +14,7 @@ use Rattle.lists.specs.Elements.{at_push_new, in_none}
 use Rattle.script_grammar.specs.Script.{Round, lines_of_worker}
 use Rattle.commit_core.specs.declared.attempt.Attempt.{Attempt}
 use Rattle.commit_core.specs.declared.seat.Seat.{Seat}
+use Rattle.views.specs.Longer.{longer}
 use Rattle.views.specs.Sums.{without}
 use Rattle.engine_seats.specs.Cuts.{HasSeen, ended, gathered, worker_of}
 use Rattle.engine_seats.specs.Gathered.{gathered_all}
@@ -71,6 +72,26 @@ mines_push : (parts : List Part) (p : Part)
     → map (λ (q : Part). q.to.mine) (parts ++ p ∷ []) ≡ map (λ (q : Part). q.to.mine) parts ++ p.to.mine ∷ []
 mines_push [] p = refl
 mines_push (q ∷ parts) p = ap (λ (l : List (List Attempt)). q.to.mine ∷ l) (mines_push parts p)
+
+-- ---- pages
+
+-- where more are known now, they are longer
+longer_then : (was mid own now : List (List ℕ)) → (mid ≡ was) ⊎ (length was < length mid) → now ≡ longer mid own
+    → (now ≡ was) ⊎ (length was < length now)
+longer_then was mid own now so is = by_test (ltb (length mid) (length own)) refl so is
+  where
+    by_test : (b : Bool) → ltb (length mid) (length own) ≡ b → (mid ≡ was) ⊎ (length was < length mid)
+        → now ≡ cond b own mid → (now ≡ was) ⊎ (length was < length now)
+    by_test true less (inl same) is =
+        let many : length now ≡ length own = ap (λ (l : List (List ℕ)). length l) is in
+        let first : length mid ≡ length was = ap (λ (l : List (List ℕ)). length l) same in
+        let above : length mid < length own = grind (arith, nat_tests) in inr (omega (arith, many, first, above))
+    by_test true less (inr more) is =
+        let many : length now ≡ length own = ap (λ (l : List (List ℕ)). length l) is in
+        let above : length mid < length own = grind (arith, nat_tests) in inr (omega (arith, many, more, above))
+    by_test false less (inl same) is = inl (is ∙ same)
+    by_test false less (inr more) is =
+        let many : length now ≡ length mid = ap (λ (l : List (List ℕ)). length l) is in inr (omega (arith, many, more))
 
 -- ---- seats and parts by their places
 
@@ -185,6 +206,8 @@ module _ {D : Type 0} (tells : D → Option (List ℕ)) (clock : D → ℕ) (ima
         role = ap (λ (v : View). v.role) timed.is ∙ so.role;
         seat = ap (λ (v : View). v.seat) timed.is ∙ so.seat;
         layout = ap (λ (v : View). v.layout) timed.is ∙ so.layout;
+        pages = longer_then was.pages mid.pages u.pages now.pages so.pages (ap (λ (v : View). v.pages) timed.is);
+        fills = ap (λ (v : View). v.fills) timed.is ∙ so.fills;
         epoch = ap (λ (v : View). v.epoch) timed.is ∙ timed.keepers so.role ∙ so.epoch;
         made = ap (λ (v : View). v.made) timed.is ∙ ap (λ w. without w mid.made) who ∙ ap (without count) so.made
             ∙ less_made count less;

@@ -19,4 +19,7 @@ kept_next v w is k = subst IsKept (sym is) record {
   parked_are = k.parked_are;
   parked = k.parked;
   rests = k.rests;
+  some_slots = k.some_slots;
+  few = k.few;
+  claimed = record { has = k.claimed.has; long = k.claimed.long };
 }

@@ -1,5 +1,6 @@
 mod Backward
 mod Begins
+mod Claimed
 mod Comes
 mod Conflicts
 mod Contents
@@ -13,9 +14,11 @@ mod Halves
 mod Joined
 mod Kept
 mod Left
+mod Looked
 mod LoggedAlong
 mod Made
 mod Meets
+mod NewPages
 mod Numbers
 mod Onward
 mod Ordered

@@ -1,4 +1,5 @@
--- Whom tries in conflict met: where one met another's lock, a line of another worker may change that key.
+-- Whom tries in conflict met: where one met another's lock, a line of another worker may change that key. A line that
+-- found no slot may change some key.
 use Rattle.std.proofs.Common.{◌≡◌, ◌⊎◌, ◌∙◌, inl, inr, sym, ap, subst, refl, ℕ, zero, suc, ◌+◌, true, List, []}
 use Rattle.std.proofs.Common.{◌∷◌, ◌++◌, map, arith, Option, Some, None}
 use Rattle.std.specs.Prelude.{slice_get}
@@ -142,8 +143,8 @@ module _ (tries : ℕ) (was now : View) (parts : List Part) (r : IsRound tries w
       → (lost : Lost) → Contains line.refused lost → IsLostOf line.ops lost
       → IsMet lines_all worker line.ops (try_refusal lost)
   lost_met worker p at line among (ToClock clock) has of = tt
-  lost_met worker p at line among (ToSlots words) has of = tt
-  lost_met worker p at line among (ToSet set) has of = tt
+  lost_met worker p at line among (ToSlots words) has of = (of.0, line_changes line.ops of.0 of.1)
+  lost_met worker p at line among (ToSet set) has of = absurd of
   lost_met worker p at line among (ToOther clash) has of =
       by_met clash.met refl of.1
     where

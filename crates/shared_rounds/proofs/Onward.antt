@@ -1,5 +1,5 @@
 -- From one worker's cell to the next one as seats end.
-use Rattle.std.proofs.Common.{◌≡◌, ◌∙◌, sym, subst, refl, ℕ, ◌+◌, List, []}
+use Rattle.std.proofs.Common.{◌≡◌, ◌∙◌, sym, subst, refl, ℕ, ◌+◌, inl, List, []}
 use Rattle.std.proofs.Common.{◌∷◌, ◌++◌}
 use Rattle.std.proofs.Common.{ap, append-nil, append_assoc, length, length-append, arith, Option}
 use Rattle.lists.specs.Elements.{in_head, in_none, in_tail}
@@ -100,6 +100,8 @@ module _ {D : Type 0} (tells : D → Option (List ℕ)) (clock : D → ℕ) (ima
           role = stands.role;
           seat = refl;
           layout = refl;
+          pages = inl refl;
+          fills = refl;
           epoch = refl;
           made = refl;
           gathers = refl;

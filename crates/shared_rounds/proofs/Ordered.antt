@@ -45,6 +45,8 @@ standing_at v state clock mine conflicts done = record {
   mine = mine;
   conflicts = conflicts;
   slots = v.layout.slots;
+  pages = v.pages;
+  resident = v.layout.resident;
   ended = done;
 }
 

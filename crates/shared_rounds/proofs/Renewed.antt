@@ -1,5 +1,5 @@
 -- What the engine is behind a round, as between two rounds.
-use Rattle.std.proofs.Common.{◌≡◌, ◌∙◌, sym, ap, subst, refl, ℕ, ◌+◌, ◌%◌, ◌^◌, ◌<◌}
+use Rattle.std.proofs.Common.{◌≡◌, ◌∙◌, sym, ap, subst, refl, ℕ, ◌+◌, ◌%◌, ◌^◌, ◌<◌, ◌≤◌}
 use Rattle.std.proofs.Common.{List, [], ◌∷◌}
 use Rattle.std.proofs.Common.{length, get_or, arith, Option, Some, None}
 use Rattle.std.specs.Prelude.{unwrap_or}
@@ -24,11 +24,13 @@ use Rattle.engine_seats.specs.Counts.{AreSerial}
 use Rattle.engine_pages.specs.Views.{IsResting, bare_seat}
 use Rattle.engine_pages.specs.declared.layout.Layout.{Layout}
 use Rattle.engine_pages.specs.declared.view.View.{View}
+use Rattle.resident_pages.specs.Fills.{AreClaimed}
 use Rattle.shared_rounds.specs.Contents.{after_changes, after_commits}
 use Rattle.shared_rounds.specs.Parts.{IsRound, Part, clock_number}
 use Rattle.shared_rounds.specs.SharedState.{IsKept, opened, state_of}
 use Rattle.shared_rounds.proofs.Contents.{changes_over, commits_append, opened_is}
 use Rattle.shared_rounds.proofs.Counted.{now_counted, now_layout, split}
+use Rattle.shared_rounds.proofs.Claimed.{claimed_still}
 use Rattle.shared_rounds.proofs.Numbers.{epoch_of_word, same_epoch}
 use Rattle.shared_rounds.proofs.Records.{records_stay}
 
@@ -69,8 +71,9 @@ module _ (tries : ℕ) (was now : View) (parts : List Part) (r : IsRound tries w
       ∙ commits_append (opened was.layout.opening) was.mine (split tries was now parts r).new
 
   pub kept_now : IsKept was → r.ended.seat ≡ was.seat → length r.ended.parked ≡ 8
-      → ((worker : ℕ) → worker < 8 → IsResting (get_or r.ended.parked worker bare_seat)) → IsKept now
-  kept_now kept own parked_are parked =
+      → ((worker : ℕ) → worker < 8 → IsResting (get_or r.ended.parked worker bare_seat)) → AreClaimed r.ended
+      → IsKept now
+  kept_now kept own parked_are parked claims =
       let layout = now_layout tries was now parts r in record {
         role = ap (λ (v : View). v.role) r.audited.2.is ∙ ap (λ (v : View). v.role) r.audited.1.is ∙ r.role;
         made = ap (λ (v : View). v.made) r.audited.2.is ∙ ap (λ (v : View). v.made) r.audited.1.is ∙ r.made;
@@ -92,6 +95,11 @@ module _ (tries : ℕ) (was now : View) (parts : List Part) (r : IsRound tries w
         parked = λ worker less. parked_now (λ l. IsResting (get_or l worker bare_seat)) (parked worker less);
         rests = subst IsResting (sym (ap (λ (v : View). v.seat) r.audited.2.is ∙ ap (λ (v : View). v.seat) r.audited.1.is
             ∙ own)) kept.rests;
+        some_slots = subst (λ (l : Layout). 0 < l.slots) (sym layout) kept.some_slots;
+        few = subst (λ (l : Layout). l.resident ≤ 65536) (sym layout) kept.few;
+        claimed = claimed_still r.ended now claims (layout ∙ sym r.layout)
+            (ap (λ (v : View). v.fills) r.audited.2.is ∙ ap (λ (v : View). v.fills) r.audited.1.is)
+            (ap (λ (v : View). v.pages) r.audited.2.is ∙ ap (λ (v : View). v.pages) r.audited.1.is);
       }
     where
       parked_now : (P : List Seat → Type 0) → P r.ended.parked → P now.parked

@@ -16,7 +16,7 @@ use Rattle.tx_script.specs.declared.outcome.Outcome.{Outcome}
 use Rattle.worker_cells.specs.declared.cell.Cell.{Cell}
 use Rattle.worker_cells.specs.declared.cell.LogEnd.{LogEnd}
 use Rattle.worker_logs.specs.Logs.{LogState}
-use Rattle.shared_rounds.specs.Ended.{EndedSoFar}
+use Rattle.shared_rounds.specs.Ended.{EndedSoFar, OwnsBehind}
 use Rattle.shared_rounds.specs.Lines.{LinesCome}
 use Rattle.shared_rounds.specs.Marks.{AreMarksBehind}
 use Rattle.shared_rounds.specs.Parts.{IsClockOf, clock_number}
@@ -27,6 +27,7 @@ use Rattle.shared_rounds.specs.SharedState.{AreKept, IsKept, marks_of}
 use Rattle.shared_rounds.specs.declared.ends.WorkersRan.{WorkersRan}
 use Rattle.shared_rounds.proofs.Backward.{cells_ran}
 use Rattle.shared_rounds.proofs.Counted.{now_layout}
+use Rattle.shared_rounds.proofs.Claimed.{claimed_still, same_pages}
 use Rattle.shared_rounds.proofs.Renewed.{clock_now, clock_now_draws, clock_stands, kept_now}
 use Rattle.shared_rounds.proofs.Whole.{marks_so, round_is, stands, workers_run}
 
@@ -61,14 +62,16 @@ module _ {D : Type 0} (tells : D → Option (List ℕ)) (clock : D → ℕ) (ima
       (logs_was logs : List LogState) (banks_was banks : List D) (outcomes : List (List Outcome)) (ends : List LogEnd)
       → EndedSoFar tells clock image_at faults tries round was ended 8 logs_was logs banks_was banks outcomes ends
       → IsKept was → (word count : ℕ) → HasAudited ended word count (view now) → IsPassOf words now
-      → decls ≡ was.layout.decls → (first : Number) → IsNumber first → first.epoch ≡ was.epoch
+      → decls ≡ was.layout.decls → (first : Number) → IsNumber first → first.epoch ≡ was.epoch → OwnsBehind ended
       → AreKept words now decls (clock_number word)
   round_kept tries round words was ended now decls logs_was logs banks_was banks outcomes ends so kept word count
-      audited of decls_are first number epoch =
+      audited of decls_are first number epoch owns =
       let r = round_is tells clock image_at faults tries round was ended (view now) logs_was logs banks_was banks
       outcomes ends so kept word count audited in record {
         of = of;
-        kept = kept_now tries was (view now) so.parts r kept so.seat so.parked_are so.parked;
+        kept = kept_now tries was (view now) so.parts r kept so.seat so.parked_are so.parked
+            (claimed_still was ended kept.claimed so.layout so.fills
+            (same_pages was ended kept.claimed owns so.layout so.fills so.pages));
         decls_are = decls_are ∙ sym (ap (λ (l : Layout). l.decls) (now_layout tries was (view now) so.parts r));
         number = clock_now tries was (view now) so.parts r first kept number epoch;
         epoch = clock_stands tries was (view now) so.parts r;
@@ -81,14 +84,16 @@ module _ {D : Type 0} (tells : D → Option (List ℕ)) (clock : D → ℕ) (ima
       → EndedSoFar tells clock image_at faults tries round was ended 8 logs_was logs banks_was banks ran.outcomes
       ran.ends.items
       → IsKept was → (word count : ℕ) → HasAudited ended word count now → (first : Number) → IsClockOf first was
-      → (done : Bool) → 1 ≤ tries
+      → (done : Bool) → 1 ≤ tries → OwnsBehind ended
       → LinesCome tells clock image_at faults tries round (stands was first done) (stands now (clock_number word) done)
       logs_was logs banks_was banks (Ok ran)
   round_comes tries round was ended now logs_was logs banks_was banks ran so kept word count audited first at done
-      some =
+      some owns =
       record {
         come = workers_run tells clock image_at faults tries round was ended now logs_was logs banks_was banks
-            ran.outcomes ran.ends.items so kept word count audited first at done some;
+            ran.outcomes ran.ends.items so kept word count audited first at done some
+            (ap (λ (v : View). v.pages) audited.2.is ∙ ap (λ (v : View). v.pages) audited.1.is
+            ∙ same_pages was ended kept.claimed owns so.layout so.fills so.pages);
       }
 
   -- and the marks on the words are these

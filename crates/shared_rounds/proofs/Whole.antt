@@ -61,70 +61,85 @@ module _ {D : Type 0} (tells : D → Option (List ℕ)) (clock : D → ℕ) (ima
     audited = audited;
   }
 
-  module _ (first : Number) (at : IsClockOf first was) (done : Bool) (some : 1 ≤ tries) where
-    runs_so : RunsShares tries (stands was first done) (stands now (clock_number word) done) (shares_of so.parts)
-    runs_so =
-        subst (λ (t : Standing). RunsShares tries (stands was first done) t (shares_of so.parts)) same
-        (round_runs tries was now so.parts round_is (state_of was) first done some (state_agrees was) at kept.draws)
-      where
-        same : standing_at was (after_commits (state_of was) (split tries was now so.parts round_is).new)
-            (clock_number word) now.mine
-            (conflicts_in now.refused) done ≡ stands now (clock_number word) done
-        same =
-            ap (λ s. standing_at was s (clock_number word) now.mine (conflicts_in now.refused) done) (sym
-            (state_now tries was now so.parts round_is))
-            ∙ ap (λ (l : Layout). let t : Standing = record {
-              decls = l.decls;
-              state = state_of now;
-              opening = l.opening;
-              clock = clock_number word;
-              mine = now.mine;
-              conflicts = conflicts_in now.refused;
-              slots = l.slots;
-              ended = done;
-            } in t) (sym (now_layout tries was now so.parts round_is))
+  module _ (first : Number) (at : IsClockOf first was) (done : Bool) (some : 1 ≤ tries) (pages : now.pages ≡ was.pages)
+    where
+      runs_so : RunsShares tries (stands was first done) (stands now (clock_number word) done) (shares_of so.parts)
+      runs_so =
+          subst (λ (t : Standing). RunsShares tries (stands was first done) t (shares_of so.parts)) same
+          (round_runs tries was now so.parts round_is (state_of was) first done some (state_agrees was) at kept.draws)
+        where
+          same : standing_at was (after_commits (state_of was) (split tries was now so.parts round_is).new)
+              (clock_number word) now.mine
+              (conflicts_in now.refused) done ≡ stands now (clock_number word) done
+          same =
+              ap (λ s. standing_at was s (clock_number word) now.mine (conflicts_in now.refused) done) (sym
+              (state_now tries was now so.parts round_is))
+              ∙ ap (λ (l : Layout). let t : Standing = record {
+                decls = l.decls;
+                state = state_of now;
+                opening = l.opening;
+                clock = clock_number word;
+                mine = now.mine;
+                conflicts = conflicts_in now.refused;
+                slots = l.slots;
+                pages = was.pages;
+                resident = l.resident;
+                ended = done;
+              } in t) (sym (now_layout tries was now so.parts round_is))
+              ∙ ap (λ (known : List (List ℕ)). let t : Standing = record {
+                decls = now.layout.decls;
+                state = state_of now;
+                opening = now.layout.opening;
+                clock = clock_number word;
+                mine = now.mine;
+                conflicts = conflicts_in now.refused;
+                slots = now.layout.slots;
+                pages = known;
+                resident = now.layout.resident;
+                ended = done;
+              } in t) (sym pages)
 
-    pub over_so : RunsOver tells clock image_at faults tries (stands was first done) (stands now
-        (clock_number word) done)
-        (shares_of so.parts) logs_was logs banks_was banks
-    over_so =
-        let many = left_many tells clock image_at faults round was.epoch 0 so.parts logs_was logs banks_was banks
-        so.left in
-        record {
-          runs = runs_so;
-          logs_length = many.0;
-          banks_length = many.1;
-          each = λ i share old new before bank place was_at is_at bank_was bank_is.
-              subst (λ e. LeftBy tells clock image_at faults e (word / 2 ^ 40) share.logged share.refusal old new
-              before bank)
-              (sym at.epoch)
-              (subst (λ e. LeftBy tells clock image_at faults was.epoch e share.logged share.refusal old new before
-              bank)
-              (sym (same_epoch tries was now so.parts round_is))
-              (left_at tells clock image_at faults round was.epoch 0 so.parts logs_was logs banks_was banks so.left i
-              share old
-              new before bank place was_at is_at bank_was bank_is));
-        }
+      pub over_so : RunsOver tells clock image_at faults tries (stands was first done) (stands now
+          (clock_number word) done)
+          (shares_of so.parts) logs_was logs banks_was banks
+      over_so =
+          let many = left_many tells clock image_at faults round was.epoch 0 so.parts logs_was logs banks_was banks
+          so.left in
+          record {
+            runs = runs_so;
+            logs_length = many.0;
+            banks_length = many.1;
+            each = λ i share old new before bank place was_at is_at bank_was bank_is.
+                subst (λ e. LeftBy tells clock image_at faults e (word / 2 ^ 40) share.logged share.refusal old new
+                before bank)
+                (sym at.epoch)
+                (subst (λ e. LeftBy tells clock image_at faults was.epoch e share.logged share.refusal old new before
+                bank)
+                (sym (same_epoch tries was now so.parts round_is))
+                (left_at tells clock image_at faults round was.epoch 0 so.parts logs_was logs banks_was banks so.left i
+                share old
+                new before bank place was_at is_at bank_was bank_is));
+          }
 
-    -- all lines were run
-    pub workers_run : RunsWorkers tells clock image_at faults tries round (stands was first done) (stands now
-        (clock_number word) done)
-        outcomes ends logs_was logs banks_was banks
-    workers_run = record {
-      shares = shares_of so.parts;
-      over = over_so;
-      lines = told_lines round 0 so.parts outcomes ends logs_was logs so.told ∙ ap (lines_from round 0) so.many;
-      told = told_outcomes round 0 so.parts outcomes ends logs_was logs so.told;
-      idle = told_idle round 0 so.parts outcomes ends logs_was logs so.told;
-      ends_failed = told_failed round 0 so.parts outcomes ends logs_was logs so.told;
-      flushed = λ i log less is. told_flushed round 0 so.parts outcomes ends logs_was logs so.told i log is;
-      ends_are = told_refusals round 0 so.parts outcomes ends logs_was logs so.told;
-      left_out = λ i share old before place was_at bank_was.
-          subst (λ e. LeavesOut tells clock image_at faults e (Contains share.outcomes Unrun) share.logged share.refusal
-          old before) (sym at.epoch)
-          (out_at tells clock image_at faults round was.epoch 0 so.parts logs_was logs banks_was banks so.left i share
-          old before place was_at bank_was);
-    }
+      -- all lines were run
+      pub workers_run : RunsWorkers tells clock image_at faults tries round (stands was first done) (stands now
+          (clock_number word) done)
+          outcomes ends logs_was logs banks_was banks
+      workers_run = record {
+        shares = shares_of so.parts;
+        over = over_so;
+        lines = told_lines round 0 so.parts outcomes ends logs_was logs so.told ∙ ap (lines_from round 0) so.many;
+        told = told_outcomes round 0 so.parts outcomes ends logs_was logs so.told;
+        idle = told_idle round 0 so.parts outcomes ends logs_was logs so.told;
+        ends_failed = told_failed round 0 so.parts outcomes ends logs_was logs so.told;
+        flushed = λ i log less is. told_flushed round 0 so.parts outcomes ends logs_was logs so.told i log is;
+        ends_are = told_refusals round 0 so.parts outcomes ends logs_was logs so.told;
+        left_out = λ i share old before place was_at bank_was.
+            subst (λ e. LeavesOut tells clock image_at faults e (Contains share.outcomes Unrun) share.logged share.refusal
+            old before) (sym at.epoch)
+            (out_at tells clock image_at faults round was.epoch 0 so.parts logs_was logs banks_was banks so.left i share
+            old before place was_at bank_was);
+      }
 
   -- the marks of the seats are those of the round
   pub marks_so : AreMarksBehind round logs (marks_of now.parked)

@@ -1,10 +1,11 @@
 -- Workers' seats that were taken in again, one worker after another.
-use Rattle.std.specs.Prelude.{◌≡◌, ◌<◌, ◌+◌, ◌-◌, ◌++◌, ℕ, List, [], ◌∷◌, Option, Some}
-use Rattle.std.specs.Prelude.{map, length, get_or, slice_get, ⊤}
+use Rattle.std.specs.Prelude.{◌≡◌, ◌⊎◌, ◌<◌, ◌≤◌, ◌+◌, ◌-◌, ◌++◌, ℕ, List, [], ◌∷◌, Option, Some}
+use Rattle.std.specs.Prelude.{map, length, get_or, slice_get, Contains, ⊤}
 use Rattle.script_grammar.specs.Script.{Round, lines_of_worker}
 use Rattle.engine_seats.specs.Cuts.{HasSeen}
 use Rattle.engine_seats.specs.Gathered.{gathered_all}
 use Rattle.engine_pages.specs.Views.{IsResting, bare_seat}
+use Rattle.engine_pages.specs.declared.view.Filled.{Filled}
 use Rattle.engine_pages.specs.declared.view.Role.TheVariants.{Keeper}
 use Rattle.engine_pages.specs.declared.view.View.{View}
 use Rattle.tx_script.specs.declared.outcome.Outcome.{Outcome}
@@ -28,6 +29,11 @@ AreTold round worker (p ∷ parts) (o ∷ outcomes) (e ∷ ends) (old ∷ logs_w
     (worker + 1) parts outcomes ends logs_was logs
 AreTold round worker _ _ _ _ _ = ⊥
 
+-- The pass knows no more pages than there is room for, and none that is its own to fill.
+pub record OwnsBehind (v : View) : Type 0 where
+  pub most : length v.pages ≤ v.layout.resident
+  pub above : (x : Filled) → Contains v.fills x → length v.pages < x.page
+
 module _ {D : Type 0} (tells : D → Option (List ℕ)) (clock : D → ℕ) (image_at : D → ℕ → List ℕ → Type 0)
     (faults : D → ℕ) where
   -- what the workers from this one on, whose lines were run in this epoch, left of their logs and log files, and of
@@ -49,6 +55,8 @@ module _ {D : Type 0} (tells : D → Option (List ℕ)) (clock : D → ℕ) (ima
     pub role : now.role ≡ Keeper
     pub seat : now.seat ≡ was.seat
     pub layout : now.layout ≡ was.layout
+    pub pages : (now.pages ≡ was.pages) ⊎ (length was.pages < length now.pages)
+    pub fills : now.fills ≡ was.fills
     pub epoch : now.epoch ≡ was.epoch
     pub made : now.made ≡ seats_from (8 - count) count
     pub gathers : now.mine ≡ gathered_all was.mine (map (λ (p : Part). p.to.mine) parts)

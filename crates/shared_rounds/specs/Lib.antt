@@ -14,5 +14,6 @@ pub mod Seating
 pub mod Ended
 pub mod Lines
 pub mod Gathers
+pub mod Published
 pub mod Rooms
 pub mod Marks

@@ -18,6 +18,8 @@ standing ended s = record {
   mine = s.mine;
   conflicts = s.conflicts;
   slots = s.slots;
+  pages = s.pages;
+  resident = s.resident;
   ended = ended;
 }
 

@@ -1,5 +1,5 @@
 -- What an engine of words is between two rounds, as the pass of the maintenance thread knows it.
-use Rattle.std.specs.Prelude.{◌≡◌, ◌+◌, ◌<◌, ◌&&◌, ℕ, Bool, true, false, List, [], ◌∷◌, filter, length, map}
+use Rattle.std.specs.Prelude.{◌≡◌, ◌+◌, ◌<◌, ◌≤◌, ◌&&◌, ℕ, Bool, true, false, List, [], ◌∷◌, filter, length, map}
 use Rattle.std.specs.Prelude.{Contains, None, fold, get_or}
 use Rattle.std.specs.List.{list_all}
 use Rattle.std.specs.FinMap.{empty, entries, get}
@@ -27,6 +27,7 @@ use Rattle.engine_pages.specs.declared.view.View.{View}
 use Rattle.engine_seats.specs.Between.{counts}
 use Rattle.engine_pages.specs.Passes.{view, IsPassOf, Pass}
 use Rattle.engine_seats.specs.Counts.{AreSerial}
+use Rattle.resident_pages.specs.Fills.{AreClaimed}
 use Rattle.engine_pages.specs.Views.{bare_seat, IsResting}
 use Rattle.shared_rounds.specs.Contents.{after_commits, with_value}
 
@@ -77,7 +78,8 @@ conflicts_in refused = length (filter was_conflict refused)
 
 -- the storages, their contents, what stood at keys at first, with its numbers, the number that the next commit gets,
 -- the attempts that count, in order of number, how many tries were refused with a conflict so far, the workers' marks
--- on the words, worker 0's first, and how many slots there are for pages in memory
+-- on the words, worker 0's first, how many slots there are for pages in memory, the words of the snapshot pages that
+-- are published, and for how many such pages there is room
 pub record SharedState : Type 0 where
   pub decls : List Decl
   pub state : State
@@ -87,6 +89,8 @@ pub record SharedState : Type 0 where
   pub conflicts : ℕ
   pub marks : List Mark
   pub slots : ℕ
+  pub pages : List (List ℕ)
+  pub resident : ℕ
 
 -- what the keeper's pass and the clock are
 abbrev pub shared_by : Pass → Number → SharedState
@@ -99,6 +103,8 @@ shared_by keeper clock = record {
   conflicts = conflicts_in (view keeper).refused;
   marks = marks_of (view keeper).parked;
   slots = (view keeper).layout.slots;
+  pages = (view keeper).pages;
+  resident = (view keeper).layout.resident;
 }
 
 -- What a count told of the keeper's view, with nobody seated: its own commits are those that count.
@@ -109,7 +115,8 @@ pub record IsCounted (v : View) : Type 0 where
 
 -- What the keeper's pass knows between two rounds: nobody is seated, and no seat, its own or a worker's, has a
 -- transaction or a lock; each storage is an array, and only their keys have values; the attempts that count are its
--- own, and serial; and each number was drawn by this pass, or by one that was ended into it.
+-- own, and serial; each number was drawn by this pass, or by one that was ended into it; and all room for snapshot pages
+-- behind those that are published is its own to fill.
 pub record IsKept (v : View) : Type 0 where
   pub role : v.role ≡ Keeper
   pub made : v.made ≡ []
@@ -124,6 +131,9 @@ pub record IsKept (v : View) : Type 0 where
   pub parked_are : length v.parked ≡ 8
   pub parked : (worker : ℕ) → worker < 8 → IsResting (get_or v.parked worker bare_seat)
   pub rests : IsResting v.seat
+  pub some_slots : 0 < v.layout.slots
+  pub few : v.layout.resident ≤ 65536
+  pub claimed : AreClaimed v
 
 -- The words with the keeper's pass, the storages, and the clock as it was last loaded: its draw is the one behind all
 -- that were drawn.

@@ -10,7 +10,8 @@ use Rattle.commit_core.specs.declared.attempt.Attempt.{Attempt}
 -- the storages and their contents, and where words that threads share run the lines (none else) what stood at keys as
 -- they were made, with its numbers; the number that the next commit gets, the attempts that count on such words, in
 -- order of number, how many tries were refused with a conflict so far, how many slots such words have for pages in
--- memory, and whether a round ended the run
+-- memory, the snapshot pages that are published to them, for how many such pages they have room, and whether a round
+-- ended the run
 pub record Standing : Type 0 where
   pub decls : List Decl
   pub state : State
@@ -19,4 +20,6 @@ pub record Standing : Type 0 where
   pub mine : List Attempt
   pub conflicts : ℕ
   pub slots : ℕ
+  pub pages : List (List ℕ)
+  pub resident : ℕ
   pub ended : Bool

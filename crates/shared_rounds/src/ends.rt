@@ -6,7 +6,7 @@ ghost use Rattle.worker_logs.specs.Logs.{LogState};
 ghost use Rattle.engine_pages.specs.Passes.{IsPassOf, view};
 ghost use Rattle.engine_pages.specs.declared.view.Role.TheVariants.{Keeper};
 ghost use Rattle.engine_pages.specs.declared.view.View.{View};
-ghost use Rattle.shared_rounds.specs.Ended.{EndedSoFar};
+ghost use Rattle.shared_rounds.specs.Ended.{EndedSoFar, OwnsBehind};
 ghost use Rattle.shared_rounds.specs.Seated.{AreRan, MayEnd, backward};
 ghost use Rattle.shared_rounds.specs.Seating.{StandsFor};
 
@@ -14,6 +14,7 @@ use arrayvec::ArrayVec;
 use engine_pages::{Engine, Pass};
 use engine_seats::end;
 use outside::Disk;
+use resident_pages::look_at_pages;
 use tx_script::{Outcomes, RoundOutcomes};
 use worker_cells::{Cell, Desk, LogEnd};
 use worker_logs::WorkerLog;
@@ -27,7 +28,8 @@ pub struct WorkersRan {
     pub ends: ArrayVec<LogEnd, 8>,
 }
 
-/// Takes the workers' seats in again, in the order of workers, and gives the desks, the logs and log files back.
+/// Takes the workers' seats in again, in the order of workers, and gives the desks, the logs and log files back. Behind
+/// them it looks how many pages are published.
 pub(crate) fn end_all<D: Disk + Drop>(
     engine: &Engine,
     keeper: &mut Pass,
@@ -47,6 +49,7 @@ pub(crate) fn end_all<D: Disk + Drop>(
     requires room { (8 ≤ vec_capacity logs.old) × (8 ≤ vec_capacity growing.old) }
     ensures of { IsPassOf engine.now keeper.new }
     ensures keeper { (view keeper.new).role ≡ Keeper }
+    ensures behind { OwnsBehind (view keeper.new) }
     ensures desks { vec_len desks.new ≡ 8 }
     ensures ended { (tries : ℕ) (round : Round) (was : View) (logs_was : List LogState) (banks_was : List _)
         → StandsFor was (view keeper.old)
@@ -75,6 +78,7 @@ pub(crate) fn end_all<D: Disk + Drop>(
         ends.push(log_end);
         desks.push_reserved(desk);
     }
+    look_at_pages(engine, keeper);
     WorkersRan {
         outcomes: RoundOutcomes::from_vec(told),
         ends,

@@ -1,14 +1,24 @@
 // The engine of words that a runtime keeps.
-ghost use Rattle.std.specs.Prelude.{◌≡◌, ◌+◌, ◌-◌, ◌<◌, [], true, IfOk, Some, replicate, vec_len};
+ghost use Rattle.std.specs.Prelude.{◌≡◌, ◌+◌, ◌-◌, ◌<◌, ◌≤◌, [], true, IfOk, Some, length, replicate, vec_len};
 ghost use Rattle.std.specs.List.{list_all};
+ghost use Rattle.lists.specs.Fronts.{IsFront};
 ghost use Rattle.serial_model.specs.Numbers.{IsNumber, last_epoch};
+ghost use Rattle.wire_form.specs.Pages.{Contents, decls_of};
+ghost use Rattle.snapshot_store.specs.Content.{SnapshotStands, words_of};
+ghost use Rattle.engine_pages.specs.Passes.{IsPassOf, view};
+ghost use Rattle.engine_pages.specs.Views.{opening_view};
 ghost use Rattle.page_opening.specs.Making.{CanMake};
+ghost use Rattle.resident_pages.specs.Fills.{AreClaimed};
+ghost use Rattle.resident_pages.specs.Publishes.{OnlyFilled};
 ghost use Rattle.shared_rounds.specs.SharedState.{is_array, opened};
 
+use crate::publishing::publish_new;
 use engine_pages::{Engine, Pass, Start};
 use lists::Memory;
 use page_opening::make;
+use resident_pages::claim_rest;
 use serial_model::{Decl, Decls, Number, WORKERS};
+use snapshot_store::SnapStore;
 use std::alloc::Global;
 use std::marker::Model;
 use worker_cells::Desk;
@@ -59,11 +69,13 @@ impl SharedEngine {
           conflicts = 0;
           marks = replicate 8 (record { epoch = Some (start.first.epoch - 1); length = 0 });
           slots = start.slots;
+          pages = start.pages;
+          resident = start.resident;
         }) }
     {
         let desks = make_desks(alloc)?;
         let clock = start.first();
-        let (words, keeper) = make(alloc, start)?;
+        let (words, keeper) = make_claimed(alloc, start)?;
         Ok(SharedEngine {
             words,
             keeper,
@@ -83,8 +95,21 @@ impl SharedEngine {
     pub fn clock(&self) -> Number
         ensures value { result ≡ self.now.clock }
         ensures number { IsNumber result }
+        ensures some_slots { 0 < self.now.slots }
     {
         self.clock
+    }
+
+    /// Publishes the pages of a store of snapshots that stand behind those that the words have: from then on they have
+    /// all of them. The last one is the catalogue of a snapshot that stands, over the engine's storages.
+    pub fn publish(&mut self, store: &SnapStore)
+        requires pages { IsFront self.old.pages (words_of store.now.pages) }
+        requires snapshot { (contents : Contents) × SnapshotStands (words_of store.now.pages) (length store.now.pages)
+            contents × (decls_of contents ≡ self.old.decls) }
+        requires room { length store.now.pages ≤ self.old.resident }
+        ensures { self.new ≡ record self.old { pages = words_of store.now.pages } }
+    {
+        publish_new(&self.words, &mut self.keeper, store);
     }
 
     /// Goes on to the next epoch.
@@ -95,6 +120,30 @@ impl SharedEngine {
         engine_seats::advance(&self.words, &mut self.keeper);
         self.clock.epoch += 1;
     }
+}
+
+// The words, and the keeper's pass, to which all room for snapshot pages that are not published yet is its own. Nobody
+// else can have published one; were it so, no engine would be made.
+fn make_claimed(alloc: Global, start: Start) -> Result<(Engine, Pass), Memory>
+    requires can { CanMake start }
+    ensures ok { IfOk result (λ r. IsPassOf r.0 r.1 × OnlyFilled (opening_view start) (view r.1)
+        × AreClaimed (view r.1)) }
+{
+    let known = page_count(&start);
+    let resident = start.resident();
+    let (words, mut keeper) = make(alloc, start)?;
+    if !claim_rest(&words, &mut keeper, known, resident) {
+        return Err(Memory);
+    }
+    Ok((words, keeper))
+}
+
+// How many snapshot pages an engine begins with.
+fn page_count(start: &Start) -> u32
+    requires { CanMake start.now }
+    ensures { result ≡ length start.now.pages }
+{
+    start.pages().len() as u32
 }
 
 // A desk for each worker.

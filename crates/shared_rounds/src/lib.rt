@@ -30,6 +30,7 @@ mod cells;
 mod ends;
 mod engine;
 mod opening;
+mod publishing;
 mod rooms;
 mod workers;
 

@@ -27,6 +27,8 @@ returns-clause-takes c =
       mine = [];
       conflicts = 0;
       slots = 0;
+      pages = [];
+      resident = 0;
       ended = false;
     } in
     let has = number_there c.args.engine.now view c.engine.view_is c.requires.number in
@@ -49,6 +51,8 @@ returns-clause-stops c =
       mine = [];
       conflicts = 0;
       slots = 0;
+      pages = [];
+      resident = 0;
       ended = false;
     } in
     let has = number_there c.args.engine.now view c.engine.view_is c.requires.number in

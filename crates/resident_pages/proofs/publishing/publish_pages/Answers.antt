@@ -1,12 +1,12 @@
-use Rattle.std.proofs.Common.{◌≡◌, ◌+◌, ◌++◌, ℕ, List, length, length-append, sym, ap, ◌∙◌, subst, arith}
+use Rattle.std.proofs.Common.{◌≡◌, ◌++◌, ℕ, List, length, length-append, sym, ap, ◌∙◌, subst, arith}
 use Rattle.std.specs.Prelude.{drop}
 use Rattle.std.proofs.lemmas.List.{drop_at}
 use Rattle.engine_pages.specs.declared.view.View.{View}
 use Rattle.engine_pages.specs.Passes.{view}
 use Rattle.snapshot_store.specs.Content.{words_of}
 use Rattle.resident_pages.specs.Publishes.{AreFilled}
-use Rattle.resident_pages.proofs.PagesFilled.{all_so, words_many}
-use Rattle.resident_pages.proofs.PagesPublished.{can_extend, published}
+use Rattle.resident_pages.proofs.PagesFilled.{words_many}
+use Rattle.resident_pages.proofs.PagesPublished.{can_extend, claimed_behind, published}
 use Rattle.resident_pages.proofs.publishing.publish_pages.Goals as goal
 
 -- what stands behind those that the pass knows
@@ -24,7 +24,7 @@ extend-requires-clause-keeper g c =
     let u = view c.fill_pages.new.pass in
     ap (λ (z : View). z.role)
     (are_filled v.pages g.J.Publishing.pages (words_of c.args.store.now.pages) c.args.known v u c.requires.known
-    c.requires.pages (all_so c.fill_pages.result (drop c.args.known (words_of c.args.store.now.pages)) v u c.if-not-fill_pages.false c.fill_pages.ensures.fills)).only
+    c.requires.pages c.fill_pages.ensures.fills).only
     ∙ c.requires.keeper
 
 pub extend-requires-clause-can : goal.extend-requires-clause-can
@@ -33,7 +33,7 @@ extend-requires-clause-can g c =
     let u = view c.fill_pages.new.pass in
     can_extend g.J.Publishing.pages g.J.Publishing.places v u
     (are_filled v.pages g.J.Publishing.pages (words_of c.args.store.now.pages) c.args.known v u c.requires.known
-    c.requires.pages (all_so c.fill_pages.result (drop c.args.known (words_of c.args.store.now.pages)) v u c.if-not-fill_pages.false c.fill_pages.ensures.fills))
+    c.requires.pages c.fill_pages.ensures.fills)
     (let all = length-append v.pages g.J.Publishing.pages in
     let many = ap (λ (ps : List (List ℕ)). length ps) c.requires.pages in
     let count = words_many c.args.store.now.pages in
@@ -52,7 +52,7 @@ extend-requires-clause-count g c =
     let same : length u.pages ≡ length v.pages =
     ap (λ (z : View). length z.pages)
     (are_filled v.pages g.J.Publishing.pages (words_of c.args.store.now.pages) c.args.known v u c.requires.known
-    c.requires.pages (all_so c.fill_pages.result (drop c.args.known (words_of c.args.store.now.pages)) v u c.if-not-fill_pages.false c.fill_pages.ensures.fills)).only in omega (arith, all, many, count, last, same)
+    c.requires.pages c.fill_pages.ensures.fills).only in omega (arith, all, many, count, last, same)
 
 pub returns-clause-publishes : goal.returns-clause-publishes
 returns-clause-publishes g c =
@@ -60,4 +60,13 @@ returns-clause-publishes g c =
     let u = view c.fill_pages.new.pass in
     published g.J.Publishing.pages g.J.Publishing.places v u
     (are_filled v.pages g.J.Publishing.pages (words_of c.args.store.now.pages) c.args.known v u c.requires.known
-    c.requires.pages (all_so c.fill_pages.result (drop c.args.known (words_of c.args.store.now.pages)) v u c.if-not-fill_pages.false c.fill_pages.ensures.fills)) (view c.extend.new.pass) c.extend.ensures.extends
+    c.requires.pages c.fill_pages.ensures.fills) (view c.extend.new.pass) c.extend.ensures.extends
+
+pub returns-clause-claimed : goal.returns-clause-claimed
+returns-clause-claimed g c =
+    let v = view c.args.pass.now in
+    let u = view c.fill_pages.new.pass in
+    claimed_behind g.J.Publishing.pages g.J.Publishing.places v u
+    (are_filled v.pages g.J.Publishing.pages (words_of c.args.store.now.pages) c.args.known v u c.requires.known
+    c.requires.pages c.fill_pages.ensures.fills) (view c.extend.new.pass) c.fill_pages.ensures.claimed
+    c.extend.ensures.extends

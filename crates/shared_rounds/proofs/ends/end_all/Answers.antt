@@ -10,6 +10,8 @@ use Rattle.worker_cells.specs.Below.{over_done}
 use Rattle.shared_rounds.specs.Ended.{EndedSoFar}
 use Rattle.shared_rounds.specs.Seated.{MayEnd}
 use Rattle.shared_rounds.proofs.Backward.{all_push}
+use Rattle.shared_rounds.proofs.Claimed.{owns_behind}
+use Rattle.shared_rounds.proofs.Looked.{ended_looked}
 use Rattle.shared_rounds.proofs.Onward.{ends_all_is, ends_begin_is, ends_next_is}
 use Rattle.shared_rounds.proofs.ends.end_all.Goals as goal
 
@@ -110,13 +112,25 @@ returns-clause-ended g c = λ tries round was logs_was banks_was stands ran.
     let inv = c.loop-cell.invariant in
     let none : c.loop-cell.cells.items ≡ [] = search rules in
     let len : vec_len c.loop-cell.cells ≡ 0 = search rules in
-    subst (λ l. EndedSoFar g.D.Disk.tells g.D.Disk.clock g.D.Disk.image_at g.D.Disk.faults tries round was
+    ended_looked g.D.Disk.tells g.D.Disk.clock g.D.Disk.image_at g.D.Disk.faults tries round was
+    (view c.loop-cell.keeper) (view c.look_at_pages.new.pass) logs_was c.loop-cell.logs.items banks_was
+    c.loop-cell.growing.items c.from_vec.result c.loop-cell.ends.items c.look_at_pages.result
+    c.look_at_pages.ensures.looks.is
+    (subst (λ l. EndedSoFar g.D.Disk.tells g.D.Disk.clock g.D.Disk.image_at g.D.Disk.faults tries round was
     (view c.loop-cell.keeper) 8 logs_was c.loop-cell.logs.items banks_was c.loop-cell.growing.items l
     c.loop-cell.ends.items) (sym c.from_vec.ensures)
     (ends_all_is g.D.Disk.tells g.D.Disk.clock g.D.Disk.image_at g.D.Disk.faults tries round c.args.engine.now was
     (view c.loop-cell.keeper) (8 - vec_len c.loop-cell.cells) c.loop-cell.cells.items logs_was
     c.loop-cell.logs.items banks_was c.loop-cell.growing.items c.loop-cell.told.items c.loop-cell.ends.items
-    (omega (arith, len)) none (inv.ended tries round was logs_was banks_was stands ran))
+    (omega (arith, len)) none (inv.ended tries round was logs_was banks_was stands ran)))
+
+pub returns-clause-keeper : goal.returns-clause-keeper
+returns-clause-keeper g c = ap (λ (v : View). v.role) c.look_at_pages.ensures.looks.is ∙ c.loop-cell.invariant.keeper
+
+pub returns-clause-behind : goal.returns-clause-behind
+returns-clause-behind g c =
+    owns_behind (view c.loop-cell.keeper) (view c.look_at_pages.new.pass) c.look_at_pages.result
+    c.look_at_pages.ensures.looks
 
 pub returns-clause-desks : goal.returns-clause-desks
 returns-clause-desks g c =

@@ -64,7 +64,7 @@ invariant_of-engine g c =
           c.engine.inside.decls c.args.logs.now.items c.end_all-ran.new.logs.items c.args.growing.now.items
           c.end_all-ran.new.growing.items c.end_all-ran.result.outcomes c.end_all-ran.result.ends.items ended inv.kept
           c.audit-word.result.0 c.audit-word.result.1 c.audit-word.ensures.counts c.audit-word.ensures.of inv.decls_are
-          c.engine.inside.clock inv.number inv.epoch),
+          c.engine.inside.clock inv.number inv.epoch c.end_all-ran.ensures.behind),
       c.end_all-ran.ensures.desks,
     )
 
@@ -111,7 +111,7 @@ returns-clause-stays g c =
     c.engine.inside.decls c.args.logs.now.items c.end_all-ran.new.logs.items c.args.growing.now.items
     c.end_all-ran.new.growing.items c.end_all-ran.result.outcomes c.end_all-ran.result.ends.items ended inv.kept
     c.audit-word.result.0 c.audit-word.result.1 c.audit-word.ensures.counts c.audit-word.ensures.of inv.decls_are
-    c.engine.inside.clock inv.number inv.epoch).kept
+    c.engine.inside.clock inv.number inv.epoch c.end_all-ran.ensures.behind).kept
 
 pub returns-clause-runs : goal.returns-clause-runs
 returns-clause-runs g c =
@@ -141,7 +141,7 @@ returns-clause-runs g c =
     c.end_all-ran.new.logs.items c.args.growing.now.items c.end_all-ran.new.growing.items
     c.end_all-ran.result ended inv.kept c.audit-word.result.0 c.audit-word.result.1 c.audit-word.ensures.counts
     c.engine.inside.clock (clock_so (view c.engine.inside.keeper) c.engine.inside.clock inv.kept inv.epoch inv.draw)
-    done c.requires.some_try))
+    done c.requires.some_try c.end_all-ran.ensures.behind))
 
 pub returns-clause-marks : goal.returns-clause-marks
 returns-clause-marks g c =

@@ -15,7 +15,7 @@ invariant_of-result c =
       record {
         of = made.0;
         kept = first_kept c.args.start _ c.requires.can c.requires.arrays
-            (opens_declared c.args.start c.requires.can c.first-clock.ensures.read) made.1;
+            (opens_declared c.args.start c.requires.can c.first-clock.ensures.read) made.1 made.2;
         decls_are = c.requires.decls ∙ ap (λ (v : View). v.layout.decls) (sym made.1);
         number = subst IsNumber (sym c.first-clock.ensures.value) c.requires.can.opens.number;
         epoch = ap (λ (n : Number). n.epoch) c.first-clock.ensures.value ∙ ap (λ (v : View). v.epoch) (sym made.1);

@@ -1,7 +1,7 @@
--- Whom tries in conflict at a record met: at a key of their line, another worker with a line of the same round that may
--- change it.
+-- What lines have to do with the refusals of their tries: one in conflict at a record touches a key there that another
+-- worker's line of the same round may change, and one that found no slot may change some key.
 use Rattle.std.specs.Prelude.{◌≡◌, ◌≢◌, ◌+◌, ◌==◌, ◌&&◌, ℕ, Bool, true, false, List, [], ◌∷◌, nat_le, Contains}
-use Rattle.std.specs.Prelude.{slice_get, ◌≤◌, Option, Some, None, ⊤}
+use Rattle.std.specs.Prelude.{slice_get, ◌++◌, ◌≤◌, Option, Some, None, ⊤}
 use Rattle.std.specs.List.{AllByRecursion, list_any}
 use Rattle.std.proofs.Common.{arith, refl, subst}
 use Rattle.lists.specs.Elements.{in_none}
@@ -11,7 +11,7 @@ use Rattle.serial_model.specs.declared.op.Op.TheVariants.{Read, Write, Remove, A
 use Rattle.script_grammar.specs.Script.{Round, worker_lines}
 use Rattle.tx_script.specs.Run.{InConflict, LogRefusal, Met, NoNumber, NoRoom, NoSlot, Ran, TryRefusal}
 use Rattle.tx_script.specs.Tries.{ComesTo}
-use Rattle.tx_script.specs.declared.outcome.Outcome.TheVariants.{Conflict}
+use Rattle.tx_script.specs.declared.outcome.Outcome.TheVariants.{Conflict, Full}
 
 -- ---- the keys of a line
 
@@ -68,11 +68,16 @@ abbrev pub IsMetAt : List (List (List Op)) → ℕ → List Op → Option Key �
 IsMetAt lines worker ops (Some k) = IsMetBy lines worker ops k
 IsMetAt lines worker ops None = ⊤
 
--- a try that was refused in conflict met another worker's line, where it was at a record
+-- the line may change some key
+abbrev pub ChangesSome : List Op → Type 0
+ChangesSome ops = (k : Key) × (changes ops k ≡ true)
+
+-- What a line has to do with the refusal of a try: in conflict, where that was at a record, it met another worker's
+-- line; it found no slot only if it may change some key, since what is read takes none; and it filled no set.
 abbrev pub IsMet : List (List (List Op)) → ℕ → List Op → TryRefusal → Type 0
 IsMet lines worker ops (InConflict met) = IsMetAt lines worker ops met.key
-IsMet lines worker ops (NoSlot words) = ⊤
-IsMet lines worker ops NoRoom = ⊤
+IsMet lines worker ops (NoSlot words) = ChangesSome ops
+IsMet lines worker ops NoRoom = ⊥
 IsMet lines worker ops NoNumber = ⊤
 
 -- so it is of the tries of each line of a worker
@@ -91,7 +96,8 @@ WorkersMet lines worker (mine ∷ more) (refused ∷ others) =
 WorkersMet lines worker [] (refused ∷ others) = ⊥
 WorkersMet lines worker (mine ∷ more) [] = ⊥
 
--- Each conflict of the round at a record is with a line of another worker in it.
+-- Each conflict of the round at a record is with a line of another worker in it, and each line that found no slot may
+-- change some key.
 pub record AreMet (ran : Ran) (round : Round) : Type 0 where
   pub workers : WorkersMet (worker_lines round) 0 (worker_lines round) ran.beside.refused
 
@@ -108,6 +114,21 @@ conflict_met lines worker first last tries log ops (NoSlot words ∷ more) some 
     absurd (let no = come.1.0 in cc)
 conflict_met lines worker first last tries log ops (NoRoom ∷ more) some come all = absurd (let no = come.1.0 in cc)
 conflict_met lines worker first last tries log ops (NoNumber ∷ more) some come all = absurd (let no = come.1.0 in cc)
+
+-- what holds of each of these refusals and one behind them holds of that one
+last_of : (P : TryRefusal → Type 0) (before : List TryRefusal) (last : TryRefusal)
+    → AllByRecursion P (before ++ last ∷ []) → P last
+last_of P [] last all = all.0
+last_of P (first ∷ before) last all = last_of P before last all.1
+
+-- A line that is told full may change some key.
+pub full_changes : (lines : List (List (List Op))) (worker first last tries : ℕ) (log : Option LogRefusal)
+    (ops : List Op) (refusals : List TryRefusal) → ComesTo first last tries log Full refusals
+    → AllByRecursion (IsMet lines worker ops) refusals → ChangesSome ops
+full_changes lines worker first last tries log ops refusals come all =
+    let ends = come.2 in
+    last_of (IsMet lines worker ops) ends.before (NoSlot come.1)
+    (subst (AllByRecursion (IsMet lines worker ops)) ends.all all)
 
 -- ---- a worker by itself
 
@@ -137,7 +158,7 @@ one_alone lines worker ops (InConflict met) alone m = by_key met.key m
     by_key (Some k) m = absurd (meets_nobody lines worker ops k alone m)
     by_key None m = refl
 one_alone lines worker ops (NoSlot words) alone m = tt
-one_alone lines worker ops NoRoom alone m = tt
+one_alone lines worker ops NoRoom alone m = absurd m
 one_alone lines worker ops NoNumber alone m = tt
 
 no_try_met : (lines : List (List (List Op))) (worker : ℕ) (ops : List Op) (refusals : List TryRefusal)
